@@ -1,0 +1,27 @@
+-- Which bytes are the name of a term, and which are a string.
+use Rattle.std.specs.Prelude.{ℕ, Bool, false, ◌&&◌, ◌||◌, ◌==◌, nat_le, List, [], ◌∷◌}
+use Rattle.std.specs.List.{list_all}
+
+abbrev pub is_lower : ℕ → Bool
+is_lower c = nat_le 97 c && nat_le c 122
+
+abbrev pub is_upper : ℕ → Bool
+is_upper c = nat_le 65 c && nat_le c 90
+
+abbrev pub is_digit : ℕ → Bool
+is_digit c = nat_le 48 c && nat_le c 57
+
+-- what may follow the first letter
+abbrev pub is_name_byte : ℕ → Bool
+is_name_byte c = is_lower c || is_upper c || is_digit c || (c == 45) || (c == 95)
+
+abbrev pub is_name : List ℕ → Bool
+is_name [] = false
+is_name (c ∷ cs) = is_lower c && list_all is_name_byte cs
+
+-- what a string may have: no byte below 32 but tab, newline and carriage return
+abbrev pub is_text_byte : ℕ → Bool
+is_text_byte c = nat_le 32 c || (c == 9) || (c == 10) || (c == 13)
+
+abbrev pub is_text : List ℕ → Bool
+is_text bytes = list_all is_text_byte bytes

@@ -1,0 +1,75 @@
+ghost use Rattle.std.specs.Prelude.{◌≡◌, IsTrue, IfOk, Some, None, if◌then◌else◌};
+ghost use Rattle.std.specs.List.{list_all};
+ghost use Rattle.tb_terms.specs.Names.{is_text_byte, is_text};
+
+use crate::NoMemory;
+use std::alloc::Global;
+use std::marker::Model;
+
+/// A string as scripts and terms have it: well-formed UTF-8 in which no byte is below 32 but tab,
+/// newline and carriage return. Contracts see it as its bytes.
+#[derive(Debug, Drop)]
+pub struct Text {
+    text: String,
+}
+
+impl Model for Text {
+    ghost use Rattle.std.specs.Prelude.{List, ℕ, IsTrue, string_bytes};
+    ghost use Rattle.tb_terms.specs.Names.{is_text};
+
+    ghost Value = { List ℕ };
+
+    ghost view = { λ text. string_bytes text.text };
+
+    ghost invariant = { λ text. IsTrue (is_text (string_bytes text.text)) };
+}
+
+impl Text {
+    /// This text, where it has no byte that a string may not have.
+    pub fn from_str(alloc: Global, text: &str) -> Result<Option<Text>, NoMemory>
+        ensures { IfOk result (λ made. made ≡ (if is_text text.now then Some text.now else None)) }
+    {
+        if !are_text_bytes(text.as_bytes()) {
+            return Ok(None);
+        }
+        let text = String::from_str(alloc, text)?;
+        Ok(Some(Text { text }))
+    }
+
+    pub fn as_str(&self) -> &str
+        ensures value { result.now ≡ self.now }
+        ensures form { IsTrue (is_text self.now) }
+    {
+        self.text.as_str()
+    }
+
+    pub fn as_bytes(&self) -> &[u8]
+        ensures { result.now ≡ self.now }
+    {
+        self.text.as_bytes()
+    }
+
+    pub fn copy(&self, alloc: Global) -> Result<Text, NoMemory>
+        ensures { IfOk result (λ copy. copy ≡ self.now) }
+    {
+        let text = String::from_str(alloc, self.text.as_str())?;
+        Ok(Text { text })
+    }
+}
+
+fn are_text_bytes(bytes: &[u8]) -> bool
+    ensures { result ≡ is_text bytes.now }
+{
+    for byte in bytes {
+        if !is_one_text_byte(*byte) {
+            return false;
+        }
+    }
+    true
+}
+
+fn is_one_text_byte(byte: u8) -> bool
+    ensures { result ≡ is_text_byte byte }
+{
+    byte >= 32 || byte == b'\t' || byte == b'\n' || byte == b'\r'
+}
