@@ -1,4 +1,4 @@
-ghost use Rattle.std.specs.Prelude.{◌≡◌, IsTrue, IfOk, Some, None, if◌then◌else◌};
+ghost use Rattle.std.specs.Prelude.{◌≡◌, ◌↔◌, [], IsTrue, IfOk, Some, None, if◌then◌else◌};
 ghost use Rattle.std.specs.List.{list_all};
 ghost use Rattle.tb_terms.specs.Names.{is_text_byte, is_text};
 
@@ -25,6 +25,15 @@ impl Model for Text {
 }
 
 impl Text {
+    /// A text with no bytes, which takes no memory.
+    pub fn empty(alloc: Global) -> Text
+        ensures { result ≡ [] }
+    {
+        Text {
+            text: String::new(alloc),
+        }
+    }
+
     /// This text, where it has no byte that a string may not have.
     pub fn from_str(alloc: Global, text: &str) -> Result<Option<Text>, NoMemory>
         ensures { IfOk result (λ made. made ≡ (if is_text text.now then Some text.now else None)) }
@@ -47,6 +56,12 @@ impl Text {
         ensures { result.now ≡ self.now }
     {
         self.text.as_bytes()
+    }
+
+    pub fn is_same(&self, other: &Text) -> bool
+        ensures { IsTrue result ↔ (self.now ≡ other.now) }
+    {
+        self.as_bytes() == other.as_bytes()
     }
 
     pub fn copy(&self, alloc: Global) -> Result<Text, NoMemory>
