@@ -1,4 +1,4 @@
--- Which bytes are the name of a term, and which are a string.
+-- Which bytes are the name of a term, the name of a process or a variable, and a string.
 use Rattle.std.specs.Prelude.{ℕ, Bool, false, ◌&&◌, ◌||◌, ◌==◌, nat_le, List, [], ◌∷◌}
 use Rattle.std.specs.List.{list_all}
 
@@ -18,6 +18,11 @@ is_name_byte c = is_lower c || is_upper c || is_digit c || (c == 45) || (c == 95
 abbrev pub is_name : List ℕ → Bool
 is_name [] = false
 is_name (c ∷ cs) = is_lower c && list_all is_name_byte cs
+
+-- the name of a process or a variable
+abbrev pub is_ident : List ℕ → Bool
+is_ident [] = false
+is_ident (c ∷ cs) = is_upper c && list_all is_name_byte cs
 
 -- what a string may have: no byte below 32 but tab, newline and carriage return
 abbrev pub is_text_byte : ℕ → Bool

@@ -1,18 +1,25 @@
-//! Terms and their parts: names, strings, lists, and the one text of a term.
+//! Terms and their parts: names, strings, lists, sorts, the one text of a term; and the expressions
+//! and patterns of scripts.
 #![tactic(auto)]
 
+mod expr;
+mod ident;
 mod measure;
 mod memory;
 mod name;
+mod pattern;
 mod sort;
 mod sorted;
 mod term;
 mod text;
 mod write;
 
+pub use expr::{Expr, Exprs, Func, copy_exprs};
+pub use ident::{Ident, is_ident_bytes};
 pub use measure::{depth, size};
 pub use memory::NoMemory;
-pub use name::Name;
+pub use name::{Name, is_name_bytes};
+pub use pattern::{Pattern, Patterns, copy_patterns, same_pattern_lists};
 pub use sort::Sort;
 pub use sorted::{has_sort, initial};
 pub use sqlite_items::{Boxed, Items};

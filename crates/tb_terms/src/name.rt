@@ -74,7 +74,7 @@ pub fn is_name_bytes(bytes: &[u8]) -> bool
     }
 }
 
-fn are_name_bytes(bytes: &[u8]) -> bool
+pub(crate) fn are_name_bytes(bytes: &[u8]) -> bool
     ensures { result ≡ list_all is_name_byte bytes.now }
 {
     for byte in bytes {
