@@ -1,6 +1,7 @@
 -- Which bytes are the name of a term, the name of a process or a variable, and a string.
 use Rattle.std.specs.Prelude.{ℕ, Bool, false, ◌&&◌, ◌||◌, ◌==◌, nat_le, List, [], ◌∷◌}
 use Rattle.std.specs.List.{list_all}
+use Rattle.std.specs.Str.{is_utf8}
 
 abbrev pub is_lower : ℕ → Bool
 is_lower c = nat_le 97 c && nat_le c 122
@@ -30,3 +31,7 @@ is_text_byte c = nat_le 32 c || (c == 9) || (c == 10) || (c == 13)
 
 abbrev pub is_text : List ℕ → Bool
 is_text bytes = list_all is_text_byte bytes
+
+-- a string's bytes
+abbrev pub is_string : List ℕ → Bool
+is_string bytes = is_utf8 bytes && is_text bytes

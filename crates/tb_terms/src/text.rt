@@ -1,6 +1,6 @@
 ghost use Rattle.std.specs.Prelude.{◌≡◌, ◌↔◌, [], IsTrue, IfOk, Some, None, if◌then◌else◌};
 ghost use Rattle.std.specs.List.{list_all};
-ghost use Rattle.tb_terms.specs.Names.{is_text_byte, is_text};
+ghost use Rattle.tb_terms.specs.Names.{is_text_byte, is_text, is_string};
 
 use crate::NoMemory;
 use std::alloc::Global;
@@ -43,6 +43,19 @@ impl Text {
         }
         let text = String::from_str(alloc, text)?;
         Ok(Some(Text { text }))
+    }
+
+    /// The text with these bytes, where they are one.
+    pub fn from_vec(bytes: Vec<u8>) -> Option<Text>
+        ensures { result ≡ (if is_string bytes.items then Some bytes.items else None) }
+    {
+        if !are_text_bytes(bytes.as_slice()) {
+            return None;
+        }
+        match String::from_utf8(bytes) {
+            Ok(text) => Some(Text { text }),
+            Err(_) => None,
+        }
     }
 
     pub fn as_str(&self) -> &str
