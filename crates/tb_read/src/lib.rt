@@ -1,0 +1,16 @@
+//! The reading of terms: each text that is one gives its term, each other the first fault.
+#![tactic(auto)]
+
+mod build;
+mod fault;
+mod kind;
+mod lex;
+mod limits;
+mod number;
+mod quoted;
+mod scan;
+mod shape;
+mod stack;
+mod token;
+
+pub use fault::TermFault;
