@@ -1,2 +1,5 @@
+pub mod Counted
 pub mod Faults
+pub mod Grammar
 pub mod Names
+pub mod Terms

@@ -1,6 +1,5 @@
 -- Which bytes read as a term: the tokens of the term, each spelled in one of its ways, with blanks before, between and after them.
-use Rattle.std.specs.Prelude.{◌≡◌, ℕ, ◌+◌, ◌-◌, ◌*◌, ℤ, pos, neg_ℤ, FitsSigned, Bool, false, not, ◌&&◌, ◌||◌, ◌==◌, nat_le, List, [], ◌∷◌, ◌++◌, Some, fold, IsTrue, ◌⊎◌}
-use Rattle.std.specs.Int.{w64}
+use Rattle.std.specs.Prelude.{◌≡◌, ℕ, ◌+◌, ◌-◌, ◌*◌, ◌^◌, ◌<◌, ◌≤◌, ℤ, pos, neg_ℤ, Bool, false, not, ◌&&◌, ◌||◌, ◌==◌, nat_le, List, [], ◌∷◌, ◌++◌, Some, fold, IsTrue, ◌⊎◌}
 use Rattle.std.specs.List.{list_all}
 use Rattle.tb_terms.specs.Names.{is_digit, is_name, is_string}
 use Rattle.tb_terms.specs.Texts.{escape_letter}
@@ -19,12 +18,11 @@ is_digits (digit ∷ digits) = is_digit digit && list_all is_digit digits
 abbrev pub digits_value : List ℕ → ℕ
 digits_value digits = fold (λ value digit. 10 * value + (digit - 48)) 0 digits
 
--- decimal digits, with leading zeros or without, and a sign directly before them where the number is negative or 0
+-- Decimal digits, with leading zeros or without, and a sign directly before them where the number is negative or 0; 64 bits hold it.
 pub record SpellsNumber (number : ℤ) (text : List ℕ) : Type 0 where
   pub digits : List ℕ
   pub are_digits : IsTrue (is_digits digits)
-  pub signed : ((text ≡ digits) × (number ≡ pos (digits_value digits))) ⊎ ((text ≡ 45 ∷ digits) × (number ≡ neg_ℤ (pos (digits_value digits))))
-  pub fits : FitsSigned w64 number
+  pub signed : ((text ≡ digits) × (number ≡ pos (digits_value digits)) × (digits_value digits < 2 ^ 63)) ⊎ ((text ≡ 45 ∷ digits) × (number ≡ neg_ℤ (pos (digits_value digits))) × (digits_value digits ≤ 2 ^ 63))
 
 -- a byte that stands in a string for itself
 abbrev pub is_plain : ℕ → Bool

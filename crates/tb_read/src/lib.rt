@@ -4,6 +4,7 @@
 mod build;
 mod fault;
 mod kind;
+mod laws;
 mod lex;
 mod limits;
 mod number;
@@ -14,3 +15,4 @@ mod stack;
 mod token;
 
 pub use fault::TermFault;
+pub use laws::tokens_tell_terms;
