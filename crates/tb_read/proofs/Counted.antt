@@ -1,6 +1,6 @@
 -- The size and the levels of a term are those of its tokens.
-use Rattle.std.proofs.Common.{◌≡◌, ℕ, ℤ, suc, ◌+◌, ◌-◌, List, [], ◌∷◌, ◌++◌, map, length, sum, max, fold, refl, ap, sym, ◌∙◌, append_assoc, append-nil, arith}
-use Rattle.std.specs.List.{flat_map, AllByRecursion, sum_by}
+use Rattle.std.proofs.Common.{◌≡◌, ℕ, ℤ, ◌+◌, ◌-◌, List, [], ◌∷◌, ◌++◌, map, length, sum, max, fold, refl, ap, sym, ◌∙◌, append_assoc, append-nil, arith}
+use Rattle.std.specs.List.{flat_map, AllByRecursion}
 use Rattle.std.proofs.lemmas.List.Sums.{sum_by-append, sum_by-cons}
 use Rattle.tb_terms.specs.declared.term.Term.{Term}
 use Rattle.tb_terms.specs.declared.term.Term.TheVariants as term

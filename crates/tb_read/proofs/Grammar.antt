@@ -1,5 +1,5 @@
 -- The tokens that a scan takes from the start to the end are those of one term, and each term's tokens are taken.
-use Rattle.std.proofs.Common.{◌≡◌, ℕ, ◌+◌, Bool, true, false, ◌&&◌, List, [], ◌∷◌, ◌++◌, map, length, Option, Some, None, refl, ap, sym, ◌∙◌, append_assoc, append-nil}
+use Rattle.std.proofs.Common.{◌≡◌, ℕ, Bool, true, false, ◌&&◌, List, [], ◌∷◌, ◌++◌, map, Option, Some, None, refl, ap, sym, ◌∙◌, append_assoc, append-nil}
 use Rattle.std.proofs.lemmas.Bool.{false≢true}
 use Rattle.std.proofs.lemmas.List.Concat.{flat_map-append}
 use Rattle.std.specs.List.{flat_map, AllByRecursion}
@@ -20,7 +20,7 @@ use Rattle.tb_read.specs.declared.shape.Bracket.{Bracket}
 use Rattle.tb_read.specs.declared.shape.Bracket.TheVariants.{Paren, Square}
 use Rattle.tb_read.specs.declared.build.Builder.{Builder}
 use Rattle.tb_read.specs.declared.build.Frame.{Frame}
-use Rattle.tb_read.specs.Tokens.{tokens_of, appl_tokens, list_tokens, with_commas, after_comma}
+use Rattle.tb_read.specs.Tokens.{tokens_of, appl_tokens, with_commas, after_comma}
 use Rattle.tb_read.specs.Scanning.{allows, after, may_end, start}
 use Rattle.tb_read.specs.Building.{built_from, holds, opens, whole, nothing, head_of}
 use Rattle.tb_read.proofs.Terms.{tokens-Int, tokens-Str, tokens-Appl, tokens-List}

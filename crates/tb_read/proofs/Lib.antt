@@ -1,5 +1,8 @@
 pub mod Counted
 pub mod Faults
 pub mod Grammar
+pub mod Lexed
 pub mod Names
+pub mod Strings
 pub mod Terms
+pub mod Wholes

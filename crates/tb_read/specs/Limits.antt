@@ -1,5 +1,5 @@
 -- The size and the levels of a term, counted over its tokens.
-use Rattle.std.specs.Prelude.{ℕ, zero, ◌+◌, ◌-◌, List, [], ◌∷◌, length, max, sum_by}
+use Rattle.std.specs.Prelude.{ℕ, ◌+◌, ◌-◌, List, [], ◌∷◌, length, max, sum_by}
 use Rattle.tb_read.specs.declared.token.Token.{Token}
 use Rattle.tb_read.specs.declared.token.Token.TheVariants.{Int, Str, Name, LeftParen, RightParen, LeftBracket, RightBracket, Comma}
 

@@ -9,6 +9,7 @@ mod lex;
 mod limits;
 mod number;
 mod quoted;
+mod read;
 mod scan;
 mod shape;
 mod stack;
@@ -16,3 +17,4 @@ mod token;
 
 pub use fault::TermFault;
 pub use laws::tokens_tell_terms;
+pub use read::read_term;
