@@ -1,8 +1,11 @@
+pub mod Chars
+pub mod Complete
 pub mod Counted
 pub mod Faults
 pub mod Grammar
 pub mod Lexed
 pub mod Names
+pub mod Outcomes
 pub mod Strings
 pub mod Terms
 pub mod Wholes

@@ -16,5 +16,5 @@ mod stack;
 mod token;
 
 pub use fault::TermFault;
-pub use laws::tokens_tell_terms;
+pub use laws::{faults_are_unique, reading_is_unique};
 pub use read::read_term;

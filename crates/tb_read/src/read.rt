@@ -15,6 +15,17 @@ use tb_terms::Term;
 /// The term that the bytes read as, where it is within the limits of size and levels.
 pub fn read_term(alloc: Global, bytes: &[u8]) -> Result<Term, TermFault>
     ensures found { IfOk result (λ term. Reads bytes.now term × IsWithinLimits term) }
+
+    // Nothing else keeps a term from being read.
+    ensures only { (term : Term) → Reads bytes.now term → IsWithinLimits term
+        → (result ≡ Ok term) ⊎ (result ≡ Err TermFault.NoMemory) }
+    ensures fault { IfErr result (HasFault bytes.now) }
+{
+    read(alloc, bytes)
+}
+
+fn read(alloc: Global, bytes: &[u8]) -> Result<Term, TermFault>
+    ensures found { IfOk result (λ term. Reads bytes.now term × IsWithinLimits term) }
     ensures fault { IfErr result (HasFault bytes.now) }
 {
     let tokens = scan(alloc, bytes)?;
