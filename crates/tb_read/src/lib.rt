@@ -13,6 +13,8 @@ mod read;
 mod scan;
 mod shape;
 mod stack;
+#[cfg(test)]
+mod tests;
 mod token;
 
 pub use fault::TermFault;
