@@ -9,3 +9,4 @@ pub mod Outcomes
 pub mod Strings
 pub mod Terms
 pub mod Wholes
+pub mod Written

@@ -1,4 +1,4 @@
-//! What holds of reading whatever the bytes are. These calls do nothing: their contracts are the laws.
+//! What holds of reading whatever the bytes are. These calls change nothing: their contracts are the laws.
 
 ghost use Rattle.std.specs.Prelude.{◌≡◌, ◌≢◌, ℕ, List};
 ghost use Rattle.tb_terms.specs.declared.term.Term.{Term};
@@ -7,6 +7,9 @@ ghost use Rattle.tb_read.specs.declared.fault.TermFault.{TermFault};
 ghost use Rattle.tb_read.specs.declared.fault.TermFault.TheVariants.{NoMemory};
 ghost use Rattle.tb_read.specs.Spelling.{Reads};
 ghost use Rattle.tb_read.specs.Reading.{HasFault};
+ghost use Rattle.tb_terms.specs.Texts.{term_text};
+
+use tb_terms::{Term, show_proper};
 
 /// At most one term is read from a text.
 pub fn reading_is_unique()
@@ -20,3 +23,10 @@ pub fn faults_are_unique()
     ensures none { (bytes : List ℕ) (t : Term) (f : TermFault) → Reads bytes t → IsWithinLimits t
         → HasFault bytes f → f ≡ NoMemory }
 {}
+
+/// The written text of a term reads as the term. The call walks the term, and changes nothing.
+pub fn written_text_reads(term: &Term)
+    ensures { Reads (term_text term.now) term.now }
+{
+    show_proper(term);
+}
