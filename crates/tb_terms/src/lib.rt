@@ -12,6 +12,8 @@ mod proper;
 mod sort;
 mod sorted;
 mod term;
+#[cfg(test)]
+mod tests;
 mod text;
 mod write;
 
