@@ -1,18 +1,16 @@
 -- What a string's turns put is a string.
-use Rattle.std.proofs.Common.{◌≡◌, ℕ, suc, ◌+◌, ◌-◌, ◌*◌, ◌/◌, ◌%◌, ◌≤◌, ◌<◌, Bool, true, false, not, ◌&&◌, ◌||◌, ◌⊎◌, cond, eqb, leb, ltb, List, [], ◌∷◌, ◌++◌, length, Option, Some, None, Result, Ok, Err, refl, ap, sym, ◌∙◌, subst, inl, inr, ⊎_elim, lit≤, ≤_refl, arith, append_assoc, append-nil}
-use Rattle.std.proofs.lemmas.Bool.{false≢true, eqb-true, eqb-false, ltb-true, ltb-false, leb-true, and_parts, and_from, cases_eq, cases_lt}
+use Rattle.std.proofs.Common.{◌≡◌, ℕ, ◌+◌, ◌-◌, ◌*◌, ◌/◌, ◌≤◌, ◌<◌, Bool, true, false, not, ◌&&◌, ◌⊎◌, cond, eqb, leb, ltb, List, [], ◌∷◌, ◌++◌, Option, Some, None, Ok, refl, ap, sym, ◌∙◌, subst, inl, inr, ⊎_elim, lit≤, arith, append_assoc}
+use Rattle.std.proofs.lemmas.Bool.{eqb-true, eqb-false, ltb-true, ltb-false, leb-true, and_parts, and_from, cases_eq, cases_lt}
 use Rattle.std.proofs.lemmas.Bool.Decides.{nat_tests}
 use Rattle.std.proofs.lemmas.Str.{IsUtf8-append, IsUtf8-encode, IsUtf8-nil, is_utf8-from_IsUtf8, encode_ascii}
 use Rattle.std.specs.Str.{IsUtf8, is_utf8}
 use lib.Utf8.{encode, scalar, low_scalar, next}
 use Rattle.tb_terms.specs.Names.{is_string, is_text, is_text_byte}
-use Rattle.tb_terms.specs.Texts.{escape_letter}
 use Rattle.tb_read.specs.declared.quoted.Within.{Within}
 use Rattle.tb_read.specs.declared.quoted.Within.TheVariants.{Between, Escaped, Going}
 use Rattle.tb_read.specs.declared.quoted.Turn.{Turn}
 use Rattle.tb_read.specs.declared.quoted.Turn.TheVariants.{Ends, Goes, Puts, Bad}
-use Rattle.tb_read.specs.declared.fault.TermFault.{TermFault}
-use Rattle.tb_read.specs.Lexing.{string_turn, between_turn, going_turn, escaped_turn, unescaped, lead, string_rest, with_front}
+use Rattle.tb_read.specs.Lexing.{between_turn, going_turn, escaped_turn, unescaped, lead, string_rest}
 use Rattle.tb_read.specs.Spelling.{is_plain, SpellsByte, SpellsBytes}
 use Rattle.tb_read.proofs.Strings.{turned, front_ok, string_sound}
 use Rattle.tb_read.proofs.Chars.{encode_two, encode_three, encode_four}
@@ -183,13 +181,13 @@ going_by total b bytes ih next p true h x e = by (h refl) where
 going_whole : (total b : ℕ) (bytes : List ℕ) → Whole total bytes → (more low high : ℕ) (p : List ℕ) → ((more ≡ 1) × OneMore low high p) ⊎ (((more ≡ 2) × TwoMore low high p) ⊎ ((more ≡ 3) × ThreeMore low high p)) → (x : Pair) → turned total (going_turn more low high b) bytes ≡ Ok x → IsUtf8 (p ++ x.0)
 going_whole total b bytes ih more low high p (inl f) x e =
     going_by total b bytes ih Between p (leb low b && leb b high) (λ v. let q = and_parts (leb low b) (leb b high) v in inl (refl, f.1 b (leb-true low b q.0) (leb-true b high q.1))) x
-        (subst (λ m. turned total (going_turn m low high b) bytes ≡ Ok x) f.0 e)
+    (subst (λ m. turned total (going_turn m low high b) bytes ≡ Ok x) f.0 e)
 going_whole total b bytes ih more low high p (inr (inl f)) x e =
-    going_by total b bytes ih (Going 1 128 191) p (leb low b && leb b high) (λ v. let q = and_parts (leb low b) (leb b high) v in inr (≤_refl 128, inl (refl, f.1 b (leb-true low b q.0) (leb-true b high q.1)))) x
-        (subst (λ m. turned total (going_turn m low high b) bytes ≡ Ok x) f.0 e)
+    going_by total b bytes ih (Going 1 128 191) p (leb low b && leb b high) (λ v. let q = and_parts (leb low b) (leb b high) v in inr (lit≤ tt, inl (refl, f.1 b (leb-true low b q.0) (leb-true b high q.1)))) x
+    (subst (λ m. turned total (going_turn m low high b) bytes ≡ Ok x) f.0 e)
 going_whole total b bytes ih more low high p (inr (inr f)) x e =
-    going_by total b bytes ih (Going 2 128 191) p (leb low b && leb b high) (λ v. let q = and_parts (leb low b) (leb b high) v in inr (≤_refl 128, inr (inl (refl, f.1 b (leb-true low b q.0) (leb-true b high q.1))))) x
-        (subst (λ m. turned total (going_turn m low high b) bytes ≡ Ok x) f.0 e)
+    going_by total b bytes ih (Going 2 128 191) p (leb low b && leb b high) (λ v. let q = and_parts (leb low b) (leb b high) v in inr (lit≤ tt, inr (inl (refl, f.1 b (leb-true low b q.0) (leb-true b high q.1))))) x
+    (subst (λ m. turned total (going_turn m low high b) bytes ≡ Ok x) f.0 e)
 
 whole : (total : ℕ) (bytes : List ℕ) → Whole total bytes
 whole total [] w p f x e = cc
