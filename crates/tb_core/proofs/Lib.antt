@@ -1,2 +1,4 @@
 pub mod SameLemmas
 pub mod Rows
+pub mod OfferLemmas
+pub mod MeetingLemmas

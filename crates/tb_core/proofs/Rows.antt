@@ -7,7 +7,7 @@ use Rattle.std.specs.Coded.{coded_list}
 use Rattle.tb_core.specs.Same.{is_same_terms, is_same}
 use Rattle.tb_core.proofs.SameLemmas.{is_same-refl}
 use Rattle.tb_core.specs.Buses.{Origin, Bus, start}
-use Rattle.tb_core.specs.Steps.{steps, moves, moves_of_all, others, meetings, label_of, made, step_of}
+use Rattle.tb_core.specs.Steps.{steps, moves, moves_of_all, moves_of, meetings, meetings_with, goes_on}
 use Rattle.tb_core.specs.Simulation.{IsSim, simulated, turn, Turn, Makes}
 use Rattle.tb_core.specs.declared.program.Program.{Program}
 use Rattle.tb_core.specs.declared.program.Body.{Body}
@@ -31,6 +31,7 @@ halt = Did (record { kind = kind.Halt; from = record { proc = 0; atom = 0 }; to 
 
 -- an empty bus finishes at once
 pub empty_bus : IsSim 1000000 (simulated (start empty)) (finish ∷ []) Down
+unfolding steps moves moves_of_all moves_of meetings meetings_with goes_on
 empty_bus = (_, refl, refl)
 
 -- `process P is rec-msg(a) toolbus(P)`
@@ -39,6 +40,7 @@ alone = record { program = record { bodies = record { acts = RecMsg (Appl (codes
 
 -- one receiver alone: nothing is possible, then no more ticks come, then the bus halts
 pub one_receiver_alone : IsSim 1000000 (simulated (start alone)) (Quiet ∷ Fed NoTicks Took ∷ halt ∷ []) Down
+unfolding steps moves moves_of_all moves_of meetings meetings_with goes_on
 one_receiver_alone = (_, refl, (_, refl, (_, refl, refl)))
 
 abbrev pub hello_terms : List Term
@@ -53,6 +55,7 @@ shake = Did (record { kind = kind.Msg; from = record { proc = 1; atom = 1 }; to 
 
 -- one process hands its terms to the other, and no process is left
 pub hello_once : IsSim 1000000 (simulated (start hello)) (shake ∷ finish ∷ []) Down
+unfolding steps moves moves_of_all moves_of meetings meetings_with goes_on
 hello_once =
     (record { bus = record (start hello) { procs = []; last = 1 }; made = 1; quiet = false },
      simp (is_same-refl (coded_list term.the_row.coded) hello_terms),

@@ -1,5 +1,5 @@
 -- The test for sameness decides equality.
-use Rattle.std.proofs.Common.{◌≡◌, ℕ, Bool, true, false, ◌&&◌, List, refl, ap, sym, arith, rules}
+use Rattle.std.proofs.Common.{◌≡◌, ℕ, Bool, true, false, ◌&&◌, List, refl, ap, sym, ◌∙◌, arith, rules, IsTrue, ◌↔◌}
 use Rattle.std.specs.Coded.{Coded, coded_list}
 use base.Stored.{Gv, gnil, gnum, gcons}
 use Rattle.tb_core.specs.Same.{is_same_code, is_same}
@@ -36,3 +36,15 @@ is_same-refl coded x = is_same_code-refl (coded.code x)
 -- and of no others
 pub is_same-sound : {A : Type 0} (coded : Coded A) (x y : A) → is_same coded x y ≡ true → x ≡ y
 is_same-sound coded x y h = coded.inj x y (is_same_code-sound (coded.code x) (coded.code y) h)
+
+decided-by : {A : Type 0} (coded : Coded A) (x y : A) (r b : Bool) → is_same coded x y ≡ b → (IsTrue r ↔ (x ≡ y)) → r ≡ b
+decided-by coded x y true true e h = refl
+decided-by coded x y false false e h = refl
+decided-by coded x y true false e h =
+    let same : is_same coded x y ≡ true = ap (is_same coded x) (sym (h.0 refl)) ∙ is_same-refl coded x in
+    cc
+decided-by coded x y false true e h = h.1 (is_same-sound coded x y e)
+
+-- a test that decides equality is this test
+pub is_same-decided : {A : Type 0} (coded : Coded A) (x y : A) (r : Bool) → (IsTrue r ↔ (x ≡ y)) → r ≡ is_same coded x y
+is_same-decided coded x y r h = decided-by coded x y r (is_same coded x y) refl h

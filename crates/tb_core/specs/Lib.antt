@@ -4,5 +4,8 @@ pub mod Processes
 pub mod Buses
 pub mod Steps
 pub mod Traces
+pub mod Codes
+pub mod Lives
+pub mod LiveBuses
 pub mod LogText
 pub mod Simulation

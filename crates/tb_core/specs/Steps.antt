@@ -43,10 +43,10 @@ met sender sent terms taker taken (Some Delta) = []
 met sender sent terms taker taken None = []
 
 -- whom an offer to hand over terms meets: in each other process the offers in order
-abbrev pub meetings_with : Bus → Proc → Offer → List Term → Proc → List Move
+unfoldable pub meetings_with : Bus → Proc → Offer → List Term → Proc → List Move
 meetings_with bus sender sent terms taker = flat_map (λ taken. met sender sent terms taker taken (act_of bus taker taken)) (offers taker.term)
 
-abbrev pub meetings : Bus → Proc → Offer → List Term → List Move
+unfoldable pub meetings : Bus → Proc → Offer → List Term → List Move
 meetings bus sender sent terms = flat_map (meetings_with bus sender sent terms) (others bus sender)
 
 -- What one offer may lead to, by what its atom does.
@@ -61,11 +61,11 @@ moves_by bus proc offer (Some (SndMsg terms)) = meetings bus proc offer terms
 moves_by bus proc offer (Some (RecMsg wanted)) = []
 moves_by bus proc offer None = []
 
-abbrev pub moves_of : Bus → Proc → List Move
+unfoldable pub moves_of : Bus → Proc → List Move
 moves_of bus proc = flat_map (λ offer. moves_by bus proc offer (act_of bus proc offer)) (offers proc.term)
 
 -- what the processes may do, in turn
-abbrev pub moves_of_all : Bus → List Move
+unfoldable pub moves_of_all : Bus → List Move
 moves_of_all bus = flat_map (moves_of bus) (in_turn bus)
 
 -- where the processes can do nothing, the bus halts once no more ticks come
@@ -79,11 +79,11 @@ moves_up bus [] = Finish ∷ []
 moves_up bus (proc ∷ procs) = moves_or_halt bus.no_ticks (moves_of_all bus)
 
 -- All moves, in order. A bus that is down makes none.
-abbrev pub moves : Bus → List Move
+unfoldable pub moves : Bus → List Move
 moves bus = if bus.down then [] else moves_up bus bus.procs
 
 -- the process of this number goes on with what is left of it, and is gone where nothing is
-abbrev pub goes_on : ℕ → Option Process → List Proc → List Proc
+unfoldable pub goes_on : ℕ → Option Process → List Proc → List Proc
 goes_on number residual procs = flat_map (λ proc. if proc.number == number then proc_left number proc.body residual else proc ∷ []) procs
 
 abbrev pub place_of : Proc → Offer → Place
@@ -118,5 +118,5 @@ abbrev pub step_of : Bus → Move → Step
 step_of bus move = record { label = label_of move; bus = made bus move }
 
 -- All steps of a bus, in order.
-abbrev pub steps : Bus → List Step
+unfoldable pub steps : Bus → List Step
 steps bus = map (step_of bus) (moves bus)

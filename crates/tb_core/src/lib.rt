@@ -1,6 +1,9 @@
 //! The bus: processes, their steps, the log of what happened, and the simulation of a script.
 #![tactic(auto)]
 
+mod bus;
+mod found;
+mod live;
 mod log;
 mod program;
 mod simulation;
