@@ -2,3 +2,4 @@ pub mod SameLemmas
 pub mod Rows
 pub mod OfferLemmas
 pub mod MeetingLemmas
+pub mod TurnLemmas

@@ -1,7 +1,8 @@
-ghost use Rattle.std.specs.Prelude.{◌≡◌, ◌↔◌, IsTrue, ◌<◌, ◌≤◌, length, IfSome, map, drop, Some, ◌≢◌, not, ◌&&◌, ◌==◌};
+ghost use Rattle.std.specs.Prelude.{◌≡◌, ◌↔◌, IsTrue, ◌<◌, ◌≤◌, length, IfSome, map, drop, Some, None, true, false, nat_le, if◌then◌else◌, ◌≢◌, not, ◌&&◌, ◌==◌};
 ghost use Rattle.std.specs.Option.{option_copied, option_map};
 ghost use Rattle.std.specs.List.{flat_map};
-ghost use Rattle.tb_core.specs.Lives.{are_in_place};
+ghost use Rattle.std.specs.List.Sorted.{IsPartitionPoint};
+ghost use Rattle.tb_core.specs.Lives.{are_in_place, ascend};
 
 use crate::found::Found;
 use crate::live::Live;
@@ -21,7 +22,7 @@ pub struct LiveBus {
 
 impl LiveBus {
     ghost use Rattle.tb_core.specs.Lives.{proc_of, offer_of};
-    ghost use Rattle.tb_core.specs.Steps.{met, meetings_with, meetings, moves_of};
+    ghost use Rattle.tb_core.specs.Steps.{meetings, moves_of, moves_of_all, moves, Halt};
     ghost use Rattle.tb_core.specs.LiveBuses.{bus_of, first, act_at, live_at, move_of, meet_move, IsFoundIn, takes, moves_among};
 
     /// The atom that a process has reached.
@@ -112,4 +113,49 @@ impl LiveBus {
         }
         None
     }
+
+    /// What the processes would do first, asked in turn.
+    fn first_in_turn(&self) -> Option<Found>
+        ensures found { first (moves_of_all (bus_of self.now)) ≡ option_map (move_of self.now.program.bodies self.now.lives) result }
+        ensures in_range { IfSome result (IsFoundIn self.now.lives) }
+    {
+        let start = turn_start(self.lives.as_slice(), self.last);
+        match self.first_from(start) {
+            Some(found) => Some(found),
+            None => self.first_from(0),
+        }
+    }
+
+    /// The first of all moves.
+    pub fn first_move(&self) -> Option<Found>
+        ensures found { first (moves (bus_of self.now)) ≡ option_map (move_of self.now.program.bodies self.now.lives) result }
+        ensures in_range { IfSome result (IsFoundIn self.now.lives) }
+    {
+        if self.down {
+            return None;
+        }
+        if self.lives.is_empty() {
+            return Some(Found::Finish);
+        }
+        match self.first_in_turn() {
+            Some(found) => Some(found),
+            None => self.halt(),
+        }
+    }
+
+    fn halt(&self) -> Option<Found>
+        ensures found { option_map (move_of self.now.program.bodies self.now.lives) result ≡ (if self.now.no_ticks then Some Halt else None) }
+        ensures in_range { IfSome result (IsFoundIn self.now.lives) }
+    {
+        if self.no_ticks { Some(Found::Halt) } else { None }
+    }
+}
+
+/// How many of the processes have a number up to that of the last starter.
+fn turn_start(lives: &[Live], last: u32) -> usize
+    requires { IsTrue (ascend 0 lives.now) }
+    ensures within { result ≤ length lives.now }
+    ensures point { IsPartitionPoint (λ live. nat_le live.number last ≡ true) (λ live. nat_le live.number last ≡ false) lives.now result }
+{
+    lives.partition_point(|live| live.number <= last)
 }
