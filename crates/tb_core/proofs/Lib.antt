@@ -3,3 +3,4 @@ pub mod Rows
 pub mod OfferLemmas
 pub mod MeetingLemmas
 pub mod TurnLemmas
+pub mod LiveLemmas

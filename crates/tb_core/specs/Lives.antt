@@ -32,3 +32,8 @@ ascend below (live ∷ lives) = nat_lt below live.number && ascend live.number l
 
 abbrev pub are_in_place : List Body → List Live → Bool
 are_in_place bodies lives = list_all (is_placed bodies) lives && ascend 0 lives
+
+-- the roots, numbered from this number on, each at the first place of its body
+abbrev pub lives_from : ℕ → List ℕ → List Live
+lives_from number [] = []
+lives_from number (root ∷ roots) = record { number = number; body = root; place = 0 } ∷ lives_from (number + 1) roots
