@@ -7,5 +7,6 @@ pub mod Traces
 pub mod Codes
 pub mod Lives
 pub mod LiveBuses
+pub mod Cores
 pub mod LogText
 pub mod Simulation

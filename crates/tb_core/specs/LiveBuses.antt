@@ -1,9 +1,11 @@
 -- The bus that the code's fields stand for, and the move that its search found.
-use Rattle.std.specs.Prelude.{ℕ, List, [], ◌∷◌, map, slice_get, slice_index_or, length, Option, Some, None, Bool, false, ◌<◌, ◌≢◌, ⊤}
+use Rattle.std.specs.Prelude.{ℕ, List, [], ◌∷◌, map, slice_get, slice_index_or, length, ◌≡◌, Option, Some, None, Bool, false, ◌<◌, ◌≢◌, ⊤}
 use Rattle.std.specs.List.{flat_map}
 use Rattle.tb_terms.specs.declared.term.Term.{Term}
 use Rattle.tb_core.specs.Same.{is_same_terms}
-use Rattle.tb_core.specs.Buses.{Bus, Proc, acts_of}
+use Rattle.tb_core.specs.Buses.{Bus, Proc, acts_of, start}
+use Rattle.tb_core.specs.Traces.{IsTrace, replay}
+use Rattle.tb_core.specs.declared.log.Entry.{Entry}
 use Rattle.tb_core.specs.Steps.{Move, Own, Meet, Finish, Halt, moves_of}
 use Rattle.tb_core.specs.Lives.{proc_of, offer_of}
 use Rattle.tb_core.specs.declared.live.Live.{Live}
@@ -77,3 +79,8 @@ first (x ∷ xs) = Some x
 -- what these processes may do, one after another
 unfoldable pub moves_among : Bus → List Live → List Move
 moves_among bus lives = flat_map (moves_of bus) (map (proc_of bus.program.bodies) lives)
+
+-- the fields stand for the bus to which the log leads, and the log is a trace
+pub record StandsFor (bus : LiveBus) (log : List Entry) : Type 0 where
+  pub bus_is : bus_of bus ≡ replay (start (record { program = bus.program })) log
+  pub trace : IsTrace (start (record { program = bus.program })) log
