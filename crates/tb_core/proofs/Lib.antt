@@ -4,3 +4,5 @@ pub mod OfferLemmas
 pub mod MeetingLemmas
 pub mod TurnLemmas
 pub mod LiveLemmas
+pub mod TraceLemmas
+pub mod CoreLemmas

@@ -1,5 +1,5 @@
 -- What a core stands for, and what each of its calls logs.
-use Rattle.std.specs.Prelude.{◌≡◌, ℕ, List, [], ◌∷◌, ◌++◌, Bool, true, false, if◌then◌else◌}
+use Rattle.std.specs.Prelude.{◌≡◌, ℕ, List, [], ◌∷◌, ◌++◌, ◌-◌, length, slice_get, Option, Some, None, Bool, true, false, if◌then◌else◌}
 use Rattle.std.specs.Coded.{Coded, code_by, coded×, coded_bool, coded_list}
 use Rattle.std.specs.Prelude.{refl}
 use Rattle.tb_core.specs.Buses.{Bus, Origin, start}
@@ -38,13 +38,15 @@ pub record Logs (old new : CoreState) (entries : List Entry) : Type 0 where
   pub stopped : new.stopped ≡ old.stopped
   pub trace : IsTrace (bus_now old) entries
 
+abbrev pub says_quiet : Option Entry → Bool
+says_quiet None = false
+says_quiet (Some Quiet) = true
+says_quiet (Some (Did label)) = false
+says_quiet (Some (Fed input reply)) = false
+
 -- the last entry says quiet
 abbrev pub ends_quiet : List Entry → Bool
-ends_quiet [] = false
-ends_quiet (Quiet ∷ []) = true
-ends_quiet (Did label ∷ []) = false
-ends_quiet (Fed input reply ∷ []) = false
-ends_quiet (entry ∷ next ∷ log) = ends_quiet (next ∷ log)
+ends_quiet log = says_quiet (slice_get log (length log - 1))
 
 abbrev pub first_did : List Step → List Entry
 first_did [] = []

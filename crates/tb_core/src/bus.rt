@@ -313,17 +313,24 @@ impl LiveBus {
         self.go_on(low);
     }
 
-    /// What becomes of an input.
-    pub fn feed(&mut self, input: Input) -> Reply
-        ensures { record { reply = result; bus = bus_of self.new } ≡ fed (bus_of self.old) input }
+    /// What would become of an input.
+    pub fn reply(&self, input: Input) -> Reply
+        ensures { result ≡ (fed (bus_of self.now) input).reply }
     {
-        if self.down {
-            return Reply::Dropped(Why::Down);
-        }
         match input {
+            Input::NoTicks if self.down => Reply::Dropped(Why::Down),
+            Input::NoTicks => Reply::Took,
+        }
+    }
+
+    /// Takes an input, or drops it.
+    pub fn feed(&mut self, input: Input)
+        ensures { bus_of self.new ≡ (fed (bus_of self.old) input).bus }
+    {
+        match input {
+            Input::NoTicks if self.down => {}
             Input::NoTicks => self.no_ticks = true,
         }
-        Reply::Took
     }
 }
 
