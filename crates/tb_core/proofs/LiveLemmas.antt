@@ -201,14 +201,23 @@ short-by (b ∷ bodies) (suc body) h =
     let t = both-true (is_body_in_range b) (list_all is_body_in_range bodies) h in
     short-by bodies body t.1
 
+-- what a program in range says
+pub range-bodies : (bodies : List Body) (roots : List ℕ) → IsTrue (is_in_range bodies roots) → list_all is_body_in_range bodies ≡ true
+range-bodies bodies roots h =
+    let t = both-true (list_all is_body_in_range bodies && nat_le (length roots) 10000) (list_all (λ root. nat_lt root (length bodies)) roots) h in
+    (both-true (list_all is_body_in_range bodies) (nat_le (length roots) 10000) t.0).0
+
+pub range-roots : (bodies : List Body) (roots : List ℕ) → IsTrue (is_in_range bodies roots) → list_all (λ root. nat_lt root (length bodies)) roots ≡ true
+range-roots bodies roots h = (both-true (list_all is_body_in_range bodies && nat_le (length roots) 10000) (list_all (λ root. nat_lt root (length bodies)) roots) h).1
+
+pub range-few : (bodies : List Body) (roots : List ℕ) → IsTrue (is_in_range bodies roots) → length roots ≤ 10000
+range-few bodies roots h =
+    let t = both-true (list_all is_body_in_range bodies && nat_le (length roots) 10000) (list_all (λ root. nat_lt root (length bodies)) roots) h in
+    leb-true (length roots) 10000 (both-true (list_all is_body_in_range bodies) (nat_le (length roots) 10000) t.0).1
+
 pub bodies-short : (bodies : List Body) (roots : List ℕ) (body : ℕ) → IsTrue (is_in_range bodies roots) → length (acts_of bodies body) ≤ 400
 bodies-short bodies roots body h =
-    let few = nat_lt (length bodies) 4294967296 in
-    let short = list_all is_body_in_range bodies in
-    let many = nat_le (length roots) 10000 in
-    let t = both-true ((few && short) && many) (list_all (λ root. nat_lt root (length bodies)) roots) h in
-    let u = both-true (few && short) many t.0 in
-    short-by bodies body (both-true few short u.0).1
+    short-by bodies body (range-bodies bodies roots h)
 
 -- so the number of an atom is small
 pub place-short : (bodies : List Body) (roots : List ℕ) (lives : List Live) (at : ℕ) → IsTrue (is_in_range bodies roots) → IsTrue (are_in_place bodies lives) → at < length lives →
@@ -254,23 +263,6 @@ lives-opened bodies number (root ∷ roots) h g =
     ap (λ ps. record { number = number; body = root; term = term_at (acts_of bodies root) 0 } ∷ ps) (lives-opened bodies (number + 1) roots h t.1)
     ∙ sym (ap (λ ps. ps ++ opened bodies (number + 1) roots) (left-fresh number root (acts_of bodies root) (list_all-body bodies root h (ltb-true root (length bodies) t.0))))
 
--- what a program in range says
-pub range-bodies : (bodies : List Body) (roots : List ℕ) → IsTrue (is_in_range bodies roots) → list_all is_body_in_range bodies ≡ true
-range-bodies bodies roots h =
-    let few = nat_lt (length bodies) 4294967296 in
-    let short = list_all is_body_in_range bodies in
-    let many = nat_le (length roots) 10000 in
-    let t = both-true ((few && short) && many) (list_all (λ root. nat_lt root (length bodies)) roots) h in
-    (both-true few short (both-true (few && short) many t.0).0).1
-
-pub range-roots : (bodies : List Body) (roots : List ℕ) → IsTrue (is_in_range bodies roots) → list_all (λ root. nat_lt root (length bodies)) roots ≡ true
-range-roots bodies roots h = (both-true ((nat_lt (length bodies) 4294967296 && list_all is_body_in_range bodies) && nat_le (length roots) 10000) (list_all (λ root. nat_lt root (length bodies)) roots) h).1
-
-pub range-few : (bodies : List Body) (roots : List ℕ) → IsTrue (is_in_range bodies roots) → length roots ≤ 10000
-range-few bodies roots h =
-    let t = both-true ((nat_lt (length bodies) 4294967296 && list_all is_body_in_range bodies) && nat_le (length roots) 10000) (list_all (λ root. nat_lt root (length bodies)) roots) h in
-    leb-true (length roots) 10000 (both-true (nat_lt (length bodies) 4294967296 && list_all is_body_in_range bodies) (nat_le (length roots) 10000) t.0).1
-
 pub opened-in_place : (bodies : List Body) (roots : List ℕ) → IsTrue (is_in_range bodies roots) → IsTrue (are_in_place bodies (lives_from 1 roots))
 opened-in_place bodies roots h = rw (lives-placed bodies 1 roots (range-bodies bodies roots h) (range-roots bodies roots h)) (lives-ascend 0 1 roots (omega arith))
 
@@ -279,5 +271,5 @@ opened-lives bodies roots h = lives-opened bodies 1 roots (range-bodies bodies r
 
 -- the bus with these processes is the opening one
 pub opened-bus : (program : Program) (procs : List Proc) → procs ≡ opened program.bodies 1 program.roots →
-    record { program = program; procs = procs; last = 0; no_ticks = false; down = false } ≡ start (record { program = program })
-opened-bus program procs e = ap (λ (ps : List Proc). let bus : Bus = record { program = program; procs = ps; last = 0; no_ticks = false; down = false } in bus) e
+    record { program = program; procs = procs; last_starter = 0; no_ticks = false; down = false } ≡ start (record { program = program })
+opened-bus program procs e = ap (λ (ps : List Proc). let bus : Bus = record { program = program; procs = ps; last_starter = 0; no_ticks = false; down = false } in bus) e

@@ -7,8 +7,8 @@ use Rattle.std.specs.Coded.{coded_list}
 use Rattle.tb_core.specs.Same.{is_same_terms, is_same}
 use Rattle.tb_core.proofs.SameLemmas.{is_same-refl}
 use Rattle.tb_core.specs.Buses.{Origin, Bus, start}
-use Rattle.tb_core.specs.Steps.{steps, moves, moves_of_all, moves_of, meetings, meetings_with, goes_on}
-use Rattle.tb_core.specs.Simulation.{IsSim, simulated, turn, Turn, Makes}
+use Rattle.tb_core.specs.Steps.{steps, moves, moves_of_all, moves_of, handshakes, handshakes_with, goes_on}
+use Rattle.tb_core.specs.Simulation.{IsSim, sim_start, turn, Turn, Makes}
 use Rattle.tb_core.specs.declared.program.Program.{Program}
 use Rattle.tb_core.specs.declared.program.Body.{Body}
 use Rattle.tb_core.specs.declared.program.Act.TheVariants.{Delta, Tau, SndMsg, RecMsg}
@@ -30,8 +30,8 @@ abbrev pub halt : Entry
 halt = Did (record { kind = kind.Halt; from = record { proc = 0; atom = 0 }; to = record { proc = 0; atom = 0 }; terms = [] })
 
 -- an empty bus finishes at once
-pub empty_bus : IsSim 1000000 (simulated (start empty)) (finish ∷ []) Down
-unfolding steps moves moves_of_all moves_of meetings meetings_with goes_on
+pub empty_bus : IsSim 1000000 (sim_start (start empty)) (finish ∷ []) Down
+unfolding steps moves moves_of_all moves_of handshakes handshakes_with goes_on
 empty_bus = (_, refl, refl)
 
 -- `process P is rec-msg(a) toolbus(P)`
@@ -39,8 +39,8 @@ abbrev pub alone : Origin
 alone = record { program = record { bodies = record { acts = RecMsg (Appl (codes "a") [] ∷ []) ∷ [] } ∷ []; roots = 0 ∷ []; in_range = refl } }
 
 -- one receiver alone: nothing is possible, then no more ticks come, then the bus halts
-pub one_receiver_alone : IsSim 1000000 (simulated (start alone)) (Quiet ∷ Fed NoTicks Took ∷ halt ∷ []) Down
-unfolding steps moves moves_of_all moves_of meetings meetings_with goes_on
+pub one_receiver_alone : IsSim 1000000 (sim_start (start alone)) (Quiet ∷ Fed NoTicks Took ∷ halt ∷ []) Down
+unfolding steps moves moves_of_all moves_of handshakes handshakes_with goes_on
 one_receiver_alone = (_, refl, (_, refl, (_, refl, refl)))
 
 abbrev pub hello_terms : List Term
@@ -54,9 +54,9 @@ abbrev pub shake : Entry
 shake = Did (record { kind = kind.Msg; from = record { proc = 1; atom = 1 }; to = record { proc = 2; atom = 1 }; terms = hello_terms })
 
 -- one process hands its terms to the other, and no process is left
-pub hello_once : IsSim 1000000 (simulated (start hello)) (shake ∷ finish ∷ []) Down
-unfolding steps moves moves_of_all moves_of meetings meetings_with goes_on
+pub hello_once : IsSim 1000000 (sim_start (start hello)) (shake ∷ finish ∷ []) Down
+unfolding steps moves moves_of_all moves_of handshakes handshakes_with goes_on
 hello_once =
-    (record { bus = record (start hello) { procs = []; last = 1 }; made = 1; quiet = false },
+    (record { bus = record (start hello) { procs = []; last_starter = 1 }; steps_made = 1; quiet = false },
      simp (is_same-refl (coded_list term.the_row.coded) hello_terms),
      (_, refl, refl))

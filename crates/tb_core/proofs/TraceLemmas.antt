@@ -2,8 +2,8 @@
 use Rattle.std.proofs.Common.{◌≡◌, ℕ, List, [], ◌∷◌, ◌++◌, map, refl, ap, sym, ◌∙◌, subst, arith, rules, Option, Some, None, Bool, true, false, Contains, if◌then◌else◌, append-nil}
 use Rattle.tb_core.specs.Same.{is_same}
 use Rattle.tb_core.specs.Buses.{Bus, Origin, start}
-use Rattle.tb_core.specs.Steps.{Move, Own, Meet, Finish, Halt, Step, moves, steps, step_of, label_of, made}
-use Rattle.tb_core.specs.Traces.{IsLegal, IsTrace, after, after_step, replay, fed, taken, Answer}
+use Rattle.tb_core.specs.Steps.{Move, Own, Handshake, Finish, Halt, Step, moves, steps, step_of, label_of, made}
+use Rattle.tb_core.specs.Traces.{IsLegal, IsTrace, after, after_step, replay, fed, took, Answer}
 use Rattle.tb_core.specs.LiveBuses.{first, bus_of, StandsFor}
 use Rattle.tb_core.specs.declared.bus.LiveBus.{LiveBus}
 use Rattle.tb_core.specs.declared.program.Program.{Program}
@@ -91,12 +91,12 @@ stands-on old new log entries stands program leads trace =
 -- no move changes the program
 pub made-program : (bus : Bus) (move : Move) → (made bus move).program ≡ bus.program
 made-program bus (Own proc offer) = refl
-made-program bus (Meet sender sent taker taken terms) = refl
+made-program bus (Handshake sender sent receiver took terms) = refl
 made-program bus Finish = refl
 made-program bus Halt = refl
 
 -- no input changes the program
-fed-by : (bus : Bus) (input : Input) (down : Bool) → (let a : Answer = if down then record { reply = Dropped Down; bus = bus } else taken bus input in a.bus.program) ≡ bus.program
+fed-by : (bus : Bus) (input : Input) (down : Bool) → (let a : Answer = if down then record { reply = Dropped Down; bus = bus } else took bus input in a.bus.program) ≡ bus.program
 fed-by bus input true = refl
 fed-by bus NoTicks false = refl
 

@@ -8,7 +8,7 @@ use Rattle.std.specs.List.{flat_map, AllWithin}
 use Rattle.std.specs.List.Sorted.{IsPartitionPoint, IsPartitionedBy}
 use Rattle.tb_core.specs.Lives.{proc_of, ascend}
 use Rattle.tb_core.specs.Buses.{Bus, Proc}
-use Rattle.tb_core.specs.Steps.{Move, Finish, Halt, moves_of, moves_of_all, in_turn, moves, moves_up, moves_or_halt}
+use Rattle.tb_core.specs.Steps.{Move, Finish, Halt, moves_of, moves_of_all, in_turn, moves, moves_while_up, moves_or_halt}
 use Rattle.tb_core.specs.LiveBuses.{first, moves_among}
 use Rattle.tb_core.proofs.SameLemmas.{both-true}
 use Rattle.tb_core.specs.declared.live.Live.{Live}
@@ -81,19 +81,19 @@ filter-map p f (x ∷ xs) = rw (filter-map p f xs) (map-if f x (filter (λ y. p 
 
 -- the first part of the turn is that behind the last starter
 pub turn-split : (bus : Bus) (lives : List Live) (i : ℕ) → bus.procs ≡ map (proc_of bus.program.bodies) lives →
-    IsPartitionPoint (λ live. nat_le live.number bus.last ≡ true) (λ live. nat_le live.number bus.last ≡ false) lives i →
+    IsPartitionPoint (λ live. nat_le live.number bus.last_starter ≡ true) (λ live. nat_le live.number bus.last_starter ≡ false) lives i →
     moves_of_all bus ≡ moves_among bus (drop i lives) ++ moves_among bus (take i lives)
 unfolding moves_of_all moves_among
 turn-split bus lives i e h =
     let proc = proc_of bus.program.bodies in
-    let behind : filter (λ p. nat_lt bus.last p.number) (map proc lives) ≡ map proc (drop i lives) =
-        filter-map (λ p. nat_lt bus.last p.number) proc lives
-        ∙ ap (map proc) (filter-back (λ live. nat_lt bus.last live.number) lives i
-            (λ k d l m. le-ltb bus.last (get_or lives k d).number (leb-true (get_or lives k d).number bus.last (h.0 k d l m)))
-            (λ k d l m. lt-ltb bus.last (get_or lives k d).number (leb-false (get_or lives k d).number bus.last (h.1 k d l m)))) in
-    let upto : filter (λ p. nat_le p.number bus.last) (map proc lives) ≡ map proc (take i lives) =
-        filter-map (λ p. nat_le p.number bus.last) proc lives
-        ∙ ap (map proc) (filter-front (λ live. nat_le live.number bus.last) lives i h.0 h.1) in
+    let behind : filter (λ p. nat_lt bus.last_starter p.number) (map proc lives) ≡ map proc (drop i lives) =
+        filter-map (λ p. nat_lt bus.last_starter p.number) proc lives
+        ∙ ap (map proc) (filter-back (λ live. nat_lt bus.last_starter live.number) lives i
+            (λ k d l m. le-ltb bus.last_starter (get_or lives k d).number (leb-true (get_or lives k d).number bus.last_starter (h.0 k d l m)))
+            (λ k d l m. lt-ltb bus.last_starter (get_or lives k d).number (leb-false (get_or lives k d).number bus.last_starter (h.1 k d l m)))) in
+    let upto : filter (λ p. nat_le p.number bus.last_starter) (map proc lives) ≡ map proc (take i lives) =
+        filter-map (λ p. nat_le p.number bus.last_starter) proc lives
+        ∙ ap (map proc) (filter-front (λ live. nat_le live.number bus.last_starter) lives i h.0 h.1) in
     let turn : in_turn bus ≡ map proc (drop i lives) ++ map proc (take i lives) = rw e (rw behind (rw upto refl)) in
     ap (flat_map (moves_of bus)) turn ∙ flat_map-append (moves_of bus) (map proc (drop i lives)) (map proc (take i lives))
 
@@ -107,7 +107,7 @@ first-append_some (y ∷ xs) ys x e = e
 
 -- what is found behind the last starter is the first in turn
 pub turn-found : (bus : Bus) (lives : List Live) (i : ℕ) (move : Move) → bus.procs ≡ map (proc_of bus.program.bodies) lives →
-    IsPartitionPoint (λ live. nat_le live.number bus.last ≡ true) (λ live. nat_le live.number bus.last ≡ false) lives i →
+    IsPartitionPoint (λ live. nat_le live.number bus.last_starter ≡ true) (λ live. nat_le live.number bus.last_starter ≡ false) lives i →
     first (moves_among bus (drop i lives)) ≡ Some move → first (moves_of_all bus) ≡ Some move
 turn-found bus lives i move e h hit = ap first (turn-split bus lives i e h) ∙ first-append_some (moves_among bus (drop i lives)) (moves_among bus (take i lives)) move hit
 
@@ -121,7 +121,7 @@ moves_among-split bus lives i =
 
 -- where nothing is found there, the first of all is the first in turn
 pub turn-again : (bus : Bus) (lives : List Live) (i : ℕ) → bus.procs ≡ map (proc_of bus.program.bodies) lives →
-    IsPartitionPoint (λ live. nat_le live.number bus.last ≡ true) (λ live. nat_le live.number bus.last ≡ false) lives i →
+    IsPartitionPoint (λ live. nat_le live.number bus.last_starter ≡ true) (λ live. nat_le live.number bus.last_starter ≡ false) lives i →
     first (moves_among bus (drop i lives)) ≡ None → first (moves_of_all bus) ≡ first (moves_among bus lives)
 turn-again bus lives i e h miss =
     let nothing = none-from_first (moves_among bus (drop i lives)) miss in
@@ -132,14 +132,14 @@ down-nothing : (down : Bool) (ms : List Move) → down ≡ true → (if down the
 down-nothing true ms e = refl
 down-nothing false ms e = cc
 
-up-all : (down : Bool) (ms : List Move) → down ≡ false → (if down then [] else ms) ≡ ms
+pub up-all : (down : Bool) (ms : List Move) → down ≡ false → (if down then [] else ms) ≡ ms
 up-all true ms e = cc
 up-all false ms e = refl
 
 -- The first of all moves, by whether the bus is down, has a process left, and finds a move.
 pub moves-down : (bus : Bus) → bus.down ≡ true → first (moves bus) ≡ None
 unfolding moves
-moves-down bus e = ap first (down-nothing bus.down (moves_up bus bus.procs) e)
+moves-down bus e = ap first (down-nothing bus.down (moves_while_up bus bus.procs) e)
 
 -- where a process is alive, there is one
 pub alive : {A B : Type 0} (f : A → B) (xs : List A) (empty : Bool) → empty ≡ false → (xs ≡ [] → IsTrue empty) → map f xs ≡ [] → ⊥
@@ -148,7 +148,7 @@ alive f (x ∷ xs) empty e h g = cc
 
 pub moves-finish : (bus : Bus) → bus.down ≡ false → bus.procs ≡ [] → first (moves bus) ≡ Some Finish
 unfolding moves
-moves-finish bus e f = ap first (up-all bus.down (moves_up bus bus.procs) e ∙ ap (moves_up bus) f)
+moves-finish bus e f = ap first (up-all bus.down (moves_while_up bus bus.procs) e ∙ ap (moves_while_up bus) f)
 
 or_halt-some : (no_ticks : Bool) (ms : List Move) (move : Move) → first ms ≡ Some move → first (moves_or_halt no_ticks ms) ≡ Some move
 or_halt-some no_ticks [] move e = cc
@@ -159,14 +159,14 @@ or_halt-none true [] e = refl
 or_halt-none false [] e = refl
 or_halt-none no_ticks (m ∷ ms) e = cc
 
-up-or_halt : (bus : Bus) (procs : List Proc) → (procs ≡ [] → ⊥) → moves_up bus procs ≡ moves_or_halt bus.no_ticks (moves_of_all bus)
+up-or_halt : (bus : Bus) (procs : List Proc) → (procs ≡ [] → ⊥) → moves_while_up bus procs ≡ moves_or_halt bus.no_ticks (moves_of_all bus)
 up-or_halt bus [] h = absurd (h refl)
 up-or_halt bus (proc ∷ procs) h = refl
 
 pub moves-some : (bus : Bus) (move : Move) → bus.down ≡ false → (bus.procs ≡ [] → ⊥) → first (moves_of_all bus) ≡ Some move → first (moves bus) ≡ Some move
 unfolding moves
-moves-some bus move e f g = ap first (up-all bus.down (moves_up bus bus.procs) e) ∙ (ap first (up-or_halt bus bus.procs f) ∙ or_halt-some bus.no_ticks (moves_of_all bus) move g)
+moves-some bus move e f g = ap first (up-all bus.down (moves_while_up bus bus.procs) e) ∙ (ap first (up-or_halt bus bus.procs f) ∙ or_halt-some bus.no_ticks (moves_of_all bus) move g)
 
 pub moves-none : (bus : Bus) → bus.down ≡ false → (bus.procs ≡ [] → ⊥) → first (moves_of_all bus) ≡ None → first (moves bus) ≡ (if bus.no_ticks then Some Halt else None)
 unfolding moves
-moves-none bus e f g = ap first (up-all bus.down (moves_up bus bus.procs) e) ∙ (ap first (up-or_halt bus bus.procs f) ∙ or_halt-none bus.no_ticks (moves_of_all bus) g)
+moves-none bus e f g = ap first (up-all bus.down (moves_while_up bus bus.procs) e) ∙ (ap first (up-or_halt bus bus.procs f) ∙ or_halt-none bus.no_ticks (moves_of_all bus) g)

@@ -15,12 +15,12 @@ pub record Proc : Type 0 where
   pub body : ℕ
   pub term : Process
 
--- The processes alive stand by their numbers, the smallest first.
+-- In every bus that is reached the processes stand by their numbers, the smallest first.
 pub record Bus : Type 0 where
   pub program : Program
   pub procs : List Proc
-  -- the process that made the last step, or 0 where none was made
-  pub last : ℕ
+  -- the process that began the last step of a process, the sender where it was a handshake; 0 before any
+  pub last_starter : ℕ
   -- no more ticks come
   pub no_ticks : Bool
   pub down : Bool
@@ -49,6 +49,6 @@ abbrev pub start : Origin → Bus
 start origin = record {
   program = origin.program;
   procs = opened origin.program.bodies 1 origin.program.roots;
-  last = 0;
+  last_starter = 0;
   no_ticks = false;
   down = false }

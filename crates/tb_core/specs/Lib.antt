@@ -10,3 +10,4 @@ pub mod LiveBuses
 pub mod Cores
 pub mod LogText
 pub mod Simulation
+pub mod Turns

@@ -6,7 +6,7 @@ use Rattle.tb_core.specs.Same.{is_same_terms}
 use Rattle.tb_core.specs.Buses.{Bus, Proc, acts_of, start}
 use Rattle.tb_core.specs.Traces.{IsTrace, replay}
 use Rattle.tb_core.specs.declared.log.Entry.{Entry}
-use Rattle.tb_core.specs.Steps.{Move, Own, Meet, Finish, Halt, moves_of}
+use Rattle.tb_core.specs.Steps.{Move, Own, Handshake, Finish, Halt, moves_of}
 use Rattle.tb_core.specs.Lives.{proc_of, offer_of}
 use Rattle.tb_core.specs.declared.live.Live.{Live}
 use Rattle.tb_core.specs.declared.found.Found.{Found}
@@ -20,7 +20,7 @@ abbrev pub bus_of : LiveBus → Bus
 bus_of bus = record {
   program = bus.program;
   procs = map (proc_of bus.program.bodies) bus.lives;
-  last = bus.last;
+  last_starter = bus.last_starter;
   no_ticks = bus.no_ticks;
   down = bus.down }
 
@@ -42,32 +42,32 @@ sent_by (Some Tau) = []
 sent_by (Some Delta) = []
 sent_by None = []
 
--- whether an atom takes just these terms
-abbrev pub takes : List Term → Option Act → Bool
-takes terms (Some (RecMsg wanted)) = is_same_terms terms wanted
-takes terms (Some (SndMsg other)) = false
-takes terms (Some Tau) = false
-takes terms (Some Delta) = false
-takes terms None = false
+-- whether an atom receives just these terms
+abbrev pub receives : List Term → Option Act → Bool
+receives terms (Some (RecMsg wanted)) = is_same_terms terms wanted
+receives terms (Some (SndMsg other)) = false
+receives terms (Some Tau) = false
+receives terms (Some Delta) = false
+receives terms None = false
 
 -- a process by itself, and one process with another
 abbrev pub own_move : List Body → Live → Move
 own_move bodies live = Own (proc_of bodies live) (offer_of bodies live)
 
-abbrev pub meet_move : List Body → Live → Live → List Term → Move
-meet_move bodies sender taker terms = Meet (proc_of bodies sender) (offer_of bodies sender) (proc_of bodies taker) (offer_of bodies taker) terms
+abbrev pub handshake_move : List Body → Live → Live → List Term → Move
+handshake_move bodies sender receiver terms = Handshake (proc_of bodies sender) (offer_of bodies sender) (proc_of bodies receiver) (offer_of bodies receiver) terms
 
 -- the move that was found
 abbrev pub move_of : List Body → List Live → Found → Move
 move_of bodies lives (found.Own at) = own_move bodies (live_at lives at)
-move_of bodies lives (found.Meet from to) = meet_move bodies (live_at lives from) (live_at lives to) (sent_by (act_at bodies (live_at lives from)))
+move_of bodies lives (found.Handshake from to) = handshake_move bodies (live_at lives from) (live_at lives to) (sent_by (act_at bodies (live_at lives from)))
 move_of bodies lives found.Finish = Finish
 move_of bodies lives found.Halt = Halt
 
 -- it names processes that are alive, and they differ
 abbrev pub IsFoundIn : List Live → Found → Type 0
 IsFoundIn lives (found.Own at) = at < length lives
-IsFoundIn lives (found.Meet from to) = (from < length lives) × (to < length lives) × ((live_at lives from).number ≢ (live_at lives to).number)
+IsFoundIn lives (found.Handshake from to) = (from < length lives) × (to < length lives) × ((live_at lives from).number ≢ (live_at lives to).number)
 IsFoundIn lives found.Finish = ⊤
 IsFoundIn lives found.Halt = ⊤
 

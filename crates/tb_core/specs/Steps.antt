@@ -15,8 +15,8 @@ use Rattle.tb_core.specs.declared.log.LabelKind.TheVariants as kind
 pub data Move : Type 0 where
   -- a process by itself
   Own : Proc → Offer → Move
-  -- one process hands these terms to another
-  Meet : Proc → Offer → Proc → Offer → List Term → Move
+  -- one process sends these terms to another
+  Handshake : Proc → Offer → Proc → Offer → List Term → Move
   -- no process is left
   Finish : Move
   -- no process can do anything, and no more ticks come
@@ -28,26 +28,27 @@ act_of bus proc offer = slice_get (acts_of bus.program.bodies proc.body) (offer.
 
 -- the processes in the order in which they are asked: those after the last starter, and then the others
 abbrev pub in_turn : Bus → List Proc
-in_turn bus = filter (λ proc. nat_lt bus.last proc.number) bus.procs ++ filter (λ proc. nat_le proc.number bus.last) bus.procs
+in_turn bus = filter (λ proc. nat_lt bus.last_starter proc.number) bus.procs ++ filter (λ proc. nat_le proc.number bus.last_starter) bus.procs
 
 -- the other processes, by their numbers
 abbrev pub others : Bus → Proc → List Proc
 others bus proc = filter (λ other. not (other.number == proc.number)) bus.procs
 
--- An offer to hand over terms meets an offer to take just these.
-abbrev pub met : Proc → Offer → List Term → Proc → Offer → Option Act → List Move
-met sender sent terms taker taken (Some (RecMsg wanted)) = if is_same_terms terms wanted then Meet sender sent taker taken terms ∷ [] else []
-met sender sent terms taker taken (Some (SndMsg other)) = []
-met sender sent terms taker taken (Some Tau) = []
-met sender sent terms taker taken (Some Delta) = []
-met sender sent terms taker taken None = []
+-- An offer to send terms shakes hands with an offer to receive just these.
+abbrev pub handshake_of : Proc → Offer → List Term → Proc → Offer → Option Act → List Move
+handshake_of sender sent terms receiver received (Some (RecMsg wanted)) = if is_same_terms terms wanted then Handshake sender sent receiver received terms ∷ [] else []
+handshake_of sender sent terms receiver received (Some (SndMsg other)) = []
+handshake_of sender sent terms receiver received (Some Tau) = []
+handshake_of sender sent terms receiver received (Some Delta) = []
+handshake_of sender sent terms receiver received None = []
 
--- whom an offer to hand over terms meets: in each other process the offers in order
-unfoldable pub meetings_with : Bus → Proc → Offer → List Term → Proc → List Move
-meetings_with bus sender sent terms taker = flat_map (λ taken. met sender sent terms taker taken (act_of bus taker taken)) (offers taker.term)
+-- with one other process: its offers in order
+unfoldable pub handshakes_with : Bus → Proc → Offer → List Term → Proc → List Move
+handshakes_with bus sender sent terms receiver = flat_map (λ received. handshake_of sender sent terms receiver received (act_of bus receiver received)) (offers receiver.term)
 
-unfoldable pub meetings : Bus → Proc → Offer → List Term → List Move
-meetings bus sender sent terms = flat_map (meetings_with bus sender sent terms) (others bus sender)
+-- with all others, by their numbers
+unfoldable pub handshakes : Bus → Proc → Offer → List Term → List Move
+handshakes bus sender sent terms = flat_map (handshakes_with bus sender sent terms) (others bus sender)
 
 -- What one offer may lead to, by what its atom does.
 abbrev pub moves_by : Bus → Proc → Offer → Option Act → List Move
@@ -55,8 +56,8 @@ abbrev pub moves_by : Bus → Proc → Offer → Option Act → List Move
 moves_by bus proc offer (Some Tau) = Own proc offer ∷ []
 -- it never happens
 moves_by bus proc offer (Some Delta) = []
--- it happens with another process that takes the terms
-moves_by bus proc offer (Some (SndMsg terms)) = meetings bus proc offer terms
+-- it happens with another process that receives the terms
+moves_by bus proc offer (Some (SndMsg terms)) = handshakes bus proc offer terms
 -- it is for the sender to begin
 moves_by bus proc offer (Some (RecMsg wanted)) = []
 moves_by bus proc offer None = []
@@ -74,13 +75,13 @@ moves_or_halt no_ticks [] = if no_ticks then Halt ∷ [] else []
 moves_or_halt no_ticks (move ∷ moves) = move ∷ moves
 
 -- where no process is left, it finishes
-abbrev pub moves_up : Bus → List Proc → List Move
-moves_up bus [] = Finish ∷ []
-moves_up bus (proc ∷ procs) = moves_or_halt bus.no_ticks (moves_of_all bus)
+abbrev pub moves_while_up : Bus → List Proc → List Move
+moves_while_up bus [] = Finish ∷ []
+moves_while_up bus (proc ∷ procs) = moves_or_halt bus.no_ticks (moves_of_all bus)
 
 -- All moves, in order. A bus that is down makes none.
 unfoldable pub moves : Bus → List Move
-moves bus = if bus.down then [] else moves_up bus bus.procs
+moves bus = if bus.down then [] else moves_while_up bus bus.procs
 
 -- the process of this number goes on with what is left of it, and is gone where nothing is
 unfoldable pub goes_on : ℕ → Option Process → List Proc → List Proc
@@ -95,17 +96,17 @@ nowhere = record { proc = 0; atom = 0 }
 -- what is seen of a move
 abbrev pub label_of : Move → Label
 label_of (Own proc offer) = record { kind = kind.Tau; from = place_of proc offer; to = nowhere; terms = [] }
-label_of (Meet sender sent taker taken terms) = record { kind = kind.Msg; from = place_of sender sent; to = place_of taker taken; terms = terms }
+label_of (Handshake sender sent receiver received terms) = record { kind = kind.Msg; from = place_of sender sent; to = place_of receiver received; terms = terms }
 label_of Finish = record { kind = kind.Finish; from = nowhere; to = nowhere; terms = [] }
 label_of Halt = record { kind = kind.Halt; from = nowhere; to = nowhere; terms = [] }
 
 -- The bus after a move.
 abbrev pub made : Bus → Move → Bus
--- the process goes on, and is the last starter
-made bus (Own proc offer) = record bus { procs = goes_on proc.number offer.residual bus.procs; last = proc.number }
--- both go on, and the sender is the last starter
-made bus (Meet sender sent taker taken terms) = record bus { procs = goes_on taker.number taken.residual (goes_on sender.number sent.residual bus.procs); last = sender.number }
--- the bus goes down
+-- the process goes on, or is gone where nothing is left of it, and is the last starter
+made bus (Own proc offer) = record bus { procs = goes_on proc.number offer.residual bus.procs; last_starter = proc.number }
+-- both go on likewise, and the sender is the last starter
+made bus (Handshake sender sent receiver received terms) = record bus { procs = goes_on receiver.number received.residual (goes_on sender.number sent.residual bus.procs); last_starter = sender.number }
+-- the bus goes down, and the last starter stays
 made bus Finish = record bus { down = true }
 made bus Halt = record bus { down = true }
 

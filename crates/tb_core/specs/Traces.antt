@@ -21,12 +21,13 @@ pub record Answer : Type 0 where
   pub reply : Reply
   pub bus : Bus
 
--- a bus that is down drops every input, and a dropped input changes nothing
-abbrev pub taken : Bus → Input → Answer
-taken bus NoTicks = record { reply = Took; bus = record bus { no_ticks = true } }
+-- what a bus that is up does with an input
+abbrev pub took : Bus → Input → Answer
+took bus NoTicks = record { reply = Took; bus = record bus { no_ticks = true } }
 
+-- A bus that is down drops every input, and a dropped input changes nothing.
 abbrev pub fed : Bus → Input → Answer
-fed bus input = if bus.down then record { reply = Dropped Down; bus = bus } else taken bus input
+fed bus input = if bus.down then record { reply = Dropped Down; bus = bus } else took bus input
 
 -- From one bus an entry may lead to the next.
 abbrev pub IsLegal : Bus → Entry → Bus → Type 0
@@ -49,11 +50,12 @@ after bus Quiet = bus
 after bus (Fed input reply) = (fed bus input).bus
 
 -- A log is a trace from a bus where each entry may lead from the bus before it to the bus after it.
+-- Steps that are seen alike would be told apart by their order; those of one bus differ in their places.
 abbrev pub IsTrace : Bus → List Entry → Type 0
 IsTrace bus [] = ⊤
 IsTrace bus (entry ∷ log) = IsLegal bus entry (after bus entry) × IsTrace (after bus entry) log
 
--- the bus to which a log leads
+-- the bus to which a trace leads
 abbrev pub replay : Bus → List Entry → Bus
 replay bus [] = bus
 replay bus (entry ∷ log) = replay (after bus entry) log

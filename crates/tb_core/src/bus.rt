@@ -19,7 +19,7 @@ const NOWHERE: Place = Place { proc: 0, atom: 0 };
 pub struct LiveBus {
     pub program: Program,
     pub lives: Items<Live>,
-    pub last: u32,
+    pub last_starter: u32,
     pub no_ticks: bool,
     pub down: bool,
     ghost in_place: { IsTrue (are_in_place program.bodies lives) },
@@ -27,11 +27,11 @@ pub struct LiveBus {
 
 impl LiveBus {
     ghost use Rattle.tb_core.specs.Lives.{proc_of, offer_of};
-    ghost use Rattle.tb_core.specs.Steps.{meetings, moves_of, moves_of_all, moves, Halt, goes_on, made, label_of, place_of};
+    ghost use Rattle.tb_core.specs.Steps.{handshakes, moves_of, moves_of_all, moves, Halt, goes_on, made, label_of, place_of};
     ghost use Rattle.tb_core.specs.Traces.{Answer, fed};
     ghost use Rattle.tb_terms.specs.declared.term.Term.{Term};
     ghost use Rattle.tb_core.specs.Buses.{acts_of, start};
-    ghost use Rattle.tb_core.specs.LiveBuses.{bus_of, first, act_at, live_at, move_of, meet_move, IsFoundIn, takes, moves_among, own_move, sent_by};
+    ghost use Rattle.tb_core.specs.LiveBuses.{bus_of, first, act_at, live_at, move_of, handshake_move, IsFoundIn, receives, moves_among, own_move, sent_by};
 
     /// The bus that a program opens with.
     pub fn open(alloc: Global, program: Program) -> Result<LiveBus, NoMemory>
@@ -41,7 +41,7 @@ impl LiveBus {
         Ok(LiveBus {
             program,
             lives,
-            last: 0,
+            last_starter: 0,
             no_ticks: false,
             down: false,
         })
@@ -56,8 +56,8 @@ impl LiveBus {
     }
 
     /// Whether the process would take just these terms.
-    fn takes(&self, live: Live, terms: &Terms) -> bool
-        ensures { result ≡ takes terms.now (act_at self.now.program.bodies live) }
+    fn receives(&self, live: Live, terms: &Terms) -> bool
+        ensures { result ≡ receives terms.now (act_at self.now.program.bodies live) }
     {
         match self.act_at(live) {
             Some(Act::RecMsg(wanted)) => same_terms(terms, wanted),
@@ -66,25 +66,25 @@ impl LiveBus {
     }
 
     /// Whether the second is another process, and would take these terms.
-    fn meets(&self, sender: Live, taker: Live, terms: &Terms) -> bool
-        ensures { result ≡ (not (taker.number == sender.number) && takes terms.now (act_at self.now.program.bodies taker)) }
+    fn would_receive(&self, sender: Live, receiver: Live, terms: &Terms) -> bool
+        ensures { result ≡ (not (receiver.number == sender.number) && receives terms.now (act_at self.now.program.bodies receiver)) }
     {
-        taker.number != sender.number && self.takes(taker, terms)
+        receiver.number != sender.number && self.receives(receiver, terms)
     }
 
     /// The first process, another than this one, that would take these terms.
-    fn first_taker(&self, from: usize, terms: &Terms) -> Option<usize>
+    fn first_receiver(&self, from: usize, terms: &Terms) -> Option<usize>
         requires { from < length self.now.lives }
         ensures found { let sender = live_at self.now.lives from in
-            first (meetings (bus_of self.now) (proc_of self.now.program.bodies sender) (offer_of self.now.program.bodies sender) terms.now)
-            ≡ option_map (λ to. meet_move self.now.program.bodies sender (live_at self.now.lives to) terms.now) result }
+            first (handshakes (bus_of self.now) (proc_of self.now.program.bodies sender) (offer_of self.now.program.bodies sender) terms.now)
+            ≡ option_map (λ to. handshake_move self.now.program.bodies sender (live_at self.now.lives to) terms.now) result }
         ensures in_range { IfSome result (λ to. (to < length self.now.lives)
             × ((live_at self.now.lives from).number ≢ (live_at self.now.lives to).number)) }
     {
         let lives = self.lives.as_slice();
         let sender = lives[from];
-        for (to, taker) in lives.iter().enumerate() {
-            if self.meets(sender, *taker, terms) {
+        for (to, receiver) in lives.iter().enumerate() {
+            if self.would_receive(sender, *receiver, terms) {
                 return Some(to);
             }
         }
@@ -101,23 +101,23 @@ impl LiveBus {
         let live = self.lives.as_slice()[at];
         match self.act_at(live) {
             Some(Act::Tau) => Some(Found::Own(at)),
-            Some(Act::SndMsg(terms)) => self.first_meeting(at, terms),
+            Some(Act::SndMsg(terms)) => self.first_handshake(at, terms),
             Some(Act::Delta) => None,
             Some(Act::RecMsg(_)) => None,
             None => None,
         }
     }
 
-    fn first_meeting(&self, from: usize, terms: &Terms) -> Option<Found>
+    fn first_handshake(&self, from: usize, terms: &Terms) -> Option<Found>
         requires within { from < length self.now.lives }
         requires sends { act_at self.now.program.bodies (live_at self.now.lives from) ≡ Some (Act.SndMsg terms.now) }
         ensures found { let sender = live_at self.now.lives from in
-            first (meetings (bus_of self.now) (proc_of self.now.program.bodies sender) (offer_of self.now.program.bodies sender) terms.now)
+            first (handshakes (bus_of self.now) (proc_of self.now.program.bodies sender) (offer_of self.now.program.bodies sender) terms.now)
             ≡ option_map (move_of self.now.program.bodies self.now.lives) result }
         ensures in_range { IfSome result (IsFoundIn self.now.lives) }
     {
-        let to = self.first_taker(from, terms)?;
-        Some(Found::Meet(from, to))
+        let to = self.first_receiver(from, terms)?;
+        Some(Found::Handshake(from, to))
     }
 
     /// What the processes from this place on would do first.
@@ -141,7 +141,7 @@ impl LiveBus {
         ensures found { first (moves_of_all (bus_of self.now)) ≡ option_map (move_of self.now.program.bodies self.now.lives) result }
         ensures in_range { IfSome result (IsFoundIn self.now.lives) }
     {
-        let start = turn_start(self.lives.as_slice(), self.last);
+        let start = turn_start(self.lives.as_slice(), self.last_starter);
         match self.first_from(start) {
             Some(found) => Some(found),
             None => self.first_from(0),
@@ -212,7 +212,7 @@ impl LiveBus {
                 to: NOWHERE,
                 terms: Items::new(alloc),
             }),
-            Found::Meet(from, to) => Ok(Label {
+            Found::Handshake(from, to) => Ok(Label {
                 kind: LabelKind::Msg,
                 from: self.place_at(from),
                 to: self.place_at(to),
@@ -257,7 +257,7 @@ impl LiveBus {
     {
         match found {
             Found::Own(at) => self.make_own(at),
-            Found::Meet(from, to) => self.make_meeting(from, to),
+            Found::Handshake(from, to) => self.make_handshake(from, to),
             Found::Finish => self.down = true,
             Found::Halt => self.down = true,
         }
@@ -269,19 +269,19 @@ impl LiveBus {
     {
         let number = self.lives.as_slice()[at].number;
         self.go_on(at);
-        self.last = number;
+        self.last_starter = number;
     }
 
-    fn make_meeting(&mut self, from: usize, to: usize)
+    fn make_handshake(&mut self, from: usize, to: usize)
         requires from_within { from < length self.old.lives }
         requires to_within { to < length self.old.lives }
         requires apart { (live_at self.old.lives from).number ≢ (live_at self.old.lives to).number }
         ensures { (terms : List Term) → bus_of self.new ≡ made (bus_of self.old)
-            (meet_move self.old.program.bodies (live_at self.old.lives from) (live_at self.old.lives to) terms) }
+            (handshake_move self.old.program.bodies (live_at self.old.lives from) (live_at self.old.lives to) terms) }
     {
         let number = self.lives.as_slice()[from].number;
         self.go_on_both(from, to);
-        self.last = number;
+        self.last_starter = number;
     }
 
     fn go_on_both(&mut self, one: usize, other: usize)

@@ -2,8 +2,8 @@
 #[derive(Clone, Copy, Debug)]
 pub enum Found {
     Own(usize),
-    /// The sender, and who takes what it sends.
-    Meet(usize, usize),
+    /// The sender, and who receives what it sends.
+    Handshake(usize, usize),
     Finish,
     Halt,
 }

@@ -14,4 +14,4 @@ pub use answers::{CoreFault, Stepped};
 pub use machine::Core;
 pub use log::{Entry, Input, Label, LabelKind, Place, Reply, Why};
 pub use program::{Act, Body, Program};
-pub use simulation::SimEnd;
+pub use simulation::{SimEnd, simulate};

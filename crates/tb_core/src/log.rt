@@ -54,8 +54,8 @@ pub struct Label {
 pub enum Entry {
     /// A step was made.
     Did(Label),
-    /// No step was possible.
+    /// No step was possible, and the bus wasn't down.
     Quiet,
-    /// An input was handed in.
+    /// An input was handed in, and this became of it.
     Fed(Input, Reply),
 }

@@ -124,7 +124,7 @@ impl Core {
     }
 }
 
-/// Logs an input with what becomes of it, and takes it.
+/// Logs an input with what becomes of it, and receives it.
 fn hand(bus: &mut LiveBus, log: &mut Items<Entry>, input: Input) -> Result<Reply, NoMemory>
     ensures reply { IfOk result (λ reply. reply ≡ (fed (bus_of bus.old) input).reply) }
     ensures log { IfOk result (λ reply. log.new ≡ log.old ++ Entry.Fed input reply ∷ []) }

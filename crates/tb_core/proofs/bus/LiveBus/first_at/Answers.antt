@@ -2,7 +2,7 @@ use Rattle.std.proofs.Common.{◌≡◌, ◌∙◌, ap, sym, refl, Some, None, o
 use Rattle.tb_core.specs.Lives.{proc_of, offer_of}
 use Rattle.tb_core.specs.LiveBuses.{bus_of, first, act_at, live_at}
 use Rattle.tb_core.specs.declared.program.Act.TheVariants.{Delta, Tau, SndMsg, RecMsg}
-use Rattle.tb_core.proofs.MeetingLemmas.{moves_of-act}
+use Rattle.tb_core.proofs.HandshakeLemmas.{moves_of-act}
 use Rattle.tb_core.proofs.bus.LiveBus.first_at.Goals as goal
 
 pub returns-in-Some-Tau-clause-found : goal.returns-in-Some-Tau-clause-found
@@ -18,7 +18,7 @@ returns-in-Some-Delta-clause-found c =
 pub returns-in-Some-SndMsg-clause-found : goal.returns-in-Some-SndMsg-clause-found
 returns-in-Some-SndMsg-clause-found c =
     let here : act_at c.args.self.now.program.bodies (live_at c.args.self.now.lives c.args.at) ≡ Some (SndMsg c.in-Some-SndMsg.terms) = rw c.as_slice.ensures at (sym c.act_at.ensures ∙ ap (option_map (λ act. act.now)) c.in-Some-SndMsg.is ∙ ap Some c.in-Some-SndMsg.field-0-is) in
-    ap first (moves_of-act (bus_of c.args.self.now) (live_at c.args.self.now.lives c.args.at) (Some (SndMsg c.in-Some-SndMsg.terms)) here) ∙ c.first_meeting.ensures.found
+    ap first (moves_of-act (bus_of c.args.self.now) (live_at c.args.self.now.lives c.args.at) (Some (SndMsg c.in-Some-SndMsg.terms)) here) ∙ c.first_handshake.ensures.found
 
 pub returns-in-Some-RecMsg-clause-found : goal.returns-in-Some-RecMsg-clause-found
 returns-in-Some-RecMsg-clause-found c =

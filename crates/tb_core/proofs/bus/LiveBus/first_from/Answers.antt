@@ -1,6 +1,6 @@
 use Rattle.std.proofs.Common.{◌≡◌, ◌∙◌, ◌<◌, ap, sym, Some, length, option_map, arith}
 use Rattle.tb_core.specs.LiveBuses.{bus_of, first, live_at, move_of}
-use Rattle.tb_core.proofs.MeetingLemmas.{movers-found, movers-passed, movers-none}
+use Rattle.tb_core.proofs.HandshakeLemmas.{movers-found, movers-passed, movers-none}
 use Rattle.tb_core.proofs.bus.LiveBus.first_from.Goals as goal
 
 pub returns-in-Some-clause-found : goal.returns-in-Some-clause-found

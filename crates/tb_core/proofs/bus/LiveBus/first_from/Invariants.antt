@@ -1,6 +1,6 @@
 use Rattle.std.proofs.Common.{◌≡◌, drop, length}
 use Rattle.tb_core.specs.LiveBuses.{bus_of}
-use Rattle.tb_core.proofs.MeetingLemmas.{MoversLeft}
+use Rattle.tb_core.proofs.HandshakeLemmas.{MoversLeft}
 use Rattle.tb_core.proofs.bus.LiveBus.first_from.Given as goal
 
 -- the processes that are left decide
