@@ -1,6 +1,7 @@
 -- What puts into a sink, one after another, come to.
-use Rattle.std.proofs.Common.{◌≡◌, ℕ, Option, Some, None, List, [], ◌++◌, ap, sym, ◌∙◌, refl, append_assoc, append-nil, arith}
+use Rattle.std.proofs.Common.{◌≡◌, ℕ, Option, Some, None, List, [], ◌++◌, ap, sym, ◌∙◌, refl, append_assoc, append-nil, arith, take, drop}
 use Rattle.std.proofs.lemmas.Grind.{common_steps}
+use Rattle.std.proofs.lemmas.List.{take-append-drop}
 use Rattle.tb_edge.specs.Sinks.{and_more, Takes, TakesFront, Owes}
 
 pub and_more-nil : (told : Option (List ℕ)) → and_more told [] ≡ told
@@ -60,5 +61,12 @@ TakesFront-more a b piece rest front = TakesFront-owes_more a a b (piece ++ rest
 pub TakesFront-append : (a b c : Option (List ℕ)) (xs ys : List ℕ) → Takes a b xs → TakesFront b c ys → TakesFront a c (xs ++ ys)
 TakesFront-append a b c xs ys takes front =
     TakesFront-owes_more a b c (xs ++ ys) ys [] (record { put = xs; takes = takes; is_all = ap (λ zs. xs ++ zs) (append-nil ys) }) front
+
+-- the first n bytes are a front
+pub TakesFront-take : (taken piece new : List ℕ) (n : ℕ) → new ≡ taken ++ take n piece → TakesFront (Some taken) (Some new) piece
+TakesFront-take taken piece new n takes = record {
+  rest = drop n piece;
+  owes = record { put = take n piece; takes = ap Some takes; is_all = take-append-drop n piece };
+}
 
 pub ruleset puts = (Takes-none, Takes-append, Owes-start, Owes-takes, Takes-owes, TakesFront-owes, TakesFront-owes_more, TakesFront-none, TakesFront-more, TakesFront-append)

@@ -1,3 +1,4 @@
 pub mod Faults
 pub mod FilesHeld
+pub mod InMemory
 pub mod Sinks
