@@ -1,6 +1,7 @@
-ghost use Rattle.std.specs.Prelude.{◌≡◌, ◌+◌, ◌++◌, ◌<◌, ◌≤◌, [], IfOk, length, vec_len, take, nat_le, if◌then◌else◌};
+ghost use Rattle.std.specs.Prelude.{◌≡◌, ◌+◌, ◌^◌, ◌++◌, ◌<◌, ◌≤◌, [], IfOk, length, vec_len, take, nat_le, if◌then◌else◌};
 ghost use Rattle.std.specs.Io.KnownBytes.{Consumes, IsAtEnd};
 ghost use Rattle.tb_edge.specs.FilesHeld.{IsWithin, IsOf};
+ghost use Rattle.tb_edge.specs.RealForms.{real_files_after};
 
 use crate::{Bytes, Files, FilesFault, Loaded};
 use sqlite_items::Items;
@@ -22,7 +23,7 @@ pub struct RealFiles<R> {
 
 impl<R> Model for RealFiles<R> {
     ghost use Rattle.std.specs.Prelude.{◌^◌, ◌<◌};
-    ghost use Rattle.tb_edge.specs.RealFiles.{RealFilesView};
+    ghost use Rattle.tb_edge.specs.RealForms.{RealFilesView};
 
     ghost Value = { RealFilesView };
 
@@ -62,7 +63,12 @@ impl<R: HostFiles> Files for RealFiles<R> {
 
     ghost held = { λ _ _. None };
 
-    fn load(&mut self, alloc: Global, name: &str, most: usize) -> Result<Loaded, FilesFault> {
+    fn load(&mut self, alloc: Global, name: &str, most: usize) -> Result<Loaded, FilesFault>
+        ensures within { IfOk result (IsWithin most) }
+        ensures never_falls { self.old.faults ≤ self.new.faults }
+        ensures fits { self.new.faults < 2 ^ 64 }
+        ensures after { self.new ≡ real_files_after result self.old name.now }
+    {
         let loaded = match load_named(&self.rt, alloc, name, most) {
             Err(FilesFault::NoMemory) => return Err(FilesFault::NoMemory),
             answer => answer,

@@ -1,13 +1,14 @@
-ghost use Rattle.std.specs.Prelude.{◌≡◌, ◌<◌, ◌≤◌, [], IsTrue, IfSome, length, take};
+ghost use Rattle.std.specs.Prelude.{◌≡◌, ◌^◌, ◌<◌, ◌≤◌, [], None, IsTrue, IfSome, IsOk, OnOk, OnErr, is_ok, length, take, if◌then◌else◌};
 ghost use Rattle.std.specs.Bool.{OnTrue};
 ghost use Rattle.std.specs.Io.KnownBytes.{Appends};
+ghost use Rattle.tb_edge.specs.Faults.{risen};
+ghost use Rattle.tb_edge.specs.Sinks.{TakesFront};
 
 use crate::{Failed, Sink};
 use std::io::{ErrorKind, Write};
 use std::marker::Model;
 
-/// A sink over a writer. It tells nothing of what it takes, and contracts see it as the number of
-/// its calls that failed.
+/// A sink over a writer. It tells nothing of what it takes.
 #[derive(Drop)]
 pub struct RealSink<W> {
     writer: W,
@@ -15,25 +16,33 @@ pub struct RealSink<W> {
 }
 
 impl<W> Model for RealSink<W> {
-    ghost use Rattle.std.specs.Prelude.{ℕ, ◌^◌, ◌<◌};
+    ghost use Rattle.std.specs.Prelude.{◌^◌, ◌<◌};
+    ghost use Rattle.tb_edge.specs.RealForms.{RealSinkView};
 
-    ghost Value = { ℕ };
+    ghost Value = { RealSinkView W };
 
-    ghost view = { λ sink. sink.faults };
+    ghost view = { λ sink. record { writer = sink.writer; faults = sink.faults } };
 
     ghost invariant = { λ sink. sink.faults < 2 ^ 64 };
 }
 
 impl<W> RealSink<W> {
     pub fn new(writer: W) -> RealSink<W>
-        ensures { result ≡ 0 }
+        ensures { result ≡ record { writer = writer; faults = 0 } }
     {
         RealSink { writer, faults: 0 }
     }
 
+    pub fn into_inner(self) -> W
+        ensures { result ≡ self.writer }
+    {
+        let RealSink { writer, faults: _ } = self;
+        writer
+    }
+
     /// How many calls have failed.
     pub fn faults(&self) -> u64
-        ensures { result ≡ self.now }
+        ensures { result ≡ self.now.faults }
     {
         self.faults
     }
@@ -42,11 +51,21 @@ impl<W> RealSink<W> {
 impl<W: Write> Sink for RealSink<W> {
     ghost use Rattle.std.specs.Prelude.{None};
 
-    ghost faults = { λ sink. sink };
+    ghost faults = { λ sink. sink.faults };
 
     ghost taken = { λ _. None };
 
-    fn put(&mut self, piece: &[u8]) -> Result<(), Failed> {
+    fn put(&mut self, piece: &[u8]) -> Result<(), Failed>
+        ensures front { OnErr result (TakesFront None None piece.now) }
+        ensures never_falls { self.old.faults ≤ self.new.faults }
+        ensures fits { self.new.faults < 2 ^ 64 }
+        ensures empty_ok { piece.now ≡ [] → IsOk result }
+        ensures counted { self.new.faults ≡ (if is_ok result then self.old.faults else risen self.old.faults) }
+
+        // A writer that tells its contents was handed the piece.
+        ensures written { OnOk result
+            (Appends (W.contents self.old.writer) (W.contents self.new.writer) piece.now) }
+    {
         if write_whole(&mut self.writer, piece) {
             return Ok(());
         }
