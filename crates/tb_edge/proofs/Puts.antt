@@ -1,7 +1,8 @@
 -- What puts into a sink, one after another, come to.
-use Rattle.std.proofs.Common.{◌≡◌, ℕ, Option, Some, None, List, [], ◌++◌, ap, sym, ◌∙◌, refl, append_assoc, append-nil, arith, take, drop}
+use Rattle.std.proofs.Common.{◌≡◌, ℕ, Option, Some, None, List, [], ◌++◌, ap, sym, ◌∙◌, refl, append_assoc, append-nil, arith, ◌+◌, ◌<◌, suc, length, get_or, take, drop, drop-cons, add-one, subst}
 use Rattle.std.proofs.lemmas.Grind.{common_steps}
 use Rattle.std.proofs.lemmas.List.{take-append-drop}
+use Rattle.std.specs.List.{flat_map}
 use Rattle.tb_edge.specs.Sinks.{and_more, Takes, TakesFront, Owes}
 
 pub and_more-nil : (told : Option (List ℕ)) → and_more told [] ≡ told
@@ -68,5 +69,21 @@ TakesFront-take taken piece new n takes = record {
   rest = drop n piece;
   owes = record { put = take n piece; takes = ap Some takes; is_all = take-append-drop n piece };
 }
+
+-- in a loop over pieces, f gives the bytes of one
+pieces-next : {X : Type 0} (f : X → List ℕ) (xs : List X) (i : ℕ) (d : X) (put : List ℕ) → i < length xs → put ≡ f (get_or xs i d) → flat_map f (drop i xs) ≡ put ++ flat_map f (drop (i + 1) xs)
+pieces-next f xs i d put within is_next = rw (drop-cons xs i d, add-one) (ap (λ l. l ++ flat_map f (drop (suc i) xs)) (sym is_next))
+
+-- the piece at i was put
+pub Owes-piece : {X : Type 0} (f : X → List ℕ) (a b c : Option (List ℕ)) (all : List ℕ) (xs : List X) (i : ℕ) (d : X) (put : List ℕ) → i < length xs → put ≡ f (get_or xs i d)
+    → Owes a b all (flat_map f (drop i xs)) → Takes b c put → Owes a c all (flat_map f (drop (i + 1) xs))
+Owes-piece f a b c all xs i d put within is_next owes takes =
+    Owes-takes a b c all put (flat_map f (drop (i + 1) xs)) (subst (Owes a b all) (pieces-next f xs i d put within is_next) owes) takes
+
+-- of the piece at i, a front was put
+pub TakesFront-piece : {X : Type 0} (f : X → List ℕ) (a b c : Option (List ℕ)) (all : List ℕ) (xs : List X) (i : ℕ) (d : X) (put : List ℕ) → i < length xs → put ≡ f (get_or xs i d)
+    → Owes a b all (flat_map f (drop i xs)) → TakesFront b c put → TakesFront a c all
+TakesFront-piece f a b c all xs i d put within is_next owes front =
+    TakesFront-owes_more a b c all put (flat_map f (drop (i + 1) xs)) (subst (Owes a b all) (pieces-next f xs i d put within is_next) owes) front
 
 pub ruleset puts = (Takes-none, Takes-append, Owes-start, Owes-takes, Takes-owes, TakesFront-owes, TakesFront-owes_more, TakesFront-none, TakesFront-more, TakesFront-append)

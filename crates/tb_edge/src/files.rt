@@ -79,5 +79,5 @@ pub trait Files {
         ensures asked { asked self.new ≡ asked_after result (asked self.old) name.now }
         ensures rose { IsErrOf result FilesFault.Failed → Rose (faults self.old) (faults self.new) }
         ensures never_falls { faults self.old ≤ faults self.new }
-        ensures fits { faults self.new < 2 ^ 64 };
+        ensures fits { faults self.old < 2 ^ 64 → faults self.new < 2 ^ 64 };
 }

@@ -21,7 +21,6 @@ pub struct MemFiles {
 }
 
 impl Model for MemFiles {
-    ghost use Rattle.std.specs.Prelude.{◌^◌, ◌<◌};
     ghost use Rattle.tb_edge.specs.InMemory.{MemFilesView};
 
     ghost Value = { MemFilesView };
@@ -32,8 +31,6 @@ impl Model for MemFiles {
       asked = files.asked;
       faults = files.faults;
     } };
-
-    ghost invariant = { λ files. files.faults < 2 ^ 64 };
 }
 
 impl MemFiles {
@@ -67,7 +64,6 @@ impl Files for MemFiles {
 
     fn load(&mut self, alloc: Global, name: &str, most: usize) -> Result<Loaded, FilesFault>
         ensures never_falls { self.old.faults ≤ self.new.faults }
-        ensures fits { self.new.faults < 2 ^ 64 }
         ensures answer { IsUnlessNoMemory result (mem_answer self.old name.now most) }
         ensures after { self.new ≡ mem_files_after result self.old name.now }
     {

@@ -21,7 +21,7 @@ pub struct MemSink {
 }
 
 impl Model for MemSink {
-    ghost use Rattle.std.specs.Prelude.{◌^◌, ◌<◌, ◌≤◌, vec_len, vec_capacity};
+    ghost use Rattle.std.specs.Prelude.{◌≤◌, vec_len, vec_capacity};
     ghost use Rattle.tb_edge.specs.InMemory.{MemSinkView};
 
     ghost Value = { MemSinkView };
@@ -35,8 +35,7 @@ impl Model for MemSink {
     } };
 
     ghost invariant = { λ sink. (vec_len sink.bytes ≤ sink.room)
-        × (sink.room ≤ vec_capacity sink.bytes)
-        × (sink.faults < 2 ^ 64) };
+        × (sink.room ≤ vec_capacity sink.bytes) };
 }
 
 impl MemSink {
@@ -79,7 +78,6 @@ impl Sink for MemSink {
     fn put(&mut self, piece: &[u8]) -> Result<(), Failed>
         ensures front { OnErr result (TakesFront (Some self.old.taken) (Some self.new.taken) piece.now) }
         ensures never_falls { self.old.faults ≤ self.new.faults }
-        ensures fits { self.new.faults < 2 ^ 64 }
         ensures answer { is_ok result ≡ is_put self.old piece.now }
         ensures after { self.new ≡ mem_sink_after self.old piece.now }
     {

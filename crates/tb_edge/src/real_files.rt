@@ -22,14 +22,11 @@ pub struct RealFiles<R> {
 }
 
 impl<R> Model for RealFiles<R> {
-    ghost use Rattle.std.specs.Prelude.{◌^◌, ◌<◌};
     ghost use Rattle.tb_edge.specs.RealForms.{RealFilesView};
 
     ghost Value = { RealFilesView };
 
     ghost view = { λ files. record { asked = files.asked; faults = files.faults } };
-
-    ghost invariant = { λ files. files.faults < 2 ^ 64 };
 }
 
 impl<R> RealFiles<R> {
@@ -66,7 +63,6 @@ impl<R: HostFiles> Files for RealFiles<R> {
     fn load(&mut self, alloc: Global, name: &str, most: usize) -> Result<Loaded, FilesFault>
         ensures within { IfOk result (IsWithin most) }
         ensures never_falls { self.old.faults ≤ self.new.faults }
-        ensures fits { self.new.faults < 2 ^ 64 }
         ensures after { self.new ≡ real_files_after result self.old name.now }
     {
         let loaded = match load_named(&self.rt, alloc, name, most) {

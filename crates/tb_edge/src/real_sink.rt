@@ -16,14 +16,11 @@ pub struct RealSink<W> {
 }
 
 impl<W> Model for RealSink<W> {
-    ghost use Rattle.std.specs.Prelude.{◌^◌, ◌<◌};
     ghost use Rattle.tb_edge.specs.RealForms.{RealSinkView};
 
     ghost Value = { RealSinkView W };
 
     ghost view = { λ sink. record { writer = sink.writer; faults = sink.faults } };
-
-    ghost invariant = { λ sink. sink.faults < 2 ^ 64 };
 }
 
 impl<W> RealSink<W> {
@@ -58,7 +55,6 @@ impl<W: Write> Sink for RealSink<W> {
     fn put(&mut self, piece: &[u8]) -> Result<(), Failed>
         ensures front { OnErr result (TakesFront None None piece.now) }
         ensures never_falls { self.old.faults ≤ self.new.faults }
-        ensures fits { self.new.faults < 2 ^ 64 }
         ensures empty_ok { piece.now ≡ [] → IsOk result }
         ensures counted { self.new.faults ≡ (if is_ok result then self.old.faults else risen self.old.faults) }
 

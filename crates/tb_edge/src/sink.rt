@@ -20,7 +20,7 @@ pub trait Sink {
         ensures front { OnErr result (TakesFront (taken self.old) (taken self.new) piece.now) }
         ensures rose { OnErr result (Rose (faults self.old) (faults self.new)) }
         ensures never_falls { faults self.old ≤ faults self.new }
-        ensures fits { faults self.new < 2 ^ 64 }
+        ensures fits { faults self.old < 2 ^ 64 → faults self.new < 2 ^ 64 }
 
         // An empty piece is always taken.
         ensures empty_ok { piece.now ≡ [] → IsOk result }
