@@ -45,7 +45,8 @@ pub(crate) fn load_held(
     name: &str,
     most: usize,
 ) -> Result<Option<Loaded>, AllocError>
-    ensures { IfOk result (λ loaded. loaded ≡ option_map (loaded_of most) (held_in files.now name.now)) }
+    ensures { IfOk result
+        (λ loaded. loaded ≡ option_map (loaded_of most) (held_in files.now name.now)) }
 {
     match held_in(files, name) {
         Some(bytes) => Ok(Some(load_bytes(alloc, bytes, most)?)),

@@ -1,13 +1,11 @@
-ghost use Rattle.std.specs.Prelude.{◌≡◌, ℕ, ◌^◌, ◌<◌, ◌≤◌, [], IfOk, IsErrOf};
-ghost use Rattle.tb_edge.specs.Faults.{Rose};
-ghost use Rattle.tb_edge.specs.FilesHeld.{IsWithin, IsOf, asked_after};
-ghost use Rattle.tb_edge.specs.InMemory.{held_in, IsUnlessNoMemory, mem_answer, mem_files_after};
+ghost use Rattle.std.specs.Prelude.{◌≡◌, ◌≤◌, []};
+ghost use Rattle.tb_edge.specs.InMemory.{IsUnlessNoMemory, mem_answer, mem_files_after};
 
 use crate::fail_calls::fails_at;
 use crate::held_files::load_held;
 use crate::{Bytes, FailCalls, Files, FilesFault, HeldFiles, Loaded};
 use sqlite_items::Items;
-use std::alloc::{AllocError, Global};
+use std::alloc::Global;
 use std::marker::Model;
 
 /// Files in memory. A call fails where its number is among those that are to fail, and where it

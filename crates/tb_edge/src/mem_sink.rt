@@ -1,4 +1,4 @@
-ghost use Rattle.std.specs.Prelude.{◌≡◌, ℕ, ◌^◌, ◌<◌, ◌≤◌, [], IfOk, OnErr, is_ok, Some};
+ghost use Rattle.std.specs.Prelude.{◌≡◌, ◌≤◌, [], IfOk, OnErr, is_ok, Some};
 ghost use Rattle.tb_edge.specs.Sinks.{TakesFront};
 ghost use Rattle.tb_edge.specs.InMemory.{is_put, mem_sink_after};
 

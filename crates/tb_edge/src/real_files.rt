@@ -1,4 +1,4 @@
-ghost use Rattle.std.specs.Prelude.{◌≡◌, ◌+◌, ◌^◌, ◌++◌, ◌<◌, ◌≤◌, [], IfOk, length, vec_len, take, nat_le, if◌then◌else◌};
+ghost use Rattle.std.specs.Prelude.{◌≡◌, ◌+◌, ◌++◌, ◌<◌, ◌≤◌, [], IfOk, length, vec_len, take, nat_le, if◌then◌else◌};
 ghost use Rattle.std.specs.Io.KnownBytes.{Consumes, IsAtEnd};
 ghost use Rattle.tb_edge.specs.FilesHeld.{IsWithin, IsOf};
 ghost use Rattle.tb_edge.specs.RealForms.{real_files_after};
@@ -122,8 +122,10 @@ fn new_chunk(alloc: Global) -> Result<Vec<u8>, AllocError>
 /// Fills a front of the chunk and gives its length, 0 at the end of the file.
 fn read_some<F: Read>(file: &mut F, chunk: &mut [u8]) -> Result<usize, FilesFault>
     ensures within { IfOk result (λ count. count ≤ length chunk.new) }
-    ensures given { IfOk result (λ count. Consumes (F.remaining file.old) (F.remaining file.new) (take count chunk.new)) }
-    ensures end { IfOk result (λ count. count ≡ 0 → 0 < length chunk.old → IsAtEnd (F.remaining file.new)) }
+    ensures given { IfOk result
+        (λ count. Consumes (F.remaining file.old) (F.remaining file.new) (take count chunk.new)) }
+    ensures end { IfOk result
+        (λ count. count ≡ 0 → 0 < length chunk.old → IsAtEnd (F.remaining file.new)) }
 {
     for _ in 0..u64::MAX {
         match file.read(chunk) {
@@ -139,7 +141,8 @@ fn read_some<F: Read>(file: &mut F, chunk: &mut [u8]) -> Result<usize, FilesFaul
 /// `usize` can hold is a failure.
 fn keep(bytes: &mut Vec<u8>, len: usize, piece: &[u8], most: usize) -> Result<usize, FilesFault>
     ensures counted { IfOk result (λ new_len. new_len ≡ len + length piece.now) }
-    ensures kept { IfOk result (λ new_len. new_len ≤ most → bytes.new.items ≡ bytes.old.items ++ piece.now) }
+    ensures kept { IfOk result
+        (λ new_len. new_len ≤ most → bytes.new.items ≡ bytes.old.items ++ piece.now) }
 {
     let new_len = len.checked_add(piece.len()).ok_or(FilesFault::Failed)?;
     if new_len <= most {

@@ -1,4 +1,4 @@
-ghost use Rattle.std.specs.Prelude.{◌≡◌, ◌^◌, ◌<◌, ◌≤◌, [], None, IsTrue, IfSome, IsOk, OnOk, OnErr, is_ok, length, take, if◌then◌else◌};
+ghost use Rattle.std.specs.Prelude.{◌≡◌, ◌<◌, ◌≤◌, [], None, IsTrue, IfSome, IsOk, OnOk, OnErr, is_ok, length, take, if◌then◌else◌};
 ghost use Rattle.std.specs.Bool.{OnTrue};
 ghost use Rattle.std.specs.Io.KnownBytes.{Appends};
 ghost use Rattle.tb_edge.specs.Faults.{risen};
@@ -56,7 +56,8 @@ impl<W: Write> Sink for RealSink<W> {
         ensures front { OnErr result (TakesFront None None piece.now) }
         ensures never_falls { self.old.faults ≤ self.new.faults }
         ensures empty_ok { piece.now ≡ [] → IsOk result }
-        ensures counted { self.new.faults ≡ (if is_ok result then self.old.faults else risen self.old.faults) }
+        ensures counted { self.new.faults
+            ≡ (if is_ok result then self.old.faults else risen self.old.faults) }
 
         // A writer that tells its contents was handed the piece.
         ensures written { OnOk result
@@ -88,7 +89,8 @@ fn write_whole<W: Write>(writer: &mut W, piece: &[u8]) -> bool
 /// Writes a front of the piece and gives its length, unless nothing was taken.
 fn write_some<W: Write>(writer: &mut W, piece: &[u8]) -> Option<usize>
     ensures some { IfSome result (λ count. (0 < count) × (count ≤ length piece.now)) }
-    ensures front { IfSome result (λ count. Appends (W.contents writer.old) (W.contents writer.new) (take count piece.now)) }
+    ensures front { IfSome result
+        (λ count. Appends (W.contents writer.old) (W.contents writer.new) (take count piece.now)) }
 {
     for _ in 0..u64::MAX {
         match writer.write(piece) {

@@ -1,4 +1,4 @@
-ghost use Rattle.std.specs.Prelude.{◌≡◌, ℕ, [], Some, IsOkUnless, IfOk};
+ghost use Rattle.std.specs.Prelude.{◌≡◌, [], IsOkUnless, IfOk};
 ghost use Rattle.tb_edge.specs.InMemory.{surely_held_in, loaded_of, sure_files_after};
 
 use crate::held_files::{held_in, load_bytes};
@@ -52,7 +52,8 @@ impl Files for SureFiles {
 
     fn load(&mut self, alloc: Global, name: &str, most: usize) -> Result<Loaded, FilesFault>
         ensures sure { IsOkUnless result FilesFault.NoMemory }
-        ensures answer { IfOk result (λ loaded. loaded ≡ loaded_of most (surely_held_in self.old.held name.now)) }
+        ensures answer { IfOk result
+            (λ loaded. loaded ≡ loaded_of most (surely_held_in self.old.held name.now)) }
         ensures after { self.new ≡ sure_files_after result self.old name.now }
     {
         let bytes = held_in(&self.held, name).unwrap_or(&[]);
