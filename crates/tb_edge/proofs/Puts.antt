@@ -25,6 +25,10 @@ Takes-append a b c xs ys first second = second ∙ (ap (λ told. and_more told y
 pub Owes-start : (told : Option (List ℕ)) (all : List ℕ) → Owes told told all all
 Owes-start told all = record { put = []; takes = Takes-none told; is_all = refl }
 
+-- a first part was put
+pub Owes-from_takes : (a b : Option (List ℕ)) (front rest : List ℕ) → Takes a b front → Owes a b (front ++ rest) rest
+Owes-from_takes a b front rest takes = record { put = front; takes = takes; is_all = refl }
+
 -- what comes next was put
 pub Owes-takes : (a b c : Option (List ℕ)) (all piece rest : List ℕ) → Owes a b all (piece ++ rest) → Takes b c piece → Owes a c all rest
 Owes-takes a b c all piece rest owes takes = record {
@@ -86,4 +90,4 @@ pub TakesFront-piece : {X : Type 0} (f : X → List ℕ) (a b c : Option (List �
 TakesFront-piece f a b c all xs i d put within is_next owes front =
     TakesFront-owes_more a b c all put (flat_map f (drop (i + 1) xs)) (subst (Owes a b all) (pieces-next f xs i d put within is_next) owes) front
 
-pub ruleset puts = (Takes-none, Takes-append, Owes-start, Owes-takes, Takes-owes, TakesFront-owes, TakesFront-owes_more, TakesFront-none, TakesFront-more, TakesFront-append)
+pub ruleset puts = (Takes-none, Takes-append, Owes-start, Owes-from_takes, Owes-takes, Takes-owes, TakesFront-owes, TakesFront-owes_more, TakesFront-none, TakesFront-more, TakesFront-append)
