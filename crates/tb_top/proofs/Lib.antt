@@ -1,0 +1,4 @@
+pub mod Lexing
+pub mod Faults
+pub mod Cursors
+pub mod Spelling
