@@ -1,5 +1,5 @@
 -- What a cursor over tokens has before it.
-use Rattle.std.proofs.Common.{◌≡◌, ℕ, ◌+◌, ◌<◌, ◌≤◌, List, [], ◌∷◌, length, get_or, drop, map, Bor, Bool, true, false, not, eqb, ◌⊎◌, ⊎_elim, sym, ap, ◌∙◌}
+use Rattle.std.proofs.Common.{◌≡◌, ℕ, ◌+◌, ◌<◌, ◌≤◌, List, [], ◌∷◌, length, get_or, drop, map, Bor, Bool, true, false, not, eqb, ⊎_elim, sym, ap, ◌∙◌}
 use Rattle.std.specs.Cmp.Lexicographic.{pointwise}
 use Rattle.std.proofs.lemmas.Slice.Eq.{bytes_eq-Decides}
 use Rattle.std.proofs.lemmas.List.{at_drop_more, at_drop_all}
@@ -18,8 +18,8 @@ pub past_from_none : (tokens : List (Bor (List ℕ))) (at : ℕ) → ahead token
 past_from_none tokens at none =
     ⊎_elim
     (λ (within : at < length tokens).
-        let more : ahead tokens at ≡ (get_or tokens at (record { ref_ptr = (0, 0); now = [] })).now ∷ ahead tokens (at + 1) = ahead_next tokens at _ within in
-        cc)
+    let more : ahead tokens at ≡ (get_or tokens at (record { ref_ptr = (0, 0); now = [] })).now ∷ ahead tokens (at + 1) = ahead_next tokens at _ within in
+    cc)
     (λ (past : length tokens ≤ at). past)
     (cases_lt at (length tokens))
 

@@ -1,6 +1,6 @@
 -- What a `?` hands on.
-use Rattle.std.proofs.Common.{◌≡◌, Result, Ok, Err, ap, sym, ◌∙◌, refl}
-use Rattle.std.specs.Result.{IsErrAnd, IfOk}
+use Rattle.std.proofs.Common.{◌≡◌, Result, Err, ap, sym, ◌∙◌}
+use Rattle.std.specs.Result.{IsErrAnd}
 use Rattle.std.proofs.lemmas.Result.{err_from_is_err_and}
 use Rattle.tb_top.specs.declared.plain.fault.PlainFault.{PlainFault}
 use Rattle.tb_top.specs.declared.plain.fault.PlainFault.TheVariants.{NotPlain, NoMemory}

@@ -1,12 +1,12 @@
 -- That a text is cut into tokens in one way, and that the lexer finds it.
-use Rattle.std.proofs.Common.{◌≡◌, ℕ, suc, ◌+◌, ◌<◌, ◌≤◌, Bool, true, false, not, ◌&&◌, ◌||◌, cond, List, [], ◌∷◌, ◌++◌, length, take, drop, map, Option, Some, None, IsTrue, refl, sym, ap, ◌∙◌, subst, inl, inr, ◌⊎◌, ⊎_elim, arith, rules, append_assoc, length-append, one-add}
+use Rattle.std.proofs.Common.{◌≡◌, ℕ, suc, ◌+◌, ◌<◌, Bool, true, false, not, ◌&&◌, ◌||◌, List, [], ◌∷◌, ◌++◌, length, take, drop, Some, None, refl, sym, ap, ◌∙◌, subst, ⊎_elim, arith, append_assoc, length-append, one-add}
 use Rattle.std.proofs.lemmas.Bool.Decides.{nat_tests}
 use Rattle.std.proofs.lemmas.Option.{none-some, same_Some}
 use Rattle.std.specs.List.{list_all, prefix_len}
-use Rattle.std.proofs.lemmas.Bool.{false≢true, true≢false, and_parts, and_from, cases_Bool, or_cases, or_left, or_right, not-true, not_from_false, false_from_ne_true}
+use Rattle.std.proofs.lemmas.Bool.{false≢true, and_parts, and_from, cases_Bool, or_cases, or_left, or_right, not_from_false, false_from_ne_true}
 use Rattle.std.proofs.lemmas.List.Folds.{list_all-append}
 use Rattle.std.proofs.lemmas.List.{take-append-drop, append-nil, nil_from_length}
-use Rattle.tb_terms.specs.Names.{is_name_byte, is_lower, is_upper, is_digit}
+use Rattle.tb_terms.specs.Names.{is_name_byte}
 use Rattle.tb_top.specs.PlainTokens.{is_blank, is_letter, is_sign, is_word, is_symbol, stops, Begins, Lexes}
 use Rattle.tb_top.specs.PlainReading.{token_len}
 
@@ -66,25 +66,25 @@ token_is [] len e = absurd (none-some len e)
 token_is (c ∷ cs) len e =
     ⊎_elim
     (λ (s : is_sign c ≡ true).
-        let one : len ≡ 1 = sym (same_Some _ _ (rw s at e)) in
-        rw one (or_right (is_word (c ∷ [])) (is_sign c) s, λ w. absurd (sign_no_letter c s (and_parts _ _ w).0)))
+    let one : len ≡ 1 = sym (same_Some _ _ (rw s at e)) in
+    rw one (or_right (is_word (c ∷ [])) (is_sign c) s, λ w. absurd (sign_no_letter c s (and_parts _ _ w).0)))
     (λ (s : is_sign c ≡ false).
-        ⊎_elim
-        (λ (l : is_letter c ≡ true).
-            let more : len ≡ suc (prefix_len is_name_byte cs) = sym (same_Some _ _ (rw (s, l) at e)) ∙ one-add _ in
-            rw more (or_left (is_letter c && list_all is_name_byte (take (prefix_len is_name_byte cs) cs)) _ (and_from _ _ l (front_passes is_name_byte cs)), λ _. front_stops is_name_byte cs))
-        (λ (l : is_letter c ≡ false). absurd (none-some len (rw (s, l) at e)))
-        (cases_Bool (is_letter c)))
+    ⊎_elim
+    (λ (l : is_letter c ≡ true).
+    let more : len ≡ suc (prefix_len is_name_byte cs) = sym (same_Some _ _ (rw (s, l) at e)) ∙ one-add _ in
+    rw more (or_left (is_letter c && list_all is_name_byte (take (prefix_len is_name_byte cs) cs)) _ (and_from _ _ l (front_passes is_name_byte cs)), λ _. front_stops is_name_byte cs))
+    (λ (l : is_letter c ≡ false). absurd (none-some len (rw (s, l) at e)))
+    (cases_Bool (is_letter c)))
     (cases_Bool (is_sign c))
 
 -- where the lexer finds a token behind the blanks, the text begins with it
 pub begins_there : (text u token rest : List ℕ) (n len : ℕ) → n ≡ prefix_len is_blank text → u ≡ drop n text → token_len u ≡ Some len → token ≡ take len u → rest ≡ drop len u → Begins text token rest
 begins_there text u token rest n len blank_len behind found front back = record {
-    blanks = take n text;
-    are_blanks = rw blank_len (front_passes is_blank text);
-    is_token = rw front (token_is u len found).0;
-    whole = sym (ap (λ t. take n text ++ t) (rw (front, back) (take-append-drop len u) ∙ behind) ∙ take-append-drop n text);
-    longest = λ w. rw back ((token_is u len found).1 (subst (λ t. is_word t ≡ true) front w));
+  blanks = take n text;
+  are_blanks = rw blank_len (front_passes is_blank text);
+  is_token = rw front (token_is u len found).0;
+  whole = sym (ap (λ t. take n text ++ t) (rw (front, back) (take-append-drop len u) ∙ behind) ∙ take-append-drop n text);
+  longest = λ w. rw back ((token_is u len found).1 (subst (λ t. is_word t ≡ true) front w));
 }
 
 -- where nothing stands behind the blanks, all is blank
@@ -116,10 +116,10 @@ no_first c cs none first =
     ⊎_elim
     (λ (s : is_sign c ≡ true). none-some 1 (sym (rw s at none)))
     (λ (s : is_sign c ≡ false).
-        ⊎_elim
-        (λ (l : is_letter c ≡ true). none-some (1 + prefix_len is_name_byte cs) (sym (rw (s, l) at none)))
-        (λ (l : is_letter c ≡ false). false≢true (rw (l, s) at first))
-        (cases_Bool (is_letter c)))
+    ⊎_elim
+    (λ (l : is_letter c ≡ true). none-some (1 + prefix_len is_name_byte cs) (sym (rw (s, l) at none)))
+    (λ (l : is_letter c ≡ false). false≢true (rw (l, s) at first))
+    (cases_Bool (is_letter c)))
     (cases_Bool (is_sign c))
 
 -- two tokens in one place are one
@@ -131,22 +131,22 @@ same_token (c ∷ cs) rest (d ∷ ds) others t u l m e =
     let tails : cs ++ rest ≡ ds ++ others = cc in
     ⊎_elim
     (λ (w : is_word (c ∷ cs) ≡ true).
-        ⊎_elim
-        (λ (v : is_word (d ∷ ds) ≡ true).
-            let both : (cs ≡ ds) × (rest ≡ others) = one_front is_name_byte cs ds rest others (and_parts _ _ w).1 (and_parts _ _ v).1 (l w) (m v) tails in
-            let fronts : cs ≡ ds = both.0 in
-            (cc, both.1))
-        (λ (v : is_symbol (d ∷ ds) ≡ true). absurd (word_no_symbol c cs ds w (subst (λ x. is_symbol (x ∷ ds) ≡ true) (sym heads) v)))
-        (or_cases (is_word (d ∷ ds)) (is_symbol (d ∷ ds)) u))
+    ⊎_elim
+    (λ (v : is_word (d ∷ ds) ≡ true).
+    let both : (cs ≡ ds) × (rest ≡ others) = one_front is_name_byte cs ds rest others (and_parts _ _ w).1 (and_parts _ _ v).1 (l w) (m v) tails in
+    let fronts : cs ≡ ds = both.0 in
+    (cc, both.1))
+    (λ (v : is_symbol (d ∷ ds) ≡ true). absurd (word_no_symbol c cs ds w (subst (λ x. is_symbol (x ∷ ds) ≡ true) (sym heads) v)))
+    (or_cases (is_word (d ∷ ds)) (is_symbol (d ∷ ds)) u))
     (λ (w : is_symbol (c ∷ cs) ≡ true).
-        ⊎_elim
-        (λ (v : is_word (d ∷ ds) ≡ true). absurd (word_no_symbol d ds cs v (subst (λ x. is_symbol (x ∷ cs) ≡ true) heads w)))
-        (λ (v : is_symbol (d ∷ ds) ≡ true).
-            let left : cs ≡ [] = symbol_alone c cs w in
-            let right : ds ≡ [] = symbol_alone d ds v in
-            let rests : rest ≡ others = rw (left, right) at tails in
-            (cc, rests))
-        (or_cases (is_word (d ∷ ds)) (is_symbol (d ∷ ds)) u))
+    ⊎_elim
+    (λ (v : is_word (d ∷ ds) ≡ true). absurd (word_no_symbol d ds cs v (subst (λ x. is_symbol (x ∷ cs) ≡ true) heads w)))
+    (λ (v : is_symbol (d ∷ ds) ≡ true).
+    let left : cs ≡ [] = symbol_alone c cs w in
+    let right : ds ≡ [] = symbol_alone d ds v in
+    let rests : rest ≡ others = rw (left, right) at tails in
+    (cc, rests))
+    (or_cases (is_word (d ∷ ds)) (is_symbol (d ∷ ds)) u))
     (or_cases (is_word (c ∷ cs)) (is_symbol (c ∷ cs)) t)
 
 -- what a text begins with is one token and one rest
@@ -205,11 +205,11 @@ after_token text token rest b (other ∷ more) lexes =
 
 pub IsRead-step : (text : List ℕ) (tokens : List (List ℕ)) (rest token after : List ℕ) → IsRead text tokens rest → Begins rest token after → IsRead text (tokens ++ token ∷ []) after
 IsRead-step text tokens rest token after read begins = record {
-    sound = λ more lexes. subst (Lexes text) (sym (append_assoc tokens (token ∷ []) more)) (read.sound (token ∷ more) (after, begins, lexes));
-    only = λ all lexes.
-        let left = read.only all lexes in
-        let next = after_token rest token after begins left.0 left.2 in
-        (next.0, left.1 ∙ (ap (λ t. tokens ++ t) next.1 ∙ sym (append_assoc tokens (token ∷ []) next.0)), next.2);
+  sound = λ more lexes. subst (Lexes text) (sym (append_assoc tokens (token ∷ []) more)) (read.sound (token ∷ more) (after, begins, lexes));
+  only = λ all lexes.
+      let left = read.only all lexes in
+      let next = after_token rest token after begins left.0 left.2 in
+      (next.0, left.1 ∙ (ap (λ t. tokens ++ t) next.1 ∙ sym (append_assoc tokens (token ∷ []) next.0)), next.2);
 }
 
 pub IsRead-end : (text : List ℕ) (tokens : List (List ℕ)) (rest : List ℕ) → IsRead text tokens rest → list_all is_blank rest ≡ true → Lexes text tokens

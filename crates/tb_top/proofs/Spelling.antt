@@ -1,12 +1,12 @@
 -- That tokens spell one script at most, and what is left where a part of it was read.
-use Rattle.std.proofs.Common.{◌≡◌, ◌≢◌, ℕ, ◌+◌, ◌<◌, ◌≤◌, List, [], ◌∷◌, ◌++◌, length, map, codes, Bool, true, false, refl, sym, ap, subst, ◌∙◌, IsTrue, arith, append_assoc, length-append}
+use Rattle.std.proofs.Common.{◌≡◌, ℕ, ◌<◌, List, [], ◌∷◌, ◌++◌, length, codes, true, false, refl, sym, ap, subst, ◌∙◌, IsTrue, arith, append_assoc}
 use Rattle.std.specs.List.{flat_map, AllByRecursion}
 use Rattle.std.proofs.lemmas.List.{append-nil}
 use Rattle.std.specs.Str.{bytes_eq}
 use Rattle.std.proofs.lemmas.Slice.Eq.{bytes_eq-Decides}
 use Rattle.std.proofs.lemmas.Bool.{false≢true}
 use Rattle.std.proofs.lemmas.Grind.{flat_map-append}
-use Rattle.tb_top.specs.PlainScript.{Prim, tau, delta, snd-msg, rec-msg, Definition, Script, separated, prim_tokens, body_tokens, definition_tokens, roots_tokens, spelling, is_upper_name}
+use Rattle.tb_top.specs.PlainScript.{Prim, tau, delta, snd-msg, rec-msg, Definition, separated, prim_tokens, definition_tokens, is_upper_name}
 use Rattle.tb_top.specs.PlainReading.{BeginsOtherwise, HasPrims, IsDefinition}
 
 abbrev Tokens : Type 0
@@ -22,7 +22,7 @@ apart x y r s differ e =
 between : (a b c m n : List ℕ) (r s : List (List ℕ)) → a ∷ b ∷ m ∷ c ∷ r ≡ a ∷ b ∷ n ∷ c ∷ s → (m ≡ n) × (r ≡ s)
 between a b c m n r s e = (cc, cc)
 
-behind : (a : List ℕ) (r s : List (List ℕ)) → a ∷ r ≡ a ∷ s → r ≡ s
+pub behind : (a : List ℕ) (r s : List (List ℕ)) → a ∷ r ≡ a ∷ s → r ≡ s
 behind a r s e = cc
 
 pub one_prim : (p q : Prim) (r s : List (List ℕ)) → prim_tokens p ++ r ≡ prim_tokens q ++ s → (p ≡ q) × (r ≡ s)
@@ -118,12 +118,12 @@ one_definition d e r s some some' end ends same =
     named a c m n r s e = (cc, cc)
 
 -- where some definitions were read, every reading goes on with the others
-pub row_goes_on : (read all : List Definition) (now rest : List (List ℕ)) → AllByRecursion HasPrims read → AllByRecursion IsDefinition all → (0 < length read → BeginsOtherwise (codes ".") now) → flat_map definition_tokens read ++ now ≡ flat_map definition_tokens all ++ (codes "toolbus" ∷ rest) → (more : List Definition) × (all ≡ read ++ more) × AllByRecursion IsDefinition more × (now ≡ flat_map definition_tokens more ++ (codes "toolbus" ∷ rest))
+pub row_goes_on : (read all : List Definition) (now rest : List (List ℕ)) → AllByRecursion IsDefinition read → AllByRecursion IsDefinition all → (0 < length read → BeginsOtherwise (codes ".") now) → flat_map definition_tokens read ++ now ≡ flat_map definition_tokens all ++ (codes "toolbus" ∷ rest) → (more : List Definition) × (all ≡ read ++ more) × AllByRecursion IsDefinition more × (now ≡ flat_map definition_tokens more ++ (codes "toolbus" ∷ rest))
 row_goes_on [] all now rest some good end e = (all, refl, good, e)
 row_goes_on (d ∷ ds) [] now rest some good end e = apart (codes "process") (codes "toolbus") _ _ refl e
 row_goes_on (d ∷ ds) (f ∷ fs) now rest some good end e =
     let left : definition_tokens d ++ (flat_map definition_tokens ds ++ now) ≡ definition_tokens f ++ (flat_map definition_tokens fs ++ (codes "toolbus" ∷ rest)) = sym (append_assoc (definition_tokens d) (flat_map definition_tokens ds) now) ∙ (e ∙ append_assoc (definition_tokens f) (flat_map definition_tokens fs) (codes "toolbus" ∷ rest)) in
-    let heads = one_definition d f (flat_map definition_tokens ds ++ now) (flat_map definition_tokens fs ++ (codes "toolbus" ∷ rest)) some.0 good.0.1 (last ds (end (omega arith))) (row_apart fs rest) left in
+    let heads = one_definition d f (flat_map definition_tokens ds ++ now) (flat_map definition_tokens fs ++ (codes "toolbus" ∷ rest)) some.0.1 good.0.1 (last ds (end (omega arith))) (row_apart fs rest) left in
     let along = row_goes_on ds fs now rest some.1 good.1 (λ _. end (omega arith)) heads.1 in
     (along.0, ap (λ t. t ∷ fs) (sym heads.0) ∙ ap (λ t. d ∷ t) along.1, along.2, along.3)
   where
@@ -132,7 +132,7 @@ row_goes_on (d ∷ ds) (f ∷ fs) now rest some good end e =
     last (c ∷ cs) h = λ r e. apart (codes "process") (codes ".") _ _ refl e
 
 -- where a definition is to come next and none does, nothing is spelt so
-pub row_stuck : (read all : List Definition) (before now between rest : List (List ℕ)) → AllByRecursion HasPrims read → AllByRecursion IsDefinition all → (0 < length read → BeginsOtherwise (codes ".") now) → before ≡ flat_map definition_tokens read ++ now → now ≡ codes "process" ∷ between → ((definition : Definition) (after : List (List ℕ)) → IsTrue (is_upper_name definition.name) → HasPrims definition → BeginsOtherwise (codes ".") after → codes "process" ∷ between ≡ definition_tokens definition ++ after → ⊥) → before ≡ flat_map definition_tokens all ++ (codes "toolbus" ∷ rest) → ⊥
+pub row_stuck : (read all : List Definition) (before now between rest : List (List ℕ)) → AllByRecursion IsDefinition read → AllByRecursion IsDefinition all → (0 < length read → BeginsOtherwise (codes ".") now) → before ≡ flat_map definition_tokens read ++ now → now ≡ codes "process" ∷ between → ((definition : Definition) (after : List (List ℕ)) → IsTrue (is_upper_name definition.name) → HasPrims definition → BeginsOtherwise (codes ".") after → codes "process" ∷ between ≡ definition_tokens definition ++ after → ⊥) → before ≡ flat_map definition_tokens all ++ (codes "toolbus" ∷ rest) → ⊥
 row_stuck read all before now between rest some good end sound next none e =
     let left = row_goes_on read all now rest some good end (sym sound ∙ e) in
     stuck left.0 left.2 left.3
@@ -142,7 +142,7 @@ row_stuck read all before now between rest some good end sound next none e =
     stuck (d ∷ ds) g f = none d _ g.0.0 g.0.1 (row_apart ds rest) (sym next ∙ (f ∙ append_assoc (definition_tokens d) (flat_map definition_tokens ds) (codes "toolbus" ∷ rest)))
 
 -- where no definition is next, all were read
-pub row_done : (read all : List Definition) (now rest : List (List ℕ)) → AllByRecursion HasPrims read → AllByRecursion IsDefinition all → (0 < length read → BeginsOtherwise (codes ".") now) → BeginsOtherwise (codes "process") now → flat_map definition_tokens read ++ now ≡ flat_map definition_tokens all ++ (codes "toolbus" ∷ rest) → (read ≡ all) × (now ≡ codes "toolbus" ∷ rest)
+pub row_done : (read all : List Definition) (now rest : List (List ℕ)) → AllByRecursion IsDefinition read → AllByRecursion IsDefinition all → (0 < length read → BeginsOtherwise (codes ".") now) → BeginsOtherwise (codes "process") now → flat_map definition_tokens read ++ now ≡ flat_map definition_tokens all ++ (codes "toolbus" ∷ rest) → (read ≡ all) × (now ≡ codes "toolbus" ∷ rest)
 row_done read all now rest some good end last e =
     let left = row_goes_on read all now rest some good end e in
     done left.0 left.1 left.3

@@ -3,4 +3,4 @@
 
 mod plain;
 
-pub use plain::PlainFault;
+pub use plain::{PlainFault, read_plain};

@@ -3,9 +3,9 @@ ghost use Rattle.std.specs.List.{AllByRecursion};
 ghost use Rattle.tb_top.specs.PlainScript.{Prim as PlainPrim, Definition as PlainDefinition, Script as PlainScript, is_upper_name, separated, prim_tokens, body_tokens, definition_tokens, roots_tokens, spelling};
 ghost use Rattle.tb_top.specs.PlainReading.{prim_of, definition_of, script_of, BeginsOtherwise, HasPrims, IsDefinition};
 
-use crate::plain::names::is_upper_name;
 use crate::plain::cursor::Cursor;
 use crate::plain::fault::PlainFault;
+use crate::plain::names::is_upper_name;
 use std::alloc::Global;
 
 /// One thing that a process does.
@@ -89,12 +89,9 @@ fn read_body<'t>(alloc: Global, tokens: &mut Cursor<'t>) -> Result<Vec<Prim<'t>>
 }
 
 /// A process, behind the word that begins it.
-fn read_definition<'t>(
-    alloc: Global,
-    tokens: &mut Cursor<'t>,
-) -> Result<Definition<'t>, PlainFault>
+fn read_definition<'t>(alloc: Global, tokens: &mut Cursor<'t>) -> Result<Definition<'t>, PlainFault>
     ensures found { IfOk result (λ found. codes "process" ∷ tokens.old ≡ definition_tokens (definition_of found) ++ tokens.new) }
-    ensures form { IfOk result (λ found. HasPrims (definition_of found)) }
+    ensures form { IfOk result (λ found. IsDefinition (definition_of found)) }
     ensures end { OnOk result (BeginsOtherwise (codes ".") tokens.new) }
     ensures refused { result ≡ Err PlainFault.NotPlain → (definition : PlainDefinition) (rest : List (List ℕ)) →
         IsTrue (is_upper_name definition.name) → HasPrims definition → BeginsOtherwise (codes ".") rest →
@@ -111,7 +108,7 @@ fn read_definitions<'t>(
     tokens: &mut Cursor<'t>,
 ) -> Result<Vec<Definition<'t>>, PlainFault>
     ensures found { IfOk result (λ found. tokens.old ≡ flat_map definition_tokens (map definition_of found.items) ++ tokens.new) }
-    ensures form { IfOk result (λ found. AllByRecursion HasPrims (map definition_of found.items)) }
+    ensures form { IfOk result (λ found. AllByRecursion IsDefinition (map definition_of found.items)) }
     ensures only { IfOk result (λ found. (all : List PlainDefinition) (rest : List (List ℕ)) → AllByRecursion IsDefinition all →
         tokens.old ≡ flat_map definition_tokens all ++ codes "toolbus" ∷ rest →
         (map definition_of found.items ≡ all) × (tokens.new ≡ codes "toolbus" ∷ rest)) }
@@ -175,7 +172,7 @@ fn read_roots<'t>(alloc: Global, tokens: &mut Cursor<'t>) -> Result<Vec<&'t [u8]
 /// The script that the tokens spell.
 pub fn read_script<'t>(alloc: Global, tokens: &'t [&'t [u8]]) -> Result<Script<'t>, PlainFault>
     ensures found { IfOk result (λ script. map (λ token. token.now) tokens.now ≡ spelling (script_of script)) }
-    ensures form { IfOk result (λ script. AllByRecursion HasPrims (script_of script).definitions) }
+    ensures form { IfOk result (λ script. AllByRecursion IsDefinition (script_of script).definitions) }
     ensures refused { result ≡ Err PlainFault.NotPlain → (script : PlainScript) →
         AllByRecursion IsDefinition script.definitions → AllByRecursion (λ root. IsTrue (is_upper_name root)) script.roots →
         map (λ token. token.now) tokens.now ≡ spelling script → ⊥ }

@@ -1,4 +1,4 @@
-use Rattle.std.proofs.Common.{◌≡◌, ◌<◌, length, map, codes, refl, arith}
+use Rattle.std.proofs.Common.{◌<◌, length, map, codes, refl, arith}
 use Rattle.std.proofs.lemmas.List.{length-map}
 use Rattle.tb_top.specs.PlainScript.{prim_tokens}
 use Rattle.tb_top.specs.PlainReading.{prim_of}

@@ -6,8 +6,8 @@ use Rattle.tb_top.proofs.plain.script.read_body.Given as goal
 -- the things so far, and then the tokens that are left
 abbrev pub invariant-loop-prims : goal.invariant-loop-prims
 invariant-loop-prims l = record {
-    some : 0 < length l.prims.items;
-    sound : l.fn.tokens ≡ body_tokens (map prim_of l.prims.items) ++ l.tokens;
+  some : 0 < length l.prims.items;
+  sound : l.fn.tokens ≡ body_tokens (map prim_of l.prims.items) ++ l.tokens;
 }
 
 abbrev pub decreases-loop-prims : goal.decreases-loop-prims

@@ -1,4 +1,4 @@
-use Rattle.std.proofs.Common.{◌≡◌, ◌<◌, ◌∙◌, length, map, codes, refl, sym, arith}
+use Rattle.std.proofs.Common.{◌<◌, ◌∙◌, length, map, codes, refl, sym, arith}
 use Rattle.std.proofs.lemmas.List.{length-map}
 use Rattle.tb_top.specs.PlainReading.{definition_of, BeginsOtherwise}
 use Rattle.tb_top.proofs.Faults.{handed_on}

@@ -1,4 +1,4 @@
-use Rattle.std.proofs.Common.{◌≡◌, ◌<◌, length, map, codes, refl, IsTrue, arith}
+use Rattle.std.proofs.Common.{◌<◌, length, map, codes, refl, IsTrue, arith}
 use Rattle.std.proofs.lemmas.List.{length-map}
 use Rattle.tb_top.specs.PlainScript.{is_upper_name}
 use Rattle.tb_top.proofs.Faults.{handed_on}

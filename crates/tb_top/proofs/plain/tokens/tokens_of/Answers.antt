@@ -1,16 +1,15 @@
-use Rattle.std.proofs.Common.{◌≡◌, ◌<◌, ◌∙◌, ◌++◌, ◌∷◌, [], sym, ap, subst, map, Some, None, length, eqb, true, rules, arith, length-append, IsTrue}
-use Rattle.std.specs.List.{list_all}
+use Rattle.std.proofs.Common.{◌∷◌, [], arith, length-append}
 use Rattle.std.proofs.lemmas.List.{map_push, length-map}
 use Rattle.std.proofs.lemmas.Option.{MatchOption-at_some, MatchOption-at_none}
 use Rattle.tb_top.proofs.Faults.{handed_on}
-use Rattle.tb_top.specs.PlainTokens.{Begins, is_blank}
-use Rattle.tb_top.proofs.Lexing.{IsRead, IsRead-start, IsRead-step, IsRead-end, IsRead-more, rest_shorter}
+use Rattle.tb_top.specs.PlainTokens.{Begins}
+use Rattle.tb_top.proofs.Lexing.{IsRead-start, IsRead-step, IsRead-end, IsRead-more, rest_shorter}
 use Rattle.tb_top.proofs.plain.tokens.tokens_of.Goals as goal
 
 pub loop-tokens-init : goal.loop-tokens-init
 loop-tokens-init c = record {
-    few = rw c.new-tokens.ensures.items (omega arith);
-    read = rw c.new-tokens.ensures.items (IsRead-start _);
+  few = rw c.new-tokens.ensures.items (omega arith);
+  read = rw c.new-tokens.ensures.items (IsRead-start _);
 }
 
 pub returns-in_err-token-clause-refused : goal.returns-in_err-token-clause-refused
@@ -26,11 +25,11 @@ returns-then-len-eq-MOST_TOKENS-clause-refused c = λ _ tokens lexes few.
 
 pub loop-tokens-preserved : goal.loop-tokens-preserved
 loop-tokens-preserved c = record {
-    few = rw c.in_ok-push.ensures.items (omega (arith, length-append c.loop-tokens.tokens.items (c.in-Some.token ∷ []), c.len.ensures, c.loop-tokens.tokens.ok));
-    read =
-        let begins = MatchOption-at_some _ (λ found. Begins c.loop-tokens.rest.now found.0.now found.1.now) (c.in-Some.token, c.in-Some.after) c.in-Some.is c.in_ok-token.ensures.found in
-        let pushed = IsRead-step _ _ _ _ _ c.loop-tokens.invariant.read begins in
-        rw (c.in_ok-push.ensures.items, map_push) pushed;
+  few = rw c.in_ok-push.ensures.items (omega (arith, length-append c.loop-tokens.tokens.items (c.in-Some.token ∷ []), c.len.ensures, c.loop-tokens.tokens.ok));
+  read =
+      let begins = MatchOption-at_some _ (λ found. Begins c.loop-tokens.rest.now found.0.now found.1.now) (c.in-Some.token, c.in-Some.after) c.in-Some.is c.in_ok-token.ensures.found in
+      let pushed = IsRead-step _ _ _ _ _ c.loop-tokens.invariant.read begins in
+      rw (c.in_ok-push.ensures.items, map_push) pushed;
 }
 
 pub loop-tokens-smaller : goal.loop-tokens-smaller

@@ -1,4 +1,4 @@
-use Rattle.std.proofs.Common.{◌≡◌, ◌∙◌, sym, arith}
+use Rattle.std.proofs.Common.{◌∙◌, sym}
 use Rattle.std.proofs.lemmas.Bool.{leb-true, le-leb}
 use Rattle.tb_top.proofs.Cursors.{ahead_none, past_from_none}
 use Rattle.tb_top.proofs.plain.cursor.Cursor.is_empty.Goals as goal

@@ -1,4 +1,3 @@
-use Rattle.std.proofs.Common.{◌≡◌}
 use Rattle.tb_top.proofs.Cursors.{ahead_taken, ahead_other, ahead_past, same_from_ne, other_from_ne}
 use Rattle.tb_top.proofs.plain.cursor.Cursor.skip.Goals as goal
 use Rattle.tb_top.proofs.plain.cursor.Cursor.skip.Goals.{then-self-via-then-self, then-self-via-else-self+then-ne}
@@ -6,8 +5,8 @@ use Rattle.tb_top.proofs.plain.cursor.Cursor.skip.Goals.{then-self-via-then-self
 pub returns-then-self-clause-other : goal.returns-then-self-clause-other
 returns-then-self-clause-other c = λ _.
     elim c.then-self.branch [
-      then-self-via-then-self w ↦ ahead_past _ _ _ _ c.self.view_is w.if-self.true
-    | then-self-via-else-self+then-ne w ↦ ahead_other _ _ _ _ _ c.self.view_is w.if-self.false (other_from_ne _ _ _ w.ne.ensures w.if-ne.true)
+      | then-self-via-then-self w ↦ ahead_past _ _ _ _ c.self.view_is w.if-self.true
+      | then-self-via-else-self+then-ne w ↦ ahead_other _ _ _ _ _ c.self.view_is w.if-self.false (other_from_ne _ _ _ w.ne.ensures w.if-ne.true)
     ]
 
 pub returns-clause-taken : goal.returns-clause-taken
