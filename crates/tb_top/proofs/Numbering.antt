@@ -7,7 +7,8 @@ use Rattle.std.specs.Option.{option_map, is_some, IsSome}
 use Rattle.std.proofs.lemmas.Bool.{false≢true, cases_Bool, cases_eq, cond-true, cond-false}
 use Rattle.std.proofs.lemmas.Slice.Eq.{bytes_eq-Decides}
 use Rattle.std.proofs.lemmas.Option.{none-some, same_Some, slice_get-map, slice_get_read}
-use Rattle.tb_top.specs.PlainReading.{Numbers, AreOnce}
+use Rattle.tb_top.specs.PlainScript.{AreOnce}
+use Rattle.tb_top.specs.PlainReading.{Numbers}
 
 pub Numbers-none : (names : List (List ℕ)) (at : List ℕ → Option ℕ) → ((name : List ℕ) → at name ≡ None) → Numbers names 0 at
 Numbers-none names at none = record {

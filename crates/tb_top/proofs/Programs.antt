@@ -13,7 +13,8 @@ use Rattle.tb_core.specs.InRange.{is_body_in_range, is_in_range}
 use Rattle.tb_top.specs.declared.plain.script.Definition.{Definition as ReadDefinition}
 use Rattle.tb_top.specs.declared.plain.script.Script.{Script as ReadScript}
 use Rattle.tb_top.specs.PlainScript.{Prim, Definition, Script, IsPlain, IsProgramOf, IsPlainProgram, names, separated, body_of, act_of, definition_tokens, spelling, roots_tokens, is_upper_name}
-use Rattle.tb_top.specs.PlainReading.{Numbers, AreOnce, IsMade, IsDefinition, HasPrims, script_of, definition_of, name_of}
+use Rattle.tb_top.specs.PlainScript.{AreOnce}
+use Rattle.tb_top.specs.PlainReading.{Numbers, IsMade, IsDefinition, HasPrims, script_of, definition_of, name_of}
 use Rattle.tb_top.proofs.Elements.{map-map}
 use Rattle.tb_top.proofs.Lexing.{one_lexing}
 use Rattle.tb_top.proofs.Spelling.{apart, behind, alone, one_alone, tails, separated_done, row_done, row_apart, bracket_apart}

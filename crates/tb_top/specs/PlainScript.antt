@@ -46,9 +46,12 @@ abbrev pub definition_tokens : Definition → List (List ℕ)
 definition_tokens definition =
     codes "process" ∷ definition.name ∷ codes "is" ∷ body_tokens definition.prims
 
+-- names with commas between them
+abbrev pub names_tokens : List (List ℕ) → List (List ℕ)
+names_tokens names = separated (codes ",") (λ name. name ∷ []) names
+
 abbrev pub roots_tokens : List (List ℕ) → List (List ℕ)
-roots_tokens roots =
-    codes "toolbus" ∷ codes "(" ∷ separated (codes ",") (λ root. root ∷ []) roots ++ codes ")" ∷ []
+roots_tokens roots = codes "toolbus" ∷ codes "(" ∷ names_tokens roots ++ codes ")" ∷ []
 
 abbrev pub spelling : Script → List (List ℕ)
 spelling script = flat_map definition_tokens script.definitions ++ roots_tokens script.roots
@@ -80,9 +83,16 @@ HasMessage (rec-msg name) = IsMessage name
 abbrev pub names : Script → List (List ℕ)
 names script = map (λ definition. definition.name) script.definitions
 
+-- no name stands twice
+abbrev pub AreOnce : List (List ℕ) → Type 0
+AreOnce names = (i j : ℕ) (name : List ℕ) → slice_get names i ≡ Some name → slice_get names j ≡ Some name → i ≡ j
+
+-- Process names are upper names and differ; each process does one to 400 things, and its messages
+-- are names; each root is a process, and there are at most 10,000 of them; the script has at most
+-- 200,000 tokens.
 pub record IsPlain (script : Script) : Type 0 where
   pub upper : All (λ name. IsTrue (is_upper_name name)) (names script)
-  pub once : (i j : ℕ) (name : List ℕ) → slice_get (names script) i ≡ Some name → slice_get (names script) j ≡ Some name → i ≡ j
+  pub once : AreOnce (names script)
   pub some : All (λ definition. 0 < length definition.prims) script.definitions
   pub low : All (λ definition. length definition.prims ≤ 400) script.definitions
   pub messages : All (λ definition. All HasMessage definition.prims) script.definitions

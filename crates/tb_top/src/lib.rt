@@ -3,4 +3,4 @@
 
 mod plain;
 
-pub use plain::{PlainFault, read_plain};
+pub use plain::{PlainFault, one_program, read_plain};

@@ -25,7 +25,8 @@ pub fn read_plain(alloc: Global, bytes: &[u8]) -> Result<Program, PlainFault>
     // What is read is the program of the text.
     ensures read { IfOk result (λ program. IsPlainProgram bytes.now program) }
     // A text is refused only where it has no program.
-    ensures refused { result ≡ Err PlainFault.NotPlain → (program : Program) → IsPlainProgram bytes.now program → ⊥ }
+    ensures refused { result ≡ Err PlainFault.NotPlain →
+        (program : Program) → IsPlainProgram bytes.now program → ⊥ }
 {
     let tokens = tokens_of(alloc, bytes)?;
     let script = read_script(alloc, &tokens)?;
@@ -35,7 +36,8 @@ pub fn read_plain(alloc: Global, bytes: &[u8]) -> Result<Program, PlainFault>
 
 /// A text has one program at most.
 pub fn one_program()
-    ensures { (text : List ℕ) (program other : Program) → IsPlainProgram text program → IsPlainProgram text other → program ≡ other }
+    ensures { (text : List ℕ) (program other : Program) →
+        IsPlainProgram text program → IsPlainProgram text other → program ≡ other }
 {}
 
 fn make_program(alloc: Global, script: &Script) -> Result<Program, PlainFault>
@@ -50,3 +52,6 @@ fn make_program(alloc: Global, script: &Script) -> Result<Program, PlainFault>
     let roots = roots_of(alloc, &numbers, &script.roots)?;
     Ok(Program { bodies, roots })
 }
+
+#[cfg(test)]
+mod tests;

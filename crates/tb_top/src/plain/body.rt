@@ -1,7 +1,7 @@
-ghost use Rattle.std.specs.Prelude.{◌≡◌, ◌<◌, ◌≤◌, [], ◌∷◌, length, map, IfOk, OnOk, All};
+ghost use Rattle.std.specs.Prelude.{◌≡◌, ◌≤◌, [], ◌∷◌, length, map, IfOk, OnOk, All};
 ghost use Rattle.tb_terms.specs.declared.term.Term.TheVariants.{Appl};
 ghost use Rattle.tb_top.specs.PlainScript.{IsMessage, HasMessage, act_of, body_of};
-ghost use Rattle.tb_top.specs.PlainReading.{prim_of, definition_of};
+ghost use Rattle.tb_top.specs.PlainReading.{prim_of, prims_of, definition_of, definitions_of, AreLow, HaveMessages};
 
 use crate::plain::fault::PlainFault;
 use crate::plain::names::is_reserved;
@@ -44,9 +44,9 @@ fn make_act(alloc: Global, prim: &Prim) -> Result<Act, PlainFault>
 }
 
 fn make_acts(alloc: Global, prims: &[Prim]) -> Result<Items<Act>, PlainFault>
-    ensures found { IfOk result (λ acts. acts ≡ map act_of (map prim_of prims.now)) }
-    ensures form { OnOk result (All HasMessage (map prim_of prims.now)) }
-    ensures refused { result ≡ Err PlainFault.NotPlain → All HasMessage (map prim_of prims.now) → ⊥ }
+    ensures found { IfOk result (λ acts. acts ≡ map act_of (prims_of prims.now)) }
+    ensures form { OnOk result (All HasMessage (prims_of prims.now)) }
+    ensures refused { result ≡ Err PlainFault.NotPlain → All HasMessage (prims_of prims.now) → ⊥ }
 {
     let mut acts = Items::new(alloc);
     for prim in prims {
@@ -59,7 +59,8 @@ fn make_body(alloc: Global, definition: &Definition) -> Result<Body, PlainFault>
     ensures found { IfOk result (λ body. body ≡ body_of (definition_of definition.now)) }
     ensures low { OnOk result (length (definition_of definition.now).prims ≤ 400) }
     ensures form { OnOk result (All HasMessage (definition_of definition.now).prims) }
-    ensures refused { result ≡ Err PlainFault.NotPlain → length (definition_of definition.now).prims ≤ 400 →
+    ensures refused { result ≡ Err PlainFault.NotPlain →
+        length (definition_of definition.now).prims ≤ 400 →
         All HasMessage (definition_of definition.now).prims → ⊥ }
 {
     if definition.prims.len() > MOST_PRIMS {
@@ -71,11 +72,11 @@ fn make_body(alloc: Global, definition: &Definition) -> Result<Body, PlainFault>
 
 /// The bodies of the processes, in their order.
 pub fn make_bodies(alloc: Global, definitions: &[Definition]) -> Result<Items<Body>, PlainFault>
-    ensures found { IfOk result (λ bodies. bodies ≡ map body_of (map definition_of definitions.now)) }
-    ensures low { OnOk result (All (λ definition. length definition.prims ≤ 400) (map definition_of definitions.now)) }
-    ensures form { OnOk result (All (λ definition. All HasMessage definition.prims) (map definition_of definitions.now)) }
-    ensures refused { result ≡ Err PlainFault.NotPlain → All (λ definition. length definition.prims ≤ 400) (map definition_of definitions.now) →
-        All (λ definition. All HasMessage definition.prims) (map definition_of definitions.now) → ⊥ }
+    ensures found { IfOk result (λ bodies. bodies ≡ map body_of (definitions_of definitions.now)) }
+    ensures low { OnOk result (AreLow (definitions_of definitions.now)) }
+    ensures form { OnOk result (HaveMessages (definitions_of definitions.now)) }
+    ensures refused { result ≡ Err PlainFault.NotPlain →
+        AreLow (definitions_of definitions.now) → HaveMessages (definitions_of definitions.now) → ⊥ }
 {
     let mut bodies = Items::new(alloc);
     for definition in definitions {

@@ -1,5 +1,5 @@
-ghost use Rattle.std.specs.Prelude.{◌≡◌, ◌↔◌, List, ℕ, [], ◌∷◌, map, false, IsTrue, IfOk, OnOk};
-ghost use Rattle.tb_top.specs.PlainReading.{BeginsOtherwise};
+ghost use Rattle.std.specs.Prelude.{◌≡◌, ◌↔◌, [], ◌∷◌, false, IsTrue, IfOk, OnOk};
+ghost use Rattle.tb_top.specs.PlainReading.{seen, BeginsOtherwise};
 
 use crate::plain::fault::PlainFault;
 use std::marker::Model;
@@ -21,7 +21,7 @@ impl<'t> Model for Cursor<'t> {
 
 impl<'t> Cursor<'t> {
     pub fn new(tokens: &'t [&'t [u8]]) -> Cursor<'t>
-        ensures { result ≡ map (λ token. token.now) tokens.now }
+        ensures { result ≡ seen tokens.now }
     {
         Cursor { tokens, at: 0 }
     }

@@ -24,7 +24,8 @@ fn are_name_bytes(bytes: &[u8]) -> bool
     true
 }
 
-fn is_name_byte(byte: u8) -> bool
+/// Whether the byte may stand in a name, behind its first letter.
+pub fn is_name_byte(byte: u8) -> bool
     ensures { result ≡ is_name_byte byte }
 {
     byte.is_ascii_alphanumeric() || matches!(byte, b'-' | b'_')

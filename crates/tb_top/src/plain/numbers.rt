@@ -1,6 +1,7 @@
-ghost use Rattle.std.specs.Prelude.{◌≡◌, ◌<◌, ◌≤◌, ◌^◌, List, ℕ, Some, length, map, IfOk, OnOk, IsSome, All, slice_get};
+ghost use Rattle.std.specs.Prelude.{◌≡◌, ◌<◌, ◌≤◌, ◌^◌, Some, length, map, IfOk, OnOk, IsSome, All, slice_get};
 ghost use Rattle.std.specs.List.{AllZip};
-ghost use Rattle.tb_top.specs.PlainReading.{Numbers, number_at, name_of, AreOnce};
+ghost use Rattle.tb_top.specs.PlainScript.{AreOnce};
+ghost use Rattle.tb_top.specs.PlainReading.{seen, Numbers, number_at, name_of};
 
 use crate::plain::fault::PlainFault;
 use crate::plain::script::Definition;
@@ -17,7 +18,8 @@ pub fn numbers_of<'t>(
     definitions: &[Definition<'t>],
 ) -> Result<BTreeMap<&'t [u8], u32>, PlainFault>
     requires { length definitions.now < 2 ^ 32 }
-    ensures found { IfOk result (λ numbers. Numbers (map name_of definitions.now) (length definitions.now) (number_at numbers)) }
+    ensures found { IfOk result (λ numbers.
+        Numbers (map name_of definitions.now) (length definitions.now) (number_at numbers)) }
     ensures refused { result ≡ Err PlainFault.NotPlain → AreOnce (map name_of definitions.now) → ⊥ }
 {
     let mut numbers = BTreeMap::new(alloc);
@@ -41,10 +43,11 @@ pub fn roots_of(
     numbers: &BTreeMap<&[u8], u32>,
     names: &[&[u8]],
 ) -> Result<Items<u32>, PlainFault>
-    ensures found { IfOk result (λ roots. AllZip (λ name number. number_at numbers.now name ≡ Some number) (map (λ name. name.now) names.now) roots) }
+    ensures found { IfOk result (λ roots.
+        AllZip (λ name number. number_at numbers.now name ≡ Some number) (seen names.now) roots) }
     ensures few { OnOk result (length names.now ≤ 10000) }
     ensures refused { result ≡ Err PlainFault.NotPlain → length names.now ≤ 10000 →
-        All (λ name. IsSome (number_at numbers.now name)) (map (λ name. name.now) names.now) → ⊥ }
+        All (λ name. IsSome (number_at numbers.now name)) (seen names.now) → ⊥ }
 {
     if names.len() > MOST_ROOTS {
         return Err(PlainFault::NotPlain);

@@ -1,7 +1,6 @@
-ghost use Rattle.std.specs.Prelude.{◌≡◌, ℕ, ◌<◌, List, [], ◌∷◌, ◌++◌, length, map, codes, IsTrue, IfOk, OnOk, flat_map};
-ghost use Rattle.std.specs.List.{AllByRecursion};
-ghost use Rattle.tb_top.specs.PlainScript.{Prim as PlainPrim, Definition as PlainDefinition, Script as PlainScript, is_upper_name, separated, prim_tokens, body_tokens, definition_tokens, roots_tokens, spelling};
-ghost use Rattle.tb_top.specs.PlainReading.{prim_of, definition_of, script_of, BeginsOtherwise, HasPrims, IsDefinition};
+ghost use Rattle.std.specs.Prelude.{◌≡◌, ◌<◌, ◌∷◌, ◌++◌, length, codes, IsTrue, IfOk, OnOk, flat_map};
+ghost use Rattle.tb_top.specs.PlainScript.{is_upper_name, prim_tokens, body_tokens, definition_tokens, names_tokens, roots_tokens, spelling};
+ghost use Rattle.tb_top.specs.PlainReading.{seen, prim_of, prims_of, definition_of, definitions_of, script_of, BeginsOtherwise, IsDefinition, AreDefinitions, bracket_tokens, NoUpper, NoArgument, NoPrim, NoBody, NoDefinition, NoDefinitions, OnlyDefinitions, NoNames, NoBracket, OnlyBracket, NoRoots, NoScript};
 
 use crate::plain::cursor::Cursor;
 use crate::plain::fault::PlainFault;
@@ -35,7 +34,7 @@ pub struct Script<'t> {
 fn read_upper<'t>(tokens: &mut Cursor<'t>) -> Result<&'t [u8], PlainFault>
     ensures found { IfOk result (λ name. tokens.old ≡ name.now ∷ tokens.new) }
     ensures form { IfOk result (λ name. IsTrue (is_upper_name name.now)) }
-    ensures refused { result ≡ Err PlainFault.NotPlain → (name : List ℕ) (rest : List (List ℕ)) → IsTrue (is_upper_name name) → tokens.old ≡ name ∷ rest → ⊥ }
+    ensures refused { result ≡ Err PlainFault.NotPlain → NoUpper tokens.old }
 {
     let name = tokens.take()?;
     if is_upper_name(name) {
@@ -48,7 +47,7 @@ fn read_upper<'t>(tokens: &mut Cursor<'t>) -> Result<&'t [u8], PlainFault>
 /// What stands between brackets, one token.
 fn read_argument<'t>(tokens: &mut Cursor<'t>) -> Result<&'t [u8], PlainFault>
     ensures found { IfOk result (λ name. tokens.old ≡ codes "(" ∷ name.now ∷ codes ")" ∷ tokens.new) }
-    ensures refused { result ≡ Err PlainFault.NotPlain → (name : List ℕ) (rest : List (List ℕ)) → tokens.old ≡ codes "(" ∷ name ∷ codes ")" ∷ rest → ⊥ }
+    ensures refused { result ≡ Err PlainFault.NotPlain → NoArgument tokens.old }
 {
     tokens.expect(b"(")?;
     let name = tokens.take()?;
@@ -58,7 +57,7 @@ fn read_argument<'t>(tokens: &mut Cursor<'t>) -> Result<&'t [u8], PlainFault>
 
 fn read_prim<'t>(tokens: &mut Cursor<'t>) -> Result<Prim<'t>, PlainFault>
     ensures found { IfOk result (λ prim. tokens.old ≡ prim_tokens (prim_of prim) ++ tokens.new) }
-    ensures refused { result ≡ Err PlainFault.NotPlain → (prim : PlainPrim) (rest : List (List ℕ)) → tokens.old ≡ prim_tokens prim ++ rest → ⊥ }
+    ensures refused { result ≡ Err PlainFault.NotPlain → NoPrim tokens.old }
 {
     if tokens.skip(b"tau") {
         return Ok(Prim::Tau);
@@ -75,10 +74,11 @@ fn read_prim<'t>(tokens: &mut Cursor<'t>) -> Result<Prim<'t>, PlainFault>
 
 /// What a process does: one thing or more, with a dot between them.
 fn read_body<'t>(alloc: Global, tokens: &mut Cursor<'t>) -> Result<Vec<Prim<'t>>, PlainFault>
-    ensures found { IfOk result (λ prims. tokens.old ≡ body_tokens (map prim_of prims.items) ++ tokens.new) }
+    ensures found { IfOk result (λ prims.
+        tokens.old ≡ body_tokens (prims_of prims.items) ++ tokens.new) }
     ensures some { IfOk result (λ prims. 0 < length prims.items) }
     ensures end { OnOk result (BeginsOtherwise (codes ".") tokens.new) }
-    ensures refused { result ≡ Err PlainFault.NotPlain → (all : List PlainPrim) (rest : List (List ℕ)) → 0 < length all → BeginsOtherwise (codes ".") rest → tokens.old ≡ body_tokens all ++ rest → ⊥ }
+    ensures refused { result ≡ Err PlainFault.NotPlain → NoBody tokens.old }
 {
     let mut prims = Vec::new(alloc);
     prims.push(read_prim(tokens)?)?;
@@ -90,12 +90,11 @@ fn read_body<'t>(alloc: Global, tokens: &mut Cursor<'t>) -> Result<Vec<Prim<'t>>
 
 /// A process, behind the word that begins it.
 fn read_definition<'t>(alloc: Global, tokens: &mut Cursor<'t>) -> Result<Definition<'t>, PlainFault>
-    ensures found { IfOk result (λ found. codes "process" ∷ tokens.old ≡ definition_tokens (definition_of found) ++ tokens.new) }
+    ensures found { IfOk result (λ found.
+        codes "process" ∷ tokens.old ≡ definition_tokens (definition_of found) ++ tokens.new) }
     ensures form { IfOk result (λ found. IsDefinition (definition_of found)) }
     ensures end { OnOk result (BeginsOtherwise (codes ".") tokens.new) }
-    ensures refused { result ≡ Err PlainFault.NotPlain → (definition : PlainDefinition) (rest : List (List ℕ)) →
-        IsTrue (is_upper_name definition.name) → HasPrims definition → BeginsOtherwise (codes ".") rest →
-        codes "process" ∷ tokens.old ≡ definition_tokens definition ++ rest → ⊥ }
+    ensures refused { result ≡ Err PlainFault.NotPlain → NoDefinition (codes "process" ∷ tokens.old) }
 {
     let name = read_upper(tokens)?;
     tokens.expect(b"is")?;
@@ -107,13 +106,12 @@ fn read_definitions<'t>(
     alloc: Global,
     tokens: &mut Cursor<'t>,
 ) -> Result<Vec<Definition<'t>>, PlainFault>
-    ensures found { IfOk result (λ found. tokens.old ≡ flat_map definition_tokens (map definition_of found.items) ++ tokens.new) }
-    ensures form { IfOk result (λ found. AllByRecursion IsDefinition (map definition_of found.items)) }
-    ensures only { IfOk result (λ found. (all : List PlainDefinition) (rest : List (List ℕ)) → AllByRecursion IsDefinition all →
-        tokens.old ≡ flat_map definition_tokens all ++ codes "toolbus" ∷ rest →
-        (map definition_of found.items ≡ all) × (tokens.new ≡ codes "toolbus" ∷ rest)) }
-    ensures refused { result ≡ Err PlainFault.NotPlain → (all : List PlainDefinition) (rest : List (List ℕ)) → AllByRecursion IsDefinition all →
-        tokens.old ≡ flat_map definition_tokens all ++ codes "toolbus" ∷ rest → ⊥ }
+    ensures found { IfOk result (λ found.
+        tokens.old ≡ flat_map definition_tokens (definitions_of found.items) ++ tokens.new) }
+    ensures form { IfOk result (λ found. AreDefinitions (definitions_of found.items)) }
+    ensures only { IfOk result (λ found.
+        OnlyDefinitions tokens.old (definitions_of found.items) tokens.new) }
+    ensures refused { result ≡ Err PlainFault.NotPlain → NoDefinitions tokens.old }
 {
     let mut definitions = Vec::new(alloc);
     while tokens.skip(b"process") {
@@ -124,11 +122,10 @@ fn read_definitions<'t>(
 
 /// Names of processes, one or more, with commas between them.
 fn read_names<'t>(alloc: Global, tokens: &mut Cursor<'t>) -> Result<Vec<&'t [u8]>, PlainFault>
-    ensures found { IfOk result (λ names. tokens.old ≡ separated (codes ",") (λ name. name ∷ []) (map (λ name. name.now) names.items) ++ tokens.new) }
+    ensures found { IfOk result (λ names. tokens.old ≡ names_tokens (seen names.items) ++ tokens.new) }
     ensures some { IfOk result (λ names. 0 < length names.items) }
     ensures end { OnOk result (BeginsOtherwise (codes ",") tokens.new) }
-    ensures refused { result ≡ Err PlainFault.NotPlain → (all : List (List ℕ)) (rest : List (List ℕ)) → 0 < length all → AllByRecursion (λ name. IsTrue (is_upper_name name)) all →
-        BeginsOtherwise (codes ",") rest → tokens.old ≡ separated (codes ",") (λ name. name ∷ []) all ++ rest → ⊥ }
+    ensures refused { result ≡ Err PlainFault.NotPlain → NoNames tokens.old }
 {
     let mut names = Vec::new(alloc);
     names.push(read_upper(tokens)?)?;
@@ -140,11 +137,9 @@ fn read_names<'t>(alloc: Global, tokens: &mut Cursor<'t>) -> Result<Vec<&'t [u8]
 
 /// Names between brackets, or none.
 fn read_bracket<'t>(alloc: Global, tokens: &mut Cursor<'t>) -> Result<Vec<&'t [u8]>, PlainFault>
-    ensures found { IfOk result (λ names. tokens.old ≡ codes "(" ∷ separated (codes ",") (λ name. name ∷ []) (map (λ name. name.now) names.items) ++ codes ")" ∷ tokens.new) }
-    ensures only { OnOk result ((all : List (List ℕ)) (rest : List (List ℕ)) → AllByRecursion (λ name. IsTrue (is_upper_name name)) all →
-        tokens.old ≡ codes "(" ∷ separated (codes ",") (λ name. name ∷ []) all ++ codes ")" ∷ rest → tokens.new ≡ rest) }
-    ensures refused { result ≡ Err PlainFault.NotPlain → (all : List (List ℕ)) (rest : List (List ℕ)) → AllByRecursion (λ name. IsTrue (is_upper_name name)) all →
-        tokens.old ≡ codes "(" ∷ separated (codes ",") (λ name. name ∷ []) all ++ codes ")" ∷ rest → ⊥ }
+    ensures found { IfOk result (λ names. tokens.old ≡ bracket_tokens (seen names.items) tokens.new) }
+    ensures only { OnOk result (OnlyBracket tokens.old tokens.new) }
+    ensures refused { result ≡ Err PlainFault.NotPlain → NoBracket tokens.old }
 {
     tokens.expect(b"(")?;
     if tokens.skip(b")") {
@@ -157,8 +152,8 @@ fn read_bracket<'t>(alloc: Global, tokens: &mut Cursor<'t>) -> Result<Vec<&'t [u
 
 /// The processes that run, to the end of the script.
 fn read_roots<'t>(alloc: Global, tokens: &mut Cursor<'t>) -> Result<Vec<&'t [u8]>, PlainFault>
-    ensures found { IfOk result (λ roots. tokens.old ≡ roots_tokens (map (λ root. root.now) roots.items)) }
-    ensures refused { result ≡ Err PlainFault.NotPlain → (all : List (List ℕ)) → AllByRecursion (λ name. IsTrue (is_upper_name name)) all → tokens.old ≡ roots_tokens all → ⊥ }
+    ensures found { IfOk result (λ roots. tokens.old ≡ roots_tokens (seen roots.items)) }
+    ensures refused { result ≡ Err PlainFault.NotPlain → NoRoots tokens.old }
 {
     tokens.expect(b"toolbus")?;
     let roots = read_bracket(alloc, tokens)?;
@@ -171,11 +166,9 @@ fn read_roots<'t>(alloc: Global, tokens: &mut Cursor<'t>) -> Result<Vec<&'t [u8]
 
 /// The script that the tokens spell.
 pub fn read_script<'t>(alloc: Global, tokens: &'t [&'t [u8]]) -> Result<Script<'t>, PlainFault>
-    ensures found { IfOk result (λ script. map (λ token. token.now) tokens.now ≡ spelling (script_of script)) }
-    ensures form { IfOk result (λ script. AllByRecursion IsDefinition (script_of script).definitions) }
-    ensures refused { result ≡ Err PlainFault.NotPlain → (script : PlainScript) →
-        AllByRecursion IsDefinition script.definitions → AllByRecursion (λ root. IsTrue (is_upper_name root)) script.roots →
-        map (λ token. token.now) tokens.now ≡ spelling script → ⊥ }
+    ensures found { IfOk result (λ script. seen tokens.now ≡ spelling (script_of script)) }
+    ensures form { IfOk result (λ script. AreDefinitions (script_of script).definitions) }
+    ensures refused { result ≡ Err PlainFault.NotPlain → NoScript (seen tokens.now) }
 {
     let mut tokens = Cursor::new(tokens);
     let definitions = read_definitions(alloc, &mut tokens)?;

@@ -1,10 +1,11 @@
-ghost use Rattle.std.specs.Prelude.{◌≡◌, ◌≤◌, ℕ, List, length, map, IfSome, Some, None, IsTrue, IfOk, MatchOption};
+ghost use Rattle.std.specs.Prelude.{◌≡◌, ◌≤◌, length, IfSome, Some, None, IsTrue, IfOk, MatchOption};
 ghost use Rattle.std.specs.List.{prefix_len, list_all};
 ghost use Rattle.tb_terms.specs.Names.{is_name_byte};
 ghost use Rattle.tb_top.specs.PlainTokens.{is_blank, is_sign, is_letter, Begins, Lexes};
-ghost use Rattle.tb_top.specs.PlainReading.{token_len};
+ghost use Rattle.tb_top.specs.PlainReading.{token_len, seen, NoTokens, NoFewTokens};
 
 use crate::plain::fault::PlainFault;
+use crate::plain::names::is_name_byte;
 use std::alloc::Global;
 
 /// The greatest number of tokens of a script.
@@ -28,12 +29,6 @@ fn is_letter(byte: u8) -> bool
     matches!(byte, b'a'..=b'z' | b'A'..=b'Z')
 }
 
-fn is_word_byte(byte: u8) -> bool
-    ensures { result ≡ is_name_byte byte }
-{
-    is_letter(byte) || matches!(byte, b'0'..=b'9' | b'-' | b'_')
-}
-
 /// How many blanks the text begins with.
 fn blank_len(text: &[u8]) -> usize
     ensures value { result ≡ prefix_len is_blank text.now }
@@ -53,7 +48,7 @@ fn word_len(text: &[u8]) -> usize
     ensures within { result ≤ length text.now }
 {
     for (at, byte) in text.iter().enumerate() {
-        if !is_word_byte(*byte) {
+        if !is_name_byte(*byte) {
             return at;
         }
     }
@@ -77,8 +72,10 @@ fn token_len(text: &[u8]) -> Option<usize>
 
 /// The first token of the text, and what follows it; none where only blanks are left.
 fn next_token(text: &[u8]) -> Result<Option<(&[u8], &[u8])>, PlainFault>
-    ensures found { IfOk result (λ next. MatchOption next (IsTrue (list_all is_blank text.now)) (λ found. Begins text.now found.0.now found.1.now)) }
-    ensures refused { result ≡ Err PlainFault.NotPlain → (tokens : List (List ℕ)) → Lexes text.now tokens → ⊥ }
+    ensures found { IfOk result (λ next. MatchOption next
+        (IsTrue (list_all is_blank text.now))
+        (λ found. Begins text.now found.0.now found.1.now)) }
+    ensures refused { result ≡ Err PlainFault.NotPlain → NoTokens text.now }
 {
     let (_, text) = text.split_at(blank_len(text));
     if text.is_empty() {
@@ -90,9 +87,9 @@ fn next_token(text: &[u8]) -> Result<Option<(&[u8], &[u8])>, PlainFault>
 
 /// The tokens of the text, at most as many as a script may have.
 pub fn tokens_of<'a>(alloc: Global, text: &'a [u8]) -> Result<Vec<&'a [u8]>, PlainFault>
-    ensures found { IfOk result (λ tokens. Lexes text.now (map (λ token. token.now) tokens.items)) }
+    ensures found { IfOk result (λ tokens. Lexes text.now (seen tokens.items)) }
     ensures few { IfOk result (λ tokens. length tokens.items ≤ 200000) }
-    ensures refused { result ≡ Err PlainFault.NotPlain → (tokens : List (List ℕ)) → Lexes text.now tokens → length tokens ≤ 200000 → ⊥ }
+    ensures refused { result ≡ Err PlainFault.NotPlain → NoFewTokens text.now }
 {
     let mut tokens = Vec::new(alloc);
     let mut rest = text;

@@ -3,7 +3,8 @@ use Rattle.std.specs.List.{All, AllZip}
 use Rattle.std.specs.Option.{IsSome}
 use Rattle.std.proofs.lemmas.List.{length-map}
 use Rattle.tb_top.specs.PlainScript.{HasMessage, body_of}
-use Rattle.tb_top.specs.PlainReading.{script_of, definition_of, number_at, AreOnce}
+use Rattle.tb_top.specs.PlainScript.{AreOnce}
+use Rattle.tb_top.specs.PlainReading.{script_of, definition_of, number_at}
 use Rattle.tb_top.proofs.Faults.{handed_on}
 use Rattle.tb_top.proofs.Programs.{known_names, names_read, once_from_numbers, places_from_numbers, defined_from_numbers, known_from_defined, program_in_range}
 use Rattle.tb_top.proofs.plain.make_program.Goals as goal
