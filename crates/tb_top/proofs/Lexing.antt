@@ -39,10 +39,11 @@ one_front p (c ∷ a) [] x y pa pb sx sy e =
     let s : stops p (c ∷ (a ++ x)) ≡ true = subst (λ t. stops p t ≡ true) (sym e) sy in
     apart (p c) s (and_parts _ _ pa).0
 one_front p (c ∷ a) (d ∷ b) x y pa pb sx sy e =
+    let heads : c ≡ d = cc in
     let tails : a ++ x ≡ b ++ y = cc in
-    let along : (a ≡ b) × (x ≡ y) = one_front p a b x y (and_parts _ _ pa).1 (and_parts _ _ pb).1 sx sy tails in
-    let fronts : a ≡ b = along.0 in
-    (cc, along.1)
+    let along : (a ≡ b) × (x ≡ y) =
+        one_front p a b x y (and_parts _ _ pa).1 (and_parts _ _ pb).1 sx sy tails in
+    (ap (λ h. h ∷ a) heads ∙ ap (λ t. d ∷ t) along.0, along.1)
 
 -- a token has a first byte, and it is a letter or a sign
 pub token_first : (token : List ℕ) → (is_word token || is_symbol token) ≡ true → (c : ℕ) × (cs : List ℕ) × (token ≡ c ∷ cs) × ((is_letter c || is_sign c) ≡ true)
@@ -134,8 +135,7 @@ same_token (c ∷ cs) rest (d ∷ ds) others t u l m e =
     ⊎_elim
     (λ (v : is_word (d ∷ ds) ≡ true).
     let both : (cs ≡ ds) × (rest ≡ others) = one_front is_name_byte cs ds rest others (and_parts _ _ w).1 (and_parts _ _ v).1 (l w) (m v) tails in
-    let fronts : cs ≡ ds = both.0 in
-    (cc, both.1))
+    (ap (λ h. h ∷ cs) heads ∙ ap (λ t. d ∷ t) both.0, both.1))
     (λ (v : is_symbol (d ∷ ds) ≡ true). absurd (word_no_symbol c cs ds w (subst (λ x. is_symbol (x ∷ ds) ≡ true) (sym heads) v)))
     (or_cases (is_word (d ∷ ds)) (is_symbol (d ∷ ds)) u))
     (λ (w : is_symbol (c ∷ cs) ≡ true).
