@@ -1,0 +1,3 @@
+pub mod PlainTokens
+pub mod PlainScript
+pub mod PlainReading
