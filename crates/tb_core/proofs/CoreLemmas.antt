@@ -32,7 +32,8 @@ logs-on old new log more entries stopped core stands view grown program trace = 
   origin = ap (λ (p : Program). let o : Origin = record { program = p } in o) program ∙ ap (λ (c : CoreState). c.origin) view;
   log = grown ∙ ap (λ (c : CoreState). c.log ++ entries) view;
   stopped = ap (λ (c : CoreState). c.stopped) view;
-  trace = subst (λ (b : Bus). IsTrace b entries) (sym (bus-seen old log stopped core stands view)) trace }
+  trace = subst (λ (b : Bus). IsTrace b entries) (sym (bus-seen old log stopped core stands view)) trace;
+}
 
 -- the program is that of the bus
 pub same-program : (old new : LiveBus) (bus : Bus) → bus_of new ≡ bus → bus.program ≡ old.program → new.program ≡ old.program

@@ -77,10 +77,10 @@ handshakes_among-one bus sender sent terms live lives false received e f =
 handshakes_among-one bus sender sent terms live lives true true e f =
     within (handshakes_with bus sender sent terms) (λ other. not (other.number == sender.number)) (proc_of bus.program.bodies live) (map (proc_of bus.program.bodies) lives) e
     ∙ ap (λ ms. ms ++ handshakes_among bus sender sent terms lives)
-        (handshakes_with-live bus sender sent terms live ∙ handshake-received sender (proc_of bus.program.bodies live) sent (offer_of bus.program.bodies live) terms (act_at bus.program.bodies live) f)
+    (handshakes_with-live bus sender sent terms live ∙ handshake-received sender (proc_of bus.program.bodies live) sent (offer_of bus.program.bodies live) terms (act_at bus.program.bodies live) f)
 handshakes_among-one bus sender sent terms live lives true false e f =
     without_effect (handshakes_with bus sender sent terms) (λ other. not (other.number == sender.number)) (proc_of bus.program.bodies live) (map (proc_of bus.program.bodies) lives)
-        (handshakes_with-live bus sender sent terms live ∙ handshake-refused sender (proc_of bus.program.bodies live) sent (offer_of bus.program.bodies live) terms (act_at bus.program.bodies live) f)
+    (handshakes_with-live bus sender sent terms live ∙ handshake-refused sender (proc_of bus.program.bodies live) sent (offer_of bus.program.bodies live) terms (act_at bus.program.bodies live) f)
 
 -- One process more: it is the first that is handshake_of, or it changes nothing.
 pub handshakes_among-receiver : (bus : Bus) (sender : Proc) (sent : Offer) (terms : List Term) (live : Live) (lives : List Live) →

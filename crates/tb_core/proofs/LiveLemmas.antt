@@ -232,7 +232,6 @@ place-short bodies roots lives at h g within =
 pub in_place-ascend : (bodies : List Body) (lives : List Live) → IsTrue (are_in_place bodies lives) → ascend 0 lives ≡ true
 in_place-ascend bodies lives h = (both-true (list_all (is_placed bodies) lives) (ascend 0 lives) h).1
 
-
 -- the roots as they are opened
 lives-ascend : (below number : ℕ) (roots : List ℕ) → below < number → ascend below (lives_from number roots) ≡ true
 lives-ascend below number [] h = refl

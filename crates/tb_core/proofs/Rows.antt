@@ -56,7 +56,8 @@ shake = Did (record { kind = kind.Msg; from = record { proc = 1; atom = 1 }; to 
 -- one process hands its terms to the other, and no process is left
 pub hello_once : IsSim 1000000 (sim_start (start hello)) (shake ∷ finish ∷ []) Down
 unfolding steps moves moves_of_all moves_of handshakes handshakes_with goes_on
-hello_once =
-    (record { bus = record (start hello) { procs = []; last_starter = 1 }; steps_made = 1; quiet = false },
-     simp (is_same-refl (coded_list term.the_row.coded) hello_terms),
-     (_, refl, refl))
+hello_once = (
+  record { bus = record (start hello) { procs = []; last_starter = 1 }; steps_made = 1; quiet = false },
+  simp (is_same-refl (coded_list term.the_row.coded) hello_terms),
+  (_, refl, refl),
+)

@@ -131,16 +131,21 @@ pub led-did : (limit made : ℕ) (old new : CoreState) (step : Step) (rest : Lis
     LedOn limit old made new (made + 1) × ((bus_now new).no_ticks ≡ (bus_now old).no_ticks)
 unfolding sim_of
 led-did limit made old new step rest running less e l =
-    let bus : bus_now new ≡ step.bus = logs-bus old new (Did step.label ∷ []) l ∙ after-first (bus_now old) step rest e in
-    (record {
-      origin = l.origin;
-      running = l.stopped ∙ running;
-      entries = Did step.label ∷ [];
-      log = l.log;
-      turns = (record { bus = step.bus; steps_made = made + 1; quiet = false }, turn-made limit (sim_of old made) step rest less e,
-        ap (λ (b : Bus). let s : Sim = record { bus = b; steps_made = made + 1; quiet = false } in s) bus);
-      said = ap ends_quiet l.log ∙ ends_quiet-push old.log (Did step.label) },
-     ap (λ (b : Bus). b.no_ticks) bus ∙ step-no_ticks (bus_now old) step rest e)
+    let bus : bus_now new ≡ step.bus = logs-bus old new (Did step.label ∷ []) l ∙ after-first (bus_now old) step rest e in (
+      record {
+        origin = l.origin;
+        running = l.stopped ∙ running;
+        entries = Did step.label ∷ [];
+        log = l.log;
+        turns = (
+          record { bus = step.bus; steps_made = made + 1; quiet = false },
+          turn-made limit (sim_of old made) step rest less e,
+          ap (λ (b : Bus). let s : Sim = record { bus = b; steps_made = made + 1; quiet = false } in s) bus,
+        );
+        said = ap ends_quiet l.log ∙ ends_quiet-push old.log (Did step.label);
+      },
+      ap (λ (b : Bus). b.no_ticks) bus ∙ step-no_ticks (bus_now old) step rest e,
+    )
 
 fed-up-by : (bus : Bus) (down : Bool) → down ≡ false → (let a : Answer = if down then record { reply = Dropped why.Down; bus = bus } else took bus NoTicks in a.bus) ≡ record bus { no_ticks = true }
 fed-up-by bus true e = cc
@@ -155,19 +160,27 @@ led-quiet limit made old mid new running e f l m =
     let same : bus_now mid ≡ bus_now old = logs-bus old mid (Quiet ∷ []) l in
     let fed_bus : bus_now new ≡ (fed (bus_now old) NoTicks).bus = logs-bus mid new (Fed NoTicks (fed (bus_now mid) NoTicks).reply ∷ []) m ∙ ap (λ (b : Bus). (fed b NoTicks).bus) same in
     let input = Fed NoTicks (fed (bus_now old) NoTicks).reply in
-    let quiet_sim : Sim = record { bus = bus_now old; steps_made = made; quiet = true } in
-    (record {
-      origin = m.origin ∙ l.origin;
-      running = m.stopped ∙ l.stopped ∙ running;
-      entries = Quiet ∷ input ∷ [];
-      log = m.log ∙ ap (λ (log : List Entry). log ++ Fed NoTicks (fed (bus_now mid) NoTicks).reply ∷ []) l.log
-        ∙ ap (λ (b : Bus). (old.log ++ Quiet ∷ []) ++ Fed NoTicks (fed b NoTicks).reply ∷ []) same ∙ append_assoc old.log (Quiet ∷ []) (input ∷ []);
-      turns = (quiet_sim, turn-quiet limit (sim_of old made) e f,
-        (record { bus = (fed (bus_now old) NoTicks).bus; steps_made = made; quiet = false }, turn-quiet limit quiet_sim e f,
-          ap (λ (b : Bus). let s : Sim = record { bus = b; steps_made = made; quiet = false } in s) fed_bus));
-      said = ap ends_quiet m.log ∙ ends_quiet-push mid.log (Fed NoTicks (fed (bus_now mid) NoTicks).reply) },
-     no_ticks-quiet (bus_now old) e f,
-     ap (λ (b : Bus). b.no_ticks) (fed_bus ∙ fed-up-by (bus_now old) (bus_now old).down f))
+    let quiet_sim : Sim = record { bus = bus_now old; steps_made = made; quiet = true } in (
+      record {
+        origin = m.origin ∙ l.origin;
+        running = m.stopped ∙ l.stopped ∙ running;
+        entries = Quiet ∷ input ∷ [];
+        log = m.log ∙ ap (λ (log : List Entry). log ++ Fed NoTicks (fed (bus_now mid) NoTicks).reply ∷ []) l.log
+            ∙ ap (λ (b : Bus). (old.log ++ Quiet ∷ []) ++ Fed NoTicks (fed b NoTicks).reply ∷ []) same ∙ append_assoc old.log (Quiet ∷ []) (input ∷ []);
+        turns = (
+          quiet_sim,
+          turn-quiet limit (sim_of old made) e f,
+          (
+            record { bus = (fed (bus_now old) NoTicks).bus; steps_made = made; quiet = false },
+            turn-quiet limit quiet_sim e f,
+            ap (λ (b : Bus). let s : Sim = record { bus = b; steps_made = made; quiet = false } in s) fed_bus,
+          ),
+        );
+        said = ap ends_quiet m.log ∙ ends_quiet-push mid.log (Fed NoTicks (fed (bus_now mid) NoTicks).reply);
+      },
+      no_ticks-quiet (bus_now old) e f,
+      ap (λ (b : Bus). b.no_ticks) (fed_bus ∙ fed-up-by (bus_now old) (bus_now old).down f),
+    )
 
 -- what was logged before memory ran out is a front of the turns
 pub left-same : (limit made : ℕ) (old new : CoreState) → new ≡ old → LeftWithin limit old made new
@@ -175,7 +188,8 @@ left-same limit made old new e = record {
   origin = ap (λ (c : CoreState). c.origin) e;
   entries = [];
   log = ap (λ (c : CoreState). c.log) e ∙ sym (append-nil old.log);
-  front = tt }
+  front = tt;
+}
 
 pub left-quiet : (limit made : ℕ) (old mid new : CoreState) → steps (bus_now old) ≡ [] → (bus_now old).down ≡ false → Logs old mid (Quiet ∷ []) → new ≡ mid → LeftWithin limit old made new
 unfolding sim_of
@@ -183,7 +197,8 @@ left-quiet limit made old mid new e f l same = record {
   origin = ap (λ (c : CoreState). c.origin) same ∙ l.origin;
   entries = Quiet ∷ [];
   log = ap (λ (c : CoreState). c.log) same ∙ l.log;
-  front = (record { bus = bus_now old; steps_made = made; quiet = true }, turn-quiet limit (sim_of old made) e f, tt) }
+  front = (record { bus = bus_now old; steps_made = made; quiet = true }, turn-quiet limit (sim_of old made) e f, tt);
+}
 
 below-by : (made limit : ℕ) (at any : Bool) → (made == limit) ≡ at → made ≤ limit → any ≡ true → (at && any) ≡ false → made < limit
 below-by made limit true true e le f g = cc
@@ -224,7 +239,8 @@ led-start limit core e running = record {
   entries = [];
   log = sym (append-nil core.log);
   turns = refl;
-  said = ap ends_quiet e }
+  said = ap ends_quiet e;
+}
 
 -- one go after others
 pub led-on : (limit : ℕ) (a b c : CoreState) (m n k : ℕ) → LedOn limit a m b n → LedOn limit b n c k → LedOn limit a m c k
@@ -234,18 +250,19 @@ led-on limit a b c m n k p q = record {
   entries = p.entries ++ q.entries;
   log = q.log ∙ ap (λ (log : List Entry). log ++ q.entries) p.log ∙ append_assoc a.log p.entries q.entries;
   turns = leads-append limit (sim_of a m) (sim_of b n) (sim_of c k) p.entries q.entries p.turns q.turns;
-  said = q.said }
+  said = q.said;
+}
 
 -- at the end, the log is the simulated one
 pub led-ends : (limit : ℕ) (a b : CoreState) (n : ℕ) (last : SimEnd) → a.log ≡ [] → LedOn limit a 0 b n → turn limit (sim_of b n) ≡ Ends last → IsSim limit (sim_start (start a.origin)) b.log last
 led-ends limit a b n last e p f =
     let whole : b.log ≡ p.entries = p.log ∙ ap (λ (log : List Entry). log ++ p.entries) e in
     subst (λ (log : List Entry). IsSim limit (sim_start (start a.origin)) log last) (sym whole)
-        (subst (λ (s : Sim). IsSim limit s p.entries last) (start-sim a e) (leads-ends limit (sim_of a 0) (sim_of b n) p.entries last p.turns f))
+    (subst (λ (s : Sim). IsSim limit s p.entries last) (start-sim a e) (leads-ends limit (sim_of a 0) (sim_of b n) p.entries last p.turns f))
 
 -- where memory ran out, it is a front of it
 pub led-left : (limit : ℕ) (a b c : CoreState) (n : ℕ) → a.log ≡ [] → LedOn limit a 0 b n → LeftWithin limit b n c → IsSimFront limit (sim_start (start a.origin)) c.log
 led-left limit a b c n e p q =
     let whole : c.log ≡ p.entries ++ q.entries = q.log ∙ ap (λ (log : List Entry). log ++ q.entries) (p.log ∙ ap (λ (log : List Entry). log ++ p.entries) e) in
     subst (λ (log : List Entry). IsSimFront limit (sim_start (start a.origin)) log) (sym whole)
-        (subst (λ (s : Sim). IsSimFront limit s (p.entries ++ q.entries)) (start-sim a e) (leads-front limit (sim_of a 0) (sim_of b n) p.entries q.entries p.turns q.front))
+    (subst (λ (s : Sim). IsSimFront limit s (p.entries ++ q.entries)) (start-sim a e) (leads-front limit (sim_of a 0) (sim_of b n) p.entries q.entries p.turns q.front))

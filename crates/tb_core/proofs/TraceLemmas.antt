@@ -65,9 +65,11 @@ pub after-first : (bus : Bus) (step : Step) (rest : List Step) → steps bus ≡
 after-first bus step rest e = ap (after_step bus step.label) e ∙ first-chosen bus step rest (is_same label_row.the_row.coded step.label step.label) (is_same-refl label_row.the_row.coded step.label)
 
 pub legal-first : (bus : Bus) (step : Step) (rest : List Step) → steps bus ≡ step ∷ rest → IsTrace bus (Did step.label ∷ [])
-legal-first bus step rest e =
-    (contains-by (steps bus) step (record { label = step.label; bus = after_step bus step.label (steps bus) }) rest e
-        (ap (λ (b : Bus). let s : Step = record { label = step.label; bus = b } in s) (sym (after-first bus step rest e))), tt)
+legal-first bus step rest e = (
+  contains-by (steps bus) step (record { label = step.label; bus = after_step bus step.label (steps bus) }) rest e
+      (ap (λ (b : Bus). let s : Step = record { label = step.label; bus = b } in s) (sym (after-first bus step rest e))),
+  tt,
+)
 
 -- that nothing was possible
 pub legal-quiet : (bus : Bus) → steps bus ≡ [] → bus.down ≡ false → IsTrace bus (Quiet ∷ [])
@@ -83,10 +85,10 @@ stands-on old new log entries stands program leads trace =
     let opening : Program → Bus = λ p. start (record { program = p }) in
     record {
       bus_is = leads ∙ ap (λ b. replay b entries) stands.bus_is ∙ sym (replay-append (opening old.program) log entries)
-        ∙ ap (λ p. replay (opening p) (log ++ entries)) (sym program);
+          ∙ ap (λ p. replay (opening p) (log ++ entries)) (sym program);
       trace = subst (λ (p : Program). IsTrace (opening p) (log ++ entries)) (sym program)
-        (trace-append (opening old.program) log entries stands.trace (subst (λ (b : Bus). IsTrace b entries) stands.bus_is trace)) }
-
+          (trace-append (opening old.program) log entries stands.trace (subst (λ (b : Bus). IsTrace b entries) stands.bus_is trace));
+    }
 
 -- no move changes the program
 pub made-program : (bus : Bus) (move : Move) → (made bus move).program ≡ bus.program

@@ -87,13 +87,13 @@ unfolding moves_of_all moves_among
 turn-split bus lives i e h =
     let proc = proc_of bus.program.bodies in
     let behind : filter (λ p. nat_lt bus.last_starter p.number) (map proc lives) ≡ map proc (drop i lives) =
-        filter-map (λ p. nat_lt bus.last_starter p.number) proc lives
-        ∙ ap (map proc) (filter-back (λ live. nat_lt bus.last_starter live.number) lives i
-            (λ k d l m. le-ltb bus.last_starter (get_or lives k d).number (leb-true (get_or lives k d).number bus.last_starter (h.0 k d l m)))
-            (λ k d l m. lt-ltb bus.last_starter (get_or lives k d).number (leb-false (get_or lives k d).number bus.last_starter (h.1 k d l m)))) in
+    filter-map (λ p. nat_lt bus.last_starter p.number) proc lives
+    ∙ ap (map proc) (filter-back (λ live. nat_lt bus.last_starter live.number) lives i
+    (λ k d l m. le-ltb bus.last_starter (get_or lives k d).number (leb-true (get_or lives k d).number bus.last_starter (h.0 k d l m)))
+    (λ k d l m. lt-ltb bus.last_starter (get_or lives k d).number (leb-false (get_or lives k d).number bus.last_starter (h.1 k d l m)))) in
     let upto : filter (λ p. nat_le p.number bus.last_starter) (map proc lives) ≡ map proc (take i lives) =
-        filter-map (λ p. nat_le p.number bus.last_starter) proc lives
-        ∙ ap (map proc) (filter-front (λ live. nat_le live.number bus.last_starter) lives i h.0 h.1) in
+    filter-map (λ p. nat_le p.number bus.last_starter) proc lives
+    ∙ ap (map proc) (filter-front (λ live. nat_le live.number bus.last_starter) lives i h.0 h.1) in
     let turn : in_turn bus ≡ map proc (drop i lives) ++ map proc (take i lives) = rw e (rw behind (rw upto refl)) in
     ap (flat_map (moves_of bus)) turn ∙ flat_map-append (moves_of bus) (map proc (drop i lives)) (map proc (take i lives))
 

@@ -51,4 +51,5 @@ start origin = record {
   procs = opened origin.program.bodies 1 origin.program.roots;
   last_starter = 0;
   no_ticks = false;
-  down = false }
+  down = false;
+}

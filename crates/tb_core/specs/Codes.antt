@@ -35,14 +35,14 @@ process_code = record { code = code_of; inj = code_of-injective }
 abbrev pub proc_code : Coded Proc
 proc_code =
     code_by (ℕ × (ℕ × Process)) (coded× coded_ℕ (coded× coded_ℕ process_code)) (λ p. (p.number, (p.body, p.term)))
-        (λ t. record { number = t.0; body = t.1.0; term = t.1.1 }) (λ _. refl)
+    (λ t. record { number = t.0; body = t.1.0; term = t.1.1 }) (λ _. refl)
 
 abbrev pub bus_code : Coded Bus
 bus_code =
     code_by (Program × (List Proc × (ℕ × (Bool × Bool))))
-        (coded× program.the_row.coded (coded× (coded_list proc_code) (coded× coded_ℕ (coded× coded_bool coded_bool))))
-        (λ b. (b.program, (b.procs, (b.last_starter, (b.no_ticks, b.down)))))
-        (λ t. record { program = t.0; procs = t.1.0; last_starter = t.1.1.0; no_ticks = t.1.1.1.0; down = t.1.1.1.1 }) (λ _. refl)
+    (coded× program.the_row.coded (coded× (coded_list proc_code) (coded× coded_ℕ (coded× coded_bool coded_bool))))
+    (λ b. (b.program, (b.procs, (b.last_starter, (b.no_ticks, b.down)))))
+    (λ t. record { program = t.0; procs = t.1.0; last_starter = t.1.1.0; no_ticks = t.1.1.1.0; down = t.1.1.1.1 }) (λ _. refl)
 
 abbrev pub origin_code : Coded Origin
 origin_code = code_by Program program.the_row.coded (λ o. o.program) (λ p. record { program = p }) (λ _. refl)

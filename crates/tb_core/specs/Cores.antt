@@ -21,7 +21,7 @@ pub record CoreState : Type 0 where
 abbrev pub core_code : Coded CoreState
 core_code =
     code_by (Origin × (List Entry × Bool)) (coded× origin_code (coded× (coded_list entry.the_row.coded) coded_bool))
-        (λ c. (c.origin, (c.log, c.stopped))) (λ t. record { origin = t.0; log = t.1.0; stopped = t.1.1 }) (λ _. refl)
+    (λ c. (c.origin, (c.log, c.stopped))) (λ t. record { origin = t.0; log = t.1.0; stopped = t.1.1 }) (λ _. refl)
 
 -- its bus is the one to which its log leads
 unfoldable pub bus_now : CoreState → Bus

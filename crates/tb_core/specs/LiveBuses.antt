@@ -22,7 +22,8 @@ bus_of bus = record {
   procs = map (proc_of bus.program.bodies) bus.lives;
   last_starter = bus.last_starter;
   no_ticks = bus.no_ticks;
-  down = bus.down }
+  down = bus.down;
+}
 
 -- what stands at a place where nobody does: no search finds it
 abbrev pub nobody : Live

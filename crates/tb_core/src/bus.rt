@@ -169,7 +169,11 @@ impl LiveBus {
         ensures found { option_map (move_of self.now.program.bodies self.now.lives) result ≡ (if self.now.no_ticks then Some Halt else None) }
         ensures in_range { IfSome result (IsFoundIn self.now.lives) }
     {
-        if self.no_ticks { Some(Found::Halt) } else { None }
+        if self.no_ticks {
+            Some(Found::Halt)
+        } else {
+            None
+        }
     }
 
     /// How many atoms the body of a process has.
@@ -187,7 +191,8 @@ impl LiveBus {
         requires { at < length self.old.lives }
         ensures procs { let live = live_at self.old.lives at in
             bus_of self.new ≡ record (bus_of self.old) {
-                procs = goes_on live.number (offer_of self.old.program.bodies live).residual (bus_of self.old).procs } }
+              procs = goes_on live.number (offer_of self.old.program.bodies live).residual (bus_of self.old).procs;
+            } }
         ensures before { (other : ℕ) → other < at → live_at self.new.lives other ≡ live_at self.old.lives other }
         ensures long { length self.old.lives ≤ length self.new.lives + 1 }
     {
@@ -290,8 +295,9 @@ impl LiveBus {
         requires apart { (live_at self.old.lives one).number ≢ (live_at self.old.lives other).number }
         ensures { let first = live_at self.old.lives one in let second = live_at self.old.lives other in
             bus_of self.new ≡ record (bus_of self.old) {
-                procs = goes_on second.number (offer_of self.old.program.bodies second).residual
-                    (goes_on first.number (offer_of self.old.program.bodies first).residual (bus_of self.old).procs) } }
+              procs = goes_on second.number (offer_of self.old.program.bodies second).residual
+                  (goes_on first.number (offer_of self.old.program.bodies first).residual (bus_of self.old).procs);
+            } }
     {
         // The one behind goes first, so that the other stays at its place.
         if one < other {
@@ -306,8 +312,9 @@ impl LiveBus {
         requires within { high < length self.old.lives }
         ensures { let first = live_at self.old.lives low in let second = live_at self.old.lives high in
             bus_of self.new ≡ record (bus_of self.old) {
-                procs = goes_on first.number (offer_of self.old.program.bodies first).residual
-                    (goes_on second.number (offer_of self.old.program.bodies second).residual (bus_of self.old).procs) } }
+              procs = goes_on first.number (offer_of self.old.program.bodies first).residual
+                  (goes_on second.number (offer_of self.old.program.bodies second).residual (bus_of self.old).procs);
+            } }
     {
         self.go_on(high);
         self.go_on(low);

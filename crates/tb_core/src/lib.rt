@@ -12,8 +12,8 @@ mod simulation;
 mod text;
 
 pub use answers::{CoreFault, Stepped};
-pub use machine::Core;
 pub use log::{Entry, Input, Label, LabelKind, Place, Reply, Why};
+pub use machine::Core;
 pub use program::{Act, Body, Program};
 pub use simulation::{SimEnd, simulate};
 pub use text::write_entry;

@@ -138,7 +138,12 @@ fn hand(bus: &mut LiveBus, log: &mut Items<Entry>, input: Input) -> Result<Reply
 }
 
 /// Logs a move that was found, and makes it.
-fn make(alloc: Global, bus: &mut LiveBus, log: &mut Items<Entry>, found: Found) -> Result<(), NoMemory>
+fn make(
+    alloc: Global,
+    bus: &mut LiveBus,
+    log: &mut Items<Entry>,
+    found: Found,
+) -> Result<(), NoMemory>
     requires { IsFoundIn bus.old.lives found }
     ensures log { let move = move_of bus.old.program.bodies bus.old.lives found in
         OnOk result (log.new ≡ log.old ++ Entry.Did (label_of move) ∷ []) }

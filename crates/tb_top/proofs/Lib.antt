@@ -5,3 +5,5 @@ pub mod Spelling
 pub mod Elements
 pub mod Numbering
 pub mod Programs
+pub mod LogWriting
+pub mod Outcomes

@@ -94,7 +94,7 @@ program_in_range script bodies roots made zip many some low few =
     let rooted : length script.roots ≡ length roots = length_zip (λ name number. slice_get (names script) number ≡ Some name) script.roots roots zip in
     and_from _ _
     (and_from _ _
-    (and_from _ _ (lt-ltb (length bodies) 4294967296 (omega arith)) (subst (λ bs. list_all is_body_in_range bs ≡ true) (sym made) (bodies_in_range script.definitions some low)))
+    (subst (λ bs. list_all is_body_in_range bs ≡ true) (sym made) (bodies_in_range script.definitions some low))
     (le-leb (length roots) 10000 (omega arith)))
     (roots_below (names script) (length bodies) script.roots roots (count ∙ sym named) zip)
 

@@ -9,9 +9,10 @@ use Rattle.tb_core.proofs.simulation.go.Goals as goal
 
 pub returns-then-branch-clause-ok : goal.returns-then-branch-clause-ok
 unfolding sim_of
-returns-then-branch-clause-ok c =
-    (c.in_ok-is_at_limit.ensures.unchanged,
-     turn-limit c.args.steps (sim_of c.args.core.now c.args.made) (sym c.in_ok-is_at_limit.ensures.value ∙ c.if-branch.true))
+returns-then-branch-clause-ok c = (
+  c.in_ok-is_at_limit.ensures.unchanged,
+  turn-limit c.args.steps (sim_of c.args.core.now c.args.made) (sym c.in_ok-is_at_limit.ensures.value ∙ c.if-branch.true),
+)
 
 pub returns-in-Ok-Did-clause-ok : goal.returns-in-Ok-Did-clause-ok
 returns-in-Ok-Did-clause-ok c =

@@ -12,7 +12,8 @@ loop-made-preserved-in-Ok-Step c =
     let gone : Goes c.args.steps c.loop-made.core made c.go.new.core turned.Step = rw c.in-Ok-Step.field-0-is at c.in-Ok-Step.ensures.ok in
     record {
       led = led-on c.args.steps c.args.core.now c.loop-made.core c.go.new.core 0 made (made + 1) c.loop-made.invariant.led gone.0;
-      within = omega (arith, gone.1) }
+      within = omega (arith, gone.1);
+    }
 
 pub loop-made-preserved : goal.loop-made-preserved
 loop-made-preserved c =
@@ -20,7 +21,8 @@ loop-made-preserved c =
     let gone : Goes c.args.steps c.loop-made.core made c.go.new.core turned.Quiet = rw c.in-Ok-Quiet.field-0-is at c.in-Ok-Quiet.ensures.ok in
     record {
       led = led-on c.args.steps c.args.core.now c.loop-made.core c.go.new.core 0 made made c.loop-made.invariant.led gone.0;
-      within = c.loop-made.invariant.within }
+      within = c.loop-made.invariant.within;
+    }
 
 pub returns-in-Ok-End-clause-ok : goal.returns-in-Ok-End-clause-ok
 returns-in-Ok-End-clause-ok c =

@@ -34,9 +34,9 @@ returns-then-place-act_count-clause-procs c =
     let placed : live.place + 1 < length (acts_of bus.program.bodies live.body) = rw c.as_slice.ensures at (rw c.act_count.ensures at c.if-place-act_count.true) in
     let after : c.set.new.self ≡ slice_set bus.lives c.args.at moved = rw c.as_slice.ensures at c.set.ensures in
     ap (λ (procs : List Proc). record (bus_of bus) { procs = procs })
-        (ap (map (proc_of bus.program.bodies)) after
-        ∙ sym (goes_on-set bus.program.bodies 0 bus.lives c.args.at moved (offer_of bus.program.bodies live).residual
-            (in_place-ascend bus.program.bodies bus.lives bus.in_place) c.requires refl refl (residual-some bus.program.bodies live placed)))
+    (ap (map (proc_of bus.program.bodies)) after
+    ∙ sym (goes_on-set bus.program.bodies 0 bus.lives c.args.at moved (offer_of bus.program.bodies live).residual
+    (in_place-ascend bus.program.bodies bus.lives bus.in_place) c.requires refl refl (residual-some bus.program.bodies live placed)))
 
 pub returns-else-place-act_count-clause-procs : goal.returns-else-place-act_count-clause-procs
 returns-else-place-act_count-clause-procs c =
@@ -44,6 +44,6 @@ returns-else-place-act_count-clause-procs c =
     let live = live_at bus.lives c.args.at in
     let done : length (acts_of bus.program.bodies live.body) ≤ live.place + 1 = rw c.as_slice.ensures at (rw c.act_count.ensures at c.if-place-act_count.false) in
     ap (λ (procs : List Proc). record (bus_of bus) { procs = procs })
-        (ap (map (proc_of bus.program.bodies)) c.remove.ensures.rest
-        ∙ sym (rw (residual-none bus.program.bodies live done) (goes_on-remove bus.program.bodies 0 bus.lives c.args.at
-            (in_place-ascend bus.program.bodies bus.lives bus.in_place) c.requires)))
+    (ap (map (proc_of bus.program.bodies)) c.remove.ensures.rest
+    ∙ sym (rw (residual-none bus.program.bodies live done) (goes_on-remove bus.program.bodies 0 bus.lives c.args.at
+    (in_place-ascend bus.program.bodies bus.lives bus.in_place) c.requires)))

@@ -12,4 +12,4 @@ returns-then-one-other c =
     let other = live_at bus.lives c.args.other in
     c.go_on_in_order.ensures
     ∙ ap (λ (procs : List Proc). record (bus_of bus) { procs = procs })
-        (goes_on-swap one.number other.number (offer_of bus.program.bodies one).residual (offer_of bus.program.bodies other).residual (bus_of bus).procs c.requires.apart)
+    (goes_on-swap one.number other.number (offer_of bus.program.bodies one).residual (offer_of bus.program.bodies other).residual (bus_of bus).procs c.requires.apart)

@@ -14,4 +14,4 @@ returns c =
     let program = c.args.program in
     let lives : c.in_ok-lives.lives ≡ lives_from 1 program.roots = rw c.as_slice.ensures at c.in_ok-lives.ensures in
     opened-bus program (map (proc_of program.bodies) c.in_ok-lives.lives)
-        (ap (map (proc_of program.bodies)) lives ∙ opened-lives program.bodies program.roots program.in_range)
+    (ap (map (proc_of program.bodies)) lives ∙ opened-lives program.bodies program.roots program.in_range)

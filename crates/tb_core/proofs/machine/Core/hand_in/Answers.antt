@@ -13,9 +13,9 @@ invariant_of-self-2 c =
     let bus = bus_of old in
     let log = c.self.inside.log in
     rw c.in_ok-reply.ensures.log
-        (stands-on old c.hand.new.bus log (Fed c.args.input c.in_ok-reply.reply ∷ []) c.self.invariant
-            (same-program old c.hand.new.bus (fed bus c.args.input).bus c.in_ok-reply.ensures.bus (fed-program bus c.args.input))
-            c.in_ok-reply.ensures.bus (legal-fed bus c.args.input c.in_ok-reply.reply c.in_ok-reply.ensures.reply))
+    (stands-on old c.hand.new.bus log (Fed c.args.input c.in_ok-reply.reply ∷ []) c.self.invariant
+    (same-program old c.hand.new.bus (fed bus c.args.input).bus c.in_ok-reply.ensures.bus (fed-program bus c.args.input))
+    c.in_ok-reply.ensures.bus (legal-fed bus c.args.input c.in_ok-reply.reply c.in_ok-reply.ensures.reply))
 
 pub returns-clause-reply : goal.returns-clause-reply
 returns-clause-reply c =
@@ -28,6 +28,6 @@ returns-clause-logs c =
     let core = c.self.inside in
     let bus = bus_of core.bus in
     logs-on core.bus c.hand.new.bus core.log c.hand.new.log (Fed c.args.input c.in_ok-reply.reply ∷ []) core.stopped c.args.self.now c.self.invariant c.self.view_is
-        c.in_ok-reply.ensures.log
-        (same-program core.bus c.hand.new.bus (fed bus c.args.input).bus c.in_ok-reply.ensures.bus (fed-program bus c.args.input))
-        (legal-fed bus c.args.input c.in_ok-reply.reply c.in_ok-reply.ensures.reply)
+    c.in_ok-reply.ensures.log
+    (same-program core.bus c.hand.new.bus (fed bus c.args.input).bus c.in_ok-reply.ensures.bus (fed-program bus c.args.input))
+    (legal-fed bus c.args.input c.in_ok-reply.reply c.in_ok-reply.ensures.reply)
