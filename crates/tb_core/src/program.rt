@@ -3,12 +3,6 @@ ghost use Rattle.tb_core.specs.InRange.{is_in_range};
 
 use tb_terms::{Items, Terms};
 
-/// The greatest number of roots of a program.
-pub const MOST_ROOTS: usize = 10_000;
-
-/// The greatest number of atoms of a body.
-pub const MOST_ATOMS: usize = 400;
-
 /// What an atom does when it happens.
 #[derive(Debug, Drop)]
 pub enum Act {
@@ -30,7 +24,8 @@ pub struct Body {
 }
 
 /// A script that was read: the bodies of its processes in order of definition, and which of them,
-/// from 0, each root is.
+/// from 0, each root is. It has at most 10,000 roots, and a body has from 1 to 400 atoms. Which terms
+/// a message has is left to who makes it.
 #[derive(Debug, Drop)]
 pub struct Program {
     pub bodies: Items<Body>,

@@ -5,9 +5,11 @@ mod memory;
 mod name;
 mod term;
 mod text;
+mod write;
 
 pub use memory::NoMemory;
 pub use name::Name;
 pub use sqlite_items::{Boxed, Items};
-pub use term::{Term, Terms};
+pub use term::{Term, Terms, copy_terms, same, same_terms};
 pub use text::Text;
+pub use write::{write_term, write_terms};

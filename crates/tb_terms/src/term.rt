@@ -1,14 +1,126 @@
-ghost use Rattle.std.specs.Prelude.{◌≡◌, ◌++◌, ◌↔◌, IsTrue, IfOk, OnOk, OnErr};
+ghost use Rattle.std.specs.Prelude.{◌≡◌, ◌↔◌, IsTrue, IfOk};
 
-
-use crate::{Items, Name, NoMemory};
+use crate::{Items, Name, NoMemory, Text};
 use std::alloc::Global;
 
 /// What messages and tool lines are made of.
 #[derive(Debug, Drop)]
 pub enum Term {
+    Int(i64),
+    Str(Text),
     /// A name with its arguments, or with none.
     Appl(Name, Terms),
+    List(Terms),
 }
 
 pub type Terms = Items<Term>;
+
+impl Term {
+    #[cycle(copy)]
+    pub fn copy(&self, alloc: Global) -> Result<Term, NoMemory>
+        ensures { IfOk result (λ copy. copy ≡ self.now) }
+    {
+        match self {
+            Term::Int(number) => Ok(Term::Int(*number)),
+            Term::Str(text) => Ok(Term::Str(text.copy(alloc)?)),
+            Term::Appl(name, parts) => {
+                let name = name.copy(alloc)?;
+                Ok(Term::Appl(name, copy_all(alloc, parts.as_slice())?))
+            }
+            Term::List(parts) => Ok(Term::List(copy_all(alloc, parts.as_slice())?)),
+        }
+    }
+}
+
+/// A copy of these terms, in their order.
+pub fn copy_terms(alloc: Global, terms: &Terms) -> Result<Terms, NoMemory>
+    ensures { IfOk result (λ copies. copies ≡ terms.now) }
+{
+    copy_all(alloc, terms.as_slice())
+}
+
+#[cycle(copy)]
+fn copy_all(alloc: Global, terms: &[Term]) -> Result<Terms, NoMemory>
+    ensures { IfOk result (λ copies. copies ≡ terms.now) }
+{
+    let mut copies = Items::new(alloc);
+    for term in terms {
+        copies.push(term.copy(alloc)?)?;
+    }
+    Ok(copies)
+}
+
+/// Whether two terms are the same term.
+#[cycle(same)]
+pub fn same(a: &Term, b: &Term) -> bool
+    ensures { IsTrue result ↔ (a.now ≡ b.now) }
+{
+    match a {
+        Term::Int(number) => is_int(*number, b),
+        Term::Str(text) => is_str(text, b),
+        Term::Appl(name, parts) => is_appl(name, parts.as_slice(), b),
+        Term::List(parts) => is_list(parts.as_slice(), b),
+    }
+}
+
+/// Whether two lists of terms are the same list.
+pub fn same_terms(a: &Terms, b: &Terms) -> bool
+    ensures { IsTrue result ↔ (a.now ≡ b.now) }
+{
+    same_all(a.as_slice(), b.as_slice())
+}
+
+fn is_int(number: i64, term: &Term) -> bool
+    ensures { IsTrue result ↔ (Term.Int number ≡ term.now) }
+{
+    match term {
+        Term::Int(other) => *other == number,
+        _ => false,
+    }
+}
+
+fn is_str(text: &Text, term: &Term) -> bool
+    ensures { IsTrue result ↔ (Term.Str text.now ≡ term.now) }
+{
+    match term {
+        Term::Str(other) => text.as_bytes() == other.as_bytes(),
+        _ => false,
+    }
+}
+
+#[cycle(same)]
+fn is_appl(name: &Name, parts: &[Term], term: &Term) -> bool
+    ensures { IsTrue result ↔ (Term.Appl name.now parts.now ≡ term.now) }
+{
+    match term {
+        Term::Appl(other, others) => {
+            name.as_bytes() == other.as_bytes() && same_all(parts, others.as_slice())
+        }
+        _ => false,
+    }
+}
+
+#[cycle(same)]
+fn is_list(parts: &[Term], term: &Term) -> bool
+    ensures { IsTrue result ↔ (Term.List parts.now ≡ term.now) }
+{
+    match term {
+        Term::List(others) => same_all(parts, others.as_slice()),
+        _ => false,
+    }
+}
+
+#[cycle(same)]
+fn same_all(a: &[Term], b: &[Term]) -> bool
+    ensures { IsTrue result ↔ (a.now ≡ b.now) }
+{
+    if a.len() != b.len() {
+        return false;
+    }
+    for (place, term) in a.iter().enumerate() {
+        if !same(term, &b[place]) {
+            return false;
+        }
+    }
+    true
+}
