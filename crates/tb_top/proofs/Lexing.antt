@@ -42,7 +42,7 @@ one_front p (c ∷ a) (d ∷ b) x y pa pb sx sy e =
     let heads : c ≡ d = cc in
     let tails : a ++ x ≡ b ++ y = cc in
     let along : (a ≡ b) × (x ≡ y) =
-        one_front p a b x y (and_parts _ _ pa).1 (and_parts _ _ pb).1 sx sy tails in
+    one_front p a b x y (and_parts _ _ pa).1 (and_parts _ _ pb).1 sx sy tails in
     (ap (λ h. h ∷ a) heads ∙ ap (λ t. d ∷ t) along.0, along.1)
 
 -- a token has a first byte, and it is a letter or a sign

@@ -87,8 +87,8 @@ length_zip R (x ∷ xs) [] all = absurd all
 length_zip R (x ∷ xs) (y ∷ ys) all = ap suc (length_zip R xs ys all.1)
 
 -- the program of a script is in range
-pub program_in_range : (script : Script) (bodies : List Body) (roots : List ℕ) → bodies ≡ map body_of script.definitions → AllZip (λ name number. slice_get (names script) number ≡ Some name) script.roots roots → length script.definitions < 4294967296 → All HasPrims script.definitions → All (λ d. length d.prims ≤ 400) script.definitions → length script.roots ≤ 10000 → is_in_range bodies roots ≡ true
-program_in_range script bodies roots made zip many some low few =
+pub program_in_range : (script : Script) (bodies : List Body) (roots : List ℕ) → bodies ≡ map body_of script.definitions → AllZip (λ name number. slice_get (names script) number ≡ Some name) script.roots roots → All HasPrims script.definitions → All (λ d. length d.prims ≤ 400) script.definitions → length script.roots ≤ 10000 → is_in_range bodies roots ≡ true
+program_in_range script bodies roots made zip some low few =
     let count : length bodies ≡ length script.definitions = ap length made ∙ length-map script.definitions body_of in
     let named : length (names script) ≡ length script.definitions = length-map script.definitions (λ d. d.name) in
     let rooted : length script.roots ≡ length roots = length_zip (λ name number. slice_get (names script) number ≡ Some name) script.roots roots zip in

@@ -39,7 +39,6 @@ invariant_of-result c = record {
       program_in_range (script_of c.args.script.now) _ _
       (c.in_ok-bodies.ensures.found ∙ ap (λ ds. map body_of (map definition_of ds)) c.deref-2.ensures.value)
       (places_from_numbers _ _ known _ _ numbered)
-      c.requires.few
       c.requires.some
       (subst (λ ds. All (λ definition. length definition.prims ≤ 400) (map definition_of ds)) c.deref-2.ensures.value c.in_ok-bodies.ensures.low)
       (omega (arith, ap length c.deref-3.ensures.value, length-map c.args.script.now.roots.items (λ root. root.now), c.in_ok-roots.ensures.few));
