@@ -1,7 +1,7 @@
 -- What the fields of a core say of its bus, and what each call logs.
-use Rattle.std.proofs.Common.{◌≡◌, ℕ, List, [], ◌∷◌, ◌++◌, refl, ap, sym, ◌∙◌, Option, Some, None, Bool, true, false, is_some, option_map, subst, if◌then◌else◌}
+use Rattle.std.proofs.Common.{◌≡◌, List, [], ◌∷◌, ◌++◌, refl, ap, sym, ◌∙◌, Option, Some, None, Bool, true, false, is_some, option_map, subst, if◌then◌else◌}
 use Rattle.tb_core.specs.Buses.{Bus, Origin, start}
-use Rattle.tb_core.specs.Steps.{Move, Step, moves, steps, step_of, label_of, made}
+use Rattle.tb_core.specs.Steps.{Move, moves, steps, step_of, label_of, made}
 use Rattle.tb_core.specs.Traces.{IsTrace, replay}
 use Rattle.tb_core.specs.LiveBuses.{first, bus_of, StandsFor}
 use Rattle.tb_core.specs.Cores.{CoreState, bus_now, has_any, Logs, first_did}
@@ -9,7 +9,7 @@ use Rattle.tb_core.specs.declared.bus.LiveBus.{LiveBus}
 use Rattle.tb_core.specs.declared.log.Entry.{Entry}
 use Rattle.tb_core.proofs.TraceLemmas.{steps-first, steps-none, after-first, legal-first, legal-quiet}
 use Rattle.tb_core.specs.declared.program.Program.{Program}
-use Rattle.tb_core.specs.declared.log.Entry.TheVariants.{Did, Quiet, Fed}
+use Rattle.tb_core.specs.declared.log.Entry.TheVariants.{Did, Quiet}
 
 -- what contracts see of a core with these fields
 abbrev pub seen : LiveBus → List Entry → Bool → CoreState

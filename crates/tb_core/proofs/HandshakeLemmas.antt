@@ -1,20 +1,16 @@
 -- Whom a message would_receive, as a search comes to one process after another.
-use Rattle.std.proofs.Common.{◌+◌, ◌<◌, ◌≤◌, length, drop, ◌≡◌, ℕ, ◌==◌, List, [], ◌∷◌, ◌++◌, map, filter, refl, ap, sym, ◌∙◌, arith, rules, Option, Some, None, Bool, true, false, not, ◌&&◌, append-nil, eq-eqb, if◌then◌else◌}
+use Rattle.std.proofs.Common.{◌+◌, ◌<◌, ◌≤◌, length, drop, ◌≡◌, ℕ, ◌==◌, List, [], ◌∷◌, ◌++◌, map, filter, refl, ap, sym, ◌∙◌, Option, Some, None, Bool, true, false, not, ◌&&◌, append-nil, if◌then◌else◌}
 use Rattle.std.proofs.lemmas.List.{drop_more, drop_all}
 use Rattle.std.specs.List.{flat_map}
-use Rattle.std.specs.Coded.{coded_list}
 use Rattle.tb_terms.specs.declared.term.Term.{Term}
-use Rattle.tb_terms.specs.contracts.term.Term as term
-use Rattle.tb_core.specs.Same.{is_same, is_same_terms}
-use Rattle.tb_core.specs.Processes.{Process, Offer, offers}
-use Rattle.tb_core.specs.Lives.{term_at, offer_at, proc_of, offer_of}
+use Rattle.tb_core.specs.Processes.{Offer}
+use Rattle.tb_core.specs.Lives.{proc_of, offer_of}
 use Rattle.tb_core.specs.Buses.{Bus, Proc, acts_of}
-use Rattle.tb_core.specs.Steps.{Move, Own, Handshake, act_of, handshake_of, handshakes_with, handshakes, moves_by, moves_of}
+use Rattle.tb_core.specs.Steps.{Move, Handshake, handshake_of, handshakes_with, handshakes, moves_by, moves_of}
 use Rattle.tb_core.specs.LiveBuses.{act_at, first, receives, live_at, nobody, handshake_move, moves_among}
 use Rattle.tb_core.specs.declared.program.Act.{Act}
 use Rattle.tb_core.specs.declared.program.Act.TheVariants.{Delta, Tau, SndMsg, RecMsg}
 use Rattle.tb_core.specs.declared.live.Live.{Live}
-use Rattle.tb_core.proofs.SameLemmas.{is_same-refl, is_same-sound}
 use Rattle.tb_core.proofs.OfferLemmas.{offers-term_at, act_of-live}
 
 single : {A B : Type 0} (f : A → List B) (xs : List A) (x : A) → xs ≡ x ∷ [] → flat_map f xs ≡ f x

@@ -1,13 +1,13 @@
 -- What becomes of the processes that are alive when one of them goes on.
-use Rattle.std.proofs.Common.{◌≡◌, ℕ, ◌+◌, ◌-◌, ◌<◌, ◌≤◌, ◌==◌, ◌&&◌, zero, suc, List, [], ◌∷◌, ◌++◌, map, take, drop, length, refl, ap, sym, ◌∙◌, arith, rules, Option, Some, None, unwrap_or, Bool, true, false, nat_lt, nat_le, IsTrue, get_or, slice_set, remove, if◌then◌else◌, eq-eqb, append-nil, length-drop}
-use Rattle.std.proofs.lemmas.Grind.{common_steps, flat_map-append}
+use Rattle.std.proofs.Common.{◌≡◌, ℕ, ◌+◌, ◌<◌, ◌≤◌, ◌==◌, ◌&&◌, zero, suc, List, [], ◌∷◌, ◌++◌, map, drop, length, refl, ap, sym, ◌∙◌, arith, Option, Some, None, unwrap_or, Bool, true, false, nat_lt, nat_le, IsTrue, slice_set, remove, if◌then◌else◌, eq-eqb, length-drop}
+use Rattle.std.proofs.lemmas.Grind.{flat_map-append}
 use Rattle.std.proofs.lemmas.Bool.{lt-ltb, ltb-true, leb-true, eqb-true, false_from_ne_true}
-use Rattle.std.proofs.lemmas.List.{drop_all, drop_more}
-use Rattle.std.specs.List.{flat_map, list_all}
+use Rattle.std.proofs.lemmas.List.{drop_all}
+use Rattle.std.specs.List.{list_all}
 use Rattle.tb_core.specs.InRange.{is_in_range, is_body_in_range}
-use Rattle.tb_core.specs.Processes.{Process, At, fresh, fresh_from, with_rest}
+use Rattle.tb_core.specs.Processes.{Process, At, fresh, fresh_from}
 use Rattle.tb_core.specs.Lives.{proc_of, offer_of, term_at, is_placed, ascend, are_in_place, lives_from}
-use Rattle.tb_core.specs.Buses.{Bus, Proc, acts_of, acts_in, proc_left, opened, start}
+use Rattle.tb_core.specs.Buses.{Bus, Proc, acts_of, proc_left, opened, start}
 use Rattle.tb_core.specs.Steps.{goes_on}
 use Rattle.tb_core.specs.LiveBuses.{live_at, nobody}
 use Rattle.tb_core.proofs.SameLemmas.{both-true}

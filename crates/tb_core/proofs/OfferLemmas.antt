@@ -1,8 +1,7 @@
 -- What a process offers at a place of its body: the one atom there.
-use Rattle.std.proofs.Common.{◌≡◌, ℕ, ◌+◌, ◌-◌, List, [], ◌∷◌, drop, length, refl, ap, sym, ◌∙◌, arith, rules, Option, Some, None, unwrap_or, slice_get, map, zero, suc}
+use Rattle.std.proofs.Common.{◌≡◌, ℕ, ◌+◌, ◌-◌, List, [], ◌∷◌, drop, refl, ap, sym, ◌∙◌, arith, Option, Some, None, unwrap_or, slice_get, zero, suc}
 use Rattle.std.proofs.Math.Seq.{drop-nil}
-use Rattle.std.proofs.lemmas.Grind.{common_steps}
-use Rattle.tb_core.specs.Processes.{Process, At, Seq, Offer, offers, fresh_from, with_rest}
+use Rattle.tb_core.specs.Processes.{Process, At, offers, fresh_from, with_rest}
 use Rattle.tb_core.specs.Lives.{term_at, offer_at, proc_of, offer_of}
 use Rattle.tb_core.specs.Buses.{Bus, acts_of}
 use Rattle.tb_core.specs.Steps.{act_of}

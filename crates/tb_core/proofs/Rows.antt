@@ -1,23 +1,20 @@
 -- Worked scripts, computed from the definitions alone.
-use Rattle.std.proofs.Common.{◌≡◌, ℕ, ◌++◌, List, [], ◌∷◌, refl, codes, true, false, rules}
+use Rattle.std.proofs.Common.{List, [], ◌∷◌, refl, codes, false}
 use Rattle.tb_terms.specs.declared.term.Term.{Term}
 use Rattle.tb_terms.specs.declared.term.Term.TheVariants.{Appl}
 use Rattle.tb_terms.specs.contracts.term.Term as term
 use Rattle.std.specs.Coded.{coded_list}
-use Rattle.tb_core.specs.Same.{is_same_terms, is_same}
 use Rattle.tb_core.proofs.SameLemmas.{is_same-refl}
-use Rattle.tb_core.specs.Buses.{Origin, Bus, start}
+use Rattle.tb_core.specs.Buses.{Origin, start}
 use Rattle.tb_core.specs.Steps.{steps, moves, moves_of_all, moves_of, handshakes, handshakes_with, goes_on}
-use Rattle.tb_core.specs.Simulation.{IsSim, sim_start, turn, Turn, Makes}
-use Rattle.tb_core.specs.declared.program.Program.{Program}
-use Rattle.tb_core.specs.declared.program.Body.{Body}
-use Rattle.tb_core.specs.declared.program.Act.TheVariants.{Delta, Tau, SndMsg, RecMsg}
+use Rattle.tb_core.specs.Simulation.{IsSim, sim_start}
+use Rattle.tb_core.specs.declared.program.Act.TheVariants.{SndMsg, RecMsg}
 use Rattle.tb_core.specs.declared.log.Entry.{Entry}
 use Rattle.tb_core.specs.declared.log.Entry.TheVariants.{Did, Quiet, Fed}
 use Rattle.tb_core.specs.declared.log.Input.TheVariants.{NoTicks}
 use Rattle.tb_core.specs.declared.log.Reply.TheVariants.{Took}
 use Rattle.tb_core.specs.declared.log.LabelKind.TheVariants as kind
-use Rattle.tb_core.specs.declared.simulation.SimEnd.TheVariants.{Down, Steps}
+use Rattle.tb_core.specs.declared.simulation.SimEnd.TheVariants.{Down}
 
 -- `toolbus()`
 abbrev pub empty : Origin

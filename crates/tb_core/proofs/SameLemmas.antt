@@ -1,6 +1,6 @@
 -- The test for sameness decides equality.
-use Rattle.std.proofs.Common.{◌≡◌, ℕ, Bool, true, false, ◌&&◌, List, refl, ap, sym, ◌∙◌, arith, rules, IsTrue, ◌↔◌}
-use Rattle.std.specs.Coded.{Coded, coded_list}
+use Rattle.std.proofs.Common.{◌≡◌, Bool, true, false, ◌&&◌, refl, ap, sym, ◌∙◌, arith, rules, IsTrue, ◌↔◌}
+use Rattle.std.specs.Coded.{Coded}
 use base.Stored.{Gv, gnil, gnum, gcons}
 use Rattle.tb_core.specs.Same.{is_same_code, is_same}
 

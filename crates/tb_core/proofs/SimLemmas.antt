@@ -1,14 +1,14 @@
 -- The turns of a simulation, by what each call of a core logged.
-use Rattle.std.proofs.Common.{◌≡◌, ℕ, ◌+◌, ◌-◌, ◌<◌, ◌≤◌, ◌==◌, ◌&&◌, List, [], ◌∷◌, ◌++◌, map, length, slice_get, refl, ap, sym, ◌∙◌, subst, arith, rules, Option, Some, None, Bool, true, false, nat_le, if◌then◌else◌, append-nil, append_assoc, eq-eqb, length-append}
+use Rattle.std.proofs.Common.{◌≡◌, ℕ, ◌+◌, ◌-◌, ◌<◌, ◌≤◌, ◌==◌, ◌&&◌, List, [], ◌∷◌, ◌++◌, map, length, slice_get, refl, ap, sym, ◌∙◌, subst, arith, Some, Bool, true, false, nat_le, if◌then◌else◌, append-nil, append_assoc, eq-eqb, length-append}
 use Rattle.std.proofs.lemmas.Bool.{eqb-true, le-leb, leb-true, false_from_ne_true}
 use Rattle.tb_core.specs.Buses.{Bus, Proc, Origin, start}
 use Rattle.tb_core.specs.Steps.{Move, Own, Handshake, Finish, Halt, Step, moves, moves_while_up, moves_or_halt, moves_of_all, steps, step_of, made}
-use Rattle.tb_core.specs.Traces.{after, after_step, replay, fed, took, Answer}
-use Rattle.tb_core.specs.Simulation.{Sim, Turn, Ends, Makes, turn, step_turn, quiet_turn, IsSim, IsSimFront, sim_start}
+use Rattle.tb_core.specs.Traces.{replay, fed, took, Answer}
+use Rattle.tb_core.specs.Simulation.{Sim, Ends, Makes, turn, step_turn, quiet_turn, IsSim, IsSimFront, sim_start}
 use Rattle.tb_core.specs.Turns.{SimLeads, sim_of, LedOn, LeftWithin}
-use Rattle.tb_core.specs.Cores.{CoreState, bus_now, Logs, first_did, has_any, ends_quiet, says_quiet}
+use Rattle.tb_core.specs.Cores.{CoreState, bus_now, Logs, has_any, ends_quiet, says_quiet}
 use Rattle.tb_core.specs.declared.log.Input.TheVariants.{NoTicks}
-use Rattle.tb_core.specs.declared.log.Reply.TheVariants.{Took, Dropped}
+use Rattle.tb_core.specs.declared.log.Reply.TheVariants.{Dropped}
 use Rattle.tb_core.specs.declared.log.Why.TheVariants as why
 use Rattle.tb_core.specs.declared.log.Entry.{Entry}
 use Rattle.tb_core.specs.declared.log.Entry.TheVariants.{Did, Quiet, Fed}

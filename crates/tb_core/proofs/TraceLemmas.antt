@@ -1,18 +1,17 @@
 -- Traces and the buses to which they lead: one part after another, and the first of the steps.
-use Rattle.std.proofs.Common.{◌≡◌, ℕ, List, [], ◌∷◌, ◌++◌, map, refl, ap, sym, ◌∙◌, subst, arith, rules, Option, Some, None, Bool, true, false, Contains, if◌then◌else◌, append-nil}
+use Rattle.std.proofs.Common.{◌≡◌, List, [], ◌∷◌, ◌++◌, map, refl, ap, sym, ◌∙◌, subst, arith, Some, None, Bool, true, false, Contains, if◌then◌else◌}
 use Rattle.tb_core.specs.Same.{is_same}
-use Rattle.tb_core.specs.Buses.{Bus, Origin, start}
-use Rattle.tb_core.specs.Steps.{Move, Own, Handshake, Finish, Halt, Step, moves, steps, step_of, label_of, made}
-use Rattle.tb_core.specs.Traces.{IsLegal, IsTrace, after, after_step, replay, fed, took, Answer}
+use Rattle.tb_core.specs.Buses.{Bus, start}
+use Rattle.tb_core.specs.Steps.{Move, Own, Handshake, Finish, Halt, Step, moves, steps, step_of, made}
+use Rattle.tb_core.specs.Traces.{IsTrace, after, after_step, replay, fed, took, Answer}
 use Rattle.tb_core.specs.LiveBuses.{first, bus_of, StandsFor}
 use Rattle.tb_core.specs.declared.bus.LiveBus.{LiveBus}
 use Rattle.tb_core.specs.declared.program.Program.{Program}
-use Rattle.tb_core.specs.declared.log.Label.{Label}
 use Rattle.tb_core.specs.contracts.log.Label as label_row
 use Rattle.tb_core.specs.declared.log.Input.{Input}
 use Rattle.tb_core.specs.declared.log.Input.TheVariants.{NoTicks}
 use Rattle.tb_core.specs.declared.log.Reply.{Reply}
-use Rattle.tb_core.specs.declared.log.Reply.TheVariants.{Took, Dropped}
+use Rattle.tb_core.specs.declared.log.Reply.TheVariants.{Dropped}
 use Rattle.tb_core.specs.declared.log.Why.TheVariants.{Down}
 use Rattle.tb_core.specs.declared.log.Entry.{Entry}
 use Rattle.tb_core.specs.declared.log.Entry.TheVariants.{Did, Quiet, Fed}

@@ -1,9 +1,8 @@
 -- The order in which the processes are asked, where they stand by their numbers.
-use Rattle.std.proofs.Common.{◌≡◌, ℕ, ◌+◌, ◌<◌, ◌≤◌, ◌&&◌, zero, suc, List, [], ◌∷◌, ◌++◌, map, filter, take, drop, length, refl, ap, sym, ◌∙◌, arith, rules, Option, Some, None, Bool, true, false, not, nat_lt, nat_le, append-nil, IsTrue, get_or, if◌then◌else◌}
-use Rattle.std.proofs.lemmas.Grind.{common_steps, flat_map-append}
+use Rattle.std.proofs.Common.{◌≡◌, ℕ, ◌<◌, ◌≤◌, zero, suc, List, [], ◌∷◌, ◌++◌, map, filter, take, drop, length, refl, ap, sym, ◌∙◌, arith, rules, Some, None, Bool, true, false, nat_lt, nat_le, append-nil, IsTrue, get_or, if◌then◌else◌}
+use Rattle.std.proofs.lemmas.Grind.{flat_map-append}
 use Rattle.std.proofs.lemmas.Bool.{leb-true, leb-false, le-leb, lt-ltb, le-ltb}
 use Rattle.std.proofs.lemmas.List.{take-append-drop, map-append}
-use Rattle.std.proofs.lemmas.Bool.Decides.{nat_tests}
 use Rattle.std.specs.List.{flat_map, AllWithin}
 use Rattle.std.specs.List.Sorted.{IsPartitionPoint, IsPartitionedBy}
 use Rattle.tb_core.specs.Lives.{proc_of, ascend}

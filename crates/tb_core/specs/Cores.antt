@@ -1,5 +1,5 @@
 -- What a core stands for, and what each of its calls logs.
-use Rattle.std.specs.Prelude.{◌≡◌, ℕ, List, [], ◌∷◌, ◌++◌, ◌-◌, length, slice_get, Option, Some, None, Bool, true, false, if◌then◌else◌}
+use Rattle.std.specs.Prelude.{◌≡◌, List, [], ◌∷◌, ◌++◌, ◌-◌, length, slice_get, Option, Some, None, Bool, true, false, if◌then◌else◌}
 use Rattle.std.specs.Coded.{Coded, code_by, coded×, coded_bool, coded_list}
 use Rattle.std.specs.Prelude.{refl}
 use Rattle.tb_core.specs.Buses.{Bus, Origin, start}

@@ -3,7 +3,7 @@ use Rattle.std.specs.Prelude.{ℕ, List, [], ◌∷◌, map, slice_get, slice_in
 use Rattle.std.specs.List.{flat_map}
 use Rattle.tb_terms.specs.declared.term.Term.{Term}
 use Rattle.tb_core.specs.Same.{is_same_terms}
-use Rattle.tb_core.specs.Buses.{Bus, Proc, acts_of, start}
+use Rattle.tb_core.specs.Buses.{Bus, acts_of, start}
 use Rattle.tb_core.specs.Traces.{IsTrace, replay}
 use Rattle.tb_core.specs.declared.log.Entry.{Entry}
 use Rattle.tb_core.specs.Steps.{Move, Own, Handshake, Finish, Halt, moves_of}

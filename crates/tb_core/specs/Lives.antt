@@ -1,5 +1,5 @@
 -- How the code keeps a process: by the place that it has reached in its body.
-use Rattle.std.specs.Prelude.{◌≡◌, ℕ, ◌+◌, ◌&&◌, nat_lt, List, [], ◌∷◌, length, drop, Bool, true, unwrap_or}
+use Rattle.std.specs.Prelude.{ℕ, ◌+◌, ◌&&◌, nat_lt, List, [], ◌∷◌, length, drop, Bool, true, unwrap_or}
 use Rattle.std.specs.List.{list_all}
 use Rattle.tb_core.specs.Processes.{Process, At, fresh_from, Offer}
 use Rattle.tb_core.specs.Buses.{Proc, acts_of}

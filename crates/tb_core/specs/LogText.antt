@@ -4,7 +4,6 @@ use Rattle.std.specs.Fmt.{decimal}
 use Rattle.tb_terms.specs.Texts.{terms_text}
 use Rattle.tb_terms.specs.declared.term.Term.{Term}
 use Rattle.tb_core.specs.declared.log.Place.{Place}
-use Rattle.tb_core.specs.declared.log.Label.{Label}
 use Rattle.tb_core.specs.declared.log.LabelKind.{LabelKind}
 use Rattle.tb_core.specs.declared.log.LabelKind.TheVariants as kind
 use Rattle.tb_core.specs.declared.log.Input.{Input}

@@ -2,7 +2,7 @@
 use Rattle.std.specs.Prelude.{◌≡◌, ℕ, ◌+◌, nat_le, List, [], ◌∷◌, Bool, true, false, if◌then◌else◌, ⊤}
 use Rattle.tb_core.specs.Buses.{Bus}
 use Rattle.tb_core.specs.Steps.{Step, steps}
-use Rattle.tb_core.specs.Traces.{Answer, fed}
+use Rattle.tb_core.specs.Traces.{fed}
 use Rattle.tb_core.specs.declared.log.Input.TheVariants.{NoTicks}
 use Rattle.tb_core.specs.declared.log.Entry.{Entry}
 use Rattle.tb_core.specs.declared.log.Entry.TheVariants.{Did, Quiet, Fed}

@@ -1,13 +1,10 @@
 -- What an entry of the log may do to a bus, which logs are traces, and the bus to which a log leads.
-use Rattle.std.specs.Prelude.{◌≡◌, ℕ, ◌==◌, ◌&&◌, List, [], ◌∷◌, Bool, true, false, if◌then◌else◌, Contains, ⊤}
+use Rattle.std.specs.Prelude.{◌≡◌, List, [], ◌∷◌, true, false, if◌then◌else◌, Contains, ⊤}
 use Rattle.tb_core.specs.Same.{is_same}
 use Rattle.tb_core.specs.Buses.{Bus}
 use Rattle.tb_core.specs.Steps.{Step, steps}
-use Rattle.tb_core.specs.declared.log.Place.{Place}
 use Rattle.tb_core.specs.declared.log.Label.{Label}
 use Rattle.tb_core.specs.contracts.log.Label as label_row
-use Rattle.tb_core.specs.declared.log.LabelKind.{LabelKind}
-use Rattle.tb_core.specs.declared.log.LabelKind.TheVariants as kind
 use Rattle.tb_core.specs.declared.log.Input.{Input}
 use Rattle.tb_core.specs.declared.log.Input.TheVariants.{NoTicks}
 use Rattle.tb_core.specs.declared.log.Reply.{Reply}

@@ -1,7 +1,6 @@
 -- How the code goes through a simulation: one or two turns at a time.
-use Rattle.std.specs.Prelude.{◌≡◌, ℕ, ◌+◌, ◌<◌, List, [], ◌∷◌, ◌++◌, Bool, true, false}
-use Rattle.tb_core.specs.Buses.{Bus}
-use Rattle.tb_core.specs.Simulation.{Sim, Turn, Ends, Makes, turn, IsSimFront}
+use Rattle.std.specs.Prelude.{◌≡◌, ℕ, ◌+◌, ◌<◌, List, [], ◌∷◌, ◌++◌, true, false}
+use Rattle.tb_core.specs.Simulation.{Sim, Ends, Makes, turn, IsSimFront}
 use Rattle.tb_core.specs.Cores.{CoreState, bus_now, ends_quiet}
 use Rattle.tb_core.specs.declared.log.Entry.{Entry}
 use Rattle.tb_core.specs.declared.simulation.Turned.{Turned}

@@ -1,4 +1,4 @@
-use Rattle.std.proofs.Common.{◌≡◌, nat_le, rules}
+use Rattle.std.proofs.Common.{nat_le, rules}
 use Rattle.std.proofs.lemmas.List.Sorted.{IsPartitionPoint-from_clause}
 use Rattle.tb_core.proofs.TurnLemmas.{partitioned-by_number}
 use Rattle.tb_core.proofs.bus.turn_start.Goals as goal

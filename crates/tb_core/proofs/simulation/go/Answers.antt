@@ -1,9 +1,8 @@
-use Rattle.std.proofs.Common.{◌≡◌, ◌∙◌, ◌<◌, ◌==◌, ◌&&◌, ◌∷◌, [], ap, sym, true, false}
+use Rattle.std.proofs.Common.{◌∙◌, [], ap, sym}
 use Rattle.tb_core.specs.Steps.{steps}
 use Rattle.tb_core.specs.Turns.{sim_of}
 use Rattle.tb_core.specs.Cores.{bus_now, has_any, Logs, entries_stepped, IsStep, first_did}
 use Rattle.tb_core.specs.declared.answers.Stepped.TheVariants.{Did, Quiet, Down}
-use Rattle.tb_core.specs.declared.log.Entry.TheVariants as entry
 use Rattle.tb_core.proofs.SimLemmas.{turn-limit, turn-down, led-did, led-quiet, left-quiet, logs-nothing, below-limit, quiet-logs}
 use Rattle.tb_core.proofs.simulation.go.Goals as goal
 

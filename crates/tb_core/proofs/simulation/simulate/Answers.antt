@@ -1,7 +1,7 @@
-use Rattle.std.proofs.Common.{◌≡◌, ◌∙◌, ◌+◌, ap, subst, arith}
+use Rattle.std.proofs.Common.{◌≡◌, ◌∙◌, ◌+◌, ap, arith}
 use Rattle.tb_core.specs.Simulation.{turn, Ends}
 use Rattle.tb_core.specs.Cores.{CoreState}
-use Rattle.tb_core.specs.Turns.{Goes, LedOn, LeftWithin, sim_of}
+use Rattle.tb_core.specs.Turns.{Goes, LedOn, sim_of}
 use Rattle.tb_core.specs.declared.simulation.Turned.TheVariants as turned
 use Rattle.tb_core.proofs.SimLemmas.{led-on, led-ends, led-left}
 use Rattle.tb_core.proofs.simulation.simulate.Goals as goal

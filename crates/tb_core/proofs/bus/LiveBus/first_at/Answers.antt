@@ -1,5 +1,4 @@
-use Rattle.std.proofs.Common.{◌≡◌, ◌∙◌, ap, sym, refl, Some, None, option_map}
-use Rattle.tb_core.specs.Lives.{proc_of, offer_of}
+use Rattle.std.proofs.Common.{◌≡◌, ◌∙◌, ap, sym, Some, None, option_map}
 use Rattle.tb_core.specs.LiveBuses.{bus_of, first, act_at, live_at}
 use Rattle.tb_core.specs.declared.program.Act.TheVariants.{Delta, Tau, SndMsg, RecMsg}
 use Rattle.tb_core.proofs.HandshakeLemmas.{moves_of-act}

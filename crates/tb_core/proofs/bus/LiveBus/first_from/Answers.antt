@@ -1,5 +1,5 @@
-use Rattle.std.proofs.Common.{◌≡◌, ◌∙◌, ◌<◌, ap, sym, Some, length, option_map, arith}
-use Rattle.tb_core.specs.LiveBuses.{bus_of, first, live_at, move_of}
+use Rattle.std.proofs.Common.{◌∙◌, ap, option_map}
+use Rattle.tb_core.specs.LiveBuses.{bus_of, move_of}
 use Rattle.tb_core.proofs.HandshakeLemmas.{movers-found, movers-passed, movers-none}
 use Rattle.tb_core.proofs.bus.LiveBus.first_from.Goals as goal
 

@@ -1,4 +1,4 @@
-use Rattle.std.proofs.Common.{◌≡◌, drop, length}
+use Rattle.std.proofs.Common.{◌≡◌, length}
 use Rattle.tb_core.specs.LiveBuses.{bus_of}
 use Rattle.tb_core.proofs.HandshakeLemmas.{MoversLeft}
 use Rattle.tb_core.proofs.bus.LiveBus.first_from.Given as goal

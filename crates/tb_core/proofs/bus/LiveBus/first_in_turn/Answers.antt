@@ -1,5 +1,5 @@
-use Rattle.std.proofs.Common.{◌≡◌, ◌∙◌, ap, sym, refl, Some, None, option_map}
-use Rattle.tb_core.specs.LiveBuses.{bus_of, first, move_of}
+use Rattle.std.proofs.Common.{◌∙◌, ap, refl, option_map}
+use Rattle.tb_core.specs.LiveBuses.{bus_of, move_of}
 use Rattle.tb_core.proofs.TurnLemmas.{turn-found, turn-again}
 use Rattle.tb_core.proofs.bus.LiveBus.first_in_turn.Goals as goal
 

@@ -1,6 +1,6 @@
-use Rattle.std.proofs.Common.{◌≡◌, ◌∙◌, ap, sym, refl, Some, None, option_map, map, []}
+use Rattle.std.proofs.Common.{◌∙◌, ap, sym, option_map, map}
 use Rattle.tb_core.specs.Lives.{proc_of}
-use Rattle.tb_core.specs.LiveBuses.{bus_of, first, move_of}
+use Rattle.tb_core.specs.LiveBuses.{bus_of, move_of}
 use Rattle.tb_core.proofs.TurnLemmas.{moves-down, moves-finish, moves-some, moves-none, alive}
 use Rattle.tb_core.proofs.bus.LiveBus.first_move.Goals as goal
 

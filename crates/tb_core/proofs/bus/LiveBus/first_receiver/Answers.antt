@@ -1,4 +1,4 @@
-use Rattle.std.proofs.Common.{◌≡◌, ◌∙◌, ◌&&◌, ◌==◌, not, ap, sym, refl, arith, true, false}
+use Rattle.std.proofs.Common.{◌≡◌, ◌∙◌, ◌&&◌, ◌==◌, not, ap, sym, refl, true, false}
 use Rattle.tb_core.specs.Lives.{proc_of, offer_of}
 use Rattle.tb_core.specs.LiveBuses.{bus_of, first, act_at, live_at, receives}
 use Rattle.tb_core.proofs.HandshakeLemmas.{handshakes-among, ReceiversLeft, receivers-found, receivers-passed, receivers-none}

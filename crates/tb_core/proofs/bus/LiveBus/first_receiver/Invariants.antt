@@ -1,4 +1,3 @@
-use Rattle.std.proofs.Common.{◌≡◌, drop}
 use Rattle.tb_core.specs.LiveBuses.{bus_of}
 use Rattle.tb_core.proofs.HandshakeLemmas.{ReceiversLeft}
 use Rattle.tb_core.proofs.bus.LiveBus.first_receiver.Given as goal

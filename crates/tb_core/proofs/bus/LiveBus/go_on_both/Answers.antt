@@ -1,4 +1,4 @@
-use Rattle.std.proofs.Common.{◌≡◌, ◌∙◌, ap, List}
+use Rattle.std.proofs.Common.{◌∙◌, ap, List}
 use Rattle.tb_core.specs.Buses.{Proc}
 use Rattle.tb_core.specs.Lives.{offer_of}
 use Rattle.tb_core.specs.LiveBuses.{bus_of, live_at}

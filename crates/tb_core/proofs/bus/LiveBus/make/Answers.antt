@@ -1,4 +1,3 @@
-use Rattle.std.proofs.Common.{◌≡◌}
 use Rattle.tb_core.specs.LiveBuses.{act_at, live_at, sent_by}
 use Rattle.tb_core.proofs.bus.LiveBus.make.Goals as goal
 

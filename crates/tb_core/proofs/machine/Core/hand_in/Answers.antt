@@ -1,4 +1,4 @@
-use Rattle.std.proofs.Common.{◌≡◌, ◌∙◌, ◌∷◌, [], ap, sym, subst}
+use Rattle.std.proofs.Common.{◌∙◌, ◌∷◌, [], ap, sym}
 use Rattle.tb_core.specs.Buses.{Bus}
 use Rattle.tb_core.specs.Traces.{fed}
 use Rattle.tb_core.specs.LiveBuses.{bus_of}

@@ -1,4 +1,4 @@
-use Rattle.std.proofs.Common.{◌≡◌, ◌∙◌, ap, sym}
+use Rattle.std.proofs.Common.{◌∙◌, ap, sym}
 use Rattle.tb_core.specs.Steps.{steps}
 use Rattle.tb_core.specs.LiveBuses.{bus_of, move_of}
 use Rattle.tb_core.specs.Cores.{has_any}

@@ -1,4 +1,4 @@
-use Rattle.std.proofs.Common.{◌≡◌, ap, sym}
+use Rattle.std.proofs.Common.{ap, sym}
 use Rattle.tb_core.specs.Buses.{Bus}
 use Rattle.tb_core.proofs.CoreLemmas.{bus-seen}
 use Rattle.tb_core.proofs.machine.Core.is_down.Goals as goal

@@ -1,13 +1,11 @@
-use Rattle.std.proofs.Common.{◌≡◌, ◌∙◌, ◌++◌, ◌∷◌, [], Some, None, List, ap, sym, subst, refl, option_map, true, false, if◌then◌else◌}
+use Rattle.std.proofs.Common.{◌≡◌, ◌∙◌, ◌∷◌, [], Some, None, ap, sym, refl, option_map, if◌then◌else◌}
 use Rattle.tb_core.specs.Buses.{Bus}
-use Rattle.tb_core.specs.Steps.{Move, Step, moves, steps, step_of, made, label_of}
-use Rattle.tb_core.specs.Traces.{IsTrace}
-use Rattle.tb_core.specs.LiveBuses.{bus_of, move_of, first, StandsFor}
-use Rattle.tb_core.specs.Cores.{CoreState, bus_now, Logs, ends_quiet, first_did}
-use Rattle.tb_core.specs.declared.log.Entry.{Entry}
+use Rattle.tb_core.specs.Steps.{moves, steps, step_of, made, label_of}
+use Rattle.tb_core.specs.LiveBuses.{bus_of, move_of, first}
+use Rattle.tb_core.specs.Cores.{CoreState, bus_now, ends_quiet, first_did}
 use Rattle.tb_core.specs.declared.log.Entry.TheVariants.{Did, Quiet}
 use Rattle.tb_core.proofs.TraceLemmas.{stands-on, made-program, steps-first, steps-none}
-use Rattle.tb_core.proofs.CoreLemmas.{seen, bus-seen, logs-on, same-program, first-did, did-trace, did-replay, quiet-trace, quiet-replay}
+use Rattle.tb_core.proofs.CoreLemmas.{bus-seen, logs-on, same-program, first-did, did-trace, did-replay, quiet-trace, quiet-replay}
 use Rattle.tb_core.proofs.machine.Core.step.Goals as goal
 
 pub invariant_of-self-in-Some : goal.invariant_of-self-in-Some
