@@ -1,5 +1,5 @@
 -- A log that is written line by line through a buffer.
-use Rattle.std.proofs.Common.{◌≡◌, ℕ, ◌+◌, ◌<◌, ◌≤◌, Option, List, [], ◌∷◌, ◌++◌, ap, sym, ◌∙◌, subst, refl, append_assoc, append-nil, length, get_or, drop}
+use Rattle.std.proofs.Common.{◌≡◌, ℕ, ◌+◌, ◌<◌, ◌≤◌, Option, List, [], ◌∷◌, ◌++◌, ap, sym, ◌∙◌, subst, append_assoc, length, get_or, drop}
 use Rattle.std.proofs.lemmas.List.{drop_more, drop_all}
 use Rattle.tb_edge.specs.Sinks.{Takes, TakesFront, Owes}
 use Rattle.tb_edge.proofs.Puts.{Owes-takes, Takes-owes, TakesFront-owes, TakesFront-owes_more, Owes-start}
@@ -24,7 +24,7 @@ pub lines-written : (a b : Option (List ℕ)) (log : List Entry) (buffer more : 
     more ≡ buffer ++ entry_text (index + 1) entry → LinesOwed a b log buffer index → LinesOwed a b log more (index + 1)
 lines-written a b log buffer more index entry within is grown owed =
     subst (λ (bytes : List ℕ). Owes a b (log_text log) (bytes ++ log_text_from (index + 1 + 1) (drop (index + 1) log))) (sym grown)
-        (subst (λ (rest : List ℕ). Owes a b (log_text log) rest) (line-next log buffer index entry within is) owed)
+    (subst (λ (rest : List ℕ). Owes a b (log_text log) rest) (line-next log buffer index entry within is) owed)
 
 -- a part of the buffer was put
 pub lines-put : (a b c : Option (List ℕ)) (log : List Entry) (buffer rest : List ℕ) (index : ℕ) → LinesOwed a b log buffer index → Owes b c buffer rest → LinesOwed a c log rest index

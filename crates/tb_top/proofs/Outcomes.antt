@@ -1,5 +1,5 @@
 -- How the parts of the top call come to its outcome.
-use Rattle.std.proofs.Common.{◌≡◌, ℕ, Option, List, [], ◌∷◌, ◌++◌, ap, sym, subst, refl, inl, inr}
+use Rattle.std.proofs.Common.{◌≡◌, ℕ, Option, List, [], ◌∷◌, sym, subst, inl, inr}
 use Rattle.tb_edge.specs.Sinks.{Takes, TakesFront}
 use Rattle.tb_core.specs.Buses.{Origin, start}
 use Rattle.tb_core.specs.Traces.{IsTrace}
@@ -9,13 +9,12 @@ use Rattle.tb_core.specs.declared.log.Entry.{Entry}
 use Rattle.tb_core.specs.declared.simulation.SimEnd.{SimEnd}
 use Rattle.tb_core.specs.declared.simulation.SimEnd.TheVariants as sim
 use Rattle.tb_top.specs.PlainScript.{IsPlainProgram}
-use Rattle.tb_top.specs.Outcomes.{IsSimOf, IsFrontOf, PutsLog, PutsFront, SimOutcome, FileOutcome, IsHeld, most_steps, Reported}
+use Rattle.tb_top.specs.Outcomes.{PutsFront, SimOutcome, FileOutcome, IsHeld, most_steps, Reported}
 use Rattle.tb_top.specs.Lines.{status_line}
 use Rattle.tb_top.specs.Requests.{OriginOutcome, Reports, status_of_end}
 use Rattle.tb_top.specs.declared.status.Status.{Status}
 use Rattle.tb_top.specs.declared.status.Status.TheVariants.{Ended, Script, Words, Outside, Limit, NoMemory}
 use Rattle.tb_top.specs.declared.status.ScriptFault.TheVariants as script
-use Rattle.tb_top.specs.declared.status.WordFault.TheVariants as word
 use Rattle.tb_top.specs.declared.status.Edge.TheVariants as edge
 use Rattle.tb_top.specs.declared.status.Bound.TheVariants as bound
 

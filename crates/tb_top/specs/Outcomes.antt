@@ -1,5 +1,5 @@
 -- When the program ends with which status, and what was put then: the whole of the top call.
-use Rattle.std.specs.Prelude.{◌≡◌, ◌≢◌, ◌<◌, ◌≤◌, ◌⊎◌, ℕ, List, [], ◌∷◌, ◌++◌, Bool, not, ◌&&◌, if◌then◌else◌, Option, Some, None, IfSome, length, codes, bytes_eq, nat_eq}
+use Rattle.std.specs.Prelude.{◌≡◌, ◌≢◌, ◌<◌, ◌≤◌, ◌⊎◌, ℕ, List, [], ◌∷◌, ◌++◌, Bool, not, ◌&&◌, if◌then◌else◌, Option, IfSome, length, codes, bytes_eq, nat_eq}
 use Rattle.std.specs.List.{starts_with}
 use Rattle.tb_edge.specs.Sinks.{Takes, TakesFront}
 use Rattle.tb_core.specs.Buses.{Origin, start}

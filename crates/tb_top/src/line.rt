@@ -39,12 +39,20 @@ fn put_words<E: Sink>(status: &Status, err: &mut E) -> Result<(), Failed>
 {
     match status {
         Status::Ended => err.put(b""),
-        Status::Script(ScriptFault::TooLong(bytes)) => put_numbered(b"script: too long ", *bytes, err),
+        Status::Script(ScriptFault::TooLong(bytes)) => put_numbered(
+            b"script: too long ",
+            *bytes,
+            err,
+        ),
         Status::Script(ScriptFault::NotBuilt(token)) => {
             put_numbered(b"script: not built at token ", *token, err)
         }
         Status::Words(WordFault::NoCommand) => err.put(b"words: no command"),
-        Status::Words(WordFault::NotBuilt(place)) => put_numbered(b"words: not built at ", *place, err),
+        Status::Words(WordFault::NotBuilt(place)) => put_numbered(
+            b"words: not built at ",
+            *place,
+            err,
+        ),
         Status::Outside(Edge::File) => err.put(b"outside: file"),
         Status::Outside(Edge::Out) => err.put(b"outside: out"),
         Status::Outside(Edge::Err) => err.put(b"outside: err"),

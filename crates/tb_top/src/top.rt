@@ -68,7 +68,12 @@ fn report_line<E: Sink>(status: Status, err: &mut E) -> Status
     }
 }
 
-fn answer<F: Files, O: Sink>(alloc: Global, words: &Vec<String>, files: &mut F, out: &mut O) -> Status
+fn answer<F: Files, O: Sink>(
+    alloc: Global,
+    words: &Vec<String>,
+    files: &mut F,
+    out: &mut O,
+) -> Status
     ensures outcome { AskedOutcome (asked (map string_bytes words.now.items)) (F.held files.old) (O.taken out.old) (O.taken out.new) result }
     ensures asks { AsksFor (asked (map string_bytes words.now.items)) (F.asked files.old) (F.asked files.new) }
     ensures file_rose { result ≡ Status.Outside Edge.File → Rose (F.faults files.old) (F.faults files.new) }

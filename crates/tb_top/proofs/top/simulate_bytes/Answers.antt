@@ -1,4 +1,4 @@
-use Rattle.std.proofs.Common.{◌≡◌, ◌∙◌, ap, refl, Err}
+use Rattle.std.proofs.Common.{◌∙◌, ap, refl, Err}
 use Rattle.tb_top.proofs.top.simulate_bytes.Goals as goal
 
 pub returns-in-Err-NotPlain-clause-outcome : goal.returns-in-Err-NotPlain-clause-outcome

@@ -1,4 +1,4 @@
-use Rattle.std.proofs.Common.{◌≡◌, inr}
+use Rattle.std.proofs.Common.{inr}
 use Rattle.tb_top.proofs.Outcomes.{log-put, log-front}
 use Rattle.tb_top.proofs.top.write_log.Goals as goal
 
