@@ -15,7 +15,7 @@ pub record Proc : Type 0 where
   pub body : ℕ
   pub term : Process
 
--- In every bus that is reached the processes stand by their numbers, the smallest first.
+-- The opening bus has its processes by their numbers, the smallest first, and steps keep their order.
 pub record Bus : Type 0 where
   pub program : Program
   pub procs : List Proc

@@ -1,4 +1,4 @@
--- How proofs tell process terms and buses apart: a code for each, one to one. Nothing here is to be believed.
+-- How proofs tell process terms and buses apart: a code for each, one to one. No claim rests on them.
 use Rattle.std.specs.Prelude.{◌≡◌, ℕ, List, Bool, refl}
 use Rattle.std.specs.Coded.{Coded, code_by, coded×, coded_ℕ, coded_bool, coded_list}
 use Rattle.std.proofs.Common.{ap, sym}

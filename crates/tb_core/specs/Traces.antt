@@ -47,7 +47,7 @@ after bus Quiet = bus
 after bus (Fed input reply) = (fed bus input).bus
 
 -- A log is a trace from a bus where each entry may lead from the bus before it to the bus after it.
--- Steps that are seen alike would be told apart by their order; those of one bus differ in their places.
+-- Of steps that are seen alike an entry stands for the first.
 abbrev pub IsTrace : Bus → List Entry → Type 0
 IsTrace bus [] = ⊤
 IsTrace bus (entry ∷ log) = IsLegal bus entry (after bus entry) × IsTrace (after bus entry) log

@@ -15,5 +15,5 @@ pub use answers::{CoreFault, Stepped};
 pub use log::{Entry, Input, Label, LabelKind, Place, Reply, Why};
 pub use machine::Core;
 pub use program::{Act, Body, Program};
-pub use simulation::{SimEnd, simulate};
+pub use simulation::{SimEnd, one_simulation, simulate};
 pub use text::write_entry;

@@ -1,9 +1,11 @@
-ghost use Rattle.std.specs.Prelude.{◌≡◌, ◌&&◌, ◌==◌, ◌≤◌, ◌∷◌, [], IfOk, OnOk, OnErr, IsErrOf, false};
+ghost use Rattle.std.specs.Prelude.{◌≡◌, ℕ, List, ◌&&◌, ◌==◌, ◌≤◌, ◌∷◌, [], IfOk, OnOk, OnErr, IsErrOf, false};
 ghost use Rattle.tb_core.specs.Buses.{start};
 ghost use Rattle.tb_core.specs.Steps.{steps as steps_of};
 ghost use Rattle.tb_core.specs.Cores.{bus_now, has_any, ends_quiet, Logs};
 ghost use Rattle.tb_core.specs.Traces.{fed};
-ghost use Rattle.tb_core.specs.Simulation.{IsSim, IsSimFront, sim_start};
+ghost use Rattle.tb_core.specs.Simulation.{Sim, IsSim, IsSimFront, sim_start};
+ghost use Rattle.tb_core.specs.declared.log.Entry.{Entry};
+ghost use Rattle.tb_core.specs.declared.simulation.SimEnd.{SimEnd};
 ghost use Rattle.tb_core.specs.Turns.{Goes, LeftWithin};
 
 use crate::answers::Stepped;
@@ -73,12 +75,19 @@ fn end_ticks(core: &mut Core) -> Result<(), NoMemory>
     }
 }
 
+/// A simulation makes one log, and ends in one way.
+pub fn one_simulation()
+    ensures { (limit : ℕ) (sim : Sim) (log other : List Entry) (end last : SimEnd) →
+        IsSim limit sim log end → IsSim limit sim other last → (log ≡ other) × (end ≡ last) }
+{}
+
 /// Runs a core to its end, always by the first of the steps, and makes at most this many. After an
 /// `Err` the log is a front of the one that the simulation makes.
 pub fn simulate(core: &mut Core, steps: u64) -> Result<SimEnd, NoMemory>
     requires fresh { core.old.log ≡ [] }
     requires running { core.old.stopped ≡ false }
     ensures origin { core.new.origin ≡ core.old.origin }
+    ensures still_running { core.new.stopped ≡ false }
     ensures ok { IfOk result (IsSim steps (sim_start (start core.old.origin)) core.new.log) }
     ensures err { OnErr result (IsSimFront steps (sim_start (start core.old.origin)) core.new.log) }
 {

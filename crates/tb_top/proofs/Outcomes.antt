@@ -9,7 +9,7 @@ use Rattle.tb_core.specs.declared.log.Entry.{Entry}
 use Rattle.tb_core.specs.declared.simulation.SimEnd.{SimEnd}
 use Rattle.tb_core.specs.declared.simulation.SimEnd.TheVariants as sim
 use Rattle.tb_top.specs.PlainScript.{IsPlainProgram}
-use Rattle.tb_top.specs.Outcomes.{PutsFront, SimOutcome, FileOutcome, IsHeld, most_steps, Reported}
+use Rattle.tb_top.specs.Outcomes.{PutsFront, SimOutcome, FileOutcome, IsLoaded, most_steps, Reported}
 use Rattle.tb_top.specs.Lines.{status_line}
 use Rattle.tb_top.specs.Requests.{OriginOutcome, Reports, status_of_end}
 use Rattle.tb_top.specs.declared.status.Status.{Status}
@@ -38,7 +38,7 @@ log-front origin log last old new is trace front bytes plain =
     (log, record { program = origin.program; plain = plain; front = sim-front most_steps (sim_start (start origin)) log last is; trace = trace }, front)
 
 -- what the simulation of the bytes of a file comes to
-pub file-read : (told : Option (List ℕ)) (old new : Option (List ℕ)) (bytes : List ℕ) (status : Status) → IsHeld told bytes → SimOutcome bytes old new status → FileOutcome told old new status
+pub file-read : (told : Option (List ℕ)) (old new : Option (List ℕ)) (bytes : List ℕ) (status : Status) → IsLoaded told bytes → SimOutcome bytes old new status → FileOutcome told old new status
 file-read told old new bytes Ended held o = (bytes, held, o)
 file-read told old new bytes (Limit bound.Steps) held o = (bytes, held, o)
 file-read told old new bytes (Script (script.NotBuilt token)) held o = (bytes, held, o)

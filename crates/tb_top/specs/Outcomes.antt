@@ -1,6 +1,7 @@
--- When the program ends with which status, and what was put then: the whole of the top call.
+-- When the program ends with which status, what was put then, and what was asked for.
 use Rattle.std.specs.Prelude.{◌≡◌, ◌≢◌, ◌<◌, ◌≤◌, ◌⊎◌, ℕ, List, [], ◌∷◌, ◌++◌, Bool, not, ◌&&◌, if◌then◌else◌, Option, IfSome, length, codes, bytes_eq, nat_eq}
 use Rattle.std.specs.List.{starts_with}
+use Rattle.tb_edge.specs.Faults.{Rose}
 use Rattle.tb_edge.specs.Sinks.{Takes, TakesFront}
 use Rattle.tb_core.specs.Buses.{Origin, start}
 use Rattle.tb_core.specs.Traces.{IsTrace}
@@ -20,27 +21,29 @@ use Rattle.tb_top.specs.declared.status.Edge.TheVariants as edge
 use Rattle.tb_top.specs.declared.status.Bound.TheVariants as bound
 
 -- what the words of the command line ask for
-pub data Asked : Type 0 where
-  Nothing : Asked
+pub data Command : Type 0 where
+  Nothing : Command
   -- the simulation of the script in the file of this name
-  Simulate : List ℕ → Asked
-  Unbuilt : Asked
+  Simulate : List ℕ → Command
+  -- what isn't built
+  Unbuilt : Command
 
 abbrev pub is_script_name : List ℕ → Bool
 is_script_name word = not (starts_with nat_eq word (codes "--"))
 
--- The words are `sim` and a name that doesn't begin with `--`. All others wait for a later stage.
-abbrev pub asked : List (List ℕ) → Asked
-asked [] = Nothing
-asked (command ∷ []) = Unbuilt
-asked (command ∷ name ∷ []) = if bytes_eq command (codes "sim") && is_script_name name then Simulate name else Unbuilt
-asked (command ∷ name ∷ more ∷ words) = Unbuilt
+-- `sim` and a name that doesn't begin with `--` ask for a simulation, no words for nothing, and all
+-- others for what isn't built.
+abbrev pub command_of : List (List ℕ) → Command
+command_of [] = Nothing
+command_of (command ∷ []) = Unbuilt
+command_of (command ∷ name ∷ []) = if bytes_eq command (codes "sim") && is_script_name name then Simulate name else Unbuilt
+command_of (command ∷ name ∷ more ∷ words) = Unbuilt
 
 -- a script of more bytes is too long
 abbrev pub most_bytes : ℕ
 most_bytes = 1048576
 
--- after so many steps a simulation ends
+-- after so many steps a simulation ends where another is possible
 abbrev pub most_steps : ℕ
 most_steps = 1000000
 
@@ -87,29 +90,45 @@ SimOutcome bytes old new (Words fault) = ⊥
 SimOutcome bytes old new (Outside edge.File) = ⊥
 SimOutcome bytes old new (Outside edge.Err) = ⊥
 
--- what the files tell that a name holds, where they tell it
-abbrev pub IsHeld : Option (List ℕ) → List ℕ → Type 0
-IsHeld told bytes = IfSome told (λ held. bytes ≡ held) × (length bytes ≤ most_bytes)
+-- bytes that may be loaded: those that the name holds, where the files tell them, and not too many
+abbrev pub IsLoaded : Option (List ℕ) → List ℕ → Type 0
+IsLoaded told bytes = IfSome told (λ held. bytes ≡ held) × (length bytes ≤ most_bytes)
 
--- How the simulation of the script of a name may end.
+-- How the simulation of the script of a name may end, where the files tell perhaps what it holds.
 abbrev pub FileOutcome : Option (List ℕ) → Option (List ℕ) → Option (List ℕ) → Status → Type 0
 -- the file could not be read
 FileOutcome told old new (Outside edge.File) = new ≡ old
--- it has so many bytes, which are too many
+-- it has so many bytes, too many
 FileOutcome told old new (Script (script.TooLong len)) = (most_bytes < len) × IfSome told (λ held. len ≡ length held) × (new ≡ old)
 -- memory ran out, before the log was written or within it
-FileOutcome told old new NoMemory = (new ≡ old) ⊎ ((bytes : List ℕ) × IsHeld told bytes × PutsFront bytes old new)
--- it was read
-FileOutcome told old new status = (bytes : List ℕ) × IsHeld told bytes × SimOutcome bytes old new status
+FileOutcome told old new NoMemory = (new ≡ old) ⊎ ((bytes : List ℕ) × IsLoaded told bytes × PutsFront bytes old new)
+-- some bytes were read
+FileOutcome told old new status = (bytes : List ℕ) × IsLoaded told bytes × SimOutcome bytes old new status
 
 -- How a call with these words may end.
-abbrev pub AskedOutcome : Asked → (List ℕ → Option (List ℕ)) → Option (List ℕ) → Option (List ℕ) → Status → Type 0
-AskedOutcome Nothing held old new status = (status ≡ Words word.NoCommand) × (new ≡ old)
-AskedOutcome Unbuilt held old new status = (status ≡ Words (word.NotBuilt 1)) × (new ≡ old)
-AskedOutcome (Simulate name) held old new status = FileOutcome (held name) old new status
+abbrev pub CommandOutcome : Command → (List ℕ → Option (List ℕ)) → Option (List ℕ) → Option (List ℕ) → Status → Type 0
+CommandOutcome Nothing held old new status = (status ≡ Words word.NoCommand) × (new ≡ old)
+CommandOutcome Unbuilt held old new status = (status ≡ Words (word.NotBuilt 1)) × (new ≡ old)
+CommandOutcome (Simulate name) held old new status = FileOutcome (held name) old new status
 
--- What is put of a status to the sink of faults: nothing at the end; the status's line; or, where that
--- sink failed, a front of the line of the status that it hides.
+-- A thing of the outside is named only where its count of faults rose in the call.
+abbrev pub IsCaused : ℕ → ℕ → ℕ → ℕ → Status → Type 0
+IsCaused files_old files_new out_old out_new (Outside edge.File) = Rose files_old files_new
+IsCaused files_old files_new out_old out_new (Outside edge.Out) = Rose out_old out_new
+IsCaused files_old files_new out_old out_new (Outside edge.Err) = Unit {0}
+IsCaused files_old files_new out_old out_new Ended = Unit {0}
+IsCaused files_old files_new out_old out_new (Script fault) = Unit {0}
+IsCaused files_old files_new out_old out_new (Words fault) = Unit {0}
+IsCaused files_old files_new out_old out_new (Limit bound) = Unit {0}
+IsCaused files_old files_new out_old out_new NoMemory = Unit {0}
+
+-- a status may come: by the words, what the name holds and what was put, and by the counts of faults
+abbrev pub Comes : Command → (List ℕ → Option (List ℕ)) → Option (List ℕ) → Option (List ℕ) → ℕ → ℕ → ℕ → ℕ → Status → Type 0
+Comes command held old new files_old files_new out_old out_new status =
+    CommandOutcome command held old new status × IsCaused files_old files_new out_old out_new status
+
+-- What is put of a status to standard error: nothing at the end; the status's line; or, where standard
+-- error failed, a front of the line of the status that it hides.
 abbrev pub Reported : (Status → Type 0) → Option (List ℕ) → Option (List ℕ) → Status → Type 0
 Reported comes old new Ended = comes Ended × (new ≡ old)
 Reported comes old new (Outside edge.Err) = (hidden : Status) × comes hidden × (hidden ≢ Ended) × TakesFront old new (status_line hidden)
@@ -120,11 +139,14 @@ Reported comes old new (Words fault) = comes (Words fault) × Takes old new (sta
 Reported comes old new (Limit bound) = comes (Limit bound) × Takes old new (status_line (Limit bound))
 Reported comes old new NoMemory = comes NoMemory × Takes old new (status_line NoMemory)
 
--- the names that a call may ask the files for: that of the script, once at most
-abbrev pub may_ask : Asked → List (List ℕ)
-may_ask Nothing = []
-may_ask Unbuilt = []
-may_ask (Simulate name) = name ∷ []
+-- the names that a command asks the files for: that of the script
+abbrev pub names_of : Command → List (List ℕ)
+names_of Nothing = []
+names_of Unbuilt = []
+names_of (Simulate name) = name ∷ []
 
-abbrev pub AsksFor : Asked → List (List ℕ) → List (List ℕ) → Type 0
-AsksFor asks old new = (new ≡ old) ⊎ (new ≡ old ++ may_ask asks)
+-- They were asked for, once each, and no others; where memory ran out, or standard error failed, perhaps not.
+abbrev pub AsksFor : Command → List (List ℕ) → List (List ℕ) → Status → Type 0
+AsksFor command old new NoMemory = (new ≡ old) ⊎ (new ≡ old ++ names_of command)
+AsksFor command old new (Outside edge.Err) = (new ≡ old) ⊎ (new ≡ old ++ names_of command)
+AsksFor command old new status = new ≡ old ++ names_of command

@@ -11,3 +11,6 @@ mod top;
 pub use plain::{PlainFault, one_program, read_plain};
 pub use status::{Bound, Edge, ScriptFault, Status, WordFault};
 pub use top::toolbus;
+
+#[cfg(test)]
+mod tests;

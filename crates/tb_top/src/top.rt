@@ -3,7 +3,7 @@ ghost use Rattle.tb_edge.specs.Faults.{Rose};
 ghost use Rattle.tb_core.specs.Traces.{IsTrace};
 ghost use Rattle.tb_core.specs.Buses.{start};
 ghost use Rattle.tb_core.specs.Simulation.{IsSim, sim_start};
-ghost use Rattle.tb_top.specs.Outcomes.{asked, AskedOutcome, FileOutcome, SimOutcome, Reported, AsksFor, most_steps};
+ghost use Rattle.tb_top.specs.Outcomes.{command_of, Comes, CommandOutcome, FileOutcome, SimOutcome, Reported, AsksFor, most_steps};
 ghost use Rattle.tb_top.specs.Requests.{Reports, OriginOutcome, AsksName, status_of_end};
 
 use crate::line::put_line;
@@ -23,7 +23,8 @@ const MOST_BYTES: usize = 1_048_576;
 const MOST_STEPS: u64 = 1_000_000;
 
 /// Does what the words of the command line ask for: `sim NAME` writes to `out` the log of the
-/// simulation of the script in that file. Each status but `Ended` puts its one line to `err`.
+/// simulation of the script in that file. Each status but `Ended` puts its one line to `err`, and
+/// where `err` fails at that, the status is `Outside(Err)`.
 pub fn toolbus<F: Files, O: Sink, E: Sink>(
     alloc: Global,
     words: &Vec<String>,
@@ -33,9 +34,10 @@ pub fn toolbus<F: Files, O: Sink, E: Sink>(
 ) -> Status
     // Which status comes when, and what was put then.
     ensures outcome { Reported
-        (AskedOutcome (asked (map string_bytes words.now.items)) (F.held files.old) (O.taken out.old) (O.taken out.new))
+        (Comes (command_of (map string_bytes words.now.items)) (F.held files.old) (O.taken out.old) (O.taken out.new)
+        (F.faults files.old) (F.faults files.new) (O.faults out.old) (O.faults out.new))
         (E.taken err.old) (E.taken err.new) result }
-    ensures asks { AsksFor (asked (map string_bytes words.now.items)) (F.asked files.old) (F.asked files.new) }
+    ensures asks { AsksFor (command_of (map string_bytes words.now.items)) (F.asked files.old) (F.asked files.new) result }
 
     // A thing of the outside is named only where it failed in this call.
     ensures file_rose { result ≡ Status.Outside Edge.File → Rose (F.faults files.old) (F.faults files.new) }
@@ -74,8 +76,8 @@ fn answer<F: Files, O: Sink>(
     files: &mut F,
     out: &mut O,
 ) -> Status
-    ensures outcome { AskedOutcome (asked (map string_bytes words.now.items)) (F.held files.old) (O.taken out.old) (O.taken out.new) result }
-    ensures asks { AsksFor (asked (map string_bytes words.now.items)) (F.asked files.old) (F.asked files.new) }
+    ensures outcome { CommandOutcome (command_of (map string_bytes words.now.items)) (F.held files.old) (O.taken out.old) (O.taken out.new) result }
+    ensures asks { AsksFor (command_of (map string_bytes words.now.items)) (F.asked files.old) (F.asked files.new) result }
     ensures file_rose { result ≡ Status.Outside Edge.File → Rose (F.faults files.old) (F.faults files.new) }
     ensures out_rose { result ≡ Status.Outside Edge.Out → Rose (O.faults out.old) (O.faults out.new) }
     ensures not_err { result ≢ Status.Outside Edge.Err }
@@ -89,7 +91,7 @@ fn answer<F: Files, O: Sink>(
 
 fn simulate_file<F: Files, O: Sink>(alloc: Global, name: &str, files: &mut F, out: &mut O) -> Status
     ensures outcome { FileOutcome (F.held files.old name.now) (O.taken out.old) (O.taken out.new) result }
-    ensures asks { AsksName name.now (F.asked files.old) (F.asked files.new) }
+    ensures asks { AsksName name.now (F.asked files.old) (F.asked files.new) result }
     ensures file_rose { result ≡ Status.Outside Edge.File → Rose (F.faults files.old) (F.faults files.new) }
     ensures out_rose { result ≡ Status.Outside Edge.Out → Rose (O.faults out.old) (O.faults out.new) }
     ensures not_err { result ≢ Status.Outside Edge.Err }

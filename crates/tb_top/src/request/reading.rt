@@ -1,12 +1,12 @@
 ghost use Rattle.std.specs.Prelude.{◌≡◌, ◌∷◌, [], map, string_bytes, codes, bytes_eq};
-ghost use Rattle.tb_top.specs.Outcomes.{asked, is_script_name};
-ghost use Rattle.tb_top.specs.Requests.{asked_by};
+ghost use Rattle.tb_top.specs.Outcomes.{command_of, is_script_name};
+ghost use Rattle.tb_top.specs.Requests.{command_by};
 
 use super::Request;
 
 /// What the words ask for.
 pub fn read_request(words: &Vec<String>) -> Request<'_>
-    ensures { asked_by result ≡ asked (map string_bytes words.now.items) }
+    ensures { command_by result ≡ command_of (map string_bytes words.now.items) }
 {
     if words.is_empty() {
         return Request::Nothing;
@@ -18,7 +18,7 @@ pub fn read_request(words: &Vec<String>) -> Request<'_>
 }
 
 fn request_of<'w>(command: &str, name: &'w str) -> Request<'w>
-    ensures { asked_by result ≡ asked (command.now ∷ name.now ∷ []) }
+    ensures { command_by result ≡ command_of (command.now ∷ name.now ∷ []) }
 {
     if is_sim(command) && is_script_name(name) {
         Request::Simulate(name)
