@@ -1,5 +1,5 @@
 -- How the parts of the top call come to its outcome.
-use Rattle.std.proofs.Common.{◌≡◌, ℕ, Option, List, [], ◌∷◌, sym, subst, inl, inr}
+use Rattle.std.proofs.Common.{◌≡◌, ℕ, Option, List, [], ◌∷◌, refl, sym, subst, inl, inr}
 use Rattle.tb_edge.specs.Sinks.{Takes, TakesFront}
 use Rattle.tb_core.specs.Buses.{Origin, start}
 use Rattle.tb_core.specs.Traces.{IsTrace}
@@ -9,7 +9,8 @@ use Rattle.tb_core.specs.declared.log.Entry.{Entry}
 use Rattle.tb_core.specs.declared.simulation.SimEnd.{SimEnd}
 use Rattle.tb_core.specs.declared.simulation.SimEnd.TheVariants as sim
 use Rattle.tb_top.specs.PlainScript.{IsPlainProgram}
-use Rattle.tb_top.specs.Outcomes.{PutsFront, SimOutcome, FileOutcome, IsLoaded, most_steps, Reported}
+use Rattle.tb_edge.specs.Faults.{Rose}
+use Rattle.tb_top.specs.Outcomes.{PutsFront, SimOutcome, FileOutcome, IsLoaded, most_steps, IsCaused, Reported}
 use Rattle.tb_top.specs.Lines.{status_line}
 use Rattle.tb_top.specs.Requests.{OriginOutcome, Reports, status_of_end}
 use Rattle.tb_top.specs.declared.status.Status.{Status}
@@ -60,3 +61,14 @@ reported comes given old new (Script fault) p r = (subst comes r.0 p, subst (λ 
 reported comes given old new (Words fault) p r = (subst comes r.0 p, subst (λ (s : Status). Takes old new (status_line s)) r.0 r.1)
 reported comes given old new (Limit bound) p r = (subst comes r.0 p, subst (λ (s : Status). Takes old new (status_line s)) r.0 r.1)
 reported comes given old new NoMemory p r = (subst comes r.0 p, subst (λ (s : Status). Takes old new (status_line s)) r.0 r.1)
+
+-- the counts of faults that a status names rose
+pub caused : (files_old files_new out_old out_new : ℕ) (status : Status) → (status ≡ Outside edge.File → Rose files_old files_new) → (status ≡ Outside edge.Out → Rose out_old out_new) → IsCaused files_old files_new out_old out_new status
+caused files_old files_new out_old out_new (Outside edge.File) file out = file refl
+caused files_old files_new out_old out_new (Outside edge.Out) file out = out refl
+caused files_old files_new out_old out_new (Outside edge.Err) file out = tt
+caused files_old files_new out_old out_new Ended file out = tt
+caused files_old files_new out_old out_new (Script fault) file out = tt
+caused files_old files_new out_old out_new (Words fault) file out = tt
+caused files_old files_new out_old out_new (Limit bound) file out = tt
+caused files_old files_new out_old out_new NoMemory file out = tt
