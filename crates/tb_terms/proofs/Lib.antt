@@ -1,1 +1,3 @@
+pub mod Induction
 pub mod Joined
+pub mod TextBytes

@@ -1,6 +1,7 @@
--- Which bytes are the name of a term, and which are a string.
+-- Which bytes are the name of a term, the name of a process or a variable, and a string.
 use Rattle.std.specs.Prelude.{ℕ, Bool, false, ◌&&◌, ◌||◌, ◌==◌, nat_le, List, [], ◌∷◌}
 use Rattle.std.specs.List.{list_all}
+use Rattle.std.specs.Str.{is_utf8}
 
 abbrev pub is_lower : ℕ → Bool
 is_lower c = nat_le 97 c && nat_le c 122
@@ -19,9 +20,18 @@ abbrev pub is_name : List ℕ → Bool
 is_name [] = false
 is_name (c ∷ cs) = is_lower c && list_all is_name_byte cs
 
+-- the name of a process or a variable
+abbrev pub is_ident : List ℕ → Bool
+is_ident [] = false
+is_ident (c ∷ cs) = is_upper c && list_all is_name_byte cs
+
 -- what a string may have: no byte below 32 but tab, newline and carriage return
 abbrev pub is_text_byte : ℕ → Bool
 is_text_byte c = nat_le 32 c || (c == 9) || (c == 10) || (c == 13)
 
 abbrev pub is_text : List ℕ → Bool
 is_text bytes = list_all is_text_byte bytes
+
+-- a string's bytes
+abbrev pub is_string : List ℕ → Bool
+is_string bytes = is_utf8 bytes && is_text bytes

@@ -1,15 +1,32 @@
-//! Terms and their parts: names, strings, lists, and the one text of a term.
+//! Terms and their parts: names, strings, lists, sorts, the one text of a term; and the expressions
+//! and patterns of scripts.
 #![tactic(auto)]
 
+mod expr;
+mod ident;
+mod measure;
 mod memory;
 mod name;
+mod pattern;
+mod proper;
+mod sort;
+mod sorted;
 mod term;
+#[cfg(test)]
+mod tests;
 mod text;
 mod write;
 
+pub use expr::{Expr, Exprs, Func, copy_exprs};
+pub use ident::{Ident, is_ident_bytes};
+pub use measure::{depth, size};
 pub use memory::NoMemory;
-pub use name::Name;
+pub use name::{Name, Names, is_name_bytes};
+pub use pattern::{Pattern, Patterns, copy_patterns, same_pattern_lists};
+pub use proper::show_proper;
+pub use sort::{Sort, Sorts};
+pub use sorted::{has_sort, initial};
 pub use sqlite_items::{Boxed, Items};
 pub use term::{Term, Terms, copy_terms, same, same_terms};
-pub use text::Text;
+pub use text::{Text, Texts};
 pub use write::{write_term, write_terms};

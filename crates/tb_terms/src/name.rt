@@ -2,7 +2,7 @@ ghost use Rattle.std.specs.Prelude.{◌≡◌, ◌↔◌, IsTrue, IfOk, Some, No
 ghost use Rattle.std.specs.List.{list_all};
 ghost use Rattle.tb_terms.specs.Names.{is_name, is_name_byte};
 
-use crate::NoMemory;
+use crate::{Items, NoMemory};
 use std::alloc::Global;
 use std::marker::Model;
 
@@ -12,6 +12,8 @@ use std::marker::Model;
 pub struct Name {
     bytes: Vec<u8>,
 }
+
+pub type Names = Items<Name>;
 
 impl Model for Name {
     ghost use Rattle.std.specs.Prelude.{List, ℕ, IsTrue};
@@ -25,6 +27,15 @@ impl Model for Name {
 }
 
 impl Name {
+    /// The name with these bytes, of which `is_name_bytes` says whether they are one.
+    pub fn new(alloc: Global, bytes: &[u8]) -> Result<Name, NoMemory>
+        requires { IsTrue (is_name bytes.now) }
+        ensures { IfOk result (λ name. name ≡ bytes.now) }
+    {
+        let bytes = Vec::from_slice(alloc, bytes)?;
+        Ok(Name { bytes })
+    }
+
     /// The name with these bytes, where they are one.
     pub fn from_bytes(alloc: Global, bytes: &[u8]) -> Result<Option<Name>, NoMemory>
         ensures { IfOk result (λ name. name ≡ (if is_name bytes.now then Some bytes.now else None)) }
@@ -32,8 +43,7 @@ impl Name {
         if !is_name_bytes(bytes) {
             return Ok(None);
         }
-        let bytes = Vec::from_slice(alloc, bytes)?;
-        Ok(Some(Name { bytes }))
+        Ok(Some(Name::new(alloc, bytes)?))
     }
 
     pub fn as_bytes(&self) -> &[u8]
@@ -43,11 +53,16 @@ impl Name {
         self.bytes.as_slice()
     }
 
+    pub fn is_same(&self, other: &Name) -> bool
+        ensures { IsTrue result ↔ (self.now ≡ other.now) }
+    {
+        self.as_bytes() == other.as_bytes()
+    }
+
     pub fn copy(&self, alloc: Global) -> Result<Name, NoMemory>
         ensures { IfOk result (λ copy. copy ≡ self.now) }
     {
-        let bytes = Vec::from_slice(alloc, self.bytes.as_slice())?;
-        Ok(Name { bytes })
+        Name::new(alloc, self.as_bytes())
     }
 }
 
@@ -61,7 +76,7 @@ pub fn is_name_bytes(bytes: &[u8]) -> bool
     }
 }
 
-fn are_name_bytes(bytes: &[u8]) -> bool
+pub(crate) fn are_name_bytes(bytes: &[u8]) -> bool
     ensures { result ≡ list_all is_name_byte bytes.now }
 {
     for byte in bytes {

@@ -83,7 +83,7 @@ fn is_str(text: &Text, term: &Term) -> bool
     ensures { IsTrue result ↔ (Term.Str text.now ≡ term.now) }
 {
     match term {
-        Term::Str(other) => text.as_bytes() == other.as_bytes(),
+        Term::Str(other) => text.is_same(other),
         _ => false,
     }
 }
@@ -93,9 +93,7 @@ fn is_appl(name: &Name, parts: &[Term], term: &Term) -> bool
     ensures { IsTrue result ↔ (Term.Appl name.now parts.now ≡ term.now) }
 {
     match term {
-        Term::Appl(other, others) => {
-            name.as_bytes() == other.as_bytes() && same_all(parts, others.as_slice())
-        }
+        Term::Appl(other, others) => { name.is_same(other) && same_all(parts, others.as_slice()) }
         _ => false,
     }
 }

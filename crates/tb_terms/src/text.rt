@@ -1,8 +1,8 @@
-ghost use Rattle.std.specs.Prelude.{◌≡◌, IsTrue, IfOk, Some, None, if◌then◌else◌};
+ghost use Rattle.std.specs.Prelude.{◌≡◌, ◌↔◌, [], IsTrue, IfOk, Some, None, if◌then◌else◌};
 ghost use Rattle.std.specs.List.{list_all};
-ghost use Rattle.tb_terms.specs.Names.{is_text_byte, is_text};
+ghost use Rattle.tb_terms.specs.Names.{is_text_byte, is_text, is_string};
 
-use crate::NoMemory;
+use crate::{Items, NoMemory};
 use std::alloc::Global;
 use std::marker::Model;
 
@@ -12,6 +12,8 @@ use std::marker::Model;
 pub struct Text {
     text: String,
 }
+
+pub type Texts = Items<Text>;
 
 impl Model for Text {
     ghost use Rattle.std.specs.Prelude.{List, ℕ, IsTrue, string_bytes};
@@ -25,6 +27,15 @@ impl Model for Text {
 }
 
 impl Text {
+    /// A text with no bytes, which takes no memory.
+    pub fn empty(alloc: Global) -> Text
+        ensures { result ≡ [] }
+    {
+        Text {
+            text: String::new(alloc),
+        }
+    }
+
     /// This text, where it has no byte that a string may not have.
     pub fn from_str(alloc: Global, text: &str) -> Result<Option<Text>, NoMemory>
         ensures { IfOk result (λ made. made ≡ (if is_text text.now then Some text.now else None)) }
@@ -34,6 +45,19 @@ impl Text {
         }
         let text = String::from_str(alloc, text)?;
         Ok(Some(Text { text }))
+    }
+
+    /// The text with these bytes, where they are one.
+    pub fn from_vec(bytes: Vec<u8>) -> Option<Text>
+        ensures { result ≡ (if is_string bytes.items then Some bytes.items else None) }
+    {
+        if !are_text_bytes(bytes.as_slice()) {
+            return None;
+        }
+        match String::from_utf8(bytes) {
+            Ok(text) => Some(Text { text }),
+            Err(_) => None,
+        }
     }
 
     pub fn as_str(&self) -> &str
@@ -47,6 +71,12 @@ impl Text {
         ensures { result.now ≡ self.now }
     {
         self.text.as_bytes()
+    }
+
+    pub fn is_same(&self, other: &Text) -> bool
+        ensures { IsTrue result ↔ (self.now ≡ other.now) }
+    {
+        self.as_bytes() == other.as_bytes()
     }
 
     pub fn copy(&self, alloc: Global) -> Result<Text, NoMemory>

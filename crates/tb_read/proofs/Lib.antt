@@ -1,0 +1,13 @@
+pub mod Chars
+pub mod Complete
+pub mod Counted
+pub mod Faults
+pub mod Grammar
+pub mod Lexed
+pub mod Names
+pub mod Outcomes
+pub mod Scalars
+pub mod Strings
+pub mod Terms
+pub mod Wholes
+pub mod Written

@@ -1,0 +1,171 @@
+-- What a scan, the limits and the building of a term say of the whole text.
+use Rattle.std.proofs.Common.{◌≡◌, ℕ, ℤ, suc, ◌-◌, ◌≤◌, ◌<◌, Bool, true, false, cond, ltb, List, [], ◌∷◌, length, take, drop, Option, Some, None, Result, Ok, Err, refl, ap, sym, ◌∙◌, subst}
+use Rattle.std.proofs.lemmas.Bool.{ltb-true, ltb-false}
+use Rattle.std.specs.List.{prefix_len}
+use Rattle.tb_terms.specs.Names.{is_digit}
+use Rattle.tb_terms.specs.Sizes.{term_size, term_levels, IsWithinLimits}
+use Rattle.tb_terms.specs.declared.term.Term.{Term}
+use Rattle.tb_read.specs.declared.token.Token.{Token}
+use Rattle.tb_read.specs.declared.fault.TermFault.{TermFault}
+use Rattle.tb_read.specs.declared.fault.TermFault.TheVariants as fault
+use Rattle.tb_read.specs.declared.kind.Kind.{Kind}
+use Rattle.tb_read.specs.declared.kind.Kind.TheVariants as kind
+use Rattle.tb_read.specs.declared.quoted.Within.{Within}
+use Rattle.tb_read.specs.declared.quoted.Within.TheVariants.{Between}
+use Rattle.tb_read.specs.declared.quoted.Turn.{Turn}
+use Rattle.tb_read.specs.declared.quoted.Turn.TheVariants.{Ends, Goes, Puts, Bad}
+use Rattle.tb_read.specs.declared.shape.Shape.{Shape}
+use Rattle.tb_read.specs.Tokens.{tokens_of}
+use Rattle.tb_read.specs.Limits.{tokens_size, tokens_levels}
+use Rattle.tb_read.specs.Building.{built_from, nothing}
+use Rattle.tb_read.specs.Spelling.{digits_value, Spaced, Reads}
+use Rattle.tb_read.specs.Lexing.{string_turn, string_rest, with_front, string_of, is_real, is_negative, number_of, in_range, number_from, kind_of, token_of, skip_blanks}
+use Rattle.tb_read.specs.Scanning.{Ends as Stops, allows, after, may_end, made, next_at, start, Runs, Scans}
+use Rattle.tb_read.specs.Reading.{HasFault, over_limit}
+use Rattle.tb_read.specs.Answers.{Faulted}
+use Rattle.tb_read.proofs.Strings.{turned}
+use Rattle.tb_read.proofs.Lexed.{Lexed, runs_sound}
+use Rattle.tb_read.proofs.Grammar.{term-accepts}
+use Rattle.tb_read.proofs.Counted.{tokens_size-tokens_of, tokens_levels-tokens_of}
+
+-- a fault of a place in the text
+abbrev IsPlaced : TermFault → Type 0
+IsPlaced (fault.Syntax place) = Unit {0}
+IsPlaced (fault.Real place) = Unit {0}
+IsPlaced (fault.IntRange place) = Unit {0}
+IsPlaced fault.TooLarge = ⊥
+IsPlaced fault.TooDeep = ⊥
+IsPlaced fault.NoMemory = ⊥
+
+same_fault : {X : Type 0} (f g : TermFault) → ◌≡◌ {A = Result X TermFault} (Err f) (Err g) → IsPlaced f → IsPlaced g
+same_fault f g e p = let same : f ≡ g = cc in subst IsPlaced same p
+
+abbrev Pair : Type 0
+Pair = List ℕ × List ℕ
+
+front_err : (front : List ℕ) (r : Result Pair TermFault) (f : TermFault) → with_front front r ≡ Err f → r ≡ Err f
+front_err front (Ok x) f e = cc
+front_err front (Err g) f e = let same : g ≡ f = cc in ap (λ (h : TermFault). Err h) same
+
+turned_placed : (total : ℕ) (bytes : List ℕ) → ((w : Within) (f : TermFault) → string_rest total w bytes ≡ Err f → IsPlaced f) → (t : Turn) (f : TermFault) → turned total t bytes ≡ Err f → IsPlaced f
+turned_placed total bytes rest Ends f e = cc
+turned_placed total bytes rest (Goes next) f e = rest next f e
+turned_placed total bytes rest (Puts put next) f e = rest next f (front_err (put ∷ []) (string_rest total next bytes) f e)
+turned_placed total bytes rest Bad f e = same_fault (fault.Syntax (total - suc (length bytes))) f e tt
+
+rest_placed : (total : ℕ) (bytes : List ℕ) (w : Within) (f : TermFault) → string_rest total w bytes ≡ Err f → IsPlaced f
+rest_placed total [] w f e = same_fault (fault.Syntax total) f e tt
+rest_placed total (b ∷ bytes) w f e = turned_placed total bytes (rest_placed total bytes) (string_turn w b) f e
+
+string_placed : (total : ℕ) (bytes : List ℕ) (r : Result Pair TermFault) → string_rest total Between bytes ≡ r → (f : TermFault) → string_of r ≡ Err f → IsPlaced f
+string_placed total bytes (Err g) r f e = same_fault g f e (rest_placed total bytes Between g r)
+string_placed total bytes (Ok y) r f e = cc
+
+number_by : (place : ℕ) (rest : List ℕ) (v : Bool) (o : Option ℤ) (f : TermFault) → ◌≡◌ {A = Result Lexed TermFault} (cond v (Err (fault.Real place)) (in_range place o rest)) (Err f) → IsPlaced f
+number_by place rest true o f e = same_fault (fault.Real place) f e tt
+number_by place rest false None f e = same_fault (fault.IntRange place) f e tt
+number_by place rest false (Some z) f e = cc
+
+number_placed : (total place : ℕ) (negative : Bool) (digits rest : List ℕ) (f : TermFault) → number_from total place negative digits rest ≡ Err f → IsPlaced f
+number_placed total place negative [] rest f e = same_fault (fault.Syntax (total - length rest)) f e tt
+number_placed total place negative (d ∷ digits) rest f e = number_by place rest (is_real rest) (number_of negative (digits_value (d ∷ digits))) f e
+
+token_placed : (next : Kind) (total : ℕ) (bytes : List ℕ) (f : TermFault) → token_of next total bytes ≡ Err f → IsPlaced f
+token_placed kind.LeftParen total bytes f e = cc
+token_placed kind.RightParen total bytes f e = cc
+token_placed kind.LeftBracket total bytes f e = cc
+token_placed kind.RightBracket total bytes f e = cc
+token_placed kind.Comma total bytes f e = cc
+token_placed kind.Name total bytes f e = cc
+token_placed kind.Str total [] f e = same_fault (fault.Syntax total) f e tt
+token_placed kind.Str total (b ∷ bytes) f e = string_placed total bytes (string_rest total Between bytes) refl f e
+token_placed kind.Int total bytes f e =
+    let unsigned = drop (cond (is_negative bytes) 1 0) bytes in
+    let len = prefix_len is_digit unsigned in
+    number_placed total (total - length bytes) (is_negative bytes) (take len unsigned) (drop len unsigned) f e
+token_placed kind.Other total bytes f e = same_fault (fault.Syntax (total - length bytes)) f e tt
+
+made_placed : (r : Result Lexed TermFault) (f : TermFault) → ((g : TermFault) → r ≡ Err g → IsPlaced g) → made r ≡ Stops (Some f) → IsPlaced f
+made_placed (Ok x) f h e = cc
+made_placed (Err g) f h e = let same : g ≡ f = cc in subst IsPlaced same (h g refl)
+
+next_by : (v : Bool) (r : Result Lexed TermFault) (place : ℕ) (f : TermFault) → ((g : TermFault) → r ≡ Err g → IsPlaced g) → cond v (made r) (Stops (Some (fault.Syntax place))) ≡ Stops (Some f) → IsPlaced f
+next_by true r place f h e = made_placed r f h e
+next_by false r place f h e = let same : fault.Syntax place ≡ f = cc in subst IsPlaced same tt
+
+end_by : (v : Bool) (total : ℕ) (f : TermFault) → cond v (Stops None) (Stops (Some (fault.Syntax total))) ≡ Stops (Some f) → IsPlaced f
+end_by true total f e = cc
+end_by false total f e = let same : fault.Syntax total ≡ f = cc in subst IsPlaced same tt
+
+next_placed : (s : Shape) (total : ℕ) (l : List ℕ) (f : TermFault) → next_at s total l ≡ Stops (Some f) → IsPlaced f
+next_placed s total [] f e = end_by (may_end s.expect s.brackets) total f e
+next_placed s total (b ∷ l) f e = next_by (allows s (kind_of b)) (token_of (kind_of b) total (b ∷ l)) (total - length (b ∷ l)) f (λ g h. token_placed (kind_of b) total (b ∷ l) g h) e
+
+pub runs_placed : (ks : List Token) (s : Shape) (total : ℕ) (bytes : List ℕ) (f : TermFault) → Runs s total bytes ks (Some f) → IsPlaced f
+runs_placed [] s total bytes f r = next_placed s total (skip_blanks bytes) f r
+runs_placed (k ∷ ks) s total bytes f r = runs_placed ks (after s k) total r.0 f r.2
+
+pub fault_of_scan : (bytes : List ℕ) (e : TermFault) → Faulted (λ f. (ks : List Token) × Scans bytes ks (Some f)) e → HasFault bytes e
+fault_of_scan bytes fault.NoMemory h = tt
+fault_of_scan bytes (fault.Syntax place) h = h
+fault_of_scan bytes (fault.Real place) h = h
+fault_of_scan bytes (fault.IntRange place) h = h
+fault_of_scan bytes fault.TooLarge h = absurd (runs_placed h.0 start (length bytes) bytes fault.TooLarge h.1)
+fault_of_scan bytes fault.TooDeep h = absurd (runs_placed h.0 start (length bytes) bytes fault.TooDeep h.1)
+
+-- what is scanned to the end is one term's text
+abbrev Whole : List ℕ → List Token → Type 0
+Whole bytes ks = (t : Term) × ((built_from nothing ks).done ≡ Some t) × (ks ≡ tokens_of t) × Reads bytes t
+
+pub scanned : (bytes : List ℕ) (ks : List Token) → Scans bytes ks None → Whole bytes ks
+scanned bytes ks r =
+    let p = runs_sound ks start (length bytes) bytes r in
+    let q = term-accepts ks p.0 in
+    (q.0, q.1, q.2, subst (λ l. Spaced l bytes) q.2 p.1)
+
+abbrev Limited : ℕ → ℕ → Option TermFault → Type 0
+Limited size levels None = (size ≤ 65536) × (levels ≤ 64)
+Limited size levels (Some fault.TooLarge) = 65536 < size
+Limited size levels (Some fault.TooDeep) = (size ≤ 65536) × (64 < levels)
+Limited size levels (Some _) = ⊥
+
+limited_by : (size levels : ℕ) (v w : Bool) → ltb 65536 size ≡ v → ltb 64 levels ≡ w → Limited size levels (cond v (Some fault.TooLarge) (cond w (Some fault.TooDeep) None))
+limited_by size levels true w ev ew = ltb-true 65536 size ev
+limited_by size levels false true ev ew = (ltb-false 65536 size ev, ltb-true 64 levels ew)
+limited_by size levels false false ev ew = (ltb-false 65536 size ev, ltb-false 64 levels ew)
+
+limited : (ks : List Token) → Limited (tokens_size ks) (tokens_levels 0 ks) (over_limit ks)
+limited ks = limited_by (tokens_size ks) (tokens_levels 0 ks) (ltb 65536 (tokens_size ks)) (ltb 64 (tokens_levels 0 ks)) refl refl
+
+limited_term : (ks : List Token) (t : Term) → ks ≡ tokens_of t → Limited (term_size t) (term_levels t) (over_limit ks)
+limited_term ks t e =
+    let size : tokens_size ks ≡ term_size t = ap tokens_size e ∙ tokens_size-tokens_of t in
+    let levels : tokens_levels 0 ks ≡ term_levels t = ap (tokens_levels 0) e ∙ tokens_levels-tokens_of t in
+    subst (λ n. Limited n (term_levels t) (over_limit ks)) size (subst (λ n. Limited (tokens_size ks) n (over_limit ks)) levels (limited ks))
+
+pub found_term : (bytes : List ℕ) (ks : List Token) (t : Term) → Scans bytes ks None → over_limit ks ≡ None → (built_from nothing ks).done ≡ Some t → Reads bytes t × IsWithinLimits t
+found_term bytes ks t r o b =
+    let w = scanned bytes ks r in
+    let same : ◌≡◌ {A = Option Term} (Some w.0) (Some t) = sym w.1 ∙ b in
+    let is : w.0 ≡ t = cc in
+    let l : Limited (term_size w.0) (term_levels w.0) None = subst (λ f. Limited (term_size w.0) (term_levels w.0) f) o (limited_term ks w.0 w.2) in
+    subst (λ (u : Term). Reads bytes u × IsWithinLimits u) is (w.3, record { size = l.0; levels = l.1 })
+
+over_fault : (bytes : List ℕ) (t : Term) (f : TermFault) → Reads bytes t → Limited (term_size t) (term_levels t) (Some f) → HasFault bytes f
+over_fault bytes t (fault.Syntax place) r l = absurd l
+over_fault bytes t (fault.Real place) r l = absurd l
+over_fault bytes t (fault.IntRange place) r l = absurd l
+over_fault bytes t fault.TooLarge r l = (t, r, l)
+over_fault bytes t fault.TooDeep r l = (t, r, l.0, l.1)
+over_fault bytes t fault.NoMemory r l = tt
+
+pub fault_of_limit : (bytes : List ℕ) (ks : List Token) (f : TermFault) → Scans bytes ks None → over_limit ks ≡ Some f → HasFault bytes f
+fault_of_limit bytes ks f r o =
+    let w = scanned bytes ks r in
+    over_fault bytes w.0 f w.3 (subst (λ g. Limited (term_size w.0) (term_levels w.0) g) o (limited_term ks w.0 w.2))
+
+pub always_built : (bytes : List ℕ) (ks : List Token) → Scans bytes ks None → (built_from nothing ks).done ≡ None → ⊥
+always_built bytes ks r e =
+    let w = scanned bytes ks r in
+    let no : ◌≡◌ {A = Option Term} (Some w.0) None = sym w.1 ∙ e in
+    cc

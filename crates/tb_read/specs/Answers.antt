@@ -1,0 +1,35 @@
+-- What a function answers that may find a fault, or run out of memory.
+use Rattle.std.specs.Prelude.{◌≡◌, ℕ, List, Option, Some, None, Result, Ok, Err}
+use Rattle.std.specs.Prelude.{Vec}
+use Rattle.std.specs.Global.{Global}
+use Rattle.std.specs.Borrow.{Bor}
+use Rattle.tb_read.specs.declared.token.Token.{Token}
+use Rattle.tb_read.specs.declared.fault.TermFault.{TermFault}
+use Rattle.tb_read.specs.declared.fault.TermFault.TheVariants as fault
+use Rattle.tb_read.specs.declared.shape.Shape.{Shape}
+use Rattle.tb_read.specs.Scanning.{Makes, Ends, next_of, after, Scans}
+
+-- a claim of each fault but want of memory, which is free
+abbrev pub Faulted : (TermFault → Type 0) → TermFault → Type 0
+Faulted P fault.NoMemory = Unit {0}
+Faulted P (fault.Syntax place) = P (fault.Syntax place)
+Faulted P (fault.Real place) = P (fault.Real place)
+Faulted P (fault.IntRange place) = P (fault.IntRange place)
+Faulted P fault.TooLarge = P fault.TooLarge
+Faulted P fault.TooDeep = P fault.TooDeep
+
+-- what was returned, seen by view, is what is found
+abbrev pub Gives : {X Y : Type 0} → (X → Y) → Result X TermFault → Result Y TermFault → Type 0
+Gives view (Ok x) found = found ≡ Ok (view x)
+Gives view (Err e) found = Faulted (λ f. found ≡ Err f) e
+
+-- The next token was found with the bytes behind it and was taken, or the text has ended, or this is the fault.
+abbrev pub IsNext : Shape → Shape → ℕ → List ℕ → Result (Option (Token × Bor (List ℕ))) TermFault → Type 0
+IsNext old new total bytes (Ok None) = next_of old total bytes ≡ Ends None
+IsNext old new total bytes (Ok (Some found)) = (next_of old total bytes ≡ Makes found.0 found.1.now) × (new ≡ after old found.0)
+IsNext old new total bytes (Err e) = Faulted (λ f. next_of old total bytes ≡ Ends (Some f)) e
+
+-- the tokens are those of the whole text, or the fault is that at which the scan ends
+abbrev pub HasScanned : List ℕ → Result (Vec Token Global) TermFault → Type 0
+HasScanned bytes (Ok tokens) = Scans bytes tokens.items None
+HasScanned bytes (Err e) = Faulted (λ f. (tokens : List Token) × Scans bytes tokens (Some f)) e

@@ -1,0 +1,156 @@
+-- The token with which bytes begin, or the first fault in it. A place counts from the front of a text of this length.
+use Rattle.std.specs.Prelude.{ℕ, suc, ◌-◌, ◌^◌, ℤ, pos, neg_ℤ, Bool, true, false, not, ◌&&◌, ◌||◌, ◌==◌, nat_lt, nat_le, List, [], ◌∷◌, ◌++◌, length, take, drop, Option, Some, None, Result, Ok, Err, if◌then◌else◌}
+use Rattle.std.specs.List.{prefix_len}
+use Rattle.tb_terms.specs.Names.{is_digit, is_lower, is_name_byte}
+use Rattle.tb_read.specs.Spelling.{is_blank, digits_value}
+use Rattle.tb_read.specs.declared.token.Token.{Token}
+use Rattle.tb_read.specs.declared.token.Token.TheVariants.{Int, Str, Name, LeftParen, RightParen, LeftBracket, RightBracket, Comma}
+use Rattle.tb_read.specs.declared.quoted.Within.{Within}
+use Rattle.tb_read.specs.declared.quoted.Within.TheVariants.{Between, Escaped, Going}
+use Rattle.tb_read.specs.declared.quoted.Turn.{Turn}
+use Rattle.tb_read.specs.declared.quoted.Turn.TheVariants.{Ends, Goes, Puts, Bad}
+use Rattle.tb_read.specs.declared.fault.TermFault.{TermFault}
+use Rattle.tb_read.specs.declared.fault.TermFault.TheVariants.{Syntax, Real, IntRange}
+use Rattle.tb_read.specs.declared.kind.Kind.{Kind}
+use Rattle.tb_read.specs.declared.kind.Kind.TheVariants as kind
+
+abbrev pub skip_blanks : List ℕ → List ℕ
+skip_blanks [] = []
+skip_blanks (byte ∷ bytes) = if is_blank byte then skip_blanks bytes else byte ∷ bytes
+
+-- the byte for which a letter stands behind a backslash
+abbrev pub unescaped : ℕ → Option ℕ
+unescaped letter =
+    if letter == 92 then Some 92
+    else (if letter == 34 then Some 34
+    else (if letter == 110 then Some 10
+    else (if letter == 114 then Some 13
+    else (if letter == 116 then Some 9 else None))))
+
+-- How a character of several bytes may go on behind its first byte: how many bytes are to come, and the range of the next.
+abbrev pub lead : ℕ → Turn
+lead byte =
+    if nat_lt byte 128 then Puts byte Between
+    else (if nat_lt byte 194 then Bad
+    else (if nat_lt byte 224 then Puts byte (Going 1 128 191)
+    else (if byte == 224 then Puts byte (Going 2 160 191)
+    else (if byte == 237 then Puts byte (Going 2 128 159)
+    else (if nat_lt byte 240 then Puts byte (Going 2 128 191)
+    else (if byte == 240 then Puts byte (Going 3 144 191)
+    else (if nat_lt byte 244 then Puts byte (Going 3 128 191)
+    else (if byte == 244 then Puts byte (Going 3 128 143) else Bad))))))))
+
+-- a byte at which a character begins, or the quote at the string's end
+abbrev pub between_turn : ℕ → Turn
+between_turn byte =
+    if byte == 34 then Ends
+    else (if byte == 92 then Goes Escaped
+    else (if nat_lt byte 32 && not (byte == 9) then Bad else lead byte))
+
+abbrev pub escaped_turn : Option ℕ → Turn
+escaped_turn None = Bad
+escaped_turn (Some byte) = Puts byte Between
+
+abbrev pub going_turn : ℕ → ℕ → ℕ → ℕ → Turn
+going_turn more low high byte =
+    if nat_le low byte && nat_le byte high
+    then Puts byte (if nat_lt more 2 then Between else Going (more - 1) 128 191)
+    else Bad
+
+-- what the next byte of a string does
+abbrev pub string_turn : Within → ℕ → Turn
+string_turn Between byte = between_turn byte
+string_turn Escaped byte = escaped_turn (unescaped byte)
+string_turn (Going more low high) byte = going_turn more low high byte
+
+abbrev pub with_front : List ℕ → Result (List ℕ × List ℕ) TermFault → Result (List ℕ × List ℕ) TermFault
+with_front front (Ok found) = Ok (front ++ found.0, found.1)
+with_front front (Err fault) = Err fault
+
+-- the bytes of a string up to its closing quote, and what follows it
+abbrev pub string_rest : ℕ → Within → List ℕ → Result (List ℕ × List ℕ) TermFault
+string_rest total within [] = Err (Syntax total)
+string_rest total within (byte ∷ bytes) = elim (string_turn within byte) [
+  | Ends ↦ Ok ([], bytes)
+  | Goes next ↦ string_rest total next bytes
+  | Puts put next ↦ with_front (put ∷ []) (string_rest total next bytes)
+  | Bad ↦ Err (Syntax (total - suc (length bytes)))
+]
+
+abbrev pub string_of : Result (List ℕ × List ℕ) TermFault → Result (Token × List ℕ) TermFault
+string_of (Err fault) = Err fault
+string_of (Ok found) = Ok (Str found.0, found.1)
+
+abbrev pub string_at : ℕ → List ℕ → Result (Token × List ℕ) TermFault
+string_at total [] = Err (Syntax total)
+string_at total (quote ∷ bytes) = string_of (string_rest total Between bytes)
+
+abbrev pub name_at : List ℕ → Result (Token × List ℕ) TermFault
+name_at bytes = let len = prefix_len is_name_byte bytes in Ok (Name (take len bytes), drop len bytes)
+
+abbrev pub is_negative : List ℕ → Bool
+is_negative [] = false
+is_negative (byte ∷ bytes) = byte == 45
+
+-- a point and a digit
+abbrev pub is_real : List ℕ → Bool
+is_real [] = false
+is_real (point ∷ []) = false
+is_real (point ∷ digit ∷ bytes) = (point == 46) && is_digit digit
+
+abbrev pub number_of : Bool → ℕ → Option ℤ
+number_of true value = if nat_le value (2 ^ 63) then Some (neg_ℤ (pos value)) else None
+number_of false value = if nat_lt value (2 ^ 63) then Some (pos value) else None
+
+abbrev pub in_range : ℕ → Option ℤ → List ℕ → Result (Token × List ℕ) TermFault
+in_range place None rest = Err (IntRange place)
+in_range place (Some number) rest = Ok (Int number, rest)
+
+-- a number whose digits, and what follows them, have been found
+abbrev pub number_from : ℕ → ℕ → Bool → List ℕ → List ℕ → Result (Token × List ℕ) TermFault
+number_from total place negative [] rest = Err (Syntax (total - length rest))
+number_from total place negative (digit ∷ digits) rest =
+    if is_real rest then Err (Real place) else in_range place (number_of negative (digits_value (digit ∷ digits))) rest
+
+abbrev pub number_at : ℕ → List ℕ → Result (Token × List ℕ) TermFault
+number_at total bytes =
+    let negative = is_negative bytes in
+    let unsigned = drop (if negative then 1 else 0) bytes in
+    let len = prefix_len is_digit unsigned in
+    number_from total (total - length bytes) negative (take len unsigned) (drop len unsigned)
+
+-- what begins with this byte
+abbrev pub kind_of : ℕ → Kind
+kind_of byte =
+    if byte == 40 then kind.LeftParen
+    else (if byte == 41 then kind.RightParen
+    else (if byte == 91 then kind.LeftBracket
+    else (if byte == 93 then kind.RightBracket
+    else (if byte == 44 then kind.Comma
+    else (if byte == 34 then kind.Str
+    else (if is_lower byte then kind.Name
+    else (if is_digit byte || (byte == 45) then kind.Int else kind.Other)))))))
+
+-- the bytes begin as a token of this kind does
+abbrev pub begins_with : Kind → List ℕ → Bool
+begins_with next [] = false
+begins_with kind.LeftParen (byte ∷ bytes) = byte == 40
+begins_with kind.RightParen (byte ∷ bytes) = byte == 41
+begins_with kind.LeftBracket (byte ∷ bytes) = byte == 91
+begins_with kind.RightBracket (byte ∷ bytes) = byte == 93
+begins_with kind.Comma (byte ∷ bytes) = byte == 44
+begins_with kind.Str (byte ∷ bytes) = byte == 34
+begins_with kind.Name (byte ∷ bytes) = is_lower byte
+begins_with kind.Int (byte ∷ bytes) = is_digit byte || (byte == 45)
+begins_with kind.Other (byte ∷ bytes) = true
+
+abbrev pub token_of : Kind → ℕ → List ℕ → Result (Token × List ℕ) TermFault
+token_of kind.LeftParen total bytes = Ok (LeftParen, drop 1 bytes)
+token_of kind.RightParen total bytes = Ok (RightParen, drop 1 bytes)
+token_of kind.LeftBracket total bytes = Ok (LeftBracket, drop 1 bytes)
+token_of kind.RightBracket total bytes = Ok (RightBracket, drop 1 bytes)
+token_of kind.Comma total bytes = Ok (Comma, drop 1 bytes)
+token_of kind.Str total bytes = string_at total bytes
+token_of kind.Name total bytes = name_at bytes
+token_of kind.Int total bytes = number_at total bytes
+token_of kind.Other total bytes = Err (Syntax (total - length bytes))

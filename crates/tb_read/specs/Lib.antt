@@ -1,0 +1,9 @@
+pub mod Answers
+pub mod Building
+pub mod Lexing
+pub mod Limits
+pub mod Reading
+pub mod Scanning
+pub mod Spelling
+pub mod Stacks
+pub mod Tokens

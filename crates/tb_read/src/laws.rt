@@ -1,0 +1,32 @@
+//! What holds of reading whatever the bytes are. These calls change nothing: their contracts are the laws.
+
+ghost use Rattle.std.specs.Prelude.{◌≡◌, ◌≢◌, ℕ, List};
+ghost use Rattle.tb_terms.specs.declared.term.Term.{Term};
+ghost use Rattle.tb_terms.specs.Sizes.{IsWithinLimits};
+ghost use Rattle.tb_read.specs.declared.fault.TermFault.{TermFault};
+ghost use Rattle.tb_read.specs.declared.fault.TermFault.TheVariants.{NoMemory};
+ghost use Rattle.tb_read.specs.Spelling.{Reads};
+ghost use Rattle.tb_read.specs.Reading.{HasFault};
+ghost use Rattle.tb_terms.specs.Texts.{term_text};
+
+use tb_terms::{Term, show_proper};
+
+/// At most one term is read from a text.
+pub fn reading_is_unique()
+    ensures { (bytes : List ℕ) (t u : Term) → Reads bytes t → Reads bytes u → t ≡ u }
+{}
+
+/// A text has one fault at most, and none where it is a term within the limits.
+pub fn faults_are_unique()
+    ensures one { (bytes : List ℕ) (f g : TermFault) → HasFault bytes f → HasFault bytes g
+        → f ≢ NoMemory → g ≢ NoMemory → f ≡ g }
+    ensures none { (bytes : List ℕ) (t : Term) (f : TermFault) → Reads bytes t → IsWithinLimits t
+        → HasFault bytes f → f ≡ NoMemory }
+{}
+
+/// The written text of a term reads as the term. The call walks the term, and changes nothing.
+pub fn written_text_reads(term: &Term)
+    ensures { Reads (term_text term.now) term.now }
+{
+    show_proper(term);
+}

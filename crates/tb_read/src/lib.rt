@@ -1,0 +1,22 @@
+//! The reading of terms: each text that is one gives its term, each other the first fault.
+#![tactic(auto)]
+
+mod build;
+mod fault;
+mod kind;
+mod laws;
+mod lex;
+mod limits;
+mod number;
+mod quoted;
+mod read;
+mod scan;
+mod shape;
+mod stack;
+#[cfg(test)]
+mod tests;
+mod token;
+
+pub use fault::TermFault;
+pub use laws::{faults_are_unique, reading_is_unique, written_text_reads};
+pub use read::read_term;

@@ -1,0 +1,51 @@
+ghost use Rattle.std.specs.Prelude.{◌≡◌, ◌⊎◌, IfOk, IfErr, Ok, Err};
+ghost use Rattle.tb_terms.specs.declared.term.Term.{Term};
+ghost use Rattle.tb_terms.specs.Sizes.{IsWithinLimits};
+ghost use Rattle.tb_read.specs.Spelling.{Reads};
+ghost use Rattle.tb_read.specs.Reading.{HasFault, over_limit};
+
+use crate::TermFault;
+use crate::build::build;
+use crate::limits::{tokens_levels, tokens_size};
+use crate::scan::scan;
+use crate::token::Token;
+use std::alloc::Global;
+use tb_terms::Term;
+
+/// The term that the bytes read as, where it is within the limits of size and levels.
+pub fn read_term(alloc: Global, bytes: &[u8]) -> Result<Term, TermFault>
+    ensures found { IfOk result (λ term. Reads bytes.now term × IsWithinLimits term) }
+
+    // Nothing else keeps a term from being read.
+    ensures only { (term : Term) → Reads bytes.now term → IsWithinLimits term
+        → (result ≡ Ok term) ⊎ (result ≡ Err TermFault.NoMemory) }
+    ensures fault { IfErr result (HasFault bytes.now) }
+{
+    read(alloc, bytes)
+}
+
+fn read(alloc: Global, bytes: &[u8]) -> Result<Term, TermFault>
+    ensures found { IfOk result (λ term. Reads bytes.now term × IsWithinLimits term) }
+    ensures fault { IfErr result (HasFault bytes.now) }
+{
+    let tokens = scan(alloc, bytes)?;
+    if let Some(fault) = over_limit(tokens.as_slice()) {
+        return Err(fault);
+    }
+    match build(alloc, tokens)? {
+        Some(term) => Ok(term),
+        None => unreachable!(),
+    }
+}
+
+fn over_limit(tokens: &[Token]) -> Option<TermFault>
+    ensures { result ≡ over_limit tokens.now }
+{
+    if tokens_size(tokens) > 65536 {
+        Some(TermFault::TooLarge)
+    } else if tokens_levels(tokens) > 64 {
+        Some(TermFault::TooDeep)
+    } else {
+        None
+    }
+}

@@ -1,0 +1,104 @@
+ghost use Rattle.std.specs.Prelude.{◌≡◌, OnOk, OnErr};
+ghost use Rattle.tb_read.specs.Scanning.{start, allows, after, may_end, is_begin, goes_on};
+
+use crate::kind::Kind;
+use crate::stack::Stack;
+use crate::token::Token;
+use std::alloc::Global;
+use tb_terms::NoMemory;
+
+/// What the next token may be.
+#[derive(Clone, Copy, Debug, PartialEq, Eq)]
+pub(crate) enum Expect {
+    /// The first token of a term.
+    Term,
+    /// The first token of a term, or the end of an empty list.
+    First,
+    /// A comma or the closing bracket, behind a term.
+    Further,
+    /// The same behind a name alone, or the parenthesis of its arguments.
+    Named,
+}
+
+#[derive(Clone, Copy, Debug, PartialEq, Eq)]
+pub(crate) enum Bracket {
+    Paren,
+    Square,
+}
+
+/// What has been opened so far, and what is expected.
+#[derive(Debug, Drop)]
+pub(crate) struct Shape {
+    expect: Expect,
+    brackets: Stack<Bracket>,
+}
+
+impl Shape {
+    pub(crate) fn new(alloc: Global) -> Shape
+        ensures { result ≡ start }
+    {
+        Shape {
+            expect: Expect::Term,
+            brackets: Stack::new(alloc),
+        }
+    }
+
+    /// Whether the next token may be of this kind.
+    pub(crate) fn allows(&self, kind: Kind) -> bool
+        ensures { result ≡ allows self.now kind }
+    {
+        match self.expect {
+            Expect::Term => is_begin(kind),
+            Expect::First => is_begin(kind) || kind == Kind::RightBracket,
+            Expect::Further => self.goes_on(kind),
+            Expect::Named => kind == Kind::LeftParen || self.goes_on(kind),
+        }
+    }
+
+    fn goes_on(&self, kind: Kind) -> bool
+        ensures { result ≡ goes_on self.now.brackets kind }
+    {
+        match self.brackets.top() {
+            None => false,
+            Some(Bracket::Paren) => matches!(kind, Kind::Comma | Kind::RightParen),
+            Some(Bracket::Square) => matches!(kind, Kind::Comma | Kind::RightBracket),
+        }
+    }
+
+    /// Whether the text may end here.
+    pub(crate) fn may_end(&self) -> bool
+        ensures { result ≡ may_end self.now.expect self.now.brackets }
+    {
+        self.brackets.top().is_none() && matches!(self.expect, Expect::Further | Expect::Named)
+    }
+
+    pub(crate) fn take(&mut self, token: &Token) -> Result<(), NoMemory>
+        ensures ok { OnOk result (self.new ≡ after self.old token.now) }
+        ensures err { OnErr result (self.new ≡ self.old) }
+    {
+        match token {
+            Token::Int(_) | Token::Str(_) => self.expect = Expect::Further,
+            Token::Name(_) => self.expect = Expect::Named,
+            Token::Comma => self.expect = Expect::Term,
+            Token::LeftParen => {
+                self.brackets.push(Bracket::Paren)?;
+                self.expect = Expect::Term;
+            }
+            Token::LeftBracket => {
+                self.brackets.push(Bracket::Square)?;
+                self.expect = Expect::First;
+            }
+            Token::RightParen | Token::RightBracket => {
+                let _closed = self.brackets.pop();
+                self.expect = Expect::Further;
+            }
+        }
+        Ok(())
+    }
+}
+
+fn is_begin(kind: Kind) -> bool
+    ensures { result ≡ is_begin kind }
+{
+    matches!(kind, Kind::Int | Kind::Str | Kind::Name | Kind::LeftBracket)
+}

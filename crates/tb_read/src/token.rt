@@ -1,0 +1,14 @@
+use tb_terms::{Name, Text};
+
+/// What the text of a term is made of.
+#[derive(Debug, Drop)]
+pub(crate) enum Token {
+    Int(i64),
+    Str(Text),
+    Name(Name),
+    LeftParen,
+    RightParen,
+    LeftBracket,
+    RightBracket,
+    Comma,
+}

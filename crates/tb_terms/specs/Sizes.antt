@@ -1,0 +1,32 @@
+-- How large a term is, how many levels it has, and which terms are within the limits.
+use Rattle.std.specs.Prelude.{ℕ, ◌+◌, ◌≤◌, List, length, sum, fold, max}
+use Rattle.tb_terms.specs.declared.term.Term.{Term}
+use Rattle.tb_terms.specs.declared.term.Term.TheOpen.{Term-F, Int, Str, Appl, List as ListOf}
+use Rattle.tb_terms.specs.declared.term.Term.TheFolds.{fold-Term}
+
+-- one for the node, the bytes of its name or string, and the sizes of its parts
+abbrev pub size_step : Term-F ℕ → ℕ
+size_step (Int number) = 1
+size_step (Str bytes) = 1 + length bytes
+size_step (Appl name parts) = 1 + length name + sum parts
+size_step (ListOf parts) = 1 + sum parts
+
+abbrev pub term_size : Term → ℕ
+term_size = fold-Term ℕ size_step
+
+abbrev pub greatest : List ℕ → ℕ
+greatest numbers = fold max 0 numbers
+
+-- one more than the deepest part, and one where there is no part
+abbrev pub levels_step : Term-F ℕ → ℕ
+levels_step (Int number) = 1
+levels_step (Str bytes) = 1
+levels_step (Appl name parts) = 1 + greatest parts
+levels_step (ListOf parts) = 1 + greatest parts
+
+abbrev pub term_levels : Term → ℕ
+term_levels = fold-Term ℕ levels_step
+
+pub record IsWithinLimits (term : Term) : Type 0 where
+  pub size : term_size term ≤ 65536
+  pub levels : term_levels term ≤ 64

@@ -1,0 +1,56 @@
+ghost use Rattle.std.specs.Prelude.{◌≡◌, ◌+◌, length, min, map, sum};
+ghost use Rattle.tb_terms.specs.Sizes.{term_size, term_levels, greatest};
+
+use crate::Term;
+
+/// One for each node, and the bytes of the names and strings. The greatest `usize` stands for all
+/// greater numbers.
+#[cycle(size)]
+pub fn size(term: &Term) -> usize
+    ensures { result ≡ min (term_size term.now) usize.MAX }
+{
+    match term {
+        Term::Int(_) => 1,
+        Term::Str(text) => text.as_bytes().len().saturating_add(1),
+        Term::Appl(name, parts) => {
+            let named = name.as_bytes().len().saturating_add(1);
+            named.saturating_add(sum_of_sizes(parts.as_slice()))
+        }
+        Term::List(parts) => sum_of_sizes(parts.as_slice()).saturating_add(1),
+    }
+}
+
+#[cycle(size)]
+fn sum_of_sizes(terms: &[Term]) -> usize
+    ensures { result ≡ min (sum (map term_size terms.now)) usize.MAX }
+{
+    let mut total = 0usize;
+    for term in terms {
+        total = total.saturating_add(size(term));
+    }
+    total
+}
+
+/// How many levels a term has: one, and one more for each part within a part. The greatest `usize`
+/// stands for all greater numbers.
+#[cycle(depth)]
+pub fn depth(term: &Term) -> usize
+    ensures { result ≡ min (term_levels term.now) usize.MAX }
+{
+    match term {
+        Term::Int(_) | Term::Str(_) => 1,
+        Term::Appl(_, parts) => greatest_depth(parts.as_slice()).saturating_add(1),
+        Term::List(parts) => greatest_depth(parts.as_slice()).saturating_add(1),
+    }
+}
+
+#[cycle(depth)]
+fn greatest_depth(terms: &[Term]) -> usize
+    ensures { result ≡ min (greatest (map term_levels terms.now)) usize.MAX }
+{
+    let mut deepest = 0;
+    for term in terms {
+        deepest = depth(term).max(deepest);
+    }
+    deepest
+}
