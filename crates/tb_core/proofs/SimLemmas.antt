@@ -186,6 +186,7 @@ led-quiet limit made old mid new running e f l m =
 pub left-same : (limit made : ℕ) (old new : CoreState) → new ≡ old → LeftWithin limit old made new
 left-same limit made old new e = record {
   origin = ap (λ (c : CoreState). c.origin) e;
+  stopped = ap (λ (c : CoreState). c.stopped) e;
   entries = [];
   log = ap (λ (c : CoreState). c.log) e ∙ sym (append-nil old.log);
   front = tt;
@@ -195,6 +196,7 @@ pub left-quiet : (limit made : ℕ) (old mid new : CoreState) → steps (bus_now
 unfolding sim_of
 left-quiet limit made old mid new e f l same = record {
   origin = ap (λ (c : CoreState). c.origin) same ∙ l.origin;
+  stopped = ap (λ (c : CoreState). c.stopped) same ∙ l.stopped;
   entries = Quiet ∷ [];
   log = ap (λ (c : CoreState). c.log) same ∙ l.log;
   front = (record { bus = bus_now old; steps_made = made; quiet = true }, turn-quiet limit (sim_of old made) e f, tt);

@@ -27,6 +27,7 @@ pub record LedOn (limit : ℕ) (old : CoreState) (made : ℕ) (new : CoreState) 
 -- a core that a want of memory left within the turns
 pub record LeftWithin (limit : ℕ) (old : CoreState) (made : ℕ) (new : CoreState) : Type 0 where
   pub origin : new.origin ≡ old.origin
+  pub stopped : new.stopped ≡ old.stopped
   pub entries : List Entry
   pub log : new.log ≡ old.log ++ entries
   pub front : IsSimFront limit (sim_of old made) entries

@@ -79,6 +79,7 @@ pub fn simulate(core: &mut Core, steps: u64) -> Result<SimEnd, NoMemory>
     requires fresh { core.old.log ≡ [] }
     requires running { core.old.stopped ≡ false }
     ensures origin { core.new.origin ≡ core.old.origin }
+    ensures running { core.new.stopped ≡ false }
     ensures ok { IfOk result (IsSim steps (sim_start (start core.old.origin)) core.new.log) }
     ensures err { OnErr result (IsSimFront steps (sim_start (start core.old.origin)) core.new.log) }
 {
