@@ -7,3 +7,5 @@ pub mod LiveLemmas
 pub mod TraceLemmas
 pub mod CoreLemmas
 pub mod SimLemmas
+pub mod ReachedLemmas
+pub mod SimTraces

@@ -268,15 +268,3 @@ led-left limit a b c n e p q =
     let whole : c.log ≡ p.entries ++ q.entries = q.log ∙ ap (λ (log : List Entry). log ++ q.entries) (p.log ∙ ap (λ (log : List Entry). log ++ p.entries) e) in
     subst (λ (log : List Entry). IsSimFront limit (sim_start (start a.origin)) log) (sym whole)
     (subst (λ (s : Sim). IsSimFront limit s (p.entries ++ q.entries)) (start-sim a e) (leads-front limit (sim_of a 0) (sim_of b n) p.entries q.entries p.turns q.front))
-
--- a simulation makes one log, and ends in one way
-pub sim-one : (limit : ℕ) (s : Sim) (xs ys : List Entry) (e f : SimEnd) → IsSim limit s xs e → IsSim limit s ys f → (xs ≡ ys) × (e ≡ f)
-sim-one limit s [] [] e f p q = let same : Ends e ≡ Ends f = sym p ∙ q in (refl, cc)
-sim-one limit s [] (y ∷ ys) e f p q = let other : Ends e ≡ Makes y q.0 = sym p ∙ q.1 in absurd (let t : ⊥ = cc in t)
-sim-one limit s (x ∷ xs) [] e f p q = let other : Ends f ≡ Makes x p.0 = sym q ∙ p.1 in absurd (let t : ⊥ = cc in t)
-sim-one limit s (x ∷ xs) (y ∷ ys) e f p q =
-    let same : Makes x p.0 ≡ Makes y q.0 = sym p.1 ∙ q.1 in
-    let entry : x ≡ y = cc in
-    let next : p.0 ≡ q.0 = cc in
-    let rest = sim-one limit q.0 xs ys e f (subst (λ (t : Sim). IsSim limit t xs e) next p.2) q.2 in
-    ((λ i. entry i ∷ rest.0 i), rest.1)

@@ -9,5 +9,6 @@ pub mod Lives
 pub mod LiveBuses
 pub mod Cores
 pub mod LogText
+pub mod Reached
 pub mod Simulation
 pub mod Turns

@@ -1,11 +1,9 @@
-ghost use Rattle.std.specs.Prelude.{◌≡◌, ℕ, List, ◌&&◌, ◌==◌, ◌≤◌, ◌∷◌, [], IfOk, OnOk, OnErr, IsErrOf, false};
+ghost use Rattle.std.specs.Prelude.{◌≡◌, ◌&&◌, ◌==◌, ◌≤◌, ◌∷◌, [], IfOk, OnOk, OnErr, IsErrOf, false};
 ghost use Rattle.tb_core.specs.Buses.{start};
 ghost use Rattle.tb_core.specs.Steps.{steps as steps_of};
 ghost use Rattle.tb_core.specs.Cores.{bus_now, has_any, ends_quiet, Logs};
 ghost use Rattle.tb_core.specs.Traces.{fed};
-ghost use Rattle.tb_core.specs.Simulation.{Sim, IsSim, IsSimFront, sim_start};
-ghost use Rattle.tb_core.specs.declared.log.Entry.{Entry};
-ghost use Rattle.tb_core.specs.declared.simulation.SimEnd.{SimEnd};
+ghost use Rattle.tb_core.specs.Simulation.{IsSim, IsSimFront, sim_start};
 ghost use Rattle.tb_core.specs.Turns.{Goes, LeftWithin};
 
 use crate::answers::Stepped;
@@ -74,12 +72,6 @@ fn end_ticks(core: &mut Core) -> Result<(), NoMemory>
         Err(_) => Err(NoMemory),
     }
 }
-
-/// A simulation makes one log, and ends in one way.
-pub fn one_simulation()
-    ensures { (limit : ℕ) (sim : Sim) (log other : List Entry) (end last : SimEnd) →
-        IsSim limit sim log end → IsSim limit sim other last → (log ≡ other) × (end ≡ last) }
-{}
 
 /// Runs a core to its end, always by the first of the steps, and makes at most this many. After an
 /// `Err` the log is a front of the one that the simulation makes.
