@@ -49,9 +49,11 @@ pub enum Expr {
     List(Exprs),
 }
 
+/// Expressions in a row.
 pub type Exprs = Items<Expr>;
 
 impl Expr {
+    /// The same expression in memory of its own.
     #[cycle(copy)]
     pub fn copy(&self, alloc: Global) -> Result<Expr, NoMemory>
         ensures { IfOk result (λ copy. copy ≡ self.now) }

@@ -44,6 +44,24 @@ impl Ident {
         Ok(Some(Ident::new(alloc, bytes)?))
     }
 
+    /// The name with these bytes, where they are one. Takes no memory.
+    pub fn from_vec(bytes: Vec<u8>) -> Option<Ident>
+        ensures { result ≡ (if is_ident bytes.items then Some bytes.items else None) }
+    {
+        if !is_ident_bytes(bytes.as_slice()) {
+            return None;
+        }
+        Some(Ident { bytes })
+    }
+
+    /// Its bytes, given back without taking memory.
+    pub fn into_vec(self) -> Vec<u8>
+        ensures { result.items ≡ self }
+    {
+        self.bytes
+    }
+
+    /// Its bytes.
     pub fn as_bytes(&self) -> &[u8]
         ensures value { result.now ≡ self.now }
         ensures form { IsTrue (is_ident self.now) }
@@ -51,12 +69,14 @@ impl Ident {
         self.bytes.as_slice()
     }
 
+    /// Whether both have the same bytes.
     pub fn is_same(&self, other: &Ident) -> bool
         ensures { IsTrue result ↔ (self.now ≡ other.now) }
     {
         self.as_bytes() == other.as_bytes()
     }
 
+    /// The same name in memory of its own.
     pub fn copy(&self, alloc: Global) -> Result<Ident, NoMemory>
         ensures { IfOk result (λ copy. copy ≡ self.now) }
     {

@@ -13,6 +13,7 @@ pub struct Name {
     bytes: Vec<u8>,
 }
 
+/// Names in a row.
 pub type Names = Items<Name>;
 
 impl Model for Name {
@@ -46,6 +47,24 @@ impl Name {
         Ok(Some(Name::new(alloc, bytes)?))
     }
 
+    /// The name with these bytes, where they are one. Takes no memory.
+    pub fn from_vec(bytes: Vec<u8>) -> Option<Name>
+        ensures { result ≡ (if is_name bytes.items then Some bytes.items else None) }
+    {
+        if !is_name_bytes(bytes.as_slice()) {
+            return None;
+        }
+        Some(Name { bytes })
+    }
+
+    /// Its bytes, given back without taking memory.
+    pub fn into_vec(self) -> Vec<u8>
+        ensures { result.items ≡ self }
+    {
+        self.bytes
+    }
+
+    /// Its bytes.
     pub fn as_bytes(&self) -> &[u8]
         ensures value { result.now ≡ self.now }
         ensures form { IsTrue (is_name self.now) }
@@ -53,12 +72,14 @@ impl Name {
         self.bytes.as_slice()
     }
 
+    /// Whether both have the same bytes.
     pub fn is_same(&self, other: &Name) -> bool
         ensures { IsTrue result ↔ (self.now ≡ other.now) }
     {
         self.as_bytes() == other.as_bytes()
     }
 
+    /// The same name in memory of its own.
     pub fn copy(&self, alloc: Global) -> Result<Name, NoMemory>
         ensures { IfOk result (λ copy. copy ≡ self.now) }
     {

@@ -18,9 +18,11 @@ pub enum Pattern {
     List(Patterns),
 }
 
+/// Patterns in a row.
 pub type Patterns = Items<Pattern>;
 
 impl Pattern {
+    /// The same pattern in memory of its own.
     #[cycle(copy)]
     pub fn copy(&self, alloc: Global) -> Result<Pattern, NoMemory>
         ensures { IfOk result (λ copy. copy ≡ self.now) }

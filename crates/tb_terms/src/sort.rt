@@ -17,9 +17,11 @@ pub enum Sort {
     Tool(Name),
 }
 
+/// Sorts in a row.
 pub type Sorts = Items<Sort>;
 
 impl Sort {
+    /// The same sort in memory of its own.
     pub fn copy(&self, alloc: Global) -> Result<Sort, NoMemory>
         ensures { IfOk result (λ copy. copy ≡ self.now) }
     {

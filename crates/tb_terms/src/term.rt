@@ -13,9 +13,11 @@ pub enum Term {
     List(Terms),
 }
 
+/// Terms in a row: the parts of a term, or what a message carries.
 pub type Terms = Items<Term>;
 
 impl Term {
+    /// The same term in memory of its own.
     #[cycle(copy)]
     pub fn copy(&self, alloc: Global) -> Result<Term, NoMemory>
         ensures { IfOk result (λ copy. copy ≡ self.now) }

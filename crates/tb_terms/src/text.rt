@@ -13,6 +13,7 @@ pub struct Text {
     text: String,
 }
 
+/// Strings in a row.
 pub type Texts = Items<Text>;
 
 impl Model for Text {
@@ -47,7 +48,7 @@ impl Text {
         Ok(Some(Text { text }))
     }
 
-    /// The text with these bytes, where they are one.
+    /// The text with these bytes, where they are one. Takes no memory.
     pub fn from_vec(bytes: Vec<u8>) -> Option<Text>
         ensures { result ≡ (if is_string bytes.items then Some bytes.items else None) }
     {
@@ -60,6 +61,7 @@ impl Text {
         }
     }
 
+    /// Its characters.
     pub fn as_str(&self) -> &str
         ensures value { result.now ≡ self.now }
         ensures form { IsTrue (is_text self.now) }
@@ -67,18 +69,28 @@ impl Text {
         self.text.as_str()
     }
 
+    /// Its bytes, given back without taking memory.
+    pub fn into_vec(self) -> Vec<u8>
+        ensures { result.items ≡ self }
+    {
+        self.text.into_bytes()
+    }
+
+    /// Its bytes.
     pub fn as_bytes(&self) -> &[u8]
         ensures { result.now ≡ self.now }
     {
         self.text.as_bytes()
     }
 
+    /// Whether both have the same bytes.
     pub fn is_same(&self, other: &Text) -> bool
         ensures { IsTrue result ↔ (self.now ≡ other.now) }
     {
         self.as_bytes() == other.as_bytes()
     }
 
+    /// The same string in memory of its own.
     pub fn copy(&self, alloc: Global) -> Result<Text, NoMemory>
         ensures { IfOk result (λ copy. copy ≡ self.now) }
     {
