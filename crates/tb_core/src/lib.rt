@@ -22,3 +22,6 @@ pub use machine::Core;
 pub use program::{Act, Body, Program};
 pub use simulation::{SimEnd, simulate};
 pub use text::write_entry;
+
+#[cfg(test)]
+mod tests;
