@@ -16,10 +16,10 @@ use Rattle.tb_match.proofs.Grouping.{Binds, both_steps, bound-behind, bound-here
 abbrev Once : Option Binds → Type 0
 Once found = IfSome found IsBoundOnce
 
-differs : (m n : ℕ) → (m == n) ≡ false → (n == m) ≡ false
+pub differs : (m n : ℕ) → (m == n) ≡ false → (n == m) ≡ false
 differs m n h = search rules
 
-none_of : (t : Bool) (u : Term) (o : Option Term) → ◌≡◌ {A = Option Term} (if t then Some u else o) None → (t ≡ false) × (o ≡ None)
+pub none_of : (t : Bool) (u : Term) (o : Option Term) → ◌≡◌ {A = Option Term} (if t then Some u else o) None → (t ≡ false) × (o ≡ None)
 none_of true u o e = absurd (cc)
 none_of false u o e = (refl, e)
 

@@ -1,7 +1,8 @@
 ghost use Rattle.std.specs.Prelude.{◌≡◌, [], ◌∷◌, IfOk};
 
 use crate::{
-    Binds, copy_binds, fits_list, match_list, match_term, matches_bind_once, same_patterns,
+    Binds, copy_binds, fits_list, list_matches_are_least, match_list, match_term,
+    matches_are_least, matches_bind_once, same_patterns,
 };
 use std::alloc::Global;
 use std::test::Fail;
@@ -67,6 +68,8 @@ fn a_variable_that_comes_again_needs_an_equal_term(rt: HostRuntime) -> Result<()
     let copies = copy_binds(alloc, &binds)?;
     assert_eq!(rt; numbers(alloc, &copies)?.as_slice(), [(7, 3)].as_slice());
     matches_bind_once();
+    matches_are_least();
+    list_matches_are_least();
     Ok(())
 }
 
