@@ -140,15 +140,15 @@ four_turn x y l u low high = by (eqb x 240) (ltb x 244) (λ e. low (eqb-true x 2
   by false false a b = let below : y < 144 = b refl in going 3 128 143 y l (omega arith)
 
 -- the bytes of a character
-encode_two : (c : ℕ) → 128 ≤ c → c < 2048 → encode c ≡ (192 + c / 64) ∷ next c ∷ []
+pub encode_two : (c : ℕ) → 128 ≤ c → c < 2048 → encode c ≡ (192 + c / 64) ∷ next c ∷ []
 unfolding encode
 encode_two c l u = rw (le-ltb c 128 l, lt-ltb c 2048 u) refl
 
-encode_three : (c : ℕ) → 2048 ≤ c → c < 65536 → encode c ≡ (224 + c / 4096) ∷ next (c / 64) ∷ next c ∷ []
+pub encode_three : (c : ℕ) → 2048 ≤ c → c < 65536 → encode c ≡ (224 + c / 4096) ∷ next (c / 64) ∷ next c ∷ []
 unfolding encode
 encode_three c l u = let h : 128 ≤ c = omega arith in rw (le-ltb c 128 h, le-ltb c 2048 l, lt-ltb c 65536 u) refl
 
-encode_four : (c : ℕ) → 65536 ≤ c → encode c ≡ (240 + c / 262144) ∷ next (c / 4096) ∷ next (c / 64) ∷ next c ∷ []
+pub encode_four : (c : ℕ) → 65536 ≤ c → encode c ≡ (240 + c / 262144) ∷ next (c / 4096) ∷ next (c / 64) ∷ next c ∷ []
 unfolding encode
 encode_four c l = let h : 128 ≤ c = omega arith in let k : 2048 ≤ c = omega arith in rw (le-ltb c 128 h, le-ltb c 2048 k, le-ltb c 65536 l) refl
 

@@ -124,8 +124,7 @@ string_complete total bytes text rest s =
     let regrouped : text ++ rest ≡ 34 ∷ (s.inner ++ (34 ∷ rest)) = ap (λ (l : List ℕ). l ++ rest) s.quoted ∙ append_assoc (34 ∷ s.inner) (34 ∷ []) rest in
     let spelled : SpellsBytes (encodes u.0) s.inner = subst (λ (l : List ℕ). SpellsBytes l s.inner) (sym u.1.1) s.spelled in
     let taken : string_rest total Between (s.inner ++ (34 ∷ rest)) ≡ strung bytes rest = string_taken u.0 u.1.0 s.inner spelled total rest ∙ ap (λ (l : List ℕ). strung l rest) u.1.1 in
-    let whole : string_of total (strung bytes rest) ≡ pair (token.Str bytes) rest = ap (λ v. cond v (pair (token.Str bytes) rest) (Err (Syntax (total - suc (length rest))))) s.is in
-    ap (λ (l : List ℕ). token_of kind.Str total l) regrouped ∙ ap (λ (r : Result (List ℕ × List ℕ) TermFault). string_of total r) taken ∙ whole
+    ap (λ (l : List ℕ). token_of kind.Str total l) regrouped ∙ ap (λ (r : Result (List ℕ × List ℕ) TermFault). string_of r) taken
 
 -- what follows a token where it might go on
 abbrev Follows : Token → List ℕ → Type 0

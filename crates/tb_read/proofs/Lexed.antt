@@ -1,10 +1,10 @@
 -- A token that is found is spelled so, and what is scanned to the end is spelled so as a whole.
-use Rattle.std.proofs.Common.{◌≡◌, ℕ, ℤ, pos, neg_ℤ, suc, ◌-◌, ◌^◌, ◌≤◌, ◌<◌, Bool, true, false, ◌&&◌, ◌||◌, cond, eqb, leb, ltb, List, [], ◌∷◌, ◌++◌, length, take, drop, Option, Some, None, Result, Ok, Err, refl, ap, sym, ◌∙◌, subst, inl, inr, arith, append_assoc, append-nil}
+use Rattle.std.proofs.Common.{◌≡◌, ℕ, ℤ, pos, neg_ℤ, ◌-◌, ◌^◌, ◌≤◌, ◌<◌, Bool, true, false, ◌&&◌, ◌||◌, cond, eqb, leb, ltb, List, [], ◌∷◌, ◌++◌, length, take, drop, Option, Some, None, Result, Ok, Err, refl, ap, sym, ◌∙◌, subst, inl, inr, arith, append_assoc, append-nil}
 use Rattle.std.proofs.lemmas.Bool.{false≢true, eqb-true}
 use Rattle.std.proofs.lemmas.Bool.Decides.{nat_tests}
 use Rattle.std.proofs.lemmas.List.{take-append-drop}
 use Rattle.std.specs.List.{list_all, prefix_len}
-use Rattle.tb_terms.specs.Names.{is_digit, is_name_byte, is_string}
+use Rattle.tb_terms.specs.Names.{is_digit, is_name_byte}
 use Rattle.tb_read.specs.declared.quoted.Within.TheVariants.{Between}
 use Rattle.tb_read.specs.declared.fault.TermFault.{TermFault}
 use Rattle.tb_read.specs.declared.fault.TermFault.TheVariants.{Syntax, Real}
@@ -14,9 +14,11 @@ use Rattle.tb_read.specs.declared.kind.Kind.{Kind}
 use Rattle.tb_read.specs.declared.kind.Kind.TheVariants as kind
 use Rattle.tb_read.specs.declared.shape.Shape.{Shape}
 use Rattle.tb_read.specs.Spelling.{is_blank, is_digits, digits_value, SpellsNumber, SpellsString, SpellsToken, Spaced}
-use Rattle.tb_read.specs.Lexing.{skip_blanks, string_rest, string_of, name_at, is_real, number_of, in_range, number_from, number_at, kind_of, begins_with, token_of}
+use Rattle.tb_read.specs.Lexing.{skip_blanks, string_rest, string_of, name_at, is_real, number_of, in_range, number_from, number_at, kind_of, token_of}
+use Rattle.tb_read.specs.Answers.{begins_with}
 use Rattle.tb_read.specs.Scanning.{Next, Makes, Ends, allows, after, may_end, made, next_at, Runs}
 use Rattle.tb_read.proofs.Names.{all_of_front, is_name_front}
+use Rattle.tb_read.proofs.Scalars.{string_put}
 use Rattle.tb_read.proofs.Strings.{string_sound}
 use Rattle.tb_read.proofs.Grammar.{kind_of_token, accepts}
 
@@ -96,19 +98,18 @@ number_sound total (b ∷ bytes) x e = by (eqb b 45) refl e where
   by true ev h = subst (λ n. Found (n ∷ bytes) x kind.Int) (sym (eqb-true b 45 ev)) (signed bytes h)
   by false ev h = unsigned (b ∷ bytes) h
 
-string_by : (total : ℕ) (q : ℕ) (bytes : List ℕ) (x : Lexed) → eqb q 34 ≡ true → (y : List ℕ × List ℕ) → string_rest total Between bytes ≡ Ok y → (v : Bool) → is_string y.0 ≡ v → ◌≡◌ {A = Result Lexed TermFault} (cond v (Ok (token.Str y.0, y.1)) (Err (Syntax (total - suc (length y.1))))) (Ok x) → Found (q ∷ bytes) x kind.Str
-string_by total q bytes x h y r false ev e = cc
-string_by total q bytes x h y r true ev e =
+string_found : (total : ℕ) (q : ℕ) (bytes : List ℕ) (x : Lexed) → eqb q 34 ≡ true → (y : List ℕ × List ℕ) → string_rest total Between bytes ≡ Ok y → ◌≡◌ {A = Result Lexed TermFault} (Ok (token.Str y.0, y.1)) (Ok x) → Found (q ∷ bytes) x kind.Str
+string_found total q bytes x h y r e =
     let found = string_sound total bytes Between tt y r in
     let inner = found.0 in
     let regrouped : ((34 ∷ inner) ++ (34 ∷ [])) ++ y.1 ≡ 34 ∷ (inner ++ (34 ∷ y.1)) = append_assoc (34 ∷ inner) (34 ∷ []) y.1 in
     let at : q ∷ bytes ≡ ((34 ∷ inner) ++ (34 ∷ [])) ++ y.1 = ap (λ n. n ∷ bytes) (eqb-true q 34 h) ∙ ap (λ l. 34 ∷ l) found.1 ∙ sym regrouped in
-    let spelled : SpellsString y.0 ((34 ∷ inner) ++ (34 ∷ [])) = record { is = ev; inner = inner; quoted = refl; spelled = found.2 } in
+    let spelled : SpellsString y.0 ((34 ∷ inner) ++ (34 ∷ [])) = record { is = string_put total bytes y r; inner = inner; quoted = refl; spelled = found.2 } in
     subst (λ (z : Lexed). Found (q ∷ bytes) z kind.Str) (ok_same (token.Str y.0, y.1) x e) ((34 ∷ inner) ++ (34 ∷ []), at, spelled, refl)
 
-string_of_sound : (total : ℕ) (q : ℕ) (bytes : List ℕ) (x : Lexed) → eqb q 34 ≡ true → (r : Result (List ℕ × List ℕ) TermFault) → string_rest total Between bytes ≡ r → string_of total r ≡ Ok x → Found (q ∷ bytes) x kind.Str
+string_of_sound : (total : ℕ) (q : ℕ) (bytes : List ℕ) (x : Lexed) → eqb q 34 ≡ true → (r : Result (List ℕ × List ℕ) TermFault) → string_rest total Between bytes ≡ r → string_of r ≡ Ok x → Found (q ∷ bytes) x kind.Str
 string_of_sound total q bytes x h (Err f) r e = cc
-string_of_sound total q bytes x h (Ok y) r e = string_by total q bytes x h y r (is_string y.0) refl e
+string_of_sound total q bytes x h (Ok y) r e = string_found total q bytes x h y r e
 
 pub token_sound : (next : Kind) (total : ℕ) (bytes : List ℕ) (x : Lexed) → begins_with next bytes ≡ true → token_of next total bytes ≡ Ok x → Found bytes x next
 token_sound next total [] x h e = absurd (false≢true h)

@@ -6,6 +6,7 @@ pub mod Grammar
 pub mod Lexed
 pub mod Names
 pub mod Outcomes
+pub mod Scalars
 pub mod Strings
 pub mod Terms
 pub mod Wholes

@@ -100,10 +100,10 @@ turned total turn bytes = elim turn [
   | Bad ↦ Err (Syntax (total - suc (length bytes)))
 ]
 
-abbrev Pair : Type 0
+abbrev pub Pair : Type 0
 Pair = List ℕ × List ℕ
 
-front_ok : (f : List ℕ) (r : Result Pair TermFault) (x : Pair) → with_front f r ≡ Ok x → (y : Pair) × (r ≡ Ok y) × (x.0 ≡ f ++ y.0) × (x.1 ≡ y.1)
+pub front_ok : (f : List ℕ) (r : Result Pair TermFault) (x : Pair) → with_front f r ≡ Ok x → (y : Pair) × (r ≡ Ok y) × (x.0 ≡ f ++ y.0) × (x.1 ≡ y.1)
 front_ok f (Ok y) x e =
     let same : ◌≡◌ {A = Pair} (f ++ y.0, y.1) x = cc in
     (y, refl, ap (λ (p : Pair). p.0) (sym same), ap (λ (p : Pair). p.1) (sym same))

@@ -2,11 +2,10 @@
 use Rattle.std.proofs.Common.{◌≡◌, ℕ, ℤ, suc, ◌-◌, ◌≤◌, ◌<◌, Bool, true, false, cond, ltb, List, [], ◌∷◌, length, take, drop, Option, Some, None, Result, Ok, Err, refl, ap, sym, ◌∙◌, subst}
 use Rattle.std.proofs.lemmas.Bool.{ltb-true, ltb-false}
 use Rattle.std.specs.List.{prefix_len}
-use Rattle.tb_terms.specs.Names.{is_digit, is_string}
+use Rattle.tb_terms.specs.Names.{is_digit}
 use Rattle.tb_terms.specs.Sizes.{term_size, term_levels, IsWithinLimits}
 use Rattle.tb_terms.specs.declared.term.Term.{Term}
 use Rattle.tb_read.specs.declared.token.Token.{Token}
-use Rattle.tb_read.specs.declared.token.Token.TheVariants as token
 use Rattle.tb_read.specs.declared.fault.TermFault.{TermFault}
 use Rattle.tb_read.specs.declared.fault.TermFault.TheVariants as fault
 use Rattle.tb_read.specs.declared.kind.Kind.{Kind}
@@ -17,12 +16,12 @@ use Rattle.tb_read.specs.declared.quoted.Turn.{Turn}
 use Rattle.tb_read.specs.declared.quoted.Turn.TheVariants.{Ends, Goes, Puts, Bad}
 use Rattle.tb_read.specs.declared.shape.Shape.{Shape}
 use Rattle.tb_read.specs.Tokens.{tokens_of}
-use Rattle.tb_read.specs.Limits.{tokens_size, tokens_levels}
+use Rattle.tb_read.specs.Limits.{tokens_size, tokens_levels, over_limit}
 use Rattle.tb_read.specs.Building.{built_from, nothing}
 use Rattle.tb_read.specs.Spelling.{digits_value, Spaced, Reads}
 use Rattle.tb_read.specs.Lexing.{string_turn, string_rest, with_front, string_of, is_real, is_negative, number_of, in_range, number_from, kind_of, token_of, skip_blanks}
 use Rattle.tb_read.specs.Scanning.{Ends as Stops, allows, after, may_end, made, next_at, start, Runs, Scans}
-use Rattle.tb_read.specs.Reading.{HasFault, over_limit}
+use Rattle.tb_read.specs.Reading.{HasFault}
 use Rattle.tb_read.specs.Answers.{Faulted}
 use Rattle.tb_read.proofs.Strings.{turned}
 use Rattle.tb_read.proofs.Lexed.{Lexed, runs_sound}
@@ -58,13 +57,9 @@ rest_placed : (total : ℕ) (bytes : List ℕ) (w : Within) (f : TermFault) → 
 rest_placed total [] w f e = same_fault (fault.Syntax total) f e tt
 rest_placed total (b ∷ bytes) w f e = turned_placed total bytes (rest_placed total bytes) (string_turn w b) f e
 
-string_by : (v : Bool) (x : Lexed) (place : ℕ) (f : TermFault) → ◌≡◌ {A = Result Lexed TermFault} (cond v (Ok x) (Err (fault.Syntax place))) (Err f) → IsPlaced f
-string_by true x place f e = cc
-string_by false x place f e = same_fault (fault.Syntax place) f e tt
-
-string_placed : (total : ℕ) (bytes : List ℕ) (r : Result Pair TermFault) → string_rest total Between bytes ≡ r → (f : TermFault) → string_of total r ≡ Err f → IsPlaced f
+string_placed : (total : ℕ) (bytes : List ℕ) (r : Result Pair TermFault) → string_rest total Between bytes ≡ r → (f : TermFault) → string_of r ≡ Err f → IsPlaced f
 string_placed total bytes (Err g) r f e = same_fault g f e (rest_placed total bytes Between g r)
-string_placed total bytes (Ok y) r f e = string_by (is_string y.0) (token.Str y.0, y.1) (total - suc (length y.1)) f e
+string_placed total bytes (Ok y) r f e = cc
 
 number_by : (place : ℕ) (rest : List ℕ) (v : Bool) (o : Option ℤ) (f : TermFault) → ◌≡◌ {A = Result Lexed TermFault} (cond v (Err (fault.Real place)) (in_range place o rest)) (Err f) → IsPlaced f
 number_by place rest true o f e = same_fault (fault.Real place) f e tt

@@ -1,7 +1,7 @@
 -- The token with which bytes begin, or the first fault in it. A place counts from the front of a text of this length.
 use Rattle.std.specs.Prelude.{ℕ, suc, ◌-◌, ◌^◌, ℤ, pos, neg_ℤ, Bool, true, false, not, ◌&&◌, ◌||◌, ◌==◌, nat_lt, nat_le, List, [], ◌∷◌, ◌++◌, length, take, drop, Option, Some, None, Result, Ok, Err, if◌then◌else◌}
 use Rattle.std.specs.List.{prefix_len}
-use Rattle.tb_terms.specs.Names.{is_digit, is_lower, is_name_byte, is_string}
+use Rattle.tb_terms.specs.Names.{is_digit, is_lower, is_name_byte}
 use Rattle.tb_read.specs.Spelling.{is_blank, digits_value}
 use Rattle.tb_read.specs.declared.token.Token.{Token}
 use Rattle.tb_read.specs.declared.token.Token.TheVariants.{Int, Str, Name, LeftParen, RightParen, LeftBracket, RightBracket, Comma}
@@ -77,14 +77,13 @@ string_rest total within (byte ∷ bytes) = elim (string_turn within byte) [
   | Bad ↦ Err (Syntax (total - suc (length bytes)))
 ]
 
--- a string of whole characters; that it is one, the turns have seen to
-abbrev pub string_of : ℕ → Result (List ℕ × List ℕ) TermFault → Result (Token × List ℕ) TermFault
-string_of total (Err fault) = Err fault
-string_of total (Ok found) = if is_string found.0 then Ok (Str found.0, found.1) else Err (Syntax (total - suc (length found.1)))
+abbrev pub string_of : Result (List ℕ × List ℕ) TermFault → Result (Token × List ℕ) TermFault
+string_of (Err fault) = Err fault
+string_of (Ok found) = Ok (Str found.0, found.1)
 
 abbrev pub string_at : ℕ → List ℕ → Result (Token × List ℕ) TermFault
 string_at total [] = Err (Syntax total)
-string_at total (quote ∷ bytes) = string_of total (string_rest total Between bytes)
+string_at total (quote ∷ bytes) = string_of (string_rest total Between bytes)
 
 abbrev pub name_at : List ℕ → Result (Token × List ℕ) TermFault
 name_at bytes = let len = prefix_len is_name_byte bytes in Ok (Name (take len bytes), drop len bytes)
@@ -131,19 +130,6 @@ kind_of byte =
     else (if byte == 34 then kind.Str
     else (if is_lower byte then kind.Name
     else (if is_digit byte || (byte == 45) then kind.Int else kind.Other)))))))
-
--- the bytes begin as a token of this kind does
-abbrev pub begins_with : Kind → List ℕ → Bool
-begins_with next [] = false
-begins_with kind.LeftParen (byte ∷ bytes) = byte == 40
-begins_with kind.RightParen (byte ∷ bytes) = byte == 41
-begins_with kind.LeftBracket (byte ∷ bytes) = byte == 91
-begins_with kind.RightBracket (byte ∷ bytes) = byte == 93
-begins_with kind.Comma (byte ∷ bytes) = byte == 44
-begins_with kind.Str (byte ∷ bytes) = byte == 34
-begins_with kind.Name (byte ∷ bytes) = is_lower byte
-begins_with kind.Int (byte ∷ bytes) = is_digit byte || (byte == 45)
-begins_with kind.Other (byte ∷ bytes) = true
 
 abbrev pub token_of : Kind → ℕ → List ℕ → Result (Token × List ℕ) TermFault
 token_of kind.LeftParen total bytes = Ok (LeftParen, drop 1 bytes)

@@ -45,7 +45,7 @@ pub(crate) fn string_at(
     let (put, rest) = string_rest(alloc, total, inner)?;
     match Text::from_vec(put) {
         Some(text) => Ok((Token::Str(text), rest)),
-        None => Err(TermFault::Syntax(total - (rest.len() + 1))),
+        None => unreachable!(),
     }
 }
 

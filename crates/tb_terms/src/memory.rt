@@ -1,6 +1,7 @@
 use std::alloc::{AllocError, AllocFailed};
 
-/// Memory ran out. The call that answers it has changed nothing that its contract speaks of.
+/// Memory ran out. What the call was lent for writing is as before, unless its contract says
+/// otherwise.
 #[derive(Clone, Copy, Debug, PartialEq, Eq)]
 pub struct NoMemory;
 

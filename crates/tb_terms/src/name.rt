@@ -2,7 +2,7 @@ ghost use Rattle.std.specs.Prelude.{◌≡◌, ◌↔◌, IsTrue, IfOk, Some, No
 ghost use Rattle.std.specs.List.{list_all};
 ghost use Rattle.tb_terms.specs.Names.{is_name, is_name_byte};
 
-use crate::NoMemory;
+use crate::{Items, NoMemory};
 use std::alloc::Global;
 use std::marker::Model;
 
@@ -12,6 +12,8 @@ use std::marker::Model;
 pub struct Name {
     bytes: Vec<u8>,
 }
+
+pub type Names = Items<Name>;
 
 impl Model for Name {
     ghost use Rattle.std.specs.Prelude.{List, ℕ, IsTrue};

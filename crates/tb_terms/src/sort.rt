@@ -1,6 +1,6 @@
 ghost use Rattle.std.specs.Prelude.{◌≡◌, ◌↔◌, IsTrue, IfOk};
 
-use crate::{Boxed, Name, NoMemory};
+use crate::{Boxed, Items, Name, NoMemory};
 use std::alloc::Global;
 
 /// What a variable may hold.
@@ -16,6 +16,8 @@ pub enum Sort {
     /// The terms of a tool: its name with one number.
     Tool(Name),
 }
+
+pub type Sorts = Items<Sort>;
 
 impl Sort {
     pub fn copy(&self, alloc: Global) -> Result<Sort, NoMemory>

@@ -43,11 +43,11 @@ pub fn copy_terms(alloc: Global, terms: &Terms) -> Result<Terms, NoMemory>
 fn copy_all(alloc: Global, terms: &[Term]) -> Result<Terms, NoMemory>
     ensures { IfOk result (λ copies. copies ≡ terms.now) }
 {
-    let mut copies = Items::new(alloc);
+    let mut copies = Vec::with_capacity(alloc, terms.len())?;
     for term in terms {
         copies.push(term.copy(alloc)?)?;
     }
-    Ok(copies)
+    Ok(Items::from_vec(copies))
 }
 
 /// Whether two terms are the same term.

@@ -2,7 +2,7 @@ ghost use Rattle.std.specs.Prelude.{◌≡◌, ◌↔◌, [], IsTrue, IfOk, Some
 ghost use Rattle.std.specs.List.{list_all};
 ghost use Rattle.tb_terms.specs.Names.{is_text_byte, is_text, is_string};
 
-use crate::NoMemory;
+use crate::{Items, NoMemory};
 use std::alloc::Global;
 use std::marker::Model;
 
@@ -12,6 +12,8 @@ use std::marker::Model;
 pub struct Text {
     text: String,
 }
+
+pub type Texts = Items<Text>;
 
 impl Model for Text {
     ghost use Rattle.std.specs.Prelude.{List, ℕ, IsTrue, string_bytes};

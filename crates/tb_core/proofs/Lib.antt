@@ -1,0 +1,11 @@
+pub mod SameLemmas
+pub mod Rows
+pub mod OfferLemmas
+pub mod HandshakeLemmas
+pub mod TurnLemmas
+pub mod LiveLemmas
+pub mod TraceLemmas
+pub mod CoreLemmas
+pub mod SimLemmas
+pub mod ReachedLemmas
+pub mod SimTraces

@@ -1,0 +1,14 @@
+pub mod InRange
+pub mod Same
+pub mod Processes
+pub mod Buses
+pub mod Steps
+pub mod Traces
+pub mod Codes
+pub mod Lives
+pub mod LiveBuses
+pub mod Cores
+pub mod LogText
+pub mod Reached
+pub mod Simulation
+pub mod Turns

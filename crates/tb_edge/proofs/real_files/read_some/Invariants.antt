@@ -1,0 +1,8 @@
+-- An interrupted read consumes nothing.
+use Rattle.std.proofs.Common.{◌≡◌, length}
+use Rattle.std.specs.Io.KnownBytes.{Keeps}
+use Rattle.tb_edge.proofs.real_files.read_some.Given as goal
+
+abbrev pub invariant-loop : goal.invariant-loop
+invariant-loop g l =
+    (length l.chunk ≡ length l.initial.chunk) × Keeps (g.F.Read.remaining l.initial.file) (g.F.Read.remaining l.file)

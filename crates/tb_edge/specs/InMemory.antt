@@ -1,0 +1,82 @@
+-- What the files and sinks in memory hold, and what a call of each answers and changes.
+use Rattle.std.specs.Prelude.{◌≡◌, ℕ, ◌+◌, ◌-◌, ◌==◌, nat_le, Bool, if◌then◌else◌, Option, Result, Ok, Err, List, [], ◌∷◌, ◌++◌, length, take, unwrap_or}
+use Rattle.std.specs.List.{find, list_any}
+use Rattle.std.specs.Option.{option_map, ok_or}
+use Rattle.std.specs.Str.{bytes_eq}
+use Rattle.tb_edge.specs.Faults.{risen}
+use Rattle.tb_edge.specs.declared.held_files.HeldFile.{HeldFile}
+use Rattle.tb_edge.specs.declared.files.Loaded.{Loaded}
+use Rattle.tb_edge.specs.declared.files.Loaded.TheVariants.{Bytes, TooLong}
+use Rattle.tb_edge.specs.declared.files.FilesFault.{FilesFault}
+use Rattle.tb_edge.specs.declared.files.FilesFault.TheVariants.{Failed, NoMemory}
+
+-- what a name holds: the bytes of the first file of that name
+abbrev pub held_in : List HeldFile → List ℕ → Option (List ℕ)
+held_in files name = option_map (λ file. file.bytes) (find (λ file. bytes_eq file.name name) files)
+
+-- what a load gives of these bytes
+abbrev pub loaded_of : ℕ → List ℕ → Loaded
+loaded_of most bytes = if nat_le (length bytes) most then Bytes bytes else TooLong (length bytes)
+
+-- whether the call of this number is to fail
+abbrev pub fails_at : List ℕ → ℕ → Bool
+fails_at fails call = list_any (λ fail. fail == call) fails
+
+-- the answer is this one, but for want of memory
+abbrev pub IsUnlessNoMemory : Result Loaded FilesFault → Result Loaded FilesFault → Type 0
+IsUnlessNoMemory (Ok loaded) answer = answer ≡ Ok loaded
+IsUnlessNoMemory (Err Failed) answer = answer ≡ Err Failed
+IsUnlessNoMemory (Err NoMemory) answer = Unit {0}
+
+-- a `MemFiles`
+pub record MemFilesView : Type 0 where
+  pub held : List HeldFile
+  pub fails : List ℕ
+  pub asked : List (List ℕ)
+  pub faults : ℕ
+
+-- it fails at the calls that are to fail, and for a name that it doesn't hold
+abbrev pub mem_answer : MemFilesView → List ℕ → ℕ → Result Loaded FilesFault
+mem_answer files name most =
+    if fails_at files.fails (length files.asked + 1) then Err Failed else ok_or (option_map (loaded_of most) (held_in files.held name)) Failed
+
+abbrev pub mem_files_after : Result Loaded FilesFault → MemFilesView → List ℕ → MemFilesView
+mem_files_after (Ok loaded) files name = record files { asked = files.asked ++ name ∷ [] }
+mem_files_after (Err Failed) files name = record files { asked = files.asked ++ name ∷ []; faults = risen files.faults }
+mem_files_after (Err NoMemory) files name = files
+
+-- a `SureFiles`
+pub record SureFilesView : Type 0 where
+  pub held : List HeldFile
+  pub asked : List (List ℕ)
+
+-- a name that it doesn't hold has no bytes
+abbrev pub surely_held_in : List HeldFile → List ℕ → List ℕ
+surely_held_in files name = unwrap_or (held_in files name) []
+
+abbrev pub sure_files_after : Result Loaded FilesFault → SureFilesView → List ℕ → SureFilesView
+sure_files_after (Ok loaded) files name = record files { asked = files.asked ++ name ∷ [] }
+sure_files_after (Err fault) files name = files
+
+-- a `MemSink`
+pub record MemSinkView : Type 0 where
+  pub taken : List ℕ
+  pub room : ℕ
+  pub fails : List ℕ
+  pub calls : ℕ
+  pub faults : ℕ
+
+-- of a piece it takes the front that there is room for, and nothing in a call that is to fail
+abbrev pub front_put : MemSinkView → List ℕ → List ℕ
+front_put sink piece = if fails_at sink.fails (risen sink.calls) then [] else take (sink.room - length sink.taken) piece
+
+-- a call fails where it doesn't take all
+abbrev pub is_put : MemSinkView → List ℕ → Bool
+is_put sink piece = length (front_put sink piece) == length piece
+
+abbrev pub mem_sink_after : MemSinkView → List ℕ → MemSinkView
+mem_sink_after sink piece = record sink {
+  taken = sink.taken ++ front_put sink piece;
+  calls = risen sink.calls;
+  faults = if is_put sink piece then sink.faults else risen sink.faults;
+}

@@ -1,0 +1,55 @@
+ghost use Rattle.std.specs.Prelude.{◌≡◌, IfOk};
+ghost use Rattle.std.specs.Option.{option_copied, option_map};
+ghost use Rattle.tb_edge.specs.InMemory.{held_in, loaded_of};
+
+use crate::{Bytes, Loaded};
+use sqlite_items::Items;
+use std::alloc::{AllocError, Global};
+use tb_terms::Text;
+
+/// A file in memory.
+#[derive(Debug, Drop)]
+pub struct HeldFile {
+    pub name: Text,
+    pub bytes: Bytes,
+}
+
+/// Files in memory. Where two have one name, the first counts.
+pub type HeldFiles = Items<HeldFile>;
+
+/// The bytes of the first file of this name.
+pub(crate) fn held_in<'a>(files: &'a HeldFiles, name: &str) -> Option<&'a [u8]>
+    ensures { option_copied result ≡ held_in files.now name.now }
+{
+    let found = files
+        .as_slice()
+        .iter()
+        .find(|file| file.name.as_str() == name)?;
+    Some(found.bytes.as_slice())
+}
+
+/// A copy of the bytes, where they are at most `most`.
+pub(crate) fn load_bytes(alloc: Global, bytes: &[u8], most: usize) -> Result<Loaded, AllocError>
+    ensures { IfOk result (λ loaded. loaded ≡ loaded_of most bytes.now) }
+{
+    if bytes.len() <= most {
+        return Ok(Loaded::Bytes(Bytes::from_slice(alloc, bytes)?));
+    }
+    Ok(Loaded::TooLong(bytes.len()))
+}
+
+/// What a load of the name gives, where it is held.
+pub(crate) fn load_held(
+    alloc: Global,
+    files: &HeldFiles,
+    name: &str,
+    most: usize,
+) -> Result<Option<Loaded>, AllocError>
+    ensures { IfOk result
+        (λ loaded. loaded ≡ option_map (loaded_of most) (held_in files.now name.now)) }
+{
+    match held_in(files, name) {
+        Some(bytes) => Ok(Some(load_bytes(alloc, bytes, most)?)),
+        None => Ok(None),
+    }
+}

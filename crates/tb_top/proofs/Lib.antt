@@ -1,0 +1,9 @@
+pub mod Lexing
+pub mod Faults
+pub mod Cursors
+pub mod Spelling
+pub mod Elements
+pub mod Numbering
+pub mod Programs
+pub mod LogWriting
+pub mod Outcomes
