@@ -1,5 +1,5 @@
 -- A text has one outcome.
-use Rattle.std.proofs.Common.{◌≡◌, ℕ, ◌≤◌, ◌<◌, ◌⊎◌, List, length, Some, None, Result, Ok, Err, refl, ap, subst, inl, inr, arith}
+use Rattle.std.proofs.Common.{◌≡◌, ℕ, ◌≤◌, ◌<◌, ◌⊎◌, List, length, Some, None, Result, Ok, Err, refl, ap, subst, inl, inr, ⊎_elim, arith}
 use Rattle.std.specs.Prelude.{IfOk, IfErr}
 use Rattle.tb_terms.specs.Sizes.{term_size, term_levels, IsWithinLimits}
 use Rattle.tb_terms.specs.declared.term.Term.{Term}
@@ -93,3 +93,19 @@ no_fault bytes t f r w h = no_fault_by bytes t f r w (cause bytes f h)
 pub only_term : (bytes : List ℕ) (result : Result Term TermFault) → IfOk result (λ t. Reads bytes t × IsWithinLimits t) → IfErr result (HasFault bytes) → (t : Term) → Reads bytes t → IsWithinLimits t → (result ≡ Ok t) ⊎ (result ≡ Err fault.NoMemory)
 only_term bytes (Ok u) found fault t r w = inl (ap (λ (v : Term). Ok v) (reads_one bytes u t found.0 r))
 only_term bytes (Err f) found fault t r w = inr (ap (λ (g : TermFault). Err g) (no_fault bytes t f r w fault))
+
+fault_or_memory : (bytes : List ℕ) (f g : TermFault) → HasFault bytes f → HasFault bytes g → (f ≡ fault.NoMemory → ⊥) → (g ≡ f) ⊎ (g ≡ fault.NoMemory)
+fault_or_memory bytes f fault.NoMemory p q nf = inr refl
+fault_or_memory bytes f (fault.Syntax n) p q nf = inl (fault_one bytes (fault.Syntax n) f q p (λ e. cc) nf)
+fault_or_memory bytes f (fault.Real n) p q nf = inl (fault_one bytes (fault.Real n) f q p (λ e. cc) nf)
+fault_or_memory bytes f (fault.IntRange n) p q nf = inl (fault_one bytes (fault.IntRange n) f q p (λ e. cc) nf)
+fault_or_memory bytes f fault.TooLarge p q nf = inl (fault_one bytes fault.TooLarge f q p (λ e. cc) nf)
+fault_or_memory bytes f fault.TooDeep p q nf = inl (fault_one bytes fault.TooDeep f q p (λ e. cc) nf)
+
+abbrev refused : TermFault → Result Term TermFault
+refused f = Err f
+
+-- where the text has a fault, the result is that fault, or memory ran out
+pub exact_fault : (bytes : List ℕ) (result : Result Term TermFault) → IfOk result (λ t. Reads bytes t × IsWithinLimits t) → IfErr result (HasFault bytes) → (f : TermFault) → HasFault bytes f → (f ≡ fault.NoMemory → ⊥) → (result ≡ Err f) ⊎ (result ≡ Err fault.NoMemory)
+exact_fault bytes (Ok t) found fault f h nf = absurd (nf (no_fault bytes t f found.0 found.1 h))
+exact_fault bytes (Err g) found fault f h nf = ⊎_elim (λ e. inl (ap refused e)) (λ e. inr (ap refused e)) (fault_or_memory bytes f g h fault nf)

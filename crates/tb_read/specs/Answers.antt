@@ -1,11 +1,14 @@
--- What a function answers that may find a fault, or run out of memory.
-use Rattle.std.specs.Prelude.{◌≡◌, ℕ, List, Option, Some, None, Result, Ok, Err}
+-- What a function answers that may find a fault, or run out of memory; and how bytes begin that it is given.
+use Rattle.std.specs.Prelude.{◌≡◌, ℕ, Bool, true, false, ◌||◌, ◌==◌, List, [], ◌∷◌, Option, Some, None, Result, Ok, Err}
 use Rattle.std.specs.Prelude.{Vec}
 use Rattle.std.specs.Global.{Global}
 use Rattle.std.specs.Borrow.{Bor}
+use Rattle.tb_terms.specs.Names.{is_digit, is_lower}
 use Rattle.tb_read.specs.declared.token.Token.{Token}
 use Rattle.tb_read.specs.declared.fault.TermFault.{TermFault}
 use Rattle.tb_read.specs.declared.fault.TermFault.TheVariants as fault
+use Rattle.tb_read.specs.declared.kind.Kind.{Kind}
+use Rattle.tb_read.specs.declared.kind.Kind.TheVariants as kind
 use Rattle.tb_read.specs.declared.shape.Shape.{Shape}
 use Rattle.tb_read.specs.Scanning.{Makes, Ends, next_of, after, Scans}
 
@@ -33,3 +36,16 @@ IsNext old new total bytes (Err e) = Faulted (λ f. next_of old total bytes ≡ 
 abbrev pub HasScanned : List ℕ → Result (Vec Token Global) TermFault → Type 0
 HasScanned bytes (Ok tokens) = Scans bytes tokens.items None
 HasScanned bytes (Err e) = Faulted (λ f. (tokens : List Token) × Scans bytes tokens (Some f)) e
+
+-- the bytes begin as a token of this kind does
+abbrev pub begins_with : Kind → List ℕ → Bool
+begins_with next [] = false
+begins_with kind.LeftParen (byte ∷ bytes) = byte == 40
+begins_with kind.RightParen (byte ∷ bytes) = byte == 41
+begins_with kind.LeftBracket (byte ∷ bytes) = byte == 91
+begins_with kind.RightBracket (byte ∷ bytes) = byte == 93
+begins_with kind.Comma (byte ∷ bytes) = byte == 44
+begins_with kind.Str (byte ∷ bytes) = byte == 34
+begins_with kind.Name (byte ∷ bytes) = is_lower byte
+begins_with kind.Int (byte ∷ bytes) = is_digit byte || (byte == 45)
+begins_with kind.Other (byte ∷ bytes) = true

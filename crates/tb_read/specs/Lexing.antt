@@ -131,19 +131,6 @@ kind_of byte =
     else (if is_lower byte then kind.Name
     else (if is_digit byte || (byte == 45) then kind.Int else kind.Other)))))))
 
--- the bytes begin as a token of this kind does
-abbrev pub begins_with : Kind → List ℕ → Bool
-begins_with next [] = false
-begins_with kind.LeftParen (byte ∷ bytes) = byte == 40
-begins_with kind.RightParen (byte ∷ bytes) = byte == 41
-begins_with kind.LeftBracket (byte ∷ bytes) = byte == 91
-begins_with kind.RightBracket (byte ∷ bytes) = byte == 93
-begins_with kind.Comma (byte ∷ bytes) = byte == 44
-begins_with kind.Str (byte ∷ bytes) = byte == 34
-begins_with kind.Name (byte ∷ bytes) = is_lower byte
-begins_with kind.Int (byte ∷ bytes) = is_digit byte || (byte == 45)
-begins_with kind.Other (byte ∷ bytes) = true
-
 abbrev pub token_of : Kind → ℕ → List ℕ → Result (Token × List ℕ) TermFault
 token_of kind.LeftParen total bytes = Ok (LeftParen, drop 1 bytes)
 token_of kind.RightParen total bytes = Ok (RightParen, drop 1 bytes)

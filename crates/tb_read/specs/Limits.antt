@@ -1,7 +1,9 @@
 -- The size and the levels of a term, counted over its tokens.
-use Rattle.std.specs.Prelude.{ℕ, ◌+◌, ◌-◌, List, [], ◌∷◌, length, max, sum_by}
+use Rattle.std.specs.Prelude.{ℕ, ◌+◌, ◌-◌, nat_lt, List, [], ◌∷◌, length, max, sum_by, Option, Some, None, if◌then◌else◌}
 use Rattle.tb_read.specs.declared.token.Token.{Token}
 use Rattle.tb_read.specs.declared.token.Token.TheVariants.{Int, Str, Name, LeftParen, RightParen, LeftBracket, RightBracket, Comma}
+use Rattle.tb_read.specs.declared.fault.TermFault.{TermFault}
+use Rattle.tb_read.specs.declared.fault.TermFault.TheVariants.{TooLarge, TooDeep}
 
 abbrev pub token_size : Token → ℕ
 token_size (Int number) = 1
@@ -41,3 +43,9 @@ nested_after nested Comma = nested
 abbrev pub tokens_levels : ℕ → List Token → ℕ
 tokens_levels nested [] = 0
 tokens_levels nested (token ∷ tokens) = max (token_level nested token) (tokens_levels (nested_after nested token) tokens)
+
+-- how the term with these tokens passes a limit
+abbrev pub over_limit : List Token → Option TermFault
+over_limit tokens =
+    if nat_lt 65536 (tokens_size tokens) then Some TooLarge
+    else (if nat_lt 64 (tokens_levels 0 tokens) then Some TooDeep else None)

@@ -1,8 +1,7 @@
 -- Which fault bytes have that are no term within the limits.
-use Rattle.std.specs.Prelude.{ℕ, ◌<◌, ◌≤◌, nat_lt, List, Option, Some, None, if◌then◌else◌}
+use Rattle.std.specs.Prelude.{ℕ, ◌<◌, ◌≤◌, List, Some}
 use Rattle.tb_terms.specs.Sizes.{term_size, term_levels}
 use Rattle.tb_terms.specs.declared.term.Term.{Term}
-use Rattle.tb_read.specs.Limits.{tokens_size, tokens_levels}
 use Rattle.tb_read.specs.Scanning.{Scans}
 use Rattle.tb_read.specs.Spelling.{Reads}
 use Rattle.tb_read.specs.declared.token.Token.{Token}
@@ -21,9 +20,3 @@ HasFault bytes (fault.IntRange place) = StopsAt bytes (fault.IntRange place)
 HasFault bytes fault.TooLarge = (term : Term) × Reads bytes term × (65536 < term_size term)
 HasFault bytes fault.TooDeep = (term : Term) × Reads bytes term × (term_size term ≤ 65536) × (64 < term_levels term)
 HasFault bytes fault.NoMemory = Unit {0}
-
--- how the term with these tokens passes a limit
-abbrev pub over_limit : List Token → Option TermFault
-over_limit tokens =
-    if nat_lt 65536 (tokens_size tokens) then Some fault.TooLarge
-    else (if nat_lt 64 (tokens_levels 0 tokens) then Some fault.TooDeep else None)

@@ -6,12 +6,15 @@ use tb_terms::NoMemory;
 pub enum TermFault {
     /// The first byte that can't go on, or the length where the bytes end too early.
     Syntax(usize),
-    /// The first byte of a number that has a point and a further digit.
+    /// The first byte of a number that is followed directly by a point and a digit.
     Real(usize),
     /// The first byte of a number that 64 bits don't hold.
     IntRange(usize),
+    /// The bytes are a term of a size over 65,536.
     TooLarge,
+    /// The bytes are a term of a size within the limit, and of more than 64 levels.
     TooDeep,
+    /// There wasn't memory enough; it says nothing of the bytes.
     NoMemory,
 }
 

@@ -16,7 +16,7 @@ pub fn reading_is_unique()
     ensures { (bytes : List ℕ) (t u : Term) → Reads bytes t → Reads bytes u → t ≡ u }
 {}
 
-/// A text has one fault at most, and none where it is a term within the limits.
+/// But for want of memory, a text has one fault at most, and none where it is a term within the limits.
 pub fn faults_are_unique()
     ensures one { (bytes : List ℕ) (f g : TermFault) → HasFault bytes f → HasFault bytes g
         → f ≢ NoMemory → g ≢ NoMemory → f ≡ g }

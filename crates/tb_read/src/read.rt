@@ -1,8 +1,10 @@
-ghost use Rattle.std.specs.Prelude.{◌≡◌, ◌⊎◌, IfOk, IfErr, Ok, Err};
+ghost use Rattle.std.specs.Prelude.{◌≡◌, ◌≢◌, ◌⊎◌, IfOk, IfErr, Ok, Err};
 ghost use Rattle.tb_terms.specs.declared.term.Term.{Term};
 ghost use Rattle.tb_terms.specs.Sizes.{IsWithinLimits};
 ghost use Rattle.tb_read.specs.Spelling.{Reads};
-ghost use Rattle.tb_read.specs.Reading.{HasFault, over_limit};
+ghost use Rattle.tb_read.specs.Limits.{over_limit};
+ghost use Rattle.tb_read.specs.Reading.{HasFault};
+ghost use Rattle.tb_read.specs.declared.fault.TermFault.{TermFault};
 
 use crate::TermFault;
 use crate::build::build;
@@ -20,6 +22,10 @@ pub fn read_term(alloc: Global, bytes: &[u8]) -> Result<Term, TermFault>
     ensures only { (term : Term) → Reads bytes.now term → IsWithinLimits term
         → (result ≡ Ok term) ⊎ (result ≡ Err TermFault.NoMemory) }
     ensures fault { IfErr result (HasFault bytes.now) }
+
+    // Where the text has a fault, this is what comes.
+    ensures exact { (f : TermFault) → HasFault bytes.now f → f ≢ TermFault.NoMemory
+        → (result ≡ Err f) ⊎ (result ≡ Err TermFault.NoMemory) }
 {
     read(alloc, bytes)
 }

@@ -1,3 +1,4 @@
 pub mod Induction
 pub mod Joined
+pub mod SameLemmas
 pub mod TextBytes

@@ -1,6 +1,7 @@
 pub mod Fronts
 pub mod Names
 pub mod Proper
+pub mod Same
 pub mod Sizes
 pub mod Sorts
 pub mod Texts

@@ -1,0 +1,4 @@
+pub mod Grouping
+pub mod Least
+pub mod Once
+pub mod Parts

@@ -1,0 +1,14 @@
+//! Terms are matched against patterns, and what the variables take is bound to their slots.
+#![tactic(auto)]
+
+mod bind;
+mod fit;
+mod laws;
+mod matching;
+#[cfg(test)]
+mod tests;
+
+pub use bind::{Bind, Binds, copy_binds};
+pub use fit::{fits_list, same_patterns};
+pub use laws::{list_matches_are_least, matches_are_least, matches_bind_once};
+pub use matching::{match_list, match_term};
