@@ -1,4 +1,3 @@
-pub mod SameLemmas
 pub mod Rows
 pub mod OfferLemmas
 pub mod HandshakeLemmas

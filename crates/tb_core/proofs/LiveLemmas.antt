@@ -10,7 +10,7 @@ use Rattle.tb_core.specs.Lives.{proc_of, offer_of, term_at, is_placed, ascend, a
 use Rattle.tb_core.specs.Buses.{Bus, Proc, acts_of, proc_left, opened, start}
 use Rattle.tb_core.specs.Steps.{goes_on}
 use Rattle.tb_core.specs.LiveBuses.{live_at, nobody}
-use Rattle.tb_core.proofs.SameLemmas.{both-true}
+use Rattle.tb_terms.proofs.SameLemmas.{both-true}
 use Rattle.tb_core.proofs.TurnLemmas.{ascend-above}
 use Rattle.tb_core.specs.declared.live.Live.{Live}
 use Rattle.tb_core.specs.declared.program.Act.{Act}

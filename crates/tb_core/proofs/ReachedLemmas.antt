@@ -6,7 +6,7 @@ use Rattle.std.specs.List.{All, flat_map}
 use Rattle.std.proofs.lemmas.Bool.{eqb-true}
 use Rattle.std.proofs.lemmas.List.Elements.{All-nil, All-cons, All-head, All-tail, All-append, All-weaker, All-map, All-filter, All-contains, All-contains_itself}
 use Rattle.tb_terms.specs.declared.term.Term.{Term}
-use Rattle.tb_core.specs.Same.{is_same, is_same_terms}
+use Rattle.tb_terms.specs.Same.{is_same, is_same_terms}
 use Rattle.tb_core.specs.Processes.{Process, At, Seq, Offer, offers, fresh, fresh_from, with_rest}
 use Rattle.tb_core.specs.Buses.{Bus, Proc, Origin, acts_of, start, opened, proc_left}
 use Rattle.tb_core.specs.Steps.{Move, Own, Handshake, Finish, Halt, Step, act_of, in_turn, others, handshake_of, handshakes_with, handshakes, moves_by, moves_of, moves_of_all, moves_or_halt, moves_while_up, moves, goes_on, label_of, made, step_of, steps}
@@ -23,7 +23,7 @@ use Rattle.tb_core.specs.declared.log.Reply.TheVariants.{Dropped}
 use Rattle.tb_core.specs.declared.log.Why.TheVariants.{Down}
 use Rattle.tb_core.specs.declared.log.Entry.{Entry}
 use Rattle.tb_core.specs.declared.log.Entry.TheVariants.{Did, Quiet, Fed}
-use Rattle.tb_core.proofs.SameLemmas.{is_same-refl, is_same-sound}
+use Rattle.tb_terms.proofs.SameLemmas.{is_same-refl, is_same-sound}
 
 -- lists
 

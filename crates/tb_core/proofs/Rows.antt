@@ -4,7 +4,7 @@ use Rattle.tb_terms.specs.declared.term.Term.{Term}
 use Rattle.tb_terms.specs.declared.term.Term.TheVariants.{Appl}
 use Rattle.tb_terms.specs.contracts.term.Term as term
 use Rattle.std.specs.Coded.{coded_list}
-use Rattle.tb_core.proofs.SameLemmas.{is_same-refl}
+use Rattle.tb_terms.proofs.SameLemmas.{is_same-refl}
 use Rattle.tb_core.specs.Buses.{Origin, start}
 use Rattle.tb_core.specs.Steps.{steps, moves, moves_of_all, moves_of, handshakes, handshakes_with, goes_on}
 use Rattle.tb_core.specs.Simulation.{IsSim, sim_start}

@@ -14,7 +14,7 @@ use Rattle.tb_core.specs.declared.log.Entry.{Entry}
 use Rattle.tb_core.specs.declared.log.Entry.TheVariants.{Did, Quiet, Fed}
 use Rattle.tb_core.specs.declared.simulation.SimEnd.{SimEnd}
 use Rattle.tb_core.specs.declared.simulation.SimEnd.TheVariants as end
-use Rattle.tb_core.proofs.SameLemmas.{both-true}
+use Rattle.tb_terms.proofs.SameLemmas.{both-true}
 use Rattle.tb_core.proofs.TraceLemmas.{replay-append, after-first}
 use Rattle.tb_core.proofs.TurnLemmas.{up-all}
 

@@ -1,6 +1,6 @@
 -- Traces and the buses to which they lead: one part after another, and the first of the steps.
 use Rattle.std.proofs.Common.{◌≡◌, List, [], ◌∷◌, ◌++◌, map, refl, ap, sym, ◌∙◌, subst, arith, Some, None, Bool, true, false, Contains, if◌then◌else◌}
-use Rattle.tb_core.specs.Same.{is_same}
+use Rattle.tb_terms.specs.Same.{is_same}
 use Rattle.tb_core.specs.Buses.{Bus, start}
 use Rattle.tb_core.specs.Steps.{Move, Own, Handshake, Finish, Halt, Step, moves, steps, step_of, made}
 use Rattle.tb_core.specs.Traces.{IsTrace, after, after_step, replay, fed, took, Answer}
@@ -15,7 +15,7 @@ use Rattle.tb_core.specs.declared.log.Reply.TheVariants.{Dropped}
 use Rattle.tb_core.specs.declared.log.Why.TheVariants.{Down}
 use Rattle.tb_core.specs.declared.log.Entry.{Entry}
 use Rattle.tb_core.specs.declared.log.Entry.TheVariants.{Did, Quiet, Fed}
-use Rattle.tb_core.proofs.SameLemmas.{is_same-refl}
+use Rattle.tb_terms.proofs.SameLemmas.{is_same-refl}
 
 -- a log leads on from where its first part leads
 pub replay-append : (bus : Bus) (xs ys : List Entry) → replay bus (xs ++ ys) ≡ replay (replay bus xs) ys

@@ -9,7 +9,7 @@ use Rattle.tb_core.specs.Lives.{proc_of, ascend}
 use Rattle.tb_core.specs.Buses.{Bus, Proc}
 use Rattle.tb_core.specs.Steps.{Move, Finish, Halt, moves_of, moves_of_all, in_turn, moves, moves_while_up, moves_or_halt}
 use Rattle.tb_core.specs.LiveBuses.{first, moves_among}
-use Rattle.tb_core.proofs.SameLemmas.{both-true}
+use Rattle.tb_terms.proofs.SameLemmas.{both-true}
 use Rattle.tb_core.specs.declared.live.Live.{Live}
 
 module _ {A : Type 0} (p : A → Bool) where

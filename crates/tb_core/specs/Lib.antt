@@ -1,5 +1,4 @@
 pub mod InRange
-pub mod Same
 pub mod Processes
 pub mod Buses
 pub mod Steps

@@ -2,7 +2,7 @@
 use Rattle.std.specs.Prelude.{ℕ, List, [], ◌∷◌, map, slice_get, slice_index_or, length, ◌≡◌, Option, Some, None, Bool, false, ◌<◌, ◌≢◌, ⊤}
 use Rattle.std.specs.List.{flat_map}
 use Rattle.tb_terms.specs.declared.term.Term.{Term}
-use Rattle.tb_core.specs.Same.{is_same_terms}
+use Rattle.tb_terms.specs.Same.{is_same_terms}
 use Rattle.tb_core.specs.Buses.{Bus, acts_of, start}
 use Rattle.tb_core.specs.Traces.{IsTrace, replay}
 use Rattle.tb_core.specs.declared.log.Entry.{Entry}

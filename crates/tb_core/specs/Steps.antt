@@ -2,7 +2,7 @@
 use Rattle.std.specs.Prelude.{ℕ, ◌-◌, ◌==◌, nat_lt, nat_le, List, [], ◌∷◌, ◌++◌, map, filter, Bool, true, not, if◌then◌else◌, Option, Some, None, slice_get}
 use Rattle.std.specs.List.{flat_map}
 use Rattle.tb_terms.specs.declared.term.Term.{Term}
-use Rattle.tb_core.specs.Same.{is_same_terms}
+use Rattle.tb_terms.specs.Same.{is_same_terms}
 use Rattle.tb_core.specs.Processes.{Process, Offer, offers}
 use Rattle.tb_core.specs.Buses.{Bus, Proc, acts_of, proc_left}
 use Rattle.tb_core.specs.declared.program.Act.{Act}

@@ -1,6 +1,6 @@
 -- What an entry of the log may do to a bus, which logs are traces, and the bus to which a log leads.
 use Rattle.std.specs.Prelude.{◌≡◌, List, [], ◌∷◌, true, false, if◌then◌else◌, Contains, ⊤}
-use Rattle.tb_core.specs.Same.{is_same}
+use Rattle.tb_terms.specs.Same.{is_same}
 use Rattle.tb_core.specs.Buses.{Bus}
 use Rattle.tb_core.specs.Steps.{Step, steps}
 use Rattle.tb_core.specs.declared.log.Label.{Label}

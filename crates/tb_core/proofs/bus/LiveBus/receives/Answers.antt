@@ -2,8 +2,8 @@ use Rattle.std.proofs.Common.{◌≡◌, ◌∙◌, ap, sym, Some, option_map}
 use Rattle.std.specs.Coded.{coded_list}
 use Rattle.tb_terms.specs.contracts.term.Term as term
 use Rattle.tb_core.specs.LiveBuses.{receives}
-use Rattle.tb_core.specs.Same.{is_same_terms}
-use Rattle.tb_core.proofs.SameLemmas.{is_same-decided}
+use Rattle.tb_terms.specs.Same.{is_same_terms}
+use Rattle.tb_terms.proofs.SameLemmas.{is_same-decided}
 use Rattle.tb_core.proofs.bus.LiveBus.receives.Goals as goal
 
 pub returns-in-Some-RecMsg : goal.returns-in-Some-RecMsg
