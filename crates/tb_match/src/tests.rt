@@ -169,3 +169,57 @@ fn patterns_without_variables_fit(rt: HostRuntime) -> Result<(), Fail> {
     assert!(rt; !same_patterns(&nested(alloc)?, &wanted));
     Ok(())
 }
+
+/// A list of this many numbers.
+fn wide(alloc: Global, count: usize) -> Result<Term, NoMemory> {
+    let mut terms = Items::new(alloc);
+    for _at in 0..count {
+        terms.push(Term::Int(7))?;
+    }
+    Ok(Term::List(terms))
+}
+
+fn wide_pattern(alloc: Global, count: usize) -> Result<Pattern, NoMemory> {
+    let mut patterns = Items::new(alloc);
+    for _at in 0..count {
+        patterns.push(Pattern::Hole(Sort::Int))?;
+    }
+    Ok(Pattern::List(patterns))
+}
+
+/// Lists in lists, so many levels of them.
+fn deep(alloc: Global, levels: usize) -> Result<Term, NoMemory> {
+    let mut term = Term::List(Items::new(alloc));
+    for _level in 1..levels {
+        let mut terms = Items::new(alloc);
+        terms.push(term)?;
+        term = Term::List(terms);
+    }
+    Ok(term)
+}
+
+fn deep_pattern(alloc: Global, levels: usize) -> Result<Pattern, NoMemory> {
+    let mut pattern = Pattern::Result(1, Sort::Any);
+    for _level in 1..levels {
+        let mut patterns = Items::new(alloc);
+        patterns.push(pattern)?;
+        pattern = Pattern::List(patterns);
+    }
+    Ok(pattern)
+}
+
+#[test]
+fn the_largest_terms_are_matched(rt: HostRuntime) -> Result<(), Fail> {
+    let alloc = rt.alloc();
+    let list = wide(alloc, 65_535)?;
+    let holes = wide_pattern(alloc, 65_535)?;
+    assert!(rt; match_term(alloc, &holes, &list)?.is_some());
+    assert!(rt; match_term(alloc, &holes, &wide(alloc, 65_534)?)?.is_none());
+    let fixed = Pattern::Fixed(list.copy(alloc)?);
+    assert!(rt; match_term(alloc, &fixed, &list)?.is_some());
+    let nested = deep(alloc, 64)?;
+    let found = match_term(alloc, &deep_pattern(alloc, 64)?, &nested)?.ok_or(NoMemory)?;
+    assert_eq!(rt; found.len(), 1);
+    assert!(rt; match_term(alloc, &deep_pattern(alloc, 65)?, &nested)?.is_none());
+    Ok(())
+}
