@@ -47,7 +47,7 @@ after bus Quiet = bus
 after bus (Fed input reply) = (fed bus input).bus
 
 -- A log is a trace from a bus where each entry may lead from the bus before it to the bus after it.
--- Of steps that are seen alike an entry stands for the first.
+-- No two steps of a bus that a program reaches are seen alike; elsewhere an entry stands for the first that is.
 abbrev pub IsTrace : Bus → List Entry → Type 0
 IsTrace bus [] = ⊤
 IsTrace bus (entry ∷ log) = IsLegal bus entry (after bus entry) × IsTrace (after bus entry) log
