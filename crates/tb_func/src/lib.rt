@@ -1,0 +1,13 @@
+//! What expressions are worth: the functions that they may apply, the store of the variables, and
+//! the values of expressions in it.
+#![tactic(auto)]
+
+mod functions;
+mod shape;
+mod slot;
+mod store;
+
+pub use functions::{function, signature};
+pub use shape::{Shape, Signature};
+pub use slot::Slot;
+pub use store::{Sorts, Store};
