@@ -2,4 +2,4 @@ use Rattle.std.proofs.Common.{◌≡◌, take}
 use Rattle.tb_func.proofs.store.Store.copy.Given as goal
 
 abbrev pub invariant-loop-slot : goal.invariant-loop-slot
-invariant-loop-slot l = l.slots.items ≡ take l.slot-index l.self-inside.slots.items
+invariant-loop-slot l = l.slots.items ≡ take l.slot-index l.slot-items
