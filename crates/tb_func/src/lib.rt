@@ -3,6 +3,9 @@
 #![tactic(auto)]
 
 mod functions;
+mod limits;
+mod numbers;
+mod parts;
 mod shape;
 mod slot;
 mod store;
