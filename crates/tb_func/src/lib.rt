@@ -2,14 +2,17 @@
 //! the values of expressions in it.
 #![tactic(auto)]
 
+mod calls;
 mod functions;
 mod limits;
+mod lists;
 mod numbers;
 mod parts;
 mod shape;
 mod slot;
 mod store;
 
+pub use calls::apply;
 pub use functions::{function, signature};
 pub use shape::{Shape, Signature};
 pub use slot::Slot;
