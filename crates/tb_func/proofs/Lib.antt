@@ -1,3 +1,4 @@
+pub mod Fronts
 pub mod NumberLemmas
 pub mod SameLemmas
 pub mod StoreLemmas

@@ -3,5 +3,7 @@ pub mod Arguments
 pub mod Functions
 pub mod Limits
 pub mod Numbers
+pub mod Patterns
 pub mod Same
 pub mod Stores
+pub mod Values

@@ -8,12 +8,16 @@ mod limits;
 mod lists;
 mod numbers;
 mod parts;
+mod patterns;
 mod shape;
 mod slot;
 mod store;
+mod values;
 
 pub use calls::apply;
 pub use functions::{function, signature};
+pub use patterns::pattern;
 pub use shape::{Shape, Signature};
 pub use slot::Slot;
 pub use store::{Sorts, Store};
+pub use values::eval;

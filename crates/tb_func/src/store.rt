@@ -1,5 +1,5 @@
 ghost use Rattle.std.specs.Prelude.{◌≡◌, ◌<◌, Some, IsTrue, IfOk, length, map};
-ghost use Rattle.std.specs.Option.{ForSome};
+ghost use Rattle.std.specs.Option.{ForSome, option_copied};
 ghost use Rattle.tb_terms.specs.Sorts.{has_sort};
 ghost use Rattle.tb_func.specs.Stores.{are_sorted, fresh_slot, sort_at, value_at, with_value};
 
@@ -56,11 +56,35 @@ impl Store {
         &self.slots[slot as usize].value
     }
 
+    /// The value at this slot, where there is one.
+    pub(crate) fn get(&self, slot: u32) -> Option<&Term>
+        ensures { option_copied result ≡ value_at self.now slot }
+    {
+        let place = slot as usize;
+        if place < self.slots.len() {
+            Some(&self.slots[place].value)
+        } else {
+            None
+        }
+    }
+
     pub fn sort(&self, slot: u32) -> &Sort
         requires { slot < length self.now }
         ensures { sort_at self.now slot ≡ Some result.now }
     {
         &self.slots[slot as usize].sort
+    }
+
+    /// The sort of this slot, where there is one.
+    pub(crate) fn get_sort(&self, slot: u32) -> Option<&Sort>
+        ensures { option_copied result ≡ sort_at self.now slot }
+    {
+        let place = slot as usize;
+        if place < self.slots.len() {
+            Some(&self.slots[place].sort)
+        } else {
+            None
+        }
     }
 
     pub fn set(&mut self, slot: u32, t: Term)
