@@ -1,4 +1,5 @@
 pub mod Fronts
 pub mod NumberLemmas
+pub mod OutputLemmas
 pub mod SameLemmas
 pub mod StoreLemmas
