@@ -14,6 +14,8 @@ mod printing;
 mod shape;
 mod slot;
 mod store;
+#[cfg(test)]
+mod tests;
 mod values;
 
 pub use calls::apply;
