@@ -4,6 +4,7 @@ ghost use Rattle.tb_func.specs.Limits.{is_within_limits, limited};
 use tb_terms::{Term, depth, size};
 
 const GREATEST_SIZE: usize = 65_536;
+
 const MOST_LEVELS: usize = 64;
 
 #[tactic(auto, unfolding(crate::specs::Limits::is_within_limits))]

@@ -5,9 +5,9 @@ ghost use Rattle.tb_func.specs.Patterns.{pattern_of, fixed_term, fixed_terms, ap
 ghost use Rattle.tb_func.specs.Stores.{sort_at};
 ghost use Rattle.tb_func.specs.Values.{all_of};
 
+use crate::Store;
 use crate::limits::limited;
 use crate::values::{call, variable};
-use crate::Store;
 use std::alloc::Global;
 use tb_terms::{Expr, Func, Items, Name, NoMemory, Pattern, Patterns, Term, Terms};
 
