@@ -1,0 +1,6 @@
+pub mod Fronts
+pub mod NumberLemmas
+pub mod OutputLemmas
+pub mod PrintedText
+pub mod SameLemmas
+pub mod StoreLemmas

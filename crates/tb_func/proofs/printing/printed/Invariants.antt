@@ -1,0 +1,8 @@
+use Rattle.std.proofs.Common.{◌≡◌, false, drop}
+use Rattle.tb_func.specs.Outputs.{in_all}
+use Rattle.tb_func.specs.Printing.{printed}
+use Rattle.tb_func.proofs.printing.printed.Given as goal
+
+-- the bytes that are left, behind what is printed
+abbrev pub invariant-loop-byte : goal.invariant-loop-byte
+invariant-loop-byte l = in_all l.printer (drop l.byte-index l.format) l.args ≡ printed false l.format l.args

@@ -1,0 +1,11 @@
+pub mod Apply
+pub mod Arguments
+pub mod Functions
+pub mod Limits
+pub mod Numbers
+pub mod Outputs
+pub mod Patterns
+pub mod Printing
+pub mod Same
+pub mod Stores
+pub mod Values

@@ -1,0 +1,11 @@
+-- Which terms are within the limits of size and levels, and what is left of a term past them.
+use Rattle.std.specs.Prelude.{Bool, ◌&&◌, nat_le, Option, Some, None, if◌then◌else◌}
+use Rattle.tb_terms.specs.declared.term.Term.{Term}
+use Rattle.tb_terms.specs.Sizes.{term_size, term_levels}
+
+unfoldable pub is_within_limits : Term → Bool
+is_within_limits term = nat_le (term_size term) 65536 && nat_le (term_levels term) 64
+
+-- the term, and nothing where it passes a limit
+abbrev pub limited : Term → Option Term
+limited term = if is_within_limits term then Some term else None

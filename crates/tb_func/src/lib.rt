@@ -1,0 +1,28 @@
+//! What expressions are worth: the functions that they may apply, the store of the variables, and
+//! the values of expressions in it.
+#![tactic(auto)]
+
+mod calls;
+mod functions;
+mod limits;
+mod lists;
+mod numbers;
+mod parts;
+mod patterns;
+mod printer;
+mod printing;
+mod shape;
+mod slot;
+mod store;
+#[cfg(test)]
+mod tests;
+mod values;
+
+pub use calls::apply;
+pub use functions::{function, signature};
+pub use patterns::pattern;
+pub use printing::printf_text;
+pub use shape::{Shape, Signature};
+pub use slot::Slot;
+pub use store::{Sorts, Store};
+pub use values::eval;

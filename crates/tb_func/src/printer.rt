@@ -1,0 +1,105 @@
+ghost use Rattle.std.specs.Prelude.{◌≡◌, ◌++◌, ◌∷◌, [], ℕ, false, List, Some, None, Option, IfOk, OnOk, option_map, if◌then◌else◌};
+ghost use Rattle.std.specs.Fmt.{signed_decimal};
+ghost use Rattle.tb_func.specs.Printing.{shown};
+
+use itoa::Buffer;
+use std::alloc::Global;
+use tb_terms::{NoMemory, Term, write_term};
+
+/// What has been printed so far, how many arguments that took, and whether a `%` came last.
+#[derive(Debug, Drop)]
+pub(crate) struct Printer {
+    text: Vec<u8>,
+    taken: usize,
+    is_after_percent: bool,
+}
+
+impl Printer {
+    ghost use Rattle.std.specs.Prelude.{◌≡◌, ◌∷◌, [], ℕ, true, false, List, None, IfOk, option_map, if◌then◌else◌};
+    ghost use Rattle.std.specs.Vec.{vec_items};
+    ghost use Rattle.tb_func.specs.Outputs.{in_all};
+
+    pub(crate) fn new(alloc: Global) -> Printer
+        ensures text { result.text.items ≡ [] }
+        ensures taken { result.taken ≡ 0 }
+        ensures begins { result.is_after_percent ≡ false }
+    {
+        Printer {
+            text: Vec::new(alloc),
+            taken: 0,
+            is_after_percent: false,
+        }
+    }
+
+    /// Takes the next byte of the format, and says whether the format goes on.
+    pub(crate) fn take(&mut self, byte: u8, args: &[Term]) -> Result<bool, NoMemory>
+        ensures { IfOk result (λ goes. (rest : List ℕ)
+            → in_all self.old (byte ∷ rest) args.now ≡ (if goes then in_all self.new rest args.now else None)) }
+    {
+        if self.is_after_percent {
+            return self.directive(byte, args);
+        }
+        if byte == b'%' {
+            self.is_after_percent = true;
+        } else {
+            self.text.push(byte)?;
+        }
+        Ok(true)
+    }
+
+    /// Takes the letter after a `%`.
+    fn directive(&mut self, letter: u8, args: &[Term]) -> Result<bool, NoMemory>
+        ensures { IfOk result (λ goes. (rest : List ℕ)
+            → in_all (record self.old { is_after_percent = true }) (letter ∷ rest) args.now
+            ≡ (if goes then in_all self.new rest args.now else None)) }
+    {
+        self.is_after_percent = false;
+        if letter == b'%' {
+            self.text.push(b'%')?;
+            return Ok(true);
+        }
+        if self.taken >= args.len() {
+            return Ok(false);
+        }
+        let term = &args[self.taken];
+        self.taken += 1;
+        push_shown(letter, term, &mut self.text)
+    }
+
+    /// What was printed, where the format and the arguments end together.
+    pub(crate) fn finish(self, args: &[Term]) -> Option<Vec<u8>>
+        ensures { option_map (λ text. vec_items text) result ≡ in_all self [] args.now }
+    {
+        let Printer {
+            text,
+            taken,
+            is_after_percent,
+        } = self;
+        if is_after_percent || taken < args.len() {
+            return None;
+        }
+        Some(text)
+    }
+}
+
+/// Puts the argument at the end as the letter asks, and says whether it could.
+fn push_shown(letter: u8, term: &Term, into: &mut Vec<u8>) -> Result<bool, NoMemory>
+    ensures { IfOk result (λ is_shown. option_map (λ text. into.old.items ++ text) (shown letter term.now)
+        ≡ (if is_shown then Some into.new.items else None)) }
+{
+    match (letter, term) {
+        (b'd', Term::Int(number)) => push_number(*number, into)?,
+        (b's', Term::Str(text)) => into.extend_from_slice(text.as_bytes())?,
+        (b't', _) => write_term(term, into)?,
+        _ => return Ok(false),
+    }
+    Ok(true)
+}
+
+fn push_number(number: i64, into: &mut Vec<u8>) -> Result<(), NoMemory>
+    ensures { OnOk result (into.new.items ≡ into.old.items ++ signed_decimal number) }
+{
+    let mut buffer = Buffer::new();
+    into.extend_from_slice(buffer.format(number).as_bytes())?;
+    Ok(())
+}
