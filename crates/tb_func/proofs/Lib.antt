@@ -2,5 +2,4 @@ pub mod Fronts
 pub mod NumberLemmas
 pub mod OutputLemmas
 pub mod PrintedText
-pub mod SameLemmas
 pub mod StoreLemmas

@@ -8,7 +8,7 @@ use Rattle.tb_terms.specs.declared.expr.Func.TheVariants.{Equal, NotEqual, Not, 
 use Rattle.tb_func.specs.Arguments.{bool_of, int_of, list_of, bool_term, of_both}
 use Rattle.tb_func.specs.Limits.{limited}
 use Rattle.tb_func.specs.Numbers.{ranged, arithmetic, order, time}
-use Rattle.tb_func.specs.Same.{is_same_term}
+use Rattle.tb_terms.specs.Same.{is_same_term}
 
 abbrev pub first_of : List Term → Option Term
 first_of [] = None

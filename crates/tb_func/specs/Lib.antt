@@ -6,6 +6,5 @@ pub mod Numbers
 pub mod Outputs
 pub mod Patterns
 pub mod Printing
-pub mod Same
 pub mod Stores
 pub mod Values

@@ -1,7 +1,7 @@
 ghost use Rattle.std.specs.Prelude.{◌≡◌, not, Some, IfOk, option_and_then, option_map};
 ghost use Rattle.tb_func.specs.Apply.{apply_of, given, one_given, two_given, negated, truths, logic, numbers, orders, timed, number_of, first_of, rest_of, joined, member_at, members_test};
 ghost use Rattle.tb_func.specs.Arguments.{bool_of, list_of, int_of, bool_term, of_both};
-ghost use Rattle.tb_func.specs.Same.{is_same_term};
+ghost use Rattle.tb_terms.specs.Same.{is_same_term};
 
 use crate::limits::limited;
 use crate::lists::{first_of, is_member, is_same, joined, member_at, number_of, rest_of};

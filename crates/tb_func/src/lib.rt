@@ -24,5 +24,5 @@ pub use patterns::pattern;
 pub use printing::printf_text;
 pub use shape::{Shape, Signature};
 pub use slot::Slot;
-pub use store::{Sorts, Store};
+pub use store::Store;
 pub use values::eval;

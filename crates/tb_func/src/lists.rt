@@ -1,7 +1,7 @@
 ghost use Rattle.std.specs.Prelude.{◌≡◌, ◌++◌, IfOk, OnOk};
 ghost use Rattle.std.specs.List.{list_any};
 ghost use Rattle.tb_func.specs.Apply.{first_of, rest_of, member_at, joined, number_of};
-ghost use Rattle.tb_func.specs.Same.{is_same_term};
+ghost use Rattle.tb_terms.specs.Same.{is_same_term};
 
 use sqlite_items::at;
 use std::alloc::Global;

@@ -6,9 +6,7 @@ ghost use Rattle.tb_func.specs.Stores.{are_sorted, fresh_slot, sort_at, value_at
 use crate::Slot;
 use std::alloc::Global;
 use std::marker::Model;
-use tb_terms::{Items, NoMemory, Sort, Term, initial};
-
-pub type Sorts = Items<Sort>;
+use tb_terms::{NoMemory, Sort, Sorts, Term, initial};
 
 /// The variables of a process by their slots. Contracts see it as the list of its slots.
 #[derive(Debug, Drop)]

@@ -1,10 +1,8 @@
-use crate::{
-    Shape, Signature, Sorts, Store, apply, eval, function, pattern, printf_text, signature,
-};
+use crate::{Shape, Signature, Store, apply, eval, function, pattern, printf_text, signature};
 use std::alloc::Global;
 use std::test::Fail;
 use tb_terms::{
-    Expr, Exprs, Func, Items, Name, NoMemory, Pattern, Sort, Term, Terms, Text, has_sort,
+    Expr, Exprs, Func, Items, Name, NoMemory, Pattern, Sort, Sorts, Term, Terms, Text, has_sort,
     write_term,
 };
 

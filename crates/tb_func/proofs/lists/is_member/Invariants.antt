@@ -1,6 +1,6 @@
 use Rattle.std.proofs.Common.{◌≡◌, drop}
 use Rattle.std.specs.List.{list_any}
-use Rattle.tb_func.specs.Same.{is_same_term}
+use Rattle.tb_terms.specs.Same.{is_same_term}
 use Rattle.tb_func.proofs.lists.is_member.Given as goal
 
 -- the members that are left decide
