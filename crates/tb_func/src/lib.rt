@@ -6,6 +6,7 @@ mod calls;
 mod functions;
 mod limits;
 mod lists;
+mod measured;
 mod numbers;
 mod parts;
 mod patterns;

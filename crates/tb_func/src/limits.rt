@@ -1,4 +1,4 @@
-ghost use Rattle.std.specs.Prelude.{◌≡◌};
+ghost use Rattle.std.specs.Prelude.{◌≡◌, ◌&&◌, nat_le};
 ghost use Rattle.tb_func.specs.Limits.{is_within_limits, limited};
 
 use tb_terms::{Term, depth, size};
@@ -7,11 +7,17 @@ const GREATEST_SIZE: usize = 65_536;
 
 const MOST_LEVELS: usize = 64;
 
+pub(crate) fn are_within_limits(size: usize, levels: usize) -> bool
+    ensures { result ≡ (nat_le size 65536 && nat_le levels 64) }
+{
+    size <= GREATEST_SIZE && levels <= MOST_LEVELS
+}
+
 #[tactic(auto, unfolding(crate::specs::Limits::is_within_limits))]
 pub(crate) fn is_within_limits(term: &Term) -> bool
     ensures { result ≡ is_within_limits term.now }
 {
-    size(term) <= GREATEST_SIZE && depth(term) <= MOST_LEVELS
+    are_within_limits(size(term), depth(term))
 }
 
 /// The term, and nothing where it passes a limit.

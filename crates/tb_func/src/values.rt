@@ -1,24 +1,34 @@
-ghost use Rattle.std.specs.Prelude.{◌≡◌, IfOk, map, option_and_then};
+ghost use Rattle.std.specs.Prelude.{◌≡◌, IfOk, map, option_and_then, option_map};
 ghost use Rattle.tb_terms.specs.declared.term.Term.TheVariants as term;
 ghost use Rattle.tb_func.specs.Apply.{apply_of};
 ghost use Rattle.tb_func.specs.Limits.{limited};
 ghost use Rattle.tb_func.specs.Stores.{value_at};
 ghost use Rattle.tb_func.specs.Values.{value_of, all_of};
 
-use crate::limits::limited;
+use crate::measured::{Measured, MeasuredParts};
 use crate::{Store, apply};
 use std::alloc::Global;
-use tb_terms::{Expr, Func, Items, Name, NoMemory, Term, Terms};
+use tb_terms::{Expr, Func, Name, NoMemory, Term, Terms};
 
 /// What the expression is worth in the store, where it is worth anything.
-#[cycle(eval)]
 pub fn eval(alloc: Global, e: &Expr, s: &Store) -> Result<Option<Term>, NoMemory>
     ensures { IfOk result (λ v. v ≡ value_of s.now e.now) }
 {
+    match eval_measured(alloc, e, s)? {
+        Some(value) => Ok(Some(value.term)),
+        None => Ok(None),
+    }
+}
+
+/// The value of the expression, with its size and levels, where it is worth anything.
+#[cycle(eval_measured)]
+fn eval_measured(alloc: Global, e: &Expr, s: &Store) -> Result<Option<Measured>, NoMemory>
+    ensures { IfOk result (λ v. option_map (λ m. m.term) v ≡ value_of s.now e.now) }
+{
     match e {
-        Expr::Int(number) => Ok(Some(Term::Int(*number))),
-        Expr::Str(text) => Ok(limited(Term::Str(text.copy(alloc)?))),
-        Expr::Var(slot) => variable(alloc, *slot, s),
+        Expr::Int(number) => Ok(Some(Measured::number(*number))),
+        Expr::Str(text) => Ok(Measured::string(text.copy(alloc)?).limited()),
+        Expr::Var(slot) => Ok(measured(variable(alloc, *slot, s)?)),
         Expr::Result(_) | Expr::Hole(_) => Ok(None),
         Expr::Appl(name, parts) => {
             let values = eval_all(alloc, parts.as_slice(), s)?;
@@ -26,25 +36,34 @@ pub fn eval(alloc: Global, e: &Expr, s: &Store) -> Result<Option<Term>, NoMemory
         }
         Expr::Call(func, parts) => {
             let values = eval_all(alloc, parts.as_slice(), s)?;
-            call(alloc, *func, values)
+            value_of_call(alloc, *func, values)
         }
         Expr::List(parts) => Ok(list(eval_all(alloc, parts.as_slice(), s)?)),
     }
 }
 
-/// What the expressions are worth, where each is worth anything.
-#[cycle(eval)]
-fn eval_all(alloc: Global, exprs: &[Expr], s: &Store) -> Result<Option<Terms>, NoMemory>
-    ensures { IfOk result (λ v. v ≡ all_of (map (value_of s.now) exprs.now)) }
+/// The values of the expressions, where each is worth anything.
+#[cycle(eval_measured)]
+fn eval_all(alloc: Global, exprs: &[Expr], s: &Store) -> Result<Option<MeasuredParts>, NoMemory>
+    ensures { IfOk result (λ v. option_map (λ p. p.terms) v ≡ all_of (map (value_of s.now) exprs.now)) }
 {
-    let mut values = Items::new(alloc);
+    let mut values = MeasuredParts::new(alloc);
     for expr in exprs {
-        match eval(alloc, expr, s)? {
+        match eval_measured(alloc, expr, s)? {
             Some(value) => values.push(value)?,
             None => return Ok(None),
         }
     }
     Ok(Some(values))
+}
+
+pub(crate) fn measured(value: Option<Term>) -> Option<Measured>
+    ensures { option_map (λ m. m.term) result ≡ value }
+{
+    match value {
+        Some(term) => Some(Measured::new(term)),
+        None => None,
+    }
 }
 
 pub(crate) fn variable(alloc: Global, slot: u32, s: &Store) -> Result<Option<Term>, NoMemory>
@@ -56,12 +75,30 @@ pub(crate) fn variable(alloc: Global, slot: u32, s: &Store) -> Result<Option<Ter
     }
 }
 
-fn application(alloc: Global, name: &Name, parts: Option<Terms>) -> Result<Option<Term>, NoMemory>
-    ensures { IfOk result
-        (λ v. v ≡ option_and_then (λ ts. limited (term.Appl name.now ts)) parts) }
+fn application(
+    alloc: Global,
+    name: &Name,
+    parts: Option<MeasuredParts>,
+) -> Result<Option<Measured>, NoMemory>
+    ensures { IfOk result (λ v. option_map (λ m. m.term) v
+        ≡ option_and_then (λ ts. limited (term.Appl name.now ts)) (option_map (λ p. p.terms) parts)) }
 {
     match parts {
-        Some(parts) => Ok(limited(Term::Appl(name.copy(alloc)?, parts))),
+        Some(parts) => Ok(parts.application(name.copy(alloc)?).limited()),
+        None => Ok(None),
+    }
+}
+
+fn value_of_call(
+    alloc: Global,
+    f: Func,
+    args: Option<MeasuredParts>,
+) -> Result<Option<Measured>, NoMemory>
+    ensures { IfOk result (λ v. option_map (λ m. m.term) v
+        ≡ option_and_then (apply_of f) (option_map (λ p. p.terms) args)) }
+{
+    match args {
+        Some(args) => Ok(measured(apply(alloc, f, &args.terms)?)),
         None => Ok(None),
     }
 }
@@ -75,11 +112,12 @@ pub(crate) fn call(alloc: Global, f: Func, args: Option<Terms>) -> Result<Option
     }
 }
 
-fn list(parts: Option<Terms>) -> Option<Term>
-    ensures { result ≡ option_and_then (λ ts. limited (term.List ts)) parts }
+fn list(parts: Option<MeasuredParts>) -> Option<Measured>
+    ensures { option_map (λ m. m.term) result
+        ≡ option_and_then (λ ts. limited (term.List ts)) (option_map (λ p. p.terms) parts) }
 {
     match parts {
-        Some(parts) => limited(Term::List(parts)),
+        Some(parts) => parts.list().limited(),
         None => None,
     }
 }

@@ -1,0 +1,116 @@
+ghost use Rattle.std.specs.Prelude.{◌≡◌, ◌++◌, ◌∷◌, [], IfErr, OnErr, OnOk, min, map, sum, option_map};
+ghost use Rattle.tb_terms.specs.Sizes.{term_size, term_levels, greatest};
+ghost use Rattle.tb_terms.specs.declared.term.Term.TheVariants as term;
+ghost use Rattle.tb_func.specs.Limits.{limited};
+ghost use Rattle.std.below.core.specs.declared.int.usize.TheConstants.{MAX};
+
+use crate::limits::are_within_limits;
+use std::alloc::Global;
+use tb_terms::{Items, Name, NoMemory, Term, Terms, Text, depth, size};
+
+/// A term beside its size and its levels. The greatest `usize` stands for all greater numbers.
+#[derive(Debug, Drop)]
+pub(crate) struct Measured {
+    pub term: Term,
+    pub size: usize,
+    pub levels: usize,
+    ghost has_size: { size ≡ min (term_size term) MAX },
+    ghost has_levels: { levels ≡ min (term_levels term) MAX },
+}
+
+impl Measured {
+    /// Measures the term.
+    pub(crate) fn new(term: Term) -> Measured
+        ensures { result.term ≡ term }
+    {
+        let size = size(&term);
+        let levels = depth(&term);
+        Measured { term, size, levels }
+    }
+
+    pub(crate) fn number(number: i64) -> Measured
+        ensures { result.term ≡ term.Int number }
+    {
+        Measured {
+            term: Term::Int(number),
+            size: 1,
+            levels: 1,
+        }
+    }
+
+    pub(crate) fn string(text: Text) -> Measured
+        ensures { result.term ≡ term.Str text }
+    {
+        let size = text.as_bytes().len().saturating_add(1);
+        Measured {
+            term: Term::Str(text),
+            size,
+            levels: 1,
+        }
+    }
+
+    /// The term, and nothing where it passes a limit.
+    #[tactic(auto, unfolding(crate::specs::Limits::is_within_limits))]
+    pub(crate) fn limited(self) -> Option<Measured>
+        ensures { option_map (λ m. m.term) result ≡ limited self.term }
+    {
+        if are_within_limits(self.size, self.levels) {
+            Some(self)
+        } else {
+            None
+        }
+    }
+}
+
+/// Terms beside the sum of their sizes and the levels of the deepest.
+#[derive(Debug, Drop)]
+pub(crate) struct MeasuredParts {
+    pub terms: Terms,
+    pub sizes: usize,
+    pub deepest: usize,
+    ghost has_sizes: { sizes ≡ min (sum (map term_size terms)) MAX },
+    ghost has_deepest: { deepest ≡ min (greatest (map term_levels terms)) MAX },
+}
+
+impl MeasuredParts {
+    pub(crate) fn new(alloc: Global) -> MeasuredParts
+        ensures { result.terms ≡ [] }
+    {
+        MeasuredParts {
+            terms: Items::new(alloc),
+            sizes: 0,
+            deepest: 0,
+        }
+    }
+
+    pub(crate) fn push(&mut self, part: Measured) -> Result<(), NoMemory>
+        ensures pushed { OnOk result (self.new.terms ≡ self.old.terms ++ part.term ∷ []) }
+        ensures unchanged { OnErr result (self.new.terms ≡ self.old.terms) }
+    {
+        self.terms.push(part.term)?;
+        self.sizes = self.sizes.saturating_add(part.size);
+        self.deepest = part.levels.max(self.deepest);
+        Ok(())
+    }
+
+    pub(crate) fn application(self, name: Name) -> Measured
+        ensures { result.term ≡ term.Appl name self.terms }
+    {
+        let named = name.as_bytes().len().saturating_add(1);
+        Measured {
+            size: named.saturating_add(self.sizes),
+            levels: self.deepest.saturating_add(1),
+            term: Term::Appl(name, self.terms),
+        }
+    }
+
+    pub(crate) fn list(self) -> Measured
+        ensures { result.term ≡ term.List self.terms }
+    {
+        Measured {
+            size: self.sizes.saturating_add(1),
+            levels: self.deepest.saturating_add(1),
+            term: Term::List(self.terms),
+        }
+    }
+}
