@@ -31,10 +31,10 @@ use Rattle.tb_read.proofs.Terms.{tokens_of-injective}
 use Rattle.tb_read.proofs.Grammar.{kind_of_token, accepts, accepts-tokens_of}
 
 -- what may follow a name or a number: the end, a blank, or a bracket or comma
-abbrev is_apart : ℕ → Bool
+abbrev pub is_apart : ℕ → Bool
 is_apart b = is_blank b || (eqb b 40 || (eqb b 41 || (eqb b 93 || eqb b 44)))
 
-abbrev Apart : List ℕ → Type 0
+abbrev pub Apart : List ℕ → Type 0
 Apart [] = Unit {0}
 Apart (b ∷ rest) = is_apart b ≡ true
 
@@ -67,13 +67,13 @@ real_apart (b ∷ c ∷ rest) a = rw (point_apart b a) refl
 abbrev pair : Token → List ℕ → Result Lexed TermFault
 pair k rest = Ok (k, rest)
 
-name_complete : (name rest : List ℕ) → is_name name ≡ true → Apart rest → name_at (name ++ rest) ≡ Ok (token.Name name, rest)
-name_complete [] rest h a = absurd (false≢true h)
-name_complete (c ∷ cs) rest h a =
+pub name_taken : (name rest : List ℕ) → is_name name ≡ true → prefix_len is_name_byte rest ≡ 0 → name_at (name ++ rest) ≡ Ok (token.Name name, rest)
+name_taken [] rest h a = absurd (false≢true h)
+name_taken (c ∷ cs) rest h a =
     let p = and_parts (is_lower c) (list_all is_name_byte cs) h in
     let first : is_name_byte c ≡ true = rw p.0 refl in
     let all : list_all is_name_byte (c ∷ cs) ≡ true = rw first p.1 in
-    let len : prefix_len is_name_byte ((c ∷ cs) ++ rest) ≡ length (c ∷ cs) = prefix_all is_name_byte (c ∷ cs) rest all (prefix_none is_name_byte name_apart rest a) in
+    let len : prefix_len is_name_byte ((c ∷ cs) ++ rest) ≡ length (c ∷ cs) = prefix_all is_name_byte (c ∷ cs) rest all a in
     ap (λ n. pair (token.Name (take n ((c ∷ cs) ++ rest))) (drop n ((c ∷ cs) ++ rest))) len
     ∙ ap (λ (l : List ℕ). pair (token.Name l) (drop (length (c ∷ cs)) ((c ∷ cs) ++ rest))) (take-append_seam (c ∷ cs) rest)
     ∙ ap (λ (l : List ℕ). pair (token.Name (c ∷ cs)) l) (drop-append_seam (c ∷ cs) rest)
@@ -85,17 +85,21 @@ number_found total place negative z (x ∷ digits) rest d a e =
     ∙ ap (λ o. in_range place o rest) e
 
 -- the digits are found up to what follows them
-digits_found : (total place : ℕ) (negative : Bool) (z : ℤ) (digits rest : List ℕ) → is_digits digits ≡ true → Apart rest → number_of negative (digits_value digits) ≡ Some z → number_from total place negative (take (prefix_len is_digit (digits ++ rest)) (digits ++ rest)) (drop (prefix_len is_digit (digits ++ rest)) (digits ++ rest)) ≡ Ok (token.Int z, rest)
-digits_found total place negative z [] rest d a e = absurd (false≢true d)
-digits_found total place negative z (x ∷ digits) rest d a e =
+pub digits_taken : (total place : ℕ) (negative : Bool) (digits rest : List ℕ) → is_digits digits ≡ true → prefix_len is_digit rest ≡ 0 → number_from total place negative (take (prefix_len is_digit (digits ++ rest)) (digits ++ rest)) (drop (prefix_len is_digit (digits ++ rest)) (digits ++ rest)) ≡ number_from total place negative digits rest
+digits_taken total place negative [] rest d a = absurd (false≢true d)
+digits_taken total place negative (x ∷ digits) rest d a =
     let l = (x ∷ digits) ++ rest in
-    let len : prefix_len is_digit l ≡ length (x ∷ digits) = prefix_all is_digit (x ∷ digits) rest d (prefix_none is_digit digit_apart rest a) in
+    let len : prefix_len is_digit l ≡ length (x ∷ digits) = prefix_all is_digit (x ∷ digits) rest d a in
     ap (λ n. number_from total place negative (take n l) (drop n l)) len
     ∙ ap (λ (m : List ℕ). number_from total place negative m (drop (length (x ∷ digits)) l)) (take-append_seam (x ∷ digits) rest)
     ∙ ap (λ (m : List ℕ). number_from total place negative (x ∷ digits) m) (drop-append_seam (x ∷ digits) rest)
-    ∙ number_found total place negative z (x ∷ digits) rest d a e
 
-digit_unsigned : (x : ℕ) → is_digit x ≡ true → eqb x 45 ≡ false
+digits_found : (total place : ℕ) (negative : Bool) (z : ℤ) (digits rest : List ℕ) → is_digits digits ≡ true → Apart rest → number_of negative (digits_value digits) ≡ Some z → number_from total place negative (take (prefix_len is_digit (digits ++ rest)) (digits ++ rest)) (drop (prefix_len is_digit (digits ++ rest)) (digits ++ rest)) ≡ Ok (token.Int z, rest)
+digits_found total place negative z digits rest d a e =
+    digits_taken total place negative digits rest d (prefix_none is_digit digit_apart rest a)
+    ∙ number_found total place negative z digits rest d a e
+
+pub digit_unsigned : (x : ℕ) → is_digit x ≡ true → eqb x 45 ≡ false
 digit_unsigned x h = grind (arith, nat_tests)
 
 unsigned_complete : (total : ℕ) (z : ℤ) (digits rest : List ℕ) → is_digits digits ≡ true → Apart rest → number_of false (digits_value digits) ≡ Some z → number_at total (digits ++ rest) ≡ Ok (token.Int z, rest)
@@ -127,15 +131,15 @@ string_complete total bytes text rest s =
     ap (λ (l : List ℕ). token_of kind.Str total l) regrouped ∙ ap (λ (r : Result (List ℕ × List ℕ) TermFault). string_of r) taken
 
 -- what follows a token where it might go on
-abbrev Follows : Token → List ℕ → Type 0
+abbrev pub Follows : Token → List ℕ → Type 0
 Follows (token.Name name) rest = Apart rest
 Follows (token.Int number) rest = Apart rest
 Follows _ rest = Unit {0}
 
-token_complete : (total : ℕ) (k : Token) (text rest : List ℕ) → SpellsToken k text → Follows k rest → token_of (kind_of_token k) total (text ++ rest) ≡ Ok (k, rest)
+pub token_complete : (total : ℕ) (k : Token) (text rest : List ℕ) → SpellsToken k text → Follows k rest → token_of (kind_of_token k) total (text ++ rest) ≡ Ok (k, rest)
 token_complete total (token.Int z) text rest s a = number_by total z s.digits text rest s.are_digits a s.signed
 token_complete total (token.Str bytes) text rest s a = string_complete total bytes text rest s
-token_complete total (token.Name name) text rest s a = ap (λ (l : List ℕ). name_at (l ++ rest)) s.1 ∙ name_complete name rest s.0 a
+token_complete total (token.Name name) text rest s a = ap (λ (l : List ℕ). name_at (l ++ rest)) s.1 ∙ name_taken name rest s.0 (prefix_none is_name_byte name_apart rest a)
 token_complete total token.LeftParen text rest s a = ap (λ (l : List ℕ). token_of kind.LeftParen total (l ++ rest)) s
 token_complete total token.RightParen text rest s a = ap (λ (l : List ℕ). token_of kind.RightParen total (l ++ rest)) s
 token_complete total token.LeftBracket text rest s a = ap (λ (l : List ℕ). token_of kind.LeftBracket total (l ++ rest)) s
@@ -143,7 +147,7 @@ token_complete total token.RightBracket text rest s a = ap (λ (l : List ℕ). t
 token_complete total token.Comma text rest s a = ap (λ (l : List ℕ). token_of kind.Comma total (l ++ rest)) s
 
 -- the first byte of a spelling tells the kind, and is no blank
-abbrev Begun : Token → List ℕ → Type 0
+abbrev pub Begun : Token → List ℕ → Type 0
 Begun k text = (b : ℕ) × (rest : List ℕ) × (text ≡ b ∷ rest) × (kind_of b ≡ kind_of_token k) × (is_blank b ≡ false)
 
 lower_kind : (b : ℕ) → is_lower b ≡ true → kind_of b ≡ kind.Name
@@ -194,7 +198,7 @@ digits_begun z (x ∷ digits) h =
 number_begun : (z : ℤ) (text : List ℕ) (s : SpellsNumber z text) → Begun (token.Int z) text
 number_begun z text s = ⊎_elim (λ p. subst (λ (l : List ℕ). Begun (token.Int z) l) (sym p.0) (digits_begun z s.digits s.are_digits)) (λ p. (45, s.digits, p.0, refl, refl)) s.signed
 
-begun : (k : Token) (text : List ℕ) → SpellsToken k text → Begun k text
+pub begun : (k : Token) (text : List ℕ) → SpellsToken k text → Begun k text
 begun (token.Int z) text s = number_begun z text s
 begun (token.Str bytes) text s = (34, s.inner ++ (34 ∷ []), s.quoted, refl, refl)
 begun (token.Name name) text s = subst (λ (l : List ℕ). Begun (token.Name name) l) (sym s.1) (name_begun name s.0)
@@ -205,7 +209,7 @@ begun token.RightBracket text s = (93, [], s, refl, refl)
 begun token.Comma text s = (44, [], s, refl, refl)
 
 -- blanks are skipped up to a byte that is none
-skipped : (blanks : List ℕ) (b : ℕ) (rest : List ℕ) → list_all is_blank blanks ≡ true → is_blank b ≡ false → skip_blanks (blanks ++ (b ∷ rest)) ≡ b ∷ rest
+pub skipped : (blanks : List ℕ) (b : ℕ) (rest : List ℕ) → list_all is_blank blanks ≡ true → is_blank b ≡ false → skip_blanks (blanks ++ (b ∷ rest)) ≡ b ∷ rest
 skipped [] b rest h e = rw e refl
 skipped (c ∷ blanks) b rest h e =
     let p = and_parts (is_blank c) (list_all is_blank blanks) h in

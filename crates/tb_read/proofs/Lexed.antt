@@ -29,7 +29,7 @@ Lexed = Token × List ℕ
 abbrev pub Found : List ℕ → Lexed → Kind → Type 0
 Found bytes x next = (text : List ℕ) × (bytes ≡ text ++ x.1) × SpellsToken x.0 text × (kind_of_token x.0 ≡ next)
 
-ok_same : (x y : Lexed) → ◌≡◌ {A = Result Lexed TermFault} (Ok x) (Ok y) → x ≡ y
+pub ok_same : (x y : Lexed) → ◌≡◌ {A = Result Lexed TermFault} (Ok x) (Ok y) → x ≡ y
 ok_same x y e = cc
 
 symbol : (k : Token) (b c : ℕ) (bytes : List ℕ) (x : Lexed) → eqb b c ≡ true → SpellsToken k (c ∷ []) → ◌≡◌ {A = Result Lexed TermFault} (Ok (k, bytes)) (Ok x) → Found (b ∷ bytes) x (kind_of_token k)
@@ -42,7 +42,7 @@ name_sound bytes x h e =
     subst (λ (y : Lexed). Found bytes y kind.Name) (ok_same (token.Name (take len bytes), drop len bytes) x e)
     (take len bytes, sym (take-append-drop len bytes), (is_name_front bytes h, refl), refl)
 
-abbrev NumberFound : Bool → List ℕ → List ℕ → Lexed → Type 0
+abbrev pub NumberFound : Bool → List ℕ → List ℕ → Lexed → Type 0
 NumberFound negative digits rest x =
     (z : ℤ) × (x ≡ (token.Int z, rest)) × (is_digits digits ≡ true) × (number_of negative (digits_value digits) ≡ Some z)
 
@@ -51,7 +51,7 @@ number_by place negative digits rest x d true o eo e = cc
 number_by place negative digits rest x d false None eo e = cc
 number_by place negative digits rest x d false (Some z) eo e = (z, sym (ok_same (token.Int z, rest) x e), d, eo)
 
-number_from_sound : (total place : ℕ) (negative : Bool) (digits rest : List ℕ) (x : Lexed) → list_all is_digit digits ≡ true → number_from total place negative digits rest ≡ Ok x → NumberFound negative digits rest x
+pub number_from_sound : (total place : ℕ) (negative : Bool) (digits rest : List ℕ) (x : Lexed) → list_all is_digit digits ≡ true → number_from total place negative digits rest ≡ Ok x → NumberFound negative digits rest x
 number_from_sound total place negative [] rest x d e = cc
 number_from_sound total place negative (digit ∷ digits) rest x d e =
     number_by place negative (digit ∷ digits) rest x d (is_real rest) (number_of negative (digits_value (digit ∷ digits))) refl e
@@ -159,11 +159,11 @@ made_ends : (r : Result Lexed TermFault) → made r ≡ Ends None → ⊥
 made_ends (Ok x) e = cc
 made_ends (Err f) e = cc
 
-makes_by : (v : Bool) (r : Result Lexed TermFault) (f : TermFault) (k : Token) (rest : List ℕ) → cond v (made r) (Ends (Some f)) ≡ Makes k rest → (v ≡ true) × (r ≡ Ok (k, rest))
+pub makes_by : (v : Bool) (r : Result Lexed TermFault) (f : TermFault) (k : Token) (rest : List ℕ) → cond v (made r) (Ends (Some f)) ≡ Makes k rest → (v ≡ true) × (r ≡ Ok (k, rest))
 makes_by true r f k rest e = (refl, made_makes r k rest e)
 makes_by false r f k rest e = cc
 
-ends_by : (v : Bool) (r : Result Lexed TermFault) (f : TermFault) → cond v (made r) (Ends (Some f)) ≡ Ends None → ⊥
+pub ends_by : (v : Bool) (r : Result Lexed TermFault) (f : TermFault) → cond v (made r) (Ends (Some f)) ≡ Ends None → ⊥
 ends_by true r f e = made_ends r e
 ends_by false r f e = cc
 
@@ -171,7 +171,7 @@ end_by : (v : Bool) (f : TermFault) → cond v (Ends None) (Ends (Some f)) ≡ E
 end_by true f e = refl
 end_by false f e = cc
 
-not_makes : (v : Bool) (f : TermFault) (k : Token) (rest : List ℕ) → cond v (Ends None) (Ends (Some f)) ≡ Makes k rest → ⊥
+pub not_makes : (v : Bool) (f : TermFault) (k : Token) (rest : List ℕ) → cond v (Ends None) (Ends (Some f)) ≡ Makes k rest → ⊥
 not_makes true f k rest e = cc
 not_makes false f k rest e = cc
 

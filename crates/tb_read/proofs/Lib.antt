@@ -7,6 +7,7 @@ pub mod Lexed
 pub mod Names
 pub mod Outcomes
 pub mod Scalars
+pub mod Stops
 pub mod Strings
 pub mod Terms
 pub mod Wholes

@@ -1,7 +1,7 @@
-use crate::{TermFault, faults_are_unique, read_term, reading_is_unique};
+use crate::{TermFault, faults_are_unique, read_term, reading_is_unique, written_text_reads};
 use std::alloc::Global;
 use std::test::Fail;
-use tb_terms::{same, write_term};
+use tb_terms::{Boxed, Sort, depth, has_sort, same, size, write_term};
 
 /// The text as it is written again, where it reads as a term.
 fn rewritten(alloc: Global, text: &[u8]) -> Result<Vec<u8>, TermFault> {
@@ -37,9 +37,19 @@ fn flat(alloc: Global, count: usize) -> Result<Vec<u8>, TermFault> {
     Ok(text)
 }
 
+/// A string of so many newlines, each as an escape.
+fn newlines(alloc: Global, count: usize) -> Result<Vec<u8>, TermFault> {
+    let mut text = vec![in alloc; b'"'; 1]?;
+    for _place in 0..count {
+        text.extend_from_slice(b"\\n")?;
+    }
+    text.push(b'"')?;
+    Ok(text)
+}
+
 #[test]
 fn a_text_is_written_again_without_blanks(rt: HostRuntime) -> Result<(), Fail> {
-    let table: [(&[u8], &[u8]); 12] = [
+    let table: [(&[u8], &[u8]); 13] = [
         (b" [1, 2]", b"[1,2]"),
         (b"[ ]", b"[]"),
         (b"007", b"7"),
@@ -51,6 +61,7 @@ fn a_text_is_written_again_without_blanks(rt: HostRuntime) -> Result<(), Fail> {
         (b"f( g ( h ) , [ [ ] , -12 ] )", b"f(g(h),[[],-12])"),
         (b"\"\\\\ \\\" \\n \\r \\t\"", b"\"\\\\ \\\" \\n \\r \\t\""),
         (b"\"a\tb\"", b"\"a\\tb\""),
+        (b"\"\x7F\"", b"\"\x7F\""),
         (
             b"\"\xC3\xA9 \xE2\x82\xAC \xF0\x9F\x98\x80\"",
             b"\"\xC3\xA9 \xE2\x82\xAC \xF0\x9F\x98\x80\"",
@@ -67,8 +78,8 @@ fn a_text_is_written_again_without_blanks(rt: HostRuntime) -> Result<(), Fail> {
 }
 
 #[test]
-fn each_fault_stands_at_its_place(rt: HostRuntime) {
-    let table: [(&[u8], TermFault); 36] = [
+fn faults_of_numbers_stand_at_their_place(rt: HostRuntime) {
+    let table: [(&[u8], TermFault); 14] = [
         (b"3.5", TermFault::Real(0)),
         (b"-3.5", TermFault::Real(0)),
         (b"[1,2.5]", TermFault::Real(3)),
@@ -77,37 +88,66 @@ fn each_fault_stands_at_its_place(rt: HostRuntime) {
         (b"-9223372036854775809", TermFault::IntRange(0)),
         (b"[99999999999999999999,x y", TermFault::IntRange(1)),
         (b"99999999999999999999.x", TermFault::IntRange(0)),
-        (b"f()", TermFault::Syntax(2)),
-        (b"", TermFault::Syntax(0)),
-        (b"  ", TermFault::Syntax(2)),
-        (b"[1 3.5", TermFault::Syntax(3)),
+        (b"1 99999999999999999999", TermFault::Syntax(2)),
         (b"- 1", TermFault::Syntax(1)),
         (b"-", TermFault::Syntax(1)),
         (b"12a", TermFault::Syntax(2)),
         (b"3.", TermFault::Syntax(1)),
         (b"3.x", TermFault::Syntax(1)),
-        (b"[1,]", TermFault::Syntax(3)),
-        (b"[,1]", TermFault::Syntax(1)),
-        (b"a b", TermFault::Syntax(2)),
-        (b"1(2)", TermFault::Syntax(1)),
-        (b"f(1)(2)", TermFault::Syntax(4)),
-        (b"f(1", TermFault::Syntax(3)),
-        (b"f(x]", TermFault::Syntax(3)),
-        (b"[1)", TermFault::Syntax(2)),
-        (b"]", TermFault::Syntax(0)),
-        (b"A", TermFault::Syntax(0)),
-        (b"1,2", TermFault::Syntax(1)),
-        (b"\"a", TermFault::Syntax(2)),
-        (b"\"a\\q\"", TermFault::Syntax(3)),
-        (b"\"a\\", TermFault::Syntax(3)),
-        (b"\"a\n\"", TermFault::Syntax(2)),
-        (b"\"\xFF\"", TermFault::Syntax(1)),
-        (b"\"\xC0\x80\"", TermFault::Syntax(1)),
-        (b"\"\xE2\"", TermFault::Syntax(2)),
-        (b"\"\xED\xA0\x80\"", TermFault::Syntax(2)),
     ];
     for (text, want) in table {
         assert_eq!(rt; fault_of(rt.alloc(), text), Some(want), "at {text:?}");
+    }
+}
+
+#[test]
+fn faults_of_brackets_stand_at_their_place(rt: HostRuntime) {
+    let table: [(&[u8], usize); 15] = [
+        (b"", 0),
+        (b"  ", 2),
+        (b"f()", 2),
+        (b"[1 3.5", 3),
+        (b"[1,]", 3),
+        (b"[,1]", 1),
+        (b"a b", 2),
+        (b"1(2)", 1),
+        (b"f(1)(2)", 4),
+        (b"f(1", 3),
+        (b"f(x]", 3),
+        (b"[1)", 2),
+        (b"]", 0),
+        (b"A", 0),
+        (b"1,2", 1),
+    ];
+    for (text, place) in table {
+        let want = Some(TermFault::Syntax(place));
+        assert_eq!(rt; fault_of(rt.alloc(), text), want, "at {text:?}");
+    }
+}
+
+#[test]
+fn faults_of_strings_stand_at_their_place(rt: HostRuntime) {
+    let table: [(&[u8], usize); 16] = [
+        (b"\"a", 2),
+        (b"\"a\\q\"", 3),
+        (b"\"a\\", 3),
+        (b"\"a\n\"", 2),
+        (b"\"a\r\"", 2),
+        (b"\"\x01\"", 1),
+        (b"\"\\\n\"", 2),
+        (b"\"\xFF\"", 1),
+        (b"\"\xC0\x80\"", 1),
+        (b"\"\xE2\"", 2),
+        (b"\"\xE2\\n\"", 2),
+        (b"\"\xE2\x82\n\"", 3),
+        (b"\"\xE0\x80\"", 2),
+        (b"\"\xED\xA0\x80\"", 2),
+        (b"\"\xF0\x80\"", 2),
+        (b"\"\xF4\x90\"", 2),
+    ];
+    for (text, place) in table {
+        let want = Some(TermFault::Syntax(place));
+        assert_eq!(rt; fault_of(rt.alloc(), text), want, "at {text:?}");
     }
 }
 
@@ -127,6 +167,8 @@ fn the_limits_are_kept(rt: HostRuntime) -> Result<(), Fail> {
     assert_eq!(rt; fault_of(alloc, nested(alloc, 64, b"")?.as_slice()), None);
     let both = nested(alloc, 65537, b"")?;
     assert_eq!(rt; fault_of(alloc, both.as_slice()), Some(TermFault::TooLarge));
+    let deep = nested(alloc, 32768, b"")?;
+    assert_eq!(rt; fault_of(alloc, deep.as_slice()), Some(TermFault::TooDeep));
     let open = vec![in alloc; b'['; 65536]?;
     assert_eq!(rt;
         fault_of(alloc, open.as_slice()),
@@ -134,5 +176,48 @@ fn the_limits_are_kept(rt: HostRuntime) -> Result<(), Fail> {
     );
     reading_is_unique();
     faults_are_unique();
+    Ok(())
+}
+
+#[test]
+fn names_and_strings_count_in_the_size(rt: HostRuntime) -> Result<(), Fail> {
+    let alloc = rt.alloc();
+    let name = vec![in alloc; b'a'; 65536]?;
+    assert_eq!(rt; fault_of(alloc, &name.as_slice()[1..]), None);
+    assert_eq!(rt; fault_of(alloc, name.as_slice()), Some(TermFault::TooLarge));
+    let string = newlines(alloc, 65535)?;
+    assert_eq!(rt; fault_of(alloc, string.as_slice()), None);
+    let longer = newlines(alloc, 65536)?;
+    assert_eq!(rt;
+        fault_of(alloc, longer.as_slice()),
+        Some(TermFault::TooLarge)
+    );
+    Ok(())
+}
+
+#[test]
+fn terms_at_the_limits_are_handled_whole(rt: HostRuntime) -> Result<(), Fail> {
+    let alloc = rt.alloc();
+    let wide = flat(alloc, 65535)?;
+    let deep = nested(alloc, 64, b"")?;
+    let ints = Sort::List(Boxed::new(alloc, Sort::Int)?);
+    let lists = Sort::List(Boxed::new(alloc, Sort::Any)?);
+    let table: [(&[u8], usize, usize, &Sort); 2] = [
+        (wide.as_slice(), 65536, 2, &ints),
+        (deep.as_slice(), 64, 64, &lists),
+    ];
+    for (text, want_size, want_levels, sort) in table {
+        let term = read_term(alloc, text)?;
+        let copy = term.copy(alloc)?;
+        assert!(rt; same(&term, &copy));
+        assert_eq!(rt; size(&copy), want_size);
+        assert_eq!(rt; depth(&copy), want_levels);
+        assert!(rt; has_sort(&copy, sort));
+        assert!(rt; !has_sort(&copy, &Sort::Bool));
+        let mut written = Vec::new(alloc);
+        write_term(&copy, &mut written)?;
+        assert!(rt; written.as_slice() == text);
+        written_text_reads(&copy);
+    }
     Ok(())
 }
