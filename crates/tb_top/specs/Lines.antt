@@ -1,4 +1,4 @@
--- The exit status of each status, and the line that is written of it.
+-- The number with which the program exits at each status, and the line that is written of it.
 use Rattle.std.specs.Prelude.{ℕ, List, [], ◌∷◌, ◌++◌, codes}
 use Rattle.std.specs.Fmt.{decimal}
 use Rattle.tb_top.specs.declared.status.Status.{Status}

@@ -88,8 +88,8 @@ abbrev pub AreOnce : List (List ℕ) → Type 0
 AreOnce names = (i j : ℕ) (name : List ℕ) → slice_get names i ≡ Some name → slice_get names j ≡ Some name → i ≡ j
 
 -- Process names are upper names and differ; each process does one to 400 things, and its messages
--- are names; each root is a process, and there are at most 10,000 of them; the script has at most
--- 200,000 tokens.
+-- are names that aren't reserved, of at most 65,535 bytes; each root is a process, and there are at
+-- most 10,000 of them; the script has at most 200,000 tokens.
 pub record IsPlain (script : Script) : Type 0 where
   pub upper : All (λ name. IsTrue (is_upper_name name)) (names script)
   pub once : AreOnce (names script)
