@@ -1,3 +1,4 @@
+pub mod Begins
 pub mod Chars
 pub mod Complete
 pub mod Counted

@@ -1,6 +1,6 @@
 //! What holds of reading whatever the bytes are. These calls change nothing: their contracts are the laws.
 
-ghost use Rattle.std.specs.Prelude.{◌≡◌, ◌≢◌, ◌<◌, ◌+◌, ℕ, List, ◌++◌, length, take};
+ghost use Rattle.std.specs.Prelude.{◌≡◌, ◌≢◌, ◌<◌, ◌≤◌, ◌+◌, ℕ, List, ◌++◌, length, take};
 ghost use Rattle.tb_terms.specs.declared.term.Term.{Term};
 ghost use Rattle.tb_terms.specs.Sizes.{IsWithinLimits};
 ghost use Rattle.tb_read.specs.declared.fault.TermFault.{TermFault};
@@ -22,6 +22,12 @@ pub fn faults_are_unique()
         → f ≢ NoMemory → g ≢ NoMemory → f ≡ g }
     ensures none { (bytes : List ℕ) (t : Term) (f : TermFault) → Reads bytes t → IsWithinLimits t
         → HasFault bytes f → f ≡ NoMemory }
+{}
+
+/// What stands before the place of a syntax fault can go on to a term.
+pub fn syntax_begins()
+    ensures { (bytes : List ℕ) (place : ℕ) → HasFault bytes (Syntax place)
+        → (place ≤ length bytes) × ((rest : List ℕ) × (t : Term) × Reads (take place bytes ++ rest) t) }
 {}
 
 /// Where a byte can't go on, no text that begins with the bytes up to it, and with it, is a term.
