@@ -1,6 +1,6 @@
 -- What stands before a fault can go on to a term.
-use Rattle.std.proofs.Common.{◌≡◌, ℕ, pos, neg_ℤ, zero as none_ℕ, suc, ◌+◌, ◌-◌, ◌≤◌, Bool, true, false, not, leb, ◌&&◌, ◌||◌, ◌⊎◌, cond, eqb, ltb, List, [], ◌∷◌, ◌++◌, length, take, drop, Option, Some, None, Result, Ok, Err, refl, ap, sym, ◌∙◌, subst, inl, inr, arith, lit≤, append_assoc, append-nil}
-use Rattle.std.proofs.Math.Seq.{take-append_seam}
+use Rattle.std.proofs.Common.{◌≡◌, ℕ, pos, neg_ℤ, zero, suc, ◌+◌, ◌-◌, ◌≤◌, Bool, true, false, not, leb, ◌&&◌, ◌||◌, ◌⊎◌, cond, eqb, ltb, List, [], ◌∷◌, ◌++◌, length, take, drop, Option, Some, None, Result, Ok, Err, refl, ap, sym, ◌∙◌, subst, inl, inr, arith, lit≤, append_assoc, append-nil}
+use Rattle.std.proofs.Math.Seq.{take-append_seam, drop-append_seam}
 use Rattle.std.proofs.lemmas.Bool.{false≢true, eqb-true, lt-ltb, le-leb}
 use Rattle.std.proofs.lemmas.List.{take-append-drop, length-append}
 use Rattle.std.proofs.lemmas.List.Folds.{list_all-append}
@@ -39,11 +39,11 @@ use Rattle.tb_read.proofs.Stops.{same_place, front_err, string_of_err, digits_st
 abbrev pub Begins : Shape → List ℕ → Type 0
 Begins s pre = (js : List Token) × (rest : List ℕ) × (accepts s js ≡ true) × Spaced js (pre ++ rest)
 
-pub zero : SpellsNumber (pos 0) (48 ∷ [])
-zero = unsigned_spelled (48 ∷ []) (pos 0) refl refl
+pub spells_zero : SpellsNumber (pos 0) (48 ∷ [])
+spells_zero = unsigned_spelled (48 ∷ []) (pos 0) refl refl
 
-minus_zero : SpellsNumber (neg_ℤ (pos 0)) (45 ∷ 48 ∷ [])
-minus_zero = signed_spelled (48 ∷ []) (neg_ℤ (pos 0)) refl refl
+spells_minus_zero : SpellsNumber (neg_ℤ (pos 0)) (45 ∷ 48 ∷ [])
+spells_minus_zero = signed_spelled (48 ∷ []) (neg_ℤ (pos 0)) refl refl
 
 -- the brackets are closed
 closing : (bs : List Bracket) → (js : List Token) × (rest : List ℕ) × ((e : Expect) → going e ≡ true → accepts (sh e bs) js ≡ true) × Spaced js rest
@@ -56,8 +56,8 @@ closing (Square ∷ bs) =
     (token.RightBracket ∷ m.0, 93 ∷ m.1, λ e g. closes_square e g bs m.0 ∙ m.2 expect.Further refl, ([], 93 ∷ [], m.1, refl, refl, refl, m.3))
 
 ahead : (e : Expect) (bs : List Bracket) → Begins (sh e bs) []
-ahead expect.Term bs = let m = closing bs in (token.Int (pos 0) ∷ m.0, 48 ∷ m.1, m.2 expect.Further refl, ([], 48 ∷ [], m.1, refl, refl, zero, m.3))
-ahead expect.First bs = let m = closing bs in (token.Int (pos 0) ∷ m.0, 48 ∷ m.1, m.2 expect.Further refl, ([], 48 ∷ [], m.1, refl, refl, zero, m.3))
+ahead expect.Term bs = let m = closing bs in (token.Int (pos 0) ∷ m.0, 48 ∷ m.1, m.2 expect.Further refl, ([], 48 ∷ [], m.1, refl, refl, spells_zero, m.3))
+ahead expect.First bs = let m = closing bs in (token.Int (pos 0) ∷ m.0, 48 ∷ m.1, m.2 expect.Further refl, ([], 48 ∷ [], m.1, refl, refl, spells_zero, m.3))
 ahead expect.Further bs = let m = closing bs in (m.0, m.1, m.2 expect.Further refl, m.3)
 ahead expect.Named bs = let m = closing bs in (m.0, m.1, m.2 expect.Named refl, m.3)
 
@@ -115,7 +115,7 @@ runs_place Q next f n base (k ∷ ks) s total bytes r =
     made_place Q next s total p.0 (skip_blanks bytes) bytes k r.0 n p.1 p.2 r.1 (runs_place Q next f n base ks (after s k) total r.0 r.2)
 
 -- of a whole text
-pub goes_on_with : (Q : List ℕ → Type 0) (next bytes : List ℕ) (n : ℕ) → Place Q next start (length bytes) bytes n → (n ≤ length bytes) × ((l : List ℕ) × (bytes ≡ take n bytes ++ l) × Q l) × ((rest : List ℕ) × (t : Term) × Reads ((take n bytes ++ next) ++ rest) t)
+pub goes_on_with : (Q : List ℕ → Type 0) (next bytes : List ℕ) (n : ℕ) → Place Q next start (length bytes) bytes n → (n ≤ length bytes) × Q (drop n bytes) × ((rest : List ℕ) × (t : Term) × Reads ((take n bytes ++ next) ++ rest) t)
 goes_on_with Q next bytes n p =
     let len : n ≡ length p.0 = place_of bytes p.0 p.1 n p.2 p.3 in
     let all : length bytes ≡ length p.0 + length p.1 = ap (λ (m : List ℕ). length m) p.2 ∙ length-append p.0 p.1 in
@@ -123,7 +123,8 @@ goes_on_with Q next bytes n p =
     let b = p.5 in
     let t = term-accepts b.0 b.2 in
     let read : Reads ((p.0 ++ next) ++ b.1) t.0 = subst (λ (js : List Token). Spaced js ((p.0 ++ next) ++ b.1)) t.2 b.3 in
-    (omega arith, (p.1, p.2 ∙ ap (λ (m : List ℕ). m ++ p.1) (sym front), p.4), (b.1, t.0, subst (λ (m : List ℕ). Reads ((m ++ next) ++ b.1) t.0) (sym front) read))
+    let behind_it : drop n bytes ≡ p.1 = ap (λ m. drop m bytes) len ∙ ap (λ (m : List ℕ). drop (length p.0) m) p.2 ∙ drop-append_seam p.0 p.1 in
+    (omega arith, subst Q (sym behind_it) p.4, (b.1, t.0, subst (λ (m : List ℕ). Reads ((m ++ next) ++ b.1) t.0) (sym front) read))
 
 -- A string that has begun can be completed.
 
@@ -188,7 +189,7 @@ close_between : Closed Between
 close_between = (34 ∷ [], [], λ other. refl)
 
 close_going : (n more low high : ℕ) → more ≤ n → low ≤ high → Closed (Going more low high)
-close_going none_ℕ more low high m r = going_put more low high r Between (rw (lt-ltb more 2 (omega arith)) refl) close_between
+close_going zero more low high m r = going_put more low high r Between (rw (lt-ltb more 2 (omega arith)) refl) close_between
 close_going (suc n) more low high m r = by (ltb more 2) refl (close_going n (more - 1) 128 191 (omega arith) (lit≤ tt)) where
   by : (v : Bool) → ltb more 2 ≡ v → Closed (Going (more - 1) 128 191) → Closed (Going more low high)
   by true ev c = going_put more low high r Between (rw ev refl) close_between
@@ -228,7 +229,7 @@ number_begins total b bytes n h e = by (eqb b 45) refl e where
       let len = prefix_len is_digit bytes in
       let s = digits_stop total (total - length (b ∷ bytes)) true (take len bytes) (drop len bytes) n g in
       let all : drop len bytes ≡ bytes = ap (λ (l : List ℕ). l ++ drop len bytes) (sym s.0) ∙ take-append-drop len bytes in
-      (45 ∷ [], bytes, ap (λ m. m ∷ bytes) (eqb-true b 45 ev), s.1 ∙ ap (λ (l : List ℕ). total - length l) all, inr (token.Int (neg_ℤ (pos 0)), 48 ∷ [], minus_zero, refl))
+      (45 ∷ [], bytes, ap (λ m. m ∷ bytes) (eqb-true b 45 ev), s.1 ∙ ap (λ (l : List ℕ). total - length l) all, inr (token.Int (neg_ℤ (pos 0)), 48 ∷ [], spells_minus_zero, refl))
   by false ev g =
       let s = digits_stop total (total - length (b ∷ bytes)) false (take (prefix_len is_digit (b ∷ bytes)) (b ∷ bytes)) (drop (prefix_len is_digit (b ∷ bytes)) (b ∷ bytes)) n g in
       let none : is_digit b ≡ false = front_digit b bytes s.0 in

@@ -6,6 +6,7 @@ pub mod Faults
 pub mod Grammar
 pub mod Lexed
 pub mod Names
+pub mod Numerals
 pub mod Outcomes
 pub mod Scalars
 pub mod Stops
