@@ -45,10 +45,10 @@ raw_by b h s inner front rest e (inr p) m = let no : None ≡ Some p.0 = sym (no
 raw : (b : ℕ) → 128 ≤ b → (s inner : List ℕ) → SpellsBytes (b ∷ s) inner → (more : List ℕ) × (inner ≡ b ∷ more) × SpellsBytes s more
 raw b h s inner p = raw_by b h s inner p.0 p.1 p.2 p.3 p.4
 
-puts : (total : ℕ) (w next : Within) (b c : ℕ) (l : List ℕ) → string_turn w b ≡ Puts c next → string_rest total w (b ∷ l) ≡ with_front (c ∷ []) (string_rest total next l)
+pub puts : (total : ℕ) (w next : Within) (b c : ℕ) (l : List ℕ) → string_turn w b ≡ Puts c next → string_rest total w (b ∷ l) ≡ with_front (c ∷ []) (string_rest total next l)
 puts total w next b c l e = ap (λ t. turned total t l) e
 
-goes : (total : ℕ) (w next : Within) (b : ℕ) (l : List ℕ) → string_turn w b ≡ Goes next → string_rest total w (b ∷ l) ≡ string_rest total next l
+pub goes : (total : ℕ) (w next : Within) (b : ℕ) (l : List ℕ) → string_turn w b ≡ Goes next → string_rest total w (b ∷ l) ≡ string_rest total next l
 goes total w next b l e = ap (λ t. turned total t l) e
 
 abbrev paired : List ℕ → List ℕ → Result Pair TermFault

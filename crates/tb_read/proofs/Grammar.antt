@@ -40,7 +40,7 @@ abbrev pub accepts : Shape → List Token → Bool
 accepts shape [] = may_end shape.expect shape.brackets
 accepts shape (k ∷ ks) = allows shape (kind_of_token k) && accepts (after shape k) ks
 
-abbrev sh : Expect → List Bracket → Shape
+abbrev pub sh : Expect → List Bracket → Shape
 sh e bs = record { expect = e; brackets = bs }
 
 -- Each term's tokens are taken.
@@ -56,7 +56,7 @@ ended_node (layer.List ts) = expect.Further
 abbrev ended : Term → Expect
 ended t = ended_node (out-Term t)
 
-abbrev going : Expect → Bool
+abbrev pub going : Expect → Bool
 going expect.Term = false
 going expect.First = false
 going expect.Further = true
@@ -97,16 +97,16 @@ abbrev not_paren : Kind → Bool
 not_paren kind.LeftParen = false
 not_paren _ = true
 
-abbrev Closes : Bracket → Token → Type 0
+abbrev pub Closes : Bracket → Token → Type 0
 Closes b c = (e : Expect) → going e ≡ true → (bs : List Bracket) (ks : List Token) → accepts (sh e (b ∷ bs)) (c ∷ ks) ≡ accepts (sh expect.Further bs) ks
 
-closes_paren : Closes Paren token.RightParen
+pub closes_paren : Closes Paren token.RightParen
 closes_paren expect.Term g bs ks = absurd (false≢true g)
 closes_paren expect.First g bs ks = absurd (false≢true g)
 closes_paren expect.Further g bs ks = refl
 closes_paren expect.Named g bs ks = refl
 
-closes_square : Closes Square token.RightBracket
+pub closes_square : Closes Square token.RightBracket
 closes_square expect.Term g bs ks = absurd (false≢true g)
 closes_square expect.First g bs ks = absurd (false≢true g)
 closes_square expect.Further g bs ks = refl
@@ -168,7 +168,7 @@ taken = term_induction Taken
     (λ s bs ks. ap (λ l. accepts (sh expect.Term bs) (l ++ ks)) (tokens-Str s) ∙ ap (λ x. accepts (sh (ended_node x) bs) ks) (sym (outs-Str s)))
     taken-Appl taken-List
 
-may_end-going : (e : Expect) → going e ≡ true → may_end e [] ≡ true
+pub may_end-going : (e : Expect) → going e ≡ true → may_end e [] ≡ true
 may_end-going expect.Term g = absurd (false≢true g)
 may_end-going expect.First g = absurd (false≢true g)
 may_end-going expect.Further g = refl

@@ -66,12 +66,12 @@ le_by v n e = grind (arith, nat_tests)
 lt_by : (v n : ℕ) → ltb v n ≡ true → v < n
 lt_by v n e = grind (arith, nat_tests)
 
-unsigned_spelled : (digits : List ℕ) (z : ℤ) → is_digits digits ≡ true → number_of false (digits_value digits) ≡ Some z → SpellsNumber z digits
+pub unsigned_spelled : (digits : List ℕ) (z : ℤ) → is_digits digits ≡ true → number_of false (digits_value digits) ≡ Some z → SpellsNumber z digits
 unsigned_spelled digits z d e =
     let p = some_by (ltb (digits_value digits) (2 ^ 63)) (pos (digits_value digits)) z e in
     record { digits = digits; are_digits = d; signed = inl (refl, p.1, lt_by (digits_value digits) (2 ^ 63) p.0) }
 
-signed_spelled : (digits : List ℕ) (z : ℤ) → is_digits digits ≡ true → number_of true (digits_value digits) ≡ Some z → SpellsNumber z (45 ∷ digits)
+pub signed_spelled : (digits : List ℕ) (z : ℤ) → is_digits digits ≡ true → number_of true (digits_value digits) ≡ Some z → SpellsNumber z (45 ∷ digits)
 signed_spelled digits z d e =
     let p = some_by (leb (digits_value digits) (2 ^ 63)) (neg_ℤ (pos (digits_value digits))) z e in
     record { digits = digits; are_digits = d; signed = inr (refl, p.1, le_by (digits_value digits) (2 ^ 63) p.0) }

@@ -1,3 +1,4 @@
+pub mod Begins
 pub mod Chars
 pub mod Complete
 pub mod Counted
@@ -5,6 +6,7 @@ pub mod Faults
 pub mod Grammar
 pub mod Lexed
 pub mod Names
+pub mod Numerals
 pub mod Outcomes
 pub mod Scalars
 pub mod Stops

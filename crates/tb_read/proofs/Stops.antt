@@ -38,10 +38,10 @@ abbrev RestStop : ℕ → Within → List ℕ → ℕ → Type 0
 RestStop total w bytes n = (pre : List ℕ) × (l : List ℕ) × (bytes ≡ pre ++ l) × (n ≡ total - length l)
     × ((c : ℕ) (suf : List ℕ) → l ≡ c ∷ suf → (other : ℕ) (more : List ℕ) (x : Pair) → string_rest other w (pre ++ (c ∷ more)) ≡ Ok x → ⊥)
 
-same_place : {X : Type 0} (m n : ℕ) → ◌≡◌ {A = Result X TermFault} (Err (Syntax m)) (Err (Syntax n)) → m ≡ n
+pub same_place : {X : Type 0} (m n : ℕ) → ◌≡◌ {A = Result X TermFault} (Err (Syntax m)) (Err (Syntax n)) → m ≡ n
 same_place m n e = cc
 
-front_err : (front : List ℕ) (r : Result Pair TermFault) (f : TermFault) → with_front front r ≡ Err f → r ≡ Err f
+pub front_err : (front : List ℕ) (r : Result Pair TermFault) (f : TermFault) → with_front front r ≡ Err f → r ≡ Err f
 front_err front (Ok x) f e = cc
 front_err front (Err g) f e = let same : g ≡ f = cc in ap (λ (h : TermFault). Err h) same
 
@@ -79,7 +79,7 @@ abbrev TokenStop : Kind → ℕ → List ℕ → ℕ → Type 0
 TokenStop next total bytes n = (pre : List ℕ) × (l : List ℕ) × (bytes ≡ pre ++ l) × (n ≡ total - length l)
     × ((c : ℕ) (suf : List ℕ) → l ≡ c ∷ suf → (other : ℕ) (more : List ℕ) (x : Lexed) → token_of next other (pre ++ (c ∷ more)) ≡ Ok x → ⊥)
 
-string_of_err : (r : Result Pair TermFault) (f : TermFault) → string_of r ≡ Err f → r ≡ Err f
+pub string_of_err : (r : Result Pair TermFault) (f : TermFault) → string_of r ≡ Err f → r ≡ Err f
 string_of_err (Err g) f e = let same : g ≡ f = cc in ap (λ (h : TermFault). Err h) same
 string_of_err (Ok y) f e = cc
 
@@ -88,7 +88,7 @@ string_of_ok (Err g) x e = cc
 string_of_ok (Ok y) x e = (y, refl)
 
 -- a number lacks its digits
-digits_stop : (total place : ℕ) (negative : Bool) (digits rest : List ℕ) (n : ℕ) → number_from total place negative digits rest ≡ Err (Syntax n) → (digits ≡ []) × (n ≡ total - length rest)
+pub digits_stop : (total place : ℕ) (negative : Bool) (digits rest : List ℕ) (n : ℕ) → number_from total place negative digits rest ≡ Err (Syntax n) → (digits ≡ []) × (n ≡ total - length rest)
 digits_stop total place negative [] rest n e = (refl, sym (same_place (total - length rest) n e))
 digits_stop total place negative (d ∷ digits) rest n e = by (is_real rest) (number_of negative (digits_value (d ∷ digits))) e where
   by : (v : Bool) (o : Option ℤ) → ◌≡◌ {A = Result Lexed TermFault} (cond v (Err (Real place)) (in_range place o rest)) (Err (Syntax n)) → ((d ∷ digits) ≡ []) × (n ≡ total - length rest)
@@ -97,7 +97,7 @@ digits_stop total place negative (d ∷ digits) rest n e = by (is_real rest) (nu
   by false (Some z) h = cc
 
 -- no digit in front
-front_digit : (c : ℕ) (suf : List ℕ) → take (prefix_len is_digit (c ∷ suf)) (c ∷ suf) ≡ [] → is_digit c ≡ false
+pub front_digit : (c : ℕ) (suf : List ℕ) → take (prefix_len is_digit (c ∷ suf)) (c ∷ suf) ≡ [] → is_digit c ≡ false
 front_digit c suf e = by (is_digit c) refl e where
   by : (v : Bool) → is_digit c ≡ v → take (cond v (1 + prefix_len is_digit suf) 0) (c ∷ suf) ≡ [] → is_digit c ≡ false
   by false ev h = ev
@@ -151,7 +151,7 @@ Stopped (token.Name name) rest = prefix_len is_name_byte rest ≡ 0
 Stopped (token.Int number) rest = prefix_len is_digit rest ≡ 0
 Stopped _ rest = Unit {0}
 
-front_stops : (p : ℕ → Bool) (bs : List ℕ) → prefix_len p (drop (prefix_len p bs) bs) ≡ 0
+pub front_stops : (p : ℕ → Bool) (bs : List ℕ) → prefix_len p (drop (prefix_len p bs) bs) ≡ 0
 front_stops p [] = refl
 front_stops p (b ∷ bs) = by (p b) refl (front_stops p bs) where
   by : (v : Bool) → p b ≡ v → prefix_len p (drop (prefix_len p bs) bs) ≡ 0 → prefix_len p (drop (cond v (1 + prefix_len p bs) 0) (b ∷ bs)) ≡ 0
@@ -282,11 +282,11 @@ onward s other front k text rest js h sp a r = by (begun k text sp) js r where
       ap (λ (m : List ℕ). token_of (kind_of_token k) other m) at ∙ ap (λ (n : Kind). token_of n other (b.0 ∷ l)) (sym b.3) ∙ q.1 in
       (js, subst (λ (y : Lexed). Runs (after s y.0) other y.1 js None) (sym (kept other k text rest (j, r.0) sp a found)) r.2)
 
-end_place : (v : Bool) (total n : ℕ) → cond v (Stops None) (Stops (Some (Syntax total))) ≡ Stops (Some (Syntax n)) → n ≡ total
+pub end_place : (v : Bool) (total n : ℕ) → cond v (Stops None) (Stops (Some (Syntax total))) ≡ Stops (Some (Syntax n)) → n ≡ total
 end_place true total n e = cc
 end_place false total n e = cc
 
-made_err : (r : Result Lexed TermFault) (f : TermFault) → made r ≡ Stops (Some f) → r ≡ Err f
+pub made_err : (r : Result Lexed TermFault) (f : TermFault) → made r ≡ Stops (Some f) → r ≡ Err f
 made_err (Ok x) f e = cc
 made_err (Err g) f e = let same : g ≡ f = cc in ap (λ (h : TermFault). Err h) same
 
@@ -361,7 +361,7 @@ runs_stop (k ∷ ks) s total bytes n r =
     let p = blanks bytes in
     made_stop s total p.0 (skip_blanks bytes) bytes k r.0 n p.1 p.2 r.1 (runs_stop ks (after s k) total r.0 n r.2)
 
-place_of : (bytes pre l : List ℕ) (n : ℕ) → bytes ≡ pre ++ l → n ≡ length bytes - length l → n ≡ length pre
+pub place_of : (bytes pre l : List ℕ) (n : ℕ) → bytes ≡ pre ++ l → n ≡ length bytes - length l → n ≡ length pre
 place_of bytes pre l n e h =
     let len : length bytes ≡ length pre + length l = ap (λ (m : List ℕ). length m) e ∙ length-append pre l in
     omega arith

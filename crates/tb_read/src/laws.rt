@@ -1,12 +1,13 @@
 //! What holds of reading whatever the bytes are. These calls change nothing: their contracts are the laws.
 
-ghost use Rattle.std.specs.Prelude.{◌≡◌, ◌≢◌, ◌<◌, ◌+◌, ℕ, List, ◌++◌, length, take};
+ghost use Rattle.std.specs.Prelude.{◌≡◌, ◌≢◌, ◌<◌, ◌≤◌, ◌+◌, ℕ, List, ◌++◌, length, take, drop};
 ghost use Rattle.tb_terms.specs.declared.term.Term.{Term};
 ghost use Rattle.tb_terms.specs.Sizes.{IsWithinLimits};
 ghost use Rattle.tb_read.specs.declared.fault.TermFault.{TermFault};
-ghost use Rattle.tb_read.specs.declared.fault.TermFault.TheVariants.{NoMemory, Syntax};
+ghost use Rattle.tb_read.specs.declared.fault.TermFault.TheVariants.{NoMemory, Syntax, Real, IntRange};
 ghost use Rattle.tb_read.specs.Spelling.{Reads};
 ghost use Rattle.tb_read.specs.Reading.{HasFault};
+ghost use Rattle.tb_read.specs.Places.{TakesNumber, BeginsReal, BeginsTooFar};
 ghost use Rattle.tb_terms.specs.Texts.{term_text};
 
 use tb_terms::{Term, show_proper};
@@ -24,10 +25,24 @@ pub fn faults_are_unique()
         → HasFault bytes f → f ≡ NoMemory }
 {}
 
+/// What stands before the place of a syntax fault can go on to a term.
+pub fn syntax_begins()
+    ensures { (bytes : List ℕ) (place : ℕ) → HasFault bytes (Syntax place)
+        → (place ≤ length bytes) × ((rest : List ℕ) × (t : Term) × Reads (take place bytes ++ rest) t) }
+{}
+
 /// Where a byte can't go on, no text that begins with the bytes up to it, and with it, is a term.
 pub fn syntax_stops()
     ensures { (bytes : List ℕ) (place : ℕ) → HasFault bytes (Syntax place) → place < length bytes
         → (rest : List ℕ) (t : Term) → Reads (take (place + 1) bytes ++ rest) t → ⊥ }
+{}
+
+/// A real, or an integer out of range, stands where a number may begin; and it is one.
+pub fn numeral_faults()
+    ensures real { (bytes : List ℕ) (place : ℕ) → HasFault bytes (Real place)
+        → TakesNumber bytes place × BeginsReal (drop place bytes) }
+    ensures range { (bytes : List ℕ) (place : ℕ) → HasFault bytes (IntRange place)
+        → TakesNumber bytes place × BeginsTooFar (drop place bytes) }
 {}
 
 /// The written text of a term reads as the term. The call walks the term, and changes nothing.

@@ -18,5 +18,8 @@ mod tests;
 mod token;
 
 pub use fault::TermFault;
-pub use laws::{faults_are_unique, reading_is_unique, syntax_stops, written_text_reads};
+pub use laws::{
+    faults_are_unique, numeral_faults, reading_is_unique, syntax_begins, syntax_stops,
+    written_text_reads,
+};
 pub use read::read_term;

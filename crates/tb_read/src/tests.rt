@@ -1,4 +1,7 @@
-use crate::{TermFault, faults_are_unique, read_term, reading_is_unique, written_text_reads};
+use crate::{
+    TermFault, faults_are_unique, numeral_faults, read_term, reading_is_unique, syntax_begins,
+    syntax_stops, written_text_reads,
+};
 use std::alloc::Global;
 use std::test::Fail;
 use tb_terms::{Boxed, Sort, depth, has_sort, same, size, write_term};
@@ -176,6 +179,9 @@ fn the_limits_are_kept(rt: HostRuntime) -> Result<(), Fail> {
     );
     reading_is_unique();
     faults_are_unique();
+    syntax_begins();
+    syntax_stops();
+    numeral_faults();
     Ok(())
 }
 
