@@ -1,6 +1,7 @@
 pub mod Fronts
 pub mod NumberLemmas
 pub mod OutputLemmas
+pub mod PlainPatterns
 pub mod PrintedText
 pub mod SameLemmas
 pub mod StoreLemmas
