@@ -2,12 +2,14 @@
 //! the values of expressions in it.
 #![tactic(auto)]
 
+mod built;
 mod calls;
 mod functions;
 mod limits;
 mod lists;
 mod measured;
 mod numbers;
+mod open;
 mod parts;
 mod patterns;
 mod printer;
