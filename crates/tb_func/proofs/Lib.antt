@@ -2,5 +2,7 @@ pub mod Fronts
 pub mod NumberLemmas
 pub mod OpenLemmas
 pub mod OutputLemmas
+pub mod PlainPatterns
+pub mod PrintedText
 pub mod SameLemmas
 pub mod StoreLemmas

@@ -1,5 +1,5 @@
 -- Checked arithmetic is arithmetic with a test of the range.
-use Rattle.std.proofs.Common.{◌≡◌, ℕ, ◌<◌, ◌^◌, ℤ, pos, negsuc, ◌+ℤ◌, ◌-ℤ◌, ◌*ℤ◌, int_div, int_rem, Bool, true, false, Option, Some, None, SomeIff, FitsSigned, refl, sym, ap, ◌∙◌, arith, rules, cond}
+use Rattle.std.proofs.Common.{◌≡◌, ◌<◌, ℤ, pos, negsuc, ◌-ℤ◌, ◌*ℤ◌, int_div, int_rem, Bool, true, false, Option, Some, None, SomeIff, FitsSigned, refl, sym, ap, ◌∙◌, arith, rules, cond}
 use Rattle.std.specs.Int.{w64}
 use Rattle.std.proofs.lemmas.Int.{ints, quot-rem}
 use Rattle.std.specs.Int.{CanDivide, cast_unsigned}
@@ -7,7 +7,7 @@ use Rattle.std.specs.Ordering.{int_eq}
 use lib.Signed.{mag_rem}
 use Rattle.std.proofs.lemmas.Bool.Decides.{nat_tests}
 use Rattle.tb_terms.specs.Proper.{has_64_bits}
-use Rattle.tb_func.specs.Numbers.{ranged, quotient, remainder}
+use Rattle.tb_func.specs.Numbers.{ranged, remainder}
 
 pub has_64_bits-fits : (z : ℤ) → FitsSigned w64 z → has_64_bits z ≡ true
 has_64_bits-fits (pos n) h = grind (arith, nat_tests, h.sfits)

@@ -1,5 +1,5 @@
 -- How a printer begins, goes on and ends.
-use Rattle.std.proofs.Common.{◌≡◌, ℕ, zero, suc, ◌+◌, ◌<◌, ◌≤◌, ◌==◌, Bool, cond, true, false, List, [], ◌∷◌, ◌++◌, length, get_or, drop, Option, Some, None, option_map, refl, sym, ap, ◌∙◌, arith, rules, drop-cons, append_assoc, add-one}
+use Rattle.std.proofs.Common.{◌≡◌, ℕ, zero, suc, ◌+◌, ◌<◌, ◌==◌, Bool, cond, true, false, List, [], ◌∷◌, ◌++◌, length, get_or, drop, Option, Some, None, option_map, refl, sym, ap, ◌∙◌, arith, drop-cons, append_assoc, add-one}
 use Rattle.tb_terms.specs.declared.term.Term.{Term}
 use Rattle.tb_func.specs.declared.printer.Printer.{Printer}
 use Rattle.tb_func.specs.Outputs.{in_all}
@@ -34,16 +34,6 @@ percent text rest (t ∷ ts) = put_in_front text (37 ∷ []) (printed false rest
 -- `%%`
 pub output-percent : (text new : List ℕ) (n c : ℕ) (rest : List ℕ) (ts : List Term) → c ≡ 37 → new ≡ text ++ 37 ∷ [] → output text true (c ∷ rest) (drop n ts) ≡ output new false rest (drop n ts)
 output-percent text new n c rest ts e k = rw (e, k) (percent text rest (drop n ts))
-
-drop-all : (ts : List Term) (n : ℕ) → length ts ≤ n → drop n ts ≡ []
-drop-all [] zero h = refl
-drop-all [] (suc n) h = refl
-drop-all (t ∷ ts) zero h = absurd (omega arith)
-drop-all (t ∷ ts) (suc n) h = drop-all ts n (omega arith)
-
--- no argument is left
-pub output-out : (text : List ℕ) (n c : ℕ) (rest : List ℕ) (ts : List Term) → (c == 37) ≡ false → length ts ≤ n → output text true (c ∷ rest) (drop n ts) ≡ None
-output-out text n c rest ts e h = rw (drop-all ts n h, e) refl
 
 show_in_front : (text new : List ℕ) (o rest : Option (List ℕ)) (s : Bool) → option_map (λ bytes. text ++ bytes) o ≡ cond s (Some new) None → ◌≡◌ {A = Option (List ℕ)} (option_map (λ rest. text ++ rest) (in_front o rest)) (cond s (option_map (λ rest. new ++ rest) rest) None)
 show_in_front text new None rest true h = cc

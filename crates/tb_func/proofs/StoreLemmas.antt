@@ -1,5 +1,5 @@
 -- Setting one slot of a store, and that each slot stays sorted.
-use Rattle.std.proofs.Common.{◌≡◌, ℕ, zero, suc, ◌<◌, Bool, true, false, ◌&&◌, IsTrue, Option, Some, List, [], ◌∷◌, get_or, set, length, refl, ap, sym, ◌∙◌, arith}
+use Rattle.std.proofs.Common.{◌≡◌, ℕ, zero, suc, ◌<◌, true, Option, Some, List, [], ◌∷◌, get_or, set, length, refl, ap, sym, arith}
 use Rattle.std.proofs.lemmas.Bool.{and_from, and_parts}
 use Rattle.tb_terms.specs.declared.term.Term.{Term}
 use Rattle.tb_terms.specs.declared.sort.Sort.{Sort}

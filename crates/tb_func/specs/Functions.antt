@@ -1,5 +1,5 @@
 -- The names of the functions; how many arguments each takes, and the shapes of these and of the result.
-use Rattle.std.specs.Prelude.{ℕ, List, [], ◌∷◌, Option, Some, None, if◌then◌else◌, codes}
+use Rattle.std.specs.Prelude.{ℕ, List, Option, Some, None, if◌then◌else◌, codes}
 use Rattle.std.specs.Str.{bytes_eq}
 use Rattle.tb_terms.specs.declared.expr.Func.{Func}
 use Rattle.tb_terms.specs.declared.expr.Func.TheVariants.{Equal, NotEqual, Not, And, Or, Add, Sub, Mul, Div, Mod, Less, LessEqual, Greater, GreaterEqual, Size, First, Next, Join, Member, Index, Msec, Sec, Min, Hour}

@@ -1,5 +1,5 @@
 -- Which terms are within the limits of size and levels, and what is left of a term past them.
-use Rattle.std.specs.Prelude.{ℕ, Bool, ◌&&◌, nat_le, Option, Some, None, if◌then◌else◌}
+use Rattle.std.specs.Prelude.{Bool, ◌&&◌, nat_le, Option, Some, None, if◌then◌else◌}
 use Rattle.tb_terms.specs.declared.term.Term.{Term}
 use Rattle.tb_terms.specs.Sizes.{term_size, term_levels}
 

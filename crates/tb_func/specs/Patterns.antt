@@ -1,5 +1,6 @@
 -- What an expression is as a pattern: a part with neither placeholder nor result variable is its value alone.
-use Rattle.std.specs.Prelude.{ℕ, List, map, Option, Some, None, option_map, option_and_then}
+use Rattle.std.specs.Prelude.{ℕ, Bool, true, false, List, map, Option, Some, None, option_map, option_and_then}
+use Rattle.std.specs.List.{list_all}
 use Rattle.tb_terms.specs.declared.term.Term.{Term}
 use Rattle.tb_terms.specs.declared.term.Term.TheVariants as term
 use Rattle.tb_terms.specs.declared.expr.Expr.{Expr}
@@ -56,3 +57,17 @@ pattern_step slots (expr.List parts) = option_and_then list_pattern (all_of part
 
 abbrev pub pattern_of : List Slot → Expr → Option Pattern
 pattern_of slots = fold-Expr (Option Pattern) (pattern_step slots)
+
+-- an expression with neither placeholder nor result variable
+abbrev pub plain_step : expr.Expr-F Bool → Bool
+plain_step (expr.Int number) = true
+plain_step (expr.Str bytes) = true
+plain_step (expr.Var slot) = true
+plain_step (expr.Result slot) = false
+plain_step (expr.Hole sort) = false
+plain_step (expr.Appl name parts) = list_all (λ part. part) parts
+plain_step (expr.Call func parts) = list_all (λ part. part) parts
+plain_step (expr.List parts) = list_all (λ part. part) parts
+
+abbrev pub is_plain : Expr → Bool
+is_plain = fold-Expr Bool plain_step

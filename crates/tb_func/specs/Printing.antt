@@ -4,7 +4,6 @@ use Rattle.std.specs.Fmt.{signed_decimal}
 use Rattle.tb_terms.specs.declared.term.Term.{Term, out-Term}
 use Rattle.tb_terms.specs.declared.term.Term.TheOpen.{Term-F, Int, Str, Appl, List as ListOf}
 use Rattle.tb_terms.specs.declared.term.Term.TheVariants as term
-use Rattle.tb_terms.specs.Names.{is_string}
 use Rattle.tb_terms.specs.Texts.{term_text}
 use Rattle.tb_func.specs.Arguments.{int_of, of_both}
 use Rattle.tb_func.specs.Limits.{limited}
@@ -38,12 +37,8 @@ printed true (c ∷ cs) [] = if c == 37 then in_front (Some (37 ∷ [])) (printe
 printed true (c ∷ cs) (t ∷ ts) =
     if c == 37 then in_front (Some (37 ∷ [])) (printed false cs (t ∷ ts)) else in_front (shown c t) (printed false cs ts)
 
--- the string of these bytes
-abbrev pub string_term : List ℕ → Option Term
-string_term bytes = if is_string bytes then limited (term.Str bytes) else None
-
 abbrev pub format_text : List ℕ → List Term → Option Term
-format_text format ts = option_and_then string_term (printed false format ts)
+format_text format ts = option_and_then (λ bytes. limited (term.Str bytes)) (printed false format ts)
 
 -- the first argument is the format
 abbrev pub printf_of : List Term → Option Term

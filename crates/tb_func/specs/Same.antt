@@ -1,6 +1,6 @@
 -- Whether two values are the same: one test for every type, which compares their codes.
-use Rattle.std.specs.Prelude.{Bool, true, false, ◌&&◌, ◌==◌, List}
-use Rattle.std.specs.Coded.{Coded, coded_list}
+use Rattle.std.specs.Prelude.{Bool, true, false, ◌&&◌, ◌==◌}
+use Rattle.std.specs.Coded.{Coded}
 use base.Stored.{Gv, gnil, gnum, gcons}
 use Rattle.tb_terms.specs.declared.term.Term.{Term}
 use Rattle.tb_terms.specs.contracts.term.Term as term

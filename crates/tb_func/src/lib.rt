@@ -5,6 +5,7 @@
 mod built;
 mod calls;
 mod functions;
+mod laws;
 mod limits;
 mod lists;
 mod measured;
@@ -23,6 +24,7 @@ mod values;
 
 pub use calls::apply;
 pub use functions::{function, signature};
+pub use laws::plain_expressions_are_fixed;
 pub use patterns::pattern;
 pub use printing::printf_text;
 pub use shape::{Shape, Signature};

@@ -58,11 +58,7 @@ fn copy_onto(alloc: Global, terms: &[Term], onto: &mut Terms) -> Result<(), NoMe
 }
 
 /// The member at this place, from 1.
-pub(crate) fn member_at(
-    alloc: Global,
-    terms: &[Term],
-    place: i64,
-) -> Result<Option<Term>, NoMemory>
+pub(crate) fn member_at(alloc: Global, terms: &[Term], place: i64) -> Result<Option<Term>, NoMemory>
     ensures { IfOk result (λ v. v ≡ member_at terms.now place) }
 {
     if place < 1 {

@@ -20,7 +20,6 @@ impl Model for Store {
     ghost use Rattle.std.specs.Prelude.{List, IsTrue};
     ghost use Rattle.tb_func.specs.declared.slot.Slot.{Slot};
     ghost use Rattle.tb_func.specs.Stores.{are_sorted};
-
     ghost use Rattle.std.specs.Coded.{codes};
     ghost use Rattle.tb_terms.specs.contracts.term.Term as term;
     ghost use Rattle.tb_terms.specs.contracts.sort.Sort as sort;

@@ -4,7 +4,8 @@ use crate::{
 use std::alloc::Global;
 use std::test::Fail;
 use tb_terms::{
-    Expr, Exprs, Func, Items, Name, NoMemory, Pattern, Sort, Term, Terms, Text, has_sort, write_term,
+    Expr, Exprs, Func, Items, Name, NoMemory, Pattern, Sort, Term, Terms, Text, has_sort,
+    write_term,
 };
 
 #[derive(Clone, Copy)]
@@ -202,7 +203,10 @@ fn printf_shows_its_arguments(rt: HostRuntime) -> Result<(), Fail> {
         Ints(&[1, 2]),
     ];
     let got = printf_text(alloc, &terms(alloc, shown.as_slice())?)?;
-    assert_eq!(rt; written(alloc, got)?.as_slice(), "\"-5 é\\\" [1,2] %\"".as_bytes());
+    assert_eq!(rt;
+        written(alloc, got)?.as_slice(),
+        "\"-5 é\\\" [1,2] %\"".as_bytes()
+    );
     let table: [&[Sample]; 7] = [
         &[Sample::Text("%d"), Sample::Text("1")],
         &[Sample::Text("%s"), Int(1)],

@@ -1,7 +1,7 @@
-use Rattle.std.proofs.Common.{◌==◌, ◌≡◌, false, arith, rules}
+use Rattle.std.proofs.Common.{◌==◌, ◌≡◌, false, arith}
 use Rattle.std.proofs.lemmas.Bool.Decides.{nat_tests}
 use Rattle.std.proofs.lemmas.Result.{IfOk-weaker}
-use Rattle.tb_func.proofs.OutputLemmas.{output-percent, output-out, output-shown}
+use Rattle.tb_func.proofs.OutputLemmas.{output-percent, output-shown}
 use Rattle.tb_func.proofs.printer.Printer.directive.Goals as goal
 
 pub returns-then-letter-eq37 : goal.returns-then-letter-eq37

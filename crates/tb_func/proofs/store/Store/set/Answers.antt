@@ -1,4 +1,4 @@
-use Rattle.std.proofs.Common.{◌≡◌, ◌<◌, sym, length, get_or, true, arith}
+use Rattle.std.proofs.Common.{◌≡◌, ◌<◌, sym, length, true}
 use Rattle.tb_func.specs.Stores.{is_sorted}
 use Rattle.tb_func.proofs.StoreLemmas.{set-with_value, sort_at-get_or, are_sorted-set}
 use Rattle.tb_func.proofs.store.Store.set.Goals as goal
