@@ -1,5 +1,6 @@
 pub mod Fronts
 pub mod NumberLemmas
+pub mod OpenLemmas
 pub mod OutputLemmas
 pub mod PlainPatterns
 pub mod PrintedText

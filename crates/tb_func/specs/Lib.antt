@@ -3,7 +3,9 @@ pub mod Arguments
 pub mod Functions
 pub mod Limits
 pub mod Numbers
+pub mod Opens
 pub mod Outputs
+pub mod Parts
 pub mod Patterns
 pub mod Printing
 pub mod Stores

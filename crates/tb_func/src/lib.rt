@@ -2,6 +2,7 @@
 //! the values of expressions in it.
 #![tactic(auto)]
 
+mod built;
 mod calls;
 mod functions;
 mod laws;
@@ -9,6 +10,7 @@ mod limits;
 mod lists;
 mod measured;
 mod numbers;
+mod open;
 mod parts;
 mod patterns;
 mod printer;

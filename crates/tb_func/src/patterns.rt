@@ -1,62 +1,88 @@
 ghost use Rattle.std.specs.Prelude.{◌≡◌, IfOk, map, option_and_then, option_map};
-ghost use Rattle.std.specs.Option.{option_copied};
 ghost use Rattle.tb_terms.specs.declared.pattern.Pattern.TheVariants as pattern;
-ghost use Rattle.tb_func.specs.Patterns.{pattern_of, fixed_term, fixed_terms, appl_pattern, call_pattern, list_pattern};
+ghost use Rattle.tb_func.specs.Parts.{as_pattern, as_patterns};
+ghost use Rattle.tb_func.specs.Patterns.{pattern_of, appl_pattern, call_pattern, list_pattern};
 ghost use Rattle.tb_func.specs.Stores.{sort_at};
 ghost use Rattle.tb_func.specs.Values.{all_of};
 
 use crate::Store;
-use crate::limits::limited;
-use crate::values::{call, variable};
+use crate::built::{Part, Parts};
+use crate::measured::Measured;
+use crate::open::{OpenPattern, OpenPatterns};
+use crate::values::{measured, value_of_call, variable};
 use std::alloc::Global;
-use tb_terms::{Expr, Func, Items, Name, NoMemory, Pattern, Patterns, Term, Terms};
+use tb_terms::{Expr, Func, Name, NoMemory, Pattern, Sort};
 
 /// What the expression is as a pattern, where the parts that stand for one term have a value.
-#[cycle(pattern)]
 pub fn pattern(alloc: Global, e: &Expr, s: &Store) -> Result<Option<Pattern>, NoMemory>
     ensures { IfOk result (λ v. v ≡ pattern_of s.now e.now) }
 {
-    match e {
-        Expr::Int(number) => Ok(Some(Pattern::Fixed(Term::Int(*number)))),
-        Expr::Str(text) => Ok(fixed(limited(Term::Str(text.copy(alloc)?)))),
-        Expr::Var(slot) => Ok(fixed(variable(alloc, *slot, s)?)),
-        Expr::Result(slot) => result_variable(alloc, *slot, s),
-        Expr::Hole(sort) => Ok(Some(Pattern::Hole(sort.copy(alloc)?))),
-        Expr::Appl(name, parts) => {
-            let patterns = pattern_all(alloc, parts.as_slice(), s)?;
-            application(alloc, name, patterns)
-        }
-        Expr::Call(func, parts) => {
-            let patterns = pattern_all(alloc, parts.as_slice(), s)?;
-            value_of_call(alloc, *func, patterns)
-        }
-        Expr::List(parts) => {
-            let patterns = pattern_all(alloc, parts.as_slice(), s)?;
-            list(alloc, patterns)
-        }
+    match build(alloc, e, s)? {
+        Some(part) => Ok(Some(part.into_pattern())),
+        None => Ok(None),
     }
 }
 
-#[cycle(pattern)]
-fn pattern_all(alloc: Global, exprs: &[Expr], s: &Store) -> Result<Option<Patterns>, NoMemory>
-    ensures { IfOk result (λ v. v ≡ all_of (map (pattern_of s.now) exprs.now)) }
+/// The pattern of the expression, with its size and levels where it is one term alone.
+#[cycle(build)]
+fn build(alloc: Global, e: &Expr, s: &Store) -> Result<Option<Part>, NoMemory>
+    ensures { IfOk result (λ v. option_map as_pattern v ≡ pattern_of s.now e.now) }
 {
-    let mut patterns = Items::new(alloc);
+    match e {
+        Expr::Int(number) => Ok(Some(Part::Value(Measured::number(*number)))),
+        Expr::Str(text) => Ok(value(Measured::string(text.copy(alloc)?).limited())),
+        Expr::Var(slot) => Ok(value(measured(variable(alloc, *slot, s)?))),
+        Expr::Result(slot) => result_part(alloc, *slot, s),
+        Expr::Hole(sort) => Ok(Some(hole(sort.copy(alloc)?))),
+        Expr::Appl(name, parts) => {
+            let built = build_all(alloc, parts.as_slice(), s)?;
+            application(alloc, name, built)
+        }
+        Expr::Call(func, parts) => {
+            let built = build_all(alloc, parts.as_slice(), s)?;
+            call(alloc, *func, built)
+        }
+        Expr::List(parts) => Ok(list(build_all(alloc, parts.as_slice(), s)?)),
+    }
+}
+
+#[cycle(build)]
+fn build_all(alloc: Global, exprs: &[Expr], s: &Store) -> Result<Option<Parts>, NoMemory>
+    ensures { IfOk result (λ v. option_map as_patterns v ≡ all_of (map (pattern_of s.now) exprs.now)) }
+{
+    let mut parts = Parts::new(alloc);
     for expr in exprs {
-        match pattern(alloc, expr, s)? {
-            Some(part) => patterns.push(part)?,
+        match build(alloc, expr, s)? {
+            Some(part) => parts = parts.with(alloc, part)?,
             None => return Ok(None),
         }
     }
-    Ok(Some(patterns))
+    Ok(Some(parts))
 }
 
-fn fixed(value: Option<Term>) -> Option<Pattern>
-    ensures { result ≡ option_map pattern.Fixed value }
+fn value(value: Option<Measured>) -> Option<Part>
+    ensures { option_map as_pattern result ≡ option_map pattern.Fixed (option_map (λ m. m.term) value) }
 {
     match value {
-        Some(term) => Some(Pattern::Fixed(term)),
+        Some(value) => Some(Part::Value(value)),
         None => None,
+    }
+}
+
+fn hole(sort: Sort) -> Part
+    ensures { as_pattern result ≡ pattern.Hole sort }
+{
+    Part::Open(OpenPattern {
+        pattern: Pattern::Hole(sort),
+    })
+}
+
+fn result_part(alloc: Global, slot: u32, s: &Store) -> Result<Option<Part>, NoMemory>
+    ensures { IfOk result (λ v. option_map as_pattern v ≡ option_map (pattern.Result slot) (sort_at s.now slot)) }
+{
+    match result_variable(alloc, slot, s)? {
+        Some(pattern) => Ok(Some(Part::Open(OpenPattern { pattern }))),
+        None => Ok(None),
     }
 }
 
@@ -69,68 +95,56 @@ fn result_variable(alloc: Global, slot: u32, s: &Store) -> Result<Option<Pattern
     }
 }
 
-fn application(
-    alloc: Global,
-    name: &Name,
-    parts: Option<Patterns>,
-) -> Result<Option<Pattern>, NoMemory>
-    ensures { IfOk result (λ v. v ≡ option_and_then (appl_pattern name.now) parts) }
+#[tactic(auto, using(crate::proofs::OpenLemmas::fixed_terms_fixed, crate::proofs::OpenLemmas::fixed_terms_open))]
+fn application(alloc: Global, name: &Name, parts: Option<Parts>) -> Result<Option<Part>, NoMemory>
+    ensures { IfOk result (λ v. option_map as_pattern v
+        ≡ option_and_then (appl_pattern name.now) (option_map as_patterns parts)) }
 {
     let Some(parts) = parts else {
         return Ok(None);
     };
     let name = name.copy(alloc)?;
-    match fixed_terms(alloc, parts.as_slice())? {
-        Some(terms) => Ok(fixed(limited(Term::Appl(name, terms)))),
-        None => Ok(Some(Pattern::Appl(name, parts))),
+    match parts {
+        Parts::Values(values) => Ok(value(values.application(name).limited())),
+        Parts::Open(several) => Ok(Some(open_application(name, several))),
     }
 }
 
-fn value_of_call(
-    alloc: Global,
-    f: Func,
-    parts: Option<Patterns>,
-) -> Result<Option<Pattern>, NoMemory>
-    ensures { IfOk result (λ v. v ≡ option_and_then (call_pattern f) parts) }
+fn open_application(name: Name, parts: OpenPatterns) -> Part
+    ensures { as_pattern result ≡ pattern.Appl name parts.patterns }
 {
-    let Some(parts) = parts else {
-        return Ok(None);
-    };
-    let args = fixed_terms(alloc, parts.as_slice())?;
-    Ok(fixed(call(alloc, f, args)?))
+    Part::Open(OpenPattern {
+        pattern: Pattern::Appl(name, parts.patterns),
+    })
 }
 
-fn list(alloc: Global, parts: Option<Patterns>) -> Result<Option<Pattern>, NoMemory>
-    ensures { IfOk result (λ v. v ≡ option_and_then list_pattern parts) }
+#[tactic(auto, using(crate::proofs::OpenLemmas::fixed_terms_open))]
+fn call(alloc: Global, f: Func, parts: Option<Parts>) -> Result<Option<Part>, NoMemory>
+    ensures { IfOk result (λ v. option_map as_pattern v
+        ≡ option_and_then (call_pattern f) (option_map as_patterns parts)) }
 {
-    let Some(parts) = parts else {
-        return Ok(None);
-    };
-    match fixed_terms(alloc, parts.as_slice())? {
-        Some(terms) => Ok(fixed(limited(Term::List(terms)))),
-        None => Ok(Some(Pattern::List(parts))),
+    match parts {
+        Some(Parts::Values(values)) => Ok(value(value_of_call(alloc, f, Some(values))?)),
+        Some(Parts::Open(_)) => Ok(None),
+        None => Ok(None),
     }
 }
 
-/// Copies of the terms for which these patterns stand, where each stands for one.
-fn fixed_terms(alloc: Global, patterns: &[Pattern]) -> Result<Option<Terms>, NoMemory>
-    ensures { IfOk result (λ v. v ≡ fixed_terms patterns.now) }
+#[tactic(auto, using(crate::proofs::OpenLemmas::fixed_terms_fixed, crate::proofs::OpenLemmas::fixed_terms_open))]
+fn list(parts: Option<Parts>) -> Option<Part>
+    ensures { option_map as_pattern result ≡ option_and_then list_pattern (option_map as_patterns parts) }
 {
-    let mut terms = Items::new(alloc);
-    for part in patterns {
-        match fixed_term(part) {
-            Some(term) => terms.push(term.copy(alloc)?)?,
-            None => return Ok(None),
-        }
+    match parts {
+        Some(Parts::Values(values)) => value(values.list().limited()),
+        Some(Parts::Open(several)) => Some(open_list(several)),
+        None => None,
     }
-    Ok(Some(terms))
 }
 
-fn fixed_term(pattern: &Pattern) -> Option<&Term>
-    ensures { option_copied result ≡ fixed_term pattern.now }
+fn open_list(parts: OpenPatterns) -> Part
+    ensures { as_pattern result ≡ pattern.List parts.patterns }
 {
-    match pattern {
-        Pattern::Fixed(term) => Some(term),
-        _ => None,
-    }
+    Part::Open(OpenPattern {
+        pattern: Pattern::List(parts.patterns),
+    })
 }

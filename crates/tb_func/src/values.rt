@@ -8,7 +8,7 @@ ghost use Rattle.tb_func.specs.Values.{value_of, all_of};
 use crate::measured::{Measured, MeasuredParts};
 use crate::{Store, apply};
 use std::alloc::Global;
-use tb_terms::{Expr, Func, Name, NoMemory, Term, Terms};
+use tb_terms::{Expr, Func, Name, NoMemory, Term};
 
 /// What the expression is worth in the store, where it is worth anything.
 pub fn eval(alloc: Global, e: &Expr, s: &Store) -> Result<Option<Term>, NoMemory>
@@ -89,7 +89,7 @@ fn application(
     }
 }
 
-fn value_of_call(
+pub(crate) fn value_of_call(
     alloc: Global,
     f: Func,
     args: Option<MeasuredParts>,
@@ -99,15 +99,6 @@ fn value_of_call(
 {
     match args {
         Some(args) => Ok(measured(apply(alloc, f, &args.terms)?)),
-        None => Ok(None),
-    }
-}
-
-pub(crate) fn call(alloc: Global, f: Func, args: Option<Terms>) -> Result<Option<Term>, NoMemory>
-    ensures { IfOk result (λ v. v ≡ option_and_then (apply_of f) args) }
-{
-    match args {
-        Some(args) => apply(alloc, f, &args),
         None => Ok(None),
     }
 }
