@@ -1,5 +1,6 @@
 use crate::{
-    Shape, Signature, Sorts, Store, apply, eval, function, pattern, printf_text, signature,
+    Shape, Signature, Sorts, Store, apply, eval, function, pattern, plain_expressions_are_fixed,
+    printf_text, signature,
 };
 use std::alloc::Global;
 use std::test::Fail;
@@ -190,6 +191,7 @@ fn expressions_are_patterns(rt: HostRuntime) -> Result<(), Fail> {
     let want = Pattern::Appl(name(alloc, b"f")?, parts);
     let got = pattern(alloc, &open, &store)?.ok_or(NoMemory)?;
     assert!(rt; got.is_same(&want));
+    plain_expressions_are_fixed();
     Ok(())
 }
 
