@@ -12,5 +12,5 @@ as_pattern (Value value) = pattern.Fixed value.term
 as_pattern (Open one) = one.pattern
 
 abbrev pub as_patterns : Parts → List Pattern
-as_patterns (parts.Values values) = map pattern.Fixed values.terms
+as_patterns (parts.Values values) = map pattern.Fixed values.terms.items
 as_patterns (parts.Open several) = several.patterns

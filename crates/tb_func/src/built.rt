@@ -51,7 +51,7 @@ impl Parts {
 }
 
 fn after_values(alloc: Global, values: MeasuredParts, part: Part) -> Result<Parts, NoMemory>
-    ensures { IfOk result (λ parts. as_patterns parts ≡ map pattern.Fixed values.terms ++ as_pattern part ∷ []) }
+    ensures { IfOk result (λ parts. as_patterns parts ≡ map pattern.Fixed values.terms.items ++ as_pattern part ∷ []) }
 {
     let mut values = values;
     match part {
@@ -60,7 +60,7 @@ fn after_values(alloc: Global, values: MeasuredParts, part: Part) -> Result<Part
             Ok(Parts::Values(values))
         }
         Part::Open(last) => {
-            let mut patterns = fixed_patterns(alloc, values.terms.as_slice())?;
+            let mut patterns = fixed_patterns(alloc, values.terms)?;
             patterns.push(last.pattern)?;
             Ok(Parts::Open(OpenPatterns { patterns }))
         }
@@ -75,12 +75,12 @@ fn after_open(before: OpenPatterns, part: Part) -> Result<Parts, NoMemory>
     Ok(Parts::Open(OpenPatterns { patterns }))
 }
 
-fn fixed_patterns(alloc: Global, terms: &[Term]) -> Result<Patterns, NoMemory>
-    ensures { IfOk result (λ patterns. patterns ≡ map pattern.Fixed terms.now) }
+fn fixed_patterns(alloc: Global, terms: Vec<Term>) -> Result<Patterns, NoMemory>
+    ensures { IfOk result (λ patterns. patterns ≡ map pattern.Fixed terms.items) }
 {
     let mut patterns = Items::new(alloc);
     for term in terms {
-        patterns.push(Pattern::Fixed(term.copy(alloc)?))?;
+        patterns.push(Pattern::Fixed(term))?;
     }
     Ok(patterns)
 }

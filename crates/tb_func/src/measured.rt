@@ -1,4 +1,4 @@
-ghost use Rattle.std.specs.Prelude.{◌≡◌, ◌++◌, ◌∷◌, [], IfErr, OnErr, OnOk, min, map, sum, option_map};
+ghost use Rattle.std.specs.Prelude.{◌≡◌, ◌++◌, ◌∷◌, [], OnErr, OnOk, min, map, sum, option_map};
 ghost use Rattle.tb_terms.specs.Sizes.{term_size, term_levels, greatest};
 ghost use Rattle.tb_terms.specs.declared.term.Term.TheVariants as term;
 ghost use Rattle.tb_func.specs.Limits.{limited};
@@ -6,7 +6,7 @@ ghost use Rattle.std.below.core.specs.declared.int.usize.TheConstants.{MAX};
 
 use crate::limits::are_within_limits;
 use std::alloc::Global;
-use tb_terms::{Items, Name, NoMemory, Term, Terms, Text, depth, size};
+use tb_terms::{Items, Name, NoMemory, Term, Text, depth, size};
 
 /// A term beside its size and its levels. The greatest `usize` stands for all greater numbers.
 #[derive(Debug, Drop)]
@@ -65,27 +65,27 @@ impl Measured {
 /// Terms beside the sum of their sizes and the levels of the deepest.
 #[derive(Debug, Drop)]
 pub(crate) struct MeasuredParts {
-    pub terms: Terms,
+    pub terms: Vec<Term>,
     pub sizes: usize,
     pub deepest: usize,
-    ghost has_sizes: { sizes ≡ min (sum (map term_size terms)) MAX },
-    ghost has_deepest: { deepest ≡ min (greatest (map term_levels terms)) MAX },
+    ghost has_sizes: { sizes ≡ min (sum (map term_size terms.items)) MAX },
+    ghost has_deepest: { deepest ≡ min (greatest (map term_levels terms.items)) MAX },
 }
 
 impl MeasuredParts {
     pub(crate) fn new(alloc: Global) -> MeasuredParts
-        ensures { result.terms ≡ [] }
+        ensures { result.terms.items ≡ [] }
     {
         MeasuredParts {
-            terms: Items::new(alloc),
+            terms: Vec::new(alloc),
             sizes: 0,
             deepest: 0,
         }
     }
 
     pub(crate) fn push(&mut self, part: Measured) -> Result<(), NoMemory>
-        ensures pushed { OnOk result (self.new.terms ≡ self.old.terms ++ part.term ∷ []) }
-        ensures unchanged { OnErr result (self.new.terms ≡ self.old.terms) }
+        ensures pushed { OnOk result (self.new.terms.items ≡ self.old.terms.items ++ part.term ∷ []) }
+        ensures unchanged { OnErr result (self.new.terms.items ≡ self.old.terms.items) }
     {
         self.terms.push(part.term)?;
         self.sizes = self.sizes.saturating_add(part.size);
@@ -94,23 +94,23 @@ impl MeasuredParts {
     }
 
     pub(crate) fn application(self, name: Name) -> Measured
-        ensures { result.term ≡ term.Appl name self.terms }
+        ensures { result.term ≡ term.Appl name self.terms.items }
     {
         let named = name.as_bytes().len().saturating_add(1);
         Measured {
             size: named.saturating_add(self.sizes),
             levels: self.deepest.saturating_add(1),
-            term: Term::Appl(name, self.terms),
+            term: Term::Appl(name, Items::from_vec(self.terms)),
         }
     }
 
     pub(crate) fn list(self) -> Measured
-        ensures { result.term ≡ term.List self.terms }
+        ensures { result.term ≡ term.List self.terms.items }
     {
         Measured {
             size: self.sizes.saturating_add(1),
             levels: self.deepest.saturating_add(1),
-            term: Term::List(self.terms),
+            term: Term::List(Items::from_vec(self.terms)),
         }
     }
 }

@@ -8,7 +8,7 @@ ghost use Rattle.tb_func.specs.Values.{value_of, all_of};
 use crate::measured::{Measured, MeasuredParts};
 use crate::{Store, apply};
 use std::alloc::Global;
-use tb_terms::{Expr, Func, Name, NoMemory, Term};
+use tb_terms::{Expr, Func, Items, Name, NoMemory, Term};
 
 /// What the expression is worth in the store, where it is worth anything.
 pub fn eval(alloc: Global, e: &Expr, s: &Store) -> Result<Option<Term>, NoMemory>
@@ -45,7 +45,7 @@ fn eval_measured(alloc: Global, e: &Expr, s: &Store) -> Result<Option<Measured>,
 /// The values of the expressions, where each is worth anything.
 #[cycle(eval_measured)]
 fn eval_all(alloc: Global, exprs: &[Expr], s: &Store) -> Result<Option<MeasuredParts>, NoMemory>
-    ensures { IfOk result (λ v. option_map (λ p. p.terms) v ≡ all_of (map (value_of s.now) exprs.now)) }
+    ensures { IfOk result (λ v. option_map (λ p. p.terms.items) v ≡ all_of (map (value_of s.now) exprs.now)) }
 {
     let mut values = MeasuredParts::new(alloc);
     for expr in exprs {
@@ -81,7 +81,7 @@ fn application(
     parts: Option<MeasuredParts>,
 ) -> Result<Option<Measured>, NoMemory>
     ensures { IfOk result (λ v. option_map (λ m. m.term) v
-        ≡ option_and_then (λ ts. limited (term.Appl name.now ts)) (option_map (λ p. p.terms) parts)) }
+        ≡ option_and_then (λ ts. limited (term.Appl name.now ts)) (option_map (λ p. p.terms.items) parts)) }
 {
     match parts {
         Some(parts) => Ok(parts.application(name.copy(alloc)?).limited()),
@@ -95,17 +95,17 @@ pub(crate) fn value_of_call(
     args: Option<MeasuredParts>,
 ) -> Result<Option<Measured>, NoMemory>
     ensures { IfOk result (λ v. option_map (λ m. m.term) v
-        ≡ option_and_then (apply_of f) (option_map (λ p. p.terms) args)) }
+        ≡ option_and_then (apply_of f) (option_map (λ p. p.terms.items) args)) }
 {
     match args {
-        Some(args) => Ok(measured(apply(alloc, f, &args.terms)?)),
+        Some(args) => Ok(measured(apply(alloc, f, &Items::from_vec(args.terms))?)),
         None => Ok(None),
     }
 }
 
 fn list(parts: Option<MeasuredParts>) -> Option<Measured>
     ensures { option_map (λ m. m.term) result
-        ≡ option_and_then (λ ts. limited (term.List ts)) (option_map (λ p. p.terms) parts) }
+        ≡ option_and_then (λ ts. limited (term.List ts)) (option_map (λ p. p.terms.items) parts) }
 {
     match parts {
         Some(parts) => parts.list().limited(),
