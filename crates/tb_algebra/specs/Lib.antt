@@ -1,0 +1,6 @@
+pub mod Atoms
+pub mod Binds
+pub mod Offers
+pub mod Processes
+pub mod Settings
+pub mod Walks

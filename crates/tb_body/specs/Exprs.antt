@@ -1,0 +1,82 @@
+-- Where an expression may stand: as a value, as a test of what came, or where something is received.
+use Rattle.std.specs.Prelude.{ℕ, Bool, true, false, ◌&&◌, ◌==◌, nat_lt, List, length}
+use Rattle.std.specs.List.{list_all}
+use Rattle.tb_terms.specs.declared.expr.Expr.{Expr}
+use Rattle.tb_terms.specs.declared.expr.Expr.TheOpen.{Expr-F, Int, Str, Var, Result, Hole, Appl, Call, List as ListOf}
+use Rattle.tb_terms.specs.declared.expr.Expr.TheFolds.{fold-Expr}
+use Rattle.tb_terms.specs.declared.expr.Func.{Func}
+use Rattle.tb_terms.specs.declared.expr.Func.TheVariants as func
+
+-- how many arguments a function takes
+abbrev pub arity : Func → ℕ
+arity func.Equal = 2
+arity func.NotEqual = 2
+arity func.Not = 1
+arity func.And = 2
+arity func.Or = 2
+arity func.Add = 2
+arity func.Sub = 2
+arity func.Mul = 2
+arity func.Div = 2
+arity func.Mod = 2
+arity func.Less = 2
+arity func.LessEqual = 2
+arity func.Greater = 2
+arity func.GreaterEqual = 2
+arity func.Size = 1
+arity func.First = 1
+arity func.Next = 1
+arity func.Join = 2
+arity func.Member = 2
+arity func.Index = 2
+arity func.Msec = 1
+arity func.Sec = 1
+arity func.Min = 1
+arity func.Hour = 1
+
+-- the places at which an expression may stand
+pub record Places : Type 0 where
+  -- it has neither placeholder nor result variable
+  pub value : Bool
+  -- it has no result variable, and no placeholder within a function
+  pub test : Bool
+  -- it has neither within a function
+  pub receiving : Bool
+
+abbrev pub everywhere : Places
+everywhere = record { value = true; test = true; receiving = true }
+
+-- at each of these places where each part may stand there
+abbrev pub all_stand : List Places → Places
+all_stand parts = record {
+  value = list_all (λ part. part.value) parts;
+  test = list_all (λ part. part.test) parts;
+  receiving = list_all (λ part. part.receiving) parts;
+}
+
+-- everywhere or nowhere
+abbrev pub everywhere_if : Bool → Places
+everywhere_if ok = record { value = ok; test = ok; receiving = ok }
+
+-- One expression over this many slots: its slots are among them, and a function has as many arguments as it takes.
+abbrev pub places_step : ℕ → Expr-F Places → Places
+places_step slots (Int number) = everywhere
+places_step slots (Str bytes) = everywhere
+places_step slots (Var slot) = everywhere_if (nat_lt slot slots)
+places_step slots (Result slot) = record { value = false; test = false; receiving = nat_lt slot slots }
+places_step slots (Hole sort) = record { value = false; test = true; receiving = true }
+places_step slots (Appl name parts) = all_stand parts
+places_step slots (Call f parts) = everywhere_if (length parts == arity f && list_all (λ part. part.value) parts)
+places_step slots (ListOf parts) = all_stand parts
+
+abbrev pub places_of : ℕ → Expr → Places
+places_of slots = fold-Expr Places (places_step slots)
+
+abbrev pub is_value : ℕ → Expr → Bool
+is_value slots expr = (places_of slots expr).value
+
+abbrev pub is_test : ℕ → Expr → Bool
+is_test slots expr = (places_of slots expr).test
+
+abbrev pub is_receiving : ℕ → Expr → Bool
+is_receiving slots expr = (places_of slots expr).receiving

@@ -1,0 +1,52 @@
+-- Which bodies are in range: their slots, the numbers of their atoms, and their limits.
+use Rattle.std.specs.Prelude.{ℕ, ◌+◌, Bool, true, false, ◌&&◌, ◌==◌, nat_lt, nat_le, List, [], ◌∷◌, length, Option, Some, None}
+use Rattle.std.specs.List.{list_all}
+use Rattle.tb_terms.specs.declared.expr.Expr.{Expr}
+use Rattle.tb_terms.specs.declared.sort.Sort.{Sort}
+use Rattle.tb_body.specs.Exprs.{is_value}
+use Rattle.tb_body.specs.Acts.{is_atom_in_body}
+use Rattle.tb_body.specs.Trees.{tree_atoms, tree_levels}
+use Rattle.tb_body.specs.declared.tree.Tree.{Tree}
+use Rattle.tb_body.specs.declared.tree.Tree.TheOpen.{Tree-F, At, Seq, Alt, Star, Par, If, Let}
+use Rattle.tb_body.specs.declared.tree.Tree.TheFolds.{fold-Tree}
+use Rattle.tb_body.specs.declared.tree.Setting.{Setting}
+use Rattle.tb_body.specs.declared.atom.Atom.{Atom}
+
+-- this number, and each next one
+abbrev pub ascends_by_one : ℕ → List ℕ → Bool
+ascends_by_one from [] = true
+ascends_by_one from (number ∷ numbers) = number == from && ascends_by_one (from + 1) numbers
+
+-- the value of a setting, where it has one of its own
+abbrev pub is_start : ℕ → Option Expr → Bool
+is_start slots None = true
+is_start slots (Some value) = is_value slots value
+
+abbrev pub is_setting_in_range : ℕ → Setting → Bool
+is_setting_in_range slots setting = nat_lt setting.slot slots && is_start slots setting.start
+
+-- the side that may lack
+abbrev pub is_side : Option Bool → Bool
+is_side None = true
+is_side (Some ok) = ok
+
+-- tests and settings have values, and the slots that are set are there
+abbrev pub tree_step : ℕ → Tree-F Bool → Bool
+tree_step slots (At atom) = true
+tree_step slots (Seq x y) = x && y
+tree_step slots (Alt x y) = x && y
+tree_step slots (Star x y) = x && y
+tree_step slots (Par x y) = x && y
+tree_step slots (If test x y) = is_value slots test && x && is_side y
+tree_step slots (Let settings x) = list_all (is_setting_in_range slots) settings && x
+
+abbrev pub is_tree_in_range : ℕ → Tree → Bool
+is_tree_in_range slots = fold-Tree Bool (tree_step slots)
+
+-- Each atom stands once in the tree, in the order of the atoms' numbers from 1. The formals are the first slots.
+unfoldable pub is_body_in_range : Tree → List Atom → List Sort → ℕ → Bool
+is_body_in_range tree atoms sorts formals =
+    ascends_by_one 1 (tree_atoms tree) && length (tree_atoms tree) == length atoms
+    && nat_le (length atoms) 200000 && nat_le (tree_levels tree) 1000
+    && nat_le formals (length sorts)
+    && is_tree_in_range (length sorts) tree && list_all (is_atom_in_body (length sorts)) atoms

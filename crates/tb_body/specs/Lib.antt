@@ -1,0 +1,5 @@
+pub mod Acts
+pub mod Exprs
+pub mod InRange
+pub mod Programs
+pub mod Trees

@@ -1,0 +1,15 @@
+//! Programs: what a script says once its calls are gone. Processes are trees of atoms, variables go by
+//! slots, processes and tools by numbers, and the types keep that these are in range.
+#![tactic(auto)]
+
+mod act;
+mod atom;
+mod body;
+mod program;
+mod tree;
+
+pub use act::Act;
+pub use atom::{Atom, Atoms, Time, TimeKind, Times, copy_atoms};
+pub use body::{Bodies, Body};
+pub use program::{Program, Root, Roots, Tool, Tools};
+pub use tree::{Setting, Settings, Tree, copy_settings};

@@ -1,0 +1,35 @@
+ghost use Rattle.std.specs.Prelude.{IsTrue};
+ghost use Rattle.tb_body.specs.Programs.{is_program_in_range};
+
+use crate::Bodies;
+use tb_terms::{Items, Name, Terms, Text};
+
+/// A process that is there from the start: its body, from 0, and the values of its formals.
+#[derive(Debug, Drop)]
+pub struct Root {
+    pub process: u32,
+    pub actuals: Terms,
+}
+
+/// Roots in a row: the first has the process number 1.
+pub type Roots = Items<Root>;
+
+/// A kind of tool. Where it has a command, a script may start one.
+#[derive(Debug, Drop)]
+pub struct Tool {
+    pub name: Name,
+    pub command: Option<Text>,
+}
+
+/// Kinds of tools in a row.
+pub type Tools = Items<Tool>;
+
+/// A script that was read: the bodies of its processes and its tools in order of definition, and the
+/// processes with which it starts, at most 10,000.
+#[derive(Debug, Drop)]
+pub struct Program {
+    pub bodies: Bodies,
+    pub roots: Roots,
+    pub tools: Tools,
+    ghost in_range: { IsTrue (is_program_in_range bodies roots tools) },
+}
