@@ -1,13 +1,6 @@
-pub mod InRange
-pub mod Processes
 pub mod Buses
+pub mod Deeds
 pub mod Steps
-pub mod Traces
-pub mod Codes
-pub mod Lives
-pub mod LiveBuses
-pub mod Cores
 pub mod LogText
-pub mod Reached
-pub mod Simulation
-pub mod Turns
+pub mod Rows
+pub mod Views

@@ -27,6 +27,7 @@ term_words (term ∷ terms) = 32 ∷ terms_text (term ∷ terms)
 -- a step by its kind: both places of a message, the place of any other atom, and the terms
 abbrev pub label_words : LabelKind → Place → Place → List Term → List ℕ
 label_words kind.Msg from to terms = codes "msg" ++ place_words from ++ place_words to ++ term_words terms
+label_words kind.Set from to terms = codes "set" ++ place_words from ++ term_words terms
 label_words kind.Tau from to terms = codes "tau" ++ place_words from ++ term_words terms
 label_words kind.Finish from to terms = codes "finish"
 label_words kind.Halt from to terms = codes "halt"

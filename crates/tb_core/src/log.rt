@@ -33,6 +33,8 @@ pub struct Place {
 pub enum LabelKind {
     /// One process handed terms to another.
     Msg,
+    /// A variable took a value.
+    Set,
     Tau,
     /// No process was left.
     Finish,

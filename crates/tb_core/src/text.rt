@@ -54,14 +54,21 @@ fn push_label(label: &Label, into: &mut Vec<u8>) -> Result<(), NoMemory>
             push_place(label.to, into)?;
             push_terms(&label.terms, into)
         }
-        LabelKind::Tau => {
-            push_text(b"tau", into)?;
-            push_place(label.from, into)?;
-            push_terms(&label.terms, into)
-        }
+        LabelKind::Set => push_one_place(b"set", label, into),
+        LabelKind::Tau => push_one_place(b"tau", label, into),
         LabelKind::Finish => push_text(b"finish", into),
         LabelKind::Halt => push_text(b"halt", into),
     }
+}
+
+/// The word of a label with one place, the place, and the terms.
+fn push_one_place(word: &[u8], label: &Label, into: &mut Vec<u8>) -> Result<(), NoMemory>
+    ensures ok { OnOk result (into.new.items ≡ into.old.items ++ word.now ++ place_words label.now.from ++ term_words label.now.terms) }
+    ensures err { OnErr result (KeepsFront into.old.items into.new.items) }
+{
+    push_text(word, into)?;
+    push_place(label.from, into)?;
+    push_terms(&label.terms, into)
 }
 
 fn push_place(place: Place, into: &mut Vec<u8>) -> Result<(), NoMemory>

@@ -1,9 +1,0 @@
-use Rattle.std.proofs.Common.{ap, sym}
-use Rattle.tb_core.specs.Buses.{Bus}
-use Rattle.tb_core.proofs.CoreLemmas.{bus-seen}
-use Rattle.tb_core.proofs.machine.Core.is_down.Goals as goal
-
-pub returns : goal.returns
-returns c =
-    let core = c.self.inside in
-    ap (λ (b : Bus). b.down) (sym (bus-seen core.bus core.log core.stopped c.args.self.now c.self.invariant c.self.view_is))

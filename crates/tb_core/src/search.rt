@@ -1,0 +1,156 @@
+ghost use Rattle.std.specs.Prelude.{◌≡◌, ℕ, ◌+◌, ◌<◌, ◌≤◌, length, [], IfOk, IfSome, map, drop, Some, None, true, false, nat_le, IsTrue};
+ghost use Rattle.std.specs.Option.{option_map};
+ghost use Rattle.std.specs.List.Sorted.{IsPartitionPoint};
+ghost use Rattle.tb_core.specs.Rows.{first, reception, receptions, partner_in, partners, founds_by, founds_of, founds_from, founds_in_turn, ascend, row_at};
+
+use crate::deed::Deed;
+use crate::row::{Found, Partner, Ready, Received, Row};
+use std::alloc::Global;
+use tb_match::match_list;
+use tb_terms::{NoMemory, Terms};
+
+/// Whether a deed receives the terms, and what they bind then.
+fn receive(
+    alloc: Global,
+    ready: usize,
+    deed: &Deed,
+    terms: &Terms,
+) -> Result<Option<Received>, NoMemory>
+    ensures { IfOk result (λ found. found ≡ first (reception terms.now ready deed.now)) }
+{
+    match deed {
+        Deed::Receive(patterns) => match match_list(alloc, patterns, terms)? {
+            Some(binds) => Ok(Some(Received { ready, binds })),
+            None => Ok(None),
+        },
+        Deed::Own(_, _, _) => Ok(None),
+        Deed::Send(_) => Ok(None),
+    }
+}
+
+/// The first deed that receives the terms.
+fn first_received(
+    alloc: Global,
+    deeds: &[Ready],
+    terms: &Terms,
+) -> Result<Option<Received>, NoMemory>
+    ensures { IfOk result (λ found. found ≡ first (receptions terms.now 0 deeds.now)) }
+{
+    for (place, ready) in deeds.iter().enumerate() {
+        match receive(alloc, place, &ready.deed, terms)? {
+            Some(received) => return Ok(Some(received)),
+            None => {}
+        }
+    }
+    Ok(None)
+}
+
+/// The first process, another than the one with this number, that receives the terms.
+fn first_partner(
+    alloc: Global,
+    rows: &[Row],
+    number: u32,
+    terms: &Terms,
+) -> Result<Option<Partner>, NoMemory>
+    ensures { IfOk result (λ found. found ≡ first (partners number terms.now 0 rows.now)) }
+{
+    for (place, row) in rows.iter().enumerate() {
+        match partner(alloc, place, row, number, terms)? {
+            Some(partner) => return Ok(Some(partner)),
+            None => {}
+        }
+    }
+    Ok(None)
+}
+
+fn partner(
+    alloc: Global,
+    place: usize,
+    row: &Row,
+    number: u32,
+    terms: &Terms,
+) -> Result<Option<Partner>, NoMemory>
+    ensures { IfOk result (λ found. found ≡ first (partner_in number terms.now place row.now)) }
+{
+    if row.number == number {
+        return Ok(None);
+    }
+    match first_received(alloc, row.ready.as_slice(), terms)? {
+        Some(received) => Ok(Some(Partner {
+            row: place,
+            received,
+        })),
+        None => Ok(None),
+    }
+}
+
+/// What a deed of the process at a place leads to first.
+fn first_by(
+    alloc: Global,
+    rows: &[Row],
+    at: usize,
+    number: u32,
+    place: usize,
+    deed: &Deed,
+) -> Result<Option<Found>, NoMemory>
+    ensures { IfOk result (λ found. found ≡ first (founds_by rows.now at number place deed.now)) }
+{
+    match deed {
+        Deed::Own(_, _, _) => Ok(Some(Found::Own(at, place))),
+        Deed::Send(terms) => match first_partner(alloc, rows, number, terms)? {
+            Some(partner) => Ok(Some(Found::Handshake(at, place, partner))),
+            None => Ok(None),
+        },
+        Deed::Receive(_) => Ok(None),
+    }
+}
+
+/// What the deeds of the process at a place lead to first.
+fn first_of(alloc: Global, rows: &[Row], at: usize) -> Result<Option<Found>, NoMemory>
+    requires { at < length rows.now }
+    ensures { IfOk result (λ found. found ≡ first (founds_of rows.now at (row_at rows.now at))) }
+{
+    let row = &rows[at];
+    for (place, ready) in row.ready.as_slice().iter().enumerate() {
+        match first_by(alloc, rows, at, row.number, place, &ready.deed)? {
+            Some(found) => return Ok(Some(found)),
+            None => {}
+        }
+    }
+    Ok(None)
+}
+
+/// What the processes from this place on do first.
+fn first_from(alloc: Global, rows: &[Row], start: usize) -> Result<Option<Found>, NoMemory>
+    requires { start ≤ length rows.now }
+    ensures { IfOk result (λ found. found ≡ first (founds_from rows.now start (drop start rows.now))) }
+{
+    for at in start..rows.len() {
+        match first_of(alloc, rows, at)? {
+            Some(found) => return Ok(Some(found)),
+            None => {}
+        }
+    }
+    Ok(None)
+}
+
+/// How many processes have a number up to that of the last starter.
+fn turn_start(rows: &[Row], last: u32) -> usize
+    requires { IsTrue (ascend 0 rows.now) }
+    ensures within { result ≤ length rows.now }
+    ensures point { IsPartitionPoint (λ row. nat_le row.number last ≡ true) (λ row. nat_le row.number last ≡ false) rows.now result }
+{
+    rows.partition_point(|row| row.number <= last)
+}
+
+/// What the processes do first, asked in turn.
+pub fn first_in_turn(alloc: Global, rows: &[Row], last: u32) -> Result<Option<Found>, NoMemory>
+    requires { IsTrue (ascend 0 rows.now) }
+    ensures { IfOk result (λ found. found ≡ first (founds_in_turn rows.now last)) }
+{
+    let start = turn_start(rows, last);
+    match first_from(alloc, rows, start)? {
+        Some(found) => Ok(Some(found)),
+        None => first_from(alloc, rows, 0),
+    }
+}
