@@ -69,7 +69,7 @@ abbrev pub founds_among : List Row → ℕ → ℕ → ℕ → List Ready → Li
 founds_among rows at number place [] = []
 founds_among rows at number place (ready ∷ others) = founds_by rows at number place ready.deed ++ founds_among rows at number (place + 1) others
 
-unfoldable pub founds_of : List Row → ℕ → Row → List Found
+abbrev pub founds_of : List Row → ℕ → Row → List Found
 founds_of rows at row = founds_among rows at row.number 0 row.ready
 
 -- what these processes lead to, the first of them at a place among all rows

@@ -1,7 +1,5 @@
-ghost use Rattle.std.specs.Prelude.{◌≡◌, ℕ, ◌+◌, ◌<◌, ◌≤◌, length, [], IfOk, IfSome, map, drop, Some, None, true, false, nat_le, IsTrue};
-ghost use Rattle.std.specs.Option.{option_map};
-ghost use Rattle.std.specs.List.Sorted.{IsPartitionPoint};
-ghost use Rattle.tb_core.specs.Rows.{first, reception, receptions, partner_in, partners, founds_by, founds_of, founds_from, founds_in_turn, ascend, row_at};
+ghost use Rattle.std.specs.Prelude.{◌≡◌, ◌<◌, ◌≤◌, length, drop, IfOk, IsTrue};
+ghost use Rattle.tb_core.specs.Rows.{first, reception, receptions, partner_in, partners, founds_by, founds_of, founds_from, founds_in_turn, up_to, ascend, row_at};
 
 use crate::deed::Deed;
 use crate::row::{Found, Partner, Ready, Received, Row};
@@ -138,7 +136,7 @@ fn first_from(alloc: Global, rows: &[Row], start: usize) -> Result<Option<Found>
 fn turn_start(rows: &[Row], last: u32) -> usize
     requires { IsTrue (ascend 0 rows.now) }
     ensures within { result ≤ length rows.now }
-    ensures point { IsPartitionPoint (λ row. nat_le row.number last ≡ true) (λ row. nat_le row.number last ≡ false) rows.now result }
+    ensures count { result ≡ up_to last rows.now }
 {
     rows.partition_point(|row| row.number <= last)
 }
