@@ -1,1 +1,4 @@
+pub mod PartLemmas
 pub mod TurnLemmas
+pub mod RowLemmas
+pub mod FoundLemmas

@@ -1,11 +1,12 @@
 -- The order in which the processes are asked, where they stand by their numbers.
-use Rattle.std.proofs.Common.{◌≡◌, ℕ, ◌+◌, ◌<◌, ◌≤◌, zero, suc, List, [], ◌∷◌, ◌++◌, take, drop, length, refl, ap, sym, ◌∙◌, arith, rules, Option, Some, None, true, false, nat_lt, nat_le, append-nil, append_assoc, get_or, add-one}
-use Rattle.std.proofs.lemmas.Bool.{leb-true, le-leb}
+use Rattle.std.proofs.Common.{◌≡◌, ℕ, ◌+◌, ◌<◌, ◌≤◌, zero, suc, List, [], ◌∷◌, ◌++◌, take, drop, length, refl, ap, sym, ◌∙◌, arith, rules, Option, Some, None, Bool, true, false, ◌==◌, nat_lt, nat_le, append-nil, append_assoc, get_or, add-one}
+use Rattle.std.proofs.lemmas.Bool.{leb-true, le-leb, eqb-true}
 use Rattle.std.specs.List.{AllWithin}
 use Rattle.std.specs.List.Sorted.{IsPartitionedBy, IsPartitionPoint}
-use Rattle.tb_core.specs.Rows.{first, founds_of, founds_from, founds_in_turn, up_to, ascend}
+use Rattle.tb_core.specs.Rows.{first, founds_of, founds_from, founds_in_turn, founds_or_halt, founds_all, up_to, ascend}
 use Rattle.tb_core.specs.declared.row.Row.{Row}
 use Rattle.tb_core.specs.declared.row.Found.{Found}
+use Rattle.tb_core.specs.declared.row.Found.TheVariants.{Finish}
 use Rattle.tb_terms.proofs.SameLemmas.{both-true}
 
 -- the first number is above the bound, and the others ascend from it
@@ -85,3 +86,40 @@ turn-again rows last start e miss =
     let e : 0 + at ≡ at = omega arith in rw e at (founds_from-split rows 0 at rows) in
     ap first (whole ∙ ap (λ fs. founds_from rows 0 (take at rows) ++ fs) nothing ∙ append-nil (founds_from rows 0 (take at rows))
     ∙ sym (ap (λ fs. fs ++ founds_from rows 0 (take at rows)) nothing))
+
+or_halt-some : (no_ticks : Bool) (founds : List Found) (found : Found) → Some found ≡ first founds → Some found ≡ first (founds_or_halt no_ticks founds)
+or_halt-some no_ticks [] found e = cc
+or_halt-some no_ticks (f ∷ founds) found e = e
+
+or_halt-none : (no_ticks : Bool) (founds : List Found) → None ≡ first founds → first (founds_or_halt no_ticks []) ≡ first (founds_or_halt no_ticks founds)
+or_halt-none no_ticks [] e = refl
+or_halt-none no_ticks (f ∷ founds) e = cc
+
+-- nothing happens on a bus that is down
+pub first_all-down : (rows : List Row) (last : ℕ) (no_ticks down : Bool) → down ≡ true → None ≡ first (founds_all rows last no_ticks down)
+unfolding founds_all
+first_all-down rows last no_ticks true e = refl
+first_all-down rows last no_ticks false e = cc
+
+-- where no process is left, the bus finishes
+pub first_all-finish : (rows : List Row) (last : ℕ) (no_ticks down : Bool) → down ≡ false → (length rows == 0) ≡ true → Some Finish ≡ first (founds_all rows last no_ticks down)
+unfolding founds_all
+first_all-finish rows last no_ticks true e f = cc
+first_all-finish [] last no_ticks false e f = refl
+first_all-finish (row ∷ rows) last no_ticks false e f = let nobody : length (row ∷ rows) ≡ 0 = eqb-true _ _ f in absurd (omega arith)
+
+-- what the processes do first happens first
+pub first_all-some : (rows : List Row) (last : ℕ) (no_ticks down : Bool) (found : Found) → down ≡ false → (length rows == 0) ≡ false →
+    Some found ≡ first (founds_in_turn rows last) → Some found ≡ first (founds_all rows last no_ticks down)
+unfolding founds_all
+first_all-some rows last no_ticks true found e f hit = cc
+first_all-some [] last no_ticks false found e f hit = cc
+first_all-some (row ∷ rows) last no_ticks false found e f hit = or_halt-some no_ticks (founds_in_turn (row ∷ rows) last) found hit
+
+-- where they can do nothing, only the halt is left
+pub first_all-none : (rows : List Row) (last : ℕ) (no_ticks down : Bool) → down ≡ false → (length rows == 0) ≡ false →
+    None ≡ first (founds_in_turn rows last) → first (founds_or_halt no_ticks []) ≡ first (founds_all rows last no_ticks down)
+unfolding founds_all
+first_all-none rows last no_ticks true e f miss = cc
+first_all-none [] last no_ticks false e f miss = cc
+first_all-none (row ∷ rows) last no_ticks false e f miss = or_halt-none no_ticks (founds_in_turn (row ∷ rows) last) miss

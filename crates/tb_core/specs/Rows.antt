@@ -86,6 +86,20 @@ up_to last (row ∷ rows) = if nat_le row.number last then 1 + up_to last rows e
 unfoldable pub founds_in_turn : List Row → ℕ → List Found
 founds_in_turn rows last = founds_from rows (up_to last rows) (drop (up_to last rows) rows) ++ founds_from rows 0 (take (up_to last rows) rows)
 
+-- where the processes can do nothing, the bus halts once no more ticks come
+abbrev pub founds_or_halt : Bool → List Found → List Found
+founds_or_halt no_ticks [] = if no_ticks then found.Halt ∷ [] else []
+founds_or_halt no_ticks (found ∷ founds) = found ∷ founds
+
+-- where no process is left, it finishes
+abbrev pub founds_while_up : List Row → ℕ → Bool → List Row → List Found
+founds_while_up rows last no_ticks [] = found.Finish ∷ []
+founds_while_up rows last no_ticks (row ∷ others) = founds_or_halt no_ticks (founds_in_turn rows last)
+
+-- all that may happen next; nothing where the bus is down
+unfoldable pub founds_all : List Row → ℕ → Bool → Bool → List Found
+founds_all rows last no_ticks down = if down then [] else founds_while_up rows last no_ticks rows
+
 -- the numbers ascend, from above this one on
 abbrev pub ascend : ℕ → List Row → Bool
 ascend below [] = true

@@ -1,5 +1,5 @@
-ghost use Rattle.std.specs.Prelude.{◌≡◌, ◌<◌, ◌≤◌, length, drop, IfOk, IsTrue};
-ghost use Rattle.tb_core.specs.Rows.{first, reception, receptions, partner_in, partners, founds_by, founds_of, founds_from, founds_in_turn, up_to, ascend, row_at};
+ghost use Rattle.std.specs.Prelude.{◌≡◌, ◌<◌, ◌≤◌, [], length, drop, IfOk, IsTrue};
+ghost use Rattle.tb_core.specs.Rows.{first, reception, receptions, partner_in, partners, founds_by, founds_of, founds_from, founds_in_turn, founds_all, founds_or_halt, up_to, ascend, row_at};
 
 use crate::deed::Deed;
 use crate::row::{Found, Partner, Ready, Received, Row};
@@ -150,5 +150,35 @@ pub fn first_in_turn(alloc: Global, rows: &[Row], last: u32) -> Result<Option<Fo
     match first_from(alloc, rows, start)? {
         Some(found) => Ok(Some(found)),
         None => first_from(alloc, rows, 0),
+    }
+}
+
+/// What happens first where the processes can do nothing.
+fn halt_if(no_ticks: bool) -> Option<Found>
+    ensures { result ≡ first (founds_or_halt no_ticks []) }
+{
+    if no_ticks { Some(Found::Halt) } else { None }
+}
+
+/// What may happen first, of all that may: nothing on a bus that is down.
+pub fn first_move(
+    alloc: Global,
+    rows: &[Row],
+    last: u32,
+    no_ticks: bool,
+    down: bool,
+) -> Result<Option<Found>, NoMemory>
+    requires { IsTrue (ascend 0 rows.now) }
+    ensures { IfOk result (λ found. found ≡ first (founds_all rows.now last no_ticks down)) }
+{
+    if down {
+        return Ok(None);
+    }
+    if rows.is_empty() {
+        return Ok(Some(Found::Finish));
+    }
+    match first_in_turn(alloc, rows, last)? {
+        Some(found) => Ok(Some(found)),
+        None => Ok(halt_if(no_ticks)),
     }
 }
