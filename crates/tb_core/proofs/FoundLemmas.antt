@@ -1,23 +1,24 @@
 -- What a search finds names rows and deeds that there are.
-use Rattle.std.proofs.Common.{◌≡◌, ◌≢◌, ℕ, ◌+◌, ◌<◌, ◌==◌, List, [], ◌∷◌, ◌++◌, map, take, drop, length, refl, ap, sym, subst, ◌∙◌, Option, Some, None, Bool, true, false, slice_get, eq-eqb, if◌then◌else◌}
+use Rattle.std.proofs.Common.{◌≡◌, ◌≢◌, ℕ, ◌+◌, ◌<◌, ◌==◌, List, [], ◌∷◌, map, take, drop, length, refl, ap, sym, subst, ◌∙◌, Option, Some, None, Bool, true, false, slice_get, eq-eqb, if◌then◌else◌, option_map, IfSome}
 use Rattle.std.proofs.lemmas.List.Elements.{All-nil, All-cons, All-append, All-map, All-head, All-weaker}
 use Rattle.std.proofs.lemmas.Option.{get_or_from_slice_get, slice_get_within}
 use Rattle.std.specs.List.{All}
 use Rattle.tb_terms.specs.declared.term.Term.{Term}
 use Rattle.tb_match.specs.declared.bind.Bind.{Bind}
 use Rattle.tb_match.specs.Matches.{match_list}
-use Rattle.tb_core.specs.Rows.{first, row_at, no_row, received_if, reception, receptions, partner_in, partners, founds_by, founds_among, founds_of, founds_from, up_to, founds_in_turn, founds_or_halt, founds_while_up, founds_all}
-use Rattle.tb_core.specs.Views.{ready_at, sent_in, IsOwn, Receives, IsFoundIn}
+use Rattle.tb_core.specs.Rows.{first, row_at, no_row, received_if, reception, receptions, partner_in, partners, founds_by, founds_among, founds_of, founds_from, up_to, founds_in_turn, founds_or_halt, founds_while_up, founds_all, ascend}
+use Rattle.tb_core.specs.Buses.{Bus}
+use Rattle.tb_core.specs.Steps.{moves}
+use Rattle.tb_core.specs.Views.{ready_at, sent_in, move_of, IsOwn, Receives, IsFoundIn, IsSearchedFor}
 use Rattle.tb_core.specs.declared.deed.Deed.{Deed}
 use Rattle.tb_core.specs.declared.deed.Deed.TheVariants as deed
 use Rattle.tb_core.specs.declared.row.Ready.{Ready}
 use Rattle.tb_core.specs.declared.row.Row.{Row}
-use Rattle.tb_core.specs.declared.row.Received.{Received}
 use Rattle.tb_core.specs.declared.row.Partner.{Partner}
 use Rattle.tb_core.specs.declared.row.Found.{Found}
 use Rattle.tb_core.specs.declared.row.Found.TheVariants as found
 use Rattle.tb_core.proofs.PartLemmas.{StandAt, stand-whole, stand-drop, stand-take}
-use Rattle.tb_core.proofs.RowLemmas.{ready_at-is, partner_at}
+use Rattle.tb_core.proofs.RowLemmas.{ready_at-is, partner_at, first_moves}
 
 -- it names a deed that receives the terms, of another process than the one with this number
 abbrev IsPartnerIn : List Row → ℕ → List Term → Partner → Type 0
@@ -78,7 +79,7 @@ module _ (rows : List Row) where
       All (IsFoundIn rows) (founds_by rows at row.number place did)
   found-by at place row ready e f (deed.Own kind shown binds) d =
       let own : IsOwn (ready_at rows at place).deed = subst IsOwn (sym (deed-is at place row ready (deed.Own kind shown binds) e f d)) tt in
-      All-cons (IsFoundIn rows) (found.Own at place) [] (slice_get_within rows at row e, within-row at place row ready e f, own) (All-nil _)
+      All-cons (IsFoundIn rows) (found.Own at place) [] (slice_get_within rows at row e, within-row at place row ready e f, own) (All-nil (IsFoundIn rows))
   found-by at place row ready e f (deed.Receive patterns) d = All-nil _
   found-by at place row ready e f (deed.Send terms) d =
       let sends = deed-is at place row ready (deed.Send terms) e f d in
@@ -118,12 +119,12 @@ module _ (rows : List Row) where
       (found-from at (drop at rows) (stand-drop at rows)) (found-from 0 (take at rows) (stand-take at rows))
 
   or_halt-in : (no_ticks : Bool) (founds : List Found) → All (IsFoundIn rows) founds → All (IsFoundIn rows) (founds_or_halt no_ticks founds)
-  or_halt-in true [] h = All-cons (IsFoundIn rows) found.Halt [] tt (All-nil _)
+  or_halt-in true [] h = All-cons (IsFoundIn rows) found.Halt [] tt (All-nil (IsFoundIn rows))
   or_halt-in false [] h = h
   or_halt-in no_ticks (found ∷ founds) h = h
 
   while_up-in : (last : ℕ) (no_ticks : Bool) (some : List Row) → All (IsFoundIn rows) (founds_while_up rows last no_ticks some)
-  while_up-in last no_ticks [] = All-cons (IsFoundIn rows) found.Finish [] tt (All-nil _)
+  while_up-in last no_ticks [] = All-cons (IsFoundIn rows) found.Finish [] tt (All-nil (IsFoundIn rows))
   while_up-in last no_ticks (row ∷ some) = or_halt-in no_ticks (founds_in_turn rows last) (all_in_turn last)
 
   down-in : (down : Bool) (founds : List Found) → All (IsFoundIn rows) founds → All (IsFoundIn rows) (if down then [] else founds)
@@ -142,3 +143,18 @@ found_in_turn rows last found e = first-all (IsFoundIn rows) (founds_in_turn row
 -- The first that a search finds does so.
 pub found_first : (rows : List Row) (last : ℕ) (no_ticks down : Bool) (found : Found) → first (founds_all rows last no_ticks down) ≡ Some found → IsFoundIn rows found
 found_first rows last no_ticks down found e = first-all (IsFoundIn rows) (founds_all rows last no_ticks down) found (all_found rows last no_ticks down) e
+
+-- What is the first that a search finds is the first move of the bus that is searched.
+pub move_first : (rows : List Row) (last : ℕ) (no_ticks down : Bool) (found : Option Found) → ascend 0 rows ≡ true → found ≡ first (founds_all rows last no_ticks down) →
+    (bus : Bus) → IsSearchedFor bus rows last no_ticks down → option_map (move_of bus.procs rows) found ≡ first (moves bus)
+move_first rows last no_ticks down found a e bus is =
+    ap (option_map (move_of bus.procs rows)) (e
+    ∙ ap (λ n. first (founds_all rows n no_ticks down)) (sym is.last_is)
+    ∙ ap (λ b. first (founds_all rows bus.last_starter b down)) (sym is.no_ticks_is)
+    ∙ ap (λ b. first (founds_all rows bus.last_starter bus.no_ticks b)) (sym is.down_is))
+    ∙ first_moves bus rows is.rows_are a
+
+-- And it names rows and deeds that there are.
+pub stands_first : (rows : List Row) (last : ℕ) (no_ticks down : Bool) (found : Option Found) → found ≡ first (founds_all rows last no_ticks down) → IfSome found (IsFoundIn rows)
+stands_first rows last no_ticks down None e = tt
+stands_first rows last no_ticks down (Some found) e = found_first rows last no_ticks down found (sym e)

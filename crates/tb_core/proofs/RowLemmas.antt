@@ -1,9 +1,9 @@
 -- Rows that stand for the processes of a bus: what a search over them finds is what the bus may do.
-use Rattle.std.proofs.Common.{◌≡◌, ℕ, ◌+◌, ◌<◌, ◌≤◌, ◌==◌, zero, suc, List, [], ◌∷◌, ◌++◌, map, filter, take, drop, length, refl, ap, sym, ◌∙◌, arith, Option, Some, None, option_map, Bool, true, false, not, nat_lt, nat_le, append-nil, add-one, slice_get, slice_index_or, if◌then◌else◌}
+use Rattle.std.proofs.Common.{◌≡◌, ℕ, ◌+◌, ◌<◌, ◌≤◌, ◌==◌, zero, suc, List, [], ◌∷◌, ◌++◌, map, filter, take, drop, refl, ap, sym, ◌∙◌, arith, Option, Some, None, option_map, Bool, true, false, not, nat_lt, nat_le, append-nil, slice_get, slice_index_or, if◌then◌else◌}
 use Rattle.std.proofs.lemmas.Grind.{flat_map-append}
-use Rattle.std.proofs.lemmas.Bool.{ltb-true, leb-true, leb-false, lt-ltb, le-leb, le-ltb, lt-leb}
+use Rattle.std.proofs.lemmas.Bool.{leb-true, leb-false, lt-ltb, le-leb, le-ltb, lt-leb}
 use Rattle.std.proofs.lemmas.List.{map-append}
-use Rattle.std.proofs.lemmas.Option.{get_or_from_slice_get, slice_get_within}
+use Rattle.std.proofs.lemmas.Option.{get_or_from_slice_get}
 use Rattle.std.specs.List.{flat_map}
 use Rattle.tb_terms.specs.declared.term.Term.{Term}
 use Rattle.tb_match.specs.declared.bind.Bind.{Bind}
@@ -13,8 +13,8 @@ use Rattle.tb_body.specs.declared.body.Body.{Body}
 use Rattle.tb_algebra.specs.Offers.{Offered, offers}
 use Rattle.tb_core.specs.Buses.{Bus, Proc, atoms_of}
 use Rattle.tb_core.specs.Deeds.{deed_of}
-use Rattle.tb_core.specs.Steps.{Move, Handshake, Finish, Halt, handshake_if, handshake_of, handshakes_with, handshakes, moves_by, moves_of, moves_of_all, moves, moves_while_up, moves_or_halt}
-use Rattle.tb_core.specs.Rows.{first, ready_one, readies, row_at, received_if, reception, receptions, partner_in, partners, founds_by, founds_among, founds_of, founds_from, up_to, founds_in_turn, founds_or_halt, founds_while_up, founds_all, ascend}
+use Rattle.tb_core.specs.Steps.{Move, Handshake, Halt, handshake_if, handshake_of, handshakes_with, handshakes, moves_by, moves_of, moves_of_all, moves, moves_while_up, moves_or_halt}
+use Rattle.tb_core.specs.Rows.{first, ready_one, readies, received_if, reception, receptions, partner_in, partners, founds_by, founds_among, founds_of, founds_from, up_to, founds_in_turn, founds_or_halt, founds_while_up, founds_all, ascend}
 use Rattle.tb_core.specs.Views.{IsRowOf, AreRowsOf, no_proc, no_offer, no_ready, proc_at, ready_at, offer_at, offer_of, own_move, sent_in, move_of}
 use Rattle.tb_core.specs.declared.deed.Deed.{Deed}
 use Rattle.tb_core.specs.declared.deed.Deed.TheVariants as deed

@@ -1,4 +1,7 @@
-ghost use Rattle.std.specs.Prelude.{◌≡◌, ◌<◌, ◌≤◌, [], length, drop, IfOk, IsTrue};
+ghost use Rattle.std.specs.Prelude.{◌≡◌, ◌<◌, ◌≤◌, [], length, drop, option_map, IfOk, IfSome, IsTrue};
+ghost use Rattle.tb_core.specs.Buses.{Bus};
+ghost use Rattle.tb_core.specs.Steps.{moves};
+ghost use Rattle.tb_core.specs.Views.{IsSearchedFor, IsFoundIn, move_of};
 ghost use Rattle.tb_core.specs.Rows.{first, reception, receptions, partner_in, partners, founds_by, founds_of, founds_from, founds_in_turn, founds_all, founds_or_halt, up_to, ascend, row_at};
 
 use crate::deed::Deed;
@@ -160,7 +163,7 @@ fn halt_if(no_ticks: bool) -> Option<Found>
     if no_ticks { Some(Found::Halt) } else { None }
 }
 
-/// What may happen first, of all that may: nothing on a bus that is down.
+/// What may happen first, of all that may; None where nothing may, or the bus is down.
 pub fn first_move(
     alloc: Global,
     rows: &[Row],
@@ -169,7 +172,9 @@ pub fn first_move(
     down: bool,
 ) -> Result<Option<Found>, NoMemory>
     requires { IsTrue (ascend 0 rows.now) }
-    ensures { IfOk result (λ found. found ≡ first (founds_all rows.now last no_ticks down)) }
+    ensures found { IfOk result (λ found. found ≡ first (founds_all rows.now last no_ticks down)) }
+    ensures on_bus { IfOk result (λ found. (bus : Bus) → IsSearchedFor bus rows.now last no_ticks down → option_map (move_of bus.procs rows.now) found ≡ first (moves bus)) }
+    ensures stands { IfOk result (λ found. IfSome found (IsFoundIn rows.now)) }
 {
     if down {
         return Ok(None);

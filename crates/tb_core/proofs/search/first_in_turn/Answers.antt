@@ -1,4 +1,3 @@
-use Rattle.std.proofs.Common.{◌≡◌, ◌∙◌, sym, ap, refl, Some, None}
 use Rattle.tb_core.proofs.TurnLemmas.{turn-found, turn-again}
 use Rattle.tb_core.proofs.search.first_in_turn.Goals as goal
 
