@@ -2,3 +2,4 @@ pub mod PartLemmas
 pub mod TurnLemmas
 pub mod RowLemmas
 pub mod FoundLemmas
+pub mod ReceiverLemmas
