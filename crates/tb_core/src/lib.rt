@@ -5,6 +5,8 @@ mod deed;
 mod log;
 mod row;
 mod search;
+#[cfg(test)]
+mod search_tests;
 mod text;
 
 pub use deed::Deed;
