@@ -7,41 +7,48 @@ use crate::row::{Found, Ready, Row};
 use crate::search::{first_in_turn, first_move};
 use std::alloc::Global;
 use std::test::Fail;
-use tb_match::{Bind, Binds};
+use tb_match::Bind;
 use tb_terms::{Items, NoMemory, Pattern, Sort, Term, Terms};
 
 fn one(alloc: Global, number: i64) -> Result<Terms, NoMemory> {
     Ok(Items::from_vec(vec![in alloc; Term::Int(number)]?))
 }
 
-fn sends(alloc: Global, number: i64) -> Result<Deed, NoMemory> {
-    Ok(Deed::Send(one(alloc, number)?))
+/// What an atom is to be ready for.
+#[derive(Clone, Copy)]
+enum Wish {
+    Tau,
+    Sends(i64),
+    Wants(i64),
+    /// Any number, for the variable with this slot.
+    Takes(u32),
+    Sets(u32, i64),
 }
 
-fn wants(alloc: Global, number: i64) -> Result<Deed, NoMemory> {
-    let fixed = Pattern::Fixed(Term::Int(number));
-    Ok(Deed::Receive(Items::from_vec(vec![in alloc; fixed]?)))
+fn wanted(alloc: Global, pattern: Pattern) -> Result<Deed, NoMemory> {
+    Ok(Deed::Receive(Items::from_vec(vec![in alloc; pattern]?)))
 }
 
-fn takes_any(alloc: Global, slot: u32) -> Result<Deed, NoMemory> {
-    let variable = Pattern::Result(slot, Sort::Int);
-    Ok(Deed::Receive(Items::from_vec(vec![in alloc; variable]?)))
-}
-
-fn sets(alloc: Global, slot: u32, number: i64) -> Result<Deed, NoMemory> {
+fn set(alloc: Global, slot: u32, number: i64) -> Result<Deed, NoMemory> {
     let value = Term::Int(number);
     let binds = Items::from_vec(vec![in alloc; Bind { slot, value }]?);
     Ok(Deed::Own(LabelKind::Set, one(alloc, number)?, binds))
 }
 
-fn tau(alloc: Global) -> Deed {
-    Deed::Own(LabelKind::Tau, Items::new(alloc), Items::new(alloc))
+fn deed(alloc: Global, wish: Wish) -> Result<Deed, NoMemory> {
+    match wish {
+        Wish::Tau => Ok(Deed::Own(LabelKind::Tau, Items::new(alloc), Items::new(alloc))),
+        Wish::Sends(number) => Ok(Deed::Send(one(alloc, number)?)),
+        Wish::Wants(number) => wanted(alloc, Pattern::Fixed(Term::Int(number))),
+        Wish::Takes(slot) => wanted(alloc, Pattern::Result(slot, Sort::Int)),
+        Wish::Sets(slot, number) => set(alloc, slot, number),
+    }
 }
 
-/// A process with these deeds, each of the atom with its place.
-fn row(alloc: Global, number: u32, deeds: Vec<Deed>) -> Result<Row, NoMemory> {
+fn row(alloc: Global, number: u32, wishes: &[Wish]) -> Result<Row, NoMemory> {
     let mut ready = Items::new(alloc);
-    for (at, deed) in deeds.into_iter().enumerate() {
+    for (at, wish) in wishes.iter().enumerate() {
+        let deed = deed(alloc, *wish)?;
         ready.push(Ready { at, atom: 1, deed })?;
     }
     Ok(Row {
@@ -51,12 +58,13 @@ fn row(alloc: Global, number: u32, deeds: Vec<Deed>) -> Result<Row, NoMemory> {
     })
 }
 
-fn idle(alloc: Global, number: u32) -> Result<Row, NoMemory> {
-    row(alloc, number, Vec::new(alloc))
-}
-
-fn single(alloc: Global, number: u32, deed: Deed) -> Result<Row, NoMemory> {
-    row(alloc, number, vec![in alloc; deed]?)
+/// Processes by their numbers, and what each is ready for.
+fn rows(alloc: Global, plan: &[(u32, &[Wish])]) -> Result<Vec<Row>, NoMemory> {
+    let mut rows = Vec::new(alloc);
+    for (number, wishes) in plan {
+        rows.push(row(alloc, *number, wishes)?)?;
+    }
+    Ok(rows)
 }
 
 fn ascends(rows: &[Row]) -> bool
@@ -104,117 +112,120 @@ fn handshake(found: &Option<Found>) -> Option<(usize, usize, usize, usize)> {
     }
 }
 
-fn numbers(alloc: Global, binds: &Binds) -> Result<Vec<(u32, i64)>, NoMemory> {
+/// The slots that a handshake binds, and their numbers.
+fn numbers(alloc: Global, found: &Option<Found>) -> Result<Vec<(u32, i64)>, NoMemory> {
     let mut numbers = Vec::new(alloc);
-    for bind in binds.as_slice() {
-        if let Term::Int(number) = &bind.value {
-            numbers.push((bind.slot, *number))?;
+    if let Some(Found::Handshake(_, _, partner)) = found {
+        for bind in partner.received.binds.as_slice() {
+            if let Term::Int(number) = &bind.value {
+                numbers.push((bind.slot, *number))?;
+            }
         }
     }
     Ok(numbers)
 }
 
+static TAUS: [(u32, &[Wish]); 4] = [
+    (1, &[Wish::Tau]),
+    (2, &[]),
+    (5, &[Wish::Tau]),
+    (6, &[Wish::Tau]),
+];
+
+/// The number of the last starter, and the place of the process that goes on then.
+static TURNS: [(u32, usize); 7] = [(0, 0), (1, 2), (2, 2), (3, 2), (5, 3), (6, 0), (9, 0)];
+
 #[test]
 fn those_after_the_last_starter_are_asked_first(rt: HostRuntime) -> Result<(), Fail> {
-    let alloc = rt.alloc();
-    let rows = vec![in alloc;
-        single(alloc, 1, tau(alloc))?,
-        idle(alloc, 2)?,
-        single(alloc, 5, tau(alloc))?,
-        single(alloc, 6, tau(alloc))?,
-    ]?;
-    // The number of the last starter, and the place of the process that goes on.
-    let table = [(0, 0), (1, 2), (2, 2), (3, 2), (5, 3), (6, 0), (9, 0)];
-    for (last, at) in &table {
-        let found = asked(alloc, &rows, *last)?;
+    let rows = rows(rt.alloc(), &TAUS)?;
+    for (last, at) in &TURNS {
+        let found = asked(rt.alloc(), &rows, *last)?;
         assert_eq!(rt; own(&found), Some((*at, 0)));
     }
     Ok(())
 }
 
+static ALONE: [(u32, &[Wish]); 1] = [(1, &[Wish::Sends(5), Wish::Wants(5)])];
+
 #[test]
 fn a_process_shakes_no_hands_with_itself(rt: HostRuntime) -> Result<(), Fail> {
-    let alloc = rt.alloc();
-    let deeds = vec![in alloc; sends(alloc, 5)?, wants(alloc, 5)?]?;
-    let rows = vec![in alloc; row(alloc, 1, deeds)?]?;
-    assert!(rt; asked(alloc, &rows, 0)?.is_none());
-    assert!(rt; moved(alloc, &rows, false, false)?.is_none());
-    assert!(rt; matches!(moved(alloc, &rows, true, false)?, Some(Found::Halt)));
-    assert!(rt; moved(alloc, &rows, true, true)?.is_none());
+    let rows = rows(rt.alloc(), &ALONE)?;
+    assert!(rt; asked(rt.alloc(), &rows, 0)?.is_none());
+    Ok(())
+}
+
+#[test]
+fn a_bus_halts_where_nothing_happens_and_no_ticks_come(rt: HostRuntime) -> Result<(), Fail> {
+    let rows = rows(rt.alloc(), &ALONE)?;
+    assert!(rt; moved(rt.alloc(), &rows, false, false)?.is_none());
+    assert!(rt; matches!(moved(rt.alloc(), &rows, true, false)?, Some(Found::Halt)));
+    assert!(rt; moved(rt.alloc(), &rows, true, true)?.is_none());
     Ok(())
 }
 
 #[test]
 fn a_bus_without_processes_finishes_once(rt: HostRuntime) -> Result<(), Fail> {
-    let alloc = rt.alloc();
-    let none = Vec::new(alloc);
-    assert!(rt; matches!(moved(alloc, &none, false, false)?, Some(Found::Finish)));
-    assert!(rt; moved(alloc, &none, false, true)?.is_none());
-    assert!(rt; asked(alloc, &none, 0)?.is_none());
+    let none = Vec::new(rt.alloc());
+    assert!(rt; matches!(moved(rt.alloc(), &none, false, false)?, Some(Found::Finish)));
+    assert!(rt; moved(rt.alloc(), &none, false, true)?.is_none());
     Ok(())
 }
 
+static RIVALS: [(u32, &[Wish]); 3] = [
+    (1, &[Wish::Wants(5)]),
+    (2, &[Wish::Sends(5)]),
+    (3, &[Wish::Wants(5)]),
+];
+
 #[test]
 fn the_first_receiver_by_number_is_taken(rt: HostRuntime) -> Result<(), Fail> {
-    let alloc = rt.alloc();
-    let rows = vec![in alloc;
-        single(alloc, 1, wants(alloc, 5)?)?,
-        single(alloc, 2, sends(alloc, 5)?)?,
-        single(alloc, 3, wants(alloc, 5)?)?,
-    ]?;
+    let rows = rows(rt.alloc(), &RIVALS)?;
     for last in 0..4 {
-        let found = asked(alloc, &rows, last)?;
+        let found = asked(rt.alloc(), &rows, last)?;
         assert_eq!(rt; handshake(&found), Some((1, 0, 0, 0)));
     }
     Ok(())
 }
 
+static LONELY: [(u32, &[Wish]); 6] = [
+    (1, &[Wish::Sends(9)]),
+    (2, &[Wish::Sends(8)]),
+    (3, &[Wish::Wants(7)]),
+    (4, &[Wish::Sends(6), Wish::Sends(5)]),
+    (5, &[]),
+    (6, &[Wish::Wants(5)]),
+];
+
 #[test]
 fn a_sender_without_a_partner_is_passed(rt: HostRuntime) -> Result<(), Fail> {
-    let alloc = rt.alloc();
-    let rows = vec![in alloc;
-        single(alloc, 1, sends(alloc, 9)?)?,
-        single(alloc, 2, sends(alloc, 8)?)?,
-        single(alloc, 3, wants(alloc, 7)?)?,
-        row(
-            alloc,
-            4,
-            vec![in alloc; sends(alloc, 6)?, sends(alloc, 5)?]?
-        )?,
-        idle(alloc, 5)?,
-        single(alloc, 6, wants(alloc, 5)?)?,
-    ]?;
+    let rows = rows(rt.alloc(), &LONELY)?;
     for last in 0..7 {
-        let found = asked(alloc, &rows, last)?;
+        let found = asked(rt.alloc(), &rows, last)?;
         assert_eq!(rt; handshake(&found), Some((3, 1, 5, 0)));
     }
     Ok(())
 }
 
+static CHOICE: [(u32, &[Wish]); 2] = [
+    (1, &[Wish::Sends(5)]),
+    (2, &[Wish::Wants(7), Wish::Takes(3), Wish::Takes(4)]),
+];
+
 #[test]
 fn the_first_deed_that_matches_receives(rt: HostRuntime) -> Result<(), Fail> {
-    let alloc = rt.alloc();
-    let deeds = vec![in alloc;
-        wants(alloc, 7)?,
-        takes_any(alloc, 3)?,
-        takes_any(alloc, 4)?,
-    ]?;
-    let rows = vec![in alloc; single(alloc, 1, sends(alloc, 5)?)?, row(alloc, 2, deeds)?]?;
-    let found = asked(alloc, &rows, 0)?;
+    let rows = rows(rt.alloc(), &CHOICE)?;
+    let found = asked(rt.alloc(), &rows, 0)?;
     assert_eq!(rt; handshake(&found), Some((0, 0, 1, 1)));
-    if let Some(Found::Handshake(_, _, partner)) = &found {
-        let binds = numbers(alloc, &partner.received.binds)?;
-        assert_eq!(rt; binds.as_slice(), [(3, 5)].as_slice());
-    }
+    let binds = numbers(rt.alloc(), &found)?;
+    assert_eq!(rt; binds.as_slice(), [(3, 5)].as_slice());
     Ok(())
 }
 
+static SETTING: [(u32, &[Wish]); 1] = [(3, &[Wish::Takes(1), Wish::Sets(2, 4)])];
+
 #[test]
 fn what_is_set_happens_where_nobody_sends(rt: HostRuntime) -> Result<(), Fail> {
-    let alloc = rt.alloc();
-    let deeds = vec![in alloc; takes_any(alloc, 1)?, sets(alloc, 2, 4)?]?;
-    let rows = vec![in alloc; row(alloc, 3, deeds)?]?;
-    assert_eq!(rt; own(&asked(alloc, &rows, 0)?), Some((0, 1)));
-    assert_eq!(rt; own(&moved(alloc, &rows, true, false)?), Some((0, 1)));
+    let rows = rows(rt.alloc(), &SETTING)?;
+    assert_eq!(rt; own(&asked(rt.alloc(), &rows, 0)?), Some((0, 1)));
     Ok(())
 }
