@@ -4,3 +4,5 @@ pub mod Steps
 pub mod LogText
 pub mod Rows
 pub mod Views
+pub mod Lives
+pub mod LiveBuses

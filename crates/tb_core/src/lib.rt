@@ -1,7 +1,9 @@
 //! The bus: processes, their steps, the log of what happened, and the simulation of a script.
 #![tactic(auto)]
 
+mod bus;
 mod deed;
+mod deeds;
 mod log;
 mod row;
 mod search;
