@@ -5,6 +5,6 @@ mod laws;
 mod offer;
 mod walker;
 
-pub use laws::accepted_binds_are_taken;
+pub use laws::{accepted_binds_are_taken, offers_keep_sorts};
 pub use offer::Offer;
 pub use walker::Walker;
