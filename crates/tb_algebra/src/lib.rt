@@ -1,8 +1,10 @@
 //! The algebra of processes: terms, what they may do next, and how they go on.
 #![tactic(auto)]
 
+mod laws;
 mod offer;
 mod walker;
 
+pub use laws::{accepted_binds_are_taken, offers_keep_sorts};
 pub use offer::Offer;
 pub use walker::Walker;

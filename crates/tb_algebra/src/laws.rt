@@ -1,0 +1,34 @@
+//! What holds of process terms, their offers and their stores. The calls change nothing: their
+//! contracts are the laws.
+
+ghost use Rattle.std.specs.Prelude.{◌≡◌, ℕ, List, Some, IsTrue, Contains};
+ghost use Rattle.tb_terms.specs.declared.term.Term.{Term};
+ghost use Rattle.tb_terms.specs.declared.expr.Expr.{Expr};
+ghost use Rattle.tb_func.specs.declared.slot.Slot.{Slot};
+ghost use Rattle.tb_func.specs.Stores.{are_sorted};
+ghost use Rattle.tb_match.specs.declared.bind.Bind.{Bind};
+ghost use Rattle.tb_algebra.specs.Binds.{takes_binds};
+ghost use Rattle.tb_algebra.specs.Atoms.{accepted};
+ghost use Rattle.tb_algebra.specs.Processes.{Process};
+ghost use Rattle.tb_algebra.specs.Offers.{Offered, offers};
+ghost use Rattle.tb_algebra.specs.Walks.{fired, sorts_of};
+
+/// What an atom binds where it is given terms, its store takes: each slot is there, and its value has
+/// the slot's sort.
+pub fn accepted_binds_are_taken()
+    ensures { (store : List Slot) (exprs : List Expr) (terms : List Term) (binds : List Bind) →
+        accepted store exprs terms ≡ Some binds → IsTrue (takes_binds store binds) }
+{}
+
+/// An offer stands in a store with the sorts of the process's store, and so does what is left where
+/// the offer is taken. Where the values had their slots' sorts, they still do.
+pub fn offers_keep_sorts()
+    ensures sorts { (term : Process) (store : List Slot) (offered : Offered) → Contains (offers term store) offered
+        → sorts_of offered.store ≡ sorts_of store }
+    ensures values { (term : Process) (store : List Slot) (offered : Offered) → Contains (offers term store) offered
+        → IsTrue (are_sorted store) → IsTrue (are_sorted offered.store) }
+    ensures fired_sorts { (binds : List Bind) (ticks : ℕ) (offered : Offered)
+        → sorts_of (fired binds ticks offered).store ≡ sorts_of offered.store }
+    ensures fired_values { (binds : List Bind) (ticks : ℕ) (offered : Offered) → IsTrue (takes_binds offered.store binds)
+        → IsTrue (are_sorted offered.store) → IsTrue (are_sorted (fired binds ticks offered).store) }
+{}
