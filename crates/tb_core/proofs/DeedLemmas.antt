@@ -1,7 +1,8 @@
 -- How the offers that were seen give what is ready.
-use Rattle.std.proofs.Common.{◌≡◌, ℕ, ◌+◌, ◌<◌, ◌≤◌, List, [], ◌∷◌, ◌++◌, map, length, take, refl, ap, sym, ◌∙◌, arith, Option, Some, None, slice_get, option_map, zero, suc, append-nil, append_assoc}
+use Rattle.std.proofs.Common.{◌≡◌, ℕ, ◌+◌, ◌<◌, ◌≤◌, List, [], ◌∷◌, ◌++◌, map, length, take, refl, ap, sym, ◌∙◌, arith, Option, Some, None, slice_get, option_map, zero, suc, append-nil, append_assoc, get_or}
 use Rattle.std.specs.Option.{ForSome}
 use Rattle.std.proofs.lemmas.Option.{slice_get-map}
+use Rattle.std.proofs.lemmas.List.{take_more, take_all, length-take-le}
 use Rattle.tb_body.specs.declared.atom.Atom.{Atom}
 use Rattle.tb_algebra.specs.declared.offer.Offer.{Offer}
 use Rattle.tb_algebra.specs.Offers.{Offered}
@@ -36,3 +37,16 @@ ready-some at atom offered deed found e f = ap (λ (n : ℕ). let r : Ready = re
 
 pub ready-none : (at : ℕ) (offered : Offered) (found : Option Deed) → found ≡ None → ready_one at offered found ≡ []
 ready-none at offered found f = ap (ready_one at offered) f
+
+-- what is ready of the offers up to a place, and of the one there
+pub readies-step : (atoms : List Atom) (now at : ℕ) (offers : List Offered) (d : Offered) → at < length offers →
+    readies atoms now 0 (take (at + 1) offers) ≡ readies atoms now 0 (take at offers) ++ ready_one at (get_or offers at d) (deed_of atoms now (get_or offers at d))
+readies-step atoms now at offers d within =
+    let long = length-take-le at offers (omega arith) in
+    let many : 0 + length (take at offers) ≡ at = omega arith in
+    ap (readies atoms now 0) (take_more offers at d within) ∙ readies-more atoms now 0 (take at offers) (get_or offers at d)
+    ∙ ap (λ n. readies atoms now 0 (take at offers) ++ ready_one n (get_or offers at d) (deed_of atoms now (get_or offers at d))) many
+
+-- all of them
+pub readies-whole : (atoms : List Atom) (now : ℕ) (offers : List Offered) (n : ℕ) → n ≡ length offers → readies atoms now 0 (take n offers) ≡ readies atoms now 0 offers
+readies-whole atoms now offers n e = ap (readies atoms now 0) (take_all n offers (omega arith))

@@ -4,7 +4,9 @@
 mod bus;
 mod deed;
 mod deeds;
+mod going;
 mod log;
+mod next;
 mod row;
 mod search;
 mod text;
