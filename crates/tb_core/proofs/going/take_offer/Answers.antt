@@ -30,16 +30,16 @@ returns g c offered here =
     let on = g.W.Walker.IsOn c.args.plan.now in
     let goes = fired-at walking c.in_ok-next.next c.args.walker.now c.args.at c.in_ok-copy_binds.field-0 c.args.binds.now (walking c.fire.new.self) offered c.in_ok-next.ensures c.in_ok-copy_binds.ensures c.in_ok-fire.ensures.goes here in
     let sorts : sorts_of (walking c.fire.new.self).store ≡ c.args.body.now.sorts =
-        ap (λ (v : Walking). sorts_of v.store) goes
-        ∙ (fired-keeps (walking c.args.walker.now) c.args.at offered c.args.binds.now here (c.requires.sorted offered here)).sorts
-        ∙ c.requires.live.live.sorts ∙ ap (λ (b : Body). b.sorts) c.requires.body in
-    let alive = sym (c.is_done.ensures c.args.plan.now c.fire.ensures.on) ∙ c.if-is_done.false in
-    (
-      refl, refl,
+    ap (λ (v : Walking). sorts_of v.store) goes
+    ∙ (fired-keeps (walking c.args.walker.now) c.args.at offered c.args.binds.now here (c.requires.sorted offered here)).sorts
+    ∙ c.requires.live.live.sorts ∙ ap (λ (b : Body). b.sorts) c.requires.body in
+    let alive = sym (c.is_done.ensures c.args.plan.now c.fire.ensures.on) ∙ c.if-is_done.false in (
+      refl,
+      refl,
       record {
         is_on = subst on (sym c.in_ok-walker.ensures) c.look.ensures.on;
         live = live-next walking g.W.Walker.seen c.args.body.now (g.W.Walker.body_of c.args.plan.now) c.args.now (record { number = c.args.row.now.number; body = c.args.row.now.body; ready = c.in_ok-ready.ready })
             c.in_ok-walker.walker c.look.new.walker c.fire.new.self c.in_ok-walker.ensures c.look.ensures.stays c.requires.body c.in_ok-ready.ensures.looked c.in_ok-ready.ensures.ready alive sorts;
       },
-      ap walking c.in_ok-walker.ensures ∙ c.look.ensures.stays ∙ goes
+      ap walking c.in_ok-walker.ensures ∙ c.look.ensures.stays ∙ goes,
     )
