@@ -1,2 +1,6 @@
 pub mod DeedLemmas
 pub mod NextLemmas
+pub mod PartLemmas
+pub mod TurnLemmas
+pub mod RowLemmas
+pub mod FoundLemmas

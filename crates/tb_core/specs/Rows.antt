@@ -1,5 +1,5 @@
 -- What the code's search goes through: for each process its deeds, by places alone.
-use Rattle.std.specs.Prelude.{ℕ, ◌+◌, ◌&&◌, ◌==◌, nat_lt, nat_le, List, [], ◌∷◌, ◌++◌, map, filter, take, drop, Bool, true, if◌then◌else◌, Option, Some, None, slice_index_or}
+use Rattle.std.specs.Prelude.{ℕ, ◌+◌, ◌&&◌, ◌==◌, nat_lt, nat_le, List, [], ◌∷◌, ◌++◌, map, take, drop, Bool, true, if◌then◌else◌, Option, Some, None, slice_index_or}
 use Rattle.tb_terms.specs.declared.term.Term.{Term}
 use Rattle.tb_match.specs.declared.bind.Bind.{Bind}
 use Rattle.tb_match.specs.Matches.{match_list}
@@ -69,7 +69,7 @@ abbrev pub founds_among : List Row → ℕ → ℕ → ℕ → List Ready → Li
 founds_among rows at number place [] = []
 founds_among rows at number place (ready ∷ others) = founds_by rows at number place ready.deed ++ founds_among rows at number (place + 1) others
 
-unfoldable pub founds_of : List Row → ℕ → Row → List Found
+abbrev pub founds_of : List Row → ℕ → Row → List Found
 founds_of rows at row = founds_among rows at row.number 0 row.ready
 
 -- what these processes lead to, the first of them at a place among all rows
@@ -85,6 +85,20 @@ up_to last (row ∷ rows) = if nat_le row.number last then 1 + up_to last rows e
 -- asked in turn: those after the last starter, and then the others
 unfoldable pub founds_in_turn : List Row → ℕ → List Found
 founds_in_turn rows last = founds_from rows (up_to last rows) (drop (up_to last rows) rows) ++ founds_from rows 0 (take (up_to last rows) rows)
+
+-- where the processes can do nothing, the bus halts once no more ticks come
+abbrev pub founds_or_halt : Bool → List Found → List Found
+founds_or_halt no_ticks [] = if no_ticks then found.Halt ∷ [] else []
+founds_or_halt no_ticks (found ∷ founds) = found ∷ founds
+
+-- where no process is left, it finishes
+abbrev pub founds_while_up : List Row → ℕ → Bool → List Row → List Found
+founds_while_up rows last no_ticks [] = found.Finish ∷ []
+founds_while_up rows last no_ticks (row ∷ others) = founds_or_halt no_ticks (founds_in_turn rows last)
+
+-- all that may happen next; nothing where the bus is down
+unfoldable pub founds_all : List Row → ℕ → Bool → Bool → List Found
+founds_all rows last no_ticks down = if down then [] else founds_while_up rows last no_ticks rows
 
 -- the numbers ascend, from above this one on
 abbrev pub ascend : ℕ → List Row → Bool

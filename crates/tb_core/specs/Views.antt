@@ -1,10 +1,10 @@
 -- How the code's rows stand for the processes of a bus, and which move a search found.
-use Rattle.std.specs.Prelude.{◌≡◌, ℕ, ◌<◌, ◌≢◌, List, [], ◌∷◌, length, Option, Some, None, slice_index_or, ⊤}
+use Rattle.std.specs.Prelude.{◌≡◌, ℕ, ◌<◌, ◌≢◌, List, [], ◌∷◌, length, Some, None, slice_index_or, Bool, ⊤}
 use Rattle.tb_terms.specs.declared.term.Term.{Term}
 use Rattle.tb_match.specs.declared.bind.Bind.{Bind}
 use Rattle.tb_match.specs.Matches.{match_list}
 use Rattle.tb_body.specs.declared.body.Body.{Body}
-use Rattle.tb_algebra.specs.Processes.{Process, At}
+use Rattle.tb_algebra.specs.Processes.{At}
 use Rattle.tb_algebra.specs.Offers.{Offered, offers}
 use Rattle.tb_core.specs.Buses.{Bus, Proc, atoms_of}
 use Rattle.tb_core.specs.Steps.{Move, Own, Handshake, Finish, Halt}
@@ -90,3 +90,10 @@ IsFoundIn rows (found.Handshake at place partner) =
     × Receives (sent_in (ready_at rows at place).deed) (ready_at rows partner.row partner.received.ready).deed partner.received.binds
 IsFoundIn rows found.Finish = ⊤
 IsFoundIn rows found.Halt = ⊤
+
+-- These rows are searched for the moves of a bus, with what the bus says of last starter, ticks and end.
+pub record IsSearchedFor (bus : Bus) (rows : List Row) (last : ℕ) (no_ticks down : Bool) : Type 0 where
+  pub rows_are : AreRowsOf bus.program.bodies bus.now rows bus.procs
+  pub last_is : bus.last_starter ≡ last
+  pub no_ticks_is : bus.no_ticks ≡ no_ticks
+  pub down_is : bus.down ≡ down

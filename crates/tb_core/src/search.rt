@@ -1,7 +1,8 @@
-ghost use Rattle.std.specs.Prelude.{◌≡◌, ℕ, ◌+◌, ◌<◌, ◌≤◌, length, [], IfOk, IfSome, map, drop, Some, None, true, false, nat_le, IsTrue};
-ghost use Rattle.std.specs.Option.{option_map};
-ghost use Rattle.std.specs.List.Sorted.{IsPartitionPoint};
-ghost use Rattle.tb_core.specs.Rows.{first, reception, receptions, partner_in, partners, founds_by, founds_of, founds_from, founds_in_turn, ascend, row_at};
+ghost use Rattle.std.specs.Prelude.{◌≡◌, ◌<◌, ◌≤◌, [], length, drop, option_map, IfOk, IfSome, IsTrue};
+ghost use Rattle.tb_core.specs.Buses.{Bus};
+ghost use Rattle.tb_core.specs.Steps.{moves};
+ghost use Rattle.tb_core.specs.Views.{IsSearchedFor, IsFoundIn, move_of};
+ghost use Rattle.tb_core.specs.Rows.{first, reception, receptions, partner_in, partners, founds_by, founds_of, founds_from, founds_in_turn, founds_all, founds_or_halt, up_to, ascend, row_at};
 
 use crate::deed::Deed;
 use crate::row::{Found, Partner, Ready, Received, Row};
@@ -138,7 +139,7 @@ fn first_from(alloc: Global, rows: &[Row], start: usize) -> Result<Option<Found>
 fn turn_start(rows: &[Row], last: u32) -> usize
     requires { IsTrue (ascend 0 rows.now) }
     ensures within { result ≤ length rows.now }
-    ensures point { IsPartitionPoint (λ row. nat_le row.number last ≡ true) (λ row. nat_le row.number last ≡ false) rows.now result }
+    ensures count { result ≡ up_to last rows.now }
 {
     rows.partition_point(|row| row.number <= last)
 }
@@ -152,5 +153,37 @@ pub fn first_in_turn(alloc: Global, rows: &[Row], last: u32) -> Result<Option<Fo
     match first_from(alloc, rows, start)? {
         Some(found) => Ok(Some(found)),
         None => first_from(alloc, rows, 0),
+    }
+}
+
+/// What happens first where the processes can do nothing.
+fn halt_if(no_ticks: bool) -> Option<Found>
+    ensures { result ≡ first (founds_or_halt no_ticks []) }
+{
+    if no_ticks { Some(Found::Halt) } else { None }
+}
+
+/// What may happen first, of all that may; None where nothing may, or the bus is down.
+pub fn first_move(
+    alloc: Global,
+    rows: &[Row],
+    last: u32,
+    no_ticks: bool,
+    down: bool,
+) -> Result<Option<Found>, NoMemory>
+    requires { IsTrue (ascend 0 rows.now) }
+    ensures found { IfOk result (λ found. found ≡ first (founds_all rows.now last no_ticks down)) }
+    ensures on_bus { IfOk result (λ found. (bus : Bus) → IsSearchedFor bus rows.now last no_ticks down → option_map (move_of bus.procs rows.now) found ≡ first (moves bus)) }
+    ensures stands { IfOk result (λ found. IfSome found (IsFoundIn rows.now)) }
+{
+    if down {
+        return Ok(None);
+    }
+    if rows.is_empty() {
+        return Ok(Some(Found::Finish));
+    }
+    match first_in_turn(alloc, rows, last)? {
+        Some(found) => Ok(Some(found)),
+        None => Ok(halt_if(no_ticks)),
     }
 }
