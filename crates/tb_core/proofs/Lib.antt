@@ -4,3 +4,5 @@ pub mod PartLemmas
 pub mod TurnLemmas
 pub mod RowLemmas
 pub mod FoundLemmas
+pub mod SoundLemmas
+pub mod ReadLemmas
