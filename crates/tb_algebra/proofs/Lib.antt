@@ -1,2 +1,4 @@
+pub mod Ages
+pub mod Offering
 pub mod Sorts
 pub mod Taken

@@ -1,16 +1,18 @@
 //! What holds of process terms, their offers and their stores. The calls change nothing: their
 //! contracts are the laws.
 
-ghost use Rattle.std.specs.Prelude.{◌≡◌, ℕ, List, Some, IsTrue, Contains};
+ghost use Rattle.std.specs.Prelude.{◌≡◌, ◌≤◌, ℕ, List, Some, IsTrue, Contains};
 ghost use Rattle.tb_terms.specs.declared.term.Term.{Term};
 ghost use Rattle.tb_terms.specs.declared.expr.Expr.{Expr};
 ghost use Rattle.tb_func.specs.declared.slot.Slot.{Slot};
 ghost use Rattle.tb_func.specs.Stores.{are_sorted};
+ghost use Rattle.tb_body.specs.declared.tree.Tree.{Tree};
 ghost use Rattle.tb_match.specs.declared.bind.Bind.{Bind};
 ghost use Rattle.tb_algebra.specs.Binds.{takes_binds};
 ghost use Rattle.tb_algebra.specs.Atoms.{accepted};
 ghost use Rattle.tb_algebra.specs.Processes.{Process};
 ghost use Rattle.tb_algebra.specs.Offers.{Offered, offers};
+ghost use Rattle.tb_algebra.specs.Reached.{Reaches, IsAgedUpTo};
 ghost use Rattle.tb_algebra.specs.Walks.{fired, sorts_of};
 
 /// What an atom binds where it is given terms, its store takes: each slot is there, and its value has
@@ -31,4 +33,11 @@ pub fn offers_keep_sorts()
         → sorts_of (fired binds ticks offered).store ≡ sorts_of offered.store }
     ensures fired_values { (binds : List Bind) (ticks : ℕ) (offered : Offered) → IsTrue (takes_binds offered.store binds)
         → IsTrue (are_sorted offered.store) → IsTrue (are_sorted (fired binds ticks offered).store) }
+{}
+
+/// In a term that a body reaches, and so in its offers, no age is greater than the number of ticks.
+pub fn ages_are_within_the_ticks()
+    ensures term { (tree : Tree) (ticks : ℕ) (term : Process) → Reaches tree ticks term → IsAgedUpTo ticks term }
+    ensures offers { (tree : Tree) (ticks : ℕ) (term : Process) (store : List Slot) (offered : Offered) → Reaches tree ticks term
+        → Contains (offers term store) offered → offered.age ≤ ticks }
 {}
