@@ -106,7 +106,7 @@ offers-up_to ticks (Let settings x) store h = after-all (OfferUpTo ticks) (with_
   let-up_to None k = tt
   let-up_to (Some s) k = k s
 
-left-is : (P : Process → Type 0) (o : Option Process) (left : Process) → IfSome o P → o ≡ Some left → P left
+pub left-is : (P : Process → Type 0) (o : Option Process) (left : Process) → IfSome o P → o ≡ Some left → P left
 left-is P None left h e = absurd (let t : ◌≡◌ {A = Option Process} None (Some left) = e in cc)
 left-is P (Some x) left h e = let is : x ≡ left = cc in subst P is h
 

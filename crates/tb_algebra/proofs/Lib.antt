@@ -1,4 +1,5 @@
 pub mod Ages
+pub mod Behind
 pub mod Offering
 pub mod Sorts
 pub mod Taken

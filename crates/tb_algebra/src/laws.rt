@@ -12,7 +12,7 @@ ghost use Rattle.tb_algebra.specs.Binds.{takes_binds};
 ghost use Rattle.tb_algebra.specs.Atoms.{accepted};
 ghost use Rattle.tb_algebra.specs.Processes.{Process};
 ghost use Rattle.tb_algebra.specs.Offers.{Offered, offers};
-ghost use Rattle.tb_algebra.specs.Reached.{Reaches, IsAgedUpTo};
+ghost use Rattle.tb_algebra.specs.Reached.{Reaches, IsAgedUpTo, IsNewBehind};
 ghost use Rattle.tb_algebra.specs.Walks.{fired, sorts_of};
 
 /// What an atom binds where it is given terms, its store takes: each slot is there, and its value has
@@ -40,4 +40,9 @@ pub fn ages_are_within_the_ticks()
     ensures term { (tree : Tree) (ticks : ℕ) (term : Process) → Reaches tree ticks term → IsAgedUpTo ticks term }
     ensures offers { (tree : Tree) (ticks : ℕ) (term : Process) (store : List Slot) (offered : Offered) → Reaches tree ticks term
         → Contains (offers term store) offered → offered.age ≤ ticks }
+{}
+
+/// In a term that a body reaches, what stands on the right of a sequence or within a star has not waited yet.
+pub fn ages_behind_are_new()
+    ensures { (tree : Tree) (ticks : ℕ) (term : Process) → Reaches tree ticks term → IsNewBehind term }
 {}

@@ -5,6 +5,8 @@ mod laws;
 mod offer;
 mod walker;
 
-pub use laws::{accepted_binds_are_taken, ages_are_within_the_ticks, offers_keep_sorts};
+pub use laws::{
+    accepted_binds_are_taken, ages_are_within_the_ticks, ages_behind_are_new, offers_keep_sorts,
+};
 pub use offer::Offer;
 pub use walker::Walker;
