@@ -1,4 +1,5 @@
 pub mod Ages
+pub mod Ascending
 pub mod Behind
 pub mod Offering
 pub mod Sorts

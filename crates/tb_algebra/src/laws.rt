@@ -1,11 +1,13 @@
 //! What holds of process terms, their offers and their stores. The calls change nothing: their
 //! contracts are the laws.
 
-ghost use Rattle.std.specs.Prelude.{◌≡◌, ◌≤◌, ℕ, List, Some, IsTrue, Contains};
+ghost use Rattle.std.specs.Prelude.{◌≡◌, ◌≤◌, ℕ, List, Some, IsTrue, Contains, map};
+ghost use Rattle.std.specs.List.Sorted.{IsStrictlyIncreasing};
 ghost use Rattle.tb_terms.specs.declared.term.Term.{Term};
 ghost use Rattle.tb_terms.specs.declared.expr.Expr.{Expr};
 ghost use Rattle.tb_func.specs.declared.slot.Slot.{Slot};
 ghost use Rattle.tb_func.specs.Stores.{are_sorted};
+ghost use Rattle.tb_body.specs.declared.body.Body.{Body};
 ghost use Rattle.tb_body.specs.declared.tree.Tree.{Tree};
 ghost use Rattle.tb_match.specs.declared.bind.Bind.{Bind};
 ghost use Rattle.tb_algebra.specs.Binds.{takes_binds};
@@ -45,4 +47,11 @@ pub fn ages_are_within_the_ticks()
 /// In a term that a body reaches, what stands on the right of a sequence or within a star has not waited yet.
 pub fn ages_behind_are_new()
     ensures { (tree : Tree) (ticks : ℕ) (term : Process) → Reaches tree ticks term → IsNewBehind term }
+{}
+
+/// In every store, the offers of a term that a body reaches ascend by the numbers of their atoms: no two
+/// are of one atom.
+pub fn offers_ascend()
+    ensures { (body : Body) (ticks : ℕ) (term : Process) (store : List Slot) → Reaches body.tree ticks term
+        → IsStrictlyIncreasing (map (λ (offered : Offered). offered.atom) (offers term store)) }
 {}
