@@ -1,5 +1,5 @@
 -- The offers of a term that a body reaches ascend by their atoms.
-use Rattle.std.proofs.Common.{◌≡◌, ℕ, zero, suc, ◌+◌, ◌<◌, ◌≤◌, ◌==◌, Bool, true, false, List, [], ◌∷◌, ◌++◌, map, length, get_or, Option, Some, None, IfSome, refl, sym, subst, arith, add-one, append-nil}
+use Rattle.std.proofs.Common.{◌≡◌, ℕ, zero, suc, ◌+◌, ◌<◌, ◌≤◌, ◌==◌, Bool, true, false, List, [], ◌∷◌, ◌++◌, map, length, get_or, Option, Some, None, IfSome, refl, sym, subst, arith, add-one, append-nil, ◌⊎◌, inl, inr, ap, ◌∙◌, Contains}
 use Rattle.std.specs.Prelude.{⊤}
 use Rattle.std.proofs.lemmas.Bool.{and_from, and_parts, eqb-true}
 use Rattle.std.proofs.lemmas.List.{length-append}
@@ -299,7 +299,12 @@ reached-within hi f (went_on {term = term} {left = left} store offered r c e) =
     left-is (Within 1 hi) offered.residual left (All-contains (LeavesWithin 1 hi) (offers term store) offered (leaves-within 1 hi term store (reached-within hi f r)) c) e
 reached-within hi f (grew_older {term = term} r) = within-aged 1 hi term (reached-within hi f r)
 
-in_order : (tree : Tree) (atoms : List Atom) (sorts : List Sort) (formals : ℕ) → is_body_in_range tree atoms sorts formals ≡ true → ascends_by_one 1 (tree_atoms tree) ≡ true
+-- the atoms of a body's tree are its atoms, in order
+pub record InOrder (tree : Tree) (atoms : List Atom) : Type 0 where
+  pub ascend : ascends_by_one 1 (tree_atoms tree) ≡ true
+  pub many : length (tree_atoms tree) ≡ length atoms
+
+pub in_order : (tree : Tree) (atoms : List Atom) (sorts : List Sort) (formals : ℕ) → is_body_in_range tree atoms sorts formals ≡ true → InOrder tree atoms
 unfolding is_body_in_range
 in_order tree atoms sorts formals h =
     let six = and_parts _ _ h in
@@ -307,11 +312,58 @@ in_order tree atoms sorts formals h =
     let four = and_parts _ _ five.0 in
     let three = and_parts _ _ four.0 in
     let two = and_parts _ _ three.0 in
-    (and_parts _ _ two.0).0
+    let one = and_parts _ _ two.0 in
+    record { ascend = one.0; many = eqb-true (length (tree_atoms tree)) (length atoms) one.1 }
+
+rise-reached : (body : Body) (ticks : ℕ) (term : Process) (store : List Slot) → Reaches body.tree ticks term → Rises 1 (1 + length body.atoms) (offers term store)
+rise-reached body ticks term store r =
+    let range = in_order body.tree body.atoms body.sorts body.formals body.in_range in
+    let hi = 1 + length (tree_atoms body.tree) in
+    let here = reached-within hi (fresh-enters body.tree 1 range.ascend) r in
+    subst (λ (n : ℕ). Rises 1 (1 + n) (offers term store)) range.many (offers-rise 1 hi term store (within-begins 1 hi term here))
 
 pub offers-ascend : (body : Body) (ticks : ℕ) (term : Process) (store : List Slot) → Reaches body.tree ticks term → IsStrictlyIncreasing (map (λ (o : Offered). o.atom) (offers term store))
-offers-ascend body ticks term store r =
-    let hi = 1 + length (tree_atoms body.tree) in
-    let first = fresh-enters body.tree 1 (in_order body.tree body.atoms body.sorts body.formals body.in_range) in
-    let here = reached-within hi first r in
-    rises-increasing 1 hi (offers term store) (offers-rise 1 hi term store (within-begins 1 hi term here))
+offers-ascend body ticks term store r = rises-increasing 1 (1 + length body.atoms) (offers term store) (rise-reached body ticks term store r)
+
+-- so an atom is offered once, and it is one of the body's
+
+contains-cases : (x y : Offered) (xs : List Offered) → Contains (x ∷ xs) y → (x ≡ y) ⊎ Contains xs y
+contains-cases x y xs (zero, l, e) = inl e
+contains-cases x y xs (suc k, l, e) = inr (k, omega arith, e)
+
+within-by : (lo hi : ℕ) (o p : Offered) → (lo ≤ o.atom) × (o.atom < hi) → ((suc o.atom ≤ p.atom) × (p.atom < hi) → (lo ≤ p.atom) × (p.atom < hi)) → (o ≡ p) ⊎ ((suc o.atom ≤ p.atom) × (p.atom < hi)) → (lo ≤ p.atom) × (p.atom < hi)
+within-by lo hi o p h k (inl e) = subst (λ (q : Offered). (lo ≤ q.atom) × (q.atom < hi)) e h
+within-by lo hi o p h k (inr g) = k g
+
+either-by : {A B C : Type 0} → A ⊎ B → (B → C) → A ⊎ C
+either-by (inl a) f = inl a
+either-by (inr b) f = inr (f b)
+
+rises-within : (lo hi : ℕ) (os : List Offered) (p : Offered) → Rises lo hi os → Contains os p → (lo ≤ p.atom) × (p.atom < hi)
+rises-within lo hi [] p h c = let l = c.1 in absurd (omega arith)
+rises-within lo hi (o ∷ os) p h c =
+    within-by lo hi o p (h.0, h.1) (λ g. (omega (arith, h.0, g.0), g.1)) (either-by (contains-cases o p os c) (rises-within (suc o.atom) hi os p h.2))
+
+one-by : (hi : ℕ) (o p q : Offered) (os : List Offered) → Rises (suc o.atom) hi os → (Contains os p → Contains os q → p ≡ q) → p.atom ≡ q.atom → (o ≡ p) ⊎ Contains os p → (o ≡ q) ⊎ Contains os q → p ≡ q
+one-by hi o p q os h rest e (inl f) (inl g) = sym f ∙ g
+one-by hi o p q os h rest e (inl f) (inr d) =
+    let above = (rises-within (suc o.atom) hi os q h d).0 in
+    let same : o.atom ≡ p.atom = ap (λ (x : Offered). x.atom) f in
+    absurd (omega arith)
+one-by hi o p q os h rest e (inr c) (inl g) =
+    let above = (rises-within (suc o.atom) hi os p h c).0 in
+    let same : o.atom ≡ q.atom = ap (λ (x : Offered). x.atom) g in
+    absurd (omega arith)
+one-by hi o p q os h rest e (inr c) (inr d) = rest c d
+
+rises-one : (lo hi : ℕ) (os : List Offered) (p q : Offered) → Rises lo hi os → p.atom ≡ q.atom → Contains os p → Contains os q → p ≡ q
+rises-one lo hi [] p q h e c d = let l = c.1 in absurd (omega arith)
+rises-one lo hi (o ∷ os) p q h e c d = one-by hi o p q os h.2 (rises-one (suc o.atom) hi os p q h.2 e) e (contains-cases o p os c) (contains-cases o q os d)
+
+pub offered-once : (body : Body) (ticks : ℕ) (term : Process) (store : List Slot) (one other : Offered) → Reaches body.tree ticks term → Contains (offers term store) one → Contains (offers term store) other → one.atom ≡ other.atom → one ≡ other
+offered-once body ticks term store one other r c d e = rises-one 1 (1 + length body.atoms) (offers term store) one other (rise-reached body ticks term store r) e c d
+
+pub offered-there : (body : Body) (ticks : ℕ) (term : Process) (store : List Slot) (offered : Offered) → Reaches body.tree ticks term → Contains (offers term store) offered → (1 ≤ offered.atom) × (offered.atom ≤ length body.atoms)
+offered-there body ticks term store offered r c =
+    let p = rises-within 1 (1 + length body.atoms) (offers term store) offered (rise-reached body ticks term store r) c in
+    (p.0, omega (arith, p.1))

@@ -1,9 +1,11 @@
 -- Which terms a body reaches, and after how many ticks; and the ages in a term.
-use Rattle.std.specs.Prelude.{◌≡◌, ◌≤◌, ◌+◌, ℕ, List, Some, Contains, ⊤}
+use Rattle.std.specs.Prelude.{◌≡◌, ◌≤◌, ◌+◌, ℕ, List, Some, IfSome, Contains, ⊤}
 use Rattle.tb_func.specs.declared.slot.Slot.{Slot}
+use Rattle.tb_body.specs.declared.body.Body.{Body}
 use Rattle.tb_body.specs.declared.tree.Tree.{Tree}
 use Rattle.tb_algebra.specs.Processes.{Process, At, Seq, Alt, Star, Par, If, When, Let, fresh, aged}
 use Rattle.tb_algebra.specs.Offers.{Offered, offers}
+use Rattle.tb_algebra.specs.Walks.{Walking}
 
 -- a tree reaches the term after so many ticks
 pub data Reaches (tree : Tree) : ℕ → Process → Type 0 where
@@ -13,6 +15,10 @@ pub data Reaches (tree : Tree) : ℕ → Process → Type 0 where
   went_on : {ticks : ℕ} {term left : Process} (store : List Slot) (offered : Offered) → Reaches tree ticks term → Contains (offers term store) offered → offered.residual ≡ Some left → Reaches tree ticks left
   -- by a tick
   grew_older : {ticks : ℕ} {term : Process} → Reaches tree ticks term → Reaches tree (ticks + 1) (aged term)
+
+-- a process on its way is where its body may have led it
+abbrev pub IsReached : Body → Walking → Type 0
+IsReached body walking = IfSome walking.term (Reaches body.tree walking.ticks)
 
 -- no atom of the term has waited longer
 abbrev pub IsAgedUpTo : ℕ → Process → Type 0
