@@ -4,5 +4,6 @@ pub mod Ascending
 pub mod Behind
 pub mod Going
 pub mod Offering
+pub mod Rows
 pub mod Sorts
 pub mod Taken
