@@ -1,5 +1,5 @@
 -- Binds, settings and offers keep the sorts of a store; and where its values have their sorts, they still do.
-use Rattle.std.proofs.Common.{◌≡◌, ℕ, zero, suc, Bool, true, false, ◌&&◌, List, [], ◌∷◌, map, Option, Some, None, IfSome, option_map, if◌then◌else◌, refl, ap, ◌∙◌, slice_get, Contains}
+use Rattle.std.proofs.Common.{◌≡◌, ℕ, zero, suc, Bool, true, false, ◌&&◌, List, [], ◌∷◌, map, Option, Some, None, IfSome, option_map, if◌then◌else◌, refl, ap, sym, ◌∙◌, slice_get, Contains}
 use Rattle.std.proofs.lemmas.Bool.{and_from, and_parts}
 use Rattle.std.proofs.lemmas.List.Elements.{All-nil, All-cons, All-append, All-weaker, All-map, All-contains}
 use Rattle.std.specs.List.{All}
@@ -8,7 +8,7 @@ use Rattle.tb_terms.specs.declared.sort.Sort.{Sort}
 use Rattle.tb_terms.specs.Sorts.{has_sort}
 use Rattle.tb_func.specs.declared.slot.Slot.{Slot}
 use Rattle.tb_func.specs.Arguments.{of_both}
-use Rattle.tb_func.specs.Stores.{sort_at, with_value, is_sorted, are_sorted}
+use Rattle.tb_func.specs.Stores.{fresh_slot, sort_at, with_value, is_sorted, are_sorted}
 use Rattle.tb_func.specs.Values.{all_of}
 use Rattle.tb_match.specs.declared.bind.Bind.{Bind}
 use Rattle.tb_body.specs.declared.tree.Setting.{Setting}
@@ -157,3 +157,32 @@ offer_at-keeps walking k offered e = term-keeps walking.term walking.store k off
 pub fired-keeps : (walking : Walking) (k : ℕ) (offered : Offered) (binds : List Bind) → slice_get (offers_of walking) k ≡ Some offered → takes_binds offered.store binds ≡ true → Keeps walking.store (fired binds walking.ticks offered).store
 fired-keeps walking k offered binds e h =
     keeps-both walking.store offered.store (with_binds offered.store binds) (offer_at-keeps walking k offered e) (binds-keep offered.store binds h)
+
+-- what the sorts alone decide
+
+pub sorts-fresh : (sorts : List Sort) → sorts_of (map fresh_slot sorts) ≡ sorts
+sorts-fresh [] = refl
+sorts-fresh (sort ∷ sorts) = ap (λ (rest : List Sort). sort ∷ rest) (sorts-fresh sorts)
+
+pub sort_at-sorts_of : (slots : List Slot) (n : ℕ) → sort_at slots n ≡ slice_get (sorts_of slots) n
+sort_at-sorts_of [] n = refl
+sort_at-sorts_of (slot ∷ slots) zero = refl
+sort_at-sorts_of (slot ∷ slots) (suc n) = sort_at-sorts_of slots n
+
+takes_bind-same_sorts : (one other : List Slot) (bind : Bind) → sorts_of one ≡ sorts_of other → takes_bind one bind ≡ takes_bind other bind
+takes_bind-same_sorts one other bind e =
+    ap (λ (o : Option Sort). has_slot_sort o bind.value) (sort_at-sorts_of one bind.slot ∙ ap (λ (sorts : List Sort). slice_get sorts bind.slot) e ∙ sym (sort_at-sorts_of other bind.slot))
+
+-- stores with the same sorts take the same binds
+pub takes-same_sorts : (one other : List Slot) (binds : List Bind) → sorts_of one ≡ sorts_of other → takes_binds one binds ≡ takes_binds other binds
+takes-same_sorts one other [] e = refl
+takes-same_sorts one other (bind ∷ binds) e =
+    ap (λ (b : Bool). b && takes_binds one binds) (takes_bind-same_sorts one other bind e) ∙ ap (λ (b : Bool). takes_bind other bind && b) (takes-same_sorts one other binds e)
+
+-- a store takes a value of the sort that stands at the slot's place
+pub takes-value : (store : List Slot) (sorts : List Sort) (slot : ℕ) (sort : Sort) (value : Term) → sorts_of store ≡ sorts → slice_get sorts slot ≡ Some sort → has_sort value sort ≡ true →
+    takes_binds store (record { slot = slot; value = value } ∷ []) ≡ true
+takes-value store sorts slot sort value e at h =
+    let found : sort_at store slot ≡ Some sort = sort_at-sorts_of store slot ∙ ap (λ (all : List Sort). slice_get all slot) e ∙ at in
+    let taken : has_slot_sort (sort_at store slot) value ≡ true = ap (λ (o : Option Sort). has_slot_sort o value) found ∙ h in
+    and_from (has_slot_sort (sort_at store slot) value) true taken refl
