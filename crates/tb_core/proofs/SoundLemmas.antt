@@ -21,11 +21,12 @@ use Rattle.tb_algebra.specs.Walks.{Walking, offers_of, is_end}
 use Rattle.tb_algebra.proofs.Taken.{binds-taken}
 use Rattle.tb_core.specs.Deeds.{set_to, set_deed, deed_in, deed_if, deed_of}
 use Rattle.tb_core.specs.Rows.{row_at, ready_one, readies}
-use Rattle.tb_core.specs.Views.{proc_at, ready_at, offer_at, offer_of, no_ready, no_offer}
+use Rattle.tb_core.specs.Views.{proc_at, ready_at, offer_at, offer_of, no_ready, no_offer, Receives}
 use Rattle.tb_core.specs.Lives.{IsLive, IsLiveOn, AreLive, term_in, proc_of, proc_on, procs_of}
 use Rattle.tb_core.specs.declared.deed.Deed.{Deed}
 use Rattle.tb_core.specs.declared.deed.Deed.TheVariants as deed
 use Rattle.tb_core.specs.declared.log.LabelKind.TheVariants as kind
+use Rattle.tb_core.specs.declared.log.LabelKind.{LabelKind}
 use Rattle.tb_core.specs.declared.log.Place.{Place}
 use Rattle.tb_core.specs.declared.row.Ready.{Ready}
 use Rattle.tb_core.specs.declared.row.Row.{Row}
@@ -187,3 +188,15 @@ indexed xs ys at x d e within is =
 
 pub place-is : (n m a b : ℕ) → n ≡ m → a ≡ b → ◌≡◌ {A = Place} (record { proc = n; atom = a }) (record { proc = m; atom = b })
 place-is n m a b e f = λ i. record { proc = e i; atom = f i }
+
+pub fits-at : (atoms : List Atom) (now : ℕ) (walking : Walking) (ready : Ready) (offer : Offered) → DeedAt atoms now walking ready offer → DeedFits offer.store ready.deed
+fits-at atoms now walking ready offer it = deed-fits atoms now offer ready.deed it.deed
+
+-- what is received binds what the store takes
+pub received-takes : (store : List Slot) (found : Deed) (terms : List Term) (binds : List Bind) → DeedFits store found → Receives terms found binds → takes_binds store binds ≡ true
+received-takes store (deed.Own kind shown other) terms binds fits h = absurd h
+received-takes store (deed.Send other) terms binds fits h = absurd h
+received-takes store (deed.Receive patterns) terms binds fits h = fits terms binds h
+
+pub own-takes : (store : List Slot) (found other : Deed) (kind : LabelKind) (shown : List Term) (binds : List Bind) → DeedFits store found → other ≡ found → other ≡ deed.Own kind shown binds → takes_binds store binds ≡ true
+own-takes store found other kind shown binds fits e f = subst (DeedFits store) (sym e ∙ f) fits
