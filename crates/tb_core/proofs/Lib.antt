@@ -1,5 +1,9 @@
+pub mod DeedLemmas
+pub mod NextLemmas
 pub mod PartLemmas
 pub mod TurnLemmas
 pub mod RowLemmas
 pub mod FoundLemmas
 pub mod ReceiverLemmas
+pub mod SoundLemmas
+pub mod ReadLemmas

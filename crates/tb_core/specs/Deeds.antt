@@ -19,7 +19,8 @@ set_to store bind = if takes_bind store bind then Some (deed.Own kind.Set (bind.
 
 abbrev pub set_deed : List Slot → ℕ → List Term → Option Deed
 set_deed store slot [] = None
-set_deed store slot (value ∷ values) = set_to store (record { slot = slot; value = value })
+set_deed store slot (value ∷ []) = set_to store (record { slot = slot; value = value })
+set_deed store slot (value ∷ other ∷ values) = None
 
 -- What an atom does in a store, where its arguments have values. The other atoms don't happen yet.
 abbrev pub deed_in : List Slot → Act → Option Deed

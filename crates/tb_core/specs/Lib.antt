@@ -3,4 +3,8 @@ pub mod Deeds
 pub mod Steps
 pub mod LogText
 pub mod Rows
+pub mod Labels
 pub mod Views
+pub mod Lives
+pub mod LiveBuses
+pub mod Traces

@@ -9,6 +9,7 @@ use Rattle.tb_algebra.specs.Offers.{Offered, offers}
 use Rattle.tb_core.specs.Buses.{Bus, Proc, atoms_of}
 use Rattle.tb_core.specs.Steps.{Move, Own, Handshake, Finish, Halt}
 use Rattle.tb_core.specs.Rows.{row_at, readies}
+use Rattle.tb_core.specs.Labels.{sent_in}
 use Rattle.tb_core.specs.declared.deed.Deed.{Deed}
 use Rattle.tb_core.specs.declared.deed.Deed.TheVariants as deed
 use Rattle.tb_core.specs.declared.row.Ready.{Ready}
@@ -56,11 +57,6 @@ abbrev pub own_move : Proc → Offered → Deed → Move
 own_move proc offered (deed.Own kind shown binds) = Own proc offered kind shown binds
 own_move proc offered (deed.Send terms) = Halt
 own_move proc offered (deed.Receive patterns) = Halt
-
-abbrev pub sent_in : Deed → List Term
-sent_in (deed.Own kind shown binds) = []
-sent_in (deed.Send terms) = terms
-sent_in (deed.Receive patterns) = []
 
 -- the move that was found
 abbrev pub move_of : List Proc → List Row → Found → Move

@@ -1,8 +1,12 @@
 //! The bus: processes, their steps, the log of what happened, and the simulation of a script.
 #![tactic(auto)]
 
+mod bus;
 mod deed;
+mod deeds;
+mod going;
 mod log;
+mod next;
 mod row;
 mod search;
 #[cfg(test)]
