@@ -2,15 +2,14 @@
 use Rattle.std.proofs.Common.{◌≡◌, ℕ, ◌+◌, ◌<◌, ◌==◌, ◌||◌, List, [], ◌∷◌, ◌++◌, map, length, refl, ap, sym, ◌∙◌, Some, Bool, true, false, slice_get, if◌then◌else◌}
 use Rattle.std.proofs.lemmas.List.Elements.{All-nil, All-cons}
 use Rattle.std.proofs.lemmas.Option.{get_or_from_slice_get, slice_get_within}
-use Rattle.std.specs.List.{All, flat_map}
+use Rattle.std.specs.List.{All}
 use Rattle.tb_terms.specs.declared.term.Term.{Term}
-use Rattle.tb_core.specs.Rows.{first, no_row, row_at, reception, receptions, partner_in, partners, is_receive, has_receive, receivers, partners_among}
+use Rattle.tb_core.specs.Rows.{first, no_row, reception, receptions, partner_in, partners, is_receive, has_receive, receivers, partners_among}
 use Rattle.tb_core.specs.declared.deed.Deed.{Deed}
 use Rattle.tb_core.specs.declared.deed.Deed.TheVariants as deed
 use Rattle.tb_core.specs.declared.row.Ready.{Ready}
 use Rattle.tb_core.specs.declared.row.Row.{Row}
 use Rattle.tb_core.specs.declared.row.Received.{Received}
-use Rattle.tb_core.specs.declared.row.Partner.{Partner}
 use Rattle.tb_core.proofs.PartLemmas.{StandAt, stand-whole, both-append}
 use Rattle.tb_core.proofs.RowLemmas.{partner_at}
 

@@ -1,8 +1,8 @@
-ghost use Rattle.std.specs.Prelude.{◌≡◌, ◌<◌, ◌≤◌, [], length, drop, Some, option_map, IfOk, IfSome, IsTrue};
+ghost use Rattle.std.specs.Prelude.{◌≡◌, ◌+◌, ◌≤◌, [], length, Some, option_map, IfOk, IfSome, IsTrue};
 ghost use Rattle.tb_core.specs.Buses.{Bus};
 ghost use Rattle.tb_core.specs.Steps.{moves};
 ghost use Rattle.tb_core.specs.Views.{IsSearchedFor, IsFoundIn, move_of};
-ghost use Rattle.tb_core.specs.Rows.{first, reception, receptions, partner_in, partners, has_receive, receivers, AreKnown, founds_by, founds_of, founds_from, founds_in_turn, founds_all, founds_or_halt, up_to, ascend, row_at};
+ghost use Rattle.tb_core.specs.Rows.{first, reception, receptions, partner_in, partners, has_receive, receivers, AreKnown, founds_by, founds_of, founds_from, founds_in_turn, founds_all, founds_or_halt, up_to, ascend};
 
 use crate::deed::Deed;
 use crate::row::{Found, Partner, Ready, Received, Row};
@@ -182,19 +182,18 @@ fn first_by(
     }
 }
 
-/// What the deeds of the process at a place lead to first.
+/// What the deeds of a process lead to first.
 fn first_of(
     alloc: Global,
     rows: &[Row],
     known: &mut Option<Items<usize>>,
     at: usize,
+    row: &Row,
 ) -> Result<Option<Found>, NoMemory>
-    requires within { at < length rows.now }
-    requires known { AreKnown known.old rows.now }
+    requires { AreKnown known.old rows.now }
     ensures known { AreKnown known.new rows.now }
-    ensures found { IfOk result (λ found. found ≡ first (founds_of rows.now at (row_at rows.now at))) }
+    ensures found { IfOk result (λ found. found ≡ first (founds_of rows.now at row.now)) }
 {
-    let row = &rows[at];
     for (place, ready) in row.ready.as_slice().iter().enumerate() {
         match first_by(alloc, rows, known, at, row.number, place, &ready.deed)? {
             Some(found) => return Ok(Some(found)),
@@ -204,20 +203,21 @@ fn first_of(
     Ok(None)
 }
 
-/// What the processes from this place on do first.
+/// What these processes do first, of which the first stands at a place among all rows.
 fn first_from(
     alloc: Global,
     rows: &[Row],
     known: &mut Option<Items<usize>>,
     start: usize,
+    asked: &[Row],
 ) -> Result<Option<Found>, NoMemory>
-    requires within { start ≤ length rows.now }
+    requires within { start + length asked.now ≤ length rows.now }
     requires known { AreKnown known.old rows.now }
     ensures known { AreKnown known.new rows.now }
-    ensures found { IfOk result (λ found. found ≡ first (founds_from rows.now start (drop start rows.now))) }
+    ensures found { IfOk result (λ found. found ≡ first (founds_from rows.now start asked.now)) }
 {
-    for at in start..rows.len() {
-        match first_of(alloc, rows, known, at)? {
+    for (offset, row) in asked.iter().enumerate() {
+        match first_of(alloc, rows, known, start + offset, row)? {
             Some(found) => return Ok(Some(found)),
             None => {}
         }
@@ -243,7 +243,7 @@ pub fn first_in_turn(alloc: Global, rows: &[Row], last: u32) -> Result<Option<Fo
     first_after(alloc, rows, &mut known, last)
 }
 
-/// Those after the last starter are asked first, and then all, of whom only the others can do anything.
+/// Those after the last starter are asked first, and then the others.
 fn first_after(
     alloc: Global,
     rows: &[Row],
@@ -255,9 +255,9 @@ fn first_after(
     ensures { IfOk result (λ found. found ≡ first (founds_in_turn rows.now last)) }
 {
     let start = turn_start(rows, last);
-    match first_from(alloc, rows, known, start)? {
+    match first_from(alloc, rows, known, start, &rows[start..])? {
         Some(found) => Ok(Some(found)),
-        None => first_from(alloc, rows, known, 0),
+        None => first_from(alloc, rows, known, 0, &rows[..start]),
     }
 }
 
