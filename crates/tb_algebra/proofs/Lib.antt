@@ -1,2 +1,9 @@
+pub mod Ages
+pub mod Arities
+pub mod Ascending
+pub mod Behind
+pub mod Going
+pub mod Offering
+pub mod Rows
 pub mod Sorts
 pub mod Taken

@@ -1,23 +1,23 @@
 -- Binds, settings and offers keep the sorts of a store; and where its values have their sorts, they still do.
-use Rattle.std.proofs.Common.{◌≡◌, ℕ, zero, suc, Bool, true, false, ◌&&◌, List, [], ◌∷◌, map, Option, Some, None, IfSome, option_map, if◌then◌else◌, refl, ap, ◌∙◌, slice_get, Contains}
+use Rattle.std.proofs.Common.{◌≡◌, ℕ, zero, suc, Bool, true, false, ◌&&◌, List, [], ◌∷◌, map, Option, Some, None, IfSome, option_map, if◌then◌else◌, refl, ap, sym, ◌∙◌, slice_get, Contains}
 use Rattle.std.proofs.lemmas.Bool.{and_from, and_parts}
 use Rattle.std.proofs.lemmas.List.Elements.{All-nil, All-cons, All-append, All-weaker, All-map, All-contains}
-use Rattle.std.proofs.lemmas.Option.{slice_get_within, get_or_from_slice_get}
 use Rattle.std.specs.List.{All}
 use Rattle.tb_terms.specs.declared.term.Term.{Term}
 use Rattle.tb_terms.specs.declared.sort.Sort.{Sort}
 use Rattle.tb_terms.specs.Sorts.{has_sort}
 use Rattle.tb_func.specs.declared.slot.Slot.{Slot}
 use Rattle.tb_func.specs.Arguments.{of_both}
-use Rattle.tb_func.specs.Stores.{sort_at, with_value, is_sorted, are_sorted}
+use Rattle.tb_func.specs.Stores.{fresh_slot, sort_at, with_value, is_sorted, are_sorted}
 use Rattle.tb_func.specs.Values.{all_of}
 use Rattle.tb_match.specs.declared.bind.Bind.{Bind}
 use Rattle.tb_body.specs.declared.tree.Setting.{Setting}
 use Rattle.tb_algebra.specs.Binds.{with_binds, has_slot_sort, takes_bind, takes_binds}
 use Rattle.tb_algebra.specs.Settings.{sorted, start_value, given_by, with_settings, tested}
 use Rattle.tb_algebra.specs.Processes.{Process, At, Seq, Alt, Star, Par, If, When, Let}
-use Rattle.tb_algebra.specs.Offers.{Offered, before, on_the_left, on_the_right, offers_if, offers_after, offers}
+use Rattle.tb_algebra.specs.Offers.{Offered, before, on_the_left, on_the_right, offers}
 use Rattle.tb_algebra.specs.Walks.{Walking, offers_of, offers_of_term, fired, sorts_of}
+use Rattle.tb_algebra.proofs.Offering.{if-all, after-all, contains-at}
 
 -- one value
 
@@ -121,14 +121,9 @@ settings-keep store settings = made-keep store (all_of (map (given_by store) set
 abbrev KeepsIn : List Slot → Offered → Type 0
 KeepsIn store offered = Keeps store offered.store
 
-if-keep : (store : List Slot) (o : Option Bool) (xs ys : List Offered) → All (KeepsIn store) xs → All (KeepsIn store) ys → All (KeepsIn store) (offers_if o xs ys)
-if-keep store None xs ys h k = All-nil (KeepsIn store)
-if-keep store (Some true) xs ys h k = h
-if-keep store (Some false) xs ys h k = k
-
-after-keep : (store : List Slot) (o : Option (List Slot)) (offering : List Slot → List Offered) → IfSome o (Keeps store) → ((s : List Slot) → All (KeepsIn s) (offering s)) → All (KeepsIn store) (offers_after o offering)
-after-keep store None offering h k = All-nil (KeepsIn store)
-after-keep store (Some s) offering h k = All-weaker (KeepsIn s) (KeepsIn store) (λ offered. keeps-both store s offered.store h) (offering s) (k s)
+let-keep : (store : List Slot) (o : Option (List Slot)) (offering : List Slot → List Offered) → IfSome o (Keeps store) → ((s : List Slot) → All (KeepsIn s) (offering s)) → IfSome o (λ s. All (KeepsIn store) (offering s))
+let-keep store None offering h k = tt
+let-keep store (Some s) offering h k = All-weaker (KeepsIn s) (KeepsIn store) (λ offered. keeps-both store s offered.store h) (offering s) (k s)
 
 pub offers-keep : (term : Process) (store : List Slot) → All (λ offered. Keeps store offered.store) (offers term store)
 offers-keep (At atom age) store = All-cons (KeepsIn store) _ [] (keeps-all store) (All-nil (KeepsIn store))
@@ -141,17 +136,14 @@ offers-keep (Par x y) store =
     All-append (KeepsIn store) (map (on_the_left y) (offers x store)) (map (on_the_right x) (offers y store))
     (All-map (KeepsIn store) (on_the_left y) (offers x store) (offers-keep x store))
     (All-map (KeepsIn store) (on_the_right x) (offers y store) (offers-keep y store))
-offers-keep (If test x y) store = if-keep store (tested store test) (offers x store) (offers y store) (offers-keep x store) (offers-keep y store)
-offers-keep (When test x) store = if-keep store (tested store test) (offers x store) [] (offers-keep x store) (All-nil (KeepsIn store))
-offers-keep (Let settings x) store = after-keep store (with_settings store settings) (offers x) (settings-keep store settings) (offers-keep x)
+offers-keep (If test x y) store = if-all (KeepsIn store) (tested store test) (offers x store) (offers y store) (offers-keep x store) (offers-keep y store)
+offers-keep (When test x) store = if-all (KeepsIn store) (tested store test) (offers x store) [] (offers-keep x store) (All-nil (KeepsIn store))
+offers-keep (Let settings x) store = after-all (KeepsIn store) (with_settings store settings) (offers x) (let-keep store (with_settings store settings) (offers x) (settings-keep store settings) (offers-keep x))
 
 pub offer-keeps : (term : Process) (store : List Slot) (offered : Offered) → Contains (offers term store) offered → Keeps store offered.store
 offer-keeps term store offered c = All-contains (KeepsIn store) (offers term store) offered (offers-keep term store) c
 
 -- by its place among the offers
-
-contains-at : {X : Type 0} (xs : List X) (k : ℕ) (x : X) → slice_get xs k ≡ Some x → Contains xs x
-contains-at xs k x e = (k, slice_get_within xs k x e, get_or_from_slice_get xs k x x e)
 
 term-keeps : (term : Option Process) (store : List Slot) (k : ℕ) (offered : Offered) → slice_get (offers_of_term term store) k ≡ Some offered → Keeps store offered.store
 term-keeps None store k offered e = absurd (let t : ◌≡◌ {A = Option Offered} None (Some offered) = e in cc)
@@ -165,3 +157,32 @@ offer_at-keeps walking k offered e = term-keeps walking.term walking.store k off
 pub fired-keeps : (walking : Walking) (k : ℕ) (offered : Offered) (binds : List Bind) → slice_get (offers_of walking) k ≡ Some offered → takes_binds offered.store binds ≡ true → Keeps walking.store (fired binds walking.ticks offered).store
 fired-keeps walking k offered binds e h =
     keeps-both walking.store offered.store (with_binds offered.store binds) (offer_at-keeps walking k offered e) (binds-keep offered.store binds h)
+
+-- what the sorts alone decide
+
+pub sorts-fresh : (sorts : List Sort) → sorts_of (map fresh_slot sorts) ≡ sorts
+sorts-fresh [] = refl
+sorts-fresh (sort ∷ sorts) = ap (λ (rest : List Sort). sort ∷ rest) (sorts-fresh sorts)
+
+pub sort_at-sorts_of : (slots : List Slot) (n : ℕ) → sort_at slots n ≡ slice_get (sorts_of slots) n
+sort_at-sorts_of [] n = refl
+sort_at-sorts_of (slot ∷ slots) zero = refl
+sort_at-sorts_of (slot ∷ slots) (suc n) = sort_at-sorts_of slots n
+
+takes_bind-same_sorts : (one other : List Slot) (bind : Bind) → sorts_of one ≡ sorts_of other → takes_bind one bind ≡ takes_bind other bind
+takes_bind-same_sorts one other bind e =
+    ap (λ (o : Option Sort). has_slot_sort o bind.value) (sort_at-sorts_of one bind.slot ∙ ap (λ (sorts : List Sort). slice_get sorts bind.slot) e ∙ sym (sort_at-sorts_of other bind.slot))
+
+-- stores with the same sorts take the same binds
+pub takes-same_sorts : (one other : List Slot) (binds : List Bind) → sorts_of one ≡ sorts_of other → takes_binds one binds ≡ takes_binds other binds
+takes-same_sorts one other [] e = refl
+takes-same_sorts one other (bind ∷ binds) e =
+    ap (λ (b : Bool). b && takes_binds one binds) (takes_bind-same_sorts one other bind e) ∙ ap (λ (b : Bool). takes_bind other bind && b) (takes-same_sorts one other binds e)
+
+-- a store takes a value of the sort that stands at the slot's place
+pub takes-value : (store : List Slot) (sorts : List Sort) (slot : ℕ) (sort : Sort) (value : Term) → sorts_of store ≡ sorts → slice_get sorts slot ≡ Some sort → has_sort value sort ≡ true →
+    takes_binds store (record { slot = slot; value = value } ∷ []) ≡ true
+takes-value store sorts slot sort value e at h =
+    let found : sort_at store slot ≡ Some sort = sort_at-sorts_of store slot ∙ ap (λ (all : List Sort). slice_get all slot) e ∙ at in
+    let taken : has_slot_sort (sort_at store slot) value ≡ true = ap (λ (o : Option Sort). has_slot_sort o value) found ∙ h in
+    and_from (has_slot_sort (sort_at store slot) value) true taken refl

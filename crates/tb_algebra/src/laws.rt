@@ -1,17 +1,24 @@
 //! What holds of process terms, their offers and their stores. The calls change nothing: their
 //! contracts are the laws.
 
-ghost use Rattle.std.specs.Prelude.{◌≡◌, ℕ, List, Some, IsTrue, Contains};
+ghost use Rattle.std.specs.Prelude.{◌≡◌, ◌≤◌, ℕ, List, Some, IsTrue, Contains, map, length, slice_get};
+ghost use Rattle.std.specs.List.Sorted.{IsStrictlyIncreasing};
 ghost use Rattle.tb_terms.specs.declared.term.Term.{Term};
 ghost use Rattle.tb_terms.specs.declared.expr.Expr.{Expr};
+ghost use Rattle.tb_terms.specs.declared.expr.Func.{Func};
 ghost use Rattle.tb_func.specs.declared.slot.Slot.{Slot};
+ghost use Rattle.tb_func.specs.Functions.{signature_of};
 ghost use Rattle.tb_func.specs.Stores.{are_sorted};
+ghost use Rattle.tb_body.specs.Exprs.{arity};
+ghost use Rattle.tb_body.specs.declared.body.Body.{Body};
+ghost use Rattle.tb_body.specs.declared.tree.Tree.{Tree};
 ghost use Rattle.tb_match.specs.declared.bind.Bind.{Bind};
 ghost use Rattle.tb_algebra.specs.Binds.{takes_binds};
 ghost use Rattle.tb_algebra.specs.Atoms.{accepted};
 ghost use Rattle.tb_algebra.specs.Processes.{Process};
 ghost use Rattle.tb_algebra.specs.Offers.{Offered, offers};
-ghost use Rattle.tb_algebra.specs.Walks.{fired, sorts_of};
+ghost use Rattle.tb_algebra.specs.Reached.{Reaches, IsReached, IsAgedUpTo, IsNewBehind};
+ghost use Rattle.tb_algebra.specs.Walks.{Walking, entering, offers_of, fired, sorts_of};
 
 /// What an atom binds where it is given terms, its store takes: each slot is there, and its value has
 /// the slot's sort.
@@ -31,4 +38,39 @@ pub fn offers_keep_sorts()
         → sorts_of (fired binds ticks offered).store ≡ sorts_of offered.store }
     ensures fired_values { (binds : List Bind) (ticks : ℕ) (offered : Offered) → IsTrue (takes_binds offered.store binds)
         → IsTrue (are_sorted offered.store) → IsTrue (are_sorted (fired binds ticks offered).store) }
+{}
+
+/// In a term that a body reaches, and so in its offers, no age is greater than the number of ticks.
+pub fn ages_are_within_the_ticks()
+    ensures term { (tree : Tree) (ticks : ℕ) (term : Process) → Reaches tree ticks term → IsAgedUpTo ticks term }
+    ensures offers { (tree : Tree) (ticks : ℕ) (term : Process) (store : List Slot) (offered : Offered) → Reaches tree ticks term
+        → Contains (offers term store) offered → offered.age ≤ ticks }
+{}
+
+/// In a term that a body reaches, what stands on the right of a sequence or within a star has not waited yet.
+pub fn ages_behind_are_new()
+    ensures { (tree : Tree) (ticks : ℕ) (term : Process) → Reaches tree ticks term → IsNewBehind term }
+{}
+
+/// In every store, the offers of a term that a body reaches ascend by the numbers of their atoms. So no
+/// two are of one atom, and each is of an atom of the body.
+pub fn offers_ascend()
+    ensures ascend { (body : Body) (ticks : ℕ) (term : Process) (store : List Slot) → Reaches body.tree ticks term
+        → IsStrictlyIncreasing (map (λ (offered : Offered). offered.atom) (offers term store)) }
+    ensures once { (body : Body) (ticks : ℕ) (term : Process) (store : List Slot) (one other : Offered) → Reaches body.tree ticks term
+        → Contains (offers term store) one → Contains (offers term store) other → one.atom ≡ other.atom → one ≡ other }
+    ensures there { (body : Body) (ticks : ℕ) (term : Process) (store : List Slot) (offered : Offered) → Reaches body.tree ticks term
+        → Contains (offers term store) offered → (1 ≤ offered.atom) × (offered.atom ≤ length body.atoms) }
+{}
+
+/// A process that enters its body is where the body may have led it, and stays so where an offer is taken.
+pub fn walks_stay_reached()
+    ensures entering { (body : Body) (store : List Slot) → IsReached body (entering body store) }
+    ensures fired { (body : Body) (walking : Walking) (k : ℕ) (offered : Offered) (binds : List Bind) → IsReached body walking
+        → slice_get (offers_of walking) k ≡ Some offered → IsReached body (fired binds walking.ticks offered) }
+{}
+
+/// A function has as many arguments in a body as its signature says.
+pub fn arities_agree()
+    ensures { (func : Func) → (signature_of func).arity ≡ arity func }
 {}

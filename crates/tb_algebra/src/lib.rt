@@ -5,6 +5,9 @@ mod laws;
 mod offer;
 mod walker;
 
-pub use laws::{accepted_binds_are_taken, offers_keep_sorts};
+pub use laws::{
+    accepted_binds_are_taken, ages_are_within_the_ticks, ages_behind_are_new, arities_agree,
+    offers_ascend, offers_keep_sorts, walks_stay_reached,
+};
 pub use offer::Offer;
 pub use walker::Walker;

@@ -1,5 +1,5 @@
 -- Which programs are in range: what each process and each root says of other processes and of tools.
-use Rattle.std.specs.Prelude.{ℕ, Bool, true, false, ◌&&◌, ◌==◌, nat_lt, nat_le, List, [], ◌∷◌, length, Option, Some, None, slice_get}
+use Rattle.std.specs.Prelude.{ℕ, Bool, true, false, ◌&&◌, ◌==◌, nat_lt, nat_le, List, [], ◌∷◌, length, Option, Some, None, is_some, slice_get}
 use Rattle.std.specs.List.{list_all}
 use Rattle.tb_terms.specs.declared.term.Term.{Term}
 use Rattle.tb_terms.specs.declared.sort.Sort.{Sort}
@@ -17,14 +17,10 @@ abbrev pub takes : Option Body → ℕ → Bool
 takes None actuals = false
 takes (Some body) actuals = body.formals == actuals
 
-abbrev pub is_there : {A : Type 0} → Option A → Bool
-is_there None = false
-is_there (Some x) = true
-
 -- there is a tool, and it has a command
 abbrev pub has_command : Option Tool → Bool
 has_command None = false
-has_command (Some tool) = is_there tool.command
+has_command (Some tool) = is_some tool.command
 
 -- the process that is created takes the actuals; the tool is there, and has a command where it is started
 abbrev pub is_act_in_program : List Body → List Tool → Act → Bool

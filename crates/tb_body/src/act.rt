@@ -11,12 +11,19 @@ pub enum Act {
     Delta,
     /// Happens by itself, and changes nothing else.
     Tau,
+    /// Hands the values to another process that takes them at the same time.
     SndMsg(Exprs),
+    /// Takes values that match from another process.
     RecMsg(Exprs),
+    /// The values go, as a note, to each process that has subscribed to such.
     SndNote(Exprs),
+    /// Takes the oldest own note that matches.
     RecNote(Exprs),
+    /// Happens only where no own note matches.
     NoNote(Exprs),
+    /// From now on the process gets notes that match.
     Subscribe(Exprs),
+    /// It gets no more such notes; those that wait stay.
     Unsubscribe(Exprs),
     /// A new process of this kind; the variable takes its number.
     Create {
@@ -29,6 +36,7 @@ pub enum Act {
         slot: u32,
         value: Expr,
     },
+    /// Prints the values by the format, which comes first.
     Printf(Exprs),
     /// A new tool of this kind; the variable takes it.
     Execute {
@@ -47,12 +55,19 @@ pub enum Act {
     },
     /// This tool leaves.
     RecDisconnect(Expr),
+    /// Asks this tool for the value of the term.
     SndEval(Expr, Expr),
+    /// Takes the value for which this tool was asked, where it matches.
     RecValue(Expr, Expr),
+    /// Tells this tool to do something, and asks for no value.
     SndDo(Expr, Expr),
+    /// Takes the oldest waiting event of this tool that matches.
     RecEvent(Expr, Exprs),
+    /// Tells this tool that its event has been dealt with.
     SndAckEvent(Expr, Exprs),
+    /// Tells this tool to end, and lets it go.
     SndTerminate(Expr, Expr),
+    /// The bus goes down for this reason.
     Shutdown(Expr),
 }
 

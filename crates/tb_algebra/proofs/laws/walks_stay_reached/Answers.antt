@@ -1,0 +1,8 @@
+use Rattle.tb_algebra.proofs.Going.{entering-reached, fired-reached}
+use Rattle.tb_algebra.proofs.laws.walks_stay_reached.Goals as goal
+
+pub returns-clause-entering : goal.returns-clause-entering
+returns-clause-entering c = entering-reached
+
+pub returns-clause-fired : goal.returns-clause-fired
+returns-clause-fired c = fired-reached
