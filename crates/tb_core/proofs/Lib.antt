@@ -4,3 +4,7 @@ pub mod PartLemmas
 pub mod TurnLemmas
 pub mod RowLemmas
 pub mod FoundLemmas
+pub mod TraceLemmas
+pub mod SimTraces
+pub mod GoLemmas
+pub mod SimLemmas
