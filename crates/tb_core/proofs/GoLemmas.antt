@@ -1,5 +1,5 @@
 -- The first of the moves of a bus, and what a step logs of it.
-use Rattle.std.proofs.Common.{◌≡◌, List, [], ◌∷◌, refl, ap, sym, ◌∙◌, Option, Some, None, Bool, true, false, is_some, option_map, if◌then◌else◌}
+use Rattle.std.proofs.Common.{◌≡◌, List, [], ◌∷◌, refl, ap, sym, Option, Some, None, Bool, true, false, is_some, option_map, if◌then◌else◌}
 use Rattle.tb_core.specs.Rows.{first}
 use Rattle.tb_core.specs.Buses.{Bus}
 use Rattle.tb_core.specs.Steps.{Move, moves, moves_while_up, steps, step_of, label_of, made}

@@ -8,3 +8,4 @@ pub mod TraceLemmas
 pub mod SimTraces
 pub mod GoLemmas
 pub mod SimLemmas
+pub mod ReachedLemmas
