@@ -9,3 +9,4 @@ pub mod SimTraces
 pub mod GoLemmas
 pub mod SimLemmas
 pub mod ReachedLemmas
+pub mod Rows
