@@ -6,3 +6,4 @@ pub mod RowLemmas
 pub mod FoundLemmas
 pub mod SoundLemmas
 pub mod ReadLemmas
+pub mod PutLemmas
