@@ -1,4 +1,4 @@
-use Rattle.std.proofs.Common.{◌≡◌, ◌∙◌, ℕ, List, [], ap, sym}
+use Rattle.std.proofs.Common.{◌≡◌, ◌∙◌, ℕ, List, [], ap, sym, get_or}
 use Rattle.tb_core.specs.Buses.{Bus, Proc}
 use Rattle.tb_core.specs.Steps.{goes_on}
 use Rattle.tb_core.specs.Rows.{row_at, no_row}
@@ -37,7 +37,7 @@ returns-clause-bus g c =
     let named : (row_at old.rows c.args.at).number ≡ (proc_at procs c.args.at).number = sym (ap (λ (p : Proc). p.number) it.proc) in
     let other : (row_at old.rows partner.row).number ≡ (proc_at procs partner.row).number = sym (ap (λ (p : Proc). p.number) its.proc) in
     let last = ap (λ (r : Row). r.number) (sym c.index-as_slice-at.is ∙ row) in
-    ap (λ (b : Bus). let after : Bus = record b { last_starter = _ } in after) puts.1
+    ap (λ (b : Bus). let after : Bus = record b { last_starter = (get_or c.as_slice.result.now c.args.at c.index-as_slice-at.result).number } in after) puts.1
     ∙ ap (λ (n : ℕ). let after : Bus = record bus { procs = goes_on (row_at old.rows partner.row).number received binds (goes_on (row_at old.rows c.args.at).number sent [] procs); last_starter = n } in after) last
     ∙ ap (λ (n : ℕ). let after : Bus = record bus { procs = goes_on (row_at old.rows partner.row).number received binds (goes_on n sent [] procs); last_starter = n } in after) named
     ∙ ap (λ (n : ℕ). let after : Bus = record bus { procs = goes_on n received binds (goes_on (proc_at procs c.args.at).number sent [] procs); last_starter = (proc_at procs c.args.at).number } in after) other

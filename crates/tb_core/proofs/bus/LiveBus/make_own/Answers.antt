@@ -1,4 +1,4 @@
-use Rattle.std.proofs.Common.{◌≡◌, ◌∙◌, ℕ, List, ap, sym}
+use Rattle.std.proofs.Common.{◌≡◌, ◌∙◌, ℕ, List, ap, sym, get_or}
 use Rattle.tb_core.specs.Buses.{Bus, Proc}
 use Rattle.tb_core.specs.Steps.{goes_on}
 use Rattle.tb_core.specs.Labels.{own_binds}
@@ -30,7 +30,7 @@ returns-clause-bus g c =
     let row : c.index-as_slice-at.result ≡ row_at old.rows c.args.at = indexed old.rows c.as_slice.result.now c.args.at c.index-as_slice-at.result no_row c.as_slice.ensures c.requires.found.0 c.index-as_slice-at.is in
     let named : (row_at old.rows c.args.at).number ≡ proc.number = sym (ap (λ (p : Proc). p.number) it.proc) in
     let last = ap (λ (r : Row). r.number) (sym c.index-as_slice-at.is ∙ row) in
-    ap (λ (b : Bus). let after : Bus = record b { last_starter = _ } in after) puts.1
+    ap (λ (b : Bus). let after : Bus = record b { last_starter = (get_or c.as_slice.result.now c.args.at c.index-as_slice-at.result).number } in after) puts.1
     ∙ ap (λ (n : ℕ). let after : Bus = record bus { procs = goes_on (row_at old.rows c.args.at).number offer (own_binds deed) bus.procs; last_starter = n } in after) last
     ∙ ap (λ (n : ℕ). let after : Bus = record bus { procs = goes_on n offer (own_binds deed) bus.procs; last_starter = n } in after) named
     ∙ sym (own-made bus proc offer deed c.requires.found.2)
