@@ -6,6 +6,7 @@ use crate::deed::Deed;
 use crate::going::take_offer;
 use crate::log::{Input, Label, LabelKind, Place, Reply, Why};
 use crate::next::{Next, Prepared};
+use crate::opening::{open_all, plan_all};
 use crate::row::{Found, Partner, Row};
 use std::alloc::Global;
 use tb_algebra::Walker;
@@ -37,6 +38,7 @@ impl<W: Walker> LiveBus<W> {
     ghost use Rattle.tb_match.specs.declared.bind.Bind.{Bind};
     ghost use Rattle.tb_algebra.specs.Binds.{takes_binds};
     ghost use Rattle.tb_algebra.specs.Offers.{Offered};
+    ghost use Rattle.tb_core.specs.Buses.{start};
     ghost use Rattle.tb_core.specs.Steps.{made, label_of, place_of, goes_on};
     ghost use Rattle.tb_core.specs.Traces.{fed};
     ghost use Rattle.tb_core.specs.Rows.{row_at, ascend};
@@ -44,6 +46,25 @@ impl<W: Walker> LiveBus<W> {
     ghost use Rattle.tb_core.specs.LiveBuses.{bus_of, procs_in, IsSound, IsNextAt, IsWent, IsPrepared};
     ghost use Rattle.tb_core.specs.Labels.{own_binds};
     ghost use Rattle.tb_core.specs.Lives.{IsNext};
+
+    /// The bus that a program opens with.
+    pub fn open(alloc: Global, program: Program) -> Result<LiveBus<W>, NoMemory>
+        ensures sound { IfOk result (IsSound W.body_of W.IsOn W.walking W.seen) }
+        ensures bus { IfOk result (λ bus. bus_of W.walking bus ≡ start (record { program = program })) }
+    {
+        let plans = plan_all::<W>(alloc, program.bodies.as_slice())?;
+        let opened = open_all::<W>(alloc, &program, &plans)?;
+        Ok(LiveBus {
+            program,
+            plans,
+            rows: opened.rows,
+            walkers: opened.walkers,
+            ticks: 0,
+            last_starter: 0,
+            no_ticks: false,
+            down: false,
+        })
+    }
 
     /// The deed at a place of the process at a place.
     fn deed_at(&self, at: usize, place: usize) -> &Deed

@@ -7,6 +7,7 @@ mod deeds;
 mod going;
 mod log;
 mod next;
+mod opening;
 mod row;
 mod search;
 mod text;

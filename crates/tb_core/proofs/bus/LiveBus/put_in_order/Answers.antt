@@ -21,13 +21,12 @@ returns g c one other t u bs cs o p planned planned_other next next_other =
     let row : row_at new.rows c.args.low ≡ row_at old.rows c.args.low = c.put.ensures.before c.args.low c.requires.order in
     let ticks : new.ticks ≡ old.ticks = ap (λ (b : Bus). b.now) first.1 in
     let there : slice_get new.plans (row_at new.rows c.args.low).body ≡ Some one =
-        ap (λ ps. slice_get ps (row_at new.rows c.args.low).body) c.put.ensures.plans ∙ ap (λ (r : Row). slice_get old.plans r.body) row ∙ planned in
+    ap (λ ps. slice_get ps (row_at new.rows c.args.low).body) c.put.ensures.plans ∙ ap (λ (r : Row). slice_get old.plans r.body) row ∙ planned in
     let went = subst (λ (r : Row). IsNext g.W.Walker.body_of g.W.Walker.IsOn walking g.W.Walker.seen one new.ticks r.number r.body t bs o c.args.first) (sym row)
-        (subst (λ (n : ℕ). IsNext g.W.Walker.body_of g.W.Walker.IsOn walking g.W.Walker.seen one n (row_at old.rows c.args.low).number (row_at old.rows c.args.low).body t bs o c.args.first) (sym ticks) next) in
-    let second = c.put-2.ensures.puts one t bs o there went in
-    (
+    (subst (λ (n : ℕ). IsNext g.W.Walker.body_of g.W.Walker.IsOn walking g.W.Walker.seen one n (row_at old.rows c.args.low).number (row_at old.rows c.args.low).body t bs o c.args.first) (sym ticks) next) in
+    let second = c.put-2.ensures.puts one t bs o there went in (
       second.0,
       second.1
-      ∙ ap (λ (r : Row). let b : Bus = record (bus_of walking new) { procs = goes_on r.number o bs (procs_in walking new) } in b) row
-      ∙ ap (λ (b : Bus). let next : Bus = record b { procs = goes_on (row_at old.rows c.args.low).number o bs b.procs } in next) first.1
+          ∙ ap (λ (r : Row). let b : Bus = record (bus_of walking new) { procs = goes_on r.number o bs (procs_in walking new) } in b) row
+          ∙ ap (λ (b : Bus). let next : Bus = record b { procs = goes_on (row_at old.rows c.args.low).number o bs b.procs } in next) first.1,
     )
