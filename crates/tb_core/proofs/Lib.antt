@@ -10,3 +10,6 @@ pub mod GoLemmas
 pub mod SimLemmas
 pub mod ReachedLemmas
 pub mod Rows
+pub mod SoundLemmas
+pub mod ReadLemmas
+pub mod PutLemmas

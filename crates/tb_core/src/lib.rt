@@ -10,6 +10,7 @@ mod going;
 mod laws;
 mod log;
 mod next;
+mod opening;
 mod row;
 mod search;
 mod text;
