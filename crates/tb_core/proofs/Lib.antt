@@ -10,6 +10,7 @@ pub mod GoLemmas
 pub mod SimLemmas
 pub mod ReachedLemmas
 pub mod Rows
+pub mod ReceiverLemmas
 pub mod SoundLemmas
 pub mod ReadLemmas
 pub mod PutLemmas

@@ -13,6 +13,8 @@ mod next;
 mod opening;
 mod row;
 mod search;
+#[cfg(test)]
+mod search_tests;
 mod text;
 
 pub use answers::{CoreFault, Stepped};
