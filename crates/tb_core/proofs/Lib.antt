@@ -14,3 +14,4 @@ pub mod ReceiverLemmas
 pub mod SoundLemmas
 pub mod ReadLemmas
 pub mod PutLemmas
+pub mod CoreLemmas
