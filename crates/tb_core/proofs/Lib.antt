@@ -13,3 +13,4 @@ pub mod Rows
 pub mod SoundLemmas
 pub mod ReadLemmas
 pub mod PutLemmas
+pub mod OpenLemmas
