@@ -5,8 +5,8 @@ ghost use Rattle.tb_core.specs.Traces.{IsLegal, IsTrace, after};
 ghost use Rattle.tb_core.specs.Simulation.{IsSim, IsSimFront, sim_start};
 ghost use Rattle.tb_core.specs.Reached.{Reaches};
 
-use crate::log::Entry;
 use crate::ends::SimEnd;
+use crate::log::Entry;
 
 /// Each front of a trace is a trace.
 pub fn fronts_are_traces()
