@@ -10,6 +10,8 @@ pub mod GoLemmas
 pub mod SimLemmas
 pub mod ReachedLemmas
 pub mod Rows
+pub mod ReceiverLemmas
 pub mod SoundLemmas
 pub mod ReadLemmas
 pub mod PutLemmas
+pub mod CoreLemmas

@@ -13,3 +13,4 @@ pub mod Cores
 pub mod Simulation
 pub mod Turns
 pub mod Reached
+pub mod Standing

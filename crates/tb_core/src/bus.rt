@@ -8,6 +8,7 @@ use crate::log::{Input, Label, LabelKind, Place, Reply, Why};
 use crate::next::{Next, Prepared};
 use crate::opening::{open_all, plan_all};
 use crate::row::{Found, Partner, Row};
+use crate::search::first_move;
 use std::alloc::Global;
 use tb_algebra::Walker;
 use tb_body::Program;
@@ -32,16 +33,16 @@ pub struct LiveBus<W: Walker> {
 }
 
 impl<W: Walker> LiveBus<W> {
-    ghost use Rattle.std.specs.Prelude.{◌≡◌, ℕ, ◌<◌, ◌≤◌, ◌+◌, ◌≢◌, List, [], length, IfOk, IsTrue, Some, slice_get, true, map};
-    ghost use Rattle.std.specs.Option.{option_copied};
+    ghost use Rattle.std.specs.Prelude.{◌≡◌, ℕ, ◌<◌, ◌≤◌, ◌+◌, ◌≢◌, List, [], length, IfOk, IfSome, IsTrue, Some, slice_get, true, map};
+    ghost use Rattle.std.specs.Option.{option_copied, option_map};
     ghost use Rattle.tb_terms.specs.declared.term.Term.{Term};
     ghost use Rattle.tb_match.specs.declared.bind.Bind.{Bind};
     ghost use Rattle.tb_algebra.specs.Binds.{takes_binds};
     ghost use Rattle.tb_algebra.specs.Offers.{Offered};
     ghost use Rattle.tb_core.specs.Buses.{start};
-    ghost use Rattle.tb_core.specs.Steps.{made, label_of, place_of, goes_on};
+    ghost use Rattle.tb_core.specs.Steps.{moves, made, label_of, place_of, goes_on};
     ghost use Rattle.tb_core.specs.Traces.{fed};
-    ghost use Rattle.tb_core.specs.Rows.{row_at, ascend};
+    ghost use Rattle.tb_core.specs.Rows.{row_at, ascend, first};
     ghost use Rattle.tb_core.specs.Views.{proc_at, ready_at, offer_of, move_of, IsFoundIn};
     ghost use Rattle.tb_core.specs.LiveBuses.{bus_of, procs_in, IsSound, IsNextAt, IsWent, IsPrepared};
     ghost use Rattle.tb_core.specs.Labels.{own_binds};
@@ -64,6 +65,21 @@ impl<W: Walker> LiveBus<W> {
             no_ticks: false,
             down: false,
         })
+    }
+
+    /// The first of all moves.
+    pub fn first_move(&self, alloc: Global) -> Result<Option<Found>, NoMemory>
+        requires { IsSound W.body_of W.IsOn W.walking W.seen self.now }
+        ensures found { IfOk result (λ found. option_map (move_of (procs_in W.walking self.now) self.now.rows) found ≡ first (moves (bus_of W.walking self.now))) }
+        ensures stands { IfOk result (λ found. IfSome found (IsFoundIn self.now.rows)) }
+    {
+        first_move(
+            alloc,
+            self.rows.as_slice(),
+            self.last_starter,
+            self.no_ticks,
+            self.down,
+        )
     }
 
     /// The deed at a place of the process at a place.

@@ -9,10 +9,13 @@ mod ends;
 mod going;
 mod laws;
 mod log;
+mod machine;
 mod next;
 mod opening;
 mod row;
 mod search;
+#[cfg(test)]
+mod search_tests;
 mod text;
 
 pub use answers::{CoreFault, Stepped};
@@ -23,4 +26,5 @@ pub use laws::{
     simulations_log_traces,
 };
 pub use log::{Entry, Input, Label, LabelKind, Place, Reply, Why};
+pub use machine::Core;
 pub use text::write_entry;
