@@ -1,5 +1,4 @@
-use Rattle.std.proofs.Common.{◌≡◌, ◌∙◌, ◌+◌, ◌<◌, ap, sym, refl, arith, Some, length, drop, map, slice_get}
-use Rattle.tb_func.specs.Stores.{fresh_slot}
+use Rattle.std.proofs.Common.{◌∙◌, ◌+◌, ◌<◌, ap, sym, arith, length, drop}
 use Rattle.tb_algebra.specs.Walks.{sorts_of}
 use Rattle.tb_algebra.proofs.Sorts.{sorts-fresh, sorts-with_value}
 use Rattle.tb_core.specs.Buses.{with_values}

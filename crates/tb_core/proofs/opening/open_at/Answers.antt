@@ -1,4 +1,4 @@
-use Rattle.std.proofs.Common.{◌≡◌, ◌∙◌, ◌+◌, ◌<◌, List, [], ◌∷◌, ap, sym, refl, subst, arith, Some, length, slice_get, IfOk}
+use Rattle.std.proofs.Common.{◌≡◌, ◌∙◌, ◌+◌, List, [], ◌∷◌, ap, sym, refl, subst, arith, length, slice_get, IfOk}
 use Rattle.std.proofs.lemmas.Option.{same_Some}
 use Rattle.tb_body.specs.declared.body.Body.{Body}
 use Rattle.tb_body.specs.declared.program.Root.{Root}
