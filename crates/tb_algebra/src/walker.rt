@@ -59,35 +59,40 @@ pub trait Walker: Sized + Drop + Send {
 
     /// The offer at this place, from 0 in text order.
     fn offer(&self, k: usize) -> Offer
-        requires { ForSome (seen self.now) (λ offers. k < length offers) }
+        requires fresh { IsTrue (is_some (seen self.now)) }
+        requires within { ForSome (seen self.now) (λ offers. k < length offers) }
         ensures { ForSome (seen self.now) (λ offers. slice_get offers k ≡ Some result) };
 
     /// The values that the atom sends or looks at, where each is there and they are together within the
     /// limit of size: for a new process its actuals, and the tool first where there is one.
     fn sent(&self, alloc: Global, plan: &Self::Plan, k: usize) -> Result<Option<Terms>, NoMemory>
         requires on { IsOn plan.now self.now }
-        requires fresh { ForSome (seen self.now) (λ offers. k < length offers) }
+        requires fresh { IsTrue (is_some (seen self.now)) }
+        requires within { ForSome (seen self.now) (λ offers. k < length offers) }
         ensures { IfOk result (λ terms. terms
             ≡ option_and_then (sent_by (body_of plan.now).atoms) (slice_get (offers_of (walking plan.now self.now)) k)) };
 
     /// The patterns of an atom that receives, or that looks at notes.
     fn patterns(&self, alloc: Global, plan: &Self::Plan, k: usize) -> Result<Option<Patterns>, NoMemory>
         requires on { IsOn plan.now self.now }
-        requires fresh { ForSome (seen self.now) (λ offers. k < length offers) }
+        requires fresh { IsTrue (is_some (seen self.now)) }
+        requires within { ForSome (seen self.now) (λ offers. k < length offers) }
         ensures { IfOk result (λ patterns. patterns
             ≡ option_and_then (patterns_by (body_of plan.now).atoms) (slice_get (offers_of (walking plan.now self.now)) k)) };
 
     /// What the atom binds where it is given these terms.
     fn accepts(&self, alloc: Global, plan: &Self::Plan, k: usize, ts: &Terms) -> Result<Option<Binds>, NoMemory>
         requires on { IsOn plan.now self.now }
-        requires fresh { ForSome (seen self.now) (λ offers. k < length offers) }
+        requires fresh { IsTrue (is_some (seen self.now)) }
+        requires within { ForSome (seen self.now) (λ offers. k < length offers) }
         ensures { IfOk result (λ binds. binds
             ≡ option_and_then (accepted_by (body_of plan.now).atoms ts.now) (slice_get (offers_of (walking plan.now self.now)) k)) };
 
     /// Takes the offer: the process goes on with what is left, and the binds are set.
     fn fire(&mut self, alloc: Global, plan: &Self::Plan, k: usize, binds: Binds) -> Result<(), NoMemory>
         requires on { IsOn plan.now self.old }
-        requires fresh { ForSome (seen self.old) (λ offers. k < length offers) }
+        requires fresh { IsTrue (is_some (seen self.old)) }
+        requires within { ForSome (seen self.old) (λ offers. k < length offers) }
         requires sorted { ForSome (slice_get (offers_of (walking plan.now self.old)) k) (λ offered. IsTrue (takes_binds offered.store binds)) }
         ensures on { IsOn plan.now self.new }
         ensures goes { OnOk result (ForSome (slice_get (offers_of (walking plan.now self.old)) k)
