@@ -1,5 +1,5 @@
 -- What the nodes of a plan stand for: each for a term that is just entered, built of those of earlier nodes.
-use Rattle.std.specs.Prelude.{◌≡◌, ℕ, ◌<◌, List, [], ◌∷◌, ◌++◌, Option, Some, None, fold, slice_get, slice_index_or, ⊤}
+use Rattle.std.specs.Prelude.{◌≡◌, ℕ, ◌<◌, ◌≤◌, List, [], ◌∷◌, ◌++◌, length, Option, Some, None, fold, slice_get, slice_index_or, ⊤}
 use Rattle.tb_algebra.specs.Processes as process
 use Rattle.tb_algebra.specs.Processes.{Process}
 use Rattle.tb_algebra.specs.declared.node.Node.{Node}
@@ -44,3 +44,19 @@ IsBehind at (Let settings x) = x < at
 
 abbrev pub AreBehind : List Node → Type 0
 AreBehind nodes = (at : ℕ) → (node : Node) → slice_get nodes at ≡ Some node → IsBehind at node
+
+-- a node for this term has been added, and the earlier nodes stand for what they stood for
+pub record HasAdded (old : List Node) (new : List Node) (at : ℕ) (term : Process) : Type 0 where
+  pub behind : AreBehind new
+  pub within : at < length new
+  pub longer : length old ≤ length new
+  pub stays : (earlier : ℕ) → earlier < length old → process_at new earlier ≡ process_at old earlier
+  pub stands : process_at new at ≡ term
+
+-- nodes for both terms have been added
+pub record HasAddedBoth (old : List Node) (new : List Node) (x : ℕ) (y : ℕ) (first : Process) (second : Process) : Type 0 where
+  pub behind : AreBehind new
+  pub within : (x < length new) × (y < length new)
+  pub longer : length old ≤ length new
+  pub stays : (earlier : ℕ) → earlier < length old → process_at new earlier ≡ process_at old earlier
+  pub stands : (process_at new x ≡ first) × (process_at new y ≡ second)

@@ -3,6 +3,7 @@
 
 mod node;
 mod offer;
+mod plan;
 mod ready;
 mod running;
 mod settings;
@@ -10,4 +11,5 @@ mod values;
 mod walker;
 
 pub use offer::Offer;
+pub use plan::Plan;
 pub use walker::Walker;

@@ -1,0 +1,107 @@
+ghost use Rattle.std.specs.Prelude.{◌≡◌, ◌<◌, ◌≤◌, Some, IfOk, OnErr, length, slice_get};
+ghost use Rattle.tb_algebra.specs.Processes.{fresh, Process};
+ghost use Rattle.tb_algebra.specs.Plans.{AreBehind, IsBehind, HasAdded, HasAddedBoth, processes, process_at, built};
+
+use crate::node::Node;
+use std::alloc::Global;
+use tb_body::{Act, Body, Tree, copy_settings};
+use tb_terms::{Items, NoMemory};
+
+/// What a body is worked out to: its operators one after another, each behind its parts.
+#[derive(Debug, Drop)]
+pub struct Plan {
+    pub(crate) body: Body,
+    pub(crate) nodes: Items<Node>,
+    pub(crate) root: usize,
+    ghost behind: { AreBehind nodes },
+    ghost within: { root < length nodes },
+    ghost whole: { process_at nodes root ≡ fresh body.tree },
+}
+
+impl Plan {
+    /// Works out the plan of a body.
+    pub(crate) fn new(alloc: Global, body: &Body) -> Result<Plan, NoMemory>
+        ensures { IfOk result (λ plan. plan.body ≡ body.now) }
+    {
+        let mut nodes = Items::new(alloc);
+        let root = add_tree(alloc, &mut nodes, &body.tree)?;
+        let body = body.copy(alloc)?;
+        Ok(Plan { body, nodes, root })
+    }
+
+    pub(crate) fn node(&self, at: usize) -> &Node
+        requires { at < length self.now.nodes }
+        ensures node { slice_get self.now.nodes at ≡ Some result.now }
+        ensures behind { AreBehind self.now.nodes }
+    {
+        &self.nodes.as_slice()[at]
+    }
+}
+
+/// Adds a tree behind the nodes, and gives the place of its node.
+#[cycle(add_tree)]
+fn add_tree(alloc: Global, nodes: &mut Items<Node>, tree: &Tree) -> Result<usize, NoMemory>
+    requires { AreBehind nodes.old }
+    ensures { IfOk result (λ at. HasAdded nodes.old nodes.new at (fresh tree.now)) }
+{
+    match tree {
+        Tree::At(atom) => push_node(nodes, Node::At(*atom)),
+        Tree::Seq(x, y) => {
+            let (x, y) = add_both(alloc, nodes, x.get(), y.get())?;
+            push_node(nodes, Node::Seq(x, y))
+        }
+        Tree::Alt(x, y) => {
+            let (x, y) = add_both(alloc, nodes, x.get(), y.get())?;
+            push_node(nodes, Node::Alt(x, y))
+        }
+        Tree::Star(x, y) => {
+            let (x, y) = add_both(alloc, nodes, x.get(), y.get())?;
+            push_node(nodes, Node::Star(x, y))
+        }
+        Tree::Par(x, y) => {
+            let (x, y) = add_both(alloc, nodes, x.get(), y.get())?;
+            push_node(nodes, Node::Par(x, y))
+        }
+        Tree::If(test, x, Some(y)) => {
+            let (x, y) = add_both(alloc, nodes, x.get(), y.get())?;
+            let test = test.copy(alloc)?;
+            push_node(nodes, Node::If(test, x, Some(y)))
+        }
+        Tree::If(test, x, None) => {
+            let x = add_tree(alloc, nodes, x.get())?;
+            let test = test.copy(alloc)?;
+            push_node(nodes, Node::If(test, x, None))
+        }
+        Tree::Let(settings, x) => {
+            let x = add_tree(alloc, nodes, x.get())?;
+            let settings = copy_settings(alloc, settings)?;
+            push_node(nodes, Node::Let(settings, x))
+        }
+    }
+}
+
+#[cycle(add_tree)]
+fn add_both(
+    alloc: Global,
+    nodes: &mut Items<Node>,
+    x: &Tree,
+    y: &Tree,
+) -> Result<(usize, usize), NoMemory>
+    requires { AreBehind nodes.old }
+    ensures { IfOk result (λ places. HasAddedBoth nodes.old nodes.new places.0 places.1 (fresh x.now) (fresh y.now)) }
+{
+    let x = add_tree(alloc, nodes, x)?;
+    let y = add_tree(alloc, nodes, y)?;
+    Ok((x, y))
+}
+
+/// Adds a node, and gives its place.
+fn push_node(nodes: &mut Items<Node>, node: Node) -> Result<usize, NoMemory>
+    requires all { AreBehind nodes.old }
+    requires behind { IsBehind (length nodes.old) node }
+    ensures { IfOk result (λ at. HasAdded nodes.old nodes.new at (built (processes nodes.old) node)) }
+{
+    let at = nodes.len();
+    nodes.push(node)?;
+    Ok(at)
+}
