@@ -1,10 +1,11 @@
-ghost use Rattle.std.specs.Prelude.{◌≡◌, ◌<◌, ◌≤◌, Some, IfOk, OnErr, length, slice_get};
-ghost use Rattle.tb_algebra.specs.Processes.{fresh, Process};
-ghost use Rattle.tb_algebra.specs.Plans.{AreBehind, IsBehind, HasAdded, HasAddedBoth, processes, process_at, built};
+ghost use Rattle.std.specs.Prelude.{◌≡◌, ◌<◌, Some, IsTrue, IfOk, length, slice_get};
+ghost use Rattle.std.specs.Coded.{codes};
+ghost use Rattle.tb_body.specs.contracts.tree.Tree as tree;
+ghost use Rattle.tb_algebra.specs.Plans.{AreBehind, is_behind, HasAdded, trees, tree_at, built};
 
 use crate::node::Node;
 use std::alloc::Global;
-use tb_body::{Act, Body, Tree, copy_settings};
+use tb_body::{Body, Tree, copy_settings};
 use tb_terms::{Items, NoMemory};
 
 /// What a body is worked out to: its operators one after another, each behind its parts.
@@ -15,7 +16,7 @@ pub struct Plan {
     pub(crate) root: usize,
     ghost behind: { AreBehind nodes },
     ghost within: { root < length nodes },
-    ghost whole: { process_at nodes root ≡ fresh body.tree },
+    ghost whole: { tree_at nodes root ≡ body.tree } by { Prim.hlevel (codes, tree.the_row.coded) },
 }
 
 impl Plan {
@@ -42,28 +43,33 @@ impl Plan {
 #[cycle(add_tree)]
 fn add_tree(alloc: Global, nodes: &mut Items<Node>, tree: &Tree) -> Result<usize, NoMemory>
     requires { AreBehind nodes.old }
-    ensures { IfOk result (λ at. HasAdded nodes.old nodes.new at (fresh tree.now)) }
+    ensures { IfOk result (λ at. HasAdded nodes.old nodes.new at tree.now) }
 {
     match tree {
         Tree::At(atom) => push_node(nodes, Node::At(*atom)),
         Tree::Seq(x, y) => {
-            let (x, y) = add_both(alloc, nodes, x.get(), y.get())?;
+            let x = add_tree(alloc, nodes, x.get())?;
+            let y = add_tree(alloc, nodes, y.get())?;
             push_node(nodes, Node::Seq(x, y))
         }
         Tree::Alt(x, y) => {
-            let (x, y) = add_both(alloc, nodes, x.get(), y.get())?;
+            let x = add_tree(alloc, nodes, x.get())?;
+            let y = add_tree(alloc, nodes, y.get())?;
             push_node(nodes, Node::Alt(x, y))
         }
         Tree::Star(x, y) => {
-            let (x, y) = add_both(alloc, nodes, x.get(), y.get())?;
+            let x = add_tree(alloc, nodes, x.get())?;
+            let y = add_tree(alloc, nodes, y.get())?;
             push_node(nodes, Node::Star(x, y))
         }
         Tree::Par(x, y) => {
-            let (x, y) = add_both(alloc, nodes, x.get(), y.get())?;
+            let x = add_tree(alloc, nodes, x.get())?;
+            let y = add_tree(alloc, nodes, y.get())?;
             push_node(nodes, Node::Par(x, y))
         }
         Tree::If(test, x, Some(y)) => {
-            let (x, y) = add_both(alloc, nodes, x.get(), y.get())?;
+            let x = add_tree(alloc, nodes, x.get())?;
+            let y = add_tree(alloc, nodes, y.get())?;
             let test = test.copy(alloc)?;
             push_node(nodes, Node::If(test, x, Some(y)))
         }
@@ -80,26 +86,11 @@ fn add_tree(alloc: Global, nodes: &mut Items<Node>, tree: &Tree) -> Result<usize
     }
 }
 
-#[cycle(add_tree)]
-fn add_both(
-    alloc: Global,
-    nodes: &mut Items<Node>,
-    x: &Tree,
-    y: &Tree,
-) -> Result<(usize, usize), NoMemory>
-    requires { AreBehind nodes.old }
-    ensures { IfOk result (λ places. HasAddedBoth nodes.old nodes.new places.0 places.1 (fresh x.now) (fresh y.now)) }
-{
-    let x = add_tree(alloc, nodes, x)?;
-    let y = add_tree(alloc, nodes, y)?;
-    Ok((x, y))
-}
-
 /// Adds a node, and gives its place.
 fn push_node(nodes: &mut Items<Node>, node: Node) -> Result<usize, NoMemory>
     requires all { AreBehind nodes.old }
-    requires behind { IsBehind (length nodes.old) node }
-    ensures { IfOk result (λ at. HasAdded nodes.old nodes.new at (built (processes nodes.old) node)) }
+    requires behind { IsTrue (is_behind (length nodes.old) node) }
+    ensures { IfOk result (λ at. HasAdded nodes.old nodes.new at (built (trees nodes.old) node)) }
 {
     let at = nodes.len();
     nodes.push(node)?;
