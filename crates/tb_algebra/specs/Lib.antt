@@ -1,8 +1,12 @@
 pub mod Atoms
 pub mod Binds
+pub mod Founds
+pub mod Hits
 pub mod Offers
 pub mod Plans
 pub mod Processes
+pub mod Rewritings
 pub mod Runnings
 pub mod Settings
+pub mod Sights
 pub mod Walks

@@ -1,11 +1,12 @@
-ghost use Rattle.std.specs.Prelude.{◌≡◌, ◌<◌, Some, IsTrue, IfOk, length, slice_get};
+ghost use Rattle.std.specs.Prelude.{◌≡◌, ◌-◌, ◌<◌, Some, IsTrue, IfOk, length, slice_get};
 ghost use Rattle.std.specs.Coded.{codes};
+ghost use Rattle.std.specs.Option.{option_copied};
 ghost use Rattle.tb_body.specs.contracts.tree.Tree as tree;
 ghost use Rattle.tb_algebra.specs.Plans.{AreBehind, is_behind, HasAdded, trees, tree_at, built};
 
 use crate::node::Node;
 use std::alloc::Global;
-use tb_body::{Body, Tree, copy_settings};
+use tb_body::{Atom, Body, Tree, copy_settings};
 use tb_terms::{Items, NoMemory};
 
 /// What a body is worked out to: its operators one after another, each behind its parts.
@@ -36,6 +37,13 @@ impl Plan {
         ensures behind { AreBehind self.now.nodes }
     {
         &self.nodes.as_slice()[at]
+    }
+
+    /// The atom with this number, where there is one.
+    pub(crate) fn atom(&self, number: u32) -> Option<&Atom>
+        ensures { option_copied result ≡ slice_get self.now.body.atoms (number - 1) }
+    {
+        self.body.atoms.get(number.saturating_sub(1) as usize)
     }
 }
 

@@ -1,0 +1,184 @@
+ghost use Rattle.std.specs.Prelude.{◌≡◌, ℕ, ◌<◌, ◌≤◌, List, Some, IfOk, IsTrue, length};
+ghost use Rattle.tb_func.specs.declared.slot.Slot.{Slot};
+ghost use Rattle.tb_algebra.specs.declared.node.Node.{Node as PlanNode};
+ghost use Rattle.tb_algebra.specs.Hits.{Past, On, hit, hit_with, hit_of, is_fired_on};
+ghost use Rattle.tb_algebra.specs.Offers.{followed, left_of, right_of};
+ghost use Rattle.tb_algebra.specs.Plans.{process_at};
+ghost use Rattle.tb_algebra.specs.Processes.{At};
+ghost use Rattle.tb_algebra.specs.Runnings.{entered_term, term_of, is_on};
+ghost use Rattle.tb_algebra.specs.Sights.{or_own};
+
+use crate::fired::Fired;
+use crate::found::copy_own;
+use crate::look::store_of;
+use crate::node::Node;
+use crate::plan::Plan;
+use crate::running::{Entry, Running};
+use crate::settings::{tested, with_settings};
+use std::alloc::Global;
+use tb_func::Store;
+use tb_terms::{Boxed, NoMemory};
+
+/// Takes the offer of a running term at this place, from 0 in text order.
+#[cycle(fire_term)]
+pub(crate) fn fire_term(
+    alloc: Global,
+    plan: &Plan,
+    term: &Running,
+    ticks: u64,
+    store: &Store,
+    k: usize,
+) -> Result<Fired, NoMemory>
+    requires { IsTrue (is_on plan.now.nodes ticks term.now) }
+    ensures hit { IfOk result (λ fired. hit_of plan.now.nodes ticks store.now fired
+        ≡ hit (term_of plan.now.nodes ticks term.now) store.now k) }
+    ensures on { IfOk result (λ fired. IsTrue (is_fired_on plan.now.nodes ticks fired)) }
+{
+    match term {
+        Running::Whole(entry) => fire_entry(alloc, plan, *entry, ticks, store, &None, k),
+        Running::Seq(x, y) => {
+            let fired = fire_term(alloc, plan, x.get(), ticks, store, k)?;
+            followed(alloc, fired, *y, ticks)
+        }
+        Running::Par(x, y) => match fire_term(alloc, plan, x.get(), ticks, store, k)? {
+            Fired::Past(rest) => {
+                let fired = fire_term(alloc, plan, y.get(), ticks, store, rest)?;
+                on_the_right(alloc, x.get(), fired)
+            }
+            taken => on_the_left(alloc, taken, y.get()),
+        },
+    }
+}
+
+/// Takes the offer of a part of the plan at this place.
+#[cycle(fire_entry)]
+fn fire_entry(
+    alloc: Global,
+    plan: &Plan,
+    entry: Entry,
+    ticks: u64,
+    base: &Store,
+    own: &Option<Store>,
+    k: usize,
+) -> Result<Fired, NoMemory>
+    requires there { entry.node < length plan.now.nodes }
+    requires entered { entry.entered ≤ ticks }
+    ensures hit { IfOk result (λ fired. hit_of plan.now.nodes ticks base.now fired
+        ≡ hit (entered_term plan.now.nodes ticks entry) (or_own own.now base.now) k) }
+    ensures on { IfOk result (λ fired. IsTrue (is_fired_on plan.now.nodes ticks fired)) }
+{
+    match plan.node(entry.node) {
+        Node::At(_) => fire_atom(alloc, own, k),
+        Node::Seq(x, y) => {
+            let fired = fire_entry(alloc, plan, entry.part(*x), ticks, base, own, k)?;
+            followed(alloc, fired, *y, ticks)
+        }
+        Node::Alt(x, y) => match fire_entry(alloc, plan, entry.part(*x), ticks, base, own, k)? {
+            Fired::Past(rest) => fire_entry(alloc, plan, entry.part(*y), ticks, base, own, rest),
+            taken => Ok(taken),
+        },
+        Node::Star(x, y) => match fire_entry(alloc, plan, entry.part(*x), ticks, base, own, k)? {
+            Fired::Past(rest) => fire_entry(alloc, plan, entry.part(*y), ticks, base, own, rest),
+            taken => followed(alloc, taken, entry.node, ticks),
+        },
+        Node::Par(x, y) => match fire_entry(alloc, plan, entry.part(*x), ticks, base, own, k)? {
+            Fired::Past(rest) => {
+                let fired = fire_entry(alloc, plan, entry.part(*y), ticks, base, own, rest)?;
+                on_the_right(alloc, &Running::Whole(entry.part(*x)), fired)
+            }
+            taken => on_the_left(alloc, taken, &Running::Whole(entry.part(*y))),
+        },
+        Node::If(test, x, y) => match tested(alloc, store_of(base, own), test)? {
+            Some(true) => fire_entry(alloc, plan, entry.part(*x), ticks, base, own, k),
+            Some(false) => match y {
+                Some(y) => fire_entry(alloc, plan, entry.part(*y), ticks, base, own, k),
+                None => Ok(Fired::Past(k)),
+            },
+            None => Ok(Fired::Past(k)),
+        },
+        Node::Let(settings, x) => match with_settings(alloc, store_of(base, own), settings)? {
+            Some(store) => {
+                let own = Some(store);
+                fire_entry(alloc, plan, entry.part(*x), ticks, base, &own, k)
+            }
+            None => Ok(Fired::Past(k)),
+        },
+    }
+}
+
+/// An atom has one offer, and then the term has ended.
+fn fire_atom(alloc: Global, own: &Option<Store>, k: usize) -> Result<Fired, NoMemory>
+    ensures hit { IfOk result (λ fired. (nodes : List PlanNode) → (ticks : ℕ) → (base : List Slot) → (atom : ℕ) → (age : ℕ) →
+        hit_of nodes ticks base fired ≡ hit (At atom age) (or_own own.now base) k) }
+    ensures on { IfOk result (λ fired. (nodes : List PlanNode) → (ticks : ℕ) → IsTrue (is_fired_on nodes ticks fired)) }
+{
+    if k > 0 {
+        return Ok(Fired::Past(k - 1));
+    }
+    let own = copy_own(alloc, own)?;
+    Ok(Fired::Taken(None, own))
+}
+
+/// What is left, and then the node of the plan.
+fn followed(alloc: Global, fired: Fired, node: usize, ticks: u64) -> Result<Fired, NoMemory>
+    ensures hit { IfOk result (λ whole. (nodes : List PlanNode) → (base : List Slot) →
+        hit_of nodes ticks base whole
+        ≡ hit_with (λ left. Some (followed left (process_at nodes node))) (hit_of nodes ticks base fired)) }
+    ensures on { IfOk result (λ whole. (nodes : List PlanNode) → node < length nodes →
+        IsTrue (is_fired_on nodes ticks fired) → IsTrue (is_fired_on nodes ticks whole)) }
+{
+    match fired {
+        Fired::Past(rest) => Ok(Fired::Past(rest)),
+        Fired::Taken(left, own) => {
+            let whole = match left {
+                Some(x) => Running::Seq(Boxed::new(alloc, x)?, node),
+                None => Running::Whole(Entry {
+                    node,
+                    entered: ticks,
+                }),
+            };
+            Ok(Fired::Taken(Some(whole), own))
+        }
+    }
+}
+
+/// What is left, beside the other side.
+fn on_the_left(alloc: Global, fired: Fired, right: &Running) -> Result<Fired, NoMemory>
+    ensures hit { IfOk result (λ whole. (nodes : List PlanNode) → (ticks : ℕ) → (base : List Slot) →
+        hit_of nodes ticks base whole
+        ≡ hit_with (λ left. Some (left_of left (term_of nodes ticks right.now))) (hit_of nodes ticks base fired)) }
+    ensures on { IfOk result (λ whole. (nodes : List PlanNode) → (ticks : ℕ) → IsTrue (is_on nodes ticks right.now) →
+        IsTrue (is_fired_on nodes ticks fired) → IsTrue (is_fired_on nodes ticks whole)) }
+{
+    match fired {
+        Fired::Past(rest) => Ok(Fired::Past(rest)),
+        Fired::Taken(left, own) => {
+            let y = right.copy(alloc)?;
+            let whole = match left {
+                Some(x) => Running::Par(Boxed::new(alloc, x)?, Boxed::new(alloc, y)?),
+                None => y,
+            };
+            Ok(Fired::Taken(Some(whole), own))
+        }
+    }
+}
+
+fn on_the_right(alloc: Global, left: &Running, fired: Fired) -> Result<Fired, NoMemory>
+    ensures hit { IfOk result (λ whole. (nodes : List PlanNode) → (ticks : ℕ) → (base : List Slot) →
+        hit_of nodes ticks base whole
+        ≡ hit_with (λ right. Some (right_of (term_of nodes ticks left.now) right)) (hit_of nodes ticks base fired)) }
+    ensures on { IfOk result (λ whole. (nodes : List PlanNode) → (ticks : ℕ) → IsTrue (is_on nodes ticks left.now) →
+        IsTrue (is_fired_on nodes ticks fired) → IsTrue (is_fired_on nodes ticks whole)) }
+{
+    match fired {
+        Fired::Past(rest) => Ok(Fired::Past(rest)),
+        Fired::Taken(right, own) => {
+            let x = left.copy(alloc)?;
+            let whole = match right {
+                Some(y) => Running::Par(Boxed::new(alloc, x)?, Boxed::new(alloc, y)?),
+                None => x,
+            };
+            Ok(Fired::Taken(Some(whole), own))
+        }
+    }
+}

@@ -1,0 +1,208 @@
+ghost use Rattle.std.specs.Prelude.{◌≡◌, ◌++◌, [], IfOk, IsTrue, None, map, slice_get, option_and_then};
+ghost use Rattle.std.specs.Option.{option_copied};
+ghost use Rattle.tb_algebra.specs.Binds.{takes_binds, with_binds};
+ghost use Rattle.tb_algebra.specs.Sights.{or_own};
+ghost use Rattle.tb_algebra.specs.Rewritings.{walking_of, seen_of, IsOnPlan};
+
+use crate::fire::fire_term;
+use crate::fired::Fired;
+use crate::found::{Found, copy_founds};
+use crate::look::{Clock, look_term, store_of};
+use crate::plan::Plan;
+use crate::running::{Entry, Running};
+use crate::settings::set_binds;
+use crate::values::{accepted_binds, matched_patterns, sent_values};
+use crate::{Offer, Walker};
+use std::alloc::Global;
+use tb_body::Body;
+use tb_func::Store;
+use tb_match::{Binds, match_list};
+use tb_terms::{Items, NoMemory, Patterns, Terms};
+
+/// A walker that rewrites what is left of its process. Parts of the plan that wait are kept by their
+/// nodes and the ticks at which they were entered, so that a tick copies nothing.
+#[derive(Debug, Drop)]
+pub struct Rewriter {
+    pub(crate) term: Option<Running>,
+    pub(crate) store: Store,
+    pub(crate) ticks: u64,
+    pub(crate) found: Option<Items<Found>>,
+}
+
+impl Rewriter {
+    /// What was found at this place.
+    fn found_at(&self, k: usize) -> Option<&Found>
+        ensures { option_copied result ≡ option_and_then (λ founds. slice_get founds k) self.now.found }
+    {
+        match &self.found {
+            Some(found) => found.get(k),
+            None => None,
+        }
+    }
+
+    /// What the rewriter may do next.
+    fn find(&self, alloc: Global, plan: &Plan, now: u64) -> Result<Items<Found>, NoMemory> {
+        let mut found = Items::new(alloc);
+        let clock = Clock {
+            ticks: self.ticks,
+            now,
+        };
+        match &self.term {
+            Some(term) => look_term(alloc, plan, term, clock, &self.store, &mut found)?,
+            None => {}
+        }
+        Ok(found)
+    }
+
+    /// Goes on with what is left, in the store that a `let` made or in its own.
+    fn goes_on(&mut self, left: Option<Running>, own: Option<Store>, binds: Binds)
+        requires { IsTrue (takes_binds (or_own own self.old.store) binds) }
+        ensures term { self.new.term ≡ left }
+        ensures store { self.new.store ≡ with_binds (or_own own self.old.store) binds }
+        ensures ticks { self.new.ticks ≡ self.old.ticks }
+        ensures found { self.new.found ≡ None }
+    {
+        match own {
+            Some(store) => self.store = store,
+            None => {}
+        }
+        set_binds(&mut self.store, binds);
+        self.term = left;
+        self.found = None;
+    }
+}
+
+impl Walker for Rewriter {
+    type Plan = Plan;
+
+    ghost body_of = { λ plan. plan.body };
+
+    ghost IsOn = { λ plan rewriter. IsOnPlan plan rewriter };
+
+    ghost walking = { λ plan rewriter. walking_of plan rewriter };
+
+    ghost seen = { λ rewriter. seen_of rewriter };
+
+    fn plan(alloc: Global, body: &Body) -> Result<Plan, NoMemory> {
+        Plan::new(alloc, body)
+    }
+
+    fn start(_alloc: Global, plan: &Plan, store: Store) -> Result<Rewriter, NoMemory> {
+        let root = Entry {
+            node: plan.root,
+            entered: 0,
+        };
+        Ok(Rewriter {
+            term: Some(Running::Whole(root)),
+            store,
+            ticks: 0,
+            found: None,
+        })
+    }
+
+    fn look(&mut self, alloc: Global, plan: &Plan, now: u64) -> Result<(), NoMemory> {
+        let found = self.find(alloc, plan, now)?;
+        self.found = Some(found);
+        Ok(())
+    }
+
+    fn is_fresh(&self) -> bool {
+        self.found.is_some()
+    }
+
+    fn offer_count(&self) -> usize {
+        match &self.found {
+            Some(found) => found.len(),
+            None => 0,
+        }
+    }
+
+    fn offer(&self, k: usize) -> Offer {
+        match self.found_at(k) {
+            Some(found) => found.offer(),
+            None => Offer {
+                atom: 0,
+                age: 0,
+                ready: false,
+            },
+        }
+    }
+
+    fn sent(&self, alloc: Global, plan: &Plan, k: usize) -> Result<Option<Terms>, NoMemory> {
+        let Some(found) = self.found_at(k) else {
+            return Ok(None);
+        };
+        match plan.atom(found.atom) {
+            Some(atom) => sent_values(alloc, store_of(&self.store, &found.own), &atom.act),
+            None => Ok(Some(Items::new(alloc))),
+        }
+    }
+
+    fn patterns(&self, alloc: Global, plan: &Plan, k: usize) -> Result<Option<Patterns>, NoMemory> {
+        let Some(found) = self.found_at(k) else {
+            return Ok(None);
+        };
+        match plan.atom(found.atom) {
+            Some(atom) => matched_patterns(alloc, store_of(&self.store, &found.own), &atom.act),
+            None => Ok(Some(Items::new(alloc))),
+        }
+    }
+
+    fn accepts(
+        &self,
+        alloc: Global,
+        plan: &Plan,
+        k: usize,
+        ts: &Terms,
+    ) -> Result<Option<Binds>, NoMemory> {
+        let Some(found) = self.found_at(k) else {
+            return Ok(None);
+        };
+        match plan.atom(found.atom) {
+            Some(atom) => accepted_binds(alloc, store_of(&self.store, &found.own), &atom.act, ts),
+            None => match_list(alloc, &Items::new(alloc), ts),
+        }
+    }
+
+    fn fire(
+        &mut self,
+        alloc: Global,
+        plan: &Plan,
+        k: usize,
+        binds: Binds,
+    ) -> Result<(), NoMemory> {
+        let fired = match &self.term {
+            Some(term) => fire_term(alloc, plan, term, self.ticks, &self.store, k)?,
+            None => Fired::Past(k),
+        };
+        match fired {
+            Fired::Taken(left, own) => {
+                self.goes_on(left, own, binds);
+                Ok(())
+            }
+            Fired::Past(_) => Ok(()),
+        }
+    }
+
+    fn is_done(&self) -> bool {
+        self.term.is_none()
+    }
+
+    fn copy(&self, alloc: Global) -> Result<Rewriter, NoMemory> {
+        let term = match &self.term {
+            Some(term) => Some(term.copy(alloc)?),
+            None => None,
+        };
+        let found = match &self.found {
+            Some(found) => Some(copy_founds(alloc, found)?),
+            None => None,
+        };
+        let store = self.store.copy(alloc)?;
+        Ok(Rewriter {
+            term,
+            store,
+            ticks: self.ticks,
+            found,
+        })
+    }
+}
