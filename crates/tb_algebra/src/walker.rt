@@ -38,7 +38,8 @@ pub trait Walker: Sized + Drop + Send {
     fn start(alloc: Global, plan: &Self::Plan, store: Store) -> Result<Self, NoMemory>
         requires { sorts_of store ≡ (body_of plan.now).sorts }
         ensures on { IfOk result (λ walker. IsOn plan.now walker) }
-        ensures term { IfOk result (λ walker. walking plan.now walker ≡ entering (body_of plan.now) store) };
+        ensures term { IfOk result (λ walker. walking plan.now walker ≡ entering (body_of plan.now) store) }
+        ensures seen { IfOk result (λ walker. seen walker ≡ None) };
 
     /// Looks what the process may do next, on a bus that has seen so many ticks.
     fn look(&mut self, alloc: Global, plan: &Self::Plan, now: u64) -> Result<(), NoMemory>
