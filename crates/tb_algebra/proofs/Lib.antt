@@ -1,2 +1,3 @@
 pub mod BindLemmas
+pub mod EntryLemmas
 pub mod PlanLemmas
