@@ -156,8 +156,13 @@ module _ (nodes : List Node) (ticks : ℕ) (entry : Entry) (all : AreBehind node
       ∙ ap (λ (p : Process). map (before p) (offers (waited age first) store) ++ offers (waited age second) store) (sym star)
 
 -- what is entered now is new
-pub entered-now : (nodes : List Node) (ticks node : ℕ) → entered_term nodes ticks (record { node = node; entered = ticks }) ≡ process_at nodes node
+pub entered_now : (nodes : List Node) (ticks node : ℕ) → entered_term nodes ticks (record { node = node; entered = ticks }) ≡ process_at nodes node
 unfolding entered_term
-entered-now nodes ticks node =
+entered_now nodes ticks node =
     let z : ticks - ticks ≡ 0 = omega arith in
     ap (λ (n : ℕ). waited n (process_at nodes node)) z
+
+-- a process that starts stands for its body
+pub entered_root : (nodes : List Node) (root : ℕ) (whole : Tree) → tree_at nodes root ≡ whole → entered_term nodes 0 (record { node = root; entered = 0 }) ≡ fresh whole
+unfolding entered_term process_at
+entered_root nodes root whole e = ap fresh e

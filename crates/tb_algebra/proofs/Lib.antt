@@ -1,3 +1,4 @@
 pub mod BindLemmas
 pub mod EntryLemmas
 pub mod PlanLemmas
+pub mod SightLemmas

@@ -5,6 +5,7 @@ use Rattle.std.proofs.Math.ListN.{get_or-append}
 use Rattle.std.proofs.Math.Seq.{get_or-append_seam}
 use Rattle.std.proofs.lemmas.Bool.{and_parts, ltb-true}
 use Rattle.std.proofs.lemmas.List.Sums.{fold-append}
+use Rattle.tb_terms.specs.declared.expr.Expr.{Expr}
 use Rattle.tb_body.specs.declared.tree.Tree.{Tree}
 use Rattle.tb_body.specs.declared.tree.Tree.TheVariants as tree
 use Rattle.tb_algebra.specs.declared.node.Node.{Node}
@@ -110,3 +111,15 @@ tree_at-node nodes at node all e =
     let behind : is_behind (0 + at) node ≡ true = rw z (all at node e) in
     let h : made_at (fold with_node [] nodes) (0 + at) ≡ built (fold with_node [] nodes) node = stands_behind [] nodes at node e behind in
     rw z at h
+
+-- the parts of a node stand before it
+
+pub both_before : (x y at : ℕ) → (nat_lt x at && nat_lt y at) ≡ true → (x < at) × (y < at)
+both_before x y at h = let parts = and_parts (nat_lt x at) (nat_lt y at) h in (ltb-true x at parts.0, ltb-true y at parts.1)
+
+pub one_before : (x at : ℕ) → nat_lt x at ≡ true → x < at
+one_before x at h = ltb-true x at h
+
+pub if_before : (test : Expr) (x : ℕ) (y : Option ℕ) (at : ℕ) → is_behind at (If test x y) ≡ true → x < at
+if_before test x None at h = ltb-true x at h
+if_before test x (Some y) at h = (both_before x y at h).0

@@ -1,7 +1,8 @@
-ghost use Rattle.std.specs.Prelude.{◌≡◌, ℕ, ◌<◌, ◌≤◌, List, Some, IfOk, IsTrue, length};
+ghost use Rattle.std.specs.Prelude.{◌≡◌, ℕ, ◌<◌, ◌≤◌, List, Some, IfOk, IsTrue, length, option_map};
 ghost use Rattle.tb_func.specs.declared.slot.Slot.{Slot};
 ghost use Rattle.tb_algebra.specs.declared.node.Node.{Node as PlanNode};
-ghost use Rattle.tb_algebra.specs.Hits.{Past, On, hit, hit_with, hit_of, is_fired_on};
+ghost use Rattle.tb_algebra.specs.declared.running.Running.TheVariants.{Whole};
+ghost use Rattle.tb_algebra.specs.Hits.{Past, On, hit, hit_with, hit_of, is_fired_on, is_left_on};
 ghost use Rattle.tb_algebra.specs.Offers.{followed, left_of, right_of};
 ghost use Rattle.tb_algebra.specs.Plans.{process_at};
 ghost use Rattle.tb_algebra.specs.Processes.{At};
@@ -19,6 +20,23 @@ use std::alloc::Global;
 use tb_func::Store;
 use tb_terms::{Boxed, NoMemory};
 
+/// When a part was entered, and how many ticks the process has seen.
+#[derive(Clone, Copy, Debug)]
+struct Since {
+    entered: u64,
+    ticks: u64,
+}
+
+impl Since {
+    /// A part that was entered then.
+    fn whole(self, node: usize) -> Running
+        ensures { result ≡ Whole (record { node = node; entered = self.entered }) }
+    {
+        let entered = self.entered;
+        Running::Whole(Entry { node, entered })
+    }
+}
+
 /// Takes the offer of a running term at this place, from 0 in text order.
 #[cycle(fire_term)]
 pub(crate) fn fire_term(
@@ -35,7 +53,11 @@ pub(crate) fn fire_term(
     ensures on { IfOk result (λ fired. IsTrue (is_fired_on plan.now.nodes ticks fired)) }
 {
     match term {
-        Running::Whole(entry) => fire_entry(alloc, plan, *entry, ticks, store, &None, k),
+        Running::Whole(entry) => {
+            let entered = entry.entered;
+            let since = Since { entered, ticks };
+            fire_node(alloc, plan, entry.node, since, store, &None, k)
+        }
         Running::Seq(x, y) => {
             let fired = fire_term(alloc, plan, x.get(), ticks, store, k)?;
             followed(alloc, fired, *y, ticks)
@@ -51,47 +73,47 @@ pub(crate) fn fire_term(
 }
 
 /// Takes the offer of a part of the plan at this place.
-#[cycle(fire_entry)]
-fn fire_entry(
+#[cycle(fire_node)]
+fn fire_node(
     alloc: Global,
     plan: &Plan,
-    entry: Entry,
-    ticks: u64,
+    node: usize,
+    since: Since,
     base: &Store,
     own: &Option<Store>,
     k: usize,
 ) -> Result<Fired, NoMemory>
-    requires there { entry.node < length plan.now.nodes }
-    requires entered { entry.entered ≤ ticks }
-    ensures hit { IfOk result (λ fired. hit_of plan.now.nodes ticks base.now fired
-        ≡ hit (entered_term plan.now.nodes ticks entry) (or_own own.now base.now) k) }
-    ensures on { IfOk result (λ fired. IsTrue (is_fired_on plan.now.nodes ticks fired)) }
+    requires there { node < length plan.now.nodes }
+    requires entered { since.entered ≤ since.ticks }
+    ensures hit { IfOk result (λ fired. hit_of plan.now.nodes since.ticks base.now fired
+        ≡ hit (entered_term plan.now.nodes since.ticks (record { node = node; entered = since.entered })) (or_own own.now base.now) k) }
+    ensures on { IfOk result (λ fired. IsTrue (is_fired_on plan.now.nodes since.ticks fired)) }
 {
-    match plan.node(entry.node) {
+    match plan.node(node) {
         Node::At(_) => fire_atom(alloc, own, k),
         Node::Seq(x, y) => {
-            let fired = fire_entry(alloc, plan, entry.part(*x), ticks, base, own, k)?;
-            followed(alloc, fired, *y, ticks)
+            let fired = fire_node(alloc, plan, *x, since, base, own, k)?;
+            followed(alloc, fired, *y, since.ticks)
         }
-        Node::Alt(x, y) => match fire_entry(alloc, plan, entry.part(*x), ticks, base, own, k)? {
-            Fired::Past(rest) => fire_entry(alloc, plan, entry.part(*y), ticks, base, own, rest),
+        Node::Alt(x, y) => match fire_node(alloc, plan, *x, since, base, own, k)? {
+            Fired::Past(rest) => fire_node(alloc, plan, *y, since, base, own, rest),
             taken => Ok(taken),
         },
-        Node::Star(x, y) => match fire_entry(alloc, plan, entry.part(*x), ticks, base, own, k)? {
-            Fired::Past(rest) => fire_entry(alloc, plan, entry.part(*y), ticks, base, own, rest),
-            taken => followed(alloc, taken, entry.node, ticks),
+        Node::Star(x, y) => match fire_node(alloc, plan, *x, since, base, own, k)? {
+            Fired::Past(rest) => fire_node(alloc, plan, *y, since, base, own, rest),
+            taken => followed(alloc, taken, node, since.ticks),
         },
-        Node::Par(x, y) => match fire_entry(alloc, plan, entry.part(*x), ticks, base, own, k)? {
+        Node::Par(x, y) => match fire_node(alloc, plan, *x, since, base, own, k)? {
             Fired::Past(rest) => {
-                let fired = fire_entry(alloc, plan, entry.part(*y), ticks, base, own, rest)?;
-                on_the_right(alloc, &Running::Whole(entry.part(*x)), fired)
+                let fired = fire_node(alloc, plan, *y, since, base, own, rest)?;
+                on_the_right(alloc, &since.whole(*x), fired)
             }
-            taken => on_the_left(alloc, taken, &Running::Whole(entry.part(*y))),
+            taken => on_the_left(alloc, taken, &since.whole(*y)),
         },
         Node::If(test, x, y) => match tested(alloc, store_of(base, own), test)? {
-            Some(true) => fire_entry(alloc, plan, entry.part(*x), ticks, base, own, k),
+            Some(true) => fire_node(alloc, plan, *x, since, base, own, k),
             Some(false) => match y {
-                Some(y) => fire_entry(alloc, plan, entry.part(*y), ticks, base, own, k),
+                Some(y) => fire_node(alloc, plan, *y, since, base, own, k),
                 None => Ok(Fired::Past(k)),
             },
             None => Ok(Fired::Past(k)),
@@ -99,7 +121,7 @@ fn fire_entry(
         Node::Let(settings, x) => match with_settings(alloc, store_of(base, own), settings)? {
             Some(store) => {
                 let own = Some(store);
-                fire_entry(alloc, plan, entry.part(*x), ticks, base, &own, k)
+                fire_node(alloc, plan, *x, since, base, &own, k)
             }
             None => Ok(Fired::Past(k)),
         },
@@ -107,6 +129,7 @@ fn fire_entry(
 }
 
 /// An atom has one offer, and then the term has ended.
+#[tactic(auto, unfolding(crate::specs::Hits::hit))]
 fn fire_atom(alloc: Global, own: &Option<Store>, k: usize) -> Result<Fired, NoMemory>
     ensures hit { IfOk result (λ fired. (nodes : List PlanNode) → (ticks : ℕ) → (base : List Slot) → (atom : ℕ) → (age : ℕ) →
         hit_of nodes ticks base fired ≡ hit (At atom age) (or_own own.now base) k) }
@@ -130,15 +153,30 @@ fn followed(alloc: Global, fired: Fired, node: usize, ticks: u64) -> Result<Fire
     match fired {
         Fired::Past(rest) => Ok(Fired::Past(rest)),
         Fired::Taken(left, own) => {
-            let whole = match left {
-                Some(x) => Running::Seq(Boxed::new(alloc, x)?, node),
-                None => Running::Whole(Entry {
-                    node,
-                    entered: ticks,
-                }),
-            };
+            let whole = left_then(alloc, left, node, ticks)?;
             Ok(Fired::Taken(Some(whole), own))
         }
+    }
+}
+
+#[tactic(auto, using(crate::proofs::EntryLemmas::entered_now))]
+fn left_then(
+    alloc: Global,
+    left: Option<Running>,
+    node: usize,
+    ticks: u64,
+) -> Result<Running, NoMemory>
+    ensures term { IfOk result (λ whole. (nodes : List PlanNode) →
+        term_of nodes ticks whole ≡ followed (option_map (term_of nodes ticks) left) (process_at nodes node)) }
+    ensures on { IfOk result (λ whole. (nodes : List PlanNode) → node < length nodes →
+        IsTrue (is_left_on nodes ticks left) → IsTrue (is_on nodes ticks whole)) }
+{
+    match left {
+        Some(x) => Ok(Running::Seq(Boxed::new(alloc, x)?, node)),
+        None => Ok(Running::Whole(Entry {
+            node,
+            entered: ticks,
+        })),
     }
 }
 

@@ -7,15 +7,16 @@ use crate::found::{Found, copy_own};
 use crate::node::Node;
 use crate::plan::Plan;
 use crate::ready::is_ready;
-use crate::running::{Entry, Running};
+use crate::running::Running;
 use crate::settings::{tested, with_settings};
 use std::alloc::Global;
 use tb_func::Store;
 use tb_terms::{Items, NoMemory};
 
-/// How many ticks the process and the bus have seen.
+/// When a part was entered, and how many ticks the process and the bus have seen.
 #[derive(Clone, Copy, Debug)]
 pub(crate) struct Clock {
+    pub entered: u64,
     pub ticks: u64,
     pub now: u64,
 }
@@ -26,52 +27,61 @@ pub(crate) fn look_term(
     alloc: Global,
     plan: &Plan,
     term: &Running,
-    clock: Clock,
+    ticks: u64,
+    now: u64,
     store: &Store,
     found: &mut Items<Found>,
 ) -> Result<(), NoMemory>
-    requires { IsTrue (is_on plan.now.nodes clock.ticks term.now) }
+    requires { IsTrue (is_on plan.now.nodes ticks term.now) }
     ensures { OnOk result (map (shown store.now) found.new
         ≡ map (shown store.now) found.old
-            ++ sights plan.now.body.atoms clock.now (term_of plan.now.nodes clock.ticks term.now) store.now) }
+            ++ sights plan.now.body.atoms now (term_of plan.now.nodes ticks term.now) store.now) }
 {
     match term {
-        Running::Whole(entry) => look_entry(alloc, plan, *entry, clock, store, &None, found),
-        Running::Seq(x, _) => look_term(alloc, plan, x.get(), clock, store, found),
+        Running::Whole(entry) => {
+            let entered = entry.entered;
+            let clock = Clock {
+                entered,
+                ticks,
+                now,
+            };
+            look_node(alloc, plan, entry.node, clock, store, &None, found)
+        }
+        Running::Seq(x, _) => look_term(alloc, plan, x.get(), ticks, now, store, found),
         Running::Par(x, y) => {
-            look_term(alloc, plan, x.get(), clock, store, found)?;
-            look_term(alloc, plan, y.get(), clock, store, found)
+            look_term(alloc, plan, x.get(), ticks, now, store, found)?;
+            look_term(alloc, plan, y.get(), ticks, now, store, found)
         }
     }
 }
 
 /// Adds what a part of the plan may do next.
-#[cycle(look_entry)]
-fn look_entry(
+#[cycle(look_node)]
+fn look_node(
     alloc: Global,
     plan: &Plan,
-    entry: Entry,
+    node: usize,
     clock: Clock,
     base: &Store,
     own: &Option<Store>,
     found: &mut Items<Found>,
 ) -> Result<(), NoMemory>
-    requires { entry.node < length plan.now.nodes }
+    requires { node < length plan.now.nodes }
     ensures { OnOk result (map (shown base.now) found.new
         ≡ map (shown base.now) found.old
-            ++ sights plan.now.body.atoms clock.now (entered_term plan.now.nodes clock.ticks entry) (or_own own.now base.now)) }
+            ++ sights plan.now.body.atoms clock.now (entered_term plan.now.nodes clock.ticks (record { node = node; entered = clock.entered })) (or_own own.now base.now)) }
 {
-    match plan.node(entry.node) {
-        Node::At(atom) => look_atom(alloc, plan, *atom, entry.entered, clock, base, own, found),
-        Node::Seq(x, _) => look_entry(alloc, plan, entry.part(*x), clock, base, own, found),
+    match plan.node(node) {
+        Node::At(atom) => look_atom(alloc, plan, *atom, clock, base, own, found),
+        Node::Seq(x, _) => look_node(alloc, plan, *x, clock, base, own, found),
         Node::Alt(x, y) | Node::Star(x, y) | Node::Par(x, y) => {
-            look_entry(alloc, plan, entry.part(*x), clock, base, own, found)?;
-            look_entry(alloc, plan, entry.part(*y), clock, base, own, found)
+            look_node(alloc, plan, *x, clock, base, own, found)?;
+            look_node(alloc, plan, *y, clock, base, own, found)
         }
         Node::If(test, x, y) => match tested(alloc, store_of(base, own), test)? {
-            Some(true) => look_entry(alloc, plan, entry.part(*x), clock, base, own, found),
+            Some(true) => look_node(alloc, plan, *x, clock, base, own, found),
             Some(false) => match y {
-                Some(y) => look_entry(alloc, plan, entry.part(*y), clock, base, own, found),
+                Some(y) => look_node(alloc, plan, *y, clock, base, own, found),
                 None => Ok(()),
             },
             None => Ok(()),
@@ -79,7 +89,7 @@ fn look_entry(
         Node::Let(settings, x) => match with_settings(alloc, store_of(base, own), settings)? {
             Some(store) => {
                 let own = Some(store);
-                look_entry(alloc, plan, entry.part(*x), clock, base, &own, found)
+                look_node(alloc, plan, *x, clock, base, &own, found)
             }
             None => Ok(()),
         },
@@ -100,7 +110,6 @@ fn look_atom(
     alloc: Global,
     plan: &Plan,
     atom: u32,
-    entered: u64,
     clock: Clock,
     base: &Store,
     own: &Option<Store>,
@@ -109,12 +118,12 @@ fn look_atom(
     ensures { OnOk result (map (shown base.now) found.new
         ≡ map (shown base.now) found.old ++ record {
           atom = atom;
-          age = clock.ticks - entered;
-          ready = is_ready (or_own own.now base.now) (clock.ticks - entered) clock.now (times_of plan.now.body.atoms atom);
+          age = clock.ticks - clock.entered;
+          ready = is_ready (or_own own.now base.now) (clock.ticks - clock.entered) clock.now (times_of plan.now.body.atoms atom);
           store = or_own own.now base.now;
         } ∷ []) }
 {
-    let age = clock.ticks.saturating_sub(entered);
+    let age = clock.ticks.saturating_sub(clock.entered);
     let ready = is_atom_ready(alloc, plan, store_of(base, own), atom, age, clock.now)?;
     let own = copy_own(alloc, own)?;
     found.push(Found {

@@ -7,7 +7,7 @@ ghost use Rattle.tb_algebra.specs.Rewritings.{walking_of, seen_of, IsOnPlan};
 use crate::fire::fire_term;
 use crate::fired::Fired;
 use crate::found::{Found, copy_founds};
-use crate::look::{Clock, look_term, store_of};
+use crate::look::{look_term, store_of};
 use crate::plan::Plan;
 use crate::running::{Entry, Running};
 use crate::settings::set_binds;
@@ -16,7 +16,7 @@ use crate::{Offer, Walker};
 use std::alloc::Global;
 use tb_body::Body;
 use tb_func::Store;
-use tb_match::{Binds, match_list};
+use tb_match::Binds;
 use tb_terms::{Items, NoMemory, Patterns, Terms};
 
 /// A walker that rewrites what is left of its process. Parts of the plan that wait are kept by their
@@ -43,12 +43,8 @@ impl Rewriter {
     /// What the rewriter may do next.
     fn find(&self, alloc: Global, plan: &Plan, now: u64) -> Result<Items<Found>, NoMemory> {
         let mut found = Items::new(alloc);
-        let clock = Clock {
-            ticks: self.ticks,
-            now,
-        };
         match &self.term {
-            Some(term) => look_term(alloc, plan, term, clock, &self.store, &mut found)?,
+            Some(term) => look_term(alloc, plan, term, self.ticks, now, &self.store, &mut found)?,
             None => {}
         }
         Ok(found)
@@ -87,6 +83,7 @@ impl Walker for Rewriter {
         Plan::new(alloc, body)
     }
 
+    #[tactic(auto, using(crate::proofs::EntryLemmas::entered_root))]
     fn start(_alloc: Global, plan: &Plan, store: Store) -> Result<Rewriter, NoMemory> {
         let root = Entry {
             node: plan.root,
@@ -129,22 +126,22 @@ impl Walker for Rewriter {
     }
 
     fn sent(&self, alloc: Global, plan: &Plan, k: usize) -> Result<Option<Terms>, NoMemory> {
-        let Some(found) = self.found_at(k) else {
-            return Ok(None);
-        };
-        match plan.atom(found.atom) {
-            Some(atom) => sent_values(alloc, store_of(&self.store, &found.own), &atom.act),
-            None => Ok(Some(Items::new(alloc))),
+        match self.found_at(k) {
+            Some(found) => {
+                let store = store_of(&self.store, &found.own);
+                Ok(sent_values(alloc, store, plan.atom(found.atom))?)
+            }
+            None => Ok(None),
         }
     }
 
     fn patterns(&self, alloc: Global, plan: &Plan, k: usize) -> Result<Option<Patterns>, NoMemory> {
-        let Some(found) = self.found_at(k) else {
-            return Ok(None);
-        };
-        match plan.atom(found.atom) {
-            Some(atom) => matched_patterns(alloc, store_of(&self.store, &found.own), &atom.act),
-            None => Ok(Some(Items::new(alloc))),
+        match self.found_at(k) {
+            Some(found) => {
+                let store = store_of(&self.store, &found.own);
+                Ok(matched_patterns(alloc, store, plan.atom(found.atom))?)
+            }
+            None => Ok(None),
         }
     }
 
@@ -155,12 +152,12 @@ impl Walker for Rewriter {
         k: usize,
         ts: &Terms,
     ) -> Result<Option<Binds>, NoMemory> {
-        let Some(found) = self.found_at(k) else {
-            return Ok(None);
-        };
-        match plan.atom(found.atom) {
-            Some(atom) => accepted_binds(alloc, store_of(&self.store, &found.own), &atom.act, ts),
-            None => match_list(alloc, &Items::new(alloc), ts),
+        match self.found_at(k) {
+            Some(found) => {
+                let store = store_of(&self.store, &found.own);
+                Ok(accepted_binds(alloc, store, plan.atom(found.atom), ts)?)
+            }
+            None => Ok(None),
         }
     }
 

@@ -11,18 +11,6 @@ pub struct Entry {
     pub entered: u64,
 }
 
-impl Entry {
-    /// A part of it, which was entered with it.
-    pub(crate) fn part(self, node: usize) -> Entry
-        ensures { result ≡ record { node = node; entered = self.entered } }
-    {
-        Entry {
-            node,
-            entered: self.entered,
-        }
-    }
-}
-
 /// What is left of a process.
 #[derive(Debug, Drop)]
 pub enum Running {

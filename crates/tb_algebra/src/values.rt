@@ -4,11 +4,11 @@ ghost use Rattle.std.below.core.specs.declared.int.usize.TheConstants.{MAX};
 ghost use Rattle.tb_terms.specs.Sizes.{term_size};
 ghost use Rattle.tb_func.specs.Patterns.{pattern_of};
 ghost use Rattle.tb_func.specs.Values.{value_of, all_of};
-ghost use Rattle.tb_algebra.specs.Atoms.{sent_exprs, matched_exprs, limited_together, values_together, patterns_of, accepted};
+ghost use Rattle.tb_algebra.specs.Atoms.{act_in, sent_exprs, matched_exprs, limited_together, values_together, patterns_of, accepted};
 
 use std::alloc::Global;
 use std::slice;
-use tb_body::Act;
+use tb_body::{Act, Atom};
 use tb_func::{Store, eval, pattern};
 use tb_match::{Binds, match_list};
 use tb_terms::{Expr, Items, NoMemory, Patterns, Term, Terms, size};
@@ -21,11 +21,14 @@ const GREATEST_SIZE: usize = 65_536;
 pub(crate) fn sent_values(
     alloc: Global,
     store: &Store,
-    act: &Act,
+    atom: Option<&Atom>,
 ) -> Result<Option<Terms>, NoMemory>
-    ensures { IfOk result (λ terms. terms ≡ values_together store.now (sent_exprs act.now)) }
+    ensures { IfOk result (λ terms. terms ≡ values_together store.now (sent_exprs (act_in (option_copied atom.entry)))) }
 {
-    match values_of(alloc, store, act)? {
+    let Some(atom) = atom else {
+        return Ok(Some(Items::new(alloc)));
+    };
+    match values_of(alloc, store, &atom.act)? {
         Some(terms) => Ok(limited_together(terms)),
         None => Ok(None),
     }
@@ -111,8 +114,17 @@ fn total_size(terms: &[Term]) -> usize
 pub(crate) fn matched_patterns(
     alloc: Global,
     store: &Store,
-    act: &Act,
+    atom: Option<&Atom>,
 ) -> Result<Option<Patterns>, NoMemory>
+    ensures { IfOk result (λ patterns. patterns ≡ patterns_of store.now (matched_exprs (act_in (option_copied atom.entry)))) }
+{
+    match atom {
+        Some(atom) => patterns_of_act(alloc, store, &atom.act),
+        None => Ok(Some(Items::new(alloc))),
+    }
+}
+
+fn patterns_of_act(alloc: Global, store: &Store, act: &Act) -> Result<Option<Patterns>, NoMemory>
     ensures { IfOk result (λ patterns. patterns ≡ patterns_of store.now (matched_exprs act.now)) }
 {
     match act {
@@ -149,12 +161,12 @@ fn patterns_of(
 pub(crate) fn accepted_binds(
     alloc: Global,
     store: &Store,
-    act: &Act,
+    atom: Option<&Atom>,
     ts: &Terms,
 ) -> Result<Option<Binds>, NoMemory>
-    ensures { IfOk result (λ binds. binds ≡ accepted store.now (matched_exprs act.now) ts.now) }
+    ensures { IfOk result (λ binds. binds ≡ accepted store.now (matched_exprs (act_in (option_copied atom.entry))) ts.now) }
 {
-    match matched_patterns(alloc, store, act)? {
+    match matched_patterns(alloc, store, atom)? {
         Some(patterns) => match_list(alloc, &patterns, ts),
         None => Ok(None),
     }
