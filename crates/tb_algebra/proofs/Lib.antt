@@ -2,3 +2,4 @@ pub mod BindLemmas
 pub mod EntryLemmas
 pub mod PlanLemmas
 pub mod SightLemmas
+pub mod TermLemmas

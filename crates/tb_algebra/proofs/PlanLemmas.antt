@@ -1,5 +1,5 @@
 -- The trees of a plan: each node's is built of those before it, and nodes that are added change none.
-use Rattle.std.proofs.Common.{◌≡◌, ℕ, zero, suc, ◌+◌, ◌<◌, ◌≤◌, Bool, true, ◌&&◌, nat_lt, IsTrue, Option, Some, None, List, [], ◌∷◌, ◌++◌, length, slice_get, get_or, refl, ap, sym, ◌∙◌, arith, length-append}
+use Rattle.std.proofs.Common.{◌≡◌, ℕ, zero, suc, ◌+◌, ◌<◌, ◌≤◌, Bool, true, ◌&&◌, nat_lt, IsTrue, Option, Some, None, List, [], ◌∷◌, ◌++◌, length, slice_get, get_or, refl, ap, sym, subst, ◌∙◌, arith, length-append, ◌⊎◌, inl, inr}
 use Rattle.std.specs.List.{fold}
 use Rattle.std.proofs.Math.ListN.{get_or-append}
 use Rattle.std.proofs.Math.Seq.{get_or-append_seam}
@@ -123,3 +123,12 @@ one_before x at h = ltb-true x at h
 pub if_before : (test : Expr) (x : ℕ) (y : Option ℕ) (at : ℕ) → is_behind at (If test x y) ≡ true → x < at
 if_before test x None at h = ltb-true x at h
 if_before test x (Some y) at h = (both_before x y at h).0
+
+-- a choice, a star or a merge
+abbrev pub IsTwoSided : Node → ℕ → ℕ → Type 0
+IsTwoSided node x y = (node ≡ Alt x y) ⊎ ((node ≡ Star x y) ⊎ (node ≡ Par x y))
+
+pub sides_before : (node : Node) (x y at : ℕ) → IsTwoSided node x y → is_behind at node ≡ true → (x < at) × (y < at)
+sides_before node x y at (inl e) h = both_before x y at (subst (λ (n : Node). is_behind at n ≡ true) e h)
+sides_before node x y at (inr (inl e)) h = both_before x y at (subst (λ (n : Node). is_behind at n ≡ true) e h)
+sides_before node x y at (inr (inr e)) h = both_before x y at (subst (λ (n : Node). is_behind at n ≡ true) e h)

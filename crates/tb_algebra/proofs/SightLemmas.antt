@@ -1,5 +1,5 @@
 -- What an entered part of a plan may do next, by its own parts.
-use Rattle.std.proofs.Common.{◌≡◌, ℕ, ◌-◌, Bool, true, false, Option, Some, None, List, [], ◌∷◌, ◌++◌, map, slice_get, refl, ap, sym, ◌∙◌, append_assoc}
+use Rattle.std.proofs.Common.{◌≡◌, ℕ, ◌-◌, Bool, true, false, Option, Some, None, List, [], ◌∷◌, ◌++◌, map, slice_get, refl, ap, sym, ◌∙◌, append_assoc, ◌⊎◌, inl, inr}
 use Rattle.std.proofs.lemmas.List.{append-nil}
 use Rattle.tb_terms.specs.declared.expr.Expr.{Expr}
 use Rattle.tb_func.specs.declared.slot.Slot.{Slot}
@@ -16,6 +16,7 @@ use Rattle.tb_algebra.specs.Sights.{Sight, sighted, sights}
 use Rattle.tb_algebra.specs.declared.node.Node.{Node}
 use Rattle.tb_algebra.specs.declared.node.Node.TheVariants.{At, Seq, Alt, Star, Par, If, Let}
 use Rattle.tb_algebra.specs.declared.running.Entry.{Entry}
+use Rattle.tb_algebra.proofs.PlanLemmas.{IsTwoSided}
 use Rattle.tb_algebra.proofs.EntryLemmas.{part, entered-At, entered-Seq, entered-Alt, entered-Star, entered-Par, entered-When, entered-If, entered-Let}
 
 module _ (atoms : List Atom) (now : ℕ) where
@@ -148,6 +149,11 @@ module _ (atoms : List Atom) (now : ℕ) where
 
     pub sights_unset : (settings : List Setting) (x : ℕ) (store : List Slot) → here (Let settings x) → with_settings store settings ≡ None → of_entry entry store ≡ []
     sights_unset settings x store e t = sights_let settings x store None e t
+
+    pub sights_sides : (node : Node) (x y : ℕ) (store : List Slot) → here node → IsTwoSided node x y → of_entry entry store ≡ of_entry (part entry x) store ++ of_entry (part entry y) store
+    sights_sides node x y store e (inl k) = sights_alt x y store (e ∙ ap Some k)
+    sights_sides node x y store e (inr (inl k)) = sights_star x y store (e ∙ ap Some k)
+    sights_sides node x y store e (inr (inr k)) = sights_par x y store (e ∙ ap Some k)
 
 pub nothing_more : (xs ys : List Sight) → ys ≡ [] → xs ≡ xs ++ ys
 nothing_more xs ys e = sym (append-nil xs) ∙ ap (λ (l : List Sight). xs ++ l) (sym e)

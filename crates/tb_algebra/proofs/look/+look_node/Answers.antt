@@ -2,11 +2,12 @@ use Rattle.std.proofs.Common.{◌≡◌, ℕ, ◌<◌, ◌≤◌, Bool, true, fa
 use Rattle.tb_func.specs.declared.slot.Slot.{Slot}
 use Rattle.tb_algebra.specs.declared.node.Node.{Node}
 use Rattle.tb_algebra.specs.declared.node.Node.TheVariants.{At, Seq, Alt, Star, Par, If, Let}
+use Rattle.tb_algebra.specs.declared.running.Entry.{Entry}
 use Rattle.tb_algebra.specs.Settings.{tested, with_settings}
 use Rattle.tb_algebra.specs.Sights.{Sight, shown, or_own, sights}
 use Rattle.tb_algebra.specs.Runnings.{entered_term}
-use Rattle.tb_algebra.proofs.PlanLemmas.{both_before, one_before, if_before}
-use Rattle.tb_algebra.proofs.SightLemmas.{sights_at, sights_seq, sights_alt, sights_star, sights_par, sights_true, sights_false, sights_absent, sights_untold, sights_set, sights_unset, nothing_more, both_more}
+use Rattle.tb_algebra.proofs.PlanLemmas.{both_before, one_before, if_before, sides_before}
+use Rattle.tb_algebra.proofs.SightLemmas.{sights_at, sights_seq, sights_sides, sights_true, sights_false, sights_absent, sights_untold, sights_set, sights_unset, nothing_more, both_more}
 use Rattle.tb_algebra.proofs.look.+look_node.Goals as goal
 
 pub look_node-requires : goal.look_node-requires
@@ -99,4 +100,30 @@ returns-in-None-2 t c =
     nothing_more (map (shown c.args.base.now) c.args.found.now) _ (sights_unset c.args.plan.now.body.atoms c.args.clock.now c.args.plan.now.nodes c.args.clock.ticks (record { node = c.args.node; entered = c.args.clock.entered }) c.node.ensures.behind c.in-Let.settings c.in-Let.x (or_own c.args.own.now c.args.base.now) node after)
 
 pub look_node-requires-in-Alt : goal.look_node-requires-in-Alt
-look_node-requires-in-Alt t c = let h = c.in-Alt.is in ?
+look_node-requires-in-Alt t c =
+    let before = sides_before c.node.result.now c.in-Alt.x c.in-Alt.y c.args.node c.in-Alt.is (c.node.ensures.behind c.args.node c.node.result.now c.node.ensures.node) in
+    let within = c.requires in
+    let d = c.decreases in
+    (omega arith, omega arith)
+
+pub look_node-requires-in-Alt-2 : goal.look_node-requires-in-Alt-2
+look_node-requires-in-Alt-2 t c =
+    let before = sides_before c.node.result.now c.in-Alt.x c.in-Alt.y c.args.node c.in-Alt.is (c.node.ensures.behind c.args.node c.node.result.now c.node.ensures.node) in
+    let within = c.requires in
+    let d = c.decreases in
+    (omega arith, omega arith)
+
+pub returns-in_ok-look_node-in-Alt : goal.returns-in_ok-look_node-in-Alt
+returns-in_ok-look_node-in-Alt t c =
+    let base = c.args.base.now in
+    let store = or_own c.args.own.now base in
+    let entry : Entry = record { node = c.args.node; entered = c.args.clock.entered } in
+    let whole = sights_sides c.args.plan.now.body.atoms c.args.clock.now c.args.plan.now.nodes c.args.clock.ticks entry c.node.ensures.behind c.node.result.now c.in-Alt.x c.in-Alt.y store c.node.ensures.node c.in-Alt.is in
+    let old = map (shown base) c.args.found.now in
+    let middle = map (shown base) c.look_node-in-Alt.new.found in
+    let first = sights c.args.plan.now.body.atoms c.args.clock.now (entered_term c.args.plan.now.nodes c.args.clock.ticks (record { node = c.in-Alt.x; entered = c.args.clock.entered })) store in
+    let second = sights c.args.plan.now.body.atoms c.args.clock.now (entered_term c.args.plan.now.nodes c.args.clock.ticks (record { node = c.in-Alt.y; entered = c.args.clock.entered })) store in
+    let all = sights c.args.plan.now.body.atoms c.args.clock.now (entered_term c.args.plan.now.nodes c.args.clock.ticks entry) store in
+    let one : middle ≡ old ++ first = c.in_ok-look_node-in-Alt.ensures in
+    let both = both_more old middle first all second one whole in
+    subst (λ (l : List Sight). OnOk c.look_node-in-Alt-2.result (map (shown base) c.look_node-in-Alt-2.new.found ≡ l)) both c.look_node-in-Alt-2.ensures
