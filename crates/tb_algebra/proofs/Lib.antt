@@ -1,5 +1,6 @@
 pub mod BindLemmas
 pub mod EntryLemmas
+pub mod HitLemmas
 pub mod PlanLemmas
 pub mod SightLemmas
 pub mod TermLemmas

@@ -1,6 +1,6 @@
 -- What a running term stands for, by its parts, and where these are in the plan.
 use Rattle.std.proofs.Common.{◌≡◌, ℕ, ◌<◌, ◌≤◌, Bool, true, ◌&&◌, nat_lt, nat_le, IsTrue, List, ◌++◌, length, refl, ap, sym, ◌∙◌}
-use Rattle.std.proofs.lemmas.Bool.{and_from, and_parts, ltb-true, leb-true}
+use Rattle.std.proofs.lemmas.Bool.{and_from, and_parts, ltb-true, lt-ltb, leb-true, le-leb}
 use Rattle.tb_func.specs.declared.slot.Slot.{Slot}
 use Rattle.tb_body.specs.declared.atom.Atom.{Atom}
 use Rattle.tb_algebra.specs.Processes as process
@@ -45,6 +45,11 @@ module _ (nodes : List Node) (ticks : ℕ) where
       let both = sym (on-Whole entry) ∙ ap (is_on nodes ticks) (sym e) ∙ h in
       let parts = and_parts (nat_lt entry.node (length nodes)) (nat_le entry.entered ticks) both in
       (ltb-true entry.node (length nodes) parts.0, leb-true entry.entered ticks parts.1)
+
+  pub on_whole : (r : Running) (entry : Entry) → r ≡ Whole entry → entry.node < length nodes → entry.entered ≤ ticks → is_on nodes ticks r ≡ true
+  on_whole r entry e h k =
+      ap (is_on nodes ticks) e ∙ on-Whole entry
+      ∙ and_from (nat_lt entry.node (length nodes)) (nat_le entry.entered ticks) (lt-ltb entry.node (length nodes) h) (le-leb entry.entered ticks k)
 
   pub seq_on : (r x : Running) (y : ℕ) → r ≡ Seq x y → is_on nodes ticks r ≡ true → (is_on nodes ticks x ≡ true) × (y < length nodes)
   seq_on r x y e h =

@@ -67,7 +67,10 @@ pub(crate) fn fire_term(
                 let fired = fire_term(alloc, plan, y.get(), ticks, store, rest)?;
                 on_the_right(alloc, x.get(), fired)
             }
-            taken => on_the_left(alloc, taken, y.get()),
+            Fired::Taken(left, own) => {
+                let whole = left_beside(alloc, left, y.get())?;
+                Ok(Fired::Taken(Some(whole), own))
+            }
         },
     }
 }
@@ -97,18 +100,24 @@ fn fire_node(
         }
         Node::Alt(x, y) => match fire_node(alloc, plan, *x, since, base, own, k)? {
             Fired::Past(rest) => fire_node(alloc, plan, *y, since, base, own, rest),
-            taken => Ok(taken),
+            Fired::Taken(left, own) => Ok(Fired::Taken(left, own)),
         },
         Node::Star(x, y) => match fire_node(alloc, plan, *x, since, base, own, k)? {
             Fired::Past(rest) => fire_node(alloc, plan, *y, since, base, own, rest),
-            taken => followed(alloc, taken, node, since.ticks),
+            Fired::Taken(left, own) => {
+                let whole = left_then(alloc, left, node, since.ticks)?;
+                Ok(Fired::Taken(Some(whole), own))
+            }
         },
         Node::Par(x, y) => match fire_node(alloc, plan, *x, since, base, own, k)? {
             Fired::Past(rest) => {
                 let fired = fire_node(alloc, plan, *y, since, base, own, rest)?;
                 on_the_right(alloc, &since.whole(*x), fired)
             }
-            taken => on_the_left(alloc, taken, &since.whole(*y)),
+            Fired::Taken(left, own) => {
+                let whole = left_beside(alloc, left, &since.whole(*y))?;
+                Ok(Fired::Taken(Some(whole), own))
+            }
         },
         Node::If(test, x, y) => match tested(alloc, store_of(base, own), test)? {
             Some(true) => fire_node(alloc, plan, *x, since, base, own, k),
@@ -159,7 +168,6 @@ fn followed(alloc: Global, fired: Fired, node: usize, ticks: u64) -> Result<Fire
     }
 }
 
-#[tactic(auto, using(crate::proofs::EntryLemmas::entered_now))]
 fn left_then(
     alloc: Global,
     left: Option<Running>,
@@ -181,26 +189,24 @@ fn left_then(
 }
 
 /// What is left, beside the other side.
-fn on_the_left(alloc: Global, fired: Fired, right: &Running) -> Result<Fired, NoMemory>
-    ensures hit { IfOk result (λ whole. (nodes : List PlanNode) → (ticks : ℕ) → (base : List Slot) →
-        hit_of nodes ticks base whole
-        ≡ hit_with (λ left. Some (left_of left (term_of nodes ticks right.now))) (hit_of nodes ticks base fired)) }
+fn left_beside(
+    alloc: Global,
+    left: Option<Running>,
+    right: &Running,
+) -> Result<Running, NoMemory>
+    ensures term { IfOk result (λ whole. (nodes : List PlanNode) → (ticks : ℕ) →
+        term_of nodes ticks whole ≡ left_of (option_map (term_of nodes ticks) left) (term_of nodes ticks right.now)) }
     ensures on { IfOk result (λ whole. (nodes : List PlanNode) → (ticks : ℕ) → IsTrue (is_on nodes ticks right.now) →
-        IsTrue (is_fired_on nodes ticks fired) → IsTrue (is_fired_on nodes ticks whole)) }
+        IsTrue (is_left_on nodes ticks left) → IsTrue (is_on nodes ticks whole)) }
 {
-    match fired {
-        Fired::Past(rest) => Ok(Fired::Past(rest)),
-        Fired::Taken(left, own) => {
-            let y = right.copy(alloc)?;
-            let whole = match left {
-                Some(x) => Running::Par(Boxed::new(alloc, x)?, Boxed::new(alloc, y)?),
-                None => y,
-            };
-            Ok(Fired::Taken(Some(whole), own))
-        }
+    let y = right.copy(alloc)?;
+    match left {
+        Some(x) => Ok(Running::Par(Boxed::new(alloc, x)?, Boxed::new(alloc, y)?)),
+        None => Ok(y),
     }
 }
 
+/// The other side, beside what is left.
 fn on_the_right(alloc: Global, left: &Running, fired: Fired) -> Result<Fired, NoMemory>
     ensures hit { IfOk result (λ whole. (nodes : List PlanNode) → (ticks : ℕ) → (base : List Slot) →
         hit_of nodes ticks base whole
@@ -211,12 +217,25 @@ fn on_the_right(alloc: Global, left: &Running, fired: Fired) -> Result<Fired, No
     match fired {
         Fired::Past(rest) => Ok(Fired::Past(rest)),
         Fired::Taken(right, own) => {
-            let x = left.copy(alloc)?;
-            let whole = match right {
-                Some(y) => Running::Par(Boxed::new(alloc, x)?, Boxed::new(alloc, y)?),
-                None => x,
-            };
+            let whole = right_beside(alloc, left, right)?;
             Ok(Fired::Taken(Some(whole), own))
         }
+    }
+}
+
+fn right_beside(
+    alloc: Global,
+    left: &Running,
+    right: Option<Running>,
+) -> Result<Running, NoMemory>
+    ensures term { IfOk result (λ whole. (nodes : List PlanNode) → (ticks : ℕ) →
+        term_of nodes ticks whole ≡ right_of (term_of nodes ticks left.now) (option_map (term_of nodes ticks) right)) }
+    ensures on { IfOk result (λ whole. (nodes : List PlanNode) → (ticks : ℕ) → IsTrue (is_on nodes ticks left.now) →
+        IsTrue (is_left_on nodes ticks right) → IsTrue (is_on nodes ticks whole)) }
+{
+    let x = left.copy(alloc)?;
+    match right {
+        Some(y) => Ok(Running::Par(Boxed::new(alloc, x)?, Boxed::new(alloc, y)?)),
+        None => Ok(x),
     }
 }
