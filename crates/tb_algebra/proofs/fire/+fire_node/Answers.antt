@@ -1,12 +1,12 @@
-use Rattle.std.proofs.Common.{◌≡◌, ℕ, ◌-◌, ◌<◌, ◌≤◌, Bool, true, false, Option, Some, None, List, length, slice_get, ap, sym, subst, ◌∙◌, IfOk, option_map, rules, arith}
+use Rattle.std.proofs.Common.{◌≡◌, ℕ, ◌-◌, ◌<◌, ◌≤◌, Bool, true, false, Option, Some, None, List, length, slice_get, ap, sym, subst, ◌∙◌, IfOk, IsTrue, option_map, rules, arith}
 use Rattle.std.proofs.lemmas.Result.{IfOk-weaker}
 use Rattle.tb_func.specs.declared.slot.Slot.{Slot}
 use Rattle.tb_algebra.specs.declared.node.Node.{Node}
 use Rattle.tb_algebra.specs.declared.node.Node.TheVariants.{At, Seq, Alt, Star, Par, If, Let}
 use Rattle.tb_algebra.specs.declared.running.Running.{Running}
-use Rattle.tb_algebra.specs.declared.fired.Fired.TheVariants as fired
+use Rattle.tb_algebra.specs.declared.fired.Fired.{Fired}
 use Rattle.tb_algebra.specs.Settings.{tested, with_settings}
-use Rattle.tb_algebra.specs.Hits.{Hit, Past, On, hit, hit_of, hit_with, or_past}
+use Rattle.tb_algebra.specs.Hits.{Hit, Past, On, hit, hit_of, hit_with, or_past, is_fired_on}
 use Rattle.tb_algebra.specs.Offers.{left_of}
 use Rattle.tb_algebra.specs.Plans.{process_at}
 use Rattle.tb_algebra.specs.Processes.{Process}
@@ -176,11 +176,26 @@ returns-in_ok-fired-in-Past-3-clause-on t c =
 
 pub returns-in_ok-whole-in-Taken-3-clause-hit : goal.returns-in_ok-whole-in-Taken-3-clause-hit
 returns-in_ok-whole-in-Taken-3-clause-hit t c =
-    ?
+    let node : slice_get c.args.plan.now.nodes c.args.node ≡ Some (Par c.in-Par.x c.in-Par.y) = c.node.ensures.node ∙ ap Some c.in-Par.is in
+    let e = hit_par c.args.plan.now.nodes c.args.since.ticks (record { node = c.args.node; entered = c.args.since.entered }) c.node.ensures.behind c.in-Par.x c.in-Par.y (or_own c.args.own.now c.args.base.now) c.args.k node in
+    let first : hit_of c.args.plan.now.nodes c.args.since.ticks c.args.base.now c.in_ok-rest-in-Par.field-0 ≡ hit (entered_term c.args.plan.now.nodes c.args.since.ticks (record { node = c.in-Par.x; entered = c.args.since.entered })) (or_own c.args.own.now c.args.base.now) c.args.k = c.in_ok-rest-in-Par.ensures.hit in
+    let on : On (option_map (term_of c.args.plan.now.nodes c.args.since.ticks) c.in-Taken-3.left) (or_own c.in-Taken-3.own c.args.base.now) ≡ hit (entered_term c.args.plan.now.nodes c.args.since.ticks (record { node = c.in-Par.x; entered = c.args.since.entered })) (or_own c.args.own.now c.args.base.now) c.args.k = sym (ap (hit_of c.args.plan.now.nodes c.args.since.ticks c.args.base.now) c.in-Taken-3.is) ∙ first in
+    let waits : term_of c.args.plan.now.nodes c.args.since.ticks c.whole-in-Taken-3.result ≡ (entered_term c.args.plan.now.nodes c.args.since.ticks (record { node = c.in-Par.y; entered = c.args.since.entered })) = ap (term_of c.args.plan.now.nodes c.args.since.ticks) c.whole-in-Taken-3.ensures ∙ term-Whole c.args.plan.now.nodes c.args.since.ticks (record { node = c.in-Par.y; entered = c.args.since.entered }) in
+    let term = c.in_ok-whole-in-Taken-3.ensures.term c.args.plan.now.nodes c.args.since.ticks in
+    ap (λ (p : Process). On (Some p) (or_own c.in-Taken-3.own c.args.base.now)) term
+    ∙ ap (λ (w : Process). On (beside w (option_map (term_of c.args.plan.now.nodes c.args.since.ticks) c.in-Taken-3.left)) (or_own c.in-Taken-3.own c.args.base.now)) waits
+    ∙ ap (λ (h : Hit). or_past (hit_with (beside (entered_term c.args.plan.now.nodes c.args.since.ticks (record { node = c.in-Par.y; entered = c.args.since.entered }))) h) (λ (rest : ℕ). hit_with (along (entered_term c.args.plan.now.nodes c.args.since.ticks (record { node = c.in-Par.x; entered = c.args.since.entered }))) (hit (entered_term c.args.plan.now.nodes c.args.since.ticks (record { node = c.in-Par.y; entered = c.args.since.entered })) (or_own c.args.own.now c.args.base.now) rest))) on
+    ∙ sym e
 
 pub returns-in_ok-whole-in-Taken-3-clause-on : goal.returns-in_ok-whole-in-Taken-3-clause-on
 returns-in_ok-whole-in-Taken-3-clause-on t c =
-    ?
+    let node : slice_get c.args.plan.now.nodes c.args.node ≡ Some (Par c.in-Par.x c.in-Par.y) = c.node.ensures.node ∙ ap Some c.in-Par.is in
+    let before = both_before c.in-Par.x c.in-Par.y c.args.node (c.node.ensures.behind c.args.node (Par c.in-Par.x c.in-Par.y) node) in
+    let there = c.requires.there in
+    let within : c.in-Par.y < length c.args.plan.now.nodes = omega arith in
+    let waits = on_whole c.args.plan.now.nodes c.args.since.ticks c.whole-in-Taken-3.result (record { node = c.in-Par.y; entered = c.args.since.entered }) c.whole-in-Taken-3.ensures within c.requires.entered in
+    let left = subst (λ (f : Fired). IsTrue (is_fired_on c.args.plan.now.nodes c.args.since.ticks f)) c.in-Taken-3.is c.in_ok-rest-in-Par.ensures.on in
+    c.in_ok-whole-in-Taken-3.ensures.on c.args.plan.now.nodes c.args.since.ticks waits left
 
 pub returns-in-Some-true-clause-hit : goal.returns-in-Some-true-clause-hit
 returns-in-Some-true-clause-hit t c =
