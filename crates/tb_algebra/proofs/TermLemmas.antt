@@ -13,7 +13,9 @@ use Rattle.tb_algebra.specs.declared.running.Entry.{Entry}
 use Rattle.tb_algebra.specs.declared.running.Running.{Running, Running-F, map-Running, out-Running, fold_out-Running}
 use Rattle.tb_algebra.specs.declared.running.Running.TheOpen as layer
 use Rattle.tb_algebra.specs.declared.running.Running.TheVariants.{Whole, Seq, Par, outs-Whole, outs-Seq, outs-Par}
+use Rattle.tb_algebra.specs.Hits.{hit, hit_with, or_past}
 use Rattle.tb_algebra.proofs.SightLemmas.{sights-Seq, sights-Par}
+use Rattle.tb_algebra.proofs.HitLemmas.{hit-Seq, hit-Par, then, beside, along}
 
 module _ (nodes : List Node) (ticks : ℕ) where
   opened : (r : Running) (w : Running-F Running) → out-Running r ≡ w → term_of nodes ticks r ≡ term_step nodes ticks (map-Running Running Process (term_of nodes ticks) w)
@@ -75,3 +77,13 @@ module _ (nodes : List Node) (ticks : ℕ) where
     sights_of_par r x y e =
         ap (λ (p : Process). sights atoms now p store) (ap (term_of nodes ticks) e ∙ term-Par x y)
         ∙ sights-Par atoms now (term_of nodes ticks x) (term_of nodes ticks y) store
+
+  pub hits_of_seq : (r x : Running) (y : ℕ) (store : List Slot) (k : ℕ) → r ≡ Seq x y → hit (term_of nodes ticks r) store k ≡ hit_with (then (process_at nodes y)) (hit (term_of nodes ticks x) store k)
+  hits_of_seq r x y store k e =
+      ap (λ (p : Process). hit p store k) (ap (term_of nodes ticks) e ∙ term-Seq x y)
+      ∙ hit-Seq (term_of nodes ticks x) (process_at nodes y) store k
+
+  pub hits_of_par : (r x y : Running) (store : List Slot) (k : ℕ) → r ≡ Par x y → hit (term_of nodes ticks r) store k ≡ or_past (hit_with (beside (term_of nodes ticks y)) (hit (term_of nodes ticks x) store k)) (λ rest. hit_with (along (term_of nodes ticks x)) (hit (term_of nodes ticks y) store rest))
+  hits_of_par r x y store k e =
+      ap (λ (p : Process). hit p store k) (ap (term_of nodes ticks) e ∙ term-Par x y)
+      ∙ hit-Par (term_of nodes ticks x) (term_of nodes ticks y) store k

@@ -1,7 +1,9 @@
 ghost use Rattle.std.specs.Prelude.{◌≡◌, ◌++◌, [], IfOk, IsTrue, None, map, slice_get, option_and_then};
 ghost use Rattle.std.specs.Option.{option_copied};
 ghost use Rattle.tb_algebra.specs.Binds.{takes_binds, with_binds};
-ghost use Rattle.tb_algebra.specs.Sights.{or_own};
+ghost use Rattle.tb_algebra.specs.Hits.{hit_at, hit_of, is_fired_on};
+ghost use Rattle.tb_algebra.specs.Sights.{or_own, shown, sighted};
+ghost use Rattle.tb_algebra.specs.Walks.{offers_of};
 ghost use Rattle.tb_algebra.specs.Rewritings.{walking_of, seen_of, IsOnPlan};
 
 use crate::fire::fire_term;
@@ -41,13 +43,35 @@ impl Rewriter {
     }
 
     /// What the rewriter may do next.
-    fn find(&self, alloc: Global, plan: &Plan, now: u64) -> Result<Items<Found>, NoMemory> {
-        let mut found = Items::new(alloc);
+    fn find(&self, alloc: Global, plan: &Plan, now: u64) -> Result<Items<Found>, NoMemory>
+        requires { IsOnPlan plan.now self.now }
+        ensures { IfOk result (λ founds. map (shown self.now.store) founds
+            ≡ map (sighted plan.now.body.atoms now) (offers_of (walking_of plan.now self.now))) }
+    {
         match &self.term {
-            Some(term) => look_term(alloc, plan, term, self.ticks, now, &self.store, &mut found)?,
-            None => {}
+            Some(term) => {
+                let mut found = Items::new(alloc);
+                look_term(alloc, plan, term, self.ticks, now, &self.store, &mut found)?;
+                Ok(found)
+            }
+            None => Ok(Items::new(alloc)),
         }
-        Ok(found)
+    }
+
+    /// What comes of the offer at this place.
+    fn taken(&self, alloc: Global, plan: &Plan, k: usize) -> Result<Fired, NoMemory>
+        requires { IsOnPlan plan.now self.now }
+        ensures hit { IfOk result (λ fired. hit_of plan.now.nodes self.now.ticks self.now.store fired
+            ≡ hit_at k (offers_of (walking_of plan.now self.now))) }
+        ensures on { IfOk result (λ fired. IsTrue (is_fired_on plan.now.nodes self.now.ticks fired)) }
+    {
+        match &self.term {
+            Some(term) => {
+                let fired = fire_term(alloc, plan, term, self.ticks, &self.store, k)?;
+                Ok(fired)
+            }
+            None => Ok(Fired::Past(k)),
+        }
     }
 
     /// Goes on with what is left, in the store that a `let` made or in its own.
@@ -83,7 +107,6 @@ impl Walker for Rewriter {
         Plan::new(alloc, body)
     }
 
-    #[tactic(auto, using(crate::proofs::EntryLemmas::entered_root))]
     fn start(_alloc: Global, plan: &Plan, store: Store) -> Result<Rewriter, NoMemory> {
         let root = Entry {
             node: plan.root,
@@ -168,11 +191,7 @@ impl Walker for Rewriter {
         k: usize,
         binds: Binds,
     ) -> Result<(), NoMemory> {
-        let fired = match &self.term {
-            Some(term) => fire_term(alloc, plan, term, self.ticks, &self.store, k)?,
-            None => Fired::Past(k),
-        };
-        match fired {
+        match self.taken(alloc, plan, k)? {
             Fired::Taken(left, own) => {
                 self.goes_on(left, own, binds);
                 Ok(())
