@@ -1,6 +1,5 @@
 -- What an entered part of a plan stands for, by its own parts.
-use Rattle.std.proofs.Common.{◌≡◌, ℕ, zero, suc, ◌+◌, ◌-◌, ◌<◌, ◌≤◌, Bool, true, ◌&&◌, nat_lt, Option, Some, None, List, [], ◌∷◌, ◌++◌, map, slice_get, refl, ap, sym, ◌∙◌, arith, option_map}
-use Rattle.std.proofs.lemmas.Bool.{and_parts, ltb-true}
+use Rattle.std.proofs.Common.{◌≡◌, ℕ, zero, suc, ◌+◌, ◌-◌, Some, None, List, ◌++◌, map, slice_get, refl, ap, sym, ◌∙◌, arith}
 use Rattle.tb_terms.specs.declared.expr.Expr.{Expr}
 use Rattle.tb_func.specs.declared.slot.Slot.{Slot}
 use Rattle.tb_body.specs.declared.tree.Setting.{Setting}
@@ -10,8 +9,8 @@ use Rattle.tb_body.specs.declared.tree.Tree.TheVariants as tree
 use Rattle.tb_body.specs.declared.tree.Tree.TheVariants.{outs-At, outs-Seq, outs-Alt, outs-Star, outs-Par, outs-If, outs-Let}
 use Rattle.tb_algebra.specs.Processes as process
 use Rattle.tb_algebra.specs.Processes.{Process, fresh, fresh_step, aged}
-use Rattle.tb_algebra.specs.Offers.{Offered, offers, before}
-use Rattle.tb_algebra.specs.Plans.{made_at, built, trees, tree_at, process_at, is_behind, AreBehind}
+use Rattle.tb_algebra.specs.Offers.{offers, before}
+use Rattle.tb_algebra.specs.Plans.{built, trees, tree_at, process_at, AreBehind}
 use Rattle.tb_algebra.specs.Runnings.{waited, entered_term}
 use Rattle.tb_algebra.specs.declared.node.Node.{Node}
 use Rattle.tb_algebra.specs.declared.node.Node.TheVariants.{At, Seq, Alt, Star, Par, If, Let}

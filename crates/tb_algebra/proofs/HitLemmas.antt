@@ -1,5 +1,5 @@
 -- The offer of an entered part of a plan at a place, by its own parts.
-use Rattle.std.proofs.Common.{◌≡◌, ℕ, zero, suc, ◌-◌, Bool, true, false, Option, Some, None, List, [], ◌∷◌, ◌++◌, map, slice_get, refl, ap, sym, ◌∙◌}
+use Rattle.std.proofs.Common.{◌≡◌, ℕ, zero, suc, ◌-◌, Bool, true, false, Option, Some, None, List, [], ◌∷◌, ◌++◌, map, slice_get, refl, ap, ◌∙◌}
 use Rattle.tb_terms.specs.declared.expr.Expr.{Expr}
 use Rattle.tb_func.specs.declared.slot.Slot.{Slot}
 use Rattle.tb_body.specs.declared.tree.Setting.{Setting}
@@ -50,9 +50,9 @@ hit-Par x y store k =
     ∙ ap (λ (h : Hit). or_past h (λ rest. hit_at rest (map (on_the_right x) (offers y store)))) (at-map (beside y) k (offers x store))
     ∙ second (hit_with (beside y) (hit_at k (offers x store)))
   where
-  second : (h : Hit) → or_past h (λ rest. hit_at rest (map (on_the_right x) (offers y store))) ≡ or_past h (λ rest. hit_with (along x) (hit_at rest (offers y store)))
-  second (Past rest) = at-map (along x) rest (offers y store)
-  second (On left own) = refl
+    second : (h : Hit) → or_past h (λ rest. hit_at rest (map (on_the_right x) (offers y store))) ≡ or_past h (λ rest. hit_with (along x) (hit_at rest (offers y store)))
+    second (Past rest) = at-map (along x) rest (offers y store)
+    second (On left own) = refl
 
 module _ (nodes : List Node) (ticks : ℕ) (entry : Entry) (all : AreBehind nodes) where
   abbrev of_entry : Entry → List Slot → ℕ → Hit

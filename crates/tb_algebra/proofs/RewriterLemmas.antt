@@ -1,5 +1,5 @@
 -- What a rewriter has found are its offers; and what becomes of it where one is taken.
-use Rattle.std.proofs.Common.{◌≡◌, ℕ, zero, suc, ◌<◌, Bool, true, IsTrue, Option, Some, None, List, [], ◌∷◌, ◌++◌, map, length, slice_get, option_map, option_and_then, is_some, refl, ap, sym, subst, ◌∙◌, arith}
+use Rattle.std.proofs.Common.{◌≡◌, ℕ, zero, suc, ◌<◌, Bool, IsTrue, Option, Some, None, List, [], ◌∷◌, map, length, slice_get, option_map, option_and_then, is_some, refl, ap, sym, subst, ◌∙◌, arith}
 use Rattle.std.specs.Option.{ForSome}
 use Rattle.std.proofs.lemmas.Option.{slice_get-map}
 use Rattle.tb_func.specs.declared.slot.Slot.{Slot}
@@ -8,14 +8,14 @@ use Rattle.tb_body.specs.declared.atom.Atom.{Atom}
 use Rattle.tb_body.specs.declared.tree.Tree.{Tree}
 use Rattle.tb_algebra.specs.Binds.{with_binds}
 use Rattle.tb_algebra.specs.Founds.{offer_of}
-use Rattle.tb_algebra.specs.Hits.{Hit, Past, On, hit, hit_at}
-use Rattle.tb_algebra.specs.Offers.{Offered, offers}
+use Rattle.tb_algebra.specs.Hits.{Past, On, hit, hit_at}
+use Rattle.tb_algebra.specs.Offers.{Offered}
 use Rattle.tb_algebra.specs.Processes.{Process, fresh}
 use Rattle.tb_algebra.specs.Plans.{tree_at}
 use Rattle.tb_algebra.specs.Rewritings.{walking_of, seen_of, Kept, kept, kept_found, IsOnPlan}
 use Rattle.tb_algebra.specs.Runnings.{term_of}
-use Rattle.tb_algebra.specs.Sights.{Sight, sighted, sights, shown, or_own}
-use Rattle.tb_algebra.specs.Walks.{Walking, offers_of, seen, fired, entering}
+use Rattle.tb_algebra.specs.Sights.{Sight, sighted, sights, shown}
+use Rattle.tb_algebra.specs.Walks.{Walking, offers_of, seen, fired}
 use Rattle.tb_algebra.specs.declared.found.Found.{Found}
 use Rattle.tb_algebra.specs.declared.node.Node.{Node}
 use Rattle.tb_algebra.specs.declared.offer.Offer.{Offer}

@@ -1,5 +1,5 @@
 -- What a running term stands for, by its parts, and where these are in the plan.
-use Rattle.std.proofs.Common.{◌≡◌, ℕ, ◌<◌, ◌≤◌, Bool, true, ◌&&◌, nat_lt, nat_le, IsTrue, List, ◌++◌, length, refl, ap, sym, ◌∙◌}
+use Rattle.std.proofs.Common.{◌≡◌, ℕ, ◌<◌, ◌≤◌, Bool, true, ◌&&◌, nat_lt, nat_le, List, ◌++◌, length, ap, sym, ◌∙◌}
 use Rattle.std.proofs.lemmas.Bool.{and_from, and_parts, ltb-true, lt-ltb, leb-true, le-leb}
 use Rattle.tb_func.specs.declared.slot.Slot.{Slot}
 use Rattle.tb_body.specs.declared.atom.Atom.{Atom}

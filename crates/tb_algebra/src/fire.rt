@@ -189,11 +189,7 @@ fn left_then(
 }
 
 /// What is left, beside the other side.
-fn left_beside(
-    alloc: Global,
-    left: Option<Running>,
-    right: &Running,
-) -> Result<Running, NoMemory>
+fn left_beside(alloc: Global, left: Option<Running>, right: &Running) -> Result<Running, NoMemory>
     ensures term { IfOk result (λ whole. (nodes : List PlanNode) → (ticks : ℕ) →
         term_of nodes ticks whole ≡ left_of (option_map (term_of nodes ticks) left) (term_of nodes ticks right.now)) }
     ensures on { IfOk result (λ whole. (nodes : List PlanNode) → (ticks : ℕ) → IsTrue (is_on nodes ticks right.now) →
@@ -223,11 +219,7 @@ fn on_the_right(alloc: Global, left: &Running, fired: Fired) -> Result<Fired, No
     }
 }
 
-fn right_beside(
-    alloc: Global,
-    left: &Running,
-    right: Option<Running>,
-) -> Result<Running, NoMemory>
+fn right_beside(alloc: Global, left: &Running, right: Option<Running>) -> Result<Running, NoMemory>
     ensures term { IfOk result (λ whole. (nodes : List PlanNode) → (ticks : ℕ) →
         term_of nodes ticks whole ≡ right_of (term_of nodes ticks left.now) (option_map (term_of nodes ticks) right)) }
     ensures on { IfOk result (λ whole. (nodes : List PlanNode) → (ticks : ℕ) → IsTrue (is_on nodes ticks left.now) →

@@ -26,13 +26,7 @@ pub(crate) fn is_ready(
     Ok(true)
 }
 
-fn holds(
-    alloc: Global,
-    store: &Store,
-    age: u64,
-    now: u64,
-    time: &Time,
-) -> Result<bool, NoMemory>
+fn holds(alloc: Global, store: &Store, age: u64, now: u64, time: &Time) -> Result<bool, NoMemory>
     ensures { IfOk result (λ it. it ≡ holds store.now age now time.now) }
 {
     match number(alloc, store, &time.value)? {

@@ -184,13 +184,7 @@ impl Walker for Rewriter {
         }
     }
 
-    fn fire(
-        &mut self,
-        alloc: Global,
-        plan: &Plan,
-        k: usize,
-        binds: Binds,
-    ) -> Result<(), NoMemory> {
+    fn fire(&mut self, alloc: Global, plan: &Plan, k: usize, binds: Binds) -> Result<(), NoMemory> {
         match self.taken(alloc, plan, k)? {
             Fired::Taken(left, own) => {
                 self.goes_on(left, own, binds);

@@ -11,11 +11,7 @@ use tb_match::{Bind, Binds};
 use tb_terms::{Expr, Items, NoMemory, Sort, Term, has_sort, initial};
 
 /// What the test says now.
-pub(crate) fn tested(
-    alloc: Global,
-    store: &Store,
-    test: &Expr,
-) -> Result<Option<bool>, NoMemory>
+pub(crate) fn tested(alloc: Global, store: &Store, test: &Expr) -> Result<Option<bool>, NoMemory>
     ensures { IfOk result (λ says. says ≡ tested store.now test.now) }
 {
     match eval(alloc, test, store)? {

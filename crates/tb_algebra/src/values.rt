@@ -140,11 +140,7 @@ fn patterns_of_act(alloc: Global, store: &Store, act: &Act) -> Result<Option<Pat
     }
 }
 
-fn patterns_of(
-    alloc: Global,
-    store: &Store,
-    exprs: &[Expr],
-) -> Result<Option<Patterns>, NoMemory>
+fn patterns_of(alloc: Global, store: &Store, exprs: &[Expr]) -> Result<Option<Patterns>, NoMemory>
     ensures { IfOk result (λ patterns. patterns ≡ patterns_of store.now exprs.now) }
 {
     let mut patterns = Items::new(alloc);

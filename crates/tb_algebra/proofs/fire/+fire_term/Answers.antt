@@ -1,4 +1,4 @@
-use Rattle.std.proofs.Common.{◌≡◌, ℕ, Some, ap, sym, ◌∙◌, IfOk, option_map}
+use Rattle.std.proofs.Common.{◌≡◌, ℕ, Some, ap, sym, ◌∙◌, option_map}
 use Rattle.std.proofs.lemmas.Result.{IfOk-weaker}
 use Rattle.tb_algebra.specs.Hits.{Hit, Past, On, hit, hit_of, hit_with, or_past}
 use Rattle.tb_algebra.specs.Plans.{process_at}

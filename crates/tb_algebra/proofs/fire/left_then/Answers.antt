@@ -1,5 +1,4 @@
-use Rattle.std.proofs.Common.{◌≡◌, Option, Some, None, ap, sym, ◌∙◌, option_map}
-use Rattle.tb_algebra.specs.Processes.{Process}
+use Rattle.std.proofs.Common.{Option, ap, sym, ◌∙◌, option_map}
 use Rattle.tb_algebra.specs.Offers.{followed}
 use Rattle.tb_algebra.specs.Plans.{process_at}
 use Rattle.tb_algebra.specs.Runnings.{term_of}

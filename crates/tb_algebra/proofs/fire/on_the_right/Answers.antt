@@ -1,5 +1,5 @@
-use Rattle.std.proofs.Common.{◌≡◌, Option, Some, ap, sym, ◌∙◌}
-use Rattle.tb_algebra.specs.Hits.{Hit, On, hit_of, hit_with}
+use Rattle.std.proofs.Common.{Some, ap, sym, ◌∙◌}
+use Rattle.tb_algebra.specs.Hits.{On, hit_of, hit_with}
 use Rattle.tb_algebra.specs.Offers.{right_of}
 use Rattle.tb_algebra.specs.Processes.{Process}
 use Rattle.tb_algebra.specs.Runnings.{term_of}

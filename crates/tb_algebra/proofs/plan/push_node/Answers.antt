@@ -1,4 +1,4 @@
-use Rattle.tb_algebra.proofs.PlanLemmas.{added, tree_at-node}
+use Rattle.tb_algebra.proofs.PlanLemmas.{added}
 use Rattle.tb_algebra.proofs.plan.push_node.Goals as goal
 
 pub returns : goal.returns

@@ -1,4 +1,4 @@
-use Rattle.std.proofs.Common.{◌≡◌, true, drop}
+use Rattle.std.proofs.Common.{◌≡◌, drop}
 use Rattle.tb_algebra.specs.Atoms.{is_ready}
 use Rattle.tb_algebra.proofs.ready.is_ready.Given as goal
 

@@ -1,6 +1,6 @@
-use Rattle.std.proofs.Common.{◌≡◌, List, [], ◌++◌, map, ap, sym, ◌∙◌}
+use Rattle.std.proofs.Common.{◌≡◌, List, ◌++◌, map, ap, sym, ◌∙◌}
 use Rattle.tb_algebra.specs.Runnings.{term_of}
-use Rattle.tb_algebra.specs.Sights.{Sight, shown, sights}
+use Rattle.tb_algebra.specs.Sights.{shown, sights}
 use Rattle.tb_algebra.specs.declared.found.Found.{Found}
 use Rattle.tb_algebra.proofs.RewriterLemmas.{sights_some, sights_none}
 use Rattle.tb_algebra.proofs.rewriter.Rewriter.find.Goals as goal

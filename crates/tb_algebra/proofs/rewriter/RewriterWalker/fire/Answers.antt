@@ -1,11 +1,11 @@
 use Rattle.std.proofs.Common.{◌≡◌, ℕ, Option, List, IsTrue, option_map, ap, sym, ◌∙◌}
 use Rattle.tb_func.specs.declared.slot.Slot.{Slot}
 use Rattle.tb_algebra.specs.Binds.{takes_binds}
-use Rattle.tb_algebra.specs.Hits.{Past, On, hit_at, hit_of}
+use Rattle.tb_algebra.specs.Hits.{hit_at, hit_of}
 use Rattle.tb_algebra.specs.Rewritings.{walking_of}
 use Rattle.tb_algebra.specs.Runnings.{term_of}
 use Rattle.tb_algebra.specs.Sights.{or_own}
-use Rattle.tb_algebra.specs.Walks.{Walking, offers_of}
+use Rattle.tb_algebra.specs.Walks.{offers_of}
 use Rattle.tb_algebra.specs.declared.running.Running.{Running}
 use Rattle.tb_algebra.proofs.RewriterLemmas.{is_hit, hit_store, goes}
 use Rattle.tb_algebra.proofs.rewriter.RewriterWalker.fire.Goals as goal

@@ -12,8 +12,8 @@ returns-clause-on c =
     record {
       parts = c.requires.parts;
       found = λ founds is.
-        let same : c.in_ok-found.found ≡ founds = cc in
-        subst (λ (l : List Found). map (kept_found base) l ≡ map kept os) same (found_kept c.args.plan.now.body.atoms c.args.now base c.in_ok-found.found os c.in_ok-found.ensures);
+          let same : c.in_ok-found.found ≡ founds = cc in
+          subst (λ (l : List Found). map (kept_found base) l ≡ map kept os) same (found_kept c.args.plan.now.body.atoms c.args.now base c.in_ok-found.found os c.in_ok-found.ensures);
     }
 
 pub returns-clause-seen : goal.returns-clause-seen

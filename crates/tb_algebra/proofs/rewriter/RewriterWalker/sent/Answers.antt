@@ -1,12 +1,10 @@
-use Rattle.std.proofs.Common.{◌≡◌, ℕ, ◌-◌, Option, Some, None, List, slice_get, option_and_then, option_copied, ap, sym, ◌∙◌}
+use Rattle.std.proofs.Common.{◌≡◌, Option, List, option_copied, ap, sym, ◌∙◌}
 use Rattle.tb_terms.specs.declared.term.Term.{Term}
 use Rattle.tb_func.specs.declared.slot.Slot.{Slot}
-use Rattle.tb_match.specs.declared.bind.Bind.{Bind}
 use Rattle.tb_body.specs.declared.atom.Atom.{Atom}
-use Rattle.tb_algebra.specs.Atoms.{act_in, act_of, sent_exprs, matched_exprs, values_together, patterns_of, accepted}
+use Rattle.tb_algebra.specs.Atoms.{act_in, act_of, sent_exprs, values_together}
 use Rattle.tb_algebra.specs.Rewritings.{Kept}
 use Rattle.tb_algebra.specs.Sights.{or_own}
-use Rattle.tb_algebra.specs.declared.found.Found.{Found}
 use Rattle.tb_algebra.proofs.RewriterLemmas.{by_found, is_found}
 use Rattle.tb_algebra.proofs.rewriter.RewriterWalker.sent.Goals as goal
 
