@@ -1,0 +1,4 @@
+pub mod Faulted
+pub mod Names
+pub mod Nexts
+pub mod Strings
