@@ -1,4 +1,12 @@
 pub mod Faulted
+pub mod Fronts
+pub mod Gaps
+pub mod Heads
 pub mod Names
 pub mod Nexts
+pub mod Numbers
+pub mod Pieces
+pub mod Quotes
 pub mod Strings
+pub mod Symbols
+pub mod Walks

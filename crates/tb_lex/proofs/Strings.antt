@@ -7,7 +7,7 @@ use Rattle.tb_read.specs.declared.quoted.Turn.{Turn}
 use Rattle.tb_read.specs.declared.quoted.Turn.TheVariants.{Ends, Goes, Puts, Bad}
 use Rattle.tb_read.specs.declared.fault.TermFault.{TermFault}
 use Rattle.tb_read.specs.Lexing.{string_turn, string_rest as term_string, with_front as term_front}
-use Rattle.tb_read.proofs.Strings.{turned as term_turned}
+use Rattle.tb_read.proofs.Strings.{front_ok as term_front_ok, turned as term_turned}
 use Rattle.tb_read.proofs.Scalars.{string_put}
 use Rattle.tb_lex.specs.declared.fault.LexFault.{LexFault}
 use Rattle.tb_lex.specs.Scanning.{string_fault, string_rest, with_front}
@@ -49,6 +49,23 @@ same_by quote total other bytes ih w b Bad x e = cc
 pub read_in_term : (quote total other : ℕ) (bytes : List ℕ) → Same quote total other bytes
 read_in_term quote total other [] w x e = cc
 read_in_term quote total other (b ∷ bytes) w x e = same_by quote total other bytes (read_in_term quote total other bytes) w b (string_turn w b) x e
+
+abbrev Back : ℕ → ℕ → ℕ → List ℕ → Type 0
+Back quote total other bytes = (w : Within) (x : Pair) → term_string other w bytes ≡ Ok x → string_rest quote total w bytes ≡ Ok x
+
+back_by : (quote total other : ℕ) (bytes : List ℕ) → Back quote total other bytes → (w : Within) (b : ℕ) (t : Turn) (x : Pair) → term_turned other t bytes ≡ Ok x → turned quote total w b t bytes ≡ Ok x
+back_by quote total other bytes ih w b Ends x e = let same : ◌≡◌ {A = Pair} ([], bytes) x = cc in ap found same
+back_by quote total other bytes ih w b (Goes next) x e = ih next x e
+back_by quote total other bytes ih w b (Puts put next) x e =
+    let y = term_front_ok (put ∷ []) (term_string other next bytes) x e in
+    let same : ◌≡◌ {A = Pair} ((put ∷ []) ++ y.0.0, y.0.1) x = ap (λ (l : List ℕ). (l, y.0.1)) (sym y.2) ∙ ap (λ (l : List ℕ). (x.0, l)) (sym y.3) in
+    ap (λ (r : Result Pair LexFault). with_front (put ∷ []) r) (ih next y.0 y.1) ∙ ap found same
+back_by quote total other bytes ih w b Bad x e = cc
+
+-- a string that is read in a term is read here
+pub read_here : (quote total other : ℕ) (bytes : List ℕ) → Back quote total other bytes
+read_here quote total other [] w x e = cc
+read_here quote total other (b ∷ bytes) w x e = back_by quote total other bytes (read_here quote total other bytes) w b (string_turn w b) x e
 
 pub is_string_put : (quote total : ℕ) (bytes : List ℕ) (x : Pair) → string_rest quote total Between bytes ≡ Ok x → is_string x.0 ≡ true
 is_string_put quote total bytes x e = string_put total bytes x (read_in_term quote total total bytes Between x e)
