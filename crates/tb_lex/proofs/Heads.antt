@@ -1,11 +1,10 @@
 -- The first byte of a piece tells what the piece is.
-use Rattle.std.proofs.Common.{◌≡◌, ℕ, ℤ, pos, neg_ℤ, ◌^◌, ◌≤◌, ◌<◌, Bool, true, false, ◌&&◌, ◌||◌, ◌⊎◌, eqb, leb, List, [], ◌∷◌, ◌++◌, refl, ap, sym, ◌∙◌, subst, inl, inr, arith}
-use Rattle.std.proofs.lemmas.Bool.{false≢true, leb-true, ne_eqb, and_parts, lt-leb}
+use Rattle.std.proofs.Common.{◌≡◌, ℕ, ℤ, pos, neg_ℤ, ◌^◌, ◌≤◌, ◌<◌, true, false, ◌⊎◌, eqb, leb, List, [], ◌∷◌, ◌++◌, refl, ap, sym, ◌∙◌, subst, inl, inr, arith}
+use Rattle.std.proofs.lemmas.Bool.{false≢true, leb-true, and_parts, lt-leb}
 use Rattle.std.proofs.lemmas.Bool.Decides.{nat_tests}
 use Rattle.std.specs.List.{list_all}
 use Rattle.tb_terms.specs.Names.{is_digit, is_lower, is_upper, is_name, is_ident, is_name_byte}
 use Rattle.tb_read.specs.Spelling.{is_digits, digits_value, SpellsNumber, SpellsString}
-use Rattle.tb_read.specs.Places.{signed}
 use Rattle.tb_lex.specs.Tokens.{symbol_text, SpellsKind, IsNumeral, IsPiece}
 use Rattle.tb_lex.specs.Scanning.{head_of}
 use Rattle.tb_lex.specs.declared.head.Head.{Head}

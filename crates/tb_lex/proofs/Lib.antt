@@ -5,8 +5,10 @@ pub mod Heads
 pub mod Names
 pub mod Nexts
 pub mod Numbers
+pub mod Outcomes
 pub mod Pieces
 pub mod Quotes
+pub mod Runs
 pub mod Strings
 pub mod Symbols
 pub mod Walks

@@ -1,5 +1,5 @@
 -- The name with which bytes begin.
-use Rattle.std.proofs.Common.{◌≡◌, ℕ, suc, ◌+◌, Bool, true, false, ◌||◌, eqb, List, [], ◌∷◌, ◌++◌, length, take, drop, Result, Ok, refl, ap, sym, ◌∙◌, subst, inr}
+use Rattle.std.proofs.Common.{◌≡◌, ℕ, Bool, true, false, ◌||◌, eqb, List, [], ◌∷◌, ◌++◌, length, take, drop, Ok, refl, ap, sym, ◌∙◌, subst, inr}
 use Rattle.std.proofs.Math.Numerals.{one-add}
 use Rattle.std.proofs.Math.Seq.{take-append_seam, drop-append_seam}
 use Rattle.std.proofs.lemmas.Bool.{false≢true, and_parts, and_from}
@@ -8,10 +8,9 @@ use Rattle.std.specs.List.{prefix_len, list_all}
 use Rattle.tb_terms.specs.Names.{is_name, is_ident, is_lower, is_upper, is_digit, is_name_byte}
 use Rattle.tb_read.proofs.Names.{all_of_front}
 use Rattle.tb_read.proofs.Complete.{prefix_all}
-use Rattle.tb_lex.specs.Tokens.{SpellsKind, IsPiece, IsLongest}
+use Rattle.tb_lex.specs.Tokens.{IsPiece, IsLongest}
 use Rattle.tb_lex.specs.Scanning.{Read, has_head, lower_at, upper_at}
 use Rattle.tb_lex.specs.declared.head.Head.TheVariants as head
-use Rattle.tb_lex.specs.declared.kind.TokenKind.{TokenKind}
 use Rattle.tb_lex.specs.declared.kind.TokenKind.TheVariants as kind
 use Rattle.tb_lex.proofs.Fronts.{all_behind, none_more, stops_by}
 use Rattle.tb_lex.proofs.Heads.{PieceOf, piece_of, lower_head, upper_head}
@@ -60,20 +59,20 @@ name_stops [] rest h l = absurd (false≢true h)
 name_stops (c ∷ cs) rest h l =
     let p = and_parts (is_lower c) (list_all is_name_byte cs) h in
     stops_by is_name_byte rest (λ x tail e ok.
-        let all = longer cs x p.1 ok in
-        let name : is_name (c ∷ (cs ++ (x ∷ []))) ≡ true = and_from (is_lower c) (list_all is_name_byte (cs ++ (x ∷ []))) p.0 all in
-        let piece : IsPiece (c ∷ (cs ++ (x ∷ []))) = inr (kind.Lower (c ∷ (cs ++ (x ∷ []))), (name, refl)) in
-        cons_nil x (l (x ∷ []) tail e piece))
+    let all = longer cs x p.1 ok in
+    let name : is_name (c ∷ (cs ++ (x ∷ []))) ≡ true = and_from (is_lower c) (list_all is_name_byte (cs ++ (x ∷ []))) p.0 all in
+    let piece : IsPiece (c ∷ (cs ++ (x ∷ []))) = inr (kind.Lower (c ∷ (cs ++ (x ∷ []))), (name, refl)) in
+    cons_nil x (l (x ∷ []) tail e piece))
 
 pub ident_stops : (name rest : List ℕ) → is_ident name ≡ true → IsLongest name rest → prefix_len is_name_byte rest ≡ 0
 ident_stops [] rest h l = absurd (false≢true h)
 ident_stops (c ∷ cs) rest h l =
     let p = and_parts (is_upper c) (list_all is_name_byte cs) h in
     stops_by is_name_byte rest (λ x tail e ok.
-        let all = longer cs x p.1 ok in
-        let name : is_ident (c ∷ (cs ++ (x ∷ []))) ≡ true = and_from (is_upper c) (list_all is_name_byte (cs ++ (x ∷ []))) p.0 all in
-        let piece : IsPiece (c ∷ (cs ++ (x ∷ []))) = inr (kind.Upper (c ∷ (cs ++ (x ∷ []))), (name, refl)) in
-        cons_nil x (l (x ∷ []) tail e piece))
+    let all = longer cs x p.1 ok in
+    let name : is_ident (c ∷ (cs ++ (x ∷ []))) ≡ true = and_from (is_upper c) (list_all is_name_byte (cs ++ (x ∷ []))) p.0 all in
+    let piece : IsPiece (c ∷ (cs ++ (x ∷ []))) = inr (kind.Upper (c ∷ (cs ++ (x ∷ []))), (name, refl)) in
+    cons_nil x (l (x ∷ []) tail e piece))
 
 abbrev lower_pair : List ℕ → List ℕ → Read
 lower_pair name rest = Ok (kind.Lower name, rest)

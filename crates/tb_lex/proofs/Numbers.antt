@@ -1,5 +1,5 @@
 -- The number with which bytes begin.
-use Rattle.std.proofs.Common.{◌≡◌, ℕ, ℤ, pos, neg_ℤ, suc, ◌+◌, ◌-◌, ◌^◌, ◌≤◌, ◌<◌, Bool, true, false, ◌||◌, ◌⊎◌, cond, eqb, leb, ltb, List, [], ◌∷◌, ◌++◌, length, take, drop, Option, Some, None, Result, Ok, Err, refl, ap, sym, ◌∙◌, subst, inl, inr, append_assoc}
+use Rattle.std.proofs.Common.{◌≡◌, ℕ, ℤ, pos, neg_ℤ, ◌-◌, ◌^◌, ◌≤◌, ◌<◌, Bool, true, false, ◌⊎◌, cond, eqb, List, [], ◌∷◌, ◌++◌, length, take, drop, Option, Some, None, Ok, Err, refl, ap, sym, ◌∙◌, subst, inl, inr}
 use Rattle.std.proofs.lemmas.Bool.{false≢true, eqb-true, and_parts, and_from, lt-ltb, le-leb}
 use Rattle.std.proofs.Math.Seq.{take-append_seam, drop-append_seam}
 use Rattle.std.proofs.lemmas.List.{take-append-drop}
@@ -8,19 +8,16 @@ use Rattle.std.specs.List.{list_all, prefix_len}
 use Rattle.tb_terms.specs.Names.{is_digit}
 use Rattle.tb_read.specs.Spelling.{is_digits, digits_value, SpellsNumber}
 use Rattle.tb_read.specs.Lexing.{is_real, number_of}
-use Rattle.tb_read.specs.Places.{signed, HasPoint, BeginsReal, BeginsTooFar, IsNumeral as NumeralParts}
+use Rattle.tb_read.specs.Places.{signed, HasPoint, BeginsReal, BeginsTooFar}
 use Rattle.tb_read.proofs.Names.{all_of_front}
 use Rattle.tb_read.proofs.Lexed.{unsigned_spelled, signed_spelled}
 use Rattle.tb_read.proofs.Complete.{prefix_all, digit_unsigned}
 use Rattle.tb_read.proofs.Stops.{front_stops}
-use Rattle.tb_read.proofs.Numerals.{point, no_point, sign_no_digit, too_far}
-use Rattle.tb_lex.specs.Tokens.{SpellsKind, IsNumeral, IsPiece, IsLongest, IsWhole}
+use Rattle.tb_read.proofs.Numerals.{point}
+use Rattle.tb_lex.specs.Tokens.{IsNumeral, IsPiece, IsLongest}
 use Rattle.tb_lex.specs.Scanning.{Read, head_of, in_range, number_from, number_at}
-use Rattle.tb_lex.specs.declared.head.Head.{Head}
 use Rattle.tb_lex.specs.declared.head.Head.TheVariants as head
-use Rattle.tb_lex.specs.declared.kind.TokenKind.{TokenKind}
 use Rattle.tb_lex.specs.declared.kind.TokenKind.TheVariants as kind
-use Rattle.tb_lex.specs.declared.fault.LexFault.{LexFault}
 use Rattle.tb_lex.specs.declared.fault.LexFault.TheVariants as fault
 use Rattle.tb_lex.proofs.Fronts.{all_behind, none_more, stops_by}
 use Rattle.tb_lex.proofs.Heads.{PieceOf, digit_head, piece_of}
@@ -77,8 +74,8 @@ cons_nil x e = cc
 pub numeral_stops : (text rest : List ℕ) → IsNumeral text → IsLongest text rest → prefix_len is_digit rest ≡ 0
 numeral_stops text rest n l =
     stops_by is_digit rest (λ x tail e ok.
-        let longer : IsNumeral (text ++ (x ∷ [])) = (n.0, n.1 ++ (x ∷ []), ap (λ (m : List ℕ). m ++ (x ∷ [])) n.2 ∙ signed_more n.0 n.1 (x ∷ []), more_digits n.1 x n.3 ok) in
-        cons_nil x (l (x ∷ []) tail e (inl longer)))
+    let longer : IsNumeral (text ++ (x ∷ [])) = (n.0, n.1 ++ (x ∷ []), ap (λ (m : List ℕ). m ++ (x ∷ [])) n.2 ∙ signed_more n.0 n.1 (x ∷ []), more_digits n.1 x n.3 ok) in
+    cons_nil x (l (x ∷ []) tail e (inl longer)))
 
 -- how bytes are parted that begin with a digit or a sign
 abbrev pub Parted : ℕ → List ℕ → Type 0

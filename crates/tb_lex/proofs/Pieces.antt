@@ -1,5 +1,5 @@
 -- The token with which bytes begin, or the fault there: what is found is what the relations say, and the other way round.
-use Rattle.std.proofs.Common.{◌≡◌, ℕ, ℤ, suc, ◌+◌, ◌-◌, ◌≤◌, Bool, true, false, ◌||◌, ◌⊎◌, cond, eqb, List, [], ◌∷◌, ◌++◌, length, take, drop, Option, Some, None, Result, Ok, Err, refl, ap, sym, ◌∙◌, subst, inl, inr, ⊎_elim, arith}
+use Rattle.std.proofs.Common.{◌≡◌, ℕ, ℤ, suc, ◌-◌, ◌≤◌, Bool, true, false, ◌||◌, cond, eqb, List, [], ◌∷◌, ◌++◌, length, take, drop, Option, Some, None, Ok, Err, refl, ap, sym, ◌∙◌, subst, inl, inr}
 use Rattle.std.proofs.lemmas.Bool.{false≢true, eqb-true, and_parts}
 use Rattle.std.proofs.Math.Seq.{drop-append_seam}
 use Rattle.std.proofs.lemmas.List.{take-append-drop}
@@ -17,11 +17,11 @@ use Rattle.tb_lex.specs.declared.head.Head.TheVariants as head
 use Rattle.tb_lex.specs.declared.symbol.Symbol.{Symbol}
 use Rattle.tb_lex.specs.declared.kind.TokenKind.{TokenKind}
 use Rattle.tb_lex.specs.declared.kind.TokenKind.TheVariants as kind
-use Rattle.tb_lex.specs.Tokens.{symbol_text, SpellsKind, IsNumeral, IsPiece, IsLongest, IsWhole}
-use Rattle.tb_lex.specs.Faults.{BeginsNothing, IsOpenString, HasBadByte, IsFault}
+use Rattle.tb_lex.specs.Tokens.{symbol_text, SpellsKind, IsNumeral, IsLongest, IsWhole}
+use Rattle.tb_lex.specs.Faults.{BeginsNothing, IsFault}
 use Rattle.tb_lex.specs.Scanning.{Read, has_head, head_of, lower_at, upper_at, in_range, number_from, number_at, string_at, symbol_of, symbol_found, symbol_at, piece_at}
 use Rattle.tb_lex.proofs.Fronts.{none_first}
-use Rattle.tb_lex.proofs.Heads.{PieceOf, Begun, lower_head, upper_head, number_numeral, kind_begun, piece_begun, piece_of}
+use Rattle.tb_lex.proofs.Heads.{PieceOf, Begun, lower_head, upper_head, number_numeral, piece_begun}
 use Rattle.tb_lex.proofs.Names.{is_name_front, is_ident_front, name_longest, ident_longest, name_stops, ident_stops, lower_taken, upper_taken}
 use Rattle.tb_lex.proofs.Numbers.{numeral_head, numeral_longest, numeral_stops, number_spelled, parted, number_complete, real_complete, range_complete}
 use Rattle.tb_lex.proofs.Quotes.{string_longest, string_complete, string_found, StringFault, string_refused, open_complete, bad_complete}
@@ -205,7 +205,7 @@ lone_sign : (b : ℕ) (bytes rest : List ℕ) → head_of b ≡ head.Numeral →
 lone_sign b bytes rest h d true e at s =
     let behind : bytes ≡ rest = cc in
     begins_nothing b bytes (λ q. number_quote (apart head.Numeral head.Quote b h q)) (λ t tail f p.
-        no_digits_first t tail bytes f (sign_numeral t b e (subst (λ k. PieceOf k (b ∷ t)) h p)) (ap (prefix_len is_digit) behind ∙ s))
+    no_digits_first t tail bytes f (sign_numeral t b e (subst (λ k. PieceOf k (b ∷ t)) h p)) (ap (prefix_len is_digit) behind ∙ s))
 lone_sign b bytes rest h d false e at s =
     let digit : is_digit b ≡ true = sign_or b (is_digit b) e d in
     absurd (none_first is_digit b bytes (ap (prefix_len is_digit) at ∙ s) digit) where

@@ -1,14 +1,13 @@
 -- The string with which bytes begin, or its fault.
-use Rattle.std.proofs.Common.{◌≡◌, ℕ, suc, ◌+◌, ◌-◌, ◌≤◌, Bool, true, false, ◌⊎◌, cond, eqb, List, [], ◌∷◌, ◌++◌, length, Option, Some, None, Result, Ok, Err, refl, ap, sym, ◌∙◌, subst, inl, inr, arith, append_assoc, append-nil}
+use Rattle.std.proofs.Common.{◌≡◌, ℕ, suc, ◌+◌, ◌-◌, ◌≤◌, Bool, true, false, ◌⊎◌, cond, eqb, List, [], ◌∷◌, ◌++◌, length, Result, Ok, Err, refl, ap, sym, ◌∙◌, subst, inl, inr, arith, append_assoc, append-nil}
 use Rattle.std.proofs.lemmas.Bool.{false≢true, eqb-true, eqb-false, ne_eqb}
 use Rattle.std.proofs.lemmas.List.{length-append}
 use Rattle.tb_read.specs.declared.quoted.Within.{Within}
 use Rattle.tb_read.specs.declared.quoted.Within.TheVariants.{Between, Escaped, Going}
 use Rattle.tb_read.specs.declared.quoted.Turn.{Turn}
 use Rattle.tb_read.specs.declared.quoted.Turn.TheVariants.{Ends, Goes, Puts, Bad}
-use Rattle.tb_read.specs.declared.fault.TermFault.{TermFault}
 use Rattle.tb_read.specs.Spelling.{SpellsString}
-use Rattle.tb_read.specs.Lexing.{string_turn, escaped_turn, unescaped, string_rest as term_string}
+use Rattle.tb_read.specs.Lexing.{string_turn, string_rest as term_string}
 use Rattle.tb_read.proofs.Strings.{Steady, IsInside, turned as term_turned, string_sound}
 use Rattle.tb_read.proofs.Scalars.{string_put}
 use Rattle.tb_lex.specs.declared.fault.LexFault.{LexFault}
@@ -20,8 +19,8 @@ use Rattle.tb_lex.specs.Tokens.{IsPiece, IsLongest}
 use Rattle.tb_lex.specs.Faults.{BeginsString, IsInString, IsOpenString, IsUncut, IsBadEscape, HasBadByte}
 use Rattle.tb_lex.specs.Scanning.{Read, bad_place, string_fault, string_rest, string_of, string_at, with_front}
 use Rattle.tb_lex.proofs.Heads.{PieceOf, piece_of}
-use Rattle.tb_lex.proofs.Strings.{Pair, turned, found, read, front_ok, read_in_term, read_here}
-use Rattle.tb_lex.proofs.Walks.{Step, Walks, one_more, goes_facts, puts_facts, next_facts, NextFacts, walk_steady, ten_bad, rest_read, walk_read, text_read, read_text, walk_in_string, in_string, in_string_begins, uncut, inside_of, escaped_puts}
+use Rattle.tb_lex.proofs.Strings.{Pair, turned, read, read_in_term, read_here}
+use Rattle.tb_lex.proofs.Walks.{Step, Walks, one_more, goes_facts, puts_facts, next_facts, NextFacts, walk_steady, ten_bad, rest_read, walk_read, text_read, read_text, walk_in_string, in_string, in_string_begins, uncut, inside_of}
 
 -- a string is its longest text
 pub string_longest : (bytes text rest : List ℕ) → SpellsString bytes text → IsLongest text rest

@@ -1,8 +1,8 @@
 -- A string that is read here is one that is read in a term.
-use Rattle.std.proofs.Common.{◌≡◌, ℕ, suc, ◌-◌, Bool, true, List, [], ◌∷◌, ◌++◌, length, Result, Ok, Err, refl, ap, sym, ◌∙◌, subst}
+use Rattle.std.proofs.Common.{◌≡◌, ℕ, suc, ◌-◌, true, List, [], ◌∷◌, ◌++◌, length, Result, Ok, Err, refl, ap, sym, ◌∙◌}
 use Rattle.tb_terms.specs.Names.{is_string}
 use Rattle.tb_read.specs.declared.quoted.Within.{Within}
-use Rattle.tb_read.specs.declared.quoted.Within.TheVariants.{Between, Escaped, Going}
+use Rattle.tb_read.specs.declared.quoted.Within.TheVariants.{Between}
 use Rattle.tb_read.specs.declared.quoted.Turn.{Turn}
 use Rattle.tb_read.specs.declared.quoted.Turn.TheVariants.{Ends, Goes, Puts, Bad}
 use Rattle.tb_read.specs.declared.fault.TermFault.{TermFault}

@@ -1,7 +1,8 @@
 -- The symbol with which bytes begin.
-use Rattle.std.proofs.Common.{◌≡◌, ℕ, suc, ◌+◌, ◌-◌, ◌≤◌, Bool, true, false, cond, eqb, List, [], ◌∷◌, ◌++◌, length, drop, Option, Some, None, refl, ap, sym, ◌∙◌, subst, inr, arith, lit≤, append_assoc}
+use Rattle.std.proofs.Common.{◌≡◌, ℕ, ◌+◌, ◌≤◌, Bool, true, false, cond, eqb, List, [], ◌∷◌, ◌++◌, length, drop, Option, Some, None, refl, ap, sym, ◌∙◌, subst, inr, arith, lit≤, append_assoc}
 use Rattle.std.proofs.lemmas.Bool.{false≢true, eqb-true}
 use Rattle.std.proofs.lemmas.List.{length-append}
+use Rattle.tb_read.specs.Spelling.{is_blank}
 use Rattle.tb_lex.specs.Tokens.{symbol_text, IsPiece, IsLongest}
 use Rattle.tb_lex.specs.Scanning.{begins_with, head_of, colon_of, bars_of, symbol_of}
 use Rattle.tb_lex.specs.declared.head.Head.TheVariants as head
@@ -106,28 +107,28 @@ most symbol.Bars tail = (symbol.Bars, refl, lit≤ tt)
 most symbol.Less tail = (symbol.Less, refl, lit≤ tt)
 most symbol.Greater tail = (symbol.Greater, refl, lit≤ tt)
 
--- the first byte of a symbol begins no other piece
+-- the first byte of a symbol begins no other piece, no blanks and no comment
 abbrev pub SymbolHead : List ℕ → Type 0
-SymbolHead text = (b : ℕ) × (rest : List ℕ) × (text ≡ b ∷ rest) × (head_of b ≡ head.Other)
+SymbolHead text = (b : ℕ) × (rest : List ℕ) × (text ≡ b ∷ rest) × (head_of b ≡ head.Other) × (is_blank b ≡ false) × (eqb b 37 ≡ false)
 
 pub symbol_head : (s : Symbol) → SymbolHead (symbol_text s)
-symbol_head symbol.LeftParen = (40, [], refl, refl)
-symbol_head symbol.RightParen = (41, [], refl, refl)
-symbol_head symbol.LeftBracket = (91, [], refl, refl)
-symbol_head symbol.RightBracket = (93, [], refl, refl)
-symbol_head symbol.LeftBrace = (123, [], refl, refl)
-symbol_head symbol.RightBrace = (125, [], refl, refl)
-symbol_head symbol.Comma = (44, [], refl, refl)
-symbol_head symbol.Point = (46, [], refl, refl)
-symbol_head symbol.Colon = (58, [], refl, refl)
-symbol_head symbol.Assign = (58, 61 ∷ [], refl, refl)
-symbol_head symbol.Equals = (61, [], refl, refl)
-symbol_head symbol.Question = (63, [], refl, refl)
-symbol_head symbol.Plus = (43, [], refl, refl)
-symbol_head symbol.Star = (42, [], refl, refl)
-symbol_head symbol.Bars = (124, 124 ∷ [], refl, refl)
-symbol_head symbol.Less = (60, [], refl, refl)
-symbol_head symbol.Greater = (62, [], refl, refl)
+symbol_head symbol.LeftParen = (40, [], refl, refl, refl, refl)
+symbol_head symbol.RightParen = (41, [], refl, refl, refl, refl)
+symbol_head symbol.LeftBracket = (91, [], refl, refl, refl, refl)
+symbol_head symbol.RightBracket = (93, [], refl, refl, refl, refl)
+symbol_head symbol.LeftBrace = (123, [], refl, refl, refl, refl)
+symbol_head symbol.RightBrace = (125, [], refl, refl, refl, refl)
+symbol_head symbol.Comma = (44, [], refl, refl, refl, refl)
+symbol_head symbol.Point = (46, [], refl, refl, refl, refl)
+symbol_head symbol.Colon = (58, [], refl, refl, refl, refl)
+symbol_head symbol.Assign = (58, 61 ∷ [], refl, refl, refl, refl)
+symbol_head symbol.Equals = (61, [], refl, refl, refl, refl)
+symbol_head symbol.Question = (63, [], refl, refl, refl, refl)
+symbol_head symbol.Plus = (43, [], refl, refl, refl, refl)
+symbol_head symbol.Star = (42, [], refl, refl, refl, refl)
+symbol_head symbol.Bars = (124, 124 ∷ [], refl, refl, refl, refl)
+symbol_head symbol.Less = (60, [], refl, refl, refl, refl)
+symbol_head symbol.Greater = (62, [], refl, refl, refl, refl)
 
 none_by_length : (more : List ℕ) → length more ≡ 0 → more ≡ []
 none_by_length [] e = refl

@@ -1,11 +1,10 @@
 -- How a reader walks through a string, byte by byte.
-use Rattle.std.proofs.Common.{◌≡◌, ℕ, suc, ◌+◌, ◌-◌, ◌≤◌, Bool, true, false, ◌&&◌, ◌⊎◌, cond, eqb, leb, List, [], ◌∷◌, ◌++◌, length, Option, Some, None, Result, Ok, Err, refl, ap, sym, ◌∙◌, subst, inl, inr, arith, append_assoc, append-nil}
+use Rattle.std.proofs.Common.{◌≡◌, ℕ, true, ◌⊎◌, List, [], ◌∷◌, ◌++◌, Option, Some, None, Result, Ok, refl, ap, sym, ◌∙◌, subst, inl, inr, arith, append_assoc, append-nil}
 use Rattle.std.proofs.lemmas.Bool.{false≢true, lt-leb, and_parts}
 use Rattle.std.proofs.lemmas.Str.{IsUtf8-from_is_utf8}
 use Rattle.std.specs.Str.{is_utf8}
 use lib.Utf8.{encodes}
 use Rattle.tb_terms.specs.Names.{is_text}
-use Rattle.tb_terms.specs.Texts.{escape_letter}
 use Rattle.tb_read.specs.declared.quoted.Within.{Within}
 use Rattle.tb_read.specs.declared.quoted.Within.TheVariants.{Between, Escaped, Going}
 use Rattle.tb_read.specs.declared.quoted.Turn.{Turn}

@@ -1,8 +1,8 @@
 -- Which fault a text has that is no row of tokens within the limit, and where: the first from the left.
-use Rattle.std.specs.Prelude.{◌≡◌, ℕ, ◌+◌, ◌<◌, Bool, false, not, ◌&&◌, List, [], ◌∷◌, ◌++◌, length, IsTrue, ◌⊎◌}
+use Rattle.std.specs.Prelude.{◌≡◌, ℕ, ◌+◌, ◌<◌, not, List, [], ◌∷◌, ◌++◌, length, IsTrue, ◌⊎◌}
 use Rattle.tb_read.specs.Spelling.{is_blank, SpellsBytes, SpellsString}
 use Rattle.tb_read.specs.Places.{BeginsReal, BeginsTooFar}
-use Rattle.tb_lex.specs.Gaps.{IsGap, IsComment}
+use Rattle.tb_lex.specs.Gaps.{IsGap}
 use Rattle.tb_lex.specs.Tokens.{IsPiece, TokensThen}
 use Rattle.tb_lex.specs.declared.token.Token.{Token}
 use Rattle.tb_lex.specs.declared.fault.LexFault.{LexFault}

@@ -6,7 +6,6 @@ use Rattle.tb_read.specs.Spelling.{is_blank, digits_value}
 use Rattle.tb_read.specs.Lexing.{string_turn, is_negative, is_real, number_of}
 use Rattle.tb_read.specs.declared.quoted.Within.{Within}
 use Rattle.tb_read.specs.declared.quoted.Within.TheVariants.{Between, Escaped, Going}
-use Rattle.tb_read.specs.declared.quoted.Turn.{Turn}
 use Rattle.tb_read.specs.declared.quoted.Turn.TheVariants as turn
 use Rattle.tb_lex.specs.Tokens.{symbol_text}
 use Rattle.tb_lex.specs.declared.symbol.Symbol.{Symbol}
