@@ -9,6 +9,7 @@ pub mod Outcomes
 pub mod Pieces
 pub mod Quotes
 pub mod Runs
+pub mod Slices
 pub mod Strings
 pub mod Symbols
 pub mod Walks

@@ -409,7 +409,7 @@ no_fault bytes tokens f l c h = by (memory_or_not f) where
 abbrev Ran : ℕ → ℕ → ℕ → List ℕ → Type 0
 Ran limit count total bytes = (tokens : List Token) × (end : Option LexFault) × Runs limit count total bytes tokens end
 
-piece_some : (text : List ℕ) → IsPiece text → 1 ≤ length text
+pub piece_some : (text : List ℕ) → IsPiece text → 1 ≤ length text
 piece_some text p = let g = piece_begun text p in let len : length text ≡ suc (length g.1) = ap (λ (l : List ℕ). length l) g.2 in omega arith
 
 ran : (most limit total : ℕ) (count : ℕ) (bytes : List ℕ) → length bytes ≤ most → length bytes ≤ total → Ran limit count total bytes

@@ -1,5 +1,5 @@
 -- Which tokens a text has: it is their texts in order, each the longest that begins there, with blanks and comments between.
-use Rattle.std.specs.Prelude.{◌≡◌, ℕ, ◌+◌, Bool, List, [], ◌∷◌, ◌++◌, length, IsTrue, ◌⊎◌}
+use Rattle.std.specs.Prelude.{◌≡◌, ℕ, ◌+◌, ◌<◌, ◌≤◌, Bool, List, [], ◌∷◌, ◌++◌, length, slice_range, IsTrue, ◌⊎◌}
 use Rattle.tb_terms.specs.Names.{is_name, is_ident}
 use Rattle.tb_read.specs.Spelling.{is_digits, SpellsNumber, SpellsString}
 use Rattle.tb_read.specs.Places.{signed, HasPoint}
@@ -70,3 +70,9 @@ TokensThen P place bytes (token ∷ tokens) =
 
 abbrev pub Lexes : List ℕ → List Token → Type 0
 Lexes bytes tokens = TokensThen (λ place rest. IsLast rest) 0 bytes tokens
+
+-- From this place on the tokens stand in order, none empty, and each is spelled by the bytes from its one place to before its other.
+abbrev pub AreSlices : List ℕ → ℕ → List Token → Type 0
+AreSlices bytes place [] = place ≤ length bytes
+AreSlices bytes place (token ∷ tokens) =
+    (place ≤ token.from) × (token.from < token.to) × SpellsKind token.kind (slice_range bytes token.from token.to) × AreSlices bytes token.to tokens

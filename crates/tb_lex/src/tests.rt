@@ -1,5 +1,6 @@
 use crate::{
-    LexFault, Symbol, Token, TokenKind, each_text_has_one, faults_are_unique, lex, lexing_is_unique,
+    LexFault, Symbol, Token, TokenKind, each_text_has_one, faults_are_unique, lex,
+    lexing_is_unique, tokens_are_slices,
 };
 use std::alloc::{AllocError, Global};
 use std::test::Fail;
@@ -338,6 +339,7 @@ fn laws_hold_and_faults_are_shown(rt: HostRuntime) -> Result<(), Fail> {
     lexing_is_unique();
     faults_are_unique();
     each_text_has_one();
+    tokens_are_slices();
     let shown = format!(in rt.alloc(); "{}", LexFault::OpenString(7))?;
     assert_eq!(rt; shown.as_str(), "open string 7");
     Ok(())
