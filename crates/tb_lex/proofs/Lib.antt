@@ -1,3 +1,4 @@
+pub mod Apart
 pub mod Faulted
 pub mod Fronts
 pub mod Gaps

@@ -4,7 +4,7 @@ ghost use Rattle.std.specs.Prelude.{◌≡◌, ◌≢◌, ◌≤◌, ◌⊎◌, 
 ghost use Rattle.tb_lex.specs.declared.token.Token.{Token};
 ghost use Rattle.tb_lex.specs.declared.fault.LexFault.{LexFault};
 ghost use Rattle.tb_lex.specs.declared.fault.LexFault.TheVariants.{NoMemory};
-ghost use Rattle.tb_lex.specs.Tokens.{Lexes, AreSlices};
+ghost use Rattle.tb_lex.specs.Tokens.{Lexes, AreSlices, Spaced};
 ghost use Rattle.tb_lex.specs.Faults.{HasFault};
 
 /// A text has at most one row of tokens.
@@ -29,4 +29,9 @@ pub fn each_text_has_one()
 /// The tokens of a text stand in it in order, each spelled by its bytes between the token's places.
 pub fn tokens_are_slices()
     ensures { (bytes : List ℕ) (tokens : List Token) → Lexes bytes tokens → AreSlices bytes 0 tokens }
+{}
+
+/// However tokens are spelled, their texts with a blank behind each have these tokens.
+pub fn spaced_tokens_lex()
+    ensures { (tokens : List Token) (bytes : List ℕ) → Spaced 0 tokens bytes → Lexes bytes tokens }
 {}

@@ -17,7 +17,9 @@ mod token;
 
 pub use fault::LexFault;
 pub use kind::TokenKind;
-pub use laws::{each_text_has_one, faults_are_unique, lexing_is_unique, tokens_are_slices};
+pub use laws::{
+    each_text_has_one, faults_are_unique, lexing_is_unique, spaced_tokens_lex, tokens_are_slices,
+};
 pub use lexer::lex;
 pub use symbol::Symbol;
 pub use token::{Token, Tokens};

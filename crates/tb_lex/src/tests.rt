@@ -1,6 +1,6 @@
 use crate::{
     LexFault, Symbol, Token, TokenKind, each_text_has_one, faults_are_unique, lex,
-    lexing_is_unique, tokens_are_slices,
+    lexing_is_unique, spaced_tokens_lex, tokens_are_slices,
 };
 use std::alloc::{AllocError, Global};
 use std::test::Fail;
@@ -340,6 +340,7 @@ fn laws_hold_and_faults_are_shown(rt: HostRuntime) -> Result<(), Fail> {
     faults_are_unique();
     each_text_has_one();
     tokens_are_slices();
+    spaced_tokens_lex();
     let shown = format!(in rt.alloc(); "{}", LexFault::OpenString(7))?;
     assert_eq!(rt; shown.as_str(), "open string 7");
     Ok(())
