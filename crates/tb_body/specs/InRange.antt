@@ -44,9 +44,12 @@ abbrev pub is_tree_in_range : ℕ → Tree → Bool
 is_tree_in_range slots = fold-Tree Bool (tree_step slots)
 
 -- Each atom stands once in the tree, in the order of the atoms' numbers from 1. The formals are the first slots.
-unfoldable pub is_body_in_range : Tree → List Atom → List Sort → ℕ → Bool
-is_body_in_range tree atoms sorts formals =
+abbrev pub is_in_range : Tree → List Atom → ℕ → ℕ → Bool
+is_in_range tree atoms slots formals =
     ascends_by_one 1 (tree_atoms tree) && length (tree_atoms tree) == length atoms
     && nat_le (length atoms) 200000 && nat_le (tree_levels tree) 1000
-    && nat_le formals (length sorts)
-    && is_tree_in_range (length sorts) tree && list_all (is_atom_in_body (length sorts)) atoms
+    && nat_le formals slots
+    && is_tree_in_range slots tree && list_all (is_atom_in_body slots) atoms
+
+unfoldable pub is_body_in_range : Tree → List Atom → List Sort → ℕ → Bool
+is_body_in_range tree atoms sorts formals = is_in_range tree atoms (length sorts) formals

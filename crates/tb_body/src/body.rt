@@ -1,9 +1,16 @@
-ghost use Rattle.std.specs.Prelude.{◌≡◌, IsTrue, IfOk};
-ghost use Rattle.tb_body.specs.InRange.{is_body_in_range};
+ghost use Rattle.std.specs.Prelude.{◌≡◌, IsTrue, IfOk, IfSome, is_some};
+ghost use Rattle.tb_body.specs.InRange.{is_body_in_range, is_in_range};
 
+use crate::in_range::{
+    add_atoms, are_atoms_in_body, ascend_from_one, has_levels, is_tree_in_range,
+};
 use crate::{Atoms, Tree, copy_atoms};
 use std::alloc::Global;
 use tb_terms::{Items, NoMemory, Sorts};
+
+const MOST_ATOMS: usize = 200_000;
+
+const MOST_LEVELS: usize = 1_000;
 
 /// A process without its calls. Its slots have these sorts, and the first of them are its formals.
 /// It has at most 200,000 atoms and 1,000 levels.
@@ -21,6 +28,30 @@ pub struct Body {
 pub type Bodies = Items<Body>;
 
 impl Body {
+    /// The body, where its parts are in range of each other and within the limits.
+    #[tactic(auto, unfolding(crate::specs::InRange::is_body_in_range))]
+    pub fn new(
+        alloc: Global,
+        tree: Tree,
+        atoms: Atoms,
+        sorts: Sorts,
+        formals: u32,
+    ) -> Result<Option<Body>, NoMemory>
+        ensures is { IfOk result (λ body. IfSome body (λ b. (b.tree ≡ tree) × (b.atoms ≡ atoms) × (b.sorts ≡ sorts) × (b.formals ≡ formals))) }
+        ensures some { IfOk result (λ body. is_some body ≡ is_body_in_range tree atoms sorts formals) }
+    {
+        if is_in_range(alloc, &tree, &atoms, sorts.len(), formals)? {
+            Ok(Some(Body {
+                tree,
+                atoms,
+                sorts,
+                formals,
+            }))
+        } else {
+            Ok(None)
+        }
+    }
+
     /// The same body in memory of its own.
     pub fn copy(&self, alloc: Global) -> Result<Body, NoMemory>
         ensures { IfOk result (λ copy. copy ≡ self.now) }
@@ -35,6 +66,29 @@ impl Body {
             formals: self.formals,
         })
     }
+}
+
+/// Whether the parts of a body with so many slots are in range of each other and within the limits.
+fn is_in_range(
+    alloc: Global,
+    tree: &Tree,
+    atoms: &Atoms,
+    slots: usize,
+    formals: u32,
+) -> Result<bool, NoMemory>
+    ensures { IfOk result (λ ok. ok ≡ is_in_range tree.now atoms.now slots formals) }
+{
+    let mut numbers = Items::new(alloc);
+    add_atoms(tree, &mut numbers)?;
+    Ok(
+        ascend_from_one(numbers.as_slice())
+            && numbers.len() == atoms.len()
+            && atoms.len() <= MOST_ATOMS
+            && has_levels(tree, MOST_LEVELS)
+            && formals as usize <= slots
+            && is_tree_in_range(slots, tree)
+            && are_atoms_in_body(slots, atoms.as_slice()),
+    )
 }
 
 fn copy_sorts(alloc: Global, sorts: &Sorts) -> Result<Sorts, NoMemory>

@@ -5,6 +5,8 @@
 mod act;
 mod atom;
 mod body;
+mod in_range;
+mod places;
 mod program;
 mod tree;
 
