@@ -9,7 +9,8 @@ use Rattle.tb_match.specs.Matches.{match_list}
 use Rattle.tb_core.specs.Rows.{first, row_at, no_row, received_if, reception, receptions, partner_in, partners, founds_by, founds_among, founds_of, founds_from, up_to, founds_in_turn, founds_or_halt, founds_while_up, founds_all, ascend}
 use Rattle.tb_core.specs.Buses.{Bus}
 use Rattle.tb_core.specs.Steps.{moves}
-use Rattle.tb_core.specs.Views.{ready_at, sent_in, move_of, IsOwn, Receives, IsFoundIn, IsSearchedFor}
+use Rattle.tb_core.specs.Labels.{sent_in}
+use Rattle.tb_core.specs.Views.{ready_at, move_of, IsOwn, Receives, IsFoundIn, IsSearchedFor}
 use Rattle.tb_core.specs.declared.deed.Deed.{Deed}
 use Rattle.tb_core.specs.declared.deed.Deed.TheVariants as deed
 use Rattle.tb_core.specs.declared.row.Ready.{Ready}

@@ -4,5 +4,14 @@ pub mod PartLemmas
 pub mod TurnLemmas
 pub mod RowLemmas
 pub mod FoundLemmas
+pub mod TraceLemmas
+pub mod SimTraces
+pub mod GoLemmas
+pub mod SimLemmas
+pub mod ReachedLemmas
+pub mod Rows
+pub mod ReceiverLemmas
 pub mod SoundLemmas
 pub mod ReadLemmas
+pub mod PutLemmas
+pub mod CoreLemmas

@@ -15,7 +15,8 @@ use Rattle.tb_core.specs.Buses.{Bus, Proc, atoms_of}
 use Rattle.tb_core.specs.Deeds.{deed_of}
 use Rattle.tb_core.specs.Steps.{Move, Handshake, Halt, handshake_if, handshake_of, handshakes_with, handshakes, moves_by, moves_of, moves_of_all, moves, moves_while_up, moves_or_halt}
 use Rattle.tb_core.specs.Rows.{first, ready_one, readies, received_if, reception, receptions, partner_in, partners, founds_by, founds_among, founds_of, founds_from, up_to, founds_in_turn, founds_or_halt, founds_while_up, founds_all, ascend}
-use Rattle.tb_core.specs.Views.{IsRowOf, AreRowsOf, no_proc, no_offer, no_ready, proc_at, ready_at, offer_at, offer_of, own_move, sent_in, move_of}
+use Rattle.tb_core.specs.Views.{IsRowOf, AreRowsOf, no_proc, no_offer, no_ready, proc_at, ready_at, offer_at, offer_of, own_move, move_of}
+use Rattle.tb_core.specs.Labels.{sent_in}
 use Rattle.tb_core.specs.declared.deed.Deed.{Deed}
 use Rattle.tb_core.specs.declared.deed.Deed.TheVariants as deed
 use Rattle.tb_core.specs.declared.row.Ready.{Ready}

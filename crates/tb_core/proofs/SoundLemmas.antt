@@ -19,9 +19,12 @@ use Rattle.tb_algebra.specs.Binds.{takes_bind, takes_binds}
 use Rattle.tb_algebra.specs.Offers.{Offered, offers}
 use Rattle.tb_algebra.specs.Walks.{Walking, offers_of, is_end}
 use Rattle.tb_algebra.proofs.Taken.{binds-taken}
+use Rattle.tb_core.specs.Buses.{Bus, Proc}
+use Rattle.tb_core.specs.Steps.{made, goes_on}
+use Rattle.tb_core.specs.Labels.{own_binds}
 use Rattle.tb_core.specs.Deeds.{set_to, set_deed, deed_in, deed_if, deed_of}
 use Rattle.tb_core.specs.Rows.{row_at, ready_one, readies}
-use Rattle.tb_core.specs.Views.{proc_at, ready_at, offer_at, offer_of, no_ready, no_offer, Receives}
+use Rattle.tb_core.specs.Views.{proc_at, ready_at, offer_at, offer_of, no_ready, no_offer, own_move, IsOwn, Receives}
 use Rattle.tb_core.specs.Lives.{IsLive, IsLiveOn, AreLive, term_in, proc_of, proc_on, procs_of}
 use Rattle.tb_core.specs.declared.deed.Deed.{Deed}
 use Rattle.tb_core.specs.declared.deed.Deed.TheVariants as deed
@@ -167,7 +170,7 @@ deed-here atoms now walking readied place e within alive =
     let at : (slice_index_or readied place no_ready).at ≡ t.k = ap (λ (rs : List Ready). (slice_index_or rs place no_ready).at) e ∙ (let a = t.at in omega arith) in
     let here : slice_get (offers_of walking) (slice_index_or readied place no_ready).at ≡ Some t.offered = ap (slice_get (offers_of walking)) at ∙ t.here in
     let is : slice_index_or (offers (term_in walking.term) walking.store) (slice_index_or readied place no_ready).at no_offer ≡ t.offered =
-        ap (λ (os : List Offered). slice_index_or os (slice_index_or readied place no_ready).at no_offer) (sym same) ∙ get_or_from_slice_get (offers_of walking) (slice_index_or readied place no_ready).at t.offered no_offer here in
+    ap (λ (os : List Offered). slice_index_or os (slice_index_or readied place no_ready).at no_offer) (sym same) ∙ get_or_from_slice_get (offers_of walking) (slice_index_or readied place no_ready).at t.offered no_offer here in
     record {
       here = here ∙ ap Some (sym is);
       atom = ap (λ (rs : List Ready). (slice_index_or rs place no_ready).atom) e ∙ t.atom ∙ ap (λ (o : Offered). o.atom) (sym is);
@@ -200,3 +203,10 @@ received-takes store (deed.Receive patterns) terms binds fits h = fits terms bin
 
 pub own-takes : (store : List Slot) (found other : Deed) (kind : LabelKind) (shown : List Term) (binds : List Bind) → DeedFits store found → other ≡ found → other ≡ deed.Own kind shown binds → takes_binds store binds ≡ true
 own-takes store found other kind shown binds fits e f = subst (DeedFits store) (sym e ∙ f) fits
+
+-- the bus after a move of a process by itself
+pub own-made : (bus : Bus) (proc : Proc) (offered : Offered) (found : Deed) → IsOwn found →
+    made bus (own_move proc offered found) ≡ record bus { procs = goes_on proc.number offered (own_binds found) bus.procs; last_starter = proc.number }
+own-made bus proc offered (deed.Own kind shown binds) h = refl
+own-made bus proc offered (deed.Send terms) h = absurd h
+own-made bus proc offered (deed.Receive patterns) h = absurd h

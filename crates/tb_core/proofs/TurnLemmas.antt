@@ -1,9 +1,9 @@
 -- The order in which the processes are asked, where they stand by their numbers.
-use Rattle.std.proofs.Common.{◌≡◌, ℕ, ◌+◌, ◌<◌, ◌≤◌, zero, suc, List, [], ◌∷◌, ◌++◌, take, drop, length, refl, ap, sym, ◌∙◌, arith, rules, Some, None, Bool, true, false, ◌==◌, nat_lt, nat_le, append-nil, append_assoc, get_or}
+use Rattle.std.proofs.Common.{◌≡◌, ℕ, ◌<◌, ◌≤◌, zero, suc, List, [], ◌∷◌, ◌++◌, take, drop, length, refl, ap, sym, ◌∙◌, arith, rules, Some, None, Bool, true, false, ◌==◌, nat_lt, nat_le, get_or}
 use Rattle.std.proofs.lemmas.Bool.{leb-true, le-leb, eqb-true}
 use Rattle.std.specs.List.{AllWithin}
 use Rattle.std.specs.List.Sorted.{IsPartitionedBy, IsPartitionPoint}
-use Rattle.tb_core.specs.Rows.{first, founds_of, founds_from, founds_in_turn, founds_or_halt, founds_all, up_to, ascend}
+use Rattle.tb_core.specs.Rows.{first, founds_from, founds_in_turn, founds_or_halt, founds_all, up_to, ascend}
 use Rattle.tb_core.specs.declared.row.Row.{Row}
 use Rattle.tb_core.specs.declared.row.Found.{Found}
 use Rattle.tb_core.specs.declared.row.Found.TheVariants.{Finish}
@@ -52,16 +52,6 @@ pub up_to-point : (last : ℕ) (rows : List Row) (i : ℕ) → i ≤ length rows
     IsPartitionPoint (λ row. nat_le row.number last ≡ true) (λ row. nat_le row.number last ≡ false) rows i → i ≡ up_to last rows
 up_to-point last rows i le h = up_to-within last rows i le h.0 h.1
 
--- what processes lead to is what those in front lead to, and then those behind
-pub founds_from-split : (all : List Row) (at k : ℕ) (rows : List Row) → founds_from all at rows ≡ founds_from all at (take k rows) ++ founds_from all (at + k) (drop k rows)
-founds_from-split all at zero rows = let e : at + 0 ≡ at = omega arith in rw e refl
-founds_from-split all at (suc k) [] = refl
-founds_from-split all at (suc k) (row ∷ rows) =
-    let e : at + 1 + k ≡ at + suc k = omega arith in
-    let rest = founds_from-split all (at + 1) k rows in
-    ap (λ fs. founds_of all at row ++ fs) (rw e at rest)
-    ∙ sym (append_assoc (founds_of all at row) (founds_from all (at + 1) (take k rows)) (founds_from all (at + suc k) (drop k rows)))
-
 first-append_some : {A : Type 0} (xs ys : List A) (x : A) → Some x ≡ first xs → Some x ≡ first (xs ++ ys)
 first-append_some [] ys x e = cc
 first-append_some (y ∷ xs) ys x e = e
@@ -76,16 +66,13 @@ unfolding founds_in_turn
 turn-found rows last start found e hit =
     first-append_some (founds_from rows (up_to last rows) (drop (up_to last rows) rows)) (founds_from rows 0 (take (up_to last rows) rows)) found (rw e at hit)
 
--- where nothing is found there, the first of all is the first in turn
-pub turn-again : (rows : List Row) (last start : ℕ) → start ≡ up_to last rows → None ≡ first (founds_from rows start (drop start rows)) → first (founds_from rows 0 rows) ≡ first (founds_in_turn rows last)
+-- where nothing is found there, the first of the others is
+pub turn-again : (rows : List Row) (last start : ℕ) → start ≡ up_to last rows → None ≡ first (founds_from rows start (drop start rows)) → first (founds_from rows 0 (take start rows)) ≡ first (founds_in_turn rows last)
 unfolding founds_in_turn
 turn-again rows last start e miss =
     let at = up_to last rows in
     let nothing : founds_from rows at (drop at rows) ≡ [] = none-from_first (founds_from rows at (drop at rows)) (rw e at miss) in
-    let whole : founds_from rows 0 rows ≡ founds_from rows 0 (take at rows) ++ founds_from rows at (drop at rows) =
-    let e : 0 + at ≡ at = omega arith in rw e at (founds_from-split rows 0 at rows) in
-    ap first (whole ∙ ap (λ fs. founds_from rows 0 (take at rows) ++ fs) nothing ∙ append-nil (founds_from rows 0 (take at rows))
-    ∙ sym (ap (λ fs. fs ++ founds_from rows 0 (take at rows)) nothing))
+    ap (λ k. first (founds_from rows 0 (take k rows))) e ∙ sym (ap (λ fs. first (fs ++ founds_from rows 0 (take at rows))) nothing)
 
 or_halt-some : (no_ticks : Bool) (founds : List Found) (found : Found) → Some found ≡ first founds → Some found ≡ first (founds_or_halt no_ticks founds)
 or_halt-some no_ticks [] found e = cc

@@ -8,3 +8,9 @@ pub mod Views
 pub mod Lives
 pub mod LiveBuses
 pub mod Traces
+pub mod Codes
+pub mod Cores
+pub mod Simulation
+pub mod Turns
+pub mod Reached
+pub mod Standing

@@ -3,6 +3,7 @@ use Rattle.std.specs.Prelude.{◌≡◌, ℕ, List, [], map, true, Option, Some,
 use Rattle.tb_match.specs.declared.bind.Bind.{Bind}
 use Rattle.tb_body.specs.declared.body.Body.{Body}
 use Rattle.tb_algebra.specs.declared.offer.Offer.{Offer}
+use Rattle.tb_algebra.specs.Offers.{Offered}
 use Rattle.tb_algebra.specs.Walks.{Walking}
 use Rattle.tb_core.specs.Buses.{Bus, Proc}
 use Rattle.tb_core.specs.Rows.{ascend, row_at}
@@ -41,6 +42,12 @@ abbrev pub IsNextAt : {W P : Type 0} → (P → Body) → (P → W → Type 0) �
 IsNextAt {P = P} body_of on walking seen bus at place binds next =
     (plan : P) × (slice_get bus.plans (row_at bus.rows at).body ≡ Some plan) ×
     ((ticks : ℕ) × IsNext body_of on walking seen plan bus.ticks (row_at bus.rows at).number (row_at bus.rows at).body ticks binds (offer_of (procs_in walking bus) bus.rows at place) next)
+
+-- how the process at a place went on, by some offer
+abbrev pub IsWent : {W P : Type 0} → (P → Body) → (P → W → Type 0) → (P → W → Walking) → (W → Option (List Offer)) → LiveBus W P → ℕ → Option (Next W) → Type 0
+IsWent {P = P} body_of on walking seen bus at next =
+    (plan : P) × (slice_get bus.plans (row_at bus.rows at).body ≡ Some plan) ×
+    ((ticks : ℕ) × (binds : List Bind) × (offered : Offered) × IsNext body_of on walking seen plan bus.ticks (row_at bus.rows at).number (row_at bus.rows at).body ticks binds offered next)
 
 -- what is prepared for a move that was found
 abbrev pub IsPrepared : {W P : Type 0} → (P → Body) → (P → W → Type 0) → (P → W → Walking) → (W → Option (List Offer)) → LiveBus W P → Found → Prepared W → Type 0

@@ -1,5 +1,6 @@
 -- What the code's search goes through: for each process its deeds, by places alone.
-use Rattle.std.specs.Prelude.{ℕ, ◌+◌, ◌&&◌, ◌==◌, nat_lt, nat_le, List, [], ◌∷◌, ◌++◌, map, take, drop, Bool, true, if◌then◌else◌, Option, Some, None, slice_index_or}
+use Rattle.std.specs.Prelude.{◌≡◌, ℕ, ◌+◌, ◌<◌, ◌&&◌, ◌||◌, ◌==◌, nat_lt, nat_le, List, [], ◌∷◌, ◌++◌, map, take, drop, length, Bool, true, false, if◌then◌else◌, Option, Some, None, slice_index_or, ⊤}
+use Rattle.std.specs.List.{All, flat_map}
 use Rattle.tb_terms.specs.declared.term.Term.{Term}
 use Rattle.tb_match.specs.declared.bind.Bind.{Bind}
 use Rattle.tb_match.specs.Matches.{match_list}
@@ -58,6 +59,29 @@ partner_in number terms place row = if row.number == number then [] else map (λ
 abbrev pub partners : ℕ → List Term → ℕ → List Row → List Partner
 partners number terms place [] = []
 partners number terms place (row ∷ rows) = partner_in number terms place row ++ partners number terms (place + 1) rows
+
+abbrev pub is_receive : Deed → Bool
+is_receive (deed.Own kind shown binds) = false
+is_receive (deed.Send terms) = false
+is_receive (deed.Receive patterns) = true
+
+abbrev pub has_receive : List Ready → Bool
+has_receive [] = false
+has_receive (ready ∷ others) = is_receive ready.deed || has_receive others
+
+-- where the processes stand that receive anything, the first of all at this place
+abbrev pub receivers : ℕ → List Row → List ℕ
+receivers place [] = []
+receivers place (row ∷ rows) = if has_receive row.ready then place ∷ receivers (place + 1) rows else receivers (place + 1) rows
+
+-- the partners among the processes at these places
+abbrev pub partners_among : ℕ → List Term → List Row → List ℕ → List Partner
+partners_among number terms rows places = flat_map (λ place. partner_in number terms place (row_at rows place)) places
+
+-- where the receivers were looked up, these are they
+abbrev pub AreKnown : Option (List ℕ) → List Row → Type 0
+AreKnown None rows = ⊤
+AreKnown (Some places) rows = (places ≡ receivers 0 rows) × All (λ place. place < length rows) places
 
 -- what a deed leads to, of the process at a place among all rows
 abbrev pub founds_by : List Row → ℕ → ℕ → ℕ → Deed → List Found

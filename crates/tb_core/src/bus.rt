@@ -6,7 +6,9 @@ use crate::deed::Deed;
 use crate::going::take_offer;
 use crate::log::{Input, Label, LabelKind, Place, Reply, Why};
 use crate::next::{Next, Prepared};
+use crate::opening::{open_all, plan_all};
 use crate::row::{Found, Partner, Row};
+use crate::search::first_move;
 use std::alloc::Global;
 use tb_algebra::Walker;
 use tb_body::Program;
@@ -31,17 +33,54 @@ pub struct LiveBus<W: Walker> {
 }
 
 impl<W: Walker> LiveBus<W> {
-    ghost use Rattle.std.specs.Prelude.{◌≡◌, ℕ, ◌<◌, ◌≤◌, ◌+◌, ◌≢◌, List, [], length, IfOk, IsTrue, Some, slice_get, true, map};
-    ghost use Rattle.std.specs.Option.{option_copied};
+    ghost use Rattle.std.specs.Prelude.{◌≡◌, ℕ, ◌<◌, ◌≤◌, ◌+◌, ◌≢◌, List, [], length, IfOk, IfSome, IsTrue, Some, slice_get, true, map};
+    ghost use Rattle.std.specs.Option.{option_copied, option_map};
     ghost use Rattle.tb_terms.specs.declared.term.Term.{Term};
     ghost use Rattle.tb_match.specs.declared.bind.Bind.{Bind};
     ghost use Rattle.tb_algebra.specs.Binds.{takes_binds};
     ghost use Rattle.tb_algebra.specs.Offers.{Offered};
-    ghost use Rattle.tb_core.specs.Steps.{made, label_of, place_of, goes_on};
+    ghost use Rattle.tb_core.specs.Buses.{start};
+    ghost use Rattle.tb_core.specs.Steps.{moves, made, label_of, place_of, goes_on};
     ghost use Rattle.tb_core.specs.Traces.{fed};
-    ghost use Rattle.tb_core.specs.Rows.{row_at, ascend};
+    ghost use Rattle.tb_core.specs.Rows.{row_at, ascend, first};
     ghost use Rattle.tb_core.specs.Views.{proc_at, ready_at, offer_of, move_of, IsFoundIn};
-    ghost use Rattle.tb_core.specs.LiveBuses.{bus_of, procs_in, IsSound, IsNextAt, IsPrepared};
+    ghost use Rattle.tb_core.specs.LiveBuses.{bus_of, procs_in, IsSound, IsNextAt, IsWent, IsPrepared};
+    ghost use Rattle.tb_core.specs.Labels.{own_binds};
+    ghost use Rattle.tb_core.specs.Lives.{IsNext};
+
+    /// The bus that a program opens with.
+    pub fn open(alloc: Global, program: Program) -> Result<LiveBus<W>, NoMemory>
+        ensures sound { IfOk result (IsSound W.body_of W.IsOn W.walking W.seen) }
+        ensures bus { IfOk result (λ bus. bus_of W.walking bus ≡ start (record { program = program })) }
+    {
+        let plans = plan_all::<W>(alloc, program.bodies.as_slice())?;
+        let opened = open_all::<W>(alloc, &program, &plans)?;
+        Ok(LiveBus {
+            program,
+            plans,
+            rows: opened.rows,
+            walkers: opened.walkers,
+            ticks: 0,
+            last_starter: 0,
+            no_ticks: false,
+            down: false,
+        })
+    }
+
+    /// The first of all moves.
+    pub fn first_move(&self, alloc: Global) -> Result<Option<Found>, NoMemory>
+        requires { IsSound W.body_of W.IsOn W.walking W.seen self.now }
+        ensures found { IfOk result (λ found. option_map (move_of (procs_in W.walking self.now) self.now.rows) found ≡ first (moves (bus_of W.walking self.now))) }
+        ensures stands { IfOk result (λ found. IfSome found (IsFoundIn self.now.rows)) }
+    {
+        first_move(
+            alloc,
+            self.rows.as_slice(),
+            self.last_starter,
+            self.no_ticks,
+            self.down,
+        )
+    }
 
     /// The deed at a place of the process at a place.
     fn deed_at(&self, at: usize, place: usize) -> &Deed
@@ -152,6 +191,150 @@ impl<W: Walker> LiveBus<W> {
         let received = &partner.received;
         let receiver = self.next_at(alloc, partner.row, received.ready, &received.binds)?;
         Ok(Prepared::Both(sender, receiver))
+    }
+
+    /// Puts a process that went on in its place, or takes it away where it has ended.
+    fn put(&mut self, at: usize, next: Option<Next<W>>)
+        requires sound { IsSound W.body_of W.IsOn W.walking W.seen self.old }
+        requires within { at < length self.old.rows }
+        ensures puts { (plan : W.Plan) (ticks : ℕ) (binds : List Bind) (offered : Offered) → slice_get self.old.plans (row_at self.old.rows at).body ≡ Some plan →
+            IsNext W.body_of W.IsOn W.walking W.seen plan self.old.ticks (row_at self.old.rows at).number (row_at self.old.rows at).body ticks binds offered next →
+            IsSound W.body_of W.IsOn W.walking W.seen self.new
+            × (bus_of W.walking self.new ≡ record (bus_of W.walking self.old) { procs = goes_on (row_at self.old.rows at).number offered binds (procs_in W.walking self.old) }) }
+        ensures before { (other : ℕ) → other < at → row_at self.new.rows other ≡ row_at self.old.rows other }
+        ensures long { length self.old.rows ≤ length self.new.rows + 1 }
+        ensures plans { self.new.plans ≡ self.old.plans }
+    {
+        match next {
+            Some(Next { row, walker }) => {
+                self.rows.set(at, row);
+                self.walkers.set(at, walker);
+            }
+            None => {
+                self.rows.remove(at);
+                self.walkers.remove(at);
+            }
+        }
+    }
+
+    /// Puts two processes that went on in their places.
+    fn put_in_order(
+        &mut self,
+        low: usize,
+        first: Option<Next<W>>,
+        high: usize,
+        second: Option<Next<W>>,
+    )
+        requires sound { IsSound W.body_of W.IsOn W.walking W.seen self.old }
+        requires order { low < high }
+        requires within { high < length self.old.rows }
+        requires next { IsWent W.body_of W.IsOn W.walking W.seen self.old high second }
+        ensures { (one other : W.Plan) (t u : ℕ) (bs cs : List Bind) (o p : Offered) →
+            slice_get self.old.plans (row_at self.old.rows low).body ≡ Some one → slice_get self.old.plans (row_at self.old.rows high).body ≡ Some other →
+            IsNext W.body_of W.IsOn W.walking W.seen one self.old.ticks (row_at self.old.rows low).number (row_at self.old.rows low).body t bs o first →
+            IsNext W.body_of W.IsOn W.walking W.seen other self.old.ticks (row_at self.old.rows high).number (row_at self.old.rows high).body u cs p second →
+            IsSound W.body_of W.IsOn W.walking W.seen self.new
+            × (bus_of W.walking self.new ≡ record (bus_of W.walking self.old) {
+              procs = goes_on (row_at self.old.rows low).number o bs (goes_on (row_at self.old.rows high).number p cs (procs_in W.walking self.old));
+            }) }
+    {
+        // The one behind goes first, so that the other stays at its place.
+        self.put(high, second);
+        self.put(low, first);
+    }
+
+    fn put_both(&mut self, at: usize, next: Option<Next<W>>, other: usize, its: Option<Next<W>>)
+        requires sound { IsSound W.body_of W.IsOn W.walking W.seen self.old }
+        requires within { at < length self.old.rows }
+        requires other_within { other < length self.old.rows }
+        requires apart { (row_at self.old.rows at).number ≢ (row_at self.old.rows other).number }
+        requires next { IsWent W.body_of W.IsOn W.walking W.seen self.old at next }
+        requires its { IsWent W.body_of W.IsOn W.walking W.seen self.old other its }
+        ensures { (plan plans : W.Plan) (t u : ℕ) (bs cs : List Bind) (o p : Offered) →
+            slice_get self.old.plans (row_at self.old.rows at).body ≡ Some plan → slice_get self.old.plans (row_at self.old.rows other).body ≡ Some plans →
+            IsNext W.body_of W.IsOn W.walking W.seen plan self.old.ticks (row_at self.old.rows at).number (row_at self.old.rows at).body t bs o next →
+            IsNext W.body_of W.IsOn W.walking W.seen plans self.old.ticks (row_at self.old.rows other).number (row_at self.old.rows other).body u cs p its →
+            IsSound W.body_of W.IsOn W.walking W.seen self.new
+            × (bus_of W.walking self.new ≡ record (bus_of W.walking self.old) {
+              procs = goes_on (row_at self.old.rows other).number p cs (goes_on (row_at self.old.rows at).number o bs (procs_in W.walking self.old));
+            }) }
+    {
+        if at < other {
+            self.put_in_order(at, next, other, its);
+        } else {
+            self.put_in_order(other, its, at, next);
+        }
+    }
+
+    /// Makes a move that was found and prepared.
+    pub fn make(&mut self, found: &Found, prepared: Prepared<W>)
+        requires sound { IsSound W.body_of W.IsOn W.walking W.seen self.old }
+        requires found { IsFoundIn self.old.rows found.now }
+        requires prepared { IsPrepared W.body_of W.IsOn W.walking W.seen self.old found.now prepared }
+        ensures sound { IsSound W.body_of W.IsOn W.walking W.seen self.new }
+        ensures bus { bus_of W.walking self.new ≡ made (bus_of W.walking self.old) (move_of (procs_in W.walking self.old) self.old.rows found.now) }
+    {
+        match (found, prepared) {
+            (Found::Own(at, place), Prepared::Own(next)) => self.make_own(*at, *place, next),
+            (Found::Handshake(at, place, partner), Prepared::Both(sender, receiver)) => {
+                self.make_handshake(*at, *place, partner, sender, receiver);
+            }
+            _ => self.down = true,
+        }
+    }
+
+    fn make_own(&mut self, at: usize, place: usize, next: Option<Next<W>>)
+        requires sound { IsSound W.body_of W.IsOn W.walking W.seen self.old }
+        requires found { IsFoundIn self.old.rows (Found.Own at place) }
+        requires next { IsNextAt W.body_of W.IsOn W.walking W.seen self.old at place (own_binds (ready_at self.old.rows at place).deed) next }
+        ensures sound { IsSound W.body_of W.IsOn W.walking W.seen self.new }
+        ensures bus { bus_of W.walking self.new ≡ made (bus_of W.walking self.old) (move_of (procs_in W.walking self.old) self.old.rows (Found.Own at place)) }
+    {
+        let number = self.rows.as_slice()[at].number;
+        self.put(at, next);
+        self.last_starter = number;
+    }
+
+    fn make_handshake(
+        &mut self,
+        at: usize,
+        place: usize,
+        partner: &Partner,
+        sender: Option<Next<W>>,
+        receiver: Option<Next<W>>,
+    )
+        requires sound { IsSound W.body_of W.IsOn W.walking W.seen self.old }
+        requires found { IsFoundIn self.old.rows (Found.Handshake at place partner.now) }
+        requires sender { IsNextAt W.body_of W.IsOn W.walking W.seen self.old at place [] sender }
+        requires receiver { IsNextAt W.body_of W.IsOn W.walking W.seen self.old partner.now.row partner.now.received.ready partner.now.received.binds receiver }
+        ensures sound { IsSound W.body_of W.IsOn W.walking W.seen self.new }
+        ensures bus { bus_of W.walking self.new ≡ made (bus_of W.walking self.old) (move_of (procs_in W.walking self.old) self.old.rows (Found.Handshake at place partner.now)) }
+    {
+        let number = self.rows.as_slice()[at].number;
+        self.put_both(at, sender, partner.row, receiver);
+        self.last_starter = number;
+    }
+
+    /// What would become of an input.
+    pub fn reply(&self, input: Input) -> Reply
+        ensures { result ≡ (fed (bus_of W.walking self.now) input).reply }
+    {
+        match input {
+            Input::NoTicks if self.down => Reply::Dropped(Why::Down),
+            Input::NoTicks => Reply::Took,
+        }
+    }
+
+    /// Takes an input, or drops it.
+    pub fn feed(&mut self, input: Input)
+        requires sound { IsSound W.body_of W.IsOn W.walking W.seen self.old }
+        ensures sound { IsSound W.body_of W.IsOn W.walking W.seen self.new }
+        ensures bus { bus_of W.walking self.new ≡ (fed (bus_of W.walking self.old) input).bus }
+    {
+        match input {
+            Input::NoTicks if self.down => {}
+            Input::NoTicks => self.no_ticks = true,
+        }
     }
 }
 

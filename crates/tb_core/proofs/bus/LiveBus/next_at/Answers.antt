@@ -48,12 +48,12 @@ take_offer-requires-clause-body g c κs within =
     let plan : c.index-as_slice-row.result ≡ it.plan = read-is bus.plans c.as_slice-2.result.now c.index-as_slice-at.result.body (row_at bus.rows c.args.at).body c.index-as_slice-row.result it.plan c.as_slice-2.ensures (ap (λ (r : Row). r.body) row) it.planned c.index-as_slice-row.is in
     let walker : c.get-walker.result.now ≡ it.walker = c.get-walker.ensures ∙ read-is bus.walkers c.as_slice-4.result.now c.args.at c.args.at c.index-as_slice-at-2.result it.walker c.as_slice-4.ensures refl it.here c.index-as_slice-at-2.is in
     let ready : get_or c.as_slice-5.result.now c.args.place c.index-as_slice-place.result ≡ ready_at bus.rows c.args.at c.args.place =
-        sym c.index-as_slice-place.is ∙ indexed (row_at bus.rows c.args.at).ready c.as_slice-5.result.now c.args.place c.index-as_slice-place.result no_ready (c.as_slice-5.ensures ∙ ap (λ (r : Row). r.ready) row) c.requires.place_within c.index-as_slice-place.is in
+    sym c.index-as_slice-place.is ∙ indexed (row_at bus.rows c.args.at).ready c.as_slice-5.result.now c.args.place c.index-as_slice-place.result no_ready (c.as_slice-5.ensures ∙ ap (λ (r : Row). r.ready) row) c.requires.place_within c.index-as_slice-place.is in
     let d = deed-at g.W.Walker.body_of g.W.Walker.IsOn g.W.Walker.walking g.W.Walker.seen bus.plans bus.ticks bus.rows bus.walkers c.args.at c.args.place it c.requires.place_within in
     let offer = offer_of (procs_in g.W.Walker.walking bus) bus.rows c.args.at c.args.place in
     let place = (get_or c.as_slice-5.result.now c.args.place c.index-as_slice-place.result).at in
     let here : slice_get (offers_of (g.W.Walker.walking c.index-as_slice-row.result c.get-walker.result.now)) place ≡ Some offer =
-        offered-read g.W.Walker.walking c.index-as_slice-row.result it.plan c.get-walker.result.now it.walker place (ready_at bus.rows c.args.at c.args.place).at offer plan walker (ap (λ (r : Ready). r.at) ready) d.here in
+    offered-read g.W.Walker.walking c.index-as_slice-row.result it.plan c.get-walker.result.now it.walker place (ready_at bus.rows c.args.at c.args.place).at offer plan walker (ap (λ (r : Ready). r.at) ready) d.here in
     ap g.W.Walker.body_of plan ∙ sym (body-is g.W.Walker.body_of bus.plans bus.program.bodies c.as_slice-3.result.now c.index-as_slice-at.result (row_at bus.rows c.args.at) it.plan c.index-as_slice-row-2.result c.requires.sound.planned c.as_slice-3.ensures row it.planned c.index-as_slice-row-2.is)
 
 pub take_offer-requires-clause-live : goal.take_offer-requires-clause-live
@@ -64,12 +64,12 @@ take_offer-requires-clause-live g c κs within =
     let plan : c.index-as_slice-row.result ≡ it.plan = read-is bus.plans c.as_slice-2.result.now c.index-as_slice-at.result.body (row_at bus.rows c.args.at).body c.index-as_slice-row.result it.plan c.as_slice-2.ensures (ap (λ (r : Row). r.body) row) it.planned c.index-as_slice-row.is in
     let walker : c.get-walker.result.now ≡ it.walker = c.get-walker.ensures ∙ read-is bus.walkers c.as_slice-4.result.now c.args.at c.args.at c.index-as_slice-at-2.result it.walker c.as_slice-4.ensures refl it.here c.index-as_slice-at-2.is in
     let ready : get_or c.as_slice-5.result.now c.args.place c.index-as_slice-place.result ≡ ready_at bus.rows c.args.at c.args.place =
-        sym c.index-as_slice-place.is ∙ indexed (row_at bus.rows c.args.at).ready c.as_slice-5.result.now c.args.place c.index-as_slice-place.result no_ready (c.as_slice-5.ensures ∙ ap (λ (r : Row). r.ready) row) c.requires.place_within c.index-as_slice-place.is in
+    sym c.index-as_slice-place.is ∙ indexed (row_at bus.rows c.args.at).ready c.as_slice-5.result.now c.args.place c.index-as_slice-place.result no_ready (c.as_slice-5.ensures ∙ ap (λ (r : Row). r.ready) row) c.requires.place_within c.index-as_slice-place.is in
     let d = deed-at g.W.Walker.body_of g.W.Walker.IsOn g.W.Walker.walking g.W.Walker.seen bus.plans bus.ticks bus.rows bus.walkers c.args.at c.args.place it c.requires.place_within in
     let offer = offer_of (procs_in g.W.Walker.walking bus) bus.rows c.args.at c.args.place in
     let place = (get_or c.as_slice-5.result.now c.args.place c.index-as_slice-place.result).at in
     let here : slice_get (offers_of (g.W.Walker.walking c.index-as_slice-row.result c.get-walker.result.now)) place ≡ Some offer =
-        offered-read g.W.Walker.walking c.index-as_slice-row.result it.plan c.get-walker.result.now it.walker place (ready_at bus.rows c.args.at c.args.place).at offer plan walker (ap (λ (r : Ready). r.at) ready) d.here in
+    offered-read g.W.Walker.walking c.index-as_slice-row.result it.plan c.get-walker.result.now it.walker place (ready_at bus.rows c.args.at c.args.place).at offer plan walker (ap (λ (r : Ready). r.at) ready) d.here in
     live-read g.W.Walker.body_of g.W.Walker.IsOn g.W.Walker.walking g.W.Walker.seen bus.ticks c.index-as_slice-at.result (row_at bus.rows c.args.at) c.index-as_slice-row.result it.plan c.get-walker.result.now it.walker row plan walker it.live
 
 pub take_offer-requires-clause-within : goal.take_offer-requires-clause-within
@@ -80,12 +80,12 @@ take_offer-requires-clause-within g c κs within =
     let plan : c.index-as_slice-row.result ≡ it.plan = read-is bus.plans c.as_slice-2.result.now c.index-as_slice-at.result.body (row_at bus.rows c.args.at).body c.index-as_slice-row.result it.plan c.as_slice-2.ensures (ap (λ (r : Row). r.body) row) it.planned c.index-as_slice-row.is in
     let walker : c.get-walker.result.now ≡ it.walker = c.get-walker.ensures ∙ read-is bus.walkers c.as_slice-4.result.now c.args.at c.args.at c.index-as_slice-at-2.result it.walker c.as_slice-4.ensures refl it.here c.index-as_slice-at-2.is in
     let ready : get_or c.as_slice-5.result.now c.args.place c.index-as_slice-place.result ≡ ready_at bus.rows c.args.at c.args.place =
-        sym c.index-as_slice-place.is ∙ indexed (row_at bus.rows c.args.at).ready c.as_slice-5.result.now c.args.place c.index-as_slice-place.result no_ready (c.as_slice-5.ensures ∙ ap (λ (r : Row). r.ready) row) c.requires.place_within c.index-as_slice-place.is in
+    sym c.index-as_slice-place.is ∙ indexed (row_at bus.rows c.args.at).ready c.as_slice-5.result.now c.args.place c.index-as_slice-place.result no_ready (c.as_slice-5.ensures ∙ ap (λ (r : Row). r.ready) row) c.requires.place_within c.index-as_slice-place.is in
     let d = deed-at g.W.Walker.body_of g.W.Walker.IsOn g.W.Walker.walking g.W.Walker.seen bus.plans bus.ticks bus.rows bus.walkers c.args.at c.args.place it c.requires.place_within in
     let offer = offer_of (procs_in g.W.Walker.walking bus) bus.rows c.args.at c.args.place in
     let place = (get_or c.as_slice-5.result.now c.args.place c.index-as_slice-place.result).at in
     let here : slice_get (offers_of (g.W.Walker.walking c.index-as_slice-row.result c.get-walker.result.now)) place ≡ Some offer =
-        offered-read g.W.Walker.walking c.index-as_slice-row.result it.plan c.get-walker.result.now it.walker place (ready_at bus.rows c.args.at c.args.place).at offer plan walker (ap (λ (r : Ready). r.at) ready) d.here in
+    offered-read g.W.Walker.walking c.index-as_slice-row.result it.plan c.get-walker.result.now it.walker place (ready_at bus.rows c.args.at c.args.place).at offer plan walker (ap (λ (r : Ready). r.at) ready) d.here in
     slice_get_within (offers_of (g.W.Walker.walking c.index-as_slice-row.result c.get-walker.result.now)) place offer here
 
 pub take_offer-requires-clause-sorted : goal.take_offer-requires-clause-sorted
@@ -96,12 +96,12 @@ take_offer-requires-clause-sorted g c κs within =
     let plan : c.index-as_slice-row.result ≡ it.plan = read-is bus.plans c.as_slice-2.result.now c.index-as_slice-at.result.body (row_at bus.rows c.args.at).body c.index-as_slice-row.result it.plan c.as_slice-2.ensures (ap (λ (r : Row). r.body) row) it.planned c.index-as_slice-row.is in
     let walker : c.get-walker.result.now ≡ it.walker = c.get-walker.ensures ∙ read-is bus.walkers c.as_slice-4.result.now c.args.at c.args.at c.index-as_slice-at-2.result it.walker c.as_slice-4.ensures refl it.here c.index-as_slice-at-2.is in
     let ready : get_or c.as_slice-5.result.now c.args.place c.index-as_slice-place.result ≡ ready_at bus.rows c.args.at c.args.place =
-        sym c.index-as_slice-place.is ∙ indexed (row_at bus.rows c.args.at).ready c.as_slice-5.result.now c.args.place c.index-as_slice-place.result no_ready (c.as_slice-5.ensures ∙ ap (λ (r : Row). r.ready) row) c.requires.place_within c.index-as_slice-place.is in
+    sym c.index-as_slice-place.is ∙ indexed (row_at bus.rows c.args.at).ready c.as_slice-5.result.now c.args.place c.index-as_slice-place.result no_ready (c.as_slice-5.ensures ∙ ap (λ (r : Row). r.ready) row) c.requires.place_within c.index-as_slice-place.is in
     let d = deed-at g.W.Walker.body_of g.W.Walker.IsOn g.W.Walker.walking g.W.Walker.seen bus.plans bus.ticks bus.rows bus.walkers c.args.at c.args.place it c.requires.place_within in
     let offer = offer_of (procs_in g.W.Walker.walking bus) bus.rows c.args.at c.args.place in
     let place = (get_or c.as_slice-5.result.now c.args.place c.index-as_slice-place.result).at in
     let here : slice_get (offers_of (g.W.Walker.walking c.index-as_slice-row.result c.get-walker.result.now)) place ≡ Some offer =
-        offered-read g.W.Walker.walking c.index-as_slice-row.result it.plan c.get-walker.result.now it.walker place (ready_at bus.rows c.args.at c.args.place).at offer plan walker (ap (λ (r : Ready). r.at) ready) d.here in
+    offered-read g.W.Walker.walking c.index-as_slice-row.result it.plan c.get-walker.result.now it.walker place (ready_at bus.rows c.args.at c.args.place).at offer plan walker (ap (λ (r : Ready). r.at) ready) d.here in
     sorted-read (offers_of (g.W.Walker.walking c.index-as_slice-row.result c.get-walker.result.now)) place offer c.args.binds.now here c.requires.sorted
 
 pub returns : goal.returns
@@ -112,14 +112,13 @@ returns g c =
     let plan : c.index-as_slice-row.result ≡ it.plan = read-is bus.plans c.as_slice-2.result.now c.index-as_slice-at.result.body (row_at bus.rows c.args.at).body c.index-as_slice-row.result it.plan c.as_slice-2.ensures (ap (λ (r : Row). r.body) row) it.planned c.index-as_slice-row.is in
     let walker : c.get-walker.result.now ≡ it.walker = c.get-walker.ensures ∙ read-is bus.walkers c.as_slice-4.result.now c.args.at c.args.at c.index-as_slice-at-2.result it.walker c.as_slice-4.ensures refl it.here c.index-as_slice-at-2.is in
     let ready : get_or c.as_slice-5.result.now c.args.place c.index-as_slice-place.result ≡ ready_at bus.rows c.args.at c.args.place =
-        sym c.index-as_slice-place.is ∙ indexed (row_at bus.rows c.args.at).ready c.as_slice-5.result.now c.args.place c.index-as_slice-place.result no_ready (c.as_slice-5.ensures ∙ ap (λ (r : Row). r.ready) row) c.requires.place_within c.index-as_slice-place.is in
+    sym c.index-as_slice-place.is ∙ indexed (row_at bus.rows c.args.at).ready c.as_slice-5.result.now c.args.place c.index-as_slice-place.result no_ready (c.as_slice-5.ensures ∙ ap (λ (r : Row). r.ready) row) c.requires.place_within c.index-as_slice-place.is in
     let d = deed-at g.W.Walker.body_of g.W.Walker.IsOn g.W.Walker.walking g.W.Walker.seen bus.plans bus.ticks bus.rows bus.walkers c.args.at c.args.place it c.requires.place_within in
     let offer = offer_of (procs_in g.W.Walker.walking bus) bus.rows c.args.at c.args.place in
     let place = (get_or c.as_slice-5.result.now c.args.place c.index-as_slice-place.result).at in
     let here : slice_get (offers_of (g.W.Walker.walking c.index-as_slice-row.result c.get-walker.result.now)) place ≡ Some offer =
-        offered-read g.W.Walker.walking c.index-as_slice-row.result it.plan c.get-walker.result.now it.walker place (ready_at bus.rows c.args.at c.args.place).at offer plan walker (ap (λ (r : Ready). r.at) ready) d.here in
+    offered-read g.W.Walker.walking c.index-as_slice-row.result it.plan c.get-walker.result.now it.walker place (ready_at bus.rows c.args.at c.args.place).at offer plan walker (ap (λ (r : Ready). r.at) ready) d.here in
     IfOk-weaker c.take_offer.result _ _
     (λ next h. (it.plan, it.planned, ((g.W.Walker.walking it.plan it.walker).ticks, h)))
     (next-read g.W.Walker.body_of g.W.Walker.IsOn g.W.Walker.walking g.W.Walker.seen bus.ticks c.args.binds.now c.take_offer.result
     c.index-as_slice-at.result (row_at bus.rows c.args.at) c.index-as_slice-row.result it.plan c.get-walker.result.now it.walker place (ready_at bus.rows c.args.at c.args.place).at offer row plan walker (ap (λ (r : Ready). r.at) ready) d.here c.take_offer.ensures)
-

@@ -1,6 +1,6 @@
 use Rattle.std.proofs.Common.{◌≡◌, drop}
 use Rattle.tb_core.specs.Rows.{first, partners}
-use Rattle.tb_core.proofs.search.first_partner.Given as goal
+use Rattle.tb_core.proofs.search.first_of_all.Given as goal
 
 -- the processes that are left decide
 abbrev pub invariant-loop-place : goal.invariant-loop-place

@@ -1,0 +1,41 @@
+ghost use Rattle.std.specs.Prelude.{◌≡◌};
+ghost use Rattle.tb_core.specs.declared.answers.CoreFault.TheVariants.{NoMemory as OutOfMemory};
+
+use std::alloc::AllocError;
+use tb_terms::NoMemory;
+
+/// What a step found.
+#[derive(Clone, Copy, Debug, PartialEq, Eq)]
+pub enum Stepped {
+    /// The first of the steps was made.
+    Did,
+    /// There was none, and the bus isn't down.
+    Quiet,
+    /// The bus is down.
+    Down,
+}
+
+/// Why a core refused a call. It is as it was before.
+#[derive(Clone, Copy, Debug, PartialEq, Eq)]
+pub enum CoreFault {
+    /// The log could not grow, or the terms of a message could not be copied.
+    NoMemory,
+    /// The core was stopped.
+    Stopped,
+}
+
+impl From<NoMemory> for CoreFault {
+    ghost from_gives = { λ _ fault. fault ≡ OutOfMemory };
+
+    fn from(_refused: NoMemory) -> CoreFault {
+        CoreFault::NoMemory
+    }
+}
+
+impl From<AllocError> for CoreFault {
+    ghost from_gives = { λ _ fault. fault ≡ OutOfMemory };
+
+    fn from(_refused: AllocError) -> CoreFault {
+        CoreFault::NoMemory
+    }
+}
