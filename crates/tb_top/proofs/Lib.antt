@@ -6,3 +6,5 @@ pub mod Elements
 pub mod Numbering
 pub mod Bodies
 pub mod Programs
+pub mod LogWriting
+pub mod Outcomes

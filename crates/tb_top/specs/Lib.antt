@@ -1,3 +1,6 @@
 pub mod PlainTokens
 pub mod PlainScript
 pub mod PlainReading
+pub mod Lines
+pub mod Outcomes
+pub mod Requests

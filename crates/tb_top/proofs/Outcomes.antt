@@ -1,0 +1,74 @@
+-- How the parts of the top call come to its outcome.
+use Rattle.std.proofs.Common.{◌≡◌, ℕ, Option, List, [], ◌∷◌, refl, sym, subst, inl, inr}
+use Rattle.tb_edge.specs.Sinks.{Takes, TakesFront}
+use Rattle.tb_core.specs.Buses.{Origin, start}
+use Rattle.tb_core.specs.Traces.{IsTrace}
+use Rattle.tb_core.specs.LogText.{log_text}
+use Rattle.tb_core.specs.Simulation.{Sim, IsSim, IsSimFront, sim_start}
+use Rattle.tb_core.specs.declared.log.Entry.{Entry}
+use Rattle.tb_core.specs.declared.ends.SimEnd.{SimEnd}
+use Rattle.tb_core.specs.declared.ends.SimEnd.TheVariants as sim
+use Rattle.tb_top.specs.PlainScript.{IsPlainProgram}
+use Rattle.tb_edge.specs.Faults.{Rose}
+use Rattle.tb_top.specs.Outcomes.{PutsFront, SimOutcome, FileOutcome, IsLoaded, most_steps, IsCaused, Reported}
+use Rattle.tb_top.specs.Lines.{status_line}
+use Rattle.tb_top.specs.Requests.{OriginOutcome, Reports, status_of_end}
+use Rattle.tb_top.specs.declared.status.Status.{Status}
+use Rattle.tb_top.specs.declared.status.Status.TheVariants.{Ended, Script, Words, Outside, Limit, NoMemory}
+use Rattle.tb_top.specs.declared.status.ScriptFault.TheVariants as script
+use Rattle.tb_top.specs.declared.status.Edge.TheVariants as edge
+use Rattle.tb_top.specs.declared.status.Bound.TheVariants as bound
+
+-- a whole simulation is a front of itself
+pub sim-front : (limit : ℕ) (s : Sim) (log : List Entry) (last : SimEnd) → IsSim limit s log last → IsSimFront limit s log
+sim-front limit s [] last p = tt
+sim-front limit s (entry ∷ log) last p = (p.0, p.1, sim-front limit p.0 log last p.2)
+
+-- the log was put whole
+pub log-put : (origin : Origin) (log : List Entry) (last : SimEnd) (old new : Option (List ℕ)) (status : Status) → IsSim most_steps (sim_start (start origin)) log last → IsTrace (start origin) log →
+    Takes old new (log_text log) → status ≡ status_of_end last → OriginOutcome origin old new status
+log-put origin log sim.Down old new status is trace takes e bytes plain =
+    subst (SimOutcome bytes old new) (sym e) (log, record { program = origin.program; plain = plain; simulated = is; trace = trace }, takes)
+log-put origin log sim.Steps old new status is trace takes e bytes plain =
+    subst (SimOutcome bytes old new) (sym e) (log, record { program = origin.program; plain = plain; simulated = is; trace = trace }, takes)
+
+-- a front of its text was put
+pub log-front : (origin : Origin) (log : List Entry) (last : SimEnd) (old new : Option (List ℕ)) → IsSim most_steps (sim_start (start origin)) log last → IsTrace (start origin) log →
+    TakesFront old new (log_text log) → (bytes : List ℕ) → IsPlainProgram bytes origin.program → PutsFront bytes old new
+log-front origin log last old new is trace front bytes plain =
+    (log, record { program = origin.program; plain = plain; front = sim-front most_steps (sim_start (start origin)) log last is; trace = trace }, front)
+
+-- what the simulation of the bytes of a file comes to
+pub file-read : (told : Option (List ℕ)) (old new : Option (List ℕ)) (bytes : List ℕ) (status : Status) → IsLoaded told bytes → SimOutcome bytes old new status → FileOutcome told old new status
+file-read told old new bytes Ended held o = (bytes, held, o)
+file-read told old new bytes (Limit bound.Steps) held o = (bytes, held, o)
+file-read told old new bytes (Script (script.NotBuilt token)) held o = (bytes, held, o)
+file-read told old new bytes (Script (script.TooLong len)) held o = absurd o
+file-read told old new bytes (Outside edge.Out) held o = (bytes, held, o)
+file-read told old new bytes (Outside edge.File) held o = absurd o
+file-read told old new bytes (Outside edge.Err) held o = absurd o
+file-read told old new bytes (Words fault) held o = absurd o
+file-read told old new bytes NoMemory held (inl same) = inl same
+file-read told old new bytes NoMemory held (inr front) = inr (bytes, held, front)
+
+-- what is reported of a status that comes
+pub reported : (comes : Status → Type 0) (given : Status) (old new : Option (List ℕ)) (status : Status) → comes given → Reports given old new status → Reported comes old new status
+reported comes given old new Ended p r = (subst comes r.0 p, r.1)
+reported comes given old new (Outside edge.Err) p r = (given, p, r.0, r.1)
+reported comes given old new (Outside edge.File) p r = (subst comes r.0 p, subst (λ (s : Status). Takes old new (status_line s)) r.0 r.1)
+reported comes given old new (Outside edge.Out) p r = (subst comes r.0 p, subst (λ (s : Status). Takes old new (status_line s)) r.0 r.1)
+reported comes given old new (Script fault) p r = (subst comes r.0 p, subst (λ (s : Status). Takes old new (status_line s)) r.0 r.1)
+reported comes given old new (Words fault) p r = (subst comes r.0 p, subst (λ (s : Status). Takes old new (status_line s)) r.0 r.1)
+reported comes given old new (Limit bound) p r = (subst comes r.0 p, subst (λ (s : Status). Takes old new (status_line s)) r.0 r.1)
+reported comes given old new NoMemory p r = (subst comes r.0 p, subst (λ (s : Status). Takes old new (status_line s)) r.0 r.1)
+
+-- the counts of faults that a status names rose
+pub caused : (files_old files_new out_old out_new : ℕ) (status : Status) → (status ≡ Outside edge.File → Rose files_old files_new) → (status ≡ Outside edge.Out → Rose out_old out_new) → IsCaused files_old files_new out_old out_new status
+caused files_old files_new out_old out_new (Outside edge.File) file out = file refl
+caused files_old files_new out_old out_new (Outside edge.Out) file out = out refl
+caused files_old files_new out_old out_new (Outside edge.Err) file out = tt
+caused files_old files_new out_old out_new Ended file out = tt
+caused files_old files_new out_old out_new (Script fault) file out = tt
+caused files_old files_new out_old out_new (Words fault) file out = tt
+caused files_old files_new out_old out_new (Limit bound) file out = tt
+caused files_old files_new out_old out_new NoMemory file out = tt

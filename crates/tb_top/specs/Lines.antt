@@ -1,0 +1,49 @@
+-- The number with which the program exits at each status, and the line that is written of it.
+use Rattle.std.specs.Prelude.{ℕ, List, [], ◌∷◌, ◌++◌, codes}
+use Rattle.std.specs.Fmt.{decimal}
+use Rattle.tb_top.specs.declared.status.Status.{Status}
+use Rattle.tb_top.specs.declared.status.Status.TheVariants.{Ended, Script, Words, Outside, Limit, NoMemory}
+use Rattle.tb_top.specs.declared.status.ScriptFault.{ScriptFault}
+use Rattle.tb_top.specs.declared.status.ScriptFault.TheVariants as script
+use Rattle.tb_top.specs.declared.status.WordFault.{WordFault}
+use Rattle.tb_top.specs.declared.status.WordFault.TheVariants as word
+use Rattle.tb_top.specs.declared.status.Edge.{Edge}
+use Rattle.tb_top.specs.declared.status.Edge.TheVariants as edge
+use Rattle.tb_top.specs.declared.status.Bound.{Bound}
+use Rattle.tb_top.specs.declared.status.Bound.TheVariants as bound
+
+abbrev pub status_number : Status → ℕ
+status_number Ended = 0
+status_number (Script fault) = 1
+status_number (Words fault) = 2
+status_number (Outside edge) = 3
+status_number (Limit bound) = 4
+status_number NoMemory = 5
+
+abbrev pub script_words : ScriptFault → List ℕ
+script_words (script.TooLong bytes) = codes "script: too long " ++ decimal bytes
+script_words (script.NotBuilt token) = codes "script: not built at token " ++ decimal token
+
+abbrev pub word_words : WordFault → List ℕ
+word_words word.NoCommand = codes "words: no command"
+word_words (word.NotBuilt place) = codes "words: not built at " ++ decimal place
+
+abbrev pub edge_words : Edge → List ℕ
+edge_words edge.File = codes "outside: file"
+edge_words edge.Out = codes "outside: out"
+edge_words edge.Err = codes "outside: err"
+
+abbrev pub bound_words : Bound → List ℕ
+bound_words bound.Steps = codes "limit: steps"
+
+abbrev pub status_words : Status → List ℕ
+status_words Ended = []
+status_words (Script fault) = script_words fault
+status_words (Words fault) = word_words fault
+status_words (Outside edge) = edge_words edge
+status_words (Limit bound) = bound_words bound
+status_words NoMemory = codes "no memory"
+
+-- the line of a status other than Ended
+abbrev pub status_line : Status → List ℕ
+status_line status = codes "toolbus: " ++ status_words status ++ 10 ∷ []
