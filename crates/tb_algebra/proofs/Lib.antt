@@ -7,3 +7,10 @@ pub mod Offering
 pub mod Rows
 pub mod Sorts
 pub mod Taken
+pub mod BindLemmas
+pub mod EntryLemmas
+pub mod HitLemmas
+pub mod PlanLemmas
+pub mod RewriterLemmas
+pub mod SightLemmas
+pub mod TermLemmas

@@ -1,5 +1,5 @@
 -- What an atom sends, what it is matched against, and when it is ready.
-use Rattle.std.specs.Prelude.{◌≡◌, ℕ, ℤ, pos, negsuc, Bool, true, false, ◌&&◌, nat_le, List, [], ◌∷◌, map, sum, Option, Some, None, option_and_then, if◌then◌else◌, ◌-◌, slice_get}
+use Rattle.std.specs.Prelude.{ℕ, ℤ, pos, negsuc, Bool, true, false, nat_le, List, [], ◌∷◌, map, sum, Option, Some, None, option_and_then, if◌then◌else◌, ◌-◌, slice_get}
 use Rattle.std.specs.List.{list_all}
 use Rattle.tb_terms.specs.declared.term.Term.{Term}
 use Rattle.tb_terms.specs.declared.expr.Expr.{Expr}

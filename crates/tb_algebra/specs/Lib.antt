@@ -1,7 +1,13 @@
 pub mod Atoms
 pub mod Binds
+pub mod Founds
+pub mod Hits
 pub mod Offers
+pub mod Plans
 pub mod Processes
 pub mod Reached
+pub mod Rewritings
+pub mod Runnings
 pub mod Settings
+pub mod Sights
 pub mod Walks

@@ -1,8 +1,19 @@
 //! The algebra of processes: terms, what they may do next, and how they go on.
 #![tactic(auto)]
 
+mod fire;
+mod fired;
+mod found;
 mod laws;
+mod look;
+mod node;
 mod offer;
+mod plan;
+mod ready;
+mod rewriter;
+mod running;
+mod settings;
+mod values;
 mod walker;
 
 pub use laws::{
@@ -10,4 +21,6 @@ pub use laws::{
     offers_ascend, offers_keep_sorts, walks_stay_reached,
 };
 pub use offer::Offer;
+pub use plan::Plan;
+pub use rewriter::Rewriter;
 pub use walker::Walker;

@@ -73,7 +73,12 @@ pub trait Walker: Sized + Drop + Send {
             ≡ option_and_then (sent_by (body_of plan.now).atoms) (slice_get (offers_of (walking plan.now self.now)) k)) };
 
     /// The patterns of an atom that receives, or that looks at notes.
-    fn patterns(&self, alloc: Global, plan: &Self::Plan, k: usize) -> Result<Option<Patterns>, NoMemory>
+    fn patterns(
+        &self,
+        alloc: Global,
+        plan: &Self::Plan,
+        k: usize,
+    ) -> Result<Option<Patterns>, NoMemory>
         requires on { IsOn plan.now self.now }
         requires fresh { IsTrue (is_some (seen self.now)) }
         requires within { ForSome (seen self.now) (λ offers. k < length offers) }
@@ -81,7 +86,13 @@ pub trait Walker: Sized + Drop + Send {
             ≡ option_and_then (patterns_by (body_of plan.now).atoms) (slice_get (offers_of (walking plan.now self.now)) k)) };
 
     /// What the atom binds where it is given these terms.
-    fn accepts(&self, alloc: Global, plan: &Self::Plan, k: usize, ts: &Terms) -> Result<Option<Binds>, NoMemory>
+    fn accepts(
+        &self,
+        alloc: Global,
+        plan: &Self::Plan,
+        k: usize,
+        ts: &Terms,
+    ) -> Result<Option<Binds>, NoMemory>
         requires on { IsOn plan.now self.now }
         requires fresh { IsTrue (is_some (seen self.now)) }
         requires within { ForSome (seen self.now) (λ offers. k < length offers) }
@@ -89,7 +100,13 @@ pub trait Walker: Sized + Drop + Send {
             ≡ option_and_then (accepted_by (body_of plan.now).atoms ts.now) (slice_get (offers_of (walking plan.now self.now)) k)) };
 
     /// Takes the offer: the process goes on with what is left, and the binds are set.
-    fn fire(&mut self, alloc: Global, plan: &Self::Plan, k: usize, binds: Binds) -> Result<(), NoMemory>
+    fn fire(
+        &mut self,
+        alloc: Global,
+        plan: &Self::Plan,
+        k: usize,
+        binds: Binds,
+    ) -> Result<(), NoMemory>
         requires on { IsOn plan.now self.old }
         requires fresh { IsTrue (is_some (seen self.old)) }
         requires within { ForSome (seen self.old) (λ offers. k < length offers) }

@@ -15,3 +15,4 @@ pub mod SoundLemmas
 pub mod ReadLemmas
 pub mod PutLemmas
 pub mod CoreLemmas
+pub mod OpenLemmas

@@ -310,9 +310,9 @@ impl<W: Walker> LiveBus<W> {
         ensures sound { IsSound W.body_of W.IsOn W.walking W.seen self.new }
         ensures bus { bus_of W.walking self.new ≡ made (bus_of W.walking self.old) (move_of (procs_in W.walking self.old) self.old.rows (Found.Handshake at place partner.now)) }
     {
-        let number = self.rows.as_slice()[at].number;
+        let starter = self.rows.as_slice()[at].number;
         self.put_both(at, sender, partner.row, receiver);
-        self.last_starter = number;
+        self.last_starter = starter;
     }
 
     /// What would become of an input.

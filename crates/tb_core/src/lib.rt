@@ -16,6 +16,7 @@ mod row;
 mod search;
 #[cfg(test)]
 mod search_tests;
+mod simulation;
 mod text;
 
 pub use answers::{CoreFault, Stepped};
@@ -27,4 +28,5 @@ pub use laws::{
 };
 pub use log::{Entry, Input, Label, LabelKind, Place, Reply, Why};
 pub use machine::Core;
+pub use simulation::simulate;
 pub use text::write_entry;

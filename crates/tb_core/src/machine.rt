@@ -114,7 +114,7 @@ impl<W: Walker> Core<W> {
         }
         match self.bus.first_move(self.alloc)? {
             Some(found) => {
-                make(self.alloc, &mut self.bus, &mut self.log, &found)?;
+                make(self.alloc, &mut self.bus, &mut self.log, found)?;
                 Ok(Stepped::Did)
             }
             None if self.bus.down => Ok(Stepped::Down),
@@ -150,19 +150,19 @@ fn make<W: Walker>(
     alloc: Global,
     bus: &mut LiveBus<W>,
     log: &mut Items<Entry>,
-    found: &Found,
+    found: Found,
 ) -> Result<(), NoMemory>
     requires sound { IsSound W.body_of W.IsOn W.walking W.seen bus.old }
-    requires found { IsFoundIn bus.old.rows found.now }
+    requires found { IsFoundIn bus.old.rows found }
     ensures sound { IsSound W.body_of W.IsOn W.walking W.seen bus.new }
-    ensures log { OnOk result (log.new ≡ log.old ++ Entry.Did (label_of (move_of (procs_in W.walking bus.old) bus.old.rows found.now)) ∷ []) }
-    ensures bus { OnOk result (bus_of W.walking bus.new ≡ made (bus_of W.walking bus.old) (move_of (procs_in W.walking bus.old) bus.old.rows found.now)) }
+    ensures log { OnOk result (log.new ≡ log.old ++ Entry.Did (label_of (move_of (procs_in W.walking bus.old) bus.old.rows found)) ∷ []) }
+    ensures bus { OnOk result (bus_of W.walking bus.new ≡ made (bus_of W.walking bus.old) (move_of (procs_in W.walking bus.old) bus.old.rows found)) }
     ensures err { OnErr result ((bus.new ≡ bus.old) × (log.new ≡ log.old)) }
 {
-    let label = bus.label(alloc, found)?;
-    let prepared = bus.prepare(alloc, found)?;
+    let label = bus.label(alloc, &found)?;
+    let prepared = bus.prepare(alloc, &found)?;
     log.push(Entry::Did(label))?;
-    bus.make(found, prepared);
+    bus.make(&found, prepared);
     Ok(())
 }
 

@@ -1,4 +1,5 @@
-ghost use Rattle.std.specs.Prelude.{◌≡◌, ◌<◌, ℕ, List, IfOk, IsTrue, map, slice_get, Some, true};
+ghost use Rattle.std.specs.Prelude.{◌≡◌, ◌<◌, ◌+◌, ℕ, List, [], ◌∷◌, length, IfOk, IsTrue, map, slice_get, Some, true};
+ghost use Rattle.std.specs.Option.{ForSome};
 ghost use Rattle.tb_body.specs.Programs.{are_actuals};
 ghost use Rattle.tb_algebra.specs.Walks.{entering};
 ghost use Rattle.tb_core.specs.Buses.{opening_store, opened};
@@ -72,6 +73,27 @@ fn open_one<W: Walker>(
     Ok(Next { row, walker })
 }
 
+/// The process of the root at this place, from 0.
+fn open_at<W: Walker>(
+    alloc: Global,
+    program: &Program,
+    plans: &Items<W::Plan>,
+    at: usize,
+) -> Result<Next<W>, NoMemory>
+    requires plans { map W.body_of plans.now ≡ program.now.bodies }
+    requires within { at < length program.now.roots }
+    ensures number { IfOk result (λ next. next.row.number ≡ at + 1) }
+    ensures live { IfOk result (λ next. AreLive W.body_of W.IsOn W.walking W.seen plans.now 0 (next.row ∷ []) (next.walker ∷ [])) }
+    ensures procs { ForSome (slice_get program.now.roots at) (λ root. IfOk result (λ next.
+        procs_of W.walking plans.now (next.row ∷ []) (next.walker ∷ []) ≡ opened program.now.bodies (at + 1) (root ∷ []))) }
+{
+    let root = &program.roots.as_slice()[at];
+    let place = root.process as usize;
+    let body = &program.bodies.as_slice()[place];
+    let plan = &plans.as_slice()[place];
+    open_one::<W>(alloc, plan, body, at as u32 + 1, root)
+}
+
 /// The processes of the roots, numbered from 1.
 pub fn open_all<W: Walker>(
     alloc: Global,
@@ -86,11 +108,7 @@ pub fn open_all<W: Walker>(
     let mut rows = Items::new(alloc);
     let mut walkers = Items::new(alloc);
     for at in 0..program.roots.len() {
-        let root = &program.roots.as_slice()[at];
-        let place = root.process as usize;
-        let body = &program.bodies.as_slice()[place];
-        let plan = &plans.as_slice()[place];
-        let next = open_one::<W>(alloc, plan, body, at as u32 + 1, root)?;
+        let next = open_at::<W>(alloc, program, plans, at)?;
         rows.push(next.row)?;
         walkers.push(next.walker)?;
     }

@@ -7,7 +7,8 @@ ghost use Rattle.tb_func.specs.Arguments.{bool_of, int_of, list_of, bool_term};
 use std::alloc::Global;
 use tb_terms::{Items, Name, NoMemory, Term};
 
-pub(crate) fn bool_of(term: &Term) -> Option<bool>
+/// The truth value that the term stands for, where it is `true` or `false`.
+pub fn bool_of(term: &Term) -> Option<bool>
     ensures { result ≡ bool_of term.now }
 {
     if is_word(term, b"true") {
@@ -28,7 +29,8 @@ fn is_word(term: &Term, word: &[u8]) -> bool
     }
 }
 
-pub(crate) fn int_of(term: &Term) -> Option<i64>
+/// The number that the term is, where it is one.
+pub fn int_of(term: &Term) -> Option<i64>
     ensures { result ≡ int_of term.now }
 {
     match term {

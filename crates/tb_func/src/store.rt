@@ -54,7 +54,7 @@ impl Store {
     }
 
     /// The value at this slot, where there is one.
-    pub(crate) fn get(&self, slot: u32) -> Option<&Term>
+    pub fn get(&self, slot: u32) -> Option<&Term>
         ensures { option_copied result ≡ value_at self.now slot }
     {
         let place = slot as usize;
@@ -73,7 +73,7 @@ impl Store {
     }
 
     /// The sort of this slot, where there is one.
-    pub(crate) fn get_sort(&self, slot: u32) -> Option<&Sort>
+    pub fn get_sort(&self, slot: u32) -> Option<&Sort>
         ensures { option_copied result ≡ sort_at self.now slot }
     {
         let place = slot as usize;

@@ -1,0 +1,161 @@
+-- What a rewriter has found are its offers; and what becomes of it where one is taken.
+use Rattle.std.proofs.Common.{◌≡◌, ℕ, zero, suc, ◌<◌, Bool, IsTrue, Option, Some, None, List, [], ◌∷◌, map, length, slice_get, option_map, option_and_then, is_some, refl, ap, sym, subst, ◌∙◌, arith}
+use Rattle.std.specs.Option.{ForSome}
+use Rattle.std.proofs.lemmas.Option.{slice_get-map}
+use Rattle.tb_func.specs.declared.slot.Slot.{Slot}
+use Rattle.tb_match.specs.declared.bind.Bind.{Bind}
+use Rattle.tb_body.specs.declared.atom.Atom.{Atom}
+use Rattle.tb_body.specs.declared.tree.Tree.{Tree}
+use Rattle.tb_algebra.specs.Binds.{with_binds}
+use Rattle.tb_algebra.specs.Founds.{offer_of}
+use Rattle.tb_algebra.specs.Hits.{Past, On, hit, hit_at}
+use Rattle.tb_algebra.specs.Offers.{Offered}
+use Rattle.tb_algebra.specs.Processes.{Process, fresh}
+use Rattle.tb_algebra.specs.Plans.{tree_at}
+use Rattle.tb_algebra.specs.Rewritings.{walking_of, seen_of, Kept, kept, kept_found, IsOnPlan}
+use Rattle.tb_algebra.specs.Runnings.{term_of}
+use Rattle.tb_algebra.specs.Sights.{Sight, sighted, sights, shown}
+use Rattle.tb_algebra.specs.Walks.{Walking, offers_of, seen, fired}
+use Rattle.tb_algebra.specs.declared.found.Found.{Found}
+use Rattle.tb_algebra.specs.declared.node.Node.{Node}
+use Rattle.tb_algebra.specs.declared.offer.Offer.{Offer}
+use Rattle.tb_algebra.specs.declared.plan.Plan.{Plan}
+use Rattle.tb_algebra.specs.declared.rewriter.Rewriter.{Rewriter}
+use Rattle.tb_algebra.specs.declared.running.Running.{Running}
+use Rattle.tb_algebra.specs.declared.running.Running.TheVariants.{Whole}
+use Rattle.tb_algebra.proofs.EntryLemmas.{entered_root}
+use Rattle.tb_algebra.proofs.TermLemmas.{term-Whole}
+
+-- a process that starts
+
+pub starts : (nodes : List Node) (root : ℕ) (whole : Tree) (store : List Slot) → tree_at nodes root ≡ whole → ◌≡◌ {A = Walking} (record { term = Some (term_of nodes 0 (Whole (record { node = root; entered = 0 }))); store = store; ticks = 0 }) (record { term = Some (fresh whole); store = store; ticks = 0 })
+starts nodes root whole store e =
+    ap (λ (p : Process). record { term = Some p; store = store; ticks = 0 }) (term-Whole nodes 0 (record { node = root; entered = 0 }) ∙ entered_root nodes root whole e)
+
+-- looking
+
+pub sights_some : (atoms : List Atom) (now : ℕ) (plan : Plan) (rewriter : Rewriter) (term : Running) → rewriter.term ≡ Some term → map (sighted atoms now) (offers_of (walking_of plan rewriter)) ≡ sights atoms now (term_of plan.nodes rewriter.ticks term) rewriter.store
+unfolding offers_of sights
+sights_some atoms now plan rewriter term e = rw e
+
+pub sights_none : (atoms : List Atom) (now : ℕ) (plan : Plan) (rewriter : Rewriter) → rewriter.term ≡ None → map (sighted atoms now) (offers_of (walking_of plan rewriter)) ≡ []
+unfolding offers_of
+sights_none atoms now plan rewriter e = rw e
+
+map_twice : {A B C : Type 0} (f : A → B) (g : B → C) (xs : List A) → map g (map f xs) ≡ map (λ x. g (f x)) xs
+map_twice f g [] = refl
+map_twice f g (x ∷ xs) = ap (λ rest. g (f x) ∷ rest) (map_twice f g xs)
+
+-- two lists that are seen alike are seen alike by less
+seen_less : {A B C D : Type 0} (f : A → C) (h : B → C) (g : C → D) (xs : List A) (ys : List B) → map f xs ≡ map h ys → map (λ x. g (f x)) xs ≡ map (λ y. g (h y)) ys
+seen_less f h g xs ys e = sym (map_twice f g xs) ∙ ap (map g) e ∙ map_twice h g ys
+
+abbrev kept_sight : Sight → Kept
+kept_sight sight = record { atom = sight.atom; age = sight.age; store = sight.store }
+
+abbrev offer_sight : Sight → Offer
+offer_sight sight = record { atom = sight.atom; age = sight.age; ready = sight.ready }
+
+pub found_kept : (atoms : List Atom) (now : ℕ) (base : List Slot) (founds : List Found) (os : List Offered) → map (shown base) founds ≡ map (sighted atoms now) os → map (kept_found base) founds ≡ map kept os
+found_kept atoms now base founds os e = seen_less (shown base) (sighted atoms now) kept_sight founds os e
+
+pub found_seen : (atoms : List Atom) (now : ℕ) (base : List Slot) (founds : List Found) (os : List Offered) → map (shown base) founds ≡ map (sighted atoms now) os → map offer_of founds ≡ map (seen atoms now) os
+found_seen atoms now base founds os e = seen_less (shown base) (sighted atoms now) offer_sight founds os e
+
+-- what was found at a place
+
+kept_at : (base : List Slot) (founds : List Found) (os : List Offered) (k : ℕ) → map (kept_found base) founds ≡ map kept os → option_map (kept_found base) (slice_get founds k) ≡ option_map kept (slice_get os k)
+kept_at base founds os k e = sym (slice_get-map (kept_found base) founds k) ∙ ap (λ (l : List Kept). slice_get l k) e ∙ slice_get-map kept os k
+
+by_kept : {B : Type 0} (g : Kept → Option B) (offered : Option Offered) (found : Kept) → ◌≡◌ {A = Option Kept} (Some found) (option_map kept offered) → option_and_then (λ o. g (kept o)) offered ≡ g found
+by_kept g None found e = cc
+by_kept g (Some offered) found e =
+    let same : found ≡ kept offered = cc in
+    ap g (sym same)
+
+pub at_found : {B : Type 0} (g : Kept → Option B) (plan : Plan) (rewriter : Rewriter) (founds : List Found) (k : ℕ) (found : Found) → IsOnPlan plan rewriter → rewriter.found ≡ Some founds → slice_get founds k ≡ Some found → option_and_then (λ o. g (kept o)) (slice_get (offers_of (walking_of plan rewriter)) k) ≡ g (kept_found rewriter.store found)
+at_found g plan rewriter founds k found on e h =
+    let os = offers_of (walking_of plan rewriter) in
+    let same = kept_at rewriter.store founds os k (on.found founds e) in
+    by_kept g (slice_get os k) (kept_found rewriter.store found) (sym (ap (option_map (kept_found rewriter.store)) h) ∙ same)
+
+found_in : {B : Type 0} (g : Kept → Option B) (plan : Plan) (rewriter : Rewriter) (k : ℕ) (found : Found) (o : Option (List Found)) → IsOnPlan plan rewriter → rewriter.found ≡ o → option_and_then (λ founds. slice_get founds k) o ≡ Some found → option_and_then (λ offered. g (kept offered)) (slice_get (offers_of (walking_of plan rewriter)) k) ≡ g (kept_found rewriter.store found)
+found_in g plan rewriter k found None on e h = cc
+found_in g plan rewriter k found (Some founds) on e h = at_found g plan rewriter founds k found on e h
+
+pub by_found : {B : Type 0} (g : Kept → Option B) (plan : Plan) (rewriter : Rewriter) (k : ℕ) (found : Found) → IsOnPlan plan rewriter → option_and_then (λ founds. slice_get founds k) rewriter.found ≡ Some found → option_and_then (λ offered. g (kept offered)) (slice_get (offers_of (walking_of plan rewriter)) k) ≡ g (kept_found rewriter.store found)
+by_found g plan rewriter k found on h = found_in g plan rewriter k found rewriter.found on refl h
+
+-- taking
+
+hit_inside : (k : ℕ) (os : List Offered) (rest : ℕ) → k < length os → hit_at k os ≡ Past rest → ⊥
+hit_inside k [] rest h e = omega arith
+hit_inside zero (o ∷ os) rest h e = cc
+hit_inside (suc k) (o ∷ os) rest h e = hit_inside k os rest (omega arith) e
+
+length-map : {A B : Type 0} (f : A → B) (xs : List A) → length (map f xs) ≡ length xs
+length-map f [] = refl
+length-map f (x ∷ xs) = ap suc (length-map f xs)
+
+seen_founds : (rewriter : Rewriter) (found : Option (List Found)) → rewriter.found ≡ found → IsTrue (is_some (seen_of rewriter)) → (P : Type 0) → ((founds : List Found) → rewriter.found ≡ Some founds → P) → P
+seen_founds rewriter None e h P f =
+    let none : ◌≡◌ {A = Bool} (is_some (seen_of rewriter)) (is_some (option_map (map offer_of) None)) = ap (λ (o : Option (List Found)). is_some (option_map (map offer_of) o)) e in
+    cc
+seen_founds rewriter (Some founds) e h P f = f founds e
+
+pub is_hit : (plan : Plan) (rewriter : Rewriter) (k rest : ℕ) → IsOnPlan plan rewriter → IsTrue (is_some (seen_of rewriter)) → ForSome (seen_of rewriter) (λ seen. k < length seen) → hit_at k (offers_of (walking_of plan rewriter)) ≡ Past rest → ⊥
+is_hit plan rewriter k rest on fresh within e =
+    seen_founds rewriter rewriter.found refl fresh ⊥ (λ founds is.
+    let os = offers_of (walking_of plan rewriter) in
+    let shown : seen_of rewriter ≡ Some (map offer_of founds) = ap (option_map (map offer_of)) is in
+    let less = within (map offer_of founds) shown in
+    let one = length-map offer_of founds in
+    let two = length-map (kept_found rewriter.store) founds in
+    let three = length-map kept os in
+    let four = ap length (on.found founds is) in
+    hit_inside k os rest (omega arith) e)
+
+-- what holds of the store of the offer holds of the store that was hit
+pub hit_store : (P : List Slot → Type 0) (k : ℕ) (os : List Offered) (left : Option Process) (store : List Slot) → ForSome (slice_get os k) (λ o. P o.store) → hit_at k os ≡ On left store → P store
+hit_store P k [] left store f e = cc
+hit_store P zero (o ∷ os) left store f e =
+    let same : o.store ≡ store = cc in
+    subst P same (f o refl)
+hit_store P (suc k) (o ∷ os) left store f e = hit_store P k os left store f e
+
+hit_is : (k : ℕ) (os : List Offered) (o : Offered) → slice_get os k ≡ Some o → hit_at k os ≡ On o.residual o.store
+hit_is k [] o e = cc
+hit_is zero (first ∷ os) o e =
+    let same : first ≡ o = cc in
+    ap (λ (x : Offered). On x.residual x.store) same
+hit_is (suc k) (first ∷ os) o e = hit_is k os o e
+
+pub goes : (k : ℕ) (os : List Offered) (left : Option Process) (store after : List Slot) (binds : List Bind) (ticks : ℕ) → hit_at k os ≡ On left store → after ≡ with_binds store binds → ForSome (slice_get os k) (λ o. ◌≡◌ {A = Walking} (record { term = left; store = after; ticks = ticks }) (fired binds ticks o))
+goes k os left store after binds ticks e h o is =
+    let both : On left store ≡ On o.residual o.store = sym e ∙ hit_is k os o is in
+    let one : left ≡ o.residual = cc in
+    let two : store ≡ o.store = cc in
+    ap (λ (l : Option Process). record { term = l; store = after; ticks = ticks }) one
+    ∙ ap (λ (s : List Slot). record { term = o.residual; store = s; ticks = ticks }) (h ∙ ap (λ (s : List Slot). with_binds s binds) two)
+
+pub hits_some : (plan : Plan) (rewriter : Rewriter) (term : Running) (k : ℕ) → rewriter.term ≡ Some term → hit_at k (offers_of (walking_of plan rewriter)) ≡ hit (term_of plan.nodes rewriter.ticks term) rewriter.store k
+unfolding offers_of hit
+hits_some plan rewriter term k e = rw e
+
+pub hits_none : (plan : Plan) (rewriter : Rewriter) (k : ℕ) → rewriter.term ≡ None → hit_at k (offers_of (walking_of plan rewriter)) ≡ Past k
+unfolding offers_of
+hits_none plan rewriter k e = rw e
+
+inside : {X : Type 0} (k : ℕ) (xs : List X) → k < length xs → slice_get xs k ≡ None → ⊥
+inside k [] h e = omega arith
+inside zero (x ∷ xs) h e = cc
+inside (suc k) (x ∷ xs) h e = inside k xs (omega arith) e
+
+pub is_found : (rewriter : Rewriter) (k : ℕ) → IsTrue (is_some (seen_of rewriter)) → ForSome (seen_of rewriter) (λ seen. k < length seen) → option_and_then (λ founds. slice_get founds k) rewriter.found ≡ None → ⊥
+is_found rewriter k fresh within e =
+    seen_founds rewriter rewriter.found refl fresh ⊥ (λ founds is.
+    let shown : seen_of rewriter ≡ Some (map offer_of founds) = ap (option_map (map offer_of)) is in
+    let less = within (map offer_of founds) shown in
+    let one = length-map offer_of founds in
+    let none : slice_get founds k ≡ None = sym (ap (option_and_then (λ (l : List Found). slice_get l k)) is) ∙ e in
+    inside k founds (omega arith) none)

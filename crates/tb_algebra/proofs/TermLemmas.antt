@@ -1,0 +1,89 @@
+-- What a running term stands for, by its parts, and where these are in the plan.
+use Rattle.std.proofs.Common.{◌≡◌, ℕ, ◌<◌, ◌≤◌, Bool, true, ◌&&◌, nat_lt, nat_le, List, ◌++◌, length, ap, sym, ◌∙◌}
+use Rattle.std.proofs.lemmas.Bool.{and_from, and_parts, ltb-true, lt-ltb, leb-true, le-leb}
+use Rattle.tb_func.specs.declared.slot.Slot.{Slot}
+use Rattle.tb_body.specs.declared.atom.Atom.{Atom}
+use Rattle.tb_algebra.specs.Processes as process
+use Rattle.tb_algebra.specs.Processes.{Process}
+use Rattle.tb_algebra.specs.Plans.{process_at}
+use Rattle.tb_algebra.specs.Runnings.{term_of, term_step, is_on, on_step, entered_term}
+use Rattle.tb_algebra.specs.Sights.{Sight, sights}
+use Rattle.tb_algebra.specs.declared.node.Node.{Node}
+use Rattle.tb_algebra.specs.declared.running.Entry.{Entry}
+use Rattle.tb_algebra.specs.declared.running.Running.{Running, Running-F, map-Running, out-Running, fold_out-Running}
+use Rattle.tb_algebra.specs.declared.running.Running.TheOpen as layer
+use Rattle.tb_algebra.specs.declared.running.Running.TheVariants.{Whole, Seq, Par, outs-Whole, outs-Seq, outs-Par}
+use Rattle.tb_algebra.specs.Hits.{hit, hit_with, or_past}
+use Rattle.tb_algebra.proofs.SightLemmas.{sights-Seq, sights-Par}
+use Rattle.tb_algebra.proofs.HitLemmas.{hit-Seq, hit-Par, then, beside, along}
+
+module _ (nodes : List Node) (ticks : ℕ) where
+  opened : (r : Running) (w : Running-F Running) → out-Running r ≡ w → term_of nodes ticks r ≡ term_step nodes ticks (map-Running Running Process (term_of nodes ticks) w)
+  opened r w e = fold_out-Running Process (term_step nodes ticks) r ∙ ap (λ (v : Running-F Running). term_step nodes ticks (map-Running Running Process (term_of nodes ticks) v)) e
+
+  pub term-Whole : (entry : Entry) → term_of nodes ticks (Whole entry) ≡ entered_term nodes ticks entry
+  term-Whole entry = opened (Whole entry) (layer.Whole entry) (outs-Whole entry)
+
+  pub term-Seq : (x : Running) (y : ℕ) → term_of nodes ticks (Seq x y) ≡ process.Seq (term_of nodes ticks x) (process_at nodes y)
+  term-Seq x y = opened (Seq x y) (layer.Seq x y) (outs-Seq x y)
+
+  pub term-Par : (x y : Running) → term_of nodes ticks (Par x y) ≡ process.Par (term_of nodes ticks x) (term_of nodes ticks y)
+  term-Par x y = opened (Par x y) (layer.Par x y) (outs-Par x y)
+
+  opened_on : (r : Running) (w : Running-F Running) → out-Running r ≡ w → is_on nodes ticks r ≡ on_step nodes ticks (map-Running Running Bool (is_on nodes ticks) w)
+  opened_on r w e = fold_out-Running Bool (on_step nodes ticks) r ∙ ap (λ (v : Running-F Running). on_step nodes ticks (map-Running Running Bool (is_on nodes ticks) v)) e
+
+  pub on-Whole : (entry : Entry) → is_on nodes ticks (Whole entry) ≡ (nat_lt entry.node (length nodes) && nat_le entry.entered ticks)
+  on-Whole entry = opened_on (Whole entry) (layer.Whole entry) (outs-Whole entry)
+
+  pub on-Seq : (x : Running) (y : ℕ) → is_on nodes ticks (Seq x y) ≡ (is_on nodes ticks x && nat_lt y (length nodes))
+  on-Seq x y = opened_on (Seq x y) (layer.Seq x y) (outs-Seq x y)
+
+  pub on-Par : (x y : Running) → is_on nodes ticks (Par x y) ≡ (is_on nodes ticks x && is_on nodes ticks y)
+  on-Par x y = opened_on (Par x y) (layer.Par x y) (outs-Par x y)
+
+  pub whole_on : (r : Running) (entry : Entry) → r ≡ Whole entry → is_on nodes ticks r ≡ true → (entry.node < length nodes) × (entry.entered ≤ ticks)
+  whole_on r entry e h =
+      let both = sym (on-Whole entry) ∙ ap (is_on nodes ticks) (sym e) ∙ h in
+      let parts = and_parts (nat_lt entry.node (length nodes)) (nat_le entry.entered ticks) both in
+      (ltb-true entry.node (length nodes) parts.0, leb-true entry.entered ticks parts.1)
+
+  pub on_whole : (r : Running) (entry : Entry) → r ≡ Whole entry → entry.node < length nodes → entry.entered ≤ ticks → is_on nodes ticks r ≡ true
+  on_whole r entry e h k =
+      ap (is_on nodes ticks) e ∙ on-Whole entry
+      ∙ and_from (nat_lt entry.node (length nodes)) (nat_le entry.entered ticks) (lt-ltb entry.node (length nodes) h) (le-leb entry.entered ticks k)
+
+  pub seq_on : (r x : Running) (y : ℕ) → r ≡ Seq x y → is_on nodes ticks r ≡ true → (is_on nodes ticks x ≡ true) × (y < length nodes)
+  seq_on r x y e h =
+      let both = sym (on-Seq x y) ∙ ap (is_on nodes ticks) (sym e) ∙ h in
+      let parts = and_parts (is_on nodes ticks x) (nat_lt y (length nodes)) both in
+      (parts.0, ltb-true y (length nodes) parts.1)
+
+  pub par_on : (r x y : Running) → r ≡ Par x y → is_on nodes ticks r ≡ true → (is_on nodes ticks x ≡ true) × (is_on nodes ticks y ≡ true)
+  par_on r x y e h =
+      let both = sym (on-Par x y) ∙ ap (is_on nodes ticks) (sym e) ∙ h in
+      and_parts (is_on nodes ticks x) (is_on nodes ticks y) both
+
+  module _ (atoms : List Atom) (now : ℕ) (store : List Slot) where
+    abbrev of_term : Running → List Sight
+    of_term r = sights atoms now (term_of nodes ticks r) store
+
+    pub sights_of_seq : (r x : Running) (y : ℕ) → r ≡ Seq x y → of_term r ≡ of_term x
+    sights_of_seq r x y e =
+        ap (λ (p : Process). sights atoms now p store) (ap (term_of nodes ticks) e ∙ term-Seq x y)
+        ∙ sights-Seq atoms now (term_of nodes ticks x) (process_at nodes y) store
+
+    pub sights_of_par : (r x y : Running) → r ≡ Par x y → of_term r ≡ of_term x ++ of_term y
+    sights_of_par r x y e =
+        ap (λ (p : Process). sights atoms now p store) (ap (term_of nodes ticks) e ∙ term-Par x y)
+        ∙ sights-Par atoms now (term_of nodes ticks x) (term_of nodes ticks y) store
+
+  pub hits_of_seq : (r x : Running) (y : ℕ) (store : List Slot) (k : ℕ) → r ≡ Seq x y → hit (term_of nodes ticks r) store k ≡ hit_with (then (process_at nodes y)) (hit (term_of nodes ticks x) store k)
+  hits_of_seq r x y store k e =
+      ap (λ (p : Process). hit p store k) (ap (term_of nodes ticks) e ∙ term-Seq x y)
+      ∙ hit-Seq (term_of nodes ticks x) (process_at nodes y) store k
+
+  pub hits_of_par : (r x y : Running) (store : List Slot) (k : ℕ) → r ≡ Par x y → hit (term_of nodes ticks r) store k ≡ or_past (hit_with (beside (term_of nodes ticks y)) (hit (term_of nodes ticks x) store k)) (λ rest. hit_with (along (term_of nodes ticks x)) (hit (term_of nodes ticks y) store rest))
+  hits_of_par r x y store k e =
+      ap (λ (p : Process). hit p store k) (ap (term_of nodes ticks) e ∙ term-Par x y)
+      ∙ hit-Par (term_of nodes ticks x) (term_of nodes ticks y) store k

@@ -1,0 +1,240 @@
+use Rattle.std.proofs.Common.{◌≡◌, ℕ, ◌-◌, ◌<◌, Bool, true, false, Option, Some, None, List, length, slice_get, ap, sym, subst, ◌∙◌, IsTrue, option_map, arith}
+use Rattle.std.proofs.lemmas.Result.{IfOk-weaker}
+use Rattle.tb_func.specs.declared.slot.Slot.{Slot}
+use Rattle.tb_algebra.specs.declared.node.Node.TheVariants.{At, Seq, Alt, Star, Par, If, Let}
+use Rattle.tb_algebra.specs.declared.fired.Fired.{Fired}
+use Rattle.tb_algebra.specs.Settings.{tested, with_settings}
+use Rattle.tb_algebra.specs.Hits.{Hit, Past, On, hit, hit_of, hit_with, or_past, is_fired_on}
+use Rattle.tb_algebra.specs.Plans.{process_at}
+use Rattle.tb_algebra.specs.Processes.{Process}
+use Rattle.tb_algebra.specs.Sights.{or_own}
+use Rattle.tb_algebra.specs.Runnings.{entered_term, term_of}
+use Rattle.tb_algebra.proofs.PlanLemmas.{both_before, one_before, if_before}
+use Rattle.tb_algebra.proofs.HitLemmas.{hit_atom, hit_seq, hit_alt, hit_star, hit_par, hit_true, hit_false, hit_absent, hit_untold, hit_set, hit_unset, then, beside, along}
+use Rattle.tb_algebra.proofs.TermLemmas.{term-Whole, on_whole}
+use Rattle.tb_algebra.proofs.fire.+fire_node.Goals as goal
+
+pub fire_node-requires : goal.fire_node-requires
+fire_node-requires t c =
+    let node : slice_get c.args.plan.now.nodes c.args.node ≡ Some (Seq c.in-Seq.x c.in-Seq.y) = c.node.ensures.node ∙ ap Some c.in-Seq.is in
+    let before = both_before c.in-Seq.x c.in-Seq.y c.args.node (c.node.ensures.behind c.args.node (Seq c.in-Seq.x c.in-Seq.y) node) in
+    let there = c.requires.there in
+    let d = c.decreases in
+    (omega arith, (omega arith, c.requires.entered))
+
+pub fire_node-requires-in-Alt : goal.fire_node-requires-in-Alt
+fire_node-requires-in-Alt t c =
+    let node : slice_get c.args.plan.now.nodes c.args.node ≡ Some (Alt c.in-Alt.x c.in-Alt.y) = c.node.ensures.node ∙ ap Some c.in-Alt.is in
+    let before = both_before c.in-Alt.x c.in-Alt.y c.args.node (c.node.ensures.behind c.args.node (Alt c.in-Alt.x c.in-Alt.y) node) in
+    let there = c.requires.there in
+    let d = c.decreases in
+    (omega arith, (omega arith, c.requires.entered))
+
+pub fire_node-requires-in-Past : goal.fire_node-requires-in-Past
+fire_node-requires-in-Past t c =
+    let node : slice_get c.args.plan.now.nodes c.args.node ≡ Some (Alt c.in-Alt.x c.in-Alt.y) = c.node.ensures.node ∙ ap Some c.in-Alt.is in
+    let before = both_before c.in-Alt.x c.in-Alt.y c.args.node (c.node.ensures.behind c.args.node (Alt c.in-Alt.x c.in-Alt.y) node) in
+    let there = c.requires.there in
+    let d = c.decreases in
+    (omega arith, (omega arith, c.requires.entered))
+
+pub fire_node-requires-in-Star : goal.fire_node-requires-in-Star
+fire_node-requires-in-Star t c =
+    let node : slice_get c.args.plan.now.nodes c.args.node ≡ Some (Star c.in-Star.x c.in-Star.y) = c.node.ensures.node ∙ ap Some c.in-Star.is in
+    let before = both_before c.in-Star.x c.in-Star.y c.args.node (c.node.ensures.behind c.args.node (Star c.in-Star.x c.in-Star.y) node) in
+    let there = c.requires.there in
+    let d = c.decreases in
+    (omega arith, (omega arith, c.requires.entered))
+
+pub fire_node-requires-in-Past-2 : goal.fire_node-requires-in-Past-2
+fire_node-requires-in-Past-2 t c =
+    let node : slice_get c.args.plan.now.nodes c.args.node ≡ Some (Star c.in-Star.x c.in-Star.y) = c.node.ensures.node ∙ ap Some c.in-Star.is in
+    let before = both_before c.in-Star.x c.in-Star.y c.args.node (c.node.ensures.behind c.args.node (Star c.in-Star.x c.in-Star.y) node) in
+    let there = c.requires.there in
+    let d = c.decreases in
+    (omega arith, (omega arith, c.requires.entered))
+
+pub fire_node-requires-in-Par : goal.fire_node-requires-in-Par
+fire_node-requires-in-Par t c =
+    let node : slice_get c.args.plan.now.nodes c.args.node ≡ Some (Par c.in-Par.x c.in-Par.y) = c.node.ensures.node ∙ ap Some c.in-Par.is in
+    let before = both_before c.in-Par.x c.in-Par.y c.args.node (c.node.ensures.behind c.args.node (Par c.in-Par.x c.in-Par.y) node) in
+    let there = c.requires.there in
+    let d = c.decreases in
+    (omega arith, (omega arith, c.requires.entered))
+
+pub fire_node-requires-in-Past-3 : goal.fire_node-requires-in-Past-3
+fire_node-requires-in-Past-3 t c =
+    let node : slice_get c.args.plan.now.nodes c.args.node ≡ Some (Par c.in-Par.x c.in-Par.y) = c.node.ensures.node ∙ ap Some c.in-Par.is in
+    let before = both_before c.in-Par.x c.in-Par.y c.args.node (c.node.ensures.behind c.args.node (Par c.in-Par.x c.in-Par.y) node) in
+    let there = c.requires.there in
+    let d = c.decreases in
+    (omega arith, (omega arith, c.requires.entered))
+
+pub fire_node-requires-in-Some-true : goal.fire_node-requires-in-Some-true
+fire_node-requires-in-Some-true t c =
+    let node : slice_get c.args.plan.now.nodes c.args.node ≡ Some (If c.in-If.test c.in-If.x c.in-If.y) = c.node.ensures.node ∙ ap Some c.in-If.is in
+    let before = if_before c.in-If.test c.in-If.x c.in-If.y c.args.node (c.node.ensures.behind c.args.node (If c.in-If.test c.in-If.x c.in-If.y) node) in
+    let there = c.requires.there in
+    let d = c.decreases in
+    (omega arith, (omega arith, c.requires.entered))
+
+pub fire_node-requires-in-Some : goal.fire_node-requires-in-Some
+fire_node-requires-in-Some t c =
+    let node : slice_get c.args.plan.now.nodes c.args.node ≡ Some (If c.in-If.test c.in-If.x (Some c.in-Some.y)) = c.node.ensures.node ∙ ap Some (c.in-If.is ∙ ap (If c.in-If.test c.in-If.x) c.in-Some.is) in
+    let before = both_before c.in-If.x c.in-Some.y c.args.node (c.node.ensures.behind c.args.node (If c.in-If.test c.in-If.x (Some c.in-Some.y)) node) in
+    let there = c.requires.there in
+    let d = c.decreases in
+    (omega arith, (omega arith, c.requires.entered))
+
+pub fire_node-requires-in-Some-2 : goal.fire_node-requires-in-Some-2
+fire_node-requires-in-Some-2 t c =
+    let node : slice_get c.args.plan.now.nodes c.args.node ≡ Some (Let c.in-Let.settings c.in-Let.x) = c.node.ensures.node ∙ ap Some c.in-Let.is in
+    let before = one_before c.in-Let.x c.args.node (c.node.ensures.behind c.args.node (Let c.in-Let.settings c.in-Let.x) node) in
+    let there = c.requires.there in
+    let d = c.decreases in
+    (omega arith, (omega arith, c.requires.entered))
+
+pub returns-in-At-clause-hit : goal.returns-in-At-clause-hit
+returns-in-At-clause-hit t c =
+    let node : slice_get c.args.plan.now.nodes c.args.node ≡ Some (At c.in-At.field-0) = c.node.ensures.node ∙ ap Some c.in-At.is in
+    let e = hit_atom c.args.plan.now.nodes c.args.since.ticks (record { node = c.args.node; entered = c.args.since.entered }) c.node.ensures.behind c.in-At.field-0 (or_own c.args.own.now c.args.base.now) c.args.k node in
+    IfOk-weaker c.fire_atom.result _ _ (λ fired p. p c.args.plan.now.nodes c.args.since.ticks c.args.base.now c.in-At.field-0 (c.args.since.ticks - c.args.since.entered) ∙ sym e) c.fire_atom.ensures.hit
+
+pub returns-in_ok-fired-in-Seq-clause-hit : goal.returns-in_ok-fired-in-Seq-clause-hit
+returns-in_ok-fired-in-Seq-clause-hit t c =
+    let node : slice_get c.args.plan.now.nodes c.args.node ≡ Some (Seq c.in-Seq.x c.in-Seq.y) = c.node.ensures.node ∙ ap Some c.in-Seq.is in
+    let e = hit_seq c.args.plan.now.nodes c.args.since.ticks (record { node = c.args.node; entered = c.args.since.entered }) c.node.ensures.behind c.in-Seq.x c.in-Seq.y (or_own c.args.own.now c.args.base.now) c.args.k node in
+    let first : hit_of c.args.plan.now.nodes c.args.since.ticks c.args.base.now c.in_ok-fired-in-Seq.fired ≡ hit (entered_term c.args.plan.now.nodes c.args.since.ticks (record { node = c.in-Seq.x; entered = c.args.since.entered })) (or_own c.args.own.now c.args.base.now) c.args.k = c.in_ok-fired-in-Seq.ensures.hit in
+    IfOk-weaker c.followed.result _ _ (λ whole p. p c.args.plan.now.nodes c.args.base.now ∙ ap (hit_with (then (process_at c.args.plan.now.nodes c.in-Seq.y))) first ∙ sym e) c.followed.ensures.hit
+
+pub returns-in_ok-fired-in-Seq-clause-on : goal.returns-in_ok-fired-in-Seq-clause-on
+returns-in_ok-fired-in-Seq-clause-on t c =
+    let node : slice_get c.args.plan.now.nodes c.args.node ≡ Some (Seq c.in-Seq.x c.in-Seq.y) = c.node.ensures.node ∙ ap Some c.in-Seq.is in
+    let before = both_before c.in-Seq.x c.in-Seq.y c.args.node (c.node.ensures.behind c.args.node (Seq c.in-Seq.x c.in-Seq.y) node) in
+    let there = c.requires.there in
+    let within : c.in-Seq.y < length c.args.plan.now.nodes = omega arith in
+    IfOk-weaker c.followed.result _ _ (λ whole p. p c.args.plan.now.nodes within c.in_ok-fired-in-Seq.ensures.on) c.followed.ensures.on
+
+pub returns-in-Past-clause-hit : goal.returns-in-Past-clause-hit
+returns-in-Past-clause-hit t c =
+    let node : slice_get c.args.plan.now.nodes c.args.node ≡ Some (Alt c.in-Alt.x c.in-Alt.y) = c.node.ensures.node ∙ ap Some c.in-Alt.is in
+    let e = hit_alt c.args.plan.now.nodes c.args.since.ticks (record { node = c.args.node; entered = c.args.since.entered }) c.node.ensures.behind c.in-Alt.x c.in-Alt.y (or_own c.args.own.now c.args.base.now) c.args.k node in
+    let first : hit_of c.args.plan.now.nodes c.args.since.ticks c.args.base.now c.in_ok-rest-in-Alt.field-0 ≡ hit (entered_term c.args.plan.now.nodes c.args.since.ticks (record { node = c.in-Alt.x; entered = c.args.since.entered })) (or_own c.args.own.now c.args.base.now) c.args.k = c.in_ok-rest-in-Alt.ensures.hit in
+    let past : Past c.in-Past.rest ≡ hit (entered_term c.args.plan.now.nodes c.args.since.ticks (record { node = c.in-Alt.x; entered = c.args.since.entered })) (or_own c.args.own.now c.args.base.now) c.args.k = sym (ap (hit_of c.args.plan.now.nodes c.args.since.ticks c.args.base.now) c.in-Past.is) ∙ first in
+    let eq = ap (λ (h : Hit). or_past h (λ (rest : ℕ). hit (entered_term c.args.plan.now.nodes c.args.since.ticks (record { node = c.in-Alt.y; entered = c.args.since.entered })) (or_own c.args.own.now c.args.base.now) rest)) past ∙ sym e in
+    IfOk-weaker c.fire_node-in-Past.result _ _ (λ fired p. p ∙ eq) c.fire_node-in-Past.ensures.hit
+
+pub returns-in-Taken-clause-hit : goal.returns-in-Taken-clause-hit
+returns-in-Taken-clause-hit t c =
+    let node : slice_get c.args.plan.now.nodes c.args.node ≡ Some (Alt c.in-Alt.x c.in-Alt.y) = c.node.ensures.node ∙ ap Some c.in-Alt.is in
+    let e = hit_alt c.args.plan.now.nodes c.args.since.ticks (record { node = c.args.node; entered = c.args.since.entered }) c.node.ensures.behind c.in-Alt.x c.in-Alt.y (or_own c.args.own.now c.args.base.now) c.args.k node in
+    let first : hit_of c.args.plan.now.nodes c.args.since.ticks c.args.base.now c.in_ok-rest-in-Alt.field-0 ≡ hit (entered_term c.args.plan.now.nodes c.args.since.ticks (record { node = c.in-Alt.x; entered = c.args.since.entered })) (or_own c.args.own.now c.args.base.now) c.args.k = c.in_ok-rest-in-Alt.ensures.hit in
+    let on : On (option_map (term_of c.args.plan.now.nodes c.args.since.ticks) c.in-Taken.left) (or_own c.in-Taken.own c.args.base.now) ≡ hit (entered_term c.args.plan.now.nodes c.args.since.ticks (record { node = c.in-Alt.x; entered = c.args.since.entered })) (or_own c.args.own.now c.args.base.now) c.args.k = sym (ap (hit_of c.args.plan.now.nodes c.args.since.ticks c.args.base.now) c.in-Taken.is) ∙ first in
+    ap (λ (h : Hit). or_past h (λ (rest : ℕ). hit (entered_term c.args.plan.now.nodes c.args.since.ticks (record { node = c.in-Alt.y; entered = c.args.since.entered })) (or_own c.args.own.now c.args.base.now) rest)) on ∙ sym e
+
+pub returns-in-Past-2-clause-hit : goal.returns-in-Past-2-clause-hit
+returns-in-Past-2-clause-hit t c =
+    let node : slice_get c.args.plan.now.nodes c.args.node ≡ Some (Star c.in-Star.x c.in-Star.y) = c.node.ensures.node ∙ ap Some c.in-Star.is in
+    let e = hit_star c.args.plan.now.nodes c.args.since.ticks (record { node = c.args.node; entered = c.args.since.entered }) c.node.ensures.behind c.in-Star.x c.in-Star.y (or_own c.args.own.now c.args.base.now) c.args.k node in
+    let first : hit_of c.args.plan.now.nodes c.args.since.ticks c.args.base.now c.in_ok-rest-in-Star.field-0 ≡ hit (entered_term c.args.plan.now.nodes c.args.since.ticks (record { node = c.in-Star.x; entered = c.args.since.entered })) (or_own c.args.own.now c.args.base.now) c.args.k = c.in_ok-rest-in-Star.ensures.hit in
+    let past : Past c.in-Past-2.rest ≡ hit (entered_term c.args.plan.now.nodes c.args.since.ticks (record { node = c.in-Star.x; entered = c.args.since.entered })) (or_own c.args.own.now c.args.base.now) c.args.k = sym (ap (hit_of c.args.plan.now.nodes c.args.since.ticks c.args.base.now) c.in-Past-2.is) ∙ first in
+    let eq = ap (λ (h : Hit). or_past (hit_with (then (process_at c.args.plan.now.nodes c.args.node)) h) (λ (rest : ℕ). hit (entered_term c.args.plan.now.nodes c.args.since.ticks (record { node = c.in-Star.y; entered = c.args.since.entered })) (or_own c.args.own.now c.args.base.now) rest)) past ∙ sym e in
+    IfOk-weaker c.fire_node-in-Past-2.result _ _ (λ fired p. p ∙ eq) c.fire_node-in-Past-2.ensures.hit
+
+pub returns-in_ok-whole-in-Taken-2-clause-hit : goal.returns-in_ok-whole-in-Taken-2-clause-hit
+returns-in_ok-whole-in-Taken-2-clause-hit t c =
+    let node : slice_get c.args.plan.now.nodes c.args.node ≡ Some (Star c.in-Star.x c.in-Star.y) = c.node.ensures.node ∙ ap Some c.in-Star.is in
+    let e = hit_star c.args.plan.now.nodes c.args.since.ticks (record { node = c.args.node; entered = c.args.since.entered }) c.node.ensures.behind c.in-Star.x c.in-Star.y (or_own c.args.own.now c.args.base.now) c.args.k node in
+    let first : hit_of c.args.plan.now.nodes c.args.since.ticks c.args.base.now c.in_ok-rest-in-Star.field-0 ≡ hit (entered_term c.args.plan.now.nodes c.args.since.ticks (record { node = c.in-Star.x; entered = c.args.since.entered })) (or_own c.args.own.now c.args.base.now) c.args.k = c.in_ok-rest-in-Star.ensures.hit in
+    let on : On (option_map (term_of c.args.plan.now.nodes c.args.since.ticks) c.in-Taken-2.left) (or_own c.in-Taken-2.own c.args.base.now) ≡ hit (entered_term c.args.plan.now.nodes c.args.since.ticks (record { node = c.in-Star.x; entered = c.args.since.entered })) (or_own c.args.own.now c.args.base.now) c.args.k = sym (ap (hit_of c.args.plan.now.nodes c.args.since.ticks c.args.base.now) c.in-Taken-2.is) ∙ first in
+    let term = c.in_ok-whole-in-Taken-2.ensures.term c.args.plan.now.nodes in
+    ap (λ (p : Process). On (Some p) (or_own c.in-Taken-2.own c.args.base.now)) term ∙ ap (λ (h : Hit). or_past (hit_with (then (process_at c.args.plan.now.nodes c.args.node)) h) (λ (rest : ℕ). hit (entered_term c.args.plan.now.nodes c.args.since.ticks (record { node = c.in-Star.y; entered = c.args.since.entered })) (or_own c.args.own.now c.args.base.now) rest)) on ∙ sym e
+
+pub returns-in_ok-fired-in-Past-3-clause-hit : goal.returns-in_ok-fired-in-Past-3-clause-hit
+returns-in_ok-fired-in-Past-3-clause-hit t c =
+    let node : slice_get c.args.plan.now.nodes c.args.node ≡ Some (Par c.in-Par.x c.in-Par.y) = c.node.ensures.node ∙ ap Some c.in-Par.is in
+    let e = hit_par c.args.plan.now.nodes c.args.since.ticks (record { node = c.args.node; entered = c.args.since.entered }) c.node.ensures.behind c.in-Par.x c.in-Par.y (or_own c.args.own.now c.args.base.now) c.args.k node in
+    let first : hit_of c.args.plan.now.nodes c.args.since.ticks c.args.base.now c.in_ok-rest-in-Par.field-0 ≡ hit (entered_term c.args.plan.now.nodes c.args.since.ticks (record { node = c.in-Par.x; entered = c.args.since.entered })) (or_own c.args.own.now c.args.base.now) c.args.k = c.in_ok-rest-in-Par.ensures.hit in
+    let past : Past c.in-Past-3.rest ≡ hit (entered_term c.args.plan.now.nodes c.args.since.ticks (record { node = c.in-Par.x; entered = c.args.since.entered })) (or_own c.args.own.now c.args.base.now) c.args.k = sym (ap (hit_of c.args.plan.now.nodes c.args.since.ticks c.args.base.now) c.in-Past-3.is) ∙ first in
+    let eq = ap (λ (h : Hit). or_past (hit_with (beside (entered_term c.args.plan.now.nodes c.args.since.ticks (record { node = c.in-Par.y; entered = c.args.since.entered }))) h) (λ (rest : ℕ). hit_with (along (entered_term c.args.plan.now.nodes c.args.since.ticks (record { node = c.in-Par.x; entered = c.args.since.entered }))) (hit (entered_term c.args.plan.now.nodes c.args.since.ticks (record { node = c.in-Par.y; entered = c.args.since.entered })) (or_own c.args.own.now c.args.base.now) rest))) past ∙ sym e in
+    let second : hit_of c.args.plan.now.nodes c.args.since.ticks c.args.base.now c.in_ok-fired-in-Past-3.fired ≡ hit (entered_term c.args.plan.now.nodes c.args.since.ticks (record { node = c.in-Par.y; entered = c.args.since.entered })) (or_own c.args.own.now c.args.base.now) c.in-Past-3.rest = c.in_ok-fired-in-Past-3.ensures.hit in
+    let waits : term_of c.args.plan.now.nodes c.args.since.ticks c.whole.result ≡ (entered_term c.args.plan.now.nodes c.args.since.ticks (record { node = c.in-Par.x; entered = c.args.since.entered })) = ap (term_of c.args.plan.now.nodes c.args.since.ticks) c.whole.ensures ∙ term-Whole c.args.plan.now.nodes c.args.since.ticks (record { node = c.in-Par.x; entered = c.args.since.entered }) in
+    let fired = hit_of c.args.plan.now.nodes c.args.since.ticks c.args.base.now c.in_ok-fired-in-Past-3.fired in
+    IfOk-weaker c.on_the_right.result _ _ (λ whole p. p c.args.plan.now.nodes c.args.since.ticks c.args.base.now ∙ ap (λ (w : Process). hit_with (along w) fired) waits ∙ ap (hit_with (along (entered_term c.args.plan.now.nodes c.args.since.ticks (record { node = c.in-Par.x; entered = c.args.since.entered })))) second ∙ eq) c.on_the_right.ensures.hit
+
+pub returns-in_ok-fired-in-Past-3-clause-on : goal.returns-in_ok-fired-in-Past-3-clause-on
+returns-in_ok-fired-in-Past-3-clause-on t c =
+    let node : slice_get c.args.plan.now.nodes c.args.node ≡ Some (Par c.in-Par.x c.in-Par.y) = c.node.ensures.node ∙ ap Some c.in-Par.is in
+    let before = both_before c.in-Par.x c.in-Par.y c.args.node (c.node.ensures.behind c.args.node (Par c.in-Par.x c.in-Par.y) node) in
+    let there = c.requires.there in
+    let within : c.in-Par.x < length c.args.plan.now.nodes = omega arith in
+    let waits = on_whole c.args.plan.now.nodes c.args.since.ticks c.whole.result (record { node = c.in-Par.x; entered = c.args.since.entered }) c.whole.ensures within c.requires.entered in
+    IfOk-weaker c.on_the_right.result _ _ (λ whole p. p c.args.plan.now.nodes c.args.since.ticks waits c.in_ok-fired-in-Past-3.ensures.on) c.on_the_right.ensures.on
+
+pub returns-in_ok-whole-in-Taken-3-clause-hit : goal.returns-in_ok-whole-in-Taken-3-clause-hit
+returns-in_ok-whole-in-Taken-3-clause-hit t c =
+    let node : slice_get c.args.plan.now.nodes c.args.node ≡ Some (Par c.in-Par.x c.in-Par.y) = c.node.ensures.node ∙ ap Some c.in-Par.is in
+    let e = hit_par c.args.plan.now.nodes c.args.since.ticks (record { node = c.args.node; entered = c.args.since.entered }) c.node.ensures.behind c.in-Par.x c.in-Par.y (or_own c.args.own.now c.args.base.now) c.args.k node in
+    let first : hit_of c.args.plan.now.nodes c.args.since.ticks c.args.base.now c.in_ok-rest-in-Par.field-0 ≡ hit (entered_term c.args.plan.now.nodes c.args.since.ticks (record { node = c.in-Par.x; entered = c.args.since.entered })) (or_own c.args.own.now c.args.base.now) c.args.k = c.in_ok-rest-in-Par.ensures.hit in
+    let on : On (option_map (term_of c.args.plan.now.nodes c.args.since.ticks) c.in-Taken-3.left) (or_own c.in-Taken-3.own c.args.base.now) ≡ hit (entered_term c.args.plan.now.nodes c.args.since.ticks (record { node = c.in-Par.x; entered = c.args.since.entered })) (or_own c.args.own.now c.args.base.now) c.args.k = sym (ap (hit_of c.args.plan.now.nodes c.args.since.ticks c.args.base.now) c.in-Taken-3.is) ∙ first in
+    let waits : term_of c.args.plan.now.nodes c.args.since.ticks c.whole-in-Taken-3.result ≡ (entered_term c.args.plan.now.nodes c.args.since.ticks (record { node = c.in-Par.y; entered = c.args.since.entered })) = ap (term_of c.args.plan.now.nodes c.args.since.ticks) c.whole-in-Taken-3.ensures ∙ term-Whole c.args.plan.now.nodes c.args.since.ticks (record { node = c.in-Par.y; entered = c.args.since.entered }) in
+    let term = c.in_ok-whole-in-Taken-3.ensures.term c.args.plan.now.nodes c.args.since.ticks in
+    ap (λ (p : Process). On (Some p) (or_own c.in-Taken-3.own c.args.base.now)) term
+    ∙ ap (λ (w : Process). On (beside w (option_map (term_of c.args.plan.now.nodes c.args.since.ticks) c.in-Taken-3.left)) (or_own c.in-Taken-3.own c.args.base.now)) waits
+    ∙ ap (λ (h : Hit). or_past (hit_with (beside (entered_term c.args.plan.now.nodes c.args.since.ticks (record { node = c.in-Par.y; entered = c.args.since.entered }))) h) (λ (rest : ℕ). hit_with (along (entered_term c.args.plan.now.nodes c.args.since.ticks (record { node = c.in-Par.x; entered = c.args.since.entered }))) (hit (entered_term c.args.plan.now.nodes c.args.since.ticks (record { node = c.in-Par.y; entered = c.args.since.entered })) (or_own c.args.own.now c.args.base.now) rest))) on
+    ∙ sym e
+
+pub returns-in_ok-whole-in-Taken-3-clause-on : goal.returns-in_ok-whole-in-Taken-3-clause-on
+returns-in_ok-whole-in-Taken-3-clause-on t c =
+    let node : slice_get c.args.plan.now.nodes c.args.node ≡ Some (Par c.in-Par.x c.in-Par.y) = c.node.ensures.node ∙ ap Some c.in-Par.is in
+    let before = both_before c.in-Par.x c.in-Par.y c.args.node (c.node.ensures.behind c.args.node (Par c.in-Par.x c.in-Par.y) node) in
+    let there = c.requires.there in
+    let within : c.in-Par.y < length c.args.plan.now.nodes = omega arith in
+    let waits = on_whole c.args.plan.now.nodes c.args.since.ticks c.whole-in-Taken-3.result (record { node = c.in-Par.y; entered = c.args.since.entered }) c.whole-in-Taken-3.ensures within c.requires.entered in
+    let left = subst (λ (f : Fired). IsTrue (is_fired_on c.args.plan.now.nodes c.args.since.ticks f)) c.in-Taken-3.is c.in_ok-rest-in-Par.ensures.on in
+    c.in_ok-whole-in-Taken-3.ensures.on c.args.plan.now.nodes c.args.since.ticks waits left
+
+pub returns-in-Some-true-clause-hit : goal.returns-in-Some-true-clause-hit
+returns-in-Some-true-clause-hit t c =
+    let node : slice_get c.args.plan.now.nodes c.args.node ≡ Some (If c.in-If.test c.in-If.x c.in-If.y) = c.node.ensures.node ∙ ap Some c.in-If.is in
+    let found : c.in_ok-tested-in-If.field-0 ≡ tested c.store_of.result.now c.in-If.test = c.in_ok-tested-in-If.ensures in
+    let says : ◌≡◌ {A = Option Bool} (tested (or_own c.args.own.now c.args.base.now) c.in-If.test) (Some true) = ap (λ (s : List Slot). tested s c.in-If.test) (sym c.store_of.ensures) ∙ sym found ∙ c.in-Some-true.is ∙ ap Some c.in-Some-true.field-0-test in
+    let e = hit_true c.args.plan.now.nodes c.args.since.ticks (record { node = c.args.node; entered = c.args.since.entered }) c.node.ensures.behind c.in-If.test c.in-If.x c.in-If.y (or_own c.args.own.now c.args.base.now) c.args.k node says in
+    IfOk-weaker c.fire_node-in-Some-true.result _ _ (λ fired p. p ∙ sym e) c.fire_node-in-Some-true.ensures.hit
+
+pub returns-in-Some-clause-hit : goal.returns-in-Some-clause-hit
+returns-in-Some-clause-hit t c =
+    let node : slice_get c.args.plan.now.nodes c.args.node ≡ Some (If c.in-If.test c.in-If.x (Some c.in-Some.y)) = c.node.ensures.node ∙ ap Some (c.in-If.is ∙ ap (If c.in-If.test c.in-If.x) c.in-Some.is) in
+    let found : c.in_ok-tested-in-If.field-0 ≡ tested c.store_of.result.now c.in-If.test = c.in_ok-tested-in-If.ensures in
+    let says : ◌≡◌ {A = Option Bool} (tested (or_own c.args.own.now c.args.base.now) c.in-If.test) (Some false) = ap (λ (s : List Slot). tested s c.in-If.test) (sym c.store_of.ensures) ∙ sym found ∙ c.in-Some-false.is ∙ ap Some c.in-Some-false.field-0-test in
+    let e = hit_false c.args.plan.now.nodes c.args.since.ticks (record { node = c.args.node; entered = c.args.since.entered }) c.node.ensures.behind c.in-If.test c.in-If.x c.in-Some.y (or_own c.args.own.now c.args.base.now) c.args.k node says in
+    IfOk-weaker c.fire_node-in-Some.result _ _ (λ fired p. p ∙ sym e) c.fire_node-in-Some.ensures.hit
+
+pub returns-in-None-y-clause-hit : goal.returns-in-None-y-clause-hit
+returns-in-None-y-clause-hit t c =
+    let node : slice_get c.args.plan.now.nodes c.args.node ≡ Some (If c.in-If.test c.in-If.x None) = c.node.ensures.node ∙ ap Some (c.in-If.is ∙ ap (If c.in-If.test c.in-If.x) c.in-None-y.is) in
+    let found : c.in_ok-tested-in-If.field-0 ≡ tested c.store_of.result.now c.in-If.test = c.in_ok-tested-in-If.ensures in
+    let says : ◌≡◌ {A = Option Bool} (tested (or_own c.args.own.now c.args.base.now) c.in-If.test) (Some false) = ap (λ (s : List Slot). tested s c.in-If.test) (sym c.store_of.ensures) ∙ sym found ∙ c.in-Some-false.is ∙ ap Some c.in-Some-false.field-0-test in
+    sym (hit_absent c.args.plan.now.nodes c.args.since.ticks (record { node = c.args.node; entered = c.args.since.entered }) c.node.ensures.behind c.in-If.test c.in-If.x (or_own c.args.own.now c.args.base.now) c.args.k node says)
+
+pub returns-in-None-clause-hit : goal.returns-in-None-clause-hit
+returns-in-None-clause-hit t c =
+    let node : slice_get c.args.plan.now.nodes c.args.node ≡ Some (If c.in-If.test c.in-If.x c.in-If.y) = c.node.ensures.node ∙ ap Some c.in-If.is in
+    let found : c.in_ok-tested-in-If.field-0 ≡ tested c.store_of.result.now c.in-If.test = c.in_ok-tested-in-If.ensures in
+    let says : ◌≡◌ {A = Option Bool} (tested (or_own c.args.own.now c.args.base.now) c.in-If.test) (None) = ap (λ (s : List Slot). tested s c.in-If.test) (sym c.store_of.ensures) ∙ sym found ∙ c.in-None.is in
+    sym (hit_untold c.args.plan.now.nodes c.args.since.ticks (record { node = c.args.node; entered = c.args.since.entered }) c.node.ensures.behind c.in-If.test c.in-If.x c.in-If.y (or_own c.args.own.now c.args.base.now) c.args.k node says)
+
+pub returns-in-Some-2-clause-hit : goal.returns-in-Some-2-clause-hit
+returns-in-Some-2-clause-hit t c =
+    let node : slice_get c.args.plan.now.nodes c.args.node ≡ Some (Let c.in-Let.settings c.in-Let.x) = c.node.ensures.node ∙ ap Some c.in-Let.is in
+    let found : c.in_ok-store-in-Let.field-0 ≡ with_settings c.store_of-in-Let.result.now c.in-Let.settings = c.in_ok-store-in-Let.ensures in
+    let after : ◌≡◌ {A = Option (List Slot)} (with_settings (or_own c.args.own.now c.args.base.now) c.in-Let.settings) (Some c.in-Some-2.store) = ap (λ (s : List Slot). with_settings s c.in-Let.settings) (sym c.store_of-in-Let.ensures) ∙ sym found ∙ c.in-Some-2.is in
+    let e = hit_set c.args.plan.now.nodes c.args.since.ticks (record { node = c.args.node; entered = c.args.since.entered }) c.node.ensures.behind c.in-Let.settings c.in-Let.x (or_own c.args.own.now c.args.base.now) c.in-Some-2.store c.args.k node after in
+    IfOk-weaker c.fire_node-in-Some-2.result _ _ (λ fired p. p ∙ sym e) c.fire_node-in-Some-2.ensures.hit
+
+pub returns-in-None-2-clause-hit : goal.returns-in-None-2-clause-hit
+returns-in-None-2-clause-hit t c =
+    let node : slice_get c.args.plan.now.nodes c.args.node ≡ Some (Let c.in-Let.settings c.in-Let.x) = c.node.ensures.node ∙ ap Some c.in-Let.is in
+    let found : c.in_ok-store-in-Let.field-0 ≡ with_settings c.store_of-in-Let.result.now c.in-Let.settings = c.in_ok-store-in-Let.ensures in
+    let after : ◌≡◌ {A = Option (List Slot)} (with_settings (or_own c.args.own.now c.args.base.now) c.in-Let.settings) (None) = ap (λ (s : List Slot). with_settings s c.in-Let.settings) (sym c.store_of-in-Let.ensures) ∙ sym found ∙ c.in-None-2.is in
+    sym (hit_unset c.args.plan.now.nodes c.args.since.ticks (record { node = c.args.node; entered = c.args.since.entered }) c.node.ensures.behind c.in-Let.settings c.in-Let.x (or_own c.args.own.now c.args.base.now) c.args.k node after)

@@ -1,0 +1,48 @@
+-- The offer at a place, told by what is left then and in which store; past the end, how far.
+use Rattle.std.specs.Prelude.{ℕ, zero, suc, Bool, true, List, [], ◌∷◌, Option, Some, None, option_map}
+use Rattle.tb_func.specs.declared.slot.Slot.{Slot}
+use Rattle.tb_algebra.specs.Processes.{Process}
+use Rattle.tb_algebra.specs.Offers.{Offered, offers}
+use Rattle.tb_algebra.specs.Runnings.{term_of, is_on}
+use Rattle.tb_algebra.specs.Sights.{or_own}
+use Rattle.tb_algebra.specs.declared.node.Node.{Node}
+use Rattle.tb_algebra.specs.declared.running.Running.{Running}
+use Rattle.tb_algebra.specs.declared.fired.Fired.{Fired}
+use Rattle.tb_algebra.specs.declared.fired.Fired.TheVariants as fired
+
+pub data Hit : Type 0 where
+  Past : ℕ → Hit
+  On : Option Process → List Slot → Hit
+
+abbrev pub hit_at : ℕ → List Offered → Hit
+hit_at k [] = Past k
+hit_at zero (offered ∷ others) = On offered.residual offered.store
+hit_at (suc k) (offered ∷ others) = hit_at k others
+
+-- the offer of a term at this place
+unfoldable pub hit : Process → List Slot → ℕ → Hit
+hit term store k = hit_at k (offers term store)
+
+-- with something else left
+abbrev pub hit_with : (Option Process → Option Process) → Hit → Hit
+hit_with f (Past rest) = Past rest
+hit_with f (On left store) = On (f left) store
+
+-- past the end, that of the next list
+abbrev pub or_past : Hit → (ℕ → Hit) → Hit
+or_past (Past rest) next = next rest
+or_past (On left store) next = On left store
+
+-- what was found, in a process with this store
+abbrev pub hit_of : List Node → ℕ → List Slot → Fired → Hit
+hit_of nodes ticks base (fired.Past rest) = Past rest
+hit_of nodes ticks base (fired.Taken left own) = On (option_map (term_of nodes ticks) left) (or_own own base)
+
+-- what is left has its parts in the plan
+abbrev pub is_left_on : List Node → ℕ → Option Running → Bool
+is_left_on nodes ticks None = true
+is_left_on nodes ticks (Some term) = is_on nodes ticks term
+
+abbrev pub is_fired_on : List Node → ℕ → Fired → Bool
+is_fired_on nodes ticks (fired.Past rest) = true
+is_fired_on nodes ticks (fired.Taken left own) = is_left_on nodes ticks left

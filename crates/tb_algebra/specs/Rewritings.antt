@@ -1,0 +1,41 @@
+-- What a rewriter stands for, and what it keeps.
+use Rattle.std.specs.Prelude.{◌≡◌, ℕ, IsTrue, List, map, Option, option_map}
+use Rattle.std.specs.Option.{ForSome}
+use Rattle.tb_func.specs.declared.slot.Slot.{Slot}
+use Rattle.tb_algebra.specs.Founds.{offer_of}
+use Rattle.tb_algebra.specs.Hits.{is_left_on}
+use Rattle.tb_algebra.specs.Offers.{Offered}
+use Rattle.tb_algebra.specs.Runnings.{term_of}
+use Rattle.tb_algebra.specs.Sights.{or_own}
+use Rattle.tb_algebra.specs.Walks.{Walking, offers_of}
+use Rattle.tb_algebra.specs.declared.found.Found.{Found}
+use Rattle.tb_algebra.specs.declared.offer.Offer.{Offer}
+use Rattle.tb_algebra.specs.declared.plan.Plan.{Plan}
+use Rattle.tb_algebra.specs.declared.rewriter.Rewriter.{Rewriter}
+
+abbrev pub walking_of : Plan → Rewriter → Walking
+walking_of plan rewriter = record {
+  term = option_map (term_of plan.nodes rewriter.ticks) rewriter.term;
+  store = rewriter.store;
+  ticks = rewriter.ticks;
+}
+
+abbrev pub seen_of : Rewriter → Option (List Offer)
+seen_of rewriter = option_map (map offer_of) rewriter.found
+
+-- what doesn't change while nothing happens
+pub record Kept : Type 0 where
+  pub atom : ℕ
+  pub age : ℕ
+  pub store : List Slot
+
+abbrev pub kept : Offered → Kept
+kept offered = record { atom = offered.atom; age = offered.age; store = offered.store }
+
+abbrev pub kept_found : List Slot → Found → Kept
+kept_found base found = record { atom = found.atom; age = found.age; store = or_own found.own base }
+
+-- Its parts are in the plan, and what was found are its offers.
+pub record IsOnPlan (plan : Plan) (rewriter : Rewriter) : Type 0 where
+  pub parts : IsTrue (is_left_on plan.nodes rewriter.ticks rewriter.term)
+  pub found : ForSome rewriter.found (λ founds. map (kept_found rewriter.store) founds ≡ map kept (offers_of (walking_of plan rewriter)))

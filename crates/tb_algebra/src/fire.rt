@@ -1,0 +1,233 @@
+ghost use Rattle.std.specs.Prelude.{◌≡◌, ℕ, ◌<◌, ◌≤◌, List, Some, IfOk, IsTrue, length, option_map};
+ghost use Rattle.tb_func.specs.declared.slot.Slot.{Slot};
+ghost use Rattle.tb_algebra.specs.declared.node.Node.{Node as PlanNode};
+ghost use Rattle.tb_algebra.specs.declared.running.Running.TheVariants.{Whole};
+ghost use Rattle.tb_algebra.specs.Hits.{Past, On, hit, hit_with, hit_of, is_fired_on, is_left_on};
+ghost use Rattle.tb_algebra.specs.Offers.{followed, left_of, right_of};
+ghost use Rattle.tb_algebra.specs.Plans.{process_at};
+ghost use Rattle.tb_algebra.specs.Processes.{At};
+ghost use Rattle.tb_algebra.specs.Runnings.{entered_term, term_of, is_on};
+ghost use Rattle.tb_algebra.specs.Sights.{or_own};
+
+use crate::fired::Fired;
+use crate::found::copy_own;
+use crate::look::store_of;
+use crate::node::Node;
+use crate::plan::Plan;
+use crate::running::{Entry, Running};
+use crate::settings::{tested, with_settings};
+use std::alloc::Global;
+use tb_func::Store;
+use tb_terms::{Boxed, NoMemory};
+
+/// When a part was entered, and how many ticks the process has seen.
+#[derive(Clone, Copy, Debug)]
+struct Since {
+    entered: u64,
+    ticks: u64,
+}
+
+impl Since {
+    /// A part that was entered then.
+    fn whole(self, node: usize) -> Running
+        ensures { result ≡ Whole (record { node = node; entered = self.entered }) }
+    {
+        let entered = self.entered;
+        Running::Whole(Entry { node, entered })
+    }
+}
+
+/// Takes the offer of a running term at this place, from 0 in text order.
+#[cycle(fire_term)]
+pub(crate) fn fire_term(
+    alloc: Global,
+    plan: &Plan,
+    term: &Running,
+    ticks: u64,
+    store: &Store,
+    k: usize,
+) -> Result<Fired, NoMemory>
+    requires { IsTrue (is_on plan.now.nodes ticks term.now) }
+    ensures hit { IfOk result (λ fired. hit_of plan.now.nodes ticks store.now fired
+        ≡ hit (term_of plan.now.nodes ticks term.now) store.now k) }
+    ensures on { IfOk result (λ fired. IsTrue (is_fired_on plan.now.nodes ticks fired)) }
+{
+    match term {
+        Running::Whole(entry) => {
+            let entered = entry.entered;
+            let since = Since { entered, ticks };
+            fire_node(alloc, plan, entry.node, since, store, &None, k)
+        }
+        Running::Seq(x, y) => {
+            let fired = fire_term(alloc, plan, x.get(), ticks, store, k)?;
+            followed(alloc, fired, *y, ticks)
+        }
+        Running::Par(x, y) => match fire_term(alloc, plan, x.get(), ticks, store, k)? {
+            Fired::Past(rest) => {
+                let fired = fire_term(alloc, plan, y.get(), ticks, store, rest)?;
+                on_the_right(alloc, x.get(), fired)
+            }
+            Fired::Taken(left, own) => {
+                let whole = left_beside(alloc, left, y.get())?;
+                Ok(Fired::Taken(Some(whole), own))
+            }
+        },
+    }
+}
+
+/// Takes the offer of a part of the plan at this place.
+#[cycle(fire_node)]
+fn fire_node(
+    alloc: Global,
+    plan: &Plan,
+    node: usize,
+    since: Since,
+    base: &Store,
+    own: &Option<Store>,
+    k: usize,
+) -> Result<Fired, NoMemory>
+    requires there { node < length plan.now.nodes }
+    requires entered { since.entered ≤ since.ticks }
+    ensures hit { IfOk result (λ fired. hit_of plan.now.nodes since.ticks base.now fired
+        ≡ hit (entered_term plan.now.nodes since.ticks (record { node = node; entered = since.entered })) (or_own own.now base.now) k) }
+    ensures on { IfOk result (λ fired. IsTrue (is_fired_on plan.now.nodes since.ticks fired)) }
+{
+    match plan.node(node) {
+        Node::At(_) => fire_atom(alloc, own, k),
+        Node::Seq(x, y) => {
+            let fired = fire_node(alloc, plan, *x, since, base, own, k)?;
+            followed(alloc, fired, *y, since.ticks)
+        }
+        Node::Alt(x, y) => match fire_node(alloc, plan, *x, since, base, own, k)? {
+            Fired::Past(rest) => fire_node(alloc, plan, *y, since, base, own, rest),
+            Fired::Taken(left, own) => Ok(Fired::Taken(left, own)),
+        },
+        Node::Star(x, y) => match fire_node(alloc, plan, *x, since, base, own, k)? {
+            Fired::Past(rest) => fire_node(alloc, plan, *y, since, base, own, rest),
+            Fired::Taken(left, own) => {
+                let whole = left_then(alloc, left, node, since.ticks)?;
+                Ok(Fired::Taken(Some(whole), own))
+            }
+        },
+        Node::Par(x, y) => match fire_node(alloc, plan, *x, since, base, own, k)? {
+            Fired::Past(rest) => {
+                let fired = fire_node(alloc, plan, *y, since, base, own, rest)?;
+                on_the_right(alloc, &since.whole(*x), fired)
+            }
+            Fired::Taken(left, own) => {
+                let whole = left_beside(alloc, left, &since.whole(*y))?;
+                Ok(Fired::Taken(Some(whole), own))
+            }
+        },
+        Node::If(test, x, y) => match tested(alloc, store_of(base, own), test)? {
+            Some(true) => fire_node(alloc, plan, *x, since, base, own, k),
+            Some(false) => match y {
+                Some(y) => fire_node(alloc, plan, *y, since, base, own, k),
+                None => Ok(Fired::Past(k)),
+            },
+            None => Ok(Fired::Past(k)),
+        },
+        Node::Let(settings, x) => match with_settings(alloc, store_of(base, own), settings)? {
+            Some(store) => {
+                let own = Some(store);
+                fire_node(alloc, plan, *x, since, base, &own, k)
+            }
+            None => Ok(Fired::Past(k)),
+        },
+    }
+}
+
+/// An atom has one offer, and then the term has ended.
+#[tactic(auto, unfolding(crate::specs::Hits::hit))]
+fn fire_atom(alloc: Global, own: &Option<Store>, k: usize) -> Result<Fired, NoMemory>
+    ensures hit { IfOk result (λ fired. (nodes : List PlanNode) → (ticks : ℕ) → (base : List Slot) → (atom : ℕ) → (age : ℕ) →
+        hit_of nodes ticks base fired ≡ hit (At atom age) (or_own own.now base) k) }
+    ensures on { IfOk result (λ fired. (nodes : List PlanNode) → (ticks : ℕ) → IsTrue (is_fired_on nodes ticks fired)) }
+{
+    if k > 0 {
+        return Ok(Fired::Past(k - 1));
+    }
+    let own = copy_own(alloc, own)?;
+    Ok(Fired::Taken(None, own))
+}
+
+/// What is left, and then the node of the plan.
+fn followed(alloc: Global, fired: Fired, node: usize, ticks: u64) -> Result<Fired, NoMemory>
+    ensures hit { IfOk result (λ whole. (nodes : List PlanNode) → (base : List Slot) →
+        hit_of nodes ticks base whole
+        ≡ hit_with (λ left. Some (followed left (process_at nodes node))) (hit_of nodes ticks base fired)) }
+    ensures on { IfOk result (λ whole. (nodes : List PlanNode) → node < length nodes →
+        IsTrue (is_fired_on nodes ticks fired) → IsTrue (is_fired_on nodes ticks whole)) }
+{
+    match fired {
+        Fired::Past(rest) => Ok(Fired::Past(rest)),
+        Fired::Taken(left, own) => {
+            let whole = left_then(alloc, left, node, ticks)?;
+            Ok(Fired::Taken(Some(whole), own))
+        }
+    }
+}
+
+fn left_then(
+    alloc: Global,
+    left: Option<Running>,
+    node: usize,
+    ticks: u64,
+) -> Result<Running, NoMemory>
+    ensures term { IfOk result (λ whole. (nodes : List PlanNode) →
+        term_of nodes ticks whole ≡ followed (option_map (term_of nodes ticks) left) (process_at nodes node)) }
+    ensures on { IfOk result (λ whole. (nodes : List PlanNode) → node < length nodes →
+        IsTrue (is_left_on nodes ticks left) → IsTrue (is_on nodes ticks whole)) }
+{
+    match left {
+        Some(x) => Ok(Running::Seq(Boxed::new(alloc, x)?, node)),
+        None => Ok(Running::Whole(Entry {
+            node,
+            entered: ticks,
+        })),
+    }
+}
+
+/// What is left, beside the other side.
+fn left_beside(alloc: Global, left: Option<Running>, right: &Running) -> Result<Running, NoMemory>
+    ensures term { IfOk result (λ whole. (nodes : List PlanNode) → (ticks : ℕ) →
+        term_of nodes ticks whole ≡ left_of (option_map (term_of nodes ticks) left) (term_of nodes ticks right.now)) }
+    ensures on { IfOk result (λ whole. (nodes : List PlanNode) → (ticks : ℕ) → IsTrue (is_on nodes ticks right.now) →
+        IsTrue (is_left_on nodes ticks left) → IsTrue (is_on nodes ticks whole)) }
+{
+    let y = right.copy(alloc)?;
+    match left {
+        Some(x) => Ok(Running::Par(Boxed::new(alloc, x)?, Boxed::new(alloc, y)?)),
+        None => Ok(y),
+    }
+}
+
+/// The other side, beside what is left.
+fn on_the_right(alloc: Global, left: &Running, fired: Fired) -> Result<Fired, NoMemory>
+    ensures hit { IfOk result (λ whole. (nodes : List PlanNode) → (ticks : ℕ) → (base : List Slot) →
+        hit_of nodes ticks base whole
+        ≡ hit_with (λ right. Some (right_of (term_of nodes ticks left.now) right)) (hit_of nodes ticks base fired)) }
+    ensures on { IfOk result (λ whole. (nodes : List PlanNode) → (ticks : ℕ) → IsTrue (is_on nodes ticks left.now) →
+        IsTrue (is_fired_on nodes ticks fired) → IsTrue (is_fired_on nodes ticks whole)) }
+{
+    match fired {
+        Fired::Past(rest) => Ok(Fired::Past(rest)),
+        Fired::Taken(right, own) => {
+            let whole = right_beside(alloc, left, right)?;
+            Ok(Fired::Taken(Some(whole), own))
+        }
+    }
+}
+
+fn right_beside(alloc: Global, left: &Running, right: Option<Running>) -> Result<Running, NoMemory>
+    ensures term { IfOk result (λ whole. (nodes : List PlanNode) → (ticks : ℕ) →
+        term_of nodes ticks whole ≡ right_of (term_of nodes ticks left.now) (option_map (term_of nodes ticks) right)) }
+    ensures on { IfOk result (λ whole. (nodes : List PlanNode) → (ticks : ℕ) → IsTrue (is_on nodes ticks left.now) →
+        IsTrue (is_left_on nodes ticks right) → IsTrue (is_on nodes ticks whole)) }
+{
+    let x = left.copy(alloc)?;
+    match right {
+        Some(y) => Ok(Running::Par(Boxed::new(alloc, x)?, Boxed::new(alloc, y)?)),
+        None => Ok(x),
+    }
+}

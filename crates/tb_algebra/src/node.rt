@@ -1,0 +1,14 @@
+use tb_body::Settings;
+use tb_terms::Expr;
+
+/// One operator of a body. Its parts are the nodes at these places, which stand before it.
+#[derive(Debug, Drop)]
+pub enum Node {
+    At(u32),
+    Seq(usize, usize),
+    Alt(usize, usize),
+    Star(usize, usize),
+    Par(usize, usize),
+    If(Expr, usize, Option<usize>),
+    Let(Settings, usize),
+}

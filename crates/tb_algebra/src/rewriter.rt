@@ -1,0 +1,218 @@
+ghost use Rattle.std.specs.Prelude.{◌≡◌, ◌++◌, [], IfOk, IsTrue, None, map, slice_get, option_and_then};
+ghost use Rattle.std.specs.Option.{option_copied};
+ghost use Rattle.tb_algebra.specs.Binds.{takes_binds, with_binds};
+ghost use Rattle.tb_algebra.specs.Hits.{hit_at, hit_of, is_fired_on};
+ghost use Rattle.tb_algebra.specs.Sights.{or_own, shown, sighted};
+ghost use Rattle.tb_algebra.specs.Walks.{offers_of};
+ghost use Rattle.tb_algebra.specs.Rewritings.{walking_of, seen_of, IsOnPlan};
+
+use crate::fire::fire_term;
+use crate::fired::Fired;
+use crate::found::{Found, copy_founds};
+use crate::look::{look_term, store_of};
+use crate::plan::Plan;
+use crate::running::{Entry, Running};
+use crate::settings::set_binds;
+use crate::values::{accepted_binds, matched_patterns, sent_values};
+use crate::{Offer, Walker};
+use std::alloc::Global;
+use tb_body::Body;
+use tb_func::Store;
+use tb_match::Binds;
+use tb_terms::{Items, NoMemory, Patterns, Terms};
+
+/// A walker that rewrites what is left of its process. Parts of the plan that wait are kept by their
+/// nodes and the ticks at which they were entered, so that a tick copies nothing.
+#[derive(Debug, Drop)]
+pub struct Rewriter {
+    pub(crate) term: Option<Running>,
+    pub(crate) store: Store,
+    pub(crate) ticks: u64,
+    pub(crate) found: Option<Items<Found>>,
+}
+
+impl Rewriter {
+    /// What was found at this place.
+    fn found_at(&self, k: usize) -> Option<&Found>
+        ensures { option_copied result ≡ option_and_then (λ founds. slice_get founds k) self.now.found }
+    {
+        match &self.found {
+            Some(found) => found.get(k),
+            None => None,
+        }
+    }
+
+    /// What the rewriter may do next.
+    fn find(&self, alloc: Global, plan: &Plan, now: u64) -> Result<Items<Found>, NoMemory>
+        requires { IsOnPlan plan.now self.now }
+        ensures { IfOk result (λ founds. map (shown self.now.store) founds
+            ≡ map (sighted plan.now.body.atoms now) (offers_of (walking_of plan.now self.now))) }
+    {
+        match &self.term {
+            Some(term) => {
+                let mut found = Items::new(alloc);
+                look_term(alloc, plan, term, self.ticks, now, &self.store, &mut found)?;
+                Ok(found)
+            }
+            None => Ok(Items::new(alloc)),
+        }
+    }
+
+    /// What comes of the offer at this place.
+    fn taken(&self, alloc: Global, plan: &Plan, k: usize) -> Result<Fired, NoMemory>
+        requires { IsOnPlan plan.now self.now }
+        ensures hit { IfOk result (λ fired. hit_of plan.now.nodes self.now.ticks self.now.store fired
+            ≡ hit_at k (offers_of (walking_of plan.now self.now))) }
+        ensures on { IfOk result (λ fired. IsTrue (is_fired_on plan.now.nodes self.now.ticks fired)) }
+    {
+        match &self.term {
+            Some(term) => {
+                let fired = fire_term(alloc, plan, term, self.ticks, &self.store, k)?;
+                Ok(fired)
+            }
+            None => Ok(Fired::Past(k)),
+        }
+    }
+
+    /// Goes on with what is left, in the store that a `let` made or in its own.
+    fn goes_on(&mut self, left: Option<Running>, own: Option<Store>, binds: Binds)
+        requires { IsTrue (takes_binds (or_own own self.old.store) binds) }
+        ensures term { self.new.term ≡ left }
+        ensures store { self.new.store ≡ with_binds (or_own own self.old.store) binds }
+        ensures ticks { self.new.ticks ≡ self.old.ticks }
+        ensures found { self.new.found ≡ None }
+    {
+        match own {
+            Some(store) => self.store = store,
+            None => {}
+        }
+        set_binds(&mut self.store, binds);
+        self.term = left;
+        self.found = None;
+    }
+}
+
+impl Walker for Rewriter {
+    type Plan = Plan;
+
+    ghost body_of = { λ plan. plan.body };
+
+    ghost IsOn = { λ plan rewriter. IsOnPlan plan rewriter };
+
+    ghost walking = { λ plan rewriter. walking_of plan rewriter };
+
+    ghost seen = { λ rewriter. seen_of rewriter };
+
+    fn plan(alloc: Global, body: &Body) -> Result<Plan, NoMemory> {
+        Plan::new(alloc, body)
+    }
+
+    fn start(_alloc: Global, plan: &Plan, store: Store) -> Result<Rewriter, NoMemory> {
+        let root = Entry {
+            node: plan.root,
+            entered: 0,
+        };
+        Ok(Rewriter {
+            term: Some(Running::Whole(root)),
+            store,
+            ticks: 0,
+            found: None,
+        })
+    }
+
+    fn look(&mut self, alloc: Global, plan: &Plan, now: u64) -> Result<(), NoMemory> {
+        let found = self.find(alloc, plan, now)?;
+        self.found = Some(found);
+        Ok(())
+    }
+
+    fn is_fresh(&self) -> bool {
+        self.found.is_some()
+    }
+
+    fn offer_count(&self) -> usize {
+        match &self.found {
+            Some(found) => found.len(),
+            None => 0,
+        }
+    }
+
+    fn offer(&self, k: usize) -> Offer {
+        match self.found_at(k) {
+            Some(found) => found.offer(),
+            None => Offer {
+                atom: 0,
+                age: 0,
+                ready: false,
+            },
+        }
+    }
+
+    fn sent(&self, alloc: Global, plan: &Plan, k: usize) -> Result<Option<Terms>, NoMemory> {
+        match self.found_at(k) {
+            Some(found) => {
+                let store = store_of(&self.store, &found.own);
+                Ok(sent_values(alloc, store, plan.atom(found.atom))?)
+            }
+            None => Ok(None),
+        }
+    }
+
+    fn patterns(&self, alloc: Global, plan: &Plan, k: usize) -> Result<Option<Patterns>, NoMemory> {
+        match self.found_at(k) {
+            Some(found) => {
+                let store = store_of(&self.store, &found.own);
+                Ok(matched_patterns(alloc, store, plan.atom(found.atom))?)
+            }
+            None => Ok(None),
+        }
+    }
+
+    fn accepts(
+        &self,
+        alloc: Global,
+        plan: &Plan,
+        k: usize,
+        ts: &Terms,
+    ) -> Result<Option<Binds>, NoMemory> {
+        match self.found_at(k) {
+            Some(found) => {
+                let store = store_of(&self.store, &found.own);
+                Ok(accepted_binds(alloc, store, plan.atom(found.atom), ts)?)
+            }
+            None => Ok(None),
+        }
+    }
+
+    fn fire(&mut self, alloc: Global, plan: &Plan, k: usize, binds: Binds) -> Result<(), NoMemory> {
+        match self.taken(alloc, plan, k)? {
+            Fired::Taken(left, own) => {
+                self.goes_on(left, own, binds);
+                Ok(())
+            }
+            Fired::Past(_) => Ok(()),
+        }
+    }
+
+    fn is_done(&self) -> bool {
+        self.term.is_none()
+    }
+
+    fn copy(&self, alloc: Global) -> Result<Rewriter, NoMemory> {
+        let term = match &self.term {
+            Some(term) => Some(term.copy(alloc)?),
+            None => None,
+        };
+        let found = match &self.found {
+            Some(found) => Some(copy_founds(alloc, found)?),
+            None => None,
+        };
+        let store = self.store.copy(alloc)?;
+        Ok(Rewriter {
+            term,
+            store,
+            ticks: self.ticks,
+            found,
+        })
+    }
+}
