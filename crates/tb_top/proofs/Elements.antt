@@ -49,6 +49,11 @@ pub AllZip-map_more : {X Y Z : Type 0} (f : X → Y) (R : Y → Z → Type 0) (x
 AllZip-map_more f R xs i d zs new z within all here pushed =
     subst (λ ys. AllZip R ys new) (sym (map_more_at f xs i d within)) (subst (AllZip R (map f (take i xs) ++ f (get_or xs i d) ∷ [])) (sym pushed) (AllZip-more R (map f (take i xs)) zs (f (get_or xs i d)) z all here))
 
+-- the same at an element that was read
+pub AllZip-map_read : {X Y Z : Type 0} (f : X → Y) (R : Y → Z → Type 0) (xs : List X) (i : ℕ) (x : X) (zs new : List Z) (z : Z) → i < length xs → x ≡ get_or xs i x → AllZip R (map f (take i xs)) zs → R (f x) z → new ≡ zs ++ z ∷ [] → AllZip R (map f (take (i + 1) xs)) new
+AllZip-map_read f R xs i x zs new z within read all here pushed =
+    subst (λ ys. AllZip R ys new) (sym (map_more_read f xs i x within read)) (subst (AllZip R (map f (take i xs) ++ f x ∷ [])) (sym pushed) (AllZip-more R (map f (take i xs)) zs (f x) z all here))
+
 pub map-map : {X Y Z : Type 0} (f : X → Y) (g : Y → Z) (xs : List X) → map g (map f xs) ≡ map (λ x. g (f x)) xs
 map-map f g [] = refl
 map-map f g (x ∷ xs) = ap (λ t. g (f x) ∷ t) (map-map f g xs)

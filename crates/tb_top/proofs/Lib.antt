@@ -4,6 +4,7 @@ pub mod Cursors
 pub mod Spelling
 pub mod Elements
 pub mod Numbering
+pub mod Bodies
 pub mod Programs
 pub mod LogWriting
 pub mod Outcomes

@@ -6,8 +6,8 @@ use Rattle.tb_core.specs.Traces.{IsTrace}
 use Rattle.tb_core.specs.LogText.{log_text}
 use Rattle.tb_core.specs.Simulation.{Sim, IsSim, IsSimFront, sim_start}
 use Rattle.tb_core.specs.declared.log.Entry.{Entry}
-use Rattle.tb_core.specs.declared.simulation.SimEnd.{SimEnd}
-use Rattle.tb_core.specs.declared.simulation.SimEnd.TheVariants as sim
+use Rattle.tb_core.specs.declared.ends.SimEnd.{SimEnd}
+use Rattle.tb_core.specs.declared.ends.SimEnd.TheVariants as sim
 use Rattle.tb_top.specs.PlainScript.{IsPlainProgram}
 use Rattle.tb_edge.specs.Faults.{Rose}
 use Rattle.tb_top.specs.Outcomes.{PutsFront, SimOutcome, FileOutcome, IsLoaded, most_steps, IsCaused, Reported}

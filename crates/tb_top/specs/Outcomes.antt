@@ -8,9 +8,9 @@ use Rattle.tb_core.specs.Traces.{IsTrace}
 use Rattle.tb_core.specs.Simulation.{IsSim, IsSimFront, sim_start}
 use Rattle.tb_core.specs.LogText.{log_text}
 use Rattle.tb_core.specs.declared.log.Entry.{Entry}
-use Rattle.tb_core.specs.declared.program.Program.{Program}
-use Rattle.tb_core.specs.declared.simulation.SimEnd.{SimEnd}
-use Rattle.tb_core.specs.declared.simulation.SimEnd.TheVariants as sim
+use Rattle.tb_body.specs.declared.program.Program.{Program}
+use Rattle.tb_core.specs.declared.ends.SimEnd.{SimEnd}
+use Rattle.tb_core.specs.declared.ends.SimEnd.TheVariants as sim
 use Rattle.tb_top.specs.PlainScript.{IsPlainProgram}
 use Rattle.tb_top.specs.Lines.{status_line}
 use Rattle.tb_top.specs.declared.status.Status.{Status}

@@ -10,6 +10,7 @@ use Rattle.tb_top.specs.declared.plain.script.Prim.{Prim as ReadPrim}
 use Rattle.tb_top.specs.declared.plain.script.Prim.TheVariants as read
 use Rattle.tb_top.specs.declared.plain.script.Definition.{Definition as ReadDefinition}
 use Rattle.tb_top.specs.declared.plain.script.Script.{Script as ReadScript}
+use Rattle.tb_body.specs.declared.program.Root.{Root}
 use Rattle.tb_top.specs.PlainTokens.{is_sign, is_letter, Lexes}
 use Rattle.tb_top.specs.PlainScript.{Prim, tau, delta, snd-msg, rec-msg, Definition, Script, prim_tokens, body_tokens, definition_tokens, names_tokens, roots_tokens, spelling, is_upper_name, AreOnce, HasMessage, names}
 
@@ -138,6 +139,11 @@ number_at numbers name = get_by (λ k. slice_cmp nat_cmp name k.now) numbers
 pub record Numbers (names : List (List ℕ)) (count : ℕ) (at : List ℕ → Option ℕ) : Type 0 where
   pub sound : (name : List ℕ) (k : ℕ) → at name ≡ Some k → (k < count) × (slice_get names k ≡ Some name)
   pub full : (name : List ℕ) (k : ℕ) → k < count → slice_get names k ≡ Some name → at name ≡ Some k
+
+-- the root has the number of its name, and no values
+pub record IsNumbered (at : List ℕ → Option ℕ) (name : List ℕ) (root : Root) : Type 0 where
+  pub number : at name ≡ Some root.process
+  pub actuals : root.actuals ≡ []
 
 -- Conditions.
 

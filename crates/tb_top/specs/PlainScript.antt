@@ -1,12 +1,16 @@
 -- What a plain script is, how it is spelt, and which program a text stands for.
-use Rattle.std.specs.Prelude.{◌≡◌, ℕ, Bool, false, not, ◌&&◌, ◌<◌, ◌≤◌, List, [], ◌∷◌, ◌++◌, length, map, codes, IsTrue, bytes_eq, Some, slice_get, All, Contains, flat_map}
+use Rattle.std.specs.Prelude.{◌≡◌, ℕ, zero, suc, ◌+◌, ◌-◌, Bool, false, not, ◌&&◌, ◌<◌, ◌≤◌, List, [], ◌∷◌, ◌++◌, length, map, codes, IsTrue, bytes_eq, Some, slice_get, All, Contains, flat_map}
 use Rattle.std.specs.List.{list_all, list_any, AllZip}
 use Rattle.tb_terms.specs.Names.{is_upper, is_name, is_name_byte}
-use Rattle.tb_terms.specs.declared.term.Term.TheVariants.{Appl}
-use Rattle.tb_core.specs.declared.program.Act.{Act}
-use Rattle.tb_core.specs.declared.program.Act.TheVariants.{Delta, Tau, SndMsg, RecMsg}
-use Rattle.tb_core.specs.declared.program.Body.{Body}
-use Rattle.tb_core.specs.declared.program.Program.{Program}
+use Rattle.tb_terms.specs.declared.expr.Expr.TheVariants.{Appl}
+use Rattle.tb_body.specs.declared.act.Act.{Act}
+use Rattle.tb_body.specs.declared.act.Act.TheVariants.{Delta, Tau, SndMsg, RecMsg}
+use Rattle.tb_body.specs.declared.atom.Atom.{Atom}
+use Rattle.tb_body.specs.declared.tree.Tree.{Tree}
+use Rattle.tb_body.specs.declared.tree.Tree.TheVariants.{At, Seq}
+use Rattle.tb_body.specs.declared.body.Body.{Body}
+use Rattle.tb_body.specs.declared.program.Root.{Root}
+use Rattle.tb_body.specs.declared.program.Program.{Program}
 use Rattle.tb_top.specs.PlainTokens.{Lexes}
 
 -- one thing that a process does; a message is a name
@@ -108,14 +112,33 @@ act_of delta = Delta
 act_of (snd-msg name) = SndMsg (Appl name [] ∷ [])
 act_of (rec-msg name) = RecMsg (Appl name [] ∷ [])
 
-abbrev pub body_of : Definition → Body
-body_of definition = record { acts = map act_of definition.prims }
+-- it may happen at any time
+abbrev pub atom_of : Prim → Atom
+atom_of prim = record { act = act_of prim; times = [] }
 
--- The bodies stand in the order of the definitions, and each root is the place of its name among
--- them, from 0.
+-- this atom, and then so many more, one after the other
+abbrev pub sequence : ℕ → ℕ → Tree
+sequence atom zero = At atom
+sequence atom (suc more) = Seq (At atom) (sequence (atom + 1) more)
+
+-- A process does its things one after the other, by their numbers from 1. It has no variables.
+pub record IsBodyOf (definition : Definition) (body : Body) : Type 0 where
+  pub tree : body.tree ≡ sequence 1 (length definition.prims - 1)
+  pub atoms : body.atoms ≡ map atom_of definition.prims
+  pub sorts : body.sorts ≡ []
+  pub formals : body.formals ≡ 0
+
+-- the root is the place of its name among these, from 0, with no values
+pub record IsRootOf (names : List (List ℕ)) (name : List ℕ) (root : Root) : Type 0 where
+  pub place : slice_get names root.process ≡ Some name
+  pub actuals : root.actuals ≡ []
+
+-- The bodies stand in the order of the definitions, and the roots in the order of their names. There
+-- are no tools.
 pub record IsProgramOf (script : Script) (program : Program) : Type 0 where
-  pub bodies : program.bodies ≡ map body_of script.definitions
-  pub roots : AllZip (λ name number. slice_get (names script) number ≡ Some name) script.roots program.roots
+  pub bodies : AllZip IsBodyOf script.definitions program.bodies
+  pub roots : AllZip (IsRootOf (names script)) script.roots program.roots
+  pub tools : program.tools ≡ []
 
 -- the text is a plain script, and this is its program
 pub record IsPlainProgram (text : List ℕ) (program : Program) : Type 0 where

@@ -2,8 +2,8 @@
 use Rattle.std.specs.Prelude.{◌≡◌, ◌≢◌, ◌⊎◌, ℕ, List, [], ◌∷◌, ◌++◌, Option}
 use Rattle.tb_edge.specs.Sinks.{Takes, TakesFront}
 use Rattle.tb_core.specs.Buses.{Origin}
-use Rattle.tb_core.specs.declared.simulation.SimEnd.{SimEnd}
-use Rattle.tb_core.specs.declared.simulation.SimEnd.TheVariants as sim
+use Rattle.tb_core.specs.declared.ends.SimEnd.{SimEnd}
+use Rattle.tb_core.specs.declared.ends.SimEnd.TheVariants as sim
 use Rattle.tb_top.specs.declared.status.Bound.TheVariants as bound
 use Rattle.tb_top.specs.Lines.{status_line}
 use Rattle.tb_top.specs.PlainScript.{IsPlainProgram}

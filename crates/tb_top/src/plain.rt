@@ -17,7 +17,8 @@ pub use fault::PlainFault;
 use numbers::{numbers_of, roots_of};
 use script::{Script, read_script};
 use std::alloc::Global;
-use tb_core::Program;
+use tb_body::Program;
+use tb_terms::Items;
 use tokens::tokens_of;
 
 /// The program of a plain script.
@@ -50,7 +51,11 @@ fn make_program(alloc: Global, script: &Script) -> Result<Program, PlainFault>
     let numbers = numbers_of(alloc, &script.definitions)?;
     let bodies = make_bodies(alloc, &script.definitions)?;
     let roots = roots_of(alloc, &numbers, &script.roots)?;
-    Ok(Program { bodies, roots })
+    Ok(Program {
+        bodies,
+        roots,
+        tools: Items::new(alloc),
+    })
 }
 
 #[cfg(test)]

@@ -87,86 +87,83 @@ fn scripts_have_their_logs(rt: HostRuntime) -> Result<(), Fail> {
     Ok(())
 }
 
+const WORDS: Status = Status::Words(WordFault::NotBuilt(1));
+const FILE: Status = Status::Outside(Edge::File);
+
+/// The words of a call, the script, what fails, and the status with its line.
+type Refusal = (&'static str, &'static str, Fails, Status, &'static str);
+
+static REFUSALS: [Refusal; 9] = [
+    (
+        "",
+        HELLO,
+        NONE,
+        Status::Words(WordFault::NoCommand),
+        "toolbus: words: no command\n",
+    ),
+    (
+        "check x.tb",
+        HELLO,
+        NONE,
+        WORDS,
+        "toolbus: words: not built at 1\n",
+    ),
+    (
+        "sim",
+        HELLO,
+        NONE,
+        WORDS,
+        "toolbus: words: not built at 1\n",
+    ),
+    (
+        "sim --steps",
+        HELLO,
+        NONE,
+        WORDS,
+        "toolbus: words: not built at 1\n",
+    ),
+    (
+        "sim a.tb b",
+        HELLO,
+        NONE,
+        WORDS,
+        "toolbus: words: not built at 1\n",
+    ),
+    (
+        "sim a.tb",
+        "process P is tau || tau toolbus(P)",
+        NONE,
+        Status::Script(ScriptFault::NotBuilt(0)),
+        "toolbus: script: not built at token 0\n",
+    ),
+    ("sim gone.tb", HELLO, NONE, FILE, "toolbus: outside: file\n"),
+    (
+        "sim a.tb",
+        HELLO,
+        Fails {
+            files: 1,
+            out: 0,
+            err: 0,
+        },
+        FILE,
+        "toolbus: outside: file\n",
+    ),
+    (
+        "sim a.tb",
+        HELLO,
+        Fails {
+            files: 0,
+            out: 1,
+            err: 0,
+        },
+        Status::Outside(Edge::Out),
+        "toolbus: outside: out\n",
+    ),
+];
+
 #[test]
 fn refusals_have_their_lines(rt: HostRuntime) -> Result<(), Fail> {
-    let sim = "sim a.tb";
-    let not_plain = "process P is tau || tau toolbus(P)";
-    let words = Status::Words(WordFault::NotBuilt(1));
-    let script = Status::Script(ScriptFault::NotBuilt(0));
-    let rows: [(&str, &str, Fails, Status, &str); 9] = [
-        (
-            "",
-            HELLO,
-            NONE,
-            Status::Words(WordFault::NoCommand),
-            "toolbus: words: no command\n",
-        ),
-        (
-            "check x.tb",
-            HELLO,
-            NONE,
-            words,
-            "toolbus: words: not built at 1\n",
-        ),
-        (
-            "sim",
-            HELLO,
-            NONE,
-            words,
-            "toolbus: words: not built at 1\n",
-        ),
-        (
-            "sim --steps",
-            HELLO,
-            NONE,
-            words,
-            "toolbus: words: not built at 1\n",
-        ),
-        (
-            "sim a.tb b",
-            HELLO,
-            NONE,
-            words,
-            "toolbus: words: not built at 1\n",
-        ),
-        (
-            sim,
-            not_plain,
-            NONE,
-            script,
-            "toolbus: script: not built at token 0\n",
-        ),
-        (
-            "sim gone.tb",
-            HELLO,
-            NONE,
-            Status::Outside(Edge::File),
-            "toolbus: outside: file\n",
-        ),
-        (
-            sim,
-            HELLO,
-            Fails {
-                files: 1,
-                out: 0,
-                err: 0,
-            },
-            Status::Outside(Edge::File),
-            "toolbus: outside: file\n",
-        ),
-        (
-            sim,
-            HELLO,
-            Fails {
-                files: 0,
-                out: 1,
-                err: 0,
-            },
-            Status::Outside(Edge::Out),
-            "toolbus: outside: out\n",
-        ),
-    ];
-    for (words, script, fails, status, line) in &rows {
+    for (words, script, fails, status, line) in &REFUSALS {
         let called = call(rt.alloc(), words, script.as_bytes(), *fails)?;
         assert_eq!(rt; called.status, *status, "{line}");
         assert_eq!(rt; called.err.as_slice(), line.as_bytes(), "{line}");

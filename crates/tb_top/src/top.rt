@@ -12,7 +12,9 @@ use crate::plain::{PlainFault, read_plain};
 use crate::request::{Request, read_request};
 use crate::status::{Bound, Edge, ScriptFault, Status, WordFault};
 use std::alloc::Global;
-use tb_core::{Core, Entry, Program, SimEnd, simulate};
+use tb_algebra::Rewriter;
+use tb_body::Program;
+use tb_core::{Core, SimEnd, simulate};
 use tb_edge::{Failed, Files, FilesFault, Loaded, Sink};
 use tb_terms::NoMemory;
 
@@ -125,7 +127,7 @@ fn simulate_program<O: Sink>(alloc: Global, program: Program, out: &mut O) -> St
     }
 }
 
-fn simulate_core<O: Sink>(alloc: Global, core: &mut Core, out: &mut O) -> Status
+fn simulate_core<O: Sink>(alloc: Global, core: &mut Core<Rewriter>, out: &mut O) -> Status
     requires fresh { core.old.log ≡ [] }
     requires running { core.old.stopped ≡ false }
     ensures outcome { OriginOutcome core.old.origin (O.taken out.old) (O.taken out.new) result }
@@ -138,7 +140,7 @@ fn simulate_core<O: Sink>(alloc: Global, core: &mut Core, out: &mut O) -> Status
 }
 
 /// Puts the log of a simulation that ended.
-fn write_log<O: Sink>(alloc: Global, core: &Core, end: SimEnd, out: &mut O) -> Status
+fn write_log<O: Sink>(alloc: Global, core: &Core<Rewriter>, end: SimEnd, out: &mut O) -> Status
     requires { IsSim most_steps (sim_start (start core.now.origin)) core.now.log end }
     ensures outcome { OriginOutcome core.now.origin (O.taken out.old) (O.taken out.new) result }
     ensures out_rose { result ≡ Status.Outside Edge.Out → Rose (O.faults out.old) (O.faults out.new) }

@@ -1,12 +1,13 @@
-ghost use Rattle.std.specs.Prelude.{◌≡◌, ◌<◌, ◌≤◌, ◌^◌, Some, length, map, IfOk, OnOk, IsSome, All, slice_get};
+ghost use Rattle.std.specs.Prelude.{◌≡◌, ◌<◌, ◌≤◌, ◌^◌, length, map, IfOk, OnOk, IsSome, All};
 ghost use Rattle.std.specs.List.{AllZip};
 ghost use Rattle.tb_top.specs.PlainScript.{AreOnce};
-ghost use Rattle.tb_top.specs.PlainReading.{seen, Numbers, number_at, name_of};
+ghost use Rattle.tb_top.specs.PlainReading.{seen, Numbers, IsNumbered, number_at, name_of};
 
 use crate::plain::fault::PlainFault;
 use crate::plain::script::Definition;
 use std::alloc::Global;
 use std::collections::BTreeMap;
+use tb_body::{Root, Roots};
 use tb_terms::Items;
 
 /// The greatest number of roots.
@@ -37,14 +38,14 @@ fn number_of(numbers: &BTreeMap<&[u8], u32>, name: &[u8]) -> Option<u32>
     numbers.get(name).copied()
 }
 
-/// The processes that have these names.
+/// The roots that have these names.
 pub fn roots_of(
     alloc: Global,
     numbers: &BTreeMap<&[u8], u32>,
     names: &[&[u8]],
-) -> Result<Items<u32>, PlainFault>
+) -> Result<Roots, PlainFault>
     ensures found { IfOk result (λ roots.
-        AllZip (λ name number. number_at numbers.now name ≡ Some number) (seen names.now) roots) }
+        AllZip (IsNumbered (number_at numbers.now)) (seen names.now) roots) }
     ensures few { OnOk result (length names.now ≤ 10000) }
     ensures refused { result ≡ Err PlainFault.NotPlain → length names.now ≤ 10000 →
         All (λ name. IsSome (number_at numbers.now name)) (seen names.now) → ⊥ }
@@ -54,8 +55,9 @@ pub fn roots_of(
     }
     let mut roots = Items::new(alloc);
     for name in names {
-        let number = number_of(numbers, name).ok_or(PlainFault::NotPlain)?;
-        roots.push(number)?;
+        let process = number_of(numbers, name).ok_or(PlainFault::NotPlain)?;
+        let actuals = Items::new(alloc);
+        roots.push(Root { process, actuals })?;
     }
     Ok(roots)
 }

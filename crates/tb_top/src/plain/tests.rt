@@ -1,8 +1,8 @@
 use super::*;
 use std::alloc::AllocError;
 use std::test::Fail;
-use tb_core::Act;
-use tb_terms::{Term, Terms};
+use tb_body::{Act, Body, Tree};
+use tb_terms::{Expr, Exprs};
 
 fn is_plain(alloc: Global, text: &[u8]) -> Result<bool, PlainFault> {
     match read_plain(alloc, text) {
@@ -12,65 +12,66 @@ fn is_plain(alloc: Global, text: &[u8]) -> Result<bool, PlainFault> {
     }
 }
 
+static PLAIN: [&str; 9] = [
+    "toolbus()",
+    "process P is tau toolbus(P)",
+    "process P is rec-msg(a) toolbus(P)",
+    "process P is snd-msg(a).delta . tau\ttoolbus\n(P,\rP)",
+    "process P-1_x is tau process Q is delta toolbus(Q,P-1_x)",
+    "process P is snd-msg(tau) toolbus(P)",
+    "process P is rec-msg(snd-msg)toolbus(P)",
+    "process P is snd-msg(processes) toolbus(P)",
+    " \t\r\n toolbus ( ) \n",
+];
+
+static NOT_PLAIN: [&str; 38] = [
+    "",
+    " ",
+    "process P is tau",
+    "process P is tau toolbus",
+    "process P is tau toolbus(",
+    "process P is tau toolbus(P",
+    "process P is tau toolbus(P) P",
+    "toolbus() toolbus()",
+    "toolbus(,)",
+    "process P is tau toolbus(P,)",
+    "process P is tau toolbus(P P)",
+    "processP is tau toolbus(P)",
+    "process P istau toolbus(P)",
+    "process P is tautoolbus(P)",
+    "process P is tau||tau toolbus(P)",
+    "process P is tau || tau toolbus(P)",
+    "process P is tau + tau toolbus(P)",
+    "process P is (tau) toolbus(P)",
+    "process P is toolbus(P)",
+    "process P is tau . toolbus(P)",
+    "process P is . tau toolbus(P)",
+    "process P is tau tau toolbus(P)",
+    "process P is shutdown(a) toolbus(P)",
+    "process P is snd-msg toolbus(P)",
+    "process P is snd-msg() toolbus(P)",
+    "process P is snd-msg(a,b) toolbus(P)",
+    "process P is snd-msg(a(b)) toolbus(P)",
+    "process P is snd-msg(A) toolbus(P)",
+    "process P is snd-msg(1) toolbus(P)",
+    "process P is snd-msg(\"a\") toolbus(P)",
+    "process P is tau process P is tau toolbus(P)",
+    "process P is tau toolbus(Q)",
+    "process p is tau toolbus(p)",
+    "process P() is tau toolbus(P)",
+    "toolbus() %% the end",
+    "\u{b}toolbus()",
+    "toolbus()\u{0}",
+    "Toolbus()",
+];
+
 #[test]
 fn texts_are_plain_or_not(rt: HostRuntime) -> Result<(), Fail> {
-    let table = [
-        ("toolbus()", true),
-        ("process P is tau toolbus(P)", true),
-        ("process P is rec-msg(a) toolbus(P)", true),
-        (
-            "process P is snd-msg(a).delta . tau\ttoolbus\n(P,\rP)",
-            true,
-        ),
-        (
-            "process P-1_x is tau process Q is delta toolbus(Q,P-1_x)",
-            true,
-        ),
-        ("process P is snd-msg(tau) toolbus(P)", true),
-        ("process P is rec-msg(snd-msg)toolbus(P)", true),
-        ("process P is snd-msg(processes) toolbus(P)", true),
-        (" \t\r\n toolbus ( ) \n", true),
-        ("", false),
-        (" ", false),
-        ("process P is tau", false),
-        ("process P is tau toolbus", false),
-        ("process P is tau toolbus(", false),
-        ("process P is tau toolbus(P", false),
-        ("process P is tau toolbus(P) P", false),
-        ("toolbus() toolbus()", false),
-        ("toolbus(,)", false),
-        ("process P is tau toolbus(P,)", false),
-        ("process P is tau toolbus(P P)", false),
-        ("processP is tau toolbus(P)", false),
-        ("process P istau toolbus(P)", false),
-        ("process P is tautoolbus(P)", false),
-        ("process P is tau||tau toolbus(P)", false),
-        ("process P is tau || tau toolbus(P)", false),
-        ("process P is tau + tau toolbus(P)", false),
-        ("process P is (tau) toolbus(P)", false),
-        ("process P is toolbus(P)", false),
-        ("process P is tau . toolbus(P)", false),
-        ("process P is . tau toolbus(P)", false),
-        ("process P is tau tau toolbus(P)", false),
-        ("process P is shutdown(a) toolbus(P)", false),
-        ("process P is snd-msg toolbus(P)", false),
-        ("process P is snd-msg() toolbus(P)", false),
-        ("process P is snd-msg(a,b) toolbus(P)", false),
-        ("process P is snd-msg(a(b)) toolbus(P)", false),
-        ("process P is snd-msg(A) toolbus(P)", false),
-        ("process P is snd-msg(1) toolbus(P)", false),
-        ("process P is snd-msg(\"a\") toolbus(P)", false),
-        ("process P is tau process P is tau toolbus(P)", false),
-        ("process P is tau toolbus(Q)", false),
-        ("process p is tau toolbus(p)", false),
-        ("process P() is tau toolbus(P)", false),
-        ("toolbus() %% the end", false),
-        ("\u{b}toolbus()", false),
-        ("toolbus()\u{0}", false),
-        ("Toolbus()", false),
-    ];
-    for (text, plain) in table {
-        assert_eq!(rt; is_plain(rt.alloc(), text.as_bytes())?, plain, "{text}");
+    for text in &PLAIN {
+        assert!(rt; is_plain(rt.alloc(), text.as_bytes())?, "{text}");
+    }
+    for text in &NOT_PLAIN {
+        assert!(rt; !is_plain(rt.alloc(), text.as_bytes())?, "{text}");
     }
     Ok(())
 }
@@ -87,27 +88,69 @@ fn reserved_words_are_no_messages(rt: HostRuntime) -> Result<(), Fail> {
     Ok(())
 }
 
-fn is_message(message: &Terms, name: &[u8]) -> bool {
+fn is_message(message: &Exprs, name: &[u8]) -> bool {
     match message.as_slice() {
-        [Term::Appl(found, arguments)] => found.as_bytes() == name && arguments.is_empty(),
+        [Expr::Appl(found, arguments)] => found.as_bytes() == name && arguments.is_empty(),
         _ => false,
     }
 }
 
+/// Whether the tree is the atoms 1, 2 and 3, one after the other.
+fn is_row_of_three(tree: &Tree) -> bool {
+    let Tree::Seq(first, others) = tree else {
+        return false;
+    };
+    let Tree::Seq(second, third) = others.get() else {
+        return false;
+    };
+    matches!(first.get(), Tree::At(1))
+        && matches!(second.get(), Tree::At(2))
+        && matches!(third.get(), Tree::At(3))
+}
+
+/// Whether the body has no variables, and none of its atoms a time.
+fn is_bare(body: &Body) -> bool {
+    body.sorts.is_empty()
+        && body.formals == 0
+        && body
+            .atoms
+            .as_slice()
+            .iter()
+            .all(|atom| atom.times.is_empty())
+}
+
 #[test]
-fn bodies_and_roots_are_in_order(rt: HostRuntime) -> Result<(), Fail> {
-    let text = "process A is tau.snd-msg(ab) process B is rec-msg(c-1).delta toolbus(B, A, B)";
+fn bodies_are_in_order(rt: HostRuntime) -> Result<(), Fail> {
+    let text = "process A is tau.snd-msg(ab).delta process B is rec-msg(c-1) toolbus(A)";
     let program = read_plain(rt.alloc(), text.as_bytes())?;
-    assert_eq!(rt; program.roots.as_slice(), [1, 0, 1].as_slice());
     let [first, second] = program.bodies.as_slice() else {
         return Err(Fail::new("two bodies"));
     };
-    assert!(rt;
-        matches!(first.acts.as_slice(), [Act::Tau, Act::SndMsg(sent)] if is_message(sent, b"ab"))
-    );
-    assert!(rt;
-        matches!(second.acts.as_slice(), [Act::RecMsg(taken), Act::Delta] if is_message(taken, b"c-1"))
-    );
+    let [tau, sent, delta] = first.atoms.as_slice() else {
+        return Err(Fail::new("three atoms"));
+    };
+    assert!(rt; matches!(tau.act, Act::Tau));
+    assert!(rt; matches!(&sent.act, Act::SndMsg(message) if is_message(message, b"ab")));
+    assert!(rt; matches!(delta.act, Act::Delta));
+    assert!(rt; is_row_of_three(&first.tree) && is_bare(first));
+    let [taken] = second.atoms.as_slice() else {
+        return Err(Fail::new("one atom"));
+    };
+    assert!(rt; matches!(&taken.act, Act::RecMsg(message) if is_message(message, b"c-1")));
+    assert!(rt; matches!(second.tree, Tree::At(1)) && is_bare(second));
+    Ok(())
+}
+
+#[test]
+fn roots_are_in_order(rt: HostRuntime) -> Result<(), Fail> {
+    let text = "process A is tau process B is tau toolbus(B, A, B)";
+    let program = read_plain(rt.alloc(), text.as_bytes())?;
+    let [first, second, third] = program.roots.as_slice() else {
+        return Err(Fail::new("three roots"));
+    };
+    assert_eq!(rt; [first.process, second.process, third.process], [1, 0, 1]);
+    assert!(rt; first.actuals.is_empty() && second.actuals.is_empty() && third.actuals.is_empty());
+    assert!(rt; program.tools.is_empty());
     Ok(())
 }
 
