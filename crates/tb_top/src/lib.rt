@@ -13,4 +13,6 @@ pub use status::{Bound, Edge, ScriptFault, Status, WordFault};
 pub use top::toolbus;
 
 #[cfg(test)]
+mod bus_tests;
+#[cfg(test)]
 mod tests;

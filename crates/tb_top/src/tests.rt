@@ -88,6 +88,7 @@ fn scripts_have_their_logs(rt: HostRuntime) -> Result<(), Fail> {
 }
 
 const WORDS: Status = Status::Words(WordFault::NotBuilt(1));
+
 const FILE: Status = Status::Outside(Edge::File);
 
 /// The words of a call, the script, what fails, and the status with its line.
