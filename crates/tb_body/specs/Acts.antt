@@ -5,7 +5,6 @@ use Rattle.tb_terms.specs.declared.expr.Expr.{Expr}
 use Rattle.tb_body.specs.Exprs.{is_value, is_test, is_receiving}
 use Rattle.tb_body.specs.declared.act.Act.{Act}
 use Rattle.tb_body.specs.declared.act.Act.TheVariants.{Delta, Tau, SndMsg, RecMsg, SndNote, RecNote, NoNote, Subscribe, Unsubscribe, Create, Set, Printf, Execute, RecConnect, RecDisconnectAny, RecDisconnect, SndEval, RecValue, SndDo, RecEvent, SndAckEvent, SndTerminate, Shutdown}
-use Rattle.tb_body.specs.declared.atom.Time.{Time}
 use Rattle.tb_body.specs.declared.atom.Atom.{Atom}
 
 -- one argument at least, each of which may stand there

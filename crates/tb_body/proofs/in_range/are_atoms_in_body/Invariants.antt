@@ -1,4 +1,4 @@
-use Rattle.std.proofs.Common.{◌≡◌, ◌+◌, map, drop}
+use Rattle.std.proofs.Common.{◌≡◌, drop}
 use Rattle.std.specs.List.{list_all}
 use Rattle.tb_body.specs.Acts.{is_atom_in_body}
 use Rattle.tb_body.proofs.in_range.are_atoms_in_body.Given as goal

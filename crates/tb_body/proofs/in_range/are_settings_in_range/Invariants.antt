@@ -1,4 +1,4 @@
-use Rattle.std.proofs.Common.{◌≡◌, ◌+◌, map, drop}
+use Rattle.std.proofs.Common.{◌≡◌, drop}
 use Rattle.std.specs.List.{list_all}
 use Rattle.tb_body.specs.InRange.{is_setting_in_range}
 use Rattle.tb_body.proofs.in_range.are_settings_in_range.Given as goal

@@ -1,5 +1,4 @@
-use Rattle.std.proofs.Common.{◌≡◌, ◌+◌, map, drop}
-use Rattle.std.specs.List.{list_all}
+use Rattle.std.proofs.Common.{◌≡◌, ◌+◌, drop}
 use Rattle.tb_body.specs.InRange.{ascends_by_one}
 use Rattle.tb_body.proofs.in_range.ascend_from_one.Given as goal
 

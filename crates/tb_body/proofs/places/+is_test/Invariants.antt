@@ -1,6 +1,6 @@
-use Rattle.std.proofs.Common.{◌≡◌, ◌+◌, map, drop}
+use Rattle.std.proofs.Common.{◌≡◌, map, drop}
 use Rattle.std.specs.List.{list_all}
-use Rattle.tb_body.specs.Exprs.{places_of, is_value, is_test, is_receiving}
+use Rattle.tb_body.specs.Exprs.{places_of}
 use Rattle.tb_body.proofs.places.+is_test.Given as goal
 
 abbrev pub invariant-are_tests-loop-part : goal.invariant-are_tests-loop-part

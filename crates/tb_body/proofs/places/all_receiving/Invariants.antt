@@ -1,6 +1,6 @@
-use Rattle.std.proofs.Common.{◌≡◌, ◌+◌, map, drop}
+use Rattle.std.proofs.Common.{◌≡◌, drop}
 use Rattle.std.specs.List.{list_all}
-use Rattle.tb_body.specs.Exprs.{places_of, is_value, is_test, is_receiving}
+use Rattle.tb_body.specs.Exprs.{is_receiving}
 use Rattle.tb_body.proofs.places.all_receiving.Given as goal
 
 abbrev pub invariant-loop-expr : goal.invariant-loop-expr
