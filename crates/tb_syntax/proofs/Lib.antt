@@ -1,0 +1,3 @@
+pub mod KindTokens
+pub mod Parted
+pub mod SortTokens

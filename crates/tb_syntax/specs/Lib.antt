@@ -1,3 +1,6 @@
+pub mod Canonical
 pub mod Limits
+pub mod Places
 pub mod Spelling
+pub mod TokenText
 pub mod Words

@@ -8,6 +8,8 @@ use Rattle.tb_lex.specs.declared.symbol.Symbol.TheVariants.{LeftParen, RightPare
 use Rattle.tb_syntax.specs.declared.ast.Ast.{Ast}
 use Rattle.tb_syntax.specs.declared.ast.AstKind.{AstKind}
 use Rattle.tb_syntax.specs.declared.ast.AstKind.TheVariants as ast
+use Rattle.tb_syntax.specs.declared.level.Level.{Level}
+use Rattle.tb_syntax.specs.declared.level.Level.TheVariants as level
 use Rattle.tb_syntax.specs.declared.proc.ActDef.{ActDef}
 use Rattle.tb_syntax.specs.declared.proc.ActDef.TheVariants as act
 use Rattle.tb_syntax.specs.declared.proc.AtomDef.{AtomDef}
@@ -128,49 +130,42 @@ pub record SpellsVar (at : ℕ) (var : Var) (ks : List TokenKind) : Type 0 where
   pub is_sort : SpellsSort (at + 2) var.sort var.sort_token sort
   pub is : ks ≡ Upper var.name ∷ Sign Colon ∷ sort
 
--- How tightly a process is bound: as a whole, beside `||`, `+` and `.`, on the left of `*`, and as what stands by itself.
-pub data Level : Type 0 where
-  proc : Level
-  alt : Level
-  seq : Level
-  star : Level
-  prim : Level
-
+-- a process where it is bound as tightly as the level says
 pub data SpellsProc : Level → ℕ → Proc → List TokenKind → Type 0 where
   -- proc = alt [ "||" proc ]
-  one_alt : {at : ℕ} {x : Proc} {xs : List TokenKind} → SpellsProc alt at x xs → SpellsProc proc at x xs
-  par : {at : ℕ} {x y : Proc} {xs ys : List TokenKind} → SpellsProc alt at x xs → SpellsProc proc (at + length xs + 1) y ys
-      → SpellsProc proc at (tree.Par x y) (xs ++ Sign Bars ∷ ys)
+  one_alt : {at : ℕ} {x : Proc} {xs : List TokenKind} → SpellsProc level.Alt at x xs → SpellsProc level.Proc at x xs
+  par : {at : ℕ} {x y : Proc} {xs ys : List TokenKind} → SpellsProc level.Alt at x xs → SpellsProc level.Proc (at + length xs + 1) y ys
+      → SpellsProc level.Proc at (tree.Par x y) (xs ++ Sign Bars ∷ ys)
   -- alt = seq [ "+" alt ]
-  one_seq : {at : ℕ} {x : Proc} {xs : List TokenKind} → SpellsProc seq at x xs → SpellsProc alt at x xs
-  choice : {at : ℕ} {x y : Proc} {xs ys : List TokenKind} → SpellsProc seq at x xs → SpellsProc alt (at + length xs + 1) y ys
-      → SpellsProc alt at (tree.Alt x y) (xs ++ Sign Plus ∷ ys)
+  one_seq : {at : ℕ} {x : Proc} {xs : List TokenKind} → SpellsProc level.Seq at x xs → SpellsProc level.Alt at x xs
+  choice : {at : ℕ} {x y : Proc} {xs ys : List TokenKind} → SpellsProc level.Seq at x xs → SpellsProc level.Alt (at + length xs + 1) y ys
+      → SpellsProc level.Alt at (tree.Alt x y) (xs ++ Sign Plus ∷ ys)
   -- seq = star [ "." seq ]
-  one_star : {at : ℕ} {x : Proc} {xs : List TokenKind} → SpellsProc star at x xs → SpellsProc seq at x xs
-  sequence : {at : ℕ} {x y : Proc} {xs ys : List TokenKind} → SpellsProc star at x xs → SpellsProc seq (at + length xs + 1) y ys
-      → SpellsProc seq at (tree.Seq x y) (xs ++ Sign Point ∷ ys)
+  one_star : {at : ℕ} {x : Proc} {xs : List TokenKind} → SpellsProc level.Star at x xs → SpellsProc level.Seq at x xs
+  sequence : {at : ℕ} {x y : Proc} {xs ys : List TokenKind} → SpellsProc level.Star at x xs → SpellsProc level.Seq (at + length xs + 1) y ys
+      → SpellsProc level.Seq at (tree.Seq x y) (xs ++ Sign Point ∷ ys)
   -- star = prim { "*" prim }, from the left
-  one_prim : {at : ℕ} {x : Proc} {xs : List TokenKind} → SpellsProc prim at x xs → SpellsProc star at x xs
-  turns : {at : ℕ} {x y : Proc} {xs ys : List TokenKind} → SpellsProc star at x xs → SpellsProc prim (at + length xs + 1) y ys
-      → SpellsProc star at (tree.Star x y) (xs ++ Sign Star ∷ ys)
+  one_prim : {at : ℕ} {x : Proc} {xs : List TokenKind} → SpellsProc level.Prim at x xs → SpellsProc level.Star at x xs
+  turns : {at : ℕ} {x y : Proc} {xs ys : List TokenKind} → SpellsProc level.Star at x xs → SpellsProc level.Prim (at + length xs + 1) y ys
+      → SpellsProc level.Star at (tree.Star x y) (xs ++ Sign Star ∷ ys)
   -- prim = "(" proc ")"
-  parens : {at : ℕ} {x : Proc} {xs : List TokenKind} → SpellsProc proc (at + 1) x xs → SpellsProc prim at x (in_parens xs)
+  parens : {at : ℕ} {x : Proc} {xs : List TokenKind} → SpellsProc level.Proc (at + 1) x xs → SpellsProc level.Prim at x (in_parens xs)
   -- prim = atom { time }
-  atom : {at : ℕ} {a : AtomDef} {ks : List TokenKind} → SpellsAtom at a ks → SpellsProc prim at (tree.Atom a) ks
+  atom : {at : ℕ} {a : AtomDef} {ks : List TokenKind} → SpellsAtom at a ks → SpellsProc level.Prim at (tree.Atom a) ks
   -- prim = call
-  call : {at : ℕ} {c : Call} {ks : List TokenKind} → SpellsCall at c ks → SpellsProc prim at (tree.Call c) ks
+  call : {at : ℕ} {c : Call} {ks : List TokenKind} → SpellsCall at c ks → SpellsProc level.Prim at (tree.Call c) ks
   -- prim = "let" Upper ":" sort { "," Upper ":" sort } "in" proc "endlet"
   block : {at : ℕ} {vars : List Var} {vs : List TokenKind} {x : Proc} {xs : List TokenKind} → Parted SpellsVar (at + 1) vars vs
-      → SpellsProc proc (at + length vs + 2) x xs
-      → SpellsProc prim at (tree.Let vars x) (word (codes "let") ++ vs ++ word (codes "in") ++ xs ++ word (codes "endlet"))
+      → SpellsProc level.Proc (at + length vs + 2) x xs
+      → SpellsProc level.Prim at (tree.Let vars x) (word (codes "let") ++ vs ++ word (codes "in") ++ xs ++ word (codes "endlet"))
   -- prim = "if" expr "then" proc "fi"
   test : {at : ℕ} {e : Ast} {es : List TokenKind} {x : Proc} {xs : List TokenKind} → SpellsExpr (at + 1) e es
-      → SpellsProc proc (at + length es + 2) x xs
-      → SpellsProc prim at (tree.If e x None) (word (codes "if") ++ es ++ word (codes "then") ++ xs ++ word (codes "fi"))
+      → SpellsProc level.Proc (at + length es + 2) x xs
+      → SpellsProc level.Prim at (tree.If e x None) (word (codes "if") ++ es ++ word (codes "then") ++ xs ++ word (codes "fi"))
   -- prim = "if" expr "then" proc "else" proc "fi"
   test_else : {at : ℕ} {e : Ast} {es : List TokenKind} {x y : Proc} {xs ys : List TokenKind} → SpellsExpr (at + 1) e es
-      → SpellsProc proc (at + length es + 2) x xs → SpellsProc proc (at + length es + length xs + 3) y ys
-      → SpellsProc prim at (tree.If e x (Some y)) (word (codes "if") ++ es ++ word (codes "then") ++ xs ++ word (codes "else") ++ ys ++ word (codes "fi"))
+      → SpellsProc level.Proc (at + length es + 2) x xs → SpellsProc level.Proc (at + length es + length xs + 3) y ys
+      → SpellsProc level.Prim at (tree.If e x (Some y)) (word (codes "if") ++ es ++ word (codes "then") ++ xs ++ word (codes "else") ++ ys ++ word (codes "fi"))
 
 -- what marks a result formal
 abbrev pub mark : Bool → List TokenKind
@@ -190,7 +185,7 @@ pub record SpellsProcDef (at : ℕ) (definition : ProcDef) (ks : List TokenKind)
   pub formals : List TokenKind
   pub are_formals : InParens SpellsFormal (at + 2) definition.formals formals
   pub body : List TokenKind
-  pub is_body : SpellsProc proc (at + length formals + 3) definition.body body
+  pub is_body : SpellsProc level.Proc (at + length formals + 3) definition.body body
   pub is : ks ≡ word (codes "process") ++ Upper definition.name ∷ formals ++ word (codes "is") ++ body
 
 -- what stands in the braces of a tool

@@ -2,9 +2,20 @@
 #![tactic(auto)]
 
 mod ast;
+mod exprs;
+mod gap;
+mod level;
 mod proc;
+mod push;
 mod script;
+mod sorts;
+mod text;
+mod words;
 
 pub use ast::{Ast, AstKind, Asts};
+pub use gap::{Before, before_next, gap as token_gap};
+pub use level::Level;
 pub use proc::{ActDef, AtomDef, Call, Calls, Proc, TimeDef, TimeDefs, Var, Vars};
 pub use script::{Formal, Formals, ProcDef, ProcDefs, Script, ToolDef, ToolDefs};
+pub use text::text_of;
+pub use words::is_reserved;
