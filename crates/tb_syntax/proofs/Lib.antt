@@ -1,3 +1,4 @@
 pub mod KindTokens
 pub mod Parted
+pub mod ProcTokens
 pub mod SortTokens

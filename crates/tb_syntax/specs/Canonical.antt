@@ -105,9 +105,15 @@ expr_tokens expr = kind_tokens expr.kind
 abbrev pub call_tokens : Call → List TokenKind
 call_tokens call = Upper call.name ∷ optional (map expr_tokens call.actuals)
 
+abbrev pub set_tokens : List ℕ → Ast → List TokenKind
+set_tokens name value = Upper name ∷ Sign Assign ∷ expr_tokens value
+
+abbrev pub create_tokens : Call → Ast → List TokenKind
+create_tokens call variable = Lower (codes "create") ∷ in_parens (call_tokens call ++ Sign Comma ∷ expr_tokens variable)
+
 abbrev pub act_tokens : ActDef → List TokenKind
-act_tokens (act.Set name value) = Upper name ∷ Sign Assign ∷ expr_tokens value
-act_tokens (act.Create call variable) = Lower (codes "create") ∷ in_parens (call_tokens call ++ Sign Comma ∷ expr_tokens variable)
+act_tokens (act.Set name value) = set_tokens name value
+act_tokens (act.Create call variable) = create_tokens call variable
 act_tokens (act.Named name arguments) = Lower name ∷ optional (map expr_tokens arguments)
 
 abbrev pub time_tokens : TimeDef → List TokenKind
@@ -127,13 +133,22 @@ rank level.Seq = 2
 rank level.Star = 3
 rank level.Prim = 4
 
+abbrev pub is_looser : Level → Level → Bool
+is_looser own at = nat_lt (rank own) (rank at)
+
 -- what is bound as its own level says, where it stands at another
 abbrev pub placed : Level → Level → List TokenKind → List TokenKind
-placed own at tokens = if nat_lt (rank own) (rank at) then in_parens tokens else tokens
+placed own at tokens = if is_looser own at then in_parens tokens else tokens
+
+abbrev pub then_tokens : List TokenKind → List TokenKind → List TokenKind
+then_tokens test x = Lower (codes "if") ∷ test ++ Lower (codes "then") ∷ x
 
 abbrev pub else_tokens : Option (Level → List TokenKind) → List TokenKind
-else_tokens None = []
-else_tokens (Some y) = Lower (codes "else") ∷ y level.Proc
+else_tokens None = Lower (codes "fi") ∷ []
+else_tokens (Some y) = Lower (codes "else") ∷ y level.Proc ++ Lower (codes "fi") ∷ []
+
+abbrev pub let_tokens : List TokenKind → List TokenKind → List TokenKind
+let_tokens vars x = Lower (codes "let") ∷ vars ++ Lower (codes "in") ∷ x ++ Lower (codes "endlet") ∷ []
 
 -- one construct, with the tokens of each part, at its level, in the part's place
 abbrev pub proc_step : tree.Proc-F (Level → List TokenKind) → Level → List TokenKind
@@ -143,8 +158,8 @@ proc_step (tree.Seq x y) at = placed level.Seq at (x level.Star ++ Sign Point �
 proc_step (tree.Alt x y) at = placed level.Alt at (x level.Seq ++ Sign Plus ∷ y level.Alt)
 proc_step (tree.Star x y) at = placed level.Star at (x level.Star ++ Sign Star ∷ y level.Prim)
 proc_step (tree.Par x y) at = placed level.Proc at (x level.Alt ++ Sign Bars ∷ y level.Proc)
-proc_step (tree.If test x y) at = Lower (codes "if") ∷ expr_tokens test ++ Lower (codes "then") ∷ x level.Proc ++ else_tokens y ++ Lower (codes "fi") ∷ []
-proc_step (tree.Let vars x) at = Lower (codes "let") ∷ parted (map var_tokens vars) ++ Lower (codes "in") ∷ x level.Proc ++ Lower (codes "endlet") ∷ []
+proc_step (tree.If test x y) at = then_tokens (expr_tokens test) (x level.Proc) ++ else_tokens y
+proc_step (tree.Let vars x) at = let_tokens (parted (map var_tokens vars)) (x level.Proc)
 
 abbrev pub proc_tokens : Proc → Level → List TokenKind
 proc_tokens = fold-Proc (Level → List TokenKind) proc_step

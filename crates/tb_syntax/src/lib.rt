@@ -2,10 +2,12 @@
 #![tactic(auto)]
 
 mod ast;
+mod atoms;
 mod exprs;
 mod gap;
 mod level;
 mod proc;
+mod procs;
 mod push;
 mod script;
 mod sorts;
