@@ -175,6 +175,8 @@ abbrev pub tool_tokens : ToolDef → List TokenKind
 tool_tokens definition =
     Lower (codes "tool") ∷ Lower definition.name ∷ Lower (codes "is") ∷ Sign LeftBrace ∷ command_tokens definition.command ++ Sign RightBrace ∷ []
 
+abbrev pub roots_tokens : List Call → List TokenKind
+roots_tokens roots = Lower (codes "toolbus") ∷ in_parens (parted (map call_tokens roots))
+
 abbrev pub script_tokens : Script → List TokenKind
-script_tokens script =
-    flat_map tool_tokens script.tools ++ flat_map process_tokens script.procs ++ Lower (codes "toolbus") ∷ in_parens (parted (map call_tokens script.roots))
+script_tokens script = flat_map tool_tokens script.tools ++ flat_map process_tokens script.procs ++ roots_tokens script.roots

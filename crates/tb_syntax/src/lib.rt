@@ -3,6 +3,7 @@
 
 mod ast;
 mod atoms;
+mod definitions;
 mod exprs;
 mod gap;
 mod level;
@@ -15,6 +16,7 @@ mod text;
 mod words;
 
 pub use ast::{Ast, AstKind, Asts};
+pub use definitions::tokens_of;
 pub use gap::{Before, before_next, gap as token_gap};
 pub use level::Level;
 pub use proc::{ActDef, AtomDef, Call, Calls, Proc, TimeDef, TimeDefs, Var, Vars};
