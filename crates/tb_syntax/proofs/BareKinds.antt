@@ -1,6 +1,5 @@
 -- Each kind of expression without its places.
-use Rattle.std.proofs.Common.{◌≡◌, ℕ, ℤ, List, [], ◌∷◌, map, ap, ◌∙◌}
-use Rattle.tb_terms.specs.declared.sort.Sort.{Sort}
+use Rattle.std.proofs.Common.{◌≡◌, ℕ, List, map, ap, ◌∙◌}
 use Rattle.tb_syntax.specs.declared.ast.Ast.{Ast}
 use Rattle.tb_syntax.specs.declared.ast.AstKind.{AstKind, out-AstKind}
 use Rattle.tb_syntax.specs.declared.ast.AstKind.TheVariants as ast

@@ -2,6 +2,10 @@ pub mod BareKinds
 pub mod BareProcs
 pub mod KindTokens
 pub mod Parted
+pub mod PrintedAtoms
 pub mod PrintedExprs
+pub mod PrintedLists
+pub mod PrintedProcs
+pub mod PrintedScripts
 pub mod ProcTokens
 pub mod SortTokens

@@ -1,5 +1,5 @@
 -- What is printed for a sort or an expression that is spelt somewhere spells it but for places, wherever it stands.
-use Rattle.std.proofs.Common.{◌≡◌, ℕ, ◌+◌, ℤ, Bool, true, false, List, [], ◌∷◌, ◌++◌, length, map, refl, ap, sym, ◌∙◌, subst, codes}
+use Rattle.std.proofs.Common.{◌≡◌, ℕ, ◌+◌, Bool, true, false, List, [], ◌∷◌, ◌++◌, length, map, refl, ap, sym, ◌∙◌, subst, codes}
 use Rattle.tb_terms.specs.declared.sort.Sort.{Sort, out-Sort, roll-Sort, roll-out-Sort}
 use Rattle.tb_terms.specs.declared.sort.Sort.TheVariants as sort
 use Rattle.tb_terms.specs.declared.sort.Sort.TheVariants.{outs-Bool, outs-Int, outs-Str, outs-List, outs-Any, rolls-Any}

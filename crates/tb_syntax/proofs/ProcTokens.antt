@@ -1,5 +1,5 @@
 -- What is printed for each kind of process.
-use Rattle.std.proofs.Common.{◌≡◌, ℕ, List, [], ◌∷◌, ◌++◌, map, Option, Some, None, option_map, ap, ◌∙◌, sym, append_assoc}
+use Rattle.std.proofs.Common.{◌≡◌, List, ◌∷◌, ◌++◌, map, Option, Some, None, option_map, ap, ◌∙◌, sym, append_assoc}
 use Rattle.tb_lex.specs.declared.kind.TokenKind.{TokenKind}
 use Rattle.tb_lex.specs.declared.kind.TokenKind.TheVariants.{Symbol as Sign}
 use Rattle.tb_lex.specs.declared.symbol.Symbol.TheVariants.{Point, Plus, Star, Bars}

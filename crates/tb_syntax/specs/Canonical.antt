@@ -55,7 +55,7 @@ is_any (sort.Tool name) = false
 -- lists of any terms are `list` alone
 abbrev pub list_tokens : Bool → List TokenKind → List TokenKind
 list_tokens true members = word (codes "list")
-list_tokens false members = word (codes "list") ++ in_parens members
+list_tokens false members = Lower (codes "list") ∷ in_parens members
 
 abbrev pub sort_step : sort.Sort-F (Sort × List TokenKind) → List TokenKind
 sort_step sort.Bool = word (codes "bool")
@@ -81,7 +81,7 @@ abbrev pub hole_tokens : Sort → List TokenKind
 hole_tokens s = Sign Less ∷ Lower (hole_word (out-Sort s)) ∷ Sign Greater ∷ []
 
 abbrev pub list_expr_tokens : List (List TokenKind) → List TokenKind
-list_expr_tokens parts = Sign LeftBracket ∷ parted parts ++ Sign RightBracket ∷ []
+list_expr_tokens parts = Sign LeftBracket ∷ (parted parts ++ Sign RightBracket ∷ [])
 
 abbrev pub kind_step : ast.AstKind-F (List TokenKind) (List TokenKind) → List TokenKind
 kind_step (ast.Int number) = kind.Int number ∷ []
@@ -109,7 +109,7 @@ abbrev pub set_tokens : List ℕ → Ast → List TokenKind
 set_tokens name value = Upper name ∷ Sign Assign ∷ expr_tokens value
 
 abbrev pub create_tokens : Call → Ast → List TokenKind
-create_tokens call variable = Lower (codes "create") ∷ in_parens (call_tokens call ++ Sign Comma ∷ expr_tokens variable)
+create_tokens call variable = Lower (codes "create") ∷ Sign LeftParen ∷ (call_tokens call ++ Sign Comma ∷ (expr_tokens variable ++ Sign RightParen ∷ []))
 
 abbrev pub act_tokens : ActDef → List TokenKind
 act_tokens (act.Set name value) = set_tokens name value
@@ -141,14 +141,14 @@ abbrev pub placed : Level → Level → List TokenKind → List TokenKind
 placed own at tokens = if is_looser own at then in_parens tokens else tokens
 
 abbrev pub then_tokens : List TokenKind → List TokenKind → List TokenKind
-then_tokens test x = Lower (codes "if") ∷ test ++ Lower (codes "then") ∷ x
+then_tokens test x = Lower (codes "if") ∷ (test ++ Lower (codes "then") ∷ x)
 
 abbrev pub else_tokens : Option (Level → List TokenKind) → List TokenKind
 else_tokens None = Lower (codes "fi") ∷ []
-else_tokens (Some y) = Lower (codes "else") ∷ y level.Proc ++ Lower (codes "fi") ∷ []
+else_tokens (Some y) = Lower (codes "else") ∷ (y level.Proc ++ Lower (codes "fi") ∷ [])
 
 abbrev pub let_tokens : List TokenKind → List TokenKind → List TokenKind
-let_tokens vars x = Lower (codes "let") ∷ vars ++ Lower (codes "in") ∷ x ++ Lower (codes "endlet") ∷ []
+let_tokens vars x = Lower (codes "let") ∷ (vars ++ Lower (codes "in") ∷ (x ++ Lower (codes "endlet") ∷ []))
 
 -- one construct, with the tokens of each part, at its level, in the part's place
 abbrev pub proc_step : tree.Proc-F (Level → List TokenKind) → Level → List TokenKind
@@ -165,15 +165,15 @@ abbrev pub proc_tokens : Proc → Level → List TokenKind
 proc_tokens = fold-Proc (Level → List TokenKind) proc_step
 
 abbrev pub formal_tokens : Formal → List TokenKind
-formal_tokens formal = Upper formal.name ∷ Sign Colon ∷ sort_tokens formal.sort ++ mark formal.result
+formal_tokens formal = Upper formal.name ∷ Sign Colon ∷ (sort_tokens formal.sort ++ mark formal.result)
 
 abbrev pub process_tokens : ProcDef → List TokenKind
 process_tokens definition =
-    Lower (codes "process") ∷ Upper definition.name ∷ optional (map formal_tokens definition.formals) ++ Lower (codes "is") ∷ proc_tokens definition.body level.Proc
+    Lower (codes "process") ∷ Upper definition.name ∷ (optional (map formal_tokens definition.formals) ++ Lower (codes "is") ∷ proc_tokens definition.body level.Proc)
 
 abbrev pub tool_tokens : ToolDef → List TokenKind
 tool_tokens definition =
-    Lower (codes "tool") ∷ Lower definition.name ∷ Lower (codes "is") ∷ Sign LeftBrace ∷ command_tokens definition.command ++ Sign RightBrace ∷ []
+    Lower (codes "tool") ∷ Lower definition.name ∷ Lower (codes "is") ∷ Sign LeftBrace ∷ (command_tokens definition.command ++ Sign RightBrace ∷ [])
 
 abbrev pub roots_tokens : List Call → List TokenKind
 roots_tokens roots = Lower (codes "toolbus") ∷ in_parens (parted (map call_tokens roots))

@@ -25,7 +25,7 @@ use Rattle.tb_syntax.specs.declared.script.ToolDef.{ToolDef}
 use Rattle.tb_syntax.specs.Words.{is_free, is_sort_word, is_atom_word, is_time_word}
 
 abbrev pub in_parens : List TokenKind → List TokenKind
-in_parens ks = Sign LeftParen ∷ ks ++ Sign RightParen ∷ []
+in_parens ks = Sign LeftParen ∷ (ks ++ Sign RightParen ∷ [])
 
 abbrev pub word : List ℕ → List TokenKind
 word name = Lower name ∷ []
@@ -59,7 +59,7 @@ pub data IsSortWord : Sort → List ℕ → Type 0 where
 pub data SpellsSort : ℕ → Sort → ℕ → List TokenKind → Type 0 where
   plain : {s : Sort} {name : List ℕ} (at : ℕ) → IsSortWord s name → SpellsSort at s at (word name)
   list_of : {at : ℕ} {s : Sort} {inner : ℕ} {ks : List TokenKind} → SpellsSort (at + 2) s inner ks
-      → SpellsSort at (sort.List s) inner (word (codes "list") ++ in_parens ks)
+      → SpellsSort at (sort.List s) inner (Lower (codes "list") ∷ in_parens ks)
   tool : (at : ℕ) (name : List ℕ) → is_free name ≡ true → is_sort_word name ≡ false → SpellsSort at (sort.Tool name) at (word name)
 
 -- expr = numeral | string | lower [ "(" expr { "," expr } ")" ] | Upper [ "?" ] | "[" [ expr { "," expr } ] "]" | "<" sortword ">"
@@ -68,12 +68,12 @@ mutual
     numeral : (at : ℕ) (n : ℤ) → SpellsKind at (ast.Int n) (Int n ∷ [])
     string : (at : ℕ) (text : List ℕ) → SpellsKind at (ast.Str text) (Str text ∷ [])
     appl : {at : ℕ} {parts : List Ast} {ks : List TokenKind} (name : List ℕ) → is_free name ≡ true → SpellsArguments (at + 1) parts ks
-        → SpellsKind at (ast.Appl name parts) (word name ++ ks)
+        → SpellsKind at (ast.Appl name parts) (Lower name ∷ ks)
     variable : (at : ℕ) (name : List ℕ) → SpellsKind at (ast.Var name) (Upper name ∷ [])
     result : (at : ℕ) (name : List ℕ) → SpellsKind at (ast.Result name) (Upper name ∷ Sign Question ∷ [])
     empty : (at : ℕ) → SpellsKind at (ast.List []) (Sign LeftBracket ∷ Sign RightBracket ∷ [])
     list : {at : ℕ} {parts : List Ast} {ks : List TokenKind} → SpellsExprs (at + 1) parts ks
-        → SpellsKind at (ast.List parts) (Sign LeftBracket ∷ ks ++ Sign RightBracket ∷ [])
+        → SpellsKind at (ast.List parts) (Sign LeftBracket ∷ (ks ++ Sign RightBracket ∷ []))
     hole : {s : Sort} {name : List ℕ} (at : ℕ) → IsSortWord s name → SpellsKind at (ast.Hole s) (Sign Less ∷ Lower name ∷ Sign Greater ∷ [])
 
   -- the expression with its place
@@ -102,9 +102,9 @@ pub data SpellsAct : ℕ → ActDef → List TokenKind → Type 0 where
   set : {at : ℕ} {value : Ast} {ks : List TokenKind} (name : List ℕ) → SpellsExpr (at + 2) value ks
       → SpellsAct at (act.Set name value) (Upper name ∷ Sign Assign ∷ ks)
   create : {at : ℕ} {call : Call} {cs : List TokenKind} {variable : Ast} {ks : List TokenKind} → SpellsCall (at + 2) call cs
-      → SpellsExpr (at + length cs + 3) variable ks → SpellsAct at (act.Create call variable) (word (codes "create") ++ in_parens (cs ++ Sign Comma ∷ ks))
+      → SpellsExpr (at + length cs + 3) variable ks → SpellsAct at (act.Create call variable) (Lower (codes "create") ∷ Sign LeftParen ∷ (cs ++ Sign Comma ∷ (ks ++ Sign RightParen ∷ [])))
   named : {at : ℕ} {arguments : List Ast} {ks : List TokenKind} (name : List ℕ) → is_atom_word name ≡ true → SpellsArguments (at + 1) arguments ks
-      → SpellsAct at (act.Named name arguments) (word name ++ ks)
+      → SpellsAct at (act.Named name arguments) (Lower name ∷ ks)
 
 -- time = ( "delay" | "timeout" | "abs-delay" | "abs-timeout" ) "(" expr ")"
 pub record SpellsTime (at : ℕ) (time : TimeDef) (ks : List TokenKind) : Type 0 where
@@ -112,7 +112,7 @@ pub record SpellsTime (at : ℕ) (time : TimeDef) (ks : List TokenKind) : Type 0
   pub is_word : is_time_word time.name ≡ true
   pub value : List TokenKind
   pub is_value : SpellsExpr (at + 2) time.value value
-  pub is : ks ≡ word time.name ++ in_parens value
+  pub is : ks ≡ Lower time.name ∷ in_parens value
 
 -- atom { time }
 pub record SpellsAtom (at : ℕ) (atom : AtomDef) (ks : List TokenKind) : Type 0 where
@@ -157,15 +157,15 @@ pub data SpellsProc : Level → ℕ → Proc → List TokenKind → Type 0 where
   -- prim = "let" Upper ":" sort { "," Upper ":" sort } "in" proc "endlet"
   block : {at : ℕ} {vars : List Var} {vs : List TokenKind} {x : Proc} {xs : List TokenKind} → Parted SpellsVar (at + 1) vars vs
       → SpellsProc level.Proc (at + length vs + 2) x xs
-      → SpellsProc level.Prim at (tree.Let vars x) (word (codes "let") ++ vs ++ word (codes "in") ++ xs ++ word (codes "endlet"))
+      → SpellsProc level.Prim at (tree.Let vars x) (Lower (codes "let") ∷ (vs ++ Lower (codes "in") ∷ (xs ++ Lower (codes "endlet") ∷ [])))
   -- prim = "if" expr "then" proc "fi"
   test : {at : ℕ} {e : Ast} {es : List TokenKind} {x : Proc} {xs : List TokenKind} → SpellsExpr (at + 1) e es
       → SpellsProc level.Proc (at + length es + 2) x xs
-      → SpellsProc level.Prim at (tree.If e x None) (word (codes "if") ++ es ++ word (codes "then") ++ xs ++ word (codes "fi"))
+      → SpellsProc level.Prim at (tree.If e x None) (Lower (codes "if") ∷ (es ++ Lower (codes "then") ∷ (xs ++ Lower (codes "fi") ∷ [])))
   -- prim = "if" expr "then" proc "else" proc "fi"
   test_else : {at : ℕ} {e : Ast} {es : List TokenKind} {x y : Proc} {xs ys : List TokenKind} → SpellsExpr (at + 1) e es
       → SpellsProc level.Proc (at + length es + 2) x xs → SpellsProc level.Proc (at + length es + length xs + 3) y ys
-      → SpellsProc level.Prim at (tree.If e x (Some y)) (word (codes "if") ++ es ++ word (codes "then") ++ xs ++ word (codes "else") ++ ys ++ word (codes "fi"))
+      → SpellsProc level.Prim at (tree.If e x (Some y)) (Lower (codes "if") ∷ (es ++ Lower (codes "then") ∷ (xs ++ Lower (codes "else") ∷ (ys ++ Lower (codes "fi") ∷ []))))
 
 -- what marks a result formal
 abbrev pub mark : Bool → List TokenKind
@@ -177,7 +177,7 @@ pub record SpellsFormal (at : ℕ) (formal : Formal) (ks : List TokenKind) : Typ
   pub place : formal.token ≡ at
   pub sort : List TokenKind
   pub is_sort : SpellsSort (at + 2) formal.sort formal.sort_token sort
-  pub is : ks ≡ Upper formal.name ∷ Sign Colon ∷ sort ++ mark formal.result
+  pub is : ks ≡ Upper formal.name ∷ Sign Colon ∷ (sort ++ mark formal.result)
 
 -- procdef = "process" Upper [ "(" formal { "," formal } ")" ] "is" proc
 pub record SpellsProcDef (at : ℕ) (definition : ProcDef) (ks : List TokenKind) : Type 0 where
@@ -186,7 +186,7 @@ pub record SpellsProcDef (at : ℕ) (definition : ProcDef) (ks : List TokenKind)
   pub are_formals : InParens SpellsFormal (at + 2) definition.formals formals
   pub body : List TokenKind
   pub is_body : SpellsProc level.Proc (at + length formals + 3) definition.body body
-  pub is : ks ≡ word (codes "process") ++ Upper definition.name ∷ formals ++ word (codes "is") ++ body
+  pub is : ks ≡ Lower (codes "process") ∷ Upper definition.name ∷ (formals ++ Lower (codes "is") ∷ body)
 
 -- what stands in the braces of a tool
 abbrev pub command_tokens : Option (List ℕ) → List TokenKind
@@ -197,7 +197,7 @@ command_tokens (Some command) = Lower (codes "command") ∷ Sign Equals ∷ Str 
 pub record SpellsToolDef (at : ℕ) (definition : ToolDef) (ks : List TokenKind) : Type 0 where
   pub place : definition.token ≡ at
   pub is_name : is_free definition.name ≡ true
-  pub is : ks ≡ word (codes "tool") ++ word definition.name ++ word (codes "is") ++ Sign LeftBrace ∷ command_tokens definition.command ++ Sign RightBrace ∷ []
+  pub is : ks ≡ Lower (codes "tool") ∷ Lower definition.name ∷ Lower (codes "is") ∷ Sign LeftBrace ∷ (command_tokens definition.command ++ Sign RightBrace ∷ [])
 
 -- { procdef | tooldef }
 pub data SpellsDefinitions : ℕ → List ProcDef → List ToolDef → List TokenKind → Type 0 where
@@ -218,4 +218,4 @@ pub record Spells (script : Script) (ks : List TokenKind) : Type 0 where
   pub are_definitions : SpellsDefinitions 0 script.procs script.tools definitions
   pub roots : List TokenKind
   pub are_roots : SpellsRoots (length definitions + 2) script.roots roots
-  pub is : ks ≡ definitions ++ word (codes "toolbus") ++ in_parens roots
+  pub is : ks ≡ definitions ++ Lower (codes "toolbus") ∷ in_parens roots

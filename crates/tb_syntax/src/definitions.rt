@@ -13,7 +13,7 @@ use tb_lex::{Symbol, TokenKind};
 use tb_terms::{Items, NoMemory, Text};
 
 /// The tokens that are printed for a script: its tools, its processes and its roots.
-pub fn tokens_of(alloc: Global, script: &Script) -> Result<Items<TokenKind>, NoMemory>
+pub(crate) fn tokens_of(alloc: Global, script: &Script) -> Result<Items<TokenKind>, NoMemory>
     ensures { IfOk result (λ tokens. tokens ≡ script_tokens script.now) }
 {
     let mut tokens = Items::new(alloc);

@@ -6,7 +6,7 @@ use tb_lex::{Symbol, TokenKind};
 
 /// What stands in front of a token, as far as the space between the two goes.
 #[derive(Clone, Copy, Debug, PartialEq, Eq)]
-pub enum Before {
+pub(crate) enum Before {
     Nothing,
     /// An opening sign.
     Opening,
@@ -16,7 +16,7 @@ pub enum Before {
 }
 
 /// The space between two tokens.
-pub fn gap(before: Before, kind: &TokenKind) -> &'static [u8]
+pub(crate) fn gap(before: Before, kind: &TokenKind) -> &'static [u8]
     ensures { result.now ≡ gap before kind.now }
 {
     match before {
@@ -62,7 +62,7 @@ fn is_closing(symbol: Symbol) -> bool
 }
 
 /// What a token is to the one behind it.
-pub fn before_next(kind: &TokenKind) -> Before
+pub(crate) fn before_next(kind: &TokenKind) -> Before
     ensures { result ≡ before_next kind.now }
 {
     match kind {

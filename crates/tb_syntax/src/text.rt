@@ -7,7 +7,7 @@ use tb_lex::{Symbol, TokenKind};
 use tb_terms::{NoMemory, Term, write_term};
 
 /// The text of tokens: a definition a line, and a blank between tokens where one is wanted.
-pub fn text_of(alloc: Global, kinds: &[TokenKind]) -> Result<Vec<u8>, NoMemory>
+pub(crate) fn text_of(alloc: Global, kinds: &[TokenKind]) -> Result<Vec<u8>, NoMemory>
     ensures { IfOk result (λ text. text.items ≡ tokens_text kinds.now) }
 {
     let mut text = Vec::new(alloc);
