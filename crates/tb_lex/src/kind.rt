@@ -5,8 +5,11 @@ use tb_terms::{Ident, Name, Text};
 #[derive(Debug, Drop)]
 pub enum TokenKind {
     Int(i64),
+    /// The string that is meant, without its quotes and escapes.
     Str(Text),
+    /// A name that begins with a lower-case letter.
     Lower(Name),
+    /// A name that begins with an upper-case letter.
     Upper(Ident),
     Symbol(Symbol),
 }

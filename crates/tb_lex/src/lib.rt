@@ -3,6 +3,8 @@
 
 mod kind;
 mod symbol;
+mod token;
 
 pub use kind::TokenKind;
 pub use symbol::Symbol;
+pub use token::{Token, Tokens};

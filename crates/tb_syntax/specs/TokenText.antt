@@ -4,30 +4,12 @@ use Rattle.std.specs.Fmt.{signed_decimal}
 use Rattle.tb_terms.specs.Texts.{quoted}
 use Rattle.tb_lex.specs.declared.kind.TokenKind.{TokenKind}
 use Rattle.tb_lex.specs.declared.kind.TokenKind.TheVariants.{Int, Str, Lower, Upper, Symbol as Sign}
+use Rattle.tb_lex.specs.Tokens.{symbol_text}
 use Rattle.tb_lex.specs.declared.symbol.Symbol.{Symbol}
 use Rattle.tb_lex.specs.declared.symbol.Symbol.TheVariants.{LeftParen, RightParen, LeftBracket, RightBracket, LeftBrace, RightBrace, Comma, Point, Colon, Assign, Equals, Question, Plus, Star, Bars, Less, Greater}
 use Rattle.tb_syntax.specs.declared.gap.Before.{Before}
 use Rattle.tb_syntax.specs.declared.gap.Before.TheVariants.{Nothing, Opening, Name, Other}
 use Rattle.tb_syntax.specs.Words.{is_among, reserved_words, definition_words}
-
-abbrev pub symbol_text : Symbol → List ℕ
-symbol_text LeftParen = codes "("
-symbol_text RightParen = codes ")"
-symbol_text LeftBracket = codes "["
-symbol_text RightBracket = codes "]"
-symbol_text LeftBrace = codes "{"
-symbol_text RightBrace = codes "}"
-symbol_text Comma = codes ","
-symbol_text Point = codes "."
-symbol_text Colon = codes ":"
-symbol_text Assign = codes ":="
-symbol_text Equals = codes "="
-symbol_text Question = codes "?"
-symbol_text Plus = codes "+"
-symbol_text Star = codes "*"
-symbol_text Bars = codes "||"
-symbol_text Less = codes "<"
-symbol_text Greater = codes ">"
 
 abbrev pub token_text : TokenKind → List ℕ
 token_text (Int number) = signed_decimal number
