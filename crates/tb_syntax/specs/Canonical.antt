@@ -1,5 +1,5 @@
 -- The tokens that are printed for a script: parentheses round a process only where the grammar needs them, tools before processes.
-use Rattle.std.specs.Prelude.{ℕ, zero, suc, Bool, true, false, nat_lt, List, [], ◌∷◌, ◌++◌, map, flat_map, Option, Some, None, codes, if◌then◌else◌}
+use Rattle.std.specs.Prelude.{ℕ, zero, suc, Bool, true, false, List, [], ◌∷◌, ◌++◌, map, flat_map, Option, Some, None, codes, if◌then◌else◌}
 use Rattle.tb_terms.specs.declared.sort.Sort.{Sort, out-Sort}
 use Rattle.tb_terms.specs.declared.sort.Sort.TheOpen as sort
 use Rattle.tb_terms.specs.declared.sort.Sort.TheFolds.{para-Sort}
@@ -26,6 +26,7 @@ use Rattle.tb_syntax.specs.declared.script.Formal.{Formal}
 use Rattle.tb_syntax.specs.declared.script.ProcDef.{ProcDef}
 use Rattle.tb_syntax.specs.declared.script.Script.{Script}
 use Rattle.tb_syntax.specs.declared.script.ToolDef.{ToolDef}
+use Rattle.tb_syntax.specs.Binding.{is_looser}
 use Rattle.tb_syntax.specs.Spelling.{word, in_parens, mark, command_tokens}
 
 -- a comma between each two
@@ -124,17 +125,6 @@ atom_tokens atom = act_tokens atom.act ++ flat_map time_tokens atom.times
 
 abbrev pub var_tokens : Var → List TokenKind
 var_tokens var = Upper var.name ∷ Sign Colon ∷ sort_tokens var.sort
-
--- from the loosest level to the tightest
-abbrev pub rank : Level → ℕ
-rank level.Proc = 0
-rank level.Alt = 1
-rank level.Seq = 2
-rank level.Star = 3
-rank level.Prim = 4
-
-abbrev pub is_looser : Level → Level → Bool
-is_looser own at = nat_lt (rank own) (rank at)
 
 -- what is bound as its own level says, where it stands at another
 abbrev pub placed : Level → Level → List TokenKind → List TokenKind

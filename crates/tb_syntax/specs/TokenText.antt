@@ -9,7 +9,7 @@ use Rattle.tb_lex.specs.declared.symbol.Symbol.{Symbol}
 use Rattle.tb_lex.specs.declared.symbol.Symbol.TheVariants.{LeftParen, RightParen, LeftBracket, RightBracket, LeftBrace, RightBrace, Comma, Point, Colon, Assign, Equals, Question, Plus, Star, Bars, Less, Greater}
 use Rattle.tb_syntax.specs.declared.gap.Before.{Before}
 use Rattle.tb_syntax.specs.declared.gap.Before.TheVariants.{Nothing, Opening, Name, Other}
-use Rattle.tb_syntax.specs.Words.{is_among, reserved_words, definition_words}
+use Rattle.tb_syntax.specs.Words.{is_among, leading_words, definition_words}
 
 abbrev pub token_text : TokenKind → List ℕ
 token_text (Int number) = signed_decimal number
@@ -29,7 +29,7 @@ symbol_before _ = Other
 abbrev pub before_next : TokenKind → Before
 before_next (Int number) = Other
 before_next (Str text) = Other
-before_next (Lower name) = if is_among reserved_words name then Other else Name
+before_next (Lower name) = if is_among leading_words name then Other else Name
 before_next (Upper name) = Name
 before_next (Sign symbol) = symbol_before symbol
 

@@ -44,3 +44,7 @@ is_sort_word = is_among sort_words
 -- the words that begin a line of a printed script
 abbrev pub definition_words : List (List ℕ)
 definition_words = codes "process" ∷ codes "tool" ∷ codes "toolbus" ∷ []
+
+-- the words that a process may follow
+abbrev pub leading_words : List (List ℕ)
+leading_words = codes "is" ∷ codes "in" ∷ codes "then" ∷ codes "else" ∷ []

@@ -1,7 +1,7 @@
 ghost use Rattle.std.specs.Prelude.{◌≡◌};
 ghost use Rattle.tb_syntax.specs.TokenText.{gap, before_next, symbol_before, space, is_closing, is_joining, space_after_name};
 
-use crate::words::{begins_line, is_reserved};
+use crate::words::{begins_line, is_leading};
 use tb_lex::{Symbol, TokenKind};
 
 /// What stands in front of a token, as far as the space between the two goes.
@@ -10,7 +10,7 @@ pub(crate) enum Before {
     Nothing,
     /// An opening sign.
     Opening,
-    /// A name that isn't reserved.
+    /// A name, or a word that no process follows.
     Name,
     Other,
 }
@@ -68,7 +68,7 @@ pub(crate) fn before_next(kind: &TokenKind) -> Before
     match kind {
         TokenKind::Int(_) => Before::Other,
         TokenKind::Str(_) => Before::Other,
-        TokenKind::Lower(name) if is_reserved(name.as_bytes()) => Before::Other,
+        TokenKind::Lower(name) if is_leading(name.as_bytes()) => Before::Other,
         TokenKind::Lower(_) => Before::Name,
         TokenKind::Upper(_) => Before::Name,
         TokenKind::Symbol(symbol) => symbol_before(*symbol),

@@ -6,6 +6,7 @@ mod atoms;
 mod definitions;
 mod exprs;
 mod gap;
+mod laws;
 mod level;
 mod print;
 mod proc;
@@ -13,12 +14,15 @@ mod procs;
 mod push;
 mod script;
 mod sorts;
+#[cfg(test)]
+mod tests;
 mod text;
 mod words;
 
 pub use ast::{Ast, AstKind, Asts};
+pub use laws::looser_stands_in_parens;
 pub use level::Level;
 pub use print::print_script;
 pub use proc::{ActDef, AtomDef, Call, Calls, Proc, TimeDef, TimeDefs, Var, Vars};
 pub use script::{Formal, Formals, ProcDef, ProcDefs, Script, ToolDef, ToolDefs};
-pub use words::is_reserved;
+pub use words::{is_atom_word, is_reserved, is_sort_word, is_time_word};
