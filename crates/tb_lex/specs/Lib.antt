@@ -1,2 +1,5 @@
+pub mod Answers
+pub mod Faults
 pub mod Gaps
+pub mod Scanning
 pub mod Tokens

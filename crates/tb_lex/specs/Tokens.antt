@@ -76,3 +76,9 @@ abbrev pub AreSlices : List ℕ → ℕ → List Token → Type 0
 AreSlices bytes place [] = place ≤ length bytes
 AreSlices bytes place (token ∷ tokens) =
     (place ≤ token.from) × (token.from < token.to) × SpellsKind token.kind (slice_range bytes token.from token.to) × AreSlices bytes token.to tokens
+
+-- The bytes from this place on are the tokens' texts, each with a blank behind it.
+abbrev pub Spaced : ℕ → List Token → List ℕ → Type 0
+Spaced place [] bytes = bytes ≡ []
+Spaced place (token ∷ tokens) bytes =
+    (text : List ℕ) × (rest : List ℕ) × (bytes ≡ text ++ 32 ∷ rest) × SpellsKind token.kind text × (token.from ≡ place) × (token.to ≡ place + length text) × Spaced (token.to + 1) tokens rest

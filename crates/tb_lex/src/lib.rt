@@ -1,10 +1,25 @@
-//! The tokens of a script's text.
+//! The tokens of a script: a text is cut into them from the left, and each other text has the first fault.
 #![tactic(auto)]
 
+mod fault;
+mod gap;
+mod head;
 mod kind;
+mod laws;
+mod lexer;
+mod numeral;
+mod piece;
+mod quote;
 mod symbol;
+#[cfg(test)]
+mod tests;
 mod token;
 
+pub use fault::LexFault;
 pub use kind::TokenKind;
+pub use laws::{
+    each_text_has_one, faults_are_unique, lexing_is_unique, spaced_tokens_lex, tokens_are_slices,
+};
+pub use lexer::lex;
 pub use symbol::Symbol;
 pub use token::{Token, Tokens};

@@ -131,15 +131,15 @@ goes_on_with Q next bytes n p =
 abbrev Pair : Type 0
 Pair = List ℕ × List ℕ
 
-abbrev strung : List ℕ → List ℕ → Result Pair TermFault
+abbrev pub strung : List ℕ → List ℕ → Result Pair TermFault
 strung bytes rest = Ok (bytes, rest)
 
-abbrev Ready : Within → Type 0
+abbrev pub Ready : Within → Type 0
 Ready Between = Unit {0}
 Ready Escaped = Unit {0}
 Ready (Going more low high) = low ≤ high
 
-abbrev ReadyTurn : Turn → Type 0
+abbrev pub ReadyTurn : Turn → Type 0
 ReadyTurn Ends = Unit {0}
 ReadyTurn (Goes next) = Ready next
 ReadyTurn (Puts put next) = Ready next
@@ -172,12 +172,12 @@ going_by more b true true = tt
 going_by more b true false = lit≤ tt
 going_by more b false r = tt
 
-turn_ready : (w : Within) (b : ℕ) → ReadyTurn (string_turn w b)
+pub turn_ready : (w : Within) (b : ℕ) → ReadyTurn (string_turn w b)
 turn_ready Between b = between_by b (eqb b 34) (eqb b 92) (ltb b 32 && not (eqb b 9))
 turn_ready Escaped b = escaped_by (unescaped b)
 turn_ready (Going more low high) b = going_by more b (leb low b && leb b high) (ltb more 2)
 
-abbrev Closed : Within → Type 0
+abbrev pub Closed : Within → Type 0
 Closed w = (tail : List ℕ) × (put : List ℕ) × ((other : ℕ) → string_rest other w tail ≡ strung put [])
 
 going_put : (more low high : ℕ) → low ≤ high → (v : Within) → cond (ltb more 2) Between (Going (more - 1) 128 191) ≡ v → Closed v → Closed (Going more low high)
@@ -195,7 +195,7 @@ close_going (suc n) more low high m r = by (ltb more 2) refl (close_going n (mor
   by true ev c = going_put more low high r Between (rw ev refl) close_between
   by false ev c = going_put more low high r (Going (more - 1) 128 191) (rw ev refl) c
 
-close : (w : Within) → Ready w → Closed w
+pub close : (w : Within) → Ready w → Closed w
 close Between r = close_between
 close Escaped r = (34 ∷ 34 ∷ [], 34 ∷ [], λ other. refl)
 close (Going more low high) r = close_going more more low high (omega arith) r

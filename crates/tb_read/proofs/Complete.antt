@@ -48,7 +48,7 @@ point_apart : (b : ℕ) → is_apart b ≡ true → eqb b 46 ≡ false
 point_apart b h = grind (arith, nat_tests)
 
 -- the front that passes ends where what follows doesn't pass
-prefix_all : (p : ℕ → Bool) (xs rest : List ℕ) → list_all p xs ≡ true → prefix_len p rest ≡ 0 → prefix_len p (xs ++ rest) ≡ length xs
+pub prefix_all : (p : ℕ → Bool) (xs rest : List ℕ) → list_all p xs ≡ true → prefix_len p rest ≡ 0 → prefix_len p (xs ++ rest) ≡ length xs
 prefix_all p [] rest h e = e
 prefix_all p (x ∷ xs) rest h e =
     let q = and_parts (p x) (list_all p xs) h in

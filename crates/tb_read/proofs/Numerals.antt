@@ -60,19 +60,19 @@ place_in (fault.Real place) = place
 place_in (fault.IntRange place) = place
 place_in _ = 0
 
-point : (rest : List ℕ) → is_real rest ≡ true → HasPoint rest
+pub point : (rest : List ℕ) → is_real rest ≡ true → HasPoint rest
 point [] e = absurd (false≢true e)
 point (b ∷ []) e = absurd (false≢true e)
 point (b ∷ c ∷ rest) e =
     let p = and_parts (eqb b 46) (is_digit c) e in
     (c, rest, ap (λ n. n ∷ c ∷ rest) (eqb-true b 46 p.0), p.1)
 
-no_point : (rest : List ℕ) → is_real rest ≡ false → HasPoint rest → ⊥
+pub no_point : (rest : List ℕ) → is_real rest ≡ false → HasPoint rest → ⊥
 no_point rest e p =
     let yes : is_real rest ≡ true = ap is_real p.2 ∙ p.3 in
     false≢true (sym e ∙ yes)
 
-sign_no_digit : (digits other : List ℕ) → 45 ∷ digits ≡ other → is_digits other ≡ true → ⊥
+pub sign_no_digit : (digits other : List ℕ) → 45 ∷ digits ≡ other → is_digits other ≡ true → ⊥
 sign_no_digit digits [] e d = cc
 sign_no_digit digits (x ∷ other) e d =
     let same : x ≡ 45 = cc in
@@ -87,7 +87,7 @@ none_held : (b : Bool) (z : ℤ) → b ≡ true → ◌≡◌ {A = Option ℤ} (
 none_held true z h e = cc
 none_held false z h e = false≢true h
 
-too_far : (negative : Bool) (digits : List ℕ) → is_digits digits ≡ true → number_of negative (digits_value digits) ≡ None → (z : ℤ) → SpellsNumber z (signed negative digits) → ⊥
+pub too_far : (negative : Bool) (digits : List ℕ) → is_digits digits ≡ true → number_of negative (digits_value digits) ≡ None → (z : ℤ) → SpellsNumber z (signed negative digits) → ⊥
 too_far true digits d o z s = by s.signed where
   by : ((45 ∷ digits ≡ s.digits) × (z ≡ pos (digits_value s.digits)) × (digits_value s.digits < 2 ^ 63)) ⊎ ((45 ∷ digits ≡ 45 ∷ s.digits) × (z ≡ neg_ℤ (pos (digits_value s.digits))) × (digits_value s.digits ≤ 2 ^ 63)) → ⊥
   by (inl p) = sign_no_digit digits s.digits p.0 s.are_digits

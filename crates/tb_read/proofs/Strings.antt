@@ -28,13 +28,13 @@ Spelled Escaped bytes inner = SpellsEscaped bytes inner
 Spelled (Going more low high) bytes inner = SpellsBytes bytes inner
 
 -- a state in which a byte stands for itself
-abbrev IsInside : Within → Type 0
+abbrev pub IsInside : Within → Type 0
 IsInside Between = Unit {0}
 IsInside Escaped = ⊥
 IsInside (Going more low high) = Unit {0}
 
 -- what a byte does that is met within the bytes of a string
-abbrev Facts : ℕ → Turn → Type 0
+abbrev pub Facts : ℕ → Turn → Type 0
 Facts b Ends = b ≡ 34
 Facts b (Goes next) = (b ≡ 92) × (next ≡ Escaped)
 Facts b (Puts c next) = (c ≡ b) × (is_plain b ≡ true) × Steady next × IsInside next
@@ -64,7 +64,7 @@ between_by b false true r ep eq er = (eqb-true b 92 eq, refl)
 between_by b false false true ep eq er = tt
 between_by b false false false ep eq er = lead_facts b (plain_by b ep eq er)
 
-between_facts : (b : ℕ) → Facts b (between_turn b)
+pub between_facts : (b : ℕ) → Facts b (between_turn b)
 between_facts b = between_by b (eqb b 34) (eqb b 92) (ltb b 32 && not (eqb b 9)) refl refl refl
 
 plain_above : (low b : ℕ) → 128 ≤ low → leb low b ≡ true → is_plain b ≡ true
@@ -76,7 +76,7 @@ going_by more low high b h true true false e = (refl, plain_above low b h e, lit
 going_by more low high b h true false r e = tt
 going_by more low high b h false q r e = tt
 
-going_facts : (more low high b : ℕ) → 128 ≤ low → Facts b (going_turn more low high b)
+pub going_facts : (more low high b : ℕ) → 128 ≤ low → Facts b (going_turn more low high b)
 going_facts more low high b h = going_by more low high b h (leb low b) (leb b high) (ltb more 2) refl
 
 -- a letter stands for the byte that is written with it

@@ -25,7 +25,8 @@ pub(crate) fn skip_blanks(bytes: &[u8]) -> &[u8]
     &bytes[bytes.len()..]
 }
 
-fn is_blank(byte: u8) -> bool
+/// Whether the byte is a tab, a newline, a carriage return or a space.
+pub fn is_blank(byte: u8) -> bool
     ensures { result ≡ is_blank byte }
 {
     matches!(byte, b'\t' | b'\n' | b'\r' | b' ')
@@ -80,7 +81,8 @@ fn name_len(bytes: &[u8]) -> usize
     bytes.len()
 }
 
-fn is_name_byte(byte: u8) -> bool
+/// Whether the byte may follow the first letter of a name.
+pub fn is_name_byte(byte: u8) -> bool
     ensures { result ≡ is_name_byte byte }
 {
     matches!(byte, b'a'..=b'z' | b'A'..=b'Z' | b'0'..=b'9' | b'-' | b'_')

@@ -22,4 +22,7 @@ pub use laws::{
     faults_are_unique, numeral_faults, reading_is_unique, syntax_begins, syntax_stops,
     written_text_reads,
 };
+pub use lex::{is_blank, is_name_byte};
+pub use number::{digits_len, digits_value, is_real, number_of};
+pub use quoted::{Turn, Within, string_turn};
 pub use read::read_term;

@@ -61,7 +61,8 @@ fn is_negative(bytes: &[u8]) -> bool
     }
 }
 
-fn is_real(rest: &[u8]) -> bool
+/// Whether a point and a digit come first: a number before them is a real.
+pub fn is_real(rest: &[u8]) -> bool
     ensures { result ≡ is_real rest.now }
 {
     match rest {
@@ -70,7 +71,8 @@ fn is_real(rest: &[u8]) -> bool
     }
 }
 
-fn digits_len(bytes: &[u8]) -> usize
+/// How many digits come first.
+pub fn digits_len(bytes: &[u8]) -> usize
     ensures value { result ≡ prefix_len is_digit bytes.now }
     ensures within { result ≤ length bytes.now }
 {
@@ -83,7 +85,7 @@ fn digits_len(bytes: &[u8]) -> usize
 }
 
 /// What the digits are worth. The greatest `u64` stands for all greater numbers.
-fn digits_value(digits: &[u8]) -> u64
+pub fn digits_value(digits: &[u8]) -> u64
     ensures { result ≡ min (digits_value digits.now) (2 ^ 64 - 1) }
 {
     let mut value = 0u64;
@@ -95,7 +97,8 @@ fn digits_value(digits: &[u8]) -> u64
     value
 }
 
-fn number_of(negative: bool, value: u64) -> Option<i64>
+/// The number with this sign and this value, where 64 bits hold it.
+pub fn number_of(negative: bool, value: u64) -> Option<i64>
     ensures { result ≡ number_of negative value }
 {
     if negative {

@@ -10,7 +10,8 @@ use tb_terms::Text;
 
 /// Where a reader stands within a string.
 #[derive(Clone, Copy, Debug, PartialEq, Eq)]
-pub(crate) enum Within {
+pub enum Within {
+    /// Behind a whole character.
     Between,
     /// Behind a backslash.
     Escaped,
@@ -20,12 +21,14 @@ pub(crate) enum Within {
 
 /// What the next byte of a string does.
 #[derive(Clone, Copy, Debug, PartialEq, Eq)]
-pub(crate) enum Turn {
+pub enum Turn {
     /// It is the closing quote.
     Ends,
+    /// It puts nothing yet.
     Goes(Within),
     /// It puts a byte to the string.
     Puts(u8, Within),
+    /// It can't go on.
     Bad,
 }
 
@@ -70,7 +73,8 @@ fn string_rest(alloc: Global, total: usize, bytes: &[u8]) -> Result<(Vec<u8>, &[
     Err(TermFault::Syntax(total))
 }
 
-fn string_turn(within: Within, byte: u8) -> Turn
+/// What this byte does to a reader that stands there.
+pub fn string_turn(within: Within, byte: u8) -> Turn
     ensures { result ≡ string_turn within byte }
 {
     match within {

@@ -1,0 +1,16 @@
+pub mod Apart
+pub mod Faulted
+pub mod Fronts
+pub mod Gaps
+pub mod Heads
+pub mod Names
+pub mod Nexts
+pub mod Numbers
+pub mod Outcomes
+pub mod Pieces
+pub mod Quotes
+pub mod Runs
+pub mod Slices
+pub mod Strings
+pub mod Symbols
+pub mod Walks

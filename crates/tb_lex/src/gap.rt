@@ -1,0 +1,35 @@
+ghost use Rattle.std.specs.Prelude.{◌≡◌, ◌≤◌, length, false};
+ghost use Rattle.tb_lex.specs.Scanning.{gap_step, skip_gap};
+
+use crate::symbol::begins_with;
+use tb_read::is_blank;
+
+/// What stands behind the blanks and comments in front.
+pub(crate) fn skip_gap(bytes: &[u8]) -> &[u8]
+    ensures rest { result.now ≡ skip_gap false bytes.now }
+    ensures shorter { length result.now ≤ length bytes.now }
+{
+    let mut in_comment = false;
+    for (place, byte) in bytes.iter().enumerate() {
+        match gap_step(in_comment, *byte, &bytes[place + 1..]) {
+            None => return &bytes[place..],
+            Some(next) => in_comment = next,
+        }
+    }
+    &bytes[bytes.len()..]
+}
+
+/// Whether a byte belongs to blanks and comments, and if so, whether a comment goes on behind it.
+fn gap_step(in_comment: bool, byte: u8, behind: &[u8]) -> Option<bool>
+    ensures { result ≡ gap_step in_comment byte behind.now }
+{
+    if in_comment {
+        Some(byte != b'\n')
+    } else if byte == b'%' && begins_with(b'%', behind) {
+        Some(true)
+    } else if is_blank(byte) {
+        Some(false)
+    } else {
+        None
+    }
+}

@@ -1,0 +1,56 @@
+ghost use Rattle.std.specs.Prelude.{◌≡◌, ◌≤◌, ◌<◌, ◌-◌, length, drop, IfOk, IsTrue, if◌then◌else◌};
+ghost use Rattle.tb_read.specs.Lexing.{is_negative};
+ghost use Rattle.tb_lex.specs.Scanning.{number_from, number_at};
+ghost use Rattle.tb_lex.specs.Answers.{Gives};
+
+use crate::{LexFault, TokenKind};
+use tb_read::{digits_len, digits_value, is_real, number_of};
+
+/// The number with whose sign or first digit the bytes begin, and the bytes behind it.
+pub(crate) fn number_at(total: usize, bytes: &[u8]) -> Result<(TokenKind, &[u8]), LexFault>
+    requires { length bytes.now ≤ total }
+    ensures number { Gives (λ x. (x.0, x.1.now)) result (number_at total bytes.now) }
+    ensures shorter { IfOk result (λ x. length x.1.now < length bytes.now) }
+{
+    let negative = is_negative(bytes);
+    let unsigned = without_sign(negative, bytes);
+    let (digits, rest) = unsigned.split_at(digits_len(unsigned));
+    number_from(total - bytes.len(), negative, digits, rest)
+}
+
+fn is_negative(bytes: &[u8]) -> bool
+    ensures { result ≡ is_negative bytes.now }
+{
+    match bytes.split_first() {
+        Some((first, _rest)) => *first == b'-',
+        None => false,
+    }
+}
+
+fn without_sign(negative: bool, bytes: &[u8]) -> &[u8]
+    requires { IsTrue negative → 0 < length bytes.now }
+    ensures { result.now ≡ drop (if negative then 1 else 0) bytes.now }
+{
+    if negative { &bytes[1..] } else { bytes }
+}
+
+fn number_from<'a>(
+    from: usize,
+    negative: bool,
+    digits: &[u8],
+    rest: &'a [u8],
+) -> Result<(TokenKind, &'a [u8]), LexFault>
+    ensures number { Gives (λ x. (x.0, x.1.now)) result (number_from from negative digits.now rest.now) }
+    ensures some { IfOk result (λ x. (x.1.now ≡ rest.now) × (0 < length digits.now)) }
+{
+    if digits.is_empty() {
+        return Err(LexFault::BadByte(from));
+    }
+    if is_real(rest) {
+        return Err(LexFault::Real(from));
+    }
+    match number_of(negative, digits_value(digits)) {
+        Some(number) => Ok((TokenKind::Int(number), rest)),
+        None => Err(LexFault::IntRange(from)),
+    }
+}

@@ -1,0 +1,84 @@
+ghost use Rattle.std.specs.Prelude.{◌≡◌, ◌≤◌, ◌<◌, length, drop, IsTrue, IfOk};
+ghost use Rattle.std.specs.List.{prefix_len};
+ghost use Rattle.tb_terms.specs.Names.{is_name_byte};
+ghost use Rattle.tb_lex.specs.Scanning.{has_head, lower_at, upper_at, symbol_at, piece_at};
+ghost use Rattle.tb_lex.specs.Answers.{Gives};
+
+use crate::head::Head;
+use crate::numeral::number_at;
+use crate::quote::string_at;
+use crate::symbol::{symbol_len, symbol_of};
+use crate::{LexFault, TokenKind};
+use std::alloc::Global;
+use tb_read::is_name_byte;
+use tb_terms::{Ident, Name};
+
+/// What the token is with which the bytes begin, and the bytes behind it. The first byte tells the head.
+pub(crate) fn piece_at(
+    alloc: Global,
+    head: Head,
+    total: usize,
+    bytes: &[u8],
+) -> Result<(TokenKind, &[u8]), LexFault>
+    requires head { IsTrue (has_head head bytes.now) }
+    requires within { length bytes.now ≤ total }
+    ensures piece { Gives (λ x. (x.0, x.1.now)) result (piece_at head total bytes.now) }
+    ensures shorter { IfOk result (λ x. length x.1.now < length bytes.now) }
+{
+    match head {
+        Head::Lower => lower_at(alloc, bytes),
+        Head::Upper => upper_at(alloc, bytes),
+        Head::Quote => string_at(alloc, total, bytes),
+        Head::Numeral => number_at(total, bytes),
+        Head::Other => symbol_at(total, bytes),
+    }
+}
+
+/// The lower name with whose first letter the bytes begin, and the bytes behind it.
+fn lower_at(alloc: Global, bytes: &[u8]) -> Result<(TokenKind, &[u8]), LexFault>
+    requires { IsTrue (has_head Head.Lower bytes.now) }
+    ensures name { Gives (λ x. (x.0, x.1.now)) result (lower_at bytes.now) }
+    ensures shorter { IfOk result (λ x. length x.1.now < length bytes.now) }
+{
+    let (name, rest) = bytes.split_at(name_len(bytes));
+    Ok((TokenKind::Lower(Name::new(alloc, name)?), rest))
+}
+
+/// The upper name with whose first letter the bytes begin, and the bytes behind it.
+fn upper_at(alloc: Global, bytes: &[u8]) -> Result<(TokenKind, &[u8]), LexFault>
+    requires { IsTrue (has_head Head.Upper bytes.now) }
+    ensures name { Gives (λ x. (x.0, x.1.now)) result (upper_at bytes.now) }
+    ensures shorter { IfOk result (λ x. length x.1.now < length bytes.now) }
+{
+    let (name, rest) = bytes.split_at(name_len(bytes));
+    Ok((TokenKind::Upper(Ident::new(alloc, name)?), rest))
+}
+
+/// How many bytes come first that may stand in a name.
+fn name_len(bytes: &[u8]) -> usize
+    ensures value { result ≡ prefix_len is_name_byte bytes.now }
+    ensures within { result ≤ length bytes.now }
+{
+    for (place, byte) in bytes.iter().enumerate() {
+        if !is_name_byte(*byte) {
+            return place;
+        }
+    }
+    bytes.len()
+}
+
+/// The symbol with which the bytes begin, and the bytes behind it.
+fn symbol_at(total: usize, bytes: &[u8]) -> Result<(TokenKind, &[u8]), LexFault>
+    requires { length bytes.now ≤ total }
+    ensures symbol { Gives (λ x. (x.0, x.1.now)) result (symbol_at total bytes.now) }
+    ensures shorter { IfOk result (λ x. length x.1.now < length bytes.now) }
+{
+    let from = total - bytes.len();
+    let Some((first, behind)) = bytes.split_first() else {
+        return Err(LexFault::BadByte(from));
+    };
+    match symbol_of(*first, behind) {
+        Some(symbol) => Ok((TokenKind::Symbol(symbol), &bytes[symbol_len(symbol)..])),
+        None => Err(LexFault::BadByte(from)),
+    }
+}

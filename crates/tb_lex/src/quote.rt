@@ -1,0 +1,68 @@
+ghost use Rattle.std.specs.Prelude.{◌≡◌, ◌≤◌, ◌<◌, ◌+◌, ◌-◌, length, IfOk};
+ghost use Rattle.tb_read.specs.declared.quoted.Within.TheVariants as within;
+ghost use Rattle.tb_lex.specs.Scanning.{string_fault, string_rest, string_at};
+ghost use Rattle.tb_lex.specs.Answers.{Gives};
+
+use crate::{LexFault, TokenKind};
+use std::alloc::Global;
+use tb_read::{Turn, Within, string_turn};
+use tb_terms::Text;
+
+/// The string with whose quote the bytes begin, and the bytes behind it.
+pub(crate) fn string_at(
+    alloc: Global,
+    total: usize,
+    bytes: &[u8],
+) -> Result<(TokenKind, &[u8]), LexFault>
+    requires { length bytes.now ≤ total }
+    ensures string { Gives (λ x. (x.0, x.1.now)) result (string_at total bytes.now) }
+    ensures shorter { IfOk result (λ x. length x.1.now < length bytes.now) }
+{
+    let Some((_quote, inner)) = bytes.split_first() else {
+        return Err(LexFault::BadByte(total));
+    };
+    let (put, rest) = string_rest(alloc, total, inner)?;
+    match Text::from_vec(put) {
+        Some(text) => Ok((TokenKind::Str(text), rest)),
+        None => unreachable!(),
+    }
+}
+
+/// What the string puts whose quote stands directly before these bytes, and the bytes behind it.
+fn string_rest(alloc: Global, total: usize, bytes: &[u8]) -> Result<(Vec<u8>, &[u8]), LexFault>
+    requires { length bytes.now < total }
+    ensures string { Gives (λ x. (x.0.items, x.1.now)) result (string_rest (total - (length bytes.now + 1)) total within.Between bytes.now) }
+    ensures shorter { IfOk result (λ x. length x.1.now ≤ length bytes.now) }
+{
+    let quote = total - (bytes.len() + 1);
+    let mut put = Vec::new(alloc);
+    let mut within = Within::Between;
+    for (place, byte) in bytes.iter().enumerate() {
+        match string_turn(within, *byte) {
+            Turn::Ends => return Ok((put, &bytes[place + 1..])),
+            Turn::Goes(next) => within = next,
+            Turn::Puts(one, next) => {
+                put.push(one)?;
+                within = next;
+            }
+            Turn::Bad => {
+                return Err(string_fault(quote, total - (bytes.len() - place), within, *byte));
+            }
+        }
+    }
+    Err(LexFault::OpenString(quote))
+}
+
+/// The fault of a string that can't go on with this byte, which stands at this place.
+fn string_fault(quote: usize, place: usize, within: Within, byte: u8) -> LexFault
+    requires { 0 < place }
+    ensures { result ≡ string_fault quote place within byte }
+{
+    if byte == b'\n' {
+        return LexFault::OpenString(quote);
+    }
+    match within {
+        Within::Escaped => LexFault::BadByte(place - 1),
+        _ => LexFault::BadByte(place),
+    }
+}
