@@ -1,6 +1,7 @@
 pub mod BareKinds
 pub mod BareProcs
 pub mod KindTokens
+pub mod Lexed
 pub mod Looser
 pub mod Parted
 pub mod PrintedAtoms

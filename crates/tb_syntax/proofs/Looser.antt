@@ -1,5 +1,5 @@
 -- What binds looser than where it stands begins with a parenthesis.
-use Rattle.std.proofs.Common.{◌≡◌, ℕ, Bool, true, false, List, ◌∷◌, ap, ◌∙◌, sym, refl}
+use Rattle.std.proofs.Common.{◌≡◌, ℕ, Bool, true, false, List, ◌∷◌, Some, None, ap, ◌∙◌, sym, refl}
 use Rattle.tb_lex.specs.declared.kind.TokenKind.{TokenKind}
 use Rattle.tb_lex.specs.declared.kind.TokenKind.TheVariants.{Symbol as Sign}
 use Rattle.tb_lex.specs.declared.symbol.Symbol.TheVariants.{LeftParen}
@@ -60,8 +60,8 @@ looser_begins (SpellsProc.turns {x = x} {y = y} d f) e = not_looser level.Star l
 looser_begins (SpellsProc.atom {a = a} d) e = not_looser level.Prim level.Prim refl _ (ap level_of (outs-Atom a)) e _
 looser_begins (SpellsProc.call {c = c} d) e = not_looser level.Prim level.Prim refl _ (ap level_of (outs-Call c)) e _
 looser_begins (SpellsProc.block {vars = vars} {x = x} d f) e = not_looser level.Prim level.Prim refl _ (ap level_of (outs-Let vars x)) e _
-looser_begins (SpellsProc.test {e = t} {x = x} d f) e = not_looser level.Prim level.Prim refl _ (ap level_of (outs-If t x _)) e _
-looser_begins (SpellsProc.test_else {e = t} {x = x} {y = y} d f g) e = not_looser level.Prim level.Prim refl _ (ap level_of (outs-If t x _)) e _
+looser_begins (SpellsProc.test {e = t} {x = x} d f) e = not_looser level.Prim level.Prim refl _ (ap level_of (outs-If t x None)) e _
+looser_begins (SpellsProc.test_else {e = t} {x = x} {y = y} d f g) e = not_looser level.Prim level.Prim refl _ (ap level_of (outs-If t x (Some y))) e _
 
 pub all_looser_begin : (at : Level) (place : ℕ) (p : Proc) (kinds : List TokenKind) → SpellsProc at place p kinds → is_looser (own_level p) at ≡ true → Begins kinds
 all_looser_begin at place p kinds d e = looser_begins d e

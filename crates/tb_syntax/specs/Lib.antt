@@ -3,6 +3,7 @@ pub mod Canonical
 pub mod Limits
 pub mod Places
 pub mod Printing
+pub mod ProperKinds
 pub mod Spelling
 pub mod TokenText
 pub mod Words

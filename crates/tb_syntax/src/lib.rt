@@ -11,6 +11,7 @@ mod level;
 mod print;
 mod proc;
 mod procs;
+mod proper;
 mod push;
 mod script;
 mod sorts;
