@@ -1,9 +1,10 @@
 -- Which lists of tokens spell a script: the grammar, one case a line. A construct stands at a place, that of its first token, counted from 0 in the script's tokens.
-use Rattle.std.specs.Prelude.{◌≡◌, ℕ, ◌+◌, ℤ, Bool, true, false, List, [], ◌∷◌, ◌++◌, length, Option, Some, None, codes}
+use Rattle.std.specs.Prelude.{◌≡◌, ℕ, ◌+◌, ℤ, Bool, true, false, List, [], ◌∷◌, ◌++◌, length, map, Option, Some, None, codes}
 use Rattle.tb_terms.specs.declared.sort.Sort.{Sort}
 use Rattle.tb_terms.specs.declared.sort.Sort.TheVariants as sort
 use Rattle.tb_lex.specs.declared.kind.TokenKind.{TokenKind}
 use Rattle.tb_lex.specs.declared.kind.TokenKind.TheVariants.{Int, Str, Lower, Upper, Symbol as Sign}
+use Rattle.tb_lex.specs.declared.token.Token.{Token}
 use Rattle.tb_lex.specs.declared.symbol.Symbol.TheVariants.{LeftParen, RightParen, LeftBracket, RightBracket, LeftBrace, RightBrace, Comma, Point, Colon, Assign, Equals, Question, Plus, Star, Bars, Less, Greater}
 use Rattle.tb_syntax.specs.declared.ast.Ast.{Ast}
 use Rattle.tb_syntax.specs.declared.ast.AstKind.{AstKind}
@@ -219,3 +220,7 @@ pub record Spells (script : Script) (ks : List TokenKind) : Type 0 where
   pub roots : List TokenKind
   pub are_roots : SpellsRoots (length definitions + 2) script.roots roots
   pub is : ks ≡ definitions ++ Lower (codes "toolbus") ∷ in_parens roots
+
+-- what the tokens are, without their places in the text
+abbrev pub kinds_of : List Token → List TokenKind
+kinds_of tokens = map (λ (token : Token). token.kind) tokens

@@ -3,6 +3,7 @@ ghost use Rattle.tb_syntax.specs.Printing.{IsSpelt, IsPrintOf};
 
 use crate::Script;
 use crate::definitions::tokens_of;
+use crate::proper::show_proper;
 use crate::text::text_of;
 use std::alloc::Global;
 use tb_terms::NoMemory;
@@ -15,6 +16,7 @@ pub fn print_script(alloc: Global, script: &Script) -> Result<Vec<u8>, NoMemory>
     ensures { IfOk result (λ text. IsPrintOf script.now text.items) }
 {
     let tokens = tokens_of(alloc, script)?;
+    show_proper(tokens.as_slice());
     let text = text_of(alloc, tokens.as_slice())?;
     Ok(text)
 }
