@@ -1,5 +1,6 @@
 pub mod BareKinds
 pub mod BareProcs
+pub mod Examples
 pub mod KindTokens
 pub mod Lexed
 pub mod Looser
