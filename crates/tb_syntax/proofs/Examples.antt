@@ -1,5 +1,5 @@
 -- Scripts that are spelt, worked out by hand from the grammar.
-use Rattle.std.proofs.Common.{◌≡◌, ℕ, ◌+◌, List, [], ◌∷◌, ◌++◌, length, true, refl, subst, sym, codes}
+use Rattle.std.proofs.Common.{◌≡◌, ℕ, ◌+◌, List, [], ◌∷◌, ◌++◌, true, refl, subst, sym, codes}
 use Rattle.tb_lex.specs.declared.kind.TokenKind.{TokenKind}
 use Rattle.tb_lex.specs.declared.kind.TokenKind.TheVariants.{Lower, Upper, Symbol as Sign}
 use Rattle.tb_lex.specs.declared.symbol.Symbol.TheVariants.{LeftParen, RightParen, Point, Plus}
@@ -10,10 +10,9 @@ use Rattle.tb_syntax.specs.declared.proc.Call.{Call}
 use Rattle.tb_syntax.specs.declared.proc.Proc.{Proc}
 use Rattle.tb_syntax.specs.declared.proc.Proc.TheVariants as tree
 use Rattle.tb_syntax.specs.declared.script.ProcDef.{ProcDef}
-use Rattle.tb_syntax.specs.declared.script.Script.{Script}
 use Rattle.tb_syntax.specs.declared.script.ToolDef.{ToolDef}
 use Rattle.tb_syntax.specs.Printing.{IsSpelt}
-use Rattle.tb_syntax.specs.Spelling.{Spells, SpellsDefinitions, SpellsProcDef, SpellsRoots, SpellsProc, SpellsAtom, SpellsAct, SpellsArguments, InRow, InParens}
+use Rattle.tb_syntax.specs.Spelling.{Spells, SpellsDefinitions, SpellsProcDef, SpellsRoots, SpellsProc, SpellsAct, SpellsArguments, InRow, InParens}
 use Rattle.tb_syntax.specs.Words.{is_atom_word}
 
 -- toolbus ( )

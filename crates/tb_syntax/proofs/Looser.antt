@@ -1,5 +1,5 @@
 -- What binds looser than where it stands begins with a parenthesis.
-use Rattle.std.proofs.Common.{◌≡◌, ℕ, Bool, true, false, List, ◌∷◌, Some, None, ap, ◌∙◌, sym, refl}
+use Rattle.std.proofs.Common.{◌≡◌, ℕ, true, false, List, ◌∷◌, Some, None, ap, ◌∙◌, sym, refl}
 use Rattle.tb_lex.specs.declared.kind.TokenKind.{TokenKind}
 use Rattle.tb_lex.specs.declared.kind.TokenKind.TheVariants.{Symbol as Sign}
 use Rattle.tb_lex.specs.declared.symbol.Symbol.TheVariants.{LeftParen}

@@ -1,7 +1,6 @@
-use Rattle.std.proofs.Common.{◌≡◌, List, true, ap, ◌∙◌, sym, subst}
+use Rattle.std.proofs.Common.{◌≡◌, true, ap, ◌∙◌, sym, subst}
 use Rattle.std.specs.List.{list_all}
 use Rattle.tb_lex.specs.Tokens.{Lexes}
-use Rattle.tb_lex.specs.declared.kind.TokenKind.{TokenKind}
 use Rattle.tb_syntax.specs.TokenText.{tokens_text}
 use Rattle.tb_syntax.specs.Canonical.{script_tokens}
 use Rattle.tb_syntax.specs.ProperKinds.{is_proper_kind}
