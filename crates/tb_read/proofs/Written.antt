@@ -51,7 +51,7 @@ more_digits n ds h d =
 decimal_spelled : (n : ℕ) → n < 2 ^ 64 → Decimal n (decimal n)
 decimal_spelled n h = decimal_by_steps Decimal one_digit more_digits n h
 
-number_spelled : (z : ℤ) → has_64_bits z ≡ true → SpellsNumber z (signed_decimal z)
+pub number_spelled : (z : ℤ) → has_64_bits z ≡ true → SpellsNumber z (signed_decimal z)
 number_spelled (pos n) h =
     let below : n < 2 ^ 63 = ltb-true n (2 ^ 63) h in
     let d = decimal_spelled n (omega arith) in
@@ -84,7 +84,7 @@ bytes_spelled (b ∷ bytes) h =
     let p = and_parts (is_text_byte b) (is_text bytes) h in
     (escaped b, flat_map escaped bytes, refl, byte_by b p.0 (escape_letter b) refl, bytes_spelled bytes p.1)
 
-string_spelled : (bytes : List ℕ) → is_string bytes ≡ true → SpellsString bytes (quoted bytes)
+pub string_spelled : (bytes : List ℕ) → is_string bytes ≡ true → SpellsString bytes (quoted bytes)
 string_spelled bytes h =
     record { is = h; inner = flat_map escaped bytes; quoted = refl; spelled = bytes_spelled bytes (and_parts (is_utf8 bytes) (is_text bytes) h).1 }
 

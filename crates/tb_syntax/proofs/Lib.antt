@@ -1,0 +1,14 @@
+pub mod BareKinds
+pub mod BareProcs
+pub mod Examples
+pub mod KindTokens
+pub mod Lexed
+pub mod Looser
+pub mod Parted
+pub mod PrintedAtoms
+pub mod PrintedExprs
+pub mod PrintedLists
+pub mod PrintedProcs
+pub mod PrintedScripts
+pub mod ProcTokens
+pub mod SortTokens

@@ -1,0 +1,6 @@
+use Rattle.std.proofs.Common.{◌≡◌, ◌++◌, map, take}
+use Rattle.tb_syntax.specs.Canonical.{formal_tokens, parted}
+use Rattle.tb_syntax.proofs.definitions.push_parted_formals.Given as goal
+
+abbrev pub invariant-loop-place : goal.invariant-loop-place
+invariant-loop-place l = l.into ≡ l.initial.into ++ parted (map formal_tokens (take l.place l.formals))

@@ -1,0 +1,7 @@
+use Rattle.std.proofs.Common.{◌≡◌, ◌++◌, map, take}
+use Rattle.tb_syntax.specs.Canonical.{expr_tokens, parted}
+use Rattle.tb_syntax.proofs.exprs.+exprs.Given as goal
+
+abbrev pub invariant-push_parted-loop-place : goal.invariant-push_parted-loop-place
+invariant-push_parted-loop-place l =
+    l.into ≡ l.initial.into ++ parted (map expr_tokens (take l.place l.parts))

@@ -1,0 +1,72 @@
+-- How high a process body is, and how many brackets are open in front of a place in a list of tokens.
+use Rattle.std.specs.Prelude.{ℕ, ◌+◌, ◌-◌, ◌<◌, ◌≤◌, Bool, true, false, nat_lt, List, [], ◌∷◌, length, take, fold, max, find, option_map, Option, Some, None, codes, if◌then◌else◌}
+use Rattle.tb_lex.specs.declared.kind.TokenKind.{TokenKind}
+use Rattle.tb_lex.specs.declared.kind.TokenKind.TheVariants.{Int, Str, Lower, Upper, Symbol as Sign}
+use Rattle.tb_lex.specs.declared.symbol.Symbol.{Symbol}
+use Rattle.tb_lex.specs.declared.symbol.Symbol.TheVariants as sign
+use Rattle.tb_syntax.specs.declared.proc.Proc.{Proc}
+use Rattle.tb_syntax.specs.declared.proc.Proc.TheOpen.{Proc-F, Atom, Call, Seq, Alt, Star, Par, If, Let}
+use Rattle.tb_syntax.specs.declared.proc.Proc.TheFolds.{fold-Proc}
+use Rattle.tb_syntax.specs.declared.script.ProcDef.{ProcDef}
+use Rattle.tb_syntax.specs.Words.{is_among}
+
+abbrev pub height_or_0 : Option ℕ → ℕ
+height_or_0 None = 0
+height_or_0 (Some part) = part
+
+-- an atom or a call has height 1, every other construct 1 more than its greatest part
+abbrev pub height_step : Proc-F ℕ → ℕ
+height_step (Atom atom) = 1
+height_step (Call call) = 1
+height_step (Seq x y) = 1 + max x y
+height_step (Alt x y) = 1 + max x y
+height_step (Star x y) = 1 + max x y
+height_step (Par x y) = 1 + max x y
+height_step (If test x y) = 1 + max x (height_or_0 y)
+height_step (Let vars x) = 1 + x
+
+abbrev pub height : Proc → ℕ
+height = fold-Proc ℕ height_step
+
+abbrev pub is_too_high : ProcDef → Bool
+is_too_high definition = nat_lt 400 (height definition.body)
+
+-- the place of the first definition whose body is too high
+abbrev pub first_too_high : List ProcDef → Option ℕ
+first_too_high definitions = option_map (λ (definition : ProcDef). definition.token) (find is_too_high definitions)
+
+-- one token opens, closes, or does neither
+abbrev pub opens : TokenKind → Bool
+opens (Int number) = false
+opens (Str text) = false
+opens (Lower name) = is_among (codes "let" ∷ codes "if" ∷ []) name
+opens (Upper name) = false
+opens (Sign symbol) = is_opening symbol where
+  is_opening : Symbol → Bool
+  is_opening sign.LeftParen = true
+  is_opening sign.LeftBracket = true
+  is_opening _ = false
+
+abbrev pub closes : TokenKind → Bool
+closes (Int number) = false
+closes (Str text) = false
+closes (Lower name) = is_among (codes "endlet" ∷ codes "fi" ∷ []) name
+closes (Upper name) = false
+closes (Sign symbol) = is_closing symbol where
+  is_closing : Symbol → Bool
+  is_closing sign.RightParen = true
+  is_closing sign.RightBracket = true
+  is_closing _ = false
+
+-- how many are open behind a token; one that closes where none is open changes nothing
+abbrev pub open_step : ℕ → TokenKind → ℕ
+open_step count kind = if opens kind then count + 1 else (if closes kind then count - 1 else count)
+
+abbrev pub open_brackets : List TokenKind → ℕ
+open_brackets kinds = fold open_step 0 kinds
+
+-- the first token behind which more than 128 are open
+pub record IsTooDeep (kinds : List TokenKind) (place : ℕ) : Type 0 where
+  pub is_place : place < length kinds
+  pub is_over : 128 < open_brackets (take (place + 1) kinds)
+  pub none_before : (earlier : ℕ) → earlier < place → open_brackets (take (earlier + 1) kinds) ≤ 128

@@ -1,0 +1,50 @@
+-- The words of the grammar: those that are reserved, those of atoms and times, and those of sorts.
+use Rattle.std.specs.Prelude.{ℕ, Bool, not, List, [], ◌∷◌, codes}
+use Rattle.std.specs.List.{list_any}
+use Rattle.std.specs.Str.{bytes_eq}
+
+-- whether a name is one of these words
+abbrev pub is_among : List (List ℕ) → List ℕ → Bool
+is_among words name = list_any (bytes_eq name) words
+
+-- no names of terms, tools or sorts
+abbrev pub reserved_words : List (List ℕ)
+reserved_words =
+    codes "process" ∷ codes "is" ∷ codes "tool" ∷ codes "toolbus" ∷ codes "let" ∷ codes "in" ∷ codes "endlet"
+    ∷ codes "if" ∷ codes "then" ∷ codes "else" ∷ codes "fi" ∷ []
+
+-- a name that a term, a tool or a sort may have
+abbrev pub is_free : List ℕ → Bool
+is_free name = not (is_among reserved_words name)
+
+-- the atoms that are written as a word with arguments, `create` apart
+abbrev pub atom_words : List (List ℕ)
+atom_words =
+    codes "delta" ∷ codes "tau" ∷ codes "printf" ∷ codes "snd-msg" ∷ codes "rec-msg" ∷ codes "snd-note" ∷ codes "rec-note"
+    ∷ codes "no-note" ∷ codes "subscribe" ∷ codes "unsubscribe" ∷ codes "execute" ∷ codes "rec-connect" ∷ codes "rec-disconnect"
+    ∷ codes "snd-eval" ∷ codes "rec-value" ∷ codes "snd-do" ∷ codes "rec-event" ∷ codes "snd-ack-event" ∷ codes "snd-terminate"
+    ∷ codes "shutdown" ∷ []
+
+abbrev pub time_words : List (List ℕ)
+time_words = codes "delay" ∷ codes "timeout" ∷ codes "abs-delay" ∷ codes "abs-timeout" ∷ []
+
+-- the names of the sorts that are there without a tool
+abbrev pub sort_words : List (List ℕ)
+sort_words = codes "bool" ∷ codes "int" ∷ codes "str" ∷ codes "list" ∷ codes "term" ∷ []
+
+abbrev pub is_atom_word : List ℕ → Bool
+is_atom_word = is_among atom_words
+
+abbrev pub is_time_word : List ℕ → Bool
+is_time_word = is_among time_words
+
+abbrev pub is_sort_word : List ℕ → Bool
+is_sort_word = is_among sort_words
+
+-- the words that begin a line of a printed script
+abbrev pub definition_words : List (List ℕ)
+definition_words = codes "process" ∷ codes "tool" ∷ codes "toolbus" ∷ []
+
+-- the words that a process may follow
+abbrev pub leading_words : List (List ℕ)
+leading_words = codes "is" ∷ codes "in" ∷ codes "then" ∷ codes "else" ∷ []

@@ -1,0 +1,129 @@
+ghost use Rattle.std.specs.Prelude.{◌≡◌, ◌++◌, ◌∷◌, OnOk, map};
+ghost use Rattle.std.specs.List.{flat_map};
+ghost use Rattle.tb_syntax.specs.Canonical.{call_tokens, act_tokens, set_tokens, create_tokens, time_tokens, atom_tokens, var_tokens, parted};
+
+use crate::exprs::{push_appl, push_arguments, push_expr};
+use crate::push::{push_comma, push_ident, push_name, push_symbol, push_word};
+use crate::sorts::push_sort;
+use crate::{ActDef, Ast, AtomDef, Call, TimeDef, Var};
+use std::alloc::Global;
+use tb_lex::{Symbol, TokenKind};
+use tb_terms::{Ident, Items, NoMemory};
+
+pub(crate) fn push_call(
+    alloc: Global,
+    call: &Call,
+    into: &mut Items<TokenKind>,
+) -> Result<(), NoMemory>
+    ensures { OnOk result (into.new ≡ into.old ++ call_tokens call.now) }
+{
+    push_ident(alloc, &call.name, into)?;
+    push_arguments(alloc, call.actuals.as_slice(), into)?;
+    Ok(())
+}
+
+/// An atom with its times.
+pub(crate) fn push_atom(
+    alloc: Global,
+    atom: &AtomDef,
+    into: &mut Items<TokenKind>,
+) -> Result<(), NoMemory>
+    ensures { OnOk result (into.new ≡ into.old ++ atom_tokens atom.now) }
+{
+    push_act(alloc, &atom.act, into)?;
+    push_times(alloc, atom.times.as_slice(), into)?;
+    Ok(())
+}
+
+fn push_act(alloc: Global, act: &ActDef, into: &mut Items<TokenKind>) -> Result<(), NoMemory>
+    ensures { OnOk result (into.new ≡ into.old ++ act_tokens act.now) }
+{
+    match act {
+        ActDef::Set(name, value) => {
+            push_set(alloc, name, value, into)?;
+            Ok(())
+        }
+        ActDef::Create(call, variable) => {
+            push_create(alloc, call, variable, into)?;
+            Ok(())
+        }
+        ActDef::Named(name, arguments) => {
+            push_appl(alloc, name, arguments.as_slice(), into)?;
+            Ok(())
+        }
+    }
+}
+
+fn push_set(
+    alloc: Global,
+    name: &Ident,
+    value: &Ast,
+    into: &mut Items<TokenKind>,
+) -> Result<(), NoMemory>
+    ensures { OnOk result (into.new ≡ into.old ++ set_tokens name.now value.now) }
+{
+    push_ident(alloc, name, into)?;
+    push_symbol(Symbol::Assign, into)?;
+    push_expr(alloc, value, into)?;
+    Ok(())
+}
+
+fn push_create(
+    alloc: Global,
+    call: &Call,
+    variable: &Ast,
+    into: &mut Items<TokenKind>,
+) -> Result<(), NoMemory>
+    ensures { OnOk result (into.new ≡ into.old ++ create_tokens call.now variable.now) }
+{
+    push_word(alloc, b"create", into)?;
+    push_symbol(Symbol::LeftParen, into)?;
+    push_call(alloc, call, into)?;
+    push_symbol(Symbol::Comma, into)?;
+    push_expr(alloc, variable, into)?;
+    push_symbol(Symbol::RightParen, into)?;
+    Ok(())
+}
+
+fn push_times(alloc: Global, times: &[TimeDef], into: &mut Items<TokenKind>) -> Result<(), NoMemory>
+    ensures { OnOk result (into.new ≡ into.old ++ flat_map time_tokens times.now) }
+{
+    for time in times {
+        push_time(alloc, time, into)?;
+    }
+    Ok(())
+}
+
+fn push_time(alloc: Global, time: &TimeDef, into: &mut Items<TokenKind>) -> Result<(), NoMemory>
+    ensures { OnOk result (into.new ≡ into.old ++ time_tokens time.now) }
+{
+    push_name(alloc, &time.name, into)?;
+    push_symbol(Symbol::LeftParen, into)?;
+    push_expr(alloc, &time.value, into)?;
+    push_symbol(Symbol::RightParen, into)?;
+    Ok(())
+}
+
+/// Variables with their sorts, with commas between them.
+pub(crate) fn push_vars(
+    alloc: Global,
+    vars: &[Var],
+    into: &mut Items<TokenKind>,
+) -> Result<(), NoMemory>
+    ensures { OnOk result (into.new ≡ into.old ++ parted (map var_tokens vars.now)) }
+{
+    for (place, var) in vars.iter().enumerate() {
+        push_comma(place, into)?;
+        push_var(alloc, var, into)?;
+    }
+    Ok(())
+}
+
+fn push_var(alloc: Global, var: &Var, into: &mut Items<TokenKind>) -> Result<(), NoMemory>
+    ensures { OnOk result (into.new ≡ into.old ++ var_tokens var.now) }
+{
+    push_ident(alloc, &var.name, into)?;
+    push_symbol(Symbol::Colon, into)?;
+    push_sort(alloc, &var.sort, into)?;
+    Ok(())
+}

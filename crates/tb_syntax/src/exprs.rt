@@ -1,0 +1,130 @@
+ghost use Rattle.std.specs.Prelude.{◌≡◌, ◌++◌, ◌∷◌, [], OnOk, map};
+ghost use Rattle.tb_lex.specs.declared.kind.TokenKind.TheVariants.{Lower, Upper, Symbol as Sign};
+ghost use Rattle.tb_lex.specs.declared.symbol.Symbol.TheVariants.{Question};
+ghost use Rattle.tb_syntax.specs.Canonical.{kind_tokens, expr_tokens, parted, optional, hole_tokens, list_expr_tokens};
+
+use crate::push::{push_comma, push_ident, push_name, push_symbol};
+use crate::sorts::push_hole_word;
+use crate::{Ast, AstKind};
+use std::alloc::Global;
+use tb_lex::{Symbol, TokenKind};
+use tb_terms::{Ident, Items, Name, NoMemory, Sort};
+
+#[cycle(exprs)]
+pub(crate) fn push_expr(
+    alloc: Global,
+    expr: &Ast,
+    into: &mut Items<TokenKind>,
+) -> Result<(), NoMemory>
+    ensures { OnOk result (into.new ≡ into.old ++ expr_tokens expr.now) }
+{
+    push_kind(alloc, &expr.kind, into)?;
+    Ok(())
+}
+
+#[cycle(exprs)]
+#[tactic(auto, using(crate::proofs::KindTokens::tokens_of_appl))]
+fn push_kind(alloc: Global, kind: &AstKind, into: &mut Items<TokenKind>) -> Result<(), NoMemory>
+    ensures { OnOk result (into.new ≡ into.old ++ kind_tokens kind.now) }
+{
+    match kind {
+        AstKind::Int(number) => {
+            into.push(TokenKind::Int(*number))?;
+            Ok(())
+        }
+        AstKind::Str(text) => {
+            into.push(TokenKind::Str(text.copy(alloc)?))?;
+            Ok(())
+        }
+        AstKind::Appl(name, parts) => {
+            push_appl(alloc, name, parts.as_slice(), into)?;
+            Ok(())
+        }
+        AstKind::Var(name) => {
+            push_ident(alloc, name, into)?;
+            Ok(())
+        }
+        AstKind::Result(name) => {
+            push_result(alloc, name, into)?;
+            Ok(())
+        }
+        AstKind::Hole(sort) => {
+            push_hole(alloc, sort, into)?;
+            Ok(())
+        }
+        AstKind::List(parts) => {
+            push_list(alloc, parts.as_slice(), into)?;
+            Ok(())
+        }
+    }
+}
+
+#[cycle(exprs)]
+pub(crate) fn push_appl(
+    alloc: Global,
+    name: &Name,
+    parts: &[Ast],
+    into: &mut Items<TokenKind>,
+) -> Result<(), NoMemory>
+    ensures { OnOk result (into.new ≡ into.old ++ Lower name.now ∷ optional (map expr_tokens parts.now)) }
+{
+    push_name(alloc, name, into)?;
+    push_arguments(alloc, parts, into)?;
+    Ok(())
+}
+
+fn push_result(alloc: Global, name: &Ident, into: &mut Items<TokenKind>) -> Result<(), NoMemory>
+    ensures { OnOk result (into.new ≡ into.old ++ Upper name.now ∷ Sign Question ∷ []) }
+{
+    push_ident(alloc, name, into)?;
+    push_symbol(Symbol::Question, into)?;
+    Ok(())
+}
+
+fn push_hole(alloc: Global, sort: &Sort, into: &mut Items<TokenKind>) -> Result<(), NoMemory>
+    ensures { OnOk result (into.new ≡ into.old ++ hole_tokens sort.now) }
+{
+    push_symbol(Symbol::Less, into)?;
+    push_hole_word(alloc, sort, into)?;
+    push_symbol(Symbol::Greater, into)?;
+    Ok(())
+}
+
+/// Arguments in parentheses, or nothing where there are none.
+#[cycle(exprs)]
+pub(crate) fn push_arguments(
+    alloc: Global,
+    parts: &[Ast],
+    into: &mut Items<TokenKind>,
+) -> Result<(), NoMemory>
+    ensures { OnOk result (into.new ≡ into.old ++ optional (map expr_tokens parts.now)) }
+{
+    if parts.is_empty() {
+        return Ok(());
+    }
+    push_symbol(Symbol::LeftParen, into)?;
+    push_parted(alloc, parts, into)?;
+    push_symbol(Symbol::RightParen, into)?;
+    Ok(())
+}
+
+#[cycle(exprs)]
+fn push_list(alloc: Global, parts: &[Ast], into: &mut Items<TokenKind>) -> Result<(), NoMemory>
+    ensures { OnOk result (into.new ≡ into.old ++ list_expr_tokens (map expr_tokens parts.now)) }
+{
+    push_symbol(Symbol::LeftBracket, into)?;
+    push_parted(alloc, parts, into)?;
+    push_symbol(Symbol::RightBracket, into)?;
+    Ok(())
+}
+
+#[cycle(exprs)]
+fn push_parted(alloc: Global, parts: &[Ast], into: &mut Items<TokenKind>) -> Result<(), NoMemory>
+    ensures { OnOk result (into.new ≡ into.old ++ parted (map expr_tokens parts.now)) }
+{
+    for (place, part) in parts.iter().enumerate() {
+        push_comma(place, into)?;
+        push_expr(alloc, part, into)?;
+    }
+    Ok(())
+}

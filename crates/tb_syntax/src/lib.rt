@@ -1,0 +1,29 @@
+//! Scripts as trees, which token lists spell them, and their printed text.
+#![tactic(auto)]
+
+mod ast;
+mod atoms;
+mod definitions;
+mod exprs;
+mod gap;
+mod laws;
+mod level;
+mod print;
+mod proc;
+mod procs;
+mod proper;
+mod push;
+mod script;
+mod sorts;
+#[cfg(test)]
+mod tests;
+mod text;
+mod words;
+
+pub use ast::{Ast, AstKind, Asts};
+pub use laws::looser_stands_in_parens;
+pub use level::Level;
+pub use print::print_script;
+pub use proc::{ActDef, AtomDef, Call, Calls, Proc, TimeDef, TimeDefs, Var, Vars};
+pub use script::{Formal, Formals, ProcDef, ProcDefs, Script, ToolDef, ToolDefs};
+pub use words::{is_atom_word, is_reserved, is_sort_word, is_time_word};

@@ -1,0 +1,22 @@
+ghost use Rattle.std.specs.Prelude.{IfOk};
+ghost use Rattle.tb_syntax.specs.Printing.{IsSpelt, IsPrintOf};
+
+use crate::Script;
+use crate::definitions::tokens_of;
+use crate::proper::show_proper;
+use crate::text::text_of;
+use std::alloc::Global;
+use tb_terms::NoMemory;
+
+/// The text of a script: its tools, its processes and its roots, each on a line of its own, with
+/// parentheses only where the grammar needs them. Reading it gives the script back but for the
+/// places of its tokens.
+pub fn print_script(alloc: Global, script: &Script) -> Result<Vec<u8>, NoMemory>
+    requires { IsSpelt script.now }
+    ensures { IfOk result (λ text. IsPrintOf script.now text.items) }
+{
+    let tokens = tokens_of(alloc, script)?;
+    show_proper(tokens.as_slice());
+    let text = text_of(alloc, tokens.as_slice())?;
+    Ok(text)
+}

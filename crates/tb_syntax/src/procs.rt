@@ -1,0 +1,213 @@
+ghost use Rattle.std.specs.Prelude.{◌≡◌, ◌++◌, ◌∷◌, [], OnOk, map, option_map};
+ghost use Rattle.tb_lex.specs.declared.kind.TokenKind.TheVariants.{Symbol as Sign};
+ghost use Rattle.tb_syntax.specs.Binding.{rank, is_looser};
+ghost use Rattle.tb_syntax.specs.Canonical.{proc_tokens, placed, then_tokens, let_tokens, else_tokens, expr_tokens, var_tokens, parted};
+ghost use Rattle.tb_syntax.specs.declared.level.Level.TheVariants.{Proc as Whole};
+
+use crate::atoms::{push_atom, push_call, push_vars};
+use crate::exprs::push_expr;
+use crate::push::{push_symbol, push_word};
+use crate::{Ast, Level, Proc, Var};
+use std::alloc::Global;
+use tb_lex::{Symbol, TokenKind};
+use tb_terms::{Boxed, Items, NoMemory};
+
+/// An operator, how tightly it binds, and how tightly what stands on its two sides is bound.
+#[derive(Clone, Copy)]
+struct Infix {
+    symbol: Symbol,
+    level: Level,
+    left: Level,
+    right: Level,
+}
+
+const SEQ: Infix = Infix {
+    symbol: Symbol::Point,
+    level: Level::Seq,
+    left: Level::Star,
+    right: Level::Seq,
+};
+
+const ALT: Infix = Infix {
+    symbol: Symbol::Plus,
+    level: Level::Alt,
+    left: Level::Seq,
+    right: Level::Alt,
+};
+
+const STAR: Infix = Infix {
+    symbol: Symbol::Star,
+    level: Level::Star,
+    left: Level::Star,
+    right: Level::Prim,
+};
+
+const PAR: Infix = Infix {
+    symbol: Symbol::Bars,
+    level: Level::Proc,
+    left: Level::Alt,
+    right: Level::Proc,
+};
+
+/// The tokens of a process where it is bound as tightly as the level says.
+#[cycle(procs)]
+pub(crate) fn push_proc(
+    alloc: Global,
+    proc: &Proc,
+    at: Level,
+    into: &mut Items<TokenKind>,
+) -> Result<(), NoMemory>
+    ensures { OnOk result (into.new ≡ into.old ++ proc_tokens proc.now at) }
+{
+    match proc {
+        Proc::Atom(atom) => {
+            push_atom(alloc, atom, into)?;
+            Ok(())
+        }
+        Proc::Call(call) => {
+            push_call(alloc, call, into)?;
+            Ok(())
+        }
+        Proc::Seq(x, y) => {
+            push_placed(alloc, x.get(), SEQ, y.get(), at, into)?;
+            Ok(())
+        }
+        Proc::Alt(x, y) => {
+            push_placed(alloc, x.get(), ALT, y.get(), at, into)?;
+            Ok(())
+        }
+        Proc::Star(x, y) => {
+            push_placed(alloc, x.get(), STAR, y.get(), at, into)?;
+            Ok(())
+        }
+        Proc::Par(x, y) => {
+            push_placed(alloc, x.get(), PAR, y.get(), at, into)?;
+            Ok(())
+        }
+        Proc::If(test, x, y) => {
+            push_then(alloc, test, x.get(), into)?;
+            push_else(alloc, y, into)?;
+            Ok(())
+        }
+        Proc::Let(vars, x) => {
+            push_let(alloc, vars.as_slice(), x.get(), into)?;
+            Ok(())
+        }
+    }
+}
+
+/// Two processes with an operator between them, in parentheses where the place wants them.
+#[cycle(procs)]
+fn push_placed(
+    alloc: Global,
+    x: &Proc,
+    between: Infix,
+    y: &Proc,
+    at: Level,
+    into: &mut Items<TokenKind>,
+) -> Result<(), NoMemory>
+    ensures { OnOk result (into.new ≡ into.old
+        ++ placed between.level at (proc_tokens x.now between.left ++ Sign between.symbol ∷ proc_tokens y.now between.right)) }
+{
+    if !is_looser(between.level, at) {
+        push_infix(alloc, x, between, y, into)?;
+        return Ok(());
+    }
+    push_symbol(Symbol::LeftParen, into)?;
+    push_infix(alloc, x, between, y, into)?;
+    push_symbol(Symbol::RightParen, into)?;
+    Ok(())
+}
+
+#[cycle(procs)]
+fn push_infix(
+    alloc: Global,
+    x: &Proc,
+    between: Infix,
+    y: &Proc,
+    into: &mut Items<TokenKind>,
+) -> Result<(), NoMemory>
+    ensures { OnOk result (into.new ≡ into.old
+        ++ (proc_tokens x.now between.left ++ Sign between.symbol ∷ proc_tokens y.now between.right)) }
+{
+    push_proc(alloc, x, between.left, into)?;
+    push_symbol(between.symbol, into)?;
+    push_proc(alloc, y, between.right, into)?;
+    Ok(())
+}
+
+fn is_looser(own: Level, at: Level) -> bool
+    ensures { result ≡ is_looser own at }
+{
+    rank(own) < rank(at)
+}
+
+fn rank(level: Level) -> u8
+    ensures { result ≡ rank level }
+{
+    match level {
+        Level::Proc => 0,
+        Level::Alt => 1,
+        Level::Seq => 2,
+        Level::Star => 3,
+        Level::Prim => 4,
+    }
+}
+
+/// The test and the process for where it holds.
+#[cycle(procs)]
+fn push_then(
+    alloc: Global,
+    test: &Ast,
+    x: &Proc,
+    into: &mut Items<TokenKind>,
+) -> Result<(), NoMemory>
+    ensures { OnOk result (into.new ≡ into.old ++ then_tokens (expr_tokens test.now) (proc_tokens x.now Whole)) }
+{
+    push_word(alloc, b"if", into)?;
+    push_expr(alloc, test, into)?;
+    push_word(alloc, b"then", into)?;
+    push_proc(alloc, x, Level::Proc, into)?;
+    Ok(())
+}
+
+/// The process for where the test doesn't hold, if there is one, and the end.
+#[cycle(procs)]
+fn push_else(
+    alloc: Global,
+    y: &Option<Boxed<Proc>>,
+    into: &mut Items<TokenKind>,
+) -> Result<(), NoMemory>
+    ensures { OnOk result (into.new ≡ into.old ++ else_tokens (option_map proc_tokens y.now)) }
+{
+    match y {
+        None => {
+            push_word(alloc, b"fi", into)?;
+            Ok(())
+        }
+        Some(y) => {
+            push_word(alloc, b"else", into)?;
+            push_proc(alloc, y.get(), Level::Proc, into)?;
+            push_word(alloc, b"fi", into)?;
+            Ok(())
+        }
+    }
+}
+
+#[cycle(procs)]
+fn push_let(
+    alloc: Global,
+    vars: &[Var],
+    x: &Proc,
+    into: &mut Items<TokenKind>,
+) -> Result<(), NoMemory>
+    ensures { OnOk result (into.new ≡ into.old
+        ++ let_tokens (parted (map var_tokens vars.now)) (proc_tokens x.now Whole)) }
+{
+    push_word(alloc, b"let", into)?;
+    push_vars(alloc, vars, into)?;
+    push_word(alloc, b"in", into)?;
+    push_proc(alloc, x, Level::Proc, into)?;
+    push_word(alloc, b"endlet", into)?;
+    Ok(())
+}
