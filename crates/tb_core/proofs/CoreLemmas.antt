@@ -1,6 +1,5 @@
 -- What the fields of a core say of its bus, and what each call logs.
-use Rattle.std.proofs.Common.{◌≡◌, ℕ, List, [], ◌∷◌, ◌++◌, map, refl, ap, sym, ◌∙◌, subst, Option, Some, Bool, true, false, slice_get, option_map}
-use Rattle.std.specs.Bool.{⊤}
+use Rattle.std.proofs.Common.{◌≡◌, ℕ, List, [], ◌∷◌, ◌++◌, map, refl, ap, sym, ◌∙◌, subst, Option, Some, Bool, slice_get, option_map}
 use Rattle.std.proofs.lemmas.Option.{slice_get-map}
 use Rattle.tb_body.specs.declared.body.Body.{Body}
 use Rattle.tb_body.specs.declared.program.Program.{Program}
@@ -12,7 +11,7 @@ use Rattle.tb_core.specs.Rows.{readies}
 use Rattle.tb_core.specs.Traces.{IsTrace, replay}
 use Rattle.tb_core.specs.Views.{AreRowsOf, IsRowOf}
 use Rattle.tb_core.specs.Lives.{AreLive, IsLiveOn, term_in, proc_on, procs_of}
-use Rattle.tb_core.specs.LiveBuses.{bus_of, procs_in, IsSound}
+use Rattle.tb_core.specs.LiveBuses.{bus_of, IsSound}
 use Rattle.tb_core.specs.Standing.{StandsFor}
 use Rattle.tb_core.specs.Cores.{CoreState, bus_now, Logs}
 use Rattle.tb_core.specs.declared.bus.LiveBus.{LiveBus}

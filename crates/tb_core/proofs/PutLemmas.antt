@@ -1,7 +1,6 @@
 -- A process that goes on among the others: its row and walker are put in place, or taken away.
-use Rattle.std.proofs.Common.{◌≡◌, ℕ, ◌+◌, ◌<◌, ◌≤◌, ◌==◌, ◌&&◌, zero, suc, List, [], ◌∷◌, ◌++◌, length, refl, ap, sym, subst, ◌∙◌, arith, Option, Some, None, Bool, true, false, slice_get, slice_set, remove, nat_lt, if◌then◌else◌, eq-eqb}
-use Rattle.std.proofs.lemmas.Bool.{lt-ltb, ltb-true, eqb-true, false_from_ne_true}
-use Rattle.std.specs.Bool.{⊤}
+use Rattle.std.proofs.Common.{◌≡◌, ℕ, ◌<◌, ◌≤◌, ◌==◌, ◌&&◌, zero, suc, List, [], ◌∷◌, ◌++◌, length, refl, ap, sym, ◌∙◌, arith, Option, Some, None, Bool, true, false, slice_get, slice_set, remove, nat_lt, if◌then◌else◌, eq-eqb}
+use Rattle.std.proofs.lemmas.Bool.{lt-ltb, eqb-true, false_from_ne_true}
 use Rattle.tb_match.specs.declared.bind.Bind.{Bind}
 use Rattle.tb_func.specs.declared.slot.Slot.{Slot}
 use Rattle.tb_body.specs.declared.body.Body.{Body}
@@ -13,8 +12,7 @@ use Rattle.tb_algebra.specs.Walks.{Walking, is_end, fired}
 use Rattle.tb_core.specs.Buses.{Proc, proc_left}
 use Rattle.tb_core.specs.Steps.{goes_on}
 use Rattle.tb_core.specs.Rows.{row_at, no_row, ascend}
-use Rattle.tb_core.specs.Lives.{IsLive, IsLiveOn, AreLive, IsNext, term_in, proc_of, proc_on, procs_of}
-use Rattle.tb_core.specs.declared.next.Next.{Next}
+use Rattle.tb_core.specs.Lives.{IsLiveOn, AreLive, term_in, proc_on, procs_of}
 use Rattle.tb_core.specs.declared.row.Row.{Row}
 use Rattle.tb_core.proofs.TurnLemmas.{ascend-first, ascend-above}
 

@@ -9,7 +9,6 @@ use Rattle.tb_algebra.specs.declared.offer.Offer.{Offer}
 use Rattle.tb_algebra.specs.Binds.{takes_binds}
 use Rattle.tb_algebra.specs.Offers.{Offered}
 use Rattle.tb_algebra.specs.Walks.{Walking, offers_of}
-use Rattle.tb_core.specs.Rows.{row_at}
 use Rattle.tb_core.specs.Lives.{IsLiveOn, IsNext}
 use Rattle.tb_core.specs.declared.next.Next.{Next}
 use Rattle.tb_core.specs.declared.row.Row.{Row}

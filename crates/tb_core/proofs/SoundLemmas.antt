@@ -1,7 +1,7 @@
 -- What stands at a place of a sound bus: a process, its walker, and the offers of its deeds.
-use Rattle.std.proofs.Common.{◌≡◌, ℕ, ◌+◌, ◌<◌, zero, suc, List, [], ◌∷◌, ◌++◌, length, refl, ap, sym, subst, ◌∙◌, arith, Option, Some, None, Bool, true, false, slice_get, slice_index_or, get_or, option_map, option_and_then, IfSome, if◌then◌else◌, add-one}
+use Rattle.std.proofs.Common.{◌≡◌, ℕ, ◌+◌, ◌<◌, zero, suc, List, [], ◌∷◌, ◌++◌, length, refl, ap, sym, subst, ◌∙◌, arith, Option, Some, None, Bool, true, false, slice_get, slice_index_or, get_or, option_map, option_and_then, IfSome, if◌then◌else◌}
 use Rattle.std.specs.Bool.{⊤}
-use Rattle.std.proofs.lemmas.Option.{get_or_from_slice_get, slice_get_within, slice_get-get_or}
+use Rattle.std.proofs.lemmas.Option.{get_or_from_slice_get, slice_get-get_or}
 use Rattle.tb_terms.specs.declared.term.Term.{Term}
 use Rattle.tb_terms.specs.declared.pattern.Pattern.{Pattern}
 use Rattle.tb_terms.specs.declared.expr.Expr.{Expr}
@@ -14,7 +14,7 @@ use Rattle.tb_body.specs.declared.atom.Atom.{Atom}
 use Rattle.tb_body.specs.declared.body.Body.{Body}
 use Rattle.tb_algebra.specs.declared.offer.Offer.{Offer}
 use Rattle.tb_algebra.specs.Processes.{Process}
-use Rattle.tb_algebra.specs.Atoms.{act_of, times_of, is_ready, patterns_of, values_together, accepted}
+use Rattle.tb_algebra.specs.Atoms.{act_of, times_of, is_ready, patterns_of, values_together}
 use Rattle.tb_algebra.specs.Binds.{takes_bind, takes_binds}
 use Rattle.tb_algebra.specs.Offers.{Offered, offers}
 use Rattle.tb_algebra.specs.Walks.{Walking, offers_of, is_end}
@@ -22,10 +22,10 @@ use Rattle.tb_algebra.proofs.Taken.{binds-taken}
 use Rattle.tb_core.specs.Buses.{Bus, Proc}
 use Rattle.tb_core.specs.Steps.{made, goes_on}
 use Rattle.tb_core.specs.Labels.{own_binds}
-use Rattle.tb_core.specs.Deeds.{set_to, set_deed, deed_in, deed_if, deed_of}
+use Rattle.tb_core.specs.Deeds.{set_deed, deed_in, deed_if, deed_of}
 use Rattle.tb_core.specs.Rows.{row_at, ready_one, readies}
 use Rattle.tb_core.specs.Views.{proc_at, ready_at, offer_at, offer_of, no_ready, no_offer, own_move, IsOwn, Receives}
-use Rattle.tb_core.specs.Lives.{IsLive, IsLiveOn, AreLive, term_in, proc_of, proc_on, procs_of}
+use Rattle.tb_core.specs.Lives.{IsLiveOn, AreLive, term_in, proc_of, proc_on, procs_of}
 use Rattle.tb_core.specs.declared.deed.Deed.{Deed}
 use Rattle.tb_core.specs.declared.deed.Deed.TheVariants as deed
 use Rattle.tb_core.specs.declared.log.LabelKind.TheVariants as kind

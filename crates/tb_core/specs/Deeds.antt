@@ -1,5 +1,5 @@
 -- What an offered atom is ready to do.
-use Rattle.std.specs.Prelude.{ℕ, Bool, true, false, List, [], ◌∷◌, Option, Some, None, option_map, option_and_then, if◌then◌else◌}
+use Rattle.std.specs.Prelude.{ℕ, Bool, List, [], ◌∷◌, Option, Some, None, option_map, option_and_then, if◌then◌else◌}
 use Rattle.tb_terms.specs.declared.term.Term.{Term}
 use Rattle.tb_func.specs.declared.slot.Slot.{Slot}
 use Rattle.tb_match.specs.declared.bind.Bind.{Bind}

@@ -1,4 +1,4 @@
-use Rattle.std.proofs.Common.{◌≡◌, ap, sym, ◌∙◌, ◌++◌, append-nil}
+use Rattle.std.proofs.Common.{ap, sym, ◌∙◌, ◌++◌, append-nil}
 use Rattle.tb_algebra.specs.declared.offer.Offer.{Offer}
 use Rattle.tb_core.proofs.DeedLemmas.{offer-seen, ready-some, ready-none}
 use Rattle.tb_core.proofs.deeds.push_ready.Goals as goal

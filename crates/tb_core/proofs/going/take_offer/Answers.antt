@@ -1,8 +1,8 @@
-use Rattle.std.proofs.Common.{◌≡◌, ◌∙◌, ap, sym, refl, subst, Some, None, slice_get, get_or}
+use Rattle.std.proofs.Common.{◌≡◌, ◌∙◌, ap, sym, refl, subst, Some, slice_get, get_or}
 use Rattle.std.proofs.lemmas.Option.{slice_get-get_or}
 use Rattle.tb_body.specs.declared.body.Body.{Body}
 use Rattle.tb_algebra.specs.Offers.{Offered}
-use Rattle.tb_algebra.specs.Walks.{Walking, offers_of, is_end, fired, sorts_of}
+use Rattle.tb_algebra.specs.Walks.{Walking, offers_of, is_end, sorts_of}
 use Rattle.tb_algebra.proofs.Sorts.{fired-keeps}
 use Rattle.tb_core.specs.Views.{no_offer}
 use Rattle.tb_core.proofs.NextLemmas.{fired-at, ended-none, live-next}

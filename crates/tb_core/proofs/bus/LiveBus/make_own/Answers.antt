@@ -1,4 +1,4 @@
-use Rattle.std.proofs.Common.{◌≡◌, ◌∙◌, ℕ, List, ap, sym, get_or}
+use Rattle.std.proofs.Common.{◌≡◌, ◌∙◌, ℕ, ap, sym, get_or}
 use Rattle.tb_core.specs.Buses.{Bus, Proc}
 use Rattle.tb_core.specs.Steps.{goes_on}
 use Rattle.tb_core.specs.Labels.{own_binds}

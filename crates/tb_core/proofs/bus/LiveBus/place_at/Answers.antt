@@ -1,4 +1,4 @@
-use Rattle.std.proofs.Common.{◌≡◌, ◌∙◌, ap, sym, ℕ, List, subst, length, ◌<◌, get_or}
+use Rattle.std.proofs.Common.{◌≡◌, ◌∙◌, ap, sym}
 use Rattle.tb_core.specs.Buses.{Proc}
 use Rattle.tb_core.specs.Rows.{row_at, no_row}
 use Rattle.tb_core.specs.Views.{ready_at, no_ready}

@@ -1,10 +1,8 @@
-use Rattle.std.proofs.Common.{◌≡◌, ◌∙◌, ℕ, List, ap, sym, subst, refl, arith, length, ◌<◌, slice_set, slice_get, remove, Some, Option}
+use Rattle.std.proofs.Common.{◌≡◌, ◌∙◌, List, ap, sym, subst, arith, slice_set, slice_get, remove, Some}
 use Rattle.tb_core.specs.Buses.{Proc, Bus}
 use Rattle.tb_core.specs.Rows.{row_at, ascend}
 use Rattle.tb_core.specs.Lives.{IsNext, AreLive, procs_of}
-use Rattle.tb_core.specs.LiveBuses.{bus_of, procs_in}
-use Rattle.tb_core.specs.declared.row.Row.{Row}
-use Rattle.tb_core.specs.declared.next.Next.{Next}
+use Rattle.tb_core.specs.LiveBuses.{bus_of}
 use Rattle.tb_core.proofs.PutLemmas.{procs-set, procs-removed, ascend-set, ascend-removed, live-many, live-set, live-removed}
 use Rattle.tb_core.proofs.bus.LiveBus.put.Goals as goal
 

@@ -1,4 +1,4 @@
-use Rattle.std.proofs.Common.{◌≡◌, ◌∙◌, ℕ, List, ap, sym}
+use Rattle.std.proofs.Common.{◌∙◌, List, ap}
 use Rattle.tb_core.specs.Buses.{Bus, Proc}
 use Rattle.tb_core.specs.Rows.{row_at}
 use Rattle.tb_core.specs.LiveBuses.{bus_of, procs_in}

@@ -1,4 +1,4 @@
-use Rattle.std.proofs.Common.{◌≡◌, ◌∙◌, ℕ, List, ap, sym, subst, slice_get, Some}
+use Rattle.std.proofs.Common.{◌≡◌, ◌∙◌, ℕ, ap, sym, subst, slice_get, Some}
 use Rattle.tb_core.specs.Buses.{Bus}
 use Rattle.tb_core.specs.Steps.{goes_on}
 use Rattle.tb_core.specs.Rows.{row_at}
