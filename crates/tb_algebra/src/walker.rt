@@ -15,8 +15,8 @@ use tb_terms::{NoMemory, Patterns, Terms};
 
 /// A process on its way through its body. What is worked out once for a body is its plan: a walker is
 /// used with the plan of its body alone.
-pub trait Walker: Sized + Drop + Send {
-    type Plan: Drop + Send;
+pub trait Walker: Sized + Drop {
+    type Plan: Drop;
 
     // The body that a plan is of.
     ghost body_of: { Self.Plan → Body };
