@@ -15,7 +15,7 @@ returns-then-is_done g c offered here =
     ended-none offered.residual (ap (λ (v : Walking). is_end v.term) (sym goes) ∙ sym (c.is_done.ensures c.args.plan.now c.fire.ensures.on) ∙ c.if-is_done.true)
 
 pub look-requires-clause-sorts : goal.look-requires-clause-sorts
-look-requires-clause-sorts g c κs within =
+look-requires-clause-sorts g c =
     let walking = g.W.Walker.walking c.args.plan.now in
     let offered : Offered = get_or (offers_of (walking c.args.walker.now)) c.args.at no_offer in
     let here : slice_get (offers_of (walking c.args.walker.now)) c.args.at ≡ Some offered = slice_get-get_or (offers_of (walking c.args.walker.now)) c.args.at no_offer c.requires.within in

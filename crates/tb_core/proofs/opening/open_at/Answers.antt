@@ -52,7 +52,7 @@ overflow_add-at g c =
     omega arith
 
 pub open_one-requires-clause-body : goal.open_one-requires-clause-body
-open_one-requires-clause-body g c κs alive =
+open_one-requires-clause-body g c =
     let program = c.args.program.now in
     let root = c.index-as_slice-at.result in
     let body = c.index-as_slice-place.result in
@@ -65,7 +65,7 @@ open_one-requires-clause-body g c κs alive =
     plan-body g.W.Walker.body_of c.args.plans.now program.bodies root.process plan body c.requires.plans planned there
 
 pub open_one-requires-clause-actuals : goal.open_one-requires-clause-actuals
-open_one-requires-clause-actuals g c κs alive =
+open_one-requires-clause-actuals g c =
     let program = c.args.program.now in
     let root = c.index-as_slice-at.result in
     let body = c.index-as_slice-place.result in

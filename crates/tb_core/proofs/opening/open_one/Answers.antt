@@ -10,7 +10,7 @@ start-requires g c =
     ap sorts_of c.in_ok-store.ensures ∙ sorts-opening c.args.body.now c.args.root.now.actuals ∙ ap (λ (b : Body). b.sorts) (sym c.requires.body)
 
 pub look-requires-clause-sorts : goal.look-requires-clause-sorts
-look-requires-clause-sorts g c κs within =
+look-requires-clause-sorts g c =
     ap (λ (v : Walking). sorts_of v.store) c.in_ok-walker.ensures.term ∙ ap sorts_of c.in_ok-store.ensures ∙ sorts-opening c.args.body.now c.args.root.now.actuals
 
 pub returns-clause-live : goal.returns-clause-live

@@ -41,7 +41,7 @@ bounds-as_slice-at-2 g c =
     subst (λ (ws : List _). c.args.at < length ws) (sym c.as_slice-4.ensures) (slice_get_within bus.walkers c.args.at it.walker it.here)
 
 pub take_offer-requires-clause-body : goal.take_offer-requires-clause-body
-take_offer-requires-clause-body g c κs within =
+take_offer-requires-clause-body g c =
     let bus = c.args.self.now in
     let it = live-at g.W.Walker.body_of g.W.Walker.IsOn g.W.Walker.walking g.W.Walker.seen bus.plans bus.ticks bus.rows bus.walkers c.args.at c.requires.sound.live c.requires.within in
     let row : c.index-as_slice-at.result ≡ row_at bus.rows c.args.at = indexed bus.rows c.as_slice.result.now c.args.at c.index-as_slice-at.result no_row c.as_slice.ensures c.requires.within c.index-as_slice-at.is in
@@ -57,7 +57,7 @@ take_offer-requires-clause-body g c κs within =
     ap g.W.Walker.body_of plan ∙ sym (body-is g.W.Walker.body_of bus.plans bus.program.bodies c.as_slice-3.result.now c.index-as_slice-at.result (row_at bus.rows c.args.at) it.plan c.index-as_slice-row-2.result c.requires.sound.planned c.as_slice-3.ensures row it.planned c.index-as_slice-row-2.is)
 
 pub take_offer-requires-clause-live : goal.take_offer-requires-clause-live
-take_offer-requires-clause-live g c κs within =
+take_offer-requires-clause-live g c =
     let bus = c.args.self.now in
     let it = live-at g.W.Walker.body_of g.W.Walker.IsOn g.W.Walker.walking g.W.Walker.seen bus.plans bus.ticks bus.rows bus.walkers c.args.at c.requires.sound.live c.requires.within in
     let row : c.index-as_slice-at.result ≡ row_at bus.rows c.args.at = indexed bus.rows c.as_slice.result.now c.args.at c.index-as_slice-at.result no_row c.as_slice.ensures c.requires.within c.index-as_slice-at.is in
@@ -73,7 +73,7 @@ take_offer-requires-clause-live g c κs within =
     live-read g.W.Walker.body_of g.W.Walker.IsOn g.W.Walker.walking g.W.Walker.seen bus.ticks c.index-as_slice-at.result (row_at bus.rows c.args.at) c.index-as_slice-row.result it.plan c.get-walker.result.now it.walker row plan walker it.live
 
 pub take_offer-requires-clause-within : goal.take_offer-requires-clause-within
-take_offer-requires-clause-within g c κs within =
+take_offer-requires-clause-within g c =
     let bus = c.args.self.now in
     let it = live-at g.W.Walker.body_of g.W.Walker.IsOn g.W.Walker.walking g.W.Walker.seen bus.plans bus.ticks bus.rows bus.walkers c.args.at c.requires.sound.live c.requires.within in
     let row : c.index-as_slice-at.result ≡ row_at bus.rows c.args.at = indexed bus.rows c.as_slice.result.now c.args.at c.index-as_slice-at.result no_row c.as_slice.ensures c.requires.within c.index-as_slice-at.is in
@@ -89,7 +89,7 @@ take_offer-requires-clause-within g c κs within =
     slice_get_within (offers_of (g.W.Walker.walking c.index-as_slice-row.result c.get-walker.result.now)) place offer here
 
 pub take_offer-requires-clause-sorted : goal.take_offer-requires-clause-sorted
-take_offer-requires-clause-sorted g c κs within =
+take_offer-requires-clause-sorted g c =
     let bus = c.args.self.now in
     let it = live-at g.W.Walker.body_of g.W.Walker.IsOn g.W.Walker.walking g.W.Walker.seen bus.plans bus.ticks bus.rows bus.walkers c.args.at c.requires.sound.live c.requires.within in
     let row : c.index-as_slice-at.result ≡ row_at bus.rows c.args.at = indexed bus.rows c.as_slice.result.now c.args.at c.index-as_slice-at.result no_row c.as_slice.ensures c.requires.within c.index-as_slice-at.is in

@@ -5,7 +5,7 @@ use Rattle.tb_core.proofs.SoundLemmas.{live-at, deed-at, fits-at, received-takes
 use Rattle.tb_core.proofs.bus.LiveBus.prepare_both.Goals as goal
 
 pub next_at-requires-2-clause-sorted : goal.next_at-requires-2-clause-sorted
-next_at-requires-2-clause-sorted g c κs within =
+next_at-requires-2-clause-sorted g c =
     let bus = c.args.self.now in
     let walking = g.W.Walker.walking in
     let found = c.requires.found in

@@ -4,7 +4,7 @@ use Rattle.tb_core.proofs.SoundLemmas.{live-at, deed-at, fits-at, own-takes}
 use Rattle.tb_core.proofs.bus.LiveBus.prepare_own.Goals as goal
 
 pub next_at-requires-clause-sorted : goal.next_at-requires-clause-sorted
-next_at-requires-clause-sorted g c κs within =
+next_at-requires-clause-sorted g c =
     let bus = c.args.self.now in
     let walking = g.W.Walker.walking in
     let ready = ready_at bus.rows c.args.at c.args.place in

@@ -8,7 +8,7 @@ use Rattle.tb_core.specs.declared.row.Row.{Row}
 use Rattle.tb_core.proofs.bus.LiveBus.put_in_order.Goals as goal
 
 pub put-requires-2-clause-sound : goal.put-requires-2-clause-sound
-put-requires-2-clause-sound g c κs within =
+put-requires-2-clause-sound g c =
     let went = c.requires.next in
     (c.put.ensures.puts went.0 went.2.0 went.2.1 went.2.2 went.1 went.2.3).0
 
