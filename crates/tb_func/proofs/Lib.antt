@@ -1,3 +1,4 @@
+pub mod FittingLemmas
 pub mod Fronts
 pub mod NumberLemmas
 pub mod OpenLemmas

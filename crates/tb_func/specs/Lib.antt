@@ -1,5 +1,6 @@
 pub mod Apply
 pub mod Arguments
+pub mod Fitting
 pub mod Functions
 pub mod Limits
 pub mod Numbers

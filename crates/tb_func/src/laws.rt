@@ -1,10 +1,15 @@
-//! What holds of values and patterns whatever the expression is. The call changes nothing: its
-//! contract is the law.
+//! What holds of values, patterns and functions whatever they are given. The calls change nothing:
+//! their contracts are the laws.
 
-ghost use Rattle.std.specs.Prelude.{◌≡◌, IsTrue, List, option_map};
+ghost use Rattle.std.specs.Prelude.{◌≡◌, ◌≢◌, IsTrue, IfSome, List, None, length, option_map};
+ghost use Rattle.tb_terms.specs.declared.term.Term.{Term};
 ghost use Rattle.tb_terms.specs.declared.expr.Expr.{Expr};
+ghost use Rattle.tb_terms.specs.declared.expr.Func.{Func};
 ghost use Rattle.tb_terms.specs.declared.pattern.Pattern.TheVariants as pattern;
 ghost use Rattle.tb_func.specs.declared.slot.Slot.{Slot};
+ghost use Rattle.tb_func.specs.Apply.{apply_of};
+ghost use Rattle.tb_func.specs.Fitting.{fits, AreFit};
+ghost use Rattle.tb_func.specs.Functions.{signature_of};
 ghost use Rattle.tb_func.specs.Patterns.{pattern_of, is_plain};
 ghost use Rattle.tb_func.specs.Values.{value_of};
 
@@ -13,4 +18,12 @@ ghost use Rattle.tb_func.specs.Values.{value_of};
 pub fn plain_expressions_are_fixed()
     ensures { (slots : List Slot) (e : Expr) → IsTrue (is_plain e)
         → pattern_of slots e ≡ option_map pattern.Fixed (value_of slots e) }
+{}
+
+/// Where a function gives a value, the arguments are as many as its signature says, each of its
+/// shape, and the value is of the result's. For fewer or more arguments it gives none.
+pub fn values_fit_signatures()
+    ensures arguments { (f : Func) (ts : List Term) → IfSome (apply_of f ts) (λ v. AreFit (signature_of f) ts) }
+    ensures value { (f : Func) (ts : List Term) → IfSome (apply_of f ts) (λ v. IsTrue (fits (signature_of f).result v)) }
+    ensures other_count { (f : Func) (ts : List Term) → length ts ≢ (signature_of f).arity → apply_of f ts ≡ None }
 {}

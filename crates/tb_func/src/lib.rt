@@ -24,7 +24,7 @@ mod values;
 
 pub use calls::apply;
 pub use functions::{function, signature};
-pub use laws::plain_expressions_are_fixed;
+pub use laws::{plain_expressions_are_fixed, values_fit_signatures};
 pub use parts::{bool_of, int_of};
 pub use patterns::pattern;
 pub use printing::printf_text;

@@ -1,6 +1,6 @@
 use crate::{
     Shape, Signature, Store, apply, eval, function, pattern, plain_expressions_are_fixed,
-    printf_text, signature,
+    printf_text, signature, values_fit_signatures,
 };
 use std::alloc::Global;
 use std::test::Fail;
@@ -147,6 +147,7 @@ fn lists_and_times_have_their_values(rt: HostRuntime) -> Result<(), Fail> {
         result: Shape::Any,
     };
     assert_eq!(rt; signature(Func::Index), of_index);
+    values_fit_signatures();
     Ok(())
 }
 
