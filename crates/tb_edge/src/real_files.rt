@@ -64,6 +64,9 @@ impl<R: HostFiles> Files for RealFiles<R> {
         ensures within { IfOk result (IsWithin most) }
         ensures never_falls { self.old.faults ≤ self.new.faults }
         ensures after { self.new ≡ real_files_after result self.old name.now }
+
+        // There is a file of the runtime in which just this was left, where it tells what is left in it.
+        ensures opened { IfOk result (λ loaded. (file : R.File) × IsOf (R.File.remaining file) loaded) }
     {
         let loaded = match load_named(&self.rt, alloc, name, most) {
             Err(FilesFault::NoMemory) => return Err(FilesFault::NoMemory),
@@ -84,7 +87,10 @@ fn load_named<R: HostFiles>(
     name: &str,
     most: usize,
 ) -> Result<Loaded, FilesFault>
-    ensures { IfOk result (IsWithin most) }
+    ensures within { IfOk result (IsWithin most) }
+
+    // There is a file of the runtime in which just this was left, where it tells what is left in it.
+    ensures opened { IfOk result (λ loaded. (file : R.File) × IsOf (R.File.remaining file) loaded) }
 {
     match fs::open(rt, name) {
         Ok(mut file) => read_all(alloc, &mut file, &mut new_chunk(alloc)?, most),
