@@ -1,24 +1,33 @@
 -- At the place of a fault of a number stand a sign or none and digits, and a number might stand there.
 use Rattle.std.proofs.Common.{◌≡◌, ℕ, ℤ, pos, neg_ℤ, suc, ◌-◌, ◌^◌, ◌≤◌, ◌<◌, Bool, true, false, ◌⊎◌, cond, eqb, leb, ltb, List, [], ◌∷◌, ◌++◌, length, take, drop, Option, Some, None, Result, Err, refl, ap, sym, ◌∙◌, subst, inl, inr, append_assoc}
-use Rattle.std.proofs.lemmas.Bool.{false≢true, eqb-true, and_parts, lt-ltb, le-leb}
+use Rattle.std.proofs.lemmas.Bool.{false≢true, eqb-true, and_parts, and_from, lt-ltb, le-leb}
 use Rattle.std.proofs.lemmas.List.{take-append-drop}
+use Rattle.std.proofs.lemmas.Str.{IsUtf8-nil, is_utf8-from_IsUtf8}
 use Rattle.std.specs.List.{list_all, prefix_len}
+use Rattle.std.specs.Str.{is_utf8}
 use Rattle.tb_terms.specs.Names.{is_digit}
+use Rattle.tb_terms.specs.Names.{is_text}
 use Rattle.tb_read.specs.declared.quoted.Within.{Within}
 use Rattle.tb_read.specs.declared.quoted.Within.TheVariants.{Between}
 use Rattle.tb_read.specs.declared.quoted.Turn.{Turn}
 use Rattle.tb_read.specs.declared.quoted.Turn.TheVariants.{Ends, Goes, Puts, Bad}
 use Rattle.tb_read.specs.declared.fault.TermFault.{TermFault}
 use Rattle.tb_read.specs.declared.fault.TermFault.TheVariants as fault
+use Rattle.tb_read.specs.declared.token.Token.{Token}
 use Rattle.tb_read.specs.declared.token.Token.TheVariants as token
 use Rattle.tb_read.specs.declared.kind.Kind.{Kind}
 use Rattle.tb_read.specs.declared.kind.Kind.TheVariants as kind
 use Rattle.tb_read.specs.declared.shape.Shape.{Shape}
-use Rattle.tb_read.specs.Spelling.{is_blank, is_digits, digits_value, SpellsNumber, Reads}
+use Rattle.tb_read.specs.declared.shape.Bracket.{Bracket}
+use Rattle.tb_read.specs.declared.shape.Bracket.TheVariants.{Paren, Square}
+use Rattle.tb_read.specs.declared.shape.Expect.{Expect}
+use Rattle.tb_read.specs.declared.shape.Expect.TheVariants as expect
+use Rattle.tb_read.specs.Spelling.{is_blank, is_digits, digits_value, SpellsNumber, SpellsToken, Reads}
 use Rattle.tb_read.specs.Lexing.{string_turn, string_rest, is_real, number_of, in_range, number_from, number_at, kind_of, token_of}
-use Rattle.tb_read.specs.Scanning.{Ends as Stops, allows, may_end, made, next_at, start}
+use Rattle.tb_read.specs.Scanning.{Ends as Stops, allows, expects, may_end, made, next_at, start}
 use Rattle.tb_read.specs.Reading.{StopsAt}
-use Rattle.tb_read.specs.Places.{TakesNumber, signed, IsNumeral, HasPoint, BeginsReal, BeginsTooFar}
+use Rattle.tb_read.specs.Places.{Takes, TakesTerm, signed, IsNumeral, HasPoint, BeginsReal, BeginsTooFar}
+use Rattle.tb_read.proofs.Grammar.{kind_of_token}
 use Rattle.tb_read.proofs.Names.{all_of_front}
 use Rattle.tb_read.proofs.Strings.{turned}
 use Rattle.tb_read.proofs.Lexed.{Lexed}
@@ -149,26 +158,53 @@ end_none : (v : Bool) (total : ℕ) (f : TermFault) → OfNumber f → cond v (S
 end_none true total f n e = cc
 end_none false total f n e = subst OfNumber (sym (stops_fault (fault.Syntax total) f e)) n
 
-number_place : (f : TermFault) → OfNumber f → (s : Shape) (total : ℕ) (bytes front l : List ℕ) → bytes ≡ front ++ l → list_all is_blank front ≡ true → next_at s total l ≡ Stops (Some f) → Place (Says f) (48 ∷ []) s total bytes (place_in f)
-number_place f n s total bytes front [] e h r = absurd (end_none (may_end s.expect s.brackets) total f n r)
-number_place f n s total bytes front (b ∷ l) e h r = by (allows s (kind_of b)) refl r where
-  by : (v : Bool) → allows s (kind_of b) ≡ v → cond v (made (token_of (kind_of b) total (b ∷ l))) (Stops (Some (fault.Syntax (total - length (b ∷ l))))) ≡ Stops (Some f) → Place (Says f) (48 ∷ []) s total bytes (place_in f)
+-- a token that may stand wherever a number may
+pub record IsLikeNumber (k : Token) (text : List ℕ) : Type 0 where
+  pub allowed : (s : Shape) → allows s kind.Int ≡ true → allows s (kind_of_token k) ≡ true
+  pub spelled : SpellsToken k (text ++ [])
+
+number_place : (k : Token) (text : List ℕ) → IsLikeNumber k text → (f : TermFault) → OfNumber f → (s : Shape) (total : ℕ) (bytes front l : List ℕ) → bytes ≡ front ++ l → list_all is_blank front ≡ true → next_at s total l ≡ Stops (Some f) → Place (Says f) text s total bytes (place_in f)
+number_place k text like f n s total bytes front [] e h r = absurd (end_none (may_end s.expect s.brackets) total f n r)
+number_place k text like f n s total bytes front (b ∷ l) e h r = by (allows s (kind_of b)) refl r where
+  by : (v : Bool) → allows s (kind_of b) ≡ v → cond v (made (token_of (kind_of b) total (b ∷ l))) (Stops (Some (fault.Syntax (total - length (b ∷ l))))) ≡ Stops (Some f) → Place (Says f) text s total bytes (place_in f)
   by false ev q = absurd (subst OfNumber (sym (stops_fault (fault.Syntax (total - length (b ∷ l))) f q)) n)
   by true ev q =
       let t = token_says (kind_of b) total b l f n (made_err (token_of (kind_of b) total (b ∷ l)) f q) in
       let allowed : allows s kind.Int ≡ true = ap (allows s) (sym t.0) ∙ ev in
-      (front, b ∷ l, e, t.1, t.2, within_token s front (token.Int (pos 0)) (48 ∷ []) [] h allowed spells_zero)
+      (front, b ∷ l, e, t.1, t.2, within_token s front k text [] h (like.allowed s allowed) like.spelled)
 
-numeral_fault : (bytes : List ℕ) (f : TermFault) → OfNumber f → StopsAt bytes f → TakesNumber bytes (place_in f) × Says f (drop (place_in f) bytes)
-numeral_fault bytes f n r =
+number_takes : (k : Token) (text : List ℕ) → IsLikeNumber k text → (bytes : List ℕ) (f : TermFault) → OfNumber f → StopsAt bytes f → Takes text bytes (place_in f) × Says f (drop (place_in f) bytes)
+number_takes k text like bytes f n r =
     let p = place_in f in
-    let g = goes_on_with (Says f) (48 ∷ []) bytes p (runs_place (Says f) (48 ∷ []) f p (number_place f n) r.0 start (length bytes) bytes r.1) in (
-      (g.2.0, g.2.1, subst (λ (m : List ℕ). Reads m g.2.1) (append_assoc (take p bytes) (48 ∷ []) g.2.0) g.2.2),
+    let g = goes_on_with (Says f) text bytes p (runs_place (Says f) text f p (number_place k text like f n) r.0 start (length bytes) bytes r.1) in (
+      (g.2.0, g.2.1, subst (λ (m : List ℕ). Reads m g.2.1) (append_assoc (take p bytes) text g.2.0) g.2.2),
       g.1,
     )
 
-pub real_fault : (bytes : List ℕ) (p : ℕ) → StopsAt bytes (fault.Real p) → TakesNumber bytes p × BeginsReal (drop p bytes)
+like_zero : IsLikeNumber (token.Int (pos 0)) (48 ∷ [])
+like_zero = record { allowed = λ s a. a; spelled = spells_zero }
+
+string_expected : (e : Expect) (bs : List Bracket) → expects e bs kind.Int ≡ true → expects e bs kind.Str ≡ true
+string_expected expect.Term bs a = refl
+string_expected expect.First bs a = refl
+string_expected expect.Further [] a = a
+string_expected expect.Further (Paren ∷ bs) a = a
+string_expected expect.Further (Square ∷ bs) a = a
+string_expected expect.Named [] a = a
+string_expected expect.Named (Paren ∷ bs) a = a
+string_expected expect.Named (Square ∷ bs) a = a
+
+like_empty : IsLikeNumber (token.Str []) (34 ∷ 34 ∷ [])
+like_empty =
+    record { allowed = λ s a. string_expected s.expect s.brackets a; spelled = record { is = and_from (is_utf8 []) (is_text []) (is_utf8-from_IsUtf8 [] IsUtf8-nil) refl; inner = []; quoted = refl; spelled = refl } }
+
+numeral_fault : (bytes : List ℕ) (f : TermFault) → OfNumber f → StopsAt bytes f → TakesTerm bytes (place_in f) × Says f (drop (place_in f) bytes)
+numeral_fault bytes f n r =
+    let number = number_takes (token.Int (pos 0)) (48 ∷ []) like_zero bytes f n r in
+    ((number.0, (number_takes (token.Str []) (34 ∷ 34 ∷ []) like_empty bytes f n r).0), number.1)
+
+pub real_fault : (bytes : List ℕ) (p : ℕ) → StopsAt bytes (fault.Real p) → TakesTerm bytes p × BeginsReal (drop p bytes)
 real_fault bytes p r = numeral_fault bytes (fault.Real p) tt r
 
-pub range_fault : (bytes : List ℕ) (p : ℕ) → StopsAt bytes (fault.IntRange p) → TakesNumber bytes p × BeginsTooFar (drop p bytes)
+pub range_fault : (bytes : List ℕ) (p : ℕ) → StopsAt bytes (fault.IntRange p) → TakesTerm bytes p × BeginsTooFar (drop p bytes)
 range_fault bytes p r = numeral_fault bytes (fault.IntRange p) tt r

@@ -1,13 +1,17 @@
 -- What stands at the place of a fault of a number.
-use Rattle.std.specs.Prelude.{◌≡◌, ℕ, ℤ, Bool, true, false, List, ◌∷◌, ◌++◌, IsTrue, take}
+use Rattle.std.specs.Prelude.{◌≡◌, ℕ, ℤ, Bool, true, false, List, [], ◌∷◌, ◌++◌, IsTrue, take}
 use Rattle.std.specs.List.{prefix_len}
 use Rattle.tb_terms.specs.Names.{is_digit}
 use Rattle.tb_terms.specs.declared.term.Term.{Term}
 use Rattle.tb_read.specs.Spelling.{is_digits, SpellsNumber, Reads}
 
--- a number may begin at this place: what stands before it goes on to a term with a 0 there
-abbrev pub TakesNumber : List ℕ → ℕ → Type 0
-TakesNumber bytes place = (rest : List ℕ) × (term : Term) × Reads (take place bytes ++ 48 ∷ rest) term
+-- what stands before this place goes on to a term with this text there
+abbrev pub Takes : List ℕ → List ℕ → ℕ → Type 0
+Takes text bytes place = (rest : List ℕ) × (term : Term) × Reads (take place bytes ++ (text ++ rest)) term
+
+-- a term may begin at this place, and not only go on: a number could stand there, and a string as well
+abbrev pub TakesTerm : List ℕ → ℕ → Type 0
+TakesTerm bytes place = Takes (48 ∷ []) bytes place × Takes (34 ∷ 34 ∷ []) bytes place
 
 abbrev pub signed : Bool → List ℕ → List ℕ
 signed true digits = 45 ∷ digits

@@ -7,7 +7,7 @@ ghost use Rattle.tb_read.specs.declared.fault.TermFault.{TermFault};
 ghost use Rattle.tb_read.specs.declared.fault.TermFault.TheVariants.{NoMemory, Syntax, Real, IntRange};
 ghost use Rattle.tb_read.specs.Spelling.{Reads};
 ghost use Rattle.tb_read.specs.Reading.{HasFault};
-ghost use Rattle.tb_read.specs.Places.{TakesNumber, BeginsReal, BeginsTooFar};
+ghost use Rattle.tb_read.specs.Places.{TakesTerm, BeginsReal, BeginsTooFar};
 ghost use Rattle.tb_terms.specs.Texts.{term_text};
 
 use tb_terms::{Term, show_proper};
@@ -37,12 +37,12 @@ pub fn syntax_stops()
         → (rest : List ℕ) (t : Term) → Reads (take (place + 1) bytes ++ rest) t → ⊥ }
 {}
 
-/// A real, or an integer out of range, stands where a number may begin; and it is one.
+/// A real, or an integer out of range, stands where a term may begin; and it is one.
 pub fn numeral_faults()
     ensures real { (bytes : List ℕ) (place : ℕ) → HasFault bytes (Real place)
-        → TakesNumber bytes place × BeginsReal (drop place bytes) }
+        → TakesTerm bytes place × BeginsReal (drop place bytes) }
     ensures range { (bytes : List ℕ) (place : ℕ) → HasFault bytes (IntRange place)
-        → TakesNumber bytes place × BeginsTooFar (drop place bytes) }
+        → TakesTerm bytes place × BeginsTooFar (drop place bytes) }
 {}
 
 /// The written text of a term reads as the term. The call walks the term, and changes nothing.

@@ -18,8 +18,8 @@ use Rattle.tb_lex.proofs.Gaps.{no_gap}
 use Rattle.tb_syntax.specs.declared.gap.Before.{Before}
 use Rattle.tb_syntax.specs.declared.gap.Before.TheVariants.{Nothing, Opening, Name, Other}
 use Rattle.tb_syntax.specs.ProperKinds.{is_proper_kind}
-use Rattle.tb_syntax.specs.TokenText.{token_text, before_next, symbol_before, gap, text_from, tokens_text, is_closing, is_joining, space, space_after_name}
-use Rattle.tb_syntax.specs.Words.{is_among, definition_words, leading_words}
+use Rattle.tb_syntax.specs.TokenText.{definition_words, leading_words, token_text, before_next, symbol_before, gap, text_from, tokens_text, is_closing, is_joining, space, space_after_name}
+use Rattle.tb_syntax.specs.Words.{is_among}
 
 -- each token's text spells it
 spelled : (k : TokenKind) → is_proper_kind k ≡ true → SpellsKind k (token_text k)

@@ -1,5 +1,5 @@
 -- The text that is printed for tokens: between each two of them nothing, a blank, or a new line.
-use Rattle.std.specs.Prelude.{ℕ, Bool, true, false, List, [], ◌∷◌, ◌++◌, if◌then◌else◌}
+use Rattle.std.specs.Prelude.{ℕ, Bool, true, false, List, [], ◌∷◌, ◌++◌, codes, if◌then◌else◌}
 use Rattle.std.specs.Fmt.{signed_decimal}
 use Rattle.tb_terms.specs.Texts.{quoted}
 use Rattle.tb_lex.specs.declared.kind.TokenKind.{TokenKind}
@@ -9,7 +9,15 @@ use Rattle.tb_lex.specs.declared.symbol.Symbol.{Symbol}
 use Rattle.tb_lex.specs.declared.symbol.Symbol.TheVariants.{LeftParen, RightParen, LeftBracket, RightBracket, Comma, Question, Less, Greater}
 use Rattle.tb_syntax.specs.declared.gap.Before.{Before}
 use Rattle.tb_syntax.specs.declared.gap.Before.TheVariants.{Nothing, Opening, Name, Other}
-use Rattle.tb_syntax.specs.Words.{is_among, leading_words, definition_words}
+use Rattle.tb_syntax.specs.Words.{is_among}
+
+-- the words that begin a line of a printed script
+abbrev pub definition_words : List (List ℕ)
+definition_words = codes "process" ∷ codes "tool" ∷ codes "toolbus" ∷ []
+
+-- the words that a process may follow
+abbrev pub leading_words : List (List ℕ)
+leading_words = codes "is" ∷ codes "in" ∷ codes "then" ∷ codes "else" ∷ []
 
 abbrev pub token_text : TokenKind → List ℕ
 token_text (Int number) = signed_decimal number

@@ -40,11 +40,3 @@ is_time_word = is_among time_words
 
 abbrev pub is_sort_word : List ℕ → Bool
 is_sort_word = is_among sort_words
-
--- the words that begin a line of a printed script
-abbrev pub definition_words : List (List ℕ)
-definition_words = codes "process" ∷ codes "tool" ∷ codes "toolbus" ∷ []
-
--- the words that a process may follow
-abbrev pub leading_words : List (List ℕ)
-leading_words = codes "is" ∷ codes "in" ∷ codes "then" ∷ codes "else" ∷ []

@@ -82,74 +82,20 @@ fn of_three(
 
 #[test]
 fn parentheses_stand_only_where_they_are_needed(rt: HostRuntime) -> Result<(), Fail> {
+    use Operator::{Alt, Par, Seq, Star};
     let table: [(Operator, Operator, bool, &str); 12] = [
-        (Operator::Seq, Operator::Alt, true, "tau . printf + delta\n"),
-        (
-            Operator::Seq,
-            Operator::Alt,
-            false,
-            "tau + printf . delta\n",
-        ),
-        (
-            Operator::Alt,
-            Operator::Seq,
-            true,
-            "(tau + printf) . delta\n",
-        ),
-        (
-            Operator::Alt,
-            Operator::Seq,
-            false,
-            "tau . (printf + delta)\n",
-        ),
-        (
-            Operator::Alt,
-            Operator::Star,
-            true,
-            "(tau + printf) * delta\n",
-        ),
-        (
-            Operator::Alt,
-            Operator::Star,
-            false,
-            "tau * (printf + delta)\n",
-        ),
-        (
-            Operator::Star,
-            Operator::Star,
-            true,
-            "tau * printf * delta\n",
-        ),
-        (
-            Operator::Star,
-            Operator::Star,
-            false,
-            "tau * (printf * delta)\n",
-        ),
-        (
-            Operator::Seq,
-            Operator::Seq,
-            true,
-            "(tau . printf) . delta\n",
-        ),
-        (
-            Operator::Seq,
-            Operator::Seq,
-            false,
-            "tau . printf . delta\n",
-        ),
-        (
-            Operator::Par,
-            Operator::Alt,
-            true,
-            "(tau || printf) + delta\n",
-        ),
-        (
-            Operator::Star,
-            Operator::Par,
-            true,
-            "tau * printf || delta\n",
-        ),
+        (Seq, Alt, true, "tau . printf + delta\n"),
+        (Seq, Alt, false, "tau + printf . delta\n"),
+        (Alt, Seq, true, "(tau + printf) . delta\n"),
+        (Alt, Seq, false, "tau . (printf + delta)\n"),
+        (Alt, Star, true, "(tau + printf) * delta\n"),
+        (Alt, Star, false, "tau * (printf + delta)\n"),
+        (Star, Star, true, "tau * printf * delta\n"),
+        (Star, Star, false, "tau * (printf * delta)\n"),
+        (Seq, Seq, true, "(tau . printf) . delta\n"),
+        (Seq, Seq, false, "tau . printf . delta\n"),
+        (Par, Alt, true, "(tau || printf) + delta\n"),
+        (Star, Par, true, "tau * printf || delta\n"),
     ];
     looser_stands_in_parens();
     for (inner, outer, is_left, text) in table {
