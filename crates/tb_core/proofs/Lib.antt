@@ -14,5 +14,6 @@ pub mod ReceiverLemmas
 pub mod SoundLemmas
 pub mod ReadLemmas
 pub mod PutLemmas
+pub mod ApartLemmas
 pub mod CoreLemmas
 pub mod OpenLemmas

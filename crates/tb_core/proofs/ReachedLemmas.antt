@@ -43,11 +43,11 @@ use Rattle.tb_terms.proofs.SameLemmas.{is_same-refl, is_same-sound}
 
 -- lists
 
-All-flat_map : {X A : Type 0} (P : A → Type 0) (f : X → List A) (xs : List X) → All (λ x. All P (f x)) xs → All P (flat_map f xs)
+pub All-flat_map : {X A : Type 0} (P : A → Type 0) (f : X → List A) (xs : List X) → All (λ x. All P (f x)) xs → All P (flat_map f xs)
 All-flat_map P f [] h = All-nil P
 All-flat_map P f (x ∷ xs) h = All-append P (f x) (flat_map f xs) (All-head (λ y. All P (f y)) x xs h) (All-flat_map P f xs (All-tail (λ y. All P (f y)) x xs h))
 
-All-one : {X : Type 0} (P : X → Type 0) (x : X) → P x → All P (x ∷ [])
+pub All-one : {X : Type 0} (P : X → Type 0) (x : X) → P x → All P (x ∷ [])
 All-one P x p = All-cons P x [] p (All-nil P)
 
 contains-cases : {X : Type 0} (x y : X) (xs : List X) → Contains (x ∷ xs) y → (x ≡ y) ⊎ Contains xs y
@@ -59,7 +59,7 @@ contains-further x y xs (k, l, e) = (suc k, omega arith, e)
 
 -- numbers that ascend
 
-abbrev Ascend : ℕ → List Proc → Type 0
+abbrev pub Ascend : ℕ → List Proc → Type 0
 Ascend below [] = ⊤
 Ascend below (proc ∷ procs) = (below < proc.number) × Ascend proc.number procs
 
@@ -74,7 +74,7 @@ above-by below first procs proc h more (inr c) =
     let much = more c in
     omega arith
 
-ascend-above : (below : ℕ) (procs : List Proc) (proc : Proc) → Ascend below procs → Contains procs proc → below < proc.number
+pub ascend-above : (below : ℕ) (procs : List Proc) (proc : Proc) → Ascend below procs → Contains procs proc → below < proc.number
 ascend-above below [] proc h c = let l = c.1 in absurd (omega arith)
 ascend-above below (first ∷ procs) proc h c = above-by below first procs proc h (ascend-above first.number procs proc h.1) (contains-cases first proc procs c)
 

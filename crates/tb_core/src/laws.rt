@@ -1,4 +1,5 @@
-ghost use Rattle.std.specs.Prelude.{◌≡◌, ◌++◌, ℕ, List, Contains};
+ghost use Rattle.std.specs.Prelude.{◌≡◌, ◌≢◌, ◌++◌, ℕ, List, Contains};
+ghost use Rattle.std.specs.List.{AllPairs};
 ghost use Rattle.tb_core.specs.Buses.{Bus, Origin};
 ghost use Rattle.tb_core.specs.Steps.{Step, steps};
 ghost use Rattle.tb_core.specs.Traces.{IsLegal, IsTrace, after};
@@ -23,6 +24,11 @@ pub fn simulations_log_traces()
 pub fn one_simulation()
     ensures { (limit : ℕ) (bus : Bus) (log other : List Entry) (end last : SimEnd) →
         IsSim limit (sim_start bus) log end → IsSim limit (sim_start bus) other last → (log ≡ other) × (end ≡ last) }
+{}
+
+/// In a bus that a program reaches the labels of the steps differ, each from each.
+pub fn labels_differ()
+    ensures { (origin : Origin) (bus : Bus) → Reaches origin bus → AllPairs (λ (one other : Step). one.label ≢ other.label) (steps bus) }
 {}
 
 /// In a bus that a program reaches, steps that are seen alike are the same step.

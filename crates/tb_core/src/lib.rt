@@ -23,7 +23,7 @@ pub use answers::{CoreFault, Stepped};
 pub use deed::Deed;
 pub use ends::SimEnd;
 pub use laws::{
-    fronts_are_traces, one_bus_after_an_entry, one_simulation, one_step_a_label,
+    fronts_are_traces, labels_differ, one_bus_after_an_entry, one_simulation, one_step_a_label,
     simulations_log_traces,
 };
 pub use log::{Entry, Input, Label, LabelKind, Place, Reply, Why};
