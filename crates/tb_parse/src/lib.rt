@@ -2,11 +2,17 @@
 #![tactic(auto)]
 
 mod atoms;
+mod brackets;
+mod built;
+mod definitions;
 mod exprs;
 mod fault;
 mod parser;
+mod procs;
 mod reader;
 mod sorts;
+#[cfg(test)]
+mod tests;
 
 pub use fault::ParseFault;
 pub use parser::parse;

@@ -6,12 +6,15 @@ ghost use Rattle.tb_parse.specs.Faults.{NoneTooDeep, IsScriptOf, IsUnspelt, IsTo
 ghost use Rattle.tb_parse.specs.declared.fault.ParseFault.{ParseFault};
 
 use crate::ParseFault;
+use crate::brackets::too_deep;
+use crate::definitions::script;
+use crate::reader::Reader;
 use std::alloc::Global;
 use tb_lex::Tokens;
 use tb_syntax::Script;
 
 /// The script that tokens spell.
-pub fn parse(_alloc: Global, tokens: &Tokens) -> Result<Script, ParseFault>
+pub fn parse(alloc: Global, tokens: &Tokens) -> Result<Script, ParseFault>
     ensures found { IfOk result (IsScriptOf (kinds_of tokens.now)) }
 
     // Nothing else keeps tokens from being read as their script.
@@ -23,6 +26,9 @@ pub fn parse(_alloc: Global, tokens: &Tokens) -> Result<Script, ParseFault>
     ensures exact { (place : ℕ) → IsTooDeep (kinds_of tokens.now) place ⊎ IsTooHigh (kinds_of tokens.now) place
         → (result ≡ Err (ParseFault.TooDeep place)) ⊎ (result ≡ Err ParseFault.NoMemory) }
 {
-    let _count = tokens.len();
-    Err(ParseFault::NoMemory)
+    let tokens = tokens.as_slice();
+    if let Some(place) = too_deep(tokens) {
+        return Err(ParseFault::TooDeep(place));
+    }
+    script(alloc, &mut Reader::new(tokens), tokens.len())
 }
