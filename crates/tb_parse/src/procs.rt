@@ -15,6 +15,7 @@ use tb_syntax::{ActDef, Ast, AtomDef, Proc, is_atom_word};
 use tb_terms::{Ident, Items, Name};
 
 /// A whole process. The room bounds how deep processes stand in each other.
+#[tactic(auto, unfolding(crate::specs::Parsing::proc))]
 pub(crate) fn proc(
     alloc: Global,
     reader: &mut Reader<'_>,
@@ -91,6 +92,7 @@ fn turns(alloc: Global, reader: &mut Reader<'_>, room: usize) -> Result<Built, P
 }
 
 /// What stands by itself.
+#[tactic(auto, unfolding(crate::specs::Parsing::prim))]
 #[cycle(procs)]
 fn prim(alloc: Global, reader: &mut Reader<'_>, room: usize) -> Result<Built, ParseFault>
     ensures { Meets (runs (as_built (prim room)) reader.old) result reader.new }
@@ -101,6 +103,7 @@ fn prim(alloc: Global, reader: &mut Reader<'_>, room: usize) -> Result<Built, Pa
     prim_of(alloc, reader, room - 1)
 }
 
+#[tactic(auto, unfolding(crate::specs::Parsing::prim_of))]
 #[cycle(procs)]
 fn prim_of(alloc: Global, reader: &mut Reader<'_>, room: usize) -> Result<Built, ParseFault>
     ensures { Meets (runs (as_built (prim_of (merge (prim room) room) room)) reader.old) result reader.new }
@@ -122,6 +125,7 @@ fn prim_of(alloc: Global, reader: &mut Reader<'_>, room: usize) -> Result<Built,
 }
 
 /// An assignment or a call whose name stands at this place, and is taken already.
+#[tactic(auto, using(crate::proofs::Trees::built_call), unfolding(crate::specs::Parsing::upper_proc))]
 fn upper_proc(
     alloc: Global,
     reader: &mut Reader<'_>,
@@ -140,6 +144,7 @@ fn upper_proc(
 }
 
 /// The times of an atom that begins at this place.
+#[tactic(auto, using(crate::proofs::Trees::built_atom), unfolding(crate::specs::Parsing::timed))]
 fn timed(
     alloc: Global,
     reader: &mut Reader<'_>,
@@ -155,6 +160,7 @@ fn timed(
 }
 
 /// What begins with a word that stands at this place, and is taken already.
+#[tactic(auto, unfolding(crate::specs::Parsing::lower_proc))]
 #[cycle(procs)]
 fn lower_proc(
     alloc: Global,
@@ -184,6 +190,7 @@ fn lower_proc(
 }
 
 /// What stands behind the word `let`.
+#[tactic(auto, unfolding(crate::specs::Parsing::block))]
 #[cycle(procs)]
 fn block(alloc: Global, reader: &mut Reader<'_>, room: usize) -> Result<Built, ParseFault>
     ensures { Meets (runs (as_built (block (merge (prim room) room) room)) reader.old) result reader.new }
@@ -196,6 +203,7 @@ fn block(alloc: Global, reader: &mut Reader<'_>, room: usize) -> Result<Built, P
 }
 
 /// What stands behind the word `if`.
+#[tactic(auto, unfolding(crate::specs::Parsing::test))]
 #[cycle(procs)]
 fn test(alloc: Global, reader: &mut Reader<'_>, room: usize) -> Result<Built, ParseFault>
     ensures { Meets (runs (as_built (test (merge (prim room) room) room)) reader.old) result reader.new }
@@ -207,6 +215,7 @@ fn test(alloc: Global, reader: &mut Reader<'_>, room: usize) -> Result<Built, Pa
 }
 
 /// What stands behind the first side of a test.
+#[tactic(auto, unfolding(crate::specs::Parsing::sides))]
 #[cycle(procs)]
 fn sides(
     alloc: Global,
