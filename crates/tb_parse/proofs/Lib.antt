@@ -1,6 +1,11 @@
+pub mod Blocks
 pub mod Chains
 pub mod Exits
+pub mod KeptRows
 pub mod Parts
+pub mod Processes
+pub mod Scripts
+pub mod Skips
 pub mod Stars
 pub mod Times
 pub mod Trees

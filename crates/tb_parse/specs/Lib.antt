@@ -1,3 +1,4 @@
+pub mod Defining
 pub mod Faults
 pub mod Heights
 pub mod Parsing

@@ -1,51 +1,25 @@
+ghost use Rattle.tb_parse.specs.Parsing.{script, definitions, formal, in_parens, parted, tool, command, roots};
+ghost use Rattle.tb_parse.specs.Defining.{Defines, Judges, process_made, definitions_kept};
+ghost use Rattle.tb_parse.specs.Reading.{Meets, runs};
+
 use crate::ParseFault;
 use crate::atoms::{calls, var};
-use crate::built::Built;
+use crate::kept::{Kept, Made, add, definition, nothing, whole};
 use crate::procs::proc;
 use crate::reader::Reader;
 use std::alloc::Global;
 use tb_lex::Symbol;
-use tb_syntax::{Calls, Formal, Formals, ProcDef, ProcDefs, Script, ToolDef, ToolDefs, Var};
-use tb_terms::{Items, NoMemory, Text};
+use tb_syntax::{Calls, Formal, Formals, Script, ToolDef, Var};
+use tb_terms::{Items, Text};
 
-/// What is defined so far: the processes that are not too high, and the place of the first that is.
-#[derive(Debug, Drop)]
-struct Defined {
-    procs: ProcDefs,
-    tools: ToolDefs,
-    too_high: Option<usize>,
-}
-
-impl Defined {
-    fn new(alloc: Global) -> Defined {
-        Defined {
-            procs: Items::new(alloc),
-            tools: Items::new(alloc),
-            too_high: None,
-        }
-    }
-
-    /// Takes a process whose definition stands at this place.
-    fn add(&mut self, token: usize, made: Option<ProcDef>) -> Result<(), NoMemory> {
-        match made {
-            Some(definition) => {
-                self.procs.push(definition)?;
-                Ok(())
-            }
-            None => {
-                self.too_high = self.too_high.or(Some(token));
-                Ok(())
-            }
-        }
-    }
-}
-
-/// The script that the reader has before it.
+/// The script that the reader has before it, with nothing behind it.
 pub(crate) fn script(
     alloc: Global,
     reader: &mut Reader<'_>,
     room: usize,
-) -> Result<Script, ParseFault> {
+) -> Result<Script, ParseFault>
+    ensures { Judges (runs (script room) reader.old) result }
+{
     let defined = definitions(alloc, reader, room)?;
     reader.skip_word(b"toolbus")?;
     reader.skip_sign(Symbol::LeftParen)?;
@@ -56,29 +30,10 @@ pub(crate) fn script(
     whole(defined, roots)
 }
 
-/// The script of these parts, where no body is too high.
-fn whole(defined: Defined, roots: Calls) -> Result<Script, ParseFault> {
-    let Defined {
-        procs,
-        tools,
-        too_high,
-    } = defined;
-    match too_high {
-        Some(place) => Err(ParseFault::TooDeep(place)),
-        None => Ok(Script {
-            procs,
-            tools,
-            roots,
-        }),
-    }
-}
-
-fn definitions(
-    alloc: Global,
-    reader: &mut Reader<'_>,
-    room: usize,
-) -> Result<Defined, ParseFault> {
-    let mut found = Defined::new(alloc);
+fn definitions(alloc: Global, reader: &mut Reader<'_>, room: usize) -> Result<Kept, ParseFault>
+    ensures { Meets (runs (definitions_kept room room) reader.old) result reader.new }
+{
+    let mut found = nothing(alloc);
     for _turn in 0..room {
         if !define(alloc, reader, room, &mut found)? {
             return Ok(found);
@@ -92,45 +47,45 @@ fn define(
     alloc: Global,
     reader: &mut Reader<'_>,
     room: usize,
-    found: &mut Defined,
-) -> Result<bool, ParseFault> {
+    found: &mut Kept,
+) -> Result<bool, ParseFault>
+    ensures { Defines room found.old reader.old result found.new reader.new }
+{
     let token = reader.place();
     if reader.eat_word(b"process") {
         let made = process(alloc, reader, room, token)?;
-        found.add(token, made)?;
+        add(found, made)?;
         return Ok(true);
     }
     if reader.eat_word(b"tool") {
-        found.tools.push(tool(alloc, reader, token)?)?;
+        let declared = tool(alloc, reader, token)?;
+        found.tools.push(declared)?;
         return Ok(true);
     }
     Ok(false)
 }
 
-/// What stands behind the word `process`, which stands at this place: none where its body is too
-/// high.
+/// What stands behind the word `process`, which stands at this place.
 fn process(
     alloc: Global,
     reader: &mut Reader<'_>,
     room: usize,
     token: usize,
-) -> Result<Option<ProcDef>, ParseFault> {
+) -> Result<Made, ParseFault>
+    ensures { Meets (runs (process_made room token) reader.old) result reader.new }
+{
     let name = reader.upper(alloc)?;
     let formals = formals(alloc, reader, room)?;
     reader.skip_word(b"is")?;
-    match proc(alloc, reader, room)? {
-        Built::Tree(body, _) => Ok(Some(ProcDef {
-            name,
-            formals,
-            body: body.into_inner(),
-            token,
-        })),
-        Built::TooHigh => Ok(None),
-    }
+    let body = proc(alloc, reader, room)?;
+    Ok(definition(name, formals, body, token))
 }
 
 /// Formals in parentheses, which are left out where there are none.
-fn formals(alloc: Global, reader: &mut Reader<'_>, room: usize) -> Result<Formals, ParseFault> {
+#[tactic(auto, unfolding(crate::specs::Parsing::in_parens))]
+fn formals(alloc: Global, reader: &mut Reader<'_>, room: usize) -> Result<Formals, ParseFault>
+    ensures { Meets (runs (in_parens (formal room) room) reader.old) result reader.new }
+{
     if !reader.eat_sign(Symbol::LeftParen) {
         return Ok(Items::new(alloc));
     }
@@ -143,7 +98,9 @@ fn parted_formals(
     alloc: Global,
     reader: &mut Reader<'_>,
     room: usize,
-) -> Result<Formals, ParseFault> {
+) -> Result<Formals, ParseFault>
+    ensures { Meets (runs (parted (formal room) room) reader.old) result reader.new }
+{
     let mut found = Items::new(alloc);
     for _turn in 0..room {
         found.push(formal(alloc, reader, room)?)?;
@@ -154,7 +111,10 @@ fn parted_formals(
     Err(ParseFault::Syntax(reader.place()))
 }
 
-fn formal(alloc: Global, reader: &mut Reader<'_>, room: usize) -> Result<Formal, ParseFault> {
+#[tactic(auto, unfolding(crate::specs::Parsing::formal))]
+fn formal(alloc: Global, reader: &mut Reader<'_>, room: usize) -> Result<Formal, ParseFault>
+    ensures { Meets (runs (formal room) reader.old) result reader.new }
+{
     let Var {
         name,
         sort,
@@ -172,7 +132,10 @@ fn formal(alloc: Global, reader: &mut Reader<'_>, room: usize) -> Result<Formal,
 }
 
 /// What stands behind the word `tool`, which stands at this place.
-fn tool(alloc: Global, reader: &mut Reader<'_>, token: usize) -> Result<ToolDef, ParseFault> {
+#[tactic(auto, unfolding(crate::specs::Parsing::tool))]
+fn tool(alloc: Global, reader: &mut Reader<'_>, token: usize) -> Result<ToolDef, ParseFault>
+    ensures { Meets (runs (tool token) reader.old) result reader.new }
+{
     let name = reader.free_name(alloc)?;
     reader.skip_word(b"is")?;
     reader.skip_sign(Symbol::LeftBrace)?;
@@ -185,7 +148,10 @@ fn tool(alloc: Global, reader: &mut Reader<'_>, token: usize) -> Result<ToolDef,
     })
 }
 
-fn command(alloc: Global, reader: &mut Reader<'_>) -> Result<Option<Text>, ParseFault> {
+#[tactic(auto, unfolding(crate::specs::Parsing::command))]
+fn command(alloc: Global, reader: &mut Reader<'_>) -> Result<Option<Text>, ParseFault>
+    ensures { Meets (runs command reader.old) result reader.new }
+{
     if !reader.eat_word(b"command") {
         return Ok(None);
     }
@@ -194,7 +160,10 @@ fn command(alloc: Global, reader: &mut Reader<'_>) -> Result<Option<Text>, Parse
 }
 
 /// The processes with which a script starts, behind the parenthesis.
-fn roots(alloc: Global, reader: &mut Reader<'_>, room: usize) -> Result<Calls, ParseFault> {
+#[tactic(auto, unfolding(crate::specs::Parsing::roots))]
+fn roots(alloc: Global, reader: &mut Reader<'_>, room: usize) -> Result<Calls, ParseFault>
+    ensures { Meets (runs (roots room) reader.old) result reader.new }
+{
     if reader.eat_sign(Symbol::RightParen) {
         return Ok(Items::new(alloc));
     }

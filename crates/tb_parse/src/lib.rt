@@ -7,6 +7,7 @@ mod built;
 mod definitions;
 mod exprs;
 mod fault;
+mod kept;
 mod parser;
 mod procs;
 mod reader;
