@@ -115,23 +115,23 @@ text at (Upper name ∷ ks) = Stops at
 text at (Sign symbol ∷ ks) = Stops at
 
 -- a name that a term, a tool or a sort may have
-abbrev pub free_name : Parser (List ℕ)
+unfoldable pub free_name : Parser (List ℕ)
 free_name at ks = after (lower at ks) (λ name behind rest. if is_free name then Found name behind rest else Stops at)
 
 -- In what follows a number bounds how many constructs may still be read; the number of tokens is always enough.
 
 -- one thing or more, with a comma between each two
-abbrev pub parted : {A : Type 0} → Parser A → ℕ → Parser (List A)
+unfoldable pub parted : {A : Type 0} → Parser A → ℕ → Parser (List A)
 parted item zero at ks = Stops at
 parted item (suc room) at ks = after (item at ks) (λ x behind rest.
     if begins (is_sign Comma) rest then mapped (λ xs. x ∷ xs) (parted item room (behind + 1) (tail rest)) else Found (x ∷ []) behind rest)
 
 -- things in parentheses, which are left out where there are none
-abbrev pub in_parens : {A : Type 0} → Parser A → ℕ → Parser (List A)
+unfoldable pub in_parens : {A : Type 0} → Parser A → ℕ → Parser (List A)
 in_parens item room at ks =
     if begins (is_sign LeftParen) ks then after (parted item room (at + 1) (tail ks)) (expect (is_sign RightParen)) else Found [] at ks
 
-abbrev pub word_sort : List ℕ → Option Sort
+unfoldable pub word_sort : List ℕ → Option Sort
 word_sort name =
     if bytes_eq name (codes "bool") then Some sorts.Bool
     else (if bytes_eq name (codes "int") then Some sorts.Int
@@ -149,7 +149,7 @@ abbrev pub is_list : List ℕ → List TokenKind → Bool
 is_list name rest = if bytes_eq name (codes "list") then begins (is_sign LeftParen) rest else false
 
 -- a sort, and the place of its innermost name
-abbrev pub sort : ℕ → Parser (Sort × ℕ)
+unfoldable pub sort : ℕ → Parser (Sort × ℕ)
 sort zero at ks = Stops at
 sort (suc room) at ks = after (free_name at ks) (λ name behind rest.
     if is_list name rest
@@ -157,18 +157,18 @@ sort (suc room) at ks = after (free_name at ks) (λ name behind rest.
     else Found (named_sort name (word_sort name), at) behind rest)
 
 -- a sort that has a word, between `<` and `>`
-abbrev pub hole : Parser AstKind
+unfoldable pub hole : Parser AstKind
 hole at ks = after (lower at ks) (λ name behind rest. after (sorted at behind rest (word_sort name)) (expect (is_sign Greater))) where
   sorted : ℕ → ℕ → List TokenKind → Option Sort → Outcome AstKind
   sorted at behind rest None = Stops at
   sorted at behind rest (Some s) = Found (ast.Hole s) behind rest
 
-abbrev pub list : Parser Ast → ℕ → Parser AstKind
+unfoldable pub list : Parser Ast → ℕ → Parser AstKind
 list item room at ks =
     if begins (is_sign RightBracket) ks then Found (ast.List []) (at + 1) (tail ks)
     else after (mapped (λ parts. ast.List parts) (parted item room at ks)) (expect (is_sign RightBracket))
 
-abbrev pub kind : Parser Ast → ℕ → Parser AstKind
+unfoldable pub kind : Parser Ast → ℕ → Parser AstKind
 kind item room at [] = Stops at
 kind item room at (Int n ∷ ks) = Found (ast.Int n) (at + 1) ks
 kind item room at (Str bytes ∷ ks) = Found (ast.Str bytes) (at + 1) ks
@@ -178,22 +178,22 @@ kind item room at (Sign symbol ∷ ks) =
     if is_sign LeftBracket (Sign symbol) then list item room (at + 1) ks
     else (if is_sign Less (Sign symbol) then hole (at + 1) ks else Stops at)
 
-abbrev pub expr : ℕ → Parser Ast
+unfoldable pub expr : ℕ → Parser Ast
 expr zero at ks = Stops at
 expr (suc room) at ks = mapped (λ found. record { kind = found; token = at }) (kind (expr room) room at ks)
 
 -- the actuals of a call whose name stands at the place
-abbrev pub call_of : ℕ → List ℕ → ℕ → Parser Call
+unfoldable pub call_of : ℕ → List ℕ → ℕ → Parser Call
 call_of room name place at ks = mapped (λ actuals. record { name = name; actuals = actuals; token = place }) (in_parens (expr room) room at ks)
 
-abbrev pub call : ℕ → Parser Call
+unfoldable pub call : ℕ → Parser Call
 call room at ks = after (upper at ks) (λ name. call_of room name at)
 
-abbrev pub create : ℕ → Parser ActDef
+unfoldable pub create : ℕ → Parser ActDef
 create room = skip (is_sign LeftParen) (λ at ks. after (call room at ks) (λ made. skip (is_sign Comma) (λ at ks.
     after (expr room at ks) (λ variable. expect (is_sign RightParen) (act.Create made variable)))))
 
-abbrev pub time : ℕ → Parser TimeDef
+unfoldable pub time : ℕ → Parser TimeDef
 time room at ks = after (lower at ks) (λ name. skip (is_sign LeftParen) (λ behind rest. after (expr room behind rest) (λ value.
     expect (is_sign RightParen) (record { name = name; value = value; token = at }))))
 
@@ -205,42 +205,42 @@ is_time (Lower name) = is_time_word name
 is_time (Upper name) = false
 is_time (Sign symbol) = false
 
-abbrev pub times : ℕ → ℕ → Parser (List TimeDef)
+unfoldable pub times : ℕ → ℕ → Parser (List TimeDef)
 times inner zero at ks = Stops at
 times inner (suc room) at ks =
     if begins is_time ks then after (time inner at ks) (λ first at ks. mapped (λ rest. first ∷ rest) (times inner room at ks)) else Found [] at ks
 
 -- the times of an atom that begins at the place
-abbrev pub timed : ℕ → ℕ → ActDef → Parser Proc
+unfoldable pub timed : ℕ → ℕ → ActDef → Parser Proc
 timed room place what at ks = mapped (λ found. tree.Atom (record { act = what; times = found; token = place })) (times room room at ks)
 
-abbrev pub var : ℕ → Parser Var
+unfoldable pub var : ℕ → Parser Var
 var room at ks = after (upper at ks) (λ name. skip (is_sign Colon) (λ behind rest.
     mapped (λ found. record { name = name; sort = found.0; token = at; sort_token = found.1 }) (sort room behind rest)))
 
 -- what begins with an upper name at the place: an assignment or a call
-abbrev pub upper_proc : ℕ → List ℕ → ℕ → Parser Proc
+unfoldable pub upper_proc : ℕ → List ℕ → ℕ → Parser Proc
 upper_proc room name place at ks =
     if begins (is_sign Assign) ks
     then after (mapped (act.Set name) (expr room (at + 1) (tail ks))) (timed room place)
     else mapped tree.Call (call_of room name place at ks)
 
-abbrev pub block : Parser Proc → ℕ → Parser Proc
+unfoldable pub block : Parser Proc → ℕ → Parser Proc
 block whole room at ks = after (parted (var room) room at ks) (λ vars. skip (is_word (codes "in")) (λ at ks.
     after (whole at ks) (λ x. expect (is_word (codes "endlet")) (tree.Let vars x))))
 
 -- what stands behind the first side of a test
-abbrev pub sides : Parser Proc → Ast → Proc → Parser Proc
+unfoldable pub sides : Parser Proc → Ast → Proc → Parser Proc
 sides whole test x at ks =
     if begins (is_word (codes "else")) ks
     then after (whole (at + 1) (tail ks)) (λ y. expect (is_word (codes "fi")) (tree.If test x (Some y)))
     else expect (is_word (codes "fi")) (tree.If test x None) at ks
 
-abbrev pub test : Parser Proc → ℕ → Parser Proc
+unfoldable pub test : Parser Proc → ℕ → Parser Proc
 test whole room at ks = after (expr room at ks) (λ value. skip (is_word (codes "then")) (λ at ks. after (whole at ks) (sides whole value)))
 
 -- what begins with a lower name at the place
-abbrev pub lower_proc : Parser Proc → ℕ → List ℕ → ℕ → Parser Proc
+unfoldable pub lower_proc : Parser Proc → ℕ → List ℕ → ℕ → Parser Proc
 lower_proc whole room name place at ks =
     if bytes_eq name (codes "let") then block whole room at ks
     else (if bytes_eq name (codes "if") then test whole room at ks
@@ -248,7 +248,7 @@ lower_proc whole room name place at ks =
     else (if is_atom_word name then after (mapped (act.Named name) (in_parens (expr room) room at ks)) (timed room place)
     else Stops place)))
 
-abbrev pub prim_of : Parser Proc → ℕ → Parser Proc
+unfoldable pub prim_of : Parser Proc → ℕ → Parser Proc
 prim_of whole room at [] = Stops at
 prim_of whole room at (Int n ∷ ks) = Stops at
 prim_of whole room at (Str bytes ∷ ks) = Stops at
@@ -258,55 +258,55 @@ prim_of whole room at (Sign symbol ∷ ks) =
     if is_sign LeftParen (Sign symbol) then after (whole (at + 1) ks) (expect (is_sign RightParen)) else Stops at
 
 -- a thing, and behind the sign, where it stands, all the rest
-abbrev pub rightward : Symbol → (Proc → Proc → Proc) → Parser Proc → ℕ → Parser Proc
+unfoldable pub rightward : Symbol → (Proc → Proc → Proc) → Parser Proc → ℕ → Parser Proc
 rightward sign join item zero at ks = Stops at
 rightward sign join item (suc room) at ks = after (item at ks) (λ x behind rest.
     if begins (is_sign sign) rest then mapped (join x) (rightward sign join item room (behind + 1) (tail rest)) else Found x behind rest)
 
 -- the turns that stand behind what was read so far
-abbrev pub leftward : Parser Proc → ℕ → Proc → Parser Proc
+unfoldable pub leftward : Parser Proc → ℕ → Proc → Parser Proc
 leftward item zero x at ks = Stops at
 leftward item (suc room) x at ks =
     if begins (is_sign Star) ks then after (item (at + 1) (tail ks)) (λ y. leftward item room (tree.Star x y)) else Found x at ks
 
-abbrev pub turns : Parser Proc → ℕ → Parser Proc
+unfoldable pub turns : Parser Proc → ℕ → Parser Proc
 turns item room at ks = after (item at ks) (leftward item room)
 
-abbrev pub sequence : Parser Proc → ℕ → Parser Proc
+unfoldable pub sequence : Parser Proc → ℕ → Parser Proc
 sequence item room = rightward Point tree.Seq (turns item room) room
 
-abbrev pub choice : Parser Proc → ℕ → Parser Proc
+unfoldable pub choice : Parser Proc → ℕ → Parser Proc
 choice item room = rightward Plus tree.Alt (sequence item room) room
 
-abbrev pub merge : Parser Proc → ℕ → Parser Proc
+unfoldable pub merge : Parser Proc → ℕ → Parser Proc
 merge item room = rightward Bars tree.Par (choice item room) room
 
-abbrev pub prim : ℕ → Parser Proc
+unfoldable pub prim : ℕ → Parser Proc
 prim zero at ks = Stops at
 prim (suc room) at ks = prim_of (merge (prim room) room) room at ks
 
-abbrev pub proc : ℕ → Parser Proc
+unfoldable pub proc : ℕ → Parser Proc
 proc room = merge (prim room) room
 
-abbrev pub formal : ℕ → Parser Formal
+unfoldable pub formal : ℕ → Parser Formal
 formal room at ks = after (var room at ks) (λ found behind rest.
     if begins (is_sign Question) rest then Found (marked found true) (behind + 1) (tail rest) else Found (marked found false) behind rest) where
       marked : Var → Bool → Formal
       marked found result = record { name = found.name; sort = found.sort; result = result; token = found.token; sort_token = found.sort_token }
 
 -- what stands behind the word `process` at the place
-abbrev pub process : ℕ → ℕ → Parser ProcDef
+unfoldable pub process : ℕ → ℕ → Parser ProcDef
 process room place at ks = after (upper at ks) (λ name at ks. after (in_parens (formal room) room at ks) (λ formals.
     skip (is_word (codes "is")) (λ at ks. mapped (λ body. record { name = name; formals = formals; body = body; token = place }) (proc room at ks))))
 
-abbrev pub command : Parser (Option (List ℕ))
+unfoldable pub command : Parser (Option (List ℕ))
 command at ks =
     if begins (is_word (codes "command")) ks
     then skip (is_sign Equals) (λ at ks. mapped Some (text at ks)) (at + 1) (tail ks)
     else Found None at ks
 
 -- what stands behind the word `tool` at the place
-abbrev pub tool : ℕ → Parser ToolDef
+unfoldable pub tool : ℕ → Parser ToolDef
 tool place at ks = after (free_name at ks) (λ name. skip (is_word (codes "is")) (skip (is_sign LeftBrace) (λ at ks.
     after (command at ks) (λ found. expect (is_sign RightBrace) (record { name = name; command = found; token = place })))))
 
@@ -321,7 +321,7 @@ with_process d defined = record { procs = d ∷ defined.procs; tools = defined.t
 abbrev pub with_tool : ToolDef → Defined → Defined
 with_tool d defined = record { procs = defined.procs; tools = d ∷ defined.tools }
 
-abbrev pub definitions : ℕ → ℕ → Parser Defined
+unfoldable pub definitions : ℕ → ℕ → Parser Defined
 definitions inner zero at ks = Stops at
 definitions inner (suc room) at ks =
     if begins (is_word (codes "process")) ks
@@ -330,7 +330,7 @@ definitions inner (suc room) at ks =
     then after (tool at (at + 1) (tail ks)) (λ d at ks. mapped (with_tool d) (definitions inner room at ks))
     else Found (record { procs = []; tools = [] }) at ks)
 
-abbrev pub roots : ℕ → Parser (List Call)
+unfoldable pub roots : ℕ → Parser (List Call)
 roots room at ks =
     if begins (is_sign RightParen) ks then Found [] (at + 1) (tail ks)
     else after (parted (call room) room at ks) (expect (is_sign RightParen))
@@ -340,6 +340,6 @@ abbrev pub at_end : {A : Type 0} → A → Parser A
 at_end x at [] = Found x at []
 at_end x at (k ∷ ks) = Stops at
 
-abbrev pub script : ℕ → Parser Script
+unfoldable pub script : ℕ → Parser Script
 script room at ks = after (definitions room room at ks) (λ defined. skip (is_word (codes "toolbus")) (skip (is_sign LeftParen) (λ at ks.
     after (roots room at ks) (λ calls. at_end (record { procs = defined.procs; tools = defined.tools; roots = calls })))))
