@@ -1,3 +1,5 @@
 pub mod Fits
 pub mod Rows
 pub mod Signs
+pub mod SoundLists
+pub mod SoundSorts
