@@ -48,6 +48,13 @@ mapped_at S T f at ks h (Stops place) g = g
 pub mapping : {A B : Type 0} {S : Spelt A} {T : Spelt B} {at : ℕ} {ks : List TokenKind} {o : Outcome A} (f : A → B) → Fits S at ks o → ((x : A) (xs : List TokenKind) → S x xs → T (f x) xs) → Fits T at ks (mapped f o)
 mapping {S = S} {T = T} {at = at} {ks = ks} {o = o} f g h = record { fits = mapped_at S T f at ks h o g.fits }
 
+weaker_at : {A : Type 0} (S T : Spelt A) (at : ℕ) (ks : List TokenKind) → ((x : A) (xs : List TokenKind) → S x xs → T x xs) → (o : Outcome A) → FitsAt S at ks o → FitsAt T at ks o
+weaker_at S T at ks h (Found x end rest) g = (g.0, g.1, g.2, h x g.0 g.3)
+weaker_at S T at ks h (Stops place) g = g
+
+pub weaker : {A : Type 0} {S T : Spelt A} {at : ℕ} {ks : List TokenKind} {o : Outcome A} → Fits S at ks o → ((x : A) (xs : List TokenKind) → S x xs → T x xs) → Fits T at ks o
+weaker {S = S} {T = T} {at = at} {ks = ks} {o = o} g h = record { fits = weaker_at S T at ks h o g.fits }
+
 after_at : {A B : Type 0} (S : Spelt A) (T : Spelt B) (next : A → Parser B) (at : ℕ) (ks : List TokenKind)
     → ((x : A) (xs rest : List TokenKind) → S x xs → Fits (λ y ys. T y (xs ++ ys)) (at + length xs) rest (next x (at + length xs) rest)) → (o : Outcome A) → FitsAt S at ks o → Fits T at ks (after o next)
 after_at S T next at ks h (Found x end rest) g = subst (λ e. Fits T at ks (next x e rest)) (sym g.2) (joined g.0 rest g.1 (h x g.0 rest g.3))
