@@ -114,7 +114,7 @@ named_spelt : (at : ℕ) (name : List ℕ) → is_free name ≡ true → (o : Op
 named_spelt at name free None n = SpellsSort.tool at name free n
 named_spelt at name free (Some s) w = SpellsSort.plain at w
 
-at_sort : {at to inner : ℕ} {s : Sort} {ks : List TokenKind} → at ≡ to → SpellsSort at s inner ks → SpellsSort to s inner ks
+pub at_sort : {at to inner : ℕ} {s : Sort} {ks : List TokenKind} → at ≡ to → SpellsSort at s inner ks → SpellsSort to s inner ks
 at_sort {inner = inner} {s = s} {ks = ks} e d = subst (λ n. SpellsSort n s inner ks) e d
 
 inside_of : Parser (Sort × ℕ) → Parser (Sort × ℕ)
