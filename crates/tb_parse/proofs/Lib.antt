@@ -5,4 +5,5 @@ pub mod SoundAtoms
 pub mod SoundExprs
 pub mod SoundLists
 pub mod SoundProcs
+pub mod SoundScripts
 pub mod SoundSorts

@@ -8,10 +8,9 @@ use Rattle.tb_syntax.specs.declared.level.Level.TheVariants as level
 use Rattle.tb_syntax.specs.declared.proc.ActDef.{ActDef}
 use Rattle.tb_syntax.specs.declared.proc.ActDef.TheVariants as act
 use Rattle.tb_syntax.specs.declared.proc.Call.{Call}
-use Rattle.tb_syntax.specs.declared.proc.TimeDef.{TimeDef}
 use Rattle.tb_syntax.specs.Spelling.{InRow, SpellsExpr, SpellsCall, SpellsAct, SpellsTime, SpellsVar, SpellsProc}
 use Rattle.tb_syntax.specs.Words.{is_time_word}
-use Rattle.tb_parse.specs.Parsing.{Found, after, mapped, begins, expect, skip, is_sign, expr, call, create, sort, time, times, timed, is_time, var}
+use Rattle.tb_parse.specs.Parsing.{Found, after, mapped, expect, skip, is_sign, expr, call, create, sort, time, times, timed, var}
 use Rattle.tb_parse.proofs.Fits.{Fits, found, stops, token, behind, mapping, skip_sign, expect_sign}
 use Rattle.tb_parse.proofs.SoundLists.{Sound}
 use Rattle.tb_parse.proofs.SoundSorts.{upper_sound, sort_sound, at_sort}
@@ -28,15 +27,15 @@ pub create_sound : (room place : ℕ) (ks : List TokenKind) → Fits (λ a ns. S
 unfolding create
 create_sound room place ks =
     skip_sign LeftParen (λ at ks. after (call room at ks) (λ made. skip (is_sign Comma) (λ at ks. after (expr room at ks) (λ variable. expect (is_sign RightParen) (act.Create made variable)))))
-        (λ rest. behind _ (call_sound room (place + 1 + 1) rest) (λ c cs rest d.
-        skip_sign Comma (λ at ks. after (expr room at ks) (λ variable. expect (is_sign RightParen) (act.Create c variable))) (λ rest. behind _ (expr_sound room (place + 1 + 1 + length cs + 1) rest) (λ v vs rest e.
-            expect_sign RightParen _ (SpellsAct.create (at_call (omega arith) d) (at_expr (omega arith) e))))))
+    (λ rest. behind _ (call_sound room (place + 1 + 1) rest) (λ c cs rest d.
+    skip_sign Comma (λ at ks. after (expr room at ks) (λ variable. expect (is_sign RightParen) (act.Create c variable))) (λ rest. behind _ (expr_sound room (place + 1 + 1 + length cs + 1) rest) (λ v vs rest e.
+    expect_sign RightParen _ (SpellsAct.create (at_call (omega arith) d) (at_expr (omega arith) e))))))
 
 time_sound : (room at : ℕ) (name : List ℕ) (ks : List TokenKind) → is_time_word name ≡ true → Fits (SpellsTime at) at (Lower name ∷ ks) (time room at (Lower name ∷ ks))
 unfolding time
 time_sound room at name ks w =
     token (skip_sign LeftParen (λ behind rest. after (expr room behind rest) (λ value. expect (is_sign RightParen) (record { name = name; value = value; token = at }))) (λ rest. behind _ (expr_sound room (at + 1 + 1) rest) (λ v vs rest d.
-        expect_sign RightParen _ (record { place = refl; is_word = w; value = vs; is_value = at_expr (omega arith) d; is = refl }))))
+    expect_sign RightParen _ (record { place = refl; is_word = w; value = vs; is_value = at_expr (omega arith) d; is = refl }))))
 
 times_by : (inner room at : ℕ) (name : List ℕ) (ks : List TokenKind) → Sound (InRow SpellsTime) (times inner room) → (b : Bool) → is_time_word name ≡ b
     → Fits (InRow SpellsTime at) at (Lower name ∷ ks) (if b then after (time inner at (Lower name ∷ ks)) (λ first at ks. mapped (λ rest. first ∷ rest) (times inner room at ks)) else Found [] at (Lower name ∷ ks))

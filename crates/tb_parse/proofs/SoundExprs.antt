@@ -1,21 +1,20 @@
 -- What is read as an expression is spelt so.
-use Rattle.std.proofs.Common.{◌≡◌, ℕ, zero, suc, ◌+◌, Bool, true, false, ℤ, List, [], ◌∷◌, ◌++◌, length, Option, Some, None, if◌then◌else◌, refl, ap, sym, ◌∙◌, subst, arith, codes}
+use Rattle.std.proofs.Common.{◌≡◌, ℕ, zero, suc, ◌+◌, Bool, true, false, List, [], ◌∷◌, ◌++◌, Option, Some, None, if◌then◌else◌, refl, subst, arith}
 use Rattle.tb_terms.specs.declared.sort.Sort.{Sort}
 use Rattle.tb_lex.specs.declared.kind.TokenKind.{TokenKind}
 use Rattle.tb_lex.specs.declared.kind.TokenKind.TheVariants.{Int, Str, Lower, Upper, Symbol as Sign}
 use Rattle.tb_lex.specs.declared.symbol.Symbol.{Symbol}
-use Rattle.tb_lex.specs.declared.symbol.Symbol.TheVariants.{LeftParen, RightParen, LeftBracket, RightBracket, Question, Less, Greater}
+use Rattle.tb_lex.specs.declared.symbol.Symbol.TheVariants.{LeftBracket, RightBracket, Question, Less, Greater}
 use Rattle.tb_syntax.specs.declared.ast.Ast.{Ast}
 use Rattle.tb_syntax.specs.declared.ast.AstKind.{AstKind}
 use Rattle.tb_syntax.specs.declared.ast.AstKind.TheVariants as ast
-use Rattle.tb_syntax.specs.declared.proc.Call.{Call}
-use Rattle.tb_syntax.specs.Spelling.{Parted, InParens, IsSortWord, SpellsKind, SpellsExpr, SpellsArguments, SpellsExprs, SpellsCall}
+use Rattle.tb_syntax.specs.Spelling.{Parted, InParens, SpellsKind, SpellsExpr, SpellsArguments, SpellsExprs, SpellsCall}
 use Rattle.tb_syntax.specs.Words.{is_free}
-use Rattle.tb_parse.specs.Parsing.{Parser, Outcome, Found, Stops, after, mapped, begins, tail, is_sign, expect, in_parens, parted, word_sort, hole, list, kind, expr, call_of, call, lower}
+use Rattle.tb_parse.specs.Parsing.{Parser, Found, Stops, mapped, begins, tail, is_sign, in_parens, word_sort, hole, list, kind, expr, call_of, call}
 use Rattle.tb_parse.proofs.Signs.{is_that_sign}
-use Rattle.tb_parse.proofs.Fits.{Spelt, Fits, found, stops, token, behind, mapping, weaker, with_sign, expect_sign}
+use Rattle.tb_parse.proofs.Fits.{Fits, found, stops, token, behind, mapping, weaker, with_sign, expect_sign}
 use Rattle.tb_parse.proofs.SoundLists.{Sound, parted_sound, in_parens_sound}
-use Rattle.tb_parse.proofs.SoundSorts.{IsLower, lower_sound, IsUpper, upper_sound, NamedAs, word_sort_named}
+use Rattle.tb_parse.proofs.SoundSorts.{upper_sound, NamedAs, word_sort_named}
 
 exprs_of : {at : ℕ} {xs : List Ast} {ks : List TokenKind} → Parted SpellsExpr at xs ks → SpellsExprs at xs ks
 exprs_of (Parted.last d) = SpellsExprs.last d
@@ -50,8 +49,8 @@ list_sound : (item : Parser Ast) → Sound SpellsExpr item → (room at : ℕ) (
 unfolding list
 list_sound item h room at ks =
     with_sign RightBracket (λ at ks. Found (ast.List []) at ks) (λ rest. found (SpellsKind.empty at))
-        (behind _ (mapping {T = λ k ns. SpellsKind at k (Sign LeftBracket ∷ (ns ++ Sign RightBracket ∷ []))} _ (parted_sound SpellsExpr item h room (at + 1) ks) (λ xs ns d. SpellsKind.list (exprs_of d)))
-            (λ k ns rest d. expect_sign RightBracket k d))
+    (behind _ (mapping {T = λ k ns. SpellsKind at k (Sign LeftBracket ∷ (ns ++ Sign RightBracket ∷ []))} _ (parted_sound SpellsExpr item h room (at + 1) ks) (λ xs ns d. SpellsKind.list (exprs_of d)))
+    (λ k ns rest d. expect_sign RightBracket k d))
 
 appl_sound : (item : Parser Ast) → Sound SpellsExpr item → (room at : ℕ) (name : List ℕ) (ks : List TokenKind) (b : Bool) → is_free name ≡ b
     → Fits (SpellsKind at) at (Lower name ∷ ks) (if b then mapped (λ parts. ast.Appl name parts) (in_parens item room (at + 1) ks) else Stops at)
@@ -63,7 +62,7 @@ upper_kind_sound at name ks = token (by (at + 2) (omega arith)) where
   by : (end : ℕ) → at + 1 + 1 ≡ end → Fits (λ k ns. SpellsKind at k (Upper name ∷ ns)) (at + 1) ks (if begins (is_sign Question) ks then Found (ast.Result name) end (tail ks) else Found (ast.Var name) (at + 1) ks)
   by end e =
       subst (λ n. Fits (λ k ns. SpellsKind at k (Upper name ∷ ns)) (at + 1) ks (if begins (is_sign Question) ks then Found (ast.Result name) n (tail ks) else Found (ast.Var name) (at + 1) ks)) e
-          (with_sign Question (λ at ks. Found (ast.Result name) at ks) (λ rest. found (SpellsKind.result at name)) (found (SpellsKind.variable at name)))
+      (with_sign Question (λ at ks. Found (ast.Result name) at ks) (λ rest. found (SpellsKind.result at name)) (found (SpellsKind.variable at name)))
 
 sign_kind_sound : (item : Parser Ast) → Sound SpellsExpr item → (room at : ℕ) (symbol : Symbol) (ks : List TokenKind) (b c : Bool) → is_sign LeftBracket (Sign symbol) ≡ b → is_sign Less (Sign symbol) ≡ c
     → Fits (SpellsKind at) at (Sign symbol ∷ ks) (if b then list item room (at + 1) ks else (if c then hole (at + 1) ks else Stops at))

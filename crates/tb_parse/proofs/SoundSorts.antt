@@ -1,18 +1,16 @@
 -- What is read as a sort or as a hole is spelt so.
-use Rattle.std.proofs.Common.{◌≡◌, ℕ, zero, suc, ◌+◌, Bool, true, false, List, [], ◌∷◌, ◌++◌, length, Option, Some, None, if◌then◌else◌, refl, ap, sym, ◌∙◌, subst, arith, codes}
+use Rattle.std.proofs.Common.{◌≡◌, ℕ, zero, suc, ◌+◌, Bool, true, false, List, [], ◌∷◌, ◌++◌, Option, Some, None, if◌then◌else◌, refl, sym, subst, arith, codes}
 use Rattle.std.specs.Str.{bytes_eq}
 use Rattle.tb_terms.specs.declared.sort.Sort.{Sort}
 use Rattle.tb_terms.specs.declared.sort.Sort.TheVariants as sorts
 use Rattle.tb_lex.specs.declared.kind.TokenKind.{TokenKind}
 use Rattle.tb_lex.specs.declared.kind.TokenKind.TheVariants.{Int, Str, Lower, Upper, Symbol as Sign}
-use Rattle.tb_lex.specs.declared.symbol.Symbol.TheVariants.{LeftParen, RightParen, Less, Greater}
-use Rattle.tb_syntax.specs.declared.ast.AstKind.{AstKind}
-use Rattle.tb_syntax.specs.declared.ast.AstKind.TheVariants as ast
-use Rattle.tb_syntax.specs.Spelling.{IsSortWord, SpellsSort, SpellsKind}
+use Rattle.tb_lex.specs.declared.symbol.Symbol.TheVariants.{LeftParen, RightParen}
+use Rattle.tb_syntax.specs.Spelling.{IsSortWord, SpellsSort}
 use Rattle.tb_syntax.specs.Words.{is_free, is_sort_word}
-use Rattle.tb_parse.specs.Parsing.{Parser, Outcome, Found, Stops, after, mapped, begins, tail, is_sign, expect, lower, upper, free_name, word_sort, named_sort, is_list, sort, hole}
+use Rattle.tb_parse.specs.Parsing.{Parser, Outcome, Found, Stops, after, mapped, begins, tail, is_sign, expect, lower, upper, free_name, word_sort, named_sort, sort}
 use Rattle.tb_parse.proofs.Signs.{same_name}
-use Rattle.tb_parse.proofs.Fits.{Spelt, Fits, found, stops, token, behind, mapping, with_sign, expect_sign}
+use Rattle.tb_parse.proofs.Fits.{Fits, found, stops, token, behind, mapping, with_sign, expect_sign}
 
 -- what is said of a name and its token
 abbrev pub IsLower : List ℕ → List TokenKind → Type 0
