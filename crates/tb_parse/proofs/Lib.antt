@@ -1,4 +1,5 @@
 pub mod Fits
+pub mod ReadParts
 pub mod Rows
 pub mod Signs
 pub mod SoundAtoms
