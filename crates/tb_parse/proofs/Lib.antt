@@ -1,5 +1,7 @@
 pub mod Fits
+pub mod ReadExprs
 pub mod ReadParts
+pub mod ReadSorts
 pub mod Rows
 pub mod Signs
 pub mod SoundAtoms
