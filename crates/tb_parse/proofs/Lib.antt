@@ -2,6 +2,7 @@ pub mod Fits
 pub mod ReadAtoms
 pub mod ReadExprs
 pub mod ReadParts
+pub mod ReadProcs
 pub mod ReadSorts
 pub mod Rows
 pub mod Signs
