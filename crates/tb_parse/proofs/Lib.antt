@@ -3,6 +3,7 @@ pub mod ReadAtoms
 pub mod ReadExprs
 pub mod ReadParts
 pub mod ReadProcs
+pub mod ReadScripts
 pub mod ReadSorts
 pub mod Rows
 pub mod Signs
