@@ -1,4 +1,5 @@
 pub mod Fits
+pub mod Outcomes
 pub mod ReadAtoms
 pub mod ReadExprs
 pub mod ReadParts

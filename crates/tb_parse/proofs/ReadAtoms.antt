@@ -1,5 +1,5 @@
 -- An atom with its times, and a variable, are read as they are spelt.
-use Rattle.std.proofs.Common.{◌≡◌, ℕ, zero, suc, ◌+◌, ◌≤◌, ◌<◌, Bool, true, false, List, [], ◌∷◌, ◌++◌, length, if◌then◌else◌, refl, ap, sym, ◌∙◌, subst, arith, append_assoc, codes}
+use Rattle.std.proofs.Common.{◌≡◌, ℕ, zero, suc, ◌+◌, ◌≤◌, ◌<◌, Bool, true, false, List, [], ◌∷◌, ◌++◌, length, refl, ap, sym, ◌∙◌, subst, arith, append_assoc, codes}
 use Rattle.std.proofs.lemmas.List.{length-append}
 use Rattle.std.specs.Str.{bytes_eq}
 use Rattle.tb_lex.specs.declared.kind.TokenKind.{TokenKind}
@@ -15,11 +15,11 @@ use Rattle.tb_syntax.specs.declared.proc.Proc.TheVariants as tree
 use Rattle.tb_syntax.specs.declared.proc.TimeDef.{TimeDef}
 use Rattle.tb_syntax.specs.declared.proc.Var.{Var}
 use Rattle.tb_syntax.specs.Spelling.{InRow, SpellsExpr, SpellsArguments, SpellsCall, SpellsAct, SpellsTime, SpellsAtom, SpellsVar}
-use Rattle.tb_syntax.specs.Words.{is_atom_word, is_time_word}
-use Rattle.tb_parse.specs.Parsing.{Parser, Outcome, Found, after, mapped, begins, is_sign, expect, in_parens, sort, expr, call, create, time, times, timed, is_time, var, upper_proc, lower_proc, prim_of}
+use Rattle.tb_syntax.specs.Words.{is_atom_word}
+use Rattle.tb_parse.specs.Parsing.{Parser, Found, after, mapped, begins, is_sign, in_parens, sort, expr, call, create, time, times, timed, is_time, var, upper_proc, lower_proc, prim_of}
 use Rattle.tb_parse.proofs.Signs.{same_name}
 use Rattle.tb_parse.proofs.ReadParts.{neither, arrives, read, read_last, read_mapped, ReadsIn, Reads}
-use Rattle.tb_parse.proofs.ReadSorts.{sort_some, sort_reads}
+use Rattle.tb_parse.proofs.ReadSorts.{sort_reads}
 use Rattle.tb_parse.proofs.ReadExprs.{on_expr, expr_reads, actuals_read, call_reads}
 
 -- Times.
@@ -36,7 +36,7 @@ time_by t at vs place d room h more =
 time_reads : {at : ℕ} {t : TimeDef} {ks : List TokenKind} → SpellsTime at t ks → (room : ℕ) → length ks ≤ room → (more : List TokenKind) → time room at (ks ++ more) ≡ Found t (at + length ks) more
 time_reads {at = at} {t = t} {ks = ks} d room h more =
     subst (λ ks. time room at (ks ++ more) ≡ Found t (at + length ks) more) (sym d.is)
-        (time_by t at d.value d.place d.is_value room (let sum = length-append d.value (Sign RightParen ∷ []) in let all = ap length d.is in omega arith) more)
+    (time_by t at d.value d.place d.is_value room (let sum = length-append d.value (Sign RightParen ∷ []) in let all = ap length d.is in omega arith) more)
 
 time_begins : {at : ℕ} {t : TimeDef} {ks : List TokenKind} → SpellsTime at t ks → (more : List TokenKind) → begins is_time (ks ++ more) ≡ true
 time_begins d more = rw d.is d.is_word
@@ -55,7 +55,7 @@ times_read (InRow.more {at = at} {x = x} {ks = ks} {rest = rest} d ds) inner (su
     let some = time_some d in
     let starts : begins is_time ((ks ++ rest) ++ more) ≡ true = ap (begins is_time) (append_assoc ks rest more) ∙ time_begins d (rest ++ more) in
     rw starts (read (time inner) _ ks rest more refl (time_reads d inner (omega arith) (rest ++ more))
-        (read_mapped (times inner room) (λ ts. x ∷ ts) rest more refl (times_read ds inner room (omega arith) (omega arith) more e) (omega arith)))
+    (read_mapped (times inner room) (λ ts. x ∷ ts) rest more refl (times_read ds inner room (omega arith) (omega arith) more e) (omega arith)))
 
 -- no time goes on with an expression
 times_open : {at : ℕ} {ts : List TimeDef} {ks : List TokenKind} → InRow SpellsTime at ts ks → (more : List TokenKind) → begins on_expr more ≡ false → begins on_expr (ks ++ more) ≡ false
@@ -81,7 +81,7 @@ create_reads : (at : ℕ) (c : Call) (cs : List TokenKind) (variable : Ast) (ks 
 unfolding create
 create_reads at c cs variable ks d f room h i more =
     read (call room) _ {at = at + 2} cs (Sign Comma ∷ (ks ++ Sign RightParen ∷ [])) more (omega arith) ((call_reads d).reads room h (Sign Comma ∷ ((ks ++ Sign RightParen ∷ []) ++ more)) refl)
-        (read (expr room) _ {at = at + length cs + 3} ks (Sign RightParen ∷ []) more (omega arith) ((expr_reads f).reads room i (Sign RightParen ∷ more) refl) refl)
+    (read (expr room) _ {at = at + length cs + 3} ks (Sign RightParen ∷ []) more (omega arith) ((expr_reads f).reads room i (Sign RightParen ∷ more) refl) refl)
 
 abbrev IsOther : List ℕ → Type 0
 IsOther name = (bytes_eq name (codes "let") ≡ false) × (bytes_eq name (codes "if") ≡ false) × (bytes_eq name (codes "create") ≡ false)
@@ -102,7 +102,7 @@ unfolding prim_of lower_proc
 named_reads at name arguments ks w n d whole room h more e =
     let p : Parser ActDef = λ at ks. mapped (act.Named name) (in_parens (expr room) room at ks) in
     rw (n.0, n.1, n.2, w)
-        (read_last p (timed room at) ks more refl (ap (λ o. mapped (act.Named name) o) (actuals_read d room (omega arith) more (neither (is_sign LeftParen) (is_sign Question) more e).0)) (placed_timed room at _ more (omega arith)))
+    (read_last p (timed room at) ks more refl (ap (λ o. mapped (act.Named name) o) (actuals_read d room (omega arith) more (neither (is_sign LeftParen) (is_sign Question) more e).0)) (placed_timed room at _ more (omega arith)))
 
 act_reads : {at : ℕ} {a : ActDef} {ks : List TokenKind} → SpellsAct at a ks → ActReads at a ks
 unfolding prim_of lower_proc

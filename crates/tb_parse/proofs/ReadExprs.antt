@@ -1,16 +1,16 @@
 -- An expression and a call are read as they are spelt.
-use Rattle.std.proofs.Common.{◌≡◌, ℕ, zero, suc, ◌+◌, ◌≤◌, Bool, true, false, List, [], ◌∷◌, ◌++◌, length, if◌then◌else◌, refl, ap, sym, ◌∙◌, subst, arith, append_assoc}
+use Rattle.std.proofs.Common.{◌≡◌, ℕ, zero, suc, ◌+◌, ◌≤◌, Bool, true, false, List, [], ◌∷◌, ◌++◌, length, refl, ap, sym, ◌∙◌, subst, arith, append_assoc}
 use Rattle.std.proofs.lemmas.List.{length-append}
 use Rattle.tb_lex.specs.declared.kind.TokenKind.{TokenKind}
 use Rattle.tb_lex.specs.declared.kind.TokenKind.TheVariants.{Lower, Upper, Symbol as Sign}
-use Rattle.tb_lex.specs.declared.symbol.Symbol.TheVariants.{LeftParen, RightParen, LeftBracket, RightBracket, Comma, Question}
+use Rattle.tb_lex.specs.declared.symbol.Symbol.TheVariants.{LeftParen, LeftBracket, RightBracket, Comma, Question}
 use Rattle.tb_syntax.specs.declared.ast.Ast.{Ast}
 use Rattle.tb_syntax.specs.declared.ast.AstKind.{AstKind}
 use Rattle.tb_syntax.specs.declared.ast.AstKind.TheVariants as ast
 use Rattle.tb_syntax.specs.declared.proc.Call.{Call}
 use Rattle.tb_syntax.specs.Spelling.{Parted, InParens, SpellsKind, SpellsExpr, SpellsArguments, SpellsExprs, SpellsCall}
 use Rattle.tb_syntax.specs.Words.{is_free}
-use Rattle.tb_parse.specs.Parsing.{Parser, Found, after, mapped, begins, is_sign, expect, in_parens, parted, list, kind, expr, call_of, call}
+use Rattle.tb_parse.specs.Parsing.{Parser, Found, mapped, begins, is_sign, expect, in_parens, parted, list, kind, expr, call_of, call}
 use Rattle.tb_parse.proofs.ReadParts.{either, neither, arrives, read, read_mapped, ReadsIn, Reads, parted_reads, in_parens_reads}
 use Rattle.tb_parse.proofs.ReadSorts.{hole_reads}
 
@@ -74,10 +74,11 @@ list_reads at parts ks starts d room h more e =
     let opens : begins (is_sign RightBracket) ((ks ++ Sign RightBracket ∷ []) ++ more) ≡ false = ap (begins (is_sign RightBracket)) (append_assoc ks (Sign RightBracket ∷ []) more) ∙ starts (Sign RightBracket ∷ more) in
     let p : Parser AstKind = λ at ks. mapped (λ parts. ast.List parts) (parted (expr room) room at ks) in
     rw opens (read p (expect (is_sign RightBracket)) ks (Sign RightBracket ∷ []) more refl
-        (ap (λ o. mapped (λ parts. ast.List parts) o) (parted_reads expr on_expr refl d room room (omega arith) (omega arith) (Sign RightBracket ∷ more) refl refl)) (arrives (omega arith)))
+    (ap (λ o. mapped (λ parts. ast.List parts) o) (parted_reads expr on_expr refl d room room (omega arith) (omega arith) (Sign RightBracket ∷ more) refl refl)) (arrives (omega arith)))
 
 mutual
   unfolding kind list
+
   kind_reads : {at : ℕ} {k : AstKind} {ks : List TokenKind} → SpellsKind at k ks → KindReads at k ks
   kind_reads (SpellsKind.numeral at n) room h more e = refl
   kind_reads (SpellsKind.string at text) room h more e = refl

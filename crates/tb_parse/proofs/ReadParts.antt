@@ -1,5 +1,5 @@
 -- How what is put together reads its tokens, whatever stands behind them.
-use Rattle.std.proofs.Common.{◌≡◌, ℕ, zero, suc, ◌+◌, ◌≤◌, ◌<◌, Bool, true, false, ◌||◌, List, [], ◌∷◌, ◌++◌, length, refl, ap, sym, ◌∙◌, subst, arith, append_assoc}
+use Rattle.std.proofs.Common.{◌≡◌, ℕ, zero, suc, ◌+◌, ◌≤◌, Bool, false, ◌||◌, List, [], ◌∷◌, ◌++◌, length, refl, ap, ◌∙◌, arith, append_assoc}
 use Rattle.std.proofs.lemmas.List.{length-append}
 use Rattle.std.proofs.lemmas.Bool.{or_parts}
 use Rattle.tb_lex.specs.declared.kind.TokenKind.{TokenKind}
@@ -62,7 +62,7 @@ parted_reads p goes c (Parted.more {ks = ks} {rest = rest} d ds) inner zero h i 
 parted_reads p goes c (Parted.more {x = x} {ks = ks} {rest = rest} d ds) inner (suc room) h i more e f =
     let sum = length-append ks (Sign Comma ∷ rest) in
     read (p inner) _ ks (Sign Comma ∷ rest) more refl (d.reads inner (omega arith) (Sign Comma ∷ (rest ++ more)) c)
-        (read_mapped (parted (p inner) room) (λ xs. x ∷ xs) rest more refl (parted_reads p goes c ds inner room (omega arith) (omega arith) more e f) (omega arith))
+    (read_mapped (parted (p inner) room) (λ xs. x ∷ xs) rest more refl (parted_reads p goes c ds inner room (omega arith) (omega arith) more e f) (omega arith))
 
 pub in_parens_reads : {A : Type 0} (p : ℕ → Parser A) (goes : TokenKind → Bool) → goes (Sign Comma) ≡ false → goes (Sign RightParen) ≡ false → {at : ℕ} {xs : List A} {ks : List TokenKind} → InParens (Reads p goes) at xs ks
     → (inner room : ℕ) → length ks ≤ inner → length ks ≤ room → (more : List TokenKind) → begins (is_sign LeftParen) more ≡ false → in_parens (p inner) room at (ks ++ more) ≡ Found xs (at + length ks) more

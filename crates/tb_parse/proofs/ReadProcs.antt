@@ -1,5 +1,5 @@
 -- A process is read as it is spelt, however tightly it is bound.
-use Rattle.std.proofs.Common.{◌≡◌, ℕ, zero, suc, ◌+◌, ◌≤◌, ◌<◌, Bool, true, false, List, [], ◌∷◌, ◌++◌, length, Option, Some, None, if◌then◌else◌, refl, ap, sym, ◌∙◌, subst, arith, append_assoc, codes}
+use Rattle.std.proofs.Common.{◌≡◌, ℕ, zero, suc, ◌+◌, ◌≤◌, ◌<◌, Bool, false, List, [], ◌∷◌, ◌++◌, length, Some, None, refl, ap, sym, ◌∙◌, subst, arith, append_assoc, codes}
 use Rattle.std.proofs.lemmas.List.{length-append}
 use Rattle.tb_lex.specs.declared.kind.TokenKind.{TokenKind}
 use Rattle.tb_lex.specs.declared.kind.TokenKind.TheVariants.{Lower, Upper, Symbol as Sign}
@@ -13,15 +13,12 @@ use Rattle.tb_syntax.specs.declared.proc.Call.{Call}
 use Rattle.tb_syntax.specs.declared.proc.Proc.{Proc}
 use Rattle.tb_syntax.specs.declared.proc.Proc.TheVariants as tree
 use Rattle.tb_syntax.specs.declared.proc.Var.{Var}
-use Rattle.tb_syntax.specs.Spelling.{Parted, SpellsVar, SpellsExpr, SpellsArguments, SpellsCall, SpellsAtom, SpellsProc}
-use Rattle.tb_parse.specs.Parsing.{
-  Parser, Outcome, Found, after, mapped, begins, is_sign, is_word, expect, parted, expr, call_of, is_time, var, upper_proc, block, sides, test, lower_proc, prim_of, rightward, leftward, turns, sequence, choice,
-  merge, prim, proc,
-}
+use Rattle.tb_syntax.specs.Spelling.{Parted, SpellsExpr, SpellsArguments, SpellsCall, SpellsAtom, SpellsProc}
+use Rattle.tb_parse.specs.Parsing.{Parser, Found, after, mapped, begins, is_sign, parted, expr, is_time, var, upper_proc, block, sides, test, lower_proc, prim_of, rightward, leftward, turns, sequence, choice, merge, prim, proc}
 use Rattle.tb_parse.proofs.Signs.{its_own}
 use Rattle.tb_parse.proofs.ReadParts.{either, neither, arrives, read, read_last, Reads, parted_map, parted_reads}
 use Rattle.tb_parse.proofs.ReadExprs.{on_expr, expr_reads, call_of_reads}
-use Rattle.tb_parse.proofs.ReadAtoms.{atom_reads, atom_some, var_reads}
+use Rattle.tb_parse.proofs.ReadAtoms.{atom_reads, var_reads}
 
 -- What goes on with a process, at each level.
 
@@ -93,8 +90,8 @@ turned inner (suc left) at x y xs ys room h i more e b eq d =
       left,
       omega arith,
       ap (turns (prim inner) room at) (append_assoc xs (Sign Star ∷ ys) more) ∙ eq
-      ∙ ap (λ o. after o (λ z. leftward (prim inner) left (tree.Star x z))) (d inner (omega arith) more e)
-      ∙ ap (λ n. leftward (prim inner) left (tree.Star x y) n more) (omega arith),
+          ∙ ap (λ o. after o (λ z. leftward (prim inner) left (tree.Star x z))) (d inner (omega arith) more e)
+          ∙ ap (λ n. leftward (prim inner) left (tree.Star x y) n more) (omega arith),
     )
 
 star_more : (at : ℕ) (x y : Proc) (xs ys : List TokenKind) → At level.Star at x xs → At level.Prim (at + length xs + 1) y ys → At level.Star at (tree.Star x y) (xs ++ Sign Star ∷ ys)
@@ -116,7 +113,7 @@ seq_more : (at : ℕ) (x y : Proc) (xs ys : List TokenKind) → At level.Star at
 seq_more at x y xs ys d f inner wide room h i j more e =
     let sum = length-append xs (Sign Point ∷ ys) in
     right_more Point tree.Seq (turns (prim inner) wide) at x y xs ys room j more (star_whole at x xs d inner wide (omega arith) (omega arith) (Sign Point ∷ (ys ++ more)) refl)
-        (λ n k. f inner wide n (omega arith) (omega arith) k more e)
+    (λ n k. f inner wide n (omega arith) (omega arith) k more e)
 
 seq_whole : (at : ℕ) (x : Proc) (xs : List TokenKind) → At level.Seq at x xs → (inner wide : ℕ) → length xs < inner → length xs < wide → (more : List TokenKind) → begins on_seq more ≡ false
     → sequence (prim inner) wide at (xs ++ more) ≡ Found x (at + length xs) more
@@ -132,7 +129,7 @@ alt_more : (at : ℕ) (x y : Proc) (xs ys : List TokenKind) → At level.Seq at 
 alt_more at x y xs ys d f inner wide room h i j more e =
     let sum = length-append xs (Sign Plus ∷ ys) in
     right_more Plus tree.Alt (sequence (prim inner) wide) at x y xs ys room j more (seq_whole at x xs d inner wide (omega arith) (omega arith) (Sign Plus ∷ (ys ++ more)) refl)
-        (λ n k. f inner wide n (omega arith) (omega arith) k more e)
+    (λ n k. f inner wide n (omega arith) (omega arith) k more e)
 
 alt_whole : (at : ℕ) (x : Proc) (xs : List TokenKind) → At level.Alt at x xs → (inner wide : ℕ) → length xs < inner → length xs < wide → (more : List TokenKind) → begins on_alt more ≡ false
     → choice (prim inner) wide at (xs ++ more) ≡ Found x (at + length xs) more
@@ -148,7 +145,7 @@ proc_more : (at : ℕ) (x y : Proc) (xs ys : List TokenKind) → At level.Alt at
 proc_more at x y xs ys d f inner wide room h i j more e =
     let sum = length-append xs (Sign Bars ∷ ys) in
     right_more Bars tree.Par (choice (prim inner) wide) at x y xs ys room j more (alt_whole at x xs d inner wide (omega arith) (omega arith) (Sign Bars ∷ (ys ++ more)) refl)
-        (λ n k. f inner wide n (omega arith) (omega arith) k more e)
+    (λ n k. f inner wide n (omega arith) (omega arith) k more e)
 
 merge_reads : (at : ℕ) (x : Proc) (xs : List TokenKind) → At level.Proc at x xs → (inner wide : ℕ) → length xs < inner → length xs < wide → (more : List TokenKind) → begins on_proc more ≡ false
     → merge (prim inner) wide at (xs ++ more) ≡ Found x (at + length xs) more
@@ -209,9 +206,9 @@ block_reads at vars vs x xs d f room h more e =
     let inner = length-append xs (Lower (codes "endlet") ∷ []) in
     let sum = length-append vs (Lower (codes "in") ∷ (xs ++ Lower (codes "endlet") ∷ [])) in
     read (parted (var room) room) _ vs (Lower (codes "in") ∷ (xs ++ Lower (codes "endlet") ∷ [])) more refl
-        (parted_reads var (is_sign LeftParen) refl d room room (omega arith) (omega arith) (Lower (codes "in") ∷ ((xs ++ Lower (codes "endlet") ∷ []) ++ more)) refl refl)
-        (read (Whole room) _ {at = at + length vs + 2} xs (Lower (codes "endlet") ∷ []) more (omega arith)
-            (merge_reads (at + length vs + 2) x xs f room room (omega arith) (omega arith) (Lower (codes "endlet") ∷ more) refl) (arrives (omega arith)))
+    (parted_reads var (is_sign LeftParen) refl d room room (omega arith) (omega arith) (Lower (codes "in") ∷ ((xs ++ Lower (codes "endlet") ∷ []) ++ more)) refl refl)
+    (read (Whole room) _ {at = at + length vs + 2} xs (Lower (codes "endlet") ∷ []) more (omega arith)
+    (merge_reads (at + length vs + 2) x xs f room room (omega arith) (omega arith) (Lower (codes "endlet") ∷ more) refl) (arrives (omega arith)))
 
 test_reads : (at : ℕ) (t : Ast) (es : List TokenKind) (x : Proc) (xs : List TokenKind) → SpellsExpr (at + 1) t es → At level.Proc (at + length es + 2) x xs
     → PrimOf at (tree.If t x None) (test_tokens es xs)
@@ -220,9 +217,9 @@ test_reads at t es x xs d f room h more e =
     let inner = length-append xs (Lower (codes "fi") ∷ []) in
     let sum = length-append es (Lower (codes "then") ∷ (xs ++ Lower (codes "fi") ∷ [])) in
     read (expr room) _ es (Lower (codes "then") ∷ (xs ++ Lower (codes "fi") ∷ [])) more refl
-        ((expr_reads d).reads room (omega arith) (Lower (codes "then") ∷ ((xs ++ Lower (codes "fi") ∷ []) ++ more)) refl)
-        (read (Whole room) (sides (Whole room) t) {at = at + length es + 2} xs (Lower (codes "fi") ∷ []) more (omega arith)
-            (merge_reads (at + length es + 2) x xs f room room (omega arith) (omega arith) (Lower (codes "fi") ∷ more) refl) (arrives (omega arith)))
+    ((expr_reads d).reads room (omega arith) (Lower (codes "then") ∷ ((xs ++ Lower (codes "fi") ∷ []) ++ more)) refl)
+    (read (Whole room) (sides (Whole room) t) {at = at + length es + 2} xs (Lower (codes "fi") ∷ []) more (omega arith)
+    (merge_reads (at + length es + 2) x xs f room room (omega arith) (omega arith) (Lower (codes "fi") ∷ more) refl) (arrives (omega arith)))
 
 else_reads : (at : ℕ) (t : Ast) (es : List TokenKind) (x y : Proc) (xs ys : List TokenKind) → SpellsExpr (at + 1) t es → At level.Proc (at + length es + 2) x xs → At level.Proc (at + length es + length xs + 3) y ys
     → PrimOf at (tree.If t x (Some y)) (else_tokens es xs ys)
@@ -232,11 +229,11 @@ else_reads at t es x y xs ys d f g room h more e =
     let inner = length-append xs (Lower (codes "else") ∷ (ys ++ Lower (codes "fi") ∷ [])) in
     let sum = length-append es (Lower (codes "then") ∷ (xs ++ Lower (codes "else") ∷ (ys ++ Lower (codes "fi") ∷ []))) in
     read (expr room) _ es (Lower (codes "then") ∷ (xs ++ Lower (codes "else") ∷ (ys ++ Lower (codes "fi") ∷ []))) more refl
-        ((expr_reads d).reads room (omega arith) (Lower (codes "then") ∷ ((xs ++ Lower (codes "else") ∷ (ys ++ Lower (codes "fi") ∷ [])) ++ more)) refl)
-        (read (Whole room) (sides (Whole room) t) {at = at + length es + 2} xs (Lower (codes "else") ∷ (ys ++ Lower (codes "fi") ∷ [])) more (omega arith)
-            (merge_reads (at + length es + 2) x xs f room room (omega arith) (omega arith) (Lower (codes "else") ∷ ((ys ++ Lower (codes "fi") ∷ []) ++ more)) refl)
-            (read (Whole room) _ {at = at + length es + length xs + 3} ys (Lower (codes "fi") ∷ []) more (omega arith)
-                (merge_reads (at + length es + length xs + 3) y ys g room room (omega arith) (omega arith) (Lower (codes "fi") ∷ more) refl) (arrives (omega arith))))
+    ((expr_reads d).reads room (omega arith) (Lower (codes "then") ∷ ((xs ++ Lower (codes "else") ∷ (ys ++ Lower (codes "fi") ∷ [])) ++ more)) refl)
+    (read (Whole room) (sides (Whole room) t) {at = at + length es + 2} xs (Lower (codes "else") ∷ (ys ++ Lower (codes "fi") ∷ [])) more (omega arith)
+    (merge_reads (at + length es + 2) x xs f room room (omega arith) (omega arith) (Lower (codes "else") ∷ ((ys ++ Lower (codes "fi") ∷ []) ++ more)) refl)
+    (read (Whole room) _ {at = at + length es + length xs + 3} ys (Lower (codes "fi") ∷ []) more (omega arith)
+    (merge_reads (at + length es + length xs + 3) y ys g room room (omega arith) (omega arith) (Lower (codes "fi") ∷ more) refl) (arrives (omega arith))))
 
 prim_at : (at : ℕ) (x : Proc) (xs : List TokenKind) → PrimOf at x xs → At level.Prim at x xs
 prim_at at x xs h = prim_by at x xs h

@@ -1,9 +1,9 @@
 -- A script is read as it is spelt, so its tokens spell no other.
-use Rattle.std.proofs.Common.{◌≡◌, ℕ, zero, suc, ◌+◌, ◌≤◌, ◌<◌, Bool, true, false, List, [], ◌∷◌, ◌++◌, length, Option, Some, None, if◌then◌else◌, refl, ap, sym, ◌∙◌, subst, arith, append_assoc, codes}
+use Rattle.std.proofs.Common.{◌≡◌, ℕ, zero, suc, ◌+◌, ◌≤◌, ◌<◌, Bool, true, false, List, [], ◌∷◌, ◌++◌, length, Option, Some, None, refl, ap, sym, ◌∙◌, subst, arith, append_assoc, codes}
 use Rattle.std.proofs.lemmas.List.{length-append}
 use Rattle.tb_lex.specs.declared.kind.TokenKind.{TokenKind}
-use Rattle.tb_lex.specs.declared.kind.TokenKind.TheVariants.{Str, Lower, Upper, Symbol as Sign}
-use Rattle.tb_lex.specs.declared.symbol.Symbol.TheVariants.{LeftParen, RightParen, LeftBrace, RightBrace, Comma, Colon, Equals, Question}
+use Rattle.tb_lex.specs.declared.kind.TokenKind.TheVariants.{Lower, Upper, Symbol as Sign}
+use Rattle.tb_lex.specs.declared.symbol.Symbol.TheVariants.{LeftParen, RightParen, LeftBrace, RightBrace, Comma, Colon, Question}
 use Rattle.tb_syntax.specs.declared.proc.Call.{Call}
 use Rattle.tb_syntax.specs.declared.proc.Proc.{Proc}
 use Rattle.tb_syntax.specs.declared.proc.Var.{Var}
@@ -13,10 +13,7 @@ use Rattle.tb_syntax.specs.declared.script.Script.{Script}
 use Rattle.tb_syntax.specs.declared.script.ToolDef.{ToolDef}
 use Rattle.tb_syntax.specs.Spelling.{Parted, InParens, SpellsCall, SpellsVar, SpellsFormal, SpellsProcDef, SpellsToolDef, SpellsDefinitions, SpellsRoots, Spells, mark, command_tokens, in_parens as in_parens_tokens}
 use Rattle.tb_syntax.specs.Words.{is_free}
-use Rattle.tb_parse.specs.Parsing.{
-  Parser, Outcome, Found, Stops, after, mapped, begins, is_sign, is_word, expect, free_name, parted, in_parens, call, var, proc, formal, process, command, tool, Defined, with_process, with_tool, definitions, roots,
-  at_end,  script,
-}
+use Rattle.tb_parse.specs.Parsing.{Parser, Outcome, Found, Stops, after, begins, is_sign, free_name, parted, in_parens, call, var, proc, formal, process, command, tool, Defined, with_process, with_tool, definitions, roots, at_end, script}
 use Rattle.tb_parse.proofs.ReadParts.{neither, arrives, read, read_last, read_mapped, ReadsIn, Reads, parted_map, in_parens_map, parted_reads, in_parens_reads}
 use Rattle.tb_parse.proofs.ReadExprs.{on_expr, call_reads}
 use Rattle.tb_parse.proofs.ReadAtoms.{var_reads}
@@ -58,7 +55,7 @@ process_by d at fs bs place f b room h more e =
     let made : Proc → ProcDef = λ body. record { name = d.name; formals = d.formals; body = body; token = at } in
     let same : made d.body ≡ d = ap (λ n. record { name = d.name; formals = d.formals; body = d.body; token = n }) (sym place) in
     read (in_parens (formal room) room) _ {at = at + 2} fs (Lower (codes "is") ∷ bs) more (omega arith) (in_parens_reads formal on_expr refl refl f room room (omega arith) (omega arith) (Lower (codes "is") ∷ (bs ++ more)) refl)
-        (read_mapped (proc room) made {at = at + length fs + 3} bs more (omega arith) (b room (omega arith) more e) (omega arith))
+    (read_mapped (proc room) made {at = at + length fs + 3} bs more (omega arith) (b room (omega arith) more e) (omega arith))
     ∙ ap (λ d'. Found d' (at + 1 + length (Upper d.name ∷ (fs ++ Lower (codes "is") ∷ bs))) more) same
 
 -- Definitions of tools.
@@ -117,13 +114,13 @@ process_reads {at = at} {d = d} {ks = ks} s inner room h procs tools rest more e
     let all = ap length s.is in
     let one = process_by d at s.formals s.body s.place (in_parens_map (λ at f ks g. formal_reads g) s.are_formals) (proc_reads s.is_body) inner (omega arith) (rest ++ more) e in
     subst (λ ks. Step inner room at (defined procs tools) (defined (d ∷ procs) tools) ks rest more) (sym s.is)
-        (process_step inner room at d procs tools (Upper d.name ∷ (s.formals ++ Lower (codes "is") ∷ s.body)) rest more one)
+    (process_step inner room at d procs tools (Upper d.name ∷ (s.formals ++ Lower (codes "is") ∷ s.body)) rest more one)
 
 tool_reads : {at : ℕ} {d : ToolDef} {ks : List TokenKind} → SpellsToolDef at d ks → (inner room : ℕ) (procs : List ProcDef) (tools : List ToolDef) (rest more : List TokenKind)
     → Step inner room at (defined procs tools) (defined procs (d ∷ tools)) ks rest more
 tool_reads {at = at} {d = d} s inner room procs tools rest more =
     subst (λ ks. Step inner room at (defined procs tools) (defined procs (d ∷ tools)) ks rest more) (sym s.is)
-        (tool_step inner room at d procs tools (Lower d.name ∷ Lower (codes "is") ∷ Sign LeftBrace ∷ (command_tokens d.command ++ Sign RightBrace ∷ [])) rest more (tool_read d at s.place s.is_name (rest ++ more)))
+    (tool_step inner room at d procs tools (Lower d.name ∷ Lower (codes "is") ∷ Sign LeftBrace ∷ (command_tokens d.command ++ Sign RightBrace ∷ [])) rest more (tool_read d at s.place s.is_name (rest ++ more)))
 
 process_some : {at : ℕ} {d : ProcDef} {ks : List TokenKind} → SpellsProcDef at d ks → 1 ≤ length ks
 process_some s = let all = ap length s.is in omega arith
@@ -159,7 +156,7 @@ unfolding roots
 roots_read (SpellsRoots.none at) room h more = arrives (omega arith)
 roots_read (SpellsRoots.some {ks = ks} ds) room h more =
     rw (calls_open ds (Sign RightParen ∷ more))
-        (read_last (parted (call room) room) _ ks (Sign RightParen ∷ more) refl (parted_reads call (is_sign LeftParen) refl (parted_map (λ at c ks d. call_reads d) ds) room room h h (Sign RightParen ∷ more) refl refl) refl)
+    (read_last (parted (call room) room) _ ks (Sign RightParen ∷ more) refl (parted_reads call (is_sign LeftParen) refl (parted_map (λ at c ks d. call_reads d) ds) room room h h (Sign RightParen ∷ more) refl refl) refl)
 
 -- Scripts.
 
@@ -169,7 +166,7 @@ unfolding script
 script_by s ds rs d r room h =
     let next : List Call → Parser Script = λ calls. at_end (record { procs = s.procs; tools = s.tools; roots = calls }) in
     read_last (definitions room room) _ ds (Lower (codes "toolbus") ∷ in_parens_tokens rs) refl (definitions_read d room room (omega arith) (omega arith) (in_parens_tokens rs))
-        (ap (λ n. after (roots room n (rs ++ Sign RightParen ∷ [])) next) (omega arith) ∙ ap (λ o. after o next) (roots_read r room (omega arith) []) ∙ arrives (omega arith))
+    (ap (λ n. after (roots room n (rs ++ Sign RightParen ∷ [])) next) (omega arith) ∙ ap (λ o. after o next) (roots_read r room (omega arith) []) ∙ arrives (omega arith))
 
 pub complete : (s : Script) (ks : List TokenKind) → Spells s ks → (room : ℕ) → length ks ≤ room → script room 0 ks ≡ Found s (length ks) []
 complete s ks d room h =

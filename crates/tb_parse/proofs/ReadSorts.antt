@@ -1,5 +1,5 @@
 -- A sort and a hole are read as they are spelt.
-use Rattle.std.proofs.Common.{◌≡◌, ℕ, zero, suc, ◌+◌, ◌≤◌, Bool, true, false, ◌||◌, List, [], ◌∷◌, ◌++◌, length, Option, Some, None, if◌then◌else◌, refl, ap, sym, ◌∙◌, subst, arith, codes}
+use Rattle.std.proofs.Common.{◌≡◌, ℕ, zero, suc, ◌+◌, ◌≤◌, true, false, List, [], ◌∷◌, ◌++◌, length, refl, ap, arith, codes}
 use Rattle.std.proofs.lemmas.List.{length-append}
 use Rattle.std.proofs.lemmas.Bool.{or_parts}
 use Rattle.std.specs.Str.{bytes_eq}
@@ -7,12 +7,11 @@ use Rattle.tb_terms.specs.declared.sort.Sort.{Sort}
 use Rattle.tb_terms.specs.declared.sort.Sort.TheVariants as sorts
 use Rattle.tb_lex.specs.declared.kind.TokenKind.{TokenKind}
 use Rattle.tb_lex.specs.declared.kind.TokenKind.TheVariants.{Lower, Symbol as Sign}
-use Rattle.tb_lex.specs.declared.symbol.Symbol.TheVariants.{LeftParen, RightParen, Less, Greater}
-use Rattle.tb_syntax.specs.declared.ast.AstKind.{AstKind}
+use Rattle.tb_lex.specs.declared.symbol.Symbol.TheVariants.{LeftParen, RightParen, Greater}
 use Rattle.tb_syntax.specs.declared.ast.AstKind.TheVariants as ast
-use Rattle.tb_syntax.specs.Spelling.{word, IsSortWord, SpellsSort}
+use Rattle.tb_syntax.specs.Spelling.{IsSortWord, SpellsSort}
 use Rattle.tb_syntax.specs.Words.{is_free, is_among, is_sort_word}
-use Rattle.tb_parse.specs.Parsing.{Parser, Outcome, Found, after, mapped, begins, is_sign, expect, free_name, word_sort, sort, hole}
+use Rattle.tb_parse.specs.Parsing.{Parser, Found, mapped, begins, is_sign, expect, free_name, word_sort, sort, hole}
 use Rattle.tb_parse.proofs.ReadParts.{arrives, read}
 
 pub sort_some : {at inner : ℕ} {s : Sort} {ks : List TokenKind} → SpellsSort at s inner ks → 1 ≤ length ks
