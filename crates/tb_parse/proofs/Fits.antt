@@ -99,3 +99,14 @@ expect_sign s x d = with_sign s (λ at ks. Found x at ks) (λ rest. found d) sto
 
 pub expect_word : {A : Type 0} {S : Spelt A} {at : ℕ} {ks : List TokenKind} (word : List ℕ) (x : A) → S x (Lower word ∷ []) → Fits S at ks (expect (is_word word) x at ks)
 expect_word word x d = with_word word (λ at ks. Found x at ks) (λ rest. found d) stops
+
+-- no token is lost: those that are left stand behind those that were read
+pub kept : {A : Type 0} {S : Spelt A} {at end : ℕ} {ks rest : List TokenKind} {x : A} {o : Outcome A} → Fits S at ks o → o ≡ Found x end rest → end + length rest ≡ at + length ks
+kept {S = S} {at = at} {end = end} {ks = ks} {rest = rest} {x = x} g e =
+    let f : Fits S at ks (Found x end rest) = subst (Fits S at ks) e g in
+    let all = ap length f.fits.1 ∙ length-append f.fits.0 rest in
+    let here = f.fits.2 in
+    omega arith
+
+pub stops_within : {A : Type 0} {S : Spelt A} {at place : ℕ} {ks : List TokenKind} {o : Outcome A} → Fits S at ks o → o ≡ Stops place → place ≤ at + length ks
+stops_within {S = S} {at = at} {place = place} {ks = ks} g e = (subst (Fits S at ks) e g).fits
