@@ -10,7 +10,7 @@ use Rattle.tb_parse.specs.declared.built.Built.TheVariants.{Tree, TooHigh}
 use Rattle.tb_parse.specs.declared.built.Sides.{Sides}
 use Rattle.tb_parse.specs.declared.built.Chain.{Chain}
 use Rattle.tb_parse.specs.declared.built.Chain.TheVariants as chain
-use Rattle.tb_parse.specs.Parsing.{Parser, mapped, prim, merge, choice, sequence, turns}
+use Rattle.tb_parse.specs.Parsing.{Parser, after, mapped, create, timed, prim, merge, choice, sequence, turns}
 
 unfoldable pub built : Proc → Built
 built p = if nat_lt 400 (height p) then TooHigh else Tree p (height p)
@@ -18,6 +18,10 @@ built p = if nat_lt 400 (height p) then TooHigh else Tree p (height p)
 -- what a parser of processes finds, as it is built
 abbrev pub as_built : Parser Proc → Parser Built
 as_built parser at ks = mapped built (parser at ks)
+
+-- what stands behind the word `create`, which stands at the place
+abbrev pub creation : ℕ → ℕ → Parser Proc
+creation room place at ks = after (create room at ks) (timed room place)
 
 -- two sides with the height of the whole
 abbrev pub fitting : Proc → ℕ → Proc → ℕ → Option Sides

@@ -8,6 +8,7 @@ mod definitions;
 mod exprs;
 mod fault;
 mod kept;
+mod laws;
 mod parser;
 mod procs;
 mod reader;
@@ -16,4 +17,5 @@ mod sorts;
 mod tests;
 
 pub use fault::ParseFault;
+pub use laws::{each_row_has_one, faults_are_unique, spelling_is_unique};
 pub use parser::parse;

@@ -1,7 +1,7 @@
 ghost use Rattle.std.specs.Prelude.{◌≡◌};
 ghost use Rattle.tb_syntax.specs.declared.proc.Proc.{Proc};
 ghost use Rattle.tb_parse.specs.Parsing.{proc, prim, merge, turns, prim_of, lower_proc, upper_proc, timed, block, test, sides};
-ghost use Rattle.tb_parse.specs.Heights.{built, as_built, chained, member, sign_of};
+ghost use Rattle.tb_parse.specs.Heights.{built, as_built, creation, chained, member, sign_of};
 ghost use Rattle.tb_parse.specs.Reading.{Meets, runs};
 
 use crate::ParseFault;
@@ -159,6 +159,19 @@ fn timed(
     Ok(leaf(alloc, Proc::Atom(atom))?)
 }
 
+/// What stands behind the word `create`, which stands at this place.
+fn creation(
+    alloc: Global,
+    reader: &mut Reader<'_>,
+    room: usize,
+    token: usize,
+) -> Result<Built, ParseFault>
+    ensures { Meets (runs (as_built (creation room token)) reader.old) result reader.new }
+{
+    let act = create(alloc, reader, room)?;
+    timed(alloc, reader, room, token, act)
+}
+
 /// What begins with a word that stands at this place, and is taken already.
 #[tactic(auto, unfolding(crate::specs::Parsing::lower_proc))]
 #[cycle(procs)]
@@ -174,10 +187,7 @@ fn lower_proc(
     match name.as_bytes() {
         b"let" => block(alloc, reader, room),
         b"if" => test(alloc, reader, room),
-        b"create" => {
-            let act = create(alloc, reader, room)?;
-            timed(alloc, reader, room, token, act)
-        }
+        b"create" => creation(alloc, reader, room, token),
         word => {
             if !is_atom_word(word) {
                 return Err(ParseFault::Syntax(token));

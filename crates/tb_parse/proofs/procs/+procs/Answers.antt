@@ -29,10 +29,18 @@ chain-returns-in_err-x t c =
     (λ place e. chain_stop c.args.link c.args.room c.args.reader.now c.loop-turn.front c.loop-turn._turn c.loop-turn.reader c.loop-turn-test.true c.loop-turn.invariant e)
 
 pub chain-returns-then-not-eat_sign : goal.chain-returns-then-not-eat_sign
-chain-returns-then-not-eat_sign t c = ?
+chain-returns-then-not-eat_sign t c =
+    let found = rw c.sign_of-sign.ensures at c.eat_sign.ensures.found in
+    let behind = rw c.sign_of-sign.ensures at c.eat_sign.ensures.behind in
+    chain_last c.args.link c.args.room c.args.reader.now c.loop-turn.front c.loop-turn._turn c.loop-turn.reader
+    c.loop-turn-test.true c.loop-turn.invariant c.in_ok-x.ensures c.in_ok-joined.ensures found behind c.if-not-eat_sign.true
 
 pub chain-loop-turn-preserved : goal.chain-loop-turn-preserved
-chain-loop-turn-preserved t c = ?
+chain-loop-turn-preserved t c =
+    let found = rw c.sign_of-sign.ensures at c.eat_sign.ensures.found in
+    let behind = rw c.sign_of-sign.ensures at c.eat_sign.ensures.behind in
+    chain_more c.args.link c.args.room c.args.reader.now c.loop-turn.front c.loop-turn._turn c.loop-turn.reader
+    c.loop-turn-test.true c.loop-turn.invariant c.in_ok-x.ensures c.in_ok-push.ensures.ok found behind c.if-not-eat_sign.false
 
 pub chain-returns : goal.chain-returns
 chain-returns t c =
@@ -57,23 +65,26 @@ turns-returns-in_err-last t c =
         c.loop-turn-test.true c.eat_sign.ensures.found c.eat_sign.ensures.behind c.if-not-eat_sign.false e)
 
 pub turns-loop-turn-preserved : goal.turns-loop-turn-preserved
-turns-loop-turn-preserved t c = ?
+turns-loop-turn-preserved t c =
+    stars_more c.args.room c.args.reader.now c.loop-turn.whole c.loop-turn._turn c.loop-turn.reader c.loop-turn.invariant
+    c.loop-turn-test.true c.eat_sign.ensures.found c.eat_sign.ensures.behind c.if-not-eat_sign.false c.in_ok-last.ensures c.in_ok-whole-2.ensures
 
 pub turns-returns : goal.turns-returns
 turns-returns t c =
     stars_end c.args.room c.args.reader.now c.loop-turn.whole c.loop-turn._turn c.loop-turn.reader c.loop-turn.invariant c.loop-turn-test.false c.place.ensures
 
 pub block-returns : goal.block-returns
-block-returns t c = ?
+block-returns t c =
+    block_found (merge (prim c.args.room) c.args.room) c.args.room c.args.reader.now
+    c.in_ok-vars.ensures c.in_ok-skip_word.ensures c.in_ok-x.ensures c.in_ok-skip_word-2.ensures c.in_ok-within.ensures
 
 pub sides-returns-then-not-eat_word : goal.sides-returns-then-not-eat_word
-sides-returns-then-not-eat_word t c = ?
+sides-returns-then-not-eat_word t c p is_x =
+    side_found (merge (prim c.args.room) c.args.room) c.args.test p c.args.reader.now is_x
+    c.eat_word.ensures.found c.eat_word.ensures.behind c.if-not-eat_word.true c.in_ok-skip_word.ensures c.in_ok-only.ensures
 
 pub sides-returns : goal.sides-returns
-sides-returns t c = ?
+sides-returns t c p is_x =
+    sides_found (merge (prim c.args.room) c.args.room) c.args.test p c.args.reader.now is_x
+    c.eat_word.ensures.found c.eat_word.ensures.behind c.if-not-eat_word.false c.in_ok-y.ensures c.in_ok-skip_word-2.ensures c.in_ok-either.ensures
 
-pub lower_proc-returns-in_err-act-in-create : goal.lower_proc-returns-in_err-act-in-create
-lower_proc-returns-in_err-act-in-create t c = ?
-
-pub lower_proc-returns-in_ok-act-in-create : goal.lower_proc-returns-in_ok-act-in-create
-lower_proc-returns-in_ok-act-in-create t c = ?
