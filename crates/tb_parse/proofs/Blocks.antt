@@ -23,7 +23,7 @@ block_found whole room start {vars} {a} {b} {d} {new} {x} {made} e f g h is_made
     let inner : Parser Proc = λ at ks. after (whole at ks) last in
     let outer : List Var → Parser Proc = λ vars. skip (is_word (codes "in")) (λ at ks. after (whole at ks) (λ x. expect (is_word (codes "endlet")) (tree.Let vars x))) in
     ap (mapped built) (ap (λ (o : Outcome (List Var)). after o outer) e ∙ skip_found (is_word (codes "in")) inner a f
-        ∙ ap (λ (o : Outcome Proc). after o last) one'.2 ∙ expect_found (is_word (codes "endlet")) (tree.Let vars one'.0) d h)
+    ∙ ap (λ (o : Outcome Proc). after o last) one'.2 ∙ expect_found (is_word (codes "endlet")) (tree.Let vars one'.0) d h)
     ∙ ap (λ (b : Built). Found b new.at new.kinds) (built_within vars one'.0 ∙ ap (λ b. one (tree.Let vars) b) (sym one'.1) ∙ sym is_made)
 
 module _ (whole : Parser Proc) (test : Ast) (p : Proc) (start : Ahead) where
@@ -44,7 +44,7 @@ module _ (whole : Parser Proc) (test : Ast) (p : Proc) (start : Ahead) where
       let none = sym e ∙ absent in
       let same : start ≡ behind = sym (is_behind ∙ ap (λ b. if b then next start else start) none) in
       ap (mapped built) (goes ∙ ap step none ∙ ap (λ (r : Ahead). expect (is_word (codes "fi")) (tree.If test p None) r.at r.kinds) same
-          ∙ expect_found (is_word (codes "fi")) (tree.If test p None) behind f)
+      ∙ expect_found (is_word (codes "fi")) (tree.If test p None) behind f)
       ∙ ap (λ (b : Built). Found b new.at new.kinds) (built_only test p ∙ ap (λ b. one (λ x. tree.If test x None) b) (sym is_x) ∙ sym is_made)
 
   pub sides_found : {x y made : Built} {more : Bool} {behind a new : Ahead} → x ≡ built p → more ≡ begins (is_word (codes "else")) start.kinds → behind ≡ eaten (is_word (codes "else")) start
@@ -55,6 +55,6 @@ module _ (whole : Parser Proc) (test : Ast) (p : Proc) (start : Ahead) where
       let same : next start ≡ behind = sym (is_behind ∙ ap (λ b. if b then next start else start) some) in
       let second = seen built (runs whole behind) f in
       ap (mapped built) (goes ∙ ap step some ∙ ap (λ (r : Ahead). after (whole r.at r.kinds) last) same ∙ ap (λ (o : Outcome Proc). after o last) second.2
-          ∙ expect_found (is_word (codes "fi")) (tree.If test p (Some second.0)) a g)
+      ∙ expect_found (is_word (codes "fi")) (tree.If test p (Some second.0)) a g)
       ∙ ap (λ (b : Built). Found b new.at new.kinds) (built_either test p second.0 ∙ ap (λ b. both (λ x y. tree.If test x (Some y)) b (built second.0)) (sym is_x)
-          ∙ ap (λ b. both (λ x y. tree.If test x (Some y)) x b) (sym second.1) ∙ sym is_made)
+      ∙ ap (λ b. both (λ x y. tree.If test x (Some y)) x b) (sym second.1) ∙ sym is_made)

@@ -45,7 +45,7 @@ pub chain_begin : (link : Chain) (room : ℕ) (start : Ahead) {none : List Built
 chain_begin link room start {none} is_none =
     let e : room ≡ room - 0 = omega arith in
     let begins : ChainSoFar link room start [] 0 start = chain_is link room start ∙ mapped_none (join_of link) (runs (as_built (rest_of link room room)) start)
-        ∙ ap (λ n. mapped (joined (join_of link) []) (runs (as_built (rest_of link room n)) start)) e in
+    ∙ ap (λ n. mapped (joined (join_of link) []) (runs (as_built (rest_of link room n)) start)) e in
     subst (λ (xs : List Built). ChainSoFar link room start xs 0 start) (sym is_none) begins
 
 module _ (link : Chain) (room : ℕ) (start : Ahead) (front : List Built) (turn : ℕ) (ahead : Ahead) where
@@ -87,12 +87,12 @@ module _ (link : Chain) (room : ℕ) (start : Ahead) (front : List Built) (turn 
       let same : behind ≡ next new = is_behind ∙ ap (λ b. if b then next new else new) some in
       let one = seen built (runs (member link room) ahead) e in
       let so_far_more : ChainSoFar link room start (front ++ built one.0 ∷ []) (turn + 1) (next new) =
-          goes below so_far ∙ ap step one.2
-          ∙ ap (λ more. mapped (joined (join_of link) front) (mapped built (behind_one more one.0 new.at new.kinds))) some
-          ∙ mapped_push link front one.0 (runs (rest_of link room (room - (turn + 1))) (next new)) in
+      goes below so_far ∙ ap step one.2
+      ∙ ap (λ more. mapped (joined (join_of link) front) (mapped built (behind_one more one.0 new.at new.kinds))) some
+      ∙ mapped_push link front one.0 (runs (rest_of link room (room - (turn + 1))) (next new)) in
       let same_all : front ++ built one.0 ∷ [] ≡ all = ap (λ b. front ++ b ∷ []) (sym one.1) ∙ sym is_all in
       subst (λ (xs : List Built). ChainSoFar link room start xs (turn + 1) behind) same_all
-          (subst (λ (r : Ahead). ChainSoFar link room start (front ++ built one.0 ∷ []) (turn + 1) r) (sym same) so_far_more)
+      (subst (λ (r : Ahead). ChainSoFar link room start (front ++ built one.0 ∷ []) (turn + 1) r) (sym same) so_far_more)
 
   pub chain_end : {place : ℕ} → room ≤ turn → ChainSoFar link room start front turn ahead → place ≡ ahead.at → runs (as_built (chained link room)) start ≡ Stops place
   unfolding rightward

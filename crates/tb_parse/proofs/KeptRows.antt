@@ -63,7 +63,8 @@ module _ (d : ProcDef) (old : Kept) (x : Defined) where
   in_front over = with_rest old (record {
     procs = if not over then d ∷ filter is_low x.procs else filter is_low x.procs;
     tools = x.tools;
-    too_high = option_map (λ (d : ProcDef). d.token) (if over then Some d else find is_too_high x.procs) })
+    too_high = option_map (λ (d : ProcDef). d.token) (if over then Some d else find is_too_high x.procs);
+  })
 
   abbrev at_end : Bool → Kept
   at_end over = with_rest (added (if over then made.TooHigh d.token else made.Low d) old) (kept x)
@@ -142,7 +143,7 @@ module _ (inner : ℕ) (start : Ahead) where
       → StopsWith (runs (process_made inner place) behind) e → Defines inner found start (Err e) found' new
   process_stops found found' new {is} {behind} {place} fault is_place e is_behind present stops n =
       stops_with (runs (process_made inner place) behind) (runs (definitions_kept inner (suc n)) start) fault
-          (λ p s. goes_process n is_place e is_behind present ∙ ap (by_process n) (unseen made_of (runs (process inner place) behind) s)) stops
+      (λ p s. goes_process n is_place e is_behind present ∙ ap (by_process n) (unseen made_of (runs (process inner place) behind) s)) stops
 
   pub tool_more : (found : Kept) {is is' : Bool} {old behind new : Ahead} {place : ℕ} {t : ToolDef} {found' : Kept} → place ≡ start.at
       → is ≡ begins (is_word (codes "process")) start.kinds → old ≡ eaten (is_word (codes "process")) start → is ≡ false
@@ -159,7 +160,7 @@ module _ (inner : ℕ) (start : Ahead) where
       → StopsWith (runs (tool place) behind) e → Defines inner found start (Err e) found' new
   tool_stops found found' new {is} {is'} {old} {behind} {place} fault is_place e is_old absent e' is_behind present stops n =
       stops_with (runs (tool place) behind) (runs (definitions_kept inner (suc n)) start) fault
-          (λ p s. goes_tool n is_place e is_old absent e' is_behind present ∙ ap (by_tool n) s) stops
+      (λ p s. goes_tool n is_place e is_old absent e' is_behind present ∙ ap (by_tool n) s) stops
 
   ends : (found : Kept) → mapped (with_rest found) (Found (kept (record { procs = []; tools = [] })) start.at start.kinds) ≡ Found found start.at start.kinds
   ends found = let first : first_place found.too_high None ≡ found.too_high = no_later found.too_high in

@@ -3,7 +3,9 @@ pub mod Chains
 pub mod Exits
 pub mod Fits
 pub mod KeptRows
+pub mod Opened
 pub mod Outcomes
+pub mod Parsed
 pub mod Parts
 pub mod Processes
 pub mod ReadAtoms

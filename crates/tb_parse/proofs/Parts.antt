@@ -66,7 +66,7 @@ module _ {A : Type 0} (item : Parser A) (room : ℕ) (start : Ahead) (found : Li
       let some = sym is_comma ∙ present in
       let same : behind ≡ next new = is_behind ∙ ap (λ b. if b then next new else new) some in
       subst (λ (xs : List A). PartsSoFar item room start xs (turn + 1) behind) (sym is_all)
-          (subst (λ (r : Ahead). PartsSoFar item room start (found ++ x ∷ []) (turn + 1) r) (sym same) (more_parts below so_far e some))
+      (subst (λ (r : Ahead). PartsSoFar item room start (found ++ x ∷ []) (turn + 1) r) (sym same) (more_parts below so_far e some))
 
   pub parts_end : {place : ℕ} → room ≤ turn → PartsSoFar item room start found turn ahead → place ≡ ahead.at → runs (parted item room) start ≡ Stops place
   unfolding parted

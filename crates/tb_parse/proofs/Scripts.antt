@@ -119,7 +119,7 @@ module _ (room : ℕ) (start : Ahead) where
       let found : runs (script room) start ≡ Found (script_of front.defined calls) new.at [] = ended front f g h ∙ ap (λ ks. at_end (script_of front.defined calls) new.at ks) nothing in
       let made : r ≡ whole_of (first_too_high front.defined.procs) (kept front.defined) calls = is_made ∙ ap (λ (k : Kept). whole_of k.too_high k calls) front.is_kept in
       subst (λ (r : Result Script ParseFault). Judges (runs (script room) start) r) (sym made)
-          (judged front.defined calls new.at (first_too_high front.defined.procs) refl found)
+      (judged front.defined calls new.at (first_too_high front.defined.procs) refl found)
 
 -- the exit of a `?`
 judge_stop : {A : Type 0} (o : Outcome A) (o' : Outcome Script) (e : ParseFault) → ((place : ℕ) → o ≡ Stops place → o' ≡ Stops place) → StopsWith o e → Judges o' (Err e)

@@ -31,11 +31,7 @@ pub(crate) fn call_of(
 }
 
 #[tactic(auto, unfolding(crate::specs::Parsing::call))]
-pub(crate) fn call(
-    alloc: Global,
-    reader: &mut Reader<'_>,
-    room: usize,
-) -> Result<Call, ParseFault>
+pub(crate) fn call(alloc: Global, reader: &mut Reader<'_>, room: usize) -> Result<Call, ParseFault>
     ensures { Meets (runs (call room) reader.old) result reader.new }
 {
     let token = reader.place();

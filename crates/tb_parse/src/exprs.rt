@@ -14,11 +14,7 @@ use tb_terms::{Ident, Items};
 /// An expression. The room bounds how deep expressions stand in each other.
 #[cycle(exprs)]
 #[tactic(auto, unfolding(crate::specs::Parsing::expr))]
-pub(crate) fn expr(
-    alloc: Global,
-    reader: &mut Reader<'_>,
-    room: usize,
-) -> Result<Ast, ParseFault>
+pub(crate) fn expr(alloc: Global, reader: &mut Reader<'_>, room: usize) -> Result<Ast, ParseFault>
     ensures { Meets (runs (expr room) reader.old) result reader.new }
 {
     let token = reader.place();

@@ -16,11 +16,7 @@ use tb_terms::{Ident, Items, Name};
 
 /// A whole process. The room bounds how deep processes stand in each other.
 #[tactic(auto, unfolding(crate::specs::Parsing::proc))]
-pub(crate) fn proc(
-    alloc: Global,
-    reader: &mut Reader<'_>,
-    room: usize,
-) -> Result<Built, ParseFault>
+pub(crate) fn proc(alloc: Global, reader: &mut Reader<'_>, room: usize) -> Result<Built, ParseFault>
     ensures { Meets (runs (as_built (proc room)) reader.old) result reader.new }
 {
     chain(alloc, reader, room, Chain::Par)
@@ -184,19 +180,22 @@ fn lower_proc(
 ) -> Result<Built, ParseFault>
     ensures { Meets (runs (as_built (lower_proc (merge (prim room) room) room name.now token)) reader.old) result reader.new }
 {
-    match name.as_bytes() {
-        b"let" => block(alloc, reader, room),
-        b"if" => test(alloc, reader, room),
-        b"create" => creation(alloc, reader, room, token),
-        word => {
-            if !is_atom_word(word) {
-                return Err(ParseFault::Syntax(token));
-            }
-            let name = name.copy(alloc)?;
-            let act = ActDef::Named(name, arguments(alloc, reader, room)?);
-            timed(alloc, reader, room, token, act)
-        }
+    let word = name.as_bytes();
+    if word == b"let".as_slice() {
+        return block(alloc, reader, room);
     }
+    if word == b"if".as_slice() {
+        return test(alloc, reader, room);
+    }
+    if word == b"create".as_slice() {
+        return creation(alloc, reader, room, token);
+    }
+    if !is_atom_word(word) {
+        return Err(ParseFault::Syntax(token));
+    }
+    let name = name.copy(alloc)?;
+    let act = ActDef::Named(name, arguments(alloc, reader, room)?);
+    timed(alloc, reader, room, token, act)
 }
 
 /// What stands behind the word `let`.

@@ -102,8 +102,10 @@ fn nested(alloc: Global, open: &[u8], count: usize, close: &[u8]) -> Result<Vec<
 
 #[test]
 fn at_most_128_brackets_are_open(rt: HostRuntime) -> Result<(), Fail> {
-    let table: [(usize, Option<ParseFault>); 2] =
-        [(128, None), (129, Some(ParseFault::TooDeep(131)))];
+    let table: [(usize, Option<ParseFault>); 2] = [
+        (128, None),
+        (129, Some(ParseFault::TooDeep(131))),
+    ];
     for (count, want) in table {
         let text = nested(rt.alloc(), b"( ", count, b") ")?;
         assert_eq!(rt; fault_of(rt.alloc(), text.as_slice())?, want);
@@ -208,7 +210,11 @@ static HEIGHTS: [Row; 12] = [
 fn bodies_are_at_most_400_high(rt: HostRuntime) -> Result<(), Fail> {
     for (front, count, part, end, want) in &HEIGHTS {
         let text = around(rt.alloc(), front, *count, part, end)?;
-        assert_eq!(rt; fault_of(rt.alloc(), text.as_slice())?, *want, "{front:?} {count} {part:?}");
+        assert_eq!(rt;
+            fault_of(rt.alloc(), text.as_slice())?,
+            *want,
+            "{front:?} {count} {part:?}"
+        );
     }
     Ok(())
 }

@@ -62,7 +62,7 @@ pub turns-returns-in_err-last : goal.turns-returns-in_err-last
 turns-returns-in_err-last t c =
     meets_err _ _ _ _ _ c.from_residual-in_err-last.ensures.1 c.in_err-last.ensures
     (λ place e. stars_stop c.args.room c.args.reader.now c.loop-turn.whole c.loop-turn._turn c.loop-turn.reader c.loop-turn.invariant
-        c.loop-turn-test.true c.eat_sign.ensures.found c.eat_sign.ensures.behind c.if-not-eat_sign.false e)
+    c.loop-turn-test.true c.eat_sign.ensures.found c.eat_sign.ensures.behind c.if-not-eat_sign.false e)
 
 pub turns-loop-turn-preserved : goal.turns-loop-turn-preserved
 turns-loop-turn-preserved t c =
@@ -87,4 +87,3 @@ pub sides-returns : goal.sides-returns
 sides-returns t c p is_x =
     sides_found (merge (prim c.args.room) c.args.room) c.args.test p c.args.reader.now is_x
     c.eat_word.ensures.found c.eat_word.ensures.behind c.if-not-eat_word.false c.in_ok-y.ensures c.in_ok-skip_word-2.ensures c.in_ok-either.ensures
-
