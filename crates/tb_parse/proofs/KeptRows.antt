@@ -1,7 +1,8 @@
 -- What is kept of definitions, one after another.
 use Rattle.std.proofs.Common.{◌≡◌, ℕ, zero, suc, ◌+◌, ◌-◌, ◌<◌, ◌≤◌, ◌⊎◌, Bool, true, false, not, nat_lt, List, [], ◌∷◌, ◌++◌, Option, Some, None, codes, refl, sym, ap, subst, ◌∙◌, ⊎_elim, arith, append_assoc, append-nil, Result, Ok, Err, if◌then◌else◌}
 use Rattle.std.specs.Prelude.{filter, find, option_map}
-use Rattle.std.proofs.lemmas.Bool.{cases_Bool}
+use Rattle.std.specs.Result.{IsErrAnd}
+use Rattle.std.proofs.lemmas.Result.{err_from_is_err_and}
 use Rattle.tb_lex.specs.declared.kind.TokenKind.{TokenKind}
 use Rattle.tb_syntax.specs.Limits.{is_too_high, first_too_high, height}
 use Rattle.tb_syntax.specs.declared.proc.Proc.{Proc}
@@ -180,6 +181,14 @@ module _ (inner : ℕ) (start : Ahead) where
       ap (mapped (with_rest found)) (goes n ∙ ap (λ b. step n b (begins (is_word (codes "tool")) start.kinds)) none ∙ ap (λ b. step n false b) none')
       ∙ ends found ∙ ap (λ (r : Ahead). Found found r.at r.kinds) (sym same)
 
+-- the exit of a `?`
+pub defines_err : (inner : ℕ) (found : Kept) (start : Ahead) (found' : Kept) (new : Ahead) (e : ParseFault) (r : Result Bool ParseFault)
+    → IsErrAnd r (λ made. made ≡ e) → Defines inner found start (Err e) found' new → Defines inner found start r found' new
+defines_err inner found start found' new e r exit d =
+    let p = err_from_is_err_and r exit in
+    subst (λ (r : Result Bool ParseFault). Defines inner found start r found' new) (sym p.1)
+        (subst (λ (e : ParseFault). Defines inner found start (Err e) found' new) (sym p.2) d)
+
 -- ---- the loop
 
 abbrev pub KeptSoFar : ℕ → ℕ → Ahead → Kept → ℕ → Ahead → Type 0
@@ -205,9 +214,11 @@ module _ (inner room : ℕ) (start : Ahead) (found : Kept) (turn : ℕ) (ahead :
       → KeptSoFar inner room start found' (turn + 1) new
   kept_more below so_far one = one_more from room turn below so_far ∙ one (room - (turn + 1))
 
-  pub kept_last : {found' : Kept} {new : Ahead} → turn < room → KeptSoFar inner room start found turn ahead → Defines inner found ahead (Ok false) found' new
+  pub kept_last : {found' : Kept} {new : Ahead} {more : Bool} → turn < room → KeptSoFar inner room start found turn ahead → Defines inner found ahead (Ok more) found' new → more ≡ false
       → runs (definitions_kept inner room) start ≡ Found found' new.at new.kinds
-  kept_last below so_far one = one_more from room turn below so_far ∙ one (room - (turn + 1))
+  kept_last {found'} {new} below so_far one none =
+      one_more from room turn below so_far ∙ one (room - (turn + 1))
+      ∙ ap (λ more. if more then mapped (with_rest found') (runs (definitions_kept inner (room - (turn + 1))) new) else Found found' new.at new.kinds) none
 
   pub kept_stop : {place : ℕ} → turn < room → KeptSoFar inner room start found turn ahead → runs (definitions_kept inner (suc (room - (turn + 1)))) ahead ≡ Stops place
       → runs (definitions_kept inner room) start ≡ Stops place

@@ -1,5 +1,5 @@
 -- How many brackets are open behind one token more.
-use Rattle.std.proofs.Common.{◌≡◌, ℕ, ◌+◌, ◌<◌, ◌≤◌, List, length, map, take, get_or, sym, ap, ◌∙◌, subst, arith, below_more}
+use Rattle.std.proofs.Common.{◌≡◌, ℕ, ◌+◌, ◌<◌, ◌≤◌, List, length, map, take, get_or, refl, sym, ap, ◌∙◌, subst, arith, below_more}
 use Rattle.std.proofs.lemmas.List.{get_or-map, length-map}
 use Rattle.std.proofs.lemmas.List.Sums.{fold_more}
 use Rattle.tb_lex.specs.declared.kind.TokenKind.{TokenKind}
@@ -47,3 +47,6 @@ counted_over {tokens} {place} known h e step over =
 
 pub counted_all : {tokens : List Token} {place count : ℕ} → Counted tokens place count → length tokens ≤ place → NoneTooDeep (kinds_of tokens)
 counted_all {tokens} known all = λ place h. known.none_before place (omega (arith, same_length tokens))
+
+pub counted_none : (tokens : List Token) → Counted tokens 0 0
+counted_none tokens = record { same = refl; few = omega arith; none_before = λ earlier h. absurd (omega arith) }

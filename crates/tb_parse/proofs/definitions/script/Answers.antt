@@ -21,7 +21,11 @@ returns-in_err-roots c =
     (λ p e. script_no_roots c.args.room c.args.reader.now c.in_ok-defined.ensures c.in_ok-skip_word.ensures c.in_ok-skip_sign.ensures e)
 
 pub returns-then-not-is_done : goal.returns-then-not-is_done
-returns-then-not-is_done c = ?
+returns-then-not-is_done c =
+    script_not_ended c.args.room c.args.reader.now
+    c.in_ok-defined.ensures c.in_ok-skip_word.ensures c.in_ok-skip_sign.ensures c.in_ok-roots.ensures c.if-not-is_done.ensures c.place.ensures
 
 pub returns : goal.returns
-returns c = ?
+returns c =
+    script_found c.args.room c.args.reader.now
+    c.in_ok-defined.ensures c.in_ok-skip_word.ensures c.in_ok-skip_sign.ensures c.in_ok-roots.ensures c.if-not-is_done.ensures c.whole.ensures
