@@ -210,10 +210,6 @@ module _ (inner room : ℕ) (start : Ahead) (found : Kept) (turn : ℕ) (ahead :
   abbrev from : ℕ → Outcome Kept
   from n = mapped (with_rest found) (runs (definitions_kept inner n) ahead)
 
-  pub kept_more : {found' : Kept} {new : Ahead} → turn < room → KeptSoFar inner room start found turn ahead → Defines inner found ahead (Ok true) found' new
-      → KeptSoFar inner room start found' (turn + 1) new
-  kept_more below so_far one = one_more from room turn below so_far ∙ one (room - (turn + 1))
-
   pub kept_last : {found' : Kept} {new : Ahead} {more : Bool} → turn < room → KeptSoFar inner room start found turn ahead → Defines inner found ahead (Ok more) found' new → more ≡ false
       → runs (definitions_kept inner room) start ≡ Found found' new.at new.kinds
   kept_last {found'} {new} below so_far one none =

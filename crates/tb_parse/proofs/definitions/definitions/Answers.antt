@@ -1,6 +1,6 @@
 use Rattle.std.proofs.Common.{◌+◌, ◌-◌}
 use Rattle.tb_parse.proofs.Exits.{meets_err}
-use Rattle.tb_parse.proofs.KeptRows.{kept_begin, kept_more, kept_last, kept_stop, kept_end}
+use Rattle.tb_parse.proofs.KeptRows.{kept_begin, kept_last, kept_stop, kept_end}
 use Rattle.tb_parse.proofs.definitions.definitions.Goals as goal
 
 pub loop-turn-init : goal.loop-turn-init
