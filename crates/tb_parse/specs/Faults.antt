@@ -1,0 +1,35 @@
+-- Which fault tokens have that are no script within the limits: brackets first, then the grammar, then heights.
+use Rattle.std.specs.Prelude.{◌≡◌, ℕ, ◌+◌, ◌<◌, ◌≤◌, List, length, take, Some, None, ◌⊎◌}
+use Rattle.tb_lex.specs.declared.kind.TokenKind.{TokenKind}
+use Rattle.tb_syntax.specs.declared.script.Script.{Script}
+use Rattle.tb_syntax.specs.Limits.{open_brackets, IsTooDeep, first_too_high}
+use Rattle.tb_syntax.specs.Spelling.{Spells}
+use Rattle.tb_parse.specs.declared.fault.ParseFault.{ParseFault}
+use Rattle.tb_parse.specs.declared.fault.ParseFault.TheVariants as fault
+
+-- at most 128 brackets are open behind each token
+abbrev pub NoneTooDeep : List TokenKind → Type 0
+NoneTooDeep kinds = (place : ℕ) → place < length kinds → open_brackets (take (place + 1) kinds) ≤ 128
+
+-- the tokens spell the script, and no limit is passed
+pub record IsScriptOf (kinds : List TokenKind) (script : Script) : Type 0 where
+  pub shallow : NoneTooDeep kinds
+  pub spells : Spells script kinds
+  pub low : first_too_high script.procs ≡ None
+
+-- no script is spelt by the tokens
+abbrev pub IsUnspelt : List TokenKind → Type 0
+IsUnspelt kinds = (script : Script) → Spells script kinds → ⊥
+
+-- a script is spelt, and this is the place of its first definition whose body is too high
+pub record IsTooHigh (kinds : List TokenKind) (place : ℕ) : Type 0 where
+  pub shallow : NoneTooDeep kinds
+  pub script : Script
+  pub spells : Spells script kinds
+  pub first : first_too_high script.procs ≡ Some place
+
+-- Of the place of a fault of the grammar nothing is said but that it is one of the tokens', or their end. Want of memory may come at any time.
+abbrev pub HasFault : List TokenKind → ParseFault → Type 0
+HasFault kinds (fault.TooDeep place) = IsTooDeep kinds place ⊎ IsTooHigh kinds place
+HasFault kinds (fault.Syntax place) = NoneTooDeep kinds × IsUnspelt kinds × (place ≤ length kinds)
+HasFault kinds fault.NoMemory = Unit {0}

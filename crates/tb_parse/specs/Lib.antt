@@ -1,0 +1,5 @@
+pub mod Defining
+pub mod Faults
+pub mod Heights
+pub mod Parsing
+pub mod Reading

@@ -1,0 +1,37 @@
+-- What a reader of tokens has before it, and what a function answers that reads.
+use Rattle.std.specs.Prelude.{◌≡◌, ℕ, ◌+◌, ◌<◌, ◌^◌, List, [], ◌∷◌, length, Option, Some, None, Bool, Result, Ok, Err, if◌then◌else◌}
+use Rattle.tb_lex.specs.declared.kind.TokenKind.{TokenKind}
+use Rattle.tb_lex.specs.declared.symbol.Symbol.{Symbol}
+use Rattle.tb_parse.specs.declared.fault.ParseFault.{ParseFault}
+use Rattle.tb_parse.specs.declared.fault.ParseFault.TheVariants as fault
+use Rattle.tb_parse.specs.Parsing.{Outcome, Found, Stops, Parser, begins, tail, is_sign, is_word}
+
+-- the place of the next token, and the tokens from there
+pub record Ahead : Type 0 where
+  pub at : ℕ
+  pub kinds : List TokenKind
+
+abbrev pub IsWithin : Ahead → Type 0
+IsWithin ahead = ahead.at + length ahead.kinds < 2 ^ 64
+
+-- what a parser finds there
+abbrev pub runs : {A : Type 0} → Parser A → Ahead → Outcome A
+runs parser ahead = parser ahead.at ahead.kinds
+
+abbrev pub next : Ahead → Ahead
+next ahead = record { at = ahead.at + 1; kinds = tail ahead.kinds }
+
+-- what is left behind the first token, where it is so
+abbrev pub eaten : (TokenKind → Bool) → Ahead → Ahead
+eaten test ahead = if begins test ahead.kinds then next ahead else ahead
+
+-- the fault is the place at which the parser stops; want of memory is free
+abbrev pub StopsWith : {A : Type 0} → Outcome A → ParseFault → Type 0
+StopsWith outcome (fault.Syntax place) = outcome ≡ Stops place
+StopsWith outcome (fault.TooDeep place) = ⊥
+StopsWith outcome fault.NoMemory = Unit {0}
+
+-- what was returned is what the parser found, and the reader stands behind it; or the parser stops there
+abbrev pub Meets : {A : Type 0} → Outcome A → Result A ParseFault → Ahead → Type 0
+Meets outcome (Ok x) ahead = outcome ≡ Found x ahead.at ahead.kinds
+Meets outcome (Err e) ahead = StopsWith outcome e

@@ -1,0 +1,152 @@
+ghost use Rattle.std.specs.Prelude.{◌≡◌, ◌++◌, Some, None, IfOk};
+ghost use Rattle.tb_syntax.specs.declared.proc.Proc.TheVariants as tree;
+ghost use Rattle.tb_parse.specs.declared.built.Built.{Built};
+ghost use Rattle.tb_parse.specs.Heights.{both, one, sides_of, fitting, side_of, join_of, joined};
+
+use std::alloc::Global;
+use tb_syntax::{Ast, Proc, Vars};
+use tb_terms::{Boxed, Items, NoMemory};
+
+/// How high a process may be.
+const MOST_LEVELS: usize = 400;
+
+/// A process that was read.
+#[derive(Debug, Drop)]
+pub(crate) enum Built {
+    /// Its tree, and how high it is: at most 400.
+    Tree(Boxed<Proc>, usize),
+    /// It is higher than 400, so that no tree is made.
+    TooHigh,
+}
+
+/// An operator behind whose first side all the rest is its second.
+#[derive(Clone, Copy, Debug, PartialEq, Eq)]
+pub(crate) enum Chain {
+    Par,
+    Alt,
+    Seq,
+}
+
+/// The sides of a process, and how high it is.
+#[derive(Drop)]
+struct Sides {
+    x: Boxed<Proc>,
+    y: Boxed<Proc>,
+    height: usize,
+}
+
+/// Two processes as the sides of one, which is not too high.
+fn sides_of(x: Built, y: Built) -> Option<Sides>
+    ensures { result ≡ sides_of x y }
+{
+    match (x, y) {
+        (Built::Tree(x, first), Built::Tree(y, second)) => fitting(x, first, y, second),
+        _ => None,
+    }
+}
+
+fn fitting(x: Boxed<Proc>, first: usize, y: Boxed<Proc>, second: usize) -> Option<Sides>
+    ensures { result ≡ fitting x first y second }
+{
+    if first >= MOST_LEVELS || second >= MOST_LEVELS {
+        return None;
+    }
+    let height = 1 + first.max(second);
+    Some(Sides { x, y, height })
+}
+
+/// A process as the only side of one, which is not too high, and how high that one is.
+fn side_of(x: Built) -> Option<(Boxed<Proc>, usize)>
+    ensures { result ≡ side_of x }
+{
+    match x {
+        Built::Tree(x, height) if height < MOST_LEVELS => Some((x, 1 + height)),
+        _ => None,
+    }
+}
+
+/// A process that is as high as this.
+fn tree(alloc: Global, proc: Proc, height: usize) -> Result<Built, NoMemory>
+    ensures { IfOk result (λ made. made ≡ Built.Tree proc height) }
+{
+    Ok(Built::Tree(Boxed::new(alloc, proc)?, height))
+}
+
+/// A process that has no processes in it.
+pub(crate) fn leaf(alloc: Global, proc: Proc) -> Result<Built, NoMemory>
+    ensures { IfOk result (λ made. made ≡ Built.Tree proc 1) }
+{
+    tree(alloc, proc, 1)
+}
+
+fn link(alloc: Global, chain: Chain, x: Built, y: Built) -> Result<Built, NoMemory>
+    ensures { IfOk result (λ made. made ≡ both (join_of chain) x y) }
+{
+    match sides_of(x, y) {
+        Some(Sides { x, y, height }) => tree(alloc, join(chain, x, y), height),
+        None => Ok(Built::TooHigh),
+    }
+}
+
+fn join(chain: Chain, x: Boxed<Proc>, y: Boxed<Proc>) -> Proc
+    ensures { result ≡ join_of chain x y }
+{
+    match chain {
+        Chain::Par => Proc::Par(x, y),
+        Chain::Alt => Proc::Alt(x, y),
+        Chain::Seq => Proc::Seq(x, y),
+    }
+}
+
+/// All processes of a chain as one, joined from the right.
+pub(crate) fn joined(
+    alloc: Global,
+    chain: Chain,
+    mut front: Items<Built>,
+    last: Built,
+) -> Result<Built, NoMemory>
+    ensures { IfOk result (λ made. made ≡ joined (join_of chain) front last) }
+{
+    let mut whole = last;
+    while let Some(x) = front.pop() {
+        whole = link(alloc, chain, x, whole)?;
+    }
+    Ok(whole)
+}
+
+/// The first any number of times, and then the second.
+pub(crate) fn turn(alloc: Global, x: Built, y: Built) -> Result<Built, NoMemory>
+    ensures { IfOk result (λ made. made ≡ both tree.Star x y) }
+{
+    match sides_of(x, y) {
+        Some(Sides { x, y, height }) => tree(alloc, Proc::Star(x, y), height),
+        None => Ok(Built::TooHigh),
+    }
+}
+
+pub(crate) fn either(alloc: Global, test: Ast, x: Built, y: Built) -> Result<Built, NoMemory>
+    ensures { IfOk result (λ made. made ≡ both (λ x y. tree.If test x (Some y)) x y) }
+{
+    match sides_of(x, y) {
+        Some(Sides { x, y, height }) => tree(alloc, Proc::If(test, x, Some(y)), height),
+        None => Ok(Built::TooHigh),
+    }
+}
+
+pub(crate) fn only(alloc: Global, test: Ast, x: Built) -> Result<Built, NoMemory>
+    ensures { IfOk result (λ made. made ≡ one (λ x. tree.If test x None) x) }
+{
+    match side_of(x) {
+        Some((x, height)) => tree(alloc, Proc::If(test, x, None), height),
+        None => Ok(Built::TooHigh),
+    }
+}
+
+pub(crate) fn within(alloc: Global, vars: Vars, x: Built) -> Result<Built, NoMemory>
+    ensures { IfOk result (λ made. made ≡ one (tree.Let vars) x) }
+{
+    match side_of(x) {
+        Some((x, height)) => tree(alloc, Proc::Let(vars, x), height),
+        None => Ok(Built::TooHigh),
+    }
+}

@@ -1,0 +1,51 @@
+use std::alloc::{AllocError, AllocFailed};
+use tb_terms::NoMemory;
+use thiserror::Error;
+
+/// Why tokens are no script. Places count the tokens from 0.
+#[derive(Clone, Copy, Debug, Drop, Error, PartialEq, Eq)]
+pub enum ParseFault {
+    /// No script is spelt by the tokens; the first token that can't go on, or the number of tokens.
+    #[error("syntax at token {0}")]
+    Syntax(usize),
+    /// The first token behind which more than 128 of `(`, `[`, `let` and `if` are open; or, where a
+    /// script is spelt, the first token of the first definition whose body is higher than 400.
+    #[error("too deep at token {0}")]
+    TooDeep(usize),
+    /// There wasn't memory enough; it says nothing of the tokens.
+    #[error("no memory")]
+    NoMemory,
+}
+
+impl From<NoMemory> for ParseFault {
+    ghost use Rattle.std.specs.Prelude.{◌≡◌};
+    ghost use Rattle.tb_parse.specs.declared.fault.ParseFault.TheVariants.{NoMemory};
+
+    ghost from_gives = { λ _ fault. fault ≡ NoMemory };
+
+    fn from(_refused: NoMemory) -> ParseFault {
+        ParseFault::NoMemory
+    }
+}
+
+impl From<AllocError> for ParseFault {
+    ghost use Rattle.std.specs.Prelude.{◌≡◌};
+    ghost use Rattle.tb_parse.specs.declared.fault.ParseFault.TheVariants.{NoMemory};
+
+    ghost from_gives = { λ _ fault. fault ≡ NoMemory };
+
+    fn from(_refused: AllocError) -> ParseFault {
+        ParseFault::NoMemory
+    }
+}
+
+impl<T: Drop> From<AllocFailed<T>> for ParseFault {
+    ghost use Rattle.std.specs.Prelude.{◌≡◌};
+    ghost use Rattle.tb_parse.specs.declared.fault.ParseFault.TheVariants.{NoMemory};
+
+    ghost from_gives = { λ _ fault. fault ≡ NoMemory };
+
+    fn from(_refused: AllocFailed<T>) -> ParseFault {
+        ParseFault::NoMemory
+    }
+}

@@ -1,0 +1,96 @@
+ghost use Rattle.std.specs.Prelude.{◌≡◌, [], None, Some, OnOk};
+ghost use Rattle.tb_syntax.specs.declared.proc.Proc.{Proc};
+ghost use Rattle.tb_parse.specs.Heights.{built};
+ghost use Rattle.tb_parse.specs.Defining.{added, first_place, made_of, whole_of};
+
+use crate::ParseFault;
+use crate::built::Built;
+use std::alloc::Global;
+use tb_syntax::{Calls, Formals, ProcDef, ProcDefs, Script, ToolDefs};
+use tb_terms::{Ident, Items, NoMemory};
+
+/// What is defined so far: the processes that are not too high, and the place of the first that is.
+#[derive(Debug, Drop)]
+pub(crate) struct Kept {
+    pub(crate) procs: ProcDefs,
+    pub(crate) tools: ToolDefs,
+    pub(crate) too_high: Option<usize>,
+}
+
+/// The definition of a process that was read.
+#[derive(Debug, Drop)]
+pub(crate) enum Made {
+    Low(ProcDef),
+    /// The one at this place has a body that is too high.
+    TooHigh(usize),
+}
+
+/// The definition with these parts, at this place.
+#[tactic(auto, using(crate::proofs::KeptRows::made_low, crate::proofs::KeptRows::made_high))]
+pub(crate) fn definition(name: Ident, formals: Formals, body: Built, token: usize) -> Made
+    ensures { (p : Proc) → body ≡ built p → result ≡ made_of (record { name = name; formals = formals; body = p; token = token }) }
+{
+    match body {
+        Built::Tree(body, _) => Made::Low(ProcDef {
+            name,
+            formals,
+            body: body.into_inner(),
+            token,
+        }),
+        Built::TooHigh => Made::TooHigh(token),
+    }
+}
+
+pub(crate) fn nothing(alloc: Global) -> Kept
+    ensures { result ≡ record { procs = []; tools = []; too_high = None } }
+{
+    Kept {
+        procs: Items::new(alloc),
+        tools: Items::new(alloc),
+        too_high: None,
+    }
+}
+
+/// Keeps one definition more.
+pub(crate) fn add(found: &mut Kept, made: Made) -> Result<(), NoMemory>
+    ensures { OnOk result (found.new ≡ added made found.old) }
+{
+    match made {
+        Made::Low(definition) => {
+            found.procs.push(definition)?;
+            Ok(())
+        }
+        Made::TooHigh(place) => {
+            found.too_high = first_place(found.too_high, place);
+            Ok(())
+        }
+    }
+}
+
+fn first_place(so_far: Option<usize>, place: usize) -> Option<usize>
+    ensures { result ≡ first_place so_far (Some place) }
+{
+    match so_far {
+        Some(first) => Some(first),
+        None => Some(place),
+    }
+}
+
+/// The script of these parts, where no body is too high.
+pub(crate) fn whole(found: Kept, roots: Calls) -> Result<Script, ParseFault>
+    ensures { result ≡ whole_of found.too_high found roots }
+{
+    let Kept {
+        procs,
+        tools,
+        too_high,
+    } = found;
+    match too_high {
+        Some(place) => Err(ParseFault::TooDeep(place)),
+        None => Ok(Script {
+            procs,
+            tools,
+            roots,
+        }),
+    }
+}

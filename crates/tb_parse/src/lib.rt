@@ -1,0 +1,21 @@
+//! The parser of scripts: which script a list of tokens spells, or the first fault that it has.
+#![tactic(auto)]
+
+mod atoms;
+mod brackets;
+mod built;
+mod definitions;
+mod exprs;
+mod fault;
+mod kept;
+mod laws;
+mod parser;
+mod procs;
+mod reader;
+mod sorts;
+#[cfg(test)]
+mod tests;
+
+pub use fault::ParseFault;
+pub use laws::{each_row_has_one, faults_are_unique, spelling_is_unique};
+pub use parser::parse;

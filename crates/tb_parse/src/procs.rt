@@ -1,0 +1,245 @@
+ghost use Rattle.std.specs.Prelude.{◌≡◌};
+ghost use Rattle.tb_syntax.specs.declared.proc.Proc.{Proc};
+ghost use Rattle.tb_parse.specs.Parsing.{proc, prim, merge, turns, prim_of, lower_proc, upper_proc, timed, block, test, sides};
+ghost use Rattle.tb_parse.specs.Heights.{built, as_built, creation, chained, member, sign_of};
+ghost use Rattle.tb_parse.specs.Reading.{Meets, runs};
+
+use crate::ParseFault;
+use crate::atoms::{call_of, create, times, vars};
+use crate::built::{Built, Chain, either, joined, leaf, only, turn, within};
+use crate::exprs::{arguments, expr};
+use crate::reader::Reader;
+use std::alloc::Global;
+use tb_lex::{Symbol, TokenKind};
+use tb_syntax::{ActDef, Ast, AtomDef, Proc, is_atom_word};
+use tb_terms::{Ident, Items, Name};
+
+/// A whole process. The room bounds how deep processes stand in each other.
+#[tactic(auto, unfolding(crate::specs::Parsing::proc))]
+pub(crate) fn proc(alloc: Global, reader: &mut Reader<'_>, room: usize) -> Result<Built, ParseFault>
+    ensures { Meets (runs (as_built (proc room)) reader.old) result reader.new }
+{
+    chain(alloc, reader, room, Chain::Par)
+}
+
+/// The members of a chain, with its operator between each two.
+#[cycle(procs)]
+fn chain(
+    alloc: Global,
+    reader: &mut Reader<'_>,
+    room: usize,
+    link: Chain,
+) -> Result<Built, ParseFault>
+    ensures { Meets (runs (as_built (chained link room)) reader.old) result reader.new }
+{
+    let sign = sign_of(link);
+    let mut front = Items::new(alloc);
+    for _turn in 0..room {
+        let x = member(alloc, reader, room, link)?;
+        if !reader.eat_sign(sign) {
+            return Ok(joined(alloc, link, front, x)?);
+        }
+        front.push(x)?;
+    }
+    Err(ParseFault::Syntax(reader.place()))
+}
+
+fn sign_of(link: Chain) -> Symbol
+    ensures { result ≡ sign_of link }
+{
+    match link {
+        Chain::Par => Symbol::Bars,
+        Chain::Alt => Symbol::Plus,
+        Chain::Seq => Symbol::Point,
+    }
+}
+
+/// What may stand between two operators of a chain: what binds tighter.
+#[cycle(procs)]
+fn member(
+    alloc: Global,
+    reader: &mut Reader<'_>,
+    room: usize,
+    link: Chain,
+) -> Result<Built, ParseFault>
+    ensures { Meets (runs (as_built (member link room)) reader.old) result reader.new }
+{
+    match link {
+        Chain::Par => chain(alloc, reader, room, Chain::Alt),
+        Chain::Alt => chain(alloc, reader, room, Chain::Seq),
+        Chain::Seq => turns(alloc, reader, room),
+    }
+}
+
+/// Processes with `*` between each two, joined from the left.
+#[cycle(procs)]
+fn turns(alloc: Global, reader: &mut Reader<'_>, room: usize) -> Result<Built, ParseFault>
+    ensures { Meets (runs (as_built (turns (prim room) room)) reader.old) result reader.new }
+{
+    let mut whole = prim(alloc, reader, room)?;
+    for _turn in 0..room {
+        if !reader.eat_sign(Symbol::Star) {
+            return Ok(whole);
+        }
+        let last = prim(alloc, reader, room)?;
+        whole = turn(alloc, whole, last)?;
+    }
+    Err(ParseFault::Syntax(reader.place()))
+}
+
+/// What stands by itself.
+#[tactic(auto, unfolding(crate::specs::Parsing::prim))]
+#[cycle(procs)]
+fn prim(alloc: Global, reader: &mut Reader<'_>, room: usize) -> Result<Built, ParseFault>
+    ensures { Meets (runs (as_built (prim room)) reader.old) result reader.new }
+{
+    if room == 0 {
+        return Err(ParseFault::Syntax(reader.place()));
+    }
+    prim_of(alloc, reader, room - 1)
+}
+
+#[tactic(auto, unfolding(crate::specs::Parsing::prim_of))]
+#[cycle(procs)]
+fn prim_of(alloc: Global, reader: &mut Reader<'_>, room: usize) -> Result<Built, ParseFault>
+    ensures { Meets (runs (as_built (prim_of (merge (prim room) room) room)) reader.old) result reader.new }
+{
+    let token = reader.place();
+    match reader.take() {
+        Some(TokenKind::Lower(name)) => lower_proc(alloc, reader, room, name, token),
+        Some(TokenKind::Upper(name)) => {
+            let name = name.copy(alloc)?;
+            upper_proc(alloc, reader, room, name, token)
+        }
+        Some(TokenKind::Symbol(Symbol::LeftParen)) => {
+            let whole = chain(alloc, reader, room, Chain::Par)?;
+            reader.skip_sign(Symbol::RightParen)?;
+            Ok(whole)
+        }
+        _ => Err(ParseFault::Syntax(token)),
+    }
+}
+
+/// An assignment or a call whose name stands at this place, and is taken already.
+#[tactic(auto, using(crate::proofs::Trees::built_call), unfolding(crate::specs::Parsing::upper_proc))]
+fn upper_proc(
+    alloc: Global,
+    reader: &mut Reader<'_>,
+    room: usize,
+    name: Ident,
+    token: usize,
+) -> Result<Built, ParseFault>
+    ensures { Meets (runs (as_built (upper_proc room name token)) reader.old) result reader.new }
+{
+    if !reader.eat_sign(Symbol::Assign) {
+        let call = call_of(alloc, reader, room, name, token)?;
+        return Ok(leaf(alloc, Proc::Call(call))?);
+    }
+    let value = expr(alloc, reader, room)?;
+    timed(alloc, reader, room, token, ActDef::Set(name, value))
+}
+
+/// The times of an atom that begins at this place.
+#[tactic(auto, using(crate::proofs::Trees::built_atom), unfolding(crate::specs::Parsing::timed))]
+fn timed(
+    alloc: Global,
+    reader: &mut Reader<'_>,
+    room: usize,
+    token: usize,
+    act: ActDef,
+) -> Result<Built, ParseFault>
+    ensures { Meets (runs (as_built (timed room token act)) reader.old) result reader.new }
+{
+    let times = times(alloc, reader, room)?;
+    let atom = AtomDef { act, times, token };
+    Ok(leaf(alloc, Proc::Atom(atom))?)
+}
+
+/// What stands behind the word `create`, which stands at this place.
+fn creation(
+    alloc: Global,
+    reader: &mut Reader<'_>,
+    room: usize,
+    token: usize,
+) -> Result<Built, ParseFault>
+    ensures { Meets (runs (as_built (creation room token)) reader.old) result reader.new }
+{
+    let act = create(alloc, reader, room)?;
+    timed(alloc, reader, room, token, act)
+}
+
+/// What begins with a word that stands at this place, and is taken already.
+#[tactic(auto, unfolding(crate::specs::Parsing::lower_proc))]
+#[cycle(procs)]
+fn lower_proc(
+    alloc: Global,
+    reader: &mut Reader<'_>,
+    room: usize,
+    name: &Name,
+    token: usize,
+) -> Result<Built, ParseFault>
+    ensures { Meets (runs (as_built (lower_proc (merge (prim room) room) room name.now token)) reader.old) result reader.new }
+{
+    let word = name.as_bytes();
+    if word == b"let".as_slice() {
+        return block(alloc, reader, room);
+    }
+    if word == b"if".as_slice() {
+        return test(alloc, reader, room);
+    }
+    if word == b"create".as_slice() {
+        return creation(alloc, reader, room, token);
+    }
+    if !is_atom_word(word) {
+        return Err(ParseFault::Syntax(token));
+    }
+    let name = name.copy(alloc)?;
+    let act = ActDef::Named(name, arguments(alloc, reader, room)?);
+    timed(alloc, reader, room, token, act)
+}
+
+/// What stands behind the word `let`.
+#[tactic(auto, unfolding(crate::specs::Parsing::block))]
+#[cycle(procs)]
+fn block(alloc: Global, reader: &mut Reader<'_>, room: usize) -> Result<Built, ParseFault>
+    ensures { Meets (runs (as_built (block (merge (prim room) room) room)) reader.old) result reader.new }
+{
+    let vars = vars(alloc, reader, room)?;
+    reader.skip_word(b"in")?;
+    let x = chain(alloc, reader, room, Chain::Par)?;
+    reader.skip_word(b"endlet")?;
+    Ok(within(alloc, vars, x)?)
+}
+
+/// What stands behind the word `if`.
+#[tactic(auto, unfolding(crate::specs::Parsing::test))]
+#[cycle(procs)]
+fn test(alloc: Global, reader: &mut Reader<'_>, room: usize) -> Result<Built, ParseFault>
+    ensures { Meets (runs (as_built (test (merge (prim room) room) room)) reader.old) result reader.new }
+{
+    let value = expr(alloc, reader, room)?;
+    reader.skip_word(b"then")?;
+    let x = chain(alloc, reader, room, Chain::Par)?;
+    sides(alloc, reader, room, value, x)
+}
+
+/// What stands behind the first side of a test.
+#[tactic(auto, unfolding(crate::specs::Parsing::sides))]
+#[cycle(procs)]
+fn sides(
+    alloc: Global,
+    reader: &mut Reader<'_>,
+    room: usize,
+    test: Ast,
+    x: Built,
+) -> Result<Built, ParseFault>
+    ensures { (p : Proc) → x ≡ built p → Meets (runs (as_built (sides (merge (prim room) room) test p)) reader.old) result reader.new }
+{
+    if !reader.eat_word(b"else") {
+        reader.skip_word(b"fi")?;
+        return Ok(only(alloc, test, x)?);
+    }
+    let y = chain(alloc, reader, room, Chain::Par)?;
+    reader.skip_word(b"fi")?;
+    Ok(either(alloc, test, x, y)?)
+}

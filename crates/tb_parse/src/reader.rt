@@ -1,0 +1,213 @@
+ghost use Rattle.std.specs.Prelude.{◌≡◌, ◌∷◌, [], MatchOption};
+ghost use Rattle.std.specs.Bool.{MatchBool};
+ghost use Rattle.tb_syntax.specs.Spelling.{kinds_of};
+ghost use Rattle.tb_parse.specs.Parsing.{begins, expect, is_sign, is_word, is_time, upper, lower, text, free_name};
+ghost use Rattle.tb_parse.specs.Reading.{Meets, runs, eaten, next};
+
+use crate::ParseFault;
+use std::alloc::Global;
+use std::marker::Model;
+use tb_lex::{Symbol, Token, TokenKind};
+use tb_syntax::{is_reserved, is_time_word};
+use tb_terms::{Ident, Name, Text};
+
+/// Tokens that are read from the left. Contracts see the place of the next token and what the
+/// tokens are from there.
+#[derive(Drop)]
+pub(crate) struct Reader<'a> {
+    rest: &'a [Token],
+    at: usize,
+}
+
+impl<'a> Model for Reader<'a> {
+    ghost use Rattle.tb_parse.specs.Reading.{Ahead};
+
+    ghost Value = { Ahead };
+
+    ghost use Rattle.std.specs.Prelude.{◌+◌, ◌<◌, ◌^◌, length};
+    ghost use Rattle.tb_syntax.specs.Spelling.{kinds_of};
+
+    ghost view = { λ reader. record { at = reader.at; kinds = kinds_of reader.rest.now } };
+
+    ghost invariant = { λ reader. reader.at + length reader.rest.now < 2 ^ 64 };
+}
+
+impl<'a> Reader<'a> {
+    pub(crate) fn new(tokens: &'a [Token]) -> Reader<'a>
+        ensures { result ≡ record { at = 0; kinds = kinds_of tokens.now } }
+    {
+        Reader {
+            rest: tokens,
+            at: 0,
+        }
+    }
+
+    /// The place of the next token.
+    pub(crate) fn place(&self) -> usize
+        ensures { result ≡ self.now.at }
+    {
+        self.at
+    }
+
+    /// Whether nothing is left.
+    pub(crate) fn is_done(&self) -> bool
+        ensures { MatchBool result (self.now.kinds ≡ []) (self.now.kinds ≡ [] → ⊥) }
+    {
+        self.rest.is_empty()
+    }
+
+    /// Takes the next token.
+    pub(crate) fn take(&mut self) -> Option<&'a TokenKind>
+        ensures { MatchOption result ((self.old.kinds ≡ []) × (self.new ≡ self.old))
+            (λ kind. (self.old.kinds ≡ kind.now ∷ self.new.kinds) × (self.new ≡ next self.old)) }
+    {
+        let (first, rest) = self.rest.split_first()?;
+        self.rest = rest;
+        self.at += 1;
+        Some(&first.kind)
+    }
+
+    pub(crate) fn is_sign(&self, sign: Symbol) -> bool
+        ensures { result ≡ begins (is_sign sign) self.now.kinds }
+    {
+        match self.rest.first() {
+            Some(token) => is_sign(sign, &token.kind),
+            None => false,
+        }
+    }
+
+    pub(crate) fn is_word(&self, word: &[u8]) -> bool
+        ensures { result ≡ begins (is_word word.now) self.now.kinds }
+    {
+        match self.rest.first() {
+            Some(token) => is_word(word, &token.kind),
+            None => false,
+        }
+    }
+
+    /// Whether a condition on a time begins here.
+    pub(crate) fn is_time(&self) -> bool
+        ensures { result ≡ begins is_time self.now.kinds }
+    {
+        match self.rest.first() {
+            Some(token) => is_time(&token.kind),
+            None => false,
+        }
+    }
+
+    /// Takes this sign, if it comes next.
+    pub(crate) fn eat_sign(&mut self, sign: Symbol) -> bool
+        ensures found { result ≡ begins (is_sign sign) self.old.kinds }
+        ensures behind { self.new ≡ eaten (is_sign sign) self.old }
+    {
+        let found = self.is_sign(sign);
+        if found {
+            self.take();
+        }
+        found
+    }
+
+    /// Takes this word, if it comes next.
+    pub(crate) fn eat_word(&mut self, word: &[u8]) -> bool
+        ensures found { result ≡ begins (is_word word.now) self.old.kinds }
+        ensures behind { self.new ≡ eaten (is_word word.now) self.old }
+    {
+        let found = self.is_word(word);
+        if found {
+            self.take();
+        }
+        found
+    }
+
+    /// Takes this sign, which has to come.
+    pub(crate) fn skip_sign(&mut self, sign: Symbol) -> Result<(), ParseFault>
+        ensures { Meets (runs (expect (is_sign sign) tt) self.old) result self.new }
+    {
+        if self.eat_sign(sign) {
+            Ok(())
+        } else {
+            Err(ParseFault::Syntax(self.at))
+        }
+    }
+
+    /// Takes this word, which has to come.
+    pub(crate) fn skip_word(&mut self, word: &[u8]) -> Result<(), ParseFault>
+        ensures { Meets (runs (expect (is_word word.now) tt) self.old) result self.new }
+    {
+        if self.eat_word(word) {
+            Ok(())
+        } else {
+            Err(ParseFault::Syntax(self.at))
+        }
+    }
+
+    pub(crate) fn upper(&mut self, alloc: Global) -> Result<Ident, ParseFault>
+        ensures { Meets (runs upper self.old) result self.new }
+    {
+        let at = self.at;
+        match self.take() {
+            Some(TokenKind::Upper(name)) => Ok(name.copy(alloc)?),
+            _ => Err(ParseFault::Syntax(at)),
+        }
+    }
+
+    pub(crate) fn lower(&mut self, alloc: Global) -> Result<Name, ParseFault>
+        ensures { Meets (runs lower self.old) result self.new }
+    {
+        let at = self.at;
+        match self.take() {
+            Some(TokenKind::Lower(name)) => Ok(name.copy(alloc)?),
+            _ => Err(ParseFault::Syntax(at)),
+        }
+    }
+
+    pub(crate) fn text(&mut self, alloc: Global) -> Result<Text, ParseFault>
+        ensures { Meets (runs text self.old) result self.new }
+    {
+        let at = self.at;
+        match self.take() {
+            Some(TokenKind::Str(text)) => Ok(text.copy(alloc)?),
+            _ => Err(ParseFault::Syntax(at)),
+        }
+    }
+
+    /// A lower name that isn't reserved.
+    #[tactic(auto, unfolding(crate::specs::Parsing::free_name))]
+    pub(crate) fn free_name(&mut self, alloc: Global) -> Result<Name, ParseFault>
+        ensures { Meets (runs free_name self.old) result self.new }
+    {
+        let at = self.at;
+        let name = self.lower(alloc)?;
+        if is_reserved(name.as_bytes()) {
+            return Err(ParseFault::Syntax(at));
+        }
+        Ok(name)
+    }
+}
+
+fn is_sign(sign: Symbol, kind: &TokenKind) -> bool
+    ensures { result ≡ is_sign sign kind.now }
+{
+    match kind {
+        TokenKind::Symbol(other) => sign == *other,
+        _ => false,
+    }
+}
+
+fn is_word(word: &[u8], kind: &TokenKind) -> bool
+    ensures { result ≡ is_word word.now kind.now }
+{
+    match kind {
+        TokenKind::Lower(name) => name.as_bytes() == word,
+        _ => false,
+    }
+}
+
+fn is_time(kind: &TokenKind) -> bool
+    ensures { result ≡ is_time kind.now }
+{
+    match kind {
+        TokenKind::Lower(name) => is_time_word(name.as_bytes()),
+        _ => false,
+    }
+}
