@@ -1,10 +1,9 @@
-pub mod Lexing
-pub mod Faults
-pub mod Cursors
-pub mod Spelling
 pub mod Elements
 pub mod Numbering
-pub mod Bodies
+pub mod Parts
+pub mod Counts
+pub mod Making
 pub mod Programs
+pub mod Examples
 pub mod LogWriting
 pub mod Outcomes

@@ -43,6 +43,8 @@ pub file-read : (told : Option (List ℕ)) (old new : Option (List ℕ)) (bytes 
 file-read told old new bytes Ended held o = (bytes, held, o)
 file-read told old new bytes (Limit bound.Steps) held o = (bytes, held, o)
 file-read told old new bytes (Script (script.NotBuilt token)) held o = (bytes, held, o)
+file-read told old new bytes (Script (script.Lex fault)) held o = (bytes, held, o)
+file-read told old new bytes (Script (script.Parse fault)) held o = (bytes, held, o)
 file-read told old new bytes (Script (script.TooLong len)) held o = absurd o
 file-read told old new bytes (Outside edge.Out) held o = (bytes, held, o)
 file-read told old new bytes (Outside edge.File) held o = absurd o

@@ -1,91 +1,73 @@
--- From a script that was read to its program.
-use Rattle.std.proofs.Common.{◌≡◌, ℕ, zero, suc, ◌≤◌, true, List, [], ◌∷◌, ◌++◌, length, map, Option, Some, IsTrue, refl, sym, ap, subst, ◌∙◌, arith, length-append, codes}
+-- From a script that is spelt to its program.
+use Rattle.std.proofs.Common.{◌≡◌, ℕ, zero, suc, ◌≤◌, true, List, [], ◌∷◌, length, map, Option, Some, None, IsTrue, refl, sym, ap, subst, ◌∙◌, arith}
 use Rattle.std.proofs.Math.Bool.{Bool-set}
-use Rattle.std.specs.List.{All, AllZip, AllByRecursion, Contains, slice_get, list_all, flat_map}
-use Rattle.std.specs.Option.{IsSome}
+use Rattle.std.specs.List.{All, AllZip, AllByRecursion, Contains, slice_get, list_all}
+use Rattle.std.specs.Option.{IsSome, is_some}
 use Rattle.std.proofs.lemmas.Bool.{and_from, eq-eqb, le-leb}
-use Rattle.std.proofs.lemmas.List.{length-map}
-use Rattle.std.proofs.lemmas.List.Elements.{All-map, All-from_recursion, recursion_from_All, All-contains, All-weaker}
+use Rattle.std.proofs.lemmas.List.Elements.{All-from_recursion, All-weaker}
 use Rattle.std.proofs.lemmas.Slice.Zip.{AllZip-long}
 use Rattle.std.proofs.lemmas.Option.{same_Some, none-some, slice_get_within, slice_get-get_or, get_or_from_slice_get}
 use Rattle.tb_terms.specs.declared.term.Term.{Term}
+use Rattle.tb_terms.specs.declared.sort.Sort.{Sort}
 use Rattle.tb_body.specs.declared.atom.Atom.{Atom}
+use Rattle.tb_body.specs.declared.tree.Tree.{Tree}
 use Rattle.tb_body.specs.declared.body.Body.{Body}
 use Rattle.tb_body.specs.declared.program.Root.{Root}
 use Rattle.tb_body.specs.declared.program.Tool.{Tool}
 use Rattle.tb_body.specs.declared.program.Program.{Program}
+use Rattle.tb_body.specs.InRange.{is_body_in_range}
 use Rattle.tb_body.specs.Programs.{is_act_in_program, is_body_in_program, are_actuals, starts, is_root_in_range, is_program_in_range}
-use Rattle.tb_top.specs.declared.plain.script.Definition.{Definition as ReadDefinition}
-use Rattle.tb_top.specs.declared.plain.script.Script.{Script as ReadScript}
-use Rattle.tb_top.specs.PlainScript.{Prim, tau, delta, snd-msg, rec-msg, Definition, Script, IsPlain, IsBodyOf, IsRootOf, IsProgramOf, IsPlainProgram, AreOnce, names, separated, act_of, atom_of, definition_tokens, spelling, roots_tokens, is_upper_name}
-use Rattle.tb_top.specs.PlainReading.{Numbers, IsNumbered, IsMade, IsDefinition, HasPrims, script_of, definition_of, name_of}
-use Rattle.tb_top.proofs.Bodies.{one_bodies}
-use Rattle.tb_top.proofs.Elements.{map-map}
-use Rattle.tb_top.proofs.Lexing.{one_lexing}
-use Rattle.tb_top.proofs.Spelling.{apart, behind, alone, one_alone, tails, separated_done, row_done, row_apart, bracket_apart}
+use Rattle.tb_syntax.specs.declared.proc.Call.{Call}
+use Rattle.tb_syntax.specs.declared.script.ProcDef.{ProcDef}
+use Rattle.tb_syntax.specs.declared.script.Script.{Script}
+use Rattle.tb_top.specs.PlainScript.{Part, plain_process, IsPlain, IsPlainRoot, IsBodyOf, IsRootOf, IsProgramOf, AreOnce, names}
+use Rattle.tb_top.specs.PlainReading.{Numbers, AreNumbers, IsNumbered, IsKnown, AreRoots, IsResult, name_of}
+use Rattle.tb_top.proofs.Parts.{acts_in_program}
 
--- the names of a script that was read
-pub names_read : (s : ReadScript) (ds : List ReadDefinition) → ds ≡ s.definitions.items → map name_of ds ≡ names (script_of s)
-names_read s ds same = ap (map name_of) same ∙ sym (map-map definition_of (λ d. d.name) s.definitions.items)
-
--- the numbers of the names of a script that was read
-pub known_names : (s : ReadScript) (ds : List ReadDefinition) (at : List ℕ → Option ℕ) → ds ≡ s.definitions.items → Numbers (map name_of ds) (length ds) at → Numbers (names (script_of s)) (length (names (script_of s))) at
-known_names s ds at same known =
-    let here : Numbers (map name_of s.definitions.items) (length s.definitions.items) at = subst (λ xs. Numbers (map name_of xs) (length xs) at) same known in
-    let listed : map name_of s.definitions.items ≡ names (script_of s) = sym (map-map definition_of (λ d. d.name) s.definitions.items) in
-    let counted : length s.definitions.items ≡ length (names (script_of s)) = sym (ap length (sym listed) ∙ length-map s.definitions.items name_of) in
-    subst (λ n. Numbers (names (script_of s)) n at) counted (subst (λ ns. Numbers ns (length s.definitions.items) at) listed here)
+-- Roots.
 
 module _ (ns : List (List ℕ)) (at : List ℕ → Option ℕ) (known : Numbers ns (length ns) at) where
-  pub once_from_numbers : AreOnce ns
+  once_from_numbers : AreOnce ns
   once_from_numbers i j name here there =
       same_Some _ _ (sym (known.full name i (slice_get_within ns i name here) here) ∙ known.full name j (slice_get_within ns j name there) there)
 
-  pub places_from_numbers : (roots : List (List ℕ)) (found : List Root) → AllZip (IsNumbered at) roots found → AllZip (IsRootOf ns) roots found
+  places_from_numbers : (calls : List Call) (found : List Root) → AllZip (IsNumbered at) calls found → AllZip (IsRootOf ns) calls found
   places_from_numbers [] [] all = all
   places_from_numbers [] (n ∷ numbers) all = absurd all
-  places_from_numbers (r ∷ rs) [] all = absurd all
-  places_from_numbers (r ∷ rs) (n ∷ numbers) all = (record { place = (known.sound r n.process all.0.number).1; actuals = all.0.actuals }, places_from_numbers rs numbers all.1)
+  places_from_numbers (call ∷ calls) [] all = absurd all
+  places_from_numbers (call ∷ calls) (n ∷ numbers) all = (record { place = (known.sound call.name n.process all.0.number).1; actuals = all.0.actuals }, places_from_numbers calls numbers all.1)
 
   contained : (name : List ℕ) (k : ℕ) → slice_get ns k ≡ Some name → Contains ns name
   contained name k e = (k, slice_get_within ns k name e, get_or_from_slice_get ns k name name e)
 
-  defined_along : (roots : List (List ℕ)) (found : List Root) → AllZip (IsNumbered at) roots found → AllByRecursion (Contains ns) roots
-  defined_along [] [] all = tt
-  defined_along [] (n ∷ numbers) all = absurd all
-  defined_along (r ∷ rs) [] all = absurd all
-  defined_along (r ∷ rs) (n ∷ numbers) all = (contained r n.process (known.sound r n.process all.0.number).1, defined_along rs numbers all.1)
+  plain_along : (calls : List Call) (found : List Root) → AllZip (IsNumbered at) calls found → AllByRecursion (IsPlainRoot ns) calls
+  plain_along [] [] all = tt
+  plain_along [] (n ∷ numbers) all = absurd all
+  plain_along (call ∷ calls) [] all = absurd all
+  plain_along (call ∷ calls) (n ∷ numbers) all =
+      (record { is_defined = contained call.name n.process (known.sound call.name n.process all.0.number).1; bare = all.0.bare }, plain_along calls numbers all.1)
 
-  pub defined_from_numbers : (roots : List (List ℕ)) (found : List Root) → AllZip (IsNumbered at) roots found → All (Contains ns) roots
-  defined_from_numbers roots found all = All-from_recursion (Contains ns) roots (defined_along roots found all)
+  plain_from_numbers : (calls : List Call) (found : List Root) → AllZip (IsNumbered at) calls found → All (IsPlainRoot ns) calls
+  plain_from_numbers calls found all = All-from_recursion (IsPlainRoot ns) calls (plain_along calls found all)
 
-  pub known_from_defined : (roots : List (List ℕ)) → All (Contains ns) roots → All (λ name. IsSome (at name)) roots
-  known_from_defined roots all = All-weaker (Contains ns) (λ name. IsSome (at name)) here roots all
+  pub known_from_plain : (calls : List Call) → All (IsPlainRoot ns) calls → All (IsKnown at) calls
+  known_from_plain calls all = All-weaker (IsPlainRoot ns) (IsKnown at) here calls all
     where
-      here : (name : List ℕ) → Contains ns name → IsSome (at name)
-      here name c =
-          let place : slice_get ns c.0 ≡ Some name = slice_get-get_or ns c.0 name c.1 ∙ ap Some c.2 in
-          let found : at name ≡ Some c.0 = known.full name c.0 c.1 place in
-          subst IsSome (sym found) refl
+      here : (call : Call) → IsPlainRoot ns call → IsKnown at call
+      here call plain =
+          let c = plain.is_defined in
+          let place : slice_get ns c.0 ≡ Some call.name = slice_get-get_or ns c.0 call.name c.1 ∙ ap Some c.2 in
+          let found : at call.name ≡ Some c.0 = known.full call.name c.0 c.1 place in
+          record { bare = plain.bare; known = subst IsSome (sym found) refl }
 
--- Plain acts speak neither of processes nor of tools.
+-- Plain bodies speak neither of processes nor of tools.
 
-act_in_program : (bodies : List Body) (tools : List Tool) (prim : Prim) → is_act_in_program bodies tools (act_of prim) ≡ true
-act_in_program bodies tools tau = refl
-act_in_program bodies tools delta = refl
-act_in_program bodies tools (snd-msg name) = refl
-act_in_program bodies tools (rec-msg name) = refl
-
-atoms_in_program : (bodies : List Body) (tools : List Tool) (prims : List Prim) → list_all (λ (atom : Atom). is_act_in_program bodies tools atom.act) (map atom_of prims) ≡ true
-atoms_in_program bodies tools [] = refl
-atoms_in_program bodies tools (prim ∷ prims) = and_from _ _ (act_in_program bodies tools prim) (atoms_in_program bodies tools prims)
-
-bodies_in_program : (all : List Body) (tools : List Tool) (ds : List Definition) (bodies : List Body) → AllZip IsBodyOf ds bodies → list_all (is_body_in_program all tools) bodies ≡ true
+bodies_in_program : (all : List Body) (tools : List Tool) (ds : List ProcDef) (bodies : List Body) → AllZip IsBodyOf ds bodies → list_all (is_body_in_program all tools) bodies ≡ true
 bodies_in_program all tools [] [] zip = refl
 bodies_in_program all tools [] (b ∷ bodies) zip = absurd zip
 bodies_in_program all tools (d ∷ ds) [] zip = absurd zip
 bodies_in_program all tools (d ∷ ds) (b ∷ bodies) zip =
-    let here : is_body_in_program all tools b ≡ true = subst (λ (atoms : List Atom). list_all (λ (atom : Atom). is_act_in_program all tools atom.act) atoms ≡ true) (sym zip.0.atoms) (atoms_in_program all tools d.prims) in
+    let here : is_body_in_program all tools b ≡ true = subst (λ (atoms : List Atom). list_all (λ (atom : Atom). is_act_in_program all tools atom.act) atoms ≡ true) (sym zip.0.atoms) (acts_in_program d zip.0.part all tools zip.0.is_plain) in
     and_from _ _ here (bodies_in_program all tools ds bodies zip.1)
 
 -- The body at the place of a name takes no values.
@@ -93,117 +75,125 @@ bodies_in_program all tools (d ∷ ds) (b ∷ bodies) zip =
 no_actuals : (body : Body) → body.formals ≡ 0 → are_actuals body [] ≡ true
 no_actuals body none = and_from _ _ (and_from _ _ (eq-eqb 0 body.formals (sym none)) refl) refl
 
-root_starts : (ds : List Definition) (bodies : List Body) (place : ℕ) (name : List ℕ) → AllZip IsBodyOf ds bodies → slice_get (map (λ (d : Definition). d.name) ds) place ≡ Some name → starts (slice_get bodies place) [] ≡ true
+root_starts : (ds : List ProcDef) (bodies : List Body) (place : ℕ) (name : List ℕ) → AllZip IsBodyOf ds bodies → slice_get (map (λ (d : ProcDef). d.name) ds) place ≡ Some name → starts (slice_get bodies place) [] ≡ true
 root_starts [] [] place name zip here = absurd (none-some name here)
 root_starts [] (b ∷ bodies) place name zip here = absurd zip
 root_starts (d ∷ ds) [] place name zip here = absurd zip
 root_starts (d ∷ ds) (b ∷ bodies) zero name zip here = no_actuals b zip.0.formals
 root_starts (d ∷ ds) (b ∷ bodies) (suc place) name zip here = root_starts ds bodies place name zip.1 here
 
-root_in_range : (script : Script) (bodies : List Body) (name : List ℕ) (root : Root) → AllZip IsBodyOf script.definitions bodies → IsRootOf (names script) name root → is_root_in_range bodies root ≡ true
-root_in_range script bodies name root zip is =
-    subst (λ (actuals : List Term). starts (slice_get bodies root.process) actuals ≡ true) (sym is.actuals) (root_starts script.definitions bodies root.process name zip is.place)
+root_in_range : (script : Script) (bodies : List Body) (call : Call) (root : Root) → AllZip IsBodyOf script.procs bodies → IsRootOf (names script) call root → is_root_in_range bodies root ≡ true
+root_in_range script bodies call root zip is =
+    subst (λ (actuals : List Term). starts (slice_get bodies root.process) actuals ≡ true) (sym is.actuals) (root_starts script.procs bodies root.process call.name zip is.place)
 
-roots_in_range : (script : Script) (bodies : List Body) (roots : List (List ℕ)) (found : List Root) → AllZip IsBodyOf script.definitions bodies → AllZip (IsRootOf (names script)) roots found → list_all (is_root_in_range bodies) found ≡ true
+roots_in_range : (script : Script) (bodies : List Body) (calls : List Call) (found : List Root) → AllZip IsBodyOf script.procs bodies → AllZip (IsRootOf (names script)) calls found → list_all (is_root_in_range bodies) found ≡ true
 roots_in_range script bodies [] [] made zip = refl
 roots_in_range script bodies [] (root ∷ found) made zip = absurd zip
-roots_in_range script bodies (name ∷ roots) [] made zip = absurd zip
-roots_in_range script bodies (name ∷ roots) (root ∷ found) made zip = and_from _ _ (root_in_range script bodies name root made zip.0) (roots_in_range script bodies roots found made zip.1)
+roots_in_range script bodies (call ∷ calls) [] made zip = absurd zip
+roots_in_range script bodies (call ∷ calls) (root ∷ found) made zip = and_from _ _ (root_in_range script bodies call root made zip.0) (roots_in_range script bodies calls found made zip.1)
 
--- the program of a script is in range
-plain_in_range : (script : Script) (bodies : List Body) (roots : List Root) → AllZip IsBodyOf script.definitions bodies → AllZip (IsRootOf (names script)) script.roots roots → length script.roots ≤ 10000 → is_program_in_range bodies roots [] ≡ true
+plain_in_range : (script : Script) (bodies : List Body) (roots : List Root) → AllZip IsBodyOf script.procs bodies → AllZip (IsRootOf (names script)) script.roots roots → length script.roots ≤ 10000 → is_program_in_range bodies roots [] ≡ true
 unfolding is_program_in_range
 plain_in_range script bodies roots made zip few =
     and_from _ _
-    (and_from _ _ (bodies_in_program bodies [] script.definitions bodies made) (le-leb (length roots) 10000 (omega (arith, AllZip-long (IsRootOf (names script)) script.roots roots zip, few))))
+    (and_from _ _ (bodies_in_program bodies [] script.procs bodies made) (le-leb (length roots) 10000 (omega (arith, AllZip-long (IsRootOf (names script)) script.roots roots zip, few))))
     (roots_in_range script bodies script.roots roots made zip)
 
-pub program_in_range : (script : Script) (bodies : List Body) (roots : List Root) (tools : List Tool) → AllZip IsBodyOf script.definitions bodies → AllZip (IsRootOf (names script)) script.roots roots → length script.roots ≤ 10000 → tools ≡ [] → is_program_in_range bodies roots tools ≡ true
-program_in_range script bodies roots tools made zip few none = subst (λ (ts : List Tool). is_program_in_range bodies roots ts ≡ true) (sym none) (plain_in_range script bodies roots made zip few)
+-- the program of a script is in range
+pub program_in_range : (script : Script) (at : List ℕ → Option ℕ) (bodies : List Body) (roots : List Root) (tools : List Tool) → Numbers (names script) (length (names script)) at → AllZip IsBodyOf script.procs bodies → AllZip (IsNumbered at) script.roots roots → length script.roots ≤ 10000 → tools ≡ [] → is_program_in_range bodies roots tools ≡ true
+program_in_range script at bodies roots tools known made numbered few none =
+    subst (λ (ts : List Tool). is_program_in_range bodies roots ts ≡ true) (sym none)
+    (plain_in_range script bodies roots made (places_from_numbers (names script) at known script.roots roots numbered) few)
 
--- a definition is spelt with some tokens
-row_long : (ds : List Definition) → length ds ≤ length (flat_map definition_tokens ds)
-row_long [] = omega arith
-row_long (d ∷ ds) = omega (arith, row_long ds, length-append (definition_tokens d) (flat_map definition_tokens ds))
+-- a process that has a body is plain
+plain_bodies : (ds : List ProcDef) (bodies : List Body) → AllZip IsBodyOf ds bodies → AllByRecursion (λ (d : ProcDef). IsSome (plain_process d)) ds
+plain_bodies [] [] zip = tt
+plain_bodies [] (b ∷ bodies) zip = absurd zip
+plain_bodies (d ∷ ds) [] zip = absurd zip
+plain_bodies (d ∷ ds) (b ∷ bodies) zip = (ap is_some zip.0.is_plain, plain_bodies ds bodies zip.1)
 
-pub spelling_long : (script : Script) → length script.definitions ≤ length (spelling script)
-spelling_long script = omega (arith, row_long script.definitions, length-append (flat_map definition_tokens script.definitions) (roots_tokens script.roots))
+-- the numbers of the names of the definitions
+pub known_names : (script : Script) (ds : List ProcDef) (found : Option (List ℕ → Option ℕ)) (at : List ℕ → Option ℕ) → ds ≡ script.procs → found ≡ Some at → AreNumbers (map name_of ds) found → Numbers (names script) (length (names script)) at
+known_names script ds found at e f known = subst (λ (xs : List ProcDef). Numbers (map name_of xs) (length (map name_of xs)) at) e (subst (AreNumbers (map name_of ds)) f known)
 
--- what reading the tokens and looking at the script make sure of, together
-pub plain_from : (script : Script) → AllByRecursion IsDefinition script.definitions → IsMade script → length (spelling script) ≤ 200000 → IsPlain script
-plain_from script form made few = record {
-  upper = All-map (λ name. IsTrue (is_upper_name name)) (λ d. d.name) script.definitions (All-weaker IsDefinition (λ d. IsTrue (is_upper_name d.name)) (λ d h. h.0) script.definitions (All-from_recursion IsDefinition script.definitions form));
-  once = made.once;
-  some = All-weaker IsDefinition HasPrims (λ d h. h.1) script.definitions (All-from_recursion IsDefinition script.definitions form);
-  low = made.low;
-  messages = made.messages;
-  defined = made.defined;
-  few_roots = made.few_roots;
-  few_tokens = few;
-}
+pub twice_unplain : (script : Script) (ds : List ProcDef) (found : Option (List ℕ → Option ℕ)) → ds ≡ script.procs → found ≡ None → AreNumbers (map name_of ds) found → IsPlain script → ⊥
+twice_unplain script ds found e f none plain = subst (AreNumbers (map name_of ds)) f none (subst (λ (xs : List ProcDef). AreOnce (map name_of xs)) (sym e) plain.once)
 
-pub some_from_form : (ds : List Definition) → AllByRecursion IsDefinition ds → All HasPrims ds
-some_from_form ds form = All-weaker IsDefinition HasPrims (λ d h. h.1) ds (All-from_recursion IsDefinition ds form)
+pub roots_unplain : (script : Script) (at : List ℕ → Option ℕ) (calls : List Call) (found : Option (List Root)) → Numbers (names script) (length (names script)) at → calls ≡ script.roots → found ≡ None → AreRoots at calls found → IsPlain script → ⊥
+roots_unplain script at calls found known e f none plain = subst (AreRoots at calls) f none (subst (All (IsKnown at)) (sym e) (known_from_plain (names script) at known script.roots plain.roots))
 
-pub made_from_plain : (script : Script) → IsPlain script → IsMade script
-made_from_plain script plain = record {
-  once = plain.once;
-  low = plain.low;
-  messages = plain.messages;
-  defined = plain.defined;
-  few_roots = plain.few_roots;
-}
+-- what was looked at makes the script plain, and this is its program
+pub program_made : (script : Script) (at : List ℕ → Option ℕ) (program : Program) → script.tools ≡ [] → length script.roots ≤ 10000 → Numbers (names script) (length (names script)) at → AllZip IsBodyOf script.procs program.bodies → AllZip (IsNumbered at) script.roots program.roots → program.tools ≡ [] → IsResult script (Some program)
+program_made script at program no_tools few known made numbered none = (
+  record {
+    no_tools = no_tools;
+    once = once_from_numbers (names script) at known;
+    processes = All-from_recursion (λ (d : ProcDef). IsSome (plain_process d)) script.procs (plain_bodies script.procs program.bodies made);
+    roots = plain_from_numbers (names script) at known script.roots program.roots numbered;
+    few_roots = few;
+  },
+  record {
+    bodies = made;
+    roots = places_from_numbers (names script) at known script.roots program.roots numbered;
+    tools = none;
+  },
+)
 
-form_along : (ds : List Definition) → AllByRecursion (λ name. IsTrue (is_upper_name name)) (map (λ d. d.name) ds) → AllByRecursion HasPrims ds → AllByRecursion IsDefinition ds
-form_along [] upper some = tt
-form_along (d ∷ ds) upper some = ((upper.0, some.0), form_along ds upper.1 some.1)
+-- A plain script has one program.
 
-pub form_from_plain : (script : Script) → IsPlain script → AllByRecursion IsDefinition script.definitions
-form_from_plain script plain =
-    form_along script.definitions (recursion_from_All (λ name. IsTrue (is_upper_name name)) (names script) plain.upper) (recursion_from_All HasPrims script.definitions plain.some)
+-- bodies of one definition are one
 
-pub roots_from_plain : (script : Script) → IsPlain script → AllByRecursion (λ name. IsTrue (is_upper_name name)) script.roots
-roots_from_plain script plain =
-    recursion_from_All (λ name. IsTrue (is_upper_name name)) script.roots (All-weaker (Contains (names script)) (λ name. IsTrue (is_upper_name name)) (λ name c. All-contains (λ n. IsTrue (is_upper_name n)) (names script) name plain.upper c) script.roots plain.defined)
+record Made : Type 0 where
+  tree : Tree
+  atoms : List Atom
+  sorts : List Sort
+  formals : ℕ
 
--- two readings of the roots are one
-one_roots : (rs ts : List (List ℕ)) → AllByRecursion (λ name. IsTrue (is_upper_name name)) ts → roots_tokens rs ≡ roots_tokens ts → rs ≡ ts
-one_roots rs ts upper e = along rs ts upper (behind (codes "(") _ _ (behind (codes "toolbus") _ _ e))
-  where
-    long : (x : List ℕ) (xs : List (List ℕ)) → xs ++ (x ∷ []) ≡ [] → ⊥
-    long x [] f = absurd cc
-    long x (y ∷ ys) f = absurd cc
+abbrev made_of : Body → Made
+made_of b = record { tree = b.tree; atoms = b.atoms; sorts = b.sorts; formals = b.formals }
 
-    tail : (x y : List ℕ) (r s : List (List ℕ)) → x ∷ r ≡ y ∷ s → r ≡ s
-    tail x y r s f = cc
+abbrev IsAllowed : Made → Type 0
+IsAllowed s = IsTrue (is_body_in_range s.tree s.atoms s.sorts s.formals)
 
-    along : (rs ts : List (List ℕ)) → AllByRecursion (λ name. IsTrue (is_upper_name name)) ts → separated (codes ",") alone rs ++ (codes ")" ∷ []) ≡ separated (codes ",") alone ts ++ (codes ")" ∷ []) → rs ≡ ts
-    along [] [] upper e = refl
-    along [] (t ∷ ts) upper e = absurd (long (codes ")") (tails (codes ",") alone ts) (sym (tail _ _ _ _ e)))
-    along (r ∷ rs) [] upper e = absurd (long (codes ")") (tails (codes ",") alone rs) (tail _ _ _ _ e))
-    along (r ∷ rs) (t ∷ ts) upper e =
-        (separated_done (codes ",") alone (λ name. IsTrue (is_upper_name name)) one_alone (r ∷ rs) (t ∷ ts) (codes ")" ∷ []) (codes ")" ∷ []) (omega arith) (omega arith) upper (bracket_apart []) (bracket_apart []) e).0
+abbrev body_of : (s : Made) → IsAllowed s → Body
+body_of s allowed = record { tree = s.tree; atoms = s.atoms; sorts = s.sorts; formals = s.formals; in_range = allowed }
 
--- tokens spell one script
-pub one_script : (s t : Script) → AllByRecursion IsDefinition s.definitions → AllByRecursion IsDefinition t.definitions → AllByRecursion (λ name. IsTrue (is_upper_name name)) t.roots → spelling s ≡ spelling t → s ≡ t
-one_script s t form form' upper e =
-    let rows = row_done s.definitions t.definitions (roots_tokens s.roots) _ form form' (λ _. row_apart [] _) (λ r f. apart (codes "toolbus") (codes "process") _ _ refl f) e in
-    let roots : s.roots ≡ t.roots = one_roots s.roots t.roots upper rows.1 in
-    ap (λ ds. record { definitions = ds; roots = s.roots }) rows.0 ∙ ap (λ rs. record { definitions = t.definitions; roots = rs }) roots
+body_once : (s t : Made) → s ≡ t → (h : IsAllowed s) (k : IsAllowed t) → body_of s h ≡ body_of t k
+body_once s t e h = subst (λ (u : Made). (k : IsAllowed u) → body_of s h ≡ body_of u k) e (λ k. ap (body_of s) (Bool-set _ _ h k))
+
+made_once : (d : ProcDef) (b c : Body) → IsBodyOf d b → IsBodyOf d c → made_of b ≡ made_of c
+made_once d b c p q =
+    let parts : p.part ≡ q.part = same_Some _ _ (sym p.is_plain ∙ q.is_plain) in
+    ap (λ (t : Tree). record { tree = t; atoms = b.atoms; sorts = b.sorts; formals = b.formals }) (p.tree ∙ (ap (λ (x : Part). x.tree 1) parts ∙ sym q.tree))
+    ∙ ap (λ (xs : List Atom). record { tree = c.tree; atoms = xs; sorts = b.sorts; formals = b.formals }) (p.atoms ∙ (ap (λ (x : Part). x.atoms) parts ∙ sym q.atoms))
+    ∙ ap (λ (xs : List Sort). record { tree = c.tree; atoms = c.atoms; sorts = xs; formals = b.formals }) (p.sorts ∙ sym q.sorts)
+    ∙ ap (λ (n : ℕ). record { tree = c.tree; atoms = c.atoms; sorts = c.sorts; formals = n }) (p.formals ∙ sym q.formals)
+
+one_body : (d : ProcDef) (b c : Body) → IsBodyOf d b → IsBodyOf d c → b ≡ c
+one_body d b c p q = body_once (made_of b) (made_of c) (made_once d b c p q) b.in_range c.in_range
+
+one_bodies : (ds : List ProcDef) (bs cs : List Body) → AllZip IsBodyOf ds bs → AllZip IsBodyOf ds cs → bs ≡ cs
+one_bodies [] [] [] p q = refl
+one_bodies [] [] (c ∷ cs) p q = absurd q
+one_bodies [] (b ∷ bs) cs p q = absurd p
+one_bodies (d ∷ ds) [] cs p q = absurd p
+one_bodies (d ∷ ds) (b ∷ bs) [] p q = absurd q
+one_bodies (d ∷ ds) (b ∷ bs) (c ∷ cs) p q = ap (λ (x : Body). x ∷ bs) (one_body d b c p.0 q.0) ∙ ap (λ (xs : List Body). c ∷ xs) (one_bodies ds bs cs p.1 q.1)
 
 -- the roots are given by their names
-root_once : (ns : List (List ℕ)) → AreOnce ns → (name : List ℕ) (root other : Root) → IsRootOf ns name root → IsRootOf ns name other → root ≡ other
-root_once ns once name root other p q =
-    ap (λ (n : ℕ). record { process = n; actuals = root.actuals }) (once root.process other.process name p.place q.place) ∙ ap (λ (ts : List Term). record { process = other.process; actuals = ts }) (p.actuals ∙ sym q.actuals)
 
-roots_once : (ns : List (List ℕ)) → AreOnce ns → (roots : List (List ℕ)) (found other : List Root) → AllZip (IsRootOf ns) roots found → AllZip (IsRootOf ns) roots other → found ≡ other
-roots_once ns once [] [] [] a b = refl
-roots_once ns once [] [] (n ∷ other) a b = absurd b
-roots_once ns once [] (m ∷ found) other a b = absurd a
-roots_once ns once (r ∷ rs) [] other a b = absurd a
-roots_once ns once (r ∷ rs) (m ∷ found) [] a b = absurd b
-roots_once ns once (r ∷ rs) (m ∷ found) (n ∷ other) a b =
-    ap (λ (x : Root). x ∷ found) (root_once ns once r m n a.0 b.0) ∙ ap (λ (xs : List Root). n ∷ xs) (roots_once ns once rs found other a.1 b.1)
+one_root : (ns : List (List ℕ)) → AreOnce ns → (call : Call) (root other : Root) → IsRootOf ns call root → IsRootOf ns call other → root ≡ other
+one_root ns once call root other p q =
+    ap (λ (n : ℕ). record { process = n; actuals = root.actuals }) (once root.process other.process call.name p.place q.place) ∙ ap (λ (ts : List Term). record { process = other.process; actuals = ts }) (p.actuals ∙ sym q.actuals)
+
+one_roots : (ns : List (List ℕ)) → AreOnce ns → (calls : List Call) (found other : List Root) → AllZip (IsRootOf ns) calls found → AllZip (IsRootOf ns) calls other → found ≡ other
+one_roots ns once [] [] [] a b = refl
+one_roots ns once [] [] (n ∷ other) a b = absurd b
+one_roots ns once [] (m ∷ found) other a b = absurd a
+one_roots ns once (r ∷ rs) [] other a b = absurd a
+one_roots ns once (r ∷ rs) (m ∷ found) [] a b = absurd b
+one_roots ns once (r ∷ rs) (m ∷ found) (n ∷ other) a b =
+    ap (λ (x : Root). x ∷ found) (one_root ns once r m n a.0 b.0) ∙ ap (λ (xs : List Root). n ∷ xs) (one_roots ns once rs found other a.1 b.1)
 
 -- a program is its bodies, its roots and its tools
 
@@ -218,11 +208,11 @@ shown p = record { bodies = p.bodies; roots = p.roots; tools = p.tools }
 abbrev Allowed : Shown → Type 0
 Allowed s = IsTrue (is_program_in_range s.bodies s.roots s.tools)
 
-abbrev made : (s : Shown) → Allowed s → Program
-made s allowed = record { bodies = s.bodies; roots = s.roots; tools = s.tools; in_range = allowed }
+abbrev program_with : (s : Shown) → Allowed s → Program
+program_with s allowed = record { bodies = s.bodies; roots = s.roots; tools = s.tools; in_range = allowed }
 
-made_once : (s t : Shown) → s ≡ t → (h : Allowed s) (k : Allowed t) → made s h ≡ made t k
-made_once s t e h = subst (λ (u : Shown). (k : Allowed u) → made s h ≡ made u k) e (λ k. ap (made s) (Bool-set _ _ h k))
+program_once : (s t : Shown) → s ≡ t → (h : Allowed s) (k : Allowed t) → program_with s h ≡ program_with t k
+program_once s t e h = subst (λ (u : Shown). (k : Allowed u) → program_with s h ≡ program_with u k) e (λ k. ap (program_with s) (Bool-set _ _ h k))
 
 shown_once : (p q : Program) → p.bodies ≡ q.bodies → p.roots ≡ q.roots → p.tools ≡ q.tools → shown p ≡ shown q
 shown_once p q bodies roots tools =
@@ -230,11 +220,8 @@ shown_once p q bodies roots tools =
     ∙ ap (λ (xs : List Root). record { bodies = q.bodies; roots = xs; tools = p.tools }) roots
     ∙ ap (λ (xs : List Tool). record { bodies = q.bodies; roots = q.roots; tools = xs }) tools
 
--- a text has one program
-pub one_plain_program : (text : List ℕ) (p q : Program) → IsPlainProgram text p → IsPlainProgram text q → p ≡ q
-one_plain_program text p q a b =
-    let scripts : a.script ≡ b.script = one_script a.script b.script (form_from_plain a.script a.plain) (form_from_plain b.script b.plain) (roots_from_plain b.script b.plain) (one_lexing text (spelling a.script) (spelling b.script) a.lexes b.lexes) in
-    let there : IsProgramOf b.script p = subst (λ s. IsProgramOf s p) scripts a.meaning in
-    let bodies : p.bodies ≡ q.bodies = one_bodies b.script.definitions p.bodies q.bodies there.bodies b.meaning.bodies in
-    let roots : p.roots ≡ q.roots = roots_once (names b.script) b.plain.once b.script.roots p.roots q.roots there.roots b.meaning.roots in
-    made_once (shown p) (shown q) (shown_once p q bodies roots (there.tools ∙ sym b.meaning.tools)) p.in_range q.in_range
+pub one_plain_program : (script : Script) (p q : Program) → IsPlain script → IsProgramOf script p → IsProgramOf script q → p ≡ q
+one_plain_program script p q plain a b =
+    let bodies : p.bodies ≡ q.bodies = one_bodies script.procs p.bodies q.bodies a.bodies b.bodies in
+    let roots : p.roots ≡ q.roots = one_roots (names script) plain.once script.roots p.roots q.roots a.roots b.roots in
+    program_once (shown p) (shown q) (shown_once p q bodies roots (a.tools ∙ sym b.tools)) p.in_range q.in_range

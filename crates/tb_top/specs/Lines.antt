@@ -5,6 +5,10 @@ use Rattle.tb_top.specs.declared.status.Status.{Status}
 use Rattle.tb_top.specs.declared.status.Status.TheVariants.{Ended, Script, Words, Outside, Limit, NoMemory}
 use Rattle.tb_top.specs.declared.status.ScriptFault.{ScriptFault}
 use Rattle.tb_top.specs.declared.status.ScriptFault.TheVariants as script
+use Rattle.tb_lex.specs.declared.fault.LexFault.{LexFault}
+use Rattle.tb_lex.specs.declared.fault.LexFault.TheVariants as lex
+use Rattle.tb_parse.specs.declared.fault.ParseFault.{ParseFault}
+use Rattle.tb_parse.specs.declared.fault.ParseFault.TheVariants as parse
 use Rattle.tb_top.specs.declared.status.WordFault.{WordFault}
 use Rattle.tb_top.specs.declared.status.WordFault.TheVariants as word
 use Rattle.tb_top.specs.declared.status.Edge.{Edge}
@@ -20,8 +24,25 @@ status_number (Outside edge) = 3
 status_number (Limit bound) = 4
 status_number NoMemory = 5
 
+-- a fault of the tokens, at its byte
+abbrev pub lex_words : LexFault → List ℕ
+lex_words (lex.BadByte at) = codes "script: byte " ++ decimal at
+lex_words (lex.OpenString at) = codes "script: open string " ++ decimal at
+lex_words (lex.Real at) = codes "script: real " ++ decimal at
+lex_words (lex.IntRange at) = codes "script: integer " ++ decimal at
+lex_words lex.TooMany = codes "script: too many tokens"
+lex_words lex.NoMemory = codes "no memory"
+
+-- a fault of the grammar or of its limits, at its token
+abbrev pub parse_words : ParseFault → List ℕ
+parse_words (parse.Syntax token) = codes "script: syntax at token " ++ decimal token
+parse_words (parse.TooDeep token) = codes "script: too deep at token " ++ decimal token
+parse_words parse.NoMemory = codes "no memory"
+
 abbrev pub script_words : ScriptFault → List ℕ
 script_words (script.TooLong bytes) = codes "script: too long " ++ decimal bytes
+script_words (script.Lex fault) = lex_words fault
+script_words (script.Parse fault) = parse_words fault
 script_words (script.NotBuilt token) = codes "script: not built at token " ++ decimal token
 
 abbrev pub word_words : WordFault → List ℕ

@@ -12,6 +12,7 @@ use Rattle.tb_body.specs.declared.program.Program.{Program}
 use Rattle.tb_core.specs.declared.ends.SimEnd.{SimEnd}
 use Rattle.tb_core.specs.declared.ends.SimEnd.TheVariants as sim
 use Rattle.tb_top.specs.PlainScript.{IsPlainProgram}
+use Rattle.tb_top.specs.ScriptFaults.{HasNoTokens, HasNoScript, HasNoProgram}
 use Rattle.tb_top.specs.Lines.{status_line}
 use Rattle.tb_top.specs.declared.status.Status.{Status}
 use Rattle.tb_top.specs.declared.status.Status.TheVariants.{Ended, Script, Words, Outside, Limit, NoMemory}
@@ -78,8 +79,12 @@ abbrev pub SimOutcome : List ℕ → Option (List ℕ) → Option (List ℕ) →
 SimOutcome bytes old new Ended = PutsLog bytes old new sim.Down
 -- the limit of steps was reached, and another step was possible
 SimOutcome bytes old new (Limit bound.Steps) = PutsLog bytes old new sim.Steps
--- the bytes are no plain script
-SimOutcome bytes old new (Script (script.NotBuilt token)) = (token ≡ 0) × ((program : Program) → IsPlainProgram bytes program → ⊥) × (new ≡ old)
+-- the bytes have no tokens
+SimOutcome bytes old new (Script (script.Lex fault)) = HasNoTokens bytes fault × (new ≡ old)
+-- their tokens spell no script within the limits
+SimOutcome bytes old new (Script (script.Parse fault)) = HasNoScript bytes fault × (new ≡ old)
+-- the script that they spell isn't plain
+SimOutcome bytes old new (Script (script.NotBuilt token)) = (token ≡ 0) × HasNoProgram bytes × (new ≡ old)
 -- the sink failed
 SimOutcome bytes old new (Outside edge.Out) = PutsFront bytes old new
 -- memory ran out, before the log was written or within it

@@ -1,8 +1,15 @@
+use tb_lex::LexFault;
+use tb_parse::ParseFault;
+
 /// Why a script was refused.
 #[derive(Clone, Copy, Debug, PartialEq, Eq)]
 pub enum ScriptFault {
     /// The file has this many bytes, more than 1,048,576.
     TooLong(usize),
+    /// The bytes have no tokens; never for want of memory.
+    Lex(LexFault),
+    /// The tokens spell no script within the limits; never for want of memory.
+    Parse(ParseFault),
     /// The script has a form that isn't built yet, which begins at this token, from 0.
     NotBuilt(usize),
 }

@@ -2,6 +2,8 @@ use crate::{Bound, Edge, ScriptFault, Status, WordFault, toolbus};
 use std::alloc::Global;
 use std::test::Fail;
 use tb_edge::{Bytes, HeldFile, MemFiles, MemSink};
+use tb_lex::LexFault;
+use tb_parse::ParseFault;
 use tb_terms::{Items, Text};
 
 const HELLO: &str = "process A is snd-msg(hello) process B is rec-msg(hello) toolbus(A, B)";
@@ -77,6 +79,22 @@ fn scripts_have_their_logs(rt: HostRuntime) -> Result<(), Fail> {
             "process R is rec-msg(a) process S is snd-msg(a) toolbus(R, S, R, S)",
             "1 msg 2.1 1.1 a\n2 msg 4.1 3.1 a\n3 finish\n",
         ),
+        (
+            "process A is snd-msg(a) * snd-msg(b) process B is rec-msg(a) . rec-msg(a) . rec-msg(b) toolbus(A, B)",
+            "1 msg 1.1 2.1 a\n2 msg 1.1 2.2 a\n3 msg 1.2 2.3 b\n4 finish\n",
+        ),
+        (
+            "process P is snd-msg(a) || rec-msg(a) toolbus(P)",
+            "1 quiet\n2 noticks\n3 halt\n",
+        ),
+        (
+            "process P is tau || tau toolbus(P)",
+            "1 tau 1.1\n2 tau 1.2\n3 finish\n",
+        ),
+        (
+            "process P is delta . tau + (tau) %% the first is never taken\ntoolbus(P)",
+            "1 tau 1.3\n2 finish\n",
+        ),
     ];
     for (script, log) in &rows {
         let called = call(rt.alloc(), "sim a.tb", script.as_bytes(), NONE)?;
@@ -94,7 +112,11 @@ const FILE: Status = Status::Outside(Edge::File);
 /// The words of a call, the script, what fails, and the status with its line.
 type Refusal = (&'static str, &'static str, Fails, Status, &'static str);
 
-static REFUSALS: [Refusal; 9] = [
+const NOT_BUILT: Status = Status::Script(ScriptFault::NotBuilt(0));
+
+const NOT_BUILT_LINE: &str = "toolbus: script: not built at token 0\n";
+
+static REFUSALS: [Refusal; 20] = [
     (
         "",
         HELLO,
@@ -132,10 +154,87 @@ static REFUSALS: [Refusal; 9] = [
     ),
     (
         "sim a.tb",
-        "process P is tau || tau toolbus(P)",
+        "process P is let X : int in tau endlet toolbus(P)",
         NONE,
-        Status::Script(ScriptFault::NotBuilt(0)),
-        "toolbus: script: not built at token 0\n",
+        NOT_BUILT,
+        NOT_BUILT_LINE,
+    ),
+    (
+        "sim a.tb",
+        "process P is if true then tau fi toolbus(P)",
+        NONE,
+        NOT_BUILT,
+        NOT_BUILT_LINE,
+    ),
+    (
+        "sim a.tb",
+        "process P is tau delay(1) toolbus(P)",
+        NONE,
+        NOT_BUILT,
+        NOT_BUILT_LINE,
+    ),
+    (
+        "sim a.tb",
+        "tool t is { } process P is tau toolbus(P)",
+        NONE,
+        NOT_BUILT,
+        NOT_BUILT_LINE,
+    ),
+    (
+        "sim a.tb",
+        "process P is snd-msg(3.14) toolbus(P)",
+        NONE,
+        Status::Script(ScriptFault::Lex(LexFault::Real(21))),
+        "toolbus: script: real 21\n",
+    ),
+    (
+        "sim a.tb",
+        "process P is snd-msg(\"a\u{1}\") toolbus(P)",
+        NONE,
+        Status::Script(ScriptFault::Lex(LexFault::BadByte(23))),
+        "toolbus: script: byte 23\n",
+    ),
+    (
+        "sim a.tb",
+        "process P is snd-msg(\"a",
+        NONE,
+        Status::Script(ScriptFault::Lex(LexFault::OpenString(21))),
+        "toolbus: script: open string 21\n",
+    ),
+    (
+        "sim a.tb",
+        "process P is snd-msg(-9223372036854775809) toolbus(P)",
+        NONE,
+        Status::Script(ScriptFault::Lex(LexFault::IntRange(21))),
+        "toolbus: script: integer 21\n",
+    ),
+    (
+        "sim a.tb",
+        "process P is tau . toolbus(P)",
+        NONE,
+        Status::Script(ScriptFault::Parse(ParseFault::Syntax(5))),
+        "toolbus: script: syntax at token 5\n",
+    ),
+    (
+        "sim a.tb",
+        "process P is snd-msg( toolbus(P)",
+        NONE,
+        Status::Script(ScriptFault::Parse(ParseFault::Syntax(5))),
+        "toolbus: script: syntax at token 5\n",
+    ),
+    (
+        "sim a.tb",
+        "toolbus(",
+        NONE,
+        Status::Script(ScriptFault::Parse(ParseFault::Syntax(2))),
+        "toolbus: script: syntax at token 2\n",
+    ),
+    (
+        "sim a.tb",
+        "tool t is { command \"x\" }",
+        NONE,
+        Status::Script(ScriptFault::Parse(ParseFault::Syntax(5))),
+        "toolbus: script: syntax at token 5\n",
     ),
     ("sim gone.tb", HELLO, NONE, FILE, "toolbus: outside: file\n"),
     (
@@ -170,6 +269,55 @@ fn refusals_have_their_lines(rt: HostRuntime) -> Result<(), Fail> {
         assert_eq!(rt; called.err.as_slice(), line.as_bytes(), "{line}");
         assert!(rt; called.out.as_slice().is_empty(), "{line}");
     }
+    Ok(())
+}
+
+/// Calls `sim` on a script that is to be refused with this line.
+fn refuses_so(alloc: Global, script: &[u8], fault: ScriptFault, line: &str) -> Result<bool, Fail> {
+    let called = call(alloc, "sim a.tb", script, NONE)?;
+    Ok(
+        called.status == Status::Script(fault)
+            && called.err.as_slice() == line.as_bytes()
+            && called.out.as_slice().is_empty(),
+    )
+}
+
+#[test]
+fn limits_of_scripts_have_their_lines(rt: HostRuntime) -> Result<(), Fail> {
+    let alloc = rt.alloc();
+    let mut script = Vec::from_slice(alloc, b"process P is ")?;
+    for _ in 0..129 {
+        script.push(b'(')?;
+    }
+    let deep = ScriptFault::Parse(ParseFault::TooDeep(131));
+    assert!(rt;
+        refuses_so(
+            alloc,
+            &script,
+            deep,
+            "toolbus: script: too deep at token 131\n"
+        )?
+    );
+    let mut script = Vec::new(alloc);
+    for _ in 0..200_000 {
+        script.push(b'(')?;
+    }
+    script.extend_from_slice(b" \xff")?;
+    let many = ScriptFault::Lex(LexFault::TooMany);
+    assert!(rt; refuses_so(alloc, &script, many, "toolbus: script: too many tokens\n")?);
+    Ok(())
+}
+
+#[test]
+fn bytes_that_are_no_text_stand_in_comments_alone(rt: HostRuntime) -> Result<(), Fail> {
+    let alloc = rt.alloc();
+    let script = b"process P is tau %% \xff\xc3 \"\ntoolbus(P)".as_slice();
+    let called = call(alloc, "sim a.tb", script, NONE)?;
+    assert_eq!(rt; called.status, Status::Ended);
+    assert_eq!(rt; called.out.as_slice(), b"1 tau 1.1\n2 finish\n".as_slice());
+    let script = b"process P is printf(\"a\xff\") toolbus(P)".as_slice();
+    let fault = ScriptFault::Lex(LexFault::BadByte(22));
+    assert!(rt; refuses_so(alloc, script, fault, "toolbus: script: byte 22\n")?);
     Ok(())
 }
 
@@ -252,6 +400,8 @@ fn each_status_has_its_number(rt: HostRuntime) {
     let rows = [
         (Status::Ended, 0),
         (Status::Script(ScriptFault::TooLong(7)), 1),
+        (Status::Script(ScriptFault::Lex(LexFault::TooMany)), 1),
+        (Status::Script(ScriptFault::Parse(ParseFault::Syntax(0))), 1),
         (Status::Words(WordFault::NoCommand), 2),
         (Status::Outside(Edge::Err), 3),
         (Status::Limit(Bound::Steps), 4),

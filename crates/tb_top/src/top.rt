@@ -112,6 +112,8 @@ fn simulate_bytes<O: Sink>(alloc: Global, bytes: &[u8], out: &mut O) -> Status
 {
     match read_plain(alloc, bytes) {
         Ok(program) => simulate_program(alloc, program, out),
+        Err(PlainFault::Lex(fault)) => Status::Script(ScriptFault::Lex(fault)),
+        Err(PlainFault::Parse(fault)) => Status::Script(ScriptFault::Parse(fault)),
         Err(PlainFault::NotPlain) => Status::Script(ScriptFault::NotBuilt(0)),
         Err(PlainFault::NoMemory) => Status::NoMemory,
     }

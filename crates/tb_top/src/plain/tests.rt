@@ -2,17 +2,17 @@ use super::*;
 use std::alloc::AllocError;
 use std::test::Fail;
 use tb_body::{Act, Body, Tree};
-use tb_terms::{Expr, Exprs};
+use tb_terms::{Boxed, Expr, Exprs};
 
-fn is_plain(alloc: Global, text: &[u8]) -> Result<bool, PlainFault> {
+/// What a text is refused for, if it is.
+fn fault_of(alloc: Global, text: &[u8]) -> Option<PlainFault> {
     match read_plain(alloc, text) {
-        Ok(_) => Ok(true),
-        Err(PlainFault::NotPlain) => Ok(false),
-        Err(PlainFault::NoMemory) => Err(PlainFault::NoMemory),
+        Ok(_) => None,
+        Err(fault) => Some(fault),
     }
 }
 
-static PLAIN: [&str; 9] = [
+static PLAIN: [&str; 20] = [
     "toolbus()",
     "process P is tau toolbus(P)",
     "process P is rec-msg(a) toolbus(P)",
@@ -21,59 +21,180 @@ static PLAIN: [&str; 9] = [
     "process P is snd-msg(tau) toolbus(P)",
     "process P is rec-msg(snd-msg)toolbus(P)",
     "process P is snd-msg(processes) toolbus(P)",
+    "process P is snd-msg(true) + rec-msg(false) toolbus(P)",
     " \t\r\n toolbus ( ) \n",
-];
-
-static NOT_PLAIN: [&str; 38] = [
-    "",
-    " ",
-    "process P is tau",
-    "process P is tau toolbus",
-    "process P is tau toolbus(",
-    "process P is tau toolbus(P",
-    "process P is tau toolbus(P) P",
-    "toolbus() toolbus()",
-    "toolbus(,)",
-    "process P is tau toolbus(P,)",
-    "process P is tau toolbus(P P)",
-    "processP is tau toolbus(P)",
-    "process P istau toolbus(P)",
-    "process P is tautoolbus(P)",
     "process P is tau||tau toolbus(P)",
     "process P is tau || tau toolbus(P)",
     "process P is tau + tau toolbus(P)",
+    "process P is tau * delta toolbus(P)",
     "process P is (tau) toolbus(P)",
-    "process P is toolbus(P)",
-    "process P is tau . toolbus(P)",
-    "process P is . tau toolbus(P)",
-    "process P is tau tau toolbus(P)",
-    "process P is shutdown(a) toolbus(P)",
-    "process P is snd-msg toolbus(P)",
-    "process P is snd-msg() toolbus(P)",
-    "process P is snd-msg(a,b) toolbus(P)",
-    "process P is snd-msg(a(b)) toolbus(P)",
-    "process P is snd-msg(A) toolbus(P)",
-    "process P is snd-msg(1) toolbus(P)",
-    "process P is snd-msg(\"a\") toolbus(P)",
-    "process P is tau process P is tau toolbus(P)",
-    "process P is tau toolbus(Q)",
-    "process p is tau toolbus(p)",
-    "process P() is tau toolbus(P)",
+    "process P is ((tau . (tau))) toolbus(P)",
     "toolbus() %% the end",
-    "\u{b}toolbus()",
-    "toolbus()\u{0}",
-    "Toolbus()",
+    "%% the start\ntoolbus()",
+    "process P is tau %% \"open, 3.14 and 99999999999999999999\n toolbus(P)",
+    "process P is snd-msg(a%%(\n) toolbus(P)",
 ];
 
 #[test]
-fn texts_are_plain_or_not(rt: HostRuntime) -> Result<(), Fail> {
+fn these_are_plain(rt: HostRuntime) {
     for text in &PLAIN {
-        assert!(rt; is_plain(rt.alloc(), text.as_bytes())?, "{text}");
+        assert_eq!(rt; fault_of(rt.alloc(), text.as_bytes()), None, "{text}");
     }
+}
+
+static NOT_PLAIN: [&str; 36] = [
+    "process P(X : int) is tau toolbus()",
+    "tool t is { } toolbus()",
+    "tool t is { command = \"t\" } process P is tau toolbus(P)",
+    "process P is tau process Q is P toolbus(P)",
+    "process P is tau process Q is P toolbus(P, Q)",
+    "process P is tau process Q is tau . P + tau toolbus(Q)",
+    "process P is let X : int in tau endlet toolbus(P)",
+    "process P is if true then tau fi toolbus(P)",
+    "process P is tau * if true then tau else delta fi toolbus(P)",
+    "process P is tau delay(1) toolbus(P)",
+    "process P is snd-msg(a) timeout(2) delay(1) toolbus(P)",
+    "process P is tau(a) toolbus(P)",
+    "process P is delta(a, b) toolbus(P)",
+    "process P is snd-msg toolbus(P)",
+    "process P is rec-msg toolbus(P)",
+    "process P is snd-msg(a, b) toolbus(P)",
+    "process P is snd-msg(a(b)) toolbus(P)",
+    "process P is rec-msg(X) toolbus(P)",
+    "process P is rec-msg(X?) toolbus(P)",
+    "process P is rec-msg(<term>) toolbus(P)",
+    "process P is snd-msg(1) toolbus(P)",
+    "process P is snd-msg(\"a\") toolbus(P)",
+    "process P is snd-msg([]) toolbus(P)",
+    "process P is snd-msg([a]) toolbus(P)",
+    "process P is shutdown(a) toolbus(P)",
+    "process P is shutdown toolbus(P)",
+    "process P is snd-note(a) toolbus(P)",
+    "process P is printf(\"a\") toolbus(P)",
+    "process P is X := 1 toolbus(P)",
+    "process P is create(P, X?) toolbus(P)",
+    "process P is tau process P is tau toolbus(P)",
+    "process P is tau process Q is delta process P is tau toolbus(Q)",
+    "process P is tau toolbus(Q)",
+    "toolbus(Q)",
+    "process P is tau toolbus(P(1))",
+    "process P is tau toolbus(P, P(a), P)",
+];
+
+#[test]
+fn these_are_spelt_and_not_plain(rt: HostRuntime) {
     for text in &NOT_PLAIN {
-        assert!(rt; !is_plain(rt.alloc(), text.as_bytes())?, "{text}");
+        assert_eq!(rt;
+            fault_of(rt.alloc(), text.as_bytes()),
+            Some(PlainFault::NotPlain),
+            "{text}"
+        );
     }
-    Ok(())
+}
+
+static NO_TOKENS: [(&[u8], LexFault); 13] = [
+    (b"\x0btoolbus()", LexFault::BadByte(0)),
+    (b"toolbus()\0", LexFault::BadByte(9)),
+    (b"toolbus() | ", LexFault::BadByte(10)),
+    (b"process P is tau & tau toolbus(P)", LexFault::BadByte(17)),
+    (
+        b"process P is snd-msg(\"\xff\") toolbus(P)",
+        LexFault::BadByte(22),
+    ),
+    (
+        b"process P is snd-msg(\"\xc3\") toolbus(P)",
+        LexFault::BadByte(23),
+    ),
+    (
+        b"process P is snd-msg(\"\\q\") toolbus(P)",
+        LexFault::BadByte(22),
+    ),
+    (
+        b"process P is snd-msg(\"a) toolbus(P)",
+        LexFault::OpenString(21),
+    ),
+    (
+        b"process P is snd-msg(\"a\n\") toolbus(P)",
+        LexFault::OpenString(21),
+    ),
+    (b"process P is snd-msg(3.14) toolbus(P)", LexFault::Real(21)),
+    (
+        b"process P is snd-msg(9223372036854775808.5)",
+        LexFault::Real(21),
+    ),
+    (
+        b"process P is snd-msg(9223372036854775808)",
+        LexFault::IntRange(21),
+    ),
+    (b"tau . . & 3.14 \"", LexFault::BadByte(8)),
+];
+
+#[test]
+fn these_have_no_tokens(rt: HostRuntime) {
+    for (text, fault) in &NO_TOKENS {
+        assert_eq!(rt;
+            fault_of(rt.alloc(), text),
+            Some(PlainFault::Lex(*fault)),
+            "{fault:?}"
+        );
+    }
+}
+
+#[test]
+fn comments_hold_any_bytes(rt: HostRuntime) {
+    let text = b"toolbus( %% \xff\xc3\" 3.14 \0\n) %% \x80".as_slice();
+    assert_eq!(rt; fault_of(rt.alloc(), text), None);
+    let text = b"toolbus() %% \xff\n\xff".as_slice();
+    assert_eq!(rt;
+        fault_of(rt.alloc(), text),
+        Some(PlainFault::Lex(LexFault::BadByte(15)))
+    );
+}
+
+static NO_SCRIPT: [(&str, usize); 32] = [
+    ("", 0),
+    (" %% nothing", 0),
+    ("process P is tau", 4),
+    ("process P is tau toolbus", 5),
+    ("process P is tau toolbus(", 6),
+    ("process P is tau toolbus(P", 7),
+    ("process P is tau toolbus(P) P", 8),
+    ("toolbus() toolbus()", 3),
+    ("toolbus(,)", 2),
+    ("process P is tau toolbus(P,)", 8),
+    ("process P is tau toolbus(P P)", 7),
+    ("processP is tau toolbus(P)", 0),
+    ("process P istau toolbus(P)", 2),
+    ("process P is tautoolbus(P)", 3),
+    ("process P is toolbus(P)", 3),
+    ("process P is tau . toolbus(P)", 5),
+    ("process P is . tau toolbus(P)", 3),
+    ("process P is tau tau toolbus(P)", 4),
+    ("process P is tau + toolbus(P)", 5),
+    ("process P is tau * * tau toolbus(P)", 5),
+    ("process P is tau || toolbus(P)", 5),
+    ("process P is (tau toolbus(P)", 5),
+    ("process P is tau) toolbus(P)", 4),
+    ("process P is foo toolbus(P)", 3),
+    ("process P is snd-msg() toolbus(P)", 5),
+    ("process P is snd-msg(a toolbus(P)", 6),
+    ("process P is snd-msg(a,) toolbus(P)", 7),
+    ("process p is tau toolbus(p)", 1),
+    ("process P() is tau toolbus(P)", 3),
+    ("process P is tau toolbus(p)", 6),
+    ("process P is tau toolbus(P())", 8),
+    ("Toolbus()", 0),
+];
+
+#[test]
+fn these_spell_no_script(rt: HostRuntime) {
+    for (text, token) in &NO_SCRIPT {
+        assert_eq!(rt;
+            fault_of(rt.alloc(), text.as_bytes()),
+            Some(PlainFault::Parse(ParseFault::Syntax(*token))),
+            "{text}"
+        );
+    }
 }
 
 #[test]
@@ -83,8 +204,128 @@ fn reserved_words_are_no_messages(rt: HostRuntime) -> Result<(), Fail> {
     ];
     for word in reserved {
         let text = format!(in rt.alloc(); "process P is snd-msg({word}) toolbus(P)")?;
-        assert!(rt; !is_plain(rt.alloc(), text.as_bytes())?, "{word}");
+        assert_eq!(rt;
+            fault_of(rt.alloc(), text.as_bytes()),
+            Some(PlainFault::Parse(ParseFault::Syntax(5))),
+            "{word}"
+        );
     }
+    Ok(())
+}
+
+/// The text so many times.
+fn repeated(alloc: Global, text: &str, times: usize) -> Result<String, AllocError> {
+    let mut all = String::new(alloc);
+    for _ in 0..times {
+        all.push_str(text)?;
+    }
+    Ok(all)
+}
+
+#[test]
+fn a_body_is_400_high_at_most(rt: HostRuntime) -> Result<(), Fail> {
+    let high = Some(PlainFault::Parse(ParseFault::TooDeep(10)));
+    for sign in [".", "+", "*", "||"] {
+        for (atoms, fault) in [(400, None), (401, high)] {
+            let others = repeated(
+                rt.alloc(),
+                format!(in rt.alloc(); "{sign}tau")?.as_str(),
+                atoms - 1,
+            )?;
+            let text = format!(in rt.alloc();
+                "process P is tau process Q is tau . tau process R is tau{others} toolbus(P)"
+            )?;
+            assert_eq!(rt;
+                fault_of(rt.alloc(), text.as_bytes()),
+                fault,
+                "{atoms} atoms with {sign} between"
+            );
+        }
+    }
+    Ok(())
+}
+
+#[test]
+fn brackets_are_128_deep_at_most(rt: HostRuntime) -> Result<(), Fail> {
+    let deep = Some(PlainFault::Parse(ParseFault::TooDeep(131)));
+    for (brackets, fault) in [(128, None), (129, deep), (5_000, deep)] {
+        let opened = repeated(rt.alloc(), "(", brackets)?;
+        let closed = repeated(rt.alloc(), ")", brackets)?;
+        let text = format!(in rt.alloc(); "process P is {opened}tau{closed} toolbus(P)")?;
+        assert_eq!(rt;
+            fault_of(rt.alloc(), text.as_bytes()),
+            fault,
+            "{brackets} brackets"
+        );
+    }
+    Ok(())
+}
+
+#[test]
+fn roots_are_ten_thousand_at_most(rt: HostRuntime) -> Result<(), Fail> {
+    for (roots, fault) in [(10_000, None), (10_001, Some(PlainFault::NotPlain))] {
+        let others = repeated(rt.alloc(), ",P", roots - 1)?;
+        let text = format!(in rt.alloc(); "process P is tau toolbus(P{others})")?;
+        assert_eq!(rt;
+            fault_of(rt.alloc(), text.as_bytes()),
+            fault,
+            "{roots} roots"
+        );
+    }
+    Ok(())
+}
+
+#[test]
+fn names_are_65535_long_at_most(rt: HostRuntime) -> Result<(), Fail> {
+    for (len, fault) in [(65_535, None), (65_536, Some(PlainFault::NotPlain))] {
+        let name = repeated(rt.alloc(), "a", len)?;
+        let text = format!(in rt.alloc(); "process P is snd-msg({name}) toolbus(P)")?;
+        assert_eq!(rt;
+            fault_of(rt.alloc(), text.as_bytes()),
+            fault,
+            "a name of {len} bytes"
+        );
+    }
+    Ok(())
+}
+
+/// So many processes of four tokens each, under names of their own.
+fn processes(alloc: Global, count: usize) -> Result<String, Fail> {
+    let mut all = String::new(alloc);
+    for number in 0..count {
+        let process = format!(in alloc; "process P{number} is tau ")?;
+        all.push_str(process.as_str())?;
+    }
+    Ok(all)
+}
+
+#[test]
+fn tokens_are_200000_at_most(rt: HostRuntime) -> Result<(), Fail> {
+    // Four tokens each, and then three, or four with a root.
+    let many = processes(rt.alloc(), 49_999)?;
+    let over = Some(PlainFault::Lex(LexFault::TooMany));
+    for (roots, fault) in [("", None), ("P0", None), ("P0,P1", over)] {
+        let text = format!(in rt.alloc(); "{many}toolbus({roots})")?;
+        assert_eq!(rt;
+            fault_of(rt.alloc(), text.as_bytes()),
+            fault,
+            "roots {roots}"
+        );
+    }
+    Ok(())
+}
+
+#[test]
+fn a_name_is_found_among_thousands(rt: HostRuntime) -> Result<(), Fail> {
+    let many = processes(rt.alloc(), 40_000)?;
+    let roots = repeated(rt.alloc(), ",P39999", 9_999)?;
+    let text = format!(in rt.alloc(); "{many}toolbus(P0{roots})")?;
+    assert_eq!(rt; fault_of(rt.alloc(), text.as_bytes()), None);
+    let text = format!(in rt.alloc(); "{many}process P0 is tau toolbus(P0{roots})")?;
+    assert_eq!(rt;
+        fault_of(rt.alloc(), text.as_bytes()),
+        Some(PlainFault::NotPlain)
+    );
     Ok(())
 }
 
@@ -93,19 +334,6 @@ fn is_message(message: &Exprs, name: &[u8]) -> bool {
         [Expr::Appl(found, arguments)] => found.as_bytes() == name && arguments.is_empty(),
         _ => false,
     }
-}
-
-/// Whether the tree is the atoms 1, 2 and 3, one after the other.
-fn is_row_of_three(tree: &Tree) -> bool {
-    let Tree::Seq(first, others) = tree else {
-        return false;
-    };
-    let Tree::Seq(second, third) = others.get() else {
-        return false;
-    };
-    matches!(first.get(), Tree::At(1))
-        && matches!(second.get(), Tree::At(2))
-        && matches!(third.get(), Tree::At(3))
 }
 
 /// Whether the body has no variables, and none of its atoms a time.
@@ -132,12 +360,71 @@ fn bodies_are_in_order(rt: HostRuntime) -> Result<(), Fail> {
     assert!(rt; matches!(tau.act, Act::Tau));
     assert!(rt; matches!(&sent.act, Act::SndMsg(message) if is_message(message, b"ab")));
     assert!(rt; matches!(delta.act, Act::Delta));
-    assert!(rt; is_row_of_three(&first.tree) && is_bare(first));
+    assert!(rt; is_bare(first));
     let [taken] = second.atoms.as_slice() else {
         return Err(Fail::new("one atom"));
     };
     assert!(rt; matches!(&taken.act, Act::RecMsg(message) if is_message(message, b"c-1")));
     assert!(rt; matches!(second.tree, Tree::At(1)) && is_bare(second));
+    Ok(())
+}
+
+/// Puts the tree's text, each operator within brackets.
+#[cycle(push_tree)]
+fn push_tree(alloc: Global, tree: &Tree, into: &mut String) -> Result<(), AllocError> {
+    match tree {
+        Tree::At(atom) => into.push_str(format!(in alloc; "{atom}")?.as_str()),
+        Tree::Seq(x, y) => push_two(alloc, x, ".", y, into),
+        Tree::Alt(x, y) => push_two(alloc, x, "+", y, into),
+        Tree::Star(x, y) => push_two(alloc, x, "*", y, into),
+        Tree::Par(x, y) => push_two(alloc, x, "|", y, into),
+        Tree::If(_, _, _) => into.push_str("if"),
+        Tree::Let(_, _) => into.push_str("let"),
+    }
+}
+
+#[cycle(push_tree)]
+fn push_two(
+    alloc: Global,
+    x: &Boxed<Tree>,
+    sign: &str,
+    y: &Boxed<Tree>,
+    into: &mut String,
+) -> Result<(), AllocError> {
+    into.push_str("(")?;
+    push_tree(alloc, x.get(), into)?;
+    into.push_str(sign)?;
+    push_tree(alloc, y.get(), into)?;
+    into.push_str(")")
+}
+
+static TREES: [(&str, &str); 9] = [
+    ("tau", "1"),
+    ("tau . tau . tau", "(1.(2.3))"),
+    ("tau * tau * tau", "((1*2)*3)"),
+    ("tau + tau + tau", "(1+(2+3))"),
+    ("tau || tau || tau", "(1|(2|3))"),
+    ("delta . tau + tau", "((1.2)+3)"),
+    ("tau || tau + tau . tau * tau", "(1|(2+(3.(4*5))))"),
+    (
+        "((tau || tau) + tau) . tau * (tau . tau)",
+        "(((1|2)+3).(4*(5.6)))",
+    ),
+    ("(tau * tau) * (tau * tau)", "((1*2)*(3*4))"),
+];
+
+#[test]
+fn trees_are_numbered_in_text_order(rt: HostRuntime) -> Result<(), Fail> {
+    for (body, expected) in &TREES {
+        let text = format!(in rt.alloc(); "process A is {body} toolbus(A)")?;
+        let program = read_plain(rt.alloc(), text.as_bytes())?;
+        let [first] = program.bodies.as_slice() else {
+            return Err(Fail::new("one body"));
+        };
+        let mut shown = String::new(rt.alloc());
+        push_tree(rt.alloc(), &first.tree, &mut shown)?;
+        assert_eq!(rt; shown.as_str(), *expected, "{body}");
+    }
     Ok(())
 }
 
@@ -151,86 +438,5 @@ fn roots_are_in_order(rt: HostRuntime) -> Result<(), Fail> {
     assert_eq!(rt; [first.process, second.process, third.process], [1, 0, 1]);
     assert!(rt; first.actuals.is_empty() && second.actuals.is_empty() && third.actuals.is_empty());
     assert!(rt; program.tools.is_empty());
-    Ok(())
-}
-
-/// The text so many times.
-fn repeated(alloc: Global, text: &str, times: usize) -> Result<String, AllocError> {
-    let mut all = String::new(alloc);
-    for _ in 0..times {
-        all.push_str(text)?;
-    }
-    Ok(all)
-}
-
-#[test]
-fn limits_hold(rt: HostRuntime) -> Result<(), Fail> {
-    for (prims, plain) in [(400, true), (401, false)] {
-        let others = repeated(rt.alloc(), ".tau", prims - 1)?;
-        let text = format!(in rt.alloc(); "process P is tau{others} toolbus(P)")?;
-        assert_eq!(rt;
-            is_plain(rt.alloc(), text.as_bytes())?,
-            plain,
-            "{prims} prims"
-        );
-    }
-    for (roots, plain) in [(10_000, true), (10_001, false)] {
-        let others = repeated(rt.alloc(), ",P", roots - 1)?;
-        let text = format!(in rt.alloc(); "process P is tau toolbus(P{others})")?;
-        assert_eq!(rt;
-            is_plain(rt.alloc(), text.as_bytes())?,
-            plain,
-            "{roots} roots"
-        );
-    }
-    for (len, plain) in [(65_535, true), (65_536, false)] {
-        let name = repeated(rt.alloc(), "a", len)?;
-        let text = format!(in rt.alloc(); "process P is snd-msg({name}) toolbus(P)")?;
-        assert_eq!(rt;
-            is_plain(rt.alloc(), text.as_bytes())?,
-            plain,
-            "a name of {len} bytes"
-        );
-    }
-    Ok(())
-}
-
-/// So many processes of four tokens each, under names of their own.
-fn processes(alloc: Global, count: usize) -> Result<String, Fail> {
-    let mut all = String::new(alloc);
-    for number in 0..count {
-        let process = format!(in alloc; "process P{number} is tau ")?;
-        all.push_str(process.as_str())?;
-    }
-    Ok(all)
-}
-
-#[test]
-fn tokens_are_counted(rt: HostRuntime) -> Result<(), Fail> {
-    // Four tokens each, and then three, or four with a root.
-    let many = processes(rt.alloc(), 49_999)?;
-    for (roots, plain) in [("", true), ("P0", true), ("P0,P1", false)] {
-        let text = format!(in rt.alloc(); "{many}toolbus({roots})")?;
-        assert_eq!(rt;
-            is_plain(rt.alloc(), text.as_bytes())?,
-            plain,
-            "roots {roots}"
-        );
-    }
-    // Six tokens, four each, and then three.
-    let many = processes(rt.alloc(), 49_998)?;
-    let text = format!(in rt.alloc(); "process Q is tau.tau {many}toolbus()")?;
-    assert!(rt; !is_plain(rt.alloc(), text.as_bytes())?);
-    Ok(())
-}
-
-#[test]
-fn a_large_unusable_text_is_refused(rt: HostRuntime) -> Result<(), Fail> {
-    let many = processes(rt.alloc(), 40_000)?;
-    let roots = repeated(rt.alloc(), ",P39999", 9_999)?;
-    let text = format!(in rt.alloc(); "{many}toolbus(P0{roots})")?;
-    assert!(rt; is_plain(rt.alloc(), text.as_bytes())?);
-    let text = format!(in rt.alloc(); "{many}process P0 is tau toolbus(P0{roots})")?;
-    assert!(rt; !is_plain(rt.alloc(), text.as_bytes())?);
     Ok(())
 }

@@ -1,29 +1,18 @@
-use Rattle.std.proofs.Common.{◌≡◌, ◌-◌, ◌∙◌, length, map, ap, refl, arith}
-use Rattle.std.proofs.lemmas.List.{length-map}
-use Rattle.tb_top.specs.PlainScript.{atom_of, sequence}
-use Rattle.tb_top.specs.PlainReading.{prim_of}
-use Rattle.tb_top.proofs.Bodies.{body_in_range}
+use Rattle.std.proofs.Common.{refl, subst}
+use Rattle.tb_top.specs.PlainScript.{plain_part}
+use Rattle.tb_top.specs.PlainReading.{IsMadeOf}
+use Rattle.tb_top.proofs.Making.{body_made}
+use Rattle.tb_top.proofs.Parts.{body_in_range}
 use Rattle.tb_top.proofs.plain.body.make_body.Goals as goal
 
 pub invariant_of-result : goal.invariant_of-result
 invariant_of-result c = record {
   in_range =
-      let prims = map prim_of c.args.definition.now.prims.items in
-      let count = length-map c.args.definition.now.prims.items prim_of in
-      let last : c.len-2.result - 1 ≡ length prims - 1 = omega (arith, count, c.len-2.ensures) in
-      body_in_range prims _ _ _ c.requires (omega (arith, count, c.len.ensures, c.if-len-gt-MOST_PRIMS.false))
-      (c.in_ok-tree.ensures ∙ ap (sequence 1) last)
-      (c.in_ok-atoms.ensures.found ∙ ap (λ ps. map atom_of (map prim_of ps)) c.deref.ensures.value)
-      c.new.ensures;
+      let made = body_made c.args.definition.now c.new-atoms.result c.make_tree.new.atoms c.in-Some.tree (c.is_empty.ensures.0 c.if-not-is_empty.false) c.new-atoms.ensures (subst (IsMadeOf (plain_part c.args.definition.now.body) c.new-atoms.result c.make_tree.new.atoms) c.in-Some.is c.in_ok-tree.ensures.made) in
+      body_in_range c.args.definition.now made.0 c.in-Some.tree c.make_tree.new.atoms c.new-sorts.result made.1 c.requires.few c.requires.low made.2 made.3 c.new-sorts.ensures;
 }
 
-pub returns-clause-found : goal.returns-clause-found
-returns-clause-found c = record {
-  tree =
-      let prims = map prim_of c.args.definition.now.prims.items in
-      let last : c.len-2.result - 1 ≡ length prims - 1 = omega (arith, length-map c.args.definition.now.prims.items prim_of, c.len-2.ensures) in
-      c.in_ok-tree.ensures ∙ ap (sequence 1) last;
-  atoms = c.in_ok-atoms.ensures.found ∙ ap (λ ps. map atom_of (map prim_of ps)) c.deref.ensures.value;
-  sorts = c.new.ensures;
-  formals = refl;
-}
+pub returns : goal.returns
+returns c =
+    let made = body_made c.args.definition.now c.new-atoms.result c.make_tree.new.atoms c.in-Some.tree (c.is_empty.ensures.0 c.if-not-is_empty.false) c.new-atoms.ensures (subst (IsMadeOf (plain_part c.args.definition.now.body) c.new-atoms.result c.make_tree.new.atoms) c.in-Some.is c.in_ok-tree.ensures.made) in
+    record { part = made.0; is_plain = made.1; tree = made.2; atoms = made.3; sorts = c.new-sorts.ensures; formals = refl }
