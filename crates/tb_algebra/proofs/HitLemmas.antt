@@ -3,7 +3,7 @@ use Rattle.std.proofs.Common.{◌≡◌, ℕ, zero, suc, ◌-◌, Bool, true, fa
 use Rattle.tb_terms.specs.declared.expr.Expr.{Expr}
 use Rattle.tb_func.specs.declared.slot.Slot.{Slot}
 use Rattle.tb_body.specs.declared.tree.Setting.{Setting}
-use Rattle.tb_algebra.specs.Hits.{Hit, Past, On, hit, hit_at, hit_with, or_past}
+use Rattle.tb_algebra.specs.Hits.{Hit, Past, On, chosen, hit, hit_at, hit_with, or_past}
 use Rattle.tb_algebra.specs.Processes as process
 use Rattle.tb_algebra.specs.Processes.{Process}
 use Rattle.tb_algebra.specs.Offers.{Offered, offers, before, on_the_left, on_the_right, offers_if, offers_after, followed, left_of, right_of}
@@ -131,3 +131,16 @@ module _ (nodes : List Node) (ticks : ℕ) (entry : Entry) (all : AreBehind node
   hit_unset settings x store k e t =
       ap (λ (p : Process). hit_at k (offers p store)) (entered-Let nodes ticks entry all settings x e)
       ∙ ap (λ (o : Option (List Slot)). hit_at k (offers_after o (offers (entered_term nodes ticks (part entry x))))) t
+
+  abbrev pub of_part : Option ℕ → List Slot → ℕ → Hit
+  of_part None store k = Past k
+  of_part (Some at) store k = of_entry (part entry at) store k
+
+  pub hit_chosen : (test : Expr) (x : ℕ) (y : Option ℕ) (store : List Slot) (k : ℕ) → here (If test x y) → of_entry entry store k ≡ of_part (chosen (tested store test) x y) store k
+  hit_chosen test x y store k e = by_cases (tested store test) y e refl
+    where
+      by_cases : (says : Option Bool) (y : Option ℕ) → here (If test x y) → tested store test ≡ says → of_entry entry store k ≡ of_part (chosen says x y) store k
+      by_cases (Some true) y e t = hit_true test x y store k e t
+      by_cases (Some false) None e t = hit_absent test x store k e t
+      by_cases (Some false) (Some y) e t = hit_false test x y store k e t
+      by_cases None y e t = hit_untold test x y store k e t

@@ -14,3 +14,4 @@ pub mod PlanLemmas
 pub mod RewriterLemmas
 pub mod SightLemmas
 pub mod TermLemmas
+pub mod StartLemmas

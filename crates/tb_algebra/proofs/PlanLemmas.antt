@@ -1,5 +1,5 @@
 -- The trees of a plan: each node's is built of those before it, and nodes that are added change none.
-use Rattle.std.proofs.Common.{◌≡◌, ℕ, zero, suc, ◌+◌, ◌<◌, true, ◌&&◌, nat_lt, IsTrue, Option, Some, None, List, [], ◌∷◌, ◌++◌, length, slice_get, refl, ap, sym, subst, ◌∙◌, arith, length-append, ◌⊎◌, inl, inr}
+use Rattle.std.proofs.Common.{◌≡◌, ℕ, zero, suc, ◌+◌, ◌<◌, Bool, true, false, ◌&&◌, nat_lt, IsTrue, IfSome, Option, Some, None, List, [], ◌∷◌, ◌++◌, length, slice_get, refl, ap, sym, subst, ◌∙◌, arith, length-append, ◌⊎◌, inl, inr}
 use Rattle.std.specs.List.{fold}
 use Rattle.std.proofs.Math.ListN.{get_or-append}
 use Rattle.std.proofs.Math.Seq.{get_or-append_seam}
@@ -10,6 +10,7 @@ use Rattle.tb_body.specs.declared.tree.Tree.{Tree}
 use Rattle.tb_body.specs.declared.tree.Tree.TheVariants as tree
 use Rattle.tb_algebra.specs.declared.node.Node.{Node}
 use Rattle.tb_algebra.specs.declared.node.Node.TheVariants.{At, Seq, Alt, Star, Par, If, Let}
+use Rattle.tb_algebra.specs.Hits.{chosen}
 use Rattle.tb_algebra.specs.Plans.{made_at, built, with_node, trees, tree_at, is_behind, AreBehind, HasAdded}
 
 length-fold : (made : List Tree) (nodes : List Node) → length (fold with_node made nodes) ≡ length made + length nodes
@@ -123,6 +124,13 @@ one_before x at h = ltb-true x at h
 pub if_before : (test : Expr) (x : ℕ) (y : Option ℕ) (at : ℕ) → is_behind at (If test x y) ≡ true → x < at
 if_before test x None at h = ltb-true x at h
 if_before test x (Some y) at h = (both_before x y at h).0
+
+-- the part that a test chooses, whatever it says
+pub chosen_before : (says : Option Bool) (test : Expr) (x : ℕ) (y : Option ℕ) (at : ℕ) → is_behind at (If test x y) ≡ true → IfSome (chosen says x y) (λ part. part < at)
+chosen_before (Some true) test x y at h = if_before test x y at h
+chosen_before (Some false) test x None at h = tt
+chosen_before (Some false) test x (Some y) at h = (both_before x y at h).1
+chosen_before None test x y at h = tt
 
 -- a choice, a star or a merge
 abbrev pub IsTwoSided : Node → ℕ → ℕ → Type 0

@@ -1,5 +1,5 @@
 -- The offer at a place, told by what is left then and in which store; past the end, how far.
-use Rattle.std.specs.Prelude.{ℕ, zero, suc, Bool, true, List, [], ◌∷◌, Option, Some, None, option_map}
+use Rattle.std.specs.Prelude.{ℕ, zero, suc, Bool, true, false, List, [], ◌∷◌, Option, Some, None, option_map}
 use Rattle.tb_func.specs.declared.slot.Slot.{Slot}
 use Rattle.tb_algebra.specs.Processes.{Process}
 use Rattle.tb_algebra.specs.Offers.{Offered, offers}
@@ -32,6 +32,12 @@ hit_with f (On left store) = On (f left) store
 abbrev pub or_past : Hit → (ℕ → Hit) → Hit
 or_past (Past rest) next = next rest
 or_past (On left store) next = On left store
+
+-- the part that a test chooses by what it says
+abbrev pub chosen : Option Bool → ℕ → Option ℕ → Option ℕ
+chosen (Some true) x y = Some x
+chosen (Some false) x y = y
+chosen None x y = None
 
 -- what was found, in a process with this store
 abbrev pub hit_of : List Node → ℕ → List Slot → Fired → Hit

@@ -2,11 +2,12 @@ ghost use Rattle.std.specs.Prelude.{◌≡◌, ℕ, ◌<◌, ◌≤◌, List, So
 ghost use Rattle.tb_func.specs.declared.slot.Slot.{Slot};
 ghost use Rattle.tb_algebra.specs.declared.node.Node.{Node as PlanNode};
 ghost use Rattle.tb_algebra.specs.declared.running.Running.TheVariants.{Whole};
-ghost use Rattle.tb_algebra.specs.Hits.{Past, On, hit, hit_with, hit_of, is_fired_on, is_left_on};
+ghost use Rattle.tb_algebra.specs.Hits.{Past, On, chosen, hit, hit_with, hit_of, is_fired_on, is_left_on};
 ghost use Rattle.tb_algebra.specs.Offers.{followed, left_of, right_of};
 ghost use Rattle.tb_algebra.specs.Plans.{process_at};
 ghost use Rattle.tb_algebra.specs.Processes.{At};
 ghost use Rattle.tb_algebra.specs.Runnings.{entered_term, term_of, is_on};
+ghost use Rattle.tb_algebra.specs.Settings.{tested};
 ghost use Rattle.tb_algebra.specs.Sights.{or_own};
 
 use crate::fired::Fired;
@@ -18,7 +19,7 @@ use crate::running::{Entry, Running};
 use crate::settings::{tested, with_settings};
 use std::alloc::Global;
 use tb_func::Store;
-use tb_terms::{Boxed, NoMemory};
+use tb_terms::{Boxed, Expr, NoMemory};
 
 /// When a part was entered, and how many ticks the process has seen.
 #[derive(Clone, Copy, Debug)]
@@ -67,10 +68,7 @@ pub(crate) fn fire_term(
                 let fired = fire_term(alloc, plan, y.get(), ticks, store, rest)?;
                 on_the_right(alloc, x.get(), fired)
             }
-            Fired::Taken(left, own) => {
-                let whole = left_beside(alloc, left, y.get())?;
-                Ok(Fired::Taken(Some(whole), own))
-            }
+            Fired::Taken(left, own) => taken_beside(alloc, left, own, y.get()),
         },
     }
 }
@@ -104,27 +102,17 @@ fn fire_node(
         },
         Node::Star(x, y) => match fire_node(alloc, plan, *x, since, base, own, k)? {
             Fired::Past(rest) => fire_node(alloc, plan, *y, since, base, own, rest),
-            Fired::Taken(left, own) => {
-                let whole = left_then(alloc, left, node, since.ticks)?;
-                Ok(Fired::Taken(Some(whole), own))
-            }
+            Fired::Taken(left, own) => taken_then(alloc, left, own, node, since.ticks),
         },
         Node::Par(x, y) => match fire_node(alloc, plan, *x, since, base, own, k)? {
             Fired::Past(rest) => {
                 let fired = fire_node(alloc, plan, *y, since, base, own, rest)?;
                 on_the_right(alloc, &since.whole(*x), fired)
             }
-            Fired::Taken(left, own) => {
-                let whole = left_beside(alloc, left, &since.whole(*y))?;
-                Ok(Fired::Taken(Some(whole), own))
-            }
+            Fired::Taken(left, own) => taken_beside(alloc, left, own, &since.whole(*y)),
         },
-        Node::If(test, x, y) => match tested(alloc, store_of(base, own), test)? {
-            Some(true) => fire_node(alloc, plan, *x, since, base, own, k),
-            Some(false) => match y {
-                Some(y) => fire_node(alloc, plan, *y, since, base, own, k),
-                None => Ok(Fired::Past(k)),
-            },
+        Node::If(test, x, y) => match chosen(alloc, store_of(base, own), test, *x, *y)? {
+            Some(part) => fire_node(alloc, plan, part, since, base, own, k),
             None => Ok(Fired::Past(k)),
         },
         Node::Let(settings, x) => match with_settings(alloc, store_of(base, own), settings)? {
@@ -134,6 +122,23 @@ fn fire_node(
             }
             None => Ok(Fired::Past(k)),
         },
+    }
+}
+
+/// The part that a test chooses now, where it chooses one.
+fn chosen(
+    alloc: Global,
+    store: &Store,
+    test: &Expr,
+    x: usize,
+    y: Option<usize>,
+) -> Result<Option<usize>, NoMemory>
+    ensures { IfOk result (λ part. part ≡ chosen (tested store.now test.now) x y) }
+{
+    match tested(alloc, store, test)? {
+        Some(true) => Ok(Some(x)),
+        Some(false) => Ok(y),
+        None => Ok(None),
     }
 }
 
@@ -161,11 +166,26 @@ fn followed(alloc: Global, fired: Fired, node: usize, ticks: u64) -> Result<Fire
 {
     match fired {
         Fired::Past(rest) => Ok(Fired::Past(rest)),
-        Fired::Taken(left, own) => {
-            let whole = left_then(alloc, left, node, ticks)?;
-            Ok(Fired::Taken(Some(whole), own))
-        }
+        Fired::Taken(left, own) => taken_then(alloc, left, own, node, ticks),
     }
+}
+
+/// What is left of a part whose offer was taken, and then the node of the plan.
+fn taken_then(
+    alloc: Global,
+    left: Option<Running>,
+    own: Option<Store>,
+    node: usize,
+    ticks: u64,
+) -> Result<Fired, NoMemory>
+    ensures hit { IfOk result (λ whole. (nodes : List PlanNode) → (base : List Slot) →
+        hit_of nodes ticks base whole
+        ≡ On (Some (followed (option_map (term_of nodes ticks) left) (process_at nodes node))) (or_own own base)) }
+    ensures on { IfOk result (λ whole. (nodes : List PlanNode) → node < length nodes →
+        IsTrue (is_left_on nodes ticks left) → IsTrue (is_fired_on nodes ticks whole)) }
+{
+    let whole = left_then(alloc, left, node, ticks)?;
+    Ok(Fired::Taken(Some(whole), own))
 }
 
 fn left_then(
@@ -200,6 +220,23 @@ fn left_beside(alloc: Global, left: Option<Running>, right: &Running) -> Result<
         Some(x) => Ok(Running::Par(Boxed::new(alloc, x)?, Boxed::new(alloc, y)?)),
         None => Ok(y),
     }
+}
+
+/// What is left of a side whose offer was taken, beside the other side.
+fn taken_beside(
+    alloc: Global,
+    left: Option<Running>,
+    own: Option<Store>,
+    right: &Running,
+) -> Result<Fired, NoMemory>
+    ensures hit { IfOk result (λ whole. (nodes : List PlanNode) → (ticks : ℕ) → (base : List Slot) →
+        hit_of nodes ticks base whole
+        ≡ On (Some (left_of (option_map (term_of nodes ticks) left) (term_of nodes ticks right.now))) (or_own own base)) }
+    ensures on { IfOk result (λ whole. (nodes : List PlanNode) → (ticks : ℕ) → IsTrue (is_on nodes ticks right.now) →
+        IsTrue (is_left_on nodes ticks left) → IsTrue (is_fired_on nodes ticks whole)) }
+{
+    let whole = left_beside(alloc, left, right)?;
+    Ok(Fired::Taken(Some(whole), own))
 }
 
 /// The other side, beside what is left.

@@ -13,6 +13,8 @@ mod ready;
 mod rewriter;
 mod running;
 mod settings;
+#[cfg(test)]
+mod tests;
 mod values;
 mod walker;
 

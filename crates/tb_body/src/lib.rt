@@ -5,6 +5,7 @@
 mod act;
 mod atom;
 mod body;
+mod in_program;
 mod in_range;
 mod places;
 mod program;

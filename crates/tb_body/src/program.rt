@@ -1,7 +1,8 @@
-ghost use Rattle.std.specs.Prelude.{IsTrue};
+ghost use Rattle.std.specs.Prelude.{◌≡◌, IsTrue, IfSome, is_some};
 ghost use Rattle.tb_body.specs.Programs.{is_program_in_range};
 
 use crate::Bodies;
+use crate::in_program::is_program_in_range;
 use tb_terms::{Items, Name, Terms, Text};
 
 /// A process that is there from the start: its body, from 0, and the values of its formals.
@@ -32,4 +33,22 @@ pub struct Program {
     pub roots: Roots,
     pub tools: Tools,
     ghost in_range: { IsTrue (is_program_in_range bodies roots tools) },
+}
+
+impl Program {
+    /// The program, where its parts are in range of each other.
+    pub fn new(bodies: Bodies, roots: Roots, tools: Tools) -> Option<Program>
+        ensures is { IfSome result (λ program. (program.bodies ≡ bodies) × (program.roots ≡ roots) × (program.tools ≡ tools)) }
+        ensures some { is_some result ≡ is_program_in_range bodies roots tools }
+    {
+        if is_program_in_range(bodies.as_slice(), roots.as_slice(), tools.as_slice()) {
+            Some(Program {
+                bodies,
+                roots,
+                tools,
+            })
+        } else {
+            None
+        }
+    }
 }

@@ -1,16 +1,16 @@
-use Rattle.std.proofs.Common.{◌≡◌, ℕ, ◌-◌, ◌<◌, Bool, true, false, Option, Some, None, List, length, slice_get, ap, sym, subst, ◌∙◌, IsTrue, option_map, arith}
+use Rattle.std.proofs.Common.{◌≡◌, ℕ, ◌-◌, ◌<◌, Option, Some, None, List, length, slice_get, ap, sym, subst, ◌∙◌, IsTrue, IfSome, option_map, arith}
 use Rattle.std.proofs.lemmas.Result.{IfOk-weaker}
 use Rattle.tb_func.specs.declared.slot.Slot.{Slot}
 use Rattle.tb_algebra.specs.declared.node.Node.TheVariants.{At, Seq, Alt, Star, Par, If, Let}
 use Rattle.tb_algebra.specs.declared.fired.Fired.{Fired}
 use Rattle.tb_algebra.specs.Settings.{tested, with_settings}
-use Rattle.tb_algebra.specs.Hits.{Hit, Past, On, hit, hit_of, hit_with, or_past, is_fired_on}
+use Rattle.tb_algebra.specs.Hits.{Hit, Past, On, chosen, hit, hit_of, hit_with, or_past, is_fired_on}
 use Rattle.tb_algebra.specs.Plans.{process_at}
 use Rattle.tb_algebra.specs.Processes.{Process}
 use Rattle.tb_algebra.specs.Sights.{or_own}
 use Rattle.tb_algebra.specs.Runnings.{entered_term, term_of}
-use Rattle.tb_algebra.proofs.PlanLemmas.{both_before, one_before, if_before}
-use Rattle.tb_algebra.proofs.HitLemmas.{hit_atom, hit_seq, hit_alt, hit_star, hit_par, hit_true, hit_false, hit_absent, hit_untold, hit_set, hit_unset, then, beside, along}
+use Rattle.tb_algebra.proofs.PlanLemmas.{both_before, one_before, chosen_before}
+use Rattle.tb_algebra.proofs.HitLemmas.{hit_atom, hit_seq, hit_alt, hit_star, hit_par, of_part, hit_chosen, hit_set, hit_unset, then, beside, along}
 use Rattle.tb_algebra.proofs.TermLemmas.{term-Whole, on_whole}
 use Rattle.tb_algebra.proofs.fire.+fire_node.Goals as goal
 
@@ -70,18 +70,13 @@ fire_node-requires-in-Past-3 t c =
     let d = c.decreases in
     (omega arith, (omega arith, c.requires.entered))
 
-pub fire_node-requires-in-Some-true : goal.fire_node-requires-in-Some-true
-fire_node-requires-in-Some-true t c =
-    let node : slice_get c.args.plan.now.nodes c.args.node ≡ Some (If c.in-If.test c.in-If.x c.in-If.y) = c.node.ensures.node ∙ ap Some c.in-If.is in
-    let before = if_before c.in-If.test c.in-If.x c.in-If.y c.args.node (c.node.ensures.behind c.args.node (If c.in-If.test c.in-If.x c.in-If.y) node) in
-    let there = c.requires.there in
-    let d = c.decreases in
-    (omega arith, (omega arith, c.requires.entered))
-
 pub fire_node-requires-in-Some : goal.fire_node-requires-in-Some
 fire_node-requires-in-Some t c =
-    let node : slice_get c.args.plan.now.nodes c.args.node ≡ Some (If c.in-If.test c.in-If.x (Some c.in-Some.y)) = c.node.ensures.node ∙ ap Some (c.in-If.is ∙ ap (If c.in-If.test c.in-If.x) c.in-Some.is) in
-    let before = both_before c.in-If.x c.in-Some.y c.args.node (c.node.ensures.behind c.args.node (If c.in-If.test c.in-If.x (Some c.in-Some.y)) node) in
+    let node : slice_get c.args.plan.now.nodes c.args.node ≡ Some (If c.in-If.test c.in-If.x c.in-If.y) = c.node.ensures.node ∙ ap Some c.in-If.is in
+    let found : c.in_ok-part-in-If.field-0 ≡ chosen (tested c.store_of.result.now c.in-If.test) c.in-If.x c.in-If.y = c.in_ok-part-in-If.ensures in
+    let says : ◌≡◌ {A = Option ℕ} (chosen (tested (or_own c.args.own.now c.args.base.now) c.in-If.test) c.in-If.x c.in-If.y) (Some c.in-Some.part) = ap (λ (s : List Slot). chosen (tested s c.in-If.test) c.in-If.x c.in-If.y) (sym c.store_of.ensures) ∙ sym found ∙ c.in-Some.is in
+    let all = chosen_before (tested (or_own c.args.own.now c.args.base.now) c.in-If.test) c.in-If.test c.in-If.x c.in-If.y c.args.node (c.node.ensures.behind c.args.node (If c.in-If.test c.in-If.x c.in-If.y) node) in
+    let before : c.in-Some.part < c.args.node = subst (λ (o : Option ℕ). IfSome o (λ (part : ℕ). part < c.args.node)) says all in
     let there = c.requires.there in
     let d = c.decreases in
     (omega arith, (omega arith, c.requires.entered))
@@ -141,14 +136,19 @@ returns-in-Past-2-clause-hit t c =
     let eq = ap (λ (h : Hit). or_past (hit_with (then (process_at c.args.plan.now.nodes c.args.node)) h) (λ (rest : ℕ). hit (entered_term c.args.plan.now.nodes c.args.since.ticks (record { node = c.in-Star.y; entered = c.args.since.entered })) (or_own c.args.own.now c.args.base.now) rest)) past ∙ sym e in
     IfOk-weaker c.fire_node-in-Past-2.result _ _ (λ fired p. p ∙ eq) c.fire_node-in-Past-2.ensures.hit
 
-pub returns-in_ok-whole-in-Taken-2-clause-hit : goal.returns-in_ok-whole-in-Taken-2-clause-hit
-returns-in_ok-whole-in-Taken-2-clause-hit t c =
+pub returns-in-Taken-2-clause-hit : goal.returns-in-Taken-2-clause-hit
+returns-in-Taken-2-clause-hit t c =
     let node : slice_get c.args.plan.now.nodes c.args.node ≡ Some (Star c.in-Star.x c.in-Star.y) = c.node.ensures.node ∙ ap Some c.in-Star.is in
     let e = hit_star c.args.plan.now.nodes c.args.since.ticks (record { node = c.args.node; entered = c.args.since.entered }) c.node.ensures.behind c.in-Star.x c.in-Star.y (or_own c.args.own.now c.args.base.now) c.args.k node in
     let first : hit_of c.args.plan.now.nodes c.args.since.ticks c.args.base.now c.in_ok-rest-in-Star.field-0 ≡ hit (entered_term c.args.plan.now.nodes c.args.since.ticks (record { node = c.in-Star.x; entered = c.args.since.entered })) (or_own c.args.own.now c.args.base.now) c.args.k = c.in_ok-rest-in-Star.ensures.hit in
     let on : On (option_map (term_of c.args.plan.now.nodes c.args.since.ticks) c.in-Taken-2.left) (or_own c.in-Taken-2.own c.args.base.now) ≡ hit (entered_term c.args.plan.now.nodes c.args.since.ticks (record { node = c.in-Star.x; entered = c.args.since.entered })) (or_own c.args.own.now c.args.base.now) c.args.k = sym (ap (hit_of c.args.plan.now.nodes c.args.since.ticks c.args.base.now) c.in-Taken-2.is) ∙ first in
-    let term = c.in_ok-whole-in-Taken-2.ensures.term c.args.plan.now.nodes in
-    ap (λ (p : Process). On (Some p) (or_own c.in-Taken-2.own c.args.base.now)) term ∙ ap (λ (h : Hit). or_past (hit_with (then (process_at c.args.plan.now.nodes c.args.node)) h) (λ (rest : ℕ). hit (entered_term c.args.plan.now.nodes c.args.since.ticks (record { node = c.in-Star.y; entered = c.args.since.entered })) (or_own c.args.own.now c.args.base.now) rest)) on ∙ sym e
+    let whole = ap (λ (h : Hit). or_past (hit_with (then (process_at c.args.plan.now.nodes c.args.node)) h) (λ (rest : ℕ). hit (entered_term c.args.plan.now.nodes c.args.since.ticks (record { node = c.in-Star.y; entered = c.args.since.entered })) (or_own c.args.own.now c.args.base.now) rest)) on ∙ sym e in
+    IfOk-weaker c.taken_then.result _ _ (λ fired p. p c.args.plan.now.nodes c.args.base.now ∙ whole) c.taken_then.ensures.hit
+
+pub returns-in-Taken-2-clause-on : goal.returns-in-Taken-2-clause-on
+returns-in-Taken-2-clause-on t c =
+    let left = subst (λ (f : Fired). IsTrue (is_fired_on c.args.plan.now.nodes c.args.since.ticks f)) c.in-Taken-2.is c.in_ok-rest-in-Star.ensures.on in
+    IfOk-weaker c.taken_then.result _ _ (λ fired p. p c.args.plan.now.nodes c.requires.there left) c.taken_then.ensures.on
 
 pub returns-in_ok-fired-in-Past-3-clause-hit : goal.returns-in_ok-fired-in-Past-3-clause-hit
 returns-in_ok-fired-in-Past-3-clause-hit t c =
@@ -171,58 +171,44 @@ returns-in_ok-fired-in-Past-3-clause-on t c =
     let waits = on_whole c.args.plan.now.nodes c.args.since.ticks c.whole.result (record { node = c.in-Par.x; entered = c.args.since.entered }) c.whole.ensures within c.requires.entered in
     IfOk-weaker c.on_the_right.result _ _ (λ whole p. p c.args.plan.now.nodes c.args.since.ticks waits c.in_ok-fired-in-Past-3.ensures.on) c.on_the_right.ensures.on
 
-pub returns-in_ok-whole-in-Taken-3-clause-hit : goal.returns-in_ok-whole-in-Taken-3-clause-hit
-returns-in_ok-whole-in-Taken-3-clause-hit t c =
+pub returns-in-Taken-3-clause-hit : goal.returns-in-Taken-3-clause-hit
+returns-in-Taken-3-clause-hit t c =
     let node : slice_get c.args.plan.now.nodes c.args.node ≡ Some (Par c.in-Par.x c.in-Par.y) = c.node.ensures.node ∙ ap Some c.in-Par.is in
     let e = hit_par c.args.plan.now.nodes c.args.since.ticks (record { node = c.args.node; entered = c.args.since.entered }) c.node.ensures.behind c.in-Par.x c.in-Par.y (or_own c.args.own.now c.args.base.now) c.args.k node in
     let first : hit_of c.args.plan.now.nodes c.args.since.ticks c.args.base.now c.in_ok-rest-in-Par.field-0 ≡ hit (entered_term c.args.plan.now.nodes c.args.since.ticks (record { node = c.in-Par.x; entered = c.args.since.entered })) (or_own c.args.own.now c.args.base.now) c.args.k = c.in_ok-rest-in-Par.ensures.hit in
     let on : On (option_map (term_of c.args.plan.now.nodes c.args.since.ticks) c.in-Taken-3.left) (or_own c.in-Taken-3.own c.args.base.now) ≡ hit (entered_term c.args.plan.now.nodes c.args.since.ticks (record { node = c.in-Par.x; entered = c.args.since.entered })) (or_own c.args.own.now c.args.base.now) c.args.k = sym (ap (hit_of c.args.plan.now.nodes c.args.since.ticks c.args.base.now) c.in-Taken-3.is) ∙ first in
     let waits : term_of c.args.plan.now.nodes c.args.since.ticks c.whole-in-Taken-3.result ≡ (entered_term c.args.plan.now.nodes c.args.since.ticks (record { node = c.in-Par.y; entered = c.args.since.entered })) = ap (term_of c.args.plan.now.nodes c.args.since.ticks) c.whole-in-Taken-3.ensures ∙ term-Whole c.args.plan.now.nodes c.args.since.ticks (record { node = c.in-Par.y; entered = c.args.since.entered }) in
-    let term = c.in_ok-whole-in-Taken-3.ensures.term c.args.plan.now.nodes c.args.since.ticks in
-    ap (λ (p : Process). On (Some p) (or_own c.in-Taken-3.own c.args.base.now)) term
-    ∙ ap (λ (w : Process). On (beside w (option_map (term_of c.args.plan.now.nodes c.args.since.ticks) c.in-Taken-3.left)) (or_own c.in-Taken-3.own c.args.base.now)) waits
+    let whole = ap (λ (w : Process). On (beside w (option_map (term_of c.args.plan.now.nodes c.args.since.ticks) c.in-Taken-3.left)) (or_own c.in-Taken-3.own c.args.base.now)) waits
     ∙ ap (λ (h : Hit). or_past (hit_with (beside (entered_term c.args.plan.now.nodes c.args.since.ticks (record { node = c.in-Par.y; entered = c.args.since.entered }))) h) (λ (rest : ℕ). hit_with (along (entered_term c.args.plan.now.nodes c.args.since.ticks (record { node = c.in-Par.x; entered = c.args.since.entered }))) (hit (entered_term c.args.plan.now.nodes c.args.since.ticks (record { node = c.in-Par.y; entered = c.args.since.entered })) (or_own c.args.own.now c.args.base.now) rest))) on
-    ∙ sym e
+    ∙ sym e in
+    IfOk-weaker c.taken_beside.result _ _ (λ fired p. p c.args.plan.now.nodes c.args.since.ticks c.args.base.now ∙ whole) c.taken_beside.ensures.hit
 
-pub returns-in_ok-whole-in-Taken-3-clause-on : goal.returns-in_ok-whole-in-Taken-3-clause-on
-returns-in_ok-whole-in-Taken-3-clause-on t c =
+pub returns-in-Taken-3-clause-on : goal.returns-in-Taken-3-clause-on
+returns-in-Taken-3-clause-on t c =
     let node : slice_get c.args.plan.now.nodes c.args.node ≡ Some (Par c.in-Par.x c.in-Par.y) = c.node.ensures.node ∙ ap Some c.in-Par.is in
     let before = both_before c.in-Par.x c.in-Par.y c.args.node (c.node.ensures.behind c.args.node (Par c.in-Par.x c.in-Par.y) node) in
     let there = c.requires.there in
     let within : c.in-Par.y < length c.args.plan.now.nodes = omega arith in
     let waits = on_whole c.args.plan.now.nodes c.args.since.ticks c.whole-in-Taken-3.result (record { node = c.in-Par.y; entered = c.args.since.entered }) c.whole-in-Taken-3.ensures within c.requires.entered in
     let left = subst (λ (f : Fired). IsTrue (is_fired_on c.args.plan.now.nodes c.args.since.ticks f)) c.in-Taken-3.is c.in_ok-rest-in-Par.ensures.on in
-    c.in_ok-whole-in-Taken-3.ensures.on c.args.plan.now.nodes c.args.since.ticks waits left
-
-pub returns-in-Some-true-clause-hit : goal.returns-in-Some-true-clause-hit
-returns-in-Some-true-clause-hit t c =
-    let node : slice_get c.args.plan.now.nodes c.args.node ≡ Some (If c.in-If.test c.in-If.x c.in-If.y) = c.node.ensures.node ∙ ap Some c.in-If.is in
-    let found : c.in_ok-tested-in-If.field-0 ≡ tested c.store_of.result.now c.in-If.test = c.in_ok-tested-in-If.ensures in
-    let says : ◌≡◌ {A = Option Bool} (tested (or_own c.args.own.now c.args.base.now) c.in-If.test) (Some true) = ap (λ (s : List Slot). tested s c.in-If.test) (sym c.store_of.ensures) ∙ sym found ∙ c.in-Some-true.is ∙ ap Some c.in-Some-true.field-0-test in
-    let e = hit_true c.args.plan.now.nodes c.args.since.ticks (record { node = c.args.node; entered = c.args.since.entered }) c.node.ensures.behind c.in-If.test c.in-If.x c.in-If.y (or_own c.args.own.now c.args.base.now) c.args.k node says in
-    IfOk-weaker c.fire_node-in-Some-true.result _ _ (λ fired p. p ∙ sym e) c.fire_node-in-Some-true.ensures.hit
+    IfOk-weaker c.taken_beside.result _ _ (λ fired p. p c.args.plan.now.nodes c.args.since.ticks waits left) c.taken_beside.ensures.on
 
 pub returns-in-Some-clause-hit : goal.returns-in-Some-clause-hit
 returns-in-Some-clause-hit t c =
-    let node : slice_get c.args.plan.now.nodes c.args.node ≡ Some (If c.in-If.test c.in-If.x (Some c.in-Some.y)) = c.node.ensures.node ∙ ap Some (c.in-If.is ∙ ap (If c.in-If.test c.in-If.x) c.in-Some.is) in
-    let found : c.in_ok-tested-in-If.field-0 ≡ tested c.store_of.result.now c.in-If.test = c.in_ok-tested-in-If.ensures in
-    let says : ◌≡◌ {A = Option Bool} (tested (or_own c.args.own.now c.args.base.now) c.in-If.test) (Some false) = ap (λ (s : List Slot). tested s c.in-If.test) (sym c.store_of.ensures) ∙ sym found ∙ c.in-Some-false.is ∙ ap Some c.in-Some-false.field-0-test in
-    let e = hit_false c.args.plan.now.nodes c.args.since.ticks (record { node = c.args.node; entered = c.args.since.entered }) c.node.ensures.behind c.in-If.test c.in-If.x c.in-Some.y (or_own c.args.own.now c.args.base.now) c.args.k node says in
-    IfOk-weaker c.fire_node-in-Some.result _ _ (λ fired p. p ∙ sym e) c.fire_node-in-Some.ensures.hit
-
-pub returns-in-None-y-clause-hit : goal.returns-in-None-y-clause-hit
-returns-in-None-y-clause-hit t c =
-    let node : slice_get c.args.plan.now.nodes c.args.node ≡ Some (If c.in-If.test c.in-If.x None) = c.node.ensures.node ∙ ap Some (c.in-If.is ∙ ap (If c.in-If.test c.in-If.x) c.in-None-y.is) in
-    let found : c.in_ok-tested-in-If.field-0 ≡ tested c.store_of.result.now c.in-If.test = c.in_ok-tested-in-If.ensures in
-    let says : ◌≡◌ {A = Option Bool} (tested (or_own c.args.own.now c.args.base.now) c.in-If.test) (Some false) = ap (λ (s : List Slot). tested s c.in-If.test) (sym c.store_of.ensures) ∙ sym found ∙ c.in-Some-false.is ∙ ap Some c.in-Some-false.field-0-test in
-    sym (hit_absent c.args.plan.now.nodes c.args.since.ticks (record { node = c.args.node; entered = c.args.since.entered }) c.node.ensures.behind c.in-If.test c.in-If.x (or_own c.args.own.now c.args.base.now) c.args.k node says)
+    let node : slice_get c.args.plan.now.nodes c.args.node ≡ Some (If c.in-If.test c.in-If.x c.in-If.y) = c.node.ensures.node ∙ ap Some c.in-If.is in
+    let found : c.in_ok-part-in-If.field-0 ≡ chosen (tested c.store_of.result.now c.in-If.test) c.in-If.x c.in-If.y = c.in_ok-part-in-If.ensures in
+    let says : ◌≡◌ {A = Option ℕ} (chosen (tested (or_own c.args.own.now c.args.base.now) c.in-If.test) c.in-If.x c.in-If.y) (Some c.in-Some.part) = ap (λ (s : List Slot). chosen (tested s c.in-If.test) c.in-If.x c.in-If.y) (sym c.store_of.ensures) ∙ sym found ∙ c.in-Some.is in
+    let e = hit_chosen c.args.plan.now.nodes c.args.since.ticks (record { node = c.args.node; entered = c.args.since.entered }) c.node.ensures.behind c.in-If.test c.in-If.x c.in-If.y (or_own c.args.own.now c.args.base.now) c.args.k node in
+    let here = e ∙ ap (λ (o : Option ℕ). of_part c.args.plan.now.nodes c.args.since.ticks (record { node = c.args.node; entered = c.args.since.entered }) c.node.ensures.behind o (or_own c.args.own.now c.args.base.now) c.args.k) says in
+    IfOk-weaker c.fire_node-in-Some.result _ _ (λ fired p. p ∙ sym here) c.fire_node-in-Some.ensures.hit
 
 pub returns-in-None-clause-hit : goal.returns-in-None-clause-hit
 returns-in-None-clause-hit t c =
     let node : slice_get c.args.plan.now.nodes c.args.node ≡ Some (If c.in-If.test c.in-If.x c.in-If.y) = c.node.ensures.node ∙ ap Some c.in-If.is in
-    let found : c.in_ok-tested-in-If.field-0 ≡ tested c.store_of.result.now c.in-If.test = c.in_ok-tested-in-If.ensures in
-    let says : ◌≡◌ {A = Option Bool} (tested (or_own c.args.own.now c.args.base.now) c.in-If.test) (None) = ap (λ (s : List Slot). tested s c.in-If.test) (sym c.store_of.ensures) ∙ sym found ∙ c.in-None.is in
-    sym (hit_untold c.args.plan.now.nodes c.args.since.ticks (record { node = c.args.node; entered = c.args.since.entered }) c.node.ensures.behind c.in-If.test c.in-If.x c.in-If.y (or_own c.args.own.now c.args.base.now) c.args.k node says)
+    let found : c.in_ok-part-in-If.field-0 ≡ chosen (tested c.store_of.result.now c.in-If.test) c.in-If.x c.in-If.y = c.in_ok-part-in-If.ensures in
+    let says : ◌≡◌ {A = Option ℕ} (chosen (tested (or_own c.args.own.now c.args.base.now) c.in-If.test) c.in-If.x c.in-If.y) None = ap (λ (s : List Slot). chosen (tested s c.in-If.test) c.in-If.x c.in-If.y) (sym c.store_of.ensures) ∙ sym found ∙ c.in-None.is in
+    let e = hit_chosen c.args.plan.now.nodes c.args.since.ticks (record { node = c.args.node; entered = c.args.since.entered }) c.node.ensures.behind c.in-If.test c.in-If.x c.in-If.y (or_own c.args.own.now c.args.base.now) c.args.k node in
+    sym (e ∙ ap (λ (o : Option ℕ). of_part c.args.plan.now.nodes c.args.since.ticks (record { node = c.args.node; entered = c.args.since.entered }) c.node.ensures.behind o (or_own c.args.own.now c.args.base.now) c.args.k) says)
 
 pub returns-in-Some-2-clause-hit : goal.returns-in-Some-2-clause-hit
 returns-in-Some-2-clause-hit t c =

@@ -30,13 +30,12 @@ returns-in_ok-fired-in-Past-clause-hit t c =
     let fired = hit_of c.args.plan.now.nodes c.args.ticks c.args.store.now c.in_ok-fired-in-Past.fired in
     IfOk-weaker c.on_the_right.result _ _ (λ whole p. p c.args.plan.now.nodes c.args.ticks c.args.store.now ∙ ap (λ (r : Running). hit_with (along (term_of c.args.plan.now.nodes c.args.ticks r)) fired) again ∙ ap (hit_with (along (term_of c.args.plan.now.nodes c.args.ticks c.get-in-Par.result.now))) second ∙ eq) c.on_the_right.ensures.hit
 
-pub returns-in_ok-whole-in-Taken-clause-hit : goal.returns-in_ok-whole-in-Taken-clause-hit
-returns-in_ok-whole-in-Taken-clause-hit t c =
+pub returns-in-Taken-clause-hit : goal.returns-in-Taken-clause-hit
+returns-in-Taken-clause-hit t c =
     let is : c.args.term.now ≡ Par c.get-in-Par.result.now c.get-in-Taken.result.now = c.in-Par.is ∙ ap (λ (r : Running). Par r c.in-Par.y) (sym c.get-in-Par.ensures) ∙ ap (λ (r : Running). Par c.get-in-Par.result.now r) (sym c.get-in-Taken.ensures) in
     let e = hits_of_par c.args.plan.now.nodes c.args.ticks c.args.term.now c.get-in-Par.result.now c.get-in-Taken.result.now c.args.store.now c.args.k is in
     let first : hit_of c.args.plan.now.nodes c.args.ticks c.args.store.now c.in_ok-rest-in-Par.field-0 ≡ hit (term_of c.args.plan.now.nodes c.args.ticks c.get-in-Par.result.now) c.args.store.now c.args.k = c.in_ok-rest-in-Par.ensures.hit in
     let on : On (option_map (term_of c.args.plan.now.nodes c.args.ticks) c.in-Taken.left) (or_own c.in-Taken.own c.args.store.now) ≡ hit (term_of c.args.plan.now.nodes c.args.ticks c.get-in-Par.result.now) c.args.store.now c.args.k = sym (ap (hit_of c.args.plan.now.nodes c.args.ticks c.args.store.now) c.in-Taken.is) ∙ first in
-    let term = c.in_ok-whole-in-Taken.ensures.term c.args.plan.now.nodes c.args.ticks in
-    ap (λ (p : Process). On (Some p) (or_own c.in-Taken.own c.args.store.now)) term
-    ∙ ap (λ (h : Hit). or_past (hit_with (beside (term_of c.args.plan.now.nodes c.args.ticks c.get-in-Taken.result.now)) h) (λ (rest : ℕ). hit_with (along (term_of c.args.plan.now.nodes c.args.ticks c.get-in-Par.result.now)) (hit (term_of c.args.plan.now.nodes c.args.ticks c.get-in-Taken.result.now) c.args.store.now rest))) on
-    ∙ sym e
+    let whole = ap (λ (h : Hit). or_past (hit_with (beside (term_of c.args.plan.now.nodes c.args.ticks c.get-in-Taken.result.now)) h) (λ (rest : ℕ). hit_with (along (term_of c.args.plan.now.nodes c.args.ticks c.get-in-Par.result.now)) (hit (term_of c.args.plan.now.nodes c.args.ticks c.get-in-Taken.result.now) c.args.store.now rest))) on
+    ∙ sym e in
+    IfOk-weaker c.taken_beside.result _ _ (λ fired p. p c.args.plan.now.nodes c.args.ticks c.args.store.now ∙ whole) c.taken_beside.ensures.hit

@@ -1,0 +1,146 @@
+ghost use Rattle.std.specs.Prelude.{◌≡◌, slice_get};
+ghost use Rattle.std.specs.List.{list_all};
+ghost use Rattle.tb_body.specs.Programs.{are_actuals, has_command, have_sorts, is_act_in_program, is_body_in_program, is_limited, is_program_in_range, is_root_in_range, takes};
+
+use crate::{Act, Atom, Body, Root, Tool};
+use sqlite_items::at;
+use tb_terms::{Sort, Term, depth, has_sort, size};
+
+const MOST_ROOTS: usize = 10_000;
+
+const MOST_SIZE: usize = 65_536;
+
+const MOST_DEPTH: usize = 64;
+
+/// Whether each process and each root says only of processes and tools what holds of them.
+#[tactic(auto, unfolding(crate::specs::Programs::is_program_in_range))]
+pub(crate) fn is_program_in_range(bodies: &[Body], roots: &[Root], tools: &[Tool]) -> bool
+    ensures { result ≡ is_program_in_range bodies.now roots.now tools.now }
+{
+    are_bodies_in_program(bodies, tools)
+        && roots.len() <= MOST_ROOTS
+        && are_roots_in_range(bodies, roots)
+}
+
+fn are_bodies_in_program(bodies: &[Body], tools: &[Tool]) -> bool
+    ensures { result ≡ list_all (is_body_in_program bodies.now tools.now) bodies.now }
+{
+    for body in bodies {
+        if !are_acts_in_program(bodies, tools, body.atoms.as_slice()) {
+            return false;
+        }
+    }
+    true
+}
+
+fn are_acts_in_program(bodies: &[Body], tools: &[Tool], atoms: &[Atom]) -> bool
+    ensures { result ≡ list_all (λ atom. is_act_in_program bodies.now tools.now atom.act) atoms.now }
+{
+    for atom in atoms {
+        if !is_act_in_program(bodies, tools, &atom.act) {
+            return false;
+        }
+    }
+    true
+}
+
+/// Whether the process that is created takes the actuals; the tool is there, and has a command where
+/// it is started.
+fn is_act_in_program(bodies: &[Body], tools: &[Tool], act: &Act) -> bool
+    ensures { result ≡ is_act_in_program bodies.now tools.now act.now }
+{
+    match act {
+        Act::Create {
+            process,
+            actuals,
+            ..
+        } => takes(bodies, *process, actuals.len()),
+        Act::Execute { tool, .. } => has_command(tools, *tool),
+        Act::RecConnect { tool, .. } | Act::RecDisconnectAny { tool, .. } => {
+            (*tool as usize) < tools.len()
+        }
+        _ => true,
+    }
+}
+
+fn takes(bodies: &[Body], process: u32, actuals: usize) -> bool
+    ensures { result ≡ takes (slice_get bodies.now process) actuals }
+{
+    match at(bodies, process as usize) {
+        Some(body) => body.formals as usize == actuals,
+        None => false,
+    }
+}
+
+fn has_command(tools: &[Tool], tool: u32) -> bool
+    ensures { result ≡ has_command (slice_get tools.now tool) }
+{
+    match at(tools, tool as usize) {
+        Some(tool) => tool.command.is_some(),
+        None => false,
+    }
+}
+
+fn are_roots_in_range(bodies: &[Body], roots: &[Root]) -> bool
+    ensures { result ≡ list_all (is_root_in_range bodies.now) roots.now }
+{
+    for root in roots {
+        if !is_root_in_range(bodies, root) {
+            return false;
+        }
+    }
+    true
+}
+
+fn is_root_in_range(bodies: &[Body], root: &Root) -> bool
+    ensures { result ≡ is_root_in_range bodies.now root.now }
+{
+    match at(bodies, root.process as usize) {
+        Some(body) => are_actuals(body, root.actuals.as_slice()),
+        None => false,
+    }
+}
+
+/// Whether these are values of the formals.
+fn are_actuals(body: &Body, actuals: &[Term]) -> bool
+    ensures { result ≡ are_actuals body.now actuals.now }
+{
+    actuals.len() == body.formals as usize
+        && have_sorts(body.sorts.as_slice(), actuals)
+        && are_limited(actuals)
+}
+
+/// Whether each term has the sort at its place.
+fn have_sorts(sorts: &[Sort], terms: &[Term]) -> bool
+    ensures { result ≡ have_sorts sorts.now terms.now }
+{
+    for (place, term) in terms.iter().enumerate() {
+        match at(sorts, place) {
+            Some(sort) => {
+                if !has_sort(term, sort) {
+                    return false;
+                }
+            }
+            None => return false,
+        }
+    }
+    true
+}
+
+fn are_limited(terms: &[Term]) -> bool
+    ensures { result ≡ list_all is_limited terms.now }
+{
+    for term in terms {
+        if !is_limited(term) {
+            return false;
+        }
+    }
+    true
+}
+
+/// Whether a term of a root is within the limits.
+fn is_limited(term: &Term) -> bool
+    ensures { result ≡ is_limited term.now }
+{
+    size(term) <= MOST_SIZE && depth(term) <= MOST_DEPTH
+}
