@@ -1,0 +1,10 @@
+use Rattle.std.proofs.Common.{◌≡◌, ◌++◌, drop}
+use Rattle.tb_types.specs.Calls.{actuals_faults}
+use Rattle.tb_types.specs.Scopes.{visible}
+use Rattle.tb_types.proofs.calls.push_actuals.Given as goal
+
+-- what the actuals that are left break stands behind what was noted
+abbrev pub invariant-loop-place : goal.invariant-loop-place
+invariant-loop-place l =
+    l.into ++ actuals_faults l.names.script.now (visible l.scope) l.manner l.formals l.place (drop l.place l.actuals)
+    ≡ l.initial.into ++ actuals_faults l.names.script.now (visible l.scope) l.manner l.formals 0 l.actuals

@@ -1,0 +1,8 @@
+use Rattle.std.proofs.Common.{◌≡◌, ◌++◌, drop}
+use Rattle.tb_types.specs.Definitions.{none_seen, tool_repeats}
+use Rattle.tb_types.specs.Seen.{was_seen}
+use Rattle.tb_types.proofs.definitions.push_tool_repeats.Given as goal
+
+-- what the names that are left repeat stands behind what was noted
+abbrev pub invariant-loop-tool : goal.invariant-loop-tool
+invariant-loop-tool l = l.into ++ tool_repeats (was_seen l.seen.names) (drop l.tool-index l.tools) ≡ l.initial.into ++ tool_repeats none_seen l.tools

@@ -1,0 +1,8 @@
+use Rattle.std.proofs.Common.{◌≡◌, ℕ, List, ap, sym, ◌∙◌}
+use Rattle.tb_types.specs.Definitions.{or_seen}
+use Rattle.tb_types.specs.Seen.{was_seen}
+use Rattle.tb_types.proofs.SeenLemmas.{seen_after}
+use Rattle.tb_types.proofs.seen.push_repeat.Goals as goal
+
+pub returns-clause-seen : goal.returns-clause-seen
+returns-clause-seen c = seen_after c.args.name.now c.args.seen.now.names c.insert.new.self tt c.in_ok-before.ensures.updates

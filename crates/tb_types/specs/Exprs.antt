@@ -1,0 +1,119 @@
+-- What an expression must hold whatever it stands for: functions have their number of arguments, of their sorts, and variables are declared; and which sorts it fits.
+use Rattle.std.specs.Prelude.{ℕ, ◌==◌, Bool, true, false, not, ◌||◌, ◌&&◌, List, [], ◌∷◌, ◌++◌, length, map, Option, Some, None, is_none, if◌then◌else◌}
+use Rattle.std.specs.List.{list_all, flat_map}
+use Rattle.tb_terms.specs.declared.sort.Sort.{Sort, out-Sort}
+use Rattle.tb_terms.specs.declared.sort.Sort.TheVariants as sorts
+use Rattle.tb_terms.specs.declared.expr.Func.{Func}
+use Rattle.tb_func.specs.declared.shape.Shape.{Shape}
+use Rattle.tb_func.specs.declared.shape.Signature.{Signature}
+use Rattle.tb_func.specs.Fitting.{sort_of}
+use Rattle.tb_func.specs.Functions.{signature_of}
+use Rattle.tb_syntax.specs.declared.ast.Ast.{Ast}
+use Rattle.tb_syntax.specs.declared.ast.AstKind.{AstKind}
+use Rattle.tb_syntax.specs.declared.ast.AstKind.TheOpen as ast
+use Rattle.tb_syntax.specs.declared.ast.AstKind.TheFolds.{fold-AstKind}
+use Rattle.tb_types.specs.declared.broken.Broken.{Broken}
+use Rattle.tb_types.specs.declared.broken.Rule.TheVariants.{Arity, Undeclared, TypeClash}
+use Rattle.tb_types.specs.declared.scope.Known.{Known}
+use Rattle.tb_types.specs.Broken.{noted_if}
+use Rattle.tb_types.specs.Fitting.{is_any, is_bool, is_int, is_str, is_list_of, is_tool_sort, is_truth_word, goes_with, result_goes_with}
+use Rattle.tb_types.specs.Names.{applied}
+use Rattle.tb_types.specs.Scopes.{sort_in}
+
+-- an expression: its first token, the sorts that it fits, and where it or its parts break a condition
+pub record Judged : Type 0 where
+  pub token : ℕ
+  pub fits : Sort → Bool
+  pub faults : List Broken
+
+-- the same for an expression whose first token isn't known yet
+pub record JudgedKind : Type 0 where
+  pub fits : Sort → Bool
+  pub faults : ℕ → List Broken
+
+-- a name alone is a term of `bool`, or fits `term` alone
+abbrev pub word_fits : List ℕ → ℕ → Sort → Bool
+word_fits name count s = count == 0 && (is_truth_word name && is_bool (out-Sort s))
+
+-- the name of a tool with a number
+abbrev pub tool_fits : List ℕ → List Judged → Sort → Bool
+tool_fits name [] s = false
+tool_fits name (number ∷ []) s = is_tool_sort name (out-Sort s) && number.fits sorts.Int
+tool_fits name (number ∷ other ∷ parts) s = false
+
+-- an application fits where either way of fitting holds
+abbrev pub appl_fits : List ℕ → List Judged → Sort → Bool
+appl_fits name parts s = word_fits name (length parts) s || (result_goes_with (applied name (length parts)) s || tool_fits name parts s)
+
+abbrev pub variable_fits : Option Sort → Sort → Bool
+variable_fits None s = false
+variable_fits (Some own) s = goes_with own s
+
+abbrev pub all_fit : List Judged → Sort → Bool
+all_fit parts s = list_all (λ (part : Judged). part.fits s) parts
+
+-- which sorts an expression fits; no condition asks it of a result variable or a placeholder where condition 7 holds
+abbrev pub fits_step : List Known → ast.AstKind-F JudgedKind Judged → Sort → Bool
+fits_step known (ast.Int number) s = is_any (out-Sort s) || is_int (out-Sort s)
+fits_step known (ast.Str text) s = is_any (out-Sort s) || is_str (out-Sort s)
+fits_step known (ast.Appl name parts) s = is_any (out-Sort s) || appl_fits name parts s
+fits_step known (ast.Var name) s = is_any (out-Sort s) || variable_fits (sort_in known name) s
+fits_step known (ast.Result name) s = is_any (out-Sort s)
+fits_step known (ast.Hole hole) s = is_any (out-Sort s)
+fits_step known (ast.List parts) s = is_any (out-Sort s) || is_list_of (all_fit parts) (out-Sort s)
+
+-- a function is applied to another number of arguments than it takes
+abbrev pub has_wrong_count : Option Func → ℕ → Bool
+has_wrong_count None count = false
+has_wrong_count (Some func) count = not (count == (signature_of func).arity)
+
+-- an argument that doesn't fit the sort of its place
+abbrev pub argument_faults : Shape → Judged → List Broken
+argument_faults shape part = noted_if (not (part.fits (sort_of shape))) TypeClash part.token
+
+-- each argument at its place, as far as the function has places
+abbrev pub arguments_faults : Signature → List Judged → List Broken
+arguments_faults signature [] = []
+arguments_faults signature (first ∷ []) = argument_faults signature.first first
+arguments_faults signature (first ∷ second ∷ others) = argument_faults signature.first first ++ argument_faults signature.second second
+
+abbrev pub applied_faults : Option Func → List Judged → List Broken
+applied_faults None parts = []
+applied_faults (Some func) parts = arguments_faults (signature_of func) parts
+
+abbrev pub parts_faults : List Judged → List Broken
+parts_faults parts = flat_map (λ (part : Judged). part.faults) parts
+
+-- the name of a function goes with its arguments
+abbrev pub application_faults : List ℕ → List Judged → ℕ → List Broken
+application_faults name parts token =
+    noted_if (has_wrong_count (applied name (length parts)) (length parts)) Arity token
+    ++ applied_faults (applied name (length parts)) parts
+    ++ parts_faults parts
+
+abbrev pub faults_step : List Known → ast.AstKind-F JudgedKind Judged → ℕ → List Broken
+faults_step known (ast.Int number) token = []
+faults_step known (ast.Str text) token = []
+faults_step known (ast.Appl name parts) token = application_faults name parts token
+faults_step known (ast.Var name) token = noted_if (is_none (sort_in known name)) Undeclared token
+faults_step known (ast.Result name) token = noted_if (is_none (sort_in known name)) Undeclared token
+faults_step known (ast.Hole hole) token = []
+faults_step known (ast.List parts) token = parts_faults parts
+
+abbrev pub kind_step : List Known → ast.AstKind-F JudgedKind Judged → JudgedKind
+kind_step known kind = record { fits = fits_step known kind; faults = faults_step known kind }
+
+abbrev pub expr_step : ast.Ast-F JudgedKind Judged → Judged
+expr_step expr = record { token = expr.token; fits = expr.kind.fits; faults = expr.kind.faults expr.token }
+
+abbrev pub judged_kind : List Known → AstKind → JudgedKind
+judged_kind known = fold-AstKind JudgedKind Judged (kind_step known) expr_step
+
+abbrev pub judged : List Known → Ast → Judged
+judged known expr = record { token = expr.token; fits = (judged_kind known expr.kind).fits; faults = (judged_kind known expr.kind).faults expr.token }
+
+abbrev pub fits : List Known → Ast → Sort → Bool
+fits known expr s = (judged_kind known expr.kind).fits s
+
+abbrev pub expr_faults : List Known → Ast → List Broken
+expr_faults known expr = (judged_kind known expr.kind).faults expr.token

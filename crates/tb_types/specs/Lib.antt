@@ -1,0 +1,17 @@
+pub mod Atoms
+pub mod Bodies
+pub mod Broken
+pub mod Calls
+pub mod Conditions
+pub mod Definitions
+pub mod Duties
+pub mod Exprs
+pub mod Faults
+pub mod First
+pub mod Fitting
+pub mod Names
+pub mod Numbers
+pub mod Places
+pub mod Scopes
+pub mod Seen
+pub mod Values

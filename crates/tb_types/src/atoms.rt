@@ -1,0 +1,367 @@
+ghost use Rattle.std.specs.Prelude.{◌≡◌, ◌++◌, OnOk, map};
+ghost use Rattle.std.specs.List.{flat_map};
+ghost use Rattle.tb_types.specs.Atoms.{word_of, tool_word, event_word, fewest, takes_more, is_wrong_count, first_place, other_place, first_duty, other_duty, arguments_faults, named_faults, set_faults, act_faults, time_faults, atom_faults};
+ghost use Rattle.tb_terms.specs.declared.sort.Sort.TheVariants as sorts;
+ghost use Rattle.tb_syntax.specs.Words.{is_among};
+ghost use Rattle.tb_types.specs.Calls.{call_faults};
+ghost use Rattle.tb_types.specs.Duties.{duty_of, site_faults, made, tested};
+ghost use Rattle.tb_types.specs.Scopes.{visible, sort_in};
+
+use crate::broken::{Broken, Rule, note_if};
+use crate::calls::{Manner, push_call};
+use crate::duties::{Duty, Site, name_alone, push_site};
+use crate::names::Names;
+use crate::places::Place;
+use crate::scope::{Scope, sort_of};
+use std::alloc::Global;
+use tb_syntax::{ActDef, Ast, AtomDef, Call, TimeDef};
+use tb_terms::{Ident, Items, NoMemory, Sort};
+
+/// What kind of atom a word is, as far as its arguments go.
+#[derive(Clone, Copy, Debug, PartialEq, Eq)]
+pub enum Word {
+    /// `delta` and `tau`.
+    Silent,
+    Print,
+    /// `snd-msg` and `snd-note`.
+    Send,
+    /// `rec-msg` and `rec-note`.
+    Receive,
+    /// `no-note`, `subscribe` and `unsubscribe`.
+    Note,
+    Execute,
+    Connect,
+    Disconnect,
+    /// `snd-eval`, `snd-do` and `snd-terminate`.
+    Order,
+    Value,
+    Event,
+    /// `snd-ack-event`.
+    Answer,
+    Shutdown,
+}
+
+fn word_of(name: &[u8]) -> Word
+    ensures { result ≡ word_of name.now }
+{
+    if is_among(&["printf"], name) {
+        Word::Print
+    } else if is_among(&["snd-msg", "snd-note"], name) {
+        Word::Send
+    } else if is_among(&["rec-msg", "rec-note"], name) {
+        Word::Receive
+    } else if is_among(&["no-note", "subscribe", "unsubscribe"], name) {
+        Word::Note
+    } else {
+        tool_word(name)
+    }
+}
+
+fn tool_word(name: &[u8]) -> Word
+    ensures { result ≡ tool_word name.now }
+{
+    if is_among(&["execute"], name) {
+        Word::Execute
+    } else if is_among(&["rec-connect"], name) {
+        Word::Connect
+    } else if is_among(&["rec-disconnect"], name) {
+        Word::Disconnect
+    } else if is_among(&["snd-eval", "snd-do", "snd-terminate"], name) {
+        Word::Order
+    } else {
+        event_word(name)
+    }
+}
+
+fn event_word(name: &[u8]) -> Word
+    ensures { result ≡ event_word name.now }
+{
+    if is_among(&["rec-value"], name) {
+        Word::Value
+    } else if is_among(&["rec-event"], name) {
+        Word::Event
+    } else if is_among(&["snd-ack-event"], name) {
+        Word::Answer
+    } else if is_among(&["shutdown"], name) {
+        Word::Shutdown
+    } else {
+        Word::Silent
+    }
+}
+
+fn is_among(words: &[&str], name: &[u8]) -> bool
+    ensures { result ≡ is_among (map (λ word. word.now) words.now) name.now }
+{
+    for word in words {
+        if name == word.as_bytes() {
+            return true;
+        }
+    }
+    false
+}
+
+/// The fewest arguments that the atom may have.
+fn fewest(word: Word) -> usize
+    ensures { result ≡ fewest word }
+{
+    match word {
+        Word::Silent => 0,
+        Word::Print | Word::Send | Word::Receive | Word::Note => 1,
+        Word::Connect | Word::Disconnect | Word::Shutdown => 1,
+        Word::Execute | Word::Order | Word::Value | Word::Event | Word::Answer => 2,
+    }
+}
+
+fn takes_more(word: Word) -> bool
+    ensures { result ≡ takes_more word }
+{
+    matches!(
+        word,
+        Word::Print | Word::Send | Word::Receive | Word::Note | Word::Event | Word::Answer
+    )
+}
+
+fn is_wrong_count(fewest: usize, takes_more: bool, count: usize) -> bool
+    ensures { result ≡ is_wrong_count fewest takes_more count }
+{
+    count < fewest || (!takes_more && fewest < count)
+}
+
+fn first_place(word: Word) -> Place
+    ensures { result ≡ first_place word }
+{
+    match word {
+        Word::Receive => Place::Received,
+        Word::Note => Place::Noted,
+        Word::Connect | Word::Disconnect => Place::Taken,
+        _ => Place::Sent,
+    }
+}
+
+fn other_place(word: Word) -> Place
+    ensures { result ≡ other_place word }
+{
+    match word {
+        Word::Receive | Word::Value | Word::Event => Place::Received,
+        Word::Note => Place::Noted,
+        Word::Execute => Place::Taken,
+        _ => Place::Sent,
+    }
+}
+
+/// What an atom with such a first argument asks of the others.
+fn other_duty(word: Word, first: &Ast) -> Duty<'_>
+    ensures { duty_of result ≡ other_duty word first.now }
+{
+    match word {
+        Word::Execute => Duty::Started(name_alone(&first.kind)),
+        _ => Duty::Plain,
+    }
+}
+
+/// All that an atom and its times break.
+pub(crate) fn push_atom(
+    alloc: Global,
+    names: &Names,
+    scope: &Scope,
+    atom: &AtomDef,
+    into: &mut Items<Broken>,
+) -> Result<(), NoMemory>
+    ensures { OnOk result (into.new ≡ into.old ++ atom_faults names.now.script.now (visible scope.now) atom.now) }
+{
+    push_act(alloc, names, scope, &atom.act, atom.token, into)?;
+    push_times(alloc, names, scope, atom.times.as_slice(), into)?;
+    Ok(())
+}
+
+fn push_act(
+    alloc: Global,
+    names: &Names,
+    scope: &Scope,
+    act: &ActDef,
+    token: usize,
+    into: &mut Items<Broken>,
+) -> Result<(), NoMemory>
+    ensures { OnOk result (into.new ≡ into.old ++ act_faults names.now.script.now (visible scope.now) act.now token) }
+{
+    match act {
+        ActDef::Set(name, value) => {
+            push_set(alloc, names, scope, name, value, token, into)?;
+            Ok(())
+        }
+        ActDef::Create(call, variable) => {
+            push_create(alloc, names, scope, call, variable, into)?;
+            Ok(())
+        }
+        ActDef::Named(name, arguments) => {
+            let word = word_of(name.as_bytes());
+            let is_wrong = is_wrong_count(fewest(word), takes_more(word), arguments.len());
+            note_if(is_wrong, Rule::Arity, token, into)?;
+            push_arguments(alloc, names, scope, word, arguments.as_slice(), into)?;
+            Ok(())
+        }
+    }
+}
+
+fn push_set(
+    alloc: Global,
+    names: &Names,
+    scope: &Scope,
+    name: &Ident,
+    value: &Ast,
+    token: usize,
+    into: &mut Items<Broken>,
+) -> Result<(), NoMemory>
+    ensures { OnOk result (into.new ≡ into.old
+        ++ set_faults names.now.script.now (visible scope.now) (sort_in (visible scope.now) name.now) value.now token) }
+{
+    let place = Place::Sent;
+    match sort_of(scope, name) {
+        None => {
+            note_if(true, Rule::Undeclared, token, into)?;
+            let duty = Duty::Plain;
+            push_site(alloc, names, scope, &Site { place, duty }, value, into)?;
+            Ok(())
+        }
+        Some(sort) => {
+            let duty = Duty::OfSort(sort);
+            push_site(alloc, names, scope, &Site { place, duty }, value, into)?;
+            Ok(())
+        }
+    }
+}
+
+fn push_create(
+    alloc: Global,
+    names: &Names,
+    scope: &Scope,
+    call: &Call,
+    variable: &Ast,
+    into: &mut Items<Broken>,
+) -> Result<(), NoMemory>
+    ensures { OnOk result (into.new ≡ into.old
+        ++ (call_faults names.now.script.now (visible scope.now) Manner.Made call.now
+        ++ site_faults names.now.script.now (visible scope.now) Place.Taken made variable.now)) }
+{
+    push_call(alloc, names, scope, Manner::Made, call, into)?;
+    let site = Site {
+        place: Place::Taken,
+        duty: Duty::Made,
+    };
+    push_site(alloc, names, scope, &site, variable, into)?;
+    Ok(())
+}
+
+fn push_arguments(
+    alloc: Global,
+    names: &Names,
+    scope: &Scope,
+    word: Word,
+    arguments: &[Ast],
+    into: &mut Items<Broken>,
+) -> Result<(), NoMemory>
+    ensures { OnOk result (into.new ≡ into.old
+        ++ arguments_faults names.now.script.now (visible scope.now) word arguments.now) }
+{
+    match arguments {
+        [] => Ok(()),
+        [first, others @ ..] => {
+            push_first(alloc, names, scope, word, first, into)?;
+            let site = Site {
+                place: other_place(word),
+                duty: other_duty(word, first),
+            };
+            push_others(alloc, names, scope, &site, others, into)?;
+            Ok(())
+        }
+    }
+}
+
+/// What the first argument breaks.
+fn push_first(
+    alloc: Global,
+    names: &Names,
+    scope: &Scope,
+    word: Word,
+    first: &Ast,
+    into: &mut Items<Broken>,
+) -> Result<(), NoMemory>
+    ensures { OnOk result (into.new ≡ into.old
+        ++ site_faults names.now.script.now (visible scope.now) (first_place word) (first_duty word) first.now) }
+{
+    let text = Sort::Str;
+    let site = Site {
+        place: first_place(word),
+        duty: first_duty(word, &text),
+    };
+    push_site(alloc, names, scope, &site, first, into)?;
+    Ok(())
+}
+
+/// What the first argument is asked for. `text` is the sort of strings.
+fn first_duty(word: Word, text: &Sort) -> Duty<'_>
+    requires { text.now ≡ sorts.Str }
+    ensures { duty_of result ≡ first_duty word }
+{
+    match word {
+        Word::Print => Duty::OfSort(text),
+        Word::Execute => Duty::Command,
+        Word::Connect => Duty::Connected,
+        Word::Disconnect => Duty::Disconnected,
+        Word::Order | Word::Value | Word::Event | Word::Answer => Duty::OfTool,
+        _ => Duty::Plain,
+    }
+}
+
+fn push_others(
+    alloc: Global,
+    names: &Names,
+    scope: &Scope,
+    site: &Site,
+    others: &[Ast],
+    into: &mut Items<Broken>,
+) -> Result<(), NoMemory>
+    ensures { OnOk result (into.new ≡ into.old
+        ++ flat_map (site_faults names.now.script.now (visible scope.now) site.now.place (duty_of site.now.duty)) others.now) }
+{
+    for other in others {
+        push_site(alloc, names, scope, site, other, into)?;
+    }
+    Ok(())
+}
+
+fn push_times(
+    alloc: Global,
+    names: &Names,
+    scope: &Scope,
+    times: &[TimeDef],
+    into: &mut Items<Broken>,
+) -> Result<(), NoMemory>
+    ensures { OnOk result (into.new ≡ into.old
+        ++ flat_map (time_faults names.now.script.now (visible scope.now)) times.now) }
+{
+    for time in times {
+        push_tested(alloc, names, scope, &Sort::Int, &time.value, into)?;
+    }
+    Ok(())
+}
+
+/// What a test or a time value breaks, which is to fit this sort.
+pub(crate) fn push_tested(
+    alloc: Global,
+    names: &Names,
+    scope: &Scope,
+    sort: &Sort,
+    expr: &Ast,
+    into: &mut Items<Broken>,
+) -> Result<(), NoMemory>
+    ensures { OnOk result (into.new ≡ into.old
+        ++ site_faults names.now.script.now (visible scope.now) Place.Sent (tested sort.now) expr.now) }
+{
+    let site = Site {
+        place: Place::Sent,
+        duty: Duty::Tested(sort),
+    };
+    push_site(alloc, names, scope, &site, expr, into)?;
+    Ok(())
+}

@@ -1,0 +1,50 @@
+ghost use Rattle.std.specs.Prelude.{◌≡◌};
+ghost use Rattle.tb_types.specs.Numbers.{number_of};
+ghost use Rattle.tb_types.specs.First.{is_before, earlier, first_of};
+
+use crate::broken::{Broken, Rule};
+
+/// The first of what was noted: that of the least condition, and among these that at the least
+/// token.
+pub(crate) fn first(broken: &[Broken]) -> Option<Broken>
+    ensures { result ≡ first_of broken.now }
+{
+    let mut first = None;
+    for next in broken {
+        first = earlier(first, *next);
+    }
+    first
+}
+
+fn earlier(so_far: Option<Broken>, next: Broken) -> Option<Broken>
+    ensures { result ≡ earlier so_far next }
+{
+    match so_far {
+        Some(so_far) if !is_before(next, so_far) => Some(so_far),
+        _ => Some(next),
+    }
+}
+
+fn is_before(one: Broken, other: Broken) -> bool
+    ensures { result ≡ is_before one other }
+{
+    let (number, other_number) = (number_of(one.rule), number_of(other.rule));
+    number < other_number || (number == other_number && one.token < other.token)
+}
+
+/// The number of a condition.
+fn number_of(rule: Rule) -> u8
+    ensures { result ≡ number_of rule }
+{
+    match rule {
+        Rule::Twice => 1,
+        Rule::NoProcess => 2,
+        Rule::NoTool => 3,
+        Rule::NoFunction => 4,
+        Rule::Arity => 5,
+        Rule::Undeclared => 6,
+        Rule::ResultInSend => 7,
+        Rule::NotResult => 8,
+        Rule::TypeClash => 9,
+    }
+}

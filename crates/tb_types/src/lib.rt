@@ -1,0 +1,22 @@
+//! What a script must hold beyond its grammar, and where it first fails to.
+#![tactic(auto)]
+
+mod atoms;
+mod bodies;
+mod broken;
+mod calls;
+mod checked;
+mod definitions;
+mod duties;
+mod exprs;
+mod fault;
+mod first;
+mod fitting;
+mod names;
+mod places;
+mod scope;
+mod seen;
+mod values;
+
+pub use checked::check;
+pub use fault::CheckFault;
