@@ -4,6 +4,7 @@ pub mod Parts
 pub mod Counts
 pub mod Making
 pub mod Programs
+pub mod Findings
 pub mod Examples
 pub mod LogWriting
 pub mod Outcomes

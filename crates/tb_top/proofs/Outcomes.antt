@@ -8,7 +8,7 @@ use Rattle.tb_core.specs.Simulation.{Sim, IsSim, IsSimFront, sim_start}
 use Rattle.tb_core.specs.declared.log.Entry.{Entry}
 use Rattle.tb_core.specs.declared.ends.SimEnd.{SimEnd}
 use Rattle.tb_core.specs.declared.ends.SimEnd.TheVariants as sim
-use Rattle.tb_top.specs.PlainScript.{IsPlainProgram}
+use Rattle.tb_top.specs.ScriptFaults.{IsFound, Plain}
 use Rattle.tb_edge.specs.Faults.{Rose}
 use Rattle.tb_top.specs.Outcomes.{PutsFront, SimOutcome, FileOutcome, IsLoaded, most_steps, IsCaused, Reported}
 use Rattle.tb_top.specs.Lines.{status_line}
@@ -34,7 +34,7 @@ log-put origin log sim.Steps old new status is trace takes e bytes plain =
 
 -- a front of its text was put
 pub log-front : (origin : Origin) (log : List Entry) (last : SimEnd) (old new : Option (List ℕ)) → IsSim most_steps (sim_start (start origin)) log last → IsTrace (start origin) log →
-    TakesFront old new (log_text log) → (bytes : List ℕ) → IsPlainProgram bytes origin.program → PutsFront bytes old new
+    TakesFront old new (log_text log) → (bytes : List ℕ) → IsFound bytes (Plain origin.program) → PutsFront bytes old new
 log-front origin log last old new is trace front bytes plain =
     (log, record { program = origin.program; plain = plain; front = sim-front most_steps (sim_start (start origin)) log last is; trace = trace }, front)
 

@@ -11,8 +11,7 @@ use Rattle.tb_core.specs.declared.log.Entry.{Entry}
 use Rattle.tb_body.specs.declared.program.Program.{Program}
 use Rattle.tb_core.specs.declared.ends.SimEnd.{SimEnd}
 use Rattle.tb_core.specs.declared.ends.SimEnd.TheVariants as sim
-use Rattle.tb_top.specs.PlainScript.{IsPlainProgram}
-use Rattle.tb_top.specs.ScriptFaults.{HasNoTokens, HasNoScript, HasNoProgram}
+use Rattle.tb_top.specs.ScriptFaults.{IsFound, NoTokens, NoScript, Unplain, Plain}
 use Rattle.tb_top.specs.Lines.{status_line}
 use Rattle.tb_top.specs.declared.status.Status.{Status}
 use Rattle.tb_top.specs.declared.status.Status.TheVariants.{Ended, Script, Words, Outside, Limit, NoMemory}
@@ -51,17 +50,17 @@ most_steps = 1000000
 abbrev pub origin_of : Program → Origin
 origin_of program = record { program = program }
 
--- The bytes are a plain script, and this log is that of its simulation, which ends so. It is a trace of the script.
+-- The bytes are a plain script and nothing else, and this log is that of its simulation, which ends so. It is a trace of the script.
 pub record IsSimOf (bytes : List ℕ) (log : List Entry) (last : SimEnd) : Type 0 where
   pub program : Program
-  pub plain : IsPlainProgram bytes program
+  pub plain : IsFound bytes (Plain program)
   pub simulated : IsSim most_steps (sim_start (start (origin_of program))) log last
   pub trace : IsTrace (start (origin_of program)) log
 
--- The bytes are a plain script, and its simulation makes this log first. It is a trace of the script.
+-- The bytes are a plain script and nothing else, and its simulation makes this log first. It is a trace of the script.
 pub record IsFrontOf (bytes : List ℕ) (log : List Entry) : Type 0 where
   pub program : Program
-  pub plain : IsPlainProgram bytes program
+  pub plain : IsFound bytes (Plain program)
   pub front : IsSimFront most_steps (sim_start (start (origin_of program))) log
   pub trace : IsTrace (start (origin_of program)) log
 
@@ -80,11 +79,11 @@ SimOutcome bytes old new Ended = PutsLog bytes old new sim.Down
 -- the limit of steps was reached, and another step was possible
 SimOutcome bytes old new (Limit bound.Steps) = PutsLog bytes old new sim.Steps
 -- the bytes have no tokens
-SimOutcome bytes old new (Script (script.Lex fault)) = HasNoTokens bytes fault × (new ≡ old)
+SimOutcome bytes old new (Script (script.Lex fault)) = IsFound bytes (NoTokens fault) × (new ≡ old)
 -- their tokens spell no script within the limits
-SimOutcome bytes old new (Script (script.Parse fault)) = HasNoScript bytes fault × (new ≡ old)
+SimOutcome bytes old new (Script (script.Parse fault)) = IsFound bytes (NoScript fault) × (new ≡ old)
 -- the script that they spell isn't plain
-SimOutcome bytes old new (Script (script.NotBuilt token)) = (token ≡ 0) × HasNoProgram bytes × (new ≡ old)
+SimOutcome bytes old new (Script (script.NotBuilt token)) = (token ≡ 0) × IsFound bytes Unplain × (new ≡ old)
 -- the sink failed
 SimOutcome bytes old new (Outside edge.Out) = PutsFront bytes old new
 -- memory ran out, before the log was written or within it

@@ -1,5 +1,5 @@
 -- What the parts of the reader of plain scripts make and find: helpers of its proofs.
-use Rattle.std.specs.Prelude.{◌≡◌, ℕ, ◌+◌, ◌<◌, ◌≤◌, ◌^◌, List, [], ◌++◌, length, Option, Some, None, slice_get, All, IsSome}
+use Rattle.std.specs.Prelude.{◌≡◌, ℕ, ◌+◌, ◌<◌, ◌≤◌, ◌^◌, List, [], ◌++◌, length, Option, Some, None, Result, Ok, Err, slice_get, All, IsSome}
 use Rattle.std.specs.List.{AllZip}
 use Rattle.std.specs.Borrow.{Bor}
 use Rattle.std.specs.BTreeMap.{BTreeMap, get_by}
@@ -10,6 +10,9 @@ use Rattle.tb_body.specs.declared.body.Body.{Body}
 use Rattle.tb_body.specs.declared.tree.Tree.{Tree}
 use Rattle.tb_body.specs.declared.program.Root.{Root}
 use Rattle.tb_body.specs.declared.program.Program.{Program}
+use Rattle.tb_lex.specs.declared.fault.LexFault.{LexFault}
+use Rattle.tb_lex.specs.declared.token.Token.{Token}
+use Rattle.tb_parse.specs.declared.fault.ParseFault.{ParseFault}
 use Rattle.tb_syntax.specs.declared.proc.Call.{Call}
 use Rattle.tb_syntax.specs.declared.proc.Proc.{Proc}
 use Rattle.tb_syntax.specs.declared.proc.Proc.TheOpen as tree
@@ -19,15 +22,37 @@ use Rattle.tb_syntax.specs.declared.script.Script.{Script}
 use Rattle.tb_syntax.specs.Limits.{height}
 use Rattle.tb_top.specs.declared.plain.fault.PlainFault.{PlainFault}
 use Rattle.tb_top.specs.declared.plain.fault.PlainFault.TheVariants as fault
-use Rattle.tb_top.specs.PlainScript.{Part, plain_process, AreOnce, IsPlain, IsBodyOf, IsProgramOf}
-use Rattle.tb_top.specs.ScriptFaults.{HasNoTokens, HasNoScript, HasNoProgram}
+use Rattle.tb_top.specs.PlainScript.{Part, plain_process, AreOnce, IsPlain, IsBodyOf, IsProgramOf, HasTokens, IsTextOf}
+use Rattle.tb_top.specs.ScriptFaults.{HasNoTokens, HasNoScript, IsFound, NoTokens, NoScript, Unplain, Plain}
 
--- why a text has no program
-abbrev pub IsRefused : List ℕ → PlainFault → Type 0
-IsRefused text (fault.Lex f) = HasNoTokens text f
-IsRefused text (fault.Parse f) = HasNoScript text f
-IsRefused text fault.NotPlain = HasNoProgram text
-IsRefused text fault.NoMemory = Unit {0}
+-- what was found of a text: its program, or why it has none
+abbrev pub HasRead : List ℕ → Result Program PlainFault → Type 0
+HasRead text (Ok program) = IsFound text (Plain program)
+HasRead text (Err (fault.Lex f)) = IsFound text (NoTokens f)
+HasRead text (Err (fault.Parse f)) = IsFound text (NoScript f)
+HasRead text (Err fault.NotPlain) = IsFound text Unplain
+HasRead text (Err fault.NoMemory) = Unit {0}
+
+-- the text has these tokens, no others, and no fault of its tokens
+pub record HasOnlyTokens (text : List ℕ) (tokens : List Token) : Type 0 where
+  pub has_tokens : HasTokens text tokens
+  pub one : (others : List Token) → HasTokens text others → others ≡ tokens
+  pub sound : (f : LexFault) → HasNoTokens text f → ⊥
+
+-- the text spells this script within the limits, and no other; and it has no fault
+pub record IsOnlyScript (text : List ℕ) (script : Script) : Type 0 where
+  pub is_text : IsTextOf text script
+  pub one : (other : Script) → IsTextOf text other → other ≡ script
+  pub has_tokens : (f : LexFault) → HasNoTokens text f → ⊥
+  pub has_script : (f : ParseFault) → HasNoScript text f → ⊥
+
+-- the script of a text, or why it has none
+abbrev pub HasReadScript : List ℕ → Result Script PlainFault → Type 0
+HasReadScript text (Ok script) = IsOnlyScript text script
+HasReadScript text (Err (fault.Lex f)) = IsFound text (NoTokens f)
+HasReadScript text (Err (fault.Parse f)) = IsFound text (NoScript f)
+HasReadScript text (Err fault.NotPlain) = ⊥
+HasReadScript text (Err fault.NoMemory) = Unit {0}
 
 -- how many atoms a process has that stand in no test and no block
 abbrev pub count_step : tree.Proc-F ℕ → ℕ

@@ -6,7 +6,7 @@ use Rattle.tb_core.specs.declared.ends.SimEnd.{SimEnd}
 use Rattle.tb_core.specs.declared.ends.SimEnd.TheVariants as sim
 use Rattle.tb_top.specs.declared.status.Bound.TheVariants as bound
 use Rattle.tb_top.specs.Lines.{status_line}
-use Rattle.tb_top.specs.PlainScript.{IsPlainProgram}
+use Rattle.tb_top.specs.ScriptFaults.{IsFound, Plain}
 use Rattle.tb_top.specs.Outcomes.{Command, Nothing, Simulate, Unbuilt, SimOutcome}
 use Rattle.tb_top.specs.declared.request.Request.{Request}
 use Rattle.tb_top.specs.declared.request.Request.TheVariants as request
@@ -32,7 +32,7 @@ Reports given old new NoMemory = (given ≡ NoMemory) × Takes old new (status_l
 
 -- whatever bytes the program is that of, the outcome is that of their simulation
 abbrev pub OriginOutcome : Origin → Option (List ℕ) → Option (List ℕ) → Status → Type 0
-OriginOutcome origin old new status = (bytes : List ℕ) → IsPlainProgram bytes origin.program → SimOutcome bytes old new status
+OriginOutcome origin old new status = (bytes : List ℕ) → IsFound bytes (Plain origin.program) → SimOutcome bytes old new status
 
 -- the script's name was asked for, or perhaps not where memory ran out
 abbrev pub AsksName : List ℕ → List (List ℕ) → List (List ℕ) → Status → Type 0

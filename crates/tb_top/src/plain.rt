@@ -1,10 +1,10 @@
 //! Plain scripts: processes that send and receive names, joined by the operators of the algebra.
 
-ghost use Rattle.std.specs.Prelude.{◌≡◌, IfOk, IfErr};
+ghost use Rattle.std.specs.Prelude.{◌≡◌, ℕ, List, IfOk};
 ghost use Rattle.tb_body.specs.declared.program.Program.{Program};
 ghost use Rattle.tb_syntax.specs.declared.script.Script.{Script};
-ghost use Rattle.tb_top.specs.PlainScript.{IsPlain, IsProgramOf, IsTextOf, IsPlainProgram};
-ghost use Rattle.tb_top.specs.PlainReading.{IsRefused, AreFit, IsResult};
+ghost use Rattle.tb_top.specs.PlainScript.{IsPlain, IsProgramOf};
+ghost use Rattle.tb_top.specs.PlainReading.{HasRead, HasReadScript, IsOnlyScript, HasOnlyTokens, AreFit, IsResult};
 
 mod body;
 mod fault;
@@ -16,7 +16,7 @@ pub use fault::PlainFault;
 use numbers::{numbers_of, roots_of};
 use std::alloc::Global;
 use tb_body::Program;
-use tb_lex::{LexFault, lex};
+use tb_lex::{LexFault, Tokens, lex};
 use tb_parse::{ParseFault, parse};
 use tb_syntax::Script;
 use tb_terms::{Items, NoMemory};
@@ -26,13 +26,20 @@ const MOST_ROOTS: usize = 10_000;
 
 /// The program of a plain script.
 pub fn read_plain(alloc: Global, bytes: &[u8]) -> Result<Program, PlainFault>
-    // What is read is the program of the text.
-    ensures read { IfOk result (λ program. IsPlainProgram bytes.now program) }
-    // A text is refused for what it is.
-    ensures refused { IfErr result (IsRefused bytes.now) }
+    // What comes holds of the text, and of all that may be found of it this alone.
+    ensures { HasRead bytes.now result }
 {
-    let script = read_script(alloc, bytes)?;
-    match program_of(alloc, &script) {
+    match read_script(alloc, bytes) {
+        Ok(script) => read_program(alloc, &script),
+        Err(fault) => Err(fault),
+    }
+}
+
+fn read_program(alloc: Global, script: &Script) -> Result<Program, PlainFault>
+    requires { AreFit script.now }
+    ensures { (text : List ℕ) → IsOnlyScript text script.now → HasRead text result }
+{
+    match program_of(alloc, script) {
         Ok(Some(program)) => Ok(program),
         Ok(None) => Err(PlainFault::NotPlain),
         Err(NoMemory) => Err(PlainFault::NoMemory),
@@ -47,15 +54,19 @@ pub fn one_program()
 
 /// The script that a text spells within the limits.
 fn read_script(alloc: Global, bytes: &[u8]) -> Result<Script, PlainFault>
-    ensures read { IfOk result (λ script. IsTextOf bytes.now script) }
-    ensures refused { IfErr result (IsRefused bytes.now) }
+    ensures { HasReadScript bytes.now result }
 {
-    let tokens = match lex(alloc, bytes) {
-        Ok(tokens) => tokens,
-        Err(LexFault::NoMemory) => return Err(PlainFault::NoMemory),
-        Err(fault) => return Err(PlainFault::Lex(fault)),
-    };
-    match parse(alloc, &tokens) {
+    match lex(alloc, bytes) {
+        Ok(tokens) => parse_tokens(alloc, &tokens),
+        Err(LexFault::NoMemory) => Err(PlainFault::NoMemory),
+        Err(fault) => Err(PlainFault::Lex(fault)),
+    }
+}
+
+fn parse_tokens(alloc: Global, tokens: &Tokens) -> Result<Script, PlainFault>
+    ensures { (text : List ℕ) → HasOnlyTokens text tokens.now → HasReadScript text result }
+{
+    match parse(alloc, tokens) {
         Ok(script) => Ok(script),
         Err(ParseFault::NoMemory) => Err(PlainFault::NoMemory),
         Err(fault) => Err(PlainFault::Parse(fault)),
