@@ -2,7 +2,7 @@ use crate::{ParseFault, each_row_has_one, faults_are_unique, parse, spelling_is_
 use std::alloc::{AllocError, Global};
 use std::test::Fail;
 use tb_lex::lex;
-use tb_syntax::{ActDef, AtomDef, Proc, ProcDef, Script, print_script};
+use tb_syntax::{ActDef, AtomDef, Proc, ProcDef, Script};
 
 /// The script of a text, or its fault. A text that is no tokens fails the test.
 fn read(alloc: Global, text: &[u8]) -> Result<Result<Script, ParseFault>, Fail> {
@@ -228,6 +228,7 @@ fn bodies_are_at_most_400_high(rt: HostRuntime) -> Result<(), Fail> {
 }
 
 /// Writes a body with parentheses round each operator.
+#[cycle(shapes)]
 fn write_shape(body: &Proc, into: &mut String) -> Result<(), AllocError> {
     match body {
         Proc::Atom(atom) => write_atom(atom, into),
@@ -249,6 +250,7 @@ fn write_atom(atom: &AtomDef, into: &mut String) -> Result<(), AllocError> {
     }
 }
 
+#[cycle(shapes)]
 fn write_pair(x: &Proc, operator: &str, y: &Proc, into: &mut String) -> Result<(), AllocError> {
     into.push_str("(")?;
     write_shape(x, into)?;
@@ -290,19 +292,19 @@ fn operators_bind_as_the_grammar_says(rt: HostRuntime) -> Result<(), Fail> {
     Ok(())
 }
 
-static PRINTED: [&[u8]; 4] = [
-    b"toolbus()\n",
-    b"process P is tau delay(1) timeout(X)\ntoolbus(P, P)\n",
-    b"tool t is { command = \"x y\" }\nprocess P(X : int?, Y : list(t)) is let Z : term in Z := [] endlet\ntoolbus(P)\n",
-    b"process P is if eq(X, -1) then create(P(a), X?) else snd-msg(<str>) fi\ntoolbus(P)\n",
+static SCRIPTS: [&[u8]; 6] = [
+    b"toolbus()",
+    b"process P is tau delay(1) timeout(X) toolbus(P, P)",
+    b"tool t is { command = \"x y\" } toolbus()",
+    b"process P(X : int?, Y : list(t)) is let Z : term, A : list in Z := [] endlet toolbus(P)",
+    b"process P is if eq(X, -1) then create(P(a), X?) else snd-msg(<str>) fi toolbus(P)",
+    b"process P is if a then (X := f([b, \"c\"], <list>)) fi tool u is {} process Q is P(1) toolbus(Q)",
 ];
 
 #[test]
-fn what_is_printed_is_read(rt: HostRuntime) -> Result<(), Fail> {
-    for text in &PRINTED {
-        let script = script_of(rt.alloc(), text)?;
-        let printed = print_script(rt.alloc(), &script)?;
-        assert_eq!(rt; printed.as_slice(), *text);
+fn each_construct_is_read(rt: HostRuntime) -> Result<(), Fail> {
+    for text in &SCRIPTS {
+        assert_eq!(rt; fault_of(rt.alloc(), text)?, None, "at {text:?}");
     }
     Ok(())
 }
