@@ -187,7 +187,7 @@ pub defines_err : (inner : ℕ) (found : Kept) (start : Ahead) (found' : Kept) (
 defines_err inner found start found' new e r exit d =
     let p = err_from_is_err_and r exit in
     subst (λ (r : Result Bool ParseFault). Defines inner found start r found' new) (sym p.1)
-        (subst (λ (e : ParseFault). Defines inner found start (Err e) found' new) (sym p.2) d)
+    (subst (λ (e : ParseFault). Defines inner found start (Err e) found' new) (sym p.2) d)
 
 -- ---- the loop
 

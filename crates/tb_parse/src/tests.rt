@@ -1,13 +1,21 @@
-use crate::{ParseFault, parse};
+use crate::{ParseFault, each_row_has_one, faults_are_unique, parse, spelling_is_unique};
 use std::alloc::{AllocError, Global};
 use std::test::Fail;
 use tb_lex::lex;
-use tb_syntax::{ActDef, AtomDef, Formal, Proc, ProcDef, Script, print_script};
+use tb_syntax::{ActDef, AtomDef, Proc, ProcDef, Script};
 
 /// The script of a text, or its fault. A text that is no tokens fails the test.
 fn read(alloc: Global, text: &[u8]) -> Result<Result<Script, ParseFault>, Fail> {
     let tokens = lex(alloc, text)?;
     Ok(parse(alloc, &tokens))
+}
+
+/// The script of a text. A text that has none fails the test.
+fn script_of(alloc: Global, text: &[u8]) -> Result<Script, Fail> {
+    match read(alloc, text)? {
+        Ok(script) => Ok(script),
+        Err(fault) => Err(Fail::from(fault)),
+    }
 }
 
 fn fault_of(alloc: Global, text: &[u8]) -> Result<Option<ParseFault>, Fail> {
@@ -220,6 +228,7 @@ fn bodies_are_at_most_400_high(rt: HostRuntime) -> Result<(), Fail> {
 }
 
 /// Writes a body with parentheses round each operator.
+#[cycle(shapes)]
 fn write_shape(body: &Proc, into: &mut String) -> Result<(), AllocError> {
     match body {
         Proc::Atom(atom) => write_atom(atom, into),
@@ -241,6 +250,7 @@ fn write_atom(atom: &AtomDef, into: &mut String) -> Result<(), AllocError> {
     }
 }
 
+#[cycle(shapes)]
 fn write_pair(x: &Proc, operator: &str, y: &Proc, into: &mut String) -> Result<(), AllocError> {
     into.push_str("(")?;
     write_shape(x, into)?;
@@ -252,10 +262,7 @@ fn write_pair(x: &Proc, operator: &str, y: &Proc, into: &mut String) -> Result<(
 /// The shape of the body of the first process.
 fn shape(alloc: Global, text: &[u8]) -> Result<String, Fail> {
     let mut found = String::new(alloc);
-    let script = match read(alloc, text)? {
-        Ok(script) => script,
-        Err(fault) => return Err(Fail::from(fault)),
-    };
+    let script = script_of(alloc, text)?;
     if let Some(definition) = script.procs.as_slice().first() {
         write_shape(&definition.body, &mut found)?;
     }
@@ -285,20 +292,19 @@ fn operators_bind_as_the_grammar_says(rt: HostRuntime) -> Result<(), Fail> {
     Ok(())
 }
 
-static PRINTED: [&[u8]; 4] = [
-    b"toolbus()\n",
-    b"process P is tau delay(1) timeout(X)\ntoolbus(P, P)\n",
-    b"tool t is { command = \"x y\" }\nprocess P(X : int?, Y : list(t)) is let Z : term in Z := [] fi\ntoolbus(P)\n",
-    b"process P is if eq(X, -1) then create(P(a), X?) else snd-msg(<str>) fi\ntoolbus(P)\n",
+static SCRIPTS: [&[u8]; 6] = [
+    b"toolbus()",
+    b"process P is tau delay(1) timeout(X) toolbus(P, P)",
+    b"tool t is { command = \"x y\" } toolbus()",
+    b"process P(X : int?, Y : list(t)) is let Z : term, A : list in Z := [] endlet toolbus(P)",
+    b"process P is if eq(X, -1) then create(P(a), X?) else snd-msg(<str>) fi toolbus(P)",
+    b"process P is if a then (X := f([b, \"c\"], <list>)) fi tool u is {} process Q is P(1) toolbus(Q)",
 ];
 
 #[test]
-fn what_is_printed_is_read(rt: HostRuntime) -> Result<(), Fail> {
-    for text in &PRINTED {
-        if let Ok(script) = read(rt.alloc(), text)? {
-            let printed = print_script(rt.alloc(), &script)?;
-            assert_eq!(rt; printed.as_slice(), *text);
-        }
+fn each_construct_is_read(rt: HostRuntime) -> Result<(), Fail> {
+    for text in &SCRIPTS {
+        assert_eq!(rt; fault_of(rt.alloc(), text)?, None, "at {text:?}");
     }
     Ok(())
 }
@@ -322,19 +328,29 @@ fn places(definition: &ProcDef) -> Option<[usize; 5]> {
 #[test]
 fn constructs_have_the_place_of_their_first_token(rt: HostRuntime) -> Result<(), Fail> {
     let text = b"tool t is {} process P(X : list(str)) is snd-msg(f(1)) delay(2) toolbus(P)";
-    if let Ok(script) = read(rt.alloc(), text)? {
-        for declared in script.tools.as_slice() {
-            assert_eq!(rt; declared.token, 0);
-        }
-        for definition in script.procs.as_slice() {
-            assert_eq!(rt; definition.token, 5);
-            assert_eq!(rt; places(definition), Some([8, 12, 16, 23, 25]));
-        }
-        for root in script.roots.as_slice() {
-            assert_eq!(rt; root.token, 29);
-        }
-        assert_eq!(rt; script.procs.len(), 1);
+    let script = script_of(rt.alloc(), text)?;
+    assert_eq!(rt; script.tools.len(), 1);
+    for declared in script.tools.as_slice() {
+        assert_eq!(rt; declared.token, 0);
     }
-    assert_eq!(rt; fault_of(rt.alloc(), text)?, None);
+    assert_eq!(rt; script.procs.len(), 1);
+    for definition in script.procs.as_slice() {
+        assert_eq!(rt; definition.token, 5);
+        assert_eq!(rt; places(definition), Some([8, 12, 16, 23, 25]));
+    }
+    assert_eq!(rt; script.roots.len(), 1);
+    for root in script.roots.as_slice() {
+        assert_eq!(rt; root.token, 29);
+    }
+    Ok(())
+}
+
+#[test]
+fn laws_hold_and_faults_are_shown(rt: HostRuntime) -> Result<(), Fail> {
+    spelling_is_unique();
+    faults_are_unique();
+    each_row_has_one();
+    let shown = format!(in rt.alloc(); "{}", ParseFault::TooDeep(7))?;
+    assert_eq!(rt; shown.as_str(), "too deep at token 7");
     Ok(())
 }
