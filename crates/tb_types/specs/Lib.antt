@@ -9,6 +9,7 @@ pub mod Exprs
 pub mod Faults
 pub mod First
 pub mod Fitting
+pub mod NamePlaces
 pub mod Names
 pub mod Numbers
 pub mod Places
