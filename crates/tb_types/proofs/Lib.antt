@@ -7,3 +7,5 @@ pub mod Naming
 pub mod ProcFaults
 pub mod Scoping
 pub mod SeenLemmas
+pub mod ToolFits
+pub mod ToolSorts

@@ -15,4 +15,5 @@ pub mod Numbers
 pub mod Places
 pub mod Scopes
 pub mod Seen
+pub mod Tools
 pub mod Values
