@@ -3,6 +3,9 @@ pub mod ClosedKinds
 pub mod Firsts
 pub mod JudgedKinds
 pub mod MisplacedKinds
+pub mod Naming
 pub mod ProcFaults
 pub mod Scoping
 pub mod SeenLemmas
+pub mod ToolFits
+pub mod ToolSorts

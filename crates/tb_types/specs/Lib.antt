@@ -9,9 +9,11 @@ pub mod Exprs
 pub mod Faults
 pub mod First
 pub mod Fitting
+pub mod NamePlaces
 pub mod Names
 pub mod Numbers
 pub mod Places
 pub mod Scopes
 pub mod Seen
+pub mod Tools
 pub mod Values

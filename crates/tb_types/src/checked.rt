@@ -31,7 +31,7 @@ pub fn check(alloc: Global, s: &Script) -> Result<(), CheckFault>
 fn broken_in(alloc: Global, script: &Script) -> Result<Items<Broken>, NoMemory>
     ensures { IfOk result (λ broken. broken ≡ script_faults script.now) }
 {
-    let names = Names { script };
+    let names = Names::of(alloc, script)?;
     let mut broken = Items::new(alloc);
     push_script(alloc, &names, &mut broken)?;
     Ok(broken)

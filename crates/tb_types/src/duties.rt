@@ -1,7 +1,7 @@
 ghost use Rattle.std.specs.Prelude.{◌≡◌, ◌++◌, OnOk, IfOk, option_and_then};
 ghost use Rattle.std.specs.Option.{option_copied};
 ghost use Rattle.tb_syntax.specs.declared.ast.AstKind.{out-AstKind};
-ghost use Rattle.tb_types.specs.Duties.{duty_of, name_alone, result_name, is_other_application, is_result, lacks_tool, lacks_function, lacks_result, taken_sort, is_refused_by, is_number_or_term, is_sort_of_tool, is_started_sort, fits_some_tool, clashes, site_faults};
+ghost use Rattle.tb_types.specs.Duties.{duty_of, name_alone, result_name, is_other_application, is_result, lacks_tool, lacks_function, lacks_result, taken_sort, is_refused_by, is_number_or_term, is_sort_of_tool, is_started_sort, clashes, site_faults};
 ghost use Rattle.tb_types.specs.Fitting.{is_same_sort};
 ghost use Rattle.tb_types.specs.Names.{has_command, tool_named};
 ghost use Rattle.tb_types.specs.Scopes.{visible};
@@ -12,6 +12,7 @@ use crate::fitting::{is_any, is_any_tool, is_int, is_same_sort, is_tool_sort};
 use crate::names::{Names, applied, tool};
 use crate::places::{Place, push_misplaced};
 use crate::scope::{Scope, sort_of};
+use crate::tools::fits_some_tool;
 use crate::values::has_value_of;
 use std::alloc::Global;
 use tb_syntax::{Ast, AstKind};
@@ -179,14 +180,11 @@ fn clashes(
         Duty::Made => Ok(made_clashes(scope, expr)),
         Duty::Started(name) => Ok(started_clashes(scope, *name, expr)),
         Duty::Connected => Ok(connected_clashes(scope, expr)),
-        Duty::Disconnected => {
-            let fits_some = fits_some_tool(alloc, names, scope, expr)?;
-            Ok(connected_clashes(scope, expr) || (!is_result(expr) && !fits_some))
-        }
-        Duty::OfTool => {
-            let fits_some = fits_some_tool(alloc, names, scope, expr)?;
-            Ok(!fits_some)
-        }
+        Duty::Disconnected => Ok(
+            connected_clashes(scope, expr)
+                || (!is_result(expr) && !fits_some_tool(names, scope, expr)),
+        ),
+        Duty::OfTool => Ok(!fits_some_tool(names, scope, expr)),
     }
 }
 
@@ -233,16 +231,4 @@ fn connected_clashes(scope: &Scope, expr: &Ast) -> bool
         None => false,
         Some(own) => !is_any_tool(own),
     }
-}
-
-fn fits_some_tool(alloc: Global, names: &Names, scope: &Scope, expr: &Ast) -> Result<bool, NoMemory>
-    ensures { IfOk result (λ fits. fits ≡ fits_some_tool names.now.script.now.tools (visible scope.now) expr.now) }
-{
-    for tool in names.script.tools.as_slice() {
-        let sort = Sort::Tool(tool.name.copy(alloc)?);
-        if fits(scope, expr, &sort) {
-            return Ok(true);
-        }
-    }
-    Ok(false)
 }

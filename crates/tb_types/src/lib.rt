@@ -16,6 +16,7 @@ mod names;
 mod places;
 mod scope;
 mod seen;
+mod tools;
 mod values;
 
 pub use checked::check;

@@ -1,40 +1,101 @@
-ghost use Rattle.std.specs.Prelude.{◌≡◌, ◌==◌, Some, None, map, if◌then◌else◌};
+ghost use Rattle.std.specs.Prelude.{◌≡◌, ℕ, List, map, IfOk, OnOk};
 ghost use Rattle.std.specs.Option.{option_copied};
-ghost use Rattle.tb_func.specs.Functions.{function_named};
-ghost use Rattle.tb_types.specs.Names.{process_named, tool_named, is_tool, is_unknown_sort, applied};
+ghost use Rattle.std.specs.Str.{bytes_eq};
+ghost use Rattle.std.proofs.Props.{props};
+ghost use Rattle.tb_types.specs.Names.{process_named, tool_named, is_unknown_sort, applied};
+ghost use Rattle.tb_types.specs.NamePlaces.{place_in, place_of, kept, process_name, tool_name};
 
+use indexmap::IndexMap;
+use sqlite_items::at;
+use std::alloc::Global;
 use tb_func::function;
 use tb_syntax::{ProcDef, Script, ToolDef};
-use tb_terms::{Func, Ident, Name, Sort};
+use tb_terms::{Func, Ident, Name, NoMemory, Sort};
 
-/// What the names of a script stand for.
+/// What the names of a script stand for: the processes and the tools by their places among the
+/// definitions. Where one is defined twice, the first is known.
 #[derive(Drop)]
 pub(crate) struct Names<'a> {
     pub script: &'a Script,
+    processes: IndexMap<&'a [u8], usize>,
+    tools: IndexMap<&'a [u8], usize>,
+    pub ghost knows_processes: { (name : List ℕ) → place_in processes name ≡ place_of (map process_name script.now.procs) name } by { Prim.hlevel props },
+    pub ghost knows_tools: { (name : List ℕ) → place_in tools name ≡ place_of (map tool_name script.now.tools) name } by { Prim.hlevel props },
+}
+
+impl<'a> Names<'a> {
+    pub(crate) fn of(alloc: Global, script: &'a Script) -> Result<Names<'a>, NoMemory>
+        ensures { IfOk result (λ names. names.script.now ≡ script.now) }
+    {
+        let processes = process_places(alloc, script.procs.as_slice())?;
+        let tools = tool_places(alloc, script.tools.as_slice())?;
+        Ok(Names {
+            script,
+            processes,
+            tools,
+        })
+    }
+}
+
+fn process_places<'a>(
+    alloc: Global,
+    processes: &'a [ProcDef],
+) -> Result<IndexMap<&'a [u8], usize>, NoMemory>
+    ensures { IfOk result (λ places. (name : List ℕ) → place_in places name ≡ place_of (map process_name processes.now) name) }
+{
+    let mut places = IndexMap::new(alloc);
+    for (place, process) in processes.iter().enumerate() {
+        keep_place(&mut places, process.name.as_bytes(), place)?;
+    }
+    Ok(places)
+}
+
+fn tool_places<'a>(
+    alloc: Global,
+    tools: &'a [ToolDef],
+) -> Result<IndexMap<&'a [u8], usize>, NoMemory>
+    ensures { IfOk result (λ places. (name : List ℕ) → place_in places name ≡ place_of (map tool_name tools.now) name) }
+{
+    let mut places = IndexMap::new(alloc);
+    for (place, tool) in tools.iter().enumerate() {
+        keep_place(&mut places, tool.name.as_bytes(), place)?;
+    }
+    Ok(places)
+}
+
+/// Keeps the place of a name that has none so far.
+fn keep_place<'a>(
+    places: &mut IndexMap<&'a [u8], usize>,
+    name: &'a [u8],
+    place: usize,
+) -> Result<(), NoMemory>
+    ensures { OnOk result ((other : List ℕ) → place_in places.new other ≡ kept (place_in places.old other) (bytes_eq name.now other) place) }
+{
+    if places.contains_key(name) {
+        return Ok(());
+    }
+    places.insert(name, place)?;
+    Ok(())
 }
 
 /// The process of this name.
 pub(crate) fn process<'a>(names: &Names<'a>, name: &Ident) -> Option<&'a ProcDef>
     ensures { option_copied result ≡ process_named names.now.script.now.procs name.now }
 {
-    for definition in names.script.procs.as_slice() {
-        if definition.name.as_bytes() == name.as_bytes() {
-            return Some(definition);
-        }
+    match names.processes.get(name.as_bytes()) {
+        None => None,
+        Some(place) => at(names.script.procs.as_slice(), *place),
     }
-    None
 }
 
 /// The tool of this name.
 pub(crate) fn tool<'a>(names: &Names<'a>, name: &Name) -> Option<&'a ToolDef>
     ensures { option_copied result ≡ tool_named names.now.script.now.tools name.now }
 {
-    for definition in names.script.tools.as_slice() {
-        if definition.name.as_bytes() == name.as_bytes() {
-            return Some(definition);
-        }
+    match names.tools.get(name.as_bytes()) {
+        None => None,
+        Some(place) => at(names.script.tools.as_slice(), *place),
     }
-    None
 }
 
 /// Whether the innermost name of a sort is no sort and no tool.
