@@ -10,6 +10,8 @@ mod fault;
 mod kept;
 mod laws;
 mod parser;
+#[cfg(test)]
+mod print_tests;
 mod procs;
 mod reader;
 mod sorts;
