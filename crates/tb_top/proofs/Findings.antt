@@ -14,7 +14,7 @@ use Rattle.tb_parse.specs.declared.fault.ParseFault.TheVariants as parse
 use Rattle.tb_parse.specs.Faults.{HasFault as HasParseFault, IsScriptOf, IsTooHigh}
 use Rattle.tb_top.specs.PlainScript.{HasTokens, IsTextOf, IsPlain, IsProgramOf}
 use Rattle.tb_top.specs.PlainReading.{HasOnlyTokens, IsOnlyScript}
-use Rattle.tb_top.specs.ScriptFaults.{HasNoTokens, Finding, NoTokens, NoScript, Unplain, Plain, Holds, IsSame, IsFound}
+use Rattle.tb_top.specs.Findings.{HasNoTokens, Finding, NoTokens, NoScript, Unplain, Plain, Holds, IsSame, IsFound}
 use Rattle.tb_top.proofs.Programs.{one_plain_program}
 
 ok-same : {T E : Type 0} (x y : T) → ◌≡◌ {A = Result T E} (Ok x) (Ok y) → y ≡ x

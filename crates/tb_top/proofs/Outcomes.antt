@@ -8,7 +8,7 @@ use Rattle.tb_core.specs.Simulation.{Sim, IsSim, IsSimFront, sim_start}
 use Rattle.tb_core.specs.declared.log.Entry.{Entry}
 use Rattle.tb_core.specs.declared.ends.SimEnd.{SimEnd}
 use Rattle.tb_core.specs.declared.ends.SimEnd.TheVariants as sim
-use Rattle.tb_top.specs.ScriptFaults.{IsFound, Plain}
+use Rattle.tb_top.specs.Findings.{IsFound, Plain}
 use Rattle.tb_edge.specs.Faults.{Rose}
 use Rattle.tb_top.specs.Outcomes.{PutsFront, SimOutcome, FileOutcome, IsLoaded, most_steps, IsCaused, Reported}
 use Rattle.tb_top.specs.Lines.{status_line}

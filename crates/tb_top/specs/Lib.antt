@@ -1,5 +1,5 @@
 pub mod PlainScript
-pub mod ScriptFaults
+pub mod Findings
 pub mod PlainReading
 pub mod Lines
 pub mod Outcomes

@@ -11,7 +11,7 @@ use Rattle.tb_core.specs.declared.log.Entry.{Entry}
 use Rattle.tb_body.specs.declared.program.Program.{Program}
 use Rattle.tb_core.specs.declared.ends.SimEnd.{SimEnd}
 use Rattle.tb_core.specs.declared.ends.SimEnd.TheVariants as sim
-use Rattle.tb_top.specs.ScriptFaults.{IsFound, NoTokens, NoScript, Unplain, Plain}
+use Rattle.tb_top.specs.Findings.{IsFound, NoTokens, NoScript, Unplain, Plain}
 use Rattle.tb_top.specs.Lines.{status_line}
 use Rattle.tb_top.specs.declared.status.Status.{Status}
 use Rattle.tb_top.specs.declared.status.Status.TheVariants.{Ended, Script, Words, Outside, Limit, NoMemory}

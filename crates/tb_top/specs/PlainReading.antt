@@ -23,7 +23,7 @@ use Rattle.tb_syntax.specs.Limits.{height}
 use Rattle.tb_top.specs.declared.plain.fault.PlainFault.{PlainFault}
 use Rattle.tb_top.specs.declared.plain.fault.PlainFault.TheVariants as fault
 use Rattle.tb_top.specs.PlainScript.{Part, plain_process, AreOnce, IsPlain, IsBodyOf, IsProgramOf, HasTokens, IsTextOf}
-use Rattle.tb_top.specs.ScriptFaults.{HasNoTokens, HasNoScript, IsFound, NoTokens, NoScript, Unplain, Plain}
+use Rattle.tb_top.specs.Findings.{HasNoTokens, HasNoScript, IsFound, NoTokens, NoScript, Unplain, Plain}
 
 -- what was found of a text: its program, or why it has none
 abbrev pub HasRead : List ℕ → Result Program PlainFault → Type 0

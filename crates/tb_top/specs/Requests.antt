@@ -6,7 +6,7 @@ use Rattle.tb_core.specs.declared.ends.SimEnd.{SimEnd}
 use Rattle.tb_core.specs.declared.ends.SimEnd.TheVariants as sim
 use Rattle.tb_top.specs.declared.status.Bound.TheVariants as bound
 use Rattle.tb_top.specs.Lines.{status_line}
-use Rattle.tb_top.specs.ScriptFaults.{IsFound, Plain}
+use Rattle.tb_top.specs.Findings.{IsFound, Plain}
 use Rattle.tb_top.specs.Outcomes.{Command, Nothing, Simulate, Unbuilt, SimOutcome}
 use Rattle.tb_top.specs.declared.request.Request.{Request}
 use Rattle.tb_top.specs.declared.request.Request.TheVariants as request

@@ -1,6 +1,5 @@
 use tb_lex::LexFault;
 use tb_parse::ParseFault;
-use tb_terms::NoMemory;
 
 /// Why a text gave no program.
 #[derive(Clone, Copy, Debug, PartialEq, Eq)]
@@ -13,15 +12,4 @@ pub enum PlainFault {
     NotPlain,
     /// Memory ran out.
     NoMemory,
-}
-
-impl From<NoMemory> for PlainFault {
-    ghost use Rattle.std.specs.Prelude.{◌≡◌};
-    ghost use Rattle.tb_top.specs.declared.plain.fault.PlainFault.TheVariants.{NoMemory};
-
-    ghost from_gives = { λ _ fault. fault ≡ NoMemory };
-
-    fn from(_refused: NoMemory) -> PlainFault {
-        PlainFault::NoMemory
-    }
 }
