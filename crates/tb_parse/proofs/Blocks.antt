@@ -1,16 +1,15 @@
 -- Processes within words, of which only what is built is known.
 use Rattle.std.proofs.Common.{◌≡◌, ℕ, ◌+◌, Bool, true, false, List, Some, None, codes, refl, sym, ap, ◌∙◌, if◌then◌else◌}
-use Rattle.tb_lex.specs.declared.kind.TokenKind.{TokenKind}
 use Rattle.tb_syntax.specs.declared.ast.Ast.{Ast}
 use Rattle.tb_syntax.specs.declared.proc.Proc.{Proc}
 use Rattle.tb_syntax.specs.declared.proc.Proc.TheVariants as tree
 use Rattle.tb_syntax.specs.declared.proc.Var.{Var}
 use Rattle.tb_parse.specs.declared.built.Built.{Built}
-use Rattle.tb_parse.specs.Parsing.{Outcome, Found, Stops, Parser, after, mapped, begins, tail, skip, expect, is_word, parted, var, block, sides}
+use Rattle.tb_parse.specs.Parsing.{Outcome, Found, Parser, after, mapped, begins, tail, skip, expect, is_word, parted, var, block, sides}
 use Rattle.tb_parse.specs.Heights.{built, as_built, both, one}
 use Rattle.tb_parse.specs.Reading.{Ahead, runs, next, eaten}
 use Rattle.tb_parse.proofs.Skips.{came, got, skip_found, expect_found}
-use Rattle.tb_parse.proofs.Trees.{seen, unseen, built_within, built_only, built_either}
+use Rattle.tb_parse.proofs.Trees.{seen, built_within, built_only, built_either}
 
 pub block_found : (whole : Parser Proc) (room : ℕ) (start : Ahead) {vars : List Var} {a b d new : Ahead} {x made : Built}
     → runs (parted (var room) room) start ≡ Found vars a.at a.kinds → came (is_word (codes "in")) a ≡ got b

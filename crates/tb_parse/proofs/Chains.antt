@@ -1,7 +1,5 @@
 -- A loop that collects the members of a chain, beside the recursion that says what the chain is.
-use Rattle.std.proofs.Common.{◌≡◌, ℕ, zero, suc, ◌+◌, ◌-◌, ◌<◌, ◌≤◌, Bool, true, false, List, [], ◌∷◌, ◌++◌, refl, sym, ap, subst, ◌∙◌, arith, if◌then◌else◌}
-use Rattle.tb_lex.specs.declared.kind.TokenKind.{TokenKind}
-use Rattle.tb_lex.specs.declared.symbol.Symbol.{Symbol}
+use Rattle.std.proofs.Common.{◌≡◌, ℕ, ◌+◌, ◌-◌, ◌<◌, ◌≤◌, Bool, true, false, List, [], ◌∷◌, ◌++◌, refl, sym, ap, subst, ◌∙◌, arith, if◌then◌else◌}
 use Rattle.tb_syntax.specs.declared.proc.Proc.{Proc}
 use Rattle.tb_parse.specs.declared.built.Built.{Built}
 use Rattle.tb_parse.specs.declared.built.Chain.{Chain}

@@ -1,9 +1,8 @@
 -- What is kept of definitions, one after another.
-use Rattle.std.proofs.Common.{◌≡◌, ℕ, zero, suc, ◌+◌, ◌-◌, ◌<◌, ◌≤◌, ◌⊎◌, Bool, true, false, not, nat_lt, List, [], ◌∷◌, ◌++◌, Option, Some, None, codes, refl, sym, ap, subst, ◌∙◌, ⊎_elim, arith, append_assoc, append-nil, Result, Ok, Err, if◌then◌else◌}
+use Rattle.std.proofs.Common.{◌≡◌, ℕ, suc, ◌+◌, ◌-◌, ◌<◌, ◌≤◌, Bool, true, false, not, nat_lt, List, [], ◌∷◌, ◌++◌, Option, Some, None, codes, refl, sym, ap, subst, ◌∙◌, arith, append_assoc, append-nil, Result, Ok, Err, if◌then◌else◌}
 use Rattle.std.specs.Prelude.{filter, find, option_map}
 use Rattle.std.specs.Result.{IsErrAnd}
 use Rattle.std.proofs.lemmas.Result.{err_from_is_err_and}
-use Rattle.tb_lex.specs.declared.kind.TokenKind.{TokenKind}
 use Rattle.tb_syntax.specs.Limits.{is_too_high, first_too_high, height}
 use Rattle.tb_syntax.specs.declared.proc.Proc.{Proc}
 use Rattle.tb_syntax.specs.declared.script.Formal.{Formal}
@@ -16,7 +15,7 @@ use Rattle.tb_parse.specs.declared.kept.Kept.{Kept}
 use Rattle.tb_parse.specs.declared.kept.Made.{Made}
 use Rattle.tb_parse.specs.declared.kept.Made.TheVariants as made
 use Rattle.tb_parse.specs.Heights.{built}
-use Rattle.tb_parse.specs.Parsing.{Outcome, Found, Stops, Parser, Defined, after, mapped, begins, is_word, tail, process, tool, definitions, with_process, with_tool}
+use Rattle.tb_parse.specs.Parsing.{Outcome, Found, Stops, Defined, after, mapped, begins, is_word, tail, process, tool, definitions, with_process, with_tool}
 use Rattle.tb_parse.specs.Defining.{made_of, is_low, kept, first_place, with_rest, added, process_made, definitions_kept, Defines}
 use Rattle.tb_parse.specs.Reading.{Ahead, runs, next, eaten, StopsWith}
 use Rattle.tb_parse.proofs.Exits.{stops_with}

@@ -1,6 +1,5 @@
 -- A loop that collects parts between commas, beside the recursion that says what they are.
-use Rattle.std.proofs.Common.{◌≡◌, ℕ, zero, suc, ◌+◌, ◌-◌, ◌<◌, ◌≤◌, Bool, true, false, List, [], ◌∷◌, ◌++◌, refl, sym, ap, subst, ◌∙◌, arith, append_assoc, if◌then◌else◌}
-use Rattle.tb_lex.specs.declared.kind.TokenKind.{TokenKind}
+use Rattle.std.proofs.Common.{◌≡◌, ℕ, ◌+◌, ◌-◌, ◌<◌, ◌≤◌, Bool, true, false, List, [], ◌∷◌, ◌++◌, refl, sym, ap, subst, ◌∙◌, arith, append_assoc, if◌then◌else◌}
 use Rattle.tb_lex.specs.declared.symbol.Symbol.TheVariants.{Comma}
 use Rattle.tb_parse.specs.Parsing.{Outcome, Found, Stops, Parser, after, mapped, begins, is_sign, tail, parted}
 use Rattle.tb_parse.specs.Reading.{Ahead, runs, next, eaten}

@@ -1,12 +1,12 @@
 -- The definition of a process, of whose body only what is built is known.
-use Rattle.std.proofs.Common.{◌≡◌, ℕ, List, codes, refl, sym, ap, ◌∙◌}
+use Rattle.std.proofs.Common.{◌≡◌, ℕ, List, codes, sym, ap, ◌∙◌}
 use Rattle.tb_syntax.specs.declared.proc.Proc.{Proc}
 use Rattle.tb_syntax.specs.declared.script.Formal.{Formal}
 use Rattle.tb_syntax.specs.declared.script.ProcDef.{ProcDef}
 use Rattle.tb_parse.specs.declared.built.Built.{Built}
 use Rattle.tb_parse.specs.declared.kept.Made.{Made}
 use Rattle.tb_parse.specs.Heights.{built, as_built}
-use Rattle.tb_parse.specs.Parsing.{Outcome, Found, Stops, Parser, after, mapped, skip, expect, is_word, upper, in_parens, formal, proc, process}
+use Rattle.tb_parse.specs.Parsing.{Outcome, Found, Stops, Parser, after, mapped, skip, is_word, upper, in_parens, formal, proc, process}
 use Rattle.tb_parse.specs.Defining.{made_of, process_made}
 use Rattle.tb_parse.specs.Reading.{Ahead, runs}
 use Rattle.tb_parse.proofs.Skips.{came, got, skip_found, skip_stops}

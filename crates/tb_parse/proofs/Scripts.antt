@@ -1,5 +1,5 @@
 -- A whole script, of whose definitions only what is kept is known.
-use Rattle.std.proofs.Common.{◌≡◌, ℕ, Bool, true, false, not, nat_lt, List, [], ◌∷◌, Option, Some, None, Result, Ok, Err, codes, refl, sym, ap, subst, ◌∙◌, if◌then◌else◌}
+use Rattle.std.proofs.Common.{◌≡◌, ℕ, Bool, true, false, not, List, [], ◌∷◌, Option, Some, None, Result, Err, codes, refl, sym, ap, subst, ◌∙◌, if◌then◌else◌}
 use Rattle.std.specs.Prelude.{filter, find, option_map}
 use Rattle.std.specs.Result.{IsErrAnd}
 use Rattle.std.proofs.lemmas.Result.{err_from_is_err_and}
@@ -12,7 +12,7 @@ use Rattle.tb_syntax.specs.declared.script.Script.{Script}
 use Rattle.tb_parse.specs.declared.fault.ParseFault.{ParseFault}
 use Rattle.tb_parse.specs.declared.fault.ParseFault.TheVariants as fault
 use Rattle.tb_parse.specs.declared.kept.Kept.{Kept}
-use Rattle.tb_parse.specs.Parsing.{Outcome, Found, Stops, Parser, Defined, after, mapped, skip, expect, is_word, is_sign, definitions, roots, at_end, script}
+use Rattle.tb_parse.specs.Parsing.{Outcome, Found, Stops, Parser, Defined, after, skip, is_word, is_sign, definitions, roots, at_end, script}
 use Rattle.tb_parse.specs.Defining.{is_low, kept, definitions_kept, whole_of, Judges}
 use Rattle.tb_parse.specs.Reading.{Ahead, runs, StopsWith}
 use Rattle.tb_parse.proofs.Skips.{came, got, skip_found, skip_stops}

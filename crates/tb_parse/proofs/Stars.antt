@@ -1,11 +1,10 @@
 -- A loop that joins turns from the left, beside the recursion that says what they are.
-use Rattle.std.proofs.Common.{◌≡◌, ℕ, zero, suc, ◌+◌, ◌-◌, ◌<◌, ◌≤◌, Bool, true, false, List, [], ◌∷◌, refl, sym, ap, subst, ◌∙◌, arith, if◌then◌else◌}
-use Rattle.tb_lex.specs.declared.kind.TokenKind.{TokenKind}
+use Rattle.std.proofs.Common.{◌≡◌, ℕ, ◌+◌, ◌-◌, ◌<◌, ◌≤◌, Bool, true, false, sym, ap, ◌∙◌, arith, if◌then◌else◌}
 use Rattle.tb_lex.specs.declared.symbol.Symbol.TheVariants.{Star}
 use Rattle.tb_syntax.specs.declared.proc.Proc.{Proc}
 use Rattle.tb_syntax.specs.declared.proc.Proc.TheVariants as tree
 use Rattle.tb_parse.specs.declared.built.Built.{Built}
-use Rattle.tb_parse.specs.Parsing.{Outcome, Found, Stops, Parser, after, mapped, begins, is_sign, tail, prim, turns, leftward}
+use Rattle.tb_parse.specs.Parsing.{Outcome, Found, Stops, after, mapped, begins, is_sign, prim, turns, leftward}
 use Rattle.tb_parse.specs.Heights.{built, as_built, both}
 use Rattle.tb_parse.specs.Reading.{Ahead, runs, next, eaten}
 use Rattle.tb_parse.proofs.Trees.{built_turn, seen, unseen}

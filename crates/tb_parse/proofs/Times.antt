@@ -1,5 +1,5 @@
 -- A loop that collects times, beside the recursion that says what they are.
-use Rattle.std.proofs.Common.{◌≡◌, ℕ, zero, suc, ◌+◌, ◌-◌, ◌<◌, ◌≤◌, Bool, true, false, List, [], ◌∷◌, ◌++◌, refl, sym, ap, subst, ◌∙◌, arith, append_assoc, append-nil, if◌then◌else◌}
+use Rattle.std.proofs.Common.{◌≡◌, ℕ, ◌+◌, ◌-◌, ◌<◌, ◌≤◌, Bool, true, false, List, [], ◌∷◌, ◌++◌, refl, sym, ap, subst, ◌∙◌, arith, append_assoc, append-nil, if◌then◌else◌}
 use Rattle.tb_syntax.specs.declared.proc.TimeDef.{TimeDef}
 use Rattle.tb_parse.specs.Parsing.{Outcome, Found, Stops, after, mapped, begins, is_time, time, times}
 use Rattle.tb_parse.specs.Reading.{Ahead, runs}

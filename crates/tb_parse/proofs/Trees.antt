@@ -1,5 +1,5 @@
 -- What is built of a process, by how it is made of its parts; and what was found where what is built was found.
-use Rattle.std.proofs.Common.{◌≡◌, ℕ, ◌+◌, ◌<◌, ◌≤◌, ◌⊎◌, Bool, true, false, ◌||◌, nat_lt, nat_le, max, List, [], ◌∷◌, ◌++◌, Option, Some, None, refl, sym, ap, ◌∙◌, ⊎_elim, arith, if◌then◌else◌}
+use Rattle.std.proofs.Common.{◌≡◌, ℕ, ◌+◌, ◌<◌, ◌≤◌, Bool, ◌||◌, nat_lt, nat_le, max, List, Some, None, sym, ap, ◌∙◌, ⊎_elim, arith, if◌then◌else◌}
 use Rattle.std.proofs.lemmas.Bool.{cases_lt, lt-ltb, le-ltb, le-leb, lt-leb, or_left, or_right}
 use Rattle.tb_lex.specs.declared.kind.TokenKind.{TokenKind}
 use Rattle.tb_syntax.specs.declared.ast.Ast.{Ast}
@@ -17,7 +17,7 @@ use Rattle.tb_parse.specs.declared.built.Built.TheVariants.{Tree, TooHigh}
 use Rattle.tb_parse.specs.declared.built.Chain.{Chain}
 use Rattle.tb_parse.specs.declared.built.Chain.TheVariants as chain
 use Rattle.tb_parse.specs.Parsing.{Outcome, Found, Stops, Parser, after, mapped}
-use Rattle.tb_parse.specs.Heights.{built, both, both_sides, fitting, one, one_side, join_of}
+use Rattle.tb_parse.specs.Heights.{built, both, both_sides, one, one_side, join_of}
 
 abbrev heights : Proc-F Proc → ℕ
 heights layer = height_step (map-Proc Proc ℕ height layer)

@@ -1,6 +1,5 @@
 -- Definitions as they are kept: processes that are not too high, tools, and the place of the first process that is too high.
-use Rattle.std.specs.Prelude.{◌≡◌, ℕ, suc, Bool, true, false, not, nat_lt, List, [], ◌∷◌, ◌++◌, filter, Option, Some, None, Result, Ok, Err, if◌then◌else◌}
-use Rattle.tb_lex.specs.declared.kind.TokenKind.{TokenKind}
+use Rattle.std.specs.Prelude.{◌≡◌, ℕ, suc, Bool, not, List, [], ◌∷◌, ◌++◌, filter, Option, Some, None, Result, Ok, Err, if◌then◌else◌}
 use Rattle.tb_syntax.specs.Limits.{is_too_high, first_too_high}
 use Rattle.tb_syntax.specs.declared.proc.Call.{Call}
 use Rattle.tb_syntax.specs.declared.script.ProcDef.{ProcDef}

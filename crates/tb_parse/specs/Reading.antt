@@ -1,10 +1,9 @@
 -- What a reader of tokens has before it, and what a function answers that reads.
-use Rattle.std.specs.Prelude.{◌≡◌, ℕ, ◌+◌, ◌<◌, ◌^◌, List, [], ◌∷◌, length, Option, Some, None, Bool, Result, Ok, Err, if◌then◌else◌}
+use Rattle.std.specs.Prelude.{◌≡◌, ℕ, ◌+◌, ◌<◌, ◌^◌, List, length, Bool, Result, Ok, Err, if◌then◌else◌}
 use Rattle.tb_lex.specs.declared.kind.TokenKind.{TokenKind}
-use Rattle.tb_lex.specs.declared.symbol.Symbol.{Symbol}
 use Rattle.tb_parse.specs.declared.fault.ParseFault.{ParseFault}
 use Rattle.tb_parse.specs.declared.fault.ParseFault.TheVariants as fault
-use Rattle.tb_parse.specs.Parsing.{Outcome, Found, Stops, Parser, begins, tail, is_sign, is_word}
+use Rattle.tb_parse.specs.Parsing.{Outcome, Found, Stops, Parser, begins, tail}
 
 -- the place of the next token, and the tokens from there
 pub record Ahead : Type 0 where

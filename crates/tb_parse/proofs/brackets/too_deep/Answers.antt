@@ -1,4 +1,3 @@
-use Rattle.std.proofs.Common.{refl, arith}
 use Rattle.tb_parse.proofs.Opened.{counted_none, counted_more, counted_over, counted_all}
 use Rattle.tb_parse.proofs.brackets.too_deep.Goals as goal
 

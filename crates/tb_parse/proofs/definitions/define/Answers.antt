@@ -1,6 +1,5 @@
 use Rattle.std.proofs.Common.{List, ap}
 use Rattle.tb_syntax.specs.declared.script.ToolDef.{ToolDef}
-use Rattle.tb_parse.specs.declared.kept.Kept.{Kept}
 use Rattle.tb_parse.proofs.KeptRows.{process_more, process_stops, tool_more, tool_stops, none_more, defines_err}
 use Rattle.tb_parse.proofs.definitions.define.Goals as goal
 

@@ -1,9 +1,6 @@
 use Rattle.tb_parse.specs.Parsing.{expr}
 use Rattle.tb_parse.proofs.Exits.{meets_err}
 use Rattle.tb_parse.proofs.Parts.{parts_begin, parts_stop, parts_last, parts_more, parts_end}
-use Rattle.std.proofs.Common.{subst, sym, ◌≡◌, List, ◌∙◌, ap}
-use Rattle.tb_parse.specs.Parsing.{Stops}
-use Rattle.tb_parse.proofs.Parts.{PartsSoFar}
 use Rattle.tb_parse.proofs.exprs.+exprs.Goals as goal
 
 pub exprs-loop-turn-init : goal.exprs-loop-turn-init

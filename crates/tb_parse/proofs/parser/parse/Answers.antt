@@ -1,4 +1,3 @@
-use Rattle.std.proofs.Common.{◌≡◌}
 use Rattle.tb_syntax.specs.Spelling.{kinds_of}
 use Rattle.tb_parse.proofs.Parsed.{only_script, exact_fault}
 use Rattle.tb_parse.proofs.parser.parse.Goals as goal

@@ -1,11 +1,8 @@
-use Rattle.std.proofs.Common.{◌≡◌, ℕ, suc, ◌-◌, ◌<◌, List, [], ◌∷◌, Some, None, codes, sym, ap, subst, ◌∙◌, arith, rules}
-use Rattle.std.proofs.lemmas.Grind.{common_steps}
-use Rattle.tb_syntax.specs.declared.proc.Proc.{Proc}
-use Rattle.tb_syntax.specs.declared.proc.Proc.TheVariants as tree
+use Rattle.std.proofs.Common.{◌<◌, sym, subst, arith}
 use Rattle.tb_parse.specs.declared.built.Built.{Built}
-use Rattle.tb_parse.specs.Parsing.{Outcome, Found, Stops, mapped, after, skip, expect, is_word, prim, prim_of, merge, block, sides, lower_proc, var, parted, timed, create}
-use Rattle.tb_parse.specs.Heights.{built, as_built, both, one}
-use Rattle.tb_parse.specs.Reading.{Meets, runs, Ahead}
+use Rattle.tb_parse.specs.Parsing.{Outcome, prim, merge}
+use Rattle.tb_parse.specs.Heights.{as_built}
+use Rattle.tb_parse.specs.Reading.{Meets, runs}
 use Rattle.tb_parse.proofs.Chains.{chain_begin, chain_stop, chain_last, chain_more, chain_end}
 use Rattle.tb_parse.proofs.Exits.{meets_err}
 use Rattle.tb_parse.proofs.Blocks.{block_found, sides_found, side_found}
