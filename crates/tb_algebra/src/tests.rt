@@ -1,29 +1,36 @@
-ghost use Rattle.std.specs.Prelude.{◌≡◌, IfOk, IfSome};
+ghost use Rattle.std.specs.Prelude.{IfOk};
 ghost use Rattle.tb_algebra.specs.Rewritings.{IsOnPlan};
 
 use crate::{Plan, Rewriter, Walker};
 use std::alloc::Global;
 use std::test::Fail;
-use tb_body::{Act, Atom, Atoms, Body, Setting, Time, TimeKind, Tree};
+use tb_body::{Act, Atom, Atoms, Body, Setting, Settings, Time, TimeKind, Times, Tree};
 use tb_func::Store;
-use tb_terms::{Boxed, Expr, Func, Items, NoMemory, Sort, Term, Terms, Text, write_terms};
+use tb_terms::{Boxed, Expr, Func, Items, NoMemory, Sort, Term, Terms, Text};
 
-/// A step of writing a body, whose operators stand behind their parts. Atoms are numbered as they
-/// come. Slot 0 is a number, 0 at first.
+/// An atom of a body. Slot 0 is a number, 0 at first.
 #[derive(Clone, Copy)]
-enum Step {
+enum Leaf {
     Tau,
-    /// Sends the value of slot 0.
-    Send,
     /// Takes a number for slot 0.
     Take,
     Timed(TimeKind, i64),
+}
+
+/// An operator over two parts.
+#[derive(Clone, Copy)]
+enum Two {
     Seq,
     Alt,
     Star,
     Par,
     /// The first where slot 0 is this number, and else the second.
     If(i64),
+}
+
+/// An operator over one part.
+#[derive(Clone, Copy)]
+enum One {
     When(i64),
     /// Its test is a number.
     Untold,
@@ -33,123 +40,164 @@ enum Step {
     Unset,
 }
 
-use Step::{Alt, If, Let, Par, Send, Seq, Star, Take, Tau, Timed, Unset, Untold, When};
-
-/// What is written so far.
-#[derive(Drop)]
-struct Draft {
-    trees: Items<Tree>,
-    atoms: Atoms,
-    next: u32,
+/// A step of writing a body, whose operators stand behind their parts. Atoms are numbered as they
+/// come.
+#[derive(Clone, Copy)]
+enum Step {
+    Leaf(Leaf),
+    Two(Two),
+    One(One),
 }
 
-impl Draft {
-    fn add(&mut self, alloc: Global, step: Step) -> Result<(), NoMemory> {
-        match step {
-            Tau => self.add_atom(alloc, Act::Tau),
-            Send => self.add_atom(alloc, Act::SndMsg(one(alloc, Expr::Var(0))?)),
-            Take => self.add_atom(alloc, Act::RecMsg(one(alloc, Expr::Result(0))?)),
-            Timed(kind, value) => self.add_timed(alloc, kind, value),
-            Seq | Alt | Star | Par => self.add_two_sided(alloc, step),
-            If(number) => self.add_if(alloc, number),
-            When(number) => {
-                let test = is_number(alloc, number)?;
-                self.add_when(alloc, test)
-            }
-            Untold => self.add_when(alloc, Expr::Int(1)),
-            Let(number) => self.add_let(alloc, Expr::Int(number)),
-            Unset => {
-                let text = Text::from_str(alloc, "a")?.ok_or(NoMemory)?;
-                self.add_let(alloc, Expr::Str(text))
-            }
-        }
-    }
+const TAU: Step = Step::Leaf(Leaf::Tau);
 
-    fn add_atom(&mut self, alloc: Global, act: Act) -> Result<(), NoMemory> {
-        let times = Items::new(alloc);
-        self.atoms.push(Atom { act, times })?;
-        self.add_number()
-    }
+const SEQ: Step = Step::Two(Two::Seq);
 
-    fn add_timed(&mut self, alloc: Global, kind: TimeKind, value: i64) -> Result<(), NoMemory> {
-        let mut times = Items::new(alloc);
-        let value = Expr::Int(value);
-        times.push(Time { kind, value })?;
-        let act = Act::Tau;
-        self.atoms.push(Atom { act, times })?;
-        self.add_number()
-    }
+const ALT: Step = Step::Two(Two::Alt);
 
-    fn add_number(&mut self) -> Result<(), NoMemory> {
-        self.trees.push(Tree::At(self.next))?;
-        self.next = self.next.saturating_add(1);
-        Ok(())
-    }
+const STAR: Step = Step::Two(Two::Star);
 
-    fn part(&mut self, alloc: Global) -> Result<Boxed<Tree>, NoMemory> {
-        let part = self.trees.pop().ok_or(NoMemory)?;
-        Ok(Boxed::new(alloc, part)?)
-    }
+const PAR: Step = Step::Two(Two::Par);
 
-    fn add_two_sided(&mut self, alloc: Global, step: Step) -> Result<(), NoMemory> {
-        let y = self.part(alloc)?;
-        let x = self.part(alloc)?;
-        let tree = match step {
-            Alt => Tree::Alt(x, y),
-            Star => Tree::Star(x, y),
-            Par => Tree::Par(x, y),
-            _ => Tree::Seq(x, y),
-        };
-        Ok(self.trees.push(tree)?)
-    }
+const IF_0: Step = Step::Two(Two::If(0));
 
-    fn add_if(&mut self, alloc: Global, number: i64) -> Result<(), NoMemory> {
-        let y = self.part(alloc)?;
-        let x = self.part(alloc)?;
-        let test = is_number(alloc, number)?;
-        Ok(self.trees.push(Tree::If(test, x, Some(y)))?)
-    }
+const IF_1: Step = Step::Two(Two::If(1));
 
-    fn add_when(&mut self, alloc: Global, test: Expr) -> Result<(), NoMemory> {
-        let x = self.part(alloc)?;
-        Ok(self.trees.push(Tree::If(test, x, None))?)
-    }
+const WHEN_0: Step = Step::One(One::When(0));
 
-    fn add_let(&mut self, alloc: Global, value: Expr) -> Result<(), NoMemory> {
-        let x = self.part(alloc)?;
-        let mut settings = Items::new(alloc);
-        let start = Some(value);
-        settings.push(Setting { slot: 0, start })?;
-        Ok(self.trees.push(Tree::Let(settings, x))?)
-    }
-}
+const WHEN_1: Step = Step::One(One::When(1));
 
-fn one(alloc: Global, expr: Expr) -> Result<Items<Expr>, NoMemory> {
+const UNTOLD: Step = Step::One(One::Untold);
+
+const LET_1: Step = Step::One(One::Let(1));
+
+const LET_2: Step = Step::One(One::Let(2));
+
+const UNSET: Step = Step::One(One::Unset);
+
+fn alone(alloc: Global, expr: Expr) -> Result<Items<Expr>, NoMemory> {
     let mut exprs = Items::new(alloc);
     exprs.push(expr)?;
     Ok(exprs)
 }
 
 fn is_number(alloc: Global, number: i64) -> Result<Expr, NoMemory> {
-    let mut parts = Items::new(alloc);
-    parts.push(Expr::Var(0))?;
+    let mut parts = alone(alloc, Expr::Var(0))?;
     parts.push(Expr::Int(number))?;
     Ok(Expr::Call(Func::Equal, parts))
 }
 
-fn body(alloc: Global, steps: &[Step]) -> Result<Body, NoMemory> {
-    let mut draft = Draft {
-        trees: Items::new(alloc),
-        atoms: Items::new(alloc),
-        next: 1,
-    };
-    for step in steps {
-        draft.add(alloc, *step)?;
+fn string(alloc: Global) -> Result<Expr, NoMemory> {
+    match Text::from_str(alloc, "a")? {
+        Some(text) => Ok(Expr::Str(text)),
+        None => Err(NoMemory),
     }
-    let tree = draft.trees.pop().ok_or(NoMemory)?;
+}
+
+fn settings(alloc: Global, value: Expr) -> Result<Settings, NoMemory> {
+    let mut settings = Items::new(alloc);
+    let start = Some(value);
+    settings.push(Setting { slot: 0, start })?;
+    Ok(settings)
+}
+
+fn act_of(alloc: Global, leaf: Leaf) -> Result<Act, NoMemory> {
+    match leaf {
+        Leaf::Tau | Leaf::Timed(_, _) => Ok(Act::Tau),
+        Leaf::Take => Ok(Act::RecMsg(alone(alloc, Expr::Result(0))?)),
+    }
+}
+
+fn times_of(alloc: Global, leaf: Leaf) -> Result<Times, NoMemory> {
+    let mut times = Items::new(alloc);
+    match leaf {
+        Leaf::Timed(kind, value) => {
+            let value = Expr::Int(value);
+            times.push(Time { kind, value })?;
+            Ok(times)
+        }
+        _ => Ok(times),
+    }
+}
+
+fn atom_of(alloc: Global, leaf: Leaf) -> Result<Atom, NoMemory> {
+    let act = act_of(alloc, leaf)?;
+    let times = times_of(alloc, leaf)?;
+    Ok(Atom { act, times })
+}
+
+fn atoms_of(alloc: Global, steps: &[Step]) -> Result<Atoms, NoMemory> {
+    let mut atoms = Items::new(alloc);
+    for step in steps {
+        if let Step::Leaf(leaf) = step {
+            atoms.push(atom_of(alloc, *leaf)?)?;
+        }
+    }
+    Ok(atoms)
+}
+
+fn over_two(alloc: Global, two: Two, x: Tree, y: Tree) -> Result<Tree, NoMemory> {
+    let x = Boxed::new(alloc, x)?;
+    let y = Boxed::new(alloc, y)?;
+    match two {
+        Two::Seq => Ok(Tree::Seq(x, y)),
+        Two::Alt => Ok(Tree::Alt(x, y)),
+        Two::Star => Ok(Tree::Star(x, y)),
+        Two::Par => Ok(Tree::Par(x, y)),
+        Two::If(number) => Ok(Tree::If(is_number(alloc, number)?, x, Some(y))),
+    }
+}
+
+fn over_one(alloc: Global, one: One, x: Tree) -> Result<Tree, NoMemory> {
+    let x = Boxed::new(alloc, x)?;
+    match one {
+        One::When(number) => Ok(Tree::If(is_number(alloc, number)?, x, None)),
+        One::Untold => Ok(Tree::If(Expr::Int(1), x, None)),
+        One::Let(number) => Ok(Tree::Let(settings(alloc, Expr::Int(number))?, x)),
+        One::Unset => Ok(Tree::Let(settings(alloc, string(alloc)?)?, x)),
+    }
+}
+
+/// What the step writes behind these parts, of which it takes the last.
+fn written(
+    alloc: Global,
+    parts: &mut Items<Tree>,
+    step: Step,
+    number: u32,
+) -> Result<Tree, NoMemory> {
+    match step {
+        Step::Leaf(_) => Ok(Tree::At(number)),
+        Step::Two(two) => {
+            let y = parts.pop().ok_or(NoMemory)?;
+            let x = parts.pop().ok_or(NoMemory)?;
+            over_two(alloc, two, x, y)
+        }
+        Step::One(one) => {
+            let x = parts.pop().ok_or(NoMemory)?;
+            over_one(alloc, one, x)
+        }
+    }
+}
+
+fn tree_of(alloc: Global, steps: &[Step]) -> Result<Tree, NoMemory> {
+    let mut parts = Items::new(alloc);
+    let mut number: u32 = 1;
+    for step in steps {
+        let tree = written(alloc, &mut parts, *step, number)?;
+        parts.push(tree)?;
+        if matches!(step, Step::Leaf(_)) {
+            number = number.saturating_add(1);
+        }
+    }
+    parts.pop().ok_or(NoMemory)
+}
+
+fn body(alloc: Global, steps: &[Step]) -> Result<Body, NoMemory> {
+    let tree = tree_of(alloc, steps)?;
+    let atoms = atoms_of(alloc, steps)?;
     let mut sorts = Items::new(alloc);
     sorts.push(Sort::Int)?;
-    Body::new(alloc, tree, draft.atoms, sorts, 0)?.ok_or(NoMemory)
+    Body::new(alloc, tree, atoms, sorts, 0)?.ok_or(NoMemory)
 }
 
 #[tactic(auto, using(crate::proofs::StartLemmas::sorts_fresh))]
@@ -161,12 +209,7 @@ fn started(alloc: Global, plan: &Plan) -> Result<Rewriter, NoMemory>
 }
 
 /// The walker after it has taken the offer at this place, on a bus that has seen 3 ticks.
-fn taken(
-    alloc: Global,
-    plan: &Plan,
-    walker: Rewriter,
-    k: usize,
-) -> Result<Rewriter, NoMemory>
+fn taken(alloc: Global, plan: &Plan, walker: Rewriter, k: usize) -> Result<Rewriter, NoMemory>
     requires { IsOnPlan plan.now walker }
     ensures { IfOk result (λ after. IsOnPlan plan.now after) }
 {
@@ -191,11 +234,7 @@ fn walked(alloc: Global, plan: &Plan, places: &[usize]) -> Result<Rewriter, NoMe
 }
 
 /// The atoms that it may do next, and which of them are ready.
-fn looked(
-    alloc: Global,
-    plan: &Plan,
-    walker: Rewriter,
-) -> Result<(Vec<u32>, Vec<bool>), NoMemory>
+fn looked(alloc: Global, plan: &Plan, walker: Rewriter) -> Result<(Vec<u32>, Vec<bool>), NoMemory>
     requires { IsOnPlan plan.now walker }
 {
     let mut walker = walker;
@@ -214,53 +253,53 @@ type Row = (&'static [Step], &'static [usize], &'static [u32]);
 
 /// A body, the places of the offers that are taken, and the atoms that may be next.
 static PLAIN: [Row; 27] = [
-    (&[Tau], &[], &[1]),
-    (&[Tau], &[0], &[]),
-    (&[Tau, Tau, Seq], &[], &[1]),
-    (&[Tau, Tau, Seq], &[0], &[2]),
-    (&[Tau, Tau, Alt], &[], &[1, 2]),
-    (&[Tau, Tau, Alt], &[1], &[]),
-    (&[Tau, Tau, Star], &[0], &[1, 2]),
-    (&[Tau, Tau, Star], &[0, 0, 1], &[]),
-    (&[Tau, Tau, Par], &[], &[1, 2]),
-    (&[Tau, Tau, Par], &[0], &[2]),
-    (&[Tau, Tau, Par], &[1], &[1]),
-    (&[Tau, Tau, Par, Tau, Seq], &[], &[1, 2]),
-    (&[Tau, Tau, Par, Tau, Seq], &[1], &[1]),
-    (&[Tau, Tau, Par, Tau, Seq], &[1, 0], &[3]),
-    (&[Tau, Tau, Alt, Tau, Seq], &[1], &[3]),
-    (&[Tau, Tau, Tau, Star, Seq], &[0, 0], &[2, 3]),
-    (&[Tau, Tau, Seq, Tau, Star], &[], &[1, 3]),
-    (&[Tau, Tau, Seq, Tau, Star], &[0], &[2]),
-    (&[Tau, Tau, Seq, Tau, Star], &[0, 0], &[1, 3]),
-    (&[Tau, Tau, Star, Tau, Star], &[], &[1, 2, 3]),
-    (&[Tau, Tau, Star, Tau, Star], &[0], &[1, 2]),
-    (&[Tau, Tau, Star, Tau, Star], &[0, 1], &[1, 2, 3]),
-    (&[Tau, Tau, Par, Tau, Star], &[0], &[2]),
-    (&[Tau, Tau, Star, Tau, Par], &[0], &[1, 2, 3]),
-    (&[Tau, Tau, Star, Tau, Par], &[2], &[1, 2]),
-    (&[Tau, Tau, Alt, Tau, Par], &[2], &[1, 2]),
-    (&[Tau, Tau, Par, Tau, Alt], &[0], &[2]),
+    (&[TAU], &[], &[1]),
+    (&[TAU], &[0], &[]),
+    (&[TAU, TAU, SEQ], &[], &[1]),
+    (&[TAU, TAU, SEQ], &[0], &[2]),
+    (&[TAU, TAU, ALT], &[], &[1, 2]),
+    (&[TAU, TAU, ALT], &[1], &[]),
+    (&[TAU, TAU, STAR], &[0], &[1, 2]),
+    (&[TAU, TAU, STAR], &[0, 0, 1], &[]),
+    (&[TAU, TAU, PAR], &[], &[1, 2]),
+    (&[TAU, TAU, PAR], &[0], &[2]),
+    (&[TAU, TAU, PAR], &[1], &[1]),
+    (&[TAU, TAU, PAR, TAU, SEQ], &[], &[1, 2]),
+    (&[TAU, TAU, PAR, TAU, SEQ], &[1], &[1]),
+    (&[TAU, TAU, PAR, TAU, SEQ], &[1, 0], &[3]),
+    (&[TAU, TAU, ALT, TAU, SEQ], &[1], &[3]),
+    (&[TAU, TAU, TAU, STAR, SEQ], &[0, 0], &[2, 3]),
+    (&[TAU, TAU, SEQ, TAU, STAR], &[], &[1, 3]),
+    (&[TAU, TAU, SEQ, TAU, STAR], &[0], &[2]),
+    (&[TAU, TAU, SEQ, TAU, STAR], &[0, 0], &[1, 3]),
+    (&[TAU, TAU, STAR, TAU, STAR], &[], &[1, 2, 3]),
+    (&[TAU, TAU, STAR, TAU, STAR], &[0], &[1, 2]),
+    (&[TAU, TAU, STAR, TAU, STAR], &[0, 1], &[1, 2, 3]),
+    (&[TAU, TAU, PAR, TAU, STAR], &[0], &[2]),
+    (&[TAU, TAU, STAR, TAU, PAR], &[0], &[1, 2, 3]),
+    (&[TAU, TAU, STAR, TAU, PAR], &[2], &[1, 2]),
+    (&[TAU, TAU, ALT, TAU, PAR], &[2], &[1, 2]),
+    (&[TAU, TAU, PAR, TAU, ALT], &[0], &[2]),
 ];
 
 /// The same with tests and settings.
 static TESTED: [Row; 15] = [
-    (&[Tau, Tau, If(0)], &[], &[1]),
-    (&[Tau, Tau, If(1)], &[], &[2]),
-    (&[Tau, When(0)], &[], &[1]),
-    (&[Tau, When(1)], &[], &[]),
-    (&[Tau, Untold], &[], &[]),
-    (&[Tau, Tau, If(0), Tau, Star], &[], &[1, 3]),
-    (&[Tau, Tau, If(0), Tau, Star], &[0], &[1, 3]),
-    (&[Tau, Unset], &[], &[]),
-    (&[Tau, When(1), Let(1)], &[], &[1]),
-    (&[Tau, When(1), Let(1), Let(2)], &[], &[1]),
+    (&[TAU, TAU, IF_0], &[], &[1]),
+    (&[TAU, TAU, IF_1], &[], &[2]),
+    (&[TAU, WHEN_0], &[], &[1]),
+    (&[TAU, WHEN_1], &[], &[]),
+    (&[TAU, UNTOLD], &[], &[]),
+    (&[TAU, TAU, IF_0, TAU, STAR], &[], &[1, 3]),
+    (&[TAU, TAU, IF_0, TAU, STAR], &[0], &[1, 3]),
+    (&[TAU, UNSET], &[], &[]),
+    (&[TAU, WHEN_1, LET_1], &[], &[1]),
+    (&[TAU, WHEN_1, LET_1, LET_2], &[], &[1]),
     // A test is evaluated at the step, and not where it is reached.
-    (&[Tau, When(1), Tau, Let(1), Par], &[], &[2]),
-    (&[Tau, When(1), Tau, Let(1), Par], &[0], &[1]),
-    (&[Tau, Let(1), Tau, When(1), Seq], &[0], &[2]),
-    (&[Tau, Let(1), Tau, When(1), Star], &[], &[1]),
-    (&[Tau, Let(1), Tau, When(1), Star], &[0], &[1, 2]),
+    (&[TAU, WHEN_1, TAU, LET_1, PAR], &[], &[2]),
+    (&[TAU, WHEN_1, TAU, LET_1, PAR], &[0], &[1]),
+    (&[TAU, LET_1, TAU, WHEN_1, SEQ], &[0], &[2]),
+    (&[TAU, LET_1, TAU, WHEN_1, STAR], &[], &[1]),
+    (&[TAU, LET_1, TAU, WHEN_1, STAR], &[0], &[1, 2]),
 ];
 
 fn offered(alloc: Global, row: &Row) -> Result<Vec<u32>, NoMemory> {
@@ -302,7 +341,10 @@ static TIMES: [(TimeKind, i64, bool); 9] = [
 ];
 
 fn is_ready(alloc: Global, kind: TimeKind, value: i64) -> Result<bool, NoMemory> {
-    let plan = Rewriter::plan(alloc, &body(alloc, &[Timed(kind, value)])?)?;
+    let plan = Rewriter::plan(
+        alloc,
+        &body(alloc, &[Step::Leaf(Leaf::Timed(kind, value))])?,
+    )?;
     let walker = started(alloc, &plan)?;
     let (_atoms, ready) = looked(alloc, &plan, walker)?;
     Ok(ready.len() == 1 && ready[0])
@@ -317,31 +359,9 @@ fn an_atom_is_ready_where_its_time_holds(rt: HostRuntime) -> Result<(), Fail> {
     Ok(())
 }
 
-/// The text of what the first offer sends.
-fn sent(alloc: Global, steps: &[Step]) -> Result<Vec<u8>, NoMemory> {
-    let plan = Rewriter::plan(alloc, &body(alloc, steps)?)?;
-    let mut walker = started(alloc, &plan)?;
-    walker.look(alloc, &plan, 3)?;
-    if walker.offer_count() == 0 {
-        return Err(NoMemory);
-    }
-    let terms = walker.sent(alloc, &plan, 0)?.ok_or(NoMemory)?;
-    let mut text = Vec::new(alloc);
-    write_terms(&terms, &mut text)?;
-    Ok(text)
-}
-
-#[test]
-fn values_are_those_of_the_offered_store(rt: HostRuntime) -> Result<(), Fail> {
-    let alloc = rt.alloc();
-    assert_eq!(rt; sent(alloc, &[Send])?.as_slice(), b"0".as_slice());
-    assert_eq!(rt; sent(alloc, &[Send, Let(5)])?.as_slice(), b"5".as_slice());
-    Ok(())
-}
-
 /// How many variables a receive binds where it is given these terms.
 fn bound(alloc: Global, terms: &Terms) -> Result<Option<usize>, NoMemory> {
-    let plan = Rewriter::plan(alloc, &body(alloc, &[Take])?)?;
+    let plan = Rewriter::plan(alloc, &body(alloc, &[Step::Leaf(Leaf::Take)])?)?;
     let mut walker = started(alloc, &plan)?;
     walker.look(alloc, &plan, 3)?;
     let walker = walker.copy(alloc)?;

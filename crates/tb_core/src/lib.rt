@@ -3,6 +3,8 @@
 
 mod answers;
 mod bus;
+#[cfg(test)]
+mod bus_tests;
 mod deed;
 mod deeds;
 mod ends;
