@@ -19,6 +19,7 @@ made_of d = if is_too_high d then TooHigh d.token else Low d
 abbrev pub is_low : ProcDef → Bool
 is_low d = not (is_too_high d)
 
+-- what is kept of what is defined
 abbrev pub kept : Defined → Kept
 kept defined = record { procs = filter is_low defined.procs; tools = defined.tools; too_high = first_too_high defined.procs }
 

@@ -12,6 +12,7 @@ use Rattle.tb_parse.specs.declared.built.Chain.{Chain}
 use Rattle.tb_parse.specs.declared.built.Chain.TheVariants as chain
 use Rattle.tb_parse.specs.Parsing.{Parser, after, mapped, create, timed, prim, merge, choice, sequence, turns}
 
+-- what is built of a process
 unfoldable pub built : Proc → Built
 built p = if nat_lt 400 (height p) then TooHigh else Tree p (height p)
 
@@ -44,6 +45,7 @@ abbrev pub one_side : (Proc → Proc) → Option (Proc × ℕ) → Built
 one_side make None = TooHigh
 one_side make (Some side) = Tree (make side.0) side.1
 
+-- one process of two, or of one
 abbrev pub both : (Proc → Proc → Proc) → Built → Built → Built
 both join x y = both_sides join (sides_of x y)
 
@@ -55,7 +57,7 @@ join_of chain.Par = tree.Par
 join_of chain.Alt = tree.Alt
 join_of chain.Seq = tree.Seq
 
--- from the right
+-- members of a chain as one process, from the right
 abbrev pub joined : (Proc → Proc → Proc) → List Built → Built → Built
 joined join [] last = last
 joined join (x ∷ front) last = both join x (joined join front last)

@@ -1,5 +1,5 @@
 -- What a reader of tokens has before it, and what a function answers that reads.
-use Rattle.std.specs.Prelude.{◌≡◌, ℕ, ◌+◌, ◌<◌, ◌^◌, List, length, Bool, Result, Ok, Err, if◌then◌else◌}
+use Rattle.std.specs.Prelude.{◌≡◌, ℕ, ◌+◌, List, Bool, Result, Ok, Err, if◌then◌else◌}
 use Rattle.tb_lex.specs.declared.kind.TokenKind.{TokenKind}
 use Rattle.tb_parse.specs.declared.fault.ParseFault.{ParseFault}
 use Rattle.tb_parse.specs.declared.fault.ParseFault.TheVariants as fault
@@ -9,9 +9,6 @@ use Rattle.tb_parse.specs.Parsing.{Outcome, Found, Stops, Parser, begins, tail}
 pub record Ahead : Type 0 where
   pub at : ℕ
   pub kinds : List TokenKind
-
-abbrev pub IsWithin : Ahead → Type 0
-IsWithin ahead = ahead.at + length ahead.kinds < 2 ^ 64
 
 -- what a parser finds there
 abbrev pub runs : {A : Type 0} → Parser A → Ahead → Outcome A

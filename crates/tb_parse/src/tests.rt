@@ -2,7 +2,7 @@ use crate::{ParseFault, each_row_has_one, faults_are_unique, parse, spelling_is_
 use std::alloc::{AllocError, Global};
 use std::test::Fail;
 use tb_lex::lex;
-use tb_syntax::{ActDef, AtomDef, Proc, ProcDef, Script};
+use tb_syntax::{ActDef, AtomDef, Proc, ProcDef, Script, print_script};
 
 /// The script of a text, or its fault. A text that is no tokens fails the test.
 fn read(alloc: Global, text: &[u8]) -> Result<Result<Script, ParseFault>, Fail> {
@@ -305,6 +305,31 @@ static SCRIPTS: [&[u8]; 6] = [
 fn each_construct_is_read(rt: HostRuntime) -> Result<(), Fail> {
     for text in &SCRIPTS {
         assert_eq!(rt; fault_of(rt.alloc(), text)?, None, "at {text:?}");
+    }
+    Ok(())
+}
+
+/// The text that is printed for the script of a text.
+fn reprinted(alloc: Global, text: &[u8]) -> Result<Vec<u8>, Fail> {
+    let tokens = lex(alloc, text)?;
+    match parse(alloc, &tokens) {
+        Ok(script) => Ok(print_script(alloc, &script)?),
+        Err(fault) => Err(Fail::from(fault)),
+    }
+}
+
+static PRINTED: [&[u8]; 4] = [
+    b"toolbus()\n",
+    b"process P is tau delay(1) timeout(X)\ntoolbus(P, P)\n",
+    b"tool t is { command = \"x y\" }\nprocess P(X : int?, Y : list(t)) is let Z : term in Z := [] endlet\ntoolbus(P)\n",
+    b"process P is if eq(X, -1) then create(P(a), X?) else snd-msg(<str>) fi\ntoolbus(P)\n",
+];
+
+#[test]
+fn what_is_printed_is_read(rt: HostRuntime) -> Result<(), Fail> {
+    for text in &PRINTED {
+        let printed = reprinted(rt.alloc(), text)?;
+        assert_eq!(rt; printed.as_slice(), *text);
     }
     Ok(())
 }
