@@ -32,9 +32,9 @@ use Rattle.tb_parse.specs.Faults.{IsScriptOf}
 
 -- What follows says of each part of a script what it stands for, where it is plain, and nothing where it isn't.
 
--- a name without arguments, of at most 65,535 bytes: a term has no longer one
+-- a name without arguments
 abbrev pub plain_name : List ℕ → List Ast → Option (List ℕ)
-plain_name name [] = if nat_le (length name) 65535 then Some name else None
+plain_name name [] = Some name
 plain_name name (argument ∷ arguments) = None
 
 abbrev pub name_in : open_ast.AstKind-F AstKind Ast → Option (List ℕ)

@@ -355,6 +355,31 @@ fn the_longest_script_is_read(rt: HostRuntime) -> Result<(), Fail> {
     Ok(())
 }
 
+/// What is logged of a script in which a name of so many letters is sent and received.
+fn log_of_long_name(alloc: Global, len: usize) -> Result<MemSink, Fail> {
+    let mut name = Vec::new(alloc);
+    name.resize(len, b'a')?;
+    let mut script = Vec::from_slice(alloc, b"process P is snd-msg(")?;
+    script.extend_from_slice(name.as_slice())?;
+    script.extend_from_slice(b") process Q is rec-msg(")?;
+    script.extend_from_slice(name.as_slice())?;
+    script.extend_from_slice(b") toolbus(P, Q)")?;
+    let called = call(alloc, "sim a.tb", &script, NONE)?;
+    Ok(called.out)
+}
+
+#[test]
+fn a_name_past_the_limit_of_terms_is_never_sent(rt: HostRuntime) -> Result<(), Fail> {
+    let sent = log_of_long_name(rt.alloc(), 65_535)?;
+    assert_eq!(rt; sent.as_slice().len(), 65_535 + 24);
+    let unsent = log_of_long_name(rt.alloc(), 65_536)?;
+    assert_eq!(rt;
+        unsent.as_slice(),
+        b"1 quiet\n2 noticks\n3 halt\n".as_slice()
+    );
+    Ok(())
+}
+
 /// A script in which ten thousand processes do this many `tau`.
 fn many_taus(alloc: Global, count: usize) -> Result<Vec<u8>, Fail> {
     let mut script = Vec::from_slice(alloc, b"process P is tau")?;

@@ -8,9 +8,6 @@ use tb_body::{Act, Atom};
 use tb_syntax::{ActDef, Ast, AstKind, AtomDef};
 use tb_terms::{Expr, Exprs, Items, Name, NoMemory};
 
-/// The greatest length of a message's name.
-const LONGEST_NAME: usize = 65_535;
-
 /// The atom that a plain atom of a script stands for.
 pub(crate) fn make_atom(alloc: Global, atom: &AtomDef) -> Result<Option<Atom>, NoMemory>
     ensures { IfOk result (λ made. made ≡ plain_atom atom.now) }
@@ -94,7 +91,7 @@ fn message_name(arguments: &[Ast]) -> Option<&Name>
 fn plain_name<'a>(name: &'a Name, arguments: &[Ast]) -> Option<&'a Name>
     ensures { option_map (λ name. name.now) result ≡ plain_name name.now arguments.now }
 {
-    if arguments.is_empty() && name.as_bytes().len() <= LONGEST_NAME {
+    if arguments.is_empty() {
         Some(name)
     } else {
         None

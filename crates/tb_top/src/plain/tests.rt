@@ -275,20 +275,6 @@ fn roots_are_ten_thousand_at_most(rt: HostRuntime) -> Result<(), Fail> {
     Ok(())
 }
 
-#[test]
-fn names_are_65535_long_at_most(rt: HostRuntime) -> Result<(), Fail> {
-    for (len, fault) in [(65_535, None), (65_536, Some(PlainFault::NotPlain))] {
-        let name = repeated(rt.alloc(), "a", len)?;
-        let text = format!(in rt.alloc(); "process P is snd-msg({name}) toolbus(P)")?;
-        assert_eq!(rt;
-            fault_of(rt.alloc(), text.as_bytes()),
-            fault,
-            "a name of {len} bytes"
-        );
-    }
-    Ok(())
-}
-
 /// So many processes of four tokens each, under names of their own.
 fn processes(alloc: Global, count: usize) -> Result<String, Fail> {
     let mut all = String::new(alloc);
