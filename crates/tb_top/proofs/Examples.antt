@@ -1,5 +1,8 @@
 -- Plain processes with their parts, and some that aren't plain, worked out by hand.
-use Rattle.std.proofs.Common.{◌≡◌, ℕ, List, [], ◌∷◌, Option, Some, None, option_map, refl, ap, ◌∙◌, codes}
+use Rattle.std.proofs.Common.{◌≡◌, ℕ, zero, suc, List, [], ◌∷◌, Option, Some, None, option_map, refl, ap, ◌∙◌, codes, arith}
+use Rattle.std.specs.Option.{IsSome, is_some}
+use Rattle.std.proofs.lemmas.Option.{none-some}
+use Rattle.std.proofs.lemmas.List.Elements.{All-from_recursion}
 use Rattle.tb_terms.specs.declared.expr.Expr.TheVariants.{Appl}
 use Rattle.tb_body.specs.declared.act.Act.TheVariants.{Tau, SndMsg, RecMsg}
 use Rattle.tb_body.specs.declared.tree.Tree.TheVariants.{At, Seq, Star, Par}
@@ -17,7 +20,9 @@ use Rattle.tb_syntax.specs.declared.proc.Proc.TheOpen.{Proc-F}
 use Rattle.tb_syntax.specs.declared.proc.Proc.TheVariants as tree
 use Rattle.tb_syntax.specs.declared.proc.Proc.TheVariants.{outs-Atom, outs-Call, outs-Seq, outs-Star, outs-Par}
 use Rattle.tb_syntax.specs.declared.proc.Proc.TheFolds.{fold_out-Proc, map-Proc}
-use Rattle.tb_top.specs.PlainScript.{Part, one, two, both, part_step, plain_part, at_any_time, exprs_of, name_in, plain_message}
+use Rattle.tb_syntax.specs.declared.script.ProcDef.{ProcDef}
+use Rattle.tb_syntax.specs.declared.script.ToolDef.{ToolDef}
+use Rattle.tb_top.specs.PlainScript.{Part, one, two, both, part_step, plain_part, at_any_time, exprs_of, name_in, plain_message, plain_process, AreOnce, IsPlainRoot, IsPlain}
 
 opened : (p : Proc) (layer : Proc-F Proc) → out-Proc p ≡ layer → plain_part p ≡ part_step (map-Proc Proc (Option Part) plain_part layer)
 opened p layer e = fold_out-Proc (Option Part) part_step p ∙ ap (λ (w : Proc-F Proc). part_step (map-Proc Proc (Option Part) plain_part w)) e
@@ -81,3 +86,47 @@ two_unplain = refl
 -- the message a(b) isn't plain
 compound_unplain : plain_message (record { kind = ast.Appl (codes "a") (lone (codes "b") ∷ []); token = 0 } ∷ []) ≡ None
 compound_unplain = ap (λ (kind : open_ast.AstKind-F AstKind Ast). option_map exprs_of (name_in kind)) (outs-Appl (codes "a") (lone (codes "b") ∷ []))
+
+-- Whole scripts.
+
+abbrev process : List ℕ → Proc → ProcDef
+process name body = record { name = name; formals = []; body = body; token = 0 }
+
+abbrev root : List ℕ → Call
+root name = record { name = name; actuals = []; token = 0 }
+
+alone_once : (name : List ℕ) → AreOnce (name ∷ [])
+alone_once name zero zero n here there = refl
+alone_once name zero (suc j) n here there = absurd (none-some n there)
+alone_once name (suc i) j n here there = absurd (none-some n here)
+
+named_root : IsPlainRoot (codes "P" ∷ []) (root (codes "P"))
+named_root = record { is_defined = (0, omega arith, refl); bare = refl }
+
+-- process P is snd-msg(a) * rec-msg(b) toolbus(P, P)
+script_plain : IsPlain (record { procs = process (codes "P") turns ∷ []; tools = []; roots = root (codes "P") ∷ root (codes "P") ∷ [] })
+script_plain = record {
+  no_tools = refl;
+  once = alone_once (codes "P");
+  processes = All-from_recursion (λ (d : ProcDef). IsSome (plain_process d)) (process (codes "P") turns ∷ []) (ap is_some turns_part, tt);
+  roots = All-from_recursion (IsPlainRoot (codes "P" ∷ [])) (root (codes "P") ∷ root (codes "P") ∷ []) (named_root, (named_root, tt));
+  few_roots = omega arith;
+}
+
+-- a script with a tool isn't plain
+tool_unplain : (tool : ToolDef) → IsPlain (record { procs = []; tools = tool ∷ []; roots = [] }) → ⊥
+tool_unplain tool plain = none plain.no_tools where
+  none : {xs : List ToolDef} → tool ∷ xs ≡ [] → ⊥
+  none e = absurd cc
+
+-- a root that isn't defined makes a script unplain
+undefined_unplain : (name : List ℕ) → IsPlain (record { procs = []; tools = []; roots = root name ∷ [] }) → ⊥
+undefined_unplain name plain =
+    let is = plain.roots 0 (root name) (omega arith) in
+    omega (arith, is.is_defined.1)
+
+-- so does a process that is defined twice
+twice_unplain : (name : List ℕ) (x y : Proc) → IsPlain (record { procs = process name x ∷ process name y ∷ []; tools = []; roots = [] }) → ⊥
+twice_unplain name x y plain =
+    let same : 0 ≡ 1 = plain.once 0 1 name refl refl in
+    omega (arith, same)
