@@ -1,21 +1,16 @@
 -- What scripts break, worked out by hand from the conditions.
-use Rattle.std.proofs.Common.{◌≡◌, ℕ, List, [], ◌∷◌, ◌++◌, codes, refl, ap, ◌∙◌}
-use Rattle.std.specs.Prelude.{Some, None}
-use Rattle.tb_terms.specs.declared.sort.Sort.TheVariants as sorts
+use Rattle.std.proofs.Common.{◌≡◌, ℕ, List, [], ◌∷◌, codes, refl, ◌∙◌}
+use Rattle.std.specs.Prelude.{None}
 use Rattle.tb_syntax.specs.declared.ast.Ast.{Ast}
 use Rattle.tb_syntax.specs.declared.ast.AstKind.TheVariants as ast
 use Rattle.tb_syntax.specs.declared.proc.ActDef.TheVariants as act
 use Rattle.tb_syntax.specs.declared.proc.AtomDef.{AtomDef}
 use Rattle.tb_syntax.specs.declared.proc.Call.{Call}
-use Rattle.tb_syntax.specs.declared.proc.Proc.{Proc}
 use Rattle.tb_syntax.specs.declared.proc.Proc.TheVariants as tree
 use Rattle.tb_syntax.specs.declared.script.Formal.{Formal}
 use Rattle.tb_syntax.specs.declared.script.ProcDef.{ProcDef}
 use Rattle.tb_syntax.specs.declared.script.Script.{Script}
-use Rattle.tb_syntax.specs.declared.script.ToolDef.{ToolDef}
-use Rattle.tb_types.specs.declared.broken.Broken.{Broken}
 use Rattle.tb_types.specs.declared.broken.Rule.TheVariants as rule
-use Rattle.tb_types.specs.declared.scope.Known.{Known}
 use Rattle.tb_types.specs.Atoms.{atom_faults}
 use Rattle.tb_types.specs.Bodies.{proc_faults, script_faults}
 use Rattle.tb_types.proofs.JudgedKinds.{faults_of_var}

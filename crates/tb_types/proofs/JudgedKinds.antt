@@ -1,5 +1,5 @@
 -- What is judged of an application and of a list, by what is judged of their parts.
-use Rattle.std.proofs.Common.{◌≡◌, ℕ, Bool, ◌||◌, List, map, ap, ◌∙◌}
+use Rattle.std.proofs.Common.{◌≡◌, ℕ, ◌||◌, List, map, ap, ◌∙◌}
 use Rattle.std.specs.Prelude.{is_none}
 use Rattle.tb_terms.specs.declared.sort.Sort.{Sort, out-Sort}
 use Rattle.tb_syntax.specs.declared.ast.Ast.{Ast}
@@ -9,7 +9,6 @@ use Rattle.tb_syntax.specs.declared.ast.AstKind.TheVariants.{outs-Appl, outs-Var
 use Rattle.tb_syntax.specs.declared.ast.AstKind.TheOpen as layer
 use Rattle.tb_syntax.specs.declared.ast.AstKind.TheOpen.{AstKind-F}
 use Rattle.tb_syntax.specs.declared.ast.AstKind.TheFolds.{fold_out-AstKind, map-AstKind, fold-Ast, fold_out-Ast}
-use Rattle.tb_types.specs.declared.broken.Broken.{Broken}
 use Rattle.tb_types.specs.declared.broken.Rule.TheVariants.{Undeclared}
 use Rattle.tb_types.specs.declared.scope.Known.{Known}
 use Rattle.tb_types.specs.Broken.{noted_if}

@@ -16,7 +16,7 @@ use Rattle.tb_types.specs.declared.scope.Known.{Known}
 use Rattle.tb_types.specs.Atoms.{atom_faults}
 use Rattle.tb_types.specs.Bodies.{proc_faults, proc_step, else_faults}
 use Rattle.tb_types.specs.Definitions.{vars_faults}
-use Rattle.tb_types.specs.Duties.{Duty, tested, site_faults}
+use Rattle.tb_types.specs.Duties.{tested, site_faults}
 use Rattle.tb_types.specs.Scopes.{known_var}
 
 abbrev Found : Type 0
