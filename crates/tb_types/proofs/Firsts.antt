@@ -1,13 +1,12 @@
 -- What comes first of what is noted is noted, and nothing that is noted is before it.
-use Rattle.std.proofs.Common.{◌≡◌, ℕ, ◌==◌, ◌<◌, ◌≤◌, Bool, true, false, ◌||◌, ◌&&◌, nat_lt, ◌⊎◌, inl, inr, List, [], ◌∷◌, fold, Option, Some, None, refl, sym, ap, ◌∙◌, subst, arith, rules}
-use Rattle.std.proofs.lemmas.Grind.{common_steps}
+use Rattle.std.proofs.Common.{◌≡◌, ℕ, ◌==◌, ◌<◌, ◌≤◌, Bool, true, false, ◌||◌, ◌&&◌, nat_lt, inl, inr, List, [], ◌∷◌, fold, Option, Some, None, refl, sym, subst, arith}
 use Rattle.std.proofs.lemmas.Bool.Decides.{nat_tests}
 use Rattle.tb_syntax.specs.declared.script.Script.{Script}
 use Rattle.tb_types.specs.declared.broken.Broken.{Broken}
 use Rattle.tb_types.specs.declared.broken.Rule.{Rule}
 use Rattle.tb_types.specs.declared.broken.Rule.TheVariants as rule
 use Rattle.tb_types.specs.Bodies.{script_faults}
-use Rattle.tb_types.specs.Conditions.{IsIn, IsFirst, IsFault, Proper, Fails}
+use Rattle.tb_types.specs.Conditions.{IsIn, IsFirst, IsFault, Proper}
 use Rattle.tb_types.specs.Faults.{fault_of, fault_at}
 use Rattle.tb_types.specs.First.{is_before, earlier, first_of}
 use Rattle.tb_types.specs.Numbers.{number_of}

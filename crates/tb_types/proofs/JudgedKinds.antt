@@ -1,17 +1,20 @@
 -- What is judged of an application and of a list, by what is judged of their parts.
-use Rattle.std.proofs.Common.{◌≡◌, ℕ, Bool, ◌||◌, List, map, ap, ◌∙◌}
+use Rattle.std.proofs.Common.{◌≡◌, ℕ, ◌||◌, List, map, ap, ◌∙◌}
+use Rattle.std.specs.Prelude.{is_none}
 use Rattle.tb_terms.specs.declared.sort.Sort.{Sort, out-Sort}
 use Rattle.tb_syntax.specs.declared.ast.Ast.{Ast}
 use Rattle.tb_syntax.specs.declared.ast.AstKind.{AstKind, out-AstKind}
 use Rattle.tb_syntax.specs.declared.ast.AstKind.TheVariants as ast
-use Rattle.tb_syntax.specs.declared.ast.AstKind.TheVariants.{outs-Appl, outs-List}
+use Rattle.tb_syntax.specs.declared.ast.AstKind.TheVariants.{outs-Appl, outs-Var, outs-List}
 use Rattle.tb_syntax.specs.declared.ast.AstKind.TheOpen as layer
 use Rattle.tb_syntax.specs.declared.ast.AstKind.TheOpen.{AstKind-F}
 use Rattle.tb_syntax.specs.declared.ast.AstKind.TheFolds.{fold_out-AstKind, map-AstKind, fold-Ast, fold_out-Ast}
-use Rattle.tb_types.specs.declared.broken.Broken.{Broken}
+use Rattle.tb_types.specs.declared.broken.Rule.TheVariants.{Undeclared}
 use Rattle.tb_types.specs.declared.scope.Known.{Known}
+use Rattle.tb_types.specs.Broken.{noted_if}
 use Rattle.tb_types.specs.Exprs.{Judged, JudgedKind, judged, judged_kind, kind_step, expr_step, appl_fits, all_fit, application_faults, parts_faults}
 use Rattle.tb_types.specs.Fitting.{is_any, is_list_of}
+use Rattle.tb_types.specs.Scopes.{sort_in}
 
 module _ (known : List Known) where
   abbrev judge : Ast → Judged
@@ -34,6 +37,9 @@ module _ (known : List Known) where
 
   judged_of_list : (parts : List Ast) → judged_kind known (ast.List parts) ≡ kind_step known (layer.List (map (judged known) parts))
   judged_of_list parts = opened _ _ (outs-List parts) ∙ ap (λ (ps : List Judged). kind_step known (layer.List ps)) (exprs_are parts)
+
+pub faults_of_var : (known : List Known) (name : List ℕ) (token : ℕ) → (judged_kind known (ast.Var name)).faults token ≡ noted_if (is_none (sort_in known name)) Undeclared token
+faults_of_var known name token = ap (λ (j : JudgedKind). j.faults token) (opened known _ _ (outs-Var name))
 
 pub fits_of_appl : (known : List Known) (name : List ℕ) (parts : List Ast) (s : Sort) → (judged_kind known (ast.Appl name parts)).fits s ≡ (is_any (out-Sort s) || appl_fits name (map (judged known) parts) s)
 fits_of_appl known name parts s = ap (λ (j : JudgedKind). j.fits s) (judged_of_appl known name parts)

@@ -1,5 +1,7 @@
 pub mod Actuals
 pub mod ClosedKinds
+pub mod Examples
+pub mod FirstLaws
 pub mod Firsts
 pub mod JudgedKinds
 pub mod MisplacedKinds

@@ -5,7 +5,7 @@ use Rattle.std.proofs.lemmas.List.{length-map}
 use Rattle.tb_syntax.specs.declared.ast.Ast.{Ast}
 use Rattle.tb_syntax.specs.declared.ast.AstKind.{AstKind, out-AstKind}
 use Rattle.tb_syntax.specs.declared.ast.AstKind.TheVariants as ast
-use Rattle.tb_syntax.specs.declared.ast.AstKind.TheVariants.{outs-Appl, outs-List}
+use Rattle.tb_syntax.specs.declared.ast.AstKind.TheVariants.{outs-Appl, outs-Var, outs-List}
 use Rattle.tb_syntax.specs.declared.ast.AstKind.TheOpen.{AstKind-F}
 use Rattle.tb_syntax.specs.declared.ast.AstKind.TheFolds.{fold_out-AstKind, map-AstKind, fold-Ast, fold_out-Ast}
 use Rattle.tb_types.specs.declared.broken.Broken.{Broken}
@@ -40,6 +40,9 @@ misplaced_of_appl name parts token place =
     opened _ _ token place (outs-Appl name parts)
     ∙ ap (λ n. flat_map (λ (f : OfExpr). f (argument_place name n place)) (map found parts)) (length-map parts found)
     ∙ parts_are (argument_place name (length parts) place) parts
+
+pub misplaced_of_var : (name : List ℕ) (token : ℕ) (place : Place) → misplaced_kind (ast.Var name) token place ≡ []
+misplaced_of_var name token place = opened _ _ token place (outs-Var name)
 
 pub misplaced_of_list : (parts : List Ast) (token : ℕ) (place : Place) → misplaced_kind (ast.List parts) token place ≡ flat_map (misplaced (part_place place)) parts
 misplaced_of_list parts token place = opened _ _ token place (outs-List parts) ∙ parts_are (part_place place) parts

@@ -2,19 +2,21 @@
 use Rattle.std.proofs.Common.{◌≡◌, List, ◌++◌, map, Option, Some, None, option_map, ap, ◌∙◌}
 use Rattle.tb_terms.specs.declared.sort.Sort.TheVariants as sorts
 use Rattle.tb_syntax.specs.declared.ast.Ast.{Ast}
+use Rattle.tb_syntax.specs.declared.proc.AtomDef.{AtomDef}
 use Rattle.tb_syntax.specs.declared.proc.Var.{Var}
 use Rattle.tb_syntax.specs.declared.proc.Proc.{Proc, out-Proc}
 use Rattle.tb_syntax.specs.declared.proc.Proc.TheVariants as tree
-use Rattle.tb_syntax.specs.declared.proc.Proc.TheVariants.{outs-Seq, outs-Alt, outs-Star, outs-Par, outs-If, outs-Let}
+use Rattle.tb_syntax.specs.declared.proc.Proc.TheVariants.{outs-Atom, outs-Seq, outs-Alt, outs-Star, outs-Par, outs-If, outs-Let}
 use Rattle.tb_syntax.specs.declared.proc.Proc.TheOpen.{Proc-F}
 use Rattle.tb_syntax.specs.declared.proc.Proc.TheFolds.{fold_out-Proc, map-Proc}
 use Rattle.tb_syntax.specs.declared.script.Script.{Script}
 use Rattle.tb_types.specs.declared.broken.Broken.{Broken}
 use Rattle.tb_types.specs.declared.places.Place.TheVariants.{Sent}
 use Rattle.tb_types.specs.declared.scope.Known.{Known}
+use Rattle.tb_types.specs.Atoms.{atom_faults}
 use Rattle.tb_types.specs.Bodies.{proc_faults, proc_step, else_faults}
 use Rattle.tb_types.specs.Definitions.{vars_faults}
-use Rattle.tb_types.specs.Duties.{Duty, tested, site_faults}
+use Rattle.tb_types.specs.Duties.{tested, site_faults}
 use Rattle.tb_types.specs.Scopes.{known_var}
 
 abbrev Found : Type 0
@@ -25,6 +27,9 @@ layer_found script known x = proc_step script (map-Proc Proc Found (proc_faults 
 
 opened : (script : Script) (known : List Known) (p : Proc) (x : Proc-F Proc) → out-Proc p ≡ x → proc_faults script p known ≡ layer_found script known x
 opened script known p x e = ap (λ (f : Found). f known) (fold_out-Proc Found (proc_step script) p) ∙ ap (layer_found script known) e
+
+pub faults_of_atom : (script : Script) (atom : AtomDef) (known : List Known) → proc_faults script (tree.Atom atom) known ≡ atom_faults script known atom
+faults_of_atom script atom known = opened script known _ _ (outs-Atom atom)
 
 pub faults_of_seq : (script : Script) (x y : Proc) (known : List Known) → proc_faults script (tree.Seq x y) known ≡ proc_faults script x known ++ proc_faults script y known
 faults_of_seq script x y known = opened script known _ _ (outs-Seq x y)

@@ -1,5 +1,5 @@
 -- Which sorts go with those of tools.
-use Rattle.std.proofs.Common.{◌≡◌, ℕ, ◌==◌, Bool, true, false, ◌||◌, ◌&&◌, List, [], ◌∷◌, map, length, refl, ap, sym, ◌∙◌}
+use Rattle.std.proofs.Common.{◌≡◌, ℕ, ◌==◌, Bool, true, false, ◌||◌, ◌&&◌, List, [], ◌∷◌, map, length, refl, ap, ◌∙◌}
 use Rattle.std.proofs.Math.Bool.{and-false}
 use Rattle.tb_terms.specs.declared.sort.Sort.{Sort, out-Sort}
 use Rattle.tb_terms.specs.declared.sort.Sort.TheVariants as sorts
@@ -10,7 +10,7 @@ use Rattle.tb_syntax.specs.declared.ast.Ast.{Ast}
 use Rattle.tb_syntax.specs.declared.ast.AstKind.TheVariants as ast
 use Rattle.tb_types.specs.declared.scope.Known.{Known}
 use Rattle.tb_types.specs.Exprs.{Judged, judged, judged_kind, appl_fits, word_fits, tool_fits}
-use Rattle.tb_types.specs.Fitting.{is_any, is_bool, is_int, is_str, is_list_of, is_tool_sort, is_truth_word, goes_step, goes_with, result_goes_with}
+use Rattle.tb_types.specs.Fitting.{is_any, is_bool, is_int, is_list_of, is_tool_sort, is_truth_word, goes_step, goes_with, result_goes_with}
 use Rattle.tb_types.specs.Names.{applied}
 use Rattle.tb_types.specs.Tools.{is_one_number}
 use Rattle.tb_types.proofs.JudgedKinds.{fits_of_appl}

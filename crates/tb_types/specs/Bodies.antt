@@ -1,5 +1,5 @@
 -- All that a script breaks, by its parts: tools, processes with their bodies, and roots.
-use Rattle.std.specs.Prelude.{ℕ, List, [], ◌∷◌, ◌++◌, map, Option, Some, None}
+use Rattle.std.specs.Prelude.{List, [], ◌++◌, map, Option, Some, None}
 use Rattle.std.specs.List.{flat_map}
 use Rattle.tb_terms.specs.declared.sort.Sort.TheVariants as sorts
 use Rattle.tb_syntax.specs.declared.proc.Call.{Call}

@@ -1,5 +1,5 @@
 -- What an expression is asked for where it stands, and how it can fail that.
-use Rattle.std.specs.Prelude.{ℕ, ◌==◌, Bool, true, false, not, ◌||◌, ◌&&◌, List, [], ◌∷◌, ◌++◌, length, map, Option, Some, None, option_map, option_and_then, is_some, is_none}
+use Rattle.std.specs.Prelude.{ℕ, ◌==◌, Bool, false, not, ◌||◌, ◌&&◌, List, [], ◌++◌, length, map, Option, Some, None, option_map, option_and_then, is_some, is_none}
 use Rattle.std.specs.List.{list_any}
 use Rattle.tb_terms.specs.declared.sort.Sort.{Sort, out-Sort}
 use Rattle.tb_terms.specs.declared.sort.Sort.TheVariants as sorts

@@ -1,5 +1,5 @@
 -- What an expression must hold whatever it stands for: functions have their number of arguments, of their sorts, and variables are declared; and which sorts it fits.
-use Rattle.std.specs.Prelude.{ℕ, ◌==◌, Bool, true, false, not, ◌||◌, ◌&&◌, List, [], ◌∷◌, ◌++◌, length, map, Option, Some, None, is_none, if◌then◌else◌}
+use Rattle.std.specs.Prelude.{ℕ, ◌==◌, Bool, false, not, ◌||◌, ◌&&◌, List, [], ◌∷◌, ◌++◌, length, Option, Some, None, is_none}
 use Rattle.std.specs.List.{list_all, flat_map}
 use Rattle.tb_terms.specs.declared.sort.Sort.{Sort, out-Sort}
 use Rattle.tb_terms.specs.declared.sort.Sort.TheVariants as sorts

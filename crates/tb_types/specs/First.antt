@@ -1,5 +1,5 @@
 -- The first of what is noted: that of the least condition, and among these that at the least token.
-use Rattle.std.specs.Prelude.{ℕ, ◌==◌, Bool, true, false, ◌||◌, ◌&&◌, nat_lt, List, fold, Option, Some, None, if◌then◌else◌}
+use Rattle.std.specs.Prelude.{◌==◌, Bool, ◌||◌, ◌&&◌, nat_lt, List, fold, Option, Some, None, if◌then◌else◌}
 use Rattle.tb_types.specs.declared.broken.Broken.{Broken}
 use Rattle.tb_types.specs.Numbers.{number_of}
 

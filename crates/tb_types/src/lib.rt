@@ -12,6 +12,7 @@ mod exprs;
 mod fault;
 mod first;
 mod fitting;
+mod laws;
 mod names;
 mod places;
 mod scope;
@@ -21,3 +22,4 @@ mod values;
 
 pub use checked::check;
 pub use fault::CheckFault;
+pub use laws::first_fault_is_one;

@@ -1,4 +1,4 @@
-use Rattle.std.proofs.Common.{ap, sym, ◌∙◌}
+use Rattle.std.proofs.Common.{ap, ◌∙◌}
 use Rattle.tb_types.specs.Calls.{actual_place, actual_duty}
 use Rattle.tb_types.specs.Duties.{duty_of}
 use Rattle.tb_types.specs.Scopes.{visible}

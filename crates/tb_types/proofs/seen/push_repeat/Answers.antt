@@ -1,6 +1,3 @@
-use Rattle.std.proofs.Common.{◌≡◌, ℕ, List, ap, sym, ◌∙◌}
-use Rattle.tb_types.specs.Definitions.{or_seen}
-use Rattle.tb_types.specs.Seen.{was_seen}
 use Rattle.tb_types.proofs.SeenLemmas.{seen_after}
 use Rattle.tb_types.proofs.seen.push_repeat.Goals as goal
 

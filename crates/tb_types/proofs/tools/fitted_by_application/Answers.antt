@@ -1,4 +1,4 @@
-use Rattle.std.proofs.Common.{map, length, ap, sym, ◌∙◌}
+use Rattle.std.proofs.Common.{map, ap, sym, ◌∙◌}
 use Rattle.std.proofs.lemmas.List.{length-map}
 use Rattle.tb_terms.specs.declared.sort.Sort.TheVariants as sorts
 use Rattle.tb_types.specs.Exprs.{judged}
