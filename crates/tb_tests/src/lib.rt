@@ -1,0 +1,5 @@
+//! Tests that join several libraries.
+#![tactic(auto)]
+
+#[cfg(test)]
+mod checks;
