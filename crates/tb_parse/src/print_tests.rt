@@ -50,14 +50,20 @@ fn printed(alloc: Global, text: &[u8]) -> Result<Vec<u8>, Fail> {
 
 /// How many tokens there are but for parentheses, which a print may leave out.
 fn count(tokens: &Tokens) -> usize {
-    let mut count = 0;
+    let mut count: usize = 0;
     for token in tokens.as_slice() {
-        match token.kind {
-            TokenKind::Symbol(Symbol::LeftParen | Symbol::RightParen) => {}
-            _ => count += 1,
+        if !is_paren(&token.kind) {
+            count = count.saturating_add(1);
         }
     }
     count
+}
+
+fn is_paren(kind: &TokenKind) -> bool {
+    match kind {
+        TokenKind::Symbol(Symbol::LeftParen | Symbol::RightParen) => true,
+        _ => false,
+    }
 }
 
 #[test]
