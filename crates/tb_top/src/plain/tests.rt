@@ -2,7 +2,7 @@ use super::*;
 use std::alloc::AllocError;
 use std::test::Fail;
 use tb_body::{Act, Body, Tree};
-use tb_terms::{Boxed, Expr, Exprs};
+use tb_terms::{Expr, Exprs};
 
 /// What a text is refused for, if it is.
 fn fault_of(alloc: Global, text: &[u8]) -> Option<PlainFault> {
@@ -352,65 +352,6 @@ fn bodies_are_in_order(rt: HostRuntime) -> Result<(), Fail> {
     };
     assert!(rt; matches!(&taken.act, Act::RecMsg(message) if is_message(message, b"c-1")));
     assert!(rt; matches!(second.tree, Tree::At(1)) && is_bare(second));
-    Ok(())
-}
-
-/// Puts the tree's text, each operator within brackets.
-#[cycle(push_tree)]
-fn push_tree(alloc: Global, tree: &Tree, into: &mut String) -> Result<(), AllocError> {
-    match tree {
-        Tree::At(atom) => into.push_str(format!(in alloc; "{atom}")?.as_str()),
-        Tree::Seq(x, y) => push_two(alloc, x, ".", y, into),
-        Tree::Alt(x, y) => push_two(alloc, x, "+", y, into),
-        Tree::Star(x, y) => push_two(alloc, x, "*", y, into),
-        Tree::Par(x, y) => push_two(alloc, x, "|", y, into),
-        Tree::If(_, _, _) => into.push_str("if"),
-        Tree::Let(_, _) => into.push_str("let"),
-    }
-}
-
-#[cycle(push_tree)]
-fn push_two(
-    alloc: Global,
-    x: &Boxed<Tree>,
-    sign: &str,
-    y: &Boxed<Tree>,
-    into: &mut String,
-) -> Result<(), AllocError> {
-    into.push_str("(")?;
-    push_tree(alloc, x.get(), into)?;
-    into.push_str(sign)?;
-    push_tree(alloc, y.get(), into)?;
-    into.push_str(")")
-}
-
-static TREES: [(&str, &str); 9] = [
-    ("tau", "1"),
-    ("tau . tau . tau", "(1.(2.3))"),
-    ("tau * tau * tau", "((1*2)*3)"),
-    ("tau + tau + tau", "(1+(2+3))"),
-    ("tau || tau || tau", "(1|(2|3))"),
-    ("delta . tau + tau", "((1.2)+3)"),
-    ("tau || tau + tau . tau * tau", "(1|(2+(3.(4*5))))"),
-    (
-        "((tau || tau) + tau) . tau * (tau . tau)",
-        "(((1|2)+3).(4*(5.6)))",
-    ),
-    ("(tau * tau) * (tau * tau)", "((1*2)*(3*4))"),
-];
-
-#[test]
-fn trees_are_numbered_in_text_order(rt: HostRuntime) -> Result<(), Fail> {
-    for (body, expected) in &TREES {
-        let text = format!(in rt.alloc(); "process A is {body} toolbus(A)")?;
-        let program = read_plain(rt.alloc(), text.as_bytes())?;
-        let [first] = program.bodies.as_slice() else {
-            return Err(Fail::new("one body"));
-        };
-        let mut shown = String::new(rt.alloc());
-        push_tree(rt.alloc(), &first.tree, &mut shown)?;
-        assert_eq!(rt; shown.as_str(), *expected, "{body}");
-    }
     Ok(())
 }
 
