@@ -1,5 +1,8 @@
-//! Tests that join several libraries.
+//! What joins several libraries: tests, and laws.
 #![tactic(auto)]
 
 #[cfg(test)]
 mod checks;
+mod laws;
+
+pub use laws::a_text_has_one_program;
