@@ -1,0 +1,50 @@
+-- Which processes call which, and where calls form a cycle.
+use Rattle.std.specs.Prelude.{◌≡◌, ◌≢◌, ℕ, ◌<◌, ◌≤◌, Bool, List, [], ◌∷◌, ◌++◌, map, Contains, slice_get, Option, Some, None, length}
+use Rattle.tb_syntax.specs.declared.proc.Call.{Call}
+use Rattle.tb_syntax.specs.declared.proc.Proc.{Proc}
+use Rattle.tb_syntax.specs.declared.proc.Proc.TheOpen.{Proc-F, Atom, Call as CallOf, Seq, Alt, Star, Par, If, Let}
+use Rattle.tb_syntax.specs.declared.proc.Proc.TheFolds.{fold-Proc}
+use Rattle.tb_syntax.specs.declared.script.ProcDef.{ProcDef}
+use Rattle.tb_syntax.specs.declared.script.Script.{Script}
+use Rattle.tb_expand.specs.Acts.{process_of}
+
+abbrev pub or_none : Option (List (List ℕ)) → List (List ℕ)
+or_none None = []
+or_none (Some names) = names
+
+abbrev pub called_step : Proc-F (List (List ℕ)) → List (List ℕ)
+called_step (Atom def) = []
+called_step (CallOf call) = call.name ∷ []
+called_step (Seq x y) = x ++ y
+called_step (Alt x y) = x ++ y
+called_step (Star x y) = x ++ y
+called_step (Par x y) = x ++ y
+called_step (If test x y) = x ++ or_none y
+called_step (Let vars x) = x
+
+-- the processes that a body calls, in text order; one that it creates isn't called
+abbrev pub called : Proc → List (List ℕ)
+called = fold-Proc (List (List ℕ)) called_step
+
+-- a process is defined with the one name, and its body calls the other
+abbrev pub Calls : Script → List ℕ → List ℕ → Type 0
+Calls script caller name = (d : ProcDef) × Contains script.procs d × (d.name ≡ caller) × Contains (called d.body) name
+
+-- each calls the next, and the last calls this one
+abbrev pub GoRound : Script → List ℕ → List ℕ → List (List ℕ) → Type 0
+GoRound script back caller [] = Calls script caller back
+GoRound script back caller (name ∷ names) = Calls script caller name × GoRound script back name names
+
+-- the names differ
+abbrev pub Differ : List (List ℕ) → Type 0
+Differ [] = Unit {0}
+Differ (name ∷ names) = (Contains names name → ⊥) × Differ names
+
+-- a cycle of calls, of which the process that is defined first stands first
+pub record IsCycle (script : Script) (names : List (List ℕ)) : Type 0 where
+  pub first : List ℕ
+  pub others : List (List ℕ)
+  pub is : names ≡ first ∷ others
+  pub go_round : GoRound script first first others
+  pub differ : Differ names
+  pub is_first : (name : List ℕ) → Contains others name → process_of script first < process_of script name

@@ -1,0 +1,127 @@
+-- The expansion of a process: its body in which each call is replaced by a `let` round the expansion of the called process.
+use Rattle.std.specs.Prelude.{ℕ, zero, suc, ◌+◌, Bool, true, false, List, [], ◌∷◌, ◌++◌, map, length, filter, find, nat_lt, ◌||◌, not, Option, Some, None, if◌then◌else◌}
+use Rattle.std.specs.Str.{bytes_eq}
+use Rattle.tb_terms.specs.declared.expr.Expr.{Expr}
+use Rattle.tb_terms.specs.declared.sort.Sort.{Sort}
+use Rattle.tb_body.specs.declared.atom.Atom.{Atom}
+use Rattle.tb_body.specs.declared.tree.Tree.{Tree}
+use Rattle.tb_body.specs.declared.tree.Tree.TheVariants as tree
+use Rattle.tb_body.specs.declared.tree.Setting.{Setting}
+use Rattle.tb_body.specs.Trees.{tree_levels}
+use Rattle.tb_syntax.specs.declared.ast.Ast.{Ast}
+use Rattle.tb_syntax.specs.declared.proc.Call.{Call}
+use Rattle.tb_syntax.specs.declared.proc.Proc.{Proc}
+use Rattle.tb_syntax.specs.declared.proc.Proc.TheOpen.{Proc-F, Atom as AtomOf, Call as CallOf, Seq, Alt, Star, Par, If, Let}
+use Rattle.tb_syntax.specs.declared.proc.Proc.TheFolds.{fold-Proc}
+use Rattle.tb_syntax.specs.declared.proc.Var.{Var}
+use Rattle.tb_syntax.specs.declared.script.Formal.{Formal}
+use Rattle.tb_syntax.specs.declared.script.ProcDef.{ProcDef}
+use Rattle.tb_syntax.specs.declared.script.Script.{Script}
+use Rattle.tb_expand.specs.Scopes.{Scope, Seen, slot_of, declared, formals_seen}
+use Rattle.tb_expand.specs.Exprs.{expr_of}
+use Rattle.tb_expand.specs.Acts.{name_of, atom_of}
+
+-- a part of an expansion: its tree, its atoms, and the sorts of the slots that it declares, all in text order
+pub record Part : Type 0 where
+  pub tree : Tree
+  pub atoms : List Atom
+  pub sorts : List Sort
+
+-- What a process becomes where these variables are seen, with its atoms numbered and its slots taken from these numbers on.
+abbrev pub Expands : Type 0
+Expands = Scope → ℕ → ℕ → Part
+
+-- two sides one behind the other in the text
+abbrev pub both : (Tree → Tree → Tree) → Expands → Expands → Expands
+both join x y scope atom slot = joined (x scope atom slot) where
+  joined : Part → Part
+  joined front = behind (y scope (atom + length front.atoms) (slot + length front.sorts)) where
+    behind : Part → Part
+    behind back = record { tree = join front.tree back.tree; atoms = front.atoms ++ back.atoms; sorts = front.sorts ++ back.sorts }
+
+-- the same atoms and slots under another tree
+abbrev pub under : (Tree → Tree) → Part → Part
+under wrap part = record { tree = wrap part.tree; atoms = part.atoms; sorts = part.sorts }
+
+abbrev pub tested : Expr → Tree → Tree → Tree
+tested test x y = tree.If test x (Some y)
+
+abbrev pub test_of : Ast → Expands → Option Expands → Expands
+test_of test x None scope atom slot = under (λ side. tree.If (expr_of scope test) side None) (x scope atom slot)
+test_of test x (Some y) scope atom slot = both (tested (expr_of scope test)) x y scope atom slot
+
+-- each declared variable begins with the initial value of its sort
+abbrev pub initial : ℕ → List Var → List Setting
+initial slot [] = []
+initial slot (var ∷ vars) = record { slot = slot; start = None } ∷ initial (slot + 1) vars
+
+-- slots are declared in front of those of the part
+abbrev pub declaring : List Setting → List Sort → Part → Part
+declaring settings sorts part = record { tree = tree.Let settings part.tree; atoms = part.atoms; sorts = sorts ++ part.sorts }
+
+abbrev pub block_of : List Var → Expands → Expands
+block_of vars x scope atom slot =
+    declaring (initial slot vars) (map (λ (var : Var). var.sort) vars) (x (declared slot vars ++ scope) atom (slot + length vars))
+
+-- what a call sets: each value formal to its actual, which is taken where the call stands
+abbrev pub set_formals : Scope → ℕ → List Formal → List Ast → List Setting
+set_formals scope slot [] actuals = []
+set_formals scope slot (formal ∷ formals) [] = []
+set_formals scope slot (formal ∷ formals) (actual ∷ actuals) =
+    if formal.result then set_formals scope slot formals actuals
+    else record { slot = slot; start = Some (expr_of scope actual) } ∷ set_formals scope (slot + 1) formals actuals
+
+-- What the called process sees: its formals alone. A result formal is another name of the actual's variable.
+abbrev pub formals_of_call : Scope → ℕ → List Formal → List Ast → Scope
+formals_of_call scope slot [] actuals = []
+formals_of_call scope slot (formal ∷ formals) [] = []
+formals_of_call scope slot (formal ∷ formals) (actual ∷ actuals) =
+    if formal.result
+    then record { name = formal.name; slot = slot_of scope (name_of actual); sort = formal.sort } ∷ formals_of_call scope slot formals actuals
+    else record { name = formal.name; slot = slot; sort = formal.sort } ∷ formals_of_call scope (slot + 1) formals actuals
+
+-- the formals that take a slot
+abbrev pub value_formals : List Formal → List Formal
+value_formals formals = filter (λ (formal : Formal). not formal.result) formals
+
+abbrev pub definition_of : Script → List ℕ → Option ProcDef
+definition_of script name = find (λ (d : ProcDef). bytes_eq d.name name) script.procs
+
+-- what stands where no process is named so, which can't be in a checked script
+abbrev pub nothing : Part
+nothing = record { tree = tree.At 0; atoms = []; sorts = [] }
+
+-- a call, where it is known what bodies become
+abbrev pub call_of : Script → (Proc → Expands) → Call → Expands
+call_of script body call scope atom slot = of (definition_of script call.name) where
+  of : Option ProcDef → Part
+  of None = nothing
+  of (Some d) =
+      let formals = value_formals d.formals in
+      declaring (set_formals scope slot d.formals call.actuals) (map (λ (formal : Formal). formal.sort) formals)
+      (body d.body (formals_of_call scope slot d.formals call.actuals) atom (slot + length formals))
+
+abbrev pub proc_step : Script → (Proc → Expands) → Proc-F Expands → Expands
+proc_step script body (AtomOf def) scope atom slot = record { tree = tree.At atom; atoms = atom_of script scope def ∷ []; sorts = [] }
+proc_step script body (CallOf call) scope atom slot = call_of script body call scope atom slot
+proc_step script body (Seq x y) scope atom slot = both tree.Seq x y scope atom slot
+proc_step script body (Alt x y) scope atom slot = both tree.Alt x y scope atom slot
+proc_step script body (Star x y) scope atom slot = both tree.Star x y scope atom slot
+proc_step script body (Par x y) scope atom slot = both tree.Par x y scope atom slot
+proc_step script body (If test x y) scope atom slot = test_of test x y scope atom slot
+proc_step script body (Let vars x) scope atom slot = block_of vars x scope atom slot
+
+-- Calls within calls up to this depth. Where no calls form a cycle they are nowhere nested deeper than there are processes.
+abbrev pub expands : Script → ℕ → Proc → Expands
+expands script zero p scope atom slot = nothing
+expands script (suc depth) p scope atom slot = fold-Proc Expands (proc_step script (expands script depth)) p scope atom slot
+
+-- Atoms are numbered from 1 and slots from 0. The formals of the process come first, result formals too.
+abbrev pub expansion_of : Script → ProcDef → Part
+expansion_of script d = with_formals (expands script (length script.procs) d.body (formals_seen 0 d.formals) 1 (length d.formals)) where
+  with_formals : Part → Part
+  with_formals part = record { tree = part.tree; atoms = part.atoms; sorts = map (λ (formal : Formal). formal.sort) d.formals ++ part.sorts }
+
+-- over 20,000 atoms or over 1,000 levels
+abbrev pub is_too_large : Part → Bool
+is_too_large part = nat_lt 20000 (length part.atoms) || nat_lt 1000 (tree_levels part.tree)

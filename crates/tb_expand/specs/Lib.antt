@@ -1,0 +1,5 @@
+pub mod Scopes
+pub mod Exprs
+pub mod Acts
+pub mod Expansion
+pub mod Cycles

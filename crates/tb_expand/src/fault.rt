@@ -1,0 +1,16 @@
+use tb_terms::{Ident, Items};
+
+/// Names of processes in a row.
+pub type Idents = Items<Ident>;
+
+/// Why a process has no expansion.
+#[derive(Debug, Drop)]
+pub enum ExpandFault {
+    /// Calls form a cycle: each of these processes calls the next, and the last calls the first. The one
+    /// that is defined first stands first. Where there are several cycles any may be named.
+    Recursion(Idents),
+    /// The expansion of the process of this name has more than 20,000 atoms or more than 1,000 levels.
+    TooLarge(Ident),
+    /// There wasn't memory enough; it says nothing of the script.
+    NoMemory,
+}
