@@ -17,7 +17,8 @@ use Rattle.tb_syntax.specs.declared.proc.Var.{Var}
 use Rattle.tb_syntax.specs.declared.script.Formal.{Formal}
 use Rattle.tb_syntax.specs.declared.script.ProcDef.{ProcDef}
 use Rattle.tb_syntax.specs.declared.script.Script.{Script}
-use Rattle.tb_expand.specs.Scopes.{Scope, Seen, slot_of, declared, formals_seen}
+use Rattle.tb_expand.specs.declared.seen.Seen.{Seen}
+use Rattle.tb_expand.specs.Scopes.{Scope, slot_of, declared, formals_seen}
 use Rattle.tb_expand.specs.Exprs.{expr_of}
 use Rattle.tb_expand.specs.Acts.{name_of, atom_of}
 

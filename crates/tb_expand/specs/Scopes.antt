@@ -1,24 +1,23 @@
 -- Which variables are seen at a place of a body: the innermost of a name hides the others.
-use Rattle.std.specs.Prelude.{ℕ, ◌+◌, Bool, List, [], ◌∷◌, map, Option, Some, None, if◌then◌else◌}
+use Rattle.std.specs.Prelude.{ℕ, ◌+◌, Bool, List, [], ◌∷◌, ◌++◌, find, Option, Some, None}
 use Rattle.std.specs.Str.{bytes_eq}
+use Rattle.std.specs.List.{fold}
 use Rattle.tb_terms.specs.declared.sort.Sort.{Sort}
 use Rattle.tb_terms.specs.declared.sort.Sort.TheVariants as sort
 use Rattle.tb_syntax.specs.declared.proc.Var.{Var}
 use Rattle.tb_syntax.specs.declared.script.Formal.{Formal}
-
--- a variable that is seen: the slot for which its name stands, and its sort
-pub record Seen : Type 0 where
-  pub name : List ℕ
-  pub slot : ℕ
-  pub sort : Sort
+use Rattle.tb_expand.specs.declared.seen.Seen.{Seen}
 
 -- what is seen, the innermost first
 abbrev pub Scope : Type 0
 Scope = List Seen
 
+-- the variables of open blocks, of which the outermost block stands first
+abbrev pub of_blocks : List Scope → Scope
+of_blocks blocks = fold (λ (outer : Scope) (block : Scope). block ++ outer) [] blocks
+
 abbrev pub seen_as : List ℕ → Scope → Option Seen
-seen_as name [] = None
-seen_as name (seen ∷ scope) = if bytes_eq seen.name name then Some seen else seen_as name scope
+seen_as name scope = find (λ (seen : Seen). bytes_eq seen.name name) scope
 
 -- In a checked script each variable is seen; the slot 0 and the sort of all terms stand for the others.
 abbrev pub slot_or_0 : Option Seen → ℕ
@@ -35,7 +34,7 @@ sort_or_term (Some seen) = seen.sort
 abbrev pub sort_of : Scope → List ℕ → Sort
 sort_of scope name = sort_or_term (seen_as name scope)
 
--- each with a slot of its own, from this one on; a later one hides an earlier one, which can't be in a checked script
+-- each with a slot of its own, from this one on; their names differ in a checked script
 abbrev pub declared : ℕ → List Var → Scope
 declared slot [] = []
 declared slot (var ∷ vars) = record { name = var.name; slot = slot; sort = var.sort } ∷ declared (slot + 1) vars

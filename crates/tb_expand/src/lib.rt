@@ -2,7 +2,11 @@
 #![tactic(auto)]
 
 mod expansion;
+mod exprs;
 mod fault;
+mod number;
+mod scope;
+mod seen;
 
 pub use expansion::expand;
 pub use fault::ExpandFault;

@@ -1,0 +1,55 @@
+ghost use Rattle.std.specs.Prelude.{◌≡◌, ◌++◌, ◌∷◌, [], IfOk, OnOk, Some, find};
+ghost use Rattle.std.specs.Str.{bytes_eq};
+ghost use Rattle.std.specs.Option.{option_copied};
+ghost use Rattle.tb_expand.specs.Scopes.{of_blocks, seen_as, slot_of, sort_of};
+
+use crate::seen::{Block, Seen};
+use std::alloc::Global;
+use tb_terms::{Ident, Items, NoMemory, Sort};
+
+/// The variables that are seen at a place, by the blocks round it, of which the outermost stands first.
+pub(crate) type Blocks = Items<Block>;
+
+/// The slot of the innermost variable of this name, or 0 where none is seen.
+pub(crate) fn slot_of(blocks: &Blocks, name: &Ident) -> u32
+    ensures { result ≡ slot_of (of_blocks blocks.now) name.now }
+{
+    match seen_as(blocks.as_slice(), name) {
+        Some(seen) => seen.slot,
+        None => 0,
+    }
+}
+
+/// The sort of the innermost variable of this name, or that of all terms where none is seen.
+pub(crate) fn sort_of(alloc: Global, blocks: &Blocks, name: &Ident) -> Result<Sort, NoMemory>
+    ensures { IfOk result (λ sort. sort ≡ sort_of (of_blocks blocks.now) name.now) }
+{
+    match seen_as(blocks.as_slice(), name) {
+        Some(seen) => Ok(seen.sort.copy(alloc)?),
+        None => Ok(Sort::Any),
+    }
+}
+
+fn seen_as<'a>(blocks: &'a [Block], name: &Ident) -> Option<&'a Seen>
+    ensures { option_copied result ≡ seen_as name.now (of_blocks blocks.now) }
+{
+    let mut left = blocks.len();
+    while left > 0 {
+        left -= 1;
+        if let Some(seen) = seen_in(blocks[left].as_slice(), name) {
+            return Some(seen);
+        }
+    }
+    None
+}
+
+fn seen_in<'a>(block: &'a [Seen], name: &Ident) -> Option<&'a Seen>
+    ensures { option_copied result ≡ seen_as name.now block.now }
+{
+    for seen in block {
+        if seen.name.is_same(name) {
+            return Some(seen);
+        }
+    }
+    None
+}
