@@ -81,8 +81,8 @@ abbrev pub or_act : List ℕ → List ℕ → Act → Act → Act
 or_act word name found other = if bytes_eq word name then found else other
 
 -- any number of arguments of one kind
-abbrev pub act_of_list : Script → Scope → List ℕ → List Ast → Act
-act_of_list script scope word arguments =
+abbrev pub act_of_list : Scope → List ℕ → List Ast → Act
+act_of_list scope word arguments =
     or_act word (codes "snd-msg") (act.SndMsg (exprs_of scope arguments))
     (or_act word (codes "rec-msg") (act.RecMsg (exprs_of scope arguments))
     (or_act word (codes "snd-note") (act.SndNote (exprs_of scope arguments))
@@ -97,14 +97,14 @@ abbrev pub act_of_one : Script → Scope → List ℕ → Ast → Act
 act_of_one script scope word e =
     or_act word (codes "shutdown") (act.Shutdown (expr_of scope e))
     (or_act word (codes "rec-connect") (connected script scope e)
-    (or_act word (codes "rec-disconnect") (disconnected script scope e (out-AstKind e.kind)) (act_of_list script scope word (e ∷ []))))
+    (or_act word (codes "rec-disconnect") (disconnected script scope e (out-AstKind e.kind)) (act_of_list scope word (e ∷ []))))
 
 -- a first argument, and others
-abbrev pub act_of_more : Script → Scope → List ℕ → Ast → List Ast → Act
-act_of_more script scope word e others =
+abbrev pub act_of_more : Scope → List ℕ → Ast → List Ast → Act
+act_of_more scope word e others =
     or_act word (codes "rec-event") (act.RecEvent (expr_of scope e) (exprs_of scope others))
     (or_act word (codes "snd-ack-event") (act.SndAckEvent (expr_of scope e) (exprs_of scope others))
-    (act_of_list script scope word (e ∷ others)))
+    (act_of_list scope word (e ∷ others)))
 
 -- two arguments
 abbrev pub act_of_two : Script → Scope → List ℕ → Ast → Ast → Act
@@ -114,13 +114,13 @@ act_of_two script scope word x y =
     (or_act word (codes "rec-value") (act.RecValue (expr_of scope x) (expr_of scope y))
     (or_act word (codes "snd-do") (act.SndDo (expr_of scope x) (expr_of scope y))
     (or_act word (codes "snd-terminate") (act.SndTerminate (expr_of scope x) (expr_of scope y))
-    (act_of_more script scope word x (y ∷ []))))))
+    (act_of_more scope word x (y ∷ []))))))
 
 abbrev pub act_of_word : Script → Scope → List ℕ → List Ast → Act
 act_of_word script scope word [] = act_without word
 act_of_word script scope word (e ∷ []) = act_of_one script scope word e
 act_of_word script scope word (x ∷ y ∷ []) = act_of_two script scope word x y
-act_of_word script scope word (x ∷ y ∷ z ∷ more) = act_of_more script scope word x (y ∷ z ∷ more)
+act_of_word script scope word (x ∷ y ∷ z ∷ more) = act_of_more scope word x (y ∷ z ∷ more)
 
 abbrev pub act_of : Script → Scope → ActDef → Act
 act_of script scope (def.Set name value) = act.Set (slot_of scope name) (expr_of scope value)

@@ -28,8 +28,8 @@ fn kind_expr(alloc: Global, blocks: &Blocks, kind: &AstKind) -> Result<Expr, NoM
             let parts = exprs_of(alloc, blocks, parts.as_slice())?;
             Ok(named(alloc, name, parts)?)
         }
-        AstKind::Var(name) => Ok(Expr::Var(slot_of(blocks, name))),
-        AstKind::Result(name) => Ok(Expr::Result(slot_of(blocks, name))),
+        AstKind::Var(name) => Ok(Expr::Var(slot_of(blocks, name.as_bytes()))),
+        AstKind::Result(name) => Ok(Expr::Result(slot_of(blocks, name.as_bytes()))),
         AstKind::Hole(sort) => Ok(Expr::Hole(sort.copy(alloc)?)),
         AstKind::List(parts) => Ok(Expr::List(exprs_of(alloc, blocks, parts.as_slice())?)),
     }

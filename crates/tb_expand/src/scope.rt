@@ -5,13 +5,13 @@ ghost use Rattle.tb_expand.specs.Scopes.{of_blocks, seen_as, slot_of, sort_of};
 
 use crate::seen::{Block, Seen};
 use std::alloc::Global;
-use tb_terms::{Ident, Items, NoMemory, Sort};
+use tb_terms::{Items, NoMemory, Sort};
 
 /// The variables that are seen at a place, by the blocks round it, of which the outermost stands first.
 pub(crate) type Blocks = Items<Block>;
 
 /// The slot of the innermost variable of this name, or 0 where none is seen.
-pub(crate) fn slot_of(blocks: &Blocks, name: &Ident) -> u32
+pub(crate) fn slot_of(blocks: &Blocks, name: &[u8]) -> u32
     ensures { result ≡ slot_of (of_blocks blocks.now) name.now }
 {
     match seen_as(blocks.as_slice(), name) {
@@ -21,7 +21,7 @@ pub(crate) fn slot_of(blocks: &Blocks, name: &Ident) -> u32
 }
 
 /// The sort of the innermost variable of this name, or that of all terms where none is seen.
-pub(crate) fn sort_of(alloc: Global, blocks: &Blocks, name: &Ident) -> Result<Sort, NoMemory>
+pub(crate) fn sort_of(alloc: Global, blocks: &Blocks, name: &[u8]) -> Result<Sort, NoMemory>
     ensures { IfOk result (λ sort. sort ≡ sort_of (of_blocks blocks.now) name.now) }
 {
     match seen_as(blocks.as_slice(), name) {
@@ -30,7 +30,7 @@ pub(crate) fn sort_of(alloc: Global, blocks: &Blocks, name: &Ident) -> Result<So
     }
 }
 
-fn seen_as<'a>(blocks: &'a [Block], name: &Ident) -> Option<&'a Seen>
+fn seen_as<'a>(blocks: &'a [Block], name: &[u8]) -> Option<&'a Seen>
     ensures { option_copied result ≡ seen_as name.now (of_blocks blocks.now) }
 {
     let mut left = blocks.len();
@@ -43,11 +43,11 @@ fn seen_as<'a>(blocks: &'a [Block], name: &Ident) -> Option<&'a Seen>
     None
 }
 
-fn seen_in<'a>(block: &'a [Seen], name: &Ident) -> Option<&'a Seen>
+fn seen_in<'a>(block: &'a [Seen], name: &[u8]) -> Option<&'a Seen>
     ensures { option_copied result ≡ seen_as name.now block.now }
 {
     for seen in block {
-        if seen.name.is_same(name) {
+        if seen.name.as_bytes() == name {
             return Some(seen);
         }
     }

@@ -1,0 +1,58 @@
+ghost use Rattle.std.specs.Prelude.{◌≡◌, IfOk, map};
+ghost use Rattle.tb_expand.specs.Scopes.{of_blocks};
+ghost use Rattle.tb_expand.specs.Acts.{atom_of, time_kind, time_of};
+
+use crate::acts::{act_of, is};
+use crate::exprs::expr_of;
+use crate::scope::Blocks;
+use std::alloc::Global;
+use tb_body::{Atom, Time, TimeKind, Times};
+use tb_syntax::{AtomDef, Script, TimeDef};
+use tb_terms::{Items, NoMemory};
+
+/// The atom with its variables as slots.
+pub(crate) fn atom_of(
+    alloc: Global,
+    script: &Script,
+    blocks: &Blocks,
+    def: &AtomDef,
+) -> Result<Atom, NoMemory>
+    ensures { IfOk result (λ atom. atom ≡ atom_of script.now (of_blocks blocks.now) def.now) }
+{
+    let times = times_of(alloc, blocks, def.times.as_slice())?;
+    let act = act_of(alloc, script, blocks, &def.act)?;
+    Ok(Atom { act, times })
+}
+
+fn times_of(alloc: Global, blocks: &Blocks, defs: &[TimeDef]) -> Result<Times, NoMemory>
+    ensures { IfOk result (λ times. times ≡ map (time_of (of_blocks blocks.now)) defs.now) }
+{
+    let mut times = Items::new(alloc);
+    for def in defs {
+        times.push(time_of(alloc, blocks, def)?)?;
+    }
+    Ok(times)
+}
+
+fn time_of(alloc: Global, blocks: &Blocks, def: &TimeDef) -> Result<Time, NoMemory>
+    ensures { IfOk result (λ time. time ≡ time_of (of_blocks blocks.now) def.now) }
+{
+    let kind = time_kind(def.name.as_bytes());
+    let value = expr_of(alloc, blocks, &def.value)?;
+    Ok(Time { kind, value })
+}
+
+fn time_kind(word: &[u8]) -> TimeKind
+    ensures { result ≡ time_kind word.now }
+{
+    if is(word, "delay") {
+        return TimeKind::Delay;
+    }
+    if is(word, "timeout") {
+        return TimeKind::Timeout;
+    }
+    if is(word, "abs-delay") {
+        return TimeKind::AbsDelay;
+    }
+    TimeKind::AbsTimeout
+}
