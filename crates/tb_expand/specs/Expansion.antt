@@ -9,6 +9,7 @@ use Rattle.tb_body.specs.declared.tree.Tree.TheVariants as tree
 use Rattle.tb_body.specs.declared.tree.Setting.{Setting}
 use Rattle.tb_body.specs.Trees.{tree_levels}
 use Rattle.tb_syntax.specs.declared.ast.Ast.{Ast}
+use Rattle.tb_syntax.specs.declared.proc.AtomDef.{AtomDef}
 use Rattle.tb_syntax.specs.declared.proc.Call.{Call}
 use Rattle.tb_syntax.specs.declared.proc.Proc.{Proc}
 use Rattle.tb_syntax.specs.declared.proc.Proc.TheOpen.{Proc-F, Atom as AtomOf, Call as CallOf, Seq, Alt, Star, Par, If, Let}
@@ -60,9 +61,12 @@ initial slot (var ∷ vars) = record { slot = slot; start = None } ∷ initial (
 abbrev pub declaring : List Setting → List Sort → Part → Part
 declaring settings sorts part = record { tree = tree.Let settings part.tree; atoms = part.atoms; sorts = sorts ++ part.sorts }
 
+abbrev pub sorts_of_vars : List Var → List Sort
+sorts_of_vars vars = map (λ (var : Var). var.sort) vars
+
 abbrev pub block_of : List Var → Expands → Expands
 block_of vars x scope atom slot =
-    declaring (initial slot vars) (map (λ (var : Var). var.sort) vars) (x (declared slot vars ++ scope) atom (slot + length vars))
+    declaring (initial slot vars) (sorts_of_vars vars) (x (declared slot vars ++ scope) atom (slot + length vars))
 
 -- what a call sets: each value formal to its actual, which is taken where the call stands
 abbrev pub set_formals : Scope → ℕ → List Formal → List Ast → List Setting
@@ -85,6 +89,9 @@ formals_of_call scope slot (formal ∷ formals) (actual ∷ actuals) =
 abbrev pub value_formals : List Formal → List Formal
 value_formals formals = filter (λ (formal : Formal). not formal.result) formals
 
+abbrev pub sorts_of : List Formal → List Sort
+sorts_of formals = map (λ (formal : Formal). formal.sort) formals
+
 abbrev pub definition_of : Script → List ℕ → Option ProcDef
 definition_of script name = find (λ (d : ProcDef). bytes_eq d.name name) script.procs
 
@@ -99,11 +106,15 @@ call_of script body call scope atom slot = of (definition_of script call.name) w
   of None = nothing
   of (Some d) =
       let formals = value_formals d.formals in
-      declaring (set_formals scope slot d.formals call.actuals) (map (λ (formal : Formal). formal.sort) formals)
+      declaring (set_formals scope slot d.formals call.actuals) (sorts_of formals)
       (body d.body (formals_of_call scope slot d.formals call.actuals) atom (slot + length formals))
 
+-- one atom
+abbrev pub atom_only : Script → AtomDef → Expands
+atom_only script def scope atom slot = record { tree = tree.At atom; atoms = atom_of script scope def ∷ []; sorts = [] }
+
 abbrev pub proc_step : Script → (Proc → Expands) → Proc-F Expands → Expands
-proc_step script body (AtomOf def) scope atom slot = record { tree = tree.At atom; atoms = atom_of script scope def ∷ []; sorts = [] }
+proc_step script body (AtomOf def) scope atom slot = atom_only script def scope atom slot
 proc_step script body (CallOf call) scope atom slot = call_of script body call scope atom slot
 proc_step script body (Seq x y) scope atom slot = both tree.Seq x y scope atom slot
 proc_step script body (Alt x y) scope atom slot = both tree.Alt x y scope atom slot
@@ -112,16 +123,20 @@ proc_step script body (Par x y) scope atom slot = both tree.Par x y scope atom s
 proc_step script body (If test x y) scope atom slot = test_of test x y scope atom slot
 proc_step script body (Let vars x) scope atom slot = block_of vars x scope atom slot
 
+-- a process, where it is known what the bodies of called ones become
+abbrev pub expands_with : Script → (Proc → Expands) → Proc → Expands
+expands_with script body p = fold-Proc Expands (proc_step script body) p
+
 -- Calls within calls up to this depth. Where no calls form a cycle they are nowhere nested deeper than there are processes.
 abbrev pub expands : Script → ℕ → Proc → Expands
 expands script zero p scope atom slot = nothing
-expands script (suc depth) p scope atom slot = fold-Proc Expands (proc_step script (expands script depth)) p scope atom slot
+expands script (suc depth) p scope atom slot = expands_with script (expands script depth) p scope atom slot
 
 -- Atoms are numbered from 1 and slots from 0. The formals of the process come first, result formals too.
 abbrev pub expansion_of : Script → ProcDef → Part
 expansion_of script d = with_formals (expands script (length script.procs) d.body (formals_seen 0 d.formals) 1 (length d.formals)) where
   with_formals : Part → Part
-  with_formals part = record { tree = part.tree; atoms = part.atoms; sorts = map (λ (formal : Formal). formal.sort) d.formals ++ part.sorts }
+  with_formals part = record { tree = part.tree; atoms = part.atoms; sorts = sorts_of d.formals ++ part.sorts }
 
 -- over 20,000 atoms or over 1,000 levels
 abbrev pub is_too_large : Part → Bool

@@ -2,4 +2,5 @@ pub mod Scopes
 pub mod Exprs
 pub mod Acts
 pub mod Expansion
+pub mod Building
 pub mod Cycles

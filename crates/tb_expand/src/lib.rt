@@ -4,12 +4,16 @@
 mod acts;
 mod atoms;
 mod expansion;
+mod built;
 mod exprs;
 mod fault;
 mod number;
+mod part_fault;
+mod parts;
 mod places;
 mod scope;
 mod seen;
+mod slots;
 
 pub use expansion::expand;
 pub use fault::ExpandFault;

@@ -1,0 +1,209 @@
+ghost use Rattle.std.specs.Prelude.{◌≡◌, ◌+◌, IfOk, length, option_map};
+ghost use Rattle.std.specs.Option.{option_copied};
+ghost use Rattle.tb_body.specs.declared.tree.Tree.{Tree};
+ghost use Rattle.tb_expand.specs.Expansion.{atom_only, expands, expands_with, both, block_of, call_of, definition_of, test_of};
+ghost use Rattle.tb_expand.specs.Building.{Adds, with_part};
+
+use crate::atoms::atom_of;
+use crate::built::Built;
+use crate::exprs::expr_of;
+use crate::number::{following, number};
+use crate::part_fault::PartFault;
+use crate::scope::Blocks;
+use crate::seen::Block;
+use crate::slots::{
+    declared, formals_of_call, initial, set_formals, sorts_of_vars, value_sorts,
+};
+use std::alloc::Global;
+use tb_body::Tree;
+use tb_syntax::{Ast, AtomDef, Call, Proc, ProcDef, Script, Var};
+use tb_terms::{Boxed, Items};
+
+/// The tree of a process, whose atoms and slots are added to those that are built. It may have this
+/// many levels, and calls within it are replaced up to this depth and one more.
+#[cycle(parts)]
+pub(crate) fn part_of(
+    alloc: Global,
+    script: &Script,
+    depth: usize,
+    levels: usize,
+    blocks: &mut Blocks,
+    built: &mut Built,
+    p: &Proc,
+) -> Result<Tree, PartFault>
+    ensures { IfOk result (λ tree. Adds (expands_with script.now (expands script.now depth) p.now) blocks.old built.old tree blocks.new built.new) }
+{
+    if levels == 0 {
+        return Err(PartFault::TooLarge);
+    }
+    let below = levels - 1;
+    match p {
+        Proc::Atom(def) => Ok(atom_part(alloc, script, blocks, built, def)?),
+        Proc::Call(call) => Ok(call_part(alloc, script, depth, below, blocks, built, call)?),
+        Proc::Seq(x, y) => {
+            let (x, y) = sides(alloc, script, depth, below, blocks, built, x.get(), y.get())?;
+            Ok(Tree::Seq(x, y))
+        }
+        Proc::Alt(x, y) => {
+            let (x, y) = sides(alloc, script, depth, below, blocks, built, x.get(), y.get())?;
+            Ok(Tree::Alt(x, y))
+        }
+        Proc::Star(x, y) => {
+            let (x, y) = sides(alloc, script, depth, below, blocks, built, x.get(), y.get())?;
+            Ok(Tree::Star(x, y))
+        }
+        Proc::Par(x, y) => {
+            let (x, y) = sides(alloc, script, depth, below, blocks, built, x.get(), y.get())?;
+            Ok(Tree::Par(x, y))
+        }
+        Proc::If(test, x, y) => Ok(if_part(alloc, script, depth, below, blocks, built, test, x.get(), y)?),
+        Proc::Let(vars, x) => {
+            let vars = vars.as_slice();
+            Ok(let_part(alloc, script, depth, below, blocks, built, vars, x.get())?)
+        }
+    }
+}
+
+fn atom_part(
+    alloc: Global,
+    script: &Script,
+    blocks: &Blocks,
+    built: &mut Built,
+    def: &AtomDef,
+) -> Result<Tree, PartFault>
+    ensures { IfOk result (λ tree. Adds (atom_only script.now def.now) blocks.now built.old tree blocks.now built.new) }
+{
+    let number = number(built.atoms.len())?;
+    let number = following(number)?;
+    built.atoms.push(atom_of(alloc, script, blocks, def)?)?;
+    Ok(Tree::At(number))
+}
+
+/// Two sides, one behind the other in the text.
+#[cycle(parts)]
+fn sides(
+    alloc: Global,
+    script: &Script,
+    depth: usize,
+    levels: usize,
+    blocks: &mut Blocks,
+    built: &mut Built,
+    x: &Proc,
+    y: &Proc,
+) -> Result<(Boxed<Tree>, Boxed<Tree>), PartFault>
+    ensures { IfOk result (λ s. (join : Tree → Tree → Tree) → Adds (both join (expands_with script.now (expands script.now depth) x.now) (expands_with script.now (expands script.now depth) y.now)) blocks.old built.old (join s.0 s.1) blocks.new built.new) }
+{
+    let x = part_of(alloc, script, depth, levels, blocks, built, x)?;
+    let x = Boxed::new(alloc, x)?;
+    let y = part_of(alloc, script, depth, levels, blocks, built, y)?;
+    let y = Boxed::new(alloc, y)?;
+    Ok((x, y))
+}
+
+#[cycle(parts)]
+fn if_part(
+    alloc: Global,
+    script: &Script,
+    depth: usize,
+    levels: usize,
+    blocks: &mut Blocks,
+    built: &mut Built,
+    test: &Ast,
+    x: &Proc,
+    y: &Option<Boxed<Proc>>,
+) -> Result<Tree, PartFault>
+    ensures { IfOk result (λ tree. Adds (test_of test.now (expands_with script.now (expands script.now depth) x.now) (option_map (expands_with script.now (expands script.now depth)) y.now)) blocks.old built.old tree blocks.new built.new) }
+{
+    let test = expr_of(alloc, blocks, test)?;
+    match y {
+        Some(y) => {
+            let (x, y) = sides(alloc, script, depth, levels, blocks, built, x, y.get())?;
+            Ok(Tree::If(test, x, Some(y)))
+        }
+        None => {
+            let x = part_of(alloc, script, depth, levels, blocks, built, x)?;
+            Ok(Tree::If(test, Boxed::new(alloc, x)?, None))
+        }
+    }
+}
+
+#[cycle(parts)]
+fn let_part(
+    alloc: Global,
+    script: &Script,
+    depth: usize,
+    levels: usize,
+    blocks: &mut Blocks,
+    built: &mut Built,
+    vars: &[Var],
+    x: &Proc,
+) -> Result<Tree, PartFault>
+    ensures { IfOk result (λ tree. Adds (block_of vars.now (expands_with script.now (expands script.now depth) x.now)) blocks.old built.old tree blocks.new built.new) }
+{
+    let slot = number(built.sorts.len())?;
+    let settings = initial(alloc, slot, vars)?;
+    blocks.push(declared(alloc, slot, vars)?)?;
+    built.sorts.append(sorts_of_vars(alloc, vars)?)?;
+    let x = part_of(alloc, script, depth, levels, blocks, built, x)?;
+    let _ = blocks.pop();
+    Ok(Tree::Let(settings, Boxed::new(alloc, x)?))
+}
+
+#[cycle(parts)]
+fn call_part(
+    alloc: Global,
+    script: &Script,
+    depth: usize,
+    levels: usize,
+    blocks: &Blocks,
+    built: &mut Built,
+    call: &Call,
+) -> Result<Tree, PartFault>
+    ensures { IfOk result (λ tree. Adds (call_of script.now (expands script.now depth) call.now) blocks.now built.old tree blocks.now built.new) }
+{
+    let Some(def) = definition_of(script, call.name.as_bytes()) else {
+        return Ok(Tree::At(0));
+    };
+    let formals = def.formals.as_slice();
+    let actuals = call.actuals.as_slice();
+    let slot = number(built.sorts.len())?;
+    let settings = set_formals(alloc, blocks, slot, formals, actuals)?;
+    let block = formals_of_call(alloc, blocks, slot, formals, actuals)?;
+    built.sorts.append(value_sorts(alloc, formals)?)?;
+    let x = body_part(alloc, script, depth, levels, block, built, &def.body)?;
+    Ok(Tree::Let(settings, Boxed::new(alloc, x)?))
+}
+
+/// The body of a called process, in which its formals alone are seen.
+#[cycle(parts)]
+fn body_part(
+    alloc: Global,
+    script: &Script,
+    depth: usize,
+    levels: usize,
+    block: Block,
+    built: &mut Built,
+    body: &Proc,
+) -> Result<Tree, PartFault>
+    ensures { IfOk result (λ tree. (tree ≡ (expands script.now depth body.now block (length built.old.atoms + 1) (length built.old.sorts)).tree)
+        × (built.new ≡ with_part built.old (expands script.now depth body.now block (length built.old.atoms + 1) (length built.old.sorts)))) }
+{
+    if depth == 0 {
+        return Ok(Tree::At(0));
+    }
+    let mut blocks = Items::new(alloc);
+    blocks.push(block)?;
+    Ok(part_of(alloc, script, depth - 1, levels, &mut blocks, built, body)?)
+}
+
+/// The definition of the process of this name.
+fn definition_of<'a>(script: &'a Script, name: &[u8]) -> Option<&'a ProcDef>
+    ensures { option_copied result ≡ definition_of script.now name.now }
+{
+    for def in script.procs.as_slice() {
+        if def.name.as_bytes() == name {
+            return Some(def);
+        }
+    }
+    None
+}

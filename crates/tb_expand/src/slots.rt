@@ -1,0 +1,154 @@
+ghost use Rattle.std.specs.Prelude.{◌≡◌, ◌+◌, IfOk, map};
+ghost use Rattle.tb_expand.specs.Scopes.{of_blocks, declared, slot_of};
+ghost use Rattle.tb_expand.specs.Exprs.{expr_of};
+ghost use Rattle.tb_expand.specs.Acts.{name_of};
+ghost use Rattle.tb_expand.specs.Expansion.{initial, sorts_of_vars, sorts_of, value_formals, set_formals, formals_of_call};
+
+use crate::exprs::expr_of;
+use crate::number::following;
+use crate::places::name_of;
+use crate::scope::{Blocks, slot_of};
+use crate::seen::{Block, Seen};
+use std::alloc::Global;
+use tb_body::{Setting, Settings};
+use tb_syntax::{Ast, Formal, Var};
+use tb_terms::{Items, NoMemory, Sorts};
+
+/// The variables of a `let`, each with a slot of its own from this one on.
+pub(crate) fn declared(alloc: Global, slot: u32, vars: &[Var]) -> Result<Block, NoMemory>
+    ensures { IfOk result (λ block. block ≡ declared slot vars.now) }
+{
+    let mut block = Items::new(alloc);
+    let mut next = slot;
+    for var in vars {
+        block.push(seen(alloc, var, next)?)?;
+        next = following(next)?;
+    }
+    Ok(block)
+}
+
+fn seen(alloc: Global, var: &Var, slot: u32) -> Result<Seen, NoMemory>
+    ensures { IfOk result (λ seen. seen ≡ record { name = var.now.name; slot = slot; sort = var.now.sort }) }
+{
+    let name = var.name.copy(alloc)?;
+    let sort = var.sort.copy(alloc)?;
+    Ok(Seen { name, slot, sort })
+}
+
+/// Each variable of a `let` with the value with which its sort begins.
+pub(crate) fn initial(alloc: Global, slot: u32, vars: &[Var]) -> Result<Settings, NoMemory>
+    ensures { IfOk result (λ settings. settings ≡ initial slot vars.now) }
+{
+    let mut settings = Items::new(alloc);
+    let mut next = slot;
+    for _var in vars {
+        settings.push(Setting {
+            slot: next,
+            start: None,
+        })?;
+        next = following(next)?;
+    }
+    Ok(settings)
+}
+
+pub(crate) fn sorts_of_vars(alloc: Global, vars: &[Var]) -> Result<Sorts, NoMemory>
+    ensures { IfOk result (λ sorts. sorts ≡ sorts_of_vars vars.now) }
+{
+    let mut sorts = Items::new(alloc);
+    for var in vars {
+        sorts.push(var.sort.copy(alloc)?)?;
+    }
+    Ok(sorts)
+}
+
+/// The sorts of the formals that take a slot.
+pub(crate) fn value_sorts(alloc: Global, formals: &[Formal]) -> Result<Sorts, NoMemory>
+    ensures { IfOk result (λ sorts. sorts ≡ sorts_of (value_formals formals.now)) }
+{
+    let mut sorts = Items::new(alloc);
+    for formal in formals {
+        if !formal.result {
+            sorts.push(formal.sort.copy(alloc)?)?;
+        }
+    }
+    Ok(sorts)
+}
+
+/// What a call sets: each value formal to its actual.
+pub(crate) fn set_formals(
+    alloc: Global,
+    blocks: &Blocks,
+    slot: u32,
+    formals: &[Formal],
+    actuals: &[Ast],
+) -> Result<Settings, NoMemory>
+    ensures { IfOk result (λ settings. settings ≡ set_formals (of_blocks blocks.now) slot formals.now actuals.now) }
+{
+    let mut settings = Items::new(alloc);
+    let mut next = slot;
+    let mut formals_left = formals;
+    let mut actuals_left = actuals;
+    while let Some((formal, others)) = formals_left.split_first() {
+        let Some((actual, more)) = actuals_left.split_first() else {
+            return Ok(settings);
+        };
+        if !formal.result {
+            settings.push(setting(alloc, blocks, next, actual)?)?;
+            next = following(next)?;
+        }
+        formals_left = others;
+        actuals_left = more;
+    }
+    Ok(settings)
+}
+
+fn setting(
+    alloc: Global,
+    blocks: &Blocks,
+    slot: u32,
+    actual: &Ast,
+) -> Result<Setting, NoMemory>
+    ensures { IfOk result (λ setting. setting ≡ record { slot = slot; start = Some (expr_of (of_blocks blocks.now) actual.now) }) }
+{
+    let start = Some(expr_of(alloc, blocks, actual)?);
+    Ok(Setting { slot, start })
+}
+
+/// The formals of a call. A result formal is another name of its actual's variable.
+pub(crate) fn formals_of_call(
+    alloc: Global,
+    blocks: &Blocks,
+    slot: u32,
+    formals: &[Formal],
+    actuals: &[Ast],
+) -> Result<Block, NoMemory>
+    ensures { IfOk result (λ block. block ≡ formals_of_call (of_blocks blocks.now) slot formals.now actuals.now) }
+{
+    let mut block = Items::new(alloc);
+    let mut next = slot;
+    let mut formals_left = formals;
+    let mut actuals_left = actuals;
+    while let Some((formal, others)) = formals_left.split_first() {
+        let Some((actual, more)) = actuals_left.split_first() else {
+            return Ok(block);
+        };
+        if formal.result {
+            let slot = slot_of(blocks, name_of(actual));
+            block.push(formal_seen(alloc, formal, slot)?)?;
+        } else {
+            block.push(formal_seen(alloc, formal, next)?)?;
+            next = following(next)?;
+        }
+        formals_left = others;
+        actuals_left = more;
+    }
+    Ok(block)
+}
+
+fn formal_seen(alloc: Global, formal: &Formal, slot: u32) -> Result<Seen, NoMemory>
+    ensures { IfOk result (λ seen. seen ≡ record { name = formal.now.name; slot = slot; sort = formal.now.sort }) }
+{
+    let name = formal.name.copy(alloc)?;
+    let sort = formal.sort.copy(alloc)?;
+    Ok(Seen { name, slot, sort })
+}
