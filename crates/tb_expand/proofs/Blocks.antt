@@ -1,7 +1,6 @@
 -- Blocks one by one.
-use Rattle.std.proofs.Common.{◌≡◌, ℕ, suc, ◌+◌, ◌<◌, List, [], ◌∷◌, ◌++◌, ◌-◌, ◌≤◌, Option, Some, None, take, length, get_or, find, ap, arith, ◌∙◌, sym, refl}
+use Rattle.std.proofs.Common.{◌≡◌, ℕ, suc, ◌<◌, List, [], ◌∷◌, ◌++◌, ◌-◌, ◌≤◌, Option, Some, None, take, length, get_or, ap, arith, ◌∙◌, sym}
 use Rattle.std.specs.Option.{option_or}
-use Rattle.std.specs.List.{fold}
 use Rattle.std.specs.Str.{bytes_eq}
 use Rattle.std.proofs.lemmas.List.Sums.{fold-append}
 use Rattle.std.proofs.lemmas.List.Folds.{find-append}

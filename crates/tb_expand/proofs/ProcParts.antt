@@ -1,5 +1,5 @@
 -- What each kind of process becomes.
-use Rattle.std.proofs.Common.{◌≡◌, List, Option, Some, None, option_map, ap, ◌∙◌, sym, subst}
+use Rattle.std.proofs.Common.{◌≡◌, List, Option, Some, option_map, ap, ◌∙◌, sym, subst}
 use Rattle.tb_body.specs.declared.tree.Tree.{Tree}
 use Rattle.tb_body.specs.declared.tree.Tree.TheVariants as tree
 use Rattle.tb_syntax.specs.declared.ast.Ast.{Ast}
@@ -45,7 +45,7 @@ pub sides_of : (script : Script) (body : Proc → Expands) (con : Proc → Proc 
     → expands_with script body p ≡ both join (expands_with script body g) (expands_with script body h)
 sides_of script body con join at p x y g h is gx hy =
     let sides : both join (expands_with script body g) (expands_with script body h) ≡ both join (expands_with script body x) (expands_with script body y)
-        = λ i. both join (expands_with script body (gx i)) (expands_with script body (hy i)) in
+    = λ i. both join (expands_with script body (gx i)) (expands_with script body (hy i)) in
     ap (expands_with script body) is ∙ at x y ∙ sym sides
 
 pub adds_as : (e f : Expands) (blocks : List Scope) (built : Built) (t : Tree) (blocks_now : List Scope) (built_now : Built)
@@ -61,8 +61,8 @@ pub adds_test : (body : Proc → Expands) (blocks : List Scope) (built : Built) 
     → Adds (test_of test x (option_map body y)) blocks built (tree.If e s (Some t)) blocks_now built_now
 adds_test body blocks built blocks_now built_now test e x y g h s t is_test is_y is_h added =
     let same_test : Adds (both (tested (expr_of (of_blocks blocks) test)) x (body h)) blocks built (tree.If e s (Some t)) blocks_now built_now
-        = subst (λ (f : Expr). Adds (both (tested f) x (body h)) blocks built (tree.If e s (Some t)) blocks_now built_now) is_test added in
+    = subst (λ (f : Expr). Adds (both (tested f) x (body h)) blocks built (tree.If e s (Some t)) blocks_now built_now) is_test added in
     let there : Adds (test_of test x (Some (body h))) blocks built (tree.If e s (Some t)) blocks_now built_now
-        = record { is_tree = same_test.is_tree; grown = same_test.grown; same = same_test.same } in
+    = record { is_tree = same_test.is_tree; grown = same_test.grown; same = same_test.same } in
     let is_side : Some (body h) ≡ option_map body y = ap (λ (p : Proc). Some (body p)) is_h ∙ ap (option_map body) (sym is_y) in
     subst (λ (o : Option Expands). Adds (test_of test x o) blocks built (tree.If e s (Some t)) blocks_now built_now) is_side there

@@ -1,5 +1,5 @@
 -- Worked expansions, computed from the definitions alone.
-use Rattle.std.proofs.Common.{◌≡◌, ℕ, List, [], ◌∷◌, Some, None, Bool, true, false, refl, codes, pos, rules}
+use Rattle.std.proofs.Common.{◌≡◌, ℕ, List, [], ◌∷◌, Some, None, Bool, true, false, codes, pos, rules}
 use Rattle.tb_terms.specs.declared.expr.Expr.TheVariants as expr
 use Rattle.tb_terms.specs.declared.expr.Func.TheVariants.{Add}
 use Rattle.tb_terms.specs.declared.sort.Sort.TheVariants as sort
@@ -15,7 +15,7 @@ use Rattle.tb_syntax.specs.declared.proc.Proc.TheVariants as proc
 use Rattle.tb_syntax.specs.declared.script.Formal.{Formal}
 use Rattle.tb_syntax.specs.declared.script.ProcDef.{ProcDef}
 use Rattle.tb_syntax.specs.declared.script.Script.{Script}
-use Rattle.tb_expand.specs.Expansion.{Part, expansion_of}
+use Rattle.tb_expand.specs.Expansion.{expansion_of}
 
 abbrev of : AstKind → Ast
 of kind = record { kind = kind; token = 0 }

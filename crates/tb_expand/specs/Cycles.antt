@@ -1,6 +1,5 @@
 -- Which processes call which, and where calls form a cycle.
-use Rattle.std.specs.Prelude.{◌≡◌, ◌≢◌, ℕ, ◌<◌, ◌≤◌, Bool, List, [], ◌∷◌, ◌++◌, map, Contains, slice_get, Option, Some, None, length}
-use Rattle.tb_syntax.specs.declared.proc.Call.{Call}
+use Rattle.std.specs.Prelude.{◌≡◌, ℕ, ◌<◌, List, [], ◌∷◌, ◌++◌, Contains, Option, Some, None}
 use Rattle.tb_syntax.specs.declared.proc.Proc.{Proc}
 use Rattle.tb_syntax.specs.declared.proc.Proc.TheOpen.{Proc-F, Atom, Call as CallOf, Seq, Alt, Star, Par, If, Let}
 use Rattle.tb_syntax.specs.declared.proc.Proc.TheFolds.{fold-Proc}

@@ -1,5 +1,5 @@
 -- The expansion of a process: its body in which each call is replaced by a `let` round the expansion of the called process.
-use Rattle.std.specs.Prelude.{ℕ, zero, suc, ◌+◌, Bool, true, false, List, [], ◌∷◌, ◌++◌, map, length, filter, find, nat_lt, ◌||◌, not, Option, Some, None, if◌then◌else◌}
+use Rattle.std.specs.Prelude.{ℕ, zero, suc, ◌+◌, Bool, List, [], ◌∷◌, ◌++◌, map, length, filter, find, nat_lt, ◌||◌, not, Option, Some, None, if◌then◌else◌}
 use Rattle.std.specs.Str.{bytes_eq}
 use Rattle.tb_terms.specs.declared.expr.Expr.{Expr}
 use Rattle.tb_terms.specs.declared.sort.Sort.{Sort}
@@ -18,7 +18,6 @@ use Rattle.tb_syntax.specs.declared.proc.Var.{Var}
 use Rattle.tb_syntax.specs.declared.script.Formal.{Formal}
 use Rattle.tb_syntax.specs.declared.script.ProcDef.{ProcDef}
 use Rattle.tb_syntax.specs.declared.script.Script.{Script}
-use Rattle.tb_expand.specs.declared.seen.Seen.{Seen}
 use Rattle.tb_expand.specs.Scopes.{Scope, slot_of, declared, formals_seen}
 use Rattle.tb_expand.specs.Exprs.{expr_of}
 use Rattle.tb_expand.specs.Acts.{name_of, atom_of}

@@ -1,5 +1,5 @@
 -- What an expression of a script is in a body: its variables as slots, and its functions as calls.
-use Rattle.std.specs.Prelude.{ℕ, Bool, List, [], ◌∷◌, map, Option, Some, None}
+use Rattle.std.specs.Prelude.{ℕ, List, [], ◌∷◌, map, Option, Some, None}
 use Rattle.tb_terms.specs.declared.expr.Expr.{Expr}
 use Rattle.tb_terms.specs.declared.expr.Expr.TheVariants as expr
 use Rattle.tb_terms.specs.declared.expr.Func.{Func}

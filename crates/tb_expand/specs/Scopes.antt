@@ -1,5 +1,5 @@
 -- Which variables are seen at a place of a body: the innermost of a name hides the others.
-use Rattle.std.specs.Prelude.{ℕ, ◌+◌, Bool, List, [], ◌∷◌, ◌++◌, find, Option, Some, None}
+use Rattle.std.specs.Prelude.{ℕ, ◌+◌, List, [], ◌∷◌, ◌++◌, find, Option, Some, None}
 use Rattle.std.specs.Str.{bytes_eq}
 use Rattle.std.specs.List.{fold}
 use Rattle.tb_terms.specs.declared.sort.Sort.{Sort}

@@ -3,8 +3,8 @@
 
 mod acts;
 mod atoms;
-mod expansion;
 mod built;
+mod expansion;
 mod exprs;
 mod fault;
 mod number;

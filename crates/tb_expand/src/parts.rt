@@ -11,9 +11,7 @@ use crate::number::{following, number};
 use crate::part_fault::PartFault;
 use crate::scope::Blocks;
 use crate::seen::Block;
-use crate::slots::{
-    declared, formals_of_call, initial, set_formals, sorts_of_vars, value_sorts,
-};
+use crate::slots::{declared, formals_of_call, initial, set_formals, sorts_of_vars, value_sorts};
 use std::alloc::Global;
 use tb_body::Tree;
 use tb_syntax::{Ast, AtomDef, Call, Proc, ProcDef, Script, Var};
@@ -56,7 +54,17 @@ pub(crate) fn part_of(
             let (x, y) = sides(alloc, script, depth, below, blocks, built, x.get(), y.get())?;
             Ok(Tree::Par(x, y))
         }
-        Proc::If(test, x, y) => Ok(if_part(alloc, script, depth, below, blocks, built, test, x.get(), y)?),
+        Proc::If(test, x, y) => Ok(if_part(
+            alloc,
+            script,
+            depth,
+            below,
+            blocks,
+            built,
+            test,
+            x.get(),
+            y,
+        )?),
         Proc::Let(vars, x) => {
             let vars = vars.as_slice();
             Ok(let_part(alloc, script, depth, below, blocks, built, vars, x.get())?)

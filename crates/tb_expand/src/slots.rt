@@ -102,12 +102,7 @@ pub(crate) fn set_formals(
     Ok(settings)
 }
 
-fn setting(
-    alloc: Global,
-    blocks: &Blocks,
-    slot: u32,
-    actual: &Ast,
-) -> Result<Setting, NoMemory>
+fn setting(alloc: Global, blocks: &Blocks, slot: u32, actual: &Ast) -> Result<Setting, NoMemory>
     ensures { IfOk result (λ setting. setting ≡ record { slot = slot; start = Some (expr_of (of_blocks blocks.now) actual.now) }) }
 {
     let start = Some(expr_of(alloc, blocks, actual)?);

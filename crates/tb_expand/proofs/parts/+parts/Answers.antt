@@ -1,8 +1,6 @@
-use Rattle.std.proofs.Common.{◌≡◌, option_map}
 use Rattle.tb_body.specs.declared.tree.Tree.TheVariants as tree
 use Rattle.tb_syntax.specs.declared.proc.Proc.TheVariants as proc
 use Rattle.tb_expand.specs.Expansion.{expands, expands_with, both, tested}
-use Rattle.tb_expand.specs.Building.{Adds}
 use Rattle.tb_expand.proofs.ProcParts.{part_of_seq, part_of_alt, part_of_star, part_of_par, sides_of, adds_as, adds_test}
 use Rattle.tb_expand.proofs.parts.+parts.Goals as goal
 

@@ -1,6 +1,5 @@
-use Rattle.std.proofs.Common.{◌≡◌, ◌∙◌, ap, ◌-◌, Some, None, arith, get_or, Option}
-use Rattle.tb_expand.specs.declared.seen.Seen.{Seen}
-use Rattle.tb_expand.specs.Scopes.{Scope, of_blocks, seen_as}
+use Rattle.std.proofs.Common.{◌≡◌, ◌∙◌, ap, ◌-◌, Some, None, arith, get_or}
+use Rattle.tb_expand.specs.Scopes.{seen_as}
 use Rattle.tb_expand.proofs.Blocks.{found_at, not_at}
 use Rattle.tb_expand.proofs.scope.seen_as.Goals as goal
 
