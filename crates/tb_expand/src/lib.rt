@@ -14,6 +14,7 @@ mod places;
 mod scope;
 mod seen;
 mod slots;
+mod whole;
 
 pub use expansion::expand;
 pub use fault::ExpandFault;

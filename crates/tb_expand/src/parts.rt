@@ -184,7 +184,7 @@ fn call_part(
 
 /// The body of a called process, in which its formals alone are seen.
 #[cycle(parts)]
-fn body_part(
+pub(crate) fn body_part(
     alloc: Global,
     script: &Script,
     depth: usize,

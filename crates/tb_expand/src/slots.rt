@@ -1,5 +1,5 @@
 ghost use Rattle.std.specs.Prelude.{◌≡◌, ◌+◌, IfOk, map};
-ghost use Rattle.tb_expand.specs.Scopes.{of_blocks, declared, slot_of};
+ghost use Rattle.tb_expand.specs.Scopes.{of_blocks, declared, formals_seen, slot_of};
 ghost use Rattle.tb_expand.specs.Exprs.{expr_of};
 ghost use Rattle.tb_expand.specs.Acts.{name_of};
 ghost use Rattle.tb_expand.specs.Expansion.{initial, sorts_of_vars, sorts_of, value_formals, set_formals, formals_of_call};
@@ -146,4 +146,28 @@ fn formal_seen(alloc: Global, formal: &Formal, slot: u32) -> Result<Seen, NoMemo
     let name = formal.name.copy(alloc)?;
     let sort = formal.sort.copy(alloc)?;
     Ok(Seen { name, slot, sort })
+}
+
+/// The formals of a process that is started by itself.
+pub(crate) fn formals_seen(alloc: Global, slot: u32, formals: &[Formal]) -> Result<Block, NoMemory>
+    ensures { IfOk result (λ block. block ≡ formals_seen slot formals.now) }
+{
+    let mut block = Items::new(alloc);
+    let mut next = slot;
+    for formal in formals {
+        block.push(formal_seen(alloc, formal, next)?)?;
+        next = following(next)?;
+    }
+    Ok(block)
+}
+
+/// The sorts of all formals.
+pub(crate) fn sorts_of(alloc: Global, formals: &[Formal]) -> Result<Sorts, NoMemory>
+    ensures { IfOk result (λ sorts. sorts ≡ sorts_of formals.now) }
+{
+    let mut sorts = Items::new(alloc);
+    for formal in formals {
+        sorts.push(formal.sort.copy(alloc)?)?;
+    }
+    Ok(sorts)
 }
