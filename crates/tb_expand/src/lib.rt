@@ -14,6 +14,8 @@ mod places;
 mod scope;
 mod seen;
 mod slots;
+#[cfg(test)]
+mod tests;
 mod whole;
 
 pub use expansion::expand;
