@@ -75,12 +75,12 @@ abbrev pub is_other_application : ast.AstKind-F AstKind Ast → Bool
 is_other_application (ast.Appl name parts) = not (length parts == 0) && is_none (applied name (length parts))
 is_other_application _ = false
 
--- condition 3: the first argument of `execute` isn't the plain name of a tool with a command
+-- no tool: the first argument of `execute` isn't the plain name of a tool with a command
 abbrev pub lacks_tool : Script → Duty → Ast → Bool
 lacks_tool script command expr = not (has_command (option_and_then (tool_named script.tools) (name_alone (out-AstKind expr.kind))))
 lacks_tool script _ expr = false
 
--- condition 4: a test or a time value is an application with arguments that is no function application
+-- no function: a test or a time value is an application with arguments that is no function application
 abbrev pub lacks_function : Duty → Ast → Bool
 lacks_function (tested s) expr = is_other_application (out-AstKind expr.kind)
 lacks_function _ expr = false
@@ -88,7 +88,7 @@ lacks_function _ expr = false
 abbrev pub is_result : Ast → Bool
 is_result expr = is_some (result_name (out-AstKind expr.kind))
 
--- condition 8: no result variable stands where one must
+-- not a result: no result variable stands where one must
 abbrev pub lacks_result : Duty → Ast → Bool
 lacks_result (exact s) expr = not (is_result expr)
 lacks_result made expr = not (is_result expr)
@@ -121,7 +121,7 @@ tool_sort tool = sorts.Tool tool.name
 abbrev pub fits_some_tool : List ToolDef → List Known → Ast → Bool
 fits_some_tool tools known expr = list_any (fits known expr) (map tool_sort tools)
 
--- condition 9, but for the arguments of functions
+-- a clash of sorts, but for the arguments of functions
 abbrev pub clashes : Script → List Known → Duty → Ast → Bool
 clashes script known plain expr = false
 clashes script known (of_sort s) expr = not (fits known expr s)

@@ -52,7 +52,7 @@ variable_fits (Some own) s = goes_with own s
 abbrev pub all_fit : List Judged → Sort → Bool
 all_fit parts s = list_all (λ (part : Judged). part.fits s) parts
 
--- which sorts an expression fits; no condition asks it of a result variable or a placeholder where condition 7 holds
+-- which sorts an expression fits; no condition asks it of a result variable or a placeholder where each of these stands where it may
 abbrev pub fits_step : List Known → ast.AstKind-F JudgedKind Judged → Sort → Bool
 fits_step known (ast.Int number) s = is_any (out-Sort s) || is_int (out-Sort s)
 fits_step known (ast.Str text) s = is_any (out-Sort s) || is_str (out-Sort s)

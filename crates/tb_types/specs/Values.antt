@@ -42,6 +42,10 @@ abbrev pub is_of_sort : Option Term → Sort → Bool
 is_of_sort None s = false
 is_of_sort (Some term) s = has_sort term s
 
+-- its value, where it has one
+abbrev pub closed_value : Ast → Option Term
+closed_value expr = value_of [] (closed expr)
+
 -- its value is there and has the sort
 abbrev pub has_value_of : Ast → Sort → Bool
-has_value_of expr s = is_of_sort (value_of [] (closed expr)) s
+has_value_of expr s = is_of_sort (closed_value expr) s

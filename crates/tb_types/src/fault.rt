@@ -12,11 +12,13 @@ pub enum CheckFault {
     /// A sort is no sort and no tool, or `execute` names no tool with a command.
     #[error("no such tool, at token {0}")]
     NoTool(usize),
-    /// A test or a time value applies no function.
+    /// A test or a time value is an application with arguments that is no function's.
     #[error("no such function, at token {0}")]
     NoFunction(usize),
+    /// A call, a `create`, a root, a function or an atom has another number of arguments than defined.
     #[error("wrong number of arguments, at token {0}")]
     Arity(usize),
+    /// A variable is neither a formal of its process nor declared round it; in a root, any variable.
     #[error("undeclared variable, at token {0}")]
     Undeclared(usize),
     /// A result variable or a placeholder stands where it may not.
@@ -25,8 +27,10 @@ pub enum CheckFault {
     /// A value stands where a result variable must.
     #[error("no result variable, at token {0}")]
     NotResult(usize),
+    /// An expression doesn't fit the sort that is asked for where it stands.
     #[error("wrong sort, at token {0}")]
     TypeClash(usize),
+    /// There wasn't memory enough; it says nothing of the script.
     #[error("no memory")]
     NoMemory,
 }

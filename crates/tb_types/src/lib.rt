@@ -23,3 +23,5 @@ mod values;
 pub use checked::check;
 pub use fault::CheckFault;
 pub use laws::first_fault_is_one;
+pub use names::Names;
+pub use values::closed_value;

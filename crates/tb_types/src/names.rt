@@ -15,7 +15,7 @@ use tb_terms::{Func, Ident, Name, NoMemory, Sort};
 /// What the names of a script stand for: the processes and the tools by their places among the
 /// definitions. Where one is defined twice, the first is known.
 #[derive(Drop)]
-pub(crate) struct Names<'a> {
+pub struct Names<'a> {
     pub script: &'a Script,
     processes: IndexMap<&'a [u8], usize>,
     tools: IndexMap<&'a [u8], usize>,
@@ -24,7 +24,8 @@ pub(crate) struct Names<'a> {
 }
 
 impl<'a> Names<'a> {
-    pub(crate) fn of(alloc: Global, script: &'a Script) -> Result<Names<'a>, NoMemory>
+    /// The names that a script defines.
+    pub fn of(alloc: Global, script: &'a Script) -> Result<Names<'a>, NoMemory>
         ensures { IfOk result (λ names. names.script.now ≡ script.now) }
     {
         let processes = process_places(alloc, script.procs.as_slice())?;
@@ -34,6 +35,26 @@ impl<'a> Names<'a> {
             processes,
             tools,
         })
+    }
+
+    /// The place, from 0, of the process of this name among the definitions; none where none has it.
+    pub fn process_place(&self, name: &[u8]) -> Option<usize>
+        ensures { result ≡ place_of (map process_name self.now.script.now.procs) name.now }
+    {
+        match self.processes.get(name) {
+            None => None,
+            Some(place) => Some(*place),
+        }
+    }
+
+    /// The place, from 0, of the tool of this name among the definitions; none where none has it.
+    pub fn tool_place(&self, name: &[u8]) -> Option<usize>
+        ensures { result ≡ place_of (map tool_name self.now.script.now.tools) name.now }
+    {
+        match self.tools.get(name) {
+            None => None,
+            Some(place) => Some(*place),
+        }
     }
 }
 

@@ -1,5 +1,5 @@
 ghost use Rattle.std.specs.Prelude.{◌≡◌, IfOk, map};
-ghost use Rattle.tb_types.specs.Values.{closed, closed_kind, application, is_of_sort, has_value_of};
+ghost use Rattle.tb_types.specs.Values.{closed, closed_value, closed_kind, application, is_of_sort, has_value_of};
 
 use crate::names::applied;
 use std::alloc::Global;
@@ -11,10 +11,18 @@ use tb_terms::{Expr, Exprs, Func, Items, Name, NoMemory, Sort, Term, has_sort};
 pub(crate) fn has_value_of(alloc: Global, expr: &Ast, sort: &Sort) -> Result<bool, NoMemory>
     ensures { IfOk result (λ has. has ≡ has_value_of expr.now sort.now) }
 {
+    let value = closed_value(alloc, expr)?;
+    Ok(is_of_sort(&value, sort))
+}
+
+/// What an expression is worth where no variable is known, as the actual of a root; none where it has
+/// no value. A variable, a result variable and a placeholder have none.
+pub fn closed_value(alloc: Global, expr: &Ast) -> Result<Option<Term>, NoMemory>
+    ensures { IfOk result (λ value. value ≡ closed_value expr.now) }
+{
     let expr = closed(alloc, expr)?;
     let store = Store::fresh(alloc, &Items::new(alloc))?;
-    let value = eval(alloc, &expr, &store)?;
-    Ok(is_of_sort(&value, sort))
+    Ok(eval(alloc, &expr, &store)?)
 }
 
 fn is_of_sort(value: &Option<Term>, sort: &Sort) -> bool
