@@ -4,3 +4,7 @@ pub mod Acts
 pub mod Expansion
 pub mod Building
 pub mod Cycles
+pub mod Faults
+pub mod Wholes
+pub mod Graphs
+pub mod Agreeing

@@ -1,0 +1,36 @@
+-- Whether calls within calls end within a depth: each names a process, and none is deeper.
+use Rattle.std.specs.Prelude.{ℕ, zero, suc, Bool, true, false, ◌&&◌, List, Option, Some, None}
+use Rattle.tb_syntax.specs.declared.proc.Proc.{Proc}
+use Rattle.tb_syntax.specs.declared.proc.Proc.TheOpen.{Proc-F, Atom, Call as CallOf, Seq, Alt, Star, Par, If, Let}
+use Rattle.tb_syntax.specs.declared.proc.Proc.TheFolds.{fold-Proc}
+use Rattle.tb_syntax.specs.declared.script.ProcDef.{ProcDef}
+use Rattle.tb_syntax.specs.declared.script.Script.{Script}
+use Rattle.tb_expand.specs.Expansion.{definition_of}
+
+-- the side that may lack
+abbrev pub or_whole : Option Bool → Bool
+or_whole None = true
+or_whole (Some whole) = whole
+
+-- the called process is there, and its body ends
+abbrev pub is_called_whole : (Proc → Bool) → Option ProcDef → Bool
+is_called_whole body None = false
+is_called_whole body (Some d) = body d.body
+
+abbrev pub whole_step : Script → (Proc → Bool) → Proc-F Bool → Bool
+whole_step script body (Atom def) = true
+whole_step script body (CallOf call) = is_called_whole body (definition_of script call.name)
+whole_step script body (Seq x y) = x && y
+whole_step script body (Alt x y) = x && y
+whole_step script body (Star x y) = x && y
+whole_step script body (Par x y) = x && y
+whole_step script body (If test x y) = x && or_whole y
+whole_step script body (Let vars x) = x
+
+-- calls end, where it is known whether they do in the bodies of called ones
+abbrev pub is_whole_with : Script → (Proc → Bool) → Proc → Bool
+is_whole_with script body p = fold-Proc Bool (whole_step script body) p
+
+abbrev pub is_whole : Script → ℕ → Proc → Bool
+is_whole script zero p = false
+is_whole script (suc depth) p = is_whole_with script (is_whole script depth) p
