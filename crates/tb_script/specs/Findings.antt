@@ -1,0 +1,117 @@
+-- What is found of a text: its program, or why it has none. Tokens come first, then the grammar and its limits, the conditions, cycles of calls, sizes of expansions, the number of roots, and last what isn't built.
+use Rattle.std.specs.Prelude.{◌≡◌, ◌≢◌, ℕ, ◌<◌, List, length, Option, Some, None}
+use Rattle.tb_body.specs.declared.program.Program.{Program}
+use Rattle.tb_lex.specs.declared.fault.LexFault.{LexFault}
+use Rattle.tb_lex.specs.declared.fault.LexFault.TheVariants as lex
+use Rattle.tb_lex.specs.declared.token.Token.{Token}
+use Rattle.tb_lex.specs.Faults.{HasFault as HasLexFault}
+use Rattle.tb_syntax.specs.Spelling.{kinds_of}
+use Rattle.tb_syntax.specs.declared.script.Script.{Script}
+use Rattle.tb_parse.specs.declared.fault.ParseFault.{ParseFault}
+use Rattle.tb_parse.specs.declared.fault.ParseFault.TheVariants as parse
+use Rattle.tb_parse.specs.Faults.{HasFault as HasParseFault}
+use Rattle.tb_types.specs.declared.fault.CheckFault.{CheckFault}
+use Rattle.tb_types.specs.declared.fault.CheckFault.TheVariants as check
+use Rattle.tb_types.specs.Conditions.{IsFault}
+use Rattle.tb_expand.specs.Cycles.{IsCycle}
+use Rattle.tb_script.specs.Programs.{HasTokens, IsTextOf, IsChecked, IsEnding, IsSmall, IsAccepted, IsProgramOf, first_too_large, most_roots}
+use Rattle.tb_script.specs.Building.{first_unbuilt}
+
+-- the text has this fault instead of tokens
+pub record HasNoTokens (text : List ℕ) (fault : LexFault) : Type 0 where
+  pub told : fault ≢ lex.NoMemory
+  pub fault_is : HasLexFault text fault
+
+-- it has tokens, and they have this fault instead of a script
+pub record HasNoScript (text : List ℕ) (fault : ParseFault) : Type 0 where
+  pub told : fault ≢ parse.NoMemory
+  pub tokens : List Token
+  pub has_tokens : HasTokens text tokens
+  pub fault_is : HasParseFault (kinds_of tokens) fault
+
+-- it spells a script within the limits, and this is the first of the nine conditions that it fails
+pub record IsImproper (text : List ℕ) (fault : CheckFault) : Type 0 where
+  pub told : fault ≢ check.NoMemory
+  pub script : Script
+  pub is_text : IsTextOf text script
+  pub fault_is : IsFault script fault
+
+-- the conditions hold, and these calls form a cycle
+pub record IsRecursive (text : List ℕ) (names : List (List ℕ)) : Type 0 where
+  pub script : Script
+  pub is_checked : IsChecked text script
+  pub cycle : IsCycle script names
+
+-- calls end, and this is the first process whose expansion is too large
+pub record IsLarge (text : List ℕ) (name : List ℕ) : Type 0 where
+  pub script : Script
+  pub is_ending : IsEnding text script
+  pub first : first_too_large script ≡ Some name
+
+-- expansions are small, and there are so many roots, too many
+pub record HasManyRoots (text : List ℕ) (count : ℕ) : Type 0 where
+  pub script : Script
+  pub is_small : IsSmall text script
+  pub are : count ≡ length script.roots
+  pub many : most_roots < count
+
+-- it is accepted, and this is the first token of a form that isn't built
+pub record IsUnbuilt (text : List ℕ) (token : ℕ) : Type 0 where
+  pub script : Script
+  pub is_accepted : IsAccepted text script
+  pub first : first_unbuilt script ≡ Some token
+
+-- it is accepted and all of it is built, and this is its program
+pub record HasProgram (text : List ℕ) (program : Program) : Type 0 where
+  pub script : Script
+  pub is_accepted : IsAccepted text script
+  pub built : first_unbuilt script ≡ None
+  pub meaning : IsProgramOf script program
+
+pub data Finding : Type 0 where
+  NoTokens : LexFault → Finding
+  NoScript : ParseFault → Finding
+  Improper : CheckFault → Finding
+  Recursive : List (List ℕ) → Finding
+  Large : List ℕ → Finding
+  ManyRoots : ℕ → Finding
+  Unbuilt : ℕ → Finding
+  Program' : Program → Finding
+
+abbrev pub Holds : List ℕ → Finding → Type 0
+Holds text (NoTokens fault) = HasNoTokens text fault
+Holds text (NoScript fault) = HasNoScript text fault
+Holds text (Improper fault) = IsImproper text fault
+Holds text (Recursive names) = IsRecursive text names
+Holds text (Large name) = IsLarge text name
+Holds text (ManyRoots count) = HasManyRoots text count
+Holds text (Unbuilt token) = IsUnbuilt text token
+Holds text (Program' program) = HasProgram text program
+
+-- a fault of the grammar, at whatever token
+abbrev pub IsSyntax : Finding → Type 0
+IsSyntax (NoScript (parse.Syntax place)) = Unit {0}
+IsSyntax _ = ⊥
+
+-- a cycle of calls, whichever it is
+abbrev pub IsSomeCycle : Finding → Type 0
+IsSomeCycle (Recursive names) = Unit {0}
+IsSomeCycle _ = ⊥
+
+-- The other finding is this one, but for the place of a fault of the grammar, of which nothing is said, and for the cycle that is named where there are several.
+abbrev pub IsSame : Finding → Finding → Type 0
+IsSame (NoScript (parse.Syntax place)) other = IsSyntax other
+IsSame (NoScript (parse.TooDeep place)) other = other ≡ NoScript (parse.TooDeep place)
+IsSame (NoScript parse.NoMemory) other = other ≡ NoScript parse.NoMemory
+IsSame (Recursive names) other = IsSomeCycle other
+IsSame (NoTokens fault) other = other ≡ NoTokens fault
+IsSame (Improper fault) other = other ≡ Improper fault
+IsSame (Large name) other = other ≡ Large name
+IsSame (ManyRoots count) other = other ≡ ManyRoots count
+IsSame (Unbuilt token) other = other ≡ Unbuilt token
+IsSame (Program' program) other = other ≡ Program' program
+
+-- this finding holds of the text, and no other does
+pub record IsFound (text : List ℕ) (finding : Finding) : Type 0 where
+  pub holds : Holds text finding
+  pub only : (other : Finding) → Holds text other → IsSame finding other

@@ -1,0 +1,4 @@
+pub mod Programs
+pub mod Building
+pub mod Findings
+pub mod Loading

@@ -1,0 +1,74 @@
+-- Which program a text stands for.
+use Rattle.std.specs.Prelude.{◌≡◌, ℕ, ◌≤◌, List, length, map, Option, Some, None, find, option_map}
+use Rattle.std.specs.List.{AllZip}
+use Rattle.tb_terms.specs.declared.term.Term.{Term}
+use Rattle.tb_body.specs.declared.program.Program.{Program}
+use Rattle.tb_body.specs.declared.program.Root.{Root}
+use Rattle.tb_body.specs.declared.program.Tool.{Tool}
+use Rattle.tb_lex.specs.Tokens.{Lexes}
+use Rattle.tb_lex.specs.declared.token.Token.{Token}
+use Rattle.tb_syntax.specs.Spelling.{kinds_of}
+use Rattle.tb_syntax.specs.declared.proc.Call.{Call}
+use Rattle.tb_syntax.specs.declared.script.ProcDef.{ProcDef}
+use Rattle.tb_syntax.specs.declared.script.Script.{Script}
+use Rattle.tb_syntax.specs.declared.script.ToolDef.{ToolDef}
+use Rattle.tb_parse.specs.Faults.{IsScriptOf}
+use Rattle.tb_types.specs.Conditions.{Proper}
+use Rattle.tb_types.specs.Values.{closed_value}
+use Rattle.tb_expand.specs.Acts.{process_of}
+use Rattle.tb_expand.specs.Expansion.{expansion_of, is_too_large}
+use Rattle.tb_expand.specs.Faults.{HasNoCycle, IsExpansion}
+
+-- the text has these tokens, no more than a script may have
+pub record HasTokens (text : List ℕ) (tokens : List Token) : Type 0 where
+  pub lexes : Lexes text tokens
+  pub few : length tokens ≤ 200000
+
+-- the text spells the script, with the limits on tokens, open brackets and heights kept
+pub record IsTextOf (text : List ℕ) (script : Script) : Type 0 where
+  pub tokens : List Token
+  pub has_tokens : HasTokens text tokens
+  pub is_script : IsScriptOf (kinds_of tokens) script
+
+-- the first process, by definition, whose expansion has over 20,000 atoms or over 1,000 levels
+abbrev pub first_too_large : Script → Option (List ℕ)
+first_too_large script = option_map (λ (d : ProcDef). d.name) (find (λ (d : ProcDef). is_too_large (expansion_of script d)) script.procs)
+
+-- there may be this many roots
+abbrev pub most_roots : ℕ
+most_roots = 10000
+
+-- the nine conditions hold
+pub record IsChecked (text : List ℕ) (script : Script) : Type 0 where
+  pub is_text : IsTextOf text script
+  pub proper : Proper script
+
+-- and no calls form a cycle
+pub record IsEnding (text : List ℕ) (script : Script) : Type 0 where
+  pub checked : IsChecked text script
+  pub no_cycle : HasNoCycle script
+
+-- and no expansion is too large
+pub record IsSmall (text : List ℕ) (script : Script) : Type 0 where
+  pub ending : IsEnding text script
+  pub small : first_too_large script ≡ None
+
+-- and there aren't too many roots: the script is accepted
+pub record IsAccepted (text : List ℕ) (script : Script) : Type 0 where
+  pub is_small : IsSmall text script
+  pub few_roots : length script.roots ≤ most_roots
+
+-- a root stands for the process of its name, from 0, with the values of its actuals
+pub record IsRootOf (script : Script) (call : Call) (root : Root) : Type 0 where
+  pub process : root.process ≡ process_of script call.name
+  pub actuals : map (λ (value : Term). Some value) root.actuals ≡ map closed_value call.actuals
+
+-- a tool is what its definition says
+abbrev pub tool_of : ToolDef → Tool
+tool_of d = record { name = d.name; command = d.command }
+
+-- The bodies are the expansions in order of definition, and the roots stand in the order of their calls.
+pub record IsProgramOf (script : Script) (program : Program) : Type 0 where
+  pub bodies : AllZip (IsExpansion script) script.procs program.bodies
+  pub roots : AllZip (IsRootOf script) script.roots program.roots
+  pub tools : program.tools ≡ map tool_of script.tools

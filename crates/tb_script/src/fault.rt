@@ -1,0 +1,45 @@
+use std::alloc::{AllocError, AllocFailed};
+use tb_expand::ExpandFault;
+use tb_lex::LexFault;
+use tb_parse::ParseFault;
+use tb_terms::NoMemory;
+use tb_types::CheckFault;
+
+/// Why a text has no program. Want of memory is `NoMemory` alone, whichever part it met.
+#[derive(Debug, Drop)]
+pub enum ScriptFault {
+    /// The bytes have no tokens; never for want of memory.
+    Lex(LexFault),
+    /// The tokens spell no script within the limits; never for want of memory.
+    Parse(ParseFault),
+    /// The script fails one of the nine conditions; never for want of memory.
+    Check(CheckFault),
+    /// Calls form a cycle, or an expansion is too large; never for want of memory.
+    Expand(ExpandFault),
+    /// There are this many roots, more than 10,000.
+    Roots(usize),
+    /// There are this many bytes, more than 1,048,576; `load` never answers so, since it reads any number.
+    TooLong(usize),
+    /// The script has a form that isn't built yet, whose first token this is, from 0.
+    NotBuilt(usize),
+    /// There wasn't memory enough; it says nothing of the script.
+    NoMemory,
+}
+
+impl From<NoMemory> for ScriptFault {
+    fn from(_refused: NoMemory) -> ScriptFault {
+        ScriptFault::NoMemory
+    }
+}
+
+impl From<AllocError> for ScriptFault {
+    fn from(_refused: AllocError) -> ScriptFault {
+        ScriptFault::NoMemory
+    }
+}
+
+impl<T: Drop> From<AllocFailed<T>> for ScriptFault {
+    fn from(_refused: AllocFailed<T>) -> ScriptFault {
+        ScriptFault::NoMemory
+    }
+}
