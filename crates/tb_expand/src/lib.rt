@@ -19,4 +19,4 @@ mod tests;
 mod whole;
 
 pub use expansion::expand;
-pub use fault::ExpandFault;
+pub use fault::{ExpandFault, Idents};

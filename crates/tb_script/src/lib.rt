@@ -1,11 +1,8 @@
 //! From the bytes of a script to its program.
 #![tactic(auto)]
 
-mod building;
 mod fault;
-mod load;
-mod program;
-mod reading;
+mod loading;
 
 pub use fault::ScriptFault;
-pub use load::load;
+pub use loading::load;
