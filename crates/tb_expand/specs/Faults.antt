@@ -1,5 +1,5 @@
 -- What a process of a script has: a body, which is its expansion, or a fault.
-use Rattle.std.specs.Prelude.{◌≡◌, Bool, true, false, List, length}
+use Rattle.std.specs.Prelude.{◌≡◌, ℕ, Bool, true, false, List, length}
 use Rattle.tb_body.specs.declared.body.Body.{Body}
 use Rattle.tb_syntax.specs.declared.script.ProcDef.{ProcDef}
 use Rattle.tb_syntax.specs.declared.script.Script.{Script}
@@ -36,3 +36,15 @@ abbrev pub HasFault : Script → ProcDef → ExpandFault → Type 0
 HasFault script d (fault.Recursion names) = IsCycle script names
 HasFault script d (fault.TooLarge name) = IsTooLarge script d name
 HasFault script d fault.NoMemory = Unit {0}
+
+-- calls form this cycle, or memory ran out
+abbrev pub IsRecursion : Script → ExpandFault → Type 0
+IsRecursion script (fault.Recursion names) = IsCycle script names
+IsRecursion script (fault.TooLarge name) = ⊥
+IsRecursion script fault.NoMemory = Unit {0}
+
+-- the process is too large, or memory ran out
+abbrev pub IsTooBig : Script → ProcDef → ExpandFault → Type 0
+IsTooBig script d (fault.Recursion names) = ⊥
+IsTooBig script d (fault.TooLarge name) = IsTooLarge script d name
+IsTooBig script d fault.NoMemory = Unit {0}

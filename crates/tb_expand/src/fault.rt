@@ -1,4 +1,5 @@
-use tb_terms::{Ident, Items};
+use std::alloc::{AllocError, AllocFailed};
+use tb_terms::{Ident, Items, NoMemory};
 
 /// Names of processes in a row.
 pub type Idents = Items<Ident>;
@@ -13,4 +14,37 @@ pub enum ExpandFault {
     TooLarge(Ident),
     /// There wasn't memory enough; it says nothing of the script.
     NoMemory,
+}
+
+impl From<NoMemory> for ExpandFault {
+    ghost use Rattle.std.specs.Prelude.{◌≡◌};
+    ghost use Rattle.tb_expand.specs.declared.fault.ExpandFault.TheVariants.{NoMemory};
+
+    ghost from_gives = { λ _ fault. fault ≡ NoMemory };
+
+    fn from(_refused: NoMemory) -> ExpandFault {
+        ExpandFault::NoMemory
+    }
+}
+
+impl From<AllocError> for ExpandFault {
+    ghost use Rattle.std.specs.Prelude.{◌≡◌};
+    ghost use Rattle.tb_expand.specs.declared.fault.ExpandFault.TheVariants.{NoMemory};
+
+    ghost from_gives = { λ _ fault. fault ≡ NoMemory };
+
+    fn from(_refused: AllocError) -> ExpandFault {
+        ExpandFault::NoMemory
+    }
+}
+
+impl<T: Drop> From<AllocFailed<T>> for ExpandFault {
+    ghost use Rattle.std.specs.Prelude.{◌≡◌};
+    ghost use Rattle.tb_expand.specs.declared.fault.ExpandFault.TheVariants.{NoMemory};
+
+    ghost from_gives = { λ _ fault. fault ≡ NoMemory };
+
+    fn from(_refused: AllocFailed<T>) -> ExpandFault {
+        ExpandFault::NoMemory
+    }
 }

@@ -18,5 +18,5 @@ mod slots;
 mod tests;
 mod whole;
 
-pub use expansion::expand;
+pub use expansion::Expansions;
 pub use fault::{ExpandFault, Idents};

@@ -1,8 +1,16 @@
 //! From the bytes of a script to its program.
 #![tactic(auto)]
 
+mod building;
+mod expanding;
 mod fault;
 mod loading;
+mod program;
+mod reading;
+mod roots;
 
 pub use fault::ScriptFault;
 pub use loading::load;
+
+#[cfg(test)]
+mod tests;

@@ -1,14 +1,58 @@
+ghost use Rattle.std.specs.Prelude.{List, Ok};
+ghost use Rattle.tb_types.specs.Conditions.{Proper};
 ghost use Rattle.tb_script.specs.Loading.{HasLoaded};
+ghost use Rattle.tb_script.specs.Making.{AreExpansions, IsOnlyScript};
 
 use crate::ScriptFault;
+use crate::expanding::bodies_of;
+use crate::program::program_of;
+use crate::reading::read_script;
 use std::alloc::Global;
-use tb_body::Program;
+use tb_body::{Bodies, Program};
+use tb_expand::ExpandFault;
+use tb_syntax::Script;
+use tb_types::{CheckFault, check};
 
 /// The program of a script that is accepted, or what keeps the text from having one: the first of the
-/// faults in their order.
-pub fn load(_alloc: Global, bytes: &[u8]) -> Result<Program, ScriptFault>
+/// faults in their order. Any number of bytes is read.
+pub fn load(alloc: Global, bytes: &[u8]) -> Result<Program, ScriptFault>
     // What comes holds of the text, and of all that may be found of it this alone.
     ensures { HasLoaded bytes.now result }
 {
-    Err(ScriptFault::NoMemory)
+    match read_script(alloc, bytes) {
+        Ok(script) => load_script(alloc, &script),
+        Err(fault) => Err(fault),
+    }
+}
+
+fn load_script(alloc: Global, script: &Script) -> Result<Program, ScriptFault>
+    ensures { (text : List ℕ) → IsOnlyScript text script.now → HasLoaded text result }
+{
+    match check(alloc, script) {
+        Ok(()) => load_proper(alloc, script),
+        Err(CheckFault::NoMemory) => Err(ScriptFault::NoMemory),
+        Err(fault) => Err(ScriptFault::Check(fault)),
+    }
+}
+
+fn load_proper(alloc: Global, script: &Script) -> Result<Program, ScriptFault>
+    requires { Proper script.now }
+    ensures { (text : List ℕ) → IsOnlyScript text script.now → HasLoaded text result }
+{
+    match bodies_of(alloc, script) {
+        Ok(bodies) => load_expanded(alloc, script, bodies),
+        Err(ExpandFault::NoMemory) => Err(ScriptFault::NoMemory),
+        Err(fault) => Err(ScriptFault::Expand(fault)),
+    }
+}
+
+fn load_expanded(alloc: Global, script: &Script, bodies: Bodies) -> Result<Program, ScriptFault>
+    requires proper { Proper script.now }
+    requires expanded { AreExpansions script.now bodies }
+    ensures { (text : List ℕ) → IsOnlyScript text script.now → HasLoaded text result }
+{
+    match program_of(alloc, script, bodies) {
+        Ok(program) => Ok(program),
+        Err(fault) => Err(fault),
+    }
 }

@@ -1,0 +1,101 @@
+-- What the parts of the loader make and find: helpers of its proofs.
+use Rattle.std.specs.Prelude.{◌≡◌, ◌≢◌, ◌<◌, ◌≤◌, ℕ, List, [], ◌∷◌, length, Option, Some, None, IsSome, All, Result, Ok, Err}
+use Rattle.std.specs.List.{AllZip}
+use Rattle.tb_body.specs.declared.body.Body.{Body}
+use Rattle.tb_body.specs.declared.program.Program.{Program}
+use Rattle.tb_lex.specs.declared.fault.LexFault.{LexFault}
+use Rattle.tb_lex.specs.declared.token.Token.{Token}
+use Rattle.tb_parse.specs.declared.fault.ParseFault.{ParseFault}
+use Rattle.tb_syntax.specs.declared.ast.Ast.{Ast}
+use Rattle.tb_syntax.specs.declared.proc.Call.{Call}
+use Rattle.tb_syntax.specs.declared.script.Script.{Script}
+use Rattle.tb_types.specs.declared.fault.CheckFault.TheVariants as check
+use Rattle.tb_types.specs.Conditions.{Proper, IsFault}
+use Rattle.tb_types.specs.Values.{closed_value}
+use Rattle.tb_expand.specs.declared.fault.ExpandFault.{ExpandFault}
+use Rattle.tb_expand.specs.declared.fault.ExpandFault.TheVariants as expand
+use Rattle.tb_expand.specs.Cycles.{IsCycle}
+use Rattle.tb_expand.specs.Faults.{HasNoCycle, IsExpansion}
+use Rattle.tb_script.specs.declared.fault.ScriptFault.{ScriptFault}
+use Rattle.tb_script.specs.declared.fault.ScriptFault.TheVariants as fault
+use Rattle.tb_script.specs.Programs.{HasTokens, IsTextOf, IsProgramOf, first_too_large, most_roots}
+use Rattle.tb_script.specs.Building.{first_unbuilt}
+use Rattle.tb_script.specs.Findings.{HasNoTokens, HasNoScript, IsFound, NoTokens, NoScript}
+
+-- the text has these tokens, no others, and no fault of its tokens
+pub record HasOnlyTokens (text : List ℕ) (tokens : List Token) : Type 0 where
+  pub has_tokens : HasTokens text tokens
+  pub one : (others : List Token) → HasTokens text others → others ≡ tokens
+  pub sound : (f : LexFault) → HasNoTokens text f → ⊥
+
+-- the text spells this script within the limits, and no other; and it has no fault
+pub record IsOnlyScript (text : List ℕ) (script : Script) : Type 0 where
+  pub is_text : IsTextOf text script
+  pub one : (other : Script) → IsTextOf text other → other ≡ script
+  pub has_tokens : (f : LexFault) → HasNoTokens text f → ⊥
+  pub has_script : (f : ParseFault) → HasNoScript text f → ⊥
+
+-- the script of a text, or why it has none
+abbrev pub HasReadScript : List ℕ → Result Script ScriptFault → Type 0
+HasReadScript text (Ok script) = IsOnlyScript text script
+HasReadScript text (Err (fault.Lex f)) = IsFound text (NoTokens f)
+HasReadScript text (Err (fault.Parse f)) = IsFound text (NoScript f)
+HasReadScript text (Err fault.NoMemory) = Unit {0}
+HasReadScript text (Err (fault.Check f)) = ⊥
+HasReadScript text (Err (fault.Expand f)) = ⊥
+HasReadScript text (Err (fault.Roots count)) = ⊥
+HasReadScript text (Err (fault.TooLong count)) = ⊥
+HasReadScript text (Err (fault.NotBuilt token)) = ⊥
+
+-- no calls form a cycle, no expansion is too large, and these are the expansions
+pub record AreExpansions (script : Script) (bodies : List Body) : Type 0 where
+  pub no_cycle : HasNoCycle script
+  pub small : first_too_large script ≡ None
+  pub bodies_are : AllZip (IsExpansion script) script.procs bodies
+
+-- this is the first process that is too large
+pub record IsFirstLarge (script : Script) (name : List ℕ) : Type 0 where
+  pub no_cycle : HasNoCycle script
+  pub first : first_too_large script ≡ Some name
+
+-- the bodies of a proper script, or why it has none
+abbrev pub HasBodies : Script → Result (List Body) ExpandFault → Type 0
+HasBodies script (Ok bodies) = AreExpansions script bodies
+HasBodies script (Err (expand.Recursion names)) = IsCycle script names
+HasBodies script (Err (expand.TooLarge name)) = IsFirstLarge script name
+HasBodies script (Err expand.NoMemory) = Unit {0}
+
+-- too many roots
+pub record HasMany (script : Script) (count : ℕ) : Type 0 where
+  pub are : count ≡ length script.roots
+  pub many : most_roots < count
+
+-- the roots aren't too many, and this is the first form that isn't built
+pub record HasUnbuilt (script : Script) (token : ℕ) : Type 0 where
+  pub few : length script.roots ≤ most_roots
+  pub first : first_unbuilt script ≡ Some token
+
+-- the roots aren't too many, all is built, and this is the program
+pub record IsBuilt (script : Script) (program : Program) : Type 0 where
+  pub few : length script.roots ≤ most_roots
+  pub built : first_unbuilt script ≡ None
+  pub meaning : IsProgramOf script program
+
+-- the program of a script whose expansions are small, or why it has none
+abbrev pub HasJoined : Script → Result Program ScriptFault → Type 0
+HasJoined script (Ok program) = IsBuilt script program
+HasJoined script (Err (fault.Roots count)) = HasMany script count
+HasJoined script (Err (fault.NotBuilt token)) = HasUnbuilt script token
+HasJoined script (Err fault.NoMemory) = Unit {0}
+HasJoined script (Err (fault.Lex f)) = ⊥
+HasJoined script (Err (fault.Parse f)) = ⊥
+HasJoined script (Err (fault.Check f)) = ⊥
+HasJoined script (Err (fault.Expand f)) = ⊥
+HasJoined script (Err (fault.TooLong count)) = ⊥
+
+-- each actual has a value
+abbrev pub HasValues : Call → Type 0
+HasValues call = All (λ (e : Ast). IsSome (closed_value e)) call.actuals
+
+abbrev pub HaveValues : List Call → Type 0
+HaveValues calls = All HasValues calls

@@ -1,0 +1,68 @@
+ghost use Rattle.std.specs.Prelude.{◌≡◌, ◌++◌};
+ghost use Rattle.tb_script.specs.Building.{is_built, unbuilt_atom, unbuilt_in, first_of, first_unbuilt};
+
+use tb_syntax::{ActDef, AtomDef, Proc, Script};
+
+/// The first token of the first form that isn't built: the times of atoms, and the atoms other than
+/// `tau`, `delta`, `:=`, `snd-msg` and `rec-msg`.
+pub(crate) fn first_unbuilt(script: &Script) -> Option<usize>
+    ensures { result ≡ first_unbuilt script.now }
+{
+    for def in script.procs.as_slice() {
+        if let Some(token) = first_in(&def.body) {
+            return Some(token);
+        }
+    }
+    None
+}
+
+#[cycle(unbuilt)]
+fn first_in(p: &Proc) -> Option<usize>
+    ensures { result ≡ first_of (unbuilt_in p.now) }
+{
+    match p {
+        Proc::Atom(atom) => first_in_atom(atom),
+        Proc::Call(_) => None,
+        Proc::Seq(x, y) | Proc::Alt(x, y) | Proc::Star(x, y) | Proc::Par(x, y) => {
+            first_in_sides(x.get(), y.get())
+        }
+        Proc::If(_, x, None) => first_in(x.get()),
+        Proc::If(_, x, Some(y)) => first_in_sides(x.get(), y.get()),
+        Proc::Let(_, x) => first_in(x.get()),
+    }
+}
+
+#[cycle(unbuilt)]
+fn first_in_sides(x: &Proc, y: &Proc) -> Option<usize>
+    ensures { result ≡ first_of (unbuilt_in x.now ++ unbuilt_in y.now) }
+{
+    match first_in(x) {
+        Some(token) => Some(token),
+        None => first_in(y),
+    }
+}
+
+fn first_in_atom(atom: &AtomDef) -> Option<usize>
+    ensures { result ≡ first_of (unbuilt_atom atom.now) }
+{
+    if !is_built(&atom.act) {
+        return Some(atom.token);
+    }
+    match atom.times.as_slice().first() {
+        Some(time) => Some(time.token),
+        None => None,
+    }
+}
+
+fn is_built(act: &ActDef) -> bool
+    ensures { result ≡ is_built act.now }
+{
+    match act {
+        ActDef::Set(_, _) => true,
+        ActDef::Create(_, _) => false,
+        ActDef::Named(word, _) => matches!(
+            word.as_bytes(),
+            b"tau" | b"delta" | b"snd-msg" | b"rec-msg"
+        ),
+    }
+}

@@ -1,0 +1,62 @@
+ghost use Rattle.std.specs.Prelude.{◌≡◌, IfOk, map};
+ghost use Rattle.std.specs.List.{AllZip};
+ghost use Rattle.tb_types.specs.Conditions.{Proper};
+ghost use Rattle.tb_expand.specs.Acts.{process_of};
+ghost use Rattle.tb_script.specs.Programs.{IsRootOf, tool_of};
+ghost use Rattle.tb_script.specs.Making.{AreExpansions, HasJoined};
+
+use crate::ScriptFault;
+use crate::building::first_unbuilt;
+use crate::roots::roots_of;
+use std::alloc::Global;
+use tb_body::{Bodies, Program, Tool, Tools};
+use tb_syntax::{Script, ToolDef};
+use tb_terms::{Items, NoMemory};
+
+const MOST_ROOTS: usize = 10_000;
+
+/// The program of a proper script, whose bodies these are.
+pub(crate) fn program_of(
+    alloc: Global,
+    script: &Script,
+    bodies: Bodies,
+) -> Result<Program, ScriptFault>
+    requires proper { Proper script.now }
+    requires expanded { AreExpansions script.now bodies }
+    ensures { HasJoined script.now result }
+{
+    if script.roots.len() > MOST_ROOTS {
+        return Err(ScriptFault::Roots(script.roots.len()));
+    }
+    if let Some(token) = first_unbuilt(script) {
+        return Err(ScriptFault::NotBuilt(token));
+    }
+    let roots = roots_of(alloc, script)?;
+    let tools = tools_of(alloc, script.tools.as_slice())?;
+    Ok(Program {
+        bodies,
+        roots,
+        tools,
+    })
+}
+
+fn tools_of(alloc: Global, defs: &[ToolDef]) -> Result<Tools, NoMemory>
+    ensures { IfOk result (λ tools. tools ≡ map tool_of defs.now) }
+{
+    let mut tools = Items::new(alloc);
+    for def in defs {
+        tools.push(tool_of(alloc, def)?)?;
+    }
+    Ok(tools)
+}
+
+fn tool_of(alloc: Global, def: &ToolDef) -> Result<Tool, NoMemory>
+    ensures { IfOk result (λ tool. tool ≡ tool_of def.now) }
+{
+    let name = def.name.copy(alloc)?;
+    let command = match &def.command {
+        Some(command) => Some(command.copy(alloc)?),
+        None => None,
+    };
+    Ok(Tool { name, command })
+}

@@ -1,0 +1,69 @@
+ghost use Rattle.std.specs.Prelude.{◌≡◌, ◌<◌, IfOk, IsSome, All, Some, map, length};
+ghost use Rattle.std.specs.List.{AllZip};
+ghost use Rattle.tb_types.specs.Values.{closed_value};
+ghost use Rattle.tb_expand.specs.Acts.{process_of};
+ghost use Rattle.tb_script.specs.Programs.{IsRootOf};
+ghost use Rattle.tb_script.specs.Making.{HasValues, HaveValues};
+
+use std::alloc::Global;
+use tb_body::{Root, Roots};
+use tb_syntax::{Ast, Call, Script};
+use tb_terms::{Items, NoMemory, Term, Terms};
+use tb_types::{Names, closed_value};
+
+/// The roots of a script, each with the values of its actuals.
+pub(crate) fn roots_of(alloc: Global, script: &Script) -> Result<Roots, NoMemory>
+    requires { HaveValues script.now.roots }
+    ensures { IfOk result (λ roots. AllZip (IsRootOf script.now) script.now.roots roots) }
+{
+    let names = Names::of(alloc, script)?;
+    let mut roots = Items::new(alloc);
+    for call in script.roots.as_slice() {
+        roots.push(root_of(alloc, &names, call)?)?;
+    }
+    Ok(roots)
+}
+
+fn root_of(alloc: Global, names: &Names, call: &Call) -> Result<Root, NoMemory>
+    requires { HasValues call.now }
+    ensures { IfOk result (IsRootOf names.now.script.now call.now) }
+{
+    let process = process_of(names, call.name.as_bytes())?;
+    let actuals = values_of(alloc, call.actuals.as_slice())?;
+    Ok(Root { process, actuals })
+}
+
+/// The place of the process of this name, or the number of processes.
+fn process_of(names: &Names, name: &[u8]) -> Result<u32, NoMemory>
+    ensures { IfOk result (λ place. place ≡ process_of names.now.script.now name.now) }
+{
+    let place = match names.process_place(name) {
+        Some(place) => place,
+        None => names.script.procs.len(),
+    };
+    match u32::try_from(place) {
+        Ok(place) => Ok(place),
+        Err(_) => Err(NoMemory),
+    }
+}
+
+fn values_of(alloc: Global, actuals: &[Ast]) -> Result<Terms, NoMemory>
+    requires { All (λ e. IsSome (closed_value e)) actuals.now }
+    ensures { IfOk result (λ values. map (λ value. Some value) values ≡ map closed_value actuals.now) }
+{
+    let mut values = Items::new(alloc);
+    for actual in actuals {
+        values.push(value_of(alloc, actual)?)?;
+    }
+    Ok(values)
+}
+
+fn value_of(alloc: Global, actual: &Ast) -> Result<Term, NoMemory>
+    requires { IsSome (closed_value actual.now) }
+    ensures { IfOk result (λ value. Some value ≡ closed_value actual.now) }
+{
+    match closed_value(alloc, actual)? {
+        Some(value) => Ok(value),
+        None => unreachable!(),
+    }
+}
