@@ -18,7 +18,7 @@ use Rattle.tb_types.specs.Conditions.{Proper, IsFault}
 use Rattle.tb_expand.specs.Cycles.{IsCycle}
 use Rattle.tb_expand.specs.Faults.{HasNoCycle}
 use Rattle.tb_script.specs.Programs.{HasTokens, IsTextOf, IsProgramOf, IsChecked, IsEnding, IsSmall, IsAccepted, first_too_large, most_roots}
-use Rattle.tb_script.specs.Building.{first_unbuilt}
+use Rattle.tb_script.specs.Unbuilt.{first_unbuilt}
 use Rattle.tb_script.specs.Making.{HasOnlyTokens, IsOnlyScript}
 use Rattle.tb_script.specs.Findings.{HasNoTokens, Finding, NoTokens, NoScript, Improper, Recursive, Large, ManyRoots, Unbuilt, Program', Holds, IsSame, IsFound}
 use Rattle.tb_script.proofs.CheckFaults.{one_fault, no_fault}
@@ -72,7 +72,7 @@ module _ (text : List ℕ) (r : Result (List Token) LexFault)
         ⊎_elim
         (λ (e : r ≡ Err f). ok-err tokens f (sym came ∙ e))
         (λ (e : r ≡ Err lex.NoMemory). ok-err tokens lex.NoMemory (sym came ∙ e))
-        (exact f h.fault_is h.told);
+        (exact f h.fault_is h.not_memory);
   }
 
   no-tokens : (f : LexFault) → r ≡ Err f → f ≢ lex.NoMemory → (tokens : List Token) → HasTokens text tokens → ⊥
@@ -90,11 +90,11 @@ module _ (text : List ℕ) (r : Result (List Token) LexFault)
       ⊎_elim
       (λ (e : r ≡ Err g). sym (err-same f g (sym came ∙ e)))
       (λ (e : r ≡ Err lex.NoMemory). absurd (told (err-same f lex.NoMemory (sym came ∙ e))))
-      (exact g h.fault_is h.told)
+      (exact g h.fault_is h.not_memory)
 
   -- this fault came
   pub lexing_failed : (f : LexFault) → r ≡ Err f → f ≢ lex.NoMemory → HasLexFault text f → IsFound text (NoTokens f)
-  lexing_failed f came told has = record { holds = record { told = told; fault_is = has }; only = rest } where
+  lexing_failed f came told has = record { holds = record { not_memory = told; fault_is = has }; only = rest } where
     rest : (other : Finding) → Holds text other → IsSame (NoTokens f) other
     rest (NoTokens g) h = ap NoTokens (one-fault f came told g h)
     rest (NoScript g) h = absurd (no-tokens f came told h.tokens h.has_tokens)
@@ -129,7 +129,7 @@ module _ (tokens : List Token) (r : Result Script ParseFault)
         (λ (e : r ≡ Err parse.NoMemory). absurd (ok-err script parse.NoMemory (sym came ∙ e)))
         (only other (subst (λ ts. IsScriptOf (kinds_of ts) other) (lexed.one h.tokens h.has_tokens) h.is_script));
     has_tokens = lexed.sound;
-    has_script = λ f h. no-fault script came is f h.told (subst (λ ts. HasParseFault (kinds_of ts) f) (lexed.one h.tokens h.has_tokens) h.fault_is);
+    has_script = λ f h. no-fault script came is f h.not_memory (subst (λ ts. HasParseFault (kinds_of ts) f) (lexed.one h.tokens h.has_tokens) h.fault_is);
   }
 
   no-script : (f : ParseFault) → r ≡ Err f → f ≢ parse.NoMemory → (text : List ℕ) → HasOnlyTokens text tokens → (script : Script) → IsTextOf text script → ⊥
@@ -168,10 +168,10 @@ module _ (tokens : List Token) (r : Result Script ParseFault)
 
   -- this fault came
   pub parsing_failed : (f : ParseFault) → r ≡ Err f → f ≢ parse.NoMemory → HasParseFault (kinds_of tokens) f → (text : List ℕ) → HasOnlyTokens text tokens → IsFound text (NoScript f)
-  parsing_failed f came told has text lexed = record { holds = record { told = told; tokens = tokens; has_tokens = lexed.has_tokens; fault_is = has }; only = rest } where
+  parsing_failed f came told has text lexed = record { holds = record { not_memory = told; tokens = tokens; has_tokens = lexed.has_tokens; fault_is = has }; only = rest } where
     rest : (other : Finding) → Holds text other → IsSame (NoScript f) other
     rest (NoTokens g) h = absurd (lexed.sound g h)
-    rest (NoScript g) h = same-fault f g came told has h.told (subst (λ ts. HasParseFault (kinds_of ts) g) (lexed.one h.tokens h.has_tokens) h.fault_is)
+    rest (NoScript g) h = same-fault f g came told has h.not_memory (subst (λ ts. HasParseFault (kinds_of ts) g) (lexed.one h.tokens h.has_tokens) h.fault_is)
     rest (Improper g) h = absurd (no-spelt f came told text lexed (spelt text (Improper g) tt h))
     rest (Recursive names) h = absurd (no-spelt f came told text lexed (spelt text (Recursive names) tt h))
     rest (Large name) h = absurd (no-spelt f came told text lexed (spelt text (Large name) tt h))
@@ -187,11 +187,11 @@ module _ (text : List ℕ) (script : Script) (read : IsOnlyScript text script) w
   here P other is h = subst P (read.one other is) h
 
   pub improper_found : (f : CheckFault) → f ≢ check.NoMemory → IsFault script f → IsFound text (Improper f)
-  improper_found f told has = record { holds = record { told = told; script = script; is_text = read.is_text; fault_is = has }; only = rest } where
+  improper_found f told has = record { holds = record { not_memory = told; script = script; is_text = read.is_text; fault_is = has }; only = rest } where
     rest : (other : Finding) → Holds text other → IsSame (Improper f) other
     rest (NoTokens g) h = absurd (read.has_tokens g h)
     rest (NoScript g) h = absurd (read.has_script g h)
-    rest (Improper g) h = ap Improper (one_fault script g f h.told told (here (λ s. IsFault s g) h.script h.is_text h.fault_is) has)
+    rest (Improper g) h = ap Improper (one_fault script g f h.not_memory told (here (λ s. IsFault s g) h.script h.is_text h.fault_is) has)
     rest (Recursive names) h = absurd (no_fault script f told (here Proper h.script h.is_checked.is_text h.is_checked.proper) has)
     rest (Large name) h = let c = h.is_ending.checked in absurd (no_fault script f told (here Proper h.script c.is_text c.proper) has)
     rest (ManyRoots count) h = let c = h.is_small.ending.checked in absurd (no_fault script f told (here Proper h.script c.is_text c.proper) has)
@@ -200,7 +200,7 @@ module _ (text : List ℕ) (script : Script) (read : IsOnlyScript text script) w
 
   module _ (proper : Proper script) where
     is_proper : (g : CheckFault) → Holds text (Improper g) → ⊥
-    is_proper g h = no_fault script g h.told proper (here (λ s. IsFault s g) h.script h.is_text h.fault_is)
+    is_proper g h = no_fault script g h.not_memory proper (here (λ s. IsFault s g) h.script h.is_text h.fault_is)
 
     checked : IsChecked text script
     checked = record { is_text = read.is_text; proper = proper }

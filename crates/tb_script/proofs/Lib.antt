@@ -1,3 +1,6 @@
 pub mod CheckFaults
 pub mod OneProgram
 pub mod Findings
+pub mod RootValues
+pub mod UnbuiltProcs
+pub mod Places

@@ -15,23 +15,23 @@ use Rattle.tb_types.specs.declared.fault.CheckFault.TheVariants as check
 use Rattle.tb_types.specs.Conditions.{IsFault}
 use Rattle.tb_expand.specs.Cycles.{IsCycle}
 use Rattle.tb_script.specs.Programs.{HasTokens, IsTextOf, IsChecked, IsEnding, IsSmall, IsAccepted, IsProgramOf, first_too_large, most_roots}
-use Rattle.tb_script.specs.Building.{first_unbuilt}
+use Rattle.tb_script.specs.Unbuilt.{first_unbuilt}
 
 -- the text has this fault instead of tokens
 pub record HasNoTokens (text : List ℕ) (fault : LexFault) : Type 0 where
-  pub told : fault ≢ lex.NoMemory
+  pub not_memory : fault ≢ lex.NoMemory
   pub fault_is : HasLexFault text fault
 
 -- it has tokens, and they have this fault instead of a script
 pub record HasNoScript (text : List ℕ) (fault : ParseFault) : Type 0 where
-  pub told : fault ≢ parse.NoMemory
+  pub not_memory : fault ≢ parse.NoMemory
   pub tokens : List Token
   pub has_tokens : HasTokens text tokens
   pub fault_is : HasParseFault (kinds_of tokens) fault
 
 -- it spells a script within the limits, and this is the first of the nine conditions that it fails
 pub record IsImproper (text : List ℕ) (fault : CheckFault) : Type 0 where
-  pub told : fault ≢ check.NoMemory
+  pub not_memory : fault ≢ check.NoMemory
   pub script : Script
   pub is_text : IsTextOf text script
   pub fault_is : IsFault script fault
@@ -98,7 +98,7 @@ abbrev pub IsSomeCycle : Finding → Type 0
 IsSomeCycle (Recursive names) = Unit {0}
 IsSomeCycle _ = ⊥
 
--- The other finding is this one, but for the place of a fault of the grammar, of which nothing is said, and for the cycle that is named where there are several.
+-- The other finding is this one, but for the place of a fault of the grammar, which isn't told further, and for the cycle that is named where there are several.
 abbrev pub IsSame : Finding → Finding → Type 0
 IsSame (NoScript (parse.Syntax place)) other = IsSyntax other
 IsSame (NoScript (parse.TooDeep place)) other = other ≡ NoScript (parse.TooDeep place)

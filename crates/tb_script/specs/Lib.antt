@@ -1,5 +1,5 @@
 pub mod Programs
-pub mod Building
+pub mod Unbuilt
 pub mod Findings
 pub mod Loading
 pub mod Making

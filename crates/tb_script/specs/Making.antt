@@ -1,5 +1,5 @@
 -- What the parts of the loader make and find: helpers of its proofs.
-use Rattle.std.specs.Prelude.{◌≡◌, ◌≢◌, ◌<◌, ◌≤◌, ℕ, List, [], ◌∷◌, length, Option, Some, None, IsSome, All, Result, Ok, Err}
+use Rattle.std.specs.Prelude.{◌≡◌, ◌≢◌, ◌<◌, ◌≤◌, ℕ, List, [], ◌∷◌, length, Option, Some, None, option_map, find, IsSome, All, Result, Ok, Err}
 use Rattle.std.specs.List.{AllZip}
 use Rattle.tb_body.specs.declared.body.Body.{Body}
 use Rattle.tb_body.specs.declared.program.Program.{Program}
@@ -8,6 +8,7 @@ use Rattle.tb_lex.specs.declared.token.Token.{Token}
 use Rattle.tb_parse.specs.declared.fault.ParseFault.{ParseFault}
 use Rattle.tb_syntax.specs.declared.ast.Ast.{Ast}
 use Rattle.tb_syntax.specs.declared.proc.Call.{Call}
+use Rattle.tb_syntax.specs.declared.script.ProcDef.{ProcDef}
 use Rattle.tb_syntax.specs.declared.script.Script.{Script}
 use Rattle.tb_types.specs.declared.fault.CheckFault.TheVariants as check
 use Rattle.tb_types.specs.Conditions.{Proper, IsFault}
@@ -15,11 +16,12 @@ use Rattle.tb_types.specs.Values.{closed_value}
 use Rattle.tb_expand.specs.declared.fault.ExpandFault.{ExpandFault}
 use Rattle.tb_expand.specs.declared.fault.ExpandFault.TheVariants as expand
 use Rattle.tb_expand.specs.Cycles.{IsCycle}
+use Rattle.tb_expand.specs.Expansion.{expansion_of, is_too_large}
 use Rattle.tb_expand.specs.Faults.{HasNoCycle, IsExpansion}
 use Rattle.tb_script.specs.declared.fault.ScriptFault.{ScriptFault}
 use Rattle.tb_script.specs.declared.fault.ScriptFault.TheVariants as fault
 use Rattle.tb_script.specs.Programs.{HasTokens, IsTextOf, IsProgramOf, first_too_large, most_roots}
-use Rattle.tb_script.specs.Building.{first_unbuilt}
+use Rattle.tb_script.specs.Unbuilt.{first_unbuilt}
 use Rattle.tb_script.specs.Findings.{HasNoTokens, HasNoScript, IsFound, NoTokens, NoScript}
 
 -- the text has these tokens, no others, and no fault of its tokens
@@ -99,3 +101,7 @@ HasValues call = All (λ (e : Ast). IsSome (closed_value e)) call.actuals
 
 abbrev pub HaveValues : List Call → Type 0
 HaveValues calls = All HasValues calls
+
+-- the first of these processes whose expansion is too large
+abbrev pub first_large_of : Script → List ProcDef → Option (List ℕ)
+first_large_of script defs = option_map (λ (d : ProcDef). d.name) (find (λ (d : ProcDef). is_too_large (expansion_of script d)) defs)

@@ -30,7 +30,7 @@ pub record IsTextOf (text : List ℕ) (script : Script) : Type 0 where
   pub has_tokens : HasTokens text tokens
   pub is_script : IsScriptOf (kinds_of tokens) script
 
--- the first process, by definition, whose expansion has over 20,000 atoms or over 1,000 levels
+-- the first process, in order of definition, whose expansion has over 20,000 atoms or over 1,000 levels
 abbrev pub first_too_large : Script → Option (List ℕ)
 first_too_large script = option_map (λ (d : ProcDef). d.name) (find (λ (d : ProcDef). is_too_large (expansion_of script d)) script.procs)
 
@@ -53,22 +53,22 @@ pub record IsSmall (text : List ℕ) (script : Script) : Type 0 where
   pub ending : IsEnding text script
   pub small : first_too_large script ≡ None
 
--- and there aren't too many roots: the script is accepted
+-- and there aren't too many roots: the script is accepted, however long its text is
 pub record IsAccepted (text : List ℕ) (script : Script) : Type 0 where
   pub is_small : IsSmall text script
   pub few_roots : length script.roots ≤ most_roots
 
--- a root stands for the process of its name, from 0, with the values of its actuals
+-- a root stands for the process of its name, by its place from 0, with the values of its actuals
 pub record IsRootOf (script : Script) (call : Call) (root : Root) : Type 0 where
   pub process : root.process ≡ process_of script call.name
   pub actuals : map (λ (value : Term). Some value) root.actuals ≡ map closed_value call.actuals
 
 -- a tool is what its definition says
-abbrev pub tool_of : ToolDef → Tool
-tool_of d = record { name = d.name; command = d.command }
+abbrev pub declared_tool : ToolDef → Tool
+declared_tool d = record { name = d.name; command = d.command }
 
 -- The bodies are the expansions in order of definition, and the roots stand in the order of their calls.
 pub record IsProgramOf (script : Script) (program : Program) : Type 0 where
   pub bodies : AllZip (IsExpansion script) script.procs program.bodies
   pub roots : AllZip (IsRootOf script) script.roots program.roots
-  pub tools : program.tools ≡ map tool_of script.tools
+  pub tools : program.tools ≡ map declared_tool script.tools

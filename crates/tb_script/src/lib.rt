@@ -1,7 +1,7 @@
 //! From the bytes of a script to its program.
 #![tactic(auto)]
 
-mod building;
+mod unbuilt;
 mod expanding;
 mod fault;
 mod loading;

@@ -1,4 +1,4 @@
-ghost use Rattle.std.specs.Prelude.{List, Ok};
+ghost use Rattle.std.specs.Prelude.{ℕ, List};
 ghost use Rattle.tb_types.specs.Conditions.{Proper};
 ghost use Rattle.tb_script.specs.Loading.{HasLoaded};
 ghost use Rattle.tb_script.specs.Making.{AreExpansions, IsOnlyScript};
@@ -16,7 +16,7 @@ use tb_types::{CheckFault, check};
 /// The program of a script that is accepted, or what keeps the text from having one: the first of the
 /// faults in their order. Any number of bytes is read.
 pub fn load(alloc: Global, bytes: &[u8]) -> Result<Program, ScriptFault>
-    // What comes holds of the text, and of all that may be found of it this alone.
+    // What comes holds of the text, and nothing else that may be found of a text does.
     ensures { HasLoaded bytes.now result }
 {
     match read_script(alloc, bytes) {

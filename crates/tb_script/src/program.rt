@@ -1,12 +1,10 @@
 ghost use Rattle.std.specs.Prelude.{◌≡◌, IfOk, map};
-ghost use Rattle.std.specs.List.{AllZip};
 ghost use Rattle.tb_types.specs.Conditions.{Proper};
-ghost use Rattle.tb_expand.specs.Acts.{process_of};
-ghost use Rattle.tb_script.specs.Programs.{IsRootOf, tool_of};
+ghost use Rattle.tb_script.specs.Programs.{declared_tool};
 ghost use Rattle.tb_script.specs.Making.{AreExpansions, HasJoined};
 
 use crate::ScriptFault;
-use crate::building::first_unbuilt;
+use crate::unbuilt::first_unbuilt;
 use crate::roots::roots_of;
 use std::alloc::Global;
 use tb_body::{Bodies, Program, Tool, Tools};
@@ -41,7 +39,7 @@ pub(crate) fn program_of(
 }
 
 fn tools_of(alloc: Global, defs: &[ToolDef]) -> Result<Tools, NoMemory>
-    ensures { IfOk result (λ tools. tools ≡ map tool_of defs.now) }
+    ensures { IfOk result (λ tools. tools ≡ map declared_tool defs.now) }
 {
     let mut tools = Items::new(alloc);
     for def in defs {
@@ -51,7 +49,7 @@ fn tools_of(alloc: Global, defs: &[ToolDef]) -> Result<Tools, NoMemory>
 }
 
 fn tool_of(alloc: Global, def: &ToolDef) -> Result<Tool, NoMemory>
-    ensures { IfOk result (λ tool. tool ≡ tool_of def.now) }
+    ensures { IfOk result (λ tool. tool ≡ declared_tool def.now) }
 {
     let name = def.name.copy(alloc)?;
     let command = match &def.command {

@@ -1,4 +1,4 @@
-ghost use Rattle.std.specs.Prelude.{List};
+ghost use Rattle.std.specs.Prelude.{ℕ, List};
 ghost use Rattle.tb_script.specs.Making.{HasOnlyTokens, HasReadScript};
 
 use crate::ScriptFault;

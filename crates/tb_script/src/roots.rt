@@ -37,13 +37,18 @@ fn root_of(alloc: Global, names: &Names, call: &Call) -> Result<Root, NoMemory>
 fn process_of(names: &Names, name: &[u8]) -> Result<u32, NoMemory>
     ensures { IfOk result (λ place. place ≡ process_of names.now.script.now name.now) }
 {
-    let place = match names.process_place(name) {
-        Some(place) => place,
-        None => names.script.procs.len(),
-    };
-    match u32::try_from(place) {
+    match u32::try_from(process_place(names, name)) {
         Ok(place) => Ok(place),
         Err(_) => Err(NoMemory),
+    }
+}
+
+fn process_place(names: &Names, name: &[u8]) -> usize
+    ensures { result ≡ process_of names.now.script.now name.now }
+{
+    match names.process_place(name) {
+        Some(place) => place,
+        None => names.script.procs.len(),
     }
 }
 

@@ -80,7 +80,7 @@ static TEXTS: [(&str, Expected); 16] = [
     ),
     (
         "process P is if true then tau else shutdown(a) fi toolbus()",
-        Expected::NotBuilt(7),
+        Expected::NotBuilt(8),
     ),
     (
         "process P is (tau || delta) + (let X : int in X := 1 . rec-msg(X) endlet) * tau toolbus(P)",

@@ -1,5 +1,6 @@
-ghost use Rattle.std.specs.Prelude.{◌≡◌, ◌++◌};
-ghost use Rattle.tb_script.specs.Building.{is_built, unbuilt_atom, unbuilt_in, first_of, first_unbuilt};
+ghost use Rattle.std.specs.Prelude.{◌≡◌};
+ghost use Rattle.std.specs.Option.{option_or};
+ghost use Rattle.tb_script.specs.Unbuilt.{is_built, unbuilt_atom, unbuilt_in, first_of, first_unbuilt};
 
 use tb_syntax::{ActDef, AtomDef, Proc, Script};
 
@@ -16,29 +17,30 @@ pub(crate) fn first_unbuilt(script: &Script) -> Option<usize>
     None
 }
 
-#[cycle(unbuilt)]
+#[tactic(auto, using(crate::proofs::UnbuiltProcs::first_of_seq, crate::proofs::UnbuiltProcs::first_of_alt, crate::proofs::UnbuiltProcs::first_of_star, crate::proofs::UnbuiltProcs::first_of_par, crate::proofs::UnbuiltProcs::first_of_if, crate::proofs::UnbuiltProcs::first_of_let))]
 fn first_in(p: &Proc) -> Option<usize>
     ensures { result ≡ first_of (unbuilt_in p.now) }
 {
     match p {
         Proc::Atom(atom) => first_in_atom(atom),
         Proc::Call(_) => None,
-        Proc::Seq(x, y) | Proc::Alt(x, y) | Proc::Star(x, y) | Proc::Par(x, y) => {
-            first_in_sides(x.get(), y.get())
-        }
+        Proc::Seq(x, y) => earlier(first_in(x.get()), first_in(y.get())),
+        Proc::Alt(x, y) => earlier(first_in(x.get()), first_in(y.get())),
+        Proc::Star(x, y) => earlier(first_in(x.get()), first_in(y.get())),
+        Proc::Par(x, y) => earlier(first_in(x.get()), first_in(y.get())),
         Proc::If(_, x, None) => first_in(x.get()),
-        Proc::If(_, x, Some(y)) => first_in_sides(x.get(), y.get()),
+        Proc::If(_, x, Some(y)) => earlier(first_in(x.get()), first_in(y.get())),
         Proc::Let(_, x) => first_in(x.get()),
     }
 }
 
-#[cycle(unbuilt)]
-fn first_in_sides(x: &Proc, y: &Proc) -> Option<usize>
-    ensures { result ≡ first_of (unbuilt_in x.now ++ unbuilt_in y.now) }
+/// The one in front, or the one behind where there is none.
+fn earlier(front: Option<usize>, behind: Option<usize>) -> Option<usize>
+    ensures { result ≡ option_or front behind }
 {
-    match first_in(x) {
+    match front {
         Some(token) => Some(token),
-        None => first_in(y),
+        None => behind,
     }
 }
 
