@@ -1,16 +1,13 @@
 -- A proper script breaks nothing, and nor does any part of it.
-use Rattle.std.proofs.Common.{◌≡◌, ℕ, Bool, true, false, not, ◌==◌, List, [], ◌∷◌, ◌++◌, map, length, Option, Some, None, Contains, find, flat_map, get_or, zero, suc, ◌<◌, refl, sym, ◌∙◌, subst, inl, arith}
+use Rattle.std.proofs.Common.{◌≡◌, ℕ, Bool, true, false, not, ◌==◌, List, [], ◌∷◌, ◌++◌, map, length, Option, Some, None, Contains, flat_map, refl, sym, inl}
 use Rattle.std.proofs.lemmas.Bool.{eqb-true}
-use Rattle.std.proofs.lemmas.List.Folds.{find_at}
-use Rattle.std.proofs.lemmas.Option.{slice_get_within, get_or_from_slice_get}
-use Rattle.std.specs.List.{position_or_len}
+use Rattle.std.proofs.lemmas.List.Elements.{All-contains, All-from_recursion}
 use Rattle.std.specs.Str.{bytes_eq}
 use Rattle.tb_syntax.specs.declared.ast.Ast.{Ast}
 use Rattle.tb_syntax.specs.declared.proc.Call.{Call}
 use Rattle.tb_syntax.specs.declared.script.ProcDef.{ProcDef}
 use Rattle.tb_syntax.specs.declared.script.Script.{Script}
 use Rattle.tb_types.specs.declared.broken.Broken.{Broken}
-use Rattle.tb_types.specs.declared.broken.Rule.{Rule}
 use Rattle.tb_types.specs.declared.broken.Rule.TheVariants.{NoProcess, NoTool, NoFunction, Arity, NotResult, TypeClash}
 use Rattle.tb_types.specs.declared.calls.Manner.{Manner}
 use Rattle.tb_types.specs.declared.places.Place.{Place}
@@ -25,30 +22,7 @@ use Rattle.tb_types.specs.Exprs.{expr_faults}
 use Rattle.tb_types.specs.Names.{process_named}
 use Rattle.tb_types.specs.Places.{misplaced}
 use Rattle.tb_types.specs.Scopes.{known_formal}
-
--- where nothing is, nothing is in either part
-pub both_none : {A : Type 0} (xs ys : List A) → xs ++ ys ≡ [] → (xs ≡ []) × (ys ≡ [])
-both_none [] ys e = (refl, e)
-both_none (x ∷ xs) ys e = absurd (cc)
-
-pub noted_none : (is_broken : Bool) (rule : Rule) (token : ℕ) → noted_if is_broken rule token ≡ [] → is_broken ≡ false
-noted_none true rule token e = absurd (let some : ◌≡◌ {A = List Broken} (record { rule = rule; token = token } ∷ []) [] = e in cc)
-noted_none false rule token e = refl
-
--- nor at any element
-none_at : {A B : Type 0} (f : A → List B) (xs : List A) (k : ℕ) (d : A) → k < length xs → flat_map f xs ≡ [] → f (get_or xs k d) ≡ []
-none_at f [] k d within e = absurd (omega arith)
-none_at f (x ∷ xs) zero d within e = (both_none (f x) (flat_map f xs) e).0
-none_at f (x ∷ xs) (suc k) d within e = none_at f xs k d (omega arith) (both_none (f x) (flat_map f xs) e).1
-
-pub none_of : {A B : Type 0} (f : A → List B) (xs : List A) (x : A) → flat_map f xs ≡ [] → Contains xs x → f x ≡ []
-none_of f xs x e c = subst (λ y. f y ≡ []) c.2 (none_at f xs c.0 x c.1 e)
-
-pub found_is_there : {A : Type 0} (test : A → Bool) (xs : List A) (x : A) → find test xs ≡ Some x → Contains xs x
-found_is_there test xs x e =
-    let at = position_or_len test xs in
-    let there = sym (find_at test xs) ∙ e in
-    (at, slice_get_within xs at x there, get_or_from_slice_get xs at x x there)
+use Rattle.tb_expand.proofs.NoFaults.{append_none, flat_map_each, flat_map_found, noted_none}
 
 -- what breaks nothing is empty
 no_member : (faults : List Broken) → ((fault : Broken) → IsIn fault faults → ⊥) → faults ≡ []
@@ -71,9 +45,9 @@ fault_free script proper =
     let repeats = process_repeats none_seen script.procs in
     let procs = flat_map (process_faults script) script.procs in
     let roots = flat_map (root_faults script) script.roots in
-    let first = both_none (tools ++ repeats ++ procs) roots (none_broken script proper) in
-    let second = both_none (tools ++ repeats) procs first.0 in
-    let third = both_none tools repeats second.0 in
+    let first = append_none (tools ++ repeats ++ procs) roots (none_broken script proper) in
+    let second = append_none (tools ++ repeats) procs first.0 in
+    let third = append_none tools repeats second.0 in
     record { tools = third.0; names = third.1; procs = second.1; roots = first.1 }
 
 -- a definition by its parts
@@ -81,15 +55,19 @@ pub record IsFreeDefinition (script : Script) (d : ProcDef) : Type 0 where
   pub formals : formals_faults script.tools d.formals ≡ []
   pub body : proc_faults script d.body (map known_formal d.formals) ≡ []
 
+by_parts : (script : Script) (d : ProcDef) → process_faults script d ≡ [] → IsFreeDefinition script d
+by_parts script d none =
+    let parts = append_none (formals_faults script.tools d.formals) (proc_faults script d.body (map known_formal d.formals)) none in
+    record { formals = parts.0; body = parts.1 }
+
 pub free_definition : (script : Script) (d : ProcDef) → Proper script → Contains script.procs d → IsFreeDefinition script d
 free_definition script d proper there =
-    let none = none_of (process_faults script) script.procs d (fault_free script proper).procs there in
-    let parts = both_none (formals_faults script.tools d.formals) (proc_faults script d.body (map known_formal d.formals)) none in
-    record { formals = parts.0; body = parts.1 }
+    let each = flat_map_each (process_faults script) script.procs (fault_free script proper).procs in
+    by_parts script d (All-contains (λ other. process_faults script other ≡ []) script.procs d (All-from_recursion (λ other. process_faults script other ≡ []) script.procs each) there)
 
 pub free_named : (script : Script) (name : List ℕ) (d : ProcDef) → Proper script → process_named script.procs name ≡ Some d → IsFreeDefinition script d
 free_named script name d proper found =
-    free_definition script d proper (found_is_there (λ (other : ProcDef). bytes_eq other.name name) script.procs d found)
+    by_parts script d (flat_map_found (process_faults script) (λ (other : ProcDef). bytes_eq other.name name) script.procs d found (fault_free script proper).procs)
 
 -- an expression where it stands
 pub record IsFreeSite (script : Script) (known : List Known) (place : Place) (duty : Duty) (e : Ast) : Type 0 where
@@ -106,11 +84,11 @@ free_site script known place duty e none =
     let function = noted_if (lacks_function duty e) NoFunction e.token in
     let result = noted_if (lacks_result duty e) NotResult e.token in
     let clash = noted_if (clashes script known duty e) TypeClash e.token in
-    let first = both_none (tool ++ function ++ expr_faults known e ++ misplaced place e ++ result) clash none in
-    let second = both_none (tool ++ function ++ expr_faults known e ++ misplaced place e) result first.0 in
-    let third = both_none (tool ++ function ++ expr_faults known e) (misplaced place e) second.0 in
-    let fourth = both_none (tool ++ function) (expr_faults known e) third.0 in
-    let fifth = both_none tool function fourth.0 in
+    let first = append_none (tool ++ function ++ expr_faults known e ++ misplaced place e ++ result) clash none in
+    let second = append_none (tool ++ function ++ expr_faults known e ++ misplaced place e) result first.0 in
+    let third = append_none (tool ++ function ++ expr_faults known e) (misplaced place e) second.0 in
+    let fourth = append_none (tool ++ function) (expr_faults known e) third.0 in
+    let fifth = append_none tool function fourth.0 in
     record {
       tool = noted_none (lacks_tool script duty e) NoTool e.token fifth.0;
       function = noted_none (lacks_function duty e) NoFunction e.token fifth.1;
@@ -137,9 +115,9 @@ pub free_call : (script : Script) (known : List Known) (manner : Manner) (call :
 free_call script known manner call e = found (process_named script.procs call.name) refl e where
   found : (o : Option ProcDef) → process_named script.procs call.name ≡ o → found_call_faults script known manner o call ≡ [] → IsFreeCall script known manner call
   found None is h =
-      let some : true ≡ false = noted_none true NoProcess call.token (both_none (noted_if true NoProcess call.token) (actuals_faults script known manner [] 0 call.actuals) h).0 in
+      let some : true ≡ false = noted_none true NoProcess call.token (append_none (noted_if true NoProcess call.token) (actuals_faults script known manner [] 0 call.actuals) h).0 in
       absurd (cc)
   found (Some d) is h =
       let wrong = noted_if (has_wrong_actuals (Some d) call.actuals) Arity call.token in
-      let parts = both_none wrong (actuals_faults script known manner d.formals 0 call.actuals) h in
+      let parts = append_none wrong (actuals_faults script known manner d.formals 0 call.actuals) h in
       record { called = d; is = is; count = as_many _ _ (noted_none (has_wrong_actuals (Some d) call.actuals) Arity call.token parts.0); actuals = parts.1 }

@@ -35,8 +35,9 @@ use Rattle.tb_expand.specs.Expansion.{Expands, Part, atom_only, declaring, expan
 use Rattle.tb_expand.specs.Expansion as expansion
 use Rattle.tb_expand.specs.Scopes.{Scope, declared}
 use Rattle.tb_expand.proofs.Calling.{body_of_call, call_found}
-use Rattle.tb_expand.proofs.FaultFree.{both_none, free_call, free_named, free_site}
-use Rattle.tb_expand.proofs.FromAtoms.{value_in_range}
+use Rattle.tb_expand.proofs.ExprRanges.{value_in_range}
+use Rattle.tb_expand.proofs.FaultFree.{free_call, free_named, free_site}
+use Rattle.tb_expand.proofs.NoFaults.{append_none}
 use Rattle.tb_expand.proofs.ProcInduction.{Related, folds_related}
 use Rattle.tb_expand.proofs.Seeing.{actuals_free, called_agree, declared_agree}
 use Rattle.tb_expand.proofs.Settings.{call_in_range, initial_in_range}
@@ -75,7 +76,7 @@ module _ (script : Script) (slots : ℕ) (P : Part → Type 0) (keeps : Keeps sc
   sides_hold : (join : Tree → Tree → Tree) → ((front back : Part) → P front → P back → P (beside join front back))
       → (one other : List Known → List Broken) (x y : Expands) → Holds one x → Holds other y → Holds (λ known. one known ++ other known) (expansion.both join x y)
   sides_hold join kept one other x y f g scope known atom slot agrees free within =
-      let parts = both_none (one known) (other known) free in
+      let parts = append_none (one known) (other known) free in
       let front = x scope atom slot in
       let back = y scope (atom + length front.atoms) (slot + length front.sorts) in
       kept front back
@@ -91,8 +92,8 @@ module _ (script : Script) (slots : ℕ) (P : Part → Type 0) (keeps : Keeps sc
       → Holds (λ known. vars_faults script.tools vars ++ broken (map known_var vars ++ known)) (expansion.block_of vars x)
   block_holds vars broken x h scope known atom slot agrees free within =
       let part = x (declared slot vars ++ scope) atom (slot + length vars) in
-      let parts = both_none (vars_faults script.tools vars) (broken (map known_var vars ++ known)) free in
-      let sorts = both_none (var_repeats none_seen vars) (flat_map (var_faults script.tools) vars) parts.0 in
+      let parts = append_none (vars_faults script.tools vars) (broken (map known_var vars ++ known)) free in
+      let sorts = append_none (var_repeats none_seen vars) (flat_map (var_faults script.tools) vars) parts.0 in
       let count : length (sorts_of_vars vars) ≡ length vars = length-map vars (λ (var : Var). var.sort) in
       let own : slot + length vars ≤ slots = omega (arith, count, front_within slot slots (sorts_of_vars vars) part.sorts within) in
       let rest : (slot + length vars) + length part.sorts ≤ slots = omega (arith, count, back_within slot slots (sorts_of_vars vars) part.sorts within) in
@@ -112,7 +113,7 @@ module _ (script : Script) (slots : ℕ) (P : Part → Type 0) (keeps : Keeps sc
         let own : slot + length own_formals ≤ slots = omega (arith, count, front_within slot slots (sorts_of own_formals) part.sorts all_within) in
         let rest : (slot + length own_formals) + length part.sorts ≤ slots = omega (arith, count, back_within slot slots (sorts_of own_formals) part.sorts all_within) in
         let definition = free_named script call.name d proper found.is in
-        let sorts = both_none (formal_repeats none_seen d.formals) (flat_map (formal_faults script.tools) d.formals) definition.formals in
+        let sorts = append_none (formal_repeats none_seen d.formals) (flat_map (formal_faults script.tools) d.formals) definition.formals in
         let actuals = actuals_free script known d.formals call.actuals found.count found.actuals in
         let inner = called_agree script slots scope known agrees slot d.formals call.actuals sorts.1 actuals own in
         subst P (sym is)
@@ -129,12 +130,12 @@ module _ (script : Script) (slots : ℕ) (P : Part → Type 0) (keeps : Keeps sc
       par = sides_hold tree.Par keeps.par;
       test = λ test broken x f scope known atom slot agrees free within.
           let own = site_faults script known Sent (tested sorts.Bool) test in
-          let parts = both_none own (broken known) (both_none (own ++ broken known) [] free).0 in
+          let parts = append_none own (broken known) (append_none (own ++ broken known) [] free).0 in
           keeps.test (expr_of scope test) (x scope atom slot) (tested_value scope known test agrees parts.0) (f scope known atom slot agrees parts.1 within);
       test_else = λ test one other x y f g scope known atom slot agrees free within.
           let own = site_faults script known Sent (tested sorts.Bool) test in
-          let outer = both_none (own ++ one known) (other known) free in
-          let inner = both_none own (one known) outer.0 in
+          let outer = append_none (own ++ one known) (other known) free in
+          let inner = append_none own (one known) outer.0 in
           let value = tested_value scope known test agrees inner.0 in
           let sides : one known ++ other known ≡ [] = ap (λ broken. broken ++ other known) inner.1 ∙ outer.1 in
           sides_hold (expansion.tested (expr_of scope test)) (λ front back. keeps.test_else (expr_of scope test) front back value) one other x y f g scope known atom slot agrees sides within;

@@ -18,8 +18,9 @@ use Rattle.tb_expand.specs.Expansion.{Part, expands, expansion_of, is_too_large,
 use Rattle.tb_expand.specs.Scopes.{formals_seen}
 use Rattle.tb_expand.specs.Wholes.{is_whole}
 use Rattle.tb_expand.proofs.AtomsOf.{IsGoodOf, atoms_of_expansion}
-use Rattle.tb_expand.proofs.FaultFree.{both_none, free_definition}
+use Rattle.tb_expand.proofs.FaultFree.{free_definition}
 use Rattle.tb_expand.proofs.FromAtoms.{atom_in_range}
+use Rattle.tb_expand.proofs.NoFaults.{append_none}
 use Rattle.tb_expand.proofs.Numbering.{expands_numbered}
 use Rattle.tb_expand.proofs.Seeing.{formals_agree}
 use Rattle.tb_expand.proofs.TreeRanges.{tree_in_range}
@@ -44,7 +45,7 @@ module _ (script : Script) (d : ProcDef) (proper : Proper script) (there : Conta
 
   agrees : Agrees script slots (formals_seen 0 d.formals) (map known_formal d.formals)
   agrees =
-      let free = both_none (formal_repeats none_seen d.formals) (flat_map (formal_faults script.tools) d.formals) (free_definition script d proper there).formals in
+      let free = append_none (formal_repeats none_seen d.formals) (flat_map (formal_faults script.tools) d.formals) (free_definition script d proper there).formals in
       formals_agree script slots 0 d.formals free.1 (omega (arith, formals_within))
 
   -- what holds of each atom that breaks nothing holds of all atoms of the process

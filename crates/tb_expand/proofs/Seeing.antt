@@ -1,48 +1,30 @@
 -- The scopes that an expansion makes have what the checks know: where it starts, within a `let`, and within a call.
-use Rattle.std.proofs.Common.{◌≡◌, ℕ, suc, ◌+◌, ◌<◌, ◌≤◌, Bool, true, false, not, cond, List, [], ◌∷◌, ◌++◌, map, length, flat_map, Option, Some, None, is_some, is_none, slice_get, find, refl, ap, sym, ◌∙◌, subst, arith}
+use Rattle.std.proofs.Common.{◌≡◌, ℕ, suc, ◌+◌, ◌<◌, ◌≤◌, Bool, true, false, not, cond, List, [], ◌∷◌, ◌++◌, map, length, flat_map, Option, Some, is_some, slice_get, refl, ap, sym, ◌∙◌, subst, arith}
 use Rattle.std.specs.Prelude.{if◌then◌else◌}
-use Rattle.std.specs.Str.{bytes_eq}
 use Rattle.tb_terms.specs.declared.sort.Sort.{Sort}
 use Rattle.tb_syntax.specs.declared.ast.Ast.{Ast}
 use Rattle.tb_syntax.specs.declared.ast.AstKind.{AstKind, out-AstKind}
 use Rattle.tb_syntax.specs.declared.ast.AstKind.TheOpen as layer
-use Rattle.tb_syntax.specs.declared.ast.AstKind.TheFolds.{fold_out-AstKind, map-AstKind, fold-Ast}
 use Rattle.tb_syntax.specs.declared.proc.Var.{Var}
 use Rattle.tb_syntax.specs.declared.script.Formal.{Formal}
 use Rattle.tb_syntax.specs.declared.script.Script.{Script}
 use Rattle.tb_types.specs.declared.broken.Broken.{Broken}
-use Rattle.tb_types.specs.declared.broken.Rule.TheVariants.{NoTool, Undeclared}
+use Rattle.tb_types.specs.declared.broken.Rule.TheVariants.{NoTool}
 use Rattle.tb_types.specs.declared.calls.Manner.TheVariants.{Called}
 use Rattle.tb_types.specs.declared.scope.Known.{Known}
 use Rattle.tb_types.specs.Broken.{noted_if}
 use Rattle.tb_types.specs.Calls.{actual_duty, actual_place, actuals_faults, formal_duty, formal_place, value_duty}
 use Rattle.tb_types.specs.Definitions.{formal_faults, var_faults}
 use Rattle.tb_types.specs.Duties.{exact, result_name, site_faults}
-use Rattle.tb_types.specs.Exprs.{Judged, JudgedKind, expr_faults, expr_step, judged_kind, kind_step}
 use Rattle.tb_types.specs.Names.{is_unknown_sort}
-use Rattle.tb_types.specs.Scopes.{known_formal, known_var, sort_in}
-use Rattle.tb_expand.specs.declared.seen.Seen.{Seen}
+use Rattle.tb_types.specs.Scopes.{known_formal, known_var}
 use Rattle.tb_expand.specs.Acts.{name_in, name_of}
 use Rattle.tb_expand.specs.Agreeing.{Agrees, AgreesOn}
 use Rattle.tb_expand.specs.Expansion.{formals_of_call, value_formals}
-use Rattle.tb_expand.specs.Scopes.{Scope, declared, formals_seen, slot_of, slot_or_0}
-use Rattle.tb_expand.proofs.FaultFree.{both_none, noted_none, free_site}
-
--- A known variable has a slot.
-
-slot_known : (script : Script) (slots : ℕ) (scope : Scope) (known : List Known) (name : List ℕ) (s : Sort)
-    → Agrees script slots scope known → sort_in known name ≡ Some s → slot_of scope name < slots
-slot_known script slots [] [] name s agrees e = absurd (let none : ◌≡◌ {A = Option Sort} None (Some s) = e in cc)
-slot_known script slots [] (known ∷ others) name s agrees e = absurd agrees
-slot_known script slots (seen ∷ scope) [] name s agrees e = absurd agrees
-slot_known script slots (seen ∷ scope) (known ∷ others) name s agrees e =
-    step (bytes_eq seen.name name) (slot_known script slots scope others name s agrees.1)
-    (ap (λ n. cond (bytes_eq n name) (Some known.sort) (sort_in others name)) agrees.0.name ∙ e) where
-      step : (b : Bool) → (sort_in others name ≡ Some s → slot_of scope name < slots)
-          → cond b (Some known.sort) (sort_in others name) ≡ Some s
-          → slot_or_0 (cond b (Some seen) (find (λ (other : Seen). bytes_eq other.name name) scope)) < slots
-      step true ih h = agrees.0.slot
-      step false ih h = ih h
+use Rattle.tb_expand.specs.Scopes.{Scope, declared, formals_seen, slot_of}
+use Rattle.tb_expand.proofs.ExprRanges.{taken_in_range}
+use Rattle.tb_expand.proofs.FaultFree.{free_site}
+use Rattle.tb_expand.proofs.NoFaults.{append_none, noted_none}
 
 -- Where an expansion starts, and within a `let`.
 
@@ -54,7 +36,7 @@ pub formals_agree : (script : Script) (slots slot : ℕ) (formals : List Formal)
     → Agrees script slots (formals_seen slot formals) (map known_formal formals)
 formals_agree script slots slot [] free within = tt
 formals_agree script slots slot (formal ∷ formals) free within =
-    let parts = both_none (formal_faults script.tools formal) (flat_map (formal_faults script.tools) formals) free in
+    let parts = append_none (formal_faults script.tools formal) (flat_map (formal_faults script.tools) formals) free in
     let here : AgreesOn script slots (record { name = formal.name; slot = slot; sort = formal.sort }) (known_formal formal)
     = record { name = refl; sort = refl; slot = omega arith; is_sort = sort_is script formal.sort formal.sort_token parts.0 } in
     (here, formals_agree script slots (slot + 1) formals parts.1 (omega arith))
@@ -64,7 +46,7 @@ pub declared_agree : (script : Script) (slots slot : ℕ) (vars : List Var) (sco
     → Agrees script slots (declared slot vars ++ scope) (map known_var vars ++ known)
 declared_agree script slots slot [] scope known free within agrees = agrees
 declared_agree script slots slot (var ∷ vars) scope known free within agrees =
-    let parts = both_none (var_faults script.tools var) (flat_map (var_faults script.tools) vars) free in
+    let parts = append_none (var_faults script.tools var) (flat_map (var_faults script.tools) vars) free in
     let here : AgreesOn script slots (record { name = var.name; slot = slot; sort = var.sort }) (known_var var)
     = record { name = refl; sort = refl; slot = omega arith; is_sort = sort_is script var.sort var.sort_token parts.0 } in
     (here, declared_agree script slots (slot + 1) vars scope known parts.1 (omega arith) agrees)
@@ -89,7 +71,7 @@ from_place script known all [] place [] same count free = tt
 from_place script known all [] place (actual ∷ actuals) same count free = absurd (omega (arith, count))
 from_place script known all (formal ∷ formals) place [] same count free = absurd (omega (arith, count))
 from_place script known all (formal ∷ formals) place (actual ∷ actuals) same count free =
-    let parts = both_none (asked script known actual (slice_get all place)) (actuals_faults script known Called all (place + 1) actuals) free in
+    let parts = append_none (asked script known actual (slice_get all place)) (actuals_faults script known Called all (place + 1) actuals) free in
     let start : place ≡ place + 0 = omega arith in
     let here : slice_get all place ≡ Some formal = ap (slice_get all) start ∙ same 0 in
     let behind : (k : ℕ) → slice_get all ((place + 1) + k) ≡ slice_get formals k
@@ -104,38 +86,22 @@ actuals_free script known formals actuals count free = from_place script known f
 
 -- A result formal stands for a variable that is known.
 
-abbrev layer_judged : List Known → layer.AstKind-F AstKind Ast → JudgedKind
-layer_judged known x = kind_step known (map-AstKind AstKind Ast JudgedKind Judged (judged_kind known) (fold-Ast JudgedKind Judged (kind_step known) expr_step) x)
-
-abbrev faults_in : List Known → layer.AstKind-F AstKind Ast → ℕ → List Broken
-faults_in known x token = (layer_judged known x).faults token
-
-opened : (known : List Known) (e : Ast) → expr_faults known e ≡ faults_in known (out-AstKind e.kind) e.token
-opened known e = ap (λ (j : JudgedKind). j.faults e.token) (fold_out-AstKind JudgedKind Judged (kind_step known) expr_step e.kind)
-
-there : {A : Type 0} (o : Option A) → is_none o ≡ false → (x : A) × (o ≡ Some x)
-there None e = absurd (cc)
-there (Some x) e = (x, refl)
+is_result_of : (x : layer.AstKind-F AstKind Ast) → not (is_some (result_name x)) ≡ false → (name : List ℕ) × (x ≡ layer.Result name)
+is_result_of (layer.Int number) e = absurd (cc)
+is_result_of (layer.Str text) e = absurd (cc)
+is_result_of (layer.Appl name parts) e = absurd (cc)
+is_result_of (layer.Var name) e = absurd (cc)
+is_result_of (layer.Result name) e = (name, refl)
+is_result_of (layer.Hole s) e = absurd (cc)
+is_result_of (layer.List parts) e = absurd (cc)
 
 module _ (script : Script) (slots : ℕ) (scope : Scope) (known : List Known) (agrees : Agrees script slots scope known) where
-  no_result : {A : Type 0} → not false ≡ false → A
-  no_result e = absurd (cc)
-
-  named_slot : (token : ℕ) (x : layer.AstKind-F AstKind Ast) → not (is_some (result_name x)) ≡ false → faults_in known x token ≡ [] → slot_of scope (name_in x) < slots
-  named_slot token (layer.Int number) e free = no_result e
-  named_slot token (layer.Str text) e free = no_result e
-  named_slot token (layer.Appl name parts) e free = no_result e
-  named_slot token (layer.Var name) e free = no_result e
-  named_slot token (layer.Result name) e free =
-      let known_sort = there (sort_in known name) (noted_none (is_none (sort_in known name)) Undeclared token free) in
-      slot_known script slots scope known name known_sort.0 agrees known_sort.1
-  named_slot token (layer.Hole s) e free = no_result e
-  named_slot token (layer.List parts) e free = no_result e
-
   result_slot : (s : Sort) (actual : Ast) → site_faults script known (formal_place Called true) (exact s) actual ≡ [] → slot_of scope (name_of actual) < slots
   result_slot s actual e =
       let free = free_site script known (formal_place Called true) (exact s) actual e in
-      named_slot actual.token (out-AstKind actual.kind) free.result (sym (opened known actual) ∙ free.expr)
+      let result = is_result_of (out-AstKind actual.kind) free.result in
+      let named : result.0 ≡ name_of actual = ap name_in (sym result.1) in
+      subst (λ (name : List ℕ). slot_of scope name < slots) named (taken_in_range script slots scope known actual result.0 agrees result.1 free.expr)
 
   -- what the called process sees
   pub called_agree : (slot : ℕ) (formals : List Formal) (actuals : List Ast) → flat_map (formal_faults script.tools) formals ≡ []
@@ -147,7 +113,7 @@ module _ (script : Script) (slots : ℕ) (scope : Scope) (known : List Known) (a
   called_agree slot (formal ∷ formals) (actual ∷ actuals) none free within =
       step formal.result free.0 within (λ next. called_agree next formals actuals parts.1 free.1) where
         parts : (formal_faults script.tools formal ≡ []) × (flat_map (formal_faults script.tools) formals ≡ [])
-        parts = both_none (formal_faults script.tools formal) (flat_map (formal_faults script.tools) formals) none
+        parts = append_none (formal_faults script.tools formal) (flat_map (formal_faults script.tools) formals) none
 
         here : (place : ℕ) → place < slots → AgreesOn script slots (record { name = formal.name; slot = place; sort = formal.sort }) (known_formal formal)
         here place inside = record { name = refl; sort = refl; slot = inside; is_sort = sort_is script formal.sort formal.sort_token parts.0 }

@@ -17,8 +17,8 @@ use Rattle.tb_expand.specs.Agreeing.{Agrees}
 use Rattle.tb_expand.specs.Expansion.{initial, set_formals, value_formals}
 use Rattle.tb_expand.specs.Exprs.{expr_of}
 use Rattle.tb_expand.specs.Scopes.{Scope}
+use Rattle.tb_expand.proofs.ExprRanges.{value_in_range}
 use Rattle.tb_expand.proofs.FaultFree.{free_site}
-use Rattle.tb_expand.proofs.FromAtoms.{value_in_range}
 use Rattle.tb_expand.proofs.Seeing.{ActualsFree}
 
 abbrev AreInRange : ℕ → List Setting → Type 0
