@@ -1,7 +1,7 @@
 -- Worked expansions, computed from the definitions alone.
 use Rattle.std.proofs.Common.{◌≡◌, ℕ, List, [], ◌∷◌, Some, None, Bool, true, false, codes, pos, rules}
 use Rattle.tb_terms.specs.declared.expr.Expr.TheVariants as expr
-use Rattle.tb_terms.specs.declared.expr.Func.TheVariants.{Add}
+use Rattle.tb_terms.specs.declared.expr.Func.TheVariants.{Add, First}
 use Rattle.tb_terms.specs.declared.sort.Sort.TheVariants as sort
 use Rattle.tb_body.specs.declared.act.Act.TheVariants as act
 use Rattle.tb_body.specs.declared.tree.Tree.TheVariants as tree
@@ -148,3 +148,59 @@ hides_expands : expansion_of (record { procs = hides ∷ []; tools = []; roots =
   sorts = sort.Int ∷ sort.Int ∷ [];
 }
 hides_expands = search (rules, ast_lemmas, proc_lemmas)
+
+-- process M(A : int, R : int?, B : int) is R := add(A, B)
+abbrev mixed : ProcDef
+mixed = defined (codes "M") (formal a false ∷ formal r true ∷ formal b false ∷ []) (sets r (ast.Appl (codes "add") (of (ast.Var a) ∷ of (ast.Var b) ∷ [])))
+
+-- process N is let A : int in if true then delta else M(1, A?, A) fi endlet
+abbrev calls_mixed : ProcDef
+calls_mixed = defined (codes "N") [] (with_int a
+    (proc.If (of (ast.Appl (codes "true") [])) (atom (def.Named (codes "delta") []))
+    (Some (call (codes "M") (of (ast.Int (pos 1)) ∷ of (ast.Result a) ∷ of (ast.Var a) ∷ [])))))
+
+abbrev mixed_script : Script
+mixed_script = record { procs = mixed ∷ calls_mixed ∷ []; tools = []; roots = [] }
+
+-- A result formal between value formals takes no slot. The actual A is the caller's, and within the call A is the first formal.
+mixed_expands : expansion_of mixed_script calls_mixed ≡ record {
+  tree = tree.Let (record { slot = 0; start = None } ∷ [])
+      (tree.If (expr.Appl (codes "true") []) (tree.At 1)
+      (Some (tree.Let (record { slot = 1; start = Some (expr.Int (pos 1)) } ∷ record { slot = 2; start = Some (expr.Var 0) } ∷ []) (tree.At 2))));
+  atoms = record { act = act.Delta; times = [] } ∷ record { act = act.Set 0 (expr.Call Add (expr.Var 1 ∷ expr.Var 2 ∷ [])); times = [] } ∷ [];
+  sorts = sort.Int ∷ sort.Int ∷ sort.Int ∷ [];
+}
+mixed_expands = search (rules, ast_lemmas, proc_lemmas)
+
+-- process T is snd-msg(first, first([1]))
+abbrev function_names : ProcDef
+function_names = defined (codes "T") []
+    (atom (def.Named (codes "snd-msg") (of (ast.Appl (codes "first") []) ∷ of (ast.Appl (codes "first") (of (ast.List (of (ast.Int (pos 1)) ∷ [])) ∷ [])) ∷ [])))
+
+-- a function's name without arguments is a term
+function_names_expand : expansion_of (record { procs = function_names ∷ []; tools = []; roots = [] }) function_names ≡ record {
+  tree = tree.At 1;
+  atoms = record { act = act.SndMsg (expr.Appl (codes "first") [] ∷ expr.Call First (expr.List (expr.Int (pos 1) ∷ []) ∷ []) ∷ []); times = [] } ∷ [];
+  sorts = [];
+}
+function_names_expand = search (rules, ast_lemmas, proc_lemmas)
+
+-- tool t is { }  process D(T : t) is rec-disconnect(T?) . rec-disconnect(T)
+abbrev leaves : ProcDef
+leaves = defined (codes "D") (record { name = codes "T"; sort = sort.Tool (codes "t"); result = false; token = 0; sort_token = 0 } ∷ [])
+    (proc.Seq (atom (def.Named (codes "rec-disconnect") (of (ast.Result (codes "T")) ∷ []))) (atom (def.Named (codes "rec-disconnect") (of (ast.Var (codes "T")) ∷ []))))
+
+abbrev with_tools : Script
+with_tools = record {
+  procs = leaves ∷ [];
+  tools = record { name = codes "s"; command = None; token = 0 } ∷ record { name = codes "t"; command = None; token = 0 } ∷ [];
+  roots = [];
+}
+
+-- any tool of the variable's sort, and the tool that is its value
+leaves_expand : expansion_of with_tools leaves ≡ record {
+  tree = tree.Seq (tree.At 1) (tree.At 2);
+  atoms = record { act = act.RecDisconnectAny 1 0; times = [] } ∷ record { act = act.RecDisconnect (expr.Var 0); times = [] } ∷ [];
+  sorts = sort.Tool (codes "t") ∷ [];
+}
+leaves_expand = search (rules, ast_lemmas, proc_lemmas)

@@ -45,7 +45,7 @@ tool_of_open script (sort.Tool name) = tool_of script name
 abbrev pub tool_of_sort : Script → Sort → ℕ
 tool_of_sort script s = tool_of_open script (out-Sort s)
 
--- the variable that is written so, as a result; and the name that is written without arguments
+-- the name with which an expression begins, or none
 abbrev pub name_in : ast.AstKind-F AstKind Ast → List ℕ
 name_in (ast.Int number) = []
 name_in (ast.Str text) = []
@@ -59,6 +59,7 @@ abbrev pub name_of : Ast → List ℕ
 name_of e = name_in (out-AstKind e.kind)
 
 -- The acts by their words and arguments, each with the number of arguments that a checked script gives it; `Delta` stands for all else.
+-- no arguments
 abbrev pub act_without : List ℕ → Act
 act_without word = if bytes_eq word (codes "tau") then act.Tau else act.Delta
 
@@ -75,7 +76,7 @@ disconnected script scope e (ast.List parts) = act.RecDisconnect (expr_of scope 
 abbrev pub connected : Script → Scope → Ast → Act
 connected script scope e = act.RecConnect (tool_of_sort script (sort_of scope (name_of e))) (slot_of scope (name_of e))
 
--- the first word that is the name, or what is found elsewhere
+-- the one act where the word is this name, and else the other
 abbrev pub or_act : List ℕ → List ℕ → Act → Act → Act
 or_act word name found other = if bytes_eq word name then found else other
 

@@ -29,7 +29,7 @@ called = fold-Proc (List (List ℕ)) called_step
 abbrev pub Calls : Script → List ℕ → List ℕ → Type 0
 Calls script caller name = (d : ProcDef) × Contains script.procs d × (d.name ≡ caller) × Contains (called d.body) name
 
--- each calls the next, and the last calls this one
+-- the caller calls the first of these, each of them the next, and the last calls the one to come back to
 abbrev pub GoRound : Script → List ℕ → List ℕ → List (List ℕ) → Type 0
 GoRound script back caller [] = Calls script caller back
 GoRound script back caller (name ∷ names) = Calls script caller name × GoRound script back name names

@@ -56,7 +56,7 @@ abbrev pub initial : ℕ → List Var → List Setting
 initial slot [] = []
 initial slot (var ∷ vars) = record { slot = slot; start = None } ∷ initial (slot + 1) vars
 
--- slots are declared in front of those of the part
+-- a `let` round the part, whose slots are declared in front of those of the part
 abbrev pub declaring : List Setting → List Sort → Part → Part
 declaring settings sorts part = record { tree = tree.Let settings part.tree; atoms = part.atoms; sorts = sorts ++ part.sorts }
 
@@ -84,7 +84,7 @@ formals_of_call scope slot (formal ∷ formals) (actual ∷ actuals) =
     then record { name = formal.name; slot = slot_of scope (name_of actual); sort = formal.sort } ∷ formals_of_call scope slot formals actuals
     else record { name = formal.name; slot = slot; sort = formal.sort } ∷ formals_of_call scope (slot + 1) formals actuals
 
--- the formals that take a slot
+-- the formals that take a slot of a call
 abbrev pub value_formals : List Formal → List Formal
 value_formals formals = filter (λ (formal : Formal). not formal.result) formals
 
@@ -94,7 +94,7 @@ sorts_of formals = map (λ (formal : Formal). formal.sort) formals
 abbrev pub definition_of : Script → List ℕ → Option ProcDef
 definition_of script name = find (λ (d : ProcDef). bytes_eq d.name name) script.procs
 
--- what stands where no process is named so, which can't be in a checked script
+-- what stands where no process is named so, or where calls are nested deeper than is gone into; neither can be in a checked script whose calls form no cycle
 abbrev pub nothing : Part
 nothing = record { tree = tree.At 0; atoms = []; sorts = [] }
 
@@ -126,7 +126,7 @@ proc_step script body (Let vars x) scope atom slot = block_of vars x scope atom 
 abbrev pub expands_with : Script → (Proc → Expands) → Proc → Expands
 expands_with script body p = fold-Proc Expands (proc_step script body) p
 
--- Calls within calls up to this depth. Where no calls form a cycle they are nowhere nested deeper than there are processes.
+-- Calls within calls, so that as many bodies stand in each other as the depth says, the outermost counted. Where no calls form a cycle they are nowhere nested deeper than there are processes.
 abbrev pub expands : Script → ℕ → Proc → Expands
 expands script zero p scope atom slot = nothing
 expands script (suc depth) p scope atom slot = expands_with script (expands script depth) p scope atom slot

@@ -10,7 +10,7 @@ use Rattle.tb_syntax.specs.declared.ast.AstKind.TheOpen as open_ast
 use Rattle.tb_syntax.specs.declared.ast.AstKind.TheFolds.{fold-AstKind}
 use Rattle.tb_expand.specs.Scopes.{Scope, slot_of}
 
--- a name with arguments, which a function of this name takes
+-- a name with arguments: a call, where a function has this name
 abbrev pub applied : List ℕ → Option Func → List Expr → Expr
 applied name None parts = expr.Appl name parts
 applied name (Some func) parts = expr.Call func parts

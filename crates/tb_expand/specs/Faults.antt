@@ -38,13 +38,13 @@ HasFault script d (fault.TooLarge name) = IsTooLarge script d name
 HasFault script d fault.NoMemory = Unit {0}
 
 -- calls form this cycle, or memory ran out
-abbrev pub IsRecursion : Script → ExpandFault → Type 0
-IsRecursion script (fault.Recursion names) = IsCycle script names
-IsRecursion script (fault.TooLarge name) = ⊥
-IsRecursion script fault.NoMemory = Unit {0}
+abbrev pub IsCycleFault : Script → ExpandFault → Type 0
+IsCycleFault script (fault.Recursion names) = IsCycle script names
+IsCycleFault script (fault.TooLarge name) = ⊥
+IsCycleFault script fault.NoMemory = Unit {0}
 
 -- the process is too large, or memory ran out
-abbrev pub IsTooBig : Script → ProcDef → ExpandFault → Type 0
-IsTooBig script d (fault.Recursion names) = ⊥
-IsTooBig script d (fault.TooLarge name) = IsTooLarge script d name
-IsTooBig script d fault.NoMemory = Unit {0}
+abbrev pub IsBodyFault : Script → ProcDef → ExpandFault → Type 0
+IsBodyFault script d (fault.Recursion names) = ⊥
+IsBodyFault script d (fault.TooLarge name) = IsTooLarge script d name
+IsBodyFault script d fault.NoMemory = Unit {0}

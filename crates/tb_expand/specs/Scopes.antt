@@ -12,7 +12,7 @@ use Rattle.tb_expand.specs.declared.seen.Seen.{Seen}
 abbrev pub Scope : Type 0
 Scope = List Seen
 
--- the variables of open blocks, of which the outermost block stands first
+-- what is seen in open blocks, which are given with the outermost first
 abbrev pub of_blocks : List Scope → Scope
 of_blocks blocks = fold (λ (outer : Scope) (block : Scope). block ++ outer) [] blocks
 

@@ -1,7 +1,7 @@
 ghost use Rattle.std.specs.Prelude.{◌≡◌, ◌<◌, IfOk, IfErr, OnOk, Some, length, slice_get};
 ghost use Rattle.tb_syntax.specs.declared.script.ProcDef.{ProcDef};
 ghost use Rattle.tb_types.specs.Conditions.{Proper};
-ghost use Rattle.tb_expand.specs.Faults.{HasNoCycle, IsBodyOf, HasFault, IsRecursion, IsTooBig};
+ghost use Rattle.tb_expand.specs.Faults.{HasNoCycle, IsBodyOf, HasFault, IsCycleFault, IsBodyFault};
 
 use crate::ExpandFault;
 use std::alloc::Global;
@@ -20,7 +20,7 @@ impl<'a> Expansions<'a> {
         requires proper { Proper script.now }
         ensures script { IfOk result (λ expansions. expansions.script.now ≡ script.now) }
         ensures no_cycle { OnOk result (HasNoCycle script.now) }
-        ensures fault { IfErr result (IsRecursion script.now) }
+        ensures fault { IfErr result (IsCycleFault script.now) }
     {
         Err(ExpandFault::NoMemory)
     }
@@ -29,7 +29,7 @@ impl<'a> Expansions<'a> {
     pub fn body(&self, _alloc: Global, place: usize) -> Result<Body, ExpandFault>
         requires in_range { place < length self.now.script.now.procs }
         ensures body { (d : ProcDef) → slice_get self.now.script.now.procs place ≡ Some d → IfOk result (IsBodyOf self.now.script.now d) }
-        ensures fault { (d : ProcDef) → slice_get self.now.script.now.procs place ≡ Some d → IfErr result (IsTooBig self.now.script.now d) }
+        ensures fault { (d : ProcDef) → slice_get self.now.script.now.procs place ≡ Some d → IfErr result (IsBodyFault self.now.script.now d) }
     {
         Err(ExpandFault::NoMemory)
     }

@@ -53,7 +53,7 @@ pub(crate) fn tool_of_sort(script: &Script, sort: &Sort) -> Result<u32, NoMemory
     }
 }
 
-/// The name of a variable that is written as a result, or the name that is written without arguments.
+/// The name with which an expression begins, or none.
 pub(crate) fn name_of(e: &Ast) -> &[u8]
     ensures { result.now ≡ name_of e.now }
 {

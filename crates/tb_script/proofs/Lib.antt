@@ -4,3 +4,4 @@ pub mod Findings
 pub mod RootValues
 pub mod UnbuiltProcs
 pub mod Places
+pub mod Bodies

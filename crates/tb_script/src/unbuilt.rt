@@ -6,6 +6,7 @@ use tb_syntax::{ActDef, AtomDef, Proc, Script};
 
 /// The first token of the first form that isn't built: the times of atoms, and the atoms other than
 /// `tau`, `delta`, `:=`, `snd-msg` and `rec-msg`.
+#[tactic(auto, using(crate::proofs::UnbuiltProcs::first_of_both))]
 pub(crate) fn first_unbuilt(script: &Script) -> Option<usize>
     ensures { result ≡ first_unbuilt script.now }
 {

@@ -1,0 +1,95 @@
+-- Bodies one after the other, and the first that is too large.
+use Rattle.std.proofs.Common.{◌≡◌, ℕ, zero, suc, ◌+◌, ◌<◌, Bool, true, false, List, [], ◌∷◌, ◌++◌, length, take, drop, Option, Some, None, find, option_map, refl, sym, ap, subst, ◌∙◌, arith}
+use Rattle.std.specs.List.{AllZip}
+use Rattle.std.specs.Option.{option_or}
+use Rattle.std.specs.Prelude.{slice_get, if◌then◌else◌}
+use Rattle.std.proofs.lemmas.List.Folds.{find-append}
+use Rattle.std.proofs.lemmas.Option.{none-some}
+use Rattle.tb_body.specs.declared.body.Body.{Body}
+use Rattle.tb_syntax.specs.declared.script.ProcDef.{ProcDef}
+use Rattle.tb_syntax.specs.declared.script.Script.{Script}
+use Rattle.tb_expand.specs.Expansion.{expansion_of, is_too_large}
+use Rattle.tb_expand.specs.Faults.{HasNoCycle, IsExpansion, IsBodyOf}
+use Rattle.tb_script.specs.Programs.{first_too_large}
+use Rattle.tb_script.specs.Making.{first_large_of}
+
+-- what stands at a place that is there
+pub standing : {A : Type 0} (xs : List A) (n : ℕ) → n < length xs → (x : A) × (slice_get xs n ≡ Some x)
+standing [] n within = absurd (omega (arith, within))
+standing (x ∷ xs) zero within = (x, refl)
+standing (x ∷ xs) (suc n) within = standing xs n (omega (arith, within))
+
+one_more : {A : Type 0} (xs : List A) (n : ℕ) (x : A) → slice_get xs n ≡ Some x → take (suc n) xs ≡ take n xs ++ x ∷ []
+one_more [] n x e = absurd (none-some x e)
+one_more (y ∷ xs) zero x e = let same : y ≡ x = cc in ap (λ z. z ∷ []) same
+one_more (y ∷ xs) (suc n) x e = ap (λ ys. y ∷ ys) (one_more xs n x e)
+
+the_rest : {A : Type 0} (xs : List A) (n : ℕ) (x : A) → slice_get xs n ≡ Some x → xs ≡ take n xs ++ x ∷ drop (suc n) xs
+the_rest [] n x e = absurd (none-some x e)
+the_rest (y ∷ xs) zero x e = let same : y ≡ x = cc in ap (λ z. z ∷ xs) same
+the_rest (y ∷ xs) (suc n) x e = ap (λ ys. y ∷ ys) (the_rest xs n x e)
+
+next : {A : Type 0} (xs : List A) (n : ℕ) → take (n + 1) xs ≡ take (suc n) xs
+next xs n = let e : n + 1 ≡ suc n = omega arith in ap (λ k. take k xs) e
+
+zip_more : {A B : Type 0} (R : A → B → Type 0) (xs : List A) (ys : List B) (x : A) (y : B) → AllZip R xs ys → R x y → AllZip R (xs ++ x ∷ []) (ys ++ y ∷ [])
+zip_more R [] [] x y zip h = (h, tt)
+zip_more R [] (b ∷ ys) x y zip h = absurd zip
+zip_more R (a ∷ xs) [] x y zip h = absurd zip
+zip_more R (a ∷ xs) (b ∷ ys) x y zip h = (zip.0, zip_more R xs ys x y zip.1 h)
+
+abbrev is_large : Script → ProcDef → Bool
+is_large script d = is_too_large (expansion_of script d)
+
+abbrev name_of : ProcDef → List ℕ
+name_of d = d.name
+
+none_named : (found : Option ProcDef) → option_map name_of found ≡ None → found ≡ None
+none_named None e = refl
+none_named (Some d) e = absurd cc
+
+found_alone : (script : Script) (d : ProcDef) (large : Bool) → is_large script d ≡ large → find (is_large script) (d ∷ []) ≡ (if large then Some d else None)
+found_alone script d large e = ap (λ (b : Bool). if b then Some d else None) e
+
+found_first : (script : Script) (d : ProcDef) (ds : List ProcDef) → is_large script d ≡ true → find (is_large script) (d ∷ ds) ≡ Some d
+found_first script d ds e = ap (λ (b : Bool). if b then Some d else find (is_large script) ds) e
+
+small_more : (script : Script) (ds : List ProcDef) (d : ProcDef) → first_large_of script ds ≡ None → is_large script d ≡ false → first_large_of script (ds ++ d ∷ []) ≡ None
+small_more script ds d none small =
+    ap (option_map name_of)
+    (find-append (is_large script) ds (d ∷ [])
+    ∙ ap (λ o. option_or o (find (is_large script) (d ∷ []))) (none_named (find (is_large script) ds) none)
+    ∙ found_alone script d false small)
+
+-- the first bodies, none of which is too large
+pub record AreFirst (script : Script) (ds : List ProcDef) (bodies : List Body) : Type 0 where
+  pub bodies_are : AllZip (IsExpansion script) ds bodies
+  pub small : first_large_of script ds ≡ None
+
+pub no_bodies : (script : Script) → AreFirst script [] []
+no_bodies script = record { bodies_are = tt; small = refl }
+
+pub more_bodies : (script : Script) (bodies : List Body) (body : Body) (place : ℕ) → place < length script.procs → AreFirst script (take place script.procs) bodies
+    → ((d : ProcDef) → slice_get script.procs place ≡ Some d → IsBodyOf script d body)
+    → AreFirst script (take (place + 1) script.procs) (bodies ++ body ∷ [])
+more_bodies script bodies body place within first is =
+    let at = standing script.procs place within in
+    let b = is at.0 at.1 in
+    let front : take (place + 1) script.procs ≡ take place script.procs ++ at.0 ∷ [] = next script.procs place ∙ one_more script.procs place at.0 at.1 in
+    subst (λ ds. AreFirst script ds (bodies ++ body ∷ [])) (sym front)
+    (record {
+      bodies_are = zip_more (IsExpansion script) (take place script.procs) bodies at.0 body first.bodies_are b.is;
+      small = small_more script (take place script.procs) at.0 first.small b.small;
+    })
+
+-- the first that is too large
+pub large_behind : (script : Script) (bodies : List Body) (d : ProcDef) (place : ℕ) → slice_get script.procs place ≡ Some d → AreFirst script (take place script.procs) bodies
+    → is_too_large (expansion_of script d) ≡ true → first_too_large script ≡ Some d.name
+large_behind script bodies d place at first large =
+    let front = take place script.procs in
+    let behind = drop (suc place) script.procs in
+    ap (λ ds. option_map name_of (find (is_large script) ds)) (the_rest script.procs place d at)
+    ∙ ap (option_map name_of)
+    (find-append (is_large script) front (d ∷ behind)
+    ∙ ap (λ o. option_or o (find (is_large script) (d ∷ behind))) (none_named (find (is_large script) front) first.small)
+    ∙ found_first script d behind large)
