@@ -2,6 +2,7 @@
 use Rattle.std.proofs.Common.{◌≡◌, ℕ, List, [], ◌∷◌, Some, None, Bool, true, false, codes, pos, rules}
 use Rattle.tb_terms.specs.declared.expr.Expr.TheVariants as expr
 use Rattle.tb_terms.specs.declared.expr.Func.TheVariants.{Add, First}
+use Rattle.tb_terms.specs.declared.sort.Sort.{the_lemmas as sort_lemmas}
 use Rattle.tb_terms.specs.declared.sort.Sort.TheVariants as sort
 use Rattle.tb_body.specs.declared.act.Act.TheVariants as act
 use Rattle.tb_body.specs.declared.tree.Tree.TheVariants as tree
@@ -153,11 +154,9 @@ hides_expands = search (rules, ast_lemmas, proc_lemmas)
 abbrev mixed : ProcDef
 mixed = defined (codes "M") (formal a false ∷ formal r true ∷ formal b false ∷ []) (sets r (ast.Appl (codes "add") (of (ast.Var a) ∷ of (ast.Var b) ∷ [])))
 
--- process N is let A : int in if true then delta else M(1, A?, A) fi endlet
+-- process N is let A : int in M(1, A?, A) endlet
 abbrev calls_mixed : ProcDef
-calls_mixed = defined (codes "N") [] (with_int a
-    (proc.If (of (ast.Appl (codes "true") [])) (atom (def.Named (codes "delta") []))
-    (Some (call (codes "M") (of (ast.Int (pos 1)) ∷ of (ast.Result a) ∷ of (ast.Var a) ∷ [])))))
+calls_mixed = defined (codes "N") [] (with_int a (call (codes "M") (of (ast.Int (pos 1)) ∷ of (ast.Result a) ∷ of (ast.Var a) ∷ [])))
 
 abbrev mixed_script : Script
 mixed_script = record { procs = mixed ∷ calls_mixed ∷ []; tools = []; roots = [] }
@@ -165,9 +164,8 @@ mixed_script = record { procs = mixed ∷ calls_mixed ∷ []; tools = []; roots 
 -- A result formal between value formals takes no slot. The actual A is the caller's, and within the call A is the first formal.
 mixed_expands : expansion_of mixed_script calls_mixed ≡ record {
   tree = tree.Let (record { slot = 0; start = None } ∷ [])
-      (tree.If (expr.Appl (codes "true") []) (tree.At 1)
-      (Some (tree.Let (record { slot = 1; start = Some (expr.Int (pos 1)) } ∷ record { slot = 2; start = Some (expr.Var 0) } ∷ []) (tree.At 2))));
-  atoms = record { act = act.Delta; times = [] } ∷ record { act = act.Set 0 (expr.Call Add (expr.Var 1 ∷ expr.Var 2 ∷ [])); times = [] } ∷ [];
+      (tree.Let (record { slot = 1; start = Some (expr.Int (pos 1)) } ∷ record { slot = 2; start = Some (expr.Var 0) } ∷ []) (tree.At 1));
+  atoms = record { act = act.Set 0 (expr.Call Add (expr.Var 1 ∷ expr.Var 2 ∷ [])); times = [] } ∷ [];
   sorts = sort.Int ∷ sort.Int ∷ sort.Int ∷ [];
 }
 mixed_expands = search (rules, ast_lemmas, proc_lemmas)
@@ -203,4 +201,4 @@ leaves_expand : expansion_of with_tools leaves ≡ record {
   atoms = record { act = act.RecDisconnectAny 1 0; times = [] } ∷ record { act = act.RecDisconnect (expr.Var 0); times = [] } ∷ [];
   sorts = sort.Tool (codes "t") ∷ [];
 }
-leaves_expand = search (rules, ast_lemmas, proc_lemmas)
+leaves_expand = search (rules, ast_lemmas, proc_lemmas, sort_lemmas)

@@ -5,3 +5,4 @@ pub mod RootValues
 pub mod UnbuiltProcs
 pub mod Places
 pub mod Bodies
+pub mod ProgramRanges
