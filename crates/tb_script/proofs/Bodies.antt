@@ -1,17 +1,20 @@
 -- Bodies one after the other, and the first that is too large.
-use Rattle.std.proofs.Common.{◌≡◌, ℕ, zero, suc, ◌+◌, ◌<◌, Bool, true, false, List, [], ◌∷◌, ◌++◌, length, take, drop, Option, Some, None, find, option_map, refl, sym, ap, subst, ◌∙◌, arith}
+use Rattle.std.proofs.Common.{◌≡◌, ℕ, zero, suc, ◌+◌, ◌<◌, Bool, true, false, List, [], ◌∷◌, ◌++◌, length, get_or, take, drop, Result, Ok, Err, Option, Some, None, find, option_map, refl, sym, ap, subst, ◌∙◌, arith}
 use Rattle.std.specs.List.{AllZip}
 use Rattle.std.specs.Option.{option_or}
 use Rattle.std.specs.Prelude.{slice_get, if◌then◌else◌}
+use Rattle.std.proofs.lemmas.List.{take_more}
 use Rattle.std.proofs.lemmas.List.Folds.{find-append}
 use Rattle.std.proofs.lemmas.Option.{none-some}
 use Rattle.tb_body.specs.declared.body.Body.{Body}
 use Rattle.tb_syntax.specs.declared.script.ProcDef.{ProcDef}
 use Rattle.tb_syntax.specs.declared.script.Script.{Script}
 use Rattle.tb_expand.specs.Expansion.{expansion_of, is_too_large}
-use Rattle.tb_expand.specs.Faults.{HasNoCycle, IsExpansion, IsBodyOf}
+use Rattle.tb_expand.specs.declared.fault.ExpandFault.{ExpandFault}
+use Rattle.tb_expand.specs.declared.fault.ExpandFault.TheVariants as expand
+use Rattle.tb_expand.specs.Faults.{HasNoCycle, IsExpansion, IsBodyOf, IsBodyFault}
 use Rattle.tb_script.specs.Programs.{first_too_large}
-use Rattle.tb_script.specs.Making.{first_large_of}
+use Rattle.tb_script.specs.Making.{first_large_of, HasBodies, AreExpansions}
 
 -- what stands at a place that is there
 pub standing : {A : Type 0} (xs : List A) (n : ℕ) → n < length xs → (x : A) × (slice_get xs n ≡ Some x)
@@ -37,6 +40,12 @@ zip_more R [] [] x y zip h = (h, tt)
 zip_more R [] (b ∷ ys) x y zip h = absurd zip
 zip_more R (a ∷ xs) [] x y zip h = absurd zip
 zip_more R (a ∷ xs) (b ∷ ys) x y zip h = (zip.0, zip_more R xs ys x y zip.1 h)
+
+-- one more pair, of the element that was read
+pub zip_take_more : {A B : Type 0} (R : A → B → Type 0) (xs : List A) (i : ℕ) (x : A) (ys new : List B) (y : B) → i < length xs → x ≡ get_or xs i x → AllZip R (take i xs) ys → R x y → new ≡ ys ++ y ∷ [] → AllZip R (take (i + 1) xs) new
+zip_take_more R xs i x ys new y within read all here pushed =
+    let longer : take (i + 1) xs ≡ take i xs ++ x ∷ [] = take_more xs i x within ∙ ap (λ z. take i xs ++ z ∷ []) (sym read) in
+    subst (λ zs. AllZip R zs new) (sym longer) (subst (AllZip R (take i xs ++ x ∷ [])) (sym pushed) (zip_more R (take i xs) ys x y all here))
 
 abbrev is_large : Script → ProcDef → Bool
 is_large script d = is_too_large (expansion_of script d)
@@ -93,3 +102,28 @@ large_behind script bodies d place at first large =
     (find-append (is_large script) front (d ∷ behind)
     ∙ ap (λ o. option_or o (find (is_large script) (d ∷ behind))) (none_named (find (is_large script) front) first.small)
     ∙ found_first script d behind large)
+
+-- the body at this place has a fault
+pub body_failed : (script : Script) (bodies : List Body) (place : ℕ) (f : ExpandFault) → HasNoCycle script → place < length script.procs → AreFirst script (take place script.procs) bodies
+    → ((d : ProcDef) → slice_get script.procs place ≡ Some d → IsBodyFault script d f) → HasBodies script (Err f)
+body_failed script bodies place (expand.Recursion names) no_cycle within first is =
+    let at = standing script.procs place within in
+    absurd (is at.0 at.1)
+body_failed script bodies place (expand.TooLarge name) no_cycle within first is =
+    let at = standing script.procs place within in
+    let large = is at.0 at.1 in
+    record { no_cycle = no_cycle; first = large_behind script bodies at.0 place at.1 first large.large ∙ ap (λ (n : List ℕ). Some n) (sym large.named) }
+body_failed script bodies place expand.NoMemory no_cycle within first is = tt
+
+all_taken : {A : Type 0} (xs : List A) → take (length xs) xs ≡ xs
+all_taken [] = refl
+all_taken (x ∷ xs) = ap (λ ys. x ∷ ys) (all_taken xs)
+
+whole : {A : Type 0} (xs : List A) (n : ℕ) → n ≡ length xs → take n xs ≡ xs
+whole xs n e = ap (λ k. take k xs) e ∙ all_taken xs
+
+-- all bodies are there
+pub all_made : (script : Script) (bodies : List Body) (place : ℕ) → HasNoCycle script → place ≡ length script.procs → AreFirst script (take place script.procs) bodies → AreExpansions script bodies
+all_made script bodies place no_cycle e first =
+    let f = subst (λ ds. AreFirst script ds bodies) (whole script.procs place e) first in
+    record { no_cycle = no_cycle; small = f.small; bodies_are = f.bodies_are }

@@ -6,3 +6,4 @@ pub mod UnbuiltProcs
 pub mod Places
 pub mod Bodies
 pub mod ProgramRanges
+pub mod Loaded

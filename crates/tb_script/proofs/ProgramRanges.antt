@@ -5,7 +5,7 @@ use Rattle.std.specs.List.{All, AllZip, AllByRecursion, list_all}
 use Rattle.std.specs.Option.{IsSome, is_some}
 use Rattle.std.specs.Str.{bytes_eq}
 use Rattle.std.proofs.lemmas.Bool.{and_from, eq-eqb, le-leb}
-use Rattle.std.proofs.lemmas.List.Elements.{All-contains_itself, All-from_recursion, recursion_from_All, length_all_zip}
+use Rattle.std.proofs.lemmas.List.Elements.{All-contains_itself, All-from_recursion, recursion_from_All}
 use Rattle.std.proofs.lemmas.List.{length-map}
 use Rattle.std.proofs.lemmas.Option.{same_Some, none-some}
 use Rattle.tb_terms.specs.declared.term.Term.{Term}
@@ -48,6 +48,12 @@ use Rattle.tb_expand.proofs.Ranges.{atoms_of_process}
 use Rattle.tb_script.specs.Programs.{IsRootOf, declared_tool}
 use Rattle.tb_script.specs.Making.{HasValues, HaveValues}
 use Rattle.tb_script.proofs.RootValues.{closed_is_limited}
+
+zip_long : {A B : Type 0} (R : A → B → Type 0) (xs : List A) (ys : List B) → AllZip R xs ys → length xs ≡ length ys
+zip_long R [] [] zip = refl
+zip_long R [] (y ∷ ys) zip = absurd zip
+zip_long R (x ∷ xs) [] zip = absurd zip
+zip_long R (x ∷ xs) (y ∷ ys) zip = ap suc (zip_long R xs ys zip.1)
 
 -- The body at the place of a name.
 
@@ -286,12 +292,12 @@ module _ (script : Script) (bodies : List Body) (zip : AllZip (IsExpansion scrip
       taken.limits
 
   root_in_range : (call : Call) (root : Root) → IsRooted script call → IsRootOf script call root → is_root_in_range bodies root ≡ true
-  root_in_range call root rooted is =
-      let b = body_at script call.name script.procs bodies rooted.called zip rooted.is in
-      let more = more_sorts script rooted.called in
+  root_in_range call root h is =
+      let b = body_at script call.name script.procs bodies h.called zip h.is in
+      let more = more_sorts script h.called in
       let at : slice_get bodies root.process ≡ Some b.body = ap (slice_get bodies) is.process ∙ b.at in
       ap (λ (o : Option Body). starts o root.actuals) at
-      ∙ taken_by rooted.called b.body root.actuals more b.is b.is.sorts (are_taken rooted.called.formals more call.actuals root.actuals rooted.values is.actuals)
+      ∙ taken_by h.called b.body root.actuals more b.is b.is.sorts (are_taken h.called.formals more call.actuals root.actuals h.values is.actuals)
 
   roots_in_range : (calls : List Call) (roots : List Root) → AllByRecursion (IsRooted script) calls → AllZip (IsRootOf script) calls roots → list_all (is_root_in_range bodies) roots ≡ true
   roots_in_range [] [] h made = refl
@@ -304,12 +310,12 @@ in_range : (script : Script) (bodies : List Body) (roots : List Root) → Proper
 unfolding is_program_in_range
 in_range script bodies roots proper zip made few =
     and_from _ _
-    (and_from _ _ (all_in_program script proper bodies zip) (le-leb (length roots) 10000 (omega (arith, length_all_zip (IsRootOf script) script.roots roots made, few))))
+    (and_from _ _ (all_in_program script proper bodies zip) (le-leb (length roots) 10000 (omega (arith, zip_long (IsRootOf script) script.roots roots made, few))))
     (roots_in_range script bodies zip script.roots roots (roots_rooted script proper) made)
 
 -- the program of a proper script is in range
-pub program_in_range : (script : Script) (bodies : List Body) (roots : List Root) (tools : List Tool) → Proper script
-    → AllZip (IsExpansion script) script.procs bodies → AllZip (IsRootOf script) script.roots roots → tools ≡ map declared_tool script.tools → length script.roots ≤ 10000
-    → is_program_in_range bodies roots tools ≡ true
-program_in_range script bodies roots tools proper zip made are few =
+pub program_in_range : (script : Script) (bodies : List Body) (roots : List Root) (kinds : List Tool) → Proper script
+    → AllZip (IsExpansion script) script.procs bodies → AllZip (IsRootOf script) script.roots roots → kinds ≡ map declared_tool script.tools → length script.roots ≤ 10000
+    → is_program_in_range bodies roots kinds ≡ true
+program_in_range script bodies roots kinds proper zip made are few =
     subst (λ (ts : List Tool). is_program_in_range bodies roots ts ≡ true) (sym are) (in_range script bodies roots proper zip made few)

@@ -10,6 +10,7 @@ use Rattle.tb_syntax.specs.declared.ast.Ast.{Ast}
 use Rattle.tb_syntax.specs.declared.proc.Call.{Call}
 use Rattle.tb_syntax.specs.declared.script.ProcDef.{ProcDef}
 use Rattle.tb_syntax.specs.declared.script.Script.{Script}
+use Rattle.tb_types.specs.declared.fault.CheckFault.{CheckFault}
 use Rattle.tb_types.specs.declared.fault.CheckFault.TheVariants as check
 use Rattle.tb_types.specs.Conditions.{Proper, IsFault}
 use Rattle.tb_types.specs.Values.{closed_value}
@@ -105,3 +106,21 @@ HaveValues calls = All HasValues calls
 -- the first of these processes whose expansion is too large
 abbrev pub first_large_of : Script → List ProcDef → Option (List ℕ)
 first_large_of script defs = option_map (λ (d : ProcDef). d.name) (find (λ (d : ProcDef). is_too_large (expansion_of script d)) defs)
+
+-- a fault of the checks, or of the expansions, as a fault of the script: want of memory is told alike
+abbrev pub of_check : CheckFault → ScriptFault
+of_check check.NoMemory = fault.NoMemory
+of_check (check.Twice token) = fault.Check (check.Twice token)
+of_check (check.NoProcess token) = fault.Check (check.NoProcess token)
+of_check (check.NoTool token) = fault.Check (check.NoTool token)
+of_check (check.NoFunction token) = fault.Check (check.NoFunction token)
+of_check (check.Arity token) = fault.Check (check.Arity token)
+of_check (check.Undeclared token) = fault.Check (check.Undeclared token)
+of_check (check.ResultInSend token) = fault.Check (check.ResultInSend token)
+of_check (check.NotResult token) = fault.Check (check.NotResult token)
+of_check (check.TypeClash token) = fault.Check (check.TypeClash token)
+
+abbrev pub of_expand : ExpandFault → ScriptFault
+of_expand expand.NoMemory = fault.NoMemory
+of_expand (expand.Recursion names) = fault.Expand (expand.Recursion names)
+of_expand (expand.TooLarge name) = fault.Expand (expand.TooLarge name)

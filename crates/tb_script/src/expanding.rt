@@ -25,7 +25,10 @@ fn all_bodies(alloc: Global, expansions: &Expansions) -> Result<Bodies, ExpandFa
 {
     let mut bodies = Items::new(alloc);
     for place in 0..expansions.script.procs.len() {
-        bodies.push(expansions.body(alloc, place)?)?;
+        match expansions.body(alloc, place) {
+            Ok(body) => bodies.push(body)?,
+            Err(fault) => return Err(fault),
+        }
     }
     Ok(bodies)
 }

@@ -27,18 +27,33 @@ pub enum ScriptFault {
 }
 
 impl From<NoMemory> for ScriptFault {
+    ghost use Rattle.std.specs.Prelude.{◌≡◌};
+    ghost use Rattle.tb_script.specs.declared.fault.ScriptFault.TheVariants.{NoMemory};
+
+    ghost from_gives = { λ _ fault. fault ≡ NoMemory };
+
     fn from(_refused: NoMemory) -> ScriptFault {
         ScriptFault::NoMemory
     }
 }
 
 impl From<AllocError> for ScriptFault {
+    ghost use Rattle.std.specs.Prelude.{◌≡◌};
+    ghost use Rattle.tb_script.specs.declared.fault.ScriptFault.TheVariants.{NoMemory};
+
+    ghost from_gives = { λ _ fault. fault ≡ NoMemory };
+
     fn from(_refused: AllocError) -> ScriptFault {
         ScriptFault::NoMemory
     }
 }
 
 impl<T: Drop> From<AllocFailed<T>> for ScriptFault {
+    ghost use Rattle.std.specs.Prelude.{◌≡◌};
+    ghost use Rattle.tb_script.specs.declared.fault.ScriptFault.TheVariants.{NoMemory};
+
+    ghost from_gives = { λ _ fault. fault ≡ NoMemory };
+
     fn from(_refused: AllocFailed<T>) -> ScriptFault {
         ScriptFault::NoMemory
     }

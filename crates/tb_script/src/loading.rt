@@ -1,7 +1,7 @@
-ghost use Rattle.std.specs.Prelude.{ℕ, List};
+ghost use Rattle.std.specs.Prelude.{◌≡◌, ℕ, List};
 ghost use Rattle.tb_types.specs.Conditions.{Proper};
 ghost use Rattle.tb_script.specs.Loading.{HasLoaded};
-ghost use Rattle.tb_script.specs.Making.{AreExpansions, IsOnlyScript};
+ghost use Rattle.tb_script.specs.Making.{AreExpansions, IsOnlyScript, of_check, of_expand};
 
 use crate::ScriptFault;
 use crate::expanding::bodies_of;
@@ -30,8 +30,7 @@ fn load_script(alloc: Global, script: &Script) -> Result<Program, ScriptFault>
 {
     match check(alloc, script) {
         Ok(()) => load_proper(alloc, script),
-        Err(CheckFault::NoMemory) => Err(ScriptFault::NoMemory),
-        Err(fault) => Err(ScriptFault::Check(fault)),
+        Err(fault) => Err(of_check(fault)),
     }
 }
 
@@ -41,8 +40,25 @@ fn load_proper(alloc: Global, script: &Script) -> Result<Program, ScriptFault>
 {
     match bodies_of(alloc, script) {
         Ok(bodies) => load_expanded(alloc, script, bodies),
-        Err(ExpandFault::NoMemory) => Err(ScriptFault::NoMemory),
-        Err(fault) => Err(ScriptFault::Expand(fault)),
+        Err(fault) => Err(of_expand(fault)),
+    }
+}
+
+fn of_check(fault: CheckFault) -> ScriptFault
+    ensures { result ≡ of_check fault }
+{
+    match fault {
+        CheckFault::NoMemory => ScriptFault::NoMemory,
+        fault => ScriptFault::Check(fault),
+    }
+}
+
+fn of_expand(fault: ExpandFault) -> ScriptFault
+    ensures { result ≡ of_expand fault }
+{
+    match fault {
+        ExpandFault::NoMemory => ScriptFault::NoMemory,
+        fault => ScriptFault::Expand(fault),
     }
 }
 

@@ -17,9 +17,16 @@ pub(crate) fn roots_of(alloc: Global, script: &Script) -> Result<Roots, NoMemory
     ensures { IfOk result (λ roots. AllZip (IsRootOf script.now) script.now.roots roots) }
 {
     let names = Names::of(alloc, script)?;
+    Ok(all_roots(alloc, &names, script.roots.as_slice())?)
+}
+
+fn all_roots(alloc: Global, names: &Names, calls: &[Call]) -> Result<Roots, NoMemory>
+    requires { HaveValues calls.now }
+    ensures { IfOk result (λ roots. AllZip (IsRootOf names.now.script.now) calls.now roots) }
+{
     let mut roots = Items::new(alloc);
-    for call in script.roots.as_slice() {
-        roots.push(root_of(alloc, &names, call)?)?;
+    for call in calls {
+        roots.push(root_of(alloc, names, call)?)?;
     }
     Ok(roots)
 }
