@@ -234,6 +234,7 @@ module _ (text : List ℕ) (script : Script) (read : IsOnlyScript text script) w
       large_found name first = record { holds = record { script = script; is_ending = ending; first = first }; only = rest } where
         same-name : (other : List ℕ) → first_too_large script ≡ Some other → other ≡ name
         same-name other e = cc
+
         rest : (other : Finding) → Holds text other → IsSame (Large name) other
         rest (NoTokens g) h = absurd (read.has_tokens g h)
         rest (NoScript g) h = absurd (read.has_script g h)
@@ -264,6 +265,7 @@ module _ (text : List ℕ) (script : Script) (read : IsOnlyScript text script) w
         many_found count are many = record { holds = record { script = script; is_small = is_small; are = are; many = many }; only = rest } where
           many-here : most_roots < length script.roots
           many-here = subst (λ (n : ℕ). most_roots < n) are many
+
           rest : (other : Finding) → Holds text other → IsSame (ManyRoots count) other
           rest (NoTokens g) h = absurd (read.has_tokens g h)
           rest (NoScript g) h = absurd (read.has_script g h)
@@ -289,6 +291,7 @@ module _ (text : List ℕ) (script : Script) (read : IsOnlyScript text script) w
           unbuilt_found token first = record { holds = record { script = script; is_accepted = accepted; first = first }; only = rest } where
             same-token : (other : ℕ) → first_unbuilt script ≡ Some other → other ≡ token
             same-token other e = cc
+
             rest : (other : Finding) → Holds text other → IsSame (Unbuilt token) other
             rest (NoTokens g) h = absurd (read.has_tokens g h)
             rest (NoScript g) h = absurd (read.has_script g h)

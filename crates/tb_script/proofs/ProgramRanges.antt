@@ -130,7 +130,7 @@ module _ (script : Script) (proper : Proper script) (bodies : List Body) (zip : 
       subst (λ (atoms : List Atom). list_all (λ (atom : Atom). is_act_in_program bodies tools atom.act) atoms ≡ true) (sym is.atoms)
       (atoms_of_process script d proper there (λ atom. is_act_in_program bodies tools atom.act)
       (λ scope known def agrees free.
-          act_in_program script (length (expansion_of script d).sorts) scope known def bodies tools (body_takes script bodies zip) (length-map script.tools declared_tool) (tool_has_command script) agrees free))
+      act_in_program script (length (expansion_of script d).sorts) scope known def bodies tools (body_takes script bodies zip) (length-map script.tools declared_tool) (tool_has_command script) agrees free))
 
   bodies_in_program : (ds : List ProcDef) (bs : List Body) → AllByRecursion (Contains script.procs) ds → AllZip (IsExpansion script) ds bs → list_all (is_body_in_program bodies tools) bs ≡ true
   bodies_in_program [] [] there made = refl
@@ -223,8 +223,8 @@ rooted_call : (script : Script) (call : Call) → root_faults script call ≡ []
 rooted_call script call free =
     let c = free_call script [] Rooted call free in
     record { called = c.called; is = c.is; values = actuals_valued script c.called.formals c.called.formals 0 call.actuals (λ k. ap (slice_get c.called.formals) (zero_and k)) c.count c.actuals } where
-  zero_and : (k : ℕ) → 0 + k ≡ k
-  zero_and k = omega arith
+      zero_and : (k : ℕ) → 0 + k ≡ k
+      zero_and k = omega arith
 
 rooted_calls : (script : Script) (calls : List Call) → flat_map (root_faults script) calls ≡ [] → AllByRecursion (IsRooted script) calls
 rooted_calls script [] free = tt

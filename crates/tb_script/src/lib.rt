@@ -1,15 +1,17 @@
 //! From the bytes of a script to its program.
 #![tactic(auto)]
 
-mod unbuilt;
 mod expanding;
 mod fault;
+mod laws;
 mod loading;
 mod program;
 mod reading;
 mod roots;
+mod unbuilt;
 
 pub use fault::ScriptFault;
+pub use laws::a_text_has_one_program;
 pub use loading::load;
 
 #[cfg(test)]

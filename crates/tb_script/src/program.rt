@@ -4,8 +4,8 @@ ghost use Rattle.tb_script.specs.Programs.{declared_tool};
 ghost use Rattle.tb_script.specs.Making.{AreExpansions, HasJoined};
 
 use crate::ScriptFault;
-use crate::unbuilt::first_unbuilt;
 use crate::roots::roots_of;
+use crate::unbuilt::first_unbuilt;
 use std::alloc::Global;
 use tb_body::{Bodies, Program, Tool, Tools};
 use tb_syntax::{Script, ToolDef};

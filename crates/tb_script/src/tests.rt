@@ -69,7 +69,10 @@ static TEXTS: [(&str, Expected); 16] = [
         "process P is let N : int in create(P, N?) endlet toolbus(P)",
         Expected::NotBuilt(8),
     ),
-    ("process P is tau delay(1) toolbus(P)", Expected::NotBuilt(4)),
+    (
+        "process P is tau delay(1) toolbus(P)",
+        Expected::NotBuilt(4),
+    ),
     (
         "process P is snd-msg(a) . tau timeout(1) delay(2) . printf(\"a\") toolbus(P)",
         Expected::NotBuilt(9),
@@ -194,7 +197,8 @@ fn roots_have_a_limit(rt: HostRuntime) -> Result<(), Fail> {
 /// The actuals of the root, and how the program holds them.
 #[test]
 fn programs_have_their_parts(rt: HostRuntime) -> Result<(), Fail> {
-    let text = "tool calc is { command = \"calc\" } tool ed is { } process Q is tau process P(A : int) is snd-msg(A) . Q toolbus(Q, P(add(1, 2)))";
+    let text =
+        "tool calc is { command = \"calc\" } tool ed is { } process Q is tau process P(A : int) is snd-msg(A) . Q toolbus(Q, P(add(1, 2)))";
     let program = match load(rt.alloc(), text.as_bytes()) {
         Ok(program) => program,
         Err(_) => return Err(Fail::from("refused")),
