@@ -2,6 +2,7 @@ pub mod Scopes
 pub mod Exprs
 pub mod Acts
 pub mod Expansion
+pub mod Sizes
 pub mod Building
 pub mod Cycles
 pub mod Faults
