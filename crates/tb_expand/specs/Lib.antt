@@ -3,6 +3,7 @@ pub mod Exprs
 pub mod Acts
 pub mod Expansion
 pub mod Sizes
+pub mod Measuring
 pub mod Building
 pub mod Cycles
 pub mod Faults

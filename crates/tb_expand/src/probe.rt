@@ -1,6 +1,6 @@
 ghost use Rattle.std.specs.Prelude.{◌≡◌};
 
-#[tactic(auto, using(crate::proofs::Sizes::sizes_are))]
+#[tactic(auto, using(crate::proofs::Measured::measured))]
 fn probe(x: usize) -> usize
     ensures { result ≡ x }
 {
