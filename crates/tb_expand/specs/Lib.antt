@@ -6,6 +6,7 @@ pub mod Sizes
 pub mod Measuring
 pub mod Building
 pub mod Cycles
+pub mod Descents
 pub mod Faults
 pub mod Wholes
 pub mod Graphs

@@ -1,6 +1,6 @@
 ghost use Rattle.std.specs.Prelude.{◌≡◌};
 
-#[tactic(auto, using(crate::proofs::Measured::measured))]
+#[tactic(auto, using(crate::proofs::Depths::all_whole))]
 fn probe(x: usize) -> usize
     ensures { result ≡ x }
 {
