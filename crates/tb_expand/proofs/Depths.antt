@@ -102,15 +102,15 @@ pub definition_at : (script : Script) (name : List ℕ) (place : ℕ) → place_
 definition_at script name place named = found_by process_name script.procs name (Some place) (sym named)
 
 -- within a list, or behind it
-abbrev OneOrNone : {X : Type 0} → List X → ℕ → Type 0
+abbrev pub OneOrNone : {X : Type 0} → List X → ℕ → Type 0
 OneOrNone {X} xs i = ((x : X) × (i < length xs) × (slice_get xs i ≡ Some x) × (get_or xs i x ≡ x)) ⊎ ((length xs ≤ i) × (slice_get xs i ≡ None))
 
-record IsDefined (script : Script) (name : List ℕ) (place : ℕ) : Type 0 where
-  d : ProcDef
-  at : slice_get script.procs place ≡ Some d
-  found : definition_of script name ≡ Some d
+pub record IsDefined (script : Script) (name : List ℕ) (place : ℕ) : Type 0 where
+  pub d : ProcDef
+  pub at : slice_get script.procs place ≡ Some d
+  pub found : definition_of script name ≡ Some d
 
-defined : (script : Script) (name : List ℕ) (place : ℕ) → place_of (map process_name script.procs) name ≡ Some place → IsDefined script name place
+pub defined : (script : Script) (name : List ℕ) (place : ℕ) → place_of (map process_name script.procs) name ≡ Some place → IsDefined script name place
 defined script name place named =
     let within : place < length script.procs = subst (λ (n : ℕ). place < n) (length-map script.procs process_name) (place_within (map process_name script.procs) name place named) in
     there (slice_get_cases script.procs place).1 within where

@@ -1,5 +1,5 @@
 -- Sizes that aren't counted beyond the limits, and the size of a body by those of called processes.
-use Rattle.std.specs.Prelude.{◌≡◌, ℕ, List, map, length, min, slice_get, Option, Some, None, option_and_then}
+use Rattle.std.specs.Prelude.{◌≡◌, ℕ, List, map, length, min, slice_get, slice_set, Option, Some, None, option_and_then}
 use Rattle.tb_syntax.specs.declared.proc.Proc.{Proc}
 use Rattle.tb_syntax.specs.declared.proc.Proc.TheOpen.{Proc-F, Atom, Call as CallOf, Seq, Alt, Star, Par, If, Let}
 use Rattle.tb_syntax.specs.declared.proc.Proc.TheFolds.{fold-Proc}
@@ -34,6 +34,14 @@ measure_step script sizes (Let vars x) = capped (above x)
 -- a body's size, where those of the processes are known by their places
 abbrev pub measure : Script → List Size → Proc → Size
 measure script sizes p = fold-Proc Size (measure_step script sizes) p
+
+abbrev pub with_size_of : Script → List Size → ℕ → Option ProcDef → List Size
+with_size_of script sizes place None = sizes
+with_size_of script sizes place (Some d) = slice_set sizes place (measure script sizes d.body)
+
+-- the size of the process at this place is kept
+abbrev pub with_measure : Script → List Size → ℕ → List Size
+with_measure script sizes place = with_size_of script sizes place (slice_get script.procs place)
 
 -- each process has this size at its place
 abbrev pub AreSizes : Script → List Size → Type 0

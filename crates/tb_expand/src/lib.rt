@@ -11,10 +11,10 @@ mod number;
 mod part_fault;
 mod parts;
 mod places;
-mod probe;
 mod scope;
 mod seen;
 mod size;
+mod sizes;
 mod slots;
 #[cfg(test)]
 mod tests;
