@@ -114,9 +114,9 @@ pub defined : (script : Script) (name : List ℕ) (place : ℕ) → place_of (ma
 defined script name place named =
     let within : place < length script.procs = subst (λ (n : ℕ). place < n) (length-map script.procs process_name) (place_within (map process_name script.procs) name place named) in
     there (slice_get_cases script.procs place).1 within where
-  there : OneOrNone script.procs place → place < length script.procs → IsDefined script name place
-  there (inl h) within = record { d = h.0; at = h.2; found = sym (definition_at script name place named) ∙ h.2 }
-  there (inr h) within = absurd (omega arith)
+      there : OneOrNone script.procs place → place < length script.procs → IsDefined script name place
+      there (inl h) within = record { d = h.0; at = h.2; found = sym (definition_at script name place named) ∙ h.2 }
+      there (inr h) within = absurd (omega arith)
 
 -- Processes that have settled.
 

@@ -8,7 +8,6 @@ mod expansion;
 mod exprs;
 mod fault;
 mod number;
-mod part_fault;
 mod parts;
 mod places;
 mod scope;
