@@ -186,7 +186,7 @@ pub(crate) fn body_part(
 }
 
 /// The definition of the process of this name.
-#[tactic(auto, using(crate::proofs::NamedPlaces::defined_at, crate::proofs::NamedPlaces::not_defined))]
+#[tactic(auto, using(crate::proofs::Lookups::defined_at, crate::proofs::Lookups::not_defined))]
 fn definition_of<'a>(names: &Names<'a>, name: &[u8]) -> Option<&'a ProcDef>
     ensures { option_copied result ≡ definition_of names.now.script.now name.now }
 {

@@ -9,7 +9,7 @@ use tb_terms::{Ident, NoMemory, Sort};
 use tb_types::Names;
 
 /// The place of the process of this name, or the number of processes.
-#[tactic(auto, using(crate::proofs::NamedPlaces::process_at, crate::proofs::NamedPlaces::no_process))]
+#[tactic(auto, using(crate::proofs::Lookups::process_at, crate::proofs::Lookups::no_process))]
 pub(crate) fn process_of(names: &Names, name: &Ident) -> Result<u32, NoMemory>
     ensures { IfOk result (λ place. place ≡ process_of names.now.script.now name.now) }
 {
@@ -20,7 +20,7 @@ pub(crate) fn process_of(names: &Names, name: &Ident) -> Result<u32, NoMemory>
 }
 
 /// The place of the tool of this name, or the number of tools.
-#[tactic(auto, using(crate::proofs::NamedPlaces::tool_at, crate::proofs::NamedPlaces::no_tool))]
+#[tactic(auto, using(crate::proofs::Lookups::tool_at, crate::proofs::Lookups::no_tool))]
 pub(crate) fn tool_of(names: &Names, name: &[u8]) -> Result<u32, NoMemory>
     ensures { IfOk result (λ place. place ≡ tool_of names.now.script.now name.now) }
 {
