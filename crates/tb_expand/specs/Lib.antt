@@ -8,3 +8,6 @@ pub mod Faults
 pub mod Wholes
 pub mod Graphs
 pub mod Agreeing
+pub mod Walks
+pub mod Ordered
+pub mod Rounds

@@ -7,15 +7,19 @@ mod built;
 mod expansion;
 mod exprs;
 mod fault;
+mod graph;
 mod number;
+mod order;
 mod part_fault;
 mod parts;
 mod places;
+mod round;
 mod scope;
 mod seen;
 mod slots;
 #[cfg(test)]
 mod tests;
+mod walk;
 mod whole;
 
 pub use expansion::expand;
