@@ -11,3 +11,4 @@ pub mod Agreeing
 pub mod Walks
 pub mod Ordered
 pub mod Rounds
+pub mod CallGraphs
