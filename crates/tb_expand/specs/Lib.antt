@@ -11,3 +11,7 @@ pub mod Faults
 pub mod Wholes
 pub mod Graphs
 pub mod Agreeing
+pub mod Walks
+pub mod Ordered
+pub mod Rounds
+pub mod CallGraphs

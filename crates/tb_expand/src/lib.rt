@@ -7,9 +7,12 @@ mod built;
 mod expansion;
 mod exprs;
 mod fault;
+mod graph;
 mod number;
+mod order;
 mod parts;
 mod places;
+mod round;
 mod scope;
 mod seen;
 mod size;
@@ -17,6 +20,7 @@ mod sizes;
 mod slots;
 #[cfg(test)]
 mod tests;
+mod walk;
 mod whole;
 
 pub use expansion::expand;
