@@ -8,6 +8,7 @@ pub mod Building
 pub mod Cycles
 pub mod Descents
 pub mod Faults
+pub mod BodyFaults
 pub mod Wholes
 pub mod Graphs
 pub mod Agreeing

@@ -23,5 +23,5 @@ mod tests;
 mod walk;
 mod whole;
 
-pub use expansion::expand;
+pub use expansion::{Expansions, expand};
 pub use fault::ExpandFault;
