@@ -16,3 +16,4 @@ pub mod Walks
 pub mod Ordered
 pub mod Rounds
 pub mod CallGraphs
+pub mod CallOrders

@@ -1,4 +1,4 @@
-use tb_terms::{Ident, Items};
+use tb_terms::{Ident, Items, NoMemory};
 
 /// Names of processes in a row.
 pub type Idents = Items<Ident>;
@@ -13,4 +13,15 @@ pub enum ExpandFault {
     TooLarge(Ident),
     /// There wasn't memory enough; it says nothing of the script.
     NoMemory,
+}
+
+impl From<NoMemory> for ExpandFault {
+    ghost use Rattle.std.specs.Prelude.{◌≡◌};
+    ghost use Rattle.tb_expand.specs.declared.fault.ExpandFault.TheVariants as fault;
+
+    ghost from_gives = { λ _ fault_given. fault_given ≡ fault.NoMemory };
+
+    fn from(_refused: NoMemory) -> ExpandFault {
+        ExpandFault::NoMemory
+    }
 }

@@ -4,12 +4,15 @@
 mod acts;
 mod atoms;
 mod built;
+mod call_order;
 mod expansion;
 mod exprs;
 mod fault;
 mod graph;
 mod number;
 mod order;
+#[cfg(test)]
+mod order_tests;
 mod parts;
 mod places;
 mod round;
