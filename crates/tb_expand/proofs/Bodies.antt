@@ -1,14 +1,20 @@
 -- What is too large by its size, and what is in range of a body.
 use Rattle.std.proofs.Common.{◌≡◌, ℕ, ◌<◌, ◌≤◌, ◌⊎◌, inl, inr, Bool, true, false, ◌||◌, nat_lt, List, length, min, slice_get, Contains, Option, Some, None, is_some, refl, ap, sym, ◌∙◌, subst, arith}
 use Rattle.std.proofs.lemmas.Bool.{lt-ltb, le-ltb, cases_lt}
-use Rattle.tb_body.specs.Trees.{tree_levels}
+use Rattle.tb_terms.specs.declared.sort.Sort.{Sort}
+use Rattle.tb_body.specs.declared.atom.Atom.{Atom}
+use Rattle.tb_body.specs.declared.tree.Tree.{Tree}
+use Rattle.tb_body.specs.InRange.{is_body_in_range}
 use Rattle.tb_syntax.specs.declared.script.ProcDef.{ProcDef}
 use Rattle.tb_syntax.specs.declared.script.Script.{Script}
+use Rattle.tb_types.specs.Conditions.{Proper}
 use Rattle.tb_expand.specs.declared.size.Size.{Size}
 use Rattle.tb_expand.specs.Scopes.{formals_seen}
 use Rattle.tb_expand.specs.Expansion.{expands, expansion_of, is_too_large}
 use Rattle.tb_expand.specs.Measuring.{capped, is_over, AreSizes}
 use Rattle.tb_expand.specs.Sizes.{size_of}
+use Rattle.tb_expand.specs.Wholes.{is_whole}
+use Rattle.tb_expand.proofs.Ranges.{expansions_in_range}
 use Rattle.tb_expand.proofs.Sized.{sizes_are}
 
 capped_over : (limit n cap : ℕ) → limit < cap → nat_lt limit (min n cap) ≡ nat_lt limit n
@@ -44,3 +50,11 @@ pub size_is_there : (script : Script) (sizes : List Size) (place : ℕ) (d : Pro
 size_is_there script sizes place d are there none =
     let both : ◌≡◌ {A = Option Size} None (Some (capped (size_of script (length script.procs) d.body))) = none ∙ are place d there in
     cc
+
+-- the parts of an expansion within the limits are in range of a body
+pub parts_in_range : (script : Script) (d : ProcDef) (tree : Tree) (atoms : List Atom) (sorts : List Sort) (formals : ℕ)
+    → Proper script → Contains script.procs d → is_whole script (length script.procs) d.body ≡ true → is_too_large (expansion_of script d) ≡ false
+    → tree ≡ (expansion_of script d).tree → atoms ≡ (expansion_of script d).atoms → sorts ≡ (expansion_of script d).sorts → formals ≡ length d.formals
+    → is_body_in_range tree atoms sorts formals ≡ true
+parts_in_range script d tree atoms sorts formals proper there whole small is_tree is_atoms is_sorts is_formals =
+    (λ i. is_body_in_range (is_tree i) (is_atoms i) (is_sorts i) (is_formals i)) ∙ expansions_in_range script d proper there whole small
