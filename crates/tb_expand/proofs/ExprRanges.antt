@@ -1,5 +1,5 @@
 -- Expressions that break no condition are in range: by induction over them.
-use Rattle.std.proofs.Common.{◌≡◌, ℕ, ◌==◌, ◌<◌, Bool, true, false, ◌&&◌, not, nat_lt, List, [], ◌∷◌, ◌++◌, map, length, Option, Some, None, refl, ap, sym, ◌∙◌, subst, arith}
+use Rattle.std.proofs.Common.{◌≡◌, ℕ, ◌==◌, ◌<◌, Bool, true, false, not, nat_lt, List, [], ◌∷◌, ◌++◌, map, length, Option, Some, None, refl, ap, sym, ◌∙◌, subst, arith}
 use Rattle.std.specs.Prelude.{is_none, is_some, if◌then◌else◌}
 use Rattle.std.specs.List.{list_all, flat_map}
 use Rattle.std.proofs.lemmas.Bool.{and_from, cond-false, lt-ltb, eq-eqb, eqb-true, ne_eqb, not-false}
@@ -9,7 +9,7 @@ use Rattle.tb_terms.specs.declared.expr.Func.{Func}
 use Rattle.tb_terms.specs.declared.expr.Func.TheVariants as func
 use Rattle.tb_terms.specs.declared.sort.Sort.{Sort}
 use Rattle.tb_func.specs.Functions.{function_named, signature_of}
-use Rattle.tb_body.specs.Exprs.{Places, places_of, all_stand, arity, everywhere, everywhere_if, is_value, is_test, is_receiving}
+use Rattle.tb_body.specs.Exprs.{Places, places_of, all_stand, arity, everywhere_if, is_value, is_test, is_receiving}
 use Rattle.tb_syntax.specs.declared.ast.Ast.{Ast, roll-Ast}
 use Rattle.tb_syntax.specs.declared.ast.AstKind.{AstKind, out-AstKind, roll-AstKind}
 use Rattle.tb_syntax.specs.declared.ast.AstKind.TheOpen as layer
@@ -29,7 +29,7 @@ use Rattle.tb_types.specs.Names.{applied}
 use Rattle.tb_types.specs.Places.{misplaced, misplaced_kind, misplaced_step, part_place, takes_results, takes_holes, expr_step as misplaced_expr}
 use Rattle.tb_types.specs.Scopes.{sort_in}
 use Rattle.tb_expand.specs.Agreeing.{Agrees}
-use Rattle.tb_expand.specs.Exprs.{expr_of, kind_expr, kind_step, place_step, named, applied as applying}
+use Rattle.tb_expand.specs.Exprs.{expr_of, kind_expr, kind_step, place_step, applied as applying}
 use Rattle.tb_expand.specs.Scopes.{Scope, slot_of}
 use Rattle.tb_expand.proofs.NoFaults.{append_none, noted_none, flat_map_none}
 use Rattle.tb_expand.proofs.PlaceKinds.{places_of_int, places_of_str, places_of_var, places_of_result, places_of_hole, places_of_appl, places_of_call, places_of_list}

@@ -1,8 +1,7 @@
 -- Where nothing is noted of a whole, nothing is noted of any part.
-use Rattle.std.proofs.Common.{◌≡◌, ℕ, Bool, true, false, cond, List, [], ◌∷◌, ◌++◌, Option, Some, None, refl, ap, sym, ◌∙◌, subst}
+use Rattle.std.proofs.Common.{◌≡◌, ℕ, Bool, true, false, cond, List, [], ◌∷◌, ◌++◌, Some, refl, ap, sym, ◌∙◌}
 use Rattle.std.specs.Prelude.{find}
 use Rattle.std.specs.List.{AllByRecursion, flat_map}
-use Rattle.tb_types.specs.declared.broken.Broken.{Broken}
 use Rattle.tb_types.specs.declared.broken.Rule.{Rule}
 use Rattle.tb_types.specs.Broken.{noted_if}
 

@@ -1,5 +1,5 @@
 -- Where each kind of expression may stand.
-use Rattle.std.proofs.Common.{◌≡◌, ℕ, ℤ, ◌==◌, ◌&&◌, nat_lt, List, map, length, false, true, refl, ap, ◌∙◌}
+use Rattle.std.proofs.Common.{◌≡◌, ℕ, ℤ, ◌==◌, ◌&&◌, nat_lt, List, map, length, false, true, ap, ◌∙◌}
 use Rattle.std.specs.List.{list_all}
 use Rattle.tb_terms.specs.declared.sort.Sort.{Sort}
 use Rattle.tb_terms.specs.declared.expr.Expr.{Expr, Expr-F, map-Expr, fold_out-Expr, out-Expr}

@@ -19,7 +19,7 @@ use Rattle.tb_expand.specs.Scopes.{formals_seen}
 use Rattle.tb_expand.specs.Wholes.{is_whole}
 use Rattle.tb_expand.proofs.AtomsOf.{IsGoodOf, atoms_of_expansion}
 use Rattle.tb_expand.proofs.FaultFree.{free_definition}
-use Rattle.tb_expand.proofs.FromAtoms.{atom_in_range}
+use Rattle.tb_expand.proofs.AtomRanges.{atom_in_range}
 use Rattle.tb_expand.proofs.NoFaults.{append_none}
 use Rattle.tb_expand.proofs.Numbering.{expands_numbered}
 use Rattle.tb_expand.proofs.Seeing.{formals_agree}

@@ -1,0 +1,228 @@
+-- Atoms that break no condition are in range.
+use Rattle.std.proofs.Common.{◌≡◌, ℕ, Bool, true, false, ◌&&◌, not, nat_lt, List, [], ◌∷◌, ◌++◌, map, ◌+◌, length, slice_get, codes, Option, Some, None, refl, ap, ◌∙◌, subst}
+use Rattle.std.specs.Prelude.{is_none, is_some}
+use Rattle.std.specs.List.{list_all, flat_map}
+use Rattle.std.specs.Str.{bytes_eq}
+use Rattle.std.proofs.lemmas.Bool.{and_from, cond_both, lt-ltb}
+use Rattle.std.proofs.lemmas.Slice.Eq.{bytes_eq-Decides}
+use Rattle.tb_terms.specs.declared.expr.Expr.{Expr}
+use Rattle.tb_terms.specs.declared.sort.Sort.TheVariants as sorts
+use Rattle.tb_body.specs.declared.act.Act.{Act}
+use Rattle.tb_body.specs.declared.act.Act.TheVariants.{Delta, Tau}
+use Rattle.tb_body.specs.declared.atom.Time.{Time}
+use Rattle.tb_body.specs.Acts.{is_act_in_body, is_atom_in_body, some_and_all}
+use Rattle.tb_body.specs.Exprs.{places_of, is_value}
+use Rattle.tb_syntax.specs.declared.ast.Ast.{Ast}
+use Rattle.tb_syntax.specs.declared.ast.AstKind.{AstKind, out-AstKind}
+use Rattle.tb_syntax.specs.declared.ast.AstKind.TheOpen as layer
+use Rattle.tb_syntax.specs.declared.ast.AstKind.TheOpen.{AstKind-F}
+use Rattle.tb_syntax.specs.declared.proc.ActDef.{ActDef}
+use Rattle.tb_syntax.specs.declared.proc.ActDef.TheVariants as def
+use Rattle.tb_syntax.specs.declared.proc.AtomDef.{AtomDef}
+use Rattle.tb_syntax.specs.declared.proc.Call.{Call}
+use Rattle.tb_syntax.specs.declared.proc.TimeDef.{TimeDef}
+use Rattle.tb_syntax.specs.declared.script.Formal.{Formal}
+use Rattle.tb_syntax.specs.declared.script.Script.{Script}
+use Rattle.tb_types.specs.declared.broken.Rule.TheVariants.{NoProcess, Arity, Undeclared}
+use Rattle.tb_types.specs.declared.calls.Manner.TheVariants.{Made}
+use Rattle.tb_types.specs.declared.places.Place.{Place}
+use Rattle.tb_types.specs.declared.places.Place.TheVariants.{Sent, Taken, Noted, Received}
+use Rattle.tb_types.specs.declared.scope.Known.{Known}
+use Rattle.tb_types.specs.Atoms.{word_of, has_wrong_arguments, arguments_faults, named_faults, assigned_duty, act_faults, time_faults, atom_faults}
+use Rattle.tb_types.specs.Broken.{noted_if}
+use Rattle.tb_types.specs.Calls.{actual_place, actual_duty, actuals_faults, formals_of, has_wrong_actuals, call_faults}
+use Rattle.tb_types.specs.Duties.{Duty, plain, of_sort, tested, made, command, started, connected, disconnected, of_tool, name_alone, result_name, is_result, site_faults}
+use Rattle.tb_types.specs.Names.{process_named}
+use Rattle.tb_types.specs.Scopes.{sort_in}
+use Rattle.tb_expand.specs.Agreeing.{Agrees}
+use Rattle.tb_expand.specs.Acts.{name_of, disconnected as leaves, or_act, act_of_list, act_of_one, act_of_more, act_of_two, act_of_word, act_of, time_of, atom_of}
+use Rattle.tb_expand.specs.Exprs.{expr_of, exprs_of}
+use Rattle.tb_expand.specs.Scopes.{Scope, slot_of}
+use Rattle.tb_expand.proofs.ExprRanges.{may_stand, some_sort, expr_in_range, value_in_range, taken_in_range, taken_sent}
+use Rattle.tb_expand.proofs.KeptSites.{IsKept, kept_site, is_result_of}
+use Rattle.tb_expand.proofs.KnownSlots.{slot_in_range}
+use Rattle.tb_expand.proofs.NoFaults.{append_none, flat_map_none}
+
+-- an act by its word, which is the name or another
+pub either_act : (P : Act → Type 0) (word name : List ℕ) (found other : Act) → (word ≡ name → P found) → P other → P (or_act word name found other)
+either_act P word name found other here there = cond_both (bytes_eq word name) found other P (λ e. here ((bytes_eq-Decides word name).0 e)) (λ e. there)
+
+-- what the atom of a word breaks, where the word is known
+pub named_as : (script : Script) (known : List Known) (arguments : List Ast) (token : ℕ) (word name : List ℕ)
+    → named_faults script known (word_of word) arguments token ≡ [] → word ≡ name → arguments_faults script known (word_of name) arguments ≡ []
+named_as script known arguments token word name none is =
+    (append_none (noted_if (has_wrong_arguments (word_of name) (length arguments)) Arity token) (arguments_faults script known (word_of name) arguments)
+    (subst (λ (w : List ℕ). named_faults script known (word_of w) arguments token ≡ []) is none)).1
+
+-- the actuals of a `create` are sent
+made_sent : (formal : Option Formal) → actual_place Made formal ≡ Sent
+made_sent None = refl
+made_sent (Some formal) = refl
+
+module _ (script : Script) (slots : ℕ) (scope : Scope) (known : List Known) (agrees : Agrees script slots scope known) where
+  abbrev IsInRange : Act → Type 0
+  IsInRange act = is_act_in_body slots act ≡ true
+
+  abbrev stands_at : Place → Expr → Bool
+  stands_at place e = may_stand place (places_of slots e)
+
+  site_stands : (place : Place) (duty : Duty) (e : Ast) → site_faults script known place duty e ≡ [] → stands_at place (expr_of scope e) ≡ true
+  site_stands place duty e none =
+      let kept = kept_site script known place duty e none in
+      expr_in_range script slots scope known agrees place e kept.no_faults kept.in_place
+
+  sites_stand : (place : Place) (duty : Duty) (es : List Ast) → flat_map (site_faults script known place duty) es ≡ [] → list_all (stands_at place) (exprs_of scope es) ≡ true
+  sites_stand place duty [] none = refl
+  sites_stand place duty (e ∷ es) none =
+      let parts = flat_map_none (site_faults script known place duty) e es none in
+      and_from (stands_at place (expr_of scope e)) (list_all (stands_at place) (exprs_of scope es)) (site_stands place duty e parts.0) (sites_stand place duty es parts.1)
+
+  -- a first argument and others, each at its place
+  both_stand : (place other_place : Place) (duty other_duty : Duty) (e : Ast) (es : List Ast)
+      → site_faults script known place duty e ++ flat_map (site_faults script known other_place other_duty) es ≡ []
+      → (stands_at place (expr_of scope e) && list_all (stands_at other_place) (exprs_of scope es)) ≡ true
+  both_stand place other_place duty other_duty e es none =
+      let parts = append_none (site_faults script known place duty e) (flat_map (site_faults script known other_place other_duty) es) none in
+      and_from (stands_at place (expr_of scope e)) (list_all (stands_at other_place) (exprs_of scope es)) (site_stands place duty e parts.0) (sites_stand other_place other_duty es parts.1)
+
+  -- two arguments
+  two_stand : (place other_place : Place) (duty other_duty : Duty) (x y : Ast)
+      → site_faults script known place duty x ++ flat_map (site_faults script known other_place other_duty) (y ∷ []) ≡ []
+      → (stands_at place (expr_of scope x) && stands_at other_place (expr_of scope y)) ≡ true
+  two_stand place other_place duty other_duty x y none =
+      let parts = append_none (site_faults script known place duty x) (flat_map (site_faults script known other_place other_duty) (y ∷ [])) none in
+      and_from (stands_at place (expr_of scope x)) (stands_at other_place (expr_of scope y)) (site_stands place duty x parts.0)
+      (site_stands other_place other_duty y (flat_map_none (site_faults script known other_place other_duty) y [] parts.1).0)
+
+  -- a first argument and one other at least
+  more_stand : (place other_place : Place) (duty other_duty : Duty) (x y : Ast) (es : List Ast)
+      → site_faults script known place duty x ++ flat_map (site_faults script known other_place other_duty) (y ∷ es) ≡ []
+      → (stands_at place (expr_of scope x) && some_and_all (stands_at other_place) (exprs_of scope (y ∷ es))) ≡ true
+  more_stand place other_place duty other_duty x y es none = both_stand place other_place duty other_duty x (y ∷ es) none
+
+  result_in_range : (duty : Duty) (e : Ast) → IsKept script known Taken duty e → not (is_result e) ≡ false → nat_lt (slot_of scope (name_of e)) slots ≡ true
+  result_in_range duty e kept there =
+      lt-ltb (slot_of scope (name_of e)) slots (taken_in_range script slots scope known e (name_of e) agrees (is_result_of e there) kept.no_faults)
+
+  list_in_range : (word : List ℕ) (e : Ast) (es : List Ast) (token : ℕ) → named_faults script known (word_of word) (e ∷ es) token ≡ [] → IsInRange (act_of_list scope word (e ∷ es))
+  list_in_range word e es token none =
+      either_act IsInRange word (codes "snd-msg") _ _ (λ is. both_stand Sent Sent plain plain e es (arguments (codes "snd-msg") is))
+      (either_act IsInRange word (codes "rec-msg") _ _ (λ is. both_stand Received Received plain plain e es (arguments (codes "rec-msg") is))
+      (either_act IsInRange word (codes "snd-note") _ _ (λ is. both_stand Sent Sent plain plain e es (arguments (codes "snd-note") is))
+      (either_act IsInRange word (codes "rec-note") _ _ (λ is. both_stand Received Received plain plain e es (arguments (codes "rec-note") is))
+      (either_act IsInRange word (codes "no-note") _ _ (λ is. both_stand Noted Noted plain plain e es (arguments (codes "no-note") is))
+      (either_act IsInRange word (codes "subscribe") _ _ (λ is. both_stand Noted Noted plain plain e es (arguments (codes "subscribe") is))
+      (either_act IsInRange word (codes "unsubscribe") _ _ (λ is. both_stand Noted Noted plain plain e es (arguments (codes "unsubscribe") is))
+      (either_act IsInRange word (codes "printf") _ _ (λ is. both_stand Sent Sent (of_sort sorts.Str) plain e es (arguments (codes "printf") is)) refl)))))))
+    where
+      arguments : (name : List ℕ) → word ≡ name → arguments_faults script known (word_of name) (e ∷ es) ≡ []
+      arguments name is = named_as script known (e ∷ es) token word name none is
+
+  -- a tool that leaves
+  leaving_in_range : (e : Ast) → IsKept script known Taken disconnected e → (x : AstKind-F AstKind Ast) → out-AstKind e.kind ≡ x → IsInRange (leaves script scope e x)
+  leaving_in_range e kept = step where
+    sent : (x : AstKind-F AstKind Ast) → out-AstKind e.kind ≡ x → is_some (result_name x) ≡ false → is_value slots (expr_of scope e) ≡ true
+    sent x is other = value_in_range script slots scope known e agrees kept.no_faults (taken_sent e (ap (λ (y : AstKind-F AstKind Ast). is_some (result_name y)) is ∙ other) kept.in_place)
+
+    step : (x : AstKind-F AstKind Ast) → out-AstKind e.kind ≡ x → IsInRange (leaves script scope e x)
+    step (layer.Int number) is = sent _ is refl
+    step (layer.Str text) is = sent _ is refl
+    step (layer.Appl name parts) is = sent _ is refl
+    step (layer.Var name) is = sent _ is refl
+    step (layer.Result name) is = lt-ltb (slot_of scope name) slots (taken_in_range script slots scope known e name agrees is kept.no_faults)
+    step (layer.Hole s) is = sent _ is refl
+    step (layer.List parts) is = sent _ is refl
+
+  one_in_range : (word : List ℕ) (e : Ast) (token : ℕ) → named_faults script known (word_of word) (e ∷ []) token ≡ [] → IsInRange (act_of_one script scope word e)
+  one_in_range word e token none =
+      either_act IsInRange word (codes "shutdown") _ _ (λ is. site_stands Sent plain e (alone Sent plain (named (codes "shutdown") is)))
+      (either_act IsInRange word (codes "rec-connect") _ _ (λ is. result_in_range connected e (kept connected (named (codes "rec-connect") is)) (kept connected (named (codes "rec-connect") is)).has_result)
+      (either_act IsInRange word (codes "rec-disconnect") _ _ (λ is. leaving_in_range e (kept disconnected (named (codes "rec-disconnect") is)) (out-AstKind e.kind) refl)
+      (list_in_range word e [] token none)))
+    where
+      named : (name : List ℕ) → word ≡ name → arguments_faults script known (word_of name) (e ∷ []) ≡ []
+      named name is = named_as script known (e ∷ []) token word name none is
+
+      alone : (place : Place) (duty : Duty) → site_faults script known place duty e ++ [] ≡ [] → site_faults script known place duty e ≡ []
+      alone place duty all = (append_none (site_faults script known place duty e) [] all).0
+
+      kept : (duty : Duty) → site_faults script known Taken duty e ++ [] ≡ [] → IsKept script known Taken duty e
+      kept duty all = kept_site script known Taken duty e (alone Taken duty all)
+
+  more_in_range : (word : List ℕ) (x y : Ast) (es : List Ast) (token : ℕ) → named_faults script known (word_of word) (x ∷ y ∷ es) token ≡ [] → IsInRange (act_of_more scope word x (y ∷ es))
+  more_in_range word x y es token none =
+      either_act IsInRange word (codes "rec-event") _ _ (λ is. more_stand Sent Received of_tool plain x y es (arguments (codes "rec-event") is))
+      (either_act IsInRange word (codes "snd-ack-event") _ _ (λ is. more_stand Sent Sent of_tool plain x y es (arguments (codes "snd-ack-event") is))
+      (list_in_range word x (y ∷ es) token none))
+    where
+      arguments : (name : List ℕ) → word ≡ name → arguments_faults script known (word_of name) (x ∷ y ∷ es) ≡ []
+      arguments name is = named_as script known (x ∷ y ∷ es) token word name none is
+
+  -- the variable of an `execute`, whatever its tool
+  executed_in_range : (place : Place) (duty : Duty) (tool : Option (List ℕ)) (x y : Ast)
+      → site_faults script known place duty x ++ flat_map (site_faults script known Taken (started tool)) (y ∷ []) ≡ [] → nat_lt (slot_of scope (name_of y)) slots ≡ true
+  executed_in_range place duty tool x y none =
+      let parts = append_none (site_faults script known place duty x) (flat_map (site_faults script known Taken (started tool)) (y ∷ [])) none in
+      let kept = kept_site script known Taken (started tool) y (flat_map_none (site_faults script known Taken (started tool)) y [] parts.1).0 in
+      result_in_range (started tool) y kept kept.has_result
+
+  two_in_range : (word : List ℕ) (x y : Ast) (token : ℕ) → named_faults script known (word_of word) (x ∷ y ∷ []) token ≡ [] → IsInRange (act_of_two script scope word x y)
+  two_in_range word x y token none =
+      either_act IsInRange word (codes "execute") _ _ (λ is. executed_in_range Sent command (name_alone (out-AstKind x.kind)) x y (arguments (codes "execute") is))
+      (either_act IsInRange word (codes "snd-eval") _ _ (λ is. two_stand Sent Sent of_tool plain x y (arguments (codes "snd-eval") is))
+      (either_act IsInRange word (codes "rec-value") _ _ (λ is. two_stand Sent Received of_tool plain x y (arguments (codes "rec-value") is))
+      (either_act IsInRange word (codes "snd-do") _ _ (λ is. two_stand Sent Sent of_tool plain x y (arguments (codes "snd-do") is))
+      (either_act IsInRange word (codes "snd-terminate") _ _ (λ is. two_stand Sent Sent of_tool plain x y (arguments (codes "snd-terminate") is))
+      (more_in_range word x y [] token none)))))
+    where
+      arguments : (name : List ℕ) → word ≡ name → arguments_faults script known (word_of name) (x ∷ y ∷ []) ≡ []
+      arguments name is = named_as script known (x ∷ y ∷ []) token word name none is
+
+  word_in_range : (word : List ℕ) (arguments : List Ast) (token : ℕ) → named_faults script known (word_of word) arguments token ≡ [] → IsInRange (act_of_word script scope word arguments)
+  word_in_range word [] token none = cond_both (bytes_eq word (codes "tau")) Tau Delta IsInRange (λ e. refl) (λ e. refl)
+  word_in_range word (e ∷ []) token none = one_in_range word e token none
+  word_in_range word (x ∷ y ∷ []) token none = two_in_range word x y token none
+  word_in_range word (x ∷ y ∷ z ∷ es) token none = more_in_range word x y (z ∷ es) token none
+
+  actuals_in_range : (formals : List Formal) (place : ℕ) (actuals : List Ast) → actuals_faults script known Made formals place actuals ≡ [] → list_all (is_value slots) (exprs_of scope actuals) ≡ true
+  actuals_in_range formals place [] none = refl
+  actuals_in_range formals place (actual ∷ actuals) none =
+      let own = actual_place Made (slice_get formals place) in
+      let duty = actual_duty Made (slice_get formals place) in
+      let parts = append_none (site_faults script known own duty actual) (actuals_faults script known Made formals (place + 1) actuals) none in
+      let sent = subst (λ (p : Place). site_faults script known p duty actual ≡ []) (made_sent (slice_get formals place)) parts.0 in
+      and_from (is_value slots (expr_of scope actual)) (list_all (is_value slots) (exprs_of scope actuals)) (site_stands Sent duty actual sent) (actuals_in_range formals (place + 1) actuals parts.1)
+
+  created_in_range : (call : Call) → call_faults script known Made call ≡ [] → list_all (is_value slots) (exprs_of scope call.actuals) ≡ true
+  created_in_range call none =
+      let process = process_named script.procs call.name in
+      let actuals = append_none (noted_if (is_none process) NoProcess call.token ++ noted_if (has_wrong_actuals process call.actuals) Arity call.token)
+      (actuals_faults script known Made (formals_of process) 0 call.actuals) none in
+      actuals_in_range (formals_of process) 0 call.actuals actuals.1
+
+  act_in_range : (act : ActDef) (token : ℕ) → act_faults script known act token ≡ [] → IsInRange (act_of script scope act)
+  act_in_range (def.Set name value) token none =
+      let duty = assigned_duty (sort_in known name) in
+      let parts = append_none (noted_if (is_none (sort_in known name)) Undeclared token) (site_faults script known Sent duty value) none in
+      let own = some_sort (sort_in known name) Undeclared token parts.0 in
+      and_from (nat_lt (slot_of scope name) slots) (is_value slots (expr_of scope value))
+      (lt-ltb (slot_of scope name) slots (slot_in_range script slots scope known name own.0 agrees own.1)) (site_stands Sent duty value parts.1)
+  act_in_range (def.Create call variable) token none =
+      let parts = append_none (call_faults script known Made call) (site_faults script known Taken made variable) none in
+      let kept = kept_site script known Taken made variable parts.1 in
+      and_from (list_all (is_value slots) (exprs_of scope call.actuals)) (nat_lt (slot_of scope (name_of variable)) slots)
+      (created_in_range call parts.0) (result_in_range made variable kept kept.has_result)
+  act_in_range (def.Named word arguments) token none = word_in_range word arguments token none
+
+  times_in_range : (times : List TimeDef) → flat_map (time_faults script known) times ≡ [] → list_all (λ (time : Time). is_value slots time.value) (map (time_of scope) times) ≡ true
+  times_in_range [] none = refl
+  times_in_range (time ∷ times) none =
+      let parts = flat_map_none (time_faults script known) time times none in
+      and_from (is_value slots (expr_of scope time.value)) (list_all (λ (t : Time). is_value slots t.value) (map (time_of scope) times)) (site_stands Sent (tested sorts.Int) time.value parts.0) (times_in_range times parts.1)
+
+pub atom_in_range : (script : Script) (slots : ℕ) (scope : Scope) (known : List Known) (def : AtomDef)
+    → Agrees script slots scope known → atom_faults script known def ≡ [] → is_atom_in_body slots (atom_of script scope def) ≡ true
+atom_in_range script slots scope known def agrees none =
+    let parts = append_none (act_faults script known def.act def.token) (flat_map (time_faults script known) def.times) none in
+    and_from (is_act_in_body slots (act_of script scope def.act)) (list_all (λ (time : Time). is_value slots time.value) (map (time_of scope) def.times))
+    (act_in_range script slots scope known agrees def.act def.token parts.0) (times_in_range script slots scope known agrees def.times parts.1)
