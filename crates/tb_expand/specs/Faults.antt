@@ -38,10 +38,10 @@ HasFault script d (fault.TooLarge name) = IsTooLarge script d name
 HasFault script d fault.NoMemory = Unit {0}
 
 -- calls form this cycle, or memory ran out
-abbrev pub IsCycleFault : Script → ExpandFault → Type 0
-IsCycleFault script (fault.Recursion names) = IsCycle script names
-IsCycleFault script (fault.TooLarge name) = ⊥
-IsCycleFault script fault.NoMemory = Unit {0}
+abbrev pub IsCallFault : Script → ExpandFault → Type 0
+IsCallFault script (fault.Recursion names) = IsCycle script names
+IsCallFault script (fault.TooLarge name) = ⊥
+IsCallFault script fault.NoMemory = Unit {0}
 
 -- the process is too large, or memory ran out
 abbrev pub IsBodyFault : Script → ProcDef → ExpandFault → Type 0

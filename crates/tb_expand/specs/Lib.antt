@@ -2,9 +2,17 @@ pub mod Scopes
 pub mod Exprs
 pub mod Acts
 pub mod Expansion
+pub mod Sizes
+pub mod Measuring
 pub mod Building
 pub mod Cycles
+pub mod Descents
 pub mod Faults
 pub mod Wholes
 pub mod Graphs
 pub mod Agreeing
+pub mod Walks
+pub mod Ordered
+pub mod Rounds
+pub mod CallGraphs
+pub mod CallOrders

@@ -1,5 +1,5 @@
 -- Whether calls within calls end within a depth: each names a process, and none is deeper.
-use Rattle.std.specs.Prelude.{ℕ, zero, suc, Bool, true, false, ◌&&◌, List, Option, Some, None}
+use Rattle.std.specs.Prelude.{◌≡◌, ℕ, zero, suc, Bool, true, false, ◌&&◌, List, length, slice_get, Option, Some, None}
 use Rattle.tb_syntax.specs.declared.proc.Proc.{Proc}
 use Rattle.tb_syntax.specs.declared.proc.Proc.TheOpen.{Proc-F, Atom, Call as CallOf, Seq, Alt, Star, Par, If, Let}
 use Rattle.tb_syntax.specs.declared.proc.Proc.TheFolds.{fold-Proc}
@@ -34,3 +34,7 @@ is_whole_with script body p = fold-Proc Bool (whole_step script body) p
 abbrev pub is_whole : Script → ℕ → Proc → Bool
 is_whole script zero p = false
 is_whole script (suc depth) p = is_whole_with script (is_whole script depth) p
+
+-- calls end in the body of each process, within as many calls as there are processes
+abbrev pub AllWhole : Script → Type 0
+AllWhole script = (place : ℕ) (d : ProcDef) → slice_get script.procs place ≡ Some d → is_whole script (length script.procs) d.body ≡ true

@@ -11,8 +11,9 @@ use crate::places::{name_of, process_of, tool_of, tool_of_sort};
 use crate::scope::{Blocks, slot_of, sort_of};
 use std::alloc::Global;
 use tb_body::Act;
-use tb_syntax::{ActDef, Ast, AstKind, Call, Script};
+use tb_syntax::{ActDef, Ast, AstKind, Call};
 use tb_terms::NoMemory;
+use tb_types::Names;
 
 pub(crate) fn is(word: &[u8], name: &str) -> bool
     ensures { result ≡ bytes_eq word.now name.now }
@@ -69,57 +70,57 @@ fn act_of_list(
 /// One argument, which is all the arguments.
 fn act_of_one(
     alloc: Global,
-    script: &Script,
+    names: &Names,
     blocks: &Blocks,
     word: &[u8],
     arguments: &[Ast],
     e: &Ast,
 ) -> Result<Act, NoMemory>
     requires { arguments.now ≡ e.now ∷ [] }
-    ensures { IfOk result (λ act. act ≡ act_of_one script.now (of_blocks blocks.now) word.now e.now) }
+    ensures { IfOk result (λ act. act ≡ act_of_one names.now.script.now (of_blocks blocks.now) word.now e.now) }
 {
     if is(word, "shutdown") {
         return Ok(Act::Shutdown(expr_of(alloc, blocks, e)?));
     }
     if is(word, "rec-connect") {
-        return connected(alloc, script, blocks, e);
+        return connected(alloc, names, blocks, e);
     }
     if is(word, "rec-disconnect") {
-        return disconnected(alloc, script, blocks, e);
+        return disconnected(alloc, names, blocks, e);
     }
     act_of_list(alloc, blocks, word, arguments)
 }
 
 /// A tool that has connected: any of the variable's sort.
-fn connected(alloc: Global, script: &Script, blocks: &Blocks, e: &Ast) -> Result<Act, NoMemory>
-    ensures { IfOk result (λ act. act ≡ connected script.now (of_blocks blocks.now) e.now) }
+fn connected(alloc: Global, names: &Names, blocks: &Blocks, e: &Ast) -> Result<Act, NoMemory>
+    ensures { IfOk result (λ act. act ≡ connected names.now.script.now (of_blocks blocks.now) e.now) }
 {
     let sort = sort_of(alloc, blocks, name_of(e))?;
-    let tool = tool_of_sort(script, &sort)?;
+    let tool = tool_of_sort(names, &sort)?;
     let slot = slot_of(blocks, name_of(e));
     Ok(Act::RecConnect { tool, slot })
 }
 
 /// A tool that leaves: any of a variable's sort, or the one that is named.
-fn disconnected(alloc: Global, script: &Script, blocks: &Blocks, e: &Ast) -> Result<Act, NoMemory>
-    ensures { IfOk result (λ act. act ≡ disconnected script.now (of_blocks blocks.now) e.now (out-AstKind e.now.kind)) }
+fn disconnected(alloc: Global, names: &Names, blocks: &Blocks, e: &Ast) -> Result<Act, NoMemory>
+    ensures { IfOk result (λ act. act ≡ disconnected names.now.script.now (of_blocks blocks.now) e.now (out-AstKind e.now.kind)) }
 {
     match &e.kind {
-        AstKind::Result(name) => any_disconnected(alloc, script, blocks, name.as_bytes()),
+        AstKind::Result(name) => any_disconnected(alloc, names, blocks, name.as_bytes()),
         _ => Ok(Act::RecDisconnect(expr_of(alloc, blocks, e)?)),
     }
 }
 
 fn any_disconnected(
     alloc: Global,
-    script: &Script,
+    names: &Names,
     blocks: &Blocks,
     name: &[u8],
 ) -> Result<Act, NoMemory>
-    ensures { IfOk result (λ act. act ≡ RecDisconnectAny (tool_of_sort script.now (sort_of (of_blocks blocks.now) name.now)) (slot_of (of_blocks blocks.now) name.now)) }
+    ensures { IfOk result (λ act. act ≡ RecDisconnectAny (tool_of_sort names.now.script.now (sort_of (of_blocks blocks.now) name.now)) (slot_of (of_blocks blocks.now) name.now)) }
 {
     let sort = sort_of(alloc, blocks, name)?;
-    let tool = tool_of_sort(script, &sort)?;
+    let tool = tool_of_sort(names, &sort)?;
     let slot = slot_of(blocks, name);
     Ok(Act::RecDisconnectAny { tool, slot })
 }
@@ -150,7 +151,7 @@ fn act_of_more(
 /// Two arguments, the second of which is all the others.
 fn act_of_two(
     alloc: Global,
-    script: &Script,
+    names: &Names,
     blocks: &Blocks,
     word: &[u8],
     arguments: &[Ast],
@@ -160,10 +161,10 @@ fn act_of_two(
 ) -> Result<Act, NoMemory>
     requires whole { arguments.now ≡ x.now ∷ others.now }
     requires second { others.now ≡ y.now ∷ [] }
-    ensures { IfOk result (λ act. act ≡ act_of_two script.now (of_blocks blocks.now) word.now x.now y.now) }
+    ensures { IfOk result (λ act. act ≡ act_of_two names.now.script.now (of_blocks blocks.now) word.now x.now y.now) }
 {
     if is(word, "execute") {
-        return executed(script, blocks, x, y);
+        return executed(names, blocks, x, y);
     }
     if is(word, "snd-eval") {
         let tool = expr_of(alloc, blocks, x)?;
@@ -184,10 +185,10 @@ fn act_of_two(
     act_of_more(alloc, blocks, word, arguments, x, others)
 }
 
-fn executed(script: &Script, blocks: &Blocks, x: &Ast, y: &Ast) -> Result<Act, NoMemory>
-    ensures { IfOk result (λ act. act ≡ Execute (tool_of script.now (name_of x.now)) (slot_of (of_blocks blocks.now) (name_of y.now))) }
+fn executed(names: &Names, blocks: &Blocks, x: &Ast, y: &Ast) -> Result<Act, NoMemory>
+    ensures { IfOk result (λ act. act ≡ Execute (tool_of names.now.script.now (name_of x.now)) (slot_of (of_blocks blocks.now) (name_of y.now))) }
 {
-    let tool = tool_of(script, name_of(x))?;
+    let tool = tool_of(names, name_of(x))?;
     let slot = slot_of(blocks, name_of(y));
     Ok(Act::Execute { tool, slot })
 }
@@ -195,21 +196,21 @@ fn executed(script: &Script, blocks: &Blocks, x: &Ast, y: &Ast) -> Result<Act, N
 /// What an atom does by its word and its arguments.
 fn act_of_word(
     alloc: Global,
-    script: &Script,
+    names: &Names,
     blocks: &Blocks,
     word: &[u8],
     arguments: &[Ast],
 ) -> Result<Act, NoMemory>
-    ensures { IfOk result (λ act. act ≡ act_of_word script.now (of_blocks blocks.now) word.now arguments.now) }
+    ensures { IfOk result (λ act. act ≡ act_of_word names.now.script.now (of_blocks blocks.now) word.now arguments.now) }
 {
     let Some((x, others)) = arguments.split_first() else {
         return Ok(act_without(word));
     };
     let Some((y, more)) = others.split_first() else {
-        return act_of_one(alloc, script, blocks, word, arguments, x);
+        return act_of_one(alloc, names, blocks, word, arguments, x);
     };
     if more.is_empty() {
-        return act_of_two(alloc, script, blocks, word, arguments, x, others, y);
+        return act_of_two(alloc, names, blocks, word, arguments, x, others, y);
     }
     act_of_more(alloc, blocks, word, arguments, x, others)
 }
@@ -217,18 +218,18 @@ fn act_of_word(
 /// What an atom does, with its variables as slots and its processes and tools by their places.
 pub(crate) fn act_of(
     alloc: Global,
-    script: &Script,
+    names: &Names,
     blocks: &Blocks,
     def: &ActDef,
 ) -> Result<Act, NoMemory>
-    ensures { IfOk result (λ act. act ≡ act_of script.now (of_blocks blocks.now) def.now) }
+    ensures { IfOk result (λ act. act ≡ act_of names.now.script.now (of_blocks blocks.now) def.now) }
 {
     match def {
         ActDef::Set(name, value) => set(alloc, blocks, name.as_bytes(), value),
-        ActDef::Create(call, variable) => created(alloc, script, blocks, call, variable),
+        ActDef::Create(call, variable) => created(alloc, names, blocks, call, variable),
         ActDef::Named(word, arguments) => act_of_word(
             alloc,
-            script,
+            names,
             blocks,
             word.as_bytes(),
             arguments.as_slice(),
@@ -246,14 +247,14 @@ fn set(alloc: Global, blocks: &Blocks, name: &[u8], value: &Ast) -> Result<Act, 
 
 fn created(
     alloc: Global,
-    script: &Script,
+    names: &Names,
     blocks: &Blocks,
     call: &Call,
     variable: &Ast,
 ) -> Result<Act, NoMemory>
-    ensures { IfOk result (λ act. act ≡ Create (process_of script.now call.now.name) (exprs_of (of_blocks blocks.now) call.now.actuals) (slot_of (of_blocks blocks.now) (name_of variable.now))) }
+    ensures { IfOk result (λ act. act ≡ Create (process_of names.now.script.now call.now.name) (exprs_of (of_blocks blocks.now) call.now.actuals) (slot_of (of_blocks blocks.now) (name_of variable.now))) }
 {
-    let process = process_of(script, &call.name)?;
+    let process = process_of(names, &call.name)?;
     let slot = slot_of(blocks, name_of(variable));
     let actuals = exprs_of(alloc, blocks, call.actuals.as_slice())?;
     Ok(Act::Create {

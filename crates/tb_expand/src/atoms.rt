@@ -7,20 +7,21 @@ use crate::exprs::expr_of;
 use crate::scope::Blocks;
 use std::alloc::Global;
 use tb_body::{Atom, Time, TimeKind, Times};
-use tb_syntax::{AtomDef, Script, TimeDef};
+use tb_syntax::{AtomDef, TimeDef};
 use tb_terms::{Items, NoMemory};
+use tb_types::Names;
 
 /// The atom with its variables as slots.
 pub(crate) fn atom_of(
     alloc: Global,
-    script: &Script,
+    names: &Names,
     blocks: &Blocks,
     def: &AtomDef,
 ) -> Result<Atom, NoMemory>
-    ensures { IfOk result (λ atom. atom ≡ atom_of script.now (of_blocks blocks.now) def.now) }
+    ensures { IfOk result (λ atom. atom ≡ atom_of names.now.script.now (of_blocks blocks.now) def.now) }
 {
     let times = times_of(alloc, blocks, def.times.as_slice())?;
-    let act = act_of(alloc, script, blocks, &def.act)?;
+    let act = act_of(alloc, names, blocks, &def.act)?;
     Ok(Atom { act, times })
 }
 

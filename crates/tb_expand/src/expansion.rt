@@ -1,36 +1,117 @@
-ghost use Rattle.std.specs.Prelude.{◌≡◌, ◌<◌, IfOk, IfErr, OnOk, Some, length, slice_get};
+ghost use Rattle.std.specs.Prelude.{◌≡◌, ◌<◌, Some, Contains, true, false, length, slice_get, IfOk, IfErr, OnOk};
+ghost use Rattle.std.proofs.Props.{props};
 ghost use Rattle.tb_syntax.specs.declared.script.ProcDef.{ProcDef};
 ghost use Rattle.tb_types.specs.Conditions.{Proper};
-ghost use Rattle.tb_expand.specs.Faults.{HasNoCycle, IsBodyOf, HasFault, IsCycleFault, IsBodyFault};
+ghost use Rattle.tb_expand.specs.Expansion.{expansion_of, is_too_large};
+ghost use Rattle.tb_expand.specs.Wholes.{AllWhole, is_whole};
+ghost use Rattle.tb_expand.specs.Faults.{HasFault, HasNoCycle, IsBodyFault, IsBodyOf, IsCallFault, IsExpansion};
+ghost use Rattle.tb_expand.specs.Measuring.{AreSizes, is_over};
 
-use crate::ExpandFault;
+use crate::call_order::order_of;
+use crate::fault::ExpandFault;
+use crate::number::number;
+use crate::size::Size;
+use crate::sizes::sizes_of;
+use crate::whole::expansion_of;
+use sqlite_items::at;
 use std::alloc::Global;
 use tb_body::Body;
-use tb_syntax::Script;
+use tb_syntax::{ProcDef, Script};
+use tb_terms::{Items, NoMemory};
+use tb_types::Names;
 
-/// The expansions of a proper script whose calls form no cycle.
+const MOST_ATOMS: usize = 20_000;
+
+const MOST_LEVELS: usize = 1_000;
+
+/// The expansions of a script's processes, each of which is built when it is asked for. How large they
+/// are is known beforehand, so none is begun that is too large.
 #[derive(Drop)]
 pub struct Expansions<'a> {
     pub script: &'a Script,
+    names: Names<'a>,
+    sizes: Items<Size>,
+    ghost same: { names.script.now ≡ script.now } by { Prim.hlevel props },
+    ghost proper: { Proper script.now } by { Prim.hlevel props },
+    ghost no_cycle: { HasNoCycle script.now } by { Prim.hlevel props },
+    ghost whole: { AllWhole script.now } by { Prim.hlevel props },
+    ghost sized: { AreSizes script.now sizes } by { Prim.hlevel props },
 }
 
 impl<'a> Expansions<'a> {
-    /// Finds whether calls form a cycle.
-    pub fn of(_alloc: Global, script: &'a Script) -> Result<Expansions<'a>, ExpandFault>
-        requires proper { Proper script.now }
+    /// Finds the sizes of all expansions, in time that is linear in the script.
+    #[tactic(auto, using(crate::proofs::ProperCalls::names_differ))]
+    pub fn of(alloc: Global, script: &'a Script) -> Result<Expansions<'a>, ExpandFault>
+        requires { Proper script.now }
         ensures script { IfOk result (λ expansions. expansions.script.now ≡ script.now) }
         ensures no_cycle { OnOk result (HasNoCycle script.now) }
-        ensures fault { IfErr result (IsCycleFault script.now) }
+        ensures fault { IfErr result (IsCallFault script.now) }
     {
-        Err(ExpandFault::NoMemory)
+        let names = Names::of(alloc, script)?;
+        let order = order_of(alloc, &names)?;
+        let sizes = sizes_of(alloc, &names, order.as_slice())?;
+        Ok(Expansions {
+            script,
+            names,
+            sizes,
+        })
     }
 
-    /// The body of the process at this place among the definitions, from 0.
-    pub fn body(&self, _alloc: Global, place: usize) -> Result<Body, ExpandFault>
-        requires in_range { place < length self.now.script.now.procs }
+    /// The body of the process at this place among the definitions.
+    pub fn body(&self, alloc: Global, place: usize) -> Result<Body, ExpandFault>
+        requires { place < length self.now.script.now.procs }
         ensures body { (d : ProcDef) → slice_get self.now.script.now.procs place ≡ Some d → IfOk result (IsBodyOf self.now.script.now d) }
         ensures fault { (d : ProcDef) → slice_get self.now.script.now.procs place ≡ Some d → IfErr result (IsBodyFault self.now.script.now d) }
     {
-        Err(ExpandFault::NoMemory)
+        let def = &self.script.procs.as_slice()[place];
+        if self.is_too_large(place, def) {
+            return Err(ExpandFault::TooLarge(def.name.copy(alloc)?));
+        }
+        Ok(built(alloc, &self.names, def)?)
     }
+
+    /// Whether the expansion of the process at this place passes a limit.
+    #[tactic(auto, using(crate::proofs::Bodies::large_by_size, crate::proofs::Bodies::size_is_there))]
+    fn is_too_large(&self, place: usize, def: &ProcDef) -> bool
+        requires { slice_get self.now.script.now.procs place ≡ Some def.now }
+        ensures { result ≡ is_too_large (expansion_of self.now.script.now def.now) }
+    {
+        match at(self.sizes.as_slice(), place) {
+            Some(size) => is_over(*size),
+            None => unreachable!(),
+        }
+    }
+}
+
+fn is_over(size: Size) -> bool
+    ensures { result ≡ is_over size }
+{
+    size.atoms > MOST_ATOMS || size.levels > MOST_LEVELS
+}
+
+/// The body of a process whose expansion is within the limits.
+fn built(alloc: Global, names: &Names, def: &ProcDef) -> Result<Body, NoMemory>
+    requires proper { Proper names.now.script.now }
+    requires there { Contains names.now.script.now.procs def.now }
+    requires whole { is_whole names.now.script.now (length names.now.script.now.procs) def.now.body ≡ true }
+    requires small { is_too_large (expansion_of names.now.script.now def.now) ≡ false }
+    ensures { IfOk result (IsExpansion names.now.script.now def.now) }
+{
+    let (tree, built) = expansion_of(alloc, names, def)?;
+    let formals = number(def.formals.len())?;
+    match Body::new(alloc, tree, built.atoms, built.sorts, formals)? {
+        Some(body) => Ok(body),
+        None => unreachable!(),
+    }
+}
+
+/// The body of the process at this place among the definitions of a script.
+pub fn expand(alloc: Global, s: &Script, root: usize) -> Result<Body, ExpandFault>
+    requires proper { Proper s.now }
+    requires in_range { root < length s.now.procs }
+    ensures body { (d : ProcDef) → slice_get s.now.procs root ≡ Some d → IfOk result (IsBodyOf s.now d) }
+    ensures fault { (d : ProcDef) → slice_get s.now.procs root ≡ Some d → IfErr result (HasFault s.now d) }
+{
+    let expansions = Expansions::of(alloc, s)?;
+    Ok(expansions.body(alloc, root)?)
 }

@@ -4,19 +4,27 @@
 mod acts;
 mod atoms;
 mod built;
+mod call_order;
 mod expansion;
 mod exprs;
 mod fault;
+mod graph;
 mod number;
-mod part_fault;
+mod order;
+#[cfg(test)]
+mod order_tests;
 mod parts;
 mod places;
+mod round;
 mod scope;
 mod seen;
+mod size;
+mod sizes;
 mod slots;
 #[cfg(test)]
 mod tests;
+mod walk;
 mod whole;
 
-pub use expansion::Expansions;
+pub use expansion::{Expansions, expand};
 pub use fault::{ExpandFault, Idents};

@@ -8,82 +8,68 @@ use crate::atoms::atom_of;
 use crate::built::Built;
 use crate::exprs::expr_of;
 use crate::number::{following, number};
-use crate::part_fault::PartFault;
 use crate::scope::Blocks;
 use crate::seen::Block;
 use crate::slots::{declared, formals_of_call, initial, set_formals, sorts_of_vars, value_sorts};
+use sqlite_items::at;
 use std::alloc::Global;
 use tb_body::Tree;
-use tb_syntax::{Ast, AtomDef, Call, Proc, ProcDef, Script, Var};
-use tb_terms::{Boxed, Items};
+use tb_syntax::{Ast, AtomDef, Call, Proc, ProcDef, Var};
+use tb_terms::{Boxed, Items, NoMemory};
+use tb_types::Names;
 
-/// The tree of a process, whose atoms and slots are added to those that are built. It may have this
-/// many levels, and calls within it are replaced up to this depth and one more.
+/// The tree of a process, whose atoms and slots are added to those that are built. Calls within it are
+/// replaced up to this depth and one more.
 #[cycle(parts)]
 pub(crate) fn part_of(
     alloc: Global,
-    script: &Script,
+    names: &Names,
     depth: usize,
-    levels: usize,
     blocks: &mut Blocks,
     built: &mut Built,
     p: &Proc,
-) -> Result<Tree, PartFault>
-    ensures { IfOk result (λ tree. Adds (expands_with script.now (expands script.now depth) p.now) blocks.old built.old tree blocks.new built.new) }
+) -> Result<Tree, NoMemory>
+    ensures { IfOk result (λ tree. Adds (expands_with names.now.script.now (expands names.now.script.now depth) p.now) blocks.old built.old tree blocks.new built.new) }
 {
-    if levels == 0 {
-        return Err(PartFault::TooLarge);
-    }
-    let below = levels - 1;
     match p {
-        Proc::Atom(def) => Ok(atom_part(alloc, script, blocks, built, def)?),
-        Proc::Call(call) => Ok(call_part(alloc, script, depth, below, blocks, built, call)?),
+        Proc::Atom(def) => Ok(atom_part(alloc, names, blocks, built, def)?),
+        Proc::Call(call) => Ok(call_part(alloc, names, depth, blocks, built, call)?),
         Proc::Seq(x, y) => {
-            let (x, y) = sides(alloc, script, depth, below, blocks, built, x.get(), y.get())?;
+            let (x, y) = sides(alloc, names, depth, blocks, built, x.get(), y.get())?;
             Ok(Tree::Seq(x, y))
         }
         Proc::Alt(x, y) => {
-            let (x, y) = sides(alloc, script, depth, below, blocks, built, x.get(), y.get())?;
+            let (x, y) = sides(alloc, names, depth, blocks, built, x.get(), y.get())?;
             Ok(Tree::Alt(x, y))
         }
         Proc::Star(x, y) => {
-            let (x, y) = sides(alloc, script, depth, below, blocks, built, x.get(), y.get())?;
+            let (x, y) = sides(alloc, names, depth, blocks, built, x.get(), y.get())?;
             Ok(Tree::Star(x, y))
         }
         Proc::Par(x, y) => {
-            let (x, y) = sides(alloc, script, depth, below, blocks, built, x.get(), y.get())?;
+            let (x, y) = sides(alloc, names, depth, blocks, built, x.get(), y.get())?;
             Ok(Tree::Par(x, y))
         }
-        Proc::If(test, x, y) => Ok(if_part(
-            alloc,
-            script,
-            depth,
-            below,
-            blocks,
-            built,
-            test,
-            x.get(),
-            y,
-        )?),
+        Proc::If(test, x, y) => Ok(if_part(alloc, names, depth, blocks, built, test, x.get(), y)?),
         Proc::Let(vars, x) => {
             let vars = vars.as_slice();
-            Ok(let_part(alloc, script, depth, below, blocks, built, vars, x.get())?)
+            Ok(let_part(alloc, names, depth, blocks, built, vars, x.get())?)
         }
     }
 }
 
 fn atom_part(
     alloc: Global,
-    script: &Script,
+    names: &Names,
     blocks: &Blocks,
     built: &mut Built,
     def: &AtomDef,
-) -> Result<Tree, PartFault>
-    ensures { IfOk result (λ tree. Adds (atom_only script.now def.now) blocks.now built.old tree blocks.now built.new) }
+) -> Result<Tree, NoMemory>
+    ensures { IfOk result (λ tree. Adds (atom_only names.now.script.now def.now) blocks.now built.old tree blocks.now built.new) }
 {
     let number = number(built.atoms.len())?;
     let number = following(number)?;
-    built.atoms.push(atom_of(alloc, script, blocks, def)?)?;
+    built.atoms.push(atom_of(alloc, names, blocks, def)?)?;
     Ok(Tree::At(number))
 }
 
@@ -91,19 +77,18 @@ fn atom_part(
 #[cycle(parts)]
 fn sides(
     alloc: Global,
-    script: &Script,
+    names: &Names,
     depth: usize,
-    levels: usize,
     blocks: &mut Blocks,
     built: &mut Built,
     x: &Proc,
     y: &Proc,
-) -> Result<(Boxed<Tree>, Boxed<Tree>), PartFault>
-    ensures { IfOk result (λ s. (join : Tree → Tree → Tree) → Adds (both join (expands_with script.now (expands script.now depth) x.now) (expands_with script.now (expands script.now depth) y.now)) blocks.old built.old (join s.0 s.1) blocks.new built.new) }
+) -> Result<(Boxed<Tree>, Boxed<Tree>), NoMemory>
+    ensures { IfOk result (λ s. (join : Tree → Tree → Tree) → Adds (both join (expands_with names.now.script.now (expands names.now.script.now depth) x.now) (expands_with names.now.script.now (expands names.now.script.now depth) y.now)) blocks.old built.old (join s.0 s.1) blocks.new built.new) }
 {
-    let x = part_of(alloc, script, depth, levels, blocks, built, x)?;
+    let x = part_of(alloc, names, depth, blocks, built, x)?;
     let x = Boxed::new(alloc, x)?;
-    let y = part_of(alloc, script, depth, levels, blocks, built, y)?;
+    let y = part_of(alloc, names, depth, blocks, built, y)?;
     let y = Boxed::new(alloc, y)?;
     Ok((x, y))
 }
@@ -111,25 +96,24 @@ fn sides(
 #[cycle(parts)]
 fn if_part(
     alloc: Global,
-    script: &Script,
+    names: &Names,
     depth: usize,
-    levels: usize,
     blocks: &mut Blocks,
     built: &mut Built,
     test: &Ast,
     x: &Proc,
     y: &Option<Boxed<Proc>>,
-) -> Result<Tree, PartFault>
-    ensures { IfOk result (λ tree. Adds (test_of test.now (expands_with script.now (expands script.now depth) x.now) (option_map (expands_with script.now (expands script.now depth)) y.now)) blocks.old built.old tree blocks.new built.new) }
+) -> Result<Tree, NoMemory>
+    ensures { IfOk result (λ tree. Adds (test_of test.now (expands_with names.now.script.now (expands names.now.script.now depth) x.now) (option_map (expands_with names.now.script.now (expands names.now.script.now depth)) y.now)) blocks.old built.old tree blocks.new built.new) }
 {
     let test = expr_of(alloc, blocks, test)?;
     match y {
         Some(y) => {
-            let (x, y) = sides(alloc, script, depth, levels, blocks, built, x, y.get())?;
+            let (x, y) = sides(alloc, names, depth, blocks, built, x, y.get())?;
             Ok(Tree::If(test, x, Some(y)))
         }
         None => {
-            let x = part_of(alloc, script, depth, levels, blocks, built, x)?;
+            let x = part_of(alloc, names, depth, blocks, built, x)?;
             Ok(Tree::If(test, Boxed::new(alloc, x)?, None))
         }
     }
@@ -138,21 +122,20 @@ fn if_part(
 #[cycle(parts)]
 fn let_part(
     alloc: Global,
-    script: &Script,
+    names: &Names,
     depth: usize,
-    levels: usize,
     blocks: &mut Blocks,
     built: &mut Built,
     vars: &[Var],
     x: &Proc,
-) -> Result<Tree, PartFault>
-    ensures { IfOk result (λ tree. Adds (block_of vars.now (expands_with script.now (expands script.now depth) x.now)) blocks.old built.old tree blocks.new built.new) }
+) -> Result<Tree, NoMemory>
+    ensures { IfOk result (λ tree. Adds (block_of vars.now (expands_with names.now.script.now (expands names.now.script.now depth) x.now)) blocks.old built.old tree blocks.new built.new) }
 {
     let slot = number(built.sorts.len())?;
     let settings = initial(alloc, slot, vars)?;
     blocks.push(declared(alloc, slot, vars)?)?;
     built.sorts.append(sorts_of_vars(alloc, vars)?)?;
-    let x = part_of(alloc, script, depth, levels, blocks, built, x)?;
+    let x = part_of(alloc, names, depth, blocks, built, x)?;
     let _ = blocks.pop();
     Ok(Tree::Let(settings, Boxed::new(alloc, x)?))
 }
@@ -160,16 +143,15 @@ fn let_part(
 #[cycle(parts)]
 fn call_part(
     alloc: Global,
-    script: &Script,
+    names: &Names,
     depth: usize,
-    levels: usize,
     blocks: &Blocks,
     built: &mut Built,
     call: &Call,
-) -> Result<Tree, PartFault>
-    ensures { IfOk result (λ tree. Adds (call_of script.now (expands script.now depth) call.now) blocks.now built.old tree blocks.now built.new) }
+) -> Result<Tree, NoMemory>
+    ensures { IfOk result (λ tree. Adds (call_of names.now.script.now (expands names.now.script.now depth) call.now) blocks.now built.old tree blocks.now built.new) }
 {
-    let Some(def) = definition_of(script, call.name.as_bytes()) else {
+    let Some(def) = definition_of(names, call.name.as_bytes()) else {
         return Ok(Tree::At(0));
     };
     let formals = def.formals.as_slice();
@@ -178,7 +160,7 @@ fn call_part(
     let settings = set_formals(alloc, blocks, slot, formals, actuals)?;
     let block = formals_of_call(alloc, blocks, slot, formals, actuals)?;
     built.sorts.append(value_sorts(alloc, formals)?)?;
-    let x = body_part(alloc, script, depth, levels, block, built, &def.body)?;
+    let x = body_part(alloc, names, depth, block, built, &def.body)?;
     Ok(Tree::Let(settings, Boxed::new(alloc, x)?))
 }
 
@@ -186,32 +168,30 @@ fn call_part(
 #[cycle(parts)]
 pub(crate) fn body_part(
     alloc: Global,
-    script: &Script,
+    names: &Names,
     depth: usize,
-    levels: usize,
     block: Block,
     built: &mut Built,
     body: &Proc,
-) -> Result<Tree, PartFault>
-    ensures { IfOk result (λ tree. (tree ≡ (expands script.now depth body.now block (length built.old.atoms + 1) (length built.old.sorts)).tree)
-        × (built.new ≡ with_part built.old (expands script.now depth body.now block (length built.old.atoms + 1) (length built.old.sorts)))) }
+) -> Result<Tree, NoMemory>
+    ensures { IfOk result (λ tree. (tree ≡ (expands names.now.script.now depth body.now block (length built.old.atoms + 1) (length built.old.sorts)).tree)
+        × (built.new ≡ with_part built.old (expands names.now.script.now depth body.now block (length built.old.atoms + 1) (length built.old.sorts)))) }
 {
     if depth == 0 {
         return Ok(Tree::At(0));
     }
     let mut blocks = Items::new(alloc);
     blocks.push(block)?;
-    Ok(part_of(alloc, script, depth - 1, levels, &mut blocks, built, body)?)
+    Ok(part_of(alloc, names, depth - 1, &mut blocks, built, body)?)
 }
 
 /// The definition of the process of this name.
-fn definition_of<'a>(script: &'a Script, name: &[u8]) -> Option<&'a ProcDef>
-    ensures { option_copied result ≡ definition_of script.now name.now }
+#[tactic(auto, using(crate::proofs::Lookups::defined_at, crate::proofs::Lookups::not_defined))]
+fn definition_of<'a>(names: &Names<'a>, name: &[u8]) -> Option<&'a ProcDef>
+    ensures { option_copied result ≡ definition_of names.now.script.now name.now }
 {
-    for def in script.procs.as_slice() {
-        if def.name.as_bytes() == name {
-            return Some(def);
-        }
+    match names.process_place(name) {
+        None => None,
+        Some(place) => at(names.script.procs.as_slice(), place),
     }
-    None
 }

@@ -1,11 +1,11 @@
 use crate::built::Built;
-use crate::part_fault::PartFault;
 use crate::whole::expansion_of;
 use std::alloc::Global;
 use std::test::Fail;
 use tb_body::Tree;
 use tb_syntax::{ActDef, AtomDef, Call, Proc, ProcDef, Script};
 use tb_terms::{Boxed, Ident, Items, Name, NoMemory};
+use tb_types::Names;
 
 /// `process N is BODY`
 fn defined(alloc: Global, name: &str, body: Proc) -> Result<Option<ProcDef>, NoMemory> {
@@ -38,8 +38,8 @@ fn call(alloc: Global) -> Result<Proc, NoMemory> {
     }))
 }
 
-/// The expansion of P with this many levels, where `process Q is tau  process P is Q . Q`.
-fn twice(alloc: Global, levels: usize) -> Result<Option<(Tree, Built)>, PartFault> {
+/// The expansion of P, where `process Q is tau  process P is Q . Q`.
+fn twice(alloc: Global) -> Result<Option<(Tree, Built)>, NoMemory> {
     let x = Boxed::new(alloc, call(alloc)?)?;
     let y = Boxed::new(alloc, call(alloc)?)?;
     let mut procs = Items::new(alloc);
@@ -54,8 +54,9 @@ fn twice(alloc: Global, levels: usize) -> Result<Option<(Tree, Built)>, PartFaul
         tools: Items::new(alloc),
         roots: Items::new(alloc),
     };
+    let names = Names::of(alloc, &script)?;
     match script.procs.get(1) {
-        Some(p) => Ok(Some(expansion_of(alloc, &script, levels, p)?)),
+        Some(p) => Ok(Some(expansion_of(alloc, &names, p)?)),
         None => Ok(None),
     }
 }
@@ -72,7 +73,7 @@ fn is_number(tree: &Tree, number: u32) -> bool {
 
 #[test]
 fn calls_are_replaced(rt: HostRuntime) -> Result<(), Fail> {
-    let Some((tree, built)) = twice(rt.alloc(), 3)? else {
+    let Some((tree, built)) = twice(rt.alloc())? else {
         return Err(Fail::from("no name"));
     };
     assert_eq!(rt; built.atoms.len(), 2);
@@ -83,9 +84,4 @@ fn calls_are_replaced(rt: HostRuntime) -> Result<(), Fail> {
     };
     assert!(rt; numbered);
     Ok(())
-}
-
-#[test]
-fn levels_are_bounded(rt: HostRuntime) {
-    assert!(rt; matches!(twice(rt.alloc(), 2), Err(PartFault::TooLarge)));
 }

@@ -1,0 +1,203 @@
+-- Where processes stand behind those that they call, calls end, and no depth beyond the number of processes changes a size.
+use Rattle.std.proofs.Common.{◌≡◌, ℕ, zero, suc, ◌+◌, ◌<◌, ◌≤◌, ◌⊎◌, inl, inr, Bool, true, false, ◌&&◌, List, [], ◌∷◌, ◌++◌, map, cond, bytes_eq, option_map, length, take, get_or, slice_get, Option, Some, None, refl, ap, sym, subst, ◌∙◌, arith}
+use Rattle.std.specs.List.{Contains}
+use Rattle.std.proofs.Math.Seq.{take-suc, take-length}
+use Rattle.std.proofs.lemmas.Bool.{and_from}
+use Rattle.std.proofs.lemmas.List.{take_all, length-map}
+use Rattle.std.proofs.lemmas.List.Elements.{Contains-push_cases}
+use Rattle.std.proofs.lemmas.Option.{slice_get_within, slice_get_cases}
+use Rattle.tb_syntax.specs.declared.proc.Proc.{Proc, Proc-F}
+use Rattle.tb_syntax.specs.declared.proc.Proc.TheOpen as layer
+use Rattle.tb_syntax.specs.declared.script.ProcDef.{ProcDef}
+use Rattle.tb_syntax.specs.declared.script.Script.{Script}
+use Rattle.tb_types.specs.NamePlaces.{place_of, process_name}
+use Rattle.tb_types.proofs.Naming.{found_by}
+use Rattle.tb_expand.specs.declared.size.Size.{Size}
+use Rattle.tb_expand.specs.Cycles.{called}
+use Rattle.tb_expand.specs.Descents.{StandsAmong, Descends}
+use Rattle.tb_expand.specs.Expansion.{definition_of}
+use Rattle.tb_expand.specs.Sizes.{beside, above, tested_size, called_size, size_step, size_with, size_of}
+use Rattle.tb_expand.specs.Wholes.{is_called_whole, whole_step, is_whole_with, is_whole}
+use Rattle.tb_expand.proofs.CalledFolds.{IsKept, related}
+use Rattle.tb_expand.proofs.SeenPlaces.{is_in, seen_below, contained, seen_at_most, seen_more, seen_new}
+
+-- Bodies, by what they call.
+
+module _ (script : Script) (body other : Proc → Size) where
+  abbrev pub IsSame : List ℕ → Type 0
+  IsSame name = called_size body (definition_of script name) ≡ called_size other (definition_of script name)
+
+  abbrev AreSame : Size → Size → Type 0
+  AreSame x y = x ≡ y
+
+  same_kept : IsKept Size Size (size_step script body) (size_step script other) AreSame IsSame
+  same_kept (layer.Atom def) is = refl
+  same_kept (layer.Call call) is = is
+  same_kept (layer.Seq x y) is = λ i. beside (x.2 i) (y.2 i)
+  same_kept (layer.Alt x y) is = λ i. beside (x.2 i) (y.2 i)
+  same_kept (layer.Star x y) is = λ i. beside (x.2 i) (y.2 i)
+  same_kept (layer.Par x y) is = λ i. beside (x.2 i) (y.2 i)
+  same_kept (layer.If test x None) is = λ i. above (x.2 i)
+  same_kept (layer.If test x (Some y)) is = λ i. beside (x.2 i) (y.2 i)
+  same_kept (layer.Let vars x) is = λ i. above (x.2 i)
+
+  -- a size goes by those of the called processes
+  pub same_size : (p : Proc) → ((name : List ℕ) → Contains (called p) name → IsSame name) → size_with script body p ≡ size_with script other p
+  same_size = related Size Size (size_step script body) (size_step script other) AreSame IsSame same_kept
+
+module _ (script : Script) (body : Proc → Bool) where
+  abbrev pub IsWhole : List ℕ → Type 0
+  IsWhole name = is_called_whole body (definition_of script name) ≡ true
+
+  abbrev AreWhole : Bool → Bool → Type 0
+  AreWhole x y = x ≡ true
+
+  whole_kept : IsKept Bool Bool (whole_step script body) (whole_step script body) AreWhole IsWhole
+  whole_kept (layer.Atom def) is = refl
+  whole_kept (layer.Call call) is = is
+  whole_kept (layer.Seq x y) is = and_from x.0 y.0 x.2 y.2
+  whole_kept (layer.Alt x y) is = and_from x.0 y.0 x.2 y.2
+  whole_kept (layer.Star x y) is = and_from x.0 y.0 x.2 y.2
+  whole_kept (layer.Par x y) is = and_from x.0 y.0 x.2 y.2
+  whole_kept (layer.If test x None) is = and_from x.0 true x.2 refl
+  whole_kept (layer.If test x (Some y)) is = and_from x.0 y.0 x.2 y.2
+  whole_kept (layer.Let vars x) is = x.2
+
+  -- calls end where they do in the bodies of the called processes
+  pub whole_by_calls : (p : Proc) → ((name : List ℕ) → Contains (called p) name → IsWhole name) → is_whole_with script body p ≡ true
+  whole_by_calls = related Bool Bool (whole_step script body) (whole_step script body) AreWhole IsWhole whole_kept
+
+-- Places.
+
+-- from this depth on the calls of a body end, and its size stays the same
+pub record IsSettled (script : Script) (depth : ℕ) (p : Proc) : Type 0 where
+  pub whole : (more : ℕ) → depth ≤ more → is_whole script more p ≡ true
+  pub same : (more : ℕ) → depth ≤ more → size_of script more p ≡ size_of script depth p
+
+abbrev pub IsSettledAt : Script → ℕ → ℕ → Type 0
+IsSettledAt script depth place = (d : ProcDef) → slice_get script.procs place ≡ Some d → IsSettled script depth d.body
+
+later : (script : Script) (depth more : ℕ) (p : Proc) → depth ≤ more → IsSettled script depth p → IsSettled script more p
+later script depth more p below is = record {
+  whole = λ most high. is.whole most (omega arith);
+  same = λ most high. is.same most (omega arith) ∙ sym (is.same more below);
+}
+
+-- Names.
+
+place_within : (names : List (List ℕ)) (name : List ℕ) (place : ℕ) → place_of names name ≡ Some place → place < length names
+place_within [] name place is = absurd cc
+place_within (first ∷ others) name place is = step (bytes_eq first name) (place_of others name) (place_within others name) is where
+  step : (b : Bool) (o : Option ℕ) → ((other : ℕ) → o ≡ Some other → other < length others) → cond b (Some 0) (option_map (λ (n : ℕ). n + 1) o) ≡ Some place → place < suc (length others)
+  step true o ih e =
+      let first_place : 0 ≡ place = cc in
+      omega arith
+  step false None ih e = absurd cc
+  step false (Some other) ih e =
+      let next_place : other + 1 ≡ place = cc in
+      omega (arith, ih other refl)
+
+-- the process that stands at a name's place
+pub definition_at : (script : Script) (name : List ℕ) (place : ℕ) → place_of (map process_name script.procs) name ≡ Some place → slice_get script.procs place ≡ definition_of script name
+definition_at script name place named = found_by process_name script.procs name (Some place) (sym named)
+
+-- within a list, or behind it
+abbrev pub OneOrNone : {X : Type 0} → List X → ℕ → Type 0
+OneOrNone {X} xs i = ((x : X) × (i < length xs) × (slice_get xs i ≡ Some x) × (get_or xs i x ≡ x)) ⊎ ((length xs ≤ i) × (slice_get xs i ≡ None))
+
+pub record IsDefined (script : Script) (name : List ℕ) (place : ℕ) : Type 0 where
+  pub d : ProcDef
+  pub at : slice_get script.procs place ≡ Some d
+  pub found : definition_of script name ≡ Some d
+
+pub defined : (script : Script) (name : List ℕ) (place : ℕ) → place_of (map process_name script.procs) name ≡ Some place → IsDefined script name place
+defined script name place named =
+    let within : place < length script.procs = subst (λ (n : ℕ). place < n) (length-map script.procs process_name) (place_within (map process_name script.procs) name place named) in
+    there (slice_get_cases script.procs place).1 within where
+      there : OneOrNone script.procs place → place < length script.procs → IsDefined script name place
+      there (inl h) within = record { d = h.0; at = h.2; found = sym (definition_at script name place named) ∙ h.2 }
+      there (inr h) within = absurd (omega arith)
+
+-- Processes that have settled.
+
+module _ (script : Script) where
+  abbrev depth_of : List ℕ → ℕ
+  depth_of places = seen_below (length script.procs) places
+
+  abbrev pub AreSettled : List ℕ → Type 0
+  AreSettled places = (place : ℕ) → Contains places place → IsSettledAt script (depth_of places) place
+
+  abbrev Calls : List ℕ → ProcDef → Type 0
+  Calls places d = (name : List ℕ) → Contains (called d.body) name → StandsAmong script places name
+
+  module _ (places : List ℕ) (settled : AreSettled places) where
+    called_settled : (name : List ℕ) → StandsAmong script places name → (d : ProcDef) × (definition_of script name ≡ Some d) × IsSettled script (depth_of places) d.body
+    called_settled name stands =
+        let is : IsDefined script name stands.place = defined script name stands.place stands.named in
+        (is.d, is.found, settled stands.place stands.there is.d is.at)
+
+    called_whole : (more : ℕ) → depth_of places ≤ more → (name : List ℕ) → StandsAmong script places name → IsWhole script (is_whole script more) name
+    called_whole more high name stands =
+        let is = called_settled name stands in
+        ap (is_called_whole (is_whole script more)) is.1 ∙ is.2.whole more high
+
+    called_same : (more other : ℕ) → depth_of places ≤ more → depth_of places ≤ other → (name : List ℕ) → StandsAmong script places name → IsSame script (size_of script more) (size_of script other) name
+    called_same more other high low name stands =
+        let is = called_settled name stands in
+        ap (called_size (size_of script more)) is.1 ∙ ap above (is.2.same more high ∙ sym (is.2.same other low)) ∙ sym (ap (called_size (size_of script other)) is.1)
+
+    new_settled : (depth : ℕ) (d : ProcDef) → depth_of places ≤ depth → Calls places d → IsSettled script (suc depth) d.body
+    new_settled depth d high calls = record { whole = whole; same = same } where
+      whole : (more : ℕ) → suc depth ≤ more → is_whole script more d.body ≡ true
+      whole zero h = absurd (omega arith)
+      whole (suc more) h = whole_by_calls script (is_whole script more) d.body (λ name is. called_whole more (omega arith) name (calls name is))
+
+      same : (more : ℕ) → suc depth ≤ more → size_of script more d.body ≡ size_of script (suc depth) d.body
+      same zero h = absurd (omega arith)
+      same (suc more) h = same_size script (size_of script more) (size_of script depth) d.body (λ name is. called_same more depth (omega arith) high name (calls name is))
+
+    settled_there : (last place : ℕ) → Contains places place → IsSettledAt script (depth_of (places ++ last ∷ [])) place
+    settled_there last place is d at = later script (depth_of places) (depth_of (places ++ last ∷ [])) d.body (seen_more (length script.procs) places last) (settled place is d at)
+
+    settled_new : (last : ℕ) (d : ProcDef) → slice_get script.procs last ≡ Some d → Calls places d → is_in places last ≡ false → IsSettled script (depth_of (places ++ last ∷ [])) d.body
+    settled_new last d at calls new =
+        let below : last < length script.procs = slice_get_within script.procs last d at in
+        later script (suc (depth_of places)) (depth_of (places ++ last ∷ [])) d.body (seen_new (length script.procs) places last below new)
+        (new_settled (depth_of places) d (omega arith) calls)
+
+    settled_last : (last : ℕ) → ((d : ProcDef) → slice_get script.procs last ≡ Some d → Calls places d) → IsSettledAt script (depth_of (places ++ last ∷ [])) last
+    settled_last last calls d at = step (is_in places last) refl where
+      step : (b : Bool) → is_in places last ≡ b → IsSettled script (depth_of (places ++ last ∷ [])) d.body
+      step true e = settled_there last last (contained places last e) d at
+      step false e = settled_new last d at (calls d at) e
+
+    more_settled : (last : ℕ) → ((d : ProcDef) → slice_get script.procs last ≡ Some d → Calls places d) → AreSettled (places ++ last ∷ [])
+    more_settled last calls place is = step (Contains-push_cases places last place is) where
+      step : Contains places place ⊎ (last ≡ place) → IsSettledAt script (depth_of (places ++ last ∷ [])) place
+      step (inl old) = settled_there last place old
+      step (inr e) = subst (IsSettledAt script (depth_of (places ++ last ∷ []))) e (settled_last last calls)
+
+  module _ (order : List ℕ) (descends : Descends script order) where
+    front_settled : (at : ℕ) → AreSettled (take at order)
+    front_settled zero place is = absurd (omega (arith, is.1))
+    front_settled (suc at) place is = step (slice_get_cases order at).1 (front_settled at) place is where
+      step : OneOrNone order at → AreSettled (take at order) → AreSettled (take (suc at) order)
+      step (inl h) ih =
+          let more : take (suc at) order ≡ take at order ++ h.0 ∷ [] = take-suc order at h.0 h.1 ∙ ap (λ (p : ℕ). take at order ++ p ∷ []) h.3 in
+          subst AreSettled (sym more) (more_settled (take at order) ih h.0 (λ d at_place name is. descends.behind at h.0 d name h.2 at_place is))
+      step (inr h) ih =
+          let long : length order ≤ suc at = omega arith in
+          subst AreSettled (take_all at order h.0 ∙ sym (take_all (suc at) order long)) ih
+
+    -- no depth beyond the number of processes matters
+    settled_all : (place : ℕ) (d : ProcDef) → slice_get script.procs place ≡ Some d → IsSettled script (length script.procs) d.body
+    settled_all place d at =
+        let there : Contains order place = descends.complete place (slice_get_within script.procs place d at) in
+        let all : AreSettled order = subst AreSettled (take-length order) (front_settled (length order)) in
+        later script (depth_of order) (length script.procs) d.body (seen_at_most (length script.procs) order) (all place there d at)
+
+    pub depth_is_enough : (place : ℕ) (d : ProcDef) → slice_get script.procs place ≡ Some d → (depth : ℕ) → length script.procs ≤ depth → size_of script depth d.body ≡ size_of script (length script.procs) d.body
+    depth_is_enough place d at = (settled_all place d at).same
+
+    pub all_whole : (place : ℕ) (d : ProcDef) → slice_get script.procs place ≡ Some d → is_whole script (length script.procs) d.body ≡ true
+    all_whole place d at = (settled_all place d at).whole (length script.procs) (omega arith)

@@ -1,0 +1,12 @@
+-- The levels of what is built of each part of a process, by which the building of it ends.
+use Rattle.std.proofs.Common.{◌≡◌, ℕ, ◌+◌, ◌*◌, ◌<◌, max, Option, Some, None, option_map}
+use Rattle.tb_body.specs.Trees.{or_no_levels}
+use Rattle.tb_syntax.specs.declared.proc.Proc.{Proc}
+use Rattle.tb_syntax.specs.declared.script.Script.{Script}
+use Rattle.tb_expand.specs.Sizes.{size_of, size_with}
+
+abbrev pub levels_with : Script → ℕ → Proc → ℕ
+levels_with script depth p = (size_with script (size_of script depth) p).levels
+
+abbrev pub other_levels : Script → ℕ → Option Proc → ℕ
+other_levels script depth p = or_no_levels (option_map (levels_with script depth) p)

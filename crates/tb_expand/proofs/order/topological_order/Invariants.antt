@@ -1,0 +1,11 @@
+use Rattle.std.proofs.Common.{◌≡◌, ℕ, ◌<◌, slice_get, Some}
+use Rattle.tb_expand.specs.declared.walk.Visit.TheVariants.{New}
+use Rattle.tb_expand.specs.Walks.{IsAtRest}
+use Rattle.tb_expand.proofs.order.topological_order.Given as goal
+
+-- no place so far is new, and nothing stands on the way
+abbrev pub invariant-loop-root : goal.invariant-loop-root
+invariant-loop-root l = record {
+  at_rest : IsAtRest l.graph l.walk;
+  visited : (place : ℕ) → place < l.root → slice_get l.walk.visits place ≡ Some New → ⊥;
+}

@@ -1,0 +1,27 @@
+ghost use Rattle.std.specs.Prelude.{IfOk, IfErr};
+ghost use Rattle.tb_expand.specs.CallGraphs.{NamesDiffer};
+ghost use Rattle.tb_expand.specs.CallOrders.{IsCallOrder};
+ghost use Rattle.tb_expand.specs.Faults.{IsCallFault};
+
+use crate::fault::ExpandFault;
+use crate::graph::{Places, graph_of, names_at};
+use crate::order::{Ordered, topological_order};
+use std::alloc::Global;
+use tb_types::Names;
+
+/// The places of the processes of a script, each behind those that its body calls. A call of a name
+/// that no process has leads nowhere.
+pub(crate) fn order_of(alloc: Global, names: &Names) -> Result<Places, ExpandFault>
+    requires { NamesDiffer names.now.script.now }
+    ensures ok { IfOk result (IsCallOrder names.now.script.now) }
+    ensures err { IfErr result (IsCallFault names.now.script.now) }
+{
+    let graph = graph_of(alloc, names)?;
+    match topological_order(alloc, &graph)? {
+        Ordered::Order(order) => Ok(order),
+        Ordered::Round(places) => {
+            let called = names_at(alloc, names.script, places.as_slice())?;
+            Err(ExpandFault::Recursion(called))
+        }
+    }
+}

@@ -1,0 +1,113 @@
+ghost use Rattle.std.specs.Prelude.{◌≡◌, ◌<◌, [], ◌∷◌, ◌++◌, length, option_map, All, IfOk, OnOk};
+ghost use Rattle.tb_expand.specs.Cycles.{called, or_none};
+ghost use Rattle.tb_expand.specs.CallGraphs.{graph_of, names_of, places_of};
+
+use crate::fault::Idents;
+use std::alloc::Global;
+use tb_syntax::{Call, Proc, Script};
+use tb_terms::{Boxed, Items, NoMemory};
+use tb_types::Names;
+
+/// Places in a row.
+pub(crate) type Places = Items<usize>;
+
+/// The places to which each place leads.
+pub(crate) type Graph = Items<Places>;
+
+/// The graph of the calls of a script: each process leads to those that its body calls.
+pub(crate) fn graph_of(alloc: Global, names: &Names) -> Result<Graph, NoMemory>
+    ensures { IfOk result (λ graph. graph ≡ graph_of names.now.script.now) }
+{
+    let mut graph = Items::new(alloc);
+    for def in names.script.procs.as_slice() {
+        let mut places = Items::new(alloc);
+        push_called(names, &def.body, &mut places)?;
+        graph.push(places)?;
+    }
+    Ok(graph)
+}
+
+/// The places of the processes that a process calls, in text order.
+#[cycle(calls)]
+#[tactic(auto, using(crate::proofs::CalledPlaces::called_at))]
+fn push_called(names: &Names, proc: &Proc, into: &mut Places) -> Result<(), NoMemory>
+    ensures { OnOk result (into.new ≡ into.old ++ places_of names.now.script.now (called proc.now)) }
+{
+    match proc {
+        Proc::Atom(_) => Ok(()),
+        Proc::Call(call) => {
+            push_place(names, call, into)?;
+            Ok(())
+        }
+        Proc::Seq(x, y) => {
+            push_both(names, x.get(), y.get(), into)?;
+            Ok(())
+        }
+        Proc::Alt(x, y) => {
+            push_both(names, x.get(), y.get(), into)?;
+            Ok(())
+        }
+        Proc::Star(x, y) => {
+            push_both(names, x.get(), y.get(), into)?;
+            Ok(())
+        }
+        Proc::Par(x, y) => {
+            push_both(names, x.get(), y.get(), into)?;
+            Ok(())
+        }
+        Proc::If(_, x, y) => {
+            push_called(names, x.get(), into)?;
+            push_else(names, y, into)?;
+            Ok(())
+        }
+        Proc::Let(_, x) => {
+            push_called(names, x.get(), into)?;
+            Ok(())
+        }
+    }
+}
+
+#[cycle(calls)]
+fn push_both(names: &Names, x: &Proc, y: &Proc, into: &mut Places) -> Result<(), NoMemory>
+    ensures { OnOk result (into.new ≡ into.old
+        ++ (places_of names.now.script.now (called x.now) ++ places_of names.now.script.now (called y.now))) }
+{
+    push_called(names, x, into)?;
+    push_called(names, y, into)?;
+    Ok(())
+}
+
+#[cycle(calls)]
+fn push_else(names: &Names, y: &Option<Boxed<Proc>>, into: &mut Places) -> Result<(), NoMemory>
+    ensures { OnOk result (into.new ≡ into.old ++ places_of names.now.script.now (or_none (option_map called y.now))) }
+{
+    match y {
+        None => Ok(()),
+        Some(y) => {
+            push_called(names, y.get(), into)?;
+            Ok(())
+        }
+    }
+}
+
+/// The place of the process that is called, if one has the name.
+fn push_place(names: &Names, call: &Call, into: &mut Places) -> Result<(), NoMemory>
+    ensures { OnOk result (into.new ≡ into.old ++ places_of names.now.script.now (call.now.name ∷ [])) }
+{
+    if let Some(place) = names.process_place(call.name.as_bytes()) {
+        into.push(place)?;
+    }
+    Ok(())
+}
+
+/// The names of the processes at these places.
+pub(crate) fn names_at(alloc: Global, script: &Script, places: &[usize]) -> Result<Idents, NoMemory>
+    requires { All (λ place. place < length script.now.procs) places.now }
+    ensures { IfOk result (λ names. names ≡ names_of script.now places.now) }
+{
+    let mut names = Items::new(alloc);
+    for place in places {
+        names.push(script.procs.as_slice()[*place].name.copy(alloc)?)?;
+    }
+    Ok(names)
+}

@@ -1,0 +1,6 @@
+/// How many atoms an expansion has, and how many levels its tree.
+#[derive(Clone, Copy, Debug, PartialEq, Eq)]
+pub(crate) struct Size {
+    pub atoms: usize,
+    pub levels: usize,
+}

@@ -1,0 +1,117 @@
+ghost use Rattle.std.specs.Prelude.{◌≡◌, IfOk, length};
+ghost use Rattle.tb_expand.specs.Sizes.{beside, above};
+ghost use Rattle.tb_expand.specs.Measuring.{AreSizes, capped, called_measure, known_size, measure, with_measure};
+ghost use Rattle.tb_expand.specs.Descents.{Descends};
+
+use crate::size::Size;
+use sqlite_items::at;
+use std::alloc::Global;
+use tb_syntax::Proc;
+use tb_terms::{Items, NoMemory};
+use tb_types::Names;
+
+/// One more atom than an expansion may have. No more are counted.
+const COUNTED_ATOMS: usize = 20_001;
+
+/// One more level than an expansion may have.
+const COUNTED_LEVELS: usize = 1_001;
+
+/// Where no process is called by the name.
+const NOTHING: Size = Size {
+    atoms: 0,
+    levels: 1,
+};
+
+const ATOM: Size = Size {
+    atoms: 1,
+    levels: 1,
+};
+
+/// The sizes of the bodies of all processes, by their places. The order names each place behind those
+/// that its body calls.
+#[tactic(auto, using(crate::proofs::SizesKept::none_kept))]
+pub(crate) fn sizes_of(
+    alloc: Global,
+    names: &Names,
+    order: &[usize],
+) -> Result<Items<Size>, NoMemory>
+    requires { Descends names.now.script.now order.now }
+    ensures { IfOk result (AreSizes names.now.script.now) }
+{
+    let mut sizes = nothings(alloc, names.script.procs.len())?;
+    for place in order {
+        keep_size(names, &mut sizes, *place);
+    }
+    Ok(sizes)
+}
+
+fn nothings(alloc: Global, count: usize) -> Result<Items<Size>, NoMemory>
+    ensures { IfOk result (λ sizes. length sizes ≡ count) }
+{
+    let mut sizes = Vec::new(alloc);
+    sizes.resize(count, NOTHING)?;
+    Ok(Items::from_vec(sizes))
+}
+
+/// Keeps the size of the process at this place.
+fn keep_size(names: &Names, sizes: &mut Items<Size>, place: usize)
+    requires { length sizes.old ≡ length names.now.script.now.procs }
+    ensures { sizes.new ≡ with_measure names.now.script.now sizes.old place }
+{
+    if let Some(def) = at(names.script.procs.as_slice(), place) {
+        let size = size_of_body(names, sizes.as_slice(), &def.body);
+        sizes.set(place, size);
+    }
+}
+
+/// The size of a body's expansion, where those of the processes that it calls are known by their places.
+fn size_of_body(names: &Names, sizes: &[Size], body: &Proc) -> Size
+    ensures { result ≡ measure names.now.script.now sizes.now body.now }
+{
+    match body {
+        Proc::Atom(_) => ATOM,
+        Proc::Call(call) => size_of_call(names, sizes, call.name.as_bytes()),
+        Proc::Seq(x, y) | Proc::Alt(x, y) | Proc::Star(x, y) | Proc::Par(x, y) => {
+            let front = size_of_body(names, sizes, x.get());
+            beside(front, size_of_body(names, sizes, y.get()))
+        }
+        Proc::If(_, x, None) | Proc::Let(_, x) => above(size_of_body(names, sizes, x.get())),
+        Proc::If(_, x, Some(y)) => {
+            let front = size_of_body(names, sizes, x.get());
+            beside(front, size_of_body(names, sizes, y.get()))
+        }
+    }
+}
+
+/// What stands for a call: the body under one more level.
+fn size_of_call(names: &Names, sizes: &[Size], name: &[u8]) -> Size
+    ensures { result ≡ called_measure (known_size names.now.script.now sizes.now name.now) }
+{
+    let Some(place) = names.process_place(name) else {
+        return NOTHING;
+    };
+    match at(sizes, place) {
+        Some(size) => above(*size),
+        None => NOTHING,
+    }
+}
+
+/// Two sides, under one more level.
+fn beside(x: Size, y: Size) -> Size
+    ensures { result ≡ capped (beside x y) }
+{
+    Size {
+        atoms: x.atoms.saturating_add(y.atoms).min(COUNTED_ATOMS),
+        levels: x.levels.max(y.levels).saturating_add(1).min(COUNTED_LEVELS),
+    }
+}
+
+/// One more level.
+fn above(x: Size) -> Size
+    ensures { result ≡ capped (above x) }
+{
+    Size {
+        atoms: x.atoms.min(COUNTED_ATOMS),
+        levels: x.levels.saturating_add(1).min(COUNTED_LEVELS),
+    }
+}
