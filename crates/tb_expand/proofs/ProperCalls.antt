@@ -115,16 +115,16 @@ module _ (script : Script) where
   kept (layer.If test x None) is known none name there =
       let tests = site_faults script known Sent (tested sorts.Bool) test in
       step (append_none tests (x.0 known) (append_none (tests ++ x.0 known) [] none).0).1 (Contains-append_cases x.1 [] name there) where
-    step : x.0 known ≡ [] → Contains x.1 name ⊎ Contains [] name → Contains (names_in script) name
-    step free (inl i) = x.2 known free name i
-    step free (inr i) = absurd (none_in name i)
+        step : x.0 known ≡ [] → Contains x.1 name ⊎ Contains [] name → Contains (names_in script) name
+        step free (inl i) = x.2 known free name i
+        step free (inr i) = absurd (none_in name i)
   kept (layer.If test x (Some y)) is known none name there =
       let tests = site_faults script known Sent (tested sorts.Bool) test in
       let parts = append_none (tests ++ x.0 known) (y.0 known) none in
       step (append_none tests (x.0 known) parts.0).1 parts.1 (Contains-append_cases x.1 y.1 name there) where
-    step : x.0 known ≡ [] → y.0 known ≡ [] → Contains x.1 name ⊎ Contains y.1 name → Contains (names_in script) name
-    step free others (inl i) = x.2 known free name i
-    step free others (inr i) = y.2 known others name i
+        step : x.0 known ≡ [] → y.0 known ≡ [] → Contains x.1 name ⊎ Contains y.1 name → Contains (names_in script) name
+        step free others (inl i) = x.2 known free name i
+        step free others (inr i) = y.2 known others name i
   kept (layer.Let vars x) is known none name there =
       x.2 (map known_var vars ++ known) (append_none (vars_faults script.tools vars) (x.0 (map known_var vars ++ known)) none).1 name there
 

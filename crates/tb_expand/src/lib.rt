@@ -6,6 +6,8 @@ mod atoms;
 mod built;
 mod call_order;
 mod expansion;
+#[cfg(test)]
+mod expansion_tests;
 mod exprs;
 mod fault;
 mod graph;
