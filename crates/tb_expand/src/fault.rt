@@ -1,3 +1,4 @@
+use std::alloc::{AllocError, AllocFailed};
 use tb_terms::{Ident, Items, NoMemory};
 
 /// Names of processes in a row.
@@ -22,6 +23,28 @@ impl From<NoMemory> for ExpandFault {
     ghost from_gives = { λ _ fault_given. fault_given ≡ fault.NoMemory };
 
     fn from(_refused: NoMemory) -> ExpandFault {
+        ExpandFault::NoMemory
+    }
+}
+
+impl From<AllocError> for ExpandFault {
+    ghost use Rattle.std.specs.Prelude.{◌≡◌};
+    ghost use Rattle.tb_expand.specs.declared.fault.ExpandFault.TheVariants as fault;
+
+    ghost from_gives = { λ _ fault_given. fault_given ≡ fault.NoMemory };
+
+    fn from(_refused: AllocError) -> ExpandFault {
+        ExpandFault::NoMemory
+    }
+}
+
+impl<T: Drop> From<AllocFailed<T>> for ExpandFault {
+    ghost use Rattle.std.specs.Prelude.{◌≡◌};
+    ghost use Rattle.tb_expand.specs.declared.fault.ExpandFault.TheVariants as fault;
+
+    ghost from_gives = { λ _ fault_given. fault_given ≡ fault.NoMemory };
+
+    fn from(_refused: AllocFailed<T>) -> ExpandFault {
         ExpandFault::NoMemory
     }
 }
