@@ -1,5 +1,5 @@
 -- What is answered of a text: its program, or a fault.
-use Rattle.std.specs.Prelude.{List, Result, Ok, Err}
+use Rattle.std.specs.Prelude.{ℕ, List, Result, Ok, Err}
 use Rattle.tb_body.specs.declared.program.Program.{Program}
 use Rattle.tb_expand.specs.declared.fault.ExpandFault.TheVariants as expand
 use Rattle.tb_script.specs.declared.fault.ScriptFault.{ScriptFault}
