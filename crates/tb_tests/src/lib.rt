@@ -1,8 +1,5 @@
-//! What joins several libraries: tests, and laws.
+//! Tests that join several libraries.
 #![tactic(auto)]
 
 #[cfg(test)]
 mod checks;
-mod laws;
-
-pub use laws::a_text_has_one_program;

@@ -1,10 +1,6 @@
-pub mod Elements
-pub mod Numbering
-pub mod Parts
-pub mod Counts
-pub mod Making
-pub mod Programs
-pub mod Findings
-pub mod Examples
+pub mod WordParts
+pub mod WordFaults
+pub mod WordExamples
+pub mod Lines
 pub mod LogWriting
 pub mod Outcomes

@@ -1,5 +1,5 @@
 -- How the parts of the top call come to its outcome.
-use Rattle.std.proofs.Common.{◌≡◌, ℕ, Option, List, [], ◌∷◌, refl, sym, subst, inl, inr}
+use Rattle.std.proofs.Common.{◌≡◌, ℕ, Option, List, [], ◌∷◌, refl, sym, subst, inr}
 use Rattle.tb_edge.specs.Sinks.{Takes, TakesFront}
 use Rattle.tb_core.specs.Buses.{Origin, start}
 use Rattle.tb_core.specs.Traces.{IsTrace}
@@ -8,16 +8,17 @@ use Rattle.tb_core.specs.Simulation.{Sim, IsSim, IsSimFront, sim_start}
 use Rattle.tb_core.specs.declared.log.Entry.{Entry}
 use Rattle.tb_core.specs.declared.ends.SimEnd.{SimEnd}
 use Rattle.tb_core.specs.declared.ends.SimEnd.TheVariants as sim
-use Rattle.tb_top.specs.Findings.{IsFound, Plain}
+use Rattle.tb_script.specs.Findings.{IsFound, Program'}
+use Rattle.tb_script.specs.declared.fault.ScriptFault.TheVariants as script
 use Rattle.tb_edge.specs.Faults.{Rose}
-use Rattle.tb_top.specs.Outcomes.{PutsFront, SimOutcome, FileOutcome, IsLoaded, most_steps, IsCaused, Reported}
+use Rattle.tb_top.specs.Outcomes.{PutsFront, SimOutcome, WorkOutcome, FileOutcome, IsLoaded, IsCaused, Reported}
 use Rattle.tb_top.specs.Lines.{status_line}
 use Rattle.tb_top.specs.Requests.{OriginOutcome, Reports, status_of_end}
 use Rattle.tb_top.specs.declared.status.Status.{Status}
 use Rattle.tb_top.specs.declared.status.Status.TheVariants.{Ended, Script, Words, Outside, Limit, NoMemory}
-use Rattle.tb_top.specs.declared.status.ScriptFault.TheVariants as script
+use Rattle.tb_top.specs.declared.words.Command.{Command}
+use Rattle.tb_top.specs.declared.words.Command.TheVariants.{Check, Sim as Simulate}
 use Rattle.tb_top.specs.declared.status.Edge.TheVariants as edge
-use Rattle.tb_top.specs.declared.status.Bound.TheVariants as bound
 
 -- a whole simulation is a front of itself
 pub sim-front : (limit : ℕ) (s : Sim) (log : List Entry) (last : SimEnd) → IsSim limit s log last → IsSimFront limit s log
@@ -25,33 +26,38 @@ sim-front limit s [] last p = tt
 sim-front limit s (entry ∷ log) last p = (p.0, p.1, sim-front limit p.0 log last p.2)
 
 -- the log was put whole
-pub log-put : (origin : Origin) (log : List Entry) (last : SimEnd) (old new : Option (List ℕ)) (status : Status) → IsSim most_steps (sim_start (start origin)) log last → IsTrace (start origin) log →
-    Takes old new (log_text log) → status ≡ status_of_end last → OriginOutcome origin old new status
-log-put origin log sim.Down old new status is trace takes e bytes plain =
-    subst (SimOutcome bytes old new) (sym e) (log, record { program = origin.program; plain = plain; simulated = is; trace = trace }, takes)
-log-put origin log sim.Steps old new status is trace takes e bytes plain =
-    subst (SimOutcome bytes old new) (sym e) (log, record { program = origin.program; plain = plain; simulated = is; trace = trace }, takes)
+pub log-put : (limit : ℕ) (origin : Origin) (log : List Entry) (last : SimEnd) (old new : Option (List ℕ)) (status : Status) → IsSim limit (sim_start (start origin)) log last → IsTrace (start origin) log →
+    Takes old new (log_text log) → status ≡ status_of_end last → OriginOutcome limit origin old new status
+log-put limit origin log sim.Down old new status is trace takes e bytes found =
+    subst (SimOutcome limit bytes old new) (sym e) (log, record { program = origin.program; found = found; simulated = is; trace = trace }, takes)
+log-put limit origin log sim.Steps old new status is trace takes e bytes found =
+    subst (SimOutcome limit bytes old new) (sym e) (log, record { program = origin.program; found = found; simulated = is; trace = trace }, takes)
 
 -- a front of its text was put
-pub log-front : (origin : Origin) (log : List Entry) (last : SimEnd) (old new : Option (List ℕ)) → IsSim most_steps (sim_start (start origin)) log last → IsTrace (start origin) log →
-    TakesFront old new (log_text log) → (bytes : List ℕ) → IsFound bytes (Plain origin.program) → PutsFront bytes old new
-log-front origin log last old new is trace front bytes plain =
-    (log, record { program = origin.program; plain = plain; front = sim-front most_steps (sim_start (start origin)) log last is; trace = trace }, front)
+pub log-front : (limit : ℕ) (origin : Origin) (log : List Entry) (last : SimEnd) (old new : Option (List ℕ)) → IsSim limit (sim_start (start origin)) log last → IsTrace (start origin) log →
+    TakesFront old new (log_text log) → (bytes : List ℕ) → IsFound bytes (Program' origin.program) → PutsFront limit bytes old new
+log-front limit origin log last old new is trace front bytes found =
+    (log, record { program = origin.program; found = found; front = sim-front limit (sim_start (start origin)) log last is; trace = trace }, front)
 
--- what the simulation of the bytes of a file comes to
-pub file-read : (told : Option (List ℕ)) (old new : Option (List ℕ)) (bytes : List ℕ) (status : Status) → IsLoaded told bytes → SimOutcome bytes old new status → FileOutcome told old new status
-file-read told old new bytes Ended held o = (bytes, held, o)
-file-read told old new bytes (Limit bound.Steps) held o = (bytes, held, o)
-file-read told old new bytes (Script (script.NotBuilt token)) held o = (bytes, held, o)
-file-read told old new bytes (Script (script.Lex fault)) held o = (bytes, held, o)
-file-read told old new bytes (Script (script.Parse fault)) held o = (bytes, held, o)
-file-read told old new bytes (Script (script.TooLong len)) held o = absurd o
-file-read told old new bytes (Outside edge.Out) held o = (bytes, held, o)
-file-read told old new bytes (Outside edge.File) held o = absurd o
-file-read told old new bytes (Outside edge.Err) held o = absurd o
-file-read told old new bytes (Words fault) held o = absurd o
-file-read told old new bytes NoMemory held (inl same) = inl same
-file-read told old new bytes NoMemory held (inr front) = inr (bytes, held, front)
+-- what the work on the bytes of a file comes to
+pub file-read : (command : Command) (told : Option (List ℕ)) (old new : Option (List ℕ)) (bytes : List ℕ) (status : Status) → IsLoaded told bytes → WorkOutcome command bytes old new status → FileOutcome command told old new status
+file-read command told old new bytes Ended held o = (bytes, held, o)
+file-read command told old new bytes (Limit bound) held o = (bytes, held, o)
+file-read command told old new bytes (Script (script.Lex fault)) held o = (bytes, held, o)
+file-read command told old new bytes (Script (script.Parse fault)) held o = (bytes, held, o)
+file-read command told old new bytes (Script (script.Check fault)) held o = (bytes, held, o)
+file-read command told old new bytes (Script (script.Expand fault)) held o = (bytes, held, o)
+file-read command told old new bytes (Script (script.Roots count)) held o = (bytes, held, o)
+file-read command told old new bytes (Script (script.NotBuilt token)) held o = (bytes, held, o)
+file-read command told old new bytes (Script script.NoMemory) held o = (bytes, held, o)
+file-read (Check name) told old new bytes (Script (script.TooLong len)) held o = absurd o.0
+file-read (Simulate name steps) told old new bytes (Script (script.TooLong len)) held o = absurd o.0
+file-read command told old new bytes (Outside edge.Out) held o = (bytes, held, o)
+file-read (Check name) told old new bytes (Outside edge.File) held o = absurd o
+file-read (Simulate name steps) told old new bytes (Outside edge.File) held o = absurd o
+file-read command told old new bytes (Outside edge.Err) held o = (bytes, held, o)
+file-read command told old new bytes (Words fault) held o = (bytes, held, o)
+file-read command told old new bytes NoMemory held o = inr (bytes, held, o)
 
 -- what is reported of a status that comes
 pub reported : (comes : Status → Type 0) (given : Status) (old new : Option (List ℕ)) (status : Status) → comes given → Reports given old new status → Reported comes old new status

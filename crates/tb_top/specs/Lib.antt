@@ -1,6 +1,5 @@
-pub mod PlainScript
-pub mod Findings
-pub mod PlainReading
+pub mod Words
+pub mod WordReading
 pub mod Lines
 pub mod Outcomes
 pub mod Requests

@@ -1,16 +1,21 @@
 -- The number with which the program exits at each status, and the line that is written of it.
 use Rattle.std.specs.Prelude.{ℕ, List, [], ◌∷◌, ◌++◌, codes}
 use Rattle.std.specs.Fmt.{decimal}
+use Rattle.std.specs.List.{join_with_byte}
 use Rattle.tb_top.specs.declared.status.Status.{Status}
 use Rattle.tb_top.specs.declared.status.Status.TheVariants.{Ended, Script, Words, Outside, Limit, NoMemory}
-use Rattle.tb_top.specs.declared.status.ScriptFault.{ScriptFault}
-use Rattle.tb_top.specs.declared.status.ScriptFault.TheVariants as script
+use Rattle.tb_script.specs.declared.fault.ScriptFault.{ScriptFault}
+use Rattle.tb_script.specs.declared.fault.ScriptFault.TheVariants as script
 use Rattle.tb_lex.specs.declared.fault.LexFault.{LexFault}
 use Rattle.tb_lex.specs.declared.fault.LexFault.TheVariants as lex
 use Rattle.tb_parse.specs.declared.fault.ParseFault.{ParseFault}
 use Rattle.tb_parse.specs.declared.fault.ParseFault.TheVariants as parse
-use Rattle.tb_top.specs.declared.status.WordFault.{WordFault}
-use Rattle.tb_top.specs.declared.status.WordFault.TheVariants as word
+use Rattle.tb_types.specs.declared.fault.CheckFault.{CheckFault}
+use Rattle.tb_types.specs.declared.fault.CheckFault.TheVariants as check
+use Rattle.tb_expand.specs.declared.fault.ExpandFault.{ExpandFault}
+use Rattle.tb_expand.specs.declared.fault.ExpandFault.TheVariants as expand
+use Rattle.tb_top.specs.declared.words.WordFault.{WordFault}
+use Rattle.tb_top.specs.declared.words.WordFault.TheVariants as word
 use Rattle.tb_top.specs.declared.status.Edge.{Edge}
 use Rattle.tb_top.specs.declared.status.Edge.TheVariants as edge
 use Rattle.tb_top.specs.declared.status.Bound.{Bound}
@@ -39,15 +44,45 @@ parse_words (parse.Syntax token) = codes "script: syntax at token " ++ decimal t
 parse_words (parse.TooDeep token) = codes "script: too deep at token " ++ decimal token
 parse_words parse.NoMemory = codes "no memory"
 
+-- a condition that fails, at its token
+abbrev pub check_words : CheckFault → List ℕ
+check_words (check.Twice token) = codes "script: twice at token " ++ decimal token
+check_words (check.NoProcess token) = codes "script: no process at token " ++ decimal token
+check_words (check.NoTool token) = codes "script: no tool at token " ++ decimal token
+check_words (check.NoFunction token) = codes "script: no function at token " ++ decimal token
+check_words (check.Arity token) = codes "script: arity at token " ++ decimal token
+check_words (check.Undeclared token) = codes "script: undeclared at token " ++ decimal token
+check_words (check.ResultInSend token) = codes "script: result in send at token " ++ decimal token
+check_words (check.NotResult token) = codes "script: not result at token " ++ decimal token
+check_words (check.TypeClash token) = codes "script: type clash at token " ++ decimal token
+check_words check.NoMemory = codes "no memory"
+
+-- a cycle of calls with the names of all its processes, commas between, or a process whose expansion is too large
+abbrev pub expand_words : ExpandFault → List ℕ
+expand_words (expand.Recursion names) = codes "script: recursion " ++ join_with_byte 44 names
+expand_words (expand.TooLarge name) = codes "script: too large " ++ name
+expand_words expand.NoMemory = codes "no memory"
+
 abbrev pub script_words : ScriptFault → List ℕ
-script_words (script.TooLong bytes) = codes "script: too long " ++ decimal bytes
 script_words (script.Lex fault) = lex_words fault
 script_words (script.Parse fault) = parse_words fault
+script_words (script.Check fault) = check_words fault
+script_words (script.Expand fault) = expand_words fault
+script_words (script.Roots count) = codes "script: too many processes " ++ decimal count
+script_words (script.TooLong bytes) = codes "script: too long " ++ decimal bytes
 script_words (script.NotBuilt token) = codes "script: not built at token " ++ decimal token
+script_words script.NoMemory = codes "no memory"
 
+-- a fault of the words, most of them at a place
 abbrev pub word_words : WordFault → List ℕ
 word_words word.NoCommand = codes "words: no command"
+word_words (word.Unknown place) = codes "words: unknown at " ++ decimal place
+word_words word.Missing = codes "words: missing"
+word_words (word.Extra place) = codes "words: extra at " ++ decimal place
+word_words (word.Number place) = codes "words: number at " ++ decimal place
+word_words (word.Range place) = codes "words: range at " ++ decimal place
 word_words (word.NotBuilt place) = codes "words: not built at " ++ decimal place
+word_words word.NoMemory = codes "no memory"
 
 abbrev pub edge_words : Edge → List ℕ
 edge_words edge.File = codes "outside: file"

@@ -1,23 +1,18 @@
 -- What the parts of the top call say to each other.
 use Rattle.std.specs.Prelude.{◌≡◌, ◌≢◌, ◌⊎◌, ℕ, List, [], ◌∷◌, ◌++◌, Option}
 use Rattle.tb_edge.specs.Sinks.{Takes, TakesFront}
+use Rattle.tb_body.specs.declared.program.Program.{Program}
 use Rattle.tb_core.specs.Buses.{Origin}
 use Rattle.tb_core.specs.declared.ends.SimEnd.{SimEnd}
 use Rattle.tb_core.specs.declared.ends.SimEnd.TheVariants as sim
+use Rattle.tb_script.specs.Findings.{IsFound, Program'}
 use Rattle.tb_top.specs.declared.status.Bound.TheVariants as bound
 use Rattle.tb_top.specs.Lines.{status_line}
-use Rattle.tb_top.specs.Findings.{IsFound, Plain}
-use Rattle.tb_top.specs.Outcomes.{Command, Nothing, Simulate, Unbuilt, SimOutcome}
-use Rattle.tb_top.specs.declared.request.Request.{Request}
-use Rattle.tb_top.specs.declared.request.Request.TheVariants as request
+use Rattle.tb_top.specs.Outcomes.{SimOutcome, WorkOutcome}
+use Rattle.tb_top.specs.declared.words.Command.{Command}
 use Rattle.tb_top.specs.declared.status.Status.{Status}
 use Rattle.tb_top.specs.declared.status.Status.TheVariants.{Ended, Script, Words, Outside, Limit, NoMemory}
 use Rattle.tb_top.specs.declared.status.Edge.TheVariants as edge
-
-abbrev pub command_by : Request → Command
-command_by request.Nothing = Nothing
-command_by (request.Simulate name) = Simulate name.now
-command_by request.Unbuilt = Unbuilt
 
 -- What was put of a status, and which status is reported for it.
 abbrev pub Reports : Status → Option (List ℕ) → Option (List ℕ) → Status → Type 0
@@ -30,9 +25,13 @@ Reports given old new (Words fault) = (given ≡ Words fault) × Takes old new (
 Reports given old new (Limit bound) = (given ≡ Limit bound) × Takes old new (status_line given)
 Reports given old new NoMemory = (given ≡ NoMemory) × Takes old new (status_line given)
 
--- whatever bytes the program is that of, the outcome is that of their simulation
-abbrev pub OriginOutcome : Origin → Option (List ℕ) → Option (List ℕ) → Status → Type 0
-OriginOutcome origin old new status = (bytes : List ℕ) → IsFound bytes (Plain origin.program) → SimOutcome bytes old new status
+-- whatever bytes the program is that of, the outcome is that of the work on them
+abbrev pub ProgramOutcome : Command → Program → Option (List ℕ) → Option (List ℕ) → Status → Type 0
+ProgramOutcome command program old new status = (bytes : List ℕ) → IsFound bytes (Program' program) → WorkOutcome command bytes old new status
+
+-- whatever bytes the program is that of, the outcome is that of their simulation with so many steps
+abbrev pub OriginOutcome : ℕ → Origin → Option (List ℕ) → Option (List ℕ) → Status → Type 0
+OriginOutcome limit origin old new status = (bytes : List ℕ) → IsFound bytes (Program' origin.program) → SimOutcome limit bytes old new status
 
 -- the script's name was asked for, or perhaps not where memory ran out
 abbrev pub AsksName : List ℕ → List (List ℕ) → List (List ℕ) → Status → Type 0

@@ -1,18 +1,15 @@
-use crate::read_plain;
 use std::alloc::Global;
 use std::test::Fail;
 use tb_algebra::Rewriter;
 use tb_body::Program;
 use tb_core::{Core, CoreFault, Input, Reply, SimEnd, Stepped, Why, simulate, write_entry};
+use tb_script::load;
 
 type Bus = Core<Rewriter>;
 
 /// The program of a script.
 fn program(alloc: Global, script: &str) -> Result<Program, Fail> {
-    match read_plain(alloc, script.as_bytes()) {
-        Ok(program) => Ok(program),
-        Err(_) => Err(Fail::new("no plain script")),
-    }
+    Ok(load(alloc, script.as_bytes())?)
 }
 
 fn log_text(alloc: Global, core: &Bus) -> Result<Vec<u8>, Fail> {

@@ -1,15 +1,13 @@
-//! The whole ToolBus, from a script's bytes on.
+//! The whole ToolBus, from the words of the command line on.
 #![tactic(auto)]
 
 mod line;
 mod log_writer;
-mod plain;
-mod request;
 mod status;
 mod top;
+pub mod words;
 
-pub use plain::{PlainFault, one_program, read_plain};
-pub use status::{Bound, Edge, ScriptFault, Status, WordFault};
+pub use status::{Bound, Edge, Status};
 pub use top::toolbus;
 
 #[cfg(test)]

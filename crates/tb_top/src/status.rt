@@ -1,27 +1,5 @@
-use tb_lex::LexFault;
-use tb_parse::ParseFault;
-
-/// Why a script was refused.
-#[derive(Clone, Copy, Debug, PartialEq, Eq)]
-pub enum ScriptFault {
-    /// The file has this many bytes, more than 1,048,576.
-    TooLong(usize),
-    /// The bytes have no tokens; never for want of memory.
-    Lex(LexFault),
-    /// The tokens spell no script within the limits; never for want of memory.
-    Parse(ParseFault),
-    /// The script has a form that isn't built yet, which begins at this token, from 0.
-    NotBuilt(usize),
-}
-
-/// Why the words of the command line were refused.
-#[derive(Clone, Copy, Debug, PartialEq, Eq)]
-pub enum WordFault {
-    /// There were no words.
-    NoCommand,
-    /// The word at this place, from 1, asks for what isn't built yet.
-    NotBuilt(usize),
-}
+use crate::words::WordFault;
+use tb_script::ScriptFault;
 
 /// Which part of the outside failed.
 #[derive(Clone, Copy, Debug, PartialEq, Eq)]
@@ -37,11 +15,13 @@ pub enum Bound {
     Steps,
 }
 
-/// How a call of the program ended.
-#[derive(Clone, Copy, Debug, PartialEq, Eq)]
+/// How a call of the program ended. Want of memory is `NoMemory` alone, whichever part met it.
+#[derive(Debug, Drop)]
 pub enum Status {
     Ended,
+    /// The script was refused; never for want of memory.
     Script(ScriptFault),
+    /// The words were refused; never for want of memory.
     Words(WordFault),
     Outside(Edge),
     Limit(Bound),

@@ -1,32 +1,33 @@
-ghost use Rattle.std.specs.Prelude.{◌≡◌, ◌≢◌, [], false, map, string_bytes};
+ghost use Rattle.std.specs.Prelude.{◌≡◌, ◌≢◌, ℕ, List, [], false, map, string_bytes, OnOk, OnErr, Ok};
 ghost use Rattle.tb_edge.specs.Faults.{Rose};
+ghost use Rattle.tb_edge.specs.Sinks.{Takes, TakesFront};
 ghost use Rattle.tb_core.specs.Traces.{IsTrace};
 ghost use Rattle.tb_core.specs.Buses.{start};
 ghost use Rattle.tb_core.specs.Simulation.{IsSim, sim_start};
-ghost use Rattle.tb_top.specs.Outcomes.{command_of, Comes, CommandOutcome, FileOutcome, SimOutcome, Reported, AsksFor, most_steps};
-ghost use Rattle.tb_top.specs.Requests.{Reports, OriginOutcome, AsksName, status_of_end};
+ghost use Rattle.tb_script.specs.Findings.{IsFound, Program'};
+ghost use Rattle.tb_top.specs.Words.{asked};
+ghost use Rattle.tb_top.specs.Outcomes.{Comes, CommandOutcome, FileOutcome, WorkOutcome, CheckOutcome, SimOutcome, Reported, AsksFor, script_of, ok_line};
+ghost use Rattle.tb_top.specs.Requests.{Reports, ProgramOutcome, OriginOutcome, AsksName, status_of_end};
 
 use crate::line::put_line;
 use crate::log_writer::{LogFault, put_log};
-use crate::plain::{PlainFault, read_plain};
-use crate::request::{Request, read_request};
-use crate::status::{Bound, Edge, ScriptFault, Status, WordFault};
+use crate::status::{Bound, Edge, Status};
+use crate::words::{Command, WordFault, read_words};
 use std::alloc::Global;
 use tb_algebra::Rewriter;
 use tb_body::Program;
 use tb_core::{Core, SimEnd, simulate};
 use tb_edge::{Failed, Files, FilesFault, Loaded, Sink};
+use tb_script::{ScriptFault, load};
 use tb_terms::NoMemory;
 
 /// A longer script is refused.
 const MOST_BYTES: usize = 1_048_576;
 
-/// A simulation makes no more steps.
-const MOST_STEPS: u64 = 1_000_000;
-
-/// Does what the words of the command line ask for: `sim NAME` writes to `out` the log of the
-/// simulation of the script in that file. Each status but `Ended` puts its one line to `err`, and
-/// where `err` fails at that, the status is `Outside(Err)`.
+/// Does what the words of the command line ask for. `check SCRIPT` puts `ok` and a newline to `out`
+/// where the script in that file is accepted; `sim SCRIPT [--steps N]` puts the log of its simulation,
+/// which makes N steps at most. Each status but `Ended` puts its one line to `err`, and where `err`
+/// fails at that, the status is `Outside(Err)`.
 pub fn toolbus<F: Files, O: Sink, E: Sink>(
     alloc: Global,
     words: &Vec<String>,
@@ -36,10 +37,10 @@ pub fn toolbus<F: Files, O: Sink, E: Sink>(
 ) -> Status
     // Which status comes when, and what was put then.
     ensures outcome { Reported
-        (Comes (command_of (map string_bytes words.now.items)) (F.held files.old) (O.taken out.old) (O.taken out.new)
+        (Comes (asked (map string_bytes words.now.items)) (F.held files.old) (O.taken out.old) (O.taken out.new)
         (F.faults files.old) (F.faults files.new) (O.faults out.old) (O.faults out.new))
         (E.taken err.old) (E.taken err.new) result }
-    ensures asks { AsksFor (command_of (map string_bytes words.now.items)) (F.asked files.old) (F.asked files.new) result }
+    ensures asks { AsksFor (asked (map string_bytes words.now.items)) (F.asked files.old) (F.asked files.new) result }
 
     // A thing of the outside is named only where it failed in this call.
     ensures file_rose { result ≡ Status.Outside Edge.File → Rose (F.faults files.old) (F.faults files.new) }
@@ -78,73 +79,123 @@ fn answer<F: Files, O: Sink>(
     files: &mut F,
     out: &mut O,
 ) -> Status
-    ensures outcome { CommandOutcome (command_of (map string_bytes words.now.items)) (F.held files.old) (O.taken out.old) (O.taken out.new) result }
-    ensures asks { AsksFor (command_of (map string_bytes words.now.items)) (F.asked files.old) (F.asked files.new) result }
+    ensures outcome { CommandOutcome (asked (map string_bytes words.now.items)) (F.held files.old) (O.taken out.old) (O.taken out.new) result }
+    ensures asks { AsksFor (asked (map string_bytes words.now.items)) (F.asked files.old) (F.asked files.new) result }
     ensures file_rose { result ≡ Status.Outside Edge.File → Rose (F.faults files.old) (F.faults files.new) }
     ensures out_rose { result ≡ Status.Outside Edge.Out → Rose (O.faults out.old) (O.faults out.new) }
     ensures not_err { result ≢ Status.Outside Edge.Err }
 {
-    match read_request(words) {
-        Request::Nothing => Status::Words(WordFault::NoCommand),
-        Request::Simulate(name) => simulate_file(alloc, name, files, out),
-        Request::Unbuilt => Status::Words(WordFault::NotBuilt(1)),
+    match read_words(alloc, words) {
+        Ok(command) => do_command(alloc, &command, files, out),
+        Err(WordFault::NoMemory) => Status::NoMemory,
+        Err(fault) => Status::Words(fault),
     }
 }
 
-fn simulate_file<F: Files, O: Sink>(alloc: Global, name: &str, files: &mut F, out: &mut O) -> Status
-    ensures outcome { FileOutcome (F.held files.old name.now) (O.taken out.old) (O.taken out.new) result }
-    ensures asks { AsksName name.now (F.asked files.old) (F.asked files.new) result }
+fn do_command<F: Files, O: Sink>(
+    alloc: Global,
+    command: &Command,
+    files: &mut F,
+    out: &mut O,
+) -> Status
+    ensures outcome { FileOutcome command.now (F.held files.old (script_of command.now)) (O.taken out.old) (O.taken out.new) result }
+    ensures asks { AsksName (script_of command.now) (F.asked files.old) (F.asked files.new) result }
     ensures file_rose { result ≡ Status.Outside Edge.File → Rose (F.faults files.old) (F.faults files.new) }
     ensures out_rose { result ≡ Status.Outside Edge.Out → Rose (O.faults out.old) (O.faults out.new) }
     ensures not_err { result ≢ Status.Outside Edge.Err }
 {
-    match files.load(alloc, name, MOST_BYTES) {
-        Ok(Loaded::Bytes(bytes)) => simulate_bytes(alloc, bytes.as_slice(), out),
+    match files.load(alloc, script_of(command), MOST_BYTES) {
+        Ok(Loaded::Bytes(bytes)) => work_on_bytes(alloc, command, bytes.as_slice(), out),
         Ok(Loaded::TooLong(len)) => Status::Script(ScriptFault::TooLong(len)),
         Err(FilesFault::Failed) => Status::Outside(Edge::File),
         Err(FilesFault::NoMemory) => Status::NoMemory,
     }
 }
 
-fn simulate_bytes<O: Sink>(alloc: Global, bytes: &[u8], out: &mut O) -> Status
-    ensures outcome { SimOutcome bytes.now (O.taken out.old) (O.taken out.new) result }
-    ensures out_rose { result ≡ Status.Outside Edge.Out → Rose (O.faults out.old) (O.faults out.new) }
+/// The name of its script.
+fn script_of(command: &Command) -> &str
+    ensures { result.now ≡ script_of command.now }
 {
-    match read_plain(alloc, bytes) {
-        Ok(program) => simulate_program(alloc, program, out),
-        Err(PlainFault::Lex(fault)) => Status::Script(ScriptFault::Lex(fault)),
-        Err(PlainFault::Parse(fault)) => Status::Script(ScriptFault::Parse(fault)),
-        Err(PlainFault::NotPlain) => Status::Script(ScriptFault::NotBuilt(0)),
-        Err(PlainFault::NoMemory) => Status::NoMemory,
+    match command {
+        Command::Check { script } => script.as_str(),
+        Command::Sim { script, .. } => script.as_str(),
     }
 }
 
-fn simulate_program<O: Sink>(alloc: Global, program: Program, out: &mut O) -> Status
-    ensures outcome { OriginOutcome (record { program = program }) (O.taken out.old) (O.taken out.new) result }
+fn work_on_bytes<O: Sink>(alloc: Global, command: &Command, bytes: &[u8], out: &mut O) -> Status
+    ensures outcome { WorkOutcome command.now bytes.now (O.taken out.old) (O.taken out.new) result }
+    ensures out_rose { result ≡ Status.Outside Edge.Out → Rose (O.faults out.old) (O.faults out.new) }
+{
+    match load(alloc, bytes) {
+        Ok(program) => work_on_program(alloc, command, program, out),
+        Err(ScriptFault::NoMemory) => Status::NoMemory,
+        Err(fault) => Status::Script(fault),
+    }
+}
+
+fn work_on_program<O: Sink>(
+    alloc: Global,
+    command: &Command,
+    program: Program,
+    out: &mut O,
+) -> Status
+    ensures outcome { ProgramOutcome command.now program (O.taken out.old) (O.taken out.new) result }
+    ensures out_rose { result ≡ Status.Outside Edge.Out → Rose (O.faults out.old) (O.faults out.new) }
+{
+    match command {
+        Command::Check { .. } => accept(out),
+        Command::Sim { steps, .. } => simulate_program(alloc, program, *steps, out),
+    }
+}
+
+/// Says of a script that it is accepted.
+fn accept<O: Sink>(out: &mut O) -> Status
+    ensures outcome { (bytes : List ℕ) (program : Program) → IsFound bytes (Program' program) → CheckOutcome bytes (O.taken out.old) (O.taken out.new) result }
+    ensures out_rose { result ≡ Status.Outside Edge.Out → Rose (O.faults out.old) (O.faults out.new) }
+{
+    match out.put(b"ok\n") {
+        Ok(()) => Status::Ended,
+        Err(Failed) => Status::Outside(Edge::Out),
+    }
+}
+
+fn simulate_program<O: Sink>(alloc: Global, program: Program, steps: u64, out: &mut O) -> Status
+    ensures outcome { OriginOutcome steps (record { program = program }) (O.taken out.old) (O.taken out.new) result }
     ensures out_rose { result ≡ Status.Outside Edge.Out → Rose (O.faults out.old) (O.faults out.new) }
 {
     match Core::start(alloc, program) {
-        Ok(mut core) => simulate_core(alloc, &mut core, out),
+        Ok(mut core) => simulate_core(alloc, &mut core, steps, out),
         Err(NoMemory) => Status::NoMemory,
     }
 }
 
-fn simulate_core<O: Sink>(alloc: Global, core: &mut Core<Rewriter>, out: &mut O) -> Status
+fn simulate_core<O: Sink>(
+    alloc: Global,
+    core: &mut Core<Rewriter>,
+    steps: u64,
+    out: &mut O,
+) -> Status
     requires fresh { core.old.log ≡ [] }
     requires running { core.old.stopped ≡ false }
-    ensures outcome { OriginOutcome core.old.origin (O.taken out.old) (O.taken out.new) result }
+    ensures outcome { OriginOutcome steps core.old.origin (O.taken out.old) (O.taken out.new) result }
     ensures out_rose { result ≡ Status.Outside Edge.Out → Rose (O.faults out.old) (O.faults out.new) }
 {
-    match simulate(core, MOST_STEPS) {
-        Ok(end) => write_log(alloc, core, end, out),
+    match simulate(core, steps) {
+        Ok(end) => write_log(alloc, core, steps, end, out),
         Err(NoMemory) => Status::NoMemory,
     }
 }
 
-/// Puts the log of a simulation that ended.
-fn write_log<O: Sink>(alloc: Global, core: &Core<Rewriter>, end: SimEnd, out: &mut O) -> Status
-    requires { IsSim most_steps (sim_start (start core.now.origin)) core.now.log end }
-    ensures outcome { OriginOutcome core.now.origin (O.taken out.old) (O.taken out.new) result }
+/// Puts the log of a simulation with so many steps, which ended so.
+fn write_log<O: Sink>(
+    alloc: Global,
+    core: &Core<Rewriter>,
+    steps: u64,
+    end: SimEnd,
+    out: &mut O,
+) -> Status
+    requires { IsSim steps (sim_start (start core.now.origin)) core.now.log end }
+    ensures outcome { OriginOutcome steps core.now.origin (O.taken out.old) (O.taken out.new) result }
     ensures out_rose { result ≡ Status.Outside Edge.Out → Rose (O.faults out.old) (O.faults out.new) }
 {
     match put_log(alloc, core.log(), out) {

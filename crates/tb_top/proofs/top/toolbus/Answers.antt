@@ -1,5 +1,6 @@
 use Rattle.std.proofs.Common.{map, string_bytes}
-use Rattle.tb_top.specs.Outcomes.{command_of, Comes}
+use Rattle.tb_top.specs.Words.{asked}
+use Rattle.tb_top.specs.Outcomes.{Comes}
 use Rattle.tb_top.proofs.Outcomes.{caused, reported}
 use Rattle.tb_top.proofs.top.toolbus.Goals as goal
 
@@ -10,6 +11,6 @@ returns-clause-outcome g c =
     let files_new = g.F.Files.faults c.answer-status.new.files in
     let out_old = g.O.Sink.faults c.args.out.now in
     let out_new = g.O.Sink.faults c.answer-status.new.out in
-    let comes = Comes (command_of (map (string_bytes {Z = Rattle.std.proofs.Common.Global}) c.args.words.now.items)) (g.F.Files.held c.args.files.now) (g.O.Sink.taken c.args.out.now) (g.O.Sink.taken c.answer-status.new.out) files_old files_new out_old out_new in
+    let comes = Comes (asked (map (string_bytes {Z = Rattle.std.proofs.Common.Global}) c.args.words.now.items)) (g.F.Files.held c.args.files.now) (g.O.Sink.taken c.args.out.now) (g.O.Sink.taken c.answer-status.new.out) files_old files_new out_old out_new in
     let came : comes given = (c.answer-status.ensures.outcome, caused files_old files_new out_old out_new given c.answer-status.ensures.file_rose c.answer-status.ensures.out_rose) in
     reported comes given (g.E.Sink.taken c.args.err.now) (g.E.Sink.taken c.report.new.err) c.report.result came c.report.ensures.reports

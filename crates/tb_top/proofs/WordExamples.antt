@@ -1,0 +1,118 @@
+-- What some words ask for, and the faults of others, worked out by hand: each rule once at least.
+use Rattle.std.proofs.Common.{◌≡◌, [], ◌∷◌, Ok, Err, codes, refl}
+use Rattle.tb_top.specs.declared.words.Command.TheVariants.{Check, Sim}
+use Rattle.tb_top.specs.declared.words.WordFault.TheVariants.{NoCommand, Unknown, Missing, Extra, Number, Range, NotBuilt}
+use Rattle.tb_top.specs.Words.{asked}
+
+-- no words
+nothing_asked : asked [] ≡ Err NoCommand
+nothing_asked = refl
+
+-- check a.tb
+check_asked : asked (codes "check" ∷ codes "a.tb" ∷ []) ≡ Ok (Check (codes "a.tb"))
+check_asked = refl
+
+-- sim a.tb
+sim_asked : asked (codes "sim" ∷ codes "a.tb" ∷ []) ≡ Ok (Sim (codes "a.tb") 1000000)
+sim_asked = refl
+
+-- sim --steps 5 a.tb
+steps_first : asked (codes "sim" ∷ codes "--steps" ∷ codes "5" ∷ codes "a.tb" ∷ []) ≡ Ok (Sim (codes "a.tb") 5)
+steps_first = refl
+
+-- sim a.tb --steps 007
+steps_last : asked (codes "sim" ∷ codes "a.tb" ∷ codes "--steps" ∷ codes "007" ∷ []) ≡ Ok (Sim (codes "a.tb") 7)
+steps_last = refl
+
+-- an empty word is a script's name
+empty_name : asked (codes "check" ∷ [] ∷ []) ≡ Ok (Check [])
+empty_name = refl
+
+-- commands that aren't built, and a word that is none
+run_asked : asked (codes "run" ∷ codes "--what" ∷ []) ≡ Err (NotBuilt 1)
+run_asked = refl
+
+ring_asked : asked (codes "ring" ∷ []) ≡ Err (NotBuilt 1)
+ring_asked = refl
+
+other_asked : asked (codes "simulate" ∷ codes "a.tb" ∷ []) ≡ Err (Unknown 1)
+other_asked = refl
+
+option_first : asked (codes "--steps" ∷ codes "5" ∷ codes "sim" ∷ []) ≡ Err (Unknown 1)
+option_first = refl
+
+-- the script lacks
+check_bare : asked (codes "check" ∷ []) ≡ Err Missing
+check_bare = refl
+
+steps_alone : asked (codes "sim" ∷ codes "--steps" ∷ codes "5" ∷ []) ≡ Err Missing
+steps_alone = refl
+
+-- one script more
+two_scripts : asked (codes "sim" ∷ codes "a.tb" ∷ codes "--steps" ∷ codes "5" ∷ codes "b.tb" ∷ []) ≡ Err (Extra 5)
+two_scripts = refl
+
+-- a script with a byte that a string may not have
+no_string : asked (codes "check" ∷ (97 ∷ 0 ∷ []) ∷ []) ≡ Err (Unknown 2)
+no_string = refl
+
+-- `check` has no options
+check_steps : asked (codes "check" ∷ codes "--steps" ∷ codes "5" ∷ codes "a.tb" ∷ []) ≡ Err (Unknown 2)
+check_steps = refl
+
+-- options that `sim` hasn't, and those that aren't built
+sim_ticks : asked (codes "sim" ∷ codes "a.tb" ∷ codes "--ticks" ∷ codes "5" ∷ []) ≡ Err (Unknown 3)
+sim_ticks = refl
+
+sim_feed : asked (codes "sim" ∷ codes "a.tb" ∷ codes "--feed" ∷ []) ≡ Err (NotBuilt 3)
+sim_feed = refl
+
+sim_connect : asked (codes "sim" ∷ codes "--connect" ∷ codes "c" ∷ []) ≡ Err (NotBuilt 2)
+sim_connect = refl
+
+sim_events : asked (codes "sim" ∷ codes "--events" ∷ codes "c" ∷ []) ≡ Err (NotBuilt 2)
+sim_events = refl
+
+-- an option that was given before, whether or not it has a value
+steps_twice : asked (codes "sim" ∷ codes "--steps" ∷ codes "5" ∷ codes "--steps" ∷ []) ≡ Err (Extra 4)
+steps_twice = refl
+
+-- a value that lacks, and one that is the next word, whatever it is
+no_value : asked (codes "sim" ∷ codes "a.tb" ∷ codes "--steps" ∷ []) ≡ Err Missing
+no_value = refl
+
+option_as_value : asked (codes "sim" ∷ codes "--steps" ∷ codes "--steps" ∷ codes "5" ∷ []) ≡ Err (Number 3)
+option_as_value = refl
+
+-- what is no number
+signed_steps : asked (codes "sim" ∷ codes "a.tb" ∷ codes "--steps" ∷ codes "+5" ∷ []) ≡ Err (Number 4)
+signed_steps = refl
+
+empty_steps : asked (codes "sim" ∷ codes "a.tb" ∷ codes "--steps" ∷ [] ∷ []) ≡ Err (Number 4)
+empty_steps = refl
+
+late_letter : asked (codes "sim" ∷ codes "--steps" ∷ codes "99999999999999999999x" ∷ []) ≡ Err (Number 3)
+late_letter = refl
+
+-- the ends of the range
+no_steps : asked (codes "sim" ∷ codes "a.tb" ∷ codes "--steps" ∷ codes "0" ∷ []) ≡ Err (Range 4)
+no_steps = refl
+
+most_asked : asked (codes "sim" ∷ codes "a.tb" ∷ codes "--steps" ∷ codes "4000000" ∷ []) ≡ Ok (Sim (codes "a.tb") 4000000)
+most_asked = refl
+
+past_most : asked (codes "sim" ∷ codes "a.tb" ∷ codes "--steps" ∷ codes "4000001" ∷ []) ≡ Err (Range 4)
+past_most = refl
+
+far_past : asked (codes "sim" ∷ codes "--steps" ∷ codes "18446744073709551617" ∷ codes "a.tb" ∷ []) ≡ Err (Range 3)
+far_past = refl
+
+-- the first of two faults
+extra_then_range : asked (codes "sim" ∷ codes "a.tb" ∷ codes "b.tb" ∷ codes "--steps" ∷ codes "0" ∷ []) ≡ Err (Extra 3)
+extra_then_range = refl
+
+range_then_unknown : asked (codes "sim" ∷ codes "--steps" ∷ codes "0" ∷ codes "--ticks" ∷ []) ≡ Err (Range 3)
+range_then_unknown = refl
+
+unknown_then_range : asked (codes "sim" ∷ codes "--ticks" ∷ codes "--steps" ∷ codes "0" ∷ []) ≡ Err (Unknown 2)
+unknown_then_range = refl

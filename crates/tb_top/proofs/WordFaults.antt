@@ -1,0 +1,58 @@
+-- Words never have want of memory as their fault.
+use Rattle.std.proofs.Common.{◌≡◌, ◌≢◌, ℕ, ◌+◌, Bool, true, false, ◌&&◌, if◌then◌else◌, nat_le, bytes_eq, codes, List, [], ◌∷◌, Option, Some, None, Result, Ok, Err, ap}
+use Rattle.tb_terms.specs.Names.{is_text}
+use Rattle.tb_read.specs.Spelling.{is_digits, digits_value}
+use Rattle.tb_top.specs.declared.words.WordFault.{WordFault}
+use Rattle.tb_top.specs.declared.words.WordFault.TheVariants as fault
+use Rattle.tb_top.specs.declared.words.verb.Verb.{Verb}
+use Rattle.tb_top.specs.declared.words.verb.Verb.TheVariants as verb
+use Rattle.tb_top.specs.Words.{Found, Part, AnOption, AWord, script_by, most_steps, steps_in, steps_by, and_script, and_steps, is_unbuilt, option_by, part_by, read_next, read_parts}
+
+abbrev IsTold : {X : Type 0} → Result X WordFault → Type 0
+IsTold answer = answer ≢ Err fault.NoMemory
+
+in-choice : {X : Type 0} (b : Bool) (x y : Result X WordFault) → IsTold x → IsTold y → IsTold (if b then x else y)
+in-choice true x y told other = told
+in-choice false x y told other = other
+
+script-told : (script : Option (List ℕ)) (place : ℕ) (word : List ℕ) → IsTold (script_by script place word)
+script-told (Some script) place word = λ e. cc
+script-told None place word = in-choice (is_text word) (Ok word) (Err (fault.Unknown place)) (λ e. cc) (λ e. cc)
+
+number-told : (place : ℕ) (word : List ℕ) → IsTold (steps_in place word)
+number-told place word =
+    in-choice (is_digits word) (if nat_le 1 (digits_value word) && nat_le (digits_value word) most_steps then Ok (digits_value word) else Err (fault.Range place)) (Err (fault.Number place))
+    (in-choice (nat_le 1 (digits_value word) && nat_le (digits_value word) most_steps) (Ok (digits_value word)) (Err (fault.Range place)) (λ e. cc) (λ e. cc))
+    (λ e. cc)
+
+steps-told : (steps : Option ℕ) (place : ℕ) (value : Option (List ℕ)) → IsTold (steps_by steps place value)
+steps-told (Some steps) place value = λ e. cc
+steps-told None place None = λ e. cc
+steps-told None place (Some value) = number-told (place + 1) value
+
+and_script-told : (found : Found) (script : Result (List ℕ) WordFault) → IsTold script → IsTold (and_script found script)
+and_script-told found (Ok script) told e = cc
+and_script-told found (Err f) told e = let same : f ≡ fault.NoMemory = cc in told (ap Err same)
+
+and_steps-told : (found : Found) (steps : Result ℕ WordFault) → IsTold steps → IsTold (and_steps found steps)
+and_steps-told found (Ok steps) told e = cc
+and_steps-told found (Err f) told e = let same : f ≡ fault.NoMemory = cc in told (ap Err same)
+
+option-told : (v : Verb) (found : Found) (place : ℕ) (name : List ℕ) (value : Option (List ℕ)) → IsTold (option_by v found place name value)
+option-told verb.Check found place name value = λ e. cc
+option-told verb.Sim found place name value =
+    in-choice (bytes_eq name (codes "--steps")) (and_steps found (steps_by found.steps place value)) (if is_unbuilt name then Err (fault.NotBuilt place) else Err (fault.Unknown place))
+    (and_steps-told found (steps_by found.steps place value) (steps-told found.steps place value))
+    (in-choice (is_unbuilt name) (Err (fault.NotBuilt place)) (Err (fault.Unknown place)) (λ e. cc) (λ e. cc))
+
+part-told : (v : Verb) (found : Found) (part : Part) → IsTold (part_by v found part)
+part-told v found (AnOption place name value) = option-told v found place name value
+part-told v found (AWord place word) = and_script-told found (script_by found.script place word) (script-told found.script place word)
+
+next-told : (v : Verb) (before : Result Found WordFault) (part : Part) → IsTold before → IsTold (read_next v before part)
+next-told v (Ok found) part told = part-told v found part
+next-told v (Err f) part told = told
+
+pub parts-told : (v : Verb) (before : Result Found WordFault) (parts : List Part) → before ≢ Err fault.NoMemory → read_parts v before parts ≢ Err fault.NoMemory
+parts-told v before [] told = told
+parts-told v before (part ∷ parts) told = parts-told v (read_next v before part) parts (next-told v before part told)

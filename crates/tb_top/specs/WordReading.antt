@@ -1,0 +1,25 @@
+-- What the parts of the reading of words say to each other.
+use Rattle.std.specs.Prelude.{ℕ, if◌then◌else◌, List, Option, IfSome, option_copied, Result, Ok, Err, IsTrue}
+use Rattle.tb_terms.specs.Names.{is_text}
+use Rattle.tb_top.specs.declared.words.WordFault.{WordFault}
+use Rattle.tb_top.specs.declared.words.found.Found.{Found as FoundWords}
+use Rattle.tb_top.specs.Words.{Found, Part, AnOption, AWord, is_option}
+
+abbrev pub found_of : FoundWords → Found
+found_of found = record { script = option_copied found.script; steps = found.steps }
+
+abbrev pub answer_of : Result FoundWords WordFault → Result Found WordFault
+answer_of (Ok found) = Ok (found_of found)
+answer_of (Err fault) = Err fault
+
+-- a script that was found is a string
+abbrev pub HasText : Found → Type 0
+HasText found = IfSome found.script (λ script. IsTrue (is_text script))
+
+-- the part that begins with this word, where the next one is this
+abbrev pub part_of : ℕ → List ℕ → Option (List ℕ) → Part
+part_of place word next = if is_option word then AnOption place word next else AWord place word
+
+-- it has so many words
+abbrev pub part_len : List ℕ → ℕ
+part_len word = if is_option word then 2 else 1

@@ -1,0 +1,127 @@
+-- What the words of the command line ask for, or which fault they have. Words are read from the left, and the first fault ends the reading; their places count from 1.
+use Rattle.std.specs.Prelude.{ℕ, ◌+◌, Bool, ◌&&◌, ◌||◌, if◌then◌else◌, List, [], ◌∷◌, Option, Some, None, Result, Ok, Err, unwrap_or, fold, drop, codes, bytes_eq, nat_eq, nat_le}
+use Rattle.std.specs.List.{starts_with}
+use Rattle.tb_terms.specs.Names.{is_text}
+use Rattle.tb_read.specs.Spelling.{is_digits, digits_value}
+use Rattle.tb_top.specs.declared.words.Command.{Command}
+use Rattle.tb_top.specs.declared.words.Command.TheVariants.{Check, Sim}
+use Rattle.tb_top.specs.declared.words.WordFault.{WordFault}
+use Rattle.tb_top.specs.declared.words.WordFault.TheVariants as fault
+use Rattle.tb_top.specs.declared.words.verb.Verb.{Verb}
+use Rattle.tb_top.specs.declared.words.verb.Verb.TheVariants as verb
+
+-- A part of what stands behind the first word, with its place.
+pub data Part : Type 0 where
+  -- an option with its value, the word that comes next, where there is one
+  AnOption : ℕ → List ℕ → Option (List ℕ) → Part
+  -- any other word
+  AWord : ℕ → List ℕ → Part
+
+abbrev pub is_option : List ℕ → Bool
+is_option word = starts_with nat_eq word (codes "--")
+
+-- the parts of these words, of which the first stands at this place
+abbrev pub parts_from : ℕ → List (List ℕ) → List Part
+parts_from place [] = []
+parts_from place (word ∷ []) =
+    if is_option word then AnOption place word None ∷ []
+    else AWord place word ∷ []
+parts_from place (word ∷ next ∷ words) =
+    if is_option word then AnOption place word (Some next) ∷ parts_from (place + 2) words
+    else AWord place word ∷ parts_from (place + 1) (next ∷ words)
+
+-- what parts have given
+pub record Found : Type 0 where
+  pub script : Option (List ℕ)
+  pub steps : Option ℕ
+
+-- A word that is no option is the script. One more is too many, and a script is a string.
+abbrev pub script_by : Option (List ℕ) → ℕ → List ℕ → Result (List ℕ) WordFault
+script_by (Some script) place word = Err (fault.Extra place)
+script_by None place word = if is_text word then Ok word else Err (fault.Unknown place)
+
+abbrev pub most_steps : ℕ
+most_steps = 4000000
+
+-- A number is one or more decimal digits and nothing else, and it has a range.
+abbrev pub steps_in : ℕ → List ℕ → Result ℕ WordFault
+steps_in place word =
+    if is_digits word
+    then (if nat_le 1 (digits_value word) && nat_le (digits_value word) most_steps then Ok (digits_value word) else Err (fault.Range place))
+    else Err (fault.Number place)
+
+-- `--steps` at this place, which may be given once, with a value
+abbrev pub steps_by : Option ℕ → ℕ → Option (List ℕ) → Result ℕ WordFault
+steps_by (Some steps) place value = Err (fault.Extra place)
+steps_by None place None = Err fault.Missing
+steps_by None place (Some value) = steps_in (place + 1) value
+
+abbrev pub and_script : Found → Result (List ℕ) WordFault → Result Found WordFault
+and_script found (Ok script) = Ok (record { script = Some script; steps = found.steps })
+and_script found (Err f) = Err f
+
+abbrev pub and_steps : Found → Result ℕ WordFault → Result Found WordFault
+and_steps found (Ok steps) = Ok (record { script = found.script; steps = Some steps })
+and_steps found (Err f) = Err f
+
+-- options of `sim` that aren't built yet
+abbrev pub is_unbuilt : List ℕ → Bool
+is_unbuilt name = bytes_eq name (codes "--feed") || bytes_eq name (codes "--connect") || bytes_eq name (codes "--events")
+
+-- `check` has no options, and `sim` has these.
+abbrev pub option_by : Verb → Found → ℕ → List ℕ → Option (List ℕ) → Result Found WordFault
+option_by verb.Check found place name value = Err (fault.Unknown place)
+option_by verb.Sim found place name value =
+    if bytes_eq name (codes "--steps") then and_steps found (steps_by found.steps place value)
+    else (if is_unbuilt name then Err (fault.NotBuilt place)
+    else Err (fault.Unknown place))
+
+abbrev pub part_by : Verb → Found → Part → Result Found WordFault
+part_by v found (AnOption place name value) = option_by v found place name value
+part_by v found (AWord place word) = and_script found (script_by found.script place word)
+
+-- each part after those before it
+abbrev pub read_next : Verb → Result Found WordFault → Part → Result Found WordFault
+read_next v (Ok found) part = part_by v found part
+read_next v (Err f) part = Err f
+
+-- what parts give beside what was found before
+abbrev pub read_parts : Verb → Result Found WordFault → List Part → Result Found WordFault
+read_parts v before parts = fold (read_next v) before parts
+
+abbrev pub nothing : Found
+nothing = record { script = None; steps = None }
+
+-- so many steps where `--steps` isn't given
+abbrev pub usual_steps : ℕ
+usual_steps = 1000000
+
+-- At the end of the words the script is there.
+abbrev pub command_with : Verb → Option (List ℕ) → Option ℕ → Result Command WordFault
+command_with v None steps = Err fault.Missing
+command_with verb.Check (Some script) steps = Ok (Check script)
+command_with verb.Sim (Some script) steps = Ok (Sim script (unwrap_or steps usual_steps))
+
+abbrev pub command_by : Verb → Result Found WordFault → Result Command WordFault
+command_by v (Ok found) = command_with v found.script found.steps
+command_by v (Err f) = Err f
+
+-- The first word is the command; `run` and `ring` aren't built yet.
+abbrev pub verb_of : List ℕ → Result Verb WordFault
+verb_of word =
+    if bytes_eq word (codes "check") then Ok verb.Check
+    else (if bytes_eq word (codes "sim") then Ok verb.Sim
+    else (if bytes_eq word (codes "run") || bytes_eq word (codes "ring") then Err (fault.NotBuilt 1)
+    else Err (fault.Unknown 1)))
+
+abbrev pub verb_by : List (List ℕ) → Result Verb WordFault
+verb_by [] = Err fault.NoCommand
+verb_by (word ∷ words) = verb_of word
+
+abbrev pub asked_by : Result Verb WordFault → List (List ℕ) → Result Command WordFault
+asked_by (Ok v) words = command_by v (read_parts v (Ok nothing) (parts_from 2 words))
+asked_by (Err f) words = Err f
+
+-- what all words ask for, or their fault
+abbrev pub asked : List (List ℕ) → Result Command WordFault
+asked words = asked_by (verb_by words) (drop 1 words)

@@ -1,0 +1,41 @@
+//! The words of the command line.
+
+mod found;
+mod reading;
+mod verb;
+
+pub use reading::read_words;
+use tb_terms::Text;
+
+/// What the words of the command line ask for.
+#[derive(Debug, Drop)]
+pub enum Command {
+    /// Whether the script in the file of this name is accepted.
+    Check { script: Text },
+    /// The log of the simulation of that script, which makes so many steps at most.
+    Sim { script: Text, steps: u64 },
+}
+
+/// Why the words of the command line were refused. Places count from 1.
+#[derive(Clone, Copy, Debug, PartialEq, Eq)]
+pub enum WordFault {
+    /// There were no words.
+    NoCommand,
+    /// The word at this place is no command, no option of its command, or a script that is no string.
+    Unknown(usize),
+    /// The script lacks, or the value of an option.
+    Missing,
+    /// The option at this place was given before, or the word there is one more than the script.
+    Extra(usize),
+    /// The word at this place is no number.
+    Number(usize),
+    /// The number at this place is out of its range.
+    Range(usize),
+    /// There wasn't memory enough; it says nothing of the words.
+    NoMemory,
+    /// The word at this place asks for what isn't built yet.
+    NotBuilt(usize),
+}
+
+#[cfg(test)]
+mod tests;

@@ -1,0 +1,6 @@
+/// What words have given.
+#[derive(Clone, Copy)]
+pub struct Found<'w> {
+    pub script: Option<&'w str>,
+    pub steps: Option<u64>,
+}

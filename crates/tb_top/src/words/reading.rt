@@ -1,0 +1,253 @@
+//! How the words of the command line are read.
+
+ghost use Rattle.std.specs.Prelude.{◌≡◌, ◌≢◌, ◌<◌, ◌^◌, length, map, string_bytes, option_map, option_copied, Ok, IsOk, IsTrue, IfOk, IfErr, Err};
+ghost use Rattle.tb_terms.specs.Names.{is_text, is_text_byte};
+ghost use Rattle.tb_read.specs.Spelling.{is_digits};
+ghost use Rattle.tb_top.specs.Words.{asked, verb_by, verb_of, is_option, is_unbuilt, part_by, option_by, script_by, steps_by, steps_in, and_script, and_steps, read_parts, parts_from, nothing, command_with};
+ghost use Rattle.tb_top.specs.WordReading.{found_of, answer_of, part_of, part_len, HasText};
+
+use super::found::Found;
+use super::verb::Verb;
+use super::{Command, WordFault};
+use std::alloc::Global;
+use tb_read::digits_value;
+use tb_terms::{NoMemory, Text};
+
+/// The greatest number of `--steps`.
+const MOST_STEPS: u64 = 4_000_000;
+
+/// So many steps where `--steps` isn't given.
+const USUAL_STEPS: u64 = 1_000_000;
+
+/// What the words of the command line ask for.
+pub fn read_words(alloc: Global, words: &Vec<String>) -> Result<Command, WordFault>
+    ensures ok { IfOk result (λ command. asked (map string_bytes words.now.items) ≡ Ok command) }
+    ensures fault { IfErr result (λ fault. fault ≢ WordFault.NoMemory → asked (map string_bytes words.now.items) ≡ Err fault) }
+
+    // A fault of the words is told whether or not there is memory.
+    ensures memory { result ≡ Err WordFault.NoMemory → IsOk (asked (map string_bytes words.now.items)) }
+{
+    let words = words.as_slice();
+    let verb = read_verb(words)?;
+    let found = read_parts(verb, &words[1..])?;
+    make_command(alloc, verb, found)
+}
+
+fn read_verb(words: &[String]) -> Result<Verb, WordFault>
+    ensures verb { result ≡ verb_by (map string_bytes words.now) }
+    ensures some { IfOk result (λ _. 0 < length words.now) }
+{
+    match words.first() {
+        Some(word) => verb_of(word.as_str()),
+        None => Err(WordFault::NoCommand),
+    }
+}
+
+fn verb_of(word: &str) -> Result<Verb, WordFault>
+    ensures { result ≡ verb_of word.now }
+{
+    if word == "check" {
+        Ok(Verb::Check)
+    } else if word == "sim" {
+        Ok(Verb::Sim)
+    } else if word == "run" || word == "ring" {
+        Err(WordFault::NotBuilt(1))
+    } else {
+        Err(WordFault::Unknown(1))
+    }
+}
+
+/// What the words behind the first give.
+fn read_parts(verb: Verb, words: &[String]) -> Result<Found<'_>, WordFault>
+    ensures found { answer_of result ≡ read_parts verb (Ok nothing) (parts_from 2 (map string_bytes words.now)) }
+    ensures text { IfOk result (λ found. HasText (found_of found)) }
+{
+    let mut found = Found {
+        script: None,
+        steps: None,
+    };
+    let mut index = 0;
+    while index < words.len() {
+        let word = words[index].as_str();
+        found = read_part(verb, found, index + 2, word, words.get(index + 1))?;
+        index += part_len(word);
+    }
+    Ok(found)
+}
+
+/// How many words the part has that begins with this one.
+fn part_len(word: &str) -> usize
+    ensures { result ≡ part_len word.now }
+{
+    if is_option(word) { 2 } else { 1 }
+}
+
+fn is_option(word: &str) -> bool
+    ensures { result ≡ is_option word.now }
+{
+    word.as_bytes().starts_with(b"--")
+}
+
+/// What the part that begins with this word gives beside what was found before.
+fn read_part<'w>(
+    verb: Verb,
+    found: Found<'w>,
+    place: usize,
+    word: &'w str,
+    next: Option<&String>,
+) -> Result<Found<'w>, WordFault>
+    requires room { place < 2 ^ 63 }
+    requires text { HasText (found_of found) }
+    ensures found { answer_of result ≡ part_by verb (found_of found.entry) (part_of place word.now (option_map string_bytes (option_copied next.entry))) }
+    ensures text { IfOk result (λ found. HasText (found_of found)) }
+{
+    if is_option(word) {
+        read_option(verb, found, place, word, next)
+    } else {
+        read_script(found, place, word)
+    }
+}
+
+/// A word that is no option.
+fn read_script<'w>(found: Found<'w>, place: usize, word: &'w str) -> Result<Found<'w>, WordFault>
+    ensures found { answer_of result ≡ and_script (found_of found.entry) (script_by (option_copied found.entry.script) place word.now) }
+    ensures text { IfOk result (λ found. HasText (found_of found)) }
+{
+    if found.script.is_some() {
+        return Err(WordFault::Extra(place));
+    }
+    if !is_text(word.as_bytes()) {
+        return Err(WordFault::Unknown(place));
+    }
+    Ok(Found {
+        script: Some(word),
+        steps: found.steps,
+    })
+}
+
+fn is_text(bytes: &[u8]) -> bool
+    ensures { result ≡ is_text bytes.now }
+{
+    for byte in bytes {
+        if !is_text_byte(*byte) {
+            return false;
+        }
+    }
+    true
+}
+
+fn is_text_byte(byte: u8) -> bool
+    ensures { result ≡ is_text_byte byte }
+{
+    byte >= 32 || byte == b'\t' || byte == b'\n' || byte == b'\r'
+}
+
+fn read_option<'w>(
+    verb: Verb,
+    found: Found<'w>,
+    place: usize,
+    name: &str,
+    value: Option<&String>,
+) -> Result<Found<'w>, WordFault>
+    requires room { place < 2 ^ 63 }
+    requires text { HasText (found_of found) }
+    ensures found { answer_of result ≡ option_by verb (found_of found.entry) place name.now (option_map string_bytes (option_copied value.entry)) }
+    ensures text { IfOk result (λ found. HasText (found_of found)) }
+{
+    match verb {
+        Verb::Check => Err(WordFault::Unknown(place)),
+        Verb::Sim if name == "--steps" => read_steps(found, place, value),
+        Verb::Sim if is_unbuilt(name) => Err(WordFault::NotBuilt(place)),
+        Verb::Sim => Err(WordFault::Unknown(place)),
+    }
+}
+
+fn is_unbuilt(name: &str) -> bool
+    ensures { result ≡ is_unbuilt name.now }
+{
+    name == "--feed" || name == "--connect" || name == "--events"
+}
+
+/// `--steps` with its value.
+fn read_steps<'w>(
+    found: Found<'w>,
+    place: usize,
+    value: Option<&String>,
+) -> Result<Found<'w>, WordFault>
+    requires room { place < 2 ^ 63 }
+    requires text { HasText (found_of found) }
+    ensures found { answer_of result ≡ and_steps (found_of found.entry) (steps_by found.entry.steps place (option_map string_bytes (option_copied value.entry))) }
+    ensures text { IfOk result (λ found. HasText (found_of found)) }
+{
+    if found.steps.is_some() {
+        return Err(WordFault::Extra(place));
+    }
+    let Some(value) = value else {
+        return Err(WordFault::Missing);
+    };
+    let steps = steps_in(place + 1, value.as_str())?;
+    Ok(Found {
+        script: found.script,
+        steps: Some(steps),
+    })
+}
+
+fn steps_in(place: usize, word: &str) -> Result<u64, WordFault>
+    ensures { result ≡ steps_in place word.now }
+{
+    if !is_digits(word.as_bytes()) {
+        return Err(WordFault::Number(place));
+    }
+    let steps = digits_value(word.as_bytes());
+    if 1 <= steps && steps <= MOST_STEPS {
+        Ok(steps)
+    } else {
+        Err(WordFault::Range(place))
+    }
+}
+
+fn is_digits(bytes: &[u8]) -> bool
+    ensures { result ≡ is_digits bytes.now }
+{
+    if bytes.is_empty() {
+        return false;
+    }
+    for byte in bytes {
+        if !byte.is_ascii_digit() {
+            return false;
+        }
+    }
+    true
+}
+
+/// The command, where the script was found.
+fn make_command(alloc: Global, verb: Verb, found: Found<'_>) -> Result<Command, WordFault>
+    requires { HasText (found_of found) }
+    ensures ok { IfOk result (λ command. command_with verb (option_copied found.entry.script) found.entry.steps ≡ Ok command) }
+    ensures fault { IfErr result (λ fault. fault ≢ WordFault.NoMemory → command_with verb (option_copied found.entry.script) found.entry.steps ≡ Err fault) }
+    ensures memory { result ≡ Err WordFault.NoMemory → IsOk (command_with verb (option_copied found.entry.script) found.entry.steps) }
+{
+    let Some(script) = found.script else {
+        return Err(WordFault::Missing);
+    };
+    let script = make_text(alloc, script)?;
+    match verb {
+        Verb::Check => Ok(Command::Check { script }),
+        Verb::Sim => {
+            let steps = found.steps.unwrap_or(USUAL_STEPS);
+            Ok(Command::Sim { script, steps })
+        }
+    }
+}
+
+fn make_text(alloc: Global, word: &str) -> Result<Text, WordFault>
+    requires { IsTrue (is_text word.now) }
+    ensures ok { IfOk result (λ text. text ≡ word.now) }
+    ensures fault { IfErr result (λ fault. fault ≡ WordFault.NoMemory) }
+{
+    match Text::from_str(alloc, word) {
+        Ok(Some(text)) => Ok(text),
+        Ok(None) => unreachable!(),
+        Err(NoMemory) => Err(WordFault::NoMemory),
+    }
+}
