@@ -4,7 +4,7 @@ use Rattle.tb_edge.specs.Sinks.{Takes, TakesFront}
 use Rattle.tb_core.specs.Buses.{Origin, start}
 use Rattle.tb_core.specs.Traces.{IsTrace}
 use Rattle.tb_core.specs.LogText.{log_text}
-use Rattle.tb_core.specs.Simulation.{Sim, IsSim, IsSimFront, sim_start}
+use Rattle.tb_core.specs.Simulation.{IsSim, sim_start}
 use Rattle.tb_core.specs.declared.log.Entry.{Entry}
 use Rattle.tb_core.specs.declared.ends.SimEnd.{SimEnd}
 use Rattle.tb_core.specs.declared.ends.SimEnd.TheVariants as sim
@@ -20,11 +20,6 @@ use Rattle.tb_top.specs.declared.words.Command.{Command}
 use Rattle.tb_top.specs.declared.words.Command.TheVariants.{Check, Sim as Simulate}
 use Rattle.tb_top.specs.declared.status.Edge.TheVariants as edge
 
--- a whole simulation is a front of itself
-pub sim-front : (limit : ℕ) (s : Sim) (log : List Entry) (last : SimEnd) → IsSim limit s log last → IsSimFront limit s log
-sim-front limit s [] last p = tt
-sim-front limit s (entry ∷ log) last p = (p.0, p.1, sim-front limit p.0 log last p.2)
-
 -- the log was put whole
 pub log-put : (limit : ℕ) (origin : Origin) (log : List Entry) (last : SimEnd) (old new : Option (List ℕ)) (status : Status) → IsSim limit (sim_start (start origin)) log last → IsTrace (start origin) log →
     Takes old new (log_text log) → status ≡ status_of_end last → OriginOutcome limit origin old new status
@@ -37,7 +32,7 @@ log-put limit origin log sim.Steps old new status is trace takes e bytes found =
 pub log-front : (limit : ℕ) (origin : Origin) (log : List Entry) (last : SimEnd) (old new : Option (List ℕ)) → IsSim limit (sim_start (start origin)) log last → IsTrace (start origin) log →
     TakesFront old new (log_text log) → (bytes : List ℕ) → IsFound bytes (Program' origin.program) → PutsFront limit bytes old new
 log-front limit origin log last old new is trace front bytes found =
-    (log, record { program = origin.program; found = found; front = sim-front limit (sim_start (start origin)) log last is; trace = trace }, front)
+    (log, last, record { program = origin.program; found = found; simulated = is; trace = trace }, front)
 
 -- what the work on the bytes of a file comes to
 pub file-read : (command : Command) (told : Option (List ℕ)) (old new : Option (List ℕ)) (bytes : List ℕ) (status : Status) → IsLoaded told bytes → WorkOutcome command bytes old new status → FileOutcome command told old new status

@@ -61,7 +61,7 @@ check_steps : asked (codes "check" ∷ codes "--steps" ∷ codes "5" ∷ codes "
 check_steps = refl
 
 -- options that `sim` hasn't, and those that aren't built
-sim_ticks : asked (codes "sim" ∷ codes "a.tb" ∷ codes "--ticks" ∷ codes "5" ∷ []) ≡ Err (Unknown 3)
+sim_ticks : asked (codes "sim" ∷ codes "a.tb" ∷ codes "--ticks" ∷ codes "5" ∷ []) ≡ Err (NotBuilt 3)
 sim_ticks = refl
 
 sim_feed : asked (codes "sim" ∷ codes "a.tb" ∷ codes "--feed" ∷ []) ≡ Err (NotBuilt 3)
@@ -114,5 +114,5 @@ extra_then_range = refl
 range_then_unknown : asked (codes "sim" ∷ codes "--steps" ∷ codes "0" ∷ codes "--ticks" ∷ []) ≡ Err (Range 3)
 range_then_unknown = refl
 
-unknown_then_range : asked (codes "sim" ∷ codes "--ticks" ∷ codes "--steps" ∷ codes "0" ∷ []) ≡ Err (Unknown 2)
+unknown_then_range : asked (codes "sim" ∷ codes "--tick" ∷ codes "--steps" ∷ codes "0" ∷ []) ≡ Err (Unknown 2)
 unknown_then_range = refl

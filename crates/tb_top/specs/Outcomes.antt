@@ -4,7 +4,7 @@ use Rattle.tb_edge.specs.Faults.{Rose}
 use Rattle.tb_edge.specs.Sinks.{Takes, TakesFront}
 use Rattle.tb_core.specs.Buses.{Origin, start}
 use Rattle.tb_core.specs.Traces.{IsTrace}
-use Rattle.tb_core.specs.Simulation.{IsSim, IsSimFront, sim_start}
+use Rattle.tb_core.specs.Simulation.{IsSim, sim_start}
 use Rattle.tb_core.specs.LogText.{log_text}
 use Rattle.tb_core.specs.declared.log.Entry.{Entry}
 use Rattle.tb_body.specs.declared.program.Program.{Program}
@@ -51,18 +51,11 @@ IsRefused bytes (script.Expand expand.NoMemory) = ⊥
 IsRefused bytes script.NoMemory = ⊥
 IsRefused bytes (script.TooLong len) = ⊥
 
--- The bytes have this program and nothing else, and this log is that of its simulation with so many steps, which ends so. It is a trace of the program.
+-- The bytes have this program, and nothing else is found of them; and this log is that of its simulation with at most so many steps, which ends so. It is a trace of the program.
 pub record IsSimOf (limit : ℕ) (bytes : List ℕ) (log : List Entry) (last : SimEnd) : Type 0 where
   pub program : Program
   pub found : IsFound bytes (Program' program)
   pub simulated : IsSim limit (sim_start (start (origin_of program))) log last
-  pub trace : IsTrace (start (origin_of program)) log
-
--- The bytes have this program and nothing else, and its simulation with so many steps makes this log first. It is a trace of the program.
-pub record IsFrontOf (limit : ℕ) (bytes : List ℕ) (log : List Entry) : Type 0 where
-  pub program : Program
-  pub found : IsFound bytes (Program' program)
-  pub front : IsSimFront limit (sim_start (start (origin_of program))) log
   pub trace : IsTrace (start (origin_of program)) log
 
 -- the whole text of the log of the simulation was put, which ends so
@@ -71,9 +64,9 @@ PutsLog limit bytes old new last = (log : List Entry) × IsSimOf limit bytes log
 
 -- a front of that text was put
 abbrev pub PutsFront : ℕ → List ℕ → Option (List ℕ) → Option (List ℕ) → Type 0
-PutsFront limit bytes old new = (log : List Entry) × IsFrontOf limit bytes log × TakesFront old new (log_text log)
+PutsFront limit bytes old new = (log : List Entry) × (last : SimEnd) × IsSimOf limit bytes log last × TakesFront old new (log_text log)
 
--- How the simulation of a script's bytes with so many steps may end, and what was put to the sink of the log.
+-- How the simulation of a script's bytes with at most so many steps may end, and what was put to the sink of the log.
 abbrev pub SimOutcome : ℕ → List ℕ → Option (List ℕ) → Option (List ℕ) → Status → Type 0
 -- the bus went down
 SimOutcome limit bytes old new Ended = PutsLog limit bytes old new sim.Down
@@ -90,21 +83,21 @@ SimOutcome limit bytes old new (Words fault) = ⊥
 SimOutcome limit bytes old new (Outside edge.File) = ⊥
 SimOutcome limit bytes old new (Outside edge.Err) = ⊥
 
--- the bytes have a program and nothing else
-abbrev pub HasProgram : List ℕ → Type 0
-HasProgram bytes = (program : Program) × IsFound bytes (Program' program)
+-- the bytes have a program, and nothing else is found of them
+abbrev pub HasSomeProgram : List ℕ → Type 0
+HasSomeProgram bytes = (program : Program) × IsFound bytes (Program' program)
 
 abbrev pub ok_line : List ℕ
 ok_line = codes "ok\n"
 
 -- How the check of a script's bytes may end, and what was put to the sink of the log.
 abbrev pub CheckOutcome : List ℕ → Option (List ℕ) → Option (List ℕ) → Status → Type 0
--- the script is accepted
-CheckOutcome bytes old new Ended = HasProgram bytes × Takes old new ok_line
+-- the script is accepted, and all of it is built
+CheckOutcome bytes old new Ended = HasSomeProgram bytes × Takes old new ok_line
 -- it was refused
 CheckOutcome bytes old new (Script fault) = IsRefused bytes fault × (new ≡ old)
--- it is accepted, and the sink failed
-CheckOutcome bytes old new (Outside edge.Out) = HasProgram bytes × TakesFront old new ok_line
+-- it is so, and the sink failed
+CheckOutcome bytes old new (Outside edge.Out) = HasSomeProgram bytes × TakesFront old new ok_line
 -- memory ran out
 CheckOutcome bytes old new NoMemory = new ≡ old
 -- no other status comes
@@ -163,7 +156,7 @@ abbrev pub Comes : Result Command WordFault → (List ℕ → Option (List ℕ))
 Comes asked held old new files_old files_new out_old out_new status =
     CommandOutcome asked held old new status × IsCaused files_old files_new out_old out_new status
 
--- What is put of a status to standard error: nothing at the end; the status's line; or, where standard
+-- What is put of a status to standard error: nothing where all ended well; the status's line; or, where standard
 -- error failed, a front of the line of the status that it hides.
 abbrev pub Reported : (Status → Type 0) → Option (List ℕ) → Option (List ℕ) → Status → Type 0
 Reported comes old new Ended = comes Ended × (new ≡ old)

@@ -35,7 +35,7 @@ pub record Found : Type 0 where
   pub script : Option (List ℕ)
   pub steps : Option ℕ
 
--- A word that is no option is the script. One more is too many, and a script is a string.
+-- A word that is no option is the script. One more is too many, and each of its bytes is one that a string may have; words are well-formed already.
 abbrev pub script_by : Option (List ℕ) → ℕ → List ℕ → Result (List ℕ) WordFault
 script_by (Some script) place word = Err (fault.Extra place)
 script_by None place word = if is_text word then Ok word else Err (fault.Unknown place)
@@ -64,17 +64,20 @@ abbrev pub and_steps : Found → Result ℕ WordFault → Result Found WordFault
 and_steps found (Ok steps) = Ok (record { script = found.script; steps = Some steps })
 and_steps found (Err f) = Err f
 
--- options of `sim` that aren't built yet
+-- options that aren't built yet, whichever command will have them
 abbrev pub is_unbuilt : List ℕ → Bool
-is_unbuilt name = bytes_eq name (codes "--feed") || bytes_eq name (codes "--connect") || bytes_eq name (codes "--events")
+is_unbuilt name =
+    bytes_eq name (codes "--feed") || bytes_eq name (codes "--connect") || bytes_eq name (codes "--events") || bytes_eq name (codes "--ticks")
 
--- `check` has no options, and `sim` has these.
-abbrev pub option_by : Verb → Found → ℕ → List ℕ → Option (List ℕ) → Result Found WordFault
-option_by verb.Check found place name value = Err (fault.Unknown place)
-option_by verb.Sim found place name value =
+-- `check` has no options of its own, and `sim` has one.
+abbrev pub own_option_by : Verb → Found → ℕ → List ℕ → Option (List ℕ) → Result Found WordFault
+own_option_by verb.Check found place name value = Err (fault.Unknown place)
+own_option_by verb.Sim found place name value =
     if bytes_eq name (codes "--steps") then and_steps found (steps_by found.steps place value)
-    else (if is_unbuilt name then Err (fault.NotBuilt place)
-    else Err (fault.Unknown place))
+    else Err (fault.Unknown place)
+
+abbrev pub option_by : Verb → Found → ℕ → List ℕ → Option (List ℕ) → Result Found WordFault
+option_by v found place name value = if is_unbuilt name then Err (fault.NotBuilt place) else own_option_by v found place name value
 
 abbrev pub part_by : Verb → Found → Part → Result Found WordFault
 part_by v found (AnOption place name value) = option_by v found place name value
@@ -96,7 +99,7 @@ nothing = record { script = None; steps = None }
 abbrev pub usual_steps : ℕ
 usual_steps = 1000000
 
--- At the end of the words the script is there.
+-- At the end of the words the script must be there.
 abbrev pub command_with : Verb → Option (List ℕ) → Option ℕ → Result Command WordFault
 command_with v None steps = Err fault.Missing
 command_with verb.Check (Some script) steps = Ok (Check script)

@@ -3,7 +3,7 @@
 ghost use Rattle.std.specs.Prelude.{◌≡◌, ◌≢◌, ◌<◌, ◌^◌, length, map, string_bytes, option_map, option_copied, Ok, IsOk, IsTrue, IfOk, IfErr, Err};
 ghost use Rattle.tb_terms.specs.Names.{is_text, is_text_byte};
 ghost use Rattle.tb_read.specs.Spelling.{is_digits};
-ghost use Rattle.tb_top.specs.Words.{asked, verb_by, verb_of, is_option, is_unbuilt, part_by, option_by, script_by, steps_by, steps_in, and_script, and_steps, read_parts, parts_from, nothing, command_with};
+ghost use Rattle.tb_top.specs.Words.{asked, verb_by, verb_of, is_option, is_unbuilt, part_by, option_by, own_option_by, script_by, steps_by, steps_in, and_script, and_steps, read_parts, parts_from, nothing, command_with};
 ghost use Rattle.tb_top.specs.WordReading.{found_of, answer_of, part_of, part_len, HasText};
 
 use super::found::Found;
@@ -154,18 +154,21 @@ fn read_option<'w>(
     ensures found { answer_of result ≡ option_by verb (found_of found.entry) place name.now (option_map string_bytes (option_copied value.entry)) }
     ensures text { IfOk result (λ found. HasText (found_of found)) }
 {
+    if is_unbuilt(name) {
+        return Err(WordFault::NotBuilt(place));
+    }
     match verb {
         Verb::Check => Err(WordFault::Unknown(place)),
         Verb::Sim if name == "--steps" => read_steps(found, place, value),
-        Verb::Sim if is_unbuilt(name) => Err(WordFault::NotBuilt(place)),
         Verb::Sim => Err(WordFault::Unknown(place)),
     }
 }
 
+/// Whether an option of this name belongs to what isn't built yet.
 fn is_unbuilt(name: &str) -> bool
     ensures { result ≡ is_unbuilt name.now }
 {
-    name == "--feed" || name == "--connect" || name == "--events"
+    name == "--feed" || name == "--connect" || name == "--events" || name == "--ticks"
 }
 
 /// `--steps` with its value.

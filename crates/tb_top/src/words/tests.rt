@@ -40,12 +40,12 @@ static ROWS: [(&str, Answer); 62] = [
     ("check a.tb check", Fault(Extra(3))),
     // Options.
     ("check --steps 5 a.tb", Fault(Unknown(2))),
-    ("check a.tb --feed f", Fault(Unknown(3))),
+    ("check a.tb --feed f", Fault(NotBuilt(3))),
     ("check -- a.tb", Fault(Unknown(2))),
     ("sim --", Fault(Unknown(2))),
     ("sim a.tb --step 5", Fault(Unknown(3))),
     ("sim a.tb --stepss 5", Fault(Unknown(3))),
-    ("sim --ticks 5 a.tb", Fault(Unknown(2))),
+    ("sim --ticks 5 a.tb", Fault(NotBuilt(2))),
     ("sim --steps=5 a.tb", Fault(Unknown(2))),
     ("sim a.tb --feed f", Fault(NotBuilt(3))),
     ("sim --connect c a.tb", Fault(NotBuilt(2))),
@@ -84,9 +84,9 @@ static ROWS: [(&str, Answer); 62] = [
     // The first of two faults is told.
     ("sim a.tb b.tb --steps 0", Fault(Extra(3))),
     ("sim --steps 0 --ticks", Fault(Range(3))),
-    ("sim --ticks --steps 0", Fault(Unknown(2))),
+    ("sim --ticks --steps 0", Fault(NotBuilt(2))),
     ("sim --steps x --feed", Fault(Number(3))),
-    ("check --feed", Fault(Unknown(2))),
+    ("check --feed", Fault(NotBuilt(2))),
 ];
 
 fn is_answer(answer: &Result<Command, WordFault>, expected: Answer, script: &str) -> bool {
