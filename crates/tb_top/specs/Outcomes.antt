@@ -22,6 +22,7 @@ use Rattle.tb_top.specs.declared.status.Bound.TheVariants as bound
 use Rattle.tb_top.specs.declared.words.Command.{Command}
 use Rattle.tb_top.specs.declared.words.Command.TheVariants.{Check, Sim}
 use Rattle.tb_top.specs.declared.words.WordFault.{WordFault}
+use Rattle.tb_top.specs.declared.words.WordFault.TheVariants as word
 
 -- a script of more bytes is too long
 abbrev pub most_bytes : ℕ
@@ -137,7 +138,7 @@ script_of (Sim name steps) = name
 
 -- How a call may end whose words ask for this, or have this fault.
 abbrev pub CommandOutcome : Result Command WordFault → (List ℕ → Option (List ℕ)) → Option (List ℕ) → Option (List ℕ) → Status → Type 0
-CommandOutcome (Err fault) held old new status = (status ≡ Words fault) × (new ≡ old)
+CommandOutcome (Err fault) held old new status = (status ≡ Words fault) × (fault ≢ word.NoMemory) × (new ≡ old)
 CommandOutcome (Ok command) held old new status = FileOutcome command (held (script_of command)) old new status
 
 -- A thing of the outside is named only where its count of faults rose in the call.
