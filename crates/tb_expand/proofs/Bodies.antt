@@ -1,5 +1,5 @@
 -- What is too large by its size, and what is in range of a body.
-use Rattle.std.proofs.Common.{◌≡◌, ℕ, ◌<◌, ◌≤◌, ◌⊎◌, inl, inr, Bool, true, false, ◌||◌, nat_lt, List, length, min, slice_get, Contains, Option, Some, None, is_some, refl, ap, sym, ◌∙◌, subst, arith}
+use Rattle.std.proofs.Common.{◌≡◌, ℕ, ◌<◌, ◌≤◌, ◌⊎◌, inl, inr, true, false, ◌||◌, nat_lt, List, length, min, slice_get, Contains, Option, Some, None, ap, sym, ◌∙◌, arith}
 use Rattle.std.proofs.lemmas.Bool.{lt-ltb, le-ltb, cases_lt}
 use Rattle.tb_terms.specs.declared.sort.Sort.{Sort}
 use Rattle.tb_body.specs.declared.atom.Atom.{Atom}
@@ -10,7 +10,7 @@ use Rattle.tb_syntax.specs.declared.script.Script.{Script}
 use Rattle.tb_types.specs.Conditions.{Proper}
 use Rattle.tb_expand.specs.declared.size.Size.{Size}
 use Rattle.tb_expand.specs.Scopes.{formals_seen}
-use Rattle.tb_expand.specs.Expansion.{expands, expansion_of, is_too_large}
+use Rattle.tb_expand.specs.Expansion.{expansion_of, is_too_large}
 use Rattle.tb_expand.specs.Measuring.{capped, is_over, AreSizes}
 use Rattle.tb_expand.specs.Sizes.{size_of}
 use Rattle.tb_expand.specs.Wholes.{is_whole}

@@ -1,11 +1,10 @@
 -- What is computed of a process in two ways is related where it is for each kind of process and for each call.
-use Rattle.std.proofs.Common.{◌≡◌, ℕ, List, [], ◌∷◌, ◌++◌, Option, Some, None, refl, ap, sym, subst, arith}
+use Rattle.std.proofs.Common.{◌≡◌, ℕ, List, [], ◌∷◌, ◌++◌, Some, None, refl, sym, subst, arith}
 use Rattle.std.specs.List.{Contains}
 use Rattle.std.proofs.lemmas.List.Elements.{Contains-append_left, Contains-append_right}
-use Rattle.tb_syntax.specs.declared.proc.Call.{Call}
 use Rattle.tb_syntax.specs.declared.proc.Proc.{Proc, Proc-F, map-Proc, fold-Proc, fold-roll-Proc, ind-Proc, roll-Proc}
 use Rattle.tb_syntax.specs.declared.proc.Proc.TheOpen as layer
-use Rattle.tb_expand.specs.Cycles.{called, called_step, or_none}
+use Rattle.tb_expand.specs.Cycles.{called, called_step}
 
 module _ (A B : Type 0) (f : Proc-F A → A) (g : Proc-F B → B) (R : A → B → Type 0) (K : List ℕ → Type 0) where
   abbrev pub Related : Type 0

@@ -1,12 +1,12 @@
 -- Where processes stand behind those that they call, calls end, and no depth beyond the number of processes changes a size.
-use Rattle.std.proofs.Common.{◌≡◌, ℕ, zero, suc, ◌+◌, ◌<◌, ◌≤◌, ◌⊎◌, inl, inr, Bool, true, false, ◌&&◌, List, [], ◌∷◌, ◌++◌, map, cond, bytes_eq, option_map, length, take, get_or, slice_get, Option, Some, None, refl, ap, sym, subst, ◌∙◌, arith}
+use Rattle.std.proofs.Common.{◌≡◌, ℕ, zero, suc, ◌+◌, ◌<◌, ◌≤◌, ◌⊎◌, inl, inr, Bool, true, false, List, [], ◌∷◌, ◌++◌, map, cond, bytes_eq, option_map, length, take, get_or, slice_get, Option, Some, None, refl, ap, sym, subst, ◌∙◌, arith}
 use Rattle.std.specs.List.{Contains}
 use Rattle.std.proofs.Math.Seq.{take-suc, take-length}
 use Rattle.std.proofs.lemmas.Bool.{and_from}
 use Rattle.std.proofs.lemmas.List.{take_all, length-map}
 use Rattle.std.proofs.lemmas.List.Elements.{Contains-push_cases}
 use Rattle.std.proofs.lemmas.Option.{slice_get_within, slice_get_cases}
-use Rattle.tb_syntax.specs.declared.proc.Proc.{Proc, Proc-F}
+use Rattle.tb_syntax.specs.declared.proc.Proc.{Proc}
 use Rattle.tb_syntax.specs.declared.proc.Proc.TheOpen as layer
 use Rattle.tb_syntax.specs.declared.script.ProcDef.{ProcDef}
 use Rattle.tb_syntax.specs.declared.script.Script.{Script}
@@ -16,7 +16,7 @@ use Rattle.tb_expand.specs.declared.size.Size.{Size}
 use Rattle.tb_expand.specs.Cycles.{called}
 use Rattle.tb_expand.specs.Descents.{StandsAmong, Descends}
 use Rattle.tb_expand.specs.Expansion.{definition_of}
-use Rattle.tb_expand.specs.Sizes.{beside, above, tested_size, called_size, size_step, size_with, size_of}
+use Rattle.tb_expand.specs.Sizes.{beside, above, called_size, size_step, size_with, size_of}
 use Rattle.tb_expand.specs.Wholes.{is_called_whole, whole_step, is_whole_with, is_whole}
 use Rattle.tb_expand.proofs.CalledFolds.{IsKept, related}
 use Rattle.tb_expand.proofs.SeenPlaces.{is_in, seen_below, contained, seen_at_most, seen_more, seen_new}

@@ -1,5 +1,5 @@
 -- Orders and rounds of the graph of calls, and what they say of the script: that no calls form a cycle, or which do.
-use Rattle.std.proofs.Common.{◌≡◌, ℕ, zero, suc, ◌+◌, ◌<◌, ◌≤◌, ◌⊎◌, inl, inr, List, [], ◌∷◌, ◌++◌, map, length, get_or, take, slice_get, Option, Some, None, option_map, option_to_list, flat_map, Contains, All, refl, ap, sym, ◌∙◌, subst, arith, add-one}
+use Rattle.std.proofs.Common.{◌≡◌, ℕ, zero, suc, ◌<◌, ◌⊎◌, inl, inr, List, [], ◌∷◌, length, get_or, take, slice_get, Option, Some, None, option_map, option_to_list, Contains, All, refl, ap, sym, ◌∙◌, subst, arith}
 use Rattle.std.proofs.lemmas.Option.{same_Some, slice_get-map, slice_get_within, slice_get-get_or, get_or_from_slice_get}
 use Rattle.std.proofs.lemmas.List.{length-map, length-take, get_or-take}
 use Rattle.std.proofs.lemmas.List.Elements.{Contains-append_left, Contains-append_right, Contains-append_cases, Contains-get_or}
@@ -9,7 +9,7 @@ use Rattle.tb_types.specs.NamePlaces.{place_of, process_name}
 use Rattle.tb_expand.specs.Acts.{process_of}
 use Rattle.tb_expand.specs.Cycles.{called, Calls, GoRound, Differ, IsCycle}
 use Rattle.tb_expand.specs.Faults.{HasNoCycle}
-use Rattle.tb_expand.specs.Graphs.{Graph, next_places, or_nowhere, IsClosed, IsOrder, IsRound, LeadsRound, AllDiffer}
+use Rattle.tb_expand.specs.Graphs.{next_places, or_nowhere, IsClosed, IsOrder, IsRound, LeadsRound, AllDiffer}
 use Rattle.tb_expand.specs.CallGraphs.{names_in, places_of, graph_of, name_at, names_of, NamesDiffer, AllDefined}
 use Rattle.tb_expand.proofs.Readings.{none_in, contains_at, contains_here, contains_there, contains_cases, at_contains}
 use Rattle.tb_expand.proofs.NamedPlaces.{found_there, place_there, place_is, place_in_both}

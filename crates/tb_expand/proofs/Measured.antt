@@ -1,14 +1,14 @@
 -- What is measured is the size as far as it counts.
-use Rattle.std.proofs.Common.{◌≡◌, ℕ, ◌+◌, List, map, min, max, Option, Some, None, option_map, refl, ap, sym, ◌∙◌, arith}
+use Rattle.std.proofs.Common.{◌≡◌, ℕ, ◌+◌, List, min, max, Option, Some, None, option_map, refl, ap, ◌∙◌, arith}
 use Rattle.std.specs.List.{Contains}
-use Rattle.tb_syntax.specs.declared.proc.Proc.{Proc, Proc-F}
+use Rattle.tb_syntax.specs.declared.proc.Proc.{Proc}
 use Rattle.tb_syntax.specs.declared.proc.Proc.TheOpen as layer
 use Rattle.tb_syntax.specs.declared.script.ProcDef.{ProcDef}
 use Rattle.tb_syntax.specs.declared.script.Script.{Script}
 use Rattle.tb_expand.specs.declared.size.Size.{Size}
 use Rattle.tb_expand.specs.Cycles.{called}
 use Rattle.tb_expand.specs.Expansion.{definition_of}
-use Rattle.tb_expand.specs.Sizes.{beside, above, tested_size, called_size, size_step, size_with}
+use Rattle.tb_expand.specs.Sizes.{beside, above, called_size, size_step, size_with}
 use Rattle.tb_expand.specs.Measuring.{capped, called_measure, known_size, measure_step, measure}
 use Rattle.tb_expand.proofs.CalledFolds.{IsKept, related}
 

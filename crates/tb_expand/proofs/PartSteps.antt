@@ -1,5 +1,5 @@
 -- The levels of what is built of each part of a process, by which the building of it ends.
-use Rattle.std.proofs.Common.{◌≡◌, ℕ, ◌+◌, ◌*◌, ◌<◌, max, Option, Some, None, option_map}
+use Rattle.std.proofs.Common.{ℕ, Option, option_map}
 use Rattle.tb_body.specs.Trees.{or_no_levels}
 use Rattle.tb_syntax.specs.declared.proc.Proc.{Proc}
 use Rattle.tb_syntax.specs.declared.script.Script.{Script}

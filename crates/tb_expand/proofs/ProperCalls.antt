@@ -1,12 +1,11 @@
 -- In a proper script names differ and each call has its process, so an order of the graph of calls is one of the processes.
-use Rattle.std.proofs.Common.{◌≡◌, ℕ, ◌<◌, ◌⊎◌, inl, inr, Bool, true, false, cond, List, [], ◌∷◌, ◌++◌, map, length, take, slice_get, Option, Some, None, option_map, Contains, bytes_eq, refl, ap, sym, ◌∙◌, subst}
-use Rattle.std.specs.Prelude.{find}
+use Rattle.std.proofs.Common.{◌≡◌, ℕ, ◌<◌, ◌⊎◌, inl, inr, Bool, true, false, cond, List, [], ◌∷◌, ◌++◌, map, length, take, slice_get, Some, None, Contains, bytes_eq, refl, ap, sym, ◌∙◌, subst}
 use Rattle.std.proofs.lemmas.List.{length-map}
 use Rattle.std.proofs.lemmas.List.Elements.{Contains-append_cases}
 use Rattle.std.proofs.lemmas.Slice.Eq.{bytes_eq-Decides}
 use Rattle.tb_terms.specs.declared.sort.Sort.TheVariants as sorts
 use Rattle.tb_syntax.specs.declared.proc.Call.{Call}
-use Rattle.tb_syntax.specs.declared.proc.Proc.{Proc, Proc-F}
+use Rattle.tb_syntax.specs.declared.proc.Proc.{Proc}
 use Rattle.tb_syntax.specs.declared.proc.Proc.TheOpen as layer
 use Rattle.tb_syntax.specs.declared.script.ProcDef.{ProcDef}
 use Rattle.tb_syntax.specs.declared.script.Script.{Script}
@@ -15,7 +14,7 @@ use Rattle.tb_types.specs.declared.broken.Rule.TheVariants.{Twice}
 use Rattle.tb_types.specs.declared.calls.Manner.TheVariants.{Called}
 use Rattle.tb_types.specs.declared.places.Place.TheVariants.{Sent}
 use Rattle.tb_types.specs.declared.scope.Known.{Known}
-use Rattle.tb_types.specs.Bodies.{else_faults, proc_faults, proc_step}
+use Rattle.tb_types.specs.Bodies.{proc_faults, proc_step}
 use Rattle.tb_types.specs.Broken.{noted_if}
 use Rattle.tb_types.specs.Calls.{call_faults}
 use Rattle.tb_types.specs.Conditions.{Proper}

@@ -1,5 +1,5 @@
 -- The sizes that are kept of the processes in an order, place by place.
-use Rattle.std.proofs.Common.{◌≡◌, ℕ, suc, ◌+◌, ◌<◌, ◌≤◌, ◌≢◌, ◌⊎◌, inl, inr, List, [], ◌∷◌, ◌++◌, length, take, get_or, slice_get, slice_set, set, Option, Some, None, option_map, refl, ap, sym, subst, ◌∙◌, arith, add-one}
+use Rattle.std.proofs.Common.{◌≡◌, ℕ, suc, ◌+◌, ◌<◌, ◌≤◌, ◌≢◌, ◌⊎◌, inl, inr, List, [], ◌∷◌, ◌++◌, length, take, get_or, slice_get, set, Option, Some, None, option_map, ap, sym, subst, ◌∙◌, arith, add-one}
 use Rattle.std.specs.List.{Contains}
 use Rattle.std.specs.Option.{option_and_then}
 use Rattle.std.proofs.Math.Seq.{take-suc}
@@ -12,8 +12,8 @@ use Rattle.tb_syntax.specs.declared.script.Script.{Script}
 use Rattle.tb_expand.specs.declared.size.Size.{Size}
 use Rattle.tb_expand.specs.Cycles.{called}
 use Rattle.tb_expand.specs.Descents.{StandsAmong, Descends}
-use Rattle.tb_expand.specs.Sizes.{size_with, size_of}
-use Rattle.tb_expand.specs.Measuring.{capped, known_size, measure, with_size_of, with_measure, AreSizes}
+use Rattle.tb_expand.specs.Sizes.{size_of}
+use Rattle.tb_expand.specs.Measuring.{capped, measure, with_size_of, with_measure, AreSizes}
 use Rattle.tb_expand.proofs.Depths.{OneOrNone, IsDefined, defined, depth_is_enough}
 use Rattle.tb_expand.proofs.Measured.{IsKnown, measured}
 

@@ -1,5 +1,5 @@
 -- Graphs by the places that each place leads to: orders in which all ways end, and ways that come round.
-use Rattle.std.specs.Prelude.{◌≡◌, ℕ, ◌<◌, List, [], ◌∷◌, length, take, slice_get, Option, Some, None, Contains, All}
+use Rattle.std.specs.Prelude.{◌≡◌, ℕ, ◌<◌, List, [], ◌∷◌, length, take, slice_get, Option, Some, None, Contains}
 
 -- each place leads to these places
 abbrev pub Graph : Type 0

@@ -1,5 +1,5 @@
 -- Whether calls within calls end within a depth: each names a process, and none is deeper.
-use Rattle.std.specs.Prelude.{◌≡◌, ℕ, zero, suc, Bool, true, false, ◌&&◌, List, length, slice_get, Option, Some, None}
+use Rattle.std.specs.Prelude.{◌≡◌, ℕ, zero, suc, Bool, true, false, ◌&&◌, length, slice_get, Option, Some, None}
 use Rattle.tb_syntax.specs.declared.proc.Proc.{Proc}
 use Rattle.tb_syntax.specs.declared.proc.Proc.TheOpen.{Proc-F, Atom, Call as CallOf, Seq, Alt, Star, Par, If, Let}
 use Rattle.tb_syntax.specs.declared.proc.Proc.TheFolds.{fold-Proc}

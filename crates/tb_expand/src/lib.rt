@@ -6,15 +6,11 @@ mod atoms;
 mod built;
 mod call_order;
 mod expansion;
-#[cfg(test)]
-mod expansion_tests;
 mod exprs;
 mod fault;
 mod graph;
 mod number;
 mod order;
-#[cfg(test)]
-mod order_tests;
 mod parts;
 mod places;
 mod round;

@@ -1,4 +1,4 @@
-use Rattle.std.proofs.Common.{◌≡◌, Bool, true, false, is_some, ap, sym, ◌∙◌}
+use Rattle.std.proofs.Common.{◌≡◌, true, false, is_some, ap, sym, ◌∙◌}
 use Rattle.tb_body.specs.InRange.{is_body_in_range}
 use Rattle.tb_expand.proofs.Bodies.{parts_in_range}
 use Rattle.tb_expand.proofs.expansion.built.Goals as goal

@@ -1,5 +1,4 @@
-use Rattle.std.proofs.Common.{ℕ, ◌+◌, ◌*◌, ◌-◌, max, Option, Some, None, option_map}
-use Rattle.tb_body.specs.Trees.{or_no_levels}
+use Rattle.std.proofs.Common.{◌+◌, ◌*◌, ◌-◌, max}
 use Rattle.tb_expand.specs.Expansion.{definition_of}
 use Rattle.tb_expand.specs.Sizes.{called_size, size_of}
 use Rattle.tb_expand.proofs.PartSteps.{levels_with, other_levels}

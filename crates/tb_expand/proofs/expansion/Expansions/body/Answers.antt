@@ -1,4 +1,4 @@
-use Rattle.std.proofs.Common.{◌≡◌, ◌∙◌, ◌<◌, ℕ, List, Option, Some, length, slice_get, get_or, ap, refl, subst, sym, true, false}
+use Rattle.std.proofs.Common.{◌≡◌, ◌∙◌, ◌<◌, ℕ, List, Some, length, slice_get, get_or, ap, refl, subst, sym, true, false}
 use Rattle.std.proofs.lemmas.Option.{slice_get_read, same_Some}
 use Rattle.tb_body.specs.declared.body.Body.{Body}
 use Rattle.tb_syntax.specs.declared.script.ProcDef.{ProcDef}
