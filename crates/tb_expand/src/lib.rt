@@ -11,6 +11,8 @@ mod fault;
 mod graph;
 mod number;
 mod order;
+#[cfg(test)]
+mod order_tests;
 mod parts;
 mod places;
 mod round;
