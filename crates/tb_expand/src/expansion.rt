@@ -39,7 +39,7 @@ pub struct Expansions<'a> {
 }
 
 impl<'a> Expansions<'a> {
-    /// Finds the sizes of all expansions, in time that is linear in the script.
+    /// Finds the sizes of all expansions, and whether calls form a cycle.
     #[tactic(auto, using(crate::proofs::ProperCalls::names_differ))]
     pub fn of(alloc: Global, script: &'a Script) -> Result<Expansions<'a>, ExpandFault>
         requires { Proper script.now }

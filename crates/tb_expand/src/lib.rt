@@ -28,3 +28,4 @@ mod whole;
 
 pub use expansion::{Expansions, expand};
 pub use fault::{ExpandFault, Idents};
+pub use places::process_of;

@@ -8,9 +8,10 @@ use tb_syntax::{Ast, AstKind};
 use tb_terms::{Ident, NoMemory, Sort};
 use tb_types::Names;
 
-/// The place of the process of this name, or the number of processes.
+/// The place, from 0, of the process of this name among the definitions, or the number of these where
+/// none has it.
 #[tactic(auto, using(crate::proofs::Lookups::process_at, crate::proofs::Lookups::no_process))]
-pub(crate) fn process_of(names: &Names, name: &Ident) -> Result<u32, NoMemory>
+pub fn process_of(names: &Names, name: &Ident) -> Result<u32, NoMemory>
     ensures { IfOk result (λ place. place ≡ process_of names.now.script.now name.now) }
 {
     match names.process_place(name.as_bytes()) {

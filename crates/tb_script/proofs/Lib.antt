@@ -3,7 +3,6 @@ pub mod OneProgram
 pub mod Findings
 pub mod RootValues
 pub mod UnbuiltProcs
-pub mod Places
 pub mod Bodies
 pub mod ProgramRanges
 pub mod Loaded

@@ -1,12 +1,12 @@
 ghost use Rattle.std.specs.Prelude.{◌≡◌, ◌<◌, IfOk, IsSome, All, Some, map, length};
 ghost use Rattle.std.specs.List.{AllZip};
 ghost use Rattle.tb_types.specs.Values.{closed_value};
-ghost use Rattle.tb_expand.specs.Acts.{process_of};
 ghost use Rattle.tb_script.specs.Programs.{IsRootOf};
 ghost use Rattle.tb_script.specs.Making.{HasValues, HaveValues};
 
 use std::alloc::Global;
 use tb_body::{Root, Roots};
+use tb_expand::process_of;
 use tb_syntax::{Ast, Call, Script};
 use tb_terms::{Items, NoMemory, Term, Terms};
 use tb_types::{Names, closed_value};
@@ -35,28 +35,9 @@ fn root_of(alloc: Global, names: &Names, call: &Call) -> Result<Root, NoMemory>
     requires { HasValues call.now }
     ensures { IfOk result (IsRootOf names.now.script.now call.now) }
 {
-    let process = process_of(names, call.name.as_bytes())?;
+    let process = process_of(names, &call.name)?;
     let actuals = values_of(alloc, call.actuals.as_slice())?;
     Ok(Root { process, actuals })
-}
-
-/// The place of the process of this name, or the number of processes.
-fn process_of(names: &Names, name: &[u8]) -> Result<u32, NoMemory>
-    ensures { IfOk result (λ place. place ≡ process_of names.now.script.now name.now) }
-{
-    match u32::try_from(process_place(names, name)) {
-        Ok(place) => Ok(place),
-        Err(_) => Err(NoMemory),
-    }
-}
-
-fn process_place(names: &Names, name: &[u8]) -> usize
-    ensures { result ≡ process_of names.now.script.now name.now }
-{
-    match names.process_place(name) {
-        Some(place) => place,
-        None => names.script.procs.len(),
-    }
 }
 
 fn values_of(alloc: Global, actuals: &[Ast]) -> Result<Terms, NoMemory>
