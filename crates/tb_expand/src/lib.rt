@@ -9,6 +9,8 @@ mod expansion;
 mod exprs;
 mod fault;
 mod graph;
+#[cfg(test)]
+mod graph_tests;
 mod number;
 mod order;
 #[cfg(test)]
