@@ -1,5 +1,5 @@
 -- The places of the processes that each kind of process calls.
-use Rattle.std.proofs.Common.{◌≡◌, ℕ, List, [], ◌∷◌, ◌++◌, Option, Some, None, option_map, option_to_list, flat_map, refl, ap, sym, ◌∙◌, append_assoc}
+use Rattle.std.proofs.Common.{◌≡◌, ℕ, List, [], ◌∷◌, ◌++◌, Option, Some, None, option_map, option_to_list, refl, ap, sym, ◌∙◌, append_assoc}
 use Rattle.tb_syntax.specs.declared.ast.Ast.{Ast}
 use Rattle.tb_syntax.specs.declared.proc.AtomDef.{AtomDef}
 use Rattle.tb_syntax.specs.declared.proc.Call.{Call}

@@ -1,5 +1,5 @@
 -- Places that differ, and ways on which each leads to the next.
-use Rattle.std.proofs.Common.{◌≡◌, ℕ, ◌⊎◌, inl, inr, List, [], ◌∷◌, ◌++◌, Contains, refl, ap, sym, ◌∙◌, subst}
+use Rattle.std.proofs.Common.{◌≡◌, ℕ, ◌⊎◌, inl, inr, List, [], ◌∷◌, ◌++◌, Contains, sym, subst}
 use Rattle.std.proofs.lemmas.List.Elements.{Contains-push, Contains-push_cases, Contains-append_left, Contains-append_right, Contains-append_cases}
 use Rattle.tb_expand.specs.Graphs.{Graph, next_places, AllDiffer, LeadsRound}
 use Rattle.tb_expand.specs.Walks.{LeadsOn, IsWay}

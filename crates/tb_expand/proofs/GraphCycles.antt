@@ -1,5 +1,5 @@
 -- Orders and rounds of the graph of calls, and what they say of the script: that no calls form a cycle, or which do.
-use Rattle.std.proofs.Common.{◌≡◌, ℕ, zero, suc, ◌+◌, ◌<◌, ◌≤◌, ◌⊎◌, inl, inr, List, [], ◌∷◌, ◌++◌, map, length, get_or, take, slice_get, Option, Some, None, option_map, option_to_list, flat_map, Contains, All, refl, ap, sym, ◌∙◌, subst, arith, add-one}
+use Rattle.std.proofs.Common.{◌≡◌, ℕ, zero, suc, ◌<◌, ◌⊎◌, inl, inr, List, [], ◌∷◌, length, get_or, take, slice_get, Option, Some, None, option_map, option_to_list, Contains, All, refl, ap, sym, ◌∙◌, subst, arith}
 use Rattle.std.proofs.lemmas.Option.{same_Some, slice_get-map, slice_get_within, slice_get-get_or, get_or_from_slice_get}
 use Rattle.std.proofs.lemmas.List.{length-map, length-take, get_or-take}
 use Rattle.std.proofs.lemmas.List.Elements.{Contains-append_left, Contains-append_right, Contains-append_cases, Contains-get_or}
@@ -9,13 +9,10 @@ use Rattle.tb_types.specs.NamePlaces.{place_of, process_name}
 use Rattle.tb_expand.specs.Acts.{process_of}
 use Rattle.tb_expand.specs.Cycles.{called, Calls, GoRound, Differ, IsCycle}
 use Rattle.tb_expand.specs.Faults.{HasNoCycle}
-use Rattle.tb_expand.specs.Graphs.{Graph, next_places, or_nowhere, IsClosed, IsOrder, IsRound, LeadsRound, AllDiffer}
+use Rattle.tb_expand.specs.Graphs.{next_places, or_nowhere, IsClosed, IsOrder, IsRound, LeadsRound, AllDiffer}
 use Rattle.tb_expand.specs.CallGraphs.{names_in, places_of, graph_of, name_at, names_of, NamesDiffer, AllDefined}
 use Rattle.tb_expand.proofs.Readings.{none_in, contains_at, contains_here, contains_there, contains_cases, at_contains}
 use Rattle.tb_expand.proofs.NamedPlaces.{found_there, place_there, place_is, place_in_both}
-
-places_called : Script → ProcDef → List ℕ
-places_called script d = places_of script (called d.body)
 
 -- a name stands behind a place
 in_places : (script : Script) (names : List (List ℕ)) (place : ℕ) → Contains (places_of script names) place
@@ -80,8 +77,12 @@ named_there script place d h = slice_get-map process_name script.procs place ∙
 name_is : (script : Script) (place : ℕ) (name : List ℕ) → slice_get (names_in script) place ≡ Some name → name_at script place ≡ name
 name_is script place name h = get_or_from_slice_get (names_in script) place name [] h
 
+-- each process has a place
+pub length_graph : (script : Script) → length (graph_of script) ≡ length script.procs
+length_graph script = length-map script.procs (λ (d : ProcDef). places_of script (called d.body))
+
 as_many : (script : Script) → length (names_in script) ≡ length (graph_of script)
-as_many script = length-map script.procs process_name ∙ sym (length-map script.procs (λ (d : ProcDef). places_of script (called d.body)))
+as_many script = length-map script.procs process_name ∙ sym (length_graph script)
 
 -- no call leads out of the graph
 pub graph_is_closed : (script : Script) → IsClosed (graph_of script)
@@ -92,7 +93,7 @@ graph_is_closed script place next c =
 -- the places of a round are those of processes
 pub round_in_script : (script : Script) (places : List ℕ) → IsRound (graph_of script) places → All (λ place. place < length script.procs) places
 round_in_script script places r k d h =
-    omega (arith, r.inside (get_or places k d) (Contains-get_or places k d h), length-map script.procs (λ (e : ProcDef). places_of script (called e.body)))
+    omega (arith, r.inside (get_or places k d) (Contains-get_or places k d h), length_graph script)
 
 -- a place that leads to another calls it
 calls_there : (script : Script) (place next : ℕ) → Contains (next_places (graph_of script) place) next → Calls script (name_at script place) (name_at script next)
@@ -116,6 +117,14 @@ caller_there : (script : Script) (caller name : List ℕ) → Calls script calle
 caller_there script caller name calls =
     let at = at_contains script.procs calls.0 calls.1 in
     place_there (names_in script) caller (subst (λ (n : List ℕ). Contains (names_in script) n) calls.2 (contains_at (names_in script) at.0 calls.0.name (named_there script at.0 calls.0 at.1)))
+
+-- each process that one calls stands before it in an order
+pub calls_go_down : (script : Script) → AllDefined script → (order : List ℕ) → IsOrder (graph_of script) order → (at place : ℕ) (d : ProcDef) (name : List ℕ)
+    → slice_get order at ≡ Some place → slice_get script.procs place ≡ Some d → Contains (called d.body) name → Contains (take at order) (process_of script name)
+calls_go_down script defined order ordered at place d name there here c =
+    let next = place_there (names_in script) name (defined d name (contains_at script.procs place d here) c) in
+    subst (λ (p : ℕ). Contains (take at order) p) (sym (place_in_both (names_in script) name next.0 next.1))
+    (ordered.behind at place next.0 there (leads_from script place next.0 d name here c next.1))
 
 in_front : {A : Type 0} (xs : List A) (at : ℕ) (x : A) → Contains (take at xs) x → (i : ℕ) × (i < at) × (slice_get xs i ≡ Some x)
 in_front xs at x c =
@@ -216,11 +225,3 @@ module _ (script : Script) (differ : NamesDiffer script) where
         let own = process_there r.first (r.inside r.first (stands r.first (contains_here r.first r.others))) in
         let other = process_there p.0 (r.inside p.0 (stands p.0 (contains_there r.first r.others p.0 p.1))) in
         omega (arith, own, other, ap (process_of script) p.2, r.is_first p.0 p.1)
-
-  -- each process that one calls stands before it in an order
-  pub calls_go_down : AllDefined script → (order : List ℕ) → IsOrder (graph_of script) order → (at place : ℕ) (d : ProcDef) (name : List ℕ)
-      → slice_get order at ≡ Some place → slice_get script.procs place ≡ Some d → Contains (called d.body) name → Contains (take at order) (process_of script name)
-  calls_go_down defined order ordered at place d name there here c =
-      let next = place_there (names_in script) name (defined d name (contains_at script.procs place d here) c) in
-      subst (λ (p : ℕ). Contains (take at order) p) (sym (place_in_both (names_in script) name next.0 next.1))
-      (ordered.behind at place next.0 there (leads_from script place next.0 d name here c next.1))

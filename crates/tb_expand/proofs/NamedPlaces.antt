@@ -1,11 +1,11 @@
 -- The places of names among definitions, where the names differ.
-use Rattle.std.proofs.Common.{◌≡◌, ℕ, zero, suc, ◌+◌, ◌<◌, ◌⊎◌, inl, inr, Bool, true, false, cond, List, [], ◌∷◌, ◌++◌, map, length, get_or, slice_get, Option, Some, None, option_map, Contains, bytes_eq, refl, ap, sym, ◌∙◌, subst, arith, add-one}
-use Rattle.std.proofs.lemmas.Option.{same_Some, slice_get-map, slice_get_within, get_or_from_slice_get}
+use Rattle.std.proofs.Common.{◌≡◌, ℕ, zero, suc, ◌+◌, ◌⊎◌, inl, inr, Bool, true, false, cond, List, [], ◌∷◌, slice_get, Option, Some, None, option_map, Contains, bytes_eq, refl, ap, sym, ◌∙◌, subst, add-one}
+use Rattle.std.proofs.lemmas.Option.{same_Some}
 use Rattle.std.proofs.lemmas.Slice.Eq.{bytes_eq-Decides}
 use Rattle.tb_types.specs.NamePlaces.{place_of}
 use Rattle.tb_expand.specs.Acts.{place_of as place_or_end}
 use Rattle.tb_expand.specs.Cycles.{Differ}
-use Rattle.tb_expand.proofs.Readings.{none_in, contains_at, contains_here, contains_there, contains_cases, at_contains}
+use Rattle.tb_expand.proofs.Readings.{none_in, contains_at, contains_cases}
 
 abbrev next : ℕ → ℕ
 next place = place + 1

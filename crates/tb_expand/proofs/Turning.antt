@@ -1,5 +1,5 @@
 -- A way that comes round is a round, once it is cut and turned.
-use Rattle.std.proofs.Common.{◌≡◌, ℕ, zero, suc, ◌+◌, ◌<◌, ◌≤◌, ◌⊎◌, inl, inr, Bool, true, false, cond, nat_lt, eqb, List, [], ◌∷◌, ◌++◌, length, get_or, take, drop, slice_get, Some, Contains, refl, ap, sym, ◌∙◌, subst, arith, take-append-drop, append_assoc, append-nil, length-take-le, length-drop, ◌-◌}
+use Rattle.std.proofs.Common.{◌≡◌, ℕ, ◌<◌, ◌≤◌, ◌⊎◌, inl, inr, Bool, true, false, cond, nat_lt, eqb, List, [], ◌∷◌, ◌++◌, length, get_or, take, drop, Contains, refl, ap, sym, ◌∙◌, subst, arith, take-append-drop, append_assoc, append-nil, length-take-le, length-drop, ◌-◌}
 use Rattle.std.specs.List.{IsFirstBest}
 use Rattle.std.proofs.lemmas.Bool.{eqb-true, eqb-false, ltb-false}
 use Rattle.std.proofs.lemmas.Option.{slice_get_within}
@@ -7,10 +7,10 @@ use Rattle.std.proofs.lemmas.List.{get_or_at}
 use Rattle.std.proofs.lemmas.List.Elements.{Contains-append_left, Contains-append_right, Contains-append_cases}
 use Rattle.tb_expand.specs.declared.walk.Visit.TheVariants.{Open}
 use Rattle.tb_expand.specs.declared.walk.Walk.{Walk}
-use Rattle.tb_expand.specs.Graphs.{Graph, next_places, AllDiffer, LeadsRound, IsRound}
-use Rattle.tb_expand.specs.Walks.{IsWay, LeadsOn, IsWalk, ComesRound}
+use Rattle.tb_expand.specs.Graphs.{Graph, AllDiffer, LeadsRound, IsRound}
+use Rattle.tb_expand.specs.Walks.{IsWay, ComesRound}
 use Rattle.tb_expand.specs.Rounds.{onward, IsTurned}
-use Rattle.tb_expand.proofs.Readings.{none_in, contains_here, contains_there, contains_cases}
+use Rattle.tb_expand.proofs.Readings.{none_in, contains_there, contains_cases}
 use Rattle.tb_expand.proofs.Differing.{differ_behind, differ_turned, way_behind, leads_back, round_turned}
 
 -- a way up to a place of it, and from it on

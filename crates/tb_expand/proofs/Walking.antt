@@ -1,5 +1,5 @@
 -- Each step of a walk leaves a walk, with less to do.
-use Rattle.std.proofs.Common.{◌≡◌, ℕ, zero, suc, ◌+◌, ◌-◌, ◌<◌, ◌≤◌, ◌⊎◌, inl, inr, List, [], ◌∷◌, ◌++◌, length, take, set, replicate, slice_get, Option, Some, None, Contains, refl, ap, sym, ◌∙◌, subst, arith, add-one, length-set, take_at}
+use Rattle.std.proofs.Common.{◌≡◌, ℕ, zero, suc, ◌+◌, ◌<◌, ◌⊎◌, inl, inr, List, [], ◌∷◌, ◌++◌, length, take, set, slice_get, Option, Some, None, Contains, ap, sym, ◌∙◌, subst, arith, length-set, take_at}
 use Rattle.std.proofs.lemmas.Bool.{cases_eq}
 use Rattle.std.proofs.lemmas.Option.{same_Some, slice_get_within, slice_get-get_or}
 use Rattle.std.proofs.lemmas.List.{length-replicate, take-append-le}
@@ -8,8 +8,8 @@ use Rattle.tb_expand.specs.declared.walk.Visit.{Visit}
 use Rattle.tb_expand.specs.declared.walk.Visit.TheVariants.{New, Open, Done}
 use Rattle.tb_expand.specs.declared.walk.Walk.{Walk}
 use Rattle.tb_expand.specs.Graphs.{Graph, next_places, IsClosed, AllDiffer, IsOrder}
-use Rattle.tb_expand.specs.Walks.{IsWay, IsWalk, IsKnown, GoesOn, ComesRound, HasBegun, HasEnded, IsAtRest, start_of, opened, advanced, closed, left_at, left_in}
-use Rattle.tb_expand.proofs.Readings.{none_in, contains_at, past_end, read_set, read_set_same, read_set_other, read_push, read_replicate, in_more, in_whole}
+use Rattle.tb_expand.specs.Walks.{IsWay, IsWalk, GoesOn, ComesRound, HasBegun, IsAtRest, start_of, opened, advanced, closed, left_at, left_in}
+use Rattle.tb_expand.proofs.Readings.{none_in, contains_at, read_set, read_set_same, read_set_other, read_push, read_replicate, in_more, in_whole}
 use Rattle.tb_expand.proofs.Differing.{differ_front, differ_push, way_front, way_push}
 
 left_less_at : (graph : Graph) (visits : List Visit) (place : ℕ) (old new : Visit) → slice_get visits place ≡ Some old → length visits ≡ length graph

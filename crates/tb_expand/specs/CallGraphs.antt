@@ -1,5 +1,5 @@
 -- The graph of calls of a script, by the places of its processes.
-use Rattle.std.specs.Prelude.{◌≡◌, ℕ, List, [], map, slice_index_or, option_to_list, flat_map, Contains}
+use Rattle.std.specs.Prelude.{ℕ, List, [], map, slice_index_or, option_to_list, flat_map, Contains}
 use Rattle.tb_syntax.specs.declared.script.ProcDef.{ProcDef}
 use Rattle.tb_syntax.specs.declared.script.Script.{Script}
 use Rattle.tb_types.specs.NamePlaces.{place_of, process_name}

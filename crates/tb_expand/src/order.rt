@@ -18,8 +18,8 @@ pub(crate) enum Ordered {
     Round(Places),
 }
 
-/// Orders the places of a graph, or finds a way that comes round. It takes one step for each place
-/// and two for each place to which one leads.
+/// Orders the places of a graph, or finds a way that comes round. It takes at most one step for each
+/// place, and two for each place to which one leads.
 pub(crate) fn topological_order(alloc: Global, graph: &Graph) -> Result<Ordered, NoMemory>
     requires { IsClosed graph.now }
     ensures { IfOk result (IsOrdered graph.now) }
