@@ -2,7 +2,7 @@ use crate::{ExpandFault, expand};
 use std::alloc::Global;
 use std::test::Fail;
 use tb_body::Body;
-use tb_syntax::{ActDef, AtomDef, Call, Proc, ProcDef, Script};
+use tb_syntax::{ActDef, AtomDef, Call, Proc, ProcDef, ProcDefs, Script};
 use tb_terms::{Boxed, Ident, Items, Name};
 use tb_types::check;
 
@@ -47,13 +47,28 @@ fn twice(alloc: Global, number: usize) -> Result<Proc, Fail> {
     Ok(Proc::Seq(x, y))
 }
 
-/// `process P0 is P1 . P1` and so on, this many times, and then `process Pn is tau`.
-fn doubling(alloc: Global, times: usize) -> Result<Script, Fail> {
+/// `process P0 is P1 . P1` and so on, this many times.
+fn doubling(alloc: Global, times: usize) -> Result<ProcDefs, Fail> {
     let mut procs = Items::new(alloc);
     for number in 0..times {
         procs.push(defined(alloc, number, twice(alloc, number + 1)?)?)?;
     }
-    procs.push(defined(alloc, times, tau(alloc)?)?)?;
+    Ok(procs)
+}
+
+/// `process P0 is P1` and so on, this many times.
+fn chain(alloc: Global, times: usize) -> Result<ProcDefs, Fail> {
+    let mut procs = Items::new(alloc);
+    for number in 0..times {
+        procs.push(defined(alloc, number, call(alloc, number + 1)?)?)?;
+    }
+    Ok(procs)
+}
+
+/// The script of these processes and one more.
+fn ending(alloc: Global, mut procs: ProcDefs, last: Proc) -> Result<Script, Fail> {
+    let number = procs.len();
+    procs.push(defined(alloc, number, last)?)?;
     Ok(Script {
         procs,
         tools: Items::new(alloc),
@@ -61,18 +76,14 @@ fn doubling(alloc: Global, times: usize) -> Result<Script, Fail> {
     })
 }
 
-/// `process P0 is P1` and so on, this many times, and then `process Pn is LAST`.
-fn chain(alloc: Global, times: usize, last: Proc) -> Result<Script, Fail> {
-    let mut procs = Items::new(alloc);
-    for number in 0..times {
-        procs.push(defined(alloc, number, call(alloc, number + 1)?)?)?;
-    }
-    procs.push(defined(alloc, times, last)?)?;
-    Ok(Script {
-        procs,
-        tools: Items::new(alloc),
-        roots: Items::new(alloc),
-    })
+/// `process P0 is P1 . P1` and so on, this many times, and then `process Pn is tau`.
+fn doubled(alloc: Global, times: usize) -> Result<Script, Fail> {
+    Ok(ending(alloc, doubling(alloc, times)?, tau(alloc)?)?)
+}
+
+/// `process P0 is P1` and so on, this many times, and then `process Pn is tau`.
+fn chained(alloc: Global, times: usize) -> Result<Script, Fail> {
+    Ok(ending(alloc, chain(alloc, times)?, tau(alloc)?)?)
 }
 
 /// What is made of P0.
@@ -93,7 +104,7 @@ fn is_too_large(outcome: &Result<Body, ExpandFault>) -> bool {
 
 #[test]
 fn atoms_double(rt: HostRuntime) -> Result<(), Fail> {
-    let body = first_of(rt.alloc(), &doubling(rt.alloc(), 4)?)??;
+    let body = first_of(rt.alloc(), &doubled(rt.alloc(), 4)?)??;
     assert_eq!(rt; body.atoms.len(), 16);
     assert_eq!(rt; body.sorts.len(), 0);
     Ok(())
@@ -101,10 +112,10 @@ fn atoms_double(rt: HostRuntime) -> Result<(), Fail> {
 
 #[test]
 fn atoms_are_bounded(rt: HostRuntime) -> Result<(), Fail> {
-    let body = first_of(rt.alloc(), &doubling(rt.alloc(), 14)?)??;
+    let body = first_of(rt.alloc(), &doubled(rt.alloc(), 14)?)??;
     assert_eq!(rt; body.atoms.len(), 16384);
     for times in [15, 100, 400] {
-        let outcome = first_of(rt.alloc(), &doubling(rt.alloc(), times)?)?;
+        let outcome = first_of(rt.alloc(), &doubled(rt.alloc(), times)?)?;
         assert!(rt; is_too_large(&outcome), "{times} times");
     }
     Ok(())
@@ -113,9 +124,9 @@ fn atoms_are_bounded(rt: HostRuntime) -> Result<(), Fail> {
 #[test]
 fn levels_are_bounded(rt: HostRuntime) -> Result<(), Fail> {
     let alloc = rt.alloc();
-    let body = first_of(alloc, &chain(alloc, 999, tau(alloc)?)?)??;
+    let body = first_of(alloc, &chained(alloc, 999)?)??;
     assert_eq!(rt; body.atoms.len(), 1);
-    let outcome = first_of(alloc, &chain(alloc, 1000, tau(alloc)?)?)?;
+    let outcome = first_of(alloc, &chained(alloc, 1000)?)?;
     assert!(rt; is_too_large(&outcome));
     Ok(())
 }
@@ -123,7 +134,7 @@ fn levels_are_bounded(rt: HostRuntime) -> Result<(), Fail> {
 #[test]
 fn cycles_are_named(rt: HostRuntime) -> Result<(), Fail> {
     let alloc = rt.alloc();
-    let outcome = first_of(alloc, &chain(alloc, 2, call(alloc, 0)?)?)?;
+    let outcome = first_of(alloc, &ending(alloc, chain(alloc, 2)?, call(alloc, 0)?)?)?;
     let mut named = Vec::new(alloc);
     if let Err(ExpandFault::Recursion(names)) = &outcome {
         for name in names.as_slice() {
