@@ -1,0 +1,319 @@
+-- Rows that stand for the processes of a bus: what a search over them finds is what the bus may do.
+use Rattle.std.proofs.Common.{◌≡◌, ℕ, ◌+◌, ◌<◌, ◌≤◌, ◌==◌, zero, suc, List, [], ◌∷◌, ◌++◌, map, filter, take, drop, refl, ap, sym, ◌∙◌, arith, Option, Some, None, option_map, Bool, true, false, not, nat_lt, nat_le, append-nil, slice_get, slice_index_or, if◌then◌else◌}
+use Rattle.std.proofs.lemmas.Grind.{flat_map-append}
+use Rattle.std.proofs.lemmas.Bool.{leb-true, leb-false, lt-ltb, le-leb, le-ltb, lt-leb}
+use Rattle.std.proofs.lemmas.List.{map-append}
+use Rattle.std.proofs.lemmas.Option.{get_or_from_slice_get}
+use Rattle.std.specs.List.{flat_map}
+use Rattle.tb_terms.specs.declared.term.Term.{Term}
+use Rattle.tb_match.specs.declared.bind.Bind.{Bind}
+use Rattle.tb_match.specs.Matches.{match_list}
+use Rattle.tb_body.specs.declared.atom.Atom.{Atom}
+use Rattle.tb_body.specs.declared.body.Body.{Body}
+use Rattle.tb_algebra.specs.Offers.{Offered, offers}
+use Rattle.tb_bus.specs.Buses.{Bus, Proc, atoms_of}
+use Rattle.tb_bus.specs.Actions.{action_of}
+use Rattle.tb_bus.specs.Steps.{Move, Handshake, Halt, handshake_if, handshake_of, handshakes_with, handshakes, moves_by, moves_of, moves_of_all, moves, moves_while_up, moves_or_halt}
+use Rattle.tb_bus.specs.Candidates.{first, ready_one, readies, received_if, reception, receptions, partner_in, partners, candidates_by, candidates_among, candidates_of, candidates_from, up_to, candidates_in_turn, candidates_or_halt, candidates_while_up, all_candidates, ascend}
+use Rattle.tb_bus.specs.Views.{IsRowOf, AreRowsOf, no_proc, no_offer, no_ready, proc_at, ready_at, offer_at, offer_of, own_move, move_of}
+use Rattle.tb_bus.specs.Views.{sent_in}
+use Rattle.tb_bus.specs.declared.action.Action.{Action}
+use Rattle.tb_bus.specs.declared.action.Action.TheVariants as action
+use Rattle.tb_bus.specs.declared.living.Ready.{Ready}
+use Rattle.tb_bus.specs.Candidates.{Row}
+use Rattle.tb_bus.specs.declared.candidate.Received.{Received}
+use Rattle.tb_bus.specs.declared.candidate.Partner.{Partner}
+use Rattle.tb_bus.specs.declared.candidate.Candidate.{Candidate}
+use Rattle.tb_bus.specs.declared.candidate.Candidate.TheVariants as candidate
+use Rattle.tb_bus.proofs.PartLemmas.{StandAt, stand-whole, stand-drop, stand-take, map-twice, both-append}
+use Rattle.tb_bus.proofs.TurnLemmas.{ascend-first}
+
+-- what stands at a place of a row
+pub ready_at-is : (rows : List Row) (at place : ℕ) (row : Row) (ready : Ready) → slice_get rows at ≡ Some row → slice_get row.ready place ≡ Some ready → ready_at rows at place ≡ ready
+ready_at-is rows at place row ready e f =
+    ap (λ (r : Row). slice_index_or r.ready place no_ready) (get_or_from_slice_get rows at row _ e)
+    ∙ get_or_from_slice_get row.ready place ready no_ready f
+
+-- What is apply of each offer with its deed can be apply of the ready ones alone, where nothing is apply of an
+-- offer without a deed.
+module _ {M : Type 0} (g : Offered → Option Action → List M) (none : (offered : Offered) → g offered None ≡ []) (atoms : List Atom) (now : ℕ) (offs : List Offered) where
+  offered-one : (at : ℕ) (offered : Offered) (did : Option Action) → slice_get offs at ≡ Some offered →
+      flat_map (λ (ready : Ready). g (slice_index_or offs ready.offer no_offer) (Some ready.action)) (ready_one at offered did) ≡ g offered did
+  offered-one at offered None e = sym (none offered)
+  offered-one at offered (Some did) e =
+      append-nil (g (slice_index_or offs at no_offer) (Some did))
+      ∙ ap (λ o. g o (Some did)) (get_or_from_slice_get offs at offered no_offer e)
+
+  offered-readies : (at : ℕ) (some : List Offered) → StandAt offs at some →
+      flat_map (λ (ready : Ready). g (slice_index_or offs ready.offer no_offer) (Some ready.action)) (readies atoms now at some)
+      ≡ flat_map (λ offered. g offered (action_of atoms now offered)) some
+  offered-readies at [] h = refl
+  offered-readies at (offered ∷ others) h =
+      flat_map-append (λ (ready : Ready). g (slice_index_or offs ready.offer no_offer) (Some ready.action)) (ready_one at offered (action_of atoms now offered)) (readies atoms now (at + 1) others)
+      ∙ both-append _ _ _ _ (offered-one at offered (action_of atoms now offered) h.0) (offered-readies (at + 1) others h.1)
+
+-- with whom a process shakes hands, by what a search for a partner found
+abbrev shaken : List Proc → List Row → Proc → Offered → List Term → Partner → Move
+shaken procs rows sender sent terms partner =
+    Handshake sender sent (proc_at procs partner.living) (offer_of procs rows partner.living partner.received.action) terms partner.received.binds
+
+-- the receiver at a place
+abbrev pub partner_at : ℕ → Received → Partner
+partner_at at received = record { living = at; received = received }
+
+module _ (procs : List Proc) (rows : List Row) (sender : Proc) (sent : Offered) (terms : List Term) where
+  shaken-if : (at place : ℕ) (proc : Proc) (ready : Ready) → proc_at procs at ≡ proc → ready_at rows at place ≡ ready → (found : Option (List Bind)) →
+      map (λ received. shaken procs rows sender sent terms (partner_at at received)) (received_if place found) ≡ handshake_if sender sent terms proc (offer_at proc ready.offer) found
+  shaken-if at place proc ready e f None = refl
+  shaken-if at place proc ready e f (Some binds) =
+      ap (λ (p : Proc). Handshake sender sent p (offer_at p (ready_at rows at place).at) terms binds ∷ []) e
+      ∙ ap (λ (r : Ready). Handshake sender sent proc (offer_at proc r.at) terms binds ∷ []) f
+
+  shaken-reception : (at place : ℕ) (proc : Proc) (ready : Ready) → proc_at procs at ≡ proc → ready_at rows at place ≡ ready → (did : Action) →
+      map (λ received. shaken procs rows sender sent terms (partner_at at received)) (reception terms place did) ≡ handshake_of sender sent terms proc (offer_at proc ready.offer) (Some did)
+  shaken-reception at place proc ready e f (action.Own own) = refl
+  shaken-reception at place proc ready e f (action.Send other) = refl
+  shaken-reception at place proc ready e f (action.Receive patterns) = shaken-if at place proc ready e f (match_list patterns terms)
+
+  -- the deeds of one process that receive are its handshakes
+  shaken-receptions : (at : ℕ) (row : Row) (proc : Proc) → slice_get rows at ≡ Some row → slice_get procs at ≡ Some proc → (place : ℕ) (some : List Ready) → StandAt row.ready place some →
+      map (λ received. shaken procs rows sender sent terms (partner_at at received)) (receptions terms place some)
+      ≡ flat_map (λ (ready : Ready). handshake_of sender sent terms proc (offer_at proc ready.offer) (Some ready.action)) some
+  shaken-receptions at row proc e f place [] h = refl
+  shaken-receptions at row proc e f place (ready ∷ others) h =
+      map-append (λ received. shaken procs rows sender sent terms (partner_at at received)) (reception terms place ready.action) (receptions terms (place + 1) others)
+      ∙ both-append _ _ _ _
+      (shaken-reception at place proc ready (get_or_from_slice_get procs at proc no_proc f) (ready_at-is rows at place row ready e h.0) ready.action)
+      (shaken-receptions at row proc e f (place + 1) others h.1)
+
+-- one process, where it isn't the sender, and the others
+partner-by : (f : Partner → Move) (b : Bool) (found : List Partner) (moves rest : List Move) → map f found ≡ moves → map f (if b then [] else found) ++ rest ≡ (if not b then moves ++ rest else rest)
+partner-by f true found moves rest e = refl
+partner-by f false found moves rest e = ap (λ ms. ms ++ rest) e
+
+kept-by : (f : Proc → List Move) (b : Bool) (proc : Proc) (procs : List Proc) → (if b then f proc ++ flat_map f procs else flat_map f procs) ≡ flat_map f (if b then proc ∷ procs else procs)
+kept-by f true proc procs = refl
+kept-by f false proc procs = refl
+
+module _ (bus : Bus) (rows : List Row) where
+  shaken-with : (sender : Proc) (sent : Offered) (terms : List Term) (at : ℕ) (row : Row) (proc : Proc) → slice_get rows at ≡ Some row → slice_get bus.procs at ≡ Some proc → IsRowOf bus.program.bodies bus.now row proc →
+      map (λ received. shaken bus.procs rows sender sent terms (partner_at at received)) (receptions terms 0 row.ready) ≡ handshakes_with bus sender sent terms proc
+  unfolding handshakes_with
+  shaken-with sender sent terms at row proc e f is =
+      shaken-receptions bus.procs rows sender sent terms at row proc e f 0 row.ready (stand-whole row.ready)
+      ∙ ap (flat_map (λ (ready : Ready). handshake_of sender sent terms proc (offer_at proc ready.offer) (Some ready.action))) is.ready
+      ∙ offered-readies (handshake_of sender sent terms proc) (λ offered. refl) (atoms_of bus.program.bodies proc.body) bus.now (offers proc.term proc.store) 0 (offers proc.term proc.store) (stand-whole (offers proc.term proc.store))
+
+  -- the partners that a search finds are those with whom there are handshakes
+  shaken-partners : (sender : Proc) (sent : Offered) (terms : List Term) (at : ℕ) (some : List Row) (them : List Proc) → StandAt rows at some → StandAt bus.procs at them → AreRowsOf bus.program.bodies bus.now some them →
+      map (shaken bus.procs rows sender sent terms) (partners sender.number terms at some) ≡ flat_map (handshakes_with bus sender sent terms) (filter (λ other. not (other.number == sender.number)) them)
+  shaken-partners sender sent terms at [] [] e f h = refl
+  shaken-partners sender sent terms at [] (proc ∷ them) e f h = absurd h
+  shaken-partners sender sent terms at (row ∷ some) [] e f h = absurd h
+  shaken-partners sender sent terms at (row ∷ some) (proc ∷ them) e f h =
+      let view = shaken bus.procs rows sender sent terms in
+      let meets = handshakes_with bus sender sent terms in
+      let others = filter (λ (other : Proc). not (other.number == sender.number)) them in
+      map-append view (partner_in sender.number terms at row) (partners sender.number terms (at + 1) some)
+      ∙ ap (λ ms. map view (partner_in sender.number terms at row) ++ ms) (shaken-partners sender sent terms (at + 1) some them e.1 f.1 h.1)
+      ∙ partner-by view (row.number == sender.number) (map (partner_at at) (receptions terms 0 row.ready)) (meets proc) (flat_map meets others)
+      (map-twice view (partner_at at) (receptions terms 0 row.ready) ∙ shaken-with sender sent terms at row proc e.0 f.0 h.0)
+      ∙ ap (λ n. if not (n == sender.number) then meets proc ++ flat_map meets others else flat_map meets others) h.0.number
+      ∙ kept-by meets (not (proc.number == sender.number)) proc others
+
+  module _ (are : AreRowsOf bus.program.bodies bus.now rows bus.procs) where
+    shaken-all : (sender : Proc) (sent : Offered) (terms : List Term) → map (shaken bus.procs rows sender sent terms) (partners sender.number terms 0 rows) ≡ handshakes bus sender sent terms
+    unfolding handshakes
+    shaken-all sender sent terms = shaken-partners sender sent terms 0 rows bus.procs (stand-whole rows) (stand-whole bus.procs) are
+
+    -- what one deed leads to
+    moved-by : (at place number : ℕ) (proc : Proc) (ready : Ready) → proc_at bus.procs at ≡ proc → ready_at rows at place ≡ ready → number ≡ proc.number → (did : Action) → ready.action ≡ did →
+        map (move_of bus.procs rows) (candidates_by rows at number place did) ≡ moves_by bus proc (offer_at proc ready.offer) (Some did)
+    moved-by at place number proc ready e f n (action.Own own) d =
+        ap (λ (p : Proc). own_move p (offer_at p (ready_at rows at place).at) (ready_at rows at place).action ∷ []) e
+        ∙ ap (λ (r : Ready). own_move proc (offer_at proc r.at) r.action ∷ []) f
+        ∙ ap (λ d. own_move proc (offer_at proc ready.offer) d ∷ []) d
+    moved-by at place number proc ready e f n (action.Send terms) d =
+        let partners_now = partners number terms 0 rows in
+        map-twice (move_of bus.procs rows) (candidate.Handshake at place) partners_now
+        ∙ ap (λ (p : Proc). map (shaken bus.procs rows p (offer_at p (ready_at rows at place).at) (sent_in (ready_at rows at place).action)) partners_now) e
+        ∙ ap (λ (r : Ready). map (shaken bus.procs rows proc (offer_at proc r.at) (sent_in r.action)) partners_now) f
+        ∙ ap (λ d. map (shaken bus.procs rows proc (offer_at proc ready.offer) (sent_in d)) partners_now) d
+        ∙ ap (λ n. map (shaken bus.procs rows proc (offer_at proc ready.offer) terms) (partners n terms 0 rows)) n
+        ∙ shaken-all proc (offer_at proc ready.offer) terms
+    moved-by at place number proc ready e f n (action.Receive patterns) d = refl
+
+    -- what the deeds of one process lead to
+    moved-among : (at : ℕ) (row : Row) (proc : Proc) → slice_get rows at ≡ Some row → slice_get bus.procs at ≡ Some proc → row.number ≡ proc.number → (place : ℕ) (some : List Ready) → StandAt row.ready place some →
+        map (move_of bus.procs rows) (candidates_among rows at row.number place some) ≡ flat_map (λ (ready : Ready). moves_by bus proc (offer_at proc ready.offer) (Some ready.action)) some
+    moved-among at row proc e f n place [] h = refl
+    moved-among at row proc e f n place (ready ∷ others) h =
+        map-append (move_of bus.procs rows) (candidates_by rows at row.number place ready.action) (candidates_among rows at row.number (place + 1) others)
+        ∙ both-append _ _ _ _
+        (moved-by at place row.number proc ready (get_or_from_slice_get bus.procs at proc no_proc f) (ready_at-is rows at place row ready e h.0) n ready.action refl)
+        (moved-among at row proc e f n (place + 1) others h.1)
+
+    moved-of : (at : ℕ) (row : Row) (proc : Proc) → slice_get rows at ≡ Some row → slice_get bus.procs at ≡ Some proc → IsRowOf bus.program.bodies bus.now row proc →
+        map (move_of bus.procs rows) (candidates_of rows at row) ≡ moves_of bus proc
+    unfolding moves_of
+    moved-of at row proc e f is =
+        moved-among at row proc e f is.number 0 row.ready (stand-whole row.ready)
+        ∙ ap (flat_map (λ (ready : Ready). moves_by bus proc (offer_at proc ready.offer) (Some ready.action))) is.ready
+        ∙ offered-readies (moves_by bus proc) (λ offered. refl) (atoms_of bus.program.bodies proc.body) bus.now (offers proc.term proc.store) 0 (offers proc.term proc.store) (stand-whole (offers proc.term proc.store))
+
+    -- what a part of the processes leads to
+    moved-from : (at : ℕ) (some : List Row) (them : List Proc) → StandAt rows at some → StandAt bus.procs at them → AreRowsOf bus.program.bodies bus.now some them →
+        map (move_of bus.procs rows) (candidates_from rows at some) ≡ flat_map (moves_of bus) them
+    moved-from at [] [] e f h = refl
+    moved-from at [] (proc ∷ them) e f h = absurd h
+    moved-from at (row ∷ some) [] e f h = absurd h
+    moved-from at (row ∷ some) (proc ∷ them) e f h =
+        map-append (move_of bus.procs rows) (candidates_of rows at row) (candidates_from rows (at + 1) some)
+        ∙ both-append _ _ _ _ (moved-of at row proc e.0 f.0 h.0) (moved-from (at + 1) some them e.1 f.1 h.1)
+
+-- the first of what is apply of each
+pub first-map : {A B : Type 0} (f : A → B) (xs : List A) → option_map f (first xs) ≡ first (map f xs)
+first-map f [] = refl
+first-map f (x ∷ xs) = refl
+
+-- one element of a filtered list, by how its test goes
+filter-in : {A : Type 0} (p : A → Bool) (x : A) (xs : List A) (b : Bool) → b ≡ true → (if b then x ∷ xs else xs) ≡ x ∷ xs
+filter-in p x xs true e = refl
+filter-in p x xs false e = cc
+
+filter-out : {A : Type 0} (p : A → Bool) (x : A) (xs : List A) (b : Bool) → b ≡ false → (if b then x ∷ xs else xs) ≡ xs
+filter-out p x xs true e = cc
+filter-out p x xs false e = refl
+
+abbrev is_after : ℕ → Proc → Bool
+is_after last proc = nat_lt last proc.number
+
+abbrev is_up_to : ℕ → Proc → Bool
+is_up_to last proc = nat_le proc.number last
+
+kept : (p : Proc → Bool) (proc : Proc) (procs : List Proc) → p proc ≡ true → filter p (proc ∷ procs) ≡ proc ∷ filter p procs
+kept p proc procs e = filter-in p proc (filter p procs) (p proc) e
+
+dropped : (p : Proc → Bool) (proc : Proc) (procs : List Proc) → p proc ≡ false → filter p (proc ∷ procs) ≡ filter p procs
+dropped p proc procs e = filter-out p proc (filter p procs) (p proc) e
+
+module _ (bodies : List Body) (now : ℕ) where
+  rows-drop : (k : ℕ) (rows : List Row) (procs : List Proc) → AreRowsOf bodies now rows procs → AreRowsOf bodies now (drop k rows) (drop k procs)
+  rows-drop zero rows procs h = h
+  rows-drop (suc k) [] [] h = h
+  rows-drop (suc k) [] (proc ∷ procs) h = absurd h
+  rows-drop (suc k) (row ∷ rows) [] h = absurd h
+  rows-drop (suc k) (row ∷ rows) (proc ∷ procs) h = rows-drop k rows procs h.1
+
+  rows-take : (k : ℕ) (rows : List Row) (procs : List Proc) → AreRowsOf bodies now rows procs → AreRowsOf bodies now (take k rows) (take k procs)
+  rows-take zero rows procs h = tt
+  rows-take (suc k) [] [] h = tt
+  rows-take (suc k) [] (proc ∷ procs) h = absurd h
+  rows-take (suc k) (row ∷ rows) [] h = absurd h
+  rows-take (suc k) (row ∷ rows) (proc ∷ procs) h = (h.0, rows-take k rows procs h.1)
+
+  -- where all numbers are above the last starter's, all are after it
+  all-after : (below last : ℕ) (rows : List Row) (procs : List Proc) → last ≤ below → AreRowsOf bodies now rows procs → ascend below rows ≡ true → filter (is_after last) procs ≡ procs
+  all-after below last [] [] le h a = refl
+  all-after below last [] (proc ∷ procs) le h a = absurd h
+  all-after below last (row ∷ rows) [] le h a = absurd h
+  all-after below last (row ∷ rows) (proc ∷ procs) le h a =
+      let t = ascend-first below row rows a in
+      let n = h.0.number in
+      let above : last < row.number = omega (arith, t.0) in
+      let here : is_after last proc ≡ true = lt-ltb last proc.number (omega (arith, n, above)) in
+      kept (is_after last) proc procs here
+      ∙ ap (λ ps. proc ∷ ps) (all-after row.number last rows procs (omega (arith, above)) h.1 t.1)
+
+  none-up_to : (below last : ℕ) (rows : List Row) (procs : List Proc) → last ≤ below → AreRowsOf bodies now rows procs → ascend below rows ≡ true → filter (is_up_to last) procs ≡ []
+  none-up_to below last [] [] le h a = refl
+  none-up_to below last [] (proc ∷ procs) le h a = absurd h
+  none-up_to below last (row ∷ rows) [] le h a = absurd h
+  none-up_to below last (row ∷ rows) (proc ∷ procs) le h a =
+      let t = ascend-first below row rows a in
+      let n = h.0.number in
+      let above : last < row.number = omega (arith, t.0) in
+      let here : is_up_to last proc ≡ false = lt-leb proc.number last (omega (arith, n, above)) in
+      dropped (is_up_to last) proc procs here
+      ∙ none-up_to row.number last rows procs (omega (arith, above)) h.1 t.1
+
+  after-by : (below last : ℕ) (row : Row) (rows : List Row) (proc : Proc) (procs : List Proc) → AreRowsOf bodies now (row ∷ rows) (proc ∷ procs) → ascend below (row ∷ rows) ≡ true →
+      filter (is_after last) procs ≡ drop (up_to last rows) procs → filter (is_up_to last) procs ≡ take (up_to last rows) procs →
+      (b : Bool) → nat_le row.number last ≡ b →
+      (filter (is_after last) (proc ∷ procs) ≡ drop (if b then 1 + up_to last rows else 0) (proc ∷ procs)) × (filter (is_up_to last) (proc ∷ procs) ≡ take (if b then 1 + up_to last rows else 0) (proc ∷ procs))
+  after-by below last row rows proc procs h a f g true b =
+      let n = h.0.number in
+      let small : row.number ≤ last = leb-true row.number last b in
+      let here : is_after last proc ≡ false = le-ltb last proc.number (omega (arith, n, small)) in
+      let there : is_up_to last proc ≡ true = le-leb proc.number last (omega (arith, n, small)) in
+      let one : 1 + up_to last rows ≡ suc (up_to last rows) = omega arith in
+      (rw one (dropped (is_after last) proc procs here ∙ f), rw one (kept (is_up_to last) proc procs there ∙ ap (λ ps. proc ∷ ps) g))
+  after-by below last row rows proc procs h a f g false b =
+      let n = h.0.number in
+      let t = ascend-first below row rows a in
+      let above : last < row.number = leb-false row.number last b in
+      let here : is_after last proc ≡ true = lt-ltb last proc.number (omega (arith, n, above)) in
+      let there : is_up_to last proc ≡ false = lt-leb proc.number last (omega (arith, n, above)) in (
+        kept (is_after last) proc procs here ∙ ap (λ ps. proc ∷ ps) (all-after row.number last rows procs (omega (arith, above)) h.1 t.1),
+        dropped (is_up_to last) proc procs there ∙ none-up_to row.number last rows procs (omega (arith, above)) h.1 t.1,
+      )
+
+  -- those up to the last starter stand in front, as their rows do
+  turn-parts : (below last : ℕ) (rows : List Row) (procs : List Proc) → AreRowsOf bodies now rows procs → ascend below rows ≡ true →
+      (filter (is_after last) procs ≡ drop (up_to last rows) procs) × (filter (is_up_to last) procs ≡ take (up_to last rows) procs)
+  turn-parts below last [] [] h a = (refl, refl)
+  turn-parts below last [] (proc ∷ procs) h a = absurd h
+  turn-parts below last (row ∷ rows) [] h a = absurd h
+  turn-parts below last (row ∷ rows) (proc ∷ procs) h a =
+      let t = ascend-first below row rows a in
+      let rest = turn-parts row.number last rows procs h.1 t.1 in
+      after-by below last row rows proc procs h a rest.0 rest.1 (nat_le row.number last) refl
+
+-- What a search in turn finds is what the processes may do, in turn.
+pub moves_in_turn : (bus : Bus) (rows : List Row) → AreRowsOf bus.program.bodies bus.now rows bus.procs → ascend 0 rows ≡ true →
+    map (move_of bus.procs rows) (candidates_in_turn rows bus.last_starter) ≡ moves_of_all bus
+unfolding candidates_in_turn moves_of_all
+moves_in_turn bus rows are a =
+    let at = up_to bus.last_starter rows in
+    let bodies = bus.program.bodies in
+    let view = move_of bus.procs rows in
+    let parts = turn-parts bodies bus.now 0 bus.last_starter rows bus.procs are a in
+    let after = filter (is_after bus.last_starter) bus.procs in
+    let others = filter (is_up_to bus.last_starter) bus.procs in
+    map-append view (candidates_from rows at (drop at rows)) (candidates_from rows 0 (take at rows))
+    ∙ both-append _ _ _ _
+    (moved-from bus rows are at (drop at rows) (drop at bus.procs) (stand-drop at rows) (stand-drop at bus.procs) (rows-drop bodies bus.now at rows bus.procs are) ∙ ap (flat_map (moves_of bus)) (sym parts.0))
+    (moved-from bus rows are 0 (take at rows) (take at bus.procs) (stand-take at rows) (stand-take at bus.procs) (rows-take bodies bus.now at rows bus.procs are) ∙ ap (flat_map (moves_of bus)) (sym parts.1))
+    ∙ sym (flat_map-append (moves_of bus) after others)
+
+or_halt-map : (view : Candidate → Move) → view candidate.Halt ≡ Halt → (no_ticks : Bool) (founds : List Candidate) → map view (candidates_or_halt no_ticks founds) ≡ moves_or_halt no_ticks (map view founds)
+or_halt-map view e true [] = ap (λ move. move ∷ []) e
+or_halt-map view e false [] = refl
+or_halt-map view e no_ticks (found ∷ founds) = refl
+
+while_up-map : (bus : Bus) (rows : List Row) → AreRowsOf bus.program.bodies bus.now rows bus.procs → ascend 0 rows ≡ true →
+    (some : List Row) (them : List Proc) → AreRowsOf bus.program.bodies bus.now some them → map (move_of bus.procs rows) (candidates_while_up rows bus.last_starter bus.no_ticks some) ≡ moves_while_up bus them
+while_up-map bus rows are a [] [] h = refl
+while_up-map bus rows are a [] (proc ∷ them) h = absurd h
+while_up-map bus rows are a (row ∷ some) [] h = absurd h
+while_up-map bus rows are a (row ∷ some) (proc ∷ them) h =
+    or_halt-map (move_of bus.procs rows) refl bus.no_ticks (candidates_in_turn rows bus.last_starter)
+    ∙ ap (moves_or_halt bus.no_ticks) (moves_in_turn bus rows are a)
+
+down-map : (view : Candidate → Move) (down : Bool) (founds : List Candidate) → map view (if down then [] else founds) ≡ (if down then [] else map view founds)
+down-map view true founds = refl
+down-map view false founds = refl
+
+-- What a search finds is what may happen next, in order.
+pub moves_found : (bus : Bus) (rows : List Row) → AreRowsOf bus.program.bodies bus.now rows bus.procs → ascend 0 rows ≡ true →
+    map (move_of bus.procs rows) (all_candidates rows bus.last_starter bus.no_ticks bus.down) ≡ moves bus
+unfolding all_candidates moves
+moves_found bus rows are a =
+    down-map (move_of bus.procs rows) bus.down (candidates_while_up rows bus.last_starter bus.no_ticks rows)
+    ∙ ap (λ ms. if bus.down then [] else ms) (while_up-map bus rows are a rows bus.procs are)
+
+-- The first that a search finds is the first move.
+pub first_moves : (bus : Bus) (rows : List Row) → AreRowsOf bus.program.bodies bus.now rows bus.procs → ascend 0 rows ≡ true →
+    option_map (move_of bus.procs rows) (first (all_candidates rows bus.last_starter bus.no_ticks bus.down)) ≡ first (moves bus)
+first_moves bus rows are a =
+    first-map (move_of bus.procs rows) (all_candidates rows bus.last_starter bus.no_ticks bus.down) ∙ ap first (moves_found bus rows are a)

@@ -1,0 +1,112 @@
+-- The order in which the processes are asked, where they stand by their numbers.
+use Rattle.std.proofs.Common.{◌≡◌, ℕ, ◌<◌, ◌≤◌, zero, suc, List, [], ◌∷◌, ◌++◌, take, drop, length, refl, ap, sym, ◌∙◌, arith, rules, Some, None, Bool, true, false, ◌==◌, nat_lt, nat_le, get_or}
+use Rattle.std.proofs.lemmas.Bool.{leb-true, le-leb, eqb-true}
+use Rattle.std.specs.List.{AllWithin}
+use Rattle.std.specs.List.Sorted.{IsPartitionedBy, IsPartitionPoint}
+use Rattle.tb_bus.specs.Candidates.{first, candidates_from, candidates_in_turn, candidates_or_halt, all_candidates, up_to, ascend}
+use Rattle.tb_bus.specs.Candidates.{Row}
+use Rattle.tb_bus.specs.declared.candidate.Candidate.{Candidate}
+use Rattle.tb_bus.specs.declared.candidate.Candidate.TheVariants.{Finish}
+use Rattle.tb_terms.proofs.SameLemmas.{both-true}
+
+-- the first number is above the bound, and the others ascend from it
+pub ascend-first : (below : ℕ) (row : Row) (rows : List Row) → ascend below (row ∷ rows) ≡ true → (below < row.number) × (ascend row.number rows ≡ true)
+ascend-first below row rows h = let t = both-true (nat_lt below row.number) (ascend row.number rows) h in (search (rules), t.1)
+
+-- each number is above the bound
+pub ascend-above : (below : ℕ) (rows : List Row) (k : ℕ) (d : Row) → ascend below rows ≡ true → k < length rows → below < (get_or rows k d).number
+ascend-above below [] k d h l = absurd (omega arith)
+ascend-above below (row ∷ rows) zero d h l = (ascend-first below row rows h).0
+ascend-above below (row ∷ rows) (suc k) d h l =
+    let t = ascend-first below row rows h in
+    let above = ascend-above row.number rows k d t.1 (omega arith) in
+    omega arith
+
+ascend-upto : (below : ℕ) (rows : List Row) (i j : ℕ) (d : Row) → ascend below rows ≡ true → i ≤ j → j < length rows → (get_or rows i d).number ≤ (get_or rows j d).number
+ascend-upto below [] i j d h l m = absurd (omega arith)
+ascend-upto below (row ∷ rows) zero zero d h l m = omega arith
+ascend-upto below (row ∷ rows) (suc i) zero d h l m = absurd (omega arith)
+ascend-upto below (row ∷ rows) zero (suc j) d h l m = let above = ascend-above row.number rows j d (ascend-first below row rows h).1 (omega arith) in omega arith
+ascend-upto below (row ∷ rows) (suc i) (suc j) d h l m = ascend-upto row.number rows i j d (ascend-first below row rows h).1 (omega arith) (omega arith)
+
+-- those up to a number stand in front
+pub partitioned-by_number : (rows : List Row) (number : ℕ) → ascend 0 rows ≡ true → IsPartitionedBy (λ row. nat_le row.number number) rows
+partitioned-by_number rows number h i j d le within passes =
+    let small : (get_or rows j d).number ≤ number = leb-true _ _ passes in
+    let between = ascend-upto 0 rows i j d h le within in
+    le-leb (get_or rows i d).number number (omega arith)
+
+up_to-within : (last : ℕ) (rows : List Row) (i : ℕ) → i ≤ length rows →
+    AllWithin (λ row. nat_le row.number last ≡ true) rows 0 i → AllWithin (λ row. nat_le row.number last ≡ false) rows i (length rows) → i ≡ up_to last rows
+up_to-within last [] i le f g = omega arith
+up_to-within last (row ∷ rows) zero le f g =
+    let e : nat_le row.number last ≡ false = g 0 row (omega arith) (omega arith) in
+    rw e refl
+up_to-within last (row ∷ rows) (suc i) le f g =
+    let e : nat_le row.number last ≡ true = f 0 row (omega arith) (omega arith) in
+    let rest : i ≡ up_to last rows = up_to-within last rows i (omega arith) (λ k d l h. f (suc k) d (omega arith) (omega arith)) (λ k d l h. g (suc k) d (omega arith) (omega arith)) in
+    rw e (omega arith)
+
+-- the point between those up to a number and the others is how many the former are
+pub up_to-point : (last : ℕ) (rows : List Row) (i : ℕ) → i ≤ length rows →
+    IsPartitionPoint (λ row. nat_le row.number last ≡ true) (λ row. nat_le row.number last ≡ false) rows i → i ≡ up_to last rows
+up_to-point last rows i le h = up_to-within last rows i le h.0 h.1
+
+first-append_some : {A : Type 0} (xs ys : List A) (x : A) → Some x ≡ first xs → Some x ≡ first (xs ++ ys)
+first-append_some [] ys x e = cc
+first-append_some (y ∷ xs) ys x e = e
+
+none-from_first : {A : Type 0} (xs : List A) → None ≡ first xs → xs ≡ []
+none-from_first [] e = refl
+none-from_first (x ∷ xs) e = cc
+
+-- what is found behind the last starter is the first in turn
+pub turn-found : (rows : List Row) (last start : ℕ) (found : Candidate) → start ≡ up_to last rows → Some found ≡ first (candidates_from rows start (drop start rows)) → Some found ≡ first (candidates_in_turn rows last)
+unfolding candidates_in_turn
+turn-found rows last start found e hit =
+    first-append_some (candidates_from rows (up_to last rows) (drop (up_to last rows) rows)) (candidates_from rows 0 (take (up_to last rows) rows)) found (rw e at hit)
+
+-- where nothing is found there, the first of the others is
+pub turn-again : (rows : List Row) (last start : ℕ) → start ≡ up_to last rows → None ≡ first (candidates_from rows start (drop start rows)) → first (candidates_from rows 0 (take start rows)) ≡ first (candidates_in_turn rows last)
+unfolding candidates_in_turn
+turn-again rows last start e miss =
+    let at = up_to last rows in
+    let nothing : candidates_from rows at (drop at rows) ≡ [] = none-from_first (candidates_from rows at (drop at rows)) (rw e at miss) in
+    ap (λ k. first (candidates_from rows 0 (take k rows))) e ∙ sym (ap (λ fs. first (fs ++ candidates_from rows 0 (take at rows))) nothing)
+
+or_halt-some : (no_ticks : Bool) (founds : List Candidate) (found : Candidate) → Some found ≡ first founds → Some found ≡ first (candidates_or_halt no_ticks founds)
+or_halt-some no_ticks [] found e = cc
+or_halt-some no_ticks (f ∷ founds) found e = e
+
+or_halt-none : (no_ticks : Bool) (founds : List Candidate) → None ≡ first founds → first (candidates_or_halt no_ticks []) ≡ first (candidates_or_halt no_ticks founds)
+or_halt-none no_ticks [] e = refl
+or_halt-none no_ticks (f ∷ founds) e = cc
+
+-- nothing happens on a bus that is down
+pub first_all-down : (rows : List Row) (last : ℕ) (no_ticks down : Bool) → down ≡ true → None ≡ first (all_candidates rows last no_ticks down)
+unfolding all_candidates
+first_all-down rows last no_ticks true e = refl
+first_all-down rows last no_ticks false e = cc
+
+-- where no process is left, the bus finishes
+pub first_all-finish : (rows : List Row) (last : ℕ) (no_ticks down : Bool) → down ≡ false → (length rows == 0) ≡ true → Some Finish ≡ first (all_candidates rows last no_ticks down)
+unfolding all_candidates
+first_all-finish rows last no_ticks true e f = cc
+first_all-finish [] last no_ticks false e f = refl
+first_all-finish (row ∷ rows) last no_ticks false e f = let nobody : length (row ∷ rows) ≡ 0 = eqb-true _ _ f in absurd (omega arith)
+
+-- what the processes do first happens first
+pub first_all-some : (rows : List Row) (last : ℕ) (no_ticks down : Bool) (found : Candidate) → down ≡ false → (length rows == 0) ≡ false →
+    Some found ≡ first (candidates_in_turn rows last) → Some found ≡ first (all_candidates rows last no_ticks down)
+unfolding all_candidates
+first_all-some rows last no_ticks true found e f hit = cc
+first_all-some [] last no_ticks false found e f hit = cc
+first_all-some (row ∷ rows) last no_ticks false found e f hit = or_halt-some no_ticks (candidates_in_turn (row ∷ rows) last) found hit
+
+-- where they can do nothing, only the halt is left
+pub first_all-none : (rows : List Row) (last : ℕ) (no_ticks down : Bool) → down ≡ false → (length rows == 0) ≡ false →
+    None ≡ first (candidates_in_turn rows last) → first (candidates_or_halt no_ticks []) ≡ first (all_candidates rows last no_ticks down)
+unfolding all_candidates
+first_all-none rows last no_ticks true e f miss = cc
+first_all-none [] last no_ticks false e f miss = cc
+first_all-none (row ∷ rows) last no_ticks false e f miss = or_halt-none no_ticks (candidates_in_turn (row ∷ rows) last) miss

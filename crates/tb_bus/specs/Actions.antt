@@ -1,0 +1,63 @@
+-- What an offered atom does, as its process's own store says: its action.
+use Rattle.std.specs.Prelude.{ℕ, Bool, List, [], ◌∷◌, Option, Some, None, option_map, option_and_then, if◌then◌else◌}
+use Rattle.tb_terms.specs.declared.term.Term.{Term}
+use Rattle.tb_func.specs.declared.slot.Slot.{Slot}
+use Rattle.tb_match.specs.declared.bind.Bind.{Bind}
+use Rattle.tb_body.specs.declared.act.Act.{Act}
+use Rattle.tb_body.specs.declared.act.Act.TheVariants.{Delta, Tau, SndMsg, RecMsg, SndNote, RecNote, NoNote, Subscribe, Unsubscribe, Create, Set, Printf, Execute, RecConnect, RecDisconnectAny, RecDisconnect, SndEval, RecValue, SndDo, RecEvent, SndAckEvent, SndTerminate, Shutdown}
+use Rattle.tb_body.specs.declared.atom.Atom.{Atom}
+use Rattle.tb_algebra.specs.Atoms.{act_of, times_of, is_ready, values_together, patterns_of}
+use Rattle.tb_algebra.specs.Binds.{takes_bind}
+use Rattle.tb_algebra.specs.Offers.{Offered}
+use Rattle.tb_bus.specs.declared.action.Action.{Action}
+use Rattle.tb_bus.specs.declared.action.Action.TheVariants as action
+use Rattle.tb_bus.specs.declared.action.OwnAction.TheVariants as own
+
+-- a slot is set to a value that has its sort
+abbrev pub set_bind : List Slot → Bind → Option Action
+set_bind store bind = if takes_bind store bind then Some (action.Own (own.Set (bind.value ∷ []) (bind ∷ []))) else None
+
+abbrev pub set_action : List Slot → ℕ → List Term → Option Action
+set_action store slot [] = None
+set_action store slot (value ∷ []) = set_bind store (record { slot = slot; value = value })
+set_action store slot (value ∷ other ∷ values) = None
+
+-- What an atom does in a store, where its arguments have values: one line an atom.
+abbrev pub action_in : List Slot → Act → Option Action
+-- it never happens
+action_in store Delta = None
+-- it happens by itself
+action_in store Tau = Some (action.Own own.Tau)
+-- it happens by itself, and the slot takes the value
+action_in store (Set slot value) = option_and_then (set_action store slot) (values_together store (value ∷ []))
+-- it happens with a process that receives these values
+action_in store (SndMsg exprs) = option_map action.Send (values_together store exprs)
+-- it happens with a process that sends what matches these patterns
+action_in store (RecMsg exprs) = option_map action.Receive (patterns_of store exprs)
+-- these don't happen yet
+action_in store (SndNote exprs) = None
+action_in store (RecNote exprs) = None
+action_in store (NoNote exprs) = None
+action_in store (Subscribe exprs) = None
+action_in store (Unsubscribe exprs) = None
+action_in store (Create process actuals slot) = None
+action_in store (Printf exprs) = None
+action_in store (Execute tool slot) = None
+action_in store (RecConnect tool slot) = None
+action_in store (RecDisconnectAny tool slot) = None
+action_in store (RecDisconnect tool) = None
+action_in store (SndEval tool expr) = None
+action_in store (RecValue tool expr) = None
+action_in store (SndDo tool expr) = None
+action_in store (RecEvent tool exprs) = None
+action_in store (SndAckEvent tool exprs) = None
+action_in store (SndTerminate tool expr) = None
+action_in store (Shutdown reason) = None
+
+-- an atom does nothing before all its times hold
+abbrev pub action_if : Bool → List Slot → Act → Option Action
+action_if ready store act = if ready then action_in store act else None
+
+-- the action of an offered atom, on a bus that has seen so many ticks
+abbrev pub action_of : List Atom → ℕ → Offered → Option Action
+action_of atoms now offered = action_if (is_ready offered.store offered.age now (times_of atoms offered.atom)) offered.store (act_of atoms offered.atom)

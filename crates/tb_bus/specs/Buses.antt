@@ -1,0 +1,72 @@
+-- The whole state of a bus, and the one that a program opens with.
+use Rattle.std.specs.Prelude.{ℕ, ◌+◌, List, [], ◌∷◌, ◌++◌, map, Bool, false, Option, Some, None, slice_get}
+use Rattle.tb_terms.specs.declared.term.Term.{Term}
+use Rattle.tb_func.specs.declared.slot.Slot.{Slot}
+use Rattle.tb_func.specs.Stores.{fresh_slot, with_value}
+use Rattle.tb_body.specs.declared.atom.Atom.{Atom}
+use Rattle.tb_body.specs.declared.body.Body.{Body}
+use Rattle.tb_body.specs.declared.program.Program.{Program}
+use Rattle.tb_body.specs.declared.program.Root.{Root}
+use Rattle.tb_algebra.specs.Processes.{Process, fresh}
+use Rattle.tb_bus.specs.declared.origin.Origin.{Origin}
+
+-- a process that is alive: its number, which of the bodies it has, its term and its store
+pub record Proc : Type 0 where
+  pub number : ℕ
+  pub body : ℕ
+  pub term : Process
+  pub store : List Slot
+
+-- The opening bus has its processes by their numbers, the smallest first, and steps keep their order.
+pub record Bus : Type 0 where
+  pub program : Program
+  pub procs : List Proc
+  -- how many ticks there were
+  pub now : ℕ
+  -- the process that began the last step of a process, the sender where it was a handshake; 0 before any
+  pub last_starter : ℕ
+  -- no more ticks come
+  pub no_ticks : Bool
+  pub down : Bool
+
+abbrev pub atoms_in : Option Body → List Atom
+atoms_in None = []
+atoms_in (Some body) = body.atoms
+
+-- the atoms of a body, by its number from 0
+abbrev pub atoms_of : List Body → ℕ → List Atom
+atoms_of bodies number = atoms_in (slice_get bodies number)
+
+-- the process that is left of one, where anything is
+abbrev pub proc_left : ℕ → ℕ → List Slot → Option Process → List Proc
+proc_left number body store None = []
+proc_left number body store (Some term) = record { number = number; body = body; term = term; store = store } ∷ []
+
+-- the slots with these values from this slot on
+abbrev pub with_values : List Slot → ℕ → List Term → List Slot
+with_values slots slot [] = slots
+with_values slots slot (term ∷ terms) = with_values (with_value slots slot term) (slot + 1) terms
+
+-- the store of a process as it begins: its actuals in the first slots, and the others with the values of their sorts
+abbrev pub opening_store : Body → List Term → List Slot
+opening_store body actuals = with_values (map fresh_slot body.sorts) 0 actuals
+
+abbrev pub opened_one : ℕ → Root → Option Body → List Proc
+opened_one number root None = []
+opened_one number root (Some body) = proc_left number root.process (opening_store body root.actuals) (Some (fresh body.tree))
+
+-- the roots, numbered from this number on, each as its body is entered
+abbrev pub opened : List Body → ℕ → List Root → List Proc
+opened bodies number [] = []
+opened bodies number (root ∷ roots) = opened_one number root (slice_get bodies root.process) ++ opened bodies (number + 1) roots
+
+-- the bus that a program opens with
+abbrev pub start : Origin → Bus
+start origin = record {
+  program = origin.program;
+  procs = opened origin.program.bodies 1 origin.program.roots;
+  now = 0;
+  last_starter = 0;
+  no_ticks = false;
+  down = false;
+}

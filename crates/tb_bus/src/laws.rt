@@ -1,0 +1,31 @@
+ghost use Rattle.std.specs.Prelude.{◌≡◌, ◌≢◌, ◌++◌, List, Contains};
+ghost use Rattle.std.specs.List.{AllPairs};
+ghost use Rattle.tb_log.specs.declared.entry.Entry.{Entry};
+ghost use Rattle.tb_bus.specs.declared.origin.Origin.{Origin};
+ghost use Rattle.tb_bus.specs.Buses.{Bus};
+ghost use Rattle.tb_bus.specs.Steps.{Step, steps};
+ghost use Rattle.tb_bus.specs.Traces.{IsLegal, IsTrace, after, replay};
+ghost use Rattle.tb_bus.specs.Reached.{Reaches};
+
+/// Each prefix of a trace is a trace; and where one trace leads, another may follow.
+pub fn prefixes_are_traces()
+    ensures prefix { (bus : Bus) (log more : List Entry) → IsTrace bus (log ++ more) → IsTrace bus log }
+    ensures rest { (bus : Bus) (log more : List Entry) → IsTrace bus (log ++ more) → IsTrace (replay bus log) more }
+    ensures joined { (bus : Bus) (log more : List Entry) → IsTrace bus log → IsTrace (replay bus log) more → IsTrace bus (log ++ more) }
+{}
+
+/// In a bus that a program reaches the labels of the steps differ, each from each.
+pub fn labels_differ()
+    ensures { (origin : Origin) (bus : Bus) → Reaches origin bus → AllPairs (λ (one other : Step). one.label ≢ other.label) (steps bus) }
+{}
+
+/// In a bus that a program reaches, steps that are seen alike are the same step.
+pub fn one_step_a_label()
+    ensures { (origin : Origin) (bus : Bus) (one other : Step) → Reaches origin bus →
+        Contains (steps bus) one → Contains (steps bus) other → one.label ≡ other.label → one ≡ other }
+{}
+
+/// From a bus that a program reaches, an entry leads to one bus.
+pub fn one_bus_after_an_entry()
+    ensures { (origin : Origin) (bus next : Bus) (entry : Entry) → Reaches origin bus → IsLegal bus entry next → next ≡ after bus entry }
+{}

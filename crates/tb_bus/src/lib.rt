@@ -1,0 +1,19 @@
+//! The bus: its processes, all that may happen next and in which order, and which logs are its traces. What
+//! a search for the next step goes through stands here too, whatever walkers the processes have.
+#![tactic(auto)]
+
+mod action;
+mod candidate;
+mod laws;
+mod living;
+mod origin;
+mod search;
+#[cfg(test)]
+mod search_tests;
+
+pub use action::{Action, OwnAction};
+pub use candidate::{Candidate, Partner, Received};
+pub use laws::{labels_differ, one_bus_after_an_entry, one_step_a_label, prefixes_are_traces};
+pub use living::{Living, Ready};
+pub use origin::Origin;
+pub use search::first_candidate;

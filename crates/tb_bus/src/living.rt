@@ -1,0 +1,26 @@
+ghost use Rattle.std.specs.Prelude.{◌≡◌};
+
+use crate::action::Action;
+
+/// An offer of a process that is ready for an action: its index among the offers, and its atom.
+#[derive(Debug, Drop)]
+pub struct Ready {
+    pub offer: usize,
+    pub atom: u32,
+    pub action: Action,
+}
+
+/// A process that is alive.
+#[derive(Drop)]
+pub struct Living<W> {
+    /// From 1, in the order of the roots.
+    pub number: u32,
+    /// Which of the bodies it has, from 0.
+    pub body: u32,
+    /// The process on its way through its body.
+    pub walker: W,
+    /// What it is ready to do, in text order.
+    pub ready: Vec<Ready>,
+    /// Whether `ready` says what it is ready to do now.
+    pub fresh: bool,
+}

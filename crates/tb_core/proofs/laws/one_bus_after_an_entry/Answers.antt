@@ -1,5 +1,0 @@
-use Rattle.tb_core.proofs.ReachedLemmas.{one-bus-after}
-use Rattle.tb_core.proofs.laws.one_bus_after_an_entry.Goals as goal
-
-pub returns : goal.returns
-returns c = one-bus-after

@@ -1,5 +1,0 @@
-use Rattle.tb_core.proofs.ReachedLemmas.{one-step-a-label}
-use Rattle.tb_core.proofs.laws.one_step_a_label.Goals as goal
-
-pub returns : goal.returns
-returns c = one-step-a-label

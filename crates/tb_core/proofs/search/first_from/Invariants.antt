@@ -1,9 +1,0 @@
-use Rattle.std.proofs.Common.{◌≡◌, ◌+◌, drop}
-use Rattle.tb_core.specs.Rows.{first, founds_from, AreKnown}
-use Rattle.tb_core.proofs.search.first_from.Given as goal
-
--- the processes that are left decide
-abbrev pub invariant-loop-offset : goal.invariant-loop-offset
-invariant-loop-offset l =
-    (first (founds_from l.rows (l.start + l.offset) (drop l.offset l.asked)) ≡ first (founds_from l.rows l.start l.asked))
-    × AreKnown l.known l.rows

@@ -1,7 +1,0 @@
-use Rattle.std.proofs.Common.{◌≡◌, drop}
-use Rattle.tb_core.specs.Rows.{first, receptions}
-use Rattle.tb_core.proofs.search.first_received.Given as goal
-
--- the deeds that are left decide
-abbrev pub invariant-loop-place : goal.invariant-loop-place
-invariant-loop-place l = first (receptions l.terms l.place (drop l.place l.deeds)) ≡ first (receptions l.terms 0 l.deeds)

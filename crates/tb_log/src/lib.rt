@@ -1,0 +1,8 @@
+//! The log: what happens on a bus, event by event, and the line of each.
+#![tactic(auto)]
+
+mod entry;
+mod text;
+
+pub use entry::{Entry, Input, Label, LabelKind, Place, Reply, Why};
+pub use text::write_entry;
