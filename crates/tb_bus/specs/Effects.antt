@@ -1,19 +1,11 @@
 -- What an action of a process by itself comes to on a bus: its effect, where it may happen.
-use Rattle.std.specs.Prelude.{List, [], Option, Some}
-use Rattle.tb_terms.specs.declared.term.Term.{Term}
-use Rattle.tb_match.specs.declared.bind.Bind.{Bind}
+use Rattle.std.specs.Prelude.{[], Option, Some}
 use Rattle.tb_algebra.specs.Offers.{Offered}
-use Rattle.tb_log.specs.declared.entry.LabelKind.{LabelKind}
 use Rattle.tb_log.specs.declared.entry.LabelKind.TheVariants as kind
 use Rattle.tb_bus.specs.Buses.{Bus, Proc}
+use Rattle.tb_bus.specs.declared.effect.Effect.{Effect}
 use Rattle.tb_bus.specs.declared.action.OwnAction.{OwnAction}
 use Rattle.tb_bus.specs.declared.action.OwnAction.TheVariants.{Tau, Set}
-
--- what is seen of it, and what the process binds
-pub record Effect : Type 0 where
-  pub kind : LabelKind
-  pub shown : List Term
-  pub binds : List Bind
 
 -- The effect of an action of a process with an offer of its own: one line an atom.
 abbrev pub effect_of : Bus → Proc → Offered → OwnAction → Option Effect

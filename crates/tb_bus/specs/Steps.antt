@@ -8,7 +8,8 @@ use Rattle.tb_algebra.specs.Binds.{with_binds}
 use Rattle.tb_algebra.specs.Offers.{Offered, offers}
 use Rattle.tb_bus.specs.Buses.{Bus, Proc, atoms_of, proc_left}
 use Rattle.tb_bus.specs.Actions.{action_of}
-use Rattle.tb_bus.specs.Effects.{Effect, effect_of}
+use Rattle.tb_bus.specs.Effects.{effect_of}
+use Rattle.tb_bus.specs.declared.effect.Effect.{Effect}
 use Rattle.tb_bus.specs.declared.action.Action.{Action}
 use Rattle.tb_bus.specs.declared.action.Action.TheVariants as action
 use Rattle.tb_log.specs.declared.entry.Place.{Place}

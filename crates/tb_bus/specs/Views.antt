@@ -8,7 +8,7 @@ use Rattle.tb_algebra.specs.Processes.{At}
 use Rattle.tb_algebra.specs.Offers.{Offered, offers}
 use Rattle.tb_bus.specs.Buses.{Bus, Proc, atoms_of}
 use Rattle.tb_bus.specs.Steps.{Move, Own, Handshake, Finish, Halt}
-use Rattle.tb_bus.specs.Effects.{Effect}
+use Rattle.tb_bus.specs.declared.effect.Effect.{Effect}
 use Rattle.tb_bus.specs.Candidates.{Row, row_at, readies}
 use Rattle.tb_log.specs.declared.entry.LabelKind.TheVariants as kind
 use Rattle.tb_bus.specs.declared.action.Action.{Action}

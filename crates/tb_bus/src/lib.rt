@@ -4,6 +4,7 @@
 
 mod action;
 mod candidate;
+mod effect;
 mod laws;
 mod living;
 mod origin;
@@ -13,6 +14,7 @@ mod search_tests;
 
 pub use action::{Action, OwnAction};
 pub use candidate::{Candidate, Partner, Received};
+pub use effect::{Effect, effect_in};
 pub use laws::{labels_differ, one_bus_after_an_entry, one_step_a_label, prefixes_are_traces};
 pub use living::{Living, Ready};
 pub use origin::Origin;

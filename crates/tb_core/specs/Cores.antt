@@ -1,14 +1,15 @@
 -- What a core stands for, and what each of its calls logs.
-use Rattle.std.specs.Prelude.{◌≡◌, List, [], ◌∷◌, ◌++◌, ◌-◌, length, slice_get, Option, Some, None, Bool, true, false, if◌then◌else◌}
+use Rattle.std.specs.Prelude.{◌≡◌, List, [], ◌∷◌, ◌++◌, ◌-◌, length, slice_get, Option, Some, None, Bool, true, false, option_to_list, refl}
 use Rattle.std.specs.Coded.{Coded, code_by, coded×, coded_bool, coded_list}
-use Rattle.std.specs.Prelude.{refl}
-use Rattle.tb_core.specs.Buses.{Bus, Origin, start}
-use Rattle.tb_core.specs.Codes.{origin_code}
-use Rattle.tb_core.specs.Steps.{Step, steps}
-use Rattle.tb_core.specs.Traces.{IsTrace, replay}
-use Rattle.tb_core.specs.declared.log.Entry.{Entry}
-use Rattle.tb_core.specs.declared.log.Entry.TheVariants.{Did, Quiet, Fed}
-use Rattle.tb_core.specs.contracts.log.Entry as entry
+use Rattle.tb_log.specs.declared.entry.Input.{Input}
+use Rattle.tb_log.specs.declared.entry.Entry.{Entry}
+use Rattle.tb_log.specs.declared.entry.Entry.TheVariants.{Did, Quiet, Fed}
+use Rattle.tb_log.specs.contracts.entry.Entry as entry
+use Rattle.tb_bus.specs.declared.origin.Origin.{Origin}
+use Rattle.tb_bus.specs.contracts.origin.Origin as origin
+use Rattle.tb_bus.specs.Buses.{Bus, start}
+use Rattle.tb_bus.specs.Steps.{Step, steps}
+use Rattle.tb_bus.specs.Traces.{IsTrace, fed, replay}
 use Rattle.tb_core.specs.declared.answers.Stepped.{Stepped}
 use Rattle.tb_core.specs.declared.answers.Stepped.TheVariants as stepped
 
@@ -20,7 +21,7 @@ pub record CoreState : Type 0 where
 
 abbrev pub core_code : Coded CoreState
 core_code =
-    code_by (Origin × (List Entry × Bool)) (coded× origin_code (coded× (coded_list entry.the_row.coded) coded_bool))
+    code_by (Origin × (List Entry × Bool)) (coded× origin.the_row.coded (coded× (coded_list entry.the_row.coded) coded_bool))
     (λ c. (c.origin, (c.log, c.stopped))) (λ t. record { origin = t.0; log = t.1.0; stopped = t.1.1 }) (λ _. refl)
 
 -- its bus is the one to which its log leads
@@ -31,12 +32,10 @@ bus_now core = replay (start core.origin) core.log
 abbrev pub started : Origin → CoreState
 started origin = record { origin = origin; log = []; stopped = false }
 
--- A call logs these entries, which are a trace from the bus before it, and changes nothing else.
-pub record Logs (old new : CoreState) (entries : List Entry) : Type 0 where
-  pub origin : new.origin ≡ old.origin
-  pub log : new.log ≡ old.log ++ entries
-  pub stopped : new.stopped ≡ old.stopped
-  pub trace : IsTrace (bus_now old) entries
+-- a call that may log an entry
+pub data Call : Type 0 where
+  HandIn : Input → Call
+  MakeStep : Call
 
 abbrev pub says_quiet : Option Entry → Bool
 says_quiet None = false
@@ -48,15 +47,31 @@ says_quiet (Some (Fed input reply)) = false
 abbrev pub ends_quiet : List Entry → Bool
 ends_quiet log = says_quiet (slice_get log (length log - 1))
 
-abbrev pub first_did : List Step → List Entry
-first_did [] = []
-first_did (step ∷ rest) = Did step.label ∷ []
+-- what a step logs, on a bus that is down or not, after a log that says quiet or not
+abbrev pub step_entry : Bool → Bool → List Step → Option Entry
+-- nothing on a bus that is down
+step_entry true quiet steps = None
+-- the first of the steps
+step_entry false quiet (step ∷ rest) = Some (Did step.label)
+-- that nothing is possible, unless that was said last
+step_entry false true [] = None
+step_entry false false [] = Some Quiet
 
--- What a step logs: the first of the steps; that nothing is possible, unless that was said last; nothing on a bus that is down.
-abbrev pub entries_stepped : CoreState → Stepped → List Entry
-entries_stepped core stepped.Did = first_did (steps (bus_now core))
-entries_stepped core stepped.Quiet = if ends_quiet core.log then [] else Quiet ∷ []
-entries_stepped core stepped.Down = []
+-- What a call logs, where it isn't refused: a function of the core alone.
+abbrev pub would_log : CoreState → Call → Option Entry
+would_log core (HandIn input) = Some (Fed input (fed (bus_now core) input).reply)
+would_log core MakeStep = step_entry (bus_now core).down (ends_quiet core.log) (steps (bus_now core))
+
+-- the entries that a call adds to the log
+abbrev pub entries_of : CoreState → Call → List Entry
+entries_of core call = option_to_list (would_log core call)
+
+-- A call logs these entries, which are a trace from the bus before it, and changes nothing else.
+pub record Logs (old new : CoreState) (entries : List Entry) : Type 0 where
+  pub origin : new.origin ≡ old.origin
+  pub log : new.log ≡ old.log ++ entries
+  pub stopped : new.stopped ≡ old.stopped
+  pub trace : IsTrace (bus_now old) entries
 
 -- When a step answers so: where there is a step, where there is none and the bus isn't down, and where it is down.
 abbrev pub IsStep : CoreState → Stepped → Type 0

@@ -1,16 +1,3 @@
-pub mod Buses
-pub mod Deeds
-pub mod Steps
-pub mod LogText
-pub mod Rows
-pub mod Labels
-pub mod Views
+pub mod Cores
 pub mod Lives
 pub mod LiveBuses
-pub mod Traces
-pub mod Codes
-pub mod Cores
-pub mod Simulation
-pub mod Turns
-pub mod Reached
-pub mod Standing

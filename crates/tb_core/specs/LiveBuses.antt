@@ -1,66 +1,91 @@
--- The bus that the code's fields stand for, and what is prepared for a step.
-use Rattle.std.specs.Prelude.{◌≡◌, ℕ, List, [], map, true, Option, Some, slice_get, ⊤}
+-- The bus for which the fields of a core stand, and when they stand for what contracts see of it.
+use Rattle.std.specs.Prelude.{◌≡◌, ◌≤◌, ◌⊎◌, ℕ, List, [], map, length, true, Some, slice_get, slice_set, Contains}
+use Rattle.std.specs.List.{All}
 use Rattle.tb_match.specs.declared.bind.Bind.{Bind}
-use Rattle.tb_body.specs.declared.body.Body.{Body}
-use Rattle.tb_algebra.specs.declared.offer.Offer.{Offer}
 use Rattle.tb_algebra.specs.Offers.{Offered}
-use Rattle.tb_algebra.specs.Walks.{Walking}
-use Rattle.tb_core.specs.Buses.{Bus, Proc}
-use Rattle.tb_core.specs.Rows.{ascend, row_at}
-use Rattle.tb_core.specs.Views.{offer_of, ready_at}
-use Rattle.tb_core.specs.Lives.{AreLive, IsNext, procs_of}
-use Rattle.tb_core.specs.Labels.{own_binds}
-use Rattle.tb_core.specs.declared.row.Found.{Found}
-use Rattle.tb_core.specs.declared.row.Found.TheVariants as found
-use Rattle.tb_core.specs.declared.next.Next.{Next}
-use Rattle.tb_core.specs.declared.next.Prepared.{Prepared}
-use Rattle.tb_core.specs.declared.next.Prepared.TheVariants as prepared
+use Rattle.tb_algebra.specs.WalkerViews.{View}
+use Rattle.tb_log.specs.declared.entry.Entry.{Entry}
+use Rattle.tb_bus.specs.Buses.{Bus, Proc, start}
+use Rattle.tb_bus.specs.Steps.{advance, apply}
+use Rattle.tb_bus.specs.Views.{move_of}
+use Rattle.tb_bus.specs.Traces.{IsTrace, replay}
+use Rattle.tb_bus.specs.Candidates.{ascend, row_at, rows_of}
+use Rattle.tb_bus.specs.declared.living.Living.{Living}
+use Rattle.tb_bus.specs.declared.candidate.Candidate.{Candidate}
+use Rattle.tb_core.specs.Lives.{IsLive, procs_of}
 use Rattle.tb_core.specs.declared.bus.LiveBus.{LiveBus}
 
 -- the processes of the fields
-abbrev pub procs_in : {W P : Type 0} → (P → W → Walking) → LiveBus W P → List Proc
-procs_in walking bus = procs_of walking bus.plans bus.rows bus.walkers
+abbrev pub procs_in : {W P T : Type 0} → View P W T → LiveBus W P → List Proc
+procs_in view bus = procs_of view bus.plans bus.living.items
 
-abbrev pub bus_of : {W P : Type 0} → (P → W → Walking) → LiveBus W P → Bus
-bus_of walking bus = record {
-  program = bus.program;
-  procs = procs_in walking bus;
+abbrev pub bus_of : {W P T : Type 0} → View P W T → LiveBus W P → Bus
+bus_of view bus = record {
+  program = bus.origin.program;
+  procs = procs_in view bus;
   now = bus.ticks;
   last_starter = bus.last_starter;
   no_ticks = bus.no_ticks;
   down = bus.down;
 }
 
--- the plans are those of the bodies, and rows and walkers go together
-pub record IsSound {W P : Type 0} (body_of : P → Body) (on : P → W → Type 0) (walking : P → W → Walking) (seen : W → Option (List Offer)) (bus : LiveBus W P) : Type 0 where
-  pub in_order : ascend 0 bus.rows ≡ true
-  pub planned : map body_of bus.plans ≡ bus.program.bodies
-  pub live : AreLive body_of on walking seen bus.plans bus.ticks bus.rows bus.walkers
+-- all that is ready is what the processes are ready to do now
+abbrev pub AreFresh : {W : Type 0} → List (Living W) → Type 0
+AreFresh all = All (λ living. living.fresh ≡ true) all
 
--- how the process at a place goes on where it takes the offer of one of its deeds
-abbrev pub IsNextAt : {W P : Type 0} → (P → Body) → (P → W → Type 0) → (P → W → Walking) → (W → Option (List Offer)) → LiveBus W P → ℕ → ℕ → List Bind → Option (Next W) → Type 0
-IsNextAt {P = P} body_of on walking seen bus at place binds next =
-    (plan : P) × (slice_get bus.plans (row_at bus.rows at).body ≡ Some plan) ×
-    ((ticks : ℕ) × IsNext body_of on walking seen plan bus.ticks (row_at bus.rows at).number (row_at bus.rows at).body ticks binds (offer_of (procs_in walking bus) bus.rows at place) next)
+-- what one is ready to do is fresh, or its number stands among these
+abbrev pub IsFreshOr : {W : Type 0} → List ℕ → Living W → Type 0
+IsFreshOr stale living = (living.fresh ≡ true) ⊎ Contains stale living.number
 
--- how the process at a place went on, by some offer
-abbrev pub IsWent : {W P : Type 0} → (P → Body) → (P → W → Type 0) → (P → W → Walking) → (W → Option (List Offer)) → LiveBus W P → ℕ → Option (Next W) → Type 0
-IsWent {P = P} body_of on walking seen bus at next =
-    (plan : P) × (slice_get bus.plans (row_at bus.rows at).body ≡ Some plan) ×
-    ((ticks : ℕ) × (binds : List Bind) × (offered : Offered) × IsNext body_of on walking seen plan bus.ticks (row_at bus.rows at).number (row_at bus.rows at).body ticks binds offered next)
+-- The plans are those of the bodies, the living stand by their numbers, each lives by its plan, and those that have
+-- to be looked at anew are named.
+pub record IsSound {W P T : Type 0} (view : View P W T) (bus : LiveBus W P) : Type 0 where
+  pub in_order : ascend 0 (rows_of bus.living.items) ≡ true
+  pub planned : map view.body_of bus.plans ≡ bus.origin.program.bodies
+  pub live : All (IsLive view bus.plans bus.ticks) bus.living.items
+  pub fresh : All (IsFreshOr bus.stale.items) bus.living.items
 
--- what is prepared for a move that was found
-abbrev pub IsPrepared : {W P : Type 0} → (P → Body) → (P → W → Type 0) → (P → W → Walking) → (W → Option (List Offer)) → LiveBus W P → Found → Prepared W → Type 0
-IsPrepared body_of on walking seen bus (found.Own at place) (prepared.Own next) = IsNextAt body_of on walking seen bus at place (own_binds (ready_at bus.rows at place).deed) next
-IsPrepared body_of on walking seen bus (found.Own at place) (prepared.Both next other) = ⊥
-IsPrepared body_of on walking seen bus (found.Own at place) prepared.Down = ⊥
-IsPrepared body_of on walking seen bus (found.Handshake at place partner) (prepared.Own next) = ⊥
-IsPrepared body_of on walking seen bus (found.Handshake at place partner) (prepared.Both next other) =
-    IsNextAt body_of on walking seen bus at place [] next × IsNextAt body_of on walking seen bus partner.row partner.received.ready partner.received.binds other
-IsPrepared body_of on walking seen bus (found.Handshake at place partner) prepared.Down = ⊥
-IsPrepared body_of on walking seen bus found.Finish (prepared.Own next) = ⊥
-IsPrepared body_of on walking seen bus found.Finish (prepared.Both next other) = ⊥
-IsPrepared body_of on walking seen bus found.Finish prepared.Down = ⊤
-IsPrepared body_of on walking seen bus found.Halt (prepared.Own next) = ⊥
-IsPrepared body_of on walking seen bus found.Halt (prepared.Both next other) = ⊥
-IsPrepared body_of on walking seen bus found.Halt prepared.Down = ⊤
+-- the fields stand for the same bus as before
+pub record StandsAs {W P T : Type 0} (view : View P W T) (old new : LiveBus W P) : Type 0 where
+  pub sound : IsSound view new
+  pub bus : bus_of view new ≡ bus_of view old
+  pub origin : new.origin ≡ old.origin
+  pub plans : new.plans ≡ old.plans
+
+-- one of the living was changed to one of which this holds
+abbrev pub IsSetAt : {X : Type 0} → List X → ℕ → (X → Type 0) → List X → Type 0
+IsSetAt {X = X} old at P new = (x : X) × (new ≡ slice_set old at x) × P x
+
+-- what was taken is what the offer leaves of the process at an index
+abbrev pub Leaves : {W P T : Type 0} → View P W T → LiveBus W P → ℕ → T → Offered → Type 0
+Leaves {W = W} {P = P} view bus at taken offered =
+    (living : Living W) × (slice_get bus.living.items at ≡ Some living)
+    × ((plan : P) × (slice_get bus.plans living.body ≡ Some plan) × view.leaves plan living.walker taken offered)
+
+-- the process at an index went on with what the offer leaves, in the offered store with the binds set
+pub record IsAdvanced {W P T : Type 0} (view : View P W T) (old : LiveBus W P) (at : ℕ) (offered : Offered) (binds : List Bind) (new : LiveBus W P) : Type 0 where
+  pub sound : IsSound view new
+  pub bus : bus_of view new ≡ record (bus_of view old) { procs = advance (row_at (rows_of old.living.items) at).number offered binds (procs_in view old) }
+  pub origin : new.origin ≡ old.origin
+  pub plans : new.plans ≡ old.plans
+
+-- both parties of a handshake went on
+pub record AreAdvanced {W P T : Type 0} (view : View P W T) (old : LiveBus W P) (at : ℕ) (offered : Offered) (other : ℕ) (its : Offered) (binds : List Bind) (new : LiveBus W P) : Type 0 where
+  pub sound : IsSound view new
+  pub bus : bus_of view new ≡ record (bus_of view old) {
+    procs = advance (row_at (rows_of old.living.items) other).number its binds (advance (row_at (rows_of old.living.items) at).number offered [] (procs_in view old));
+  }
+  pub origin : new.origin ≡ old.origin
+
+-- the move of a candidate was made
+pub record IsMade {W P T : Type 0} (view : View P W T) (old : LiveBus W P) (candidate : Candidate) (new : LiveBus W P) : Type 0 where
+  pub sound : IsSound view new
+  pub bus : bus_of view new ≡ apply (bus_of view old) (move_of (procs_in view old) (rows_of old.living.items) candidate)
+  pub origin : new.origin ≡ old.origin
+
+-- The fields stand for the bus to which the log leads, the log is a trace, and each tick is an entry of it.
+pub record Represents {W P T : Type 0} (view : View P W T) (bus : LiveBus W P) (log : List Entry) : Type 0 where
+  pub sound : IsSound view bus
+  pub bus_is : bus_of view bus ≡ replay (start bus.origin) log
+  pub trace : IsTrace (start bus.origin) log
+  pub ticks : bus.ticks ≤ length log

@@ -1,30 +1,24 @@
-ghost use Rattle.std.specs.Prelude.{◌≡◌, [], IfOk};
-ghost use Rattle.tb_core.specs.Steps.{nowhere};
-ghost use Rattle.tb_core.specs.Labels.{kind_in, shown_in, sent_in};
-
-use crate::deed::Deed;
-use crate::going::take_offer;
-use crate::log::{Input, Label, LabelKind, Place, Reply, Why};
-use crate::next::{Next, Prepared};
-use crate::opening::{open_all, plan_all};
-use crate::row::{Found, Partner, Row};
-use crate::search::first_move;
+use crate::looking::{go_on, look};
+use crate::opening::{numbers_of, open_all, plan_all};
 use std::alloc::Global;
 use tb_algebra::Walker;
-use tb_body::Program;
+use tb_bus::{Action, Candidate, Living, Origin, Partner, Ready, Received, effect_in, first_candidate};
+use tb_log::{Input, Label, LabelKind, Place, Reply, Why};
 use tb_match::Binds;
-use tb_terms::{Boxed, Items, NoMemory, Terms, copy_terms};
+use tb_terms::{Items, NoMemory};
 
 const NOWHERE: Place = Place { proc: 0, atom: 0 };
 
-/// The state of a bus: for each process that is alive its row and its walker, at the same place.
+/// The state of a bus.
 #[derive(Drop)]
 pub struct LiveBus<W: Walker> {
-    pub program: Program,
+    pub origin: Origin,
     /// The plan of each body.
     pub plans: Items<W::Plan>,
-    pub rows: Items<Row>,
-    pub walkers: Items<Boxed<W>>,
+    /// The processes that are alive, by their numbers.
+    pub living: Vec<Living<W>>,
+    /// The numbers of those that have to be looked at anew; some of these may be gone.
+    pub stale: Vec<u32>,
     /// How many ticks there were.
     pub ticks: u64,
     pub last_starter: u32,
@@ -33,33 +27,32 @@ pub struct LiveBus<W: Walker> {
 }
 
 impl<W: Walker> LiveBus<W> {
-    ghost use Rattle.std.specs.Prelude.{◌≡◌, ℕ, ◌<◌, ◌≤◌, ◌+◌, ◌≢◌, List, [], length, IfOk, IfSome, IsTrue, Some, slice_get, true, map};
-    ghost use Rattle.std.specs.Option.{option_copied, option_map};
-    ghost use Rattle.tb_terms.specs.declared.term.Term.{Term};
+    ghost use Rattle.std.specs.Prelude.{◌≡◌, ℕ, ◌<◌, ◌≤◌, ◌+◌, ◌∷◌, ◌≢◌, List, [], length, vec_len, vec_capacity, Contains, IfOk, IfSome, IsTrue, OnOk, OnErr, Some, slice_get, true, false, option_map};
+    ghost use Rattle.std.specs.List.{All};
     ghost use Rattle.tb_match.specs.declared.bind.Bind.{Bind};
     ghost use Rattle.tb_algebra.specs.Binds.{takes_binds};
     ghost use Rattle.tb_algebra.specs.Offers.{Offered};
-    ghost use Rattle.tb_core.specs.Buses.{start};
-    ghost use Rattle.tb_core.specs.Steps.{moves, made, label_of, place_of, goes_on};
-    ghost use Rattle.tb_core.specs.Traces.{fed};
-    ghost use Rattle.tb_core.specs.Rows.{row_at, ascend, first};
-    ghost use Rattle.tb_core.specs.Views.{proc_at, ready_at, offer_of, move_of, IsFoundIn};
-    ghost use Rattle.tb_core.specs.LiveBuses.{bus_of, procs_in, IsSound, IsNextAt, IsWent, IsPrepared};
-    ghost use Rattle.tb_core.specs.Labels.{own_binds};
-    ghost use Rattle.tb_core.specs.Lives.{IsNext};
+    ghost use Rattle.tb_bus.specs.Buses.{start};
+    ghost use Rattle.tb_bus.specs.Steps.{moves, apply, label_of, nowhere};
+    ghost use Rattle.tb_bus.specs.Traces.{fed};
+    ghost use Rattle.tb_bus.specs.Candidates.{first, row_at, rows_of};
+    ghost use Rattle.tb_bus.specs.Views.{proc_at, ready_at, offer_of, move_of, IsCandidateIn};
+    ghost use Rattle.tb_core.specs.LiveBuses.{bus_of, procs_in, AreFresh, IsFreshOr, IsSound, IsSetAt, StandsAs, Leaves, IsAdvanced, AreAdvanced, IsMade};
 
-    /// The bus that a program opens with.
-    pub fn open(alloc: Global, program: Program) -> Result<LiveBus<W>, NoMemory>
-        ensures sound { IfOk result (IsSound W.body_of W.IsOn W.walking W.seen) }
-        ensures bus { IfOk result (λ bus. bus_of W.walking bus ≡ start (record { program = program })) }
+    /// The bus that a program opens with. Its processes are looked at later.
+    pub fn open(alloc: Global, origin: Origin) -> Result<LiveBus<W>, NoMemory>
+        ensures sound { IfOk result (IsSound W.view) }
+        ensures bus { IfOk result (λ bus. bus_of W.view bus ≡ start origin) }
+        ensures origin { IfOk result (λ bus. bus.origin ≡ origin) }
     {
-        let plans = plan_all::<W>(alloc, program.bodies.as_slice())?;
-        let opened = open_all::<W>(alloc, &program, &plans)?;
+        let plans = plan_all::<W>(alloc, origin.program.bodies.as_slice())?;
+        let living = open_all::<W>(alloc, &origin.program, &plans)?;
+        let stale = numbers_of(alloc, living.as_slice())?;
         Ok(LiveBus {
-            program,
+            origin,
             plans,
-            rows: opened.rows,
-            walkers: opened.walkers,
+            living,
+            stale,
             ticks: 0,
             last_starter: 0,
             no_ticks: false,
@@ -67,257 +60,275 @@ impl<W: Walker> LiveBus<W> {
         })
     }
 
-    /// The first of all moves.
-    pub fn first_move(&self, alloc: Global) -> Result<Option<Found>, NoMemory>
-        requires { IsSound W.body_of W.IsOn W.walking W.seen self.now }
-        ensures found { IfOk result (λ found. option_map (move_of (procs_in W.walking self.now) self.now.rows) found ≡ first (moves (bus_of W.walking self.now))) }
-        ensures stands { IfOk result (λ found. IfSome found (IsFoundIn self.now.rows)) }
+    /// Looks at a process anew, where it has to be.
+    fn freshen_at(&mut self, alloc: Global, at: usize) -> Result<(), NoMemory>
+        requires sound { IsSound W.view self.old }
+        requires within { at < length self.old.living.items }
+        ensures same { StandsAs W.view self.old self.new }
+        ensures set { IsSetAt self.old.living.items at (λ living. OnOk result (living.fresh ≡ true)) self.new.living.items }
+        ensures stale { self.new.stale ≡ self.old.stale }
     {
-        first_move(
+        let living = &mut self.living[at];
+        if living.fresh {
+            return Ok(());
+        }
+        let plan = &self.plans.as_slice()[living.body as usize];
+        let body = &self.origin.program.bodies.as_slice()[living.body as usize];
+        look(alloc, plan, body, living, self.ticks)
+    }
+
+    /// Looks at the process with this number anew, where it is there and has to be.
+    fn freshen_number(&mut self, alloc: Global, number: u32) -> Result<(), NoMemory>
+        requires { IsSound W.view self.old }
+        ensures same { StandsAs W.view self.old self.new }
+        ensures stale { self.new.stale ≡ self.old.stale }
+        ensures fresh { (others : List ℕ) → All (IsFreshOr (number ∷ others)) self.old.living.items → OnOk result (All (IsFreshOr others) self.new.living.items) }
+    {
+        let at = self.living.partition_point(|living| living.number < number);
+        if at < self.living.len() {
+            self.freshen_at(alloc, at)?;
+        }
+        Ok(())
+    }
+
+    /// Looks at all processes that have to be looked at.
+    pub fn freshen(&mut self, alloc: Global) -> Result<(), NoMemory>
+        requires { IsSound W.view self.old }
+        ensures same { StandsAs W.view self.old self.new }
+        ensures fresh { OnOk result (AreFresh self.new.living.items) }
+    {
+        for index in 0..self.stale.len() {
+            self.freshen_number(alloc, self.stale[index])?;
+        }
+        self.stale.clear();
+        Ok(())
+    }
+
+    /// The first of all moves.
+    pub fn first_candidate(&self, alloc: Global) -> Result<Option<Candidate>, NoMemory>
+        requires sound { IsSound W.view self.now }
+        requires fresh { AreFresh self.now.living.items }
+        ensures found { IfOk result (λ found. option_map (move_of (procs_in W.view self.now) (rows_of self.now.living.items)) found ≡ first (moves (bus_of W.view self.now))) }
+        ensures stands { IfOk result (λ found. IfSome found (IsCandidateIn (rows_of self.now.living.items))) }
+    {
+        first_candidate(
             alloc,
-            self.rows.as_slice(),
+            self.living.as_slice(),
             self.last_starter,
             self.no_ticks,
             self.down,
         )
     }
 
-    /// The deed at a place of the process at a place.
-    fn deed_at(&self, at: usize, place: usize) -> &Deed
-        requires within { at < length self.now.rows }
-        requires place_within { place < length (row_at self.now.rows at).ready }
-        ensures { result.now ≡ (ready_at self.now.rows at place).deed }
+    /// Takes the offer of one of the actions of a process, and changes nothing yet.
+    fn take_at(&self, alloc: Global, at: usize, index: usize) -> Result<W::Taken, NoMemory>
+        requires sound { IsSound W.view self.now }
+        requires fresh { AreFresh self.now.living.items }
+        requires within { at < length self.now.living.items }
+        requires index_within { index < length (row_at (rows_of self.now.living.items) at).ready }
+        ensures { IfOk result (λ taken. Leaves W.view self.now at taken (offer_of (procs_in W.view self.now) (rows_of self.now.living.items) at index)) }
     {
-        &self.rows.as_slice()[at].ready.as_slice()[place].deed
+        let living = &self.living[at];
+        let plan = &self.plans.as_slice()[living.body as usize];
+        living
+            .walker
+            .take(alloc, plan, living.ready[index].offer)
     }
 
-    fn place_at(&self, at: usize, place: usize) -> Place
-        requires sound { IsSound W.body_of W.IsOn W.walking W.seen self.now }
-        requires within { at < length self.now.rows }
-        requires place_within { place < length (row_at self.now.rows at).ready }
-        ensures { result ≡ place_of (proc_at (procs_in W.walking self.now) at) (offer_of (procs_in W.walking self.now) self.now.rows at place) }
+    /// One of the actions of a process, which has to be looked at anew from then on.
+    fn take_ready(&mut self, at: usize, index: usize) -> Ready
+        requires sound { IsSound W.view self.old }
+        requires within { at < length self.old.living.items }
+        requires index_within { index < length (row_at (rows_of self.old.living.items) at).ready }
+        requires named { Contains self.old.stale.items (row_at (rows_of self.old.living.items) at).number }
+        ensures ready { result ≡ ready_at (rows_of self.old.living.items) at index }
+        ensures same { StandsAs W.view self.old self.new }
+        ensures stale { self.new.stale ≡ self.old.stale }
+        ensures number { (row_at (rows_of self.new.living.items) at).number ≡ (row_at (rows_of self.old.living.items) at).number }
+        ensures others { (other : ℕ) → other ≢ at → slice_get self.new.living.items other ≡ slice_get self.old.living.items other }
+        ensures long { length self.new.living.items ≡ length self.old.living.items }
+        ensures leaves { (taken : W.Taken) (offered : Offered) → Leaves W.view self.old at taken offered → Leaves W.view self.new at taken offered }
     {
-        let row = &self.rows.as_slice()[at];
+        let living = &mut self.living[at];
+        living.fresh = false;
+        living.ready.swap_remove(index)
+    }
+
+    /// A process goes on with what was taken of it, and is gone where nothing is left.
+    fn advance_at(&mut self, at: usize, taken: W::Taken, binds: Binds)
+        requires sound { IsSound W.view self.old }
+        requires within { at < length self.old.living.items }
+        requires named { Contains self.old.stale.items (row_at (rows_of self.old.living.items) at).number }
+        requires taken { (offered : Offered) × Leaves W.view self.old at taken offered × IsTrue (takes_binds offered.store binds) }
+        ensures advanced { (offered : Offered) → Leaves W.view self.old at taken offered → IsAdvanced W.view self.old at offered binds self.new }
+        ensures before { (other : ℕ) → other < at → slice_get self.new.living.items other ≡ slice_get self.old.living.items other }
+        ensures long { length self.old.living.items ≤ length self.new.living.items + 1 }
+        ensures stale { self.new.stale ≡ self.old.stale }
+    {
+        let living = &mut self.living[at];
+        let plan = &self.plans.as_slice()[living.body as usize];
+        if go_on(plan, living, taken, binds) {
+            self.living.remove(at);
+        }
+    }
+
+    /// Makes a move that was found, and says what is seen of it. All memory is taken before anything changes.
+    pub fn make(&mut self, alloc: Global, candidate: Candidate) -> Result<Label, NoMemory>
+        requires sound { IsSound W.view self.old }
+        requires fresh { AreFresh self.old.living.items }
+        requires found { IsCandidateIn (rows_of self.old.living.items) candidate }
+        ensures sound { IsSound W.view self.new }
+        ensures origin { self.new.origin ≡ self.old.origin }
+        ensures label { IfOk result (λ label. label ≡ label_of (move_of (procs_in W.view self.old) (rows_of self.old.living.items) candidate)) }
+        ensures bus { OnOk result (bus_of W.view self.new ≡ apply (bus_of W.view self.old) (move_of (procs_in W.view self.old) (rows_of self.old.living.items) candidate)) }
+        ensures err { OnErr result (bus_of W.view self.new ≡ bus_of W.view self.old) }
+    {
+        self.stale.reserve(2)?;
+        match candidate {
+            Candidate::Own(at, index) => {
+                let taken = self.take_at(alloc, at, index)?;
+                Ok(self.make_own(alloc, at, index, taken))
+            }
+            Candidate::Handshake(at, index, partner) => {
+                let sent = self.take_at(alloc, at, index)?;
+                let received = self.take_at(alloc, partner.living, partner.received.action)?;
+                Ok(self.make_handshake(alloc, at, index, sent, partner, received))
+            }
+            Candidate::Finish => Ok(self.go_down(alloc, LabelKind::Finish)),
+            Candidate::Halt => Ok(self.go_down(alloc, LabelKind::Halt)),
+        }
+    }
+
+    fn place_at(&self, at: usize, index: usize) -> Place
+        requires within { at < length self.now.living.items }
+        requires index_within { index < length (row_at (rows_of self.now.living.items) at).ready }
+        ensures proc { result.proc ≡ (row_at (rows_of self.now.living.items) at).number }
+        ensures atom { result.atom ≡ (ready_at (rows_of self.now.living.items) at index).atom }
+    {
+        let living = &self.living[at];
         Place {
-            proc: row.number,
-            atom: row.ready.as_slice()[place].atom,
+            proc: living.number,
+            atom: living.ready[index].atom,
         }
     }
 
-    /// What is seen of a move that was found.
-    pub fn label(&self, alloc: Global, found: &Found) -> Result<Label, NoMemory>
-        requires sound { IsSound W.body_of W.IsOn W.walking W.seen self.now }
-        requires found { IsFoundIn self.now.rows found.now }
-        ensures { IfOk result (λ label. label ≡ label_of (move_of (procs_in W.walking self.now) self.now.rows found.now)) }
+    /// A process goes on by itself.
+    fn make_own(&mut self, alloc: Global, at: usize, index: usize, taken: W::Taken) -> Label
+        requires sound { IsSound W.view self.old }
+        requires fresh { AreFresh self.old.living.items }
+        requires found { IsCandidateIn (rows_of self.old.living.items) (Candidate.Own at index) }
+        requires taken { Leaves W.view self.old at taken (offer_of (procs_in W.view self.old) (rows_of self.old.living.items) at index) }
+        requires room { vec_len self.old.stale < vec_capacity self.old.stale }
+        ensures made { IsMade W.view self.old (Candidate.Own at index) self.new }
+        ensures label { result ≡ label_of (move_of (procs_in W.view self.old) (rows_of self.old.living.items) (Candidate.Own at index)) }
     {
-        match found {
-            Found::Own(at, place) => Ok(Label {
-                kind: kind_of(self.deed_at(*at, *place)),
-                from: self.place_at(*at, *place),
-                to: NOWHERE,
-                terms: shown(alloc, self.deed_at(*at, *place))?,
-            }),
-            Found::Handshake(at, place, partner) => Ok(Label {
-                kind: LabelKind::Msg,
-                from: self.place_at(*at, *place),
-                to: self.place_at(partner.row, partner.received.ready),
-                terms: sent(alloc, self.deed_at(*at, *place))?,
-            }),
-            Found::Finish => Ok(end_label(alloc, LabelKind::Finish)),
-            Found::Halt => Ok(end_label(alloc, LabelKind::Halt)),
+        let from = self.place_at(at, index);
+        self.stale.push_reserved(from.proc);
+        let Action::Own(own) = self.take_ready(at, index).action else {
+            unreachable!()
+        };
+        let effect = effect_in(alloc, own);
+        self.advance_at(at, taken, effect.binds);
+        self.last_starter = from.proc;
+        Label {
+            kind: effect.kind,
+            from,
+            to: NOWHERE,
+            terms: effect.shown,
         }
     }
 
-    /// How the process at a place goes on where it takes the offer of one of its deeds.
-    fn next_at(
-        &self,
-        alloc: Global,
-        at: usize,
-        place: usize,
-        binds: &Binds,
-    ) -> Result<Option<Next<W>>, NoMemory>
-        requires sound { IsSound W.body_of W.IsOn W.walking W.seen self.now }
-        requires within { at < length self.now.rows }
-        requires place_within { place < length (row_at self.now.rows at).ready }
-        requires sorted { IsTrue (takes_binds (offer_of (procs_in W.walking self.now) self.now.rows at place).store binds.now) }
-        ensures { IfOk result (IsNextAt W.body_of W.IsOn W.walking W.seen self.now at place binds.now) }
-    {
-        let row = &self.rows.as_slice()[at];
-        let plan = &self.plans.as_slice()[row.body as usize];
-        let body = &self.program.bodies.as_slice()[row.body as usize];
-        let walker = self.walkers.as_slice()[at].get();
-        let offer = row.ready.as_slice()[place].at;
-        take_offer(alloc, plan, row, walker, body, offer, binds, self.ticks)
-    }
-
-    /// Prepares a move that was found.
-    pub fn prepare(&self, alloc: Global, found: &Found) -> Result<Prepared<W>, NoMemory>
-        requires sound { IsSound W.body_of W.IsOn W.walking W.seen self.now }
-        requires found { IsFoundIn self.now.rows found.now }
-        ensures { IfOk result (IsPrepared W.body_of W.IsOn W.walking W.seen self.now found.now) }
-    {
-        match found {
-            Found::Own(at, place) => self.prepare_own(alloc, *at, *place),
-            Found::Handshake(at, place, partner) => self.prepare_both(alloc, *at, *place, partner),
-            Found::Finish => Ok(Prepared::Down),
-            Found::Halt => Ok(Prepared::Down),
-        }
-    }
-
-    fn prepare_own(&self, alloc: Global, at: usize, place: usize) -> Result<Prepared<W>, NoMemory>
-        requires sound { IsSound W.body_of W.IsOn W.walking W.seen self.now }
-        requires found { IsFoundIn self.now.rows (Found.Own at place) }
-        ensures { IfOk result (IsPrepared W.body_of W.IsOn W.walking W.seen self.now (Found.Own at place)) }
-    {
-        match self.deed_at(at, place) {
-            Deed::Own(_, _, binds) => Ok(Prepared::Own(self.next_at(alloc, at, place, binds)?)),
-            Deed::Send(_) => Ok(Prepared::Down),
-            Deed::Receive(_) => Ok(Prepared::Down),
-        }
-    }
-
-    fn prepare_both(
-        &self,
-        alloc: Global,
-        at: usize,
-        place: usize,
-        partner: &Partner,
-    ) -> Result<Prepared<W>, NoMemory>
-        requires sound { IsSound W.body_of W.IsOn W.walking W.seen self.now }
-        requires found { IsFoundIn self.now.rows (Found.Handshake at place partner.now) }
-        ensures { IfOk result (IsPrepared W.body_of W.IsOn W.walking W.seen self.now (Found.Handshake at place partner.now)) }
-    {
-        let sender = self.next_at(alloc, at, place, &Items::new(alloc))?;
-        let received = &partner.received;
-        let receiver = self.next_at(alloc, partner.row, received.ready, &received.binds)?;
-        Ok(Prepared::Both(sender, receiver))
-    }
-
-    /// Puts a process that went on in its place, or takes it away where it has ended.
-    fn put(&mut self, at: usize, next: Option<Next<W>>)
-        requires sound { IsSound W.body_of W.IsOn W.walking W.seen self.old }
-        requires within { at < length self.old.rows }
-        ensures puts { (plan : W.Plan) (ticks : ℕ) (binds : List Bind) (offered : Offered) → slice_get self.old.plans (row_at self.old.rows at).body ≡ Some plan →
-            IsNext W.body_of W.IsOn W.walking W.seen plan self.old.ticks (row_at self.old.rows at).number (row_at self.old.rows at).body ticks binds offered next →
-            IsSound W.body_of W.IsOn W.walking W.seen self.new
-            × (bus_of W.walking self.new ≡ record (bus_of W.walking self.old) { procs = goes_on (row_at self.old.rows at).number offered binds (procs_in W.walking self.old) }) }
-        ensures before { (other : ℕ) → other < at → row_at self.new.rows other ≡ row_at self.old.rows other }
-        ensures long { length self.old.rows ≤ length self.new.rows + 1 }
-        ensures plans { self.new.plans ≡ self.old.plans }
-    {
-        match next {
-            Some(Next { row, walker }) => {
-                self.rows.set(at, row);
-                self.walkers.set(at, walker);
-            }
-            None => {
-                self.rows.remove(at);
-                self.walkers.remove(at);
-            }
-        }
-    }
-
-    /// Puts two processes that went on in their places.
-    fn put_in_order(
-        &mut self,
-        low: usize,
-        first: Option<Next<W>>,
-        high: usize,
-        second: Option<Next<W>>,
-    )
-        requires sound { IsSound W.body_of W.IsOn W.walking W.seen self.old }
-        requires order { low < high }
-        requires within { high < length self.old.rows }
-        requires next { IsWent W.body_of W.IsOn W.walking W.seen self.old high second }
-        ensures { (one other : W.Plan) (t u : ℕ) (bs cs : List Bind) (o p : Offered) →
-            slice_get self.old.plans (row_at self.old.rows low).body ≡ Some one → slice_get self.old.plans (row_at self.old.rows high).body ≡ Some other →
-            IsNext W.body_of W.IsOn W.walking W.seen one self.old.ticks (row_at self.old.rows low).number (row_at self.old.rows low).body t bs o first →
-            IsNext W.body_of W.IsOn W.walking W.seen other self.old.ticks (row_at self.old.rows high).number (row_at self.old.rows high).body u cs p second →
-            IsSound W.body_of W.IsOn W.walking W.seen self.new
-            × (bus_of W.walking self.new ≡ record (bus_of W.walking self.old) {
-              procs = goes_on (row_at self.old.rows low).number o bs (goes_on (row_at self.old.rows high).number p cs (procs_in W.walking self.old));
-            }) }
-    {
-        // The one behind goes first, so that the other stays at its place.
-        self.put(high, second);
-        self.put(low, first);
-    }
-
-    fn put_both(&mut self, at: usize, next: Option<Next<W>>, other: usize, its: Option<Next<W>>)
-        requires sound { IsSound W.body_of W.IsOn W.walking W.seen self.old }
-        requires within { at < length self.old.rows }
-        requires other_within { other < length self.old.rows }
-        requires apart { (row_at self.old.rows at).number ≢ (row_at self.old.rows other).number }
-        requires next { IsWent W.body_of W.IsOn W.walking W.seen self.old at next }
-        requires its { IsWent W.body_of W.IsOn W.walking W.seen self.old other its }
-        ensures { (plan plans : W.Plan) (t u : ℕ) (bs cs : List Bind) (o p : Offered) →
-            slice_get self.old.plans (row_at self.old.rows at).body ≡ Some plan → slice_get self.old.plans (row_at self.old.rows other).body ≡ Some plans →
-            IsNext W.body_of W.IsOn W.walking W.seen plan self.old.ticks (row_at self.old.rows at).number (row_at self.old.rows at).body t bs o next →
-            IsNext W.body_of W.IsOn W.walking W.seen plans self.old.ticks (row_at self.old.rows other).number (row_at self.old.rows other).body u cs p its →
-            IsSound W.body_of W.IsOn W.walking W.seen self.new
-            × (bus_of W.walking self.new ≡ record (bus_of W.walking self.old) {
-              procs = goes_on (row_at self.old.rows other).number p cs (goes_on (row_at self.old.rows at).number o bs (procs_in W.walking self.old));
-            }) }
-    {
-        if at < other {
-            self.put_in_order(at, next, other, its);
-        } else {
-            self.put_in_order(other, its, at, next);
-        }
-    }
-
-    /// Makes a move that was found and prepared.
-    pub fn make(&mut self, found: &Found, prepared: Prepared<W>)
-        requires sound { IsSound W.body_of W.IsOn W.walking W.seen self.old }
-        requires found { IsFoundIn self.old.rows found.now }
-        requires prepared { IsPrepared W.body_of W.IsOn W.walking W.seen self.old found.now prepared }
-        ensures sound { IsSound W.body_of W.IsOn W.walking W.seen self.new }
-        ensures bus { bus_of W.walking self.new ≡ made (bus_of W.walking self.old) (move_of (procs_in W.walking self.old) self.old.rows found.now) }
-    {
-        match (found, prepared) {
-            (Found::Own(at, place), Prepared::Own(next)) => self.make_own(*at, *place, next),
-            (Found::Handshake(at, place, partner), Prepared::Both(sender, receiver)) => {
-                self.make_handshake(*at, *place, partner, sender, receiver);
-            }
-            _ => self.down = true,
-        }
-    }
-
-    fn make_own(&mut self, at: usize, place: usize, next: Option<Next<W>>)
-        requires sound { IsSound W.body_of W.IsOn W.walking W.seen self.old }
-        requires found { IsFoundIn self.old.rows (Found.Own at place) }
-        requires next { IsNextAt W.body_of W.IsOn W.walking W.seen self.old at place (own_binds (ready_at self.old.rows at place).deed) next }
-        ensures sound { IsSound W.body_of W.IsOn W.walking W.seen self.new }
-        ensures bus { bus_of W.walking self.new ≡ made (bus_of W.walking self.old) (move_of (procs_in W.walking self.old) self.old.rows (Found.Own at place)) }
-    {
-        let number = self.rows.as_slice()[at].number;
-        self.put(at, next);
-        self.last_starter = number;
-    }
-
+    /// A process sends, and another receives.
     fn make_handshake(
         &mut self,
+        alloc: Global,
         at: usize,
-        place: usize,
-        partner: &Partner,
-        sender: Option<Next<W>>,
-        receiver: Option<Next<W>>,
-    )
-        requires sound { IsSound W.body_of W.IsOn W.walking W.seen self.old }
-        requires found { IsFoundIn self.old.rows (Found.Handshake at place partner.now) }
-        requires sender { IsNextAt W.body_of W.IsOn W.walking W.seen self.old at place [] sender }
-        requires receiver { IsNextAt W.body_of W.IsOn W.walking W.seen self.old partner.now.row partner.now.received.ready partner.now.received.binds receiver }
-        ensures sound { IsSound W.body_of W.IsOn W.walking W.seen self.new }
-        ensures bus { bus_of W.walking self.new ≡ made (bus_of W.walking self.old) (move_of (procs_in W.walking self.old) self.old.rows (Found.Handshake at place partner.now)) }
+        index: usize,
+        sent: W::Taken,
+        partner: Partner,
+        received: W::Taken,
+    ) -> Label
+        requires sound { IsSound W.view self.old }
+        requires fresh { AreFresh self.old.living.items }
+        requires found { IsCandidateIn (rows_of self.old.living.items) (Candidate.Handshake at index partner) }
+        requires sent { Leaves W.view self.old at sent (offer_of (procs_in W.view self.old) (rows_of self.old.living.items) at index) }
+        requires received { Leaves W.view self.old partner.living received (offer_of (procs_in W.view self.old) (rows_of self.old.living.items) partner.living partner.received.action) }
+        requires room { vec_len self.old.stale + 1 < vec_capacity self.old.stale }
+        ensures made { IsMade W.view self.old (Candidate.Handshake at index partner) self.new }
+        ensures label { result ≡ label_of (move_of (procs_in W.view self.old) (rows_of self.old.living.items) (Candidate.Handshake at index partner)) }
     {
-        let starter = self.rows.as_slice()[at].number;
-        self.put_both(at, sender, partner.row, receiver);
-        self.last_starter = starter;
+        let Partner {
+            living: other,
+            received: Received { action, binds },
+        } = partner;
+        let from = self.place_at(at, index);
+        let to = self.place_at(other, action);
+        self.stale.push_reserved(from.proc);
+        self.stale.push_reserved(to.proc);
+        let Action::Send(terms) = self.take_ready(at, index).action else {
+            unreachable!()
+        };
+        self.advance_both(alloc, at, sent, other, received, binds);
+        self.last_starter = from.proc;
+        Label {
+            kind: LabelKind::Msg,
+            from,
+            to,
+            terms,
+        }
+    }
+
+    /// Both parties of a handshake go on: the one at the first index, and the other with its binds.
+    fn advance_both(
+        &mut self,
+        alloc: Global,
+        at: usize,
+        sent: W::Taken,
+        other: usize,
+        received: W::Taken,
+        binds: Binds,
+    )
+        requires sound { IsSound W.view self.old }
+        requires within { at < length self.old.living.items }
+        requires other_within { other < length self.old.living.items }
+        requires apart { (row_at (rows_of self.old.living.items) at).number ≢ (row_at (rows_of self.old.living.items) other).number }
+        requires named { Contains self.old.stale.items (row_at (rows_of self.old.living.items) at).number }
+        requires other_named { Contains self.old.stale.items (row_at (rows_of self.old.living.items) other).number }
+        requires sent { (offered : Offered) × Leaves W.view self.old at sent offered }
+        requires received { (offered : Offered) × Leaves W.view self.old other received offered × IsTrue (takes_binds offered.store binds) }
+        ensures { (offered its : Offered) → Leaves W.view self.old at sent offered → Leaves W.view self.old other received its →
+            AreAdvanced W.view self.old at offered other its binds self.new }
+    {
+        // The one behind goes first, so that the other keeps its index.
+        if at < other {
+            self.advance_at(other, received, binds);
+            self.advance_at(at, sent, Items::new(alloc));
+        } else {
+            self.advance_at(at, sent, Items::new(alloc));
+            self.advance_at(other, received, binds);
+        }
+    }
+
+    /// The bus goes down by a step of its own.
+    fn go_down(&mut self, alloc: Global, kind: LabelKind) -> Label
+        requires { IsSound W.view self.old }
+        ensures sound { IsSound W.view self.new }
+        ensures origin { self.new.origin ≡ self.old.origin }
+        ensures bus { bus_of W.view self.new ≡ record (bus_of W.view self.old) { down = true } }
+        ensures label { result ≡ record { kind = kind; from = nowhere; to = nowhere; terms = [] } }
+    {
+        self.down = true;
+        Label {
+            kind,
+            from: NOWHERE,
+            to: NOWHERE,
+            terms: Items::new(alloc),
+        }
     }
 
     /// What would become of an input.
     pub fn reply(&self, input: Input) -> Reply
-        ensures { result ≡ (fed (bus_of W.walking self.now) input).reply }
+        ensures { result ≡ (fed (bus_of W.view self.now) input).reply }
     {
         match input {
             Input::NoTicks if self.down => Reply::Dropped(Why::Down),
@@ -327,56 +338,14 @@ impl<W: Walker> LiveBus<W> {
 
     /// Takes an input, or drops it.
     pub fn feed(&mut self, input: Input)
-        requires sound { IsSound W.body_of W.IsOn W.walking W.seen self.old }
-        ensures sound { IsSound W.body_of W.IsOn W.walking W.seen self.new }
-        ensures bus { bus_of W.walking self.new ≡ (fed (bus_of W.walking self.old) input).bus }
+        requires sound { IsSound W.view self.old }
+        ensures sound { IsSound W.view self.new }
+        ensures origin { self.new.origin ≡ self.old.origin }
+        ensures bus { bus_of W.view self.new ≡ (fed (bus_of W.view self.old) input).bus }
     {
         match input {
             Input::NoTicks if self.down => {}
             Input::NoTicks => self.no_ticks = true,
         }
-    }
-}
-
-fn kind_of(deed: &Deed) -> LabelKind
-    ensures { result ≡ kind_in deed.now }
-{
-    match deed {
-        Deed::Own(kind, _, _) => *kind,
-        Deed::Send(_) => LabelKind::Halt,
-        Deed::Receive(_) => LabelKind::Halt,
-    }
-}
-
-/// A copy of what is seen of a deed that happens by itself.
-fn shown(alloc: Global, deed: &Deed) -> Result<Terms, NoMemory>
-    ensures { IfOk result (λ terms. terms ≡ shown_in deed.now) }
-{
-    match deed {
-        Deed::Own(_, shown, _) => copy_terms(alloc, shown),
-        Deed::Send(_) => Ok(Items::new(alloc)),
-        Deed::Receive(_) => Ok(Items::new(alloc)),
-    }
-}
-
-/// A copy of the terms that a deed sends.
-fn sent(alloc: Global, deed: &Deed) -> Result<Terms, NoMemory>
-    ensures { IfOk result (λ terms. terms ≡ sent_in deed.now) }
-{
-    match deed {
-        Deed::Own(_, _, _) => Ok(Items::new(alloc)),
-        Deed::Send(terms) => copy_terms(alloc, terms),
-        Deed::Receive(_) => Ok(Items::new(alloc)),
-    }
-}
-
-fn end_label(alloc: Global, kind: LabelKind) -> Label
-    ensures { result ≡ record { kind = kind; from = nowhere; to = nowhere; terms = [] } }
-{
-    Label {
-        kind,
-        from: NOWHERE,
-        to: NOWHERE,
-        terms: Items::new(alloc),
     }
 }

@@ -1,20 +1,21 @@
 ghost use Rattle.std.specs.Prelude.{◌≡◌, ◌↔◌, ◌∷◌, [], ◌++◌, IsTrue, IfOk, OnOk, OnErr, IsErrOf, true, if◌then◌else◌};
-ghost use Rattle.tb_core.specs.Buses.{Origin, start};
-ghost use Rattle.tb_core.specs.Traces.{IsTrace, fed};
-ghost use Rattle.tb_core.specs.Steps.{steps, made, label_of};
-ghost use Rattle.tb_core.specs.Cores.{started, bus_now, Logs, entries_stepped, IsStep, has_any, ends_quiet};
-ghost use Rattle.tb_core.specs.Views.{move_of, IsFoundIn};
-ghost use Rattle.tb_core.specs.LiveBuses.{bus_of, procs_in, IsSound};
+ghost use Rattle.tb_bus.specs.Buses.{start};
+ghost use Rattle.tb_bus.specs.Traces.{IsInForm, IsTrace, fed};
+ghost use Rattle.tb_bus.specs.Steps.{steps, apply, label_of};
+ghost use Rattle.tb_bus.specs.Candidates.{rows_of};
+ghost use Rattle.tb_bus.specs.Views.{move_of, IsCandidateIn};
+ghost use Rattle.tb_core.specs.Cores.{HandIn, MakeStep, started, bus_now, Logs, entries_of, IsStep, has_any, ends_quiet};
+ghost use Rattle.tb_core.specs.LiveBuses.{bus_of, procs_in, AreFresh, IsSound, StandsAs};
 
 use crate::answers::{CoreFault, Stepped};
 use crate::bus::LiveBus;
-use crate::log::{Entry, Input, Reply};
-use crate::row::Found;
 use std::alloc::Global;
 use std::marker::Model;
 use tb_algebra::Walker;
 use tb_body::Program;
-use tb_terms::{Items, NoMemory};
+use tb_bus::{Candidate, Origin};
+use tb_log::{Entry, Input, Reply};
+use tb_terms::NoMemory;
 
 /// A bus with its log: each call makes at most one event, and logs it. Contracts see where it was
 /// started, its log, and whether it was stopped, and nothing of the walkers.
@@ -22,21 +23,21 @@ use tb_terms::{Items, NoMemory};
 pub struct Core<W: Walker> {
     alloc: Global,
     bus: LiveBus<W>,
-    log: Items<Entry>,
+    log: Vec<Entry>,
     stopped: bool,
 }
 
 impl<W: Walker> Model for Core<W> {
     ghost use Rattle.tb_core.specs.Cores.{CoreState, core_code};
-    ghost use Rattle.tb_core.specs.Standing.{StandsFor};
+    ghost use Rattle.tb_core.specs.LiveBuses.{Represents};
 
     ghost Value = { CoreState };
 
     ghost coded = { core_code };
 
-    ghost view = { λ core. record { origin = record { program = core.bus.program }; log = core.log; stopped = core.stopped } };
+    ghost view = { λ core. record { origin = core.bus.origin; log = core.log.items; stopped = core.stopped } };
 
-    ghost invariant = { λ core. StandsFor W.body_of W.IsOn W.walking W.seen core.bus core.log };
+    ghost invariant = { λ core. Represents W.view core.bus core.log.items };
 }
 
 impl<W: Walker> Core<W> {
@@ -44,11 +45,11 @@ impl<W: Walker> Core<W> {
     pub fn start(alloc: Global, program: Program) -> Result<Core<W>, NoMemory>
         ensures { IfOk result (λ core. core ≡ started (record { program = program })) }
     {
-        let bus = LiveBus::open(alloc, program)?;
+        let bus = LiveBus::open(alloc, Origin { program })?;
         Ok(Core {
             alloc,
             bus,
-            log: Items::new(alloc),
+            log: Vec::new(alloc),
             stopped: false,
         })
     }
@@ -85,13 +86,15 @@ impl<W: Walker> Core<W> {
         ensures value { IfOk result (λ any. any ≡ has_any (steps (bus_now self.old))) }
         ensures unchanged { self.new ≡ self.old }
     {
-        Ok(self.bus.first_move(self.alloc)?.is_some())
+        self.bus.freshen(self.alloc)?;
+        Ok(self.bus.first_candidate(self.alloc)?.is_some())
     }
 
     /// Hands in what comes from outside.
     pub fn hand_in(&mut self, input: Input) -> Result<Reply, CoreFault>
+        requires { IsInForm input }
         ensures reply { IfOk result (λ reply. reply ≡ (fed (bus_now self.old) input).reply) }
-        ensures logs { IfOk result (λ reply. Logs self.old self.new (Entry.Fed input reply ∷ [])) }
+        ensures logs { IfOk result (λ _. Logs self.old self.new (entries_of self.old (HandIn input))) }
         ensures stopped { IsErrOf result CoreFault.Stopped ↔ IsTrue self.old.stopped }
         ensures err { OnErr result (self.new ≡ self.old) }
     {
@@ -105,16 +108,17 @@ impl<W: Walker> Core<W> {
     /// Makes the first of the steps.
     pub fn step(&mut self) -> Result<Stepped, CoreFault>
         ensures found { IfOk result (IsStep self.old) }
-        ensures logs { IfOk result (λ stepped. Logs self.old self.new (entries_stepped self.old stepped)) }
+        ensures logs { IfOk result (λ _. Logs self.old self.new (entries_of self.old MakeStep)) }
         ensures stopped { IsErrOf result CoreFault.Stopped ↔ IsTrue self.old.stopped }
         ensures err { OnErr result (self.new ≡ self.old) }
     {
         if self.stopped {
             return Err(CoreFault::Stopped);
         }
-        match self.bus.first_move(self.alloc)? {
-            Some(found) => {
-                make(self.alloc, &mut self.bus, &mut self.log, found)?;
+        self.bus.freshen(self.alloc)?;
+        match self.bus.first_candidate(self.alloc)? {
+            Some(candidate) => {
+                make(self.alloc, &mut self.bus, &mut self.log, candidate)?;
                 Ok(Stepped::Did)
             }
             None if self.bus.down => Ok(Stepped::Down),
@@ -129,19 +133,21 @@ impl<W: Walker> Core<W> {
 /// Logs an input with what becomes of it, and receives it.
 fn hand<W: Walker>(
     bus: &mut LiveBus<W>,
-    log: &mut Items<Entry>,
+    log: &mut Vec<Entry>,
     input: Input,
 ) -> Result<Reply, NoMemory>
-    requires { IsSound W.body_of W.IsOn W.walking W.seen bus.old }
-    ensures sound { IsSound W.body_of W.IsOn W.walking W.seen bus.new }
-    ensures reply { IfOk result (λ reply. reply ≡ (fed (bus_of W.walking bus.old) input).reply) }
-    ensures log { IfOk result (λ reply. log.new ≡ log.old ++ Entry.Fed input reply ∷ []) }
-    ensures bus { OnOk result (bus_of W.walking bus.new ≡ (fed (bus_of W.walking bus.old) input).bus) }
-    ensures err { OnErr result ((bus.new ≡ bus.old) × (log.new ≡ log.old)) }
+    requires { IsSound W.view bus.old }
+    ensures sound { IsSound W.view bus.new }
+    ensures origin { bus.new.origin ≡ bus.old.origin }
+    ensures reply { IfOk result (λ reply. reply ≡ (fed (bus_of W.view bus.old) input).reply) }
+    ensures log { IfOk result (λ reply. log.new.items ≡ log.old.items ++ Entry.Fed input reply ∷ []) }
+    ensures bus { OnOk result (bus_of W.view bus.new ≡ (fed (bus_of W.view bus.old) input).bus) }
+    ensures err { OnErr result ((bus_of W.view bus.new ≡ bus_of W.view bus.old) × (log.new.items ≡ log.old.items)) }
 {
+    log.reserve(1)?;
     let reply = bus.reply(input);
-    log.push(Entry::Fed(input, reply))?;
     bus.feed(input);
+    log.push_reserved(Entry::Fed(input, reply));
     Ok(reply)
 }
 
@@ -149,30 +155,32 @@ fn hand<W: Walker>(
 fn make<W: Walker>(
     alloc: Global,
     bus: &mut LiveBus<W>,
-    log: &mut Items<Entry>,
-    found: Found,
+    log: &mut Vec<Entry>,
+    candidate: Candidate,
 ) -> Result<(), NoMemory>
-    requires sound { IsSound W.body_of W.IsOn W.walking W.seen bus.old }
-    requires found { IsFoundIn bus.old.rows found }
-    ensures sound { IsSound W.body_of W.IsOn W.walking W.seen bus.new }
-    ensures log { OnOk result (log.new ≡ log.old ++ Entry.Did (label_of (move_of (procs_in W.walking bus.old) bus.old.rows found)) ∷ []) }
-    ensures bus { OnOk result (bus_of W.walking bus.new ≡ made (bus_of W.walking bus.old) (move_of (procs_in W.walking bus.old) bus.old.rows found)) }
-    ensures err { OnErr result ((bus.new ≡ bus.old) × (log.new ≡ log.old)) }
+    requires sound { IsSound W.view bus.old }
+    requires fresh { AreFresh bus.old.living.items }
+    requires found { IsCandidateIn (rows_of bus.old.living.items) candidate }
+    ensures sound { IsSound W.view bus.new }
+    ensures origin { bus.new.origin ≡ bus.old.origin }
+    ensures log { OnOk result (log.new.items ≡ log.old.items ++ Entry.Did (label_of (move_of (procs_in W.view bus.old) (rows_of bus.old.living.items) candidate)) ∷ []) }
+    ensures bus { OnOk result (bus_of W.view bus.new ≡ apply (bus_of W.view bus.old) (move_of (procs_in W.view bus.old) (rows_of bus.old.living.items) candidate)) }
+    ensures err { OnErr result ((bus_of W.view bus.new ≡ bus_of W.view bus.old) × (log.new.items ≡ log.old.items)) }
 {
-    let label = bus.label(alloc, &found)?;
-    let prepared = bus.prepare(alloc, &found)?;
-    log.push(Entry::Did(label))?;
-    bus.make(&found, prepared);
+    log.reserve(1)?;
+    let label = bus.make(alloc, candidate)?;
+    log.push_reserved(Entry::Did(label));
     Ok(())
 }
 
 /// Logs that nothing is possible, unless the log says so last.
-fn say_quiet(log: &mut Items<Entry>) -> Result<(), NoMemory>
-    ensures ok { OnOk result (log.new ≡ log.old ++ (if ends_quiet log.old then [] else Entry.Quiet ∷ [])) }
-    ensures err { OnErr result (log.new ≡ log.old) }
+fn say_quiet(log: &mut Vec<Entry>) -> Result<(), NoMemory>
+    ensures ok { OnOk result (log.new.items ≡ log.old.items ++ (if ends_quiet log.old.items then [] else Entry.Quiet ∷ [])) }
+    ensures err { OnErr result (log.new.items ≡ log.old.items) }
 {
     if !says_quiet(log.as_slice()) {
-        log.push(Entry::Quiet)?;
+        log.reserve(1)?;
+        log.push_reserved(Entry::Quiet);
     }
     Ok(())
 }

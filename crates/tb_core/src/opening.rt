@@ -1,30 +1,22 @@
-ghost use Rattle.std.specs.Prelude.{◌≡◌, ◌<◌, ◌+◌, ℕ, List, [], ◌∷◌, length, IfOk, IsTrue, map, slice_get, Some, true};
+ghost use Rattle.std.specs.Prelude.{◌≡◌, ◌<◌, ◌+◌, ◌∷◌, ℕ, List, [], length, IfOk, IsTrue, map, slice_get, true};
 ghost use Rattle.std.specs.Option.{ForSome};
+ghost use Rattle.std.specs.List.{All};
 ghost use Rattle.tb_body.specs.Programs.{are_actuals};
 ghost use Rattle.tb_algebra.specs.Walks.{entering};
-ghost use Rattle.tb_core.specs.Buses.{opening_store, opened};
-ghost use Rattle.tb_core.specs.Rows.{ascend};
-ghost use Rattle.tb_core.specs.Lives.{AreLive, IsLiveOn, procs_of};
+ghost use Rattle.tb_bus.specs.Buses.{opening_store, opened};
+ghost use Rattle.tb_bus.specs.Candidates.{ascend, rows_of};
+ghost use Rattle.tb_core.specs.Lives.{IsLive, IsLiveOn, procs_of};
 
-use crate::deeds::look;
-use crate::next::Next;
-use crate::row::Row;
 use std::alloc::Global;
 use tb_algebra::Walker;
 use tb_body::{Body, Program, Root};
+use tb_bus::Living;
 use tb_func::Store;
-use tb_terms::{Boxed, Items, NoMemory, Terms};
-
-/// The processes with which a bus opens.
-#[derive(Drop)]
-pub struct Opened<W> {
-    pub rows: Items<Row>,
-    pub walkers: Items<Boxed<W>>,
-}
+use tb_terms::{Items, NoMemory, Terms};
 
 /// The plans of the bodies, in their order.
 pub fn plan_all<W: Walker>(alloc: Global, bodies: &[Body]) -> Result<Items<W::Plan>, NoMemory>
-    ensures { IfOk result (λ plans. map W.body_of plans ≡ bodies.now) }
+    ensures { IfOk result (λ plans. map W.view.body_of plans ≡ bodies.now) }
 {
     let mut plans = Items::new(alloc);
     for body in bodies {
@@ -53,39 +45,38 @@ fn open_one<W: Walker>(
     body: &Body,
     number: u32,
     root: &Root,
-) -> Result<Next<W>, NoMemory>
-    requires body { W.body_of plan.now ≡ body.now }
+) -> Result<Living<W>, NoMemory>
+    requires body { W.view.body_of plan.now ≡ body.now }
     requires actuals { IsTrue (are_actuals body.now root.now.actuals) }
-    ensures number { IfOk result (λ next. next.row.number ≡ number) }
-    ensures body { IfOk result (λ next. next.row.body ≡ root.now.process) }
-    ensures live { IfOk result (λ next. IsLiveOn W.body_of W.IsOn W.walking W.seen plan.now 0 next.row next.walker) }
-    ensures term { IfOk result (λ next. W.walking plan.now next.walker ≡ entering body.now (opening_store body.now root.now.actuals)) }
+    ensures number { IfOk result (λ living. living.number ≡ number) }
+    ensures body { IfOk result (λ living. living.body ≡ root.now.process) }
+    ensures live { IfOk result (λ living. IsLiveOn W.view plan.now 0 living) }
+    ensures term { IfOk result (λ living. W.view.walking plan.now living.walker ≡ entering body.now (opening_store body.now root.now.actuals)) }
 {
     let store = begin_store(alloc, body, &root.actuals)?;
-    let mut walker = W::start(alloc, plan, store)?;
-    let ready = look(alloc, plan, body, &mut walker, 0)?;
-    let row = Row {
+    let walker = W::start(alloc, plan, store)?;
+    Ok(Living {
         number,
         body: root.process,
-        ready,
-    };
-    let walker = Boxed::new(alloc, walker)?;
-    Ok(Next { row, walker })
+        walker,
+        ready: Vec::new(alloc),
+        fresh: false,
+    })
 }
 
-/// The process of the root at this place, from 0.
+/// The process of the root at this index.
 fn open_at<W: Walker>(
     alloc: Global,
     program: &Program,
     plans: &Items<W::Plan>,
     at: usize,
-) -> Result<Next<W>, NoMemory>
-    requires plans { map W.body_of plans.now ≡ program.now.bodies }
+) -> Result<Living<W>, NoMemory>
+    requires plans { map W.view.body_of plans.now ≡ program.now.bodies }
     requires within { at < length program.now.roots }
-    ensures number { IfOk result (λ next. next.row.number ≡ at + 1) }
-    ensures live { IfOk result (λ next. AreLive W.body_of W.IsOn W.walking W.seen plans.now 0 (next.row ∷ []) (next.walker ∷ [])) }
-    ensures procs { ForSome (slice_get program.now.roots at) (λ root. IfOk result (λ next.
-        procs_of W.walking plans.now (next.row ∷ []) (next.walker ∷ []) ≡ opened program.now.bodies (at + 1) (root ∷ []))) }
+    ensures number { IfOk result (λ living. living.number ≡ at + 1) }
+    ensures live { IfOk result (IsLive W.view plans.now 0) }
+    ensures procs { ForSome (slice_get program.now.roots at) (λ root. IfOk result (λ living.
+        procs_of W.view plans.now (living ∷ []) ≡ opened program.now.bodies (at + 1) (root ∷ []))) }
 {
     let root = &program.roots.as_slice()[at];
     let place = root.process as usize;
@@ -99,18 +90,26 @@ pub fn open_all<W: Walker>(
     alloc: Global,
     program: &Program,
     plans: &Items<W::Plan>,
-) -> Result<Opened<W>, NoMemory>
-    requires { map W.body_of plans.now ≡ program.now.bodies }
-    ensures in_order { IfOk result (λ opened. ascend 0 opened.rows ≡ true) }
-    ensures live { IfOk result (λ opened. AreLive W.body_of W.IsOn W.walking W.seen plans.now 0 opened.rows opened.walkers) }
-    ensures procs { IfOk result (λ all. procs_of W.walking plans.now all.rows all.walkers ≡ opened program.now.bodies 1 program.now.roots) }
+) -> Result<Vec<Living<W>>, NoMemory>
+    requires { map W.view.body_of plans.now ≡ program.now.bodies }
+    ensures in_order { IfOk result (λ all. ascend 0 (rows_of all.items) ≡ true) }
+    ensures live { IfOk result (λ all. All (IsLive W.view plans.now 0) all.items) }
+    ensures procs { IfOk result (λ all. procs_of W.view plans.now all.items ≡ opened program.now.bodies 1 program.now.roots) }
 {
-    let mut rows = Items::new(alloc);
-    let mut walkers = Items::new(alloc);
+    let mut all = Vec::new(alloc);
     for at in 0..program.roots.len() {
-        let next = open_at::<W>(alloc, program, plans, at)?;
-        rows.push(next.row)?;
-        walkers.push(next.walker)?;
+        all.push(open_at::<W>(alloc, program, plans, at)?)?;
     }
-    Ok(Opened { rows, walkers })
+    Ok(all)
+}
+
+/// The numbers of these processes, in their order.
+pub fn numbers_of<W>(alloc: Global, all: &[Living<W>]) -> Result<Vec<u32>, NoMemory>
+    ensures { IfOk result (λ numbers. numbers.items ≡ map (λ living. living.number) all.now) }
+{
+    let mut numbers = Vec::new(alloc);
+    for living in all {
+        numbers.push(living.number)?;
+    }
+    Ok(numbers)
 }

@@ -29,16 +29,17 @@ use Rattle.tb_algebra.specs.Processes.{Process, At, Seq, Star, Par, Let, fresh}
 use Rattle.tb_algebra.specs.Atoms.{values_together, patterns_of}
 use Rattle.tb_algebra.specs.Settings.{with_settings}
 use Rattle.tb_match.specs.Matches.{match_list, match_term}
-use Rattle.tb_core.specs.Buses.{Bus, Proc, Origin, start}
-use Rattle.tb_core.specs.Steps.{steps, moves, moves_of_all, moves_of, handshakes, handshakes_with, goes_on}
-use Rattle.tb_core.specs.Simulation.{Sim, IsSim, sim_start}
-use Rattle.tb_core.specs.declared.log.Entry.{Entry}
-use Rattle.tb_core.specs.declared.log.Entry.TheVariants.{Did, Quiet, Fed}
-use Rattle.tb_core.specs.declared.log.Input.TheVariants.{NoTicks}
-use Rattle.tb_core.specs.declared.log.Reply.TheVariants.{Took}
-use Rattle.tb_core.specs.declared.log.LabelKind.TheVariants as kind
-use Rattle.tb_core.specs.declared.ends.SimEnd.{SimEnd}
-use Rattle.tb_core.specs.declared.ends.SimEnd.TheVariants.{Down, Steps}
+use Rattle.tb_bus.specs.declared.origin.Origin.{Origin}
+use Rattle.tb_bus.specs.Buses.{Bus, Proc, start}
+use Rattle.tb_bus.specs.Steps.{steps, moves, moves_of_all, moves_of, handshakes, handshakes_with, advance}
+use Rattle.tb_sim.specs.Simulation.{Sim, IsSim, sim_start}
+use Rattle.tb_log.specs.declared.entry.Entry.{Entry}
+use Rattle.tb_log.specs.declared.entry.Entry.TheVariants.{Did, Quiet, Fed}
+use Rattle.tb_log.specs.declared.entry.Input.TheVariants.{NoTicks}
+use Rattle.tb_log.specs.declared.entry.Reply.TheVariants.{Took}
+use Rattle.tb_log.specs.declared.entry.LabelKind.TheVariants as kind
+use Rattle.tb_sim.specs.declared.ends.SimEnd.{SimEnd}
+use Rattle.tb_sim.specs.declared.ends.SimEnd.TheVariants.{Down, Steps}
 use Rattle.tb_terms.proofs.SameLemmas.{is_same-refl, is_same-sound}
 
 -- an atom that has no times
@@ -84,7 +85,7 @@ empty = record { program = record { bodies = []; roots = []; tools = []; in_rang
 
 -- an empty bus finishes at once
 pub empty_bus : IsSim 1000000 (sim_start (start empty)) (finish ∷ []) Down
-unfolding steps moves moves_of_all moves_of handshakes handshakes_with goes_on
+unfolding steps moves moves_of_all moves_of handshakes handshakes_with advance
 empty_bus = (_, refl, refl)
 
 -- `tau . tau`
@@ -113,12 +114,12 @@ two_by_two-starts limit log end h =
 
 -- the processes take turns
 pub in_turns : IsSim 1000000 (sim_start (start two_by_two)) (tau_of 1 1 ∷ tau_of 2 1 ∷ tau_of 1 2 ∷ tau_of 2 2 ∷ finish ∷ []) Down
-unfolding steps moves moves_of_all moves_of handshakes handshakes_with goes_on
+unfolding steps moves moves_of_all moves_of handshakes handshakes_with advance
 in_turns = two_by_two-starts 1000000 (tau_of 1 1 ∷ tau_of 2 1 ∷ tau_of 1 2 ∷ tau_of 2 2 ∷ finish ∷ []) Down (_, refl, (_, refl, (_, refl, (_, refl, (_, refl, refl)))))
 
 -- at the limit of four steps it could still finish
 pub four_steps : IsSim 4 (sim_start (start two_by_two)) (tau_of 1 1 ∷ tau_of 2 1 ∷ tau_of 1 2 ∷ tau_of 2 2 ∷ []) Steps
-unfolding steps moves moves_of_all moves_of handshakes handshakes_with goes_on
+unfolding steps moves moves_of_all moves_of handshakes handshakes_with advance
 four_steps = two_by_two-starts 4 (tau_of 1 1 ∷ tau_of 2 1 ∷ tau_of 1 2 ∷ tau_of 2 2 ∷ []) Steps (_, refl, (_, refl, (_, refl, (_, refl, refl))))
 
 -- a body of one atom
@@ -141,7 +142,7 @@ abbrev pub stuck : Origin
 stuck = record { program = record { bodies = delta ∷ []; roots = root 0 ∷ []; tools = []; in_range = stuck-in_range } }
 
 stuck-runs : IsSim 1000000 (sim_of (bus_of stuck.program (at 1 0 (At 1 0) ∷ []) 0 false) 0) (Quiet ∷ Fed NoTicks Took ∷ halt ∷ []) Down
-unfolding steps moves moves_of_all moves_of handshakes handshakes_with goes_on
+unfolding steps moves moves_of_all moves_of handshakes handshakes_with advance
 stuck-runs = (_, refl, (_, refl, (_, refl, refl)))
 
 -- what never happens halts the bus once no more ticks come
@@ -201,7 +202,7 @@ abbrev pub alone : Origin
 alone = record { program = record { bodies = rec_a ∷ []; roots = root 0 ∷ []; tools = []; in_range = alone-in_range } }
 
 alone-runs : IsSim 1000000 (sim_of (bus_of alone.program (at 1 0 (At 1 0) ∷ []) 0 false) 0) (Quiet ∷ Fed NoTicks Took ∷ halt ∷ []) Down
-unfolding steps moves moves_of_all moves_of handshakes handshakes_with goes_on
+unfolding steps moves moves_of_all moves_of handshakes handshakes_with advance
 alone-runs = (
   record { bus = bus_of alone.program (at 1 0 (At 1 0) ∷ []) 0 false; steps_made = 0; quiet = true },
   simp a-wanted,
@@ -248,7 +249,7 @@ abbrev pub hello : Origin
 hello = record { program = record { bodies = snd_hello ∷ rec_hello ∷ []; roots = root 0 ∷ root 1 ∷ []; tools = []; in_range = hello-in_range } }
 
 hello-runs : IsSim 1000000 (sim_of (bus_of hello.program (at 1 0 (At 1 0) ∷ at 2 1 (At 1 0) ∷ []) 0 false) 0) (shake 1 1 (words (codes "hello")) ∷ finish ∷ []) Down
-unfolding steps moves moves_of_all moves_of handshakes handshakes_with goes_on
+unfolding steps moves moves_of_all moves_of handshakes handshakes_with advance
 hello-runs = (
   sim_of (bus_of hello.program [] 1 false) 1,
   simp (hello-sent, hello-wanted, fixed-matches (codes "hello")),
@@ -313,7 +314,7 @@ abbrev pub twice_log : List Entry
 twice_log = shake 1 1 (words (codes "a")) ∷ shake 1 2 (words (codes "a")) ∷ shake 2 3 (words (codes "b")) ∷ finish ∷ []
 
 twice-runs : IsSim 1000000 (sim_of (bus_of twice.program (at 1 0 star ∷ at 2 1 (Seq (At 1 0) (Seq (At 2 0) (At 3 0))) ∷ []) 0 false) 0) twice_log Down
-unfolding steps moves moves_of_all moves_of handshakes handshakes_with goes_on
+unfolding steps moves moves_of_all moves_of handshakes handshakes_with advance
 twice-runs = (
   sim_of (bus_of twice.program (at 1 0 star ∷ at 2 1 (Seq (At 2 0) (At 3 0)) ∷ []) 1 false) 1,
   simp (a-sent, b-sent, a-wanted, fixed-matches (codes "a")),
@@ -357,7 +358,7 @@ fresh-merged : fresh (tree.Par (tree.At 1) (tree.At 2)) ≡ Par (At 1 0) (At 2 0
 fresh-merged = search (rules, tree_lemmas)
 
 itself-runs : IsSim 1000000 (sim_of (bus_of itself.program (at 1 0 (Par (At 1 0) (At 2 0)) ∷ []) 0 false) 0) (Quiet ∷ Fed NoTicks Took ∷ halt ∷ []) Down
-unfolding steps moves moves_of_all moves_of handshakes handshakes_with goes_on
+unfolding steps moves moves_of_all moves_of handshakes handshakes_with advance
 itself-runs =
     let procs : List Proc = at 1 0 (Par (At 1 0) (At 2 0)) ∷ [] in (
       record { bus = bus_of itself.program procs 0 false; steps_made = 0; quiet = true },
@@ -457,7 +458,7 @@ abbrev int_slot : Term → Slot
 int_slot value = record { sort = sort.Int; value = value }
 
 bound-runs : IsSim 1000000 (sim_of (bus_of bound.program (at 1 0 (At 1 0) ∷ with_variable (Let from_start (Seq (At 1 0) (At 2 0))) (int_slot (worth 0)) ∷ []) 0 false) 0) bound_log Down
-unfolding steps moves moves_of_all moves_of handshakes handshakes_with goes_on
+unfolding steps moves moves_of_all moves_of handshakes handshakes_with advance
 bound-runs = (
   sim_of (bus_of bound.program (at 1 0 (At 1 0) ∷ with_variable (At 2 0) (int_slot (worth 5)) ∷ []) 2 false) 1,
   simp (both-sent, let-starts, five-set 0, is-int 5),

@@ -1,21 +1,22 @@
 -- The turns of a simulation, by what each call of a core logged.
 use Rattle.std.proofs.Common.{◌≡◌, ℕ, ◌+◌, ◌-◌, ◌<◌, ◌≤◌, ◌==◌, ◌&&◌, List, [], ◌∷◌, ◌++◌, map, length, slice_get, refl, ap, sym, ◌∙◌, subst, arith, Some, Bool, true, false, nat_le, if◌then◌else◌, append-nil, append_assoc, eq-eqb, length-append}
 use Rattle.std.proofs.lemmas.Bool.{eqb-true, le-leb, leb-true, false_from_ne_true}
-use Rattle.tb_core.specs.Buses.{Bus, Proc, Origin, start}
-use Rattle.tb_core.specs.Steps.{Move, Own, Handshake, Finish, Halt, Step, moves, moves_while_up, moves_or_halt, moves_of_all, steps, step_of, made}
-use Rattle.tb_core.specs.Traces.{replay, fed, took, Answer}
-use Rattle.tb_core.specs.Simulation.{Sim, Ends, Makes, turn, step_turn, quiet_turn, IsSim, IsSimFront, sim_start}
-use Rattle.tb_core.specs.Turns.{SimLeads, sim_of, LedOn, LeftWithin}
+use Rattle.tb_bus.specs.declared.origin.Origin.{Origin}
+use Rattle.tb_bus.specs.Buses.{Bus, Proc, start}
+use Rattle.tb_bus.specs.Steps.{Move, Own, Handshake, Finish, Halt, Step, moves, moves_while_up, moves_or_halt, moves_of_all, steps, step_of, apply}
+use Rattle.tb_bus.specs.Traces.{replay, fed, took, Answer}
+use Rattle.tb_sim.specs.Simulation.{Sim, Ends, Makes, turn, step_turn, quiet_turn, IsSim, IsSimPrefix, sim_start}
+use Rattle.tb_sim.specs.Turns.{SimLeads, sim_of, LedOn, LeftWithin}
 use Rattle.tb_core.specs.Cores.{CoreState, bus_now, Logs, has_any, ends_quiet, says_quiet}
-use Rattle.tb_core.specs.declared.log.Input.TheVariants.{NoTicks}
-use Rattle.tb_core.specs.declared.log.Reply.TheVariants.{Dropped}
-use Rattle.tb_core.specs.declared.log.Why.TheVariants as why
-use Rattle.tb_core.specs.declared.log.Entry.{Entry}
-use Rattle.tb_core.specs.declared.log.Entry.TheVariants.{Did, Quiet, Fed}
-use Rattle.tb_core.specs.declared.ends.SimEnd.{SimEnd}
-use Rattle.tb_core.specs.declared.ends.SimEnd.TheVariants as end
+use Rattle.tb_log.specs.declared.entry.Input.TheVariants.{NoTicks}
+use Rattle.tb_log.specs.declared.entry.Reply.TheVariants.{Dropped}
+use Rattle.tb_log.specs.declared.entry.Why.TheVariants as why
+use Rattle.tb_log.specs.declared.entry.Entry.{Entry}
+use Rattle.tb_log.specs.declared.entry.Entry.TheVariants.{Did, Quiet, Fed}
+use Rattle.tb_sim.specs.declared.ends.SimEnd.{SimEnd}
+use Rattle.tb_sim.specs.declared.ends.SimEnd.TheVariants as end
 use Rattle.tb_terms.proofs.SameLemmas.{both-true}
-use Rattle.tb_core.proofs.TraceLemmas.{replay-append, after-first}
+use Rattle.tb_bus.proofs.TraceLemmas.{replay-append, after-first}
 use Rattle.tb_core.proofs.GoLemmas.{up-all}
 
 -- where a core's log leads after a call
@@ -94,8 +95,8 @@ ends_quiet-push log entry =
     ap (λ k. says_quiet (slice_get (log ++ entry ∷ []) k)) long ∙ ap says_quiet (slice_get-push log entry)
 
 -- no step changes whether more ticks come
-made-no_ticks : (bus : Bus) (move : Move) → (made bus move).no_ticks ≡ bus.no_ticks
-made-no_ticks bus (Own proc offered kind shown binds) = refl
+made-no_ticks : (bus : Bus) (move : Move) → (apply bus move).no_ticks ≡ bus.no_ticks
+made-no_ticks bus (Own proc offered effect) = refl
 made-no_ticks bus (Handshake sender sent receiver received terms binds) = refl
 made-no_ticks bus Finish = refl
 made-no_ticks bus Halt = refl
@@ -224,8 +225,8 @@ leads-ends : (limit : ℕ) (a b : Sim) (xs : List Entry) (last : SimEnd) → Sim
 leads-ends limit a b [] last p e = subst (λ (s : Sim). turn limit s ≡ Ends last) p e
 leads-ends limit a b (x ∷ xs) last p e = (p.0, p.1, leads-ends limit p.0 b xs last p.2 e)
 
-leads-front : (limit : ℕ) (a b : Sim) (xs ys : List Entry) → SimLeads limit a xs b → IsSimFront limit b ys → IsSimFront limit a (xs ++ ys)
-leads-front limit a b [] ys p q = subst (λ (s : Sim). IsSimFront limit s ys) p q
+leads-front : (limit : ℕ) (a b : Sim) (xs ys : List Entry) → SimLeads limit a xs b → IsSimPrefix limit b ys → IsSimPrefix limit a (xs ++ ys)
+leads-front limit a b [] ys p q = subst (λ (s : Sim). IsSimPrefix limit s ys) p q
 leads-front limit a b (x ∷ xs) ys p q = (p.0, p.1, leads-front limit p.0 b xs ys p.2 q)
 
 -- a simulation begins where the core was started
@@ -263,8 +264,8 @@ led-ends limit a b n last e p f =
     (subst (λ (s : Sim). IsSim limit s p.entries last) (start-sim a e) (leads-ends limit (sim_of a 0) (sim_of b n) p.entries last p.turns f))
 
 -- where memory ran out, it is a front of it
-pub led-left : (limit : ℕ) (a b c : CoreState) (n : ℕ) → a.log ≡ [] → LedOn limit a 0 b n → LeftWithin limit b n c → IsSimFront limit (sim_start (start a.origin)) c.log
+pub led-left : (limit : ℕ) (a b c : CoreState) (n : ℕ) → a.log ≡ [] → LedOn limit a 0 b n → LeftWithin limit b n c → IsSimPrefix limit (sim_start (start a.origin)) c.log
 led-left limit a b c n e p q =
     let whole : c.log ≡ p.entries ++ q.entries = q.log ∙ ap (λ (log : List Entry). log ++ q.entries) (p.log ∙ ap (λ (log : List Entry). log ++ p.entries) e) in
-    subst (λ (log : List Entry). IsSimFront limit (sim_start (start a.origin)) log) (sym whole)
-    (subst (λ (s : Sim). IsSimFront limit s (p.entries ++ q.entries)) (start-sim a e) (leads-front limit (sim_of a 0) (sim_of b n) p.entries q.entries p.turns q.front))
+    subst (λ (log : List Entry). IsSimPrefix limit (sim_start (start a.origin)) log) (sym whole)
+    (subst (λ (s : Sim). IsSimPrefix limit s (p.entries ++ q.entries)) (start-sim a e) (leads-front limit (sim_of a 0) (sim_of b n) p.entries q.entries p.turns q.front))

@@ -1,15 +1,15 @@
 -- What a simulation logs is a trace.
 use Rattle.std.proofs.Common.{◌≡◌, ℕ, ◌+◌, List, [], ◌∷◌, refl, sym, ◌∙◌, subst, Bool, true, false, nat_le, if◌then◌else◌}
-use Rattle.tb_core.specs.Buses.{Bus}
-use Rattle.tb_core.specs.Steps.{Step, steps}
-use Rattle.tb_core.specs.Traces.{IsLegal, IsTrace, after, fed}
-use Rattle.tb_core.specs.Simulation.{Sim, Ends, Makes, step_turn, IsSim, IsSimFront}
-use Rattle.tb_core.specs.declared.log.Input.TheVariants.{NoTicks}
-use Rattle.tb_core.specs.declared.log.Entry.{Entry}
-use Rattle.tb_core.specs.declared.log.Entry.TheVariants.{Did, Quiet, Fed}
-use Rattle.tb_core.specs.declared.ends.SimEnd.{SimEnd}
-use Rattle.tb_core.specs.declared.ends.SimEnd.TheVariants.{Down, Steps}
-use Rattle.tb_core.proofs.TraceLemmas.{after-first, legal-first}
+use Rattle.tb_bus.specs.Buses.{Bus}
+use Rattle.tb_bus.specs.Steps.{Step, steps}
+use Rattle.tb_bus.specs.Traces.{IsLegal, IsTrace, after, fed}
+use Rattle.tb_sim.specs.Simulation.{Sim, Ends, Makes, step_turn, IsSim, IsSimPrefix}
+use Rattle.tb_log.specs.declared.entry.Input.TheVariants.{NoTicks}
+use Rattle.tb_log.specs.declared.entry.Entry.{Entry}
+use Rattle.tb_log.specs.declared.entry.Entry.TheVariants.{Did, Quiet, Fed}
+use Rattle.tb_sim.specs.declared.ends.SimEnd.{SimEnd}
+use Rattle.tb_sim.specs.declared.ends.SimEnd.TheVariants.{Down, Steps}
+use Rattle.tb_bus.proofs.TraceLemmas.{after-first, legal-first}
 
 -- the entry is legal, and leads to where the simulation goes on
 abbrev Leads : Sim → Entry → Sim → Type 0
@@ -45,14 +45,14 @@ turn-leads limit sim true d entry next e = absurd cc
 turn-leads limit sim false d entry next e = steps-lead limit sim (steps sim.bus) refl d entry next e
 
 -- so far
-pub front-trace : (limit : ℕ) (sim : Sim) (log : List Entry) → IsSimFront limit sim log → IsTrace sim.bus log
+pub front-trace : (limit : ℕ) (sim : Sim) (log : List Entry) → IsSimPrefix limit sim log → IsTrace sim.bus log
 front-trace limit sim [] h = tt
 front-trace limit sim (entry ∷ log) h =
     let t = turn-leads limit sim sim.bus.down refl entry h.0 h.1 in
     (t.0, subst (λ (b : Bus). IsTrace b log) (sym t.1) (front-trace limit h.0 log h.2))
 
 -- and to the end
-sim-front : (limit : ℕ) (sim : Sim) (log : List Entry) (end : SimEnd) → IsSim limit sim log end → IsSimFront limit sim log
+sim-front : (limit : ℕ) (sim : Sim) (log : List Entry) (end : SimEnd) → IsSim limit sim log end → IsSimPrefix limit sim log
 sim-front limit sim [] end h = tt
 sim-front limit sim (entry ∷ log) end h = (h.0, h.1, sim-front limit h.0 log end h.2)
 

@@ -1,13 +1,13 @@
 -- The simulation of a bus: turn after turn, always the first of the steps.
 use Rattle.std.specs.Prelude.{◌≡◌, ℕ, ◌+◌, nat_le, List, [], ◌∷◌, Bool, true, false, if◌then◌else◌, ⊤}
-use Rattle.tb_core.specs.Buses.{Bus}
-use Rattle.tb_core.specs.Steps.{Step, steps}
-use Rattle.tb_core.specs.Traces.{fed}
-use Rattle.tb_core.specs.declared.log.Input.TheVariants.{NoTicks}
-use Rattle.tb_core.specs.declared.log.Entry.{Entry}
-use Rattle.tb_core.specs.declared.log.Entry.TheVariants.{Did, Quiet, Fed}
-use Rattle.tb_core.specs.declared.ends.SimEnd.{SimEnd}
-use Rattle.tb_core.specs.declared.ends.SimEnd.TheVariants.{Down, Steps}
+use Rattle.tb_bus.specs.Buses.{Bus}
+use Rattle.tb_bus.specs.Steps.{Step, steps}
+use Rattle.tb_bus.specs.Traces.{fed}
+use Rattle.tb_log.specs.declared.entry.Input.TheVariants.{NoTicks}
+use Rattle.tb_log.specs.declared.entry.Entry.{Entry}
+use Rattle.tb_log.specs.declared.entry.Entry.TheVariants.{Did, Quiet, Fed}
+use Rattle.tb_sim.specs.declared.ends.SimEnd.{SimEnd}
+use Rattle.tb_sim.specs.declared.ends.SimEnd.TheVariants.{Down, Steps}
 
 -- where a simulation stands: its bus, how many steps it has made, and whether it has just said quiet
 pub record Sim : Type 0 where
@@ -49,6 +49,6 @@ abbrev pub sim_start : Bus → Sim
 sim_start bus = record { bus = bus; steps_made = 0; quiet = false }
 
 -- Turn after turn the simulation makes this log, and may go on.
-abbrev pub IsSimFront : ℕ → Sim → List Entry → Type 0
-IsSimFront limit sim [] = ⊤
-IsSimFront limit sim (entry ∷ log) = (next : Sim) × (turn limit sim ≡ Makes entry next) × IsSimFront limit next log
+abbrev pub IsSimPrefix : ℕ → Sim → List Entry → Type 0
+IsSimPrefix limit sim [] = ⊤
+IsSimPrefix limit sim (entry ∷ log) = (next : Sim) × (turn limit sim ≡ Makes entry next) × IsSimPrefix limit next log

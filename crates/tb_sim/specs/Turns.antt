@@ -1,10 +1,10 @@
 -- How the code goes through a simulation: one or two turns at a time.
 use Rattle.std.specs.Prelude.{◌≡◌, ℕ, ◌+◌, ◌<◌, List, [], ◌∷◌, ◌++◌, true, false}
-use Rattle.tb_core.specs.Simulation.{Sim, Ends, Makes, turn, IsSimFront}
+use Rattle.tb_sim.specs.Simulation.{Sim, Ends, Makes, turn, IsSimPrefix}
 use Rattle.tb_core.specs.Cores.{CoreState, bus_now, ends_quiet}
-use Rattle.tb_core.specs.declared.log.Entry.{Entry}
-use Rattle.tb_core.specs.declared.ends.Turned.{Turned}
-use Rattle.tb_core.specs.declared.ends.Turned.TheVariants as turned
+use Rattle.tb_log.specs.declared.entry.Entry.{Entry}
+use Rattle.tb_sim.specs.declared.ends.Turned.{Turned}
+use Rattle.tb_sim.specs.declared.ends.Turned.TheVariants as turned
 
 -- turn after turn the simulation makes these entries, and stands here then
 abbrev pub SimLeads : ℕ → Sim → List Entry → Sim → Type 0
@@ -30,7 +30,7 @@ pub record LeftWithin (limit : ℕ) (old : CoreState) (made : ℕ) (new : CoreSt
   pub stopped : new.stopped ≡ old.stopped
   pub entries : List Entry
   pub log : new.log ≡ old.log ++ entries
-  pub front : IsSimFront limit (sim_of old made) entries
+  pub front : IsSimPrefix limit (sim_of old made) entries
 
 -- What one go did: it made a step; it said quiet and handed in that no more ticks come; or it is the end.
 abbrev pub Goes : ℕ → CoreState → ℕ → CoreState → Turned → Type 0

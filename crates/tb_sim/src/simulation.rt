@@ -1,16 +1,14 @@
-ghost use Rattle.std.specs.Prelude.{◌≡◌, ◌&&◌, ◌==◌, ◌≤◌, ◌∷◌, [], IfOk, OnOk, OnErr, IsErrOf, false};
-ghost use Rattle.tb_core.specs.Buses.{start};
-ghost use Rattle.tb_core.specs.Steps.{steps as steps_of};
-ghost use Rattle.tb_core.specs.Cores.{bus_now, has_any, ends_quiet, Logs};
-ghost use Rattle.tb_core.specs.Traces.{fed};
-ghost use Rattle.tb_core.specs.Simulation.{IsSim, IsSimFront, sim_start};
-ghost use Rattle.tb_core.specs.Turns.{Goes, LeftWithin};
+ghost use Rattle.std.specs.Prelude.{◌≡◌, ◌&&◌, ◌==◌, ◌≤◌, [], IfOk, OnOk, OnErr, IsErrOf, false};
+ghost use Rattle.tb_bus.specs.Buses.{start};
+ghost use Rattle.tb_bus.specs.Steps.{steps as steps_of};
+ghost use Rattle.tb_core.specs.Cores.{HandIn, bus_now, has_any, ends_quiet, entries_of, Logs};
+ghost use Rattle.tb_sim.specs.Simulation.{IsSim, IsSimPrefix, sim_start};
+ghost use Rattle.tb_sim.specs.Turns.{Goes, LeftWithin};
 
-use crate::answers::Stepped;
 use crate::ends::{SimEnd, Turned};
-use crate::log::{Entry, Input};
-use crate::machine::Core;
 use tb_algebra::Walker;
+use tb_core::{Core, Stepped};
+use tb_log::Input;
 use tb_terms::NoMemory;
 
 /// Whether no more steps may be made, though one is possible.
@@ -49,7 +47,7 @@ fn go<W: Walker>(core: &mut Core<W>, made: u64, steps: u64) -> Result<Turned, No
 /// Hands in that no more ticks come.
 fn end_ticks<W: Walker>(core: &mut Core<W>) -> Result<(), NoMemory>
     requires { core.old.stopped ≡ false }
-    ensures ok { OnOk result (Logs core.old core.new (Entry.Fed Input.NoTicks (fed (bus_now core.old) Input.NoTicks).reply ∷ [])) }
+    ensures ok { OnOk result (Logs core.old core.new (entries_of core.old (HandIn Input.NoTicks))) }
     ensures err { OnErr result (core.new ≡ core.old) }
 {
     match core.hand_in(Input::NoTicks) {
@@ -59,14 +57,14 @@ fn end_ticks<W: Walker>(core: &mut Core<W>) -> Result<(), NoMemory>
 }
 
 /// Runs a core to its end, always by the first of the steps, and makes at most this many. After an
-/// `Err` the log is a front of the one that the simulation makes.
+/// `Err` the log is a prefix of the one that the simulation makes.
 pub fn simulate<W: Walker>(core: &mut Core<W>, steps: u64) -> Result<SimEnd, NoMemory>
     requires fresh { core.old.log ≡ [] }
     requires running { core.old.stopped ≡ false }
     ensures origin { core.new.origin ≡ core.old.origin }
     ensures still_running { core.new.stopped ≡ false }
     ensures ok { IfOk result (IsSim steps (sim_start (start core.old.origin)) core.new.log) }
-    ensures err { OnErr result (IsSimFront steps (sim_start (start core.old.origin)) core.new.log) }
+    ensures err { OnErr result (IsSimPrefix steps (sim_start (start core.old.origin)) core.new.log) }
 {
     let mut made = 0;
     loop {

@@ -1,6 +1,6 @@
-use Rattle.tb_core.specs.Simulation.{sim_start}
-use Rattle.tb_core.proofs.SimTraces.{one-sim}
-use Rattle.tb_core.proofs.laws.one_simulation.Goals as goal
+use Rattle.tb_sim.specs.Simulation.{sim_start}
+use Rattle.tb_sim.proofs.SimTraces.{one-sim}
+use Rattle.tb_sim.proofs.laws.one_simulation.Goals as goal
 
 pub returns : goal.returns
 returns c = λ limit bus log other end last h g. one-sim limit (sim_start bus) log other end last h g

@@ -1,6 +1,6 @@
-use Rattle.tb_core.specs.Simulation.{sim_start}
-use Rattle.tb_core.proofs.SimTraces.{front-trace, sim-trace}
-use Rattle.tb_core.proofs.laws.simulations_log_traces.Goals as goal
+use Rattle.tb_sim.specs.Simulation.{sim_start}
+use Rattle.tb_sim.proofs.SimTraces.{front-trace, sim-trace}
+use Rattle.tb_sim.proofs.laws.simulations_log_traces.Goals as goal
 
 pub returns-clause-on_the_way : goal.returns-clause-on_the_way
 returns-clause-on_the_way c = λ limit bus log h. front-trace limit (sim_start bus) log h

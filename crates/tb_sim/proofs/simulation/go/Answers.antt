@@ -1,10 +1,10 @@
 use Rattle.std.proofs.Common.{◌∙◌, [], ap, sym}
-use Rattle.tb_core.specs.Steps.{steps}
-use Rattle.tb_core.specs.Turns.{sim_of}
+use Rattle.tb_bus.specs.Steps.{steps}
+use Rattle.tb_sim.specs.Turns.{sim_of}
 use Rattle.tb_core.specs.Cores.{bus_now, has_any, Logs, entries_stepped, IsStep, first_did}
 use Rattle.tb_core.specs.declared.answers.Stepped.TheVariants.{Did, Quiet, Down}
-use Rattle.tb_core.proofs.SimLemmas.{turn-limit, turn-down, led-did, led-quiet, left-quiet, logs-nothing, below-limit, quiet-logs}
-use Rattle.tb_core.proofs.simulation.go.Goals as goal
+use Rattle.tb_sim.proofs.SimLemmas.{turn-limit, turn-down, led-did, led-quiet, left-quiet, logs-nothing, below-limit, quiet-logs}
+use Rattle.tb_sim.proofs.simulation.go.Goals as goal
 
 pub returns-then-branch-clause-ok : goal.returns-then-branch-clause-ok
 unfolding sim_of

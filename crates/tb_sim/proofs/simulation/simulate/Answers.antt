@@ -1,10 +1,10 @@
 use Rattle.std.proofs.Common.{◌≡◌, ◌∙◌, ◌+◌, ap, arith}
-use Rattle.tb_core.specs.Simulation.{turn, Ends}
+use Rattle.tb_sim.specs.Simulation.{turn, Ends}
 use Rattle.tb_core.specs.Cores.{CoreState}
-use Rattle.tb_core.specs.Turns.{Goes, LedOn, sim_of}
-use Rattle.tb_core.specs.declared.ends.Turned.TheVariants as turned
-use Rattle.tb_core.proofs.SimLemmas.{led-on, led-ends, led-left}
-use Rattle.tb_core.proofs.simulation.simulate.Goals as goal
+use Rattle.tb_sim.specs.Turns.{Goes, LedOn, sim_of}
+use Rattle.tb_sim.specs.declared.ends.Turned.TheVariants as turned
+use Rattle.tb_sim.proofs.SimLemmas.{led-on, led-ends, led-left}
+use Rattle.tb_sim.proofs.simulation.simulate.Goals as goal
 
 pub loop-made-preserved-in-Ok-Step : goal.loop-made-preserved-in-Ok-Step
 loop-made-preserved-in-Ok-Step g c =

@@ -1,7 +1,7 @@
 use Rattle.std.proofs.Common.{◌≤◌, ◌+◌, ◌-◌, if◌then◌else◌}
-use Rattle.tb_core.specs.Turns.{LedOn}
+use Rattle.tb_sim.specs.Turns.{LedOn}
 use Rattle.tb_core.specs.Cores.{bus_now}
-use Rattle.tb_core.proofs.simulation.simulate.Given as goal
+use Rattle.tb_sim.proofs.simulation.simulate.Given as goal
 
 -- the turns so far lead to where the core is
 abbrev pub invariant-loop-made : goal.invariant-loop-made

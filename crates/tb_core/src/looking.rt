@@ -1,0 +1,227 @@
+ghost use Rattle.std.specs.Prelude.{◌≡◌, ◌<◌, ◌++◌, ℕ, List, length, slice_get, IfOk, IsTrue, OnOk, OnErr, Some, is_some, true, false};
+ghost use Rattle.std.specs.Option.{ForSome};
+ghost use Rattle.tb_func.specs.declared.slot.Slot.{Slot};
+ghost use Rattle.tb_algebra.specs.Atoms.{act_of};
+ghost use Rattle.tb_algebra.specs.Binds.{has_slot_sort, takes_binds};
+ghost use Rattle.tb_algebra.specs.Offers.{Offered};
+ghost use Rattle.tb_algebra.specs.Walks.{fired, is_end, offers_of, seen, seen_offers, sorts_of};
+ghost use Rattle.tb_bus.specs.Actions.{action_in, action_of, set_action};
+ghost use Rattle.tb_bus.specs.Candidates.{ready_one, readies};
+ghost use Rattle.tb_core.specs.Lives.{IsLiveOn, proc_by};
+
+use std::alloc::Global;
+use tb_algebra::{Offer, Walker};
+use tb_body::{Act, Atoms, Body};
+use tb_bus::{Action, Living, OwnAction, Ready};
+use tb_match::{Bind, Binds};
+use tb_terms::{Items, NoMemory, Sorts, Term, Terms, has_sort};
+
+/// Whether there is such a slot, and the value has its sort.
+fn takes(sorts: &Sorts, slot: u32, value: &Term) -> bool
+    ensures { result ≡ has_slot_sort (slice_get sorts.now slot) value.now }
+{
+    match sorts.get(slot as usize) {
+        Some(sort) => has_sort(value, sort),
+        None => false,
+    }
+}
+
+/// The slot takes the value, where it has the slot's sort.
+fn set_action(
+    alloc: Global,
+    sorts: &Sorts,
+    slot: u32,
+    values: Terms,
+) -> Result<Option<Action>, NoMemory>
+    ensures { (store : List Slot) → sorts_of store ≡ sorts.now → IfOk result (λ action. action ≡ set_action store slot values) }
+{
+    if values.len() != 1 {
+        return Ok(None);
+    }
+    let value = &values.as_slice()[0];
+    if !takes(sorts, slot, value) {
+        return Ok(None);
+    }
+    let value = value.copy(alloc)?;
+    let mut binds = Items::new(alloc);
+    binds.push(Bind { slot, value })?;
+    Ok(Some(Action::Own(OwnAction::Set(values, binds))))
+}
+
+/// The action of an offered atom, where its arguments have values.
+fn action_in<W: Walker>(
+    alloc: Global,
+    plan: &W::Plan,
+    body: &Body,
+    walker: &W,
+    k: usize,
+    act: &Act,
+) -> Result<Option<Action>, NoMemory>
+    requires on { W.view.is_on plan.now walker.now }
+    requires fresh { IsTrue (is_some (W.view.seen walker.now)) }
+    requires within { ForSome (W.view.seen walker.now) (λ offers. k < length offers) }
+    requires body { W.view.body_of plan.now ≡ body.now }
+    ensures { (offered : Offered) → slice_get (offers_of (W.view.walking plan.now walker.now)) k ≡ Some offered →
+        act_of body.now.atoms offered.atom ≡ act.now → sorts_of offered.store ≡ body.now.sorts →
+        IfOk result (λ action. action ≡ action_in offered.store act.now) }
+{
+    match act {
+        Act::Tau => Ok(Some(Action::Own(OwnAction::Tau))),
+        Act::Set { slot, .. } => match walker.sent(alloc, plan, k)? {
+            Some(values) => set_action(alloc, &body.sorts, *slot, values),
+            None => Ok(None),
+        },
+        Act::SndMsg(_) => match walker.sent(alloc, plan, k)? {
+            Some(terms) => Ok(Some(Action::Send(terms))),
+            None => Ok(None),
+        },
+        Act::RecMsg(_) => match walker.patterns(alloc, plan, k)? {
+            Some(patterns) => Ok(Some(Action::Receive(patterns))),
+            None => Ok(None),
+        },
+        Act::Delta
+        | Act::SndNote(_)
+        | Act::RecNote(_)
+        | Act::NoNote(_)
+        | Act::Subscribe(_)
+        | Act::Unsubscribe(_)
+        | Act::Create { .. }
+        | Act::Printf(_)
+        | Act::Execute { .. }
+        | Act::RecConnect { .. }
+        | Act::RecDisconnectAny { .. }
+        | Act::RecDisconnect(_)
+        | Act::SndEval(_, _)
+        | Act::RecValue(_, _)
+        | Act::SndDo(_, _)
+        | Act::RecEvent(_, _)
+        | Act::SndAckEvent(_, _)
+        | Act::SndTerminate(_, _)
+        | Act::Shutdown(_) => Ok(None),
+    }
+}
+
+/// The action of an offer, where it is ready for one.
+fn action_of<W: Walker>(
+    alloc: Global,
+    plan: &W::Plan,
+    body: &Body,
+    walker: &W,
+    k: usize,
+    offer: Offer,
+) -> Result<Option<Action>, NoMemory>
+    requires on { W.view.is_on plan.now walker.now }
+    requires fresh { IsTrue (is_some (W.view.seen walker.now)) }
+    requires within { ForSome (W.view.seen walker.now) (λ offers. k < length offers) }
+    requires body { W.view.body_of plan.now ≡ body.now }
+    ensures { (now : ℕ) (offered : Offered) → slice_get (offers_of (W.view.walking plan.now walker.now)) k ≡ Some offered →
+        offer ≡ seen body.now.atoms now offered → sorts_of offered.store ≡ body.now.sorts →
+        IfOk result (λ action. action ≡ action_of body.now.atoms now offered) }
+{
+    if !offer.ready {
+        return Ok(None);
+    }
+    let place = (offer.atom as usize).saturating_sub(1);
+    match body.atoms.get(place) {
+        Some(atom) => action_in(alloc, plan, body, walker, k, &atom.act),
+        None => Ok(None),
+    }
+}
+
+/// Puts an offer at the end of what is ready, where it is ready for an action.
+fn push_ready<W: Walker>(
+    alloc: Global,
+    plan: &W::Plan,
+    body: &Body,
+    walker: &W,
+    at: usize,
+    ready: &mut Vec<Ready>,
+) -> Result<(), NoMemory>
+    requires on { W.view.is_on plan.now walker.now }
+    requires fresh { IsTrue (is_some (W.view.seen walker.now)) }
+    requires within { ForSome (W.view.seen walker.now) (λ offers. at < length offers) }
+    requires body { W.view.body_of plan.now ≡ body.now }
+    ensures { (now : ℕ) (offered : Offered) → slice_get (offers_of (W.view.walking plan.now walker.now)) at ≡ Some offered →
+        W.view.seen walker.now ≡ Some (seen_offers body.now.atoms now (W.view.walking plan.now walker.now)) →
+        sorts_of offered.store ≡ body.now.sorts →
+        OnOk result (ready.new.items ≡ ready.old.items ++ ready_one at offered (action_of body.now.atoms now offered)) }
+{
+    let offer = walker.offer(at);
+    let atom = offer.atom;
+    match action_of(alloc, plan, body, walker, at, offer)? {
+        Some(action) => {
+            ready.push(Ready {
+                offer: at,
+                atom,
+                action,
+            })?;
+            Ok(())
+        }
+        None => Ok(()),
+    }
+}
+
+/// Fills what the process that was looked at is ready to do.
+fn fill<W: Walker>(
+    alloc: Global,
+    plan: &W::Plan,
+    body: &Body,
+    walker: &W,
+    ready: &mut Vec<Ready>,
+) -> Result<(), NoMemory>
+    requires on { W.view.is_on plan.now walker.now }
+    requires fresh { IsTrue (is_some (W.view.seen walker.now)) }
+    requires body { W.view.body_of plan.now ≡ body.now }
+    requires sorts { sorts_of (W.view.walking plan.now walker.now).store ≡ body.now.sorts }
+    ensures { (now : ℕ) → W.view.seen walker.now ≡ Some (seen_offers body.now.atoms now (W.view.walking plan.now walker.now)) →
+        OnOk result (ready.new.items ≡ readies body.now.atoms now 0 (offers_of (W.view.walking plan.now walker.now))) }
+{
+    ready.clear();
+    for at in 0..walker.offer_count() {
+        push_ready(alloc, plan, body, walker, at, ready)?;
+    }
+    Ok(())
+}
+
+/// Looks anew what a process is ready to do, on a bus that has seen so many ticks.
+pub fn look<W: Walker>(
+    alloc: Global,
+    plan: &W::Plan,
+    body: &Body,
+    living: &mut Living<W>,
+    now: u64,
+) -> Result<(), NoMemory>
+    requires body { W.view.body_of plan.now ≡ body.now }
+    requires live { IsLiveOn W.view plan.now now living.old }
+    ensures live { IsLiveOn W.view plan.now now living.new }
+    ensures same { proc_by W.view (Some plan.now) living.new ≡ proc_by W.view (Some plan.now) living.old }
+    ensures fresh { OnOk result (living.new.fresh ≡ true) }
+{
+    living.fresh = false;
+    living.walker.look(alloc, plan, now)?;
+    fill(alloc, plan, body, &living.walker, &mut living.ready)?;
+    living.fresh = true;
+    Ok(())
+}
+
+/// A process goes on with what was taken of it; whether it has ended then.
+pub fn go_on<W: Walker>(
+    plan: &W::Plan,
+    living: &mut Living<W>,
+    taken: W::Taken,
+    binds: Binds,
+) -> bool
+    requires on { W.view.is_on plan.now living.old.walker }
+    requires taken { (offered : Offered) × W.view.leaves plan.now living.old.walker taken offered × IsTrue (takes_binds offered.store binds) }
+    ensures on { W.view.is_on plan.now living.new.walker }
+    ensures advanced { (offered : Offered) → W.view.leaves plan.now living.old.walker taken offered →
+        W.view.walking plan.now living.new.walker ≡ fired binds (W.view.walking plan.now living.old.walker).ticks offered }
+    ensures ended { result ≡ is_end (W.view.walking plan.now living.new.walker).term }
+    ensures number { living.new.number ≡ living.old.number }
+    ensures body { living.new.body ≡ living.old.body }
+    ensures stale { living.new.fresh ≡ false }
+{
+    living.fresh = false;
+    living.walker.advance(plan, taken, binds);
+    living.walker.is_done()
+}
