@@ -8,14 +8,17 @@ use Rattle.tb_body.specs.declared.atom.Atom.{Atom}
 use Rattle.tb_body.specs.declared.tree.Tree.{Tree}
 use Rattle.tb_algebra.specs.Binds.{with_binds}
 use Rattle.tb_algebra.specs.Founds.{offer_of}
-use Rattle.tb_algebra.specs.Hits.{Past, On, hit, hit_at}
+use Rattle.tb_algebra.specs.Hits.{Past, On, hit, hit_at, hit_of, is_fired_on}
 use Rattle.tb_algebra.specs.Offers.{Offered}
 use Rattle.tb_algebra.specs.Processes.{Process, fresh}
 use Rattle.tb_algebra.specs.Plans.{tree_at}
-use Rattle.tb_algebra.specs.Rewritings.{walking_of, seen_of, Kept, kept, kept_found, IsOnPlan}
+use Rattle.tb_algebra.specs.Rewritings.{walking_of, seen_of, Kept, kept, kept_found, IsOnPlan, IsLeft}
 use Rattle.tb_algebra.specs.Runnings.{term_of}
-use Rattle.tb_algebra.specs.Sights.{Sight, sighted, sights, shown}
+use Rattle.tb_algebra.specs.Sights.{Sight, sighted, sights, shown, or_own}
 use Rattle.tb_algebra.specs.Walks.{Walking, offers_of, seen, fired}
+use Rattle.tb_algebra.specs.declared.fired.Fired.{Fired}
+use Rattle.tb_algebra.specs.declared.fired.Fired.TheVariants.{Taken}
+use Rattle.tb_algebra.specs.declared.fired.Left.{Left}
 use Rattle.tb_algebra.specs.declared.found.Found.{Found}
 use Rattle.tb_algebra.specs.declared.node.Node.{Node}
 use Rattle.tb_algebra.specs.declared.offer.Offer.{Offer}
@@ -115,14 +118,6 @@ is_hit plan rewriter k rest on fresh within e =
     let four = ap length (on.found founds is) in
     hit_inside k os rest (omega arith) e)
 
--- what holds of the store of the offer holds of the store that was hit
-pub hit_store : (P : List Slot → Type 0) (k : ℕ) (os : List Offered) (left : Option Process) (store : List Slot) → ForSome (slice_get os k) (λ o. P o.store) → hit_at k os ≡ On left store → P store
-hit_store P k [] left store f e = cc
-hit_store P zero (o ∷ os) left store f e =
-    let same : o.store ≡ store = cc in
-    subst P same (f o refl)
-hit_store P (suc k) (o ∷ os) left store f e = hit_store P k os left store f e
-
 hit_is : (k : ℕ) (os : List Offered) (o : Offered) → slice_get os k ≡ Some o → hit_at k os ≡ On o.residual o.store
 hit_is k [] o e = cc
 hit_is zero (first ∷ os) o e =
@@ -130,13 +125,36 @@ hit_is zero (first ∷ os) o e =
     ap (λ (x : Offered). On x.residual x.store) same
 hit_is (suc k) (first ∷ os) o e = hit_is k os o e
 
-pub goes : (k : ℕ) (os : List Offered) (left : Option Process) (store after : List Slot) (binds : List Bind) (ticks : ℕ) → hit_at k os ≡ On left store → after ≡ with_binds store binds → ForSome (slice_get os k) (λ o. ◌≡◌ {A = Walking} (record { term = left; store = after; ticks = ticks }) (fired binds ticks o))
-goes k os left store after binds ticks e h o is =
-    let both : On left store ≡ On o.residual o.store = sym e ∙ hit_is k os o is in
-    let one : left ≡ o.residual = cc in
-    let two : store ≡ o.store = cc in
-    ap (λ (l : Option Process). record { term = l; store = after; ticks = ticks }) one
-    ∙ ap (λ (s : List Slot). record { term = o.residual; store = s; ticks = ticks }) (h ∙ ap (λ (s : List Slot). with_binds s binds) two)
+hit_there : (k : ℕ) (os : List Offered) (left : Option Process) (store : List Slot) → hit_at k os ≡ On left store → k < length os
+hit_there k [] left store e = cc
+hit_there zero (o ∷ os) left store e = omega arith
+hit_there (suc k) (o ∷ os) left store e =
+    let rest = hit_there k os left store e in
+    omega arith
+
+module _ (plan : Plan) (rewriter : Rewriter) (k : ℕ) (fired : Fired) (left : Left) (is : fired ≡ Taken left.term left.own) (hit : hit_of plan.nodes rewriter.ticks rewriter.store fired ≡ hit_at k (offers_of (walking_of plan rewriter))) where
+  hit_left : hit_at k (offers_of (walking_of plan rewriter)) ≡ On (option_map (term_of plan.nodes rewriter.ticks) left.term) (or_own left.own rewriter.store)
+  hit_left = sym hit ∙ ap (hit_of plan.nodes rewriter.ticks rewriter.store) is
+
+  pub taken_there : k < length (offers_of (walking_of plan rewriter))
+  taken_there = hit_there k (offers_of (walking_of plan rewriter)) (option_map (term_of plan.nodes rewriter.ticks) left.term) (or_own left.own rewriter.store) hit_left
+
+  pub taken_left : IsTrue (is_fired_on plan.nodes rewriter.ticks fired) → ForSome (slice_get (offers_of (walking_of plan rewriter)) k) (IsLeft plan rewriter left)
+  taken_left parts offered here =
+      let both : On (option_map (term_of plan.nodes rewriter.ticks) left.term) (or_own left.own rewriter.store) ≡ On offered.residual offered.store = sym hit_left ∙ hit_is k (offers_of (walking_of plan rewriter)) offered here in
+      record {
+        term = cc;
+        store = cc;
+        parts = subst (λ (f : Fired). IsTrue (is_fired_on plan.nodes rewriter.ticks f)) is parts;
+      }
+
+-- going on with what was taken
+pub advanced : (plan : Plan) (old new : Rewriter) (left : Left) (binds : List Bind) → new.term ≡ left.term → new.store ≡ with_binds (or_own left.own old.store) binds → new.ticks ≡ old.ticks → (offered : Offered) → IsLeft plan old left offered → walking_of plan new ≡ fired binds old.ticks offered
+advanced plan old new left binds term store ticks offered is =
+    ap (λ (t : ℕ). record { term = option_map (term_of plan.nodes t) new.term; store = new.store; ticks = t }) ticks
+    ∙ ap (λ (l : Option Running). record { term = option_map (term_of plan.nodes old.ticks) l; store = new.store; ticks = old.ticks }) term
+    ∙ ap (λ (l : Option Process). record { term = l; store = new.store; ticks = old.ticks }) is.term
+    ∙ ap (λ (s : List Slot). record { term = offered.residual; store = s; ticks = old.ticks }) (store ∙ ap (λ (s : List Slot). with_binds s binds) is.store)
 
 pub hits_some : (plan : Plan) (rewriter : Rewriter) (term : Running) (k : ℕ) → rewriter.term ≡ Some term → hit_at k (offers_of (walking_of plan rewriter)) ≡ hit (term_of plan.nodes rewriter.ticks term) rewriter.store k
 unfolding offers_of hit

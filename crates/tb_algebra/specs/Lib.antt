@@ -10,4 +10,5 @@ pub mod Rewritings
 pub mod Runnings
 pub mod Settings
 pub mod Sights
+pub mod WalkerViews
 pub mod Walks

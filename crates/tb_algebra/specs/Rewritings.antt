@@ -7,7 +7,9 @@ use Rattle.tb_algebra.specs.Hits.{is_left_on}
 use Rattle.tb_algebra.specs.Offers.{Offered}
 use Rattle.tb_algebra.specs.Runnings.{term_of}
 use Rattle.tb_algebra.specs.Sights.{or_own}
+use Rattle.tb_algebra.specs.WalkerViews.{View}
 use Rattle.tb_algebra.specs.Walks.{Walking, offers_of}
+use Rattle.tb_algebra.specs.declared.fired.Left.{Left}
 use Rattle.tb_algebra.specs.declared.found.Found.{Found}
 use Rattle.tb_algebra.specs.declared.offer.Offer.{Offer}
 use Rattle.tb_algebra.specs.declared.plan.Plan.{Plan}
@@ -39,3 +41,13 @@ kept_found base found = record { atom = found.atom; age = found.age; store = or_
 pub record IsOnPlan (plan : Plan) (rewriter : Rewriter) : Type 0 where
   pub parts : IsTrue (is_left_on plan.nodes rewriter.ticks rewriter.term)
   pub found : ForSome rewriter.found (λ founds. map (kept_found rewriter.store) founds ≡ map kept (offers_of (walking_of plan rewriter)))
+
+-- What was taken is what the offer leaves: its term and its store. Its parts are in the plan.
+pub record IsLeft (plan : Plan) (rewriter : Rewriter) (left : Left) (offered : Offered) : Type 0 where
+  pub term : option_map (term_of plan.nodes rewriter.ticks) left.term ≡ offered.residual
+  pub store : or_own left.own rewriter.store ≡ offered.store
+  pub parts : IsTrue (is_left_on plan.nodes rewriter.ticks left.term)
+
+-- what contracts see of a rewriter
+abbrev pub rewriter_view : View Plan Rewriter Left
+rewriter_view = record { body_of = λ plan. plan.body; is_on = IsOnPlan; walking = walking_of; seen = seen_of; leaves = IsLeft }

@@ -9,3 +9,10 @@ pub enum Fired {
     /// What is left once it is taken, and the store that a `let` made.
     Taken(Option<Running>, Option<Store>),
 }
+
+/// What is left once an offer is taken, and the store that a `let` made.
+#[derive(Debug, Drop)]
+pub struct Left {
+    pub(crate) term: Option<Running>,
+    pub(crate) own: Option<Store>,
+}

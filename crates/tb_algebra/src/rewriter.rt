@@ -4,10 +4,10 @@ ghost use Rattle.tb_algebra.specs.Binds.{takes_binds, with_binds};
 ghost use Rattle.tb_algebra.specs.Hits.{hit_at, hit_of, is_fired_on};
 ghost use Rattle.tb_algebra.specs.Sights.{or_own, shown, sighted};
 ghost use Rattle.tb_algebra.specs.Walks.{offers_of};
-ghost use Rattle.tb_algebra.specs.Rewritings.{walking_of, seen_of, IsOnPlan};
+ghost use Rattle.tb_algebra.specs.Rewritings.{walking_of, IsOnPlan, rewriter_view};
 
 use crate::fire::fire_term;
-use crate::fired::Fired;
+use crate::fired::{Fired, Left};
 use crate::found::{Found, copy_founds};
 use crate::look::{look_term, store_of};
 use crate::plan::Plan;
@@ -73,35 +73,14 @@ impl Rewriter {
             None => Ok(Fired::Past(k)),
         }
     }
-
-    /// Goes on with what is left, in the store that a `let` made or in its own.
-    fn goes_on(&mut self, left: Option<Running>, own: Option<Store>, binds: Binds)
-        requires { IsTrue (takes_binds (or_own own self.old.store) binds) }
-        ensures term { self.new.term ≡ left }
-        ensures store { self.new.store ≡ with_binds (or_own own self.old.store) binds }
-        ensures ticks { self.new.ticks ≡ self.old.ticks }
-        ensures found { self.new.found ≡ None }
-    {
-        match own {
-            Some(store) => self.store = store,
-            None => {}
-        }
-        set_binds(&mut self.store, binds);
-        self.term = left;
-        self.found = None;
-    }
 }
 
 impl Walker for Rewriter {
     type Plan = Plan;
 
-    ghost body_of = { λ plan. plan.body };
+    type Taken = Left;
 
-    ghost IsOn = { λ plan rewriter. IsOnPlan plan rewriter };
-
-    ghost walking = { λ plan rewriter. walking_of plan rewriter };
-
-    ghost seen = { λ rewriter. seen_of rewriter };
+    ghost view = { rewriter_view };
 
     fn plan(alloc: Global, body: &Body) -> Result<Plan, NoMemory> {
         Plan::new(alloc, body)
@@ -184,14 +163,24 @@ impl Walker for Rewriter {
         }
     }
 
-    fn fire(&mut self, alloc: Global, plan: &Plan, k: usize, binds: Binds) -> Result<(), NoMemory> {
+    fn take(&self, alloc: Global, plan: &Plan, k: usize) -> Result<Left, NoMemory> {
         match self.taken(alloc, plan, k)? {
-            Fired::Taken(left, own) => {
-                self.goes_on(left, own, binds);
-                Ok(())
-            }
-            Fired::Past(_) => Ok(()),
+            Fired::Taken(term, own) => Ok(Left { term, own }),
+            Fired::Past(_) => Ok(Left {
+                term: None,
+                own: None,
+            }),
         }
+    }
+
+    fn advance(&mut self, _plan: &Plan, taken: Left, binds: Binds) {
+        match taken.own {
+            Some(store) => self.store = store,
+            None => {}
+        }
+        set_binds(&mut self.store, binds);
+        self.term = taken.term;
+        self.found = None;
     }
 
     fn is_done(&self) -> bool {

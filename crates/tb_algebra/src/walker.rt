@@ -1,10 +1,9 @@
 ghost use Rattle.std.specs.Prelude.{◌≡◌, ℕ, ◌<◌, List, Option, Some, None, IfOk, IfSome, OnOk, OnErr, IsTrue, length, map, slice_get, option_and_then, is_some};
 ghost use Rattle.std.specs.Option.{ForSome};
-ghost use Rattle.tb_body.specs.declared.body.Body.{Body};
-ghost use Rattle.tb_algebra.specs.declared.offer.Offer.{Offer as SeenOffer};
 ghost use Rattle.tb_algebra.specs.Binds.{takes_binds};
 ghost use Rattle.tb_algebra.specs.Offers.{Offered};
-ghost use Rattle.tb_algebra.specs.Walks.{Walking, entering, offers_of, seen_offers, sent_by, patterns_by, accepted_by, fired, sorts_of, is_end};
+ghost use Rattle.tb_algebra.specs.WalkerViews.{View};
+ghost use Rattle.tb_algebra.specs.Walks.{entering, offers_of, seen_offers, sent_by, patterns_by, accepted_by, fired, sorts_of, is_end};
 
 use crate::Offer;
 use std::alloc::Global;
@@ -18,59 +17,54 @@ use tb_terms::{NoMemory, Patterns, Terms};
 pub trait Walker: Sized + Drop {
     type Plan: Drop;
 
-    // The body that a plan is of.
-    ghost body_of: { Self.Plan → Body };
+    /// What comes of an offer that is taken: what is left then, in memory of its own.
+    type Taken: Drop;
 
-    // The walker was started with this plan.
-    ghost IsOn: { Self.Plan → Self → Type 0 };
-
-    // What the walker stands for.
-    ghost walking: { Self.Plan → Self → Walking };
-
-    // What was seen of its offers, where that still holds.
-    ghost seen: { Self → Option (List SeenOffer) };
+    // What contracts see of these walkers.
+    ghost view: { View Self.Plan Self Self.Taken };
 
     /// Works out the plan of a body.
     fn plan(alloc: Global, body: &Body) -> Result<Self::Plan, NoMemory>
-        ensures { IfOk result (λ plan. body_of plan ≡ body.now) };
+        ensures { IfOk result (λ plan. view.body_of plan ≡ body.now) };
 
     /// A process that enters its body. The store has just the slots of that body.
     fn start(alloc: Global, plan: &Self::Plan, store: Store) -> Result<Self, NoMemory>
-        requires { sorts_of store ≡ (body_of plan.now).sorts }
-        ensures on { IfOk result (λ walker. IsOn plan.now walker) }
-        ensures term { IfOk result (λ walker. walking plan.now walker ≡ entering (body_of plan.now) store) };
+        requires { sorts_of store ≡ (view.body_of plan.now).sorts }
+        ensures on { IfOk result (λ walker. view.is_on plan.now walker) }
+        ensures term { IfOk result (λ walker. view.walking plan.now walker ≡ entering (view.body_of plan.now) store) }
+        ensures seen { IfOk result (λ walker. view.seen walker ≡ None) };
 
     /// Looks what the process may do next, on a bus that has seen so many ticks.
     fn look(&mut self, alloc: Global, plan: &Self::Plan, now: u64) -> Result<(), NoMemory>
-        requires { IsOn plan.now self.old }
-        ensures on { IsOn plan.now self.new }
-        ensures stays { walking plan.now self.new ≡ walking plan.now self.old }
-        ensures seen { OnOk result (seen self.new ≡ Some (seen_offers (body_of plan.now).atoms now (walking plan.now self.old))) }
+        requires { view.is_on plan.now self.old }
+        ensures on { view.is_on plan.now self.new }
+        ensures stays { view.walking plan.now self.new ≡ view.walking plan.now self.old }
+        ensures seen { OnOk result (view.seen self.new ≡ Some (seen_offers (view.body_of plan.now).atoms now (view.walking plan.now self.old))) }
         ensures err { OnErr result (self.new ≡ self.old) };
 
     /// Whether what was looked at still holds.
     fn is_fresh(&self) -> bool
-        ensures { result ≡ is_some (seen self.now) };
+        ensures { result ≡ is_some (view.seen self.now) };
 
     /// How many offers there are.
     fn offer_count(&self) -> usize
-        requires { IsTrue (is_some (seen self.now)) }
-        ensures { ForSome (seen self.now) (λ offers. result ≡ length offers) };
+        requires { IsTrue (is_some (view.seen self.now)) }
+        ensures { ForSome (view.seen self.now) (λ offers. result ≡ length offers) };
 
     /// The offer at this place, from 0 in text order.
     fn offer(&self, k: usize) -> Offer
-        requires fresh { IsTrue (is_some (seen self.now)) }
-        requires within { ForSome (seen self.now) (λ offers. k < length offers) }
-        ensures { ForSome (seen self.now) (λ offers. slice_get offers k ≡ Some result) };
+        requires fresh { IsTrue (is_some (view.seen self.now)) }
+        requires within { ForSome (view.seen self.now) (λ offers. k < length offers) }
+        ensures { ForSome (view.seen self.now) (λ offers. slice_get offers k ≡ Some result) };
 
     /// The values that the atom sends or looks at, where each is there and they are together within the
     /// limit of size: for a new process its actuals, and the tool first where there is one.
     fn sent(&self, alloc: Global, plan: &Self::Plan, k: usize) -> Result<Option<Terms>, NoMemory>
-        requires on { IsOn plan.now self.now }
-        requires fresh { IsTrue (is_some (seen self.now)) }
-        requires within { ForSome (seen self.now) (λ offers. k < length offers) }
+        requires on { view.is_on plan.now self.now }
+        requires fresh { IsTrue (is_some (view.seen self.now)) }
+        requires within { ForSome (view.seen self.now) (λ offers. k < length offers) }
         ensures { IfOk result (λ terms. terms
-            ≡ option_and_then (sent_by (body_of plan.now).atoms) (slice_get (offers_of (walking plan.now self.now)) k)) };
+            ≡ option_and_then (sent_by (view.body_of plan.now).atoms) (slice_get (offers_of (view.walking plan.now self.now)) k)) };
 
     /// The patterns of an atom that receives, or that looks at notes.
     fn patterns(
@@ -79,11 +73,11 @@ pub trait Walker: Sized + Drop {
         plan: &Self::Plan,
         k: usize,
     ) -> Result<Option<Patterns>, NoMemory>
-        requires on { IsOn plan.now self.now }
-        requires fresh { IsTrue (is_some (seen self.now)) }
-        requires within { ForSome (seen self.now) (λ offers. k < length offers) }
+        requires on { view.is_on plan.now self.now }
+        requires fresh { IsTrue (is_some (view.seen self.now)) }
+        requires within { ForSome (view.seen self.now) (λ offers. k < length offers) }
         ensures { IfOk result (λ patterns. patterns
-            ≡ option_and_then (patterns_by (body_of plan.now).atoms) (slice_get (offers_of (walking plan.now self.now)) k)) };
+            ≡ option_and_then (patterns_by (view.body_of plan.now).atoms) (slice_get (offers_of (view.walking plan.now self.now)) k)) };
 
     /// What the atom binds where it is given these terms.
     fn accepts(
@@ -93,11 +87,29 @@ pub trait Walker: Sized + Drop {
         k: usize,
         ts: &Terms,
     ) -> Result<Option<Binds>, NoMemory>
-        requires on { IsOn plan.now self.now }
-        requires fresh { IsTrue (is_some (seen self.now)) }
-        requires within { ForSome (seen self.now) (λ offers. k < length offers) }
+        requires on { view.is_on plan.now self.now }
+        requires fresh { IsTrue (is_some (view.seen self.now)) }
+        requires within { ForSome (view.seen self.now) (λ offers. k < length offers) }
         ensures { IfOk result (λ binds. binds
-            ≡ option_and_then (accepted_by (body_of plan.now).atoms ts.now) (slice_get (offers_of (walking plan.now self.now)) k)) };
+            ≡ option_and_then (accepted_by (view.body_of plan.now).atoms ts.now) (slice_get (offers_of (view.walking plan.now self.now)) k)) };
+
+    /// Takes the offer, and changes nothing yet.
+    fn take(&self, alloc: Global, plan: &Self::Plan, k: usize) -> Result<Self::Taken, NoMemory>
+        requires on { view.is_on plan.now self.now }
+        requires fresh { IsTrue (is_some (view.seen self.now)) }
+        requires within { ForSome (view.seen self.now) (λ offers. k < length offers) }
+        ensures taken { IfOk result (λ taken. ForSome (slice_get (offers_of (view.walking plan.now self.now)) k)
+            (λ offered. view.leaves plan.now self.now taken offered)) }
+        ensures there { IfOk result (λ _. k < length (offers_of (view.walking plan.now self.now))) };
+
+    /// Goes on with what was taken, and sets the binds. This takes no memory.
+    fn advance(&mut self, plan: &Self::Plan, taken: Self::Taken, binds: Binds)
+        requires on { view.is_on plan.now self.old }
+        requires taken { (offered : Offered) × (view.leaves plan.now self.old taken offered × IsTrue (takes_binds offered.store binds)) }
+        ensures on { view.is_on plan.now self.new }
+        ensures advanced { (offered : Offered) → view.leaves plan.now self.old taken offered
+            → view.walking plan.now self.new ≡ fired binds (view.walking plan.now self.old).ticks offered }
+        ensures seen { view.seen self.new ≡ None };
 
     /// Takes the offer: the process goes on with what is left, and the binds are set.
     fn fire(
@@ -107,19 +119,24 @@ pub trait Walker: Sized + Drop {
         k: usize,
         binds: Binds,
     ) -> Result<(), NoMemory>
-        requires on { IsOn plan.now self.old }
-        requires fresh { IsTrue (is_some (seen self.old)) }
-        requires within { ForSome (seen self.old) (λ offers. k < length offers) }
-        requires sorted { ForSome (slice_get (offers_of (walking plan.now self.old)) k) (λ offered. IsTrue (takes_binds offered.store binds)) }
-        ensures on { IsOn plan.now self.new }
-        ensures goes { OnOk result (ForSome (slice_get (offers_of (walking plan.now self.old)) k)
-            (λ offered. walking plan.now self.new ≡ fired binds (walking plan.now self.old).ticks offered)) }
-        ensures seen { OnOk result (seen self.new ≡ None) }
-        ensures err { OnErr result (self.new ≡ self.old) };
+        requires on { view.is_on plan.now self.old }
+        requires fresh { IsTrue (is_some (view.seen self.old)) }
+        requires within { ForSome (view.seen self.old) (λ offers. k < length offers) }
+        requires sorted { ForSome (slice_get (offers_of (view.walking plan.now self.old)) k) (λ offered. IsTrue (takes_binds offered.store binds)) }
+        ensures on { view.is_on plan.now self.new }
+        ensures goes { OnOk result (ForSome (slice_get (offers_of (view.walking plan.now self.old)) k)
+            (λ offered. view.walking plan.now self.new ≡ fired binds (view.walking plan.now self.old).ticks offered)) }
+        ensures seen { OnOk result (view.seen self.new ≡ None) }
+        ensures err { OnErr result (self.new ≡ self.old) }
+    {
+        let taken = self.take(alloc, plan, k)?;
+        self.advance(plan, taken, binds);
+        Ok(())
+    }
 
     /// Whether the process has ended.
     fn is_done(&self) -> bool
-        ensures { (plan : Self.Plan) → IsOn plan self.now → result ≡ is_end (walking plan self.now).term };
+        ensures { (plan : Self.Plan) → view.is_on plan self.now → result ≡ is_end (view.walking plan self.now).term };
 
     /// The same process in memory of its own.
     fn copy(&self, alloc: Global) -> Result<Self, NoMemory>
