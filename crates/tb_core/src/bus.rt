@@ -2,7 +2,9 @@ use crate::looking::{go_on, look};
 use crate::opening::{numbers_of, open_all, plan_all};
 use std::alloc::Global;
 use tb_algebra::Walker;
-use tb_bus::{Action, Candidate, Living, Origin, Partner, Ready, Received, effect_in, first_candidate};
+use tb_bus::{
+    Action, Candidate, Living, Origin, Partner, Ready, Received, effect_in, first_candidate,
+};
 use tb_log::{Input, Label, LabelKind, Place, Reply, Why};
 use tb_match::Binds;
 use tb_terms::{Items, NoMemory};
@@ -130,9 +132,7 @@ impl<W: Walker> LiveBus<W> {
     {
         let living = &self.living[at];
         let plan = &self.plans.as_slice()[living.body as usize];
-        living
-            .walker
-            .take(alloc, plan, living.ready[index].offer)
+        living.walker.take(alloc, plan, living.ready[index].offer)
     }
 
     /// One of the actions of a process, which has to be looked at anew from then on.

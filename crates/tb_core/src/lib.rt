@@ -3,8 +3,6 @@
 
 mod answers;
 mod bus;
-#[cfg(test)]
-mod bus_tests;
 mod looking;
 mod machine;
 mod opening;

@@ -3,8 +3,8 @@ use Rattle.std.proofs.Common.{◌≡◌, ℕ, ◌+◌, ◌<◌, ◌≤◌, Optio
 use Rattle.std.proofs.lemmas.List.{drop_more, drop_all}
 use Rattle.tb_edge.specs.Sinks.{Takes, TakesFront, Owes}
 use Rattle.tb_edge.proofs.Puts.{Owes-takes, Takes-owes, TakesFront-owes, TakesFront-owes_more, Owes-start}
-use Rattle.tb_core.specs.LogText.{log_text, log_text_from, entry_text}
-use Rattle.tb_core.specs.declared.log.Entry.{Entry}
+use Rattle.tb_log.specs.LogText.{log_text, log_text_from, entry_text}
+use Rattle.tb_log.specs.declared.entry.Entry.{Entry}
 
 -- what is in the buffer, and the lines that are left, are owed
 abbrev pub LinesOwed : Option (List ℕ) → Option (List ℕ) → List Entry → List ℕ → ℕ → Type 0

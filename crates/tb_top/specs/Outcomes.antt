@@ -2,14 +2,15 @@
 use Rattle.std.specs.Prelude.{◌≡◌, ◌≢◌, ◌<◌, ◌≤◌, ◌⊎◌, ℕ, List, [], ◌∷◌, ◌++◌, Option, IfSome, Result, Ok, Err, length, codes}
 use Rattle.tb_edge.specs.Faults.{Rose}
 use Rattle.tb_edge.specs.Sinks.{Takes, TakesFront}
-use Rattle.tb_core.specs.Buses.{Origin, start}
-use Rattle.tb_core.specs.Traces.{IsTrace}
-use Rattle.tb_core.specs.Simulation.{IsSim, sim_start}
-use Rattle.tb_core.specs.LogText.{log_text}
-use Rattle.tb_core.specs.declared.log.Entry.{Entry}
+use Rattle.tb_bus.specs.Buses.{start}
+use Rattle.tb_bus.specs.declared.origin.Origin.{Origin}
+use Rattle.tb_bus.specs.Traces.{IsTrace}
+use Rattle.tb_sim.specs.Simulation.{IsSim, sim_start}
+use Rattle.tb_log.specs.LogText.{log_text}
+use Rattle.tb_log.specs.declared.entry.Entry.{Entry}
 use Rattle.tb_body.specs.declared.program.Program.{Program}
-use Rattle.tb_core.specs.declared.ends.SimEnd.{SimEnd}
-use Rattle.tb_core.specs.declared.ends.SimEnd.TheVariants as sim
+use Rattle.tb_sim.specs.declared.ends.SimEnd.{SimEnd}
+use Rattle.tb_sim.specs.declared.ends.SimEnd.TheVariants as sim
 use Rattle.tb_expand.specs.declared.fault.ExpandFault.TheVariants as expand
 use Rattle.tb_script.specs.declared.fault.ScriptFault.{ScriptFault}
 use Rattle.tb_script.specs.declared.fault.ScriptFault.TheVariants as script

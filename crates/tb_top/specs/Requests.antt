@@ -2,9 +2,9 @@
 use Rattle.std.specs.Prelude.{◌≡◌, ◌≢◌, ◌⊎◌, ℕ, List, [], ◌∷◌, ◌++◌, Option}
 use Rattle.tb_edge.specs.Sinks.{Takes, TakesFront}
 use Rattle.tb_body.specs.declared.program.Program.{Program}
-use Rattle.tb_core.specs.Buses.{Origin}
-use Rattle.tb_core.specs.declared.ends.SimEnd.{SimEnd}
-use Rattle.tb_core.specs.declared.ends.SimEnd.TheVariants as sim
+use Rattle.tb_bus.specs.declared.origin.Origin.{Origin}
+use Rattle.tb_sim.specs.declared.ends.SimEnd.{SimEnd}
+use Rattle.tb_sim.specs.declared.ends.SimEnd.TheVariants as sim
 use Rattle.tb_script.specs.Findings.{IsFound, Program'}
 use Rattle.tb_top.specs.declared.status.Bound.TheVariants as bound
 use Rattle.tb_top.specs.Lines.{status_line}

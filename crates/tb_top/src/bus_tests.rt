@@ -2,8 +2,10 @@ use std::alloc::Global;
 use std::test::Fail;
 use tb_algebra::Rewriter;
 use tb_body::Program;
-use tb_core::{Core, CoreFault, Input, Reply, SimEnd, Stepped, Why, simulate, write_entry};
+use tb_core::{Core, CoreFault, Stepped};
+use tb_log::{Input, Reply, Why, write_entry};
 use tb_script::load;
+use tb_sim::{SimEnd, simulate};
 
 type Bus = Core<Rewriter>;
 

@@ -2,11 +2,11 @@
 ghost use Rattle.std.specs.Prelude.{◌≡◌, ◌≤◌, [], OnOk, OnErr, IsErrOf};
 ghost use Rattle.tb_edge.specs.Faults.{Rose};
 ghost use Rattle.tb_edge.specs.Sinks.{Takes, TakesFront, Owes};
-ghost use Rattle.tb_core.specs.LogText.{log_text};
+ghost use Rattle.tb_log.specs.LogText.{log_text};
 
 use std::alloc::Global;
-use tb_core::{Entry, write_entry};
 use tb_edge::{Failed, Sink};
+use tb_log::{Entry, write_entry};
 use tb_terms::NoMemory;
 
 /// A piece is put as soon as it has so many bytes.

@@ -1,9 +1,9 @@
 ghost use Rattle.std.specs.Prelude.{◌≡◌, ◌≢◌, ℕ, List, [], false, map, string_bytes, OnOk, OnErr, Ok};
 ghost use Rattle.tb_edge.specs.Faults.{Rose};
 ghost use Rattle.tb_edge.specs.Sinks.{Takes, TakesFront};
-ghost use Rattle.tb_core.specs.Traces.{IsTrace};
-ghost use Rattle.tb_core.specs.Buses.{start};
-ghost use Rattle.tb_core.specs.Simulation.{IsSim, sim_start};
+ghost use Rattle.tb_bus.specs.Traces.{IsTrace};
+ghost use Rattle.tb_bus.specs.Buses.{start};
+ghost use Rattle.tb_sim.specs.Simulation.{IsSim, sim_start};
 ghost use Rattle.tb_script.specs.Findings.{IsFound, Program'};
 ghost use Rattle.tb_top.specs.Words.{asked};
 ghost use Rattle.tb_top.specs.Outcomes.{Comes, CommandOutcome, FileOutcome, WorkOutcome, CheckOutcome, SimOutcome, Reported, AsksFor, script_of, ok_line};
@@ -16,9 +16,10 @@ use crate::words::{Command, WordFault, read_words};
 use std::alloc::Global;
 use tb_algebra::Rewriter;
 use tb_body::Program;
-use tb_core::{Core, SimEnd, simulate};
+use tb_core::Core;
 use tb_edge::{Failed, Files, FilesFault, Loaded, Sink};
 use tb_script::{ScriptFault, load};
+use tb_sim::{SimEnd, simulate};
 use tb_terms::NoMemory;
 
 /// A longer script is refused.
