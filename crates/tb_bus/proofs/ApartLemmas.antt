@@ -15,7 +15,8 @@ use Rattle.tb_algebra.specs.Offers.{Offered, offers}
 use Rattle.tb_algebra.proofs.Ascending.{offers-ascend}
 use Rattle.tb_bus.specs.declared.origin.Origin.{Origin}
 use Rattle.tb_bus.specs.Buses.{Bus, Proc}
-use Rattle.tb_bus.specs.Steps.{Move, Own, Handshake, Finish, Halt, Step, action_by, in_turn, others, handshake_if, handshake_of, handshakes_with, handshakes, moves_by, moves_of, moves_of_all, moves_or_halt, moves_while_up, moves, label_of, step_of, steps}
+use Rattle.tb_bus.specs.Steps.{Move, Own, Handshake, Finish, Halt, Step, action_by, in_turn, others, handshake_if, handshake_of, handshakes_with, handshakes, own_if, moves_by, moves_of, moves_of_all, moves_or_halt, moves_while_up, moves, label_of, step_of, steps}
+use Rattle.tb_bus.specs.Effects.{Effect, effect_of}
 use Rattle.tb_bus.specs.Reached.{Reaches}
 use Rattle.tb_bus.specs.declared.action.Action.{Action}
 use Rattle.tb_bus.specs.declared.action.Action.TheVariants as action
@@ -113,7 +114,7 @@ handshake_if-both : (sender : Proc) (sent : Offered) (terms : List Term) (receiv
 handshake_if-both sender sent terms receiver received None = All-nil _
 handshake_if-both sender sent terms receiver received (Some binds) = All-one (Both sender sent receiver received) (Handshake sender sent receiver received terms binds) ((refl, refl), (refl, refl))
 
-handshake_of-both : (sender : Proc) (sent : Offered) (terms : List Term) (receiver : Proc) (received : Offered) (did : Option Action) → All (Both sender sent receiver received) (handshake_of sender sent terms receiver received did)
+handshake_of-both : (sender : Proc) (sent : Offered) (terms : List Term) (receiver : Proc) (received : Offered) (does : Option Action) → All (Both sender sent receiver received) (handshake_of sender sent terms receiver received does)
 handshake_of-both sender sent terms receiver received None = All-nil _
 handshake_of-both sender sent terms receiver received (Some (action.Own own)) = All-nil _
 handshake_of-both sender sent terms receiver received (Some (action.Send other)) = All-nil _
@@ -123,7 +124,7 @@ handshake_if-apart : (sender : Proc) (sent : Offered) (terms : List Term) (recei
 handshake_if-apart sender sent terms receiver received None = tt
 handshake_if-apart sender sent terms receiver received (Some binds) = Apart-one Unlike (Handshake sender sent receiver received terms binds)
 
-handshake_of-apart : (sender : Proc) (sent : Offered) (terms : List Term) (receiver : Proc) (received : Offered) (did : Option Action) → Apart Unlike (handshake_of sender sent terms receiver received did)
+handshake_of-apart : (sender : Proc) (sent : Offered) (terms : List Term) (receiver : Proc) (received : Offered) (does : Option Action) → Apart Unlike (handshake_of sender sent terms receiver received does)
 handshake_of-apart sender sent terms receiver received None = tt
 handshake_of-apart sender sent terms receiver received (Some (action.Own own)) = tt
 handshake_of-apart sender sent terms receiver received (Some (action.Send other)) = tt
@@ -191,15 +192,23 @@ handshakes-apart bus sender sent terms h =
     (All-weaker (IsLed bus.program.bodies) (λ receiver. Apart Unlike (handshakes_with bus sender sent terms receiver))
     (λ receiver led. handshakes_with-apart bus sender sent terms receiver led) all (All-filter other (IsLed bus.program.bodies) bus.procs h.led))
 
-moves_by-from : (bus : Bus) (proc : Proc) (offered : Offered) (did : Option Action) → All (IsFrom proc.number offered.atom) (moves_by bus proc offered did)
+own_if-from : (proc : Proc) (offered : Offered) (effect : Option Effect) → All (IsFrom proc.number offered.atom) (own_if proc offered effect)
+own_if-from proc offered None = All-nil _
+own_if-from proc offered (Some effect) = All-one (IsFrom proc.number offered.atom) (Own proc offered effect) (refl, refl)
+
+moves_by-from : (bus : Bus) (proc : Proc) (offered : Offered) (does : Option Action) → All (IsFrom proc.number offered.atom) (moves_by bus proc offered does)
 moves_by-from bus proc offered None = All-nil _
-moves_by-from bus proc offered (Some (action.Own own)) = All-one (IsFrom proc.number offered.atom) (Own proc offered effect) (refl, refl)
+moves_by-from bus proc offered (Some (action.Own own)) = own_if-from proc offered (effect_of bus proc offered own)
 moves_by-from bus proc offered (Some (action.Send terms)) = handshakes-from bus proc offered terms
 moves_by-from bus proc offered (Some (action.Receive patterns)) = All-nil _
 
-moves_by-apart : (bus : Bus) (proc : Proc) (offered : Offered) (did : Option Action) → InOrder bus → Apart Unlike (moves_by bus proc offered did)
+own_if-apart : (proc : Proc) (offered : Offered) (effect : Option Effect) → Apart Unlike (own_if proc offered effect)
+own_if-apart proc offered None = tt
+own_if-apart proc offered (Some effect) = Apart-one Unlike (Own proc offered effect)
+
+moves_by-apart : (bus : Bus) (proc : Proc) (offered : Offered) (does : Option Action) → InOrder bus → Apart Unlike (moves_by bus proc offered does)
 moves_by-apart bus proc offered None h = tt
-moves_by-apart bus proc offered (Some (action.Own own)) h = Apart-one Unlike (Own proc offered effect)
+moves_by-apart bus proc offered (Some (action.Own own)) h = own_if-apart proc offered (effect_of bus proc offered own)
 moves_by-apart bus proc offered (Some (action.Send terms)) h = handshakes-apart bus proc offered terms h
 moves_by-apart bus proc offered (Some (action.Receive patterns)) h = tt
 
@@ -257,11 +266,11 @@ moves-apart bus h = down-apart bus.down (moves_while_up bus bus.procs) (up-apart
 abbrev Differs : Step → Step → Type 0
 Differs one other = one.label ≢ other.label
 
-apply-apart : (bus : Bus) (ms : List Move) → Apart Unlike ms → Apart Differs (map (step_of bus) ms)
-apply-apart bus [] h = tt
-apply-apart bus (m ∷ ms) h = (All-map (Differs (step_of bus m)) (step_of bus) ms h.0, apply-apart bus ms h.1)
+labels-apart : (bus : Bus) (ms : List Move) → Apart Unlike ms → Apart Differs (map (step_of bus) ms)
+labels-apart bus [] h = tt
+labels-apart bus (m ∷ ms) h = (All-map (Differs (step_of bus m)) (step_of bus) ms h.0, labels-apart bus ms h.1)
 
 -- In a bus that a program reaches each two steps are seen differently.
 pub steps-apart : (origin : Origin) (bus : Bus) → Reaches origin bus → AllPairs Differs (steps bus)
 unfolding steps
-steps-apart origin bus r = to_pairs Differs (steps bus) (apply-apart bus (moves bus) (moves-apart bus (reached-in_order origin bus r)))
+steps-apart origin bus r = to_pairs Differs (steps bus) (labels-apart bus (moves bus) (moves-apart bus (reached-in_order origin bus r)))

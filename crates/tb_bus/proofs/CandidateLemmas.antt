@@ -1,4 +1,4 @@
--- What a search finds names rows and deeds that there are.
+-- What a search finds names rows and actions that there are.
 use Rattle.std.proofs.Common.{◌≡◌, ◌≢◌, ℕ, ◌+◌, ◌<◌, ◌==◌, List, [], ◌∷◌, map, take, drop, length, refl, ap, sym, subst, ◌∙◌, Option, Some, None, Bool, true, false, slice_get, eq-eqb, if◌then◌else◌, option_map, IfSome}
 use Rattle.std.proofs.lemmas.List.Elements.{All-nil, All-cons, All-append, All-map, All-head, All-weaker}
 use Rattle.std.proofs.lemmas.Option.{get_or_from_slice_get, slice_get_within}
@@ -9,8 +9,7 @@ use Rattle.tb_match.specs.Matches.{match_list}
 use Rattle.tb_bus.specs.Candidates.{first, row_at, no_row, received_if, reception, receptions, partner_in, partners, candidates_by, candidates_among, candidates_of, candidates_from, up_to, candidates_in_turn, candidates_or_halt, candidates_while_up, all_candidates, ascend}
 use Rattle.tb_bus.specs.Buses.{Bus}
 use Rattle.tb_bus.specs.Steps.{moves}
-use Rattle.tb_bus.specs.Views.{sent_in}
-use Rattle.tb_bus.specs.Views.{ready_at, move_of, IsOwn, Receives, IsCandidateIn, IsSearchedFor}
+use Rattle.tb_bus.specs.Views.{sent_in, ready_at, move_of, IsOwn, Receives, IsCandidateIn, IsSearchedFor}
 use Rattle.tb_bus.specs.declared.action.Action.{Action}
 use Rattle.tb_bus.specs.declared.action.Action.TheVariants as action
 use Rattle.tb_bus.specs.declared.living.Ready.{Ready}
@@ -21,7 +20,7 @@ use Rattle.tb_bus.specs.declared.candidate.Candidate.TheVariants as candidate
 use Rattle.tb_bus.proofs.PartLemmas.{StandAt, stand-whole, stand-drop, stand-take}
 use Rattle.tb_bus.proofs.RowLemmas.{ready_at-is, partner_at, first_moves}
 
--- it names a deed that receives the terms, of another process than the one with this number
+-- it names an action that receives the terms, of another process than the one with this number
 abbrev IsPartnerIn : List Row → ℕ → List Term → Partner → Type 0
 IsPartnerIn rows number terms partner =
     (partner.living < length rows) × (partner.received.action < length (row_at rows partner.living).ready)
@@ -33,35 +32,35 @@ first-all P [] x h e = cc
 first-all P (y ∷ ys) x h e = let same : y ≡ x = cc in subst P same (All-head P y ys h)
 
 module _ (rows : List Row) where
-  within-row : (at place : ℕ) (row : Row) (ready : Ready) → slice_get rows at ≡ Some row → slice_get row.ready place ≡ Some ready → place < length (row_at rows at).ready
-  within-row at place row ready e f =
-      subst (λ (r : Row). place < length r.ready) (sym (get_or_from_slice_get rows at row no_row e)) (slice_get_within row.ready place ready f)
+  within-row : (at index : ℕ) (row : Row) (ready : Ready) → slice_get rows at ≡ Some row → slice_get row.ready index ≡ Some ready → index < length (row_at rows at).ready
+  within-row at index row ready e f =
+      subst (λ (r : Row). index < length r.ready) (sym (get_or_from_slice_get rows at row no_row e)) (slice_get_within row.ready index ready f)
 
-  deed-is : (at place : ℕ) (row : Row) (ready : Ready) (did : Action) → slice_get rows at ≡ Some row → slice_get row.ready place ≡ Some ready → ready.action ≡ did → (ready_at rows at place).action ≡ did
-  deed-is at place row ready did e f d = ap (λ (r : Ready). r.action) (ready_at-is rows at place row ready e f) ∙ d
+  action-is : (at index : ℕ) (row : Row) (ready : Ready) (does : Action) → slice_get rows at ≡ Some row → slice_get row.ready index ≡ Some ready → ready.action ≡ does → (ready_at rows at index).action ≡ does
+  action-is at index row ready does e f d = ap (λ (r : Ready). r.action) (ready_at-is rows at index row ready e f) ∙ d
 
   module _ (number : ℕ) (terms : List Term) where
-    matched-in : (at place : ℕ) (row : Row) (ready : Ready) → slice_get rows at ≡ Some row → slice_get row.ready place ≡ Some ready → number ≢ row.number →
-        (did : Action) → ready.action ≡ did → (binds : Option (List Bind)) → ((b : List Bind) → binds ≡ Some b → Receives terms did b) → All (λ received. IsPartnerIn rows number terms (partner_at at received)) (received_if place binds)
-    matched-in at place row ready e f n did d None m = All-nil _
-    matched-in at place row ready e f n did d (Some binds) m =
+    matched-in : (at index : ℕ) (row : Row) (ready : Ready) → slice_get rows at ≡ Some row → slice_get row.ready index ≡ Some ready → number ≢ row.number →
+        (does : Action) → ready.action ≡ does → (binds : Option (List Bind)) → ((b : List Bind) → binds ≡ Some b → Receives terms does b) → All (λ received. IsPartnerIn rows number terms (partner_at at received)) (received_if index binds)
+    matched-in at index row ready e f n does d None m = All-nil _
+    matched-in at index row ready e f n does d (Some binds) m =
         let other : number ≢ (row_at rows at).number = λ q. n (q ∙ ap (λ (r : Row). r.number) (get_or_from_slice_get rows at row no_row e)) in
-        let receives : Receives terms (ready_at rows at place).action binds = subst (λ d. Receives terms d binds) (sym (deed-is at place row ready did e f d)) (m binds refl) in
-        All-cons (λ received. IsPartnerIn rows number terms (partner_at at received)) (record { action = place; binds = binds }) []
-        (slice_get_within rows at row e, within-row at place row ready e f, other, receives) (All-nil _)
+        let receives : Receives terms (ready_at rows at index).action binds = subst (λ d. Receives terms d binds) (sym (action-is at index row ready does e f d)) (m binds refl) in
+        All-cons (λ received. IsPartnerIn rows number terms (partner_at at received)) (record { action = index; binds = binds }) []
+        (slice_get_within rows at row e, within-row at index row ready e f, other, receives) (All-nil _)
 
-    reception-in : (at place : ℕ) (row : Row) (ready : Ready) → slice_get rows at ≡ Some row → slice_get row.ready place ≡ Some ready → number ≢ row.number →
-        (did : Action) → ready.action ≡ did → All (λ received. IsPartnerIn rows number terms (partner_at at received)) (reception terms place did)
-    reception-in at place row ready e f n (action.Own own) d = All-nil _
-    reception-in at place row ready e f n (action.Send other) d = All-nil _
-    reception-in at place row ready e f n (action.Receive patterns) d = matched-in at place row ready e f n (action.Receive patterns) d (match_list patterns terms) (λ b q. q)
+    reception-in : (at index : ℕ) (row : Row) (ready : Ready) → slice_get rows at ≡ Some row → slice_get row.ready index ≡ Some ready → number ≢ row.number →
+        (does : Action) → ready.action ≡ does → All (λ received. IsPartnerIn rows number terms (partner_at at received)) (reception terms index does)
+    reception-in at index row ready e f n (action.Own own) d = All-nil _
+    reception-in at index row ready e f n (action.Send other) d = All-nil _
+    reception-in at index row ready e f n (action.Receive patterns) d = matched-in at index row ready e f n (action.Receive patterns) d (match_list patterns terms) (λ b q. q)
 
-    receptions-in : (at : ℕ) (row : Row) → slice_get rows at ≡ Some row → number ≢ row.number → (place : ℕ) (some : List Ready) → StandAt row.ready place some →
-        All (λ received. IsPartnerIn rows number terms (partner_at at received)) (receptions terms place some)
-    receptions-in at row e n place [] h = All-nil _
-    receptions-in at row e n place (ready ∷ others) h =
-        All-append (λ received. IsPartnerIn rows number terms (partner_at at received)) (reception terms place ready.action) (receptions terms (place + 1) others)
-        (reception-in at place row ready e h.0 n ready.action refl) (receptions-in at row e n (place + 1) others h.1)
+    receptions-in : (at : ℕ) (row : Row) → slice_get rows at ≡ Some row → number ≢ row.number → (index : ℕ) (some : List Ready) → StandAt row.ready index some →
+        All (λ received. IsPartnerIn rows number terms (partner_at at received)) (receptions terms index some)
+    receptions-in at row e n index [] h = All-nil _
+    receptions-in at row e n index (ready ∷ others) h =
+        All-append (λ received. IsPartnerIn rows number terms (partner_at at received)) (reception terms index ready.action) (receptions terms (index + 1) others)
+        (reception-in at index row ready e h.0 n ready.action refl) (receptions-in at row e n (index + 1) others h.1)
 
     partner-in-by : (at : ℕ) (row : Row) → slice_get rows at ≡ Some row → (b : Bool) → (row.number == number) ≡ b →
         All (IsPartnerIn rows number terms) (if b then [] else map (partner_at at) (receptions terms 0 row.ready))
@@ -76,21 +75,21 @@ module _ (rows : List Row) where
         All-append (IsPartnerIn rows number terms) (partner_in number terms at row) (partners number terms (at + 1) some)
         (partner-in-by at row h.0 (row.number == number) refl) (partners-in (at + 1) some h.1)
 
-  found-by : (at place : ℕ) (row : Row) (ready : Ready) → slice_get rows at ≡ Some row → slice_get row.ready place ≡ Some ready → (did : Action) → ready.action ≡ did →
-      All (IsCandidateIn rows) (candidates_by rows at row.number place did)
-  found-by at place row ready e f (action.Own own) d =
-      let own : IsOwn (ready_at rows at place).action = subst IsOwn (sym (deed-is at place row ready (action.Own own) e f d)) tt in
-      All-cons (IsCandidateIn rows) (candidate.Own at place) [] (slice_get_within rows at row e, within-row at place row ready e f, own) (All-nil (IsCandidateIn rows))
-  found-by at place row ready e f (action.Receive patterns) d = All-nil _
-  found-by at place row ready e f (action.Send terms) d =
-      let sends = deed-is at place row ready (action.Send terms) e f d in
-      let sent : (ready_at rows at place).action ≡ action.Send (sent_in (ready_at rows at place).action) = sends ∙ ap action.Send (sym (ap sent_in sends)) in
+  candidates_by-in : (at index : ℕ) (row : Row) (ready : Ready) → slice_get rows at ≡ Some row → slice_get row.ready index ≡ Some ready → (does : Action) → ready.action ≡ does →
+      All (IsCandidateIn rows) (candidates_by rows at row.number index does)
+  candidates_by-in at index row ready e f (action.Own own) d =
+      let own : IsOwn (ready_at rows at index).action = subst IsOwn (sym (action-is at index row ready (action.Own own) e f d)) tt in
+      All-cons (IsCandidateIn rows) (candidate.Own at index) [] (slice_get_within rows at row e, within-row at index row ready e f, own) (All-nil (IsCandidateIn rows))
+  candidates_by-in at index row ready e f (action.Receive patterns) d = All-nil _
+  candidates_by-in at index row ready e f (action.Send terms) d =
+      let sends = action-is at index row ready (action.Send terms) e f d in
+      let sent : (ready_at rows at index).action ≡ action.Send (sent_in (ready_at rows at index).action) = sends ∙ ap action.Send (sym (ap sent_in sends)) in
       let same = get_or_from_slice_get rows at row no_row e in
-      All-map (IsCandidateIn rows) (candidate.Handshake at place) (partners row.number terms 0 rows)
-      (All-weaker (IsPartnerIn rows row.number terms) (λ (partner : Partner). IsCandidateIn rows (candidate.Handshake at place partner))
+      All-map (IsCandidateIn rows) (candidate.Handshake at index) (partners row.number terms 0 rows)
+      (All-weaker (IsPartnerIn rows row.number terms) (λ (partner : Partner). IsCandidateIn rows (candidate.Handshake at index partner))
       (λ partner h. (
         slice_get_within rows at row e,
-        within-row at place row ready e f,
+        within-row at index row ready e f,
         h.0,
         h.1,
         λ q. h.2 (sym (ap (λ (r : Row). r.number) same) ∙ q),
@@ -99,51 +98,51 @@ module _ (rows : List Row) where
       ))
       (partners row.number terms 0 rows) (partners-in row.number terms 0 rows (stand-whole rows)))
 
-  found-among : (at : ℕ) (row : Row) → slice_get rows at ≡ Some row → (place : ℕ) (some : List Ready) → StandAt row.ready place some → All (IsCandidateIn rows) (candidates_among rows at row.number place some)
-  found-among at row e place [] h = All-nil _
-  found-among at row e place (ready ∷ others) h =
-      All-append (IsCandidateIn rows) (candidates_by rows at row.number place ready.action) (candidates_among rows at row.number (place + 1) others)
-      (found-by at place row ready e h.0 ready.action refl) (found-among at row e (place + 1) others h.1)
+  candidates_among-in : (at : ℕ) (row : Row) → slice_get rows at ≡ Some row → (index : ℕ) (some : List Ready) → StandAt row.ready index some → All (IsCandidateIn rows) (candidates_among rows at row.number index some)
+  candidates_among-in at row e index [] h = All-nil _
+  candidates_among-in at row e index (ready ∷ others) h =
+      All-append (IsCandidateIn rows) (candidates_by rows at row.number index ready.action) (candidates_among rows at row.number (index + 1) others)
+      (candidates_by-in at index row ready e h.0 ready.action refl) (candidates_among-in at row e (index + 1) others h.1)
 
-  found-from : (at : ℕ) (some : List Row) → StandAt rows at some → All (IsCandidateIn rows) (candidates_from rows at some)
-  found-from at [] h = All-nil _
-  found-from at (row ∷ some) h =
+  candidates_from-in : (at : ℕ) (some : List Row) → StandAt rows at some → All (IsCandidateIn rows) (candidates_from rows at some)
+  candidates_from-in at [] h = All-nil _
+  candidates_from-in at (row ∷ some) h =
       All-append (IsCandidateIn rows) (candidates_of rows at row) (candidates_from rows (at + 1) some)
-      (found-among at row h.0 0 row.ready (stand-whole row.ready)) (found-from (at + 1) some h.1)
+      (candidates_among-in at row h.0 0 row.ready (stand-whole row.ready)) (candidates_from-in (at + 1) some h.1)
 
-  -- All that a search in turn finds names rows and deeds that there are.
+  -- All that a search in turn finds names rows and actions that there are.
   pub all_in_turn : (last : ℕ) → All (IsCandidateIn rows) (candidates_in_turn rows last)
   unfolding candidates_in_turn
   all_in_turn last =
       let at = up_to last rows in
       All-append (IsCandidateIn rows) (candidates_from rows at (drop at rows)) (candidates_from rows 0 (take at rows))
-      (found-from at (drop at rows) (stand-drop at rows)) (found-from 0 (take at rows) (stand-take at rows))
+      (candidates_from-in at (drop at rows) (stand-drop at rows)) (candidates_from-in 0 (take at rows) (stand-take at rows))
 
-  or_halt-in : (no_ticks : Bool) (founds : List Candidate) → All (IsCandidateIn rows) founds → All (IsCandidateIn rows) (candidates_or_halt no_ticks founds)
+  or_halt-in : (no_ticks : Bool) (candidates : List Candidate) → All (IsCandidateIn rows) candidates → All (IsCandidateIn rows) (candidates_or_halt no_ticks candidates)
   or_halt-in true [] h = All-cons (IsCandidateIn rows) candidate.Halt [] tt (All-nil (IsCandidateIn rows))
   or_halt-in false [] h = h
-  or_halt-in no_ticks (found ∷ founds) h = h
+  or_halt-in no_ticks (found ∷ candidates) h = h
 
   while_up-in : (last : ℕ) (no_ticks : Bool) (some : List Row) → All (IsCandidateIn rows) (candidates_while_up rows last no_ticks some)
   while_up-in last no_ticks [] = All-cons (IsCandidateIn rows) candidate.Finish [] tt (All-nil (IsCandidateIn rows))
   while_up-in last no_ticks (row ∷ some) = or_halt-in no_ticks (candidates_in_turn rows last) (all_in_turn last)
 
-  down-in : (down : Bool) (founds : List Candidate) → All (IsCandidateIn rows) founds → All (IsCandidateIn rows) (if down then [] else founds)
-  down-in true founds h = All-nil _
-  down-in false founds h = h
+  down-in : (down : Bool) (candidates : List Candidate) → All (IsCandidateIn rows) candidates → All (IsCandidateIn rows) (if down then [] else candidates)
+  down-in true candidates h = All-nil _
+  down-in false candidates h = h
 
-  -- All that a search finds names rows and deeds that there are.
-  pub all_found : (last : ℕ) (no_ticks down : Bool) → All (IsCandidateIn rows) (all_candidates rows last no_ticks down)
+  -- All that a search finds names rows and actions that there are.
+  pub all_candidates-in : (last : ℕ) (no_ticks down : Bool) → All (IsCandidateIn rows) (all_candidates rows last no_ticks down)
   unfolding all_candidates
-  all_found last no_ticks down = down-in down (candidates_while_up rows last no_ticks rows) (while_up-in last no_ticks rows)
+  all_candidates-in last no_ticks down = down-in down (candidates_while_up rows last no_ticks rows) (while_up-in last no_ticks rows)
 
 -- The first that a search in turn finds does so.
-pub found_in_turn : (rows : List Row) (last : ℕ) (found : Candidate) → first (candidates_in_turn rows last) ≡ Some found → IsCandidateIn rows found
-found_in_turn rows last found e = first-all (IsCandidateIn rows) (candidates_in_turn rows last) found (all_in_turn rows last) e
+pub candidate_in_turn : (rows : List Row) (last : ℕ) (found : Candidate) → first (candidates_in_turn rows last) ≡ Some found → IsCandidateIn rows found
+candidate_in_turn rows last found e = first-all (IsCandidateIn rows) (candidates_in_turn rows last) found (all_in_turn rows last) e
 
 -- The first that a search finds does so.
-pub found_first : (rows : List Row) (last : ℕ) (no_ticks down : Bool) (found : Candidate) → first (all_candidates rows last no_ticks down) ≡ Some found → IsCandidateIn rows found
-found_first rows last no_ticks down found e = first-all (IsCandidateIn rows) (all_candidates rows last no_ticks down) found (all_found rows last no_ticks down) e
+pub candidate_first : (rows : List Row) (last : ℕ) (no_ticks down : Bool) (found : Candidate) → first (all_candidates rows last no_ticks down) ≡ Some found → IsCandidateIn rows found
+candidate_first rows last no_ticks down found e = first-all (IsCandidateIn rows) (all_candidates rows last no_ticks down) found (all_candidates-in rows last no_ticks down) e
 
 -- What is the first that a search finds is the first move of the bus that is searched.
 pub move_first : (rows : List Row) (last : ℕ) (no_ticks down : Bool) (found : Option Candidate) → ascend 0 rows ≡ true → found ≡ first (all_candidates rows last no_ticks down) →
@@ -155,7 +154,7 @@ move_first rows last no_ticks down found a e bus is =
     ∙ ap (λ b. first (all_candidates rows bus.last_starter bus.no_ticks b)) (sym is.down_is))
     ∙ first_moves bus rows is.rows_are a
 
--- And it names rows and deeds that there are.
+-- And it names rows and actions that there are.
 pub stands_first : (rows : List Row) (last : ℕ) (no_ticks down : Bool) (found : Option Candidate) → found ≡ first (all_candidates rows last no_ticks down) → IfSome found (IsCandidateIn rows)
 stands_first rows last no_ticks down None e = tt
-stands_first rows last no_ticks down (Some found) e = found_first rows last no_ticks down found (sym e)
+stands_first rows last no_ticks down (Some found) e = candidate_first rows last no_ticks down found (sym e)

@@ -1,5 +1,6 @@
 pub mod PartLemmas
 pub mod TurnLemmas
+pub mod EffectLemmas
 pub mod RowLemmas
 pub mod CandidateLemmas
 pub mod TraceLemmas

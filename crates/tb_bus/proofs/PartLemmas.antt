@@ -1,8 +1,8 @@
--- Parts of a list, by their places in it.
+-- Parts of a list, by their indices in it.
 use Rattle.std.proofs.Common.{◌≡◌, ℕ, ◌+◌, zero, suc, List, [], ◌∷◌, ◌++◌, map, take, drop, refl, ap, ◌∙◌, Some, add-one, slice_get}
 use Rattle.std.specs.Bool.{⊤}
 
--- these stand in the list, the first of them at this place
+-- these stand in the list, the first of them at this index
 abbrev pub StandAt : {A : Type 0} → List A → ℕ → List A → Type 0
 StandAt all at [] = ⊤
 StandAt all at (x ∷ xs) = (slice_get all at ≡ Some x) × StandAt all (at + 1) xs

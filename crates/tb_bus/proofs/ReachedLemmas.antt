@@ -11,8 +11,6 @@ use Rattle.tb_terms.specs.Same.{is_same}
 use Rattle.tb_func.specs.declared.slot.Slot.{Slot}
 use Rattle.tb_match.specs.declared.bind.Bind.{Bind}
 use Rattle.tb_match.specs.Matches.{match_list}
-use Rattle.tb_body.specs.declared.act.Act.{Act}
-use Rattle.tb_body.specs.declared.act.Act.TheVariants as act
 use Rattle.tb_body.specs.declared.body.Body.{Body}
 use Rattle.tb_body.specs.declared.program.Root.{Root}
 use Rattle.tb_algebra.specs.Processes.{Process, fresh}
@@ -23,13 +21,15 @@ use Rattle.tb_algebra.specs.Reached.{Reaches as IsLedTo, entered, went_on}
 use Rattle.tb_algebra.proofs.Ascending.{offered-once}
 use Rattle.tb_bus.specs.declared.origin.Origin.{Origin}
 use Rattle.tb_bus.specs.Buses.{Bus, Proc, atoms_of, start, opened, opened_one, opening_store, proc_left}
-use Rattle.tb_bus.specs.Actions.{action_in, action_if, set_action}
-use Rattle.tb_bus.specs.Views.{kind_in, shown_in, own_binds}
-use Rattle.tb_bus.specs.Steps.{Move, Own, Handshake, Finish, Halt, Step, action_by, in_turn, others, handshake_if, handshake_of, handshakes_with, handshakes, moves_by, moves_of, moves_of_all, moves_or_halt, moves_while_up, moves, advance, label_of, apply, step_of, steps}
+use Rattle.tb_bus.specs.Effects.{Effect, effect_of}
+use Rattle.tb_bus.specs.Steps.{Move, Own, Handshake, Finish, Halt, Step, action_by, in_turn, others, handshake_if, handshake_of, handshakes_with, handshakes, own_if, moves_by, moves_of, moves_of_all, moves_or_halt, moves_while_up, moves, advance, label_of, apply, step_of, steps}
 use Rattle.tb_bus.specs.Traces.{IsLegal, IsTrace, Answer, after, after_step, replay, took}
 use Rattle.tb_bus.specs.Reached.{Reaches}
 use Rattle.tb_bus.specs.declared.action.Action.{Action}
 use Rattle.tb_bus.specs.declared.action.Action.TheVariants as action
+use Rattle.tb_bus.specs.declared.action.OwnAction.{OwnAction}
+use Rattle.tb_bus.specs.declared.action.OwnAction.TheVariants as own
+use Rattle.tb_bus.proofs.EffectLemmas.{IsOwnKind, IsOwnEffect, effect-own}
 use Rattle.tb_log.specs.declared.entry.Label.{Label}
 use Rattle.tb_log.specs.declared.entry.LabelKind.{LabelKind}
 use Rattle.tb_log.specs.declared.entry.LabelKind.TheVariants as kind
@@ -209,83 +209,16 @@ advance-led bodies number offered binds procs may h =
     (All-weaker (λ p. May p × IsLed bodies p) (λ proc. All (IsLed bodies) (on_one number offered binds proc))
     (λ proc both. one-led bodies number offered binds proc (proc.number == number) refl both.0 both.1) procs (All-both May (IsLed bodies) procs may h))
 
--- What happens by itself is a tau, or sets a slot.
-
-abbrev IsOwnKind : LabelKind → Type 0
-IsOwnKind kind.Tau = ⊤
-IsOwnKind kind.Set = ⊤
-IsOwnKind kind.Msg = ⊥
-IsOwnKind kind.Finish = ⊥
-IsOwnKind kind.Halt = ⊥
-
-abbrev IsOwnDeed : Option Action → Type 0
-IsOwnDeed None = ⊤
-IsOwnDeed (Some (action.Own own)) = IsOwnKind kind
-IsOwnDeed (Some (action.Send terms)) = ⊤
-IsOwnDeed (Some (action.Receive patterns)) = ⊤
-
-set_to-own : (bind : Bind) (b : Bool) → IsOwnDeed (if b then Some (action.Own kind.Set (bind.value ∷ []) (bind ∷ [])) else None)
-set_to-own bind true = tt
-set_to-own bind false = tt
-
-set-own : (store : List Slot) (slot : ℕ) (values : Option (List Term)) → IsOwnDeed (option_and_then (set_action store slot) values)
-set-own store slot None = tt
-set-own store slot (Some []) = tt
-set-own store slot (Some (value ∷ [])) = set_to-own (record { slot = slot; value = value }) (takes_bind store (record { slot = slot; value = value }))
-set-own store slot (Some (value ∷ other ∷ values)) = tt
-
-send-own : (terms : Option (List Term)) → IsOwnDeed (option_map action.Send terms)
-send-own None = tt
-send-own (Some terms) = tt
-
-receive-own : (patterns : Option (List Pattern)) → IsOwnDeed (option_map action.Receive patterns)
-receive-own None = tt
-receive-own (Some patterns) = tt
-
-action_in-own : (store : List Slot) (a : Act) → IsOwnDeed (action_in store a)
-action_in-own store act.Tau = tt
-action_in-own store (act.Set slot value) = set-own store slot (values_together store (value ∷ []))
-action_in-own store (act.SndMsg exprs) = send-own (values_together store exprs)
-action_in-own store (act.RecMsg exprs) = receive-own (patterns_of store exprs)
-action_in-own store act.Delta = tt
-action_in-own store (act.SndNote x) = tt
-action_in-own store (act.RecNote x) = tt
-action_in-own store (act.NoNote x) = tt
-action_in-own store (act.Subscribe x) = tt
-action_in-own store (act.Unsubscribe x) = tt
-action_in-own store (act.Create x y z) = tt
-action_in-own store (act.Printf x) = tt
-action_in-own store (act.Execute x y) = tt
-action_in-own store (act.RecConnect x y) = tt
-action_in-own store (act.RecDisconnectAny x y) = tt
-action_in-own store (act.RecDisconnect x) = tt
-action_in-own store (act.SndEval x y) = tt
-action_in-own store (act.RecValue x y) = tt
-action_in-own store (act.SndDo x y) = tt
-action_in-own store (act.RecEvent x y) = tt
-action_in-own store (act.SndAckEvent x y) = tt
-action_in-own store (act.SndTerminate x y) = tt
-action_in-own store (act.Shutdown x) = tt
-
-action_if-own : (ready : Bool) (store : List Slot) (a : Act) → IsOwnDeed (action_if ready store a)
-action_if-own true store a = action_in-own store a
-action_if-own false store a = tt
-
-own-kind : (bus : Bus) (proc : Proc) (offered : Offered) (k : LabelKind) (shown : List Term) (binds : List Bind) → action_by bus proc offered ≡ Some (action.Own own) → IsOwnKind k
-own-kind bus proc offered k shown binds e =
-    let atoms = atoms_of bus.program.bodies proc.body in
-    subst IsOwnDeed e (action_if-own (is_ready offered.store offered.age bus.now (times_of atoms offered.atom)) offered.store (act_of atoms offered.atom))
-
 -- the moves of a bus name processes of it, what they offer, and what these offers are ready for
 
 abbrev IsOffered : Bus → Proc → Offered → Type 0
 IsOffered bus proc offered = Contains bus.procs proc × Contains (offers proc.term proc.store) offered
 
 abbrev IsReadyFor : Bus → Proc → Offered → Action → Type 0
-IsReadyFor bus proc offered did = IsOffered bus proc offered × (action_by bus proc offered ≡ Some did)
+IsReadyFor bus proc offered does = IsOffered bus proc offered × (action_by bus proc offered ≡ Some does)
 
 abbrev IsMoveOf : Bus → Move → Type 0
-IsMoveOf bus (Own proc offered effect) = IsReadyFor bus proc offered (action.Own own)
+IsMoveOf bus (Own proc offered effect) = (own : OwnAction) × IsReadyFor bus proc offered (action.Own own) × (effect_of bus proc offered own ≡ Some effect)
 IsMoveOf bus (Handshake sender sent receiver received terms binds) =
     IsReadyFor bus sender sent (action.Send terms) × ((patterns : List Pattern) × IsReadyFor bus receiver received (action.Receive patterns) × (match_list patterns terms ≡ Some binds))
 IsMoveOf bus Finish = ⊤
@@ -297,8 +230,8 @@ handshake_if-moves : (bus : Bus) (sender : Proc) (sent : Offered) (terms : List 
 handshake_if-moves bus sender sent terms receiver received patterns None h g e = All-nil (IsMoveOf bus)
 handshake_if-moves bus sender sent terms receiver received patterns (Some binds) h g e = All-one (IsMoveOf bus) (Handshake sender sent receiver received terms binds) (h, (patterns, g, e))
 
-handshake_of-moves : (bus : Bus) (sender : Proc) (sent : Offered) (terms : List Term) (receiver : Proc) (received : Offered) (did : Option Action) →
-    IsReadyFor bus sender sent (action.Send terms) → IsOffered bus receiver received → action_by bus receiver received ≡ did → All (IsMoveOf bus) (handshake_of sender sent terms receiver received did)
+handshake_of-moves : (bus : Bus) (sender : Proc) (sent : Offered) (terms : List Term) (receiver : Proc) (received : Offered) (does : Option Action) →
+    IsReadyFor bus sender sent (action.Send terms) → IsOffered bus receiver received → action_by bus receiver received ≡ does → All (IsMoveOf bus) (handshake_of sender sent terms receiver received does)
 handshake_of-moves bus sender sent terms receiver received None h g e = All-nil (IsMoveOf bus)
 handshake_of-moves bus sender sent terms receiver received (Some (action.Own own)) h g e = All-nil (IsMoveOf bus)
 handshake_of-moves bus sender sent terms receiver received (Some (action.Send other)) h g e = All-nil (IsMoveOf bus)
@@ -325,9 +258,14 @@ handshakes-moves bus sender sent terms h =
     (others bus sender)
     (All-filter (λ other. not (other.number == sender.number)) (Contains bus.procs) bus.procs (All-contains_itself bus.procs)))
 
-moves_by-moves : (bus : Bus) (proc : Proc) (offered : Offered) (did : Option Action) → IsOffered bus proc offered → action_by bus proc offered ≡ did → All (IsMoveOf bus) (moves_by bus proc offered did)
+own_if-moves : (bus : Bus) (proc : Proc) (offered : Offered) (own : OwnAction) (effect : Option Effect) → IsReadyFor bus proc offered (action.Own own) → effect_of bus proc offered own ≡ effect →
+    All (IsMoveOf bus) (own_if proc offered effect)
+own_if-moves bus proc offered own None h e = All-nil (IsMoveOf bus)
+own_if-moves bus proc offered own (Some effect) h e = All-one (IsMoveOf bus) (Own proc offered effect) (own, h, e)
+
+moves_by-moves : (bus : Bus) (proc : Proc) (offered : Offered) (does : Option Action) → IsOffered bus proc offered → action_by bus proc offered ≡ does → All (IsMoveOf bus) (moves_by bus proc offered does)
 moves_by-moves bus proc offered None h e = All-nil (IsMoveOf bus)
-moves_by-moves bus proc offered (Some (action.Own own)) h e = All-one (IsMoveOf bus) (Own proc offered effect) (h, e)
+moves_by-moves bus proc offered (Some (action.Own own)) h e = own_if-moves bus proc offered own (effect_of bus proc offered own) (h, e) refl
 moves_by-moves bus proc offered (Some (action.Send terms)) h e = handshakes-moves bus proc offered terms (h, e)
 moves_by-moves bus proc offered (Some (action.Receive patterns)) h e = All-nil (IsMoveOf bus)
 
@@ -388,13 +326,21 @@ same-offer bus p q o u h g k e f =
     let other : Contains (offers p.term p.store) u = subst (λ (x : Proc). Contains (offers x.term x.store) u) (sym same) k.1 in
     (same, offered-once led.0 led.2.0 p.term p.store o u led.2.1 g.1 other f)
 
-one-deed : (bus : Bus) (p q : Proc) (o u : Offered) (did other : Action) → p ≡ q → o ≡ u → action_by bus p o ≡ Some did → action_by bus q u ≡ Some other → did ≡ other
-one-deed bus p q o u did other same on e f =
-    let both : ◌≡◌ {A = Option Action} (Some did) (Some other) = sym e ∙ (λ i. action_by bus (same i) (on i)) ∙ f in
+one-action : (bus : Bus) (p q : Proc) (o u : Offered) (does other : Action) → p ≡ q → o ≡ u → action_by bus p o ≡ Some does → action_by bus q u ≡ Some other → does ≡ other
+one-action bus p q o u does other same on e f =
+    let both : ◌≡◌ {A = Option Action} (Some does) (Some other) = sym e ∙ (λ i. action_by bus (same i) (on i)) ∙ f in
     cc
 
-own-by : (p q : Proc) (o u : Offered) (did other : Action) → p ≡ q → o ≡ u → did ≡ other → Own p o (kind_in did) (shown_in did) (own_binds did) ≡ Own q u (kind_in other) (shown_in other) (own_binds other)
-own-by p q o u did other same on e = λ i. Own (same i) (on i) (kind_in (e i)) (shown_in (e i)) (own_binds (e i))
+abbrev own_in : Action → OwnAction
+own_in (action.Own own) = own
+own_in (action.Send terms) = own.Tau
+own_in (action.Receive patterns) = own.Tau
+
+own-by : (bus : Bus) (p q : Proc) (o u : Offered) (does other : OwnAction) (effect last : Effect) → p ≡ q → o ≡ u → does ≡ other → effect_of bus p o does ≡ Some effect → effect_of bus q u other ≡ Some last → Own p o effect ≡ Own q u last
+own-by bus p q o u does other effect last same on e f g =
+    let both : ◌≡◌ {A = Option Effect} (Some effect) (Some last) = sym f ∙ (λ i. effect_of bus (same i) (on i) (e i)) ∙ g in
+    let one : effect ≡ last = cc in
+    λ i. Own (same i) (on i) (one i)
 
 abbrev patterns_in : Action → List Pattern
 patterns_in (action.Own own) = []
@@ -406,31 +352,31 @@ one-match patterns others terms more binds last p t e f =
     let both : ◌≡◌ {A = Option (List Bind)} (Some binds) (Some last) = sym e ∙ (λ i. match_list (p i) (t i)) ∙ f in
     cc
 
-no-own : (bus : Bus) (proc : Proc) (offered : Offered) (k other : LabelKind) (shown : List Term) (binds : List Bind) → IsReadyFor bus proc offered (action.Own own) → k ≡ other → IsOwnKind other
-no-own bus proc offered k other shown binds h e = subst IsOwnKind e (own-kind bus proc offered k shown binds h.1)
+no-own : (bus : Bus) (proc : Proc) (offered : Offered) (effect : Effect) (other : LabelKind) → IsMoveOf bus (Own proc offered effect) → effect.kind ≡ other → IsOwnKind other
+no-own bus proc offered effect other h e = subst IsOwnKind e (subst IsOwnEffect h.2 (effect-own bus proc offered h.0))
 
 same-move : (bus : Bus) (m n : Move) → InOrder bus → IsMoveOf bus m → IsMoveOf bus n → label_of m ≡ label_of n → m ≡ n
-same-move bus (Own p o k s b) (Own q u l t c) h g f e =
-    let same = same-offer bus p q o u h g.0 f.0 (ap (λ (x : Label). x.from.proc) e) (ap (λ (x : Label). x.from.atom) e) in
-    own-by p q o u (action.Own k s b) (action.Own l t c) same.0 same.1 (one-deed bus p q o u (action.Own k s b) (action.Own l t c) same.0 same.1 g.1 f.1)
-same-move bus (Own p o k s b) (Handshake z a r y terms binds) h g f e = absurd (no-own bus p o k kind.Msg s b g (ap (λ (x : Label). x.kind) e))
-same-move bus (Own p o k s b) Finish h g f e = absurd (no-own bus p o k kind.Finish s b g (ap (λ (x : Label). x.kind) e))
-same-move bus (Own p o k s b) Halt h g f e = absurd (no-own bus p o k kind.Halt s b g (ap (λ (x : Label). x.kind) e))
-same-move bus (Handshake z a r y terms binds) (Own q u l t c) h g f e = absurd (no-own bus q u l kind.Msg t c f (sym (ap (λ (x : Label). x.kind) e)))
+same-move bus (Own p o effect) (Own q u last) h g f e =
+    let same = same-offer bus p q o u h g.1.0 f.1.0 (ap (λ (x : Label). x.from.proc) e) (ap (λ (x : Label). x.from.atom) e) in
+    own-by bus p q o u g.0 f.0 effect last same.0 same.1 (ap own_in (one-action bus p q o u (action.Own g.0) (action.Own f.0) same.0 same.1 g.1.1 f.1.1)) g.2 f.2
+same-move bus (Own p o effect) (Handshake z a r y terms binds) h g f e = absurd (no-own bus p o effect kind.Msg g (ap (λ (x : Label). x.kind) e))
+same-move bus (Own p o effect) Finish h g f e = absurd (no-own bus p o effect kind.Finish g (ap (λ (x : Label). x.kind) e))
+same-move bus (Own p o effect) Halt h g f e = absurd (no-own bus p o effect kind.Halt g (ap (λ (x : Label). x.kind) e))
+same-move bus (Handshake z a r y terms binds) (Own q u effect) h g f e = absurd (no-own bus q u effect kind.Msg f (sym (ap (λ (x : Label). x.kind) e)))
 same-move bus (Handshake s a r b terms binds) (Handshake z c q d more last) h g f e =
     let sender = same-offer bus s z a c h g.0.0 f.0.0 (ap (λ (x : Label). x.from.proc) e) (ap (λ (x : Label). x.from.atom) e) in
     let receiver = same-offer bus r q b d h g.1.1.0 f.1.1.0 (ap (λ (x : Label). x.to.proc) e) (ap (λ (x : Label). x.to.atom) e) in
     let same : terms ≡ more = ap (λ (x : Label). x.terms) e in
-    let receives = one-deed bus r q b d (action.Receive g.1.0) (action.Receive f.1.0) receiver.0 receiver.1 g.1.1.1 f.1.1.1 in
+    let receives = one-action bus r q b d (action.Receive g.1.0) (action.Receive f.1.0) receiver.0 receiver.1 g.1.1.1 f.1.1.1 in
     let bound = one-match g.1.0 f.1.0 terms more binds last (ap patterns_in receives) same g.1.2 f.1.2 in
     λ i. Handshake (sender.0 i) (sender.1 i) (receiver.0 i) (receiver.1 i) (same i) (bound i)
 same-move bus (Handshake s a r b terms binds) Finish h g f e = let t = ap (λ (x : Label). x.kind) e in absurd cc
 same-move bus (Handshake s a r b terms binds) Halt h g f e = let t = ap (λ (x : Label). x.kind) e in absurd cc
-same-move bus Finish (Own q u l t c) h g f e = absurd (no-own bus q u l kind.Finish t c f (sym (ap (λ (x : Label). x.kind) e)))
+same-move bus Finish (Own q u effect) h g f e = absurd (no-own bus q u effect kind.Finish f (sym (ap (λ (x : Label). x.kind) e)))
 same-move bus Finish (Handshake s a r b terms binds) h g f e = let t = ap (λ (x : Label). x.kind) e in absurd cc
 same-move bus Finish Finish h g f e = refl
 same-move bus Finish Halt h g f e = let t = ap (λ (x : Label). x.kind) e in absurd cc
-same-move bus Halt (Own q u l t c) h g f e = absurd (no-own bus q u l kind.Halt t c f (sym (ap (λ (x : Label). x.kind) e)))
+same-move bus Halt (Own q u effect) h g f e = absurd (no-own bus q u effect kind.Halt f (sym (ap (λ (x : Label). x.kind) e)))
 same-move bus Halt (Handshake s a r b terms binds) h g f e = let t = ap (λ (x : Label). x.kind) e in absurd cc
 same-move bus Halt Finish h g f e = let t = ap (λ (x : Label). x.kind) e in absurd cc
 same-move bus Halt Halt h g f e = refl
@@ -460,8 +406,8 @@ may-go bus proc offered h g =
 
 apply-in_order : (bus : Bus) (move : Move) → InOrder bus → IsMoveOf bus move → InOrder (apply bus move)
 apply-in_order bus (Own proc offered effect) h g = record {
-  ascend = advance-ascend proc.number offered binds 0 bus.procs h.ascend;
-  led = advance-led bus.program.bodies proc.number offered binds bus.procs (may-go bus proc offered h g.0) h.led;
+  ascend = advance-ascend proc.number offered effect.binds 0 bus.procs h.ascend;
+  led = advance-led bus.program.bodies proc.number offered effect.binds bus.procs (may-go bus proc offered h g.1.0) h.led;
 }
 apply-in_order bus (Handshake sender sent receiver received terms binds) h g =
     let bodies = bus.program.bodies in
@@ -525,4 +471,4 @@ one-bus-after origin bus next (Did label) r c =
     ap (λ (s : Step). s.bus)
     (one-step-a-label origin bus (record { label = label; bus = next }) (record { label = label; bus = after bus (Did label) }) r c (found bus label (steps bus) next c) refl)
 one-bus-after origin bus next Quiet r c = c.2
-one-bus-after origin bus next (Fed input reply) r c = ap (λ (a : Answer). a.bus) c
+one-bus-after origin bus next (Fed input reply) r c = ap (λ (a : Answer). a.bus) c.1

@@ -17,16 +17,16 @@ neither : (a b : Bool) → (a || b) ≡ false → (a ≡ false) × (b ≡ false)
 neither true b e = cc
 neither false b e = (refl, e)
 
-reception-none : (terms : List Term) (place : ℕ) (did : Action) → is_receive did ≡ false → reception terms place did ≡ []
-reception-none terms place (action.Own own) e = refl
-reception-none terms place (action.Send other) e = refl
-reception-none terms place (action.Receive patterns) e = cc
+reception-none : (terms : List Term) (index : ℕ) (does : Action) → is_receive does ≡ false → reception terms index does ≡ []
+reception-none terms index (action.Own own) e = refl
+reception-none terms index (action.Send other) e = refl
+reception-none terms index (action.Receive patterns) e = cc
 
-receptions-none : (terms : List Term) (place : ℕ) (some : List Ready) → has_receive some ≡ false → receptions terms place some ≡ []
-receptions-none terms place [] e = refl
-receptions-none terms place (ready ∷ others) e =
+receptions-none : (terms : List Term) (index : ℕ) (some : List Ready) → has_receive some ≡ false → receptions terms index some ≡ []
+receptions-none terms index [] e = refl
+receptions-none terms index (ready ∷ others) e =
     let t = neither (is_receive ready.action) (has_receive others) e in
-    both-append _ _ _ _ (reception-none terms place ready.action t.0) (receptions-none terms (place + 1) others t.1)
+    both-append _ _ _ _ (reception-none terms index ready.action t.0) (receptions-none terms (index + 1) others t.1)
 
 partner-none : (at : ℕ) (b : Bool) (found : List Received) → found ≡ [] → (if b then [] else map (partner_at at) found) ≡ []
 partner-none at true found e = refl
@@ -49,22 +49,22 @@ module _ (number : ℕ) (terms : List Term) (rows : List Row) where
 pub partners_are_among : (number : ℕ) (terms : List Term) (rows : List Row) → partners_among number terms rows (receivers 0 rows) ≡ partners number terms 0 rows
 partners_are_among number terms rows = among number terms rows 0 rows (stand-whole rows)
 
-within-by : (rows : List Row) (at : ℕ) (b : Bool) (places : List ℕ) → at < length rows → All (λ place. place < length rows) places → All (λ place. place < length rows) (if b then at ∷ places else places)
-within-by rows at true places e h = All-cons (λ place. place < length rows) at places e h
-within-by rows at false places e h = h
+within-by : (rows : List Row) (at : ℕ) (b : Bool) (indices : List ℕ) → at < length rows → All (λ index. index < length rows) indices → All (λ index. index < length rows) (if b then at ∷ indices else indices)
+within-by rows at true indices e h = All-cons (λ index. index < length rows) at indices e h
+within-by rows at false indices e h = h
 
-within : (rows : List Row) (at : ℕ) (some : List Row) → StandAt rows at some → All (λ place. place < length rows) (receivers at some)
-within rows at [] h = All-nil (λ place. place < length rows)
+within : (rows : List Row) (at : ℕ) (some : List Row) → StandAt rows at some → All (λ index. index < length rows) (receivers at some)
+within rows at [] h = All-nil (λ index. index < length rows)
 within rows at (row ∷ others) h = within-by rows at (has_receive row.ready) (receivers (at + 1) others) (slice_get_within rows at row h.0) (within rows (at + 1) others h.1)
 
 -- the receivers are among the processes
-pub receivers_within : (rows : List Row) → All (λ place. place < length rows) (receivers 0 rows)
+pub receivers_within : (rows : List Row) → All (λ index. index < length rows) (receivers 0 rows)
 receivers_within rows = within rows 0 rows (stand-whole rows)
 
 -- what was looked up is known
-pub known_by : (rows : List Row) (places : List ℕ) → places ≡ receivers 0 rows → (places ≡ receivers 0 rows) × All (λ place. place < length rows) places
-known_by rows places e = (e, rw e (receivers_within rows))
+pub known_by : (rows : List Row) (indices : List ℕ) → indices ≡ receivers 0 rows → (indices ≡ receivers 0 rows) × All (λ index. index < length rows) indices
+known_by rows indices e = (e, rw e (receivers_within rows))
 
 -- so the search among them is a search among all
-pub known_decide : (number : ℕ) (terms : List Term) (rows : List Row) (places : List ℕ) → places ≡ receivers 0 rows → first (partners_among number terms rows places) ≡ first (partners number terms 0 rows)
-known_decide number terms rows places e = ap (λ ps. first (partners_among number terms rows ps)) e ∙ ap first (partners_are_among number terms rows)
+pub known_decide : (number : ℕ) (terms : List Term) (rows : List Row) (indices : List ℕ) → indices ≡ receivers 0 rows → first (partners_among number terms rows indices) ≡ first (partners number terms 0 rows)
+known_decide number terms rows indices e = ap (λ ps. first (partners_among number terms rows ps)) e ∙ ap first (partners_are_among number terms rows)

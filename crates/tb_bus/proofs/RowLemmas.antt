@@ -13,10 +13,9 @@ use Rattle.tb_body.specs.declared.body.Body.{Body}
 use Rattle.tb_algebra.specs.Offers.{Offered, offers}
 use Rattle.tb_bus.specs.Buses.{Bus, Proc, atoms_of}
 use Rattle.tb_bus.specs.Actions.{action_of}
-use Rattle.tb_bus.specs.Steps.{Move, Handshake, Halt, handshake_if, handshake_of, handshakes_with, handshakes, moves_by, moves_of, moves_of_all, moves, moves_while_up, moves_or_halt}
+use Rattle.tb_bus.specs.Steps.{Move, Handshake, Halt, handshake_if, handshake_of, handshakes_with, handshakes, own_if, moves_by, moves_of, moves_of_all, moves, moves_while_up, moves_or_halt}
 use Rattle.tb_bus.specs.Candidates.{first, ready_one, readies, received_if, reception, receptions, partner_in, partners, candidates_by, candidates_among, candidates_of, candidates_from, up_to, candidates_in_turn, candidates_or_halt, candidates_while_up, all_candidates, ascend}
-use Rattle.tb_bus.specs.Views.{IsRowOf, AreRowsOf, no_proc, no_offer, no_ready, proc_at, ready_at, offer_at, offer_of, own_move, move_of}
-use Rattle.tb_bus.specs.Views.{sent_in}
+use Rattle.tb_bus.specs.Views.{IsRowOf, AreRowsOf, no_proc, no_offer, no_ready, proc_at, ready_at, offer_at, offer_of, own_move, move_of, sent_in}
 use Rattle.tb_bus.specs.declared.action.Action.{Action}
 use Rattle.tb_bus.specs.declared.action.Action.TheVariants as action
 use Rattle.tb_bus.specs.declared.living.Ready.{Ready}
@@ -27,22 +26,23 @@ use Rattle.tb_bus.specs.declared.candidate.Candidate.{Candidate}
 use Rattle.tb_bus.specs.declared.candidate.Candidate.TheVariants as candidate
 use Rattle.tb_bus.proofs.PartLemmas.{StandAt, stand-whole, stand-drop, stand-take, map-twice, both-append}
 use Rattle.tb_bus.proofs.TurnLemmas.{ascend-first}
+use Rattle.tb_bus.proofs.EffectLemmas.{effect-is}
 
--- what stands at a place of a row
-pub ready_at-is : (rows : List Row) (at place : ℕ) (row : Row) (ready : Ready) → slice_get rows at ≡ Some row → slice_get row.ready place ≡ Some ready → ready_at rows at place ≡ ready
-ready_at-is rows at place row ready e f =
-    ap (λ (r : Row). slice_index_or r.ready place no_ready) (get_or_from_slice_get rows at row _ e)
-    ∙ get_or_from_slice_get row.ready place ready no_ready f
+-- what stands at an index of a row
+pub ready_at-is : (rows : List Row) (at index : ℕ) (row : Row) (ready : Ready) → slice_get rows at ≡ Some row → slice_get row.ready index ≡ Some ready → ready_at rows at index ≡ ready
+ready_at-is rows at index row ready e f =
+    ap (λ (r : Row). slice_index_or r.ready index no_ready) (get_or_from_slice_get rows at row _ e)
+    ∙ get_or_from_slice_get row.ready index ready no_ready f
 
--- What is apply of each offer with its deed can be apply of the ready ones alone, where nothing is apply of an
--- offer without a deed.
+-- What is made of each offer with its action can be made of the ready ones alone, where nothing is made of an
+-- offer without an action.
 module _ {M : Type 0} (g : Offered → Option Action → List M) (none : (offered : Offered) → g offered None ≡ []) (atoms : List Atom) (now : ℕ) (offs : List Offered) where
-  offered-one : (at : ℕ) (offered : Offered) (did : Option Action) → slice_get offs at ≡ Some offered →
-      flat_map (λ (ready : Ready). g (slice_index_or offs ready.offer no_offer) (Some ready.action)) (ready_one at offered did) ≡ g offered did
+  offered-one : (at : ℕ) (offered : Offered) (does : Option Action) → slice_get offs at ≡ Some offered →
+      flat_map (λ (ready : Ready). g (slice_index_or offs ready.offer no_offer) (Some ready.action)) (ready_one at offered does) ≡ g offered does
   offered-one at offered None e = sym (none offered)
-  offered-one at offered (Some did) e =
-      append-nil (g (slice_index_or offs at no_offer) (Some did))
-      ∙ ap (λ o. g o (Some did)) (get_or_from_slice_get offs at offered no_offer e)
+  offered-one at offered (Some does) e =
+      append-nil (g (slice_index_or offs at no_offer) (Some does))
+      ∙ ap (λ o. g o (Some does)) (get_or_from_slice_get offs at offered no_offer e)
 
   offered-readies : (at : ℕ) (some : List Offered) → StandAt offs at some →
       flat_map (λ (ready : Ready). g (slice_index_or offs ready.offer no_offer) (Some ready.action)) (readies atoms now at some)
@@ -57,34 +57,34 @@ abbrev shaken : List Proc → List Row → Proc → Offered → List Term → Pa
 shaken procs rows sender sent terms partner =
     Handshake sender sent (proc_at procs partner.living) (offer_of procs rows partner.living partner.received.action) terms partner.received.binds
 
--- the receiver at a place
+-- the receiver at an index
 abbrev pub partner_at : ℕ → Received → Partner
 partner_at at received = record { living = at; received = received }
 
 module _ (procs : List Proc) (rows : List Row) (sender : Proc) (sent : Offered) (terms : List Term) where
-  shaken-if : (at place : ℕ) (proc : Proc) (ready : Ready) → proc_at procs at ≡ proc → ready_at rows at place ≡ ready → (found : Option (List Bind)) →
-      map (λ received. shaken procs rows sender sent terms (partner_at at received)) (received_if place found) ≡ handshake_if sender sent terms proc (offer_at proc ready.offer) found
-  shaken-if at place proc ready e f None = refl
-  shaken-if at place proc ready e f (Some binds) =
-      ap (λ (p : Proc). Handshake sender sent p (offer_at p (ready_at rows at place).at) terms binds ∷ []) e
-      ∙ ap (λ (r : Ready). Handshake sender sent proc (offer_at proc r.at) terms binds ∷ []) f
+  shaken-if : (at index : ℕ) (proc : Proc) (ready : Ready) → proc_at procs at ≡ proc → ready_at rows at index ≡ ready → (found : Option (List Bind)) →
+      map (λ received. shaken procs rows sender sent terms (partner_at at received)) (received_if index found) ≡ handshake_if sender sent terms proc (offer_at proc ready.offer) found
+  shaken-if at index proc ready e f None = refl
+  shaken-if at index proc ready e f (Some binds) =
+      ap (λ (p : Proc). Handshake sender sent p (offer_at p (ready_at rows at index).offer) terms binds ∷ []) e
+      ∙ ap (λ (r : Ready). Handshake sender sent proc (offer_at proc r.offer) terms binds ∷ []) f
 
-  shaken-reception : (at place : ℕ) (proc : Proc) (ready : Ready) → proc_at procs at ≡ proc → ready_at rows at place ≡ ready → (did : Action) →
-      map (λ received. shaken procs rows sender sent terms (partner_at at received)) (reception terms place did) ≡ handshake_of sender sent terms proc (offer_at proc ready.offer) (Some did)
-  shaken-reception at place proc ready e f (action.Own own) = refl
-  shaken-reception at place proc ready e f (action.Send other) = refl
-  shaken-reception at place proc ready e f (action.Receive patterns) = shaken-if at place proc ready e f (match_list patterns terms)
+  shaken-reception : (at index : ℕ) (proc : Proc) (ready : Ready) → proc_at procs at ≡ proc → ready_at rows at index ≡ ready → (does : Action) →
+      map (λ received. shaken procs rows sender sent terms (partner_at at received)) (reception terms index does) ≡ handshake_of sender sent terms proc (offer_at proc ready.offer) (Some does)
+  shaken-reception at index proc ready e f (action.Own own) = refl
+  shaken-reception at index proc ready e f (action.Send other) = refl
+  shaken-reception at index proc ready e f (action.Receive patterns) = shaken-if at index proc ready e f (match_list patterns terms)
 
-  -- the deeds of one process that receive are its handshakes
-  shaken-receptions : (at : ℕ) (row : Row) (proc : Proc) → slice_get rows at ≡ Some row → slice_get procs at ≡ Some proc → (place : ℕ) (some : List Ready) → StandAt row.ready place some →
-      map (λ received. shaken procs rows sender sent terms (partner_at at received)) (receptions terms place some)
+  -- the actions of one process that receive are its handshakes
+  shaken-receptions : (at : ℕ) (row : Row) (proc : Proc) → slice_get rows at ≡ Some row → slice_get procs at ≡ Some proc → (index : ℕ) (some : List Ready) → StandAt row.ready index some →
+      map (λ received. shaken procs rows sender sent terms (partner_at at received)) (receptions terms index some)
       ≡ flat_map (λ (ready : Ready). handshake_of sender sent terms proc (offer_at proc ready.offer) (Some ready.action)) some
-  shaken-receptions at row proc e f place [] h = refl
-  shaken-receptions at row proc e f place (ready ∷ others) h =
-      map-append (λ received. shaken procs rows sender sent terms (partner_at at received)) (reception terms place ready.action) (receptions terms (place + 1) others)
+  shaken-receptions at row proc e f index [] h = refl
+  shaken-receptions at row proc e f index (ready ∷ others) h =
+      map-append (λ received. shaken procs rows sender sent terms (partner_at at received)) (reception terms index ready.action) (receptions terms (index + 1) others)
       ∙ both-append _ _ _ _
-      (shaken-reception at place proc ready (get_or_from_slice_get procs at proc no_proc f) (ready_at-is rows at place row ready e h.0) ready.action)
-      (shaken-receptions at row proc e f (place + 1) others h.1)
+      (shaken-reception at index proc ready (get_or_from_slice_get procs at proc no_proc f) (ready_at-is rows at index row ready e h.0) ready.action)
+      (shaken-receptions at row proc e f (index + 1) others h.1)
 
 -- one process, where it isn't the sender, and the others
 partner-by : (f : Partner → Move) (b : Bool) (found : List Partner) (moves rest : List Move) → map f found ≡ moves → map f (if b then [] else found) ++ rest ≡ (if not b then moves ++ rest else rest)
@@ -126,32 +126,33 @@ module _ (bus : Bus) (rows : List Row) where
     unfolding handshakes
     shaken-all sender sent terms = shaken-partners sender sent terms 0 rows bus.procs (stand-whole rows) (stand-whole bus.procs) are
 
-    -- what one deed leads to
-    moved-by : (at place number : ℕ) (proc : Proc) (ready : Ready) → proc_at bus.procs at ≡ proc → ready_at rows at place ≡ ready → number ≡ proc.number → (did : Action) → ready.action ≡ did →
-        map (move_of bus.procs rows) (candidates_by rows at number place did) ≡ moves_by bus proc (offer_at proc ready.offer) (Some did)
-    moved-by at place number proc ready e f n (action.Own own) d =
-        ap (λ (p : Proc). own_move p (offer_at p (ready_at rows at place).at) (ready_at rows at place).action ∷ []) e
-        ∙ ap (λ (r : Ready). own_move proc (offer_at proc r.at) r.action ∷ []) f
+    -- what one action leads to
+    moved-by : (at index number : ℕ) (proc : Proc) (ready : Ready) → proc_at bus.procs at ≡ proc → ready_at rows at index ≡ ready → number ≡ proc.number → (does : Action) → ready.action ≡ does →
+        map (move_of bus.procs rows) (candidates_by rows at number index does) ≡ moves_by bus proc (offer_at proc ready.offer) (Some does)
+    moved-by at index number proc ready e f n (action.Own own) d =
+        ap (λ (p : Proc). own_move p (offer_at p (ready_at rows at index).offer) (ready_at rows at index).action ∷ []) e
+        ∙ ap (λ (r : Ready). own_move proc (offer_at proc r.offer) r.action ∷ []) f
         ∙ ap (λ d. own_move proc (offer_at proc ready.offer) d ∷ []) d
-    moved-by at place number proc ready e f n (action.Send terms) d =
+        ∙ ap (own_if proc (offer_at proc ready.offer)) (sym (effect-is bus proc (offer_at proc ready.offer) own))
+    moved-by at index number proc ready e f n (action.Send terms) d =
         let partners_now = partners number terms 0 rows in
-        map-twice (move_of bus.procs rows) (candidate.Handshake at place) partners_now
-        ∙ ap (λ (p : Proc). map (shaken bus.procs rows p (offer_at p (ready_at rows at place).at) (sent_in (ready_at rows at place).action)) partners_now) e
-        ∙ ap (λ (r : Ready). map (shaken bus.procs rows proc (offer_at proc r.at) (sent_in r.action)) partners_now) f
+        map-twice (move_of bus.procs rows) (candidate.Handshake at index) partners_now
+        ∙ ap (λ (p : Proc). map (shaken bus.procs rows p (offer_at p (ready_at rows at index).offer) (sent_in (ready_at rows at index).action)) partners_now) e
+        ∙ ap (λ (r : Ready). map (shaken bus.procs rows proc (offer_at proc r.offer) (sent_in r.action)) partners_now) f
         ∙ ap (λ d. map (shaken bus.procs rows proc (offer_at proc ready.offer) (sent_in d)) partners_now) d
         ∙ ap (λ n. map (shaken bus.procs rows proc (offer_at proc ready.offer) terms) (partners n terms 0 rows)) n
         ∙ shaken-all proc (offer_at proc ready.offer) terms
-    moved-by at place number proc ready e f n (action.Receive patterns) d = refl
+    moved-by at index number proc ready e f n (action.Receive patterns) d = refl
 
-    -- what the deeds of one process lead to
-    moved-among : (at : ℕ) (row : Row) (proc : Proc) → slice_get rows at ≡ Some row → slice_get bus.procs at ≡ Some proc → row.number ≡ proc.number → (place : ℕ) (some : List Ready) → StandAt row.ready place some →
-        map (move_of bus.procs rows) (candidates_among rows at row.number place some) ≡ flat_map (λ (ready : Ready). moves_by bus proc (offer_at proc ready.offer) (Some ready.action)) some
-    moved-among at row proc e f n place [] h = refl
-    moved-among at row proc e f n place (ready ∷ others) h =
-        map-append (move_of bus.procs rows) (candidates_by rows at row.number place ready.action) (candidates_among rows at row.number (place + 1) others)
+    -- what the actions of one process lead to
+    moved-among : (at : ℕ) (row : Row) (proc : Proc) → slice_get rows at ≡ Some row → slice_get bus.procs at ≡ Some proc → row.number ≡ proc.number → (index : ℕ) (some : List Ready) → StandAt row.ready index some →
+        map (move_of bus.procs rows) (candidates_among rows at row.number index some) ≡ flat_map (λ (ready : Ready). moves_by bus proc (offer_at proc ready.offer) (Some ready.action)) some
+    moved-among at row proc e f n index [] h = refl
+    moved-among at row proc e f n index (ready ∷ others) h =
+        map-append (move_of bus.procs rows) (candidates_by rows at row.number index ready.action) (candidates_among rows at row.number (index + 1) others)
         ∙ both-append _ _ _ _
-        (moved-by at place row.number proc ready (get_or_from_slice_get bus.procs at proc no_proc f) (ready_at-is rows at place row ready e h.0) n ready.action refl)
-        (moved-among at row proc e f n (place + 1) others h.1)
+        (moved-by at index row.number proc ready (get_or_from_slice_get bus.procs at proc no_proc f) (ready_at-is rows at index row ready e h.0) n ready.action refl)
+        (moved-among at row proc e f n (index + 1) others h.1)
 
     moved-of : (at : ℕ) (row : Row) (proc : Proc) → slice_get rows at ≡ Some row → slice_get bus.procs at ≡ Some proc → IsRowOf bus.program.bodies bus.now row proc →
         map (move_of bus.procs rows) (candidates_of rows at row) ≡ moves_of bus proc
@@ -171,7 +172,7 @@ module _ (bus : Bus) (rows : List Row) where
         map-append (move_of bus.procs rows) (candidates_of rows at row) (candidates_from rows (at + 1) some)
         ∙ both-append _ _ _ _ (moved-of at row proc e.0 f.0 h.0) (moved-from (at + 1) some them e.1 f.1 h.1)
 
--- the first of what is apply of each
+-- the first of what is made of each
 pub first-map : {A B : Type 0} (f : A → B) (xs : List A) → option_map f (first xs) ≡ first (map f xs)
 first-map f [] = refl
 first-map f (x ∷ xs) = refl
@@ -286,10 +287,10 @@ moves_in_turn bus rows are a =
     (moved-from bus rows are 0 (take at rows) (take at bus.procs) (stand-take at rows) (stand-take at bus.procs) (rows-take bodies bus.now at rows bus.procs are) ∙ ap (flat_map (moves_of bus)) (sym parts.1))
     ∙ sym (flat_map-append (moves_of bus) after others)
 
-or_halt-map : (view : Candidate → Move) → view candidate.Halt ≡ Halt → (no_ticks : Bool) (founds : List Candidate) → map view (candidates_or_halt no_ticks founds) ≡ moves_or_halt no_ticks (map view founds)
+or_halt-map : (view : Candidate → Move) → view candidate.Halt ≡ Halt → (no_ticks : Bool) (candidates : List Candidate) → map view (candidates_or_halt no_ticks candidates) ≡ moves_or_halt no_ticks (map view candidates)
 or_halt-map view e true [] = ap (λ move. move ∷ []) e
 or_halt-map view e false [] = refl
-or_halt-map view e no_ticks (found ∷ founds) = refl
+or_halt-map view e no_ticks (found ∷ candidates) = refl
 
 while_up-map : (bus : Bus) (rows : List Row) → AreRowsOf bus.program.bodies bus.now rows bus.procs → ascend 0 rows ≡ true →
     (some : List Row) (them : List Proc) → AreRowsOf bus.program.bodies bus.now some them → map (move_of bus.procs rows) (candidates_while_up rows bus.last_starter bus.no_ticks some) ≡ moves_while_up bus them
@@ -300,9 +301,9 @@ while_up-map bus rows are a (row ∷ some) (proc ∷ them) h =
     or_halt-map (move_of bus.procs rows) refl bus.no_ticks (candidates_in_turn rows bus.last_starter)
     ∙ ap (moves_or_halt bus.no_ticks) (moves_in_turn bus rows are a)
 
-down-map : (view : Candidate → Move) (down : Bool) (founds : List Candidate) → map view (if down then [] else founds) ≡ (if down then [] else map view founds)
-down-map view true founds = refl
-down-map view false founds = refl
+down-map : (view : Candidate → Move) (down : Bool) (candidates : List Candidate) → map view (if down then [] else candidates) ≡ (if down then [] else map view candidates)
+down-map view true candidates = refl
+down-map view false candidates = refl
 
 -- What a search finds is what may happen next, in order.
 pub moves_found : (bus : Bus) (rows : List Row) → AreRowsOf bus.program.bodies bus.now rows bus.procs → ascend 0 rows ≡ true →

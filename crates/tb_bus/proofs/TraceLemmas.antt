@@ -3,7 +3,7 @@ use Rattle.std.proofs.Common.{◌≡◌, List, [], ◌∷◌, ◌++◌, map, ref
 use Rattle.tb_terms.specs.Same.{is_same}
 use Rattle.tb_bus.specs.Buses.{Bus}
 use Rattle.tb_bus.specs.Steps.{Move, Own, Handshake, Finish, Halt, Step, moves, steps, step_of, apply}
-use Rattle.tb_bus.specs.Traces.{IsTrace, after, after_step, replay, fed, took, Answer}
+use Rattle.tb_bus.specs.Traces.{IsInForm, IsTrace, after, after_step, replay, fed, took, Answer}
 use Rattle.tb_bus.specs.Candidates.{first}
 use Rattle.tb_log.specs.contracts.entry.Label as label_row
 use Rattle.tb_log.specs.declared.entry.Input.{Input}
@@ -25,10 +25,15 @@ pub trace-append : (bus : Bus) (xs ys : List Entry) → IsTrace bus xs → IsTra
 trace-append bus [] ys p q = q
 trace-append bus (x ∷ xs) ys p q = (p.0, trace-append (after bus x) xs ys p.1 q)
 
--- each front of a trace is a trace
-pub trace-front : (bus : Bus) (xs ys : List Entry) → IsTrace bus (xs ++ ys) → IsTrace bus xs
-trace-front bus [] ys p = tt
-trace-front bus (x ∷ xs) ys p = (p.0, trace-front (after bus x) xs ys p.1)
+-- each prefix of a trace is a trace
+pub trace-prefix : (bus : Bus) (xs ys : List Entry) → IsTrace bus (xs ++ ys) → IsTrace bus xs
+trace-prefix bus [] ys p = tt
+trace-prefix bus (x ∷ xs) ys p = (p.0, trace-prefix (after bus x) xs ys p.1)
+
+-- and what is left of it is one, from where the prefix leads
+pub trace-rest : (bus : Bus) (xs ys : List Entry) → IsTrace bus (xs ++ ys) → IsTrace (replay bus xs) ys
+trace-rest bus [] ys p = p
+trace-rest bus (x ∷ xs) ys p = trace-rest (after bus x) xs ys p.1
 
 steps-of : (bus : Bus) (ms : List Move) (move : Move) → first ms ≡ Some move → (rest : List Step) × (map (step_of bus) ms ≡ step_of bus move ∷ rest)
 steps-of bus [] move e = absurd (let t : None ≡ Some move = e in cc)
@@ -72,9 +77,9 @@ legal-first bus step rest e = (
 pub legal-quiet : (bus : Bus) → steps bus ≡ [] → bus.down ≡ false → IsTrace bus (Quiet ∷ [])
 legal-quiet bus e f = ((e, f, refl), tt)
 
--- an input, with what became of it
-pub legal-fed : (bus : Bus) (input : Input) (reply : Reply) → reply ≡ (fed bus input).reply → IsTrace bus (Fed input reply ∷ [])
-legal-fed bus input reply e = (ap (λ (r : Reply). let a : Answer = record { reply = r; bus = (fed bus input).bus } in a) e, tt)
+-- an input in form, with what became of it
+pub legal-fed : (bus : Bus) (input : Input) (reply : Reply) → IsInForm input → reply ≡ (fed bus input).reply → IsTrace bus (Fed input reply ∷ [])
+legal-fed bus input reply h e = ((h, ap (λ (r : Reply). let a : Answer = record { reply = r; bus = (fed bus input).bus } in a) e), tt)
 
 -- no move changes the program
 pub apply-program : (bus : Bus) (move : Move) → (apply bus move).program ≡ bus.program

@@ -1,10 +1,12 @@
 -- The order in which the processes are asked, where they stand by their numbers.
 use Rattle.std.proofs.Common.{◌≡◌, ℕ, ◌<◌, ◌≤◌, zero, suc, List, [], ◌∷◌, ◌++◌, take, drop, length, refl, ap, sym, ◌∙◌, arith, rules, Some, None, Bool, true, false, ◌==◌, nat_lt, nat_le, get_or}
 use Rattle.std.proofs.lemmas.Bool.{leb-true, le-leb, eqb-true}
+use Rattle.std.proofs.lemmas.List.{length-map, get_or-map}
 use Rattle.std.specs.List.{AllWithin}
 use Rattle.std.specs.List.Sorted.{IsPartitionedBy, IsPartitionPoint}
-use Rattle.tb_bus.specs.Candidates.{first, candidates_from, candidates_in_turn, candidates_or_halt, all_candidates, up_to, ascend}
+use Rattle.tb_bus.specs.Candidates.{first, candidates_from, candidates_in_turn, candidates_or_halt, all_candidates, up_to, ascend, row_of, rows_of}
 use Rattle.tb_bus.specs.Candidates.{Row}
+use Rattle.tb_bus.specs.declared.living.Living.{Living}
 use Rattle.tb_bus.specs.declared.candidate.Candidate.{Candidate}
 use Rattle.tb_bus.specs.declared.candidate.Candidate.TheVariants.{Finish}
 use Rattle.tb_terms.proofs.SameLemmas.{both-true}
@@ -30,27 +32,34 @@ ascend-upto below (row ∷ rows) zero (suc j) d h l m = let above = ascend-above
 ascend-upto below (row ∷ rows) (suc i) (suc j) d h l m = ascend-upto row.number rows i j d (ascend-first below row rows h).1 (omega arith) (omega arith)
 
 -- those up to a number stand in front
-pub partitioned-by_number : (rows : List Row) (number : ℕ) → ascend 0 rows ≡ true → IsPartitionedBy (λ row. nat_le row.number number) rows
-partitioned-by_number rows number h i j d le within passes =
-    let small : (get_or rows j d).number ≤ number = leb-true _ _ passes in
-    let between = ascend-upto 0 rows i j d h le within in
-    le-leb (get_or rows i d).number number (omega arith)
+pub partitioned-by_number : {W : Type 0} (all : List (Living W)) (number : ℕ) → ascend 0 (rows_of all) ≡ true → IsPartitionedBy (λ living. nat_le living.number number) all
+partitioned-by_number all number h i j d le within passes =
+    let small : (get_or all j d).number ≤ number = leb-true _ _ passes in
+    let many = length-map all row_of in
+    let between = ascend-upto 0 (rows_of all) i j (row_of d) h le (omega arith) in
+    let lower : (get_or (rows_of all) i (row_of d)).number ≡ (get_or all i d).number = ap (λ (row : Row). row.number) (get_or-map row_of all i d (row_of d) (omega arith)) in
+    let upper : (get_or (rows_of all) j (row_of d)).number ≡ (get_or all j d).number = ap (λ (row : Row). row.number) (get_or-map row_of all j d (row_of d) (omega arith)) in
+    le-leb (get_or all i d).number number (omega arith)
 
-up_to-within : (last : ℕ) (rows : List Row) (i : ℕ) → i ≤ length rows →
-    AllWithin (λ row. nat_le row.number last ≡ true) rows 0 i → AllWithin (λ row. nat_le row.number last ≡ false) rows i (length rows) → i ≡ up_to last rows
+up_to-within : {W : Type 0} (last : ℕ) (all : List (Living W)) (i : ℕ) → i ≤ length all →
+    AllWithin (λ living. nat_le living.number last ≡ true) all 0 i → AllWithin (λ living. nat_le living.number last ≡ false) all i (length all) → i ≡ up_to last (rows_of all)
 up_to-within last [] i le f g = omega arith
-up_to-within last (row ∷ rows) zero le f g =
-    let e : nat_le row.number last ≡ false = g 0 row (omega arith) (omega arith) in
+up_to-within last (living ∷ all) zero le f g =
+    let e : nat_le living.number last ≡ false = g 0 living (omega arith) (omega arith) in
     rw e refl
-up_to-within last (row ∷ rows) (suc i) le f g =
-    let e : nat_le row.number last ≡ true = f 0 row (omega arith) (omega arith) in
-    let rest : i ≡ up_to last rows = up_to-within last rows i (omega arith) (λ k d l h. f (suc k) d (omega arith) (omega arith)) (λ k d l h. g (suc k) d (omega arith) (omega arith)) in
+up_to-within last (living ∷ all) (suc i) le f g =
+    let e : nat_le living.number last ≡ true = f 0 living (omega arith) (omega arith) in
+    let rest : i ≡ up_to last (rows_of all) = up_to-within last all i (omega arith) (λ k d l h. f (suc k) d (omega arith) (omega arith)) (λ k d l h. g (suc k) d (omega arith) (omega arith)) in
     rw e (omega arith)
 
 -- the point between those up to a number and the others is how many the former are
-pub up_to-point : (last : ℕ) (rows : List Row) (i : ℕ) → i ≤ length rows →
-    IsPartitionPoint (λ row. nat_le row.number last ≡ true) (λ row. nat_le row.number last ≡ false) rows i → i ≡ up_to last rows
-up_to-point last rows i le h = up_to-within last rows i le h.0 h.1
+pub up_to-point : {W : Type 0} (last : ℕ) (all : List (Living W)) (i : ℕ) → i ≤ length all →
+    IsPartitionPoint (λ living. nat_le living.number last ≡ true) (λ living. nat_le living.number last ≡ false) all i → i ≡ up_to last (rows_of all)
+up_to-point last all i le h = up_to-within last all i le h.0 h.1
+
+-- there are as many rows as processes that are alive
+pub nobody-is : {W : Type 0} (all : List (Living W)) → (length (rows_of all) == 0) ≡ (length all == 0)
+nobody-is all = ap (λ n. n == 0) (length-map all row_of)
 
 first-append_some : {A : Type 0} (xs ys : List A) (x : A) → Some x ≡ first xs → Some x ≡ first (xs ++ ys)
 first-append_some [] ys x e = cc
@@ -74,13 +83,13 @@ turn-again rows last start e miss =
     let nothing : candidates_from rows at (drop at rows) ≡ [] = none-from_first (candidates_from rows at (drop at rows)) (rw e at miss) in
     ap (λ k. first (candidates_from rows 0 (take k rows))) e ∙ sym (ap (λ fs. first (fs ++ candidates_from rows 0 (take at rows))) nothing)
 
-or_halt-some : (no_ticks : Bool) (founds : List Candidate) (found : Candidate) → Some found ≡ first founds → Some found ≡ first (candidates_or_halt no_ticks founds)
+or_halt-some : (no_ticks : Bool) (candidates : List Candidate) (found : Candidate) → Some found ≡ first candidates → Some found ≡ first (candidates_or_halt no_ticks candidates)
 or_halt-some no_ticks [] found e = cc
-or_halt-some no_ticks (f ∷ founds) found e = e
+or_halt-some no_ticks (f ∷ candidates) found e = e
 
-or_halt-none : (no_ticks : Bool) (founds : List Candidate) → None ≡ first founds → first (candidates_or_halt no_ticks []) ≡ first (candidates_or_halt no_ticks founds)
+or_halt-none : (no_ticks : Bool) (candidates : List Candidate) → None ≡ first candidates → first (candidates_or_halt no_ticks []) ≡ first (candidates_or_halt no_ticks candidates)
 or_halt-none no_ticks [] e = refl
-or_halt-none no_ticks (f ∷ founds) e = cc
+or_halt-none no_ticks (f ∷ candidates) e = cc
 
 -- nothing happens on a bus that is down
 pub first_all-down : (rows : List Row) (last : ℕ) (no_ticks down : Bool) → down ≡ true → None ≡ first (all_candidates rows last no_ticks down)

@@ -1,5 +1,5 @@
-use Rattle.tb_bus.proofs.TraceLemmas.{trace-front}
-use Rattle.tb_bus.proofs.laws.fronts_are_traces.Goals as goal
+use Rattle.tb_bus.proofs.TraceLemmas.{trace-prefix, trace-rest, trace-append}
+use Rattle.tb_bus.proofs.laws.prefixes_are_traces.Goals as goal
 
 pub returns : goal.returns
-returns c = trace-front
+returns c = record { prefix = trace-prefix; rest = trace-rest; joined = trace-append }

@@ -1,12 +1,13 @@
 use Rattle.std.proofs.Common.{◌∙◌, sym, Some, None}
+use Rattle.tb_bus.specs.Candidates.{rows_of}
 use Rattle.tb_bus.specs.declared.candidate.Candidate.TheVariants.{Finish}
 use Rattle.tb_bus.proofs.CandidateLemmas.{move_first, stands_first}
-use Rattle.tb_bus.proofs.TurnLemmas.{first_all-down, first_all-finish, first_all-some, first_all-none}
-use Rattle.tb_bus.proofs.search.first_move.Goals as goal
+use Rattle.tb_bus.proofs.TurnLemmas.{nobody-is, first_all-down, first_all-finish, first_all-some, first_all-none}
+use Rattle.tb_bus.proofs.search.first_candidate.Goals as goal
 
 pub returns-then-down : goal.returns-then-down
-returns-then-down c =
-    let rows = c.args.rows.now in
+returns-then-down g c =
+    let rows = rows_of c.args.all.now in
     let e = first_all-down rows c.args.last c.args.no_ticks c.args.down c.if-down.true in
     record {
       found = e;
@@ -15,9 +16,9 @@ returns-then-down c =
     }
 
 pub returns-then-is_empty : goal.returns-then-is_empty
-returns-then-is_empty c =
-    let rows = c.args.rows.now in
-    let e = first_all-finish rows c.args.last c.args.no_ticks c.args.down c.if-down.false (sym c.is_empty.ensures ∙ c.if-is_empty.true) in
+returns-then-is_empty g c =
+    let rows = rows_of c.args.all.now in
+    let e = first_all-finish rows c.args.last c.args.no_ticks c.args.down c.if-down.false (nobody-is c.args.all.now ∙ sym c.is_empty.ensures ∙ c.if-is_empty.true) in
     record {
       found = e;
       on_bus = move_first rows c.args.last c.args.no_ticks c.args.down (Some Finish) c.requires e;
@@ -25,9 +26,9 @@ returns-then-is_empty c =
     }
 
 pub returns-in-Some : goal.returns-in-Some
-returns-in-Some c =
-    let rows = c.args.rows.now in
-    let e = first_all-some rows c.args.last c.args.no_ticks c.args.down c.in-Some.found c.if-down.false (sym c.is_empty.ensures ∙ c.if-is_empty.false) (sym c.in-Some.is ∙ c.in_ok-found.ensures) in
+returns-in-Some g c =
+    let rows = rows_of c.args.all.now in
+    let e = first_all-some rows c.args.last c.args.no_ticks c.args.down c.in-Some.found c.if-down.false (nobody-is c.args.all.now ∙ sym c.is_empty.ensures ∙ c.if-is_empty.false) (sym c.in-Some.is ∙ c.in_ok-found.ensures) in
     record {
       found = e;
       on_bus = move_first rows c.args.last c.args.no_ticks c.args.down (Some c.in-Some.found) c.requires e;
@@ -35,9 +36,9 @@ returns-in-Some c =
     }
 
 pub returns-in-None : goal.returns-in-None
-returns-in-None c =
-    let rows = c.args.rows.now in
-    let e = c.halt_if.ensures ∙ first_all-none rows c.args.last c.args.no_ticks c.args.down c.if-down.false (sym c.is_empty.ensures ∙ c.if-is_empty.false) (sym c.in-None.is ∙ c.in_ok-found.ensures) in
+returns-in-None g c =
+    let rows = rows_of c.args.all.now in
+    let e = c.halt_if.ensures ∙ first_all-none rows c.args.last c.args.no_ticks c.args.down c.if-down.false (nobody-is c.args.all.now ∙ sym c.is_empty.ensures ∙ c.if-is_empty.false) (sym c.in-None.is ∙ c.in_ok-found.ensures) in
     record {
       found = e;
       on_bus = move_first rows c.args.last c.args.no_ticks c.args.down c.halt_if.result c.requires e;
