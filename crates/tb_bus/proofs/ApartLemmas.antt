@@ -16,7 +16,8 @@ use Rattle.tb_algebra.proofs.Ascending.{offers-ascend}
 use Rattle.tb_bus.specs.declared.origin.Origin.{Origin}
 use Rattle.tb_bus.specs.Buses.{Bus, Proc}
 use Rattle.tb_bus.specs.Steps.{Move, Own, Handshake, Finish, Halt, Step, action_by, in_turn, others, handshake_if, handshake_of, handshakes_with, handshakes, own_if, moves_by, moves_of, moves_of_all, moves_or_halt, moves_while_up, moves, label_of, step_of, steps}
-use Rattle.tb_bus.specs.Effects.{Effect, effect_of}
+use Rattle.tb_bus.specs.Effects.{effect_of}
+use Rattle.tb_bus.specs.declared.effect.Effect.{Effect}
 use Rattle.tb_bus.specs.Reached.{Reaches}
 use Rattle.tb_bus.specs.declared.action.Action.{Action}
 use Rattle.tb_bus.specs.declared.action.Action.TheVariants as action

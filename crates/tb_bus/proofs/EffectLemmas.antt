@@ -3,7 +3,8 @@ use Rattle.std.proofs.Common.{◌≡◌, refl, Option, Some, None}
 use Rattle.std.specs.Bool.{⊤}
 use Rattle.tb_algebra.specs.Offers.{Offered}
 use Rattle.tb_bus.specs.Buses.{Bus, Proc}
-use Rattle.tb_bus.specs.Effects.{Effect, effect_of}
+use Rattle.tb_bus.specs.Effects.{effect_of}
+use Rattle.tb_bus.specs.declared.effect.Effect.{Effect}
 use Rattle.tb_bus.specs.Views.{effect_in}
 use Rattle.tb_bus.specs.declared.action.OwnAction.{OwnAction}
 use Rattle.tb_bus.specs.declared.action.OwnAction.TheVariants.{Tau, Set}

@@ -21,7 +21,8 @@ use Rattle.tb_algebra.specs.Reached.{Reaches as IsLedTo, entered, went_on}
 use Rattle.tb_algebra.proofs.Ascending.{offered-once}
 use Rattle.tb_bus.specs.declared.origin.Origin.{Origin}
 use Rattle.tb_bus.specs.Buses.{Bus, Proc, atoms_of, start, opened, opened_one, opening_store, proc_left}
-use Rattle.tb_bus.specs.Effects.{Effect, effect_of}
+use Rattle.tb_bus.specs.Effects.{effect_of}
+use Rattle.tb_bus.specs.declared.effect.Effect.{Effect}
 use Rattle.tb_bus.specs.Steps.{Move, Own, Handshake, Finish, Halt, Step, action_by, in_turn, others, handshake_if, handshake_of, handshakes_with, handshakes, own_if, moves_by, moves_of, moves_of_all, moves_or_halt, moves_while_up, moves, advance, label_of, apply, step_of, steps}
 use Rattle.tb_bus.specs.Traces.{IsLegal, IsTrace, Answer, after, after_step, replay, took}
 use Rattle.tb_bus.specs.Reached.{Reaches}
