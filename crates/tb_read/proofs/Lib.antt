@@ -2,6 +2,7 @@ pub mod Begins
 pub mod Chars
 pub mod Complete
 pub mod Counted
+pub mod Ended
 pub mod Faults
 pub mod Grammar
 pub mod Lexed

@@ -29,7 +29,7 @@ use Rattle.tb_read.proofs.Grammar.{term-accepts}
 use Rattle.tb_read.proofs.Counted.{tokens_size-tokens_of, tokens_levels-tokens_of}
 
 -- a fault of a place in the text
-abbrev IsPlaced : TermFault → Type 0
+abbrev pub IsPlaced : TermFault → Type 0
 IsPlaced (fault.Syntax place) = Unit {0}
 IsPlaced (fault.Real place) = Unit {0}
 IsPlaced (fault.IntRange place) = Unit {0}

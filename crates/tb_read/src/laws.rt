@@ -1,6 +1,6 @@
 //! What holds of reading whatever the bytes are. These calls change nothing: their contracts are the laws.
 
-ghost use Rattle.std.specs.Prelude.{◌≡◌, ◌≢◌, ◌<◌, ◌≤◌, ◌+◌, ℕ, List, ◌++◌, length, take, drop};
+ghost use Rattle.std.specs.Prelude.{◌≡◌, ◌≢◌, ◌<◌, ◌≤◌, ◌+◌, ◌⊎◌, ℕ, List, ◌++◌, length, take, drop};
 ghost use Rattle.tb_terms.specs.declared.term.Term.{Term};
 ghost use Rattle.tb_terms.specs.Sizes.{IsWithinLimits};
 ghost use Rattle.tb_read.specs.declared.fault.TermFault.{TermFault};
@@ -23,6 +23,12 @@ pub fn faults_are_unique()
         → f ≢ NoMemory → g ≢ NoMemory → f ≡ g }
     ensures none { (bytes : List ℕ) (t : Term) (f : TermFault) → Reads bytes t → IsWithinLimits t
         → HasFault bytes f → f ≡ NoMemory }
+{}
+
+/// Each text reads as a term within the limits, or has a fault other than want of memory.
+pub fn each_text_has_one()
+    ensures { (bytes : List ℕ) → ((t : Term) × Reads bytes t × IsWithinLimits t)
+        ⊎ ((f : TermFault) × HasFault bytes f × (f ≢ NoMemory)) }
 {}
 
 /// What stands before the place of a syntax fault can go on to a term.

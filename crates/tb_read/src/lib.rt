@@ -19,8 +19,8 @@ mod token;
 
 pub use fault::TermFault;
 pub use laws::{
-    faults_are_unique, numeral_faults, reading_is_unique, syntax_begins, syntax_stops,
-    written_text_reads,
+    each_text_has_one, faults_are_unique, numeral_faults, reading_is_unique, syntax_begins,
+    syntax_stops, written_text_reads,
 };
 pub use lex::{is_blank, is_name_byte};
 pub use number::{digits_len, digits_value, is_real, number_of};

@@ -1,6 +1,6 @@
 use crate::{
-    TermFault, faults_are_unique, numeral_faults, read_term, reading_is_unique, syntax_begins,
-    syntax_stops, written_text_reads,
+    TermFault, each_text_has_one, faults_are_unique, numeral_faults, read_term, reading_is_unique,
+    syntax_begins, syntax_stops, written_text_reads,
 };
 use std::alloc::Global;
 use std::test::Fail;
@@ -179,6 +179,7 @@ fn the_limits_are_kept(rt: HostRuntime) -> Result<(), Fail> {
     );
     reading_is_unique();
     faults_are_unique();
+    each_text_has_one();
     syntax_begins();
     syntax_stops();
     numeral_faults();

@@ -1,3 +1,4 @@
+pub mod Balanced
 pub mod BareKinds
 pub mod BareProcs
 pub mod Examples

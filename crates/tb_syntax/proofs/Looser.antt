@@ -1,17 +1,14 @@
--- What binds looser than where it stands begins with a parenthesis.
-use Rattle.std.proofs.Common.{◌≡◌, ℕ, true, false, List, ◌∷◌, Some, None, ap, ◌∙◌, sym, refl}
+-- What binds looser than where it stands stands in parentheses.
+use Rattle.std.proofs.Common.{◌≡◌, ℕ, true, false, List, Some, None, ap, ◌∙◌, sym, refl}
 use Rattle.tb_lex.specs.declared.kind.TokenKind.{TokenKind}
-use Rattle.tb_lex.specs.declared.kind.TokenKind.TheVariants.{Symbol as Sign}
-use Rattle.tb_lex.specs.declared.symbol.Symbol.TheVariants.{LeftParen}
 use Rattle.tb_syntax.specs.declared.level.Level.{Level}
 use Rattle.tb_syntax.specs.declared.level.Level.TheVariants as level
 use Rattle.tb_syntax.specs.declared.proc.Proc.{Proc}
 use Rattle.tb_syntax.specs.declared.proc.Proc.TheVariants.{outs-Atom, outs-Call, outs-Seq, outs-Alt, outs-Star, outs-Par, outs-If, outs-Let}
 use Rattle.tb_syntax.specs.Binding.{is_looser, own_level, level_of}
+use Rattle.tb_syntax.specs.Parens.{StandsInParens}
 use Rattle.tb_syntax.specs.Spelling.{SpellsProc}
-
-abbrev Begins : List TokenKind → Type 0
-Begins kinds = (rest : List TokenKind) × (kinds ≡ Sign LeftParen ∷ rest)
+use Rattle.tb_syntax.proofs.Balanced.{proc_balanced, in_parens_enclosed}
 
 -- what is looser than a level is looser than a tighter one
 tighter : (own : Level) → is_looser own level.Proc ≡ true → is_looser own level.Alt ≡ true
@@ -42,26 +39,26 @@ star_prim level.Seq e = refl
 star_prim level.Star e = refl
 star_prim level.Prim e = e
 
-not_looser : (own at : Level) → is_looser own at ≡ false → (p : Proc) → own_level p ≡ own → is_looser (own_level p) at ≡ true → (kinds : List TokenKind) → Begins kinds
-not_looser own at e p f g kinds =
+not_looser : (own at : Level) → is_looser own at ≡ false → (p : Proc) → own_level p ≡ own → is_looser (own_level p) at ≡ true → ⊥
+not_looser own at e p f g =
     let same : false ≡ true = sym e ∙ ap (λ l. is_looser l at) (sym f) ∙ g in
-    absurd (cc)
+    cc
 
-pub looser_begins : {at : Level} {place : ℕ} {p : Proc} {kinds : List TokenKind} → SpellsProc at place p kinds → is_looser (own_level p) at ≡ true → Begins kinds
-looser_begins {p = p} (SpellsProc.one_alt d) e = looser_begins d (tighter (own_level p) e)
-looser_begins {p = p} (SpellsProc.one_seq d) e = looser_begins d (alt_seq (own_level p) e)
-looser_begins {p = p} (SpellsProc.one_star d) e = looser_begins d (seq_star (own_level p) e)
-looser_begins {p = p} (SpellsProc.one_prim d) e = looser_begins d (star_prim (own_level p) e)
-looser_begins (SpellsProc.parens d) e = (_, refl)
-looser_begins (SpellsProc.par {x = x} {y = y} d f) e = not_looser level.Proc level.Proc refl _ (ap level_of (outs-Par x y)) e _
-looser_begins (SpellsProc.choice {x = x} {y = y} d f) e = not_looser level.Alt level.Alt refl _ (ap level_of (outs-Alt x y)) e _
-looser_begins (SpellsProc.sequence {x = x} {y = y} d f) e = not_looser level.Seq level.Seq refl _ (ap level_of (outs-Seq x y)) e _
-looser_begins (SpellsProc.turns {x = x} {y = y} d f) e = not_looser level.Star level.Star refl _ (ap level_of (outs-Star x y)) e _
-looser_begins (SpellsProc.atom {a = a} d) e = not_looser level.Prim level.Prim refl _ (ap level_of (outs-Atom a)) e _
-looser_begins (SpellsProc.call {c = c} d) e = not_looser level.Prim level.Prim refl _ (ap level_of (outs-Call c)) e _
-looser_begins (SpellsProc.block {vars = vars} {x = x} d f) e = not_looser level.Prim level.Prim refl _ (ap level_of (outs-Let vars x)) e _
-looser_begins (SpellsProc.test {e = t} {x = x} d f) e = not_looser level.Prim level.Prim refl _ (ap level_of (outs-If t x None)) e _
-looser_begins (SpellsProc.test_else {e = t} {x = x} {y = y} d f g) e = not_looser level.Prim level.Prim refl _ (ap level_of (outs-If t x (Some y))) e _
+pub looser_enclosed : {at : Level} {place : ℕ} {p : Proc} {kinds : List TokenKind} → SpellsProc at place p kinds → is_looser (own_level p) at ≡ true → StandsInParens place p kinds
+looser_enclosed {p = p} (SpellsProc.one_alt d) e = looser_enclosed d (tighter (own_level p) e)
+looser_enclosed {p = p} (SpellsProc.one_seq d) e = looser_enclosed d (alt_seq (own_level p) e)
+looser_enclosed {p = p} (SpellsProc.one_star d) e = looser_enclosed d (seq_star (own_level p) e)
+looser_enclosed {p = p} (SpellsProc.one_prim d) e = looser_enclosed d (star_prim (own_level p) e)
+looser_enclosed (SpellsProc.parens {xs = xs} d) e = let within = proc_balanced d in record { inner = xs; is = refl; spells = d; is_balanced = within; is_enclosed = in_parens_enclosed xs within }
+looser_enclosed (SpellsProc.par {x = x} {y = y} d f) e = absurd (not_looser level.Proc level.Proc refl _ (ap level_of (outs-Par x y)) e)
+looser_enclosed (SpellsProc.choice {x = x} {y = y} d f) e = absurd (not_looser level.Alt level.Alt refl _ (ap level_of (outs-Alt x y)) e)
+looser_enclosed (SpellsProc.sequence {x = x} {y = y} d f) e = absurd (not_looser level.Seq level.Seq refl _ (ap level_of (outs-Seq x y)) e)
+looser_enclosed (SpellsProc.turns {x = x} {y = y} d f) e = absurd (not_looser level.Star level.Star refl _ (ap level_of (outs-Star x y)) e)
+looser_enclosed (SpellsProc.atom {a = a} d) e = absurd (not_looser level.Prim level.Prim refl _ (ap level_of (outs-Atom a)) e)
+looser_enclosed (SpellsProc.call {c = c} d) e = absurd (not_looser level.Prim level.Prim refl _ (ap level_of (outs-Call c)) e)
+looser_enclosed (SpellsProc.block {vars = vars} {x = x} d f) e = absurd (not_looser level.Prim level.Prim refl _ (ap level_of (outs-Let vars x)) e)
+looser_enclosed (SpellsProc.test {e = t} {x = x} d f) e = absurd (not_looser level.Prim level.Prim refl _ (ap level_of (outs-If t x None)) e)
+looser_enclosed (SpellsProc.test_else {e = t} {x = x} {y = y} d f g) e = absurd (not_looser level.Prim level.Prim refl _ (ap level_of (outs-If t x (Some y))) e)
 
-pub all_looser_begin : (at : Level) (place : ℕ) (p : Proc) (kinds : List TokenKind) → SpellsProc at place p kinds → is_looser (own_level p) at ≡ true → Begins kinds
-all_looser_begin at place p kinds d e = looser_begins d e
+pub each_looser_enclosed : (at : Level) (place : ℕ) (p : Proc) (kinds : List TokenKind) → SpellsProc at place p kinds → is_looser (own_level p) at ≡ true → StandsInParens place p kinds
+each_looser_enclosed at place p kinds d e = looser_enclosed d e

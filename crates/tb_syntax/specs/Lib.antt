@@ -1,6 +1,7 @@
 pub mod Binding
 pub mod Canonical
 pub mod Limits
+pub mod Parens
 pub mod Places
 pub mod Printing
 pub mod ProperKinds

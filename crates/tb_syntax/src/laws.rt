@@ -1,16 +1,24 @@
-//! What holds of every spelling. The call changes nothing: its contract is the law.
+//! What holds of every spelling. These calls change nothing: their contracts are the laws.
 
-ghost use Rattle.std.specs.Prelude.{◌≡◌, ◌∷◌, ℕ, List, true};
+ghost use Rattle.std.specs.Prelude.{◌≡◌, ℕ, List, true};
 ghost use Rattle.tb_lex.specs.declared.kind.TokenKind.{TokenKind};
-ghost use Rattle.tb_lex.specs.declared.kind.TokenKind.TheVariants.{Symbol as Sign};
-ghost use Rattle.tb_lex.specs.declared.symbol.Symbol.TheVariants.{LeftParen};
 ghost use Rattle.tb_syntax.specs.declared.level.Level.{Level};
 ghost use Rattle.tb_syntax.specs.declared.proc.Proc.{Proc};
+ghost use Rattle.tb_syntax.specs.declared.script.Script.{Script};
 ghost use Rattle.tb_syntax.specs.Binding.{is_looser, own_level};
-ghost use Rattle.tb_syntax.specs.Spelling.{SpellsProc};
+ghost use Rattle.tb_syntax.specs.Parens.{IsBalanced, StandsInParens};
+ghost use Rattle.tb_syntax.specs.Spelling.{SpellsProc, Spells};
 
-/// What binds looser than where it stands, as a choice within a sequence, stands in parentheses.
+/// What binds looser than where it stands, as a choice within a sequence, stands in parentheses: the one that
+/// opens at its first token closes at its last, and not before.
 pub fn looser_stands_in_parens()
     ensures { (at : Level) (place : ℕ) (p : Proc) (kinds : List TokenKind) → SpellsProc at place p kinds
-        → is_looser (own_level p) at ≡ true → (rest : List TokenKind) × (kinds ≡ Sign LeftParen ∷ rest) }
+        → is_looser (own_level p) at ≡ true → StandsInParens place p kinds }
+{}
+
+/// The parentheses of a process, wherever it stands, close as they open; so do those of a script.
+pub fn parens_are_balanced()
+    ensures proc { (at : Level) (place : ℕ) (p : Proc) (kinds : List TokenKind) → SpellsProc at place p kinds
+        → IsBalanced kinds }
+    ensures script { (script : Script) (kinds : List TokenKind) → Spells script kinds → IsBalanced kinds }
 {}

@@ -21,7 +21,7 @@ mod text;
 mod words;
 
 pub use ast::{Ast, AstKind, Asts};
-pub use laws::looser_stands_in_parens;
+pub use laws::{looser_stands_in_parens, parens_are_balanced};
 pub use level::Level;
 pub use print::print_script;
 pub use proc::{ActDef, AtomDef, Call, Calls, Proc, TimeDef, TimeDefs, Var, Vars};

@@ -1,7 +1,10 @@
 use crate::procs::push_proc;
 use crate::text::text_of;
 use crate::words::{is_atom_word, is_reserved, is_sort_word, is_time_word};
-use crate::{ActDef, AtomDef, Level, Proc, Script, looser_stands_in_parens, print_script};
+use crate::{
+    ActDef, AtomDef, Level, Proc, Script, looser_stands_in_parens, parens_are_balanced,
+    print_script,
+};
 use std::alloc::Global;
 use std::test::Fail;
 use tb_terms::{Boxed, Items, Name, NoMemory};
@@ -98,6 +101,7 @@ fn parentheses_stand_only_where_they_are_needed(rt: HostRuntime) -> Result<(), F
         (Star, Par, true, "tau * printf || delta\n"),
     ];
     looser_stands_in_parens();
+    parens_are_balanced();
     for (inner, outer, is_left, text) in table {
         let found = of_three(rt.alloc(), inner, outer, is_left)?;
         assert_eq!(rt; found.as_slice(), text.as_bytes());
