@@ -16,10 +16,10 @@ use Rattle.tb_core.specs.Lives.{IsLive, procs_of}
 use Rattle.tb_core.specs.declared.bus.LiveBus.{LiveBus}
 
 -- the processes of the fields
-abbrev pub procs_in : {W P T : Type 0} → View P W T → LiveBus W P → List Proc
+abbrev pub procs_in : {W P T : Type 0} → View P W T → LiveBus W P T → List Proc
 procs_in view bus = procs_of view bus.plans bus.living.items
 
-abbrev pub bus_of : {W P T : Type 0} → View P W T → LiveBus W P → Bus
+abbrev pub bus_of : {W P T : Type 0} → View P W T → LiveBus W P T → Bus
 bus_of view bus = record {
   program = bus.origin.program;
   procs = procs_in view bus;
@@ -39,14 +39,14 @@ IsFreshOr stale living = (living.fresh ≡ true) ⊎ Contains stale living.numbe
 
 -- The plans are those of the bodies, the living stand by their numbers, each lives by its plan, and those that have
 -- to be looked at anew are named.
-pub record IsSound {W P T : Type 0} (view : View P W T) (bus : LiveBus W P) : Type 0 where
+pub record IsSound {W P T : Type 0} (view : View P W T) (bus : LiveBus W P T) : Type 0 where
   pub in_order : ascend 0 (rows_of bus.living.items) ≡ true
   pub planned : map view.body_of bus.plans ≡ bus.origin.program.bodies
   pub live : All (IsLive view bus.plans bus.ticks) bus.living.items
   pub fresh : All (IsFreshOr bus.stale.items) bus.living.items
 
 -- the fields stand for the same bus as before
-pub record StandsAs {W P T : Type 0} (view : View P W T) (old new : LiveBus W P) : Type 0 where
+pub record StandsAs {W P T : Type 0} (view : View P W T) (old new : LiveBus W P T) : Type 0 where
   pub sound : IsSound view new
   pub bus : bus_of view new ≡ bus_of view old
   pub origin : new.origin ≡ old.origin
@@ -57,20 +57,20 @@ abbrev pub IsSetAt : {X : Type 0} → List X → ℕ → (X → Type 0) → List
 IsSetAt {X = X} old at P new = (x : X) × (new ≡ slice_set old at x) × P x
 
 -- what was taken is what the offer leaves of the process at an index
-abbrev pub Leaves : {W P T : Type 0} → View P W T → LiveBus W P → ℕ → T → Offered → Type 0
+abbrev pub Leaves : {W P T : Type 0} → View P W T → LiveBus W P T → ℕ → T → Offered → Type 0
 Leaves {W = W} {P = P} view bus at taken offered =
     (living : Living W) × (slice_get bus.living.items at ≡ Some living)
     × ((plan : P) × (slice_get bus.plans living.body ≡ Some plan) × view.leaves plan living.walker taken offered)
 
 -- the process at an index went on with what the offer leaves, in the offered store with the binds set
-pub record IsAdvanced {W P T : Type 0} (view : View P W T) (old : LiveBus W P) (at : ℕ) (offered : Offered) (binds : List Bind) (new : LiveBus W P) : Type 0 where
+pub record IsAdvanced {W P T : Type 0} (view : View P W T) (old : LiveBus W P T) (at : ℕ) (offered : Offered) (binds : List Bind) (new : LiveBus W P T) : Type 0 where
   pub sound : IsSound view new
   pub bus : bus_of view new ≡ record (bus_of view old) { procs = advance (row_at (rows_of old.living.items) at).number offered binds (procs_in view old) }
   pub origin : new.origin ≡ old.origin
   pub plans : new.plans ≡ old.plans
 
 -- both parties of a handshake went on
-pub record AreAdvanced {W P T : Type 0} (view : View P W T) (old : LiveBus W P) (at : ℕ) (offered : Offered) (other : ℕ) (its : Offered) (binds : List Bind) (new : LiveBus W P) : Type 0 where
+pub record AreAdvanced {W P T : Type 0} (view : View P W T) (old : LiveBus W P T) (at : ℕ) (offered : Offered) (other : ℕ) (its : Offered) (binds : List Bind) (new : LiveBus W P T) : Type 0 where
   pub sound : IsSound view new
   pub bus : bus_of view new ≡ record (bus_of view old) {
     procs = advance (row_at (rows_of old.living.items) other).number its binds (advance (row_at (rows_of old.living.items) at).number offered [] (procs_in view old));
@@ -78,13 +78,13 @@ pub record AreAdvanced {W P T : Type 0} (view : View P W T) (old : LiveBus W P) 
   pub origin : new.origin ≡ old.origin
 
 -- the move of a candidate was made
-pub record IsMade {W P T : Type 0} (view : View P W T) (old : LiveBus W P) (candidate : Candidate) (new : LiveBus W P) : Type 0 where
+pub record IsMade {W P T : Type 0} (view : View P W T) (old : LiveBus W P T) (candidate : Candidate) (new : LiveBus W P T) : Type 0 where
   pub sound : IsSound view new
   pub bus : bus_of view new ≡ apply (bus_of view old) (move_of (procs_in view old) (rows_of old.living.items) candidate)
   pub origin : new.origin ≡ old.origin
 
 -- The fields stand for the bus to which the log leads, the log is a trace, and each tick is an entry of it.
-pub record Represents {W P T : Type 0} (view : View P W T) (bus : LiveBus W P) (log : List Entry) : Type 0 where
+pub record Represents {W P T : Type 0} (view : View P W T) (bus : LiveBus W P T) (log : List Entry) : Type 0 where
   pub sound : IsSound view bus
   pub bus_is : bus_of view bus ≡ replay (start bus.origin) log
   pub trace : IsTrace (start bus.origin) log

@@ -11,9 +11,9 @@ use Rattle.tb_bus.specs.declared.living.Ready.{Ready}
 use Rattle.tb_bus.specs.declared.living.Living.{Living}
 
 -- what was looked at is what the process is ready to do now
-pub record IsFreshFor (body : Body) (now : ℕ) (walking : Walking) (seen : Option (List Offer)) (ready : List Ready) : Type 0 where
+pub record IsFreshFor (body : Body) (now : ℕ) (walking : Walking) (seen : Option (List Offer)) (all : List Ready) : Type 0 where
   pub looked : seen ≡ Some (seen_offers body.atoms now walking)
-  pub ready : ready ≡ readies body.atoms now 0 (offers_of walking)
+  pub ready : all ≡ readies body.atoms now 0 (offers_of walking)
 
 -- A process on its way through its body, which goes by this plan and hasn't ended. What is ready is right where
 -- it is fresh.
