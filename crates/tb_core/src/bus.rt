@@ -100,7 +100,8 @@ impl<W: Walker> LiveBus<W> {
         ensures fresh { OnOk result (AreFresh self.new.living.items) }
     {
         for index in 0..self.stale.len() {
-            self.freshen_number(alloc, self.stale[index])?;
+            let number = self.stale[index];
+            self.freshen_number(alloc, number)?;
         }
         self.stale.clear();
         Ok(())
