@@ -111,7 +111,7 @@ module _ (rows : List Row) where
       (candidates_among-in at row h.0 0 row.ready (stand-whole row.ready)) (candidates_from-in (at + 1) some h.1)
 
   -- All that a search in turn finds names rows and actions that there are.
-  pub all_in_turn : (last : ℕ) → All (IsCandidateIn rows) (candidates_in_turn rows last)
+  all_in_turn : (last : ℕ) → All (IsCandidateIn rows) (candidates_in_turn rows last)
   unfolding candidates_in_turn
   all_in_turn last =
       let at = up_to last rows in
@@ -135,10 +135,6 @@ module _ (rows : List Row) where
   pub all_candidates-in : (last : ℕ) (no_ticks down : Bool) → All (IsCandidateIn rows) (all_candidates rows last no_ticks down)
   unfolding all_candidates
   all_candidates-in last no_ticks down = down-in down (candidates_while_up rows last no_ticks rows) (while_up-in last no_ticks rows)
-
--- The first that a search in turn finds does so.
-pub candidate_in_turn : (rows : List Row) (last : ℕ) (found : Candidate) → first (candidates_in_turn rows last) ≡ Some found → IsCandidateIn rows found
-candidate_in_turn rows last found e = first-all (IsCandidateIn rows) (candidates_in_turn rows last) found (all_in_turn rows last) e
 
 -- The first that a search finds does so.
 pub candidate_first : (rows : List Row) (last : ℕ) (no_ticks down : Bool) (found : Candidate) → first (all_candidates rows last no_ticks down) ≡ Some found → IsCandidateIn rows found

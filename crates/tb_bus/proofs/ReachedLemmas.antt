@@ -1,6 +1,6 @@
 -- In every bus that a program reaches the processes stand by their numbers, and each is where its body may
 -- have led it. So two steps that are seen alike are the same step.
-use Rattle.std.proofs.Common.{◌≡◌, ℕ, ◌+◌, ◌<◌, ◌≤◌, ◌==◌, List, [], ◌∷◌, ◌++◌, map, refl, ap, sym, ◌∙◌, subst, arith, Option, Some, None, Bool, true, false, Contains, if◌then◌else◌, zero, suc, ◌⊎◌, inl, inr, nat_lt, nat_le, not, filter, slice_get, option_map, option_and_then}
+use Rattle.std.proofs.Common.{◌≡◌, ℕ, ◌+◌, ◌<◌, ◌≤◌, ◌==◌, List, [], ◌∷◌, ◌++◌, map, refl, ap, sym, ◌∙◌, subst, arith, Option, Some, None, Bool, true, false, Contains, if◌then◌else◌, zero, suc, ◌⊎◌, inl, inr, nat_lt, nat_le, not, filter, slice_get}
 use Rattle.std.specs.Prelude.{⊤}
 use Rattle.std.specs.List.{All, flat_map}
 use Rattle.std.proofs.lemmas.Bool.{eqb-true}
@@ -14,13 +14,12 @@ use Rattle.tb_match.specs.Matches.{match_list}
 use Rattle.tb_body.specs.declared.body.Body.{Body}
 use Rattle.tb_body.specs.declared.program.Root.{Root}
 use Rattle.tb_algebra.specs.Processes.{Process, fresh}
-use Rattle.tb_algebra.specs.Atoms.{act_of, times_of, is_ready, values_together, patterns_of}
-use Rattle.tb_algebra.specs.Binds.{takes_bind, with_binds}
+use Rattle.tb_algebra.specs.Binds.{with_binds}
 use Rattle.tb_algebra.specs.Offers.{Offered, offers}
 use Rattle.tb_algebra.specs.Reached.{Reaches as IsLedTo, entered, went_on}
 use Rattle.tb_algebra.proofs.Ascending.{offered-once}
 use Rattle.tb_bus.specs.declared.origin.Origin.{Origin}
-use Rattle.tb_bus.specs.Buses.{Bus, Proc, atoms_of, start, opened, opened_one, opening_store, proc_left}
+use Rattle.tb_bus.specs.Buses.{Bus, Proc, start, opened, opened_one, opening_store, proc_left}
 use Rattle.tb_bus.specs.Effects.{effect_of}
 use Rattle.tb_bus.specs.declared.effect.Effect.{Effect}
 use Rattle.tb_bus.specs.Steps.{Move, Own, Handshake, Finish, Halt, Step, action_by, in_turn, others, handshake_if, handshake_of, handshakes_with, handshakes, own_if, moves_by, moves_of, moves_of_all, moves_or_halt, moves_while_up, moves, advance, label_of, apply, step_of, steps}

@@ -32,7 +32,7 @@ AreRowsOf bodies now [] (proc ∷ procs) = ⊥
 AreRowsOf bodies now (row ∷ rows) [] = ⊥
 AreRowsOf bodies now (row ∷ rows) (proc ∷ procs) = IsRowOf bodies now row proc × AreRowsOf bodies now rows procs
 
--- what stands at places where nothing does: no search finds them
+-- what stands at indices where nothing does: no search finds them
 abbrev pub no_proc : Proc
 no_proc = record { number = 0; body = 0; term = At 0 0; store = [] }
 

@@ -1,5 +1,3 @@
-ghost use Rattle.std.specs.Prelude.{◌≡◌};
-
 use crate::action::Action;
 
 /// An offer of a process that is ready for an action: its index among the offers, and its atom.

@@ -1,6 +1,6 @@
 use tb_body::Program;
 
-/// What a core was started from, which nothing changes.
+/// What a bus was started from, which nothing changes.
 #[derive(Debug, Drop)]
 pub struct Origin {
     pub program: Program,

@@ -1,14 +1,18 @@
 ghost use Rattle.std.specs.Prelude.{◌≡◌};
-ghost use Rattle.tb_bus.specs.Candidates.{ascend};
+ghost use Rattle.tb_bus.specs.Candidates.{ascend, rows_of};
 
-use crate::deed::Action;
-use crate::log::LabelKind;
-use crate::row::{Candidate, Ready, Row};
-use crate::search::{first_in_turn, first_move};
+use crate::action::{Action, OwnAction};
+use crate::candidate::Candidate;
+use crate::living::{Living, Ready};
+use crate::search::{first_candidate, first_in_turn};
 use std::alloc::Global;
 use std::test::Fail;
 use tb_match::Bind;
 use tb_terms::{Items, NoMemory, Pattern, Sort, Term, Terms};
+
+/// A search asks no walker.
+#[derive(Drop)]
+struct NoWalker;
 
 fn one(alloc: Global, number: i64) -> Result<Terms, NoMemory> {
     Ok(Items::from_vec(vec![in alloc; Term::Int(number)]?))
@@ -32,12 +36,12 @@ fn wanted(alloc: Global, pattern: Pattern) -> Result<Action, NoMemory> {
 fn set(alloc: Global, slot: u32, number: i64) -> Result<Action, NoMemory> {
     let value = Term::Int(number);
     let binds = Items::from_vec(vec![in alloc; Bind { slot, value }]?);
-    Ok(Action::Own(LabelKind::Set, one(alloc, number)?, binds))
+    Ok(Action::Own(OwnAction::Set(one(alloc, number)?, binds)))
 }
 
-fn deed(alloc: Global, wish: Wish) -> Result<Action, NoMemory> {
+fn action(alloc: Global, wish: Wish) -> Result<Action, NoMemory> {
     match wish {
-        Wish::Tau => Ok(Action::Own(LabelKind::Tau, Items::new(alloc), Items::new(alloc))),
+        Wish::Tau => Ok(Action::Own(OwnAction::Tau)),
         Wish::Sends(number) => Ok(Action::Send(one(alloc, number)?)),
         Wish::Wants(number) => wanted(alloc, Pattern::Fixed(Term::Int(number))),
         Wish::Takes(slot) => wanted(alloc, Pattern::Result(slot, Sort::Int)),
@@ -45,68 +49,79 @@ fn deed(alloc: Global, wish: Wish) -> Result<Action, NoMemory> {
     }
 }
 
-fn row(alloc: Global, number: u32, wishes: &[Wish]) -> Result<Row, NoMemory> {
-    let mut ready = Items::new(alloc);
-    for (at, wish) in wishes.iter().enumerate() {
-        let deed = deed(alloc, *wish)?;
-        ready.push(Ready { at, atom: 1, deed })?;
+fn living(alloc: Global, number: u32, wishes: &[Wish]) -> Result<Living<NoWalker>, NoMemory> {
+    let mut ready = Vec::new(alloc);
+    for (offer, wish) in wishes.iter().enumerate() {
+        let action = action(alloc, *wish)?;
+        ready.push(Ready {
+            offer,
+            atom: 1,
+            action,
+        })?;
     }
-    Ok(Row {
+    Ok(Living {
         number,
         body: 0,
+        walker: NoWalker,
         ready,
+        fresh: true,
     })
 }
 
 /// Processes by their numbers, and what each is ready for.
-fn rows(alloc: Global, plan: &[(u32, &[Wish])]) -> Result<Vec<Row>, NoMemory> {
-    let mut rows = Vec::new(alloc);
+fn all(alloc: Global, plan: &[(u32, &[Wish])]) -> Result<Vec<Living<NoWalker>>, NoMemory> {
+    let mut all = Vec::new(alloc);
     for (number, wishes) in plan {
-        rows.push(row(alloc, *number, wishes)?)?;
+        all.push(living(alloc, *number, wishes)?)?;
     }
-    Ok(rows)
+    Ok(all)
 }
 
-fn ascends(rows: &[Row]) -> bool
-    ensures { result ≡ ascend 0 rows.now }
+fn ascends(all: &[Living<NoWalker>]) -> bool
+    ensures { result ≡ ascend 0 (rows_of all.now) }
 {
     let mut below = 0;
-    for row in rows {
-        if row.number <= below {
+    for living in all {
+        if living.number <= below {
             return false;
         }
-        below = row.number;
+        below = living.number;
     }
     true
 }
 
-fn asked(alloc: Global, rows: &[Row], last: u32) -> Result<Option<Candidate>, Fail> {
-    if ascends(rows) {
-        return Ok(first_in_turn(alloc, rows, last)?);
+fn asked(alloc: Global, all: &[Living<NoWalker>], last: u32) -> Result<Option<Candidate>, Fail> {
+    if ascends(all) {
+        return Ok(first_in_turn(alloc, all, last)?);
     }
     Err(Fail::new("not by their numbers"))
 }
 
-fn moved(alloc: Global, rows: &[Row], no_ticks: bool, down: bool) -> Result<Option<Candidate>, Fail> {
-    if ascends(rows) {
-        return Ok(first_move(alloc, rows, 0, no_ticks, down)?);
+fn moved(
+    alloc: Global,
+    all: &[Living<NoWalker>],
+    no_ticks: bool,
+    down: bool,
+) -> Result<Option<Candidate>, Fail> {
+    if ascends(all) {
+        return Ok(first_candidate(alloc, all, 0, no_ticks, down)?);
     }
     Err(Fail::new("not by their numbers"))
 }
 
-/// The places of a process and its deed, where it goes on by itself.
+/// The indices of a process and its action, where it goes on by itself.
 fn own(found: &Option<Candidate>) -> Option<(usize, usize)> {
     match found {
-        Some(Candidate::Own(at, place)) => Some((*at, *place)),
+        Some(Candidate::Own(at, index)) => Some((*at, *index)),
         _ => None,
     }
 }
 
-/// The places of a sender and its deed, and of the receiver and its deed.
+/// The indices of a sender and its action, and of the receiver and its action.
 fn handshake(found: &Option<Candidate>) -> Option<(usize, usize, usize, usize)> {
     match found {
-        Some(Candidate::Handshake(at, place, partner)) => {
-            Some((*at, *place, partner.living, partner.received.action))
+        Some(Candidate::Handshake(at, index, partner)) => {
+            Some((*at, *index, partner.living, partner.received.action))
         }
         _ => None,
     }
@@ -132,14 +147,14 @@ static TAUS: [(u32, &[Wish]); 4] = [
     (6, &[Wish::Tau]),
 ];
 
-/// The number of the last starter, and the place of the process that goes on then.
+/// The number of the last starter, and the index of the process that goes on then.
 static TURNS: [(u32, usize); 7] = [(0, 0), (1, 2), (2, 2), (3, 2), (5, 3), (6, 0), (9, 0)];
 
 #[test]
 fn those_after_the_last_starter_are_asked_first(rt: HostRuntime) -> Result<(), Fail> {
-    let rows = rows(rt.alloc(), &TAUS)?;
+    let all = all(rt.alloc(), &TAUS)?;
     for (last, at) in &TURNS {
-        let found = asked(rt.alloc(), &rows, *last)?;
+        let found = asked(rt.alloc(), &all, *last)?;
         assert_eq!(rt; own(&found), Some((*at, 0)));
     }
     Ok(())
@@ -149,24 +164,29 @@ static ALONE: [(u32, &[Wish]); 1] = [(1, &[Wish::Sends(5), Wish::Wants(5)])];
 
 #[test]
 fn a_process_shakes_no_hands_with_itself(rt: HostRuntime) -> Result<(), Fail> {
-    let rows = rows(rt.alloc(), &ALONE)?;
-    assert!(rt; asked(rt.alloc(), &rows, 0)?.is_none());
+    let all = all(rt.alloc(), &ALONE)?;
+    assert!(rt; asked(rt.alloc(), &all, 0)?.is_none());
     Ok(())
 }
 
 #[test]
 fn a_bus_halts_where_nothing_happens_and_no_ticks_come(rt: HostRuntime) -> Result<(), Fail> {
-    let rows = rows(rt.alloc(), &ALONE)?;
-    assert!(rt; moved(rt.alloc(), &rows, false, false)?.is_none());
-    assert!(rt; matches!(moved(rt.alloc(), &rows, true, false)?, Some(Candidate::Halt)));
-    assert!(rt; moved(rt.alloc(), &rows, true, true)?.is_none());
+    let all = all(rt.alloc(), &ALONE)?;
+    assert!(rt; moved(rt.alloc(), &all, false, false)?.is_none());
+    assert!(rt; matches!(moved(rt.alloc(), &all, true, false)?, Some(Candidate::Halt)));
+    assert!(rt; moved(rt.alloc(), &all, true, true)?.is_none());
     Ok(())
 }
 
 #[test]
 fn a_bus_without_processes_finishes_once(rt: HostRuntime) -> Result<(), Fail> {
     let none = Vec::new(rt.alloc());
-    assert!(rt; matches!(moved(rt.alloc(), &none, false, false)?, Some(Candidate::Finish)));
+    assert!(rt;
+        matches!(
+            moved(rt.alloc(), &none, false, false)?,
+            Some(Candidate::Finish)
+        )
+    );
     assert!(rt; moved(rt.alloc(), &none, false, true)?.is_none());
     Ok(())
 }
@@ -179,9 +199,9 @@ static RIVALS: [(u32, &[Wish]); 3] = [
 
 #[test]
 fn the_first_receiver_by_number_is_taken(rt: HostRuntime) -> Result<(), Fail> {
-    let rows = rows(rt.alloc(), &RIVALS)?;
+    let all = all(rt.alloc(), &RIVALS)?;
     for last in 0..4 {
-        let found = asked(rt.alloc(), &rows, last)?;
+        let found = asked(rt.alloc(), &all, last)?;
         assert_eq!(rt; handshake(&found), Some((1, 0, 0, 0)));
     }
     Ok(())
@@ -198,9 +218,9 @@ static LONELY: [(u32, &[Wish]); 6] = [
 
 #[test]
 fn a_sender_without_a_partner_is_passed(rt: HostRuntime) -> Result<(), Fail> {
-    let rows = rows(rt.alloc(), &LONELY)?;
+    let all = all(rt.alloc(), &LONELY)?;
     for last in 0..7 {
-        let found = asked(rt.alloc(), &rows, last)?;
+        let found = asked(rt.alloc(), &all, last)?;
         assert_eq!(rt; handshake(&found), Some((3, 1, 5, 0)));
     }
     Ok(())
@@ -212,9 +232,9 @@ static CHOICE: [(u32, &[Wish]); 2] = [
 ];
 
 #[test]
-fn the_first_deed_that_matches_receives(rt: HostRuntime) -> Result<(), Fail> {
-    let rows = rows(rt.alloc(), &CHOICE)?;
-    let found = asked(rt.alloc(), &rows, 0)?;
+fn the_first_action_that_matches_receives(rt: HostRuntime) -> Result<(), Fail> {
+    let all = all(rt.alloc(), &CHOICE)?;
+    let found = asked(rt.alloc(), &all, 0)?;
     assert_eq!(rt; handshake(&found), Some((0, 0, 1, 1)));
     let binds = numbers(rt.alloc(), &found)?;
     assert_eq!(rt; binds.as_slice(), [(3, 5)].as_slice());
@@ -225,7 +245,7 @@ static SETTING: [(u32, &[Wish]); 1] = [(3, &[Wish::Takes(1), Wish::Sets(2, 4)])]
 
 #[test]
 fn what_is_set_happens_where_nobody_sends(rt: HostRuntime) -> Result<(), Fail> {
-    let rows = rows(rt.alloc(), &SETTING)?;
-    assert_eq!(rt; own(&asked(rt.alloc(), &rows, 0)?), Some((0, 1)));
+    let all = all(rt.alloc(), &SETTING)?;
+    assert_eq!(rt; own(&asked(rt.alloc(), &all, 0)?), Some((0, 1)));
     Ok(())
 }

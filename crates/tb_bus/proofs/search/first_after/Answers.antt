@@ -1,4 +1,4 @@
-use Rattle.std.proofs.Common.{◌∙◌, ap, sym, drop, take}
+use Rattle.std.proofs.Common.{◌∙◌, ap, sym}
 use Rattle.std.proofs.lemmas.List.{take_rest, drop-map, take-map}
 use Rattle.tb_bus.specs.Candidates.{first, candidates_from, row_of, rows_of}
 use Rattle.tb_bus.proofs.TurnLemmas.{turn-found, turn-again}

@@ -1,7 +1,7 @@
 use Rattle.std.proofs.Common.{◌≡◌, drop}
-use Rattle.tb_bus.specs.Candidates.{ascend}
+use Rattle.tb_bus.specs.Candidates.{ascend, rows_of}
 use Rattle.tb_bus.proofs.search_tests.ascends.Given as goal
 
 -- the processes that are left decide
-abbrev pub invariant-loop-row : goal.invariant-loop-row
-invariant-loop-row l = ascend l.below (drop l.row-index l.rows) ≡ ascend 0 l.rows
+abbrev pub invariant-loop-living : goal.invariant-loop-living
+invariant-loop-living l = ascend l.below (rows_of (drop l.living-index l.all)) ≡ ascend 0 (rows_of l.all)
