@@ -1,0 +1,85 @@
+-- What the fields of a core say of its bus, and what each call logs.
+use Rattle.std.proofs.Common.{◌≡◌, ◌≤◌, ◌+◌, ℕ, List, [], ◌∷◌, ◌++◌, length, refl, ap, sym, ◌∙◌, subst, arith, Bool, true, false, if◌then◌else◌, option_to_list, length-append}
+use Rattle.tb_algebra.specs.WalkerViews.{View}
+use Rattle.tb_log.specs.declared.entry.Entry.{Entry}
+use Rattle.tb_log.specs.declared.entry.Input.{Input}
+use Rattle.tb_log.specs.declared.entry.Input.TheVariants.{NoTicks}
+use Rattle.tb_log.specs.declared.entry.Reply.TheVariants.{Dropped}
+use Rattle.tb_log.specs.declared.entry.Why.TheVariants.{Down}
+use Rattle.tb_bus.specs.declared.origin.Origin.{Origin}
+use Rattle.tb_bus.specs.Buses.{Bus, start}
+use Rattle.tb_bus.specs.Steps.{Move, Own, Handshake, Finish, Halt, apply, steps}
+use Rattle.tb_bus.specs.Traces.{IsTrace, Answer, fed, replay, took}
+use Rattle.tb_bus.proofs.TraceLemmas.{replay-append, trace-append}
+use Rattle.tb_core.specs.declared.bus.LiveBus.{LiveBus}
+use Rattle.tb_core.specs.LiveBuses.{bus_of, IsSound, StandsAs, Represents}
+use Rattle.tb_core.specs.Cores.{CoreState, MakeStep, bus_now, ends_quiet, entries_of, step_entry, Logs}
+
+-- what contracts see of a core with these fields
+abbrev pub seen : Origin → List Entry → Bool → CoreState
+seen origin log stopped = record { origin = origin; log = log; stopped = stopped }
+
+-- its bus is that of its fields
+pub bus-seen : (bus : Bus) (origin : Origin) (log : List Entry) (stopped : Bool) (core : CoreState) → bus ≡ replay (start origin) log → seen origin log stopped ≡ core → bus_now core ≡ bus
+unfolding bus_now
+bus-seen bus origin log stopped core is e = ap (λ (c : CoreState). replay (start c.origin) c.log) (sym e) ∙ sym is
+
+-- what a step logs goes by its bus
+pub entries-on : (core : CoreState) (bus : Bus) → bus_now core ≡ bus → entries_of core MakeStep ≡ option_to_list (step_entry bus.down (ends_quiet core.log) (steps bus))
+entries-on core bus e = ap (λ (b : Bus). option_to_list (step_entry b.down (ends_quiet core.log) (steps b))) e
+
+-- A core goes on by these entries.
+pub logs-on : (bus : Bus) (origin other : Origin) (log more entries : List Entry) (stopped : Bool) (core : CoreState) → bus ≡ replay (start origin) log → seen origin log stopped ≡ core →
+    more ≡ log ++ entries → other ≡ origin → IsTrace bus entries → Logs core (seen other more stopped) entries
+logs-on bus origin other log more entries stopped core is view grown same trace = record {
+  origin = same ∙ ap (λ (c : CoreState). c.origin) view;
+  log = grown ∙ ap (λ (c : CoreState). c.log ++ entries) view;
+  stopped = ap (λ (c : CoreState). c.stopped) view;
+  trace = subst (λ (b : Bus). IsTrace b entries) (sym (bus-seen bus origin log stopped core is view)) trace;
+}
+
+-- a core goes on: its fields stand for the bus to which the longer log leads
+pub represents-on : {W P T : Type 0} (view : View P W T) (old new : LiveBus W P T) (log more entries : List Entry) →
+    Represents view old log → IsSound view new → new.origin ≡ old.origin → more ≡ log ++ entries → bus_of view new ≡ replay (bus_of view old) entries → IsTrace (bus_of view old) entries →
+    (bus_of view new).now ≤ (bus_of view old).now + length entries → Represents view new more
+represents-on view old new log more entries stands sound same grown leads trace much =
+    let long : length (log ++ entries) ≡ length log + length entries = length-append log entries in
+    let ticks = stands.ticks in
+    subst (λ xs. Represents view new xs) (sym grown) (record {
+      sound = sound;
+      bus_is = leads ∙ ap (λ b. replay b entries) stands.bus_is ∙ sym (replay-append (start old.origin) log entries)
+          ∙ ap (λ o. replay (start o) (log ++ entries)) (sym same);
+      trace = subst (λ (o : Origin). IsTrace (start o) (log ++ entries)) (sym same)
+          (trace-append (start old.origin) log entries stands.trace (subst (λ (b : Bus). IsTrace b entries) stands.bus_is trace));
+      ticks = omega arith;
+    })
+
+-- a core whose fields stand for the same bus
+pub represents-same : {W P T : Type 0} (view : View P W T) (old new : LiveBus W P T) (log : List Entry) → Represents view old log → StandsAs view old new → Represents view new log
+represents-same view old new log stands same =
+    let ticks = stands.ticks in
+    let now : new.ticks ≡ old.ticks = ap (λ (b : Bus). b.now) same.bus in
+    record {
+      sound = same.sound;
+      bus_is = same.bus ∙ stands.bus_is ∙ ap (λ o. replay (start o) log) (sym same.origin);
+      trace = subst (λ (o : Origin). IsTrace (start o) log) (sym same.origin) stands.trace;
+      ticks = omega arith;
+    }
+
+-- no move and no input that comes yet is a tick
+pub apply-now : (bus : Bus) (move : Move) → (apply bus move).now ≡ bus.now
+apply-now bus (Own proc offered effect) = refl
+apply-now bus (Handshake sender sent receiver received terms binds) = refl
+apply-now bus Finish = refl
+apply-now bus Halt = refl
+
+fed-by : (bus : Bus) (input : Input) (down : Bool) → (let a : Answer = if down then record { reply = Dropped Down; bus = bus } else took bus input in a.bus.now) ≡ bus.now
+fed-by bus input true = refl
+fed-by bus NoTicks false = refl
+
+pub fed-now : (bus : Bus) (input : Input) → (fed bus input).bus.now ≡ bus.now
+fed-now bus input = fed-by bus input bus.down
+
+-- so there are no more ticks than before
+pub still-within : (bus : Bus) (new : Bus) (entries : List Entry) → new.now ≡ bus.now → new.now ≤ bus.now + length entries
+still-within bus new entries e = omega (arith, e)

@@ -1,0 +1,33 @@
+use Rattle.std.proofs.Common.{◌∙◌, ◌∷◌, [], ap, sym}
+use Rattle.tb_log.specs.declared.entry.Entry.TheVariants.{Fed}
+use Rattle.tb_bus.specs.Buses.{Bus}
+use Rattle.tb_bus.specs.Traces.{fed}
+use Rattle.tb_bus.proofs.TraceLemmas.{legal-fed}
+use Rattle.tb_core.specs.LiveBuses.{bus_of}
+use Rattle.tb_core.proofs.CoreLemmas.{bus-seen, fed-now, logs-on, represents-on, still-within}
+use Rattle.tb_core.proofs.machine.Core.hand_in.Goals as goal
+
+pub invariant_of-self-2 : goal.invariant_of-self-2
+invariant_of-self-2 g c =
+    let old = c.self.inside.bus in
+    let bus = bus_of g.W.Walker.view old in
+    let entries = Fed c.args.input c.in_ok-reply.reply ∷ [] in
+    represents-on g.W.Walker.view old c.hand.new.bus c.self.inside.log.items c.hand.new.log.items entries c.self.invariant c.hand.ensures.sound c.hand.ensures.origin
+    c.in_ok-reply.ensures.log c.in_ok-reply.ensures.bus (legal-fed bus c.args.input c.in_ok-reply.reply c.requires c.in_ok-reply.ensures.reply)
+    (still-within bus (bus_of g.W.Walker.view c.hand.new.bus) entries (ap (λ (b : Bus). b.now) c.in_ok-reply.ensures.bus ∙ fed-now bus c.args.input))
+
+pub returns-clause-reply : goal.returns-clause-reply
+returns-clause-reply g c =
+    let core = c.self.inside in
+    c.in_ok-reply.ensures.reply
+    ∙ ap (λ (b : Bus). (fed b c.args.input).reply) (sym (bus-seen (bus_of g.W.Walker.view core.bus) core.bus.origin core.log.items core.stopped c.args.self.now c.self.invariant.bus_is c.self.view_is))
+
+pub returns-clause-logs : goal.returns-clause-logs
+returns-clause-logs g c =
+    let core = c.self.inside in
+    let bus = bus_of g.W.Walker.view core.bus in
+    let same = bus-seen bus core.bus.origin core.log.items core.stopped c.args.self.now c.self.invariant.bus_is c.self.view_is in
+    let reply = c.in_ok-reply.ensures.reply ∙ ap (λ (b : Bus). (fed b c.args.input).reply) (sym same) in
+    rw (← reply)
+    (logs-on bus core.bus.origin (c.hand.new.bus).origin core.log.items c.hand.new.log.items (Fed c.args.input c.in_ok-reply.reply ∷ []) core.stopped c.args.self.now c.self.invariant.bus_is c.self.view_is
+    c.in_ok-reply.ensures.log c.hand.ensures.origin (legal-fed bus c.args.input c.in_ok-reply.reply c.requires c.in_ok-reply.ensures.reply))
