@@ -148,14 +148,6 @@ module _ (plan : Plan) (rewriter : Rewriter) (k : ℕ) (fired : Fired) (left : L
         parts = subst (λ (f : Fired). IsTrue (is_fired_on plan.nodes rewriter.ticks f)) is parts;
       }
 
--- going on with what was taken
-pub advanced : (plan : Plan) (old new : Rewriter) (left : Left) (binds : List Bind) → new.term ≡ left.term → new.store ≡ with_binds (or_own left.own old.store) binds → new.ticks ≡ old.ticks → (offered : Offered) → IsLeft plan old left offered → walking_of plan new ≡ fired binds old.ticks offered
-advanced plan old new left binds term store ticks offered is =
-    ap (λ (t : ℕ). record { term = option_map (term_of plan.nodes t) new.term; store = new.store; ticks = t }) ticks
-    ∙ ap (λ (l : Option Running). record { term = option_map (term_of plan.nodes old.ticks) l; store = new.store; ticks = old.ticks }) term
-    ∙ ap (λ (l : Option Process). record { term = l; store = new.store; ticks = old.ticks }) is.term
-    ∙ ap (λ (s : List Slot). record { term = offered.residual; store = s; ticks = old.ticks }) (store ∙ ap (λ (s : List Slot). with_binds s binds) is.store)
-
 pub hits_some : (plan : Plan) (rewriter : Rewriter) (term : Running) (k : ℕ) → rewriter.term ≡ Some term → hit_at k (offers_of (walking_of plan rewriter)) ≡ hit (term_of plan.nodes rewriter.ticks term) rewriter.store k
 unfolding offers_of hit
 hits_some plan rewriter term k e = rw e

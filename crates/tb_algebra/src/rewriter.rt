@@ -174,12 +174,13 @@ impl Walker for Rewriter {
     }
 
     fn advance(&mut self, _plan: &Plan, taken: Left, binds: Binds) {
-        match taken.own {
+        let Left { term, own } = taken;
+        match own {
             Some(store) => self.store = store,
             None => {}
         }
         set_binds(&mut self.store, binds);
-        self.term = taken.term;
+        self.term = term;
         self.found = None;
     }
 
