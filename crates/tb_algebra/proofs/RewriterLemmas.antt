@@ -3,10 +3,8 @@ use Rattle.std.proofs.Common.{◌≡◌, ℕ, zero, suc, ◌<◌, Bool, IsTrue, 
 use Rattle.std.specs.Option.{ForSome}
 use Rattle.std.proofs.lemmas.Option.{slice_get-map}
 use Rattle.tb_func.specs.declared.slot.Slot.{Slot}
-use Rattle.tb_match.specs.declared.bind.Bind.{Bind}
 use Rattle.tb_body.specs.declared.atom.Atom.{Atom}
 use Rattle.tb_body.specs.declared.tree.Tree.{Tree}
-use Rattle.tb_algebra.specs.Binds.{with_binds}
 use Rattle.tb_algebra.specs.Founds.{offer_of}
 use Rattle.tb_algebra.specs.Hits.{Past, On, hit, hit_at, hit_of, is_fired_on}
 use Rattle.tb_algebra.specs.Offers.{Offered}
@@ -15,7 +13,7 @@ use Rattle.tb_algebra.specs.Plans.{tree_at}
 use Rattle.tb_algebra.specs.Rewritings.{walking_of, seen_of, Kept, kept, kept_found, IsOnPlan, IsLeft}
 use Rattle.tb_algebra.specs.Runnings.{term_of}
 use Rattle.tb_algebra.specs.Sights.{Sight, sighted, sights, shown, or_own}
-use Rattle.tb_algebra.specs.Walks.{Walking, offers_of, seen, fired}
+use Rattle.tb_algebra.specs.Walks.{Walking, offers_of, seen}
 use Rattle.tb_algebra.specs.declared.fired.Fired.{Fired}
 use Rattle.tb_algebra.specs.declared.fired.Fired.TheVariants.{Taken}
 use Rattle.tb_algebra.specs.declared.fired.Left.{Left}
