@@ -3,10 +3,8 @@ use Rattle.std.proofs.Common.{◌≡◌, ℕ, zero, suc, ◌<◌, Bool, IsTrue, 
 use Rattle.std.specs.Option.{ForSome}
 use Rattle.std.proofs.lemmas.Option.{slice_get-map}
 use Rattle.tb_func.specs.declared.slot.Slot.{Slot}
-use Rattle.tb_match.specs.declared.bind.Bind.{Bind}
 use Rattle.tb_body.specs.declared.atom.Atom.{Atom}
 use Rattle.tb_body.specs.declared.tree.Tree.{Tree}
-use Rattle.tb_algebra.specs.Binds.{with_binds}
 use Rattle.tb_algebra.specs.Founds.{offer_of}
 use Rattle.tb_algebra.specs.Hits.{Past, On, hit, hit_at, hit_of, is_fired_on}
 use Rattle.tb_algebra.specs.Offers.{Offered}
@@ -15,7 +13,7 @@ use Rattle.tb_algebra.specs.Plans.{tree_at}
 use Rattle.tb_algebra.specs.Rewritings.{walking_of, seen_of, Kept, kept, kept_found, IsOnPlan, IsLeft}
 use Rattle.tb_algebra.specs.Runnings.{term_of}
 use Rattle.tb_algebra.specs.Sights.{Sight, sighted, sights, shown, or_own}
-use Rattle.tb_algebra.specs.Walks.{Walking, offers_of, seen, fired}
+use Rattle.tb_algebra.specs.Walks.{Walking, offers_of, seen}
 use Rattle.tb_algebra.specs.declared.fired.Fired.{Fired}
 use Rattle.tb_algebra.specs.declared.fired.Fired.TheVariants.{Taken}
 use Rattle.tb_algebra.specs.declared.fired.Left.{Left}
@@ -147,14 +145,6 @@ module _ (plan : Plan) (rewriter : Rewriter) (k : ℕ) (fired : Fired) (left : L
         store = cc;
         parts = subst (λ (f : Fired). IsTrue (is_fired_on plan.nodes rewriter.ticks f)) is parts;
       }
-
--- going on with what was taken
-pub advanced : (plan : Plan) (old new : Rewriter) (left : Left) (binds : List Bind) → new.term ≡ left.term → new.store ≡ with_binds (or_own left.own old.store) binds → new.ticks ≡ old.ticks → (offered : Offered) → IsLeft plan old left offered → walking_of plan new ≡ fired binds old.ticks offered
-advanced plan old new left binds term store ticks offered is =
-    ap (λ (t : ℕ). record { term = option_map (term_of plan.nodes t) new.term; store = new.store; ticks = t }) ticks
-    ∙ ap (λ (l : Option Running). record { term = option_map (term_of plan.nodes old.ticks) l; store = new.store; ticks = old.ticks }) term
-    ∙ ap (λ (l : Option Process). record { term = l; store = new.store; ticks = old.ticks }) is.term
-    ∙ ap (λ (s : List Slot). record { term = offered.residual; store = s; ticks = old.ticks }) (store ∙ ap (λ (s : List Slot). with_binds s binds) is.store)
 
 pub hits_some : (plan : Plan) (rewriter : Rewriter) (term : Running) (k : ℕ) → rewriter.term ≡ Some term → hit_at k (offers_of (walking_of plan rewriter)) ≡ hit (term_of plan.nodes rewriter.ticks term) rewriter.store k
 unfolding offers_of hit

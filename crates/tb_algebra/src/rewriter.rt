@@ -1,8 +1,7 @@
-ghost use Rattle.std.specs.Prelude.{◌≡◌, ◌++◌, [], IfOk, IsTrue, None, map, slice_get, option_and_then};
+ghost use Rattle.std.specs.Prelude.{◌≡◌, IfOk, IsTrue, map, slice_get, option_and_then};
 ghost use Rattle.std.specs.Option.{option_copied};
-ghost use Rattle.tb_algebra.specs.Binds.{takes_binds, with_binds};
 ghost use Rattle.tb_algebra.specs.Hits.{hit_at, hit_of, is_fired_on};
-ghost use Rattle.tb_algebra.specs.Sights.{or_own, shown, sighted};
+ghost use Rattle.tb_algebra.specs.Sights.{shown, sighted};
 ghost use Rattle.tb_algebra.specs.Walks.{offers_of};
 ghost use Rattle.tb_algebra.specs.Rewritings.{walking_of, IsOnPlan, rewriter_view};
 
@@ -174,12 +173,13 @@ impl Walker for Rewriter {
     }
 
     fn advance(&mut self, _plan: &Plan, taken: Left, binds: Binds) {
-        match taken.own {
+        let Left { term, own } = taken;
+        match own {
             Some(store) => self.store = store,
             None => {}
         }
         set_binds(&mut self.store, binds);
-        self.term = taken.term;
+        self.term = term;
         self.found = None;
     }
 

@@ -222,6 +222,21 @@ fn taken(alloc: Global, plan: &Plan, walker: Rewriter, k: usize) -> Result<Rewri
     Ok(walker)
 }
 
+/// The same in two calls: what is left is taken, and gone on with then.
+fn advanced(alloc: Global, plan: &Plan, walker: Rewriter, k: usize) -> Result<Rewriter, NoMemory>
+    requires { IsOnPlan plan.now walker }
+    ensures { IfOk result (λ after. IsOnPlan plan.now after) }
+{
+    let mut walker = walker;
+    walker.look(alloc, plan, 3)?;
+    if k >= walker.offer_count() {
+        return Err(NoMemory);
+    }
+    let taken = walker.take(alloc, plan, k)?;
+    walker.advance(plan, taken, Items::new(alloc));
+    Ok(walker)
+}
+
 /// The walker after it has taken the offers at these places, one after another.
 fn walked(alloc: Global, plan: &Plan, places: &[usize]) -> Result<Rewriter, NoMemory>
     ensures { IfOk result (λ walker. IsOnPlan plan.now walker) }
@@ -324,6 +339,16 @@ fn tests_and_settings_are_evaluated_at_the_step(rt: HostRuntime) -> Result<(), F
     for row in &TESTED {
         assert_eq!(rt; offered(alloc, row)?.as_slice(), row.2);
     }
+    Ok(())
+}
+
+#[test]
+fn an_offer_is_taken_and_gone_on_with(rt: HostRuntime) -> Result<(), Fail> {
+    let alloc = rt.alloc();
+    let plan = Rewriter::plan(alloc, &body(alloc, &[TAU, TAU, STAR, TAU, PAR])?)?;
+    let walker = advanced(alloc, &plan, started(alloc, &plan)?, 2)?;
+    let (atoms, _ready) = looked(alloc, &plan, walker)?;
+    assert_eq!(rt; atoms.as_slice(), [1, 2].as_slice());
     Ok(())
 }
 

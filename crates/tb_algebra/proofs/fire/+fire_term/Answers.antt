@@ -1,8 +1,7 @@
-use Rattle.std.proofs.Common.{◌≡◌, ℕ, Some, ap, sym, ◌∙◌, option_map}
+use Rattle.std.proofs.Common.{◌≡◌, ℕ, ap, sym, ◌∙◌, option_map}
 use Rattle.std.proofs.lemmas.Result.{IfOk-weaker}
 use Rattle.tb_algebra.specs.Hits.{Hit, Past, On, hit, hit_of, hit_with, or_past}
 use Rattle.tb_algebra.specs.Plans.{process_at}
-use Rattle.tb_algebra.specs.Processes.{Process}
 use Rattle.tb_algebra.specs.Runnings.{term_of}
 use Rattle.tb_algebra.specs.Sights.{or_own}
 use Rattle.tb_algebra.specs.declared.running.Running.{Running}
