@@ -5,11 +5,10 @@ use Rattle.tb_lex.specs.declared.kind.TokenKind.{TokenKind}
 use Rattle.tb_lex.specs.declared.kind.TokenKind.TheVariants.{Int, Str, Lower, Upper, Symbol as Sign}
 use Rattle.tb_lex.specs.declared.symbol.Symbol.TheVariants.{LeftBracket, RightBracket, Question, Less, Greater}
 use Rattle.tb_syntax.specs.declared.ast.Ast.{Ast}
-use Rattle.tb_syntax.specs.declared.ast.AstKind.{AstKind}
 use Rattle.tb_syntax.specs.declared.ast.AstKind.TheVariants as ast
 use Rattle.tb_syntax.specs.Words.{is_free}
-use Rattle.tb_parse.specs.Parsing.{Parser, Outcome, Found, Stops, after, mapped, begins, tail, is_sign, expect, parted, in_parens, word_sort, hole, list, kind, expr, call_of, call}
-use Rattle.tb_parse.proofs.Alike.{Alike, Same, fewer, moved, if_alike, branch_alike, mapped_alike, after_alike, finding, branch, expected, roomless, by_token, next_alike, mapping, behind}
+use Rattle.tb_parse.specs.Parsing.{Parser, Found, begins, tail, is_sign, word_sort, hole, list, kind, expr, call_of, call}
+use Rattle.tb_parse.proofs.Alike.{Alike, Same, if_alike, mapped_alike, after_alike, finding, branch, expected, roomless, by_token, next_alike, mapping, behind}
 use Rattle.tb_parse.proofs.AlikeParts.{stops_there, found_there, upper_alike, parted_alike, in_parens_alike}
 
 hole_by : (name : List ℕ) (o : Option Sort) → word_sort name ≡ o → (at : ℕ) (us vs ws : List TokenKind) → Alike at (at + 1 + length us) vs ws (hole at (Lower name ∷ (us ++ vs))) (hole at (Lower name ∷ (us ++ ws)))
@@ -62,8 +61,10 @@ pub expr_alike : (room more count : ℕ) → count ≤ room → room ≤ more �
 unfolding expr
 expr_alike zero more count h i = roomless (expr more) count h
 expr_alike (suc room) zero count h i = absurd (omega arith)
-expr_alike (suc room) (suc more) count h i = record { alike = λ at us vs ws j.
-    mapped_alike _ ((kind_alike room more (count - 1) (omega arith) (omega arith) (expr_alike room more (count - 1) (omega arith) (omega arith))).alike at us vs ws (omega arith)) }
+expr_alike (suc room) (suc more) count h i = record {
+  alike = λ at us vs ws j.
+      mapped_alike _ ((kind_alike room more (count - 1) (omega arith) (omega arith) (expr_alike room more (count - 1) (omega arith) (omega arith))).alike at us vs ws (omega arith));
+}
 
 pub call_of_alike : (room more count : ℕ) → count ≤ room → room ≤ more → (name : List ℕ) (place : ℕ) → Same count (call_of room name place) (call_of more name place)
 unfolding call_of
@@ -71,5 +72,7 @@ call_of_alike room more count h i name place = mapping count _ (in_parens_alike 
 
 pub call_alike : (room more count : ℕ) → count ≤ room → room ≤ more → Same count (call room) (call more)
 unfolding call
-call_alike room more count h i = record { alike = λ at us vs ws j.
-    after_alike _ _ count (omega arith) (λ name. call_of_alike room more count h i name at) ((upper_alike count).alike at us vs ws j) }
+call_alike room more count h i = record {
+  alike = λ at us vs ws j.
+      after_alike _ _ count (omega arith) (λ name. call_of_alike room more count h i name at) ((upper_alike count).alike at us vs ws j);
+}

@@ -1,5 +1,5 @@
 -- Names, lists and sorts are read alike where tokens begin alike.
-use Rattle.std.proofs.Common.{◌≡◌, ℕ, zero, suc, ◌+◌, ◌-◌, ◌≤◌, Bool, true, false, List, [], ◌∷◌, ◌++◌, length, Some, None, Option, refl, arith, codes, if◌then◌else◌}
+use Rattle.std.proofs.Common.{ℕ, zero, suc, ◌+◌, ◌-◌, ◌≤◌, Bool, true, false, List, [], ◌∷◌, ◌++◌, length, refl, arith, codes, if◌then◌else◌}
 use Rattle.std.specs.Str.{bytes_eq}
 use Rattle.tb_terms.specs.declared.sort.Sort.{Sort}
 use Rattle.tb_terms.specs.declared.sort.Sort.TheVariants as sorts
@@ -7,8 +7,8 @@ use Rattle.tb_lex.specs.declared.kind.TokenKind.{TokenKind}
 use Rattle.tb_lex.specs.declared.kind.TokenKind.TheVariants.{Int, Str, Lower, Upper, Symbol as Sign}
 use Rattle.tb_lex.specs.declared.symbol.Symbol.TheVariants.{LeftParen, RightParen, Comma}
 use Rattle.tb_syntax.specs.Words.{is_free}
-use Rattle.tb_parse.specs.Parsing.{Parser, Outcome, Found, Stops, after, mapped, begins, tail, is_sign, expect, upper, lower, text, free_name, parted, in_parens, word_sort, named_sort, is_list, sort}
-use Rattle.tb_parse.proofs.Alike.{Alike, Same, fewer, moved, if_alike, branch_alike, after_alike, stopping, finding, branch, skipped, expected, roomless, by_token, next_alike, mapping, behind}
+use Rattle.tb_parse.specs.Parsing.{Parser, Found, Stops, after, mapped, begins, tail, is_sign, expect, upper, lower, text, free_name, parted, in_parens, word_sort, named_sort, sort}
+use Rattle.tb_parse.proofs.Alike.{Alike, Same, fewer, if_alike, branch_alike, after_alike, finding, branch, expected, roomless, by_token, mapping, behind}
 
 -- One token.
 
@@ -94,7 +94,11 @@ pub sort_alike : (room more count : ℕ) → count ≤ room → room ≤ more �
 unfolding sort inside
 sort_alike zero more count h i = roomless (sort more) count h
 sort_alike (suc room) zero count h i = absurd (omega arith)
-sort_alike (suc room) (suc more) count h i = record { alike = λ at us vs ws j.
-    after_alike _ _ count (omega arith) (λ name. record { alike = λ place us vs ws j.
-    sort_behind (bytes_eq name (codes "list")) (named_sort name (word_sort name), at) (count - 1) count place us vs ws j (omega arith) (sort_alike room more (count - 1) (omega arith) (omega arith)) })
-    ((free_name_alike count).alike at us vs ws j) }
+sort_alike (suc room) (suc more) count h i = record {
+  alike = λ at us vs ws j.
+      after_alike _ _ count (omega arith) (λ name. record {
+        alike = λ place us vs ws j.
+            sort_behind (bytes_eq name (codes "list")) (named_sort name (word_sort name), at) (count - 1) count place us vs ws j (omega arith) (sort_alike room more (count - 1) (omega arith) (omega arith));
+      })
+      ((free_name_alike count).alike at us vs ws j);
+}

@@ -1,5 +1,5 @@
 -- Atoms and processes are read alike where tokens begin alike.
-use Rattle.std.proofs.Common.{◌≡◌, ℕ, zero, suc, ◌+◌, ◌-◌, ◌≤◌, List, [], ◌∷◌, ◌++◌, length, Some, None, refl, arith, codes}
+use Rattle.std.proofs.Common.{ℕ, zero, suc, ◌+◌, ◌-◌, ◌≤◌, List, [], ◌∷◌, ◌++◌, length, Some, None, refl, arith, codes}
 use Rattle.std.specs.Str.{bytes_eq}
 use Rattle.tb_lex.specs.declared.kind.TokenKind.{TokenKind}
 use Rattle.tb_lex.specs.declared.kind.TokenKind.TheVariants.{Int, Str, Lower, Upper, Symbol as Sign}
@@ -13,7 +13,7 @@ use Rattle.tb_syntax.specs.declared.proc.Proc.{Proc}
 use Rattle.tb_syntax.specs.declared.proc.Proc.TheVariants as tree
 use Rattle.tb_syntax.specs.declared.proc.TimeDef.{TimeDef}
 use Rattle.tb_syntax.specs.Words.{is_atom_word, is_time_word}
-use Rattle.tb_parse.specs.Parsing.{Parser, Outcome, Found, Stops, after, mapped, begins, tail, is_sign, is_word, expect, skip, upper, parted, in_parens, sort, expr, call_of, call, create, time, is_time, times, timed, var, upper_proc, block, sides, test, lower_proc, prim_of, rightward, leftward, turns, sequence, choice, merge, prim, proc}
+use Rattle.tb_parse.specs.Parsing.{Parser, Found, after, mapped, is_sign, is_word, expect, skip, expr, create, time, times, timed, var, upper_proc, block, sides, test, lower_proc, prim_of, rightward, leftward, turns, sequence, choice, merge, prim, proc}
 use Rattle.tb_parse.proofs.Alike.{Alike, Same, fewer, moved, if_alike, after_alike, finding, branch, skipped, expected, roomless, by_token, next_alike, mapping, behind}
 use Rattle.tb_parse.proofs.AlikeParts.{stops_there, upper_alike, parted_alike, in_parens_alike, sort_alike}
 use Rattle.tb_parse.proofs.AlikeExprs.{expr_alike, call_of_alike, call_alike}
@@ -38,8 +38,10 @@ module _ (room more count : ℕ) (h : count ≤ room) (i : room ≤ more) where
 
   pub var_alike : Same count (var room) (var more)
   unfolding var
-  var_alike = record { alike = λ at us vs ws j.
-      after_alike _ _ count (omega arith) (λ name. skipped (is_sign Colon) _ _ count (mapping count _ (sort_alike room more count h i))) ((upper_alike count).alike at us vs ws j) }
+  var_alike = record {
+    alike = λ at us vs ws j.
+        after_alike _ _ count (omega arith) (λ name. skipped (is_sign Colon) _ _ count (mapping count _ (sort_alike room more count h i))) ((upper_alike count).alike at us vs ws j);
+  }
 
 none_there : {A : Type 0} (x : A) (k : TokenKind) (at : ℕ) (us vs ws : List TokenKind) → Alike at (at + 1 + length us) vs ws (Found x at (k ∷ (us ++ vs))) (Found x at (k ∷ (us ++ ws)))
 none_there x k at us vs ws = Alike.found (k ∷ us) (omega arith) (omega arith)

@@ -1,16 +1,15 @@
 -- Scripts are read alike where tokens begin alike: with the token of a fault, no script's spelling begins.
-use Rattle.std.proofs.Common.{◌≡◌, ℕ, zero, suc, ◌+◌, ◌-◌, ◌<◌, ◌≤◌, Bool, true, false, List, [], ◌∷◌, ◌++◌, length, take, drop, Option, Some, None, refl, ap, sym, ◌∙◌, subst, arith, codes}
+use Rattle.std.proofs.Common.{◌≡◌, ℕ, zero, suc, ◌+◌, ◌-◌, ◌<◌, ◌≤◌, Bool, true, false, List, [], ◌∷◌, ◌++◌, length, take, drop, Some, None, refl, ap, sym, ◌∙◌, arith, codes}
 use Rattle.std.proofs.lemmas.List.{length-append, length-take-le, take-append-drop}
 use Rattle.tb_lex.specs.declared.kind.TokenKind.{TokenKind}
 use Rattle.tb_lex.specs.declared.symbol.Symbol.TheVariants.{LeftParen, RightParen, LeftBrace, RightBrace, Equals, Question}
 use Rattle.tb_syntax.specs.declared.proc.Var.{Var}
 use Rattle.tb_syntax.specs.declared.script.Formal.{Formal}
 use Rattle.tb_syntax.specs.declared.script.Script.{Script}
-use Rattle.tb_syntax.specs.Spelling.{Spells}
 use Rattle.tb_parse.specs.Faults.{Begins}
-use Rattle.tb_parse.specs.Parsing.{Parser, Outcome, Found, Stops, after, mapped, begins, tail, is_sign, is_word, expect, skip, upper, text, free_name, parted, in_parens, call, var, proc, formal, process, command, tool, with_process, with_tool, definitions, roots, at_end, script}
+use Rattle.tb_parse.specs.Parsing.{Outcome, Found, Stops, after, mapped, is_sign, is_word, skip, text, formal, process, command, tool, with_process, with_tool, definitions, roots, at_end, script}
 use Rattle.tb_parse.proofs.ReadScripts.{complete}
-use Rattle.tb_parse.proofs.Alike.{Alike, Same, end, after_alike, branch_alike, finding, branch, skipped, expected, roomless, mapping, behind}
+use Rattle.tb_parse.proofs.Alike.{Alike, Same, end, branch_alike, finding, branch, skipped, expected, roomless, mapping, behind}
 use Rattle.tb_parse.proofs.AlikeParts.{upper_alike, text_alike, free_name_alike, parted_alike, in_parens_alike}
 use Rattle.tb_parse.proofs.AlikeExprs.{call_alike}
 use Rattle.tb_parse.proofs.AlikeProcs.{var_alike, proc_alike}
@@ -55,14 +54,16 @@ definitions_alike inner outer zero more count h i j k = roomless (definitions ou
 definitions_alike inner outer (suc room) zero count h i j k = absurd (omega arith)
 definitions_alike inner outer (suc room) (suc more) count h i j k =
     let rest = definitions_alike inner outer room more (count - 1) (omega arith) i (omega arith) (omega arith) in
-    record { alike = λ at us vs ws l.
-    branch_alike (is_word (codes "process")) (λ next ks. after (process inner at next ks) (λ d at ks. mapped (with_process d) (definitions inner room at ks)))
-    (λ next ks. after (process outer at next ks) (λ d at ks. mapped (with_process d) (definitions outer more at ks))) (count - 1) at us vs ws (omega arith)
-    (behind _ _ (count - 1) (process_alike inner outer (count - 1) (omega arith) i at) (λ d. mapping (count - 1) _ rest))
-    (branch_alike (is_word (codes "tool")) (λ next ks. after (tool at next ks) (λ d at ks. mapped (with_tool d) (definitions inner room at ks)))
-    (λ next ks. after (tool at next ks) (λ d at ks. mapped (with_tool d) (definitions outer more at ks))) (count - 1) at us vs ws (omega arith)
-    (behind _ _ (count - 1) (tool_alike (count - 1) at) (λ d. mapping (count - 1) _ rest))
-    (Alike.found us (omega arith) refl)) }
+    record {
+      alike = λ at us vs ws l.
+          branch_alike (is_word (codes "process")) (λ next ks. after (process inner at next ks) (λ d at ks. mapped (with_process d) (definitions inner room at ks)))
+          (λ next ks. after (process outer at next ks) (λ d at ks. mapped (with_process d) (definitions outer more at ks))) (count - 1) at us vs ws (omega arith)
+          (behind _ _ (count - 1) (process_alike inner outer (count - 1) (omega arith) i at) (λ d. mapping (count - 1) _ rest))
+          (branch_alike (is_word (codes "tool")) (λ next ks. after (tool at next ks) (λ d at ks. mapped (with_tool d) (definitions inner room at ks)))
+          (λ next ks. after (tool at next ks) (λ d at ks. mapped (with_tool d) (definitions outer more at ks))) (count - 1) at us vs ws (omega arith)
+          (behind _ _ (count - 1) (tool_alike (count - 1) at) (λ d. mapping (count - 1) _ rest))
+          (Alike.found us (omega arith) refl));
+    }
 
 -- Scripts.
 
