@@ -1,5 +1,5 @@
 -- What is found of a text: its program, or why it has none. Tokens come first, then the grammar and its limits, the conditions, cycles of calls, sizes of expansions, the number of roots, and last what isn't built.
-use Rattle.std.specs.Prelude.{◌≡◌, ◌≢◌, ℕ, ◌<◌, List, length, Option, Some, None}
+use Rattle.std.specs.Prelude.{◌≡◌, ◌≢◌, ℕ, ◌<◌, List, length, Some, None}
 use Rattle.tb_body.specs.declared.program.Program.{Program}
 use Rattle.tb_lex.specs.declared.fault.LexFault.{LexFault}
 use Rattle.tb_lex.specs.declared.fault.LexFault.TheVariants as lex
