@@ -7,11 +7,11 @@ PROGRAM := $(CURDIR)/crates/toolbus/out/toolbus
 # Runs the program as it stands, unproved, on the smallest script that says something, and prints its log.
 hello:
 	@echo "This proves nothing: it runs the program as it stands. make build proves it, make test proves all."
-	@cd crates/toolbus && rt try -- sim $(SCRIPT)
+	@cd crates/toolbus && rt try -- sim "$(SCRIPT)"
 
 # Proves the program with all that it stands on, and builds it.
 build:
-	cd crates/toolbus && rt run -- sim $(SCRIPT)
+	cd crates/toolbus && rt run -- sim "$(SCRIPT)"
 	@echo "The program is $(PROGRAM)"
 
 # The merge gate.
