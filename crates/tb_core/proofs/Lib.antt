@@ -1,2 +1,4 @@
 pub mod GoLemmas
 pub mod CoreLemmas
+pub mod ActionLemmas
+pub mod OpenLemmas
