@@ -2,7 +2,7 @@
 use Rattle.std.proofs.Common.{◌≡◌, ℕ, ◌+◌, ◌<◌, zero, suc, List, [], ◌∷◌, ◌++◌, length, refl, ap, sym, subst, ◌∙◌, arith, Option, Some, None, Bool, true, false, slice_get, get_or, slice_index_or, option_map, option_and_then, IfSome, IsTrue, if◌then◌else◌}
 use Rattle.std.specs.Bool.{⊤}
 use Rattle.std.specs.Option.{ForSome, is_some}
-use Rattle.std.proofs.lemmas.Option.{get_or_from_slice_get, slice_get-map, slice_get_within, same_Some}
+use Rattle.std.proofs.lemmas.Option.{get_or_from_slice_get, slice_get_within, same_Some}
 use Rattle.std.proofs.lemmas.List.{length-map}
 use Rattle.tb_terms.specs.declared.term.Term.{Term}
 use Rattle.tb_terms.specs.declared.pattern.Pattern.{Pattern}
@@ -13,7 +13,6 @@ use Rattle.tb_match.specs.Matches.{match_list}
 use Rattle.tb_body.specs.declared.act.Act.{Act}
 use Rattle.tb_body.specs.declared.act.Act.TheVariants.{Delta, Tau, SndMsg, RecMsg, SndNote, RecNote, NoNote, Subscribe, Unsubscribe, Create, Set, Printf, Execute, RecConnect, RecDisconnectAny, RecDisconnect, SndEval, RecValue, SndDo, RecEvent, SndAckEvent, SndTerminate, Shutdown}
 use Rattle.tb_body.specs.declared.atom.Atom.{Atom}
-use Rattle.tb_body.specs.declared.body.Body.{Body}
 use Rattle.tb_algebra.specs.declared.offer.Offer.{Offer}
 use Rattle.tb_algebra.specs.Processes.{Process}
 use Rattle.tb_algebra.specs.Atoms.{act_of, times_of, is_ready, patterns_of, values_together}
@@ -24,17 +23,17 @@ use Rattle.tb_algebra.specs.WalkerViews.{View}
 use Rattle.tb_algebra.proofs.Taken.{binds-taken}
 use Rattle.tb_bus.specs.Actions.{set_action, action_in, action_if, action_of}
 use Rattle.tb_bus.specs.Candidates.{row_of, rows_of, row_at, ready_one, readies}
-use Rattle.tb_bus.specs.Views.{proc_at, ready_at, offer_at, offer_of, no_ready, no_offer, effect_in, Receives}
+use Rattle.tb_bus.specs.Views.{ready_at, offer_at, offer_of, no_ready, no_offer, effect_in, Receives}
 use Rattle.tb_bus.specs.declared.action.Action.{Action}
 use Rattle.tb_bus.specs.declared.action.Action.TheVariants as action
 use Rattle.tb_bus.specs.declared.action.OwnAction.{OwnAction}
 use Rattle.tb_bus.specs.declared.action.OwnAction.TheVariants as own
 use Rattle.tb_bus.specs.declared.living.Ready.{Ready}
 use Rattle.tb_bus.specs.declared.living.Living.{Living}
-use Rattle.tb_core.specs.Lives.{IsLiveOn, term_in, proc_of}
-use Rattle.tb_core.specs.LiveBuses.{AreFresh, IsSound, procs_in}
+use Rattle.tb_core.specs.Lives.{term_in, proc_of}
+use Rattle.tb_core.specs.LiveBuses.{AreFresh, procs_in}
 use Rattle.tb_core.specs.declared.bus.LiveBus.{LiveBus}
-use Rattle.tb_core.proofs.ReadLemmas.{LiveAt, live-at, live-there, fresh-there, read-there}
+use Rattle.tb_core.proofs.ReadLemmas.{LiveAt, fresh-there, read-there}
 
 -- a process that hasn't ended offers what its term does
 offers-by : (term : Option Process) (store : List Slot) (ticks : ℕ) → is_end term ≡ false → offers_of (record { term = term; store = store; ticks = ticks }) ≡ offers (term_in term) store

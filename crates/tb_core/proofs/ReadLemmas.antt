@@ -1,7 +1,6 @@
 -- What stands at an index of a sound bus: one of the living, its plan and its process.
-use Rattle.std.proofs.Common.{◌≡◌, ℕ, ◌<◌, List, length, map, refl, ap, sym, subst, ◌∙◌, Some, true, slice_get, get_or, option_map}
+use Rattle.std.proofs.Common.{◌≡◌, ℕ, ◌<◌, List, length, map, ap, sym, subst, ◌∙◌, Some, true, slice_get, get_or, option_map}
 use Rattle.std.proofs.lemmas.Option.{get_or_from_slice_get, slice_get-get_or, slice_get_within, slice_get-map}
-use Rattle.std.proofs.lemmas.List.Elements.{All-get_or}
 use Rattle.tb_body.specs.declared.body.Body.{Body}
 use Rattle.tb_algebra.specs.WalkerViews.{View}
 use Rattle.tb_bus.specs.Buses.{atoms_of, atoms_in}

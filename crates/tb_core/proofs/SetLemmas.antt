@@ -1,5 +1,5 @@
 -- One of the living is replaced by another that stands for the same process.
-use Rattle.std.proofs.Common.{◌≡◌, ◌+◌, drop, drop-cons, add-one, ◌<◌, ◌≢◌, ◌&&◌, ◌⊎◌, ℕ, zero, suc, List, [], ◌∷◌, length, map, refl, ap, sym, subst, ◌∙◌, Some, None, nat_lt, slice_get, slice_set, get_or, Contains, false, inl, inr}
+use Rattle.std.proofs.Common.{◌≡◌, ◌+◌, drop, drop-cons, add-one, ◌<◌, ◌≢◌, ◌&&◌, ℕ, zero, suc, List, [], ◌∷◌, length, map, refl, ap, sym, subst, ◌∙◌, Some, nat_lt, slice_get, slice_set, get_or, Contains, false, inl, inr}
 use Rattle.std.specs.Global.{Vec}
 use Rattle.std.specs.List.{All}
 use Rattle.std.proofs.Math.Seq.{map-set_same}
@@ -8,7 +8,7 @@ use Rattle.std.proofs.lemmas.List.Elements.{All-set}
 use Rattle.tb_algebra.specs.Offers.{Offered}
 use Rattle.tb_algebra.specs.WalkerViews.{View}
 use Rattle.tb_bus.specs.Buses.{Bus, Proc}
-use Rattle.tb_bus.specs.Candidates.{ascend, row_of, rows_of}
+use Rattle.tb_bus.specs.Candidates.{ascend, rows_of}
 use Rattle.tb_bus.specs.declared.living.Living.{Living}
 use Rattle.tb_core.specs.Lives.{IsLive, IsLiveOn, proc_by, proc_in}
 use Rattle.tb_core.specs.LiveBuses.{IsFreshOr, IsSound, Leaves, StandsAs, bus_of, procs_in}
@@ -30,7 +30,7 @@ set-other (x ∷ xs) (suc at) zero y ne = refl
 set-other (x ∷ xs) (suc at) (suc other) y ne = set-other xs at other y (λ e. ne (ap suc e))
 
 -- they stand by their numbers as before
-pub ascend-set : {W : Type 0} (below : ℕ) (all : List (Living W)) (at : ℕ) (living one : Living W) → slice_get all at ≡ Some living → one.number ≡ living.number → ascend below (rows_of (slice_set all at one)) ≡ ascend below (rows_of all)
+ascend-set : {W : Type 0} (below : ℕ) (all : List (Living W)) (at : ℕ) (living one : Living W) → slice_get all at ≡ Some living → one.number ≡ living.number → ascend below (rows_of (slice_set all at one)) ≡ ascend below (rows_of all)
 ascend-set below [] at living one e f = refl
 ascend-set below (x ∷ all) zero living one e f =
     ap (λ number. nat_lt below number && ascend number (rows_of all)) (f ∙ ap (λ (l : Living _). l.number) (sym (same_Some x living e)))
@@ -85,15 +85,17 @@ stands-set view bus all at living one it sound e h = record {
 pub leaves-set : {W P T : Type 0} (view : View P W T) (bus : LiveBus W P T) (all : Vec (Living W)) (at : ℕ) (living one : Living W) (taken : T) (offered : Offered) → slice_get bus.living.items at ≡ Some living → all.items ≡ slice_set bus.living.items at one →
     one.body ≡ living.body → one.walker ≡ living.walker → Leaves view bus at taken offered → Leaves view (record bus { living = all }) at taken offered
 leaves-set view bus all at living one taken offered here e body walker h =
-    let same : h.0 ≡ living = same_Some h.0 living (sym h.1 ∙ here) in
-    (one, ap (λ xs. slice_get xs at) e ∙ set-there bus.living.items at living one here,
-    (h.2.0,
-    ap (slice_get bus.plans) (body ∙ ap (λ (l : Living _). l.body) (sym same)) ∙ h.2.1,
-    subst (λ w. view.leaves h.2.0 w taken offered) (ap (λ (l : Living _). l.walker) same ∙ sym walker) h.2.2))
+    let same : h.0 ≡ living = same_Some h.0 living (sym h.1 ∙ here) in (
+      one,
+      ap (λ xs. slice_get xs at) e ∙ set-there bus.living.items at living one here,
+      (
+        h.2.0,
+        ap (slice_get bus.plans) (body ∙ ap (λ (l : Living _). l.body) (sym same)) ∙ h.2.1,
+        subst (λ w. view.leaves h.2.0 w taken offered) (ap (λ (l : Living _). l.walker) same ∙ sym walker) h.2.2,
+      ),
+    )
 
-pub stands-again : {W P T : Type 0} (view : View P W T) (bus : LiveBus W P T) → IsSound view bus → StandsAs view bus bus
-stands-again view bus sound = record { sound = sound; bus = refl; origin = refl; plans = refl }
-
+-- the same bus as one that stands for the same bus
 pub stands-then : {W P T : Type 0} (view : View P W T) (old bus new : LiveBus W P T) → StandsAs view old bus → StandsAs view bus new → StandsAs view old new
 stands-then view old bus new first then = record { sound = then.sound; bus = then.bus ∙ first.bus; origin = then.origin ∙ first.origin; plans = then.plans ∙ first.plans }
 

@@ -1,4 +1,4 @@
-use Rattle.std.proofs.Common.{◌≡◌, ◌<◌, ◌+◌, ℕ, List, arith, length, drop, ap, sym, subst, ◌∙◌, Vec}
+use Rattle.std.proofs.Common.{◌<◌, ◌+◌, ℕ, List, arith, length, drop, ap, sym, subst, ◌∙◌}
 use Rattle.std.specs.List.{All}
 use Rattle.tb_core.specs.LiveBuses.{IsFreshOr}
 use Rattle.tb_core.proofs.SetLemmas.{stands-then, named-from}

@@ -1,4 +1,4 @@
-use Rattle.std.proofs.Common.{◌≡◌, ◌<◌, arith, length, refl, sym, subst, ap, ◌∙◌, inl}
+use Rattle.std.proofs.Common.{arith, refl, sym, subst, ap, ◌∙◌, inl}
 use Rattle.std.specs.Vec.{with_item}
 use Rattle.tb_bus.specs.Buses.{Proc}
 use Rattle.tb_core.specs.Lives.{IsLiveOn}
@@ -15,20 +15,15 @@ returns-then-living-clause-same g c =
     stands-set g.W.Walker.view bus (with_item bus.living c.args.at living) c.args.at living living it c.requires.sound refl
     (in-place g.W.Walker.view bus it.plan it.plan living living refl it.live refl (inl c.if-living.true))
 
-pub offset_bounds-as_slice-living : goal.offset_bounds-as_slice-living
-offset_bounds-as_slice-living g c =
-    let bus = c.args.self.now in
-    let living = c.index_mut-living.result.now in
-    let it = live-at g.W.Walker.view bus c.args.at living c.requires.sound c.requires.within c.index_mut-living.ensures.value in
-    let within = plan-within bus.plans c.as_slice.result.now living.body it.plan c.as_slice.ensures it.planned in
-    omega arith
-
 pub bounds-as_slice-living : goal.bounds-as_slice-living
 bounds-as_slice-living g c =
     let bus = c.args.self.now in
     let living = c.index_mut-living.result.now in
     let it = live-at g.W.Walker.view bus c.args.at living c.requires.sound c.requires.within c.index_mut-living.ensures.value in
     plan-within bus.plans c.as_slice.result.now living.body it.plan c.as_slice.ensures it.planned
+
+pub offset_bounds-as_slice-living : goal.offset_bounds-as_slice-living
+offset_bounds-as_slice-living g c = let within = bounds-as_slice-living g c in omega arith
 
 pub bounds-as_slice-living-2 : goal.bounds-as_slice-living-2
 bounds-as_slice-living-2 g c =

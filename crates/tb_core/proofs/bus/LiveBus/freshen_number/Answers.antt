@@ -1,6 +1,5 @@
-use Rattle.std.proofs.Common.{◌≡◌, ◌≤◌, List, arith, rules, length, subst, ap, nat_lt}
+use Rattle.std.proofs.Common.{◌≤◌, arith, rules, length, subst, ap, nat_lt}
 use Rattle.std.proofs.lemmas.List.Sorted.{IsPartitionPoint-from_clause}
-use Rattle.tb_bus.specs.declared.living.Living.{Living}
 use Rattle.tb_core.proofs.NumberLemmas.{IsWhere, partitioned-below, fresh-set, fresh-past}
 use Rattle.tb_core.proofs.bus.LiveBus.freshen_number.Goals as goal
 

@@ -1,4 +1,4 @@
-use Rattle.std.proofs.Common.{◌≡◌, ◌<◌, arith, length, refl, subst, inr, ap, sym, ◌∙◌, false, Contains, slice_set}
+use Rattle.std.proofs.Common.{refl, subst, inr, ap, sym, ◌∙◌, false, Contains, slice_set}
 use Rattle.std.specs.Vec.{with_item}
 use Rattle.tb_bus.specs.Candidates.{Row, row_of, no_row}
 use Rattle.tb_core.proofs.ReadLemmas.{live-at, map-there}
