@@ -1,5 +1,5 @@
 -- What is found is the first note that matches.
-use Rattle.std.proofs.Common.{◌≡◌, ℕ, zero, suc, ◌+◌, ◌<◌, List, [], ◌∷◌, Option, Some, None, MatchOption, refl, ap, sym, ◌∙◌, subst, arith}
+use Rattle.std.proofs.Common.{◌≡◌, ℕ, zero, suc, ◌+◌, ◌<◌, List, [], ◌∷◌, Option, Some, None, MatchOption, refl, subst, arith}
 use Rattle.tb_terms.specs.declared.term.Term.{Term}
 use Rattle.tb_terms.specs.declared.pattern.Pattern.{Pattern}
 use Rattle.tb_match.specs.declared.bind.Bind.{Bind}
@@ -41,9 +41,10 @@ first p ps (note ∷ notes) = step p ps note notes (match_list ps note) (first_m
 from_start : (ps : List Pattern) (notes : Notes) (found : Option Found) → Claim 0 ps notes found → MatchOption found (NoneMatches ps notes) (IsOldest ps notes)
 from_start ps notes None h = h
 from_start ps notes (Some found) h =
-    let e : h.0 ≡ found.place = omega (arith, h.1) in
-    ( subst (λ (k : ℕ). binds_at ps notes k ≡ Some found.binds) e h.2
-    , λ k l. let m : k < h.0 = omega arith in h.3 k m )
+    let e : h.0 ≡ found.place = omega (arith, h.1) in (
+      subst (λ (k : ℕ). binds_at ps notes k ≡ Some found.binds) e h.2,
+      λ k l. let m : k < h.0 = omega arith in h.3 k m,
+    )
 
 pub oldest-first : (ps : List Pattern) (held : Held) → MatchOption (oldest_match ps held) (NoneMatches ps held.notes) (IsOldest ps held.notes)
 oldest-first ps held = from_start ps held.notes (first_match 0 ps held.notes) (first 0 ps held.notes)

@@ -1,5 +1,5 @@
 -- Each call leaves an inbox in order.
-use Rattle.std.proofs.Common.{◌≡◌, ℕ, ◌≤◌, Bool, true, false, ◌&&◌, if◌then◌else◌, List, [], ◌∷◌, ◌++◌, length, IsTrue, refl, ap, sym, ◌∙◌, subst, arith}
+use Rattle.std.proofs.Common.{◌≡◌, Bool, true, false, ◌&&◌, if◌then◌else◌, List, [], ◌∷◌, ◌++◌, IsTrue, refl, ap, sym, ◌∙◌, arith}
 use Rattle.std.specs.List.{list_all, IsDistinct, AllByRecursion}
 use Rattle.std.specs.Cmp.{IsEquivalence}
 use Rattle.std.proofs.lemmas.List.Folds.{list_all-append}
@@ -8,7 +8,7 @@ use Rattle.tb_terms.specs.declared.term.Term.{Term}
 use Rattle.tb_terms.specs.declared.pattern.Pattern.{Pattern}
 use Rattle.tb_terms.proofs.SameLemmas.{both-true, is_same-refl, is_same-sound}
 use Rattle.tb_match.specs.Matches.{are_plain}
-use Rattle.tb_notes.specs.Inboxes.{Held, is_same_patterns, is_among, without, IsInOrder}
+use Rattle.tb_notes.specs.Inboxes.{is_same_patterns, is_among, without, IsInOrder}
 use Rattle.tb_notes.proofs.Walking.{patterns_code}
 
 abbrev Subscriptions : Type 0
@@ -45,7 +45,7 @@ nothing-in_order xs notes e f = rw (e, f) (record {
 })
 
 pub added-in_order : (ps : List Pattern) (xs ys : Subscriptions) (notes : Notes) → IsInOrder (record { subscriptions = xs; notes = notes })
-  → IsTrue (are_plain ps) → is_among ps xs ≡ false → ys ≡ xs ++ ps ∷ [] → IsInOrder (record { subscriptions = ys; notes = notes })
+    → IsTrue (are_plain ps) → is_among ps xs ≡ false → ys ≡ xs ++ ps ∷ [] → IsInOrder (record { subscriptions = ys; notes = notes })
 added-in_order ps xs ys notes order plain absent e = rw e (record {
   plain = list_all-append are_plain xs (ps ∷ []) ∙ true-both (list_all are_plain xs) (are_plain ps && true) order.plain (true-both (are_plain ps) true plain refl);
   distinct = IsDistinct-push same_patterns-equiv xs ps order.distinct absent;
@@ -68,14 +68,15 @@ without-all P ps (x ∷ xs) h =
 without-distinct : (ps : List Pattern) (xs : Subscriptions) → IsDistinct is_same_patterns xs → IsDistinct is_same_patterns (without ps xs)
 without-distinct ps [] h = h
 without-distinct ps (x ∷ xs) h =
-    elim (is_same_patterns ps x) as (λ b. IsDistinct is_same_patterns (if b then xs else x ∷ without ps xs))
-    [ true ↦ IsDistinct-tail is_same_patterns x xs h
-    | false ↦ IsDistinct-cons is_same_patterns x (without ps xs)
-        (without-all (λ y. is_same_patterns x y ≡ false) ps xs (IsDistinct-head is_same_patterns x xs h))
-        (without-distinct ps xs (IsDistinct-tail is_same_patterns x xs h)) ]
+    elim (is_same_patterns ps x) as (λ b. IsDistinct is_same_patterns (if b then xs else x ∷ without ps xs)) [
+      | true ↦ IsDistinct-tail is_same_patterns x xs h
+      | false ↦ IsDistinct-cons is_same_patterns x (without ps xs)
+          (without-all (λ y. is_same_patterns x y ≡ false) ps xs (IsDistinct-head is_same_patterns x xs h))
+          (without-distinct ps xs (IsDistinct-tail is_same_patterns x xs h))
+    ]
 
 pub removed-in_order : (ps : List Pattern) (xs ys : Subscriptions) (notes : Notes) → IsInOrder (record { subscriptions = xs; notes = notes })
-  → ys ≡ without ps xs → IsInOrder (record { subscriptions = ys; notes = notes })
+    → ys ≡ without ps xs → IsInOrder (record { subscriptions = ys; notes = notes })
 removed-in_order ps xs ys notes order e = rw e (record {
   plain = without-plain ps xs order.plain;
   distinct = without-distinct ps xs order.distinct;

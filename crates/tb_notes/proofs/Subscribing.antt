@@ -32,7 +32,7 @@ wanted-here note ps x xs e f =
     rw same refl
 
 wanted-in : (note : List Term) (ps x : List Pattern) (xs : Subscriptions) (b : Bool) → is_same_patterns ps x ≡ b → fits note ps ≡ true
-  → (b || is_among ps xs) ≡ true → (is_among ps xs ≡ true → list_any (fits note) xs ≡ true) → list_any (fits note) (x ∷ xs) ≡ true
+    → (b || is_among ps xs) ≡ true → (is_among ps xs ≡ true → list_any (fits note) xs ≡ true) → list_any (fits note) (x ∷ xs) ≡ true
 wanted-in note ps x xs true e f h left = wanted-here note ps x xs e f
 wanted-in note ps x xs false e f h left = ap (λ (a : Bool). fits note x || a) (left h) ∙ or-true (fits note x)
 
@@ -43,7 +43,7 @@ among-wants note ps (x ∷ xs) h f =
     wanted-in note ps x xs (is_same_patterns ps x) refl f h (λ k. among-wants note ps xs k f)
 
 wants-added : (note : List Term) (ps : List Pattern) (xs : Subscriptions) (b : Bool) → is_among ps xs ≡ b
-  → list_any (fits note) (if b then xs else xs ++ ps ∷ []) ≡ (list_any (fits note) xs || fits note ps)
+    → list_any (fits note) (if b then xs else xs ++ ps ∷ []) ≡ (list_any (fits note) xs || fits note ps)
 wants-added note ps xs true e = sym (or-self (list_any (fits note) xs) (fits note ps) (among-wants note ps xs e))
 wants-added note ps xs false e =
     list_any-append (fits note) xs (ps ∷ []) ∙ ap (λ (a : Bool). list_any (fits note) xs || a) (or-false (fits note ps))
@@ -68,7 +68,7 @@ pub subscribed-twice : (ps : List Pattern) (held : Held) → subscribed ps (subs
 subscribed-twice ps held =
     let xs = held.subscriptions in
     ap (λ (ys : Subscriptions). record { subscriptions = ys; notes = held.notes })
-        (kept ps (with_subscription ps xs) (among-added ps xs (is_among ps xs) refl))
+    (kept ps (with_subscription ps xs) (among-added ps xs (is_among ps xs) refl))
 
 or-none : (a b : Bool) → (a || b) ≡ false → (a ≡ false) × (b ≡ false)
 or-none true b h = cc
@@ -84,7 +84,7 @@ pub unsubscribed-back : (ps : List Pattern) (held : Held) → is_among ps held.s
 unsubscribed-back ps held h =
     let xs = held.subscriptions in
     ap (λ (ys : Subscriptions). record { subscriptions = ys; notes = held.notes })
-        (ap (without ps) (added ps xs h) ∙ without-added ps xs h)
+    (ap (without ps) (added ps xs h) ∙ without-added ps xs h)
 
 -- whom none of these equals isn't among them
 apart : (ps x : List Pattern) (xs : Subscriptions) → is_same_patterns ps x ≡ true → AllByRecursion (λ y. is_same_patterns x y ≡ false) xs → is_among ps xs ≡ false
@@ -95,7 +95,7 @@ apart ps x (y ∷ ys) e h =
     rw (other, left) refl
 
 gone-past : (ps x : List Pattern) (xs : Subscriptions) (b : Bool) → is_same_patterns ps x ≡ b → AllByRecursion (λ y. is_same_patterns x y ≡ false) xs
-  → is_among ps (without ps xs) ≡ false → is_among ps (if b then xs else x ∷ without ps xs) ≡ false
+    → is_among ps (without ps xs) ≡ false → is_among ps (if b then xs else x ∷ without ps xs) ≡ false
 gone-past ps x xs true e others left = apart ps x xs e others
 gone-past ps x xs false e others left = rw (e, left) refl
 
@@ -103,7 +103,7 @@ gone-without : (ps : List Pattern) (xs : Subscriptions) → IsDistinct is_same_p
 gone-without ps [] d = refl
 gone-without ps (x ∷ xs) d =
     gone-past ps x xs (is_same_patterns ps x) refl (IsDistinct-head is_same_patterns x xs d)
-        (gone-without ps xs (IsDistinct-tail is_same_patterns x xs d))
+    (gone-without ps xs (IsDistinct-tail is_same_patterns x xs d))
 
 pub unsubscribed-gone : (ps : List Pattern) (held : Held) → IsInOrder held → is_among ps (unsubscribed ps held).subscriptions ≡ false
 unsubscribed-gone ps held order = gone-without ps held.subscriptions order.distinct

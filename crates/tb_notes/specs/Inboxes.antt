@@ -1,5 +1,5 @@
 -- What a process has subscribed to and the notes that wait for it, and what each call does to them.
-use Rattle.std.specs.Prelude.{◌≡◌, ◌<◌, ◌≤◌, ◌+◌, ℕ, Bool, true, false, List, [], ◌∷◌, ◌++◌, length, remove, Option, Some, None, is_some, IsTrue, if◌then◌else◌, refl}
+use Rattle.std.specs.Prelude.{◌<◌, ◌≤◌, ◌+◌, ℕ, Bool, List, [], ◌∷◌, ◌++◌, length, remove, Option, Some, None, is_some, IsTrue, if◌then◌else◌, refl}
 use Rattle.std.specs.List.{list_any, list_all, IsDistinct}
 use Rattle.std.specs.Coded.{Coded, code_by, coded×, coded_ℕ, coded_list}
 use Rattle.tb_terms.specs.declared.term.Term.{Term}

@@ -11,7 +11,7 @@ pub(crate) fn position_of(subscriptions: &[Patterns], patterns: &Patterns) -> Op
     ensures { MatchOption result
         ((is_among patterns.now subscriptions.now ≡ false) × (without patterns.now subscriptions.now ≡ subscriptions.now))
         (λ index. IsTrue (is_among patterns.now subscriptions.now) × (index < length subscriptions.now)
-            × (without patterns.now subscriptions.now ≡ remove subscriptions.now index)) }
+        × (without patterns.now subscriptions.now ≡ remove subscriptions.now index)) }
 {
     for (index, subscription) in subscriptions.iter().enumerate() {
         if same_patterns(patterns, subscription) {

@@ -1,4 +1,3 @@
-use Rattle.std.proofs.Common.{sym, ◌∙◌, ap}
 use Rattle.tb_notes.proofs.Ordering.{removed-in_order}
 use Rattle.tb_notes.proofs.inbox.Inbox.unsubscribe.Goals as goal
 
