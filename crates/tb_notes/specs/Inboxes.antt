@@ -1,10 +1,9 @@
 -- What a process has subscribed to and the notes that wait for it, and what each call does to them.
-use Rattle.std.specs.Prelude.{◌<◌, ◌≤◌, ◌+◌, ℕ, Bool, List, [], ◌∷◌, ◌++◌, length, remove, Option, Some, None, is_some, IsTrue, if◌then◌else◌, refl}
+use Rattle.std.specs.Prelude.{◌<◌, ◌≤◌, ◌+◌, ℕ, Bool, List, [], ◌∷◌, ◌++◌, length, remove, Option, Some, None, is_some, IsTrue, if◌then◌else◌}
 use Rattle.std.specs.List.{list_any, list_all, IsDistinct}
-use Rattle.std.specs.Coded.{Coded, code_by, coded×, coded_ℕ, coded_list}
+use Rattle.std.specs.Coded.{coded_list}
 use Rattle.tb_terms.specs.declared.term.Term.{Term}
 use Rattle.tb_terms.specs.declared.pattern.Pattern.{Pattern}
-use Rattle.tb_terms.specs.contracts.term.Term as term
 use Rattle.tb_terms.specs.contracts.pattern.Pattern as pattern
 use Rattle.tb_terms.specs.Same.{is_same}
 use Rattle.tb_match.specs.declared.bind.Bind.{Bind}
@@ -20,13 +19,6 @@ pub record Held : Type 0 where
 pub record Contents : Type 0 where
   pub held : Held
   pub spare : ℕ
-
-abbrev pub contents_code : Coded Contents
-contents_code =
-    code_by (List (List Pattern) × (List (List Term) × ℕ))
-    (coded× (coded_list (coded_list pattern.the_row.coded)) (coded× (coded_list (coded_list term.the_row.coded)) coded_ℕ))
-    (λ c. (c.held.subscriptions, (c.held.notes, c.spare)))
-    (λ t. record { held = record { subscriptions = t.0; notes = t.1.0 }; spare = t.1.1 }) (λ _. refl)
 
 abbrev pub nothing : Held
 nothing = record { subscriptions = []; notes = [] }

@@ -14,7 +14,7 @@ const MOST_NOTES: usize = 65_536;
 
 /// What a process has subscribed to, and the notes that wait for it. Contracts see the two lists,
 /// and apart from them for how many more notes there is memory.
-#[derive(Drop)]
+#[derive(Debug, Drop)]
 pub struct Inbox {
     subscriptions: Items<Patterns>,
     queue: VecDeque<Terms>,
@@ -23,11 +23,14 @@ pub struct Inbox {
 impl Model for Inbox {
     ghost use Rattle.std.specs.Prelude.{◌-◌};
     ghost use Rattle.std.specs.VecDeque.{deque_len, deque_capacity};
-    ghost use Rattle.tb_notes.specs.Inboxes.{Contents, contents_code, IsInOrder};
+    ghost use Rattle.std.specs.Coded.{codes};
+    ghost use Rattle.tb_terms.specs.contracts.term.Term as term;
+    ghost use Rattle.tb_terms.specs.contracts.pattern.Pattern as pattern;
+    ghost use Rattle.tb_notes.specs.Inboxes.{Contents, IsInOrder};
 
     ghost Value = { Contents };
 
-    ghost coded = { contents_code };
+    ghost coded = { Prim.hlevel (codes, pattern.the_row.coded, term.the_row.coded) };
 
     ghost view = { λ inbox. record {
       held = record { subscriptions = inbox.subscriptions; notes = inbox.queue.items };
@@ -88,6 +91,7 @@ impl Inbox {
         requires { HasRoom self.old.held }
         ensures ok { OnOk result (self.new.held ≡ with_note note self.old.held) }
         ensures err { OnErr result (self.new.held ≡ self.old.held) }
+        ensures spare { self.old.spare ≤ self.new.spare + 1 }
     {
         self.queue.push_back(note)?;
         Ok(())
