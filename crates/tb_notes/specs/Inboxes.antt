@@ -76,7 +76,8 @@ oldest_match patterns held = first_match 0 patterns held.notes
 abbrev pub without_note : ℕ → Held → Held
 without_note place held = record held { notes = remove held.notes place }
 
--- what holds of every inbox: no subscription takes terms, no two are equal, and the notes are within the limit
+-- what holds of every inbox: no subscription has a variable that takes a term, no two are equal, and the
+-- notes are within the limit
 pub record IsInOrder (held : Held) : Type 0 where
   pub plain : IsTrue (list_all are_plain held.subscriptions)
   pub distinct : IsDistinct is_same_patterns held.subscriptions

@@ -12,15 +12,16 @@ pub fn oldest_match_is_first()
         → MatchOption (oldest_match ps held) (NoneMatches ps held.notes) (IsOldest ps held.notes) }
 {}
 
-/// Who subscribes wants what the patterns fit beside what was wanted before, and to do so twice is
-/// to do so once.
+/// Who subscribes wants what the patterns fit beside what was wanted before, and to subscribe twice
+/// is to subscribe once.
 pub fn subscribing_adds()
     ensures wants { (ps : List Pattern) (held : Held) (note : List Term)
         → wants (subscribed ps held) note ≡ (wants held note || fits note ps) }
     ensures once { (ps : List Pattern) (held : Held) → subscribed ps (subscribed ps held) ≡ subscribed ps held }
 {}
 
-/// After it no equal subscription is left, and what was new before is as it was.
+/// Who unsubscribes has no equal subscription left. After a subscription that was new, all is as
+/// before it.
 pub fn unsubscribing_removes()
     ensures gone { (ps : List Pattern) (held : Held) → IsInOrder held
         → is_among ps (unsubscribed ps held).subscriptions ≡ false }
