@@ -1,10 +1,18 @@
-# What one types. Each target needs the command rt of the Rattle kit, but for bench, which needs the
-# built program and Python 3.
-.PHONY: hello test bench
+# What one types. Each target needs the command rt of the Rattle kit; bench needs the built program and Python 3.
+.PHONY: hello build test bench
 
-# Proves and builds the program, and prints the log of the smallest script that says something.
+SCRIPT := $(CURDIR)/examples/hello.tb
+PROGRAM := $(CURDIR)/crates/toolbus/out/toolbus
+
+# Runs the program as it stands, unproved, on the smallest script that says something, and prints its log.
 hello:
-	cd crates/toolbus && rt run -- sim ../../examples/hello.tb
+	@echo "This proves nothing: it runs the program as it stands. make build proves it, make test proves all."
+	@cd crates/toolbus && rt try -- sim "$(SCRIPT)"
+
+# Proves the program with all that it stands on, and builds it.
+build:
+	cd crates/toolbus && rt run -- sim "$(SCRIPT)"
+	@echo "The program is $(PROGRAM)"
 
 # The merge gate.
 test:

@@ -15,3 +15,4 @@ pub mod RewriterLemmas
 pub mod SightLemmas
 pub mod TermLemmas
 pub mod StartLemmas
+pub mod WalkerLemmas

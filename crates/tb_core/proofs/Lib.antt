@@ -1,2 +1,11 @@
+pub mod ActionLemmas
+pub mod AdvanceLemmas
+pub mod FreshLemmas
+pub mod MakeLemmas
+pub mod NumberLemmas
+pub mod OpenLemmas
+pub mod ReadLemmas
+pub mod RowsLemmas
+pub mod SetLemmas
 pub mod GoLemmas
 pub mod CoreLemmas

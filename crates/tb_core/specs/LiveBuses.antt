@@ -1,13 +1,15 @@
 -- The bus for which the fields of a core stand, and when they stand for what contracts see of it.
-use Rattle.std.specs.Prelude.{◌≡◌, ◌≤◌, ◌⊎◌, ℕ, List, [], map, length, true, Some, slice_get, slice_set, Contains}
+use Rattle.std.specs.Prelude.{◌≡◌, ◌≤◌, ◌⊎◌, ℕ, List, [], map, length, true, IsTrue, Some, slice_get, slice_set, Contains}
 use Rattle.std.specs.List.{All}
 use Rattle.tb_match.specs.declared.bind.Bind.{Bind}
+use Rattle.tb_algebra.specs.Binds.{takes_binds}
 use Rattle.tb_algebra.specs.Offers.{Offered}
+use Rattle.tb_algebra.specs.Walks.{sorts_of}
 use Rattle.tb_algebra.specs.WalkerViews.{View}
 use Rattle.tb_log.specs.declared.entry.Entry.{Entry}
 use Rattle.tb_bus.specs.Buses.{Bus, Proc, start}
 use Rattle.tb_bus.specs.Steps.{advance, apply}
-use Rattle.tb_bus.specs.Views.{move_of}
+use Rattle.tb_bus.specs.Views.{move_of, proc_at}
 use Rattle.tb_bus.specs.Traces.{IsTrace, replay}
 use Rattle.tb_bus.specs.Candidates.{ascend, row_at, rows_of}
 use Rattle.tb_bus.specs.declared.living.Living.{Living}
@@ -61,6 +63,12 @@ abbrev pub Leaves : {W P T : Type 0} → View P W T → LiveBus W P T → ℕ �
 Leaves {W = W} {P = P} view bus at taken offered =
     (living : Living W) × (slice_get bus.living.items at ≡ Some living)
     × ((plan : P) × (slice_get bus.plans living.body ≡ Some plan) × view.leaves plan living.walker taken offered)
+
+-- what was taken is what some offer leaves of the process at an index, whose store has the process's sorts and takes the binds
+abbrev pub CanAdvance : {W P T : Type 0} → View P W T → LiveBus W P T → ℕ → T → List Bind → Type 0
+CanAdvance view bus at taken binds =
+    (offered : Offered) × Leaves view bus at taken offered
+    × (sorts_of offered.store ≡ sorts_of (proc_at (procs_in view bus) at).store) × IsTrue (takes_binds offered.store binds)
 
 -- the process at an index went on with what the offer leaves, in the offered store with the binds set
 pub record IsAdvanced {W P T : Type 0} (view : View P W T) (old : LiveBus W P T) (at : ℕ) (offered : Offered) (binds : List Bind) (new : LiveBus W P T) : Type 0 where

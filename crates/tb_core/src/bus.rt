@@ -32,14 +32,13 @@ impl<W: Walker> LiveBus<W> {
     ghost use Rattle.std.specs.Prelude.{◌≡◌, ℕ, ◌<◌, ◌≤◌, ◌+◌, ◌∷◌, ◌≢◌, List, [], length, vec_len, vec_capacity, Contains, IfOk, IfSome, IsTrue, OnOk, OnErr, Some, slice_get, true, false, option_map};
     ghost use Rattle.std.specs.List.{All};
     ghost use Rattle.tb_match.specs.declared.bind.Bind.{Bind};
-    ghost use Rattle.tb_algebra.specs.Binds.{takes_binds};
     ghost use Rattle.tb_algebra.specs.Offers.{Offered};
     ghost use Rattle.tb_bus.specs.Buses.{start};
     ghost use Rattle.tb_bus.specs.Steps.{moves, apply, label_of, nowhere};
     ghost use Rattle.tb_bus.specs.Traces.{fed};
     ghost use Rattle.tb_bus.specs.Candidates.{first, row_at, rows_of};
     ghost use Rattle.tb_bus.specs.Views.{proc_at, ready_at, offer_of, move_of, IsCandidateIn};
-    ghost use Rattle.tb_core.specs.LiveBuses.{bus_of, procs_in, AreFresh, IsFreshOr, IsSound, IsSetAt, StandsAs, Leaves, IsAdvanced, AreAdvanced, IsMade};
+    ghost use Rattle.tb_core.specs.LiveBuses.{bus_of, procs_in, AreFresh, IsFreshOr, IsSound, IsSetAt, StandsAs, Leaves, CanAdvance, IsAdvanced, AreAdvanced, IsMade};
 
     /// The bus that a program opens with. Its processes are looked at later.
     pub fn open(alloc: Global, origin: Origin) -> Result<LiveBus<W>, NoMemory>
@@ -74,8 +73,9 @@ impl<W: Walker> LiveBus<W> {
         if living.fresh {
             return Ok(());
         }
+        let program = &self.origin.program;
         let plan = &self.plans.as_slice()[living.body as usize];
-        let body = &self.origin.program.bodies.as_slice()[living.body as usize];
+        let body = &program.bodies.as_slice()[living.body as usize];
         look(alloc, plan, body, living, self.ticks)
     }
 
@@ -160,7 +160,7 @@ impl<W: Walker> LiveBus<W> {
         requires sound { IsSound W.view self.old }
         requires within { at < length self.old.living.items }
         requires named { Contains self.old.stale.items (row_at (rows_of self.old.living.items) at).number }
-        requires taken { (offered : Offered) × Leaves W.view self.old at taken offered × IsTrue (takes_binds offered.store binds) }
+        requires taken { CanAdvance W.view self.old at taken binds }
         ensures advanced { (offered : Offered) → Leaves W.view self.old at taken offered → IsAdvanced W.view self.old at offered binds self.new }
         ensures before { (other : ℕ) → other < at → slice_get self.new.living.items other ≡ slice_get self.old.living.items other }
         ensures long { length self.old.living.items ≤ length self.new.living.items + 1 }
@@ -295,8 +295,8 @@ impl<W: Walker> LiveBus<W> {
         requires apart { (row_at (rows_of self.old.living.items) at).number ≢ (row_at (rows_of self.old.living.items) other).number }
         requires named { Contains self.old.stale.items (row_at (rows_of self.old.living.items) at).number }
         requires other_named { Contains self.old.stale.items (row_at (rows_of self.old.living.items) other).number }
-        requires sent { (offered : Offered) × Leaves W.view self.old at sent offered }
-        requires received { (offered : Offered) × Leaves W.view self.old other received offered × IsTrue (takes_binds offered.store binds) }
+        requires sent { CanAdvance W.view self.old at sent [] }
+        requires received { CanAdvance W.view self.old other received binds }
         ensures { (offered its : Offered) → Leaves W.view self.old at sent offered → Leaves W.view self.old other received its →
             AreAdvanced W.view self.old at offered other its binds self.new }
     {

@@ -1,1 +1,3 @@
 pub mod LogText
+pub mod Limits
+pub mod Logs

@@ -2,7 +2,9 @@
 #![tactic(auto)]
 
 mod entry;
+mod log;
 mod text;
 
 pub use entry::{Entry, Input, Label, LabelKind, Place, Reply, Why};
+pub use log::Log;
 pub use text::write_entry;

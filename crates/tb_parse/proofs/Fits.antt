@@ -1,5 +1,5 @@
 -- What an outcome says of the tokens, carried through each way in which parsers are put together.
-use Rattle.std.proofs.Common.{◌≡◌, ℕ, ◌+◌, ◌≤◌, Bool, true, false, List, [], ◌∷◌, ◌++◌, length, refl, ap, sym, ◌∙◌, subst, arith, append_assoc, if◌then◌else◌}
+use Rattle.std.proofs.Common.{◌≡◌, ℕ, ◌+◌, Bool, true, false, List, [], ◌∷◌, ◌++◌, length, refl, ap, sym, ◌∙◌, subst, arith, append_assoc, append-nil, if◌then◌else◌}
 use Rattle.std.proofs.lemmas.List.{length-append}
 use Rattle.tb_lex.specs.declared.kind.TokenKind.{TokenKind}
 use Rattle.tb_lex.specs.declared.kind.TokenKind.TheVariants.{Lower, Symbol as Sign}
@@ -11,10 +11,18 @@ use Rattle.tb_parse.proofs.Signs.{is_that_sign, is_that_word}
 abbrev pub Spelt : Type 0 → Type 1
 Spelt A = A → List TokenKind → Type 0
 
--- what was found is spelt by tokens at the front, and the others are left; or the place is that of a token, or of their end
+-- some thing's spelling begins so
+abbrev pub Opens : {A : Type 0} → Spelt A → List TokenKind → Type 0
+Opens {A = A} S xs = (more : List TokenKind) × (x : A) × S x (xs ++ more)
+
+-- the place is that of the first token that can't go on, or of the end: some thing's spelling begins with the tokens in front of it
+abbrev pub StopsAt : {A : Type 0} → Spelt A → ℕ → List TokenKind → ℕ → Type 0
+StopsAt S at ks place = (xs rest : List TokenKind) × (ks ≡ xs ++ rest) × (place ≡ at + length xs) × Opens S xs
+
+-- what was found is spelt by tokens at the front, and the others are left; or the parser stops
 abbrev pub FitsAt : {A : Type 0} → Spelt A → ℕ → List TokenKind → Outcome A → Type 0
 FitsAt S at ks (Found x end rest) = (xs : List TokenKind) × (ks ≡ xs ++ rest) × (end ≡ at + length xs) × S x xs
-FitsAt S at ks (Stops place) = place ≤ at + length ks
+FitsAt S at ks (Stops place) = StopsAt S at ks place
 
 pub record Fits {A : Type 0} (S : Spelt A) (at : ℕ) (ks : List TokenKind) (o : Outcome A) : Type 0 where
   pub fits : FitsAt S at ks o
@@ -22,8 +30,28 @@ pub record Fits {A : Type 0} (S : Spelt A) (at : ℕ) (ks : List TokenKind) (o :
 pub found : {A : Type 0} {S : Spelt A} {at : ℕ} {ks : List TokenKind} {x : A} → S x [] → Fits S at ks (Found x at ks)
 found s = record { fits = ([], refl, omega arith, s) }
 
-pub stops : {A : Type 0} {S : Spelt A} {at : ℕ} {ks : List TokenKind} → Fits S at ks (Stops at)
-stops = record { fits = omega arith }
+pub stops : {A : Type 0} {S : Spelt A} {at : ℕ} {ks : List TokenKind} → Opens S [] → Fits S at ks (Stops at)
+stops {ks = ks} o = record { fits = ([], ks, refl, omega arith, o) }
+
+-- Where a parser is given no tokens, what it says is that some spelling goes on there.
+
+no_tokens : (xs rest : List TokenKind) → [] ≡ xs ++ rest → xs ≡ []
+no_tokens [] rest e = refl
+no_tokens (x ∷ xs) rest e = absurd (cc)
+
+opens_at : {A : Type 0} (S : Spelt A) (at : ℕ) (o : Outcome A) → FitsAt S at [] o → Opens S []
+opens_at S at (Found x end rest) g = ([], x, subst (λ ks. S x ks) (no_tokens g.0 rest g.1) g.3)
+opens_at S at (Stops place) g = subst (λ ks. Opens S ks) (no_tokens g.0 g.1 g.2) g.4
+
+pub opens : {A : Type 0} {S : Spelt A} {at : ℕ} {o : Outcome A} → Fits S at [] o → Opens S []
+opens {S = S} {at = at} {o = o} g = opens_at S at o g.fits
+
+-- tokens in front of what some spelling begins with
+pub opens_behind : {A : Type 0} (S : Spelt A) (xs ys : List TokenKind) → Opens (λ y zs. S y (xs ++ zs)) ys → Opens S (xs ++ ys)
+opens_behind S xs ys o = (o.0, o.1, subst (λ ks. S o.1 ks) (sym (append_assoc xs ys o.0)) o.2)
+
+opens_first : {A : Type 0} (S : Spelt A) (k : TokenKind) → Opens (λ y zs. S y (k ∷ zs)) [] → Opens S []
+opens_first S k o = (k ∷ o.0, o.1, o.2)
 
 joined_at : {A : Type 0} (S : Spelt A) (at : ℕ) (xs ks rest : List TokenKind) → ks ≡ xs ++ rest → (o : Outcome A) → FitsAt (λ y ys. S y (xs ++ ys)) (at + length xs) rest o → FitsAt S at ks o
 joined_at S at xs ks rest e (Found y end more) g = (
@@ -32,7 +60,13 @@ joined_at S at xs ks rest e (Found y end more) g = (
   (let l = length-append xs g.0 in omega arith),
   g.3,
 )
-joined_at S at xs ks rest e (Stops place) g = let l : length ks ≡ length xs + length rest = ap length e ∙ length-append xs rest in omega arith
+joined_at S at xs ks rest e (Stops place) g = (
+  xs ++ g.0,
+  g.1,
+  e ∙ ap (λ l. xs ++ l) g.2 ∙ sym (append_assoc xs g.0 g.1),
+  (let l = length-append xs g.0 in let here = g.3 in omega arith),
+  opens_behind S xs g.0 g.4,
+)
 
 -- tokens in front of what fits
 pub joined : {A : Type 0} {S : Spelt A} {at : ℕ} (xs rest : List TokenKind) {ks : List TokenKind} {o : Outcome A} → ks ≡ xs ++ rest → Fits (λ y ys. S y (xs ++ ys)) (at + length xs) rest o → Fits S at ks o
@@ -43,22 +77,30 @@ token {k = k} {ks = ks} g = joined (k ∷ []) ks refl g
 
 mapped_at : {A B : Type 0} (S : Spelt A) (T : Spelt B) (f : A → B) (at : ℕ) (ks : List TokenKind) → ((x : A) (xs : List TokenKind) → S x xs → T (f x) xs) → (o : Outcome A) → FitsAt S at ks o → FitsAt T at ks (mapped f o)
 mapped_at S T f at ks h (Found x end rest) g = (g.0, g.1, g.2, h x g.0 g.3)
-mapped_at S T f at ks h (Stops place) g = g
+mapped_at S T f at ks h (Stops place) g = (g.0, g.1, g.2, g.3, (g.4.0, f g.4.1, h g.4.1 (g.0 ++ g.4.0) g.4.2))
 
 pub mapping : {A B : Type 0} {S : Spelt A} {T : Spelt B} {at : ℕ} {ks : List TokenKind} {o : Outcome A} (f : A → B) → Fits S at ks o → ((x : A) (xs : List TokenKind) → S x xs → T (f x) xs) → Fits T at ks (mapped f o)
 mapping {S = S} {T = T} {at = at} {ks = ks} {o = o} f g h = record { fits = mapped_at S T f at ks h o g.fits }
 
 weaker_at : {A : Type 0} (S T : Spelt A) (at : ℕ) (ks : List TokenKind) → ((x : A) (xs : List TokenKind) → S x xs → T x xs) → (o : Outcome A) → FitsAt S at ks o → FitsAt T at ks o
 weaker_at S T at ks h (Found x end rest) g = (g.0, g.1, g.2, h x g.0 g.3)
-weaker_at S T at ks h (Stops place) g = g
+weaker_at S T at ks h (Stops place) g = (g.0, g.1, g.2, g.3, (g.4.0, g.4.1, h g.4.1 (g.0 ++ g.4.0) g.4.2))
 
 pub weaker : {A : Type 0} {S T : Spelt A} {at : ℕ} {ks : List TokenKind} {o : Outcome A} → Fits S at ks o → ((x : A) (xs : List TokenKind) → S x xs → T x xs) → Fits T at ks o
 weaker {S = S} {T = T} {at = at} {ks = ks} {o = o} g h = record { fits = weaker_at S T at ks h o g.fits }
 
+-- what begins a first part begins the whole, since the rest goes on where no tokens are left
+opens_after : {A B : Type 0} (S : Spelt A) (T : Spelt B) (next : A → Parser B) (at : ℕ)
+    → ((x : A) (xs rest : List TokenKind) → S x xs → Fits (λ y ys. T y (xs ++ ys)) (at + length xs) rest (next x (at + length xs) rest)) → (xs : List TokenKind) → Opens S xs → Opens T xs
+opens_after S T next at h xs o =
+    let whole : List TokenKind = xs ++ o.0 in
+    let rest : Opens T (whole ++ []) = opens_behind T whole [] (opens (h o.1 whole [] o.2)) in
+    (o.0 ++ rest.0, rest.1, subst (λ ks. T rest.1 ks) (ap (λ ks. ks ++ rest.0) (append-nil whole) ∙ append_assoc xs o.0 rest.0) rest.2)
+
 after_at : {A B : Type 0} (S : Spelt A) (T : Spelt B) (next : A → Parser B) (at : ℕ) (ks : List TokenKind)
     → ((x : A) (xs rest : List TokenKind) → S x xs → Fits (λ y ys. T y (xs ++ ys)) (at + length xs) rest (next x (at + length xs) rest)) → (o : Outcome A) → FitsAt S at ks o → Fits T at ks (after o next)
 after_at S T next at ks h (Found x end rest) g = subst (λ e. Fits T at ks (next x e rest)) (sym g.2) (joined g.0 rest g.1 (h x g.0 rest g.3))
-after_at S T next at ks h (Stops place) g = record { fits = g }
+after_at S T next at ks h (Stops place) g = record { fits = (g.0, g.1, g.2, g.3, opens_after S T next at h g.0 g.4) }
 
 pub behind : {A B : Type 0} {S : Spelt A} {T : Spelt B} {at : ℕ} {ks : List TokenKind} {o : Outcome A} (next : A → Parser B) → Fits S at ks o
     → ((x : A) (xs rest : List TokenKind) → S x xs → Fits (λ y ys. T y (xs ++ ys)) (at + length xs) rest (next x (at + length xs) rest)) → Fits T at ks (after o next)
@@ -89,16 +131,16 @@ pub with_word : {A : Type 0} {S : Spelt A} {at : ℕ} (word : List ℕ) (next : 
 with_word word next g h = with_token (is_word word) (Lower word) next (is_that_word word) g h
 
 pub skip_sign : {A : Type 0} {S : Spelt A} {at : ℕ} {ks : List TokenKind} (s : Symbol) (next : Parser A) → ((rest : List TokenKind) → Fits (λ y ys. S y (Sign s ∷ ys)) (at + 1) rest (next (at + 1) rest)) → Fits S at ks (skip (is_sign s) next at ks)
-skip_sign s next g = with_sign s next g stops
+skip_sign {S = S} s next g = with_sign s next g (stops (opens_first S (Sign s) (opens (g []))))
 
 pub skip_word : {A : Type 0} {S : Spelt A} {at : ℕ} {ks : List TokenKind} (word : List ℕ) (next : Parser A) → ((rest : List TokenKind) → Fits (λ y ys. S y (Lower word ∷ ys)) (at + 1) rest (next (at + 1) rest)) → Fits S at ks (skip (is_word word) next at ks)
-skip_word word next g = with_word word next g stops
+skip_word {S = S} word next g = with_word word next g (stops (opens_first S (Lower word) (opens (g []))))
 
 pub expect_sign : {A : Type 0} {S : Spelt A} {at : ℕ} {ks : List TokenKind} (s : Symbol) (x : A) → S x (Sign s ∷ []) → Fits S at ks (expect (is_sign s) x at ks)
-expect_sign s x d = with_sign s (λ at ks. Found x at ks) (λ rest. found d) stops
+expect_sign s x d = with_sign s (λ at ks. Found x at ks) (λ rest. found d) (stops (Sign s ∷ [], x, d))
 
 pub expect_word : {A : Type 0} {S : Spelt A} {at : ℕ} {ks : List TokenKind} (word : List ℕ) (x : A) → S x (Lower word ∷ []) → Fits S at ks (expect (is_word word) x at ks)
-expect_word word x d = with_word word (λ at ks. Found x at ks) (λ rest. found d) stops
+expect_word word x d = with_word word (λ at ks. Found x at ks) (λ rest. found d) (stops (Lower word ∷ [], x, d))
 
 -- no token is lost: those that are left stand behind those that were read
 pub kept : {A : Type 0} {S : Spelt A} {at end : ℕ} {ks rest : List TokenKind} {x : A} {o : Outcome A} → Fits S at ks o → o ≡ Found x end rest → end + length rest ≡ at + length ks
@@ -108,5 +150,6 @@ kept {S = S} {at = at} {end = end} {ks = ks} {rest = rest} {x = x} g e =
     let here = f.fits.2 in
     omega arith
 
-pub stops_within : {A : Type 0} {S : Spelt A} {at place : ℕ} {ks : List TokenKind} {o : Outcome A} → Fits S at ks o → o ≡ Stops place → place ≤ at + length ks
-stops_within {S = S} {at = at} {place = place} {ks = ks} g e = (subst (Fits S at ks) e g).fits
+-- some spelling begins with the tokens in front of the place at which the parser stops
+pub stops_begun : {A : Type 0} {S : Spelt A} {at place : ℕ} {ks : List TokenKind} {o : Outcome A} → Fits S at ks o → o ≡ Stops place → StopsAt S at ks place
+stops_begun {S = S} {at = at} {place = place} {ks = ks} g e = (subst (Fits S at ks) e g).fits

@@ -1,3 +1,8 @@
+pub mod Alike
+pub mod AlikeExprs
+pub mod AlikeParts
+pub mod AlikeProcs
+pub mod AlikeScripts
 pub mod Blocks
 pub mod Chains
 pub mod Exits

@@ -3,15 +3,14 @@ use Rattle.std.proofs.Common.{◌≡◌, ◌≢◌, ℕ, ◌≤◌, ◌⊎◌, L
 use Rattle.std.specs.Prelude.{IfOk, IfErr}
 use Rattle.tb_lex.specs.declared.kind.TokenKind.{TokenKind}
 use Rattle.tb_syntax.specs.declared.script.Script.{Script}
-use Rattle.tb_syntax.specs.Limits.{IsTooDeep}
 use Rattle.tb_parse.specs.declared.fault.ParseFault.{ParseFault}
 use Rattle.tb_parse.specs.declared.fault.ParseFault.TheVariants as fault
 use Rattle.tb_parse.specs.Defining.{Judges}
-use Rattle.tb_parse.specs.Faults.{NoneTooDeep, IsScriptOf, IsTooHigh, HasFault}
+use Rattle.tb_parse.specs.Faults.{NoneTooDeep, IsScriptOf, HasFault}
 use Rattle.tb_parse.specs.Parsing.{script}
-use Rattle.tb_parse.proofs.Outcomes.{stopped, too_deep_unique, faults_apart, script_has_none}
+use Rattle.tb_parse.proofs.Outcomes.{stopped, fault_one, script_has_none, deep_is_other, syntax_is_other}
 use Rattle.tb_parse.proofs.ReadScripts.{unique}
-use Rattle.tb_parse.proofs.SoundScripts.{sound, place_within}
+use Rattle.tb_parse.proofs.SoundScripts.{sound}
 
 module _ (kinds : List TokenKind) where
   -- what was judged, where no brackets are too deep
@@ -21,7 +20,7 @@ module _ (kinds : List TokenKind) where
   judged_found room (Err f) shallow j = tt
 
   fault_of : (room : ℕ) (f : ParseFault) → length kinds ≤ room → NoneTooDeep kinds → Judges (script room 0 kinds) (Err f) → HasFault kinds f
-  fault_of room (fault.Syntax p) enough shallow j = (shallow, stopped kinds room p enough j, place_within room kinds p j)
+  fault_of room (fault.Syntax p) enough shallow j = stopped kinds room p enough shallow j
   fault_of room (fault.TooDeep p) enough shallow j = inr (record { shallow = shallow; script = j.0; spells = sound room kinds j.0 j.1.0 [] j.1.1; first = j.2 })
   fault_of room fault.NoMemory enough shallow j = tt
 
@@ -38,15 +37,9 @@ module _ (kinds : List TokenKind) where
   only_script (Ok t) found err s i = inl (ap (λ (s : Script). Ok s) (unique kinds t s found.spells i.spells))
   only_script (Err f) found err s i = inr (no_memory f refl (script_has_none kinds s f i err))
 
-  not_other : (p : ℕ) → fault.TooDeep p ≢ fault.NoMemory
-  not_other p e = cc
-
-  exact_of : (f : ParseFault) → HasFault kinds f → (place : ℕ) → HasFault kinds (fault.TooDeep place) → ◌⊎◌ (◌≡◌ {A = Result Script ParseFault} (Err f) (Err (fault.TooDeep place))) (◌≡◌ {A = Result Script ParseFault} (Err f) (Err fault.NoMemory))
-  exact_of (fault.Syntax q) h place d = absurd (faults_apart kinds place q d h)
-  exact_of (fault.TooDeep q) h place d = inl (ap (λ p. Err (fault.TooDeep p)) (too_deep_unique kinds q place h d))
-  exact_of fault.NoMemory h place d = inr refl
-
-  pub exact_fault : (r : Result Script ParseFault) → IfOk r (IsScriptOf kinds) → IfErr r (HasFault kinds) → (place : ℕ) → IsTooDeep kinds place ⊎ IsTooHigh kinds place
-      → (r ≡ Err (fault.TooDeep place)) ⊎ (r ≡ Err fault.NoMemory)
-  exact_fault (Ok t) found err place d = absurd (not_other place (script_has_none kinds t (fault.TooDeep place) found d))
-  exact_fault (Err f) found err place d = exact_of f err place d
+  pub exact_fault : (r : Result Script ParseFault) → IfOk r (IsScriptOf kinds) → IfErr r (HasFault kinds) → (f : ParseFault) → HasFault kinds f → f ≢ fault.NoMemory
+      → (r ≡ Err f) ⊎ (r ≡ Err fault.NoMemory)
+  exact_fault (Ok t) found err f has told = absurd (told (script_has_none kinds t f found has))
+  exact_fault (Err fault.NoMemory) found err f has told = inr refl
+  exact_fault (Err (fault.Syntax p)) found err f has told = inl (ap (λ (f : ParseFault). Err f) (fault_one kinds (fault.Syntax p) f err has (syntax_is_other p) told))
+  exact_fault (Err (fault.TooDeep p)) found err f has told = inl (ap (λ (f : ParseFault). Err f) (fault_one kinds (fault.TooDeep p) f err has (deep_is_other p) told))

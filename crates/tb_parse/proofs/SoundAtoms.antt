@@ -44,7 +44,7 @@ times_by inner room at name ks h false e = found (InRow.none at)
 
 pub times_sound : (inner room : ℕ) → Sound (InRow SpellsTime) (times inner room)
 unfolding times
-times_sound inner zero at ks = stops
+times_sound inner zero at ks = stops ([], [], InRow.none at)
 times_sound inner (suc room) at [] = found (InRow.none at)
 times_sound inner (suc room) at (Int n ∷ ks) = found (InRow.none at)
 times_sound inner (suc room) at (Str text ∷ ks) = found (InRow.none at)

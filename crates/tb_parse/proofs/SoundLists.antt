@@ -4,7 +4,7 @@ use Rattle.tb_lex.specs.declared.kind.TokenKind.{TokenKind}
 use Rattle.tb_lex.specs.declared.symbol.Symbol.TheVariants.{LeftParen, RightParen, Comma}
 use Rattle.tb_syntax.specs.Spelling.{Parted, InParens}
 use Rattle.tb_parse.specs.Parsing.{Parser, parted, in_parens, expect, is_sign, after, mapped}
-use Rattle.tb_parse.proofs.Fits.{Fits, found, stops, behind, mapping, with_sign, expect_sign}
+use Rattle.tb_parse.proofs.Fits.{Fits, found, stops, opens, behind, mapping, with_sign, expect_sign}
 
 -- a parser of things that are spelt so
 abbrev pub Sound : {A : Type 0} → (ℕ → A → List TokenKind → Type 0) → Parser A → Type 0
@@ -15,7 +15,7 @@ nothing_more S x xs s = subst (λ ys. S x ys) (sym (append-nil xs)) s
 
 pub parted_sound : {A : Type 0} (S : ℕ → A → List TokenKind → Type 0) (item : Parser A) → Sound S item → (room : ℕ) → Sound (Parted S) (parted item room)
 unfolding parted
-parted_sound S item h zero at ks = stops
+parted_sound S item h zero at ks = let least = opens (h at []) in stops (least.0, least.1 ∷ [], Parted.last least.2)
 parted_sound S item h (suc room) at ks = behind _ (h at ks) (λ x xs rest s.
     with_sign Comma (λ next ks. mapped (λ ys. x ∷ ys) (parted item room next ks))
     (λ rest. mapping _ (parted_sound S item h room (at + length xs + 1) rest) (λ ys zs t. Parted.more s t))

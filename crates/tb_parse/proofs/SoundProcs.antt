@@ -11,11 +11,11 @@ use Rattle.tb_syntax.specs.declared.level.Level.TheVariants as level
 use Rattle.tb_syntax.specs.declared.proc.ActDef.TheVariants as act
 use Rattle.tb_syntax.specs.declared.proc.Proc.{Proc}
 use Rattle.tb_syntax.specs.declared.proc.Proc.TheVariants as tree
-use Rattle.tb_syntax.specs.Spelling.{SpellsVar, SpellsAct, SpellsProc}
+use Rattle.tb_syntax.specs.Spelling.{SpellsArguments, SpellsVar, SpellsAct, SpellsProc}
 use Rattle.tb_syntax.specs.Words.{is_atom_word}
 use Rattle.tb_parse.specs.Parsing.{Parser, Outcome, Stops, after, mapped, is_sign, is_word, expect, in_parens, expr, create, timed, var, upper_proc, block, sides, test, lower_proc, prim_of, rightward, leftward, turns, sequence, choice, merge, prim, proc}
 use Rattle.tb_parse.proofs.Signs.{is_that_sign, same_name}
-use Rattle.tb_parse.proofs.Fits.{Fits, found, stops, token, behind, mapping, weaker, with_sign, with_word, skip_word, expect_sign, expect_word}
+use Rattle.tb_parse.proofs.Fits.{Fits, Opens, found, stops, opens, token, behind, mapping, weaker, with_sign, with_word, skip_word, expect_sign, expect_word}
 use Rattle.tb_parse.proofs.SoundLists.{Sound, nothing_more, parted_sound}
 use Rattle.tb_parse.proofs.SoundExprs.{expr_sound, arguments_sound, call_of_sound}
 use Rattle.tb_parse.proofs.SoundAtoms.{at_expr, create_sound, timed_sound, var_sound}
@@ -30,7 +30,7 @@ rightward_sound : (sign : Symbol) (join : Proc → Proc → Proc) (S R : ℕ →
     → ((at : ℕ) (x y : Proc) (xs ys : List TokenKind) → S at x xs → R (at + length xs + 1) y ys → R at (join x y) (xs ++ Sign sign ∷ ys))
     → (item : Parser Proc) → Sound S item → (room : ℕ) → Sound R (rightward sign join item room)
 unfolding rightward
-rightward_sound sign join S R one two item h zero at ks = stops
+rightward_sound sign join S R one two item h zero at ks = let least = opens (h at []) in stops (least.0, least.1, one at least.1 least.0 least.2)
 rightward_sound sign join S R one two item h (suc room) at ks = behind _ (h at ks) (λ x xs rest s.
     with_sign sign (λ next ks. mapped (join x) (rightward sign join item room next ks))
     (λ rest. mapping _ (rightward_sound sign join S R one two item h room (at + length xs + 1) rest) (λ y ys d. two at x y xs ys s d))
@@ -39,7 +39,7 @@ rightward_sound sign join S R one two item h (suc room) at ks = behind _ (h at k
 leftward_sound : (item : Parser Proc) → Sound (SpellsProc level.Prim) item → (room at : ℕ) (x : Proc) (xs : List TokenKind) → SpellsProc level.Star at x xs → (here : ℕ) → here ≡ at + length xs → (ks : List TokenKind)
     → Fits (λ y ys. SpellsProc level.Star at y (xs ++ ys)) here ks (leftward item room x here ks)
 unfolding leftward
-leftward_sound item h zero at x xs d here e ks = stops
+leftward_sound item h zero at x xs d here e ks = stops ([], x, nothing_more (SpellsProc level.Star at) x xs d)
 leftward_sound item h (suc room) at x xs d here e ks =
     with_sign Star (λ next ks. after (item next ks) (λ y. leftward item room (tree.Star x y)))
     (λ rest. behind _ (h (here + 1) rest) (λ y ys rest f.
@@ -95,20 +95,28 @@ test_sound whole h room place ks = behind _ (expr_sound room (place + 1) ks) (λ
     expect_word (codes "fi") _ (SpellsProc.test_else d (at_proc (omega arith) e) (at_proc (omega arith) f))))
     (expect_word (codes "fi") _ (SpellsProc.test d (at_proc (omega arith) e))))))
 
+-- some call may stand there
+no_prim : (at : ℕ) → Opens (SpellsProc level.Prim at) []
+no_prim at = (
+  Upper (codes "A") ∷ [],
+  tree.Call (record { name = codes "A"; actuals = []; token = at }),
+  SpellsProc.call (record { place = refl; actuals = []; are_actuals = SpellsArguments.none (at + 1); is = refl }),
+)
+
 abbrev LowerSound : ℕ → List ℕ → List TokenKind → Outcome Proc → Type 0
-LowerSound place name ks o = Fits (λ p ns. SpellsProc level.Prim place p (Lower name ∷ ns)) (place + 1) ks o
+LowerSound place name ks o = Fits (SpellsProc level.Prim place) place (Lower name ∷ ks) o
 
 named_sound : (room place : ℕ) (name : List ℕ) (ks : List TokenKind) (b : Bool) → is_atom_word name ≡ b
     → LowerSound place name ks (if b then after (mapped (act.Named name) (in_parens (expr room) room (place + 1) ks)) (timed room place) else Stops place)
 named_sound room place name ks true e =
-    behind _ (mapping {T = λ a ns. SpellsAct place a (Lower name ∷ ns)} _ (arguments_sound room (place + 1) ks) (λ xs ns d. SpellsAct.named name e d))
-    (λ a bs rest d. timed_sound room place a (Lower name ∷ bs) d (place + 1 + length bs) (omega arith) rest)
-named_sound room place name ks false e = record { fits = omega arith }
+    token (behind _ (mapping {T = λ a ns. SpellsAct place a (Lower name ∷ ns)} _ (arguments_sound room (place + 1) ks) (λ xs ns d. SpellsAct.named name e d))
+    (λ a bs rest d. timed_sound room place a (Lower name ∷ bs) d (place + 1 + length bs) (omega arith) rest))
+named_sound room place name ks false e = stops (no_prim place)
 
 create_by : (room place : ℕ) (name : List ℕ) (ks : List TokenKind) (other : Outcome Proc) → LowerSound place name ks other → (b : Bool) → bytes_eq name (codes "create") ≡ b
     → LowerSound place name ks (if b then after (create room (place + 1) ks) (timed room place) else other)
 create_by room place name ks other h true e =
-    rw (same_name name (codes "create") e) (behind _ (create_sound room place ks) (λ a bs rest d. timed_sound room place a (Lower (codes "create") ∷ bs) d (place + 1 + length bs) (omega arith) rest))
+    rw (same_name name (codes "create") e) (token (behind _ (create_sound room place ks) (λ a bs rest d. timed_sound room place a (Lower (codes "create") ∷ bs) d (place + 1 + length bs) (omega arith) rest)))
 create_by room place name ks other h false e = h
 
 word_by : (place : ℕ) (name word : List ℕ) (ks : List TokenKind) (one other : Outcome Proc) → LowerSound place word ks one → LowerSound place name ks other → (b : Bool) → bytes_eq name word ≡ b
@@ -119,8 +127,8 @@ word_by place name word ks one other g h false e = h
 lower_proc_sound : (whole : Parser Proc) → Sound (SpellsProc level.Proc) whole → (room : ℕ) (name : List ℕ) (place : ℕ) (ks : List TokenKind) → LowerSound place name ks (lower_proc whole room name place (place + 1) ks)
 unfolding lower_proc
 lower_proc_sound whole h room name place ks =
-    word_by place name (codes "let") ks _ _ (block_sound whole h room place ks)
-    (word_by place name (codes "if") ks _ _ (test_sound whole h room place ks)
+    word_by place name (codes "let") ks _ _ (token (block_sound whole h room place ks))
+    (word_by place name (codes "if") ks _ _ (token (test_sound whole h room place ks))
     (create_by room place name ks _ (named_sound room place name ks (is_atom_word name) refl) (bytes_eq name (codes "create")) refl)
     (bytes_eq name (codes "if")) refl)
     (bytes_eq name (codes "let")) refl
@@ -129,20 +137,20 @@ parens_by : (whole : Parser Proc) → Sound (SpellsProc level.Proc) whole → (a
     → Fits (SpellsProc level.Prim at) at (Sign symbol ∷ ks) (if b then after (whole (at + 1) ks) (expect (is_sign RightParen)) else Stops at)
 parens_by whole h at symbol ks true e =
     token (rw (is_that_sign LeftParen (Sign symbol) e) (behind _ (h (at + 1) ks) (λ x xs rest d. expect_sign RightParen x (SpellsProc.parens d))))
-parens_by whole h at symbol ks false e = stops
+parens_by whole h at symbol ks false e = stops (no_prim at)
 
 prim_of_sound : (whole : Parser Proc) → Sound (SpellsProc level.Proc) whole → (room : ℕ) → Sound (SpellsProc level.Prim) (prim_of whole room)
 unfolding prim_of
-prim_of_sound whole h room at [] = stops
-prim_of_sound whole h room at (Int n ∷ ks) = stops
-prim_of_sound whole h room at (Str text ∷ ks) = stops
-prim_of_sound whole h room at (Lower name ∷ ks) = token (lower_proc_sound whole h room name at ks)
+prim_of_sound whole h room at [] = stops (no_prim at)
+prim_of_sound whole h room at (Int n ∷ ks) = stops (no_prim at)
+prim_of_sound whole h room at (Str text ∷ ks) = stops (no_prim at)
+prim_of_sound whole h room at (Lower name ∷ ks) = lower_proc_sound whole h room name at ks
 prim_of_sound whole h room at (Upper name ∷ ks) = token (upper_proc_sound room name at ks)
 prim_of_sound whole h room at (Sign symbol ∷ ks) = parens_by whole h at symbol ks (is_sign LeftParen (Sign symbol)) refl
 
 prim_sound : (room : ℕ) → Sound (SpellsProc level.Prim) (prim room)
 unfolding prim
-prim_sound zero at ks = stops
+prim_sound zero at ks = stops (no_prim at)
 prim_sound (suc room) at ks = prim_of_sound (merge (prim room) room) (merge_sound (prim room) (prim_sound room) room) room at ks
 
 pub proc_sound : (room : ℕ) → Sound (SpellsProc level.Proc) (proc room)

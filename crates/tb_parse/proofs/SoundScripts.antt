@@ -1,5 +1,7 @@
--- What is read as a script is spelt so, and a fault stands at a token or behind the last.
-use Rattle.std.proofs.Common.{◌≡◌, ℕ, zero, suc, ◌+◌, ◌≤◌, Bool, true, false, List, [], ◌∷◌, ◌++◌, length, Option, Some, if◌then◌else◌, refl, ap, sym, ◌∙◌, subst, arith, codes, append-nil}
+-- What is read as a script is spelt so, and what stands in front of a fault begins a script's spelling.
+use Rattle.std.proofs.Common.{◌≡◌, ℕ, zero, suc, ◌+◌, ◌≤◌, Bool, true, false, List, [], ◌∷◌, ◌++◌, length, take, Option, Some, if◌then◌else◌, refl, ap, sym, ◌∙◌, subst, arith, codes, append-nil}
+use Rattle.std.proofs.lemmas.List.{length-append}
+use Rattle.std.proofs.Math.Seq.{take-append_seam}
 use Rattle.tb_lex.specs.declared.kind.TokenKind.{TokenKind}
 use Rattle.tb_lex.specs.declared.kind.TokenKind.TheVariants.{Int, Str, Lower, Upper, Symbol as Sign}
 use Rattle.tb_lex.specs.declared.symbol.Symbol.TheVariants.{LeftParen, RightParen, LeftBrace, RightBrace, Equals, Question}
@@ -9,8 +11,9 @@ use Rattle.tb_syntax.specs.declared.script.Formal.{Formal}
 use Rattle.tb_syntax.specs.declared.script.Script.{Script}
 use Rattle.tb_syntax.specs.declared.script.ToolDef.{ToolDef}
 use Rattle.tb_syntax.specs.Spelling.{InParens, SpellsCall, SpellsFormal, SpellsProcDef, SpellsToolDef, SpellsDefinitions, SpellsRoots, Spells, SpellsVar, mark, command_tokens}
+use Rattle.tb_parse.specs.Faults.{Begins}
 use Rattle.tb_parse.specs.Parsing.{Parser, Outcome, Found, Stops, after, mapped, begins, tail, is_sign, is_word, expect, skip, text, call, proc, formal, process, command, tool, Defined, with_process, with_tool, definitions, roots, at_end, script}
-use Rattle.tb_parse.proofs.Fits.{Fits, found, stops, token, behind, mapping, with_sign, with_word, skip_sign, skip_word, expect_sign}
+use Rattle.tb_parse.proofs.Fits.{Fits, Opens, found, stops, token, behind, mapping, with_sign, with_word, skip_sign, skip_word, expect_sign, stops_begun}
 use Rattle.tb_parse.proofs.SoundLists.{Sound, parted_sound, in_parens_sound}
 use Rattle.tb_parse.proofs.SoundSorts.{upper_sound, free_name_sound}
 use Rattle.tb_parse.proofs.SoundExprs.{call_sound}
@@ -46,13 +49,17 @@ process_sound room place ks = behind _ (upper_sound (place + 1) ks) (λ name xs 
 abbrev IsText : List ℕ → List TokenKind → Type 0
 IsText bytes ks = ks ≡ Str bytes ∷ []
 
+-- some text may stand there
+no_text : Opens IsText []
+no_text = (Str [] ∷ [], [], refl)
+
 text_sound : (at : ℕ) (ks : List TokenKind) → Fits IsText at ks (text at ks)
-text_sound at [] = stops
-text_sound at (Int n ∷ ks) = stops
+text_sound at [] = stops no_text
+text_sound at (Int n ∷ ks) = stops no_text
 text_sound at (Str bytes ∷ ks) = token (found refl)
-text_sound at (Lower name ∷ ks) = stops
-text_sound at (Upper name ∷ ks) = stops
-text_sound at (Sign symbol ∷ ks) = stops
+text_sound at (Lower name ∷ ks) = stops no_text
+text_sound at (Upper name ∷ ks) = stops no_text
+text_sound at (Sign symbol ∷ ks) = stops no_text
 
 abbrev IsCommand : Option (List ℕ) → List TokenKind → Type 0
 IsCommand o ks = ks ≡ command_tokens o
@@ -84,7 +91,7 @@ at_defined {d = d} {ks = ks} e s = subst (λ n. SpellsDefined n d ks) e s
 
 definitions_sound : (inner room : ℕ) → Sound SpellsDefined (definitions inner room)
 unfolding definitions
-definitions_sound inner zero at ks = stops
+definitions_sound inner zero at ks = stops ([], record { procs = []; tools = [] }, SpellsDefinitions.none at)
 definitions_sound inner (suc room) at ks =
     with_word (codes "process") (λ next ks. after (process inner at next ks) (λ d at ks. mapped (with_process d) (definitions inner room at ks)))
     (λ rest. behind _ (process_sound inner at rest) (λ d ds rest p.
@@ -106,7 +113,7 @@ roots_sound room at ks =
 
 end_sound : {A : Type 0} {S : A → List TokenKind → Type 0} (x : A) → S x [] → (at : ℕ) (ks : List TokenKind) → Fits S at ks (at_end x at ks)
 end_sound x s at [] = found s
-end_sound x s at (k ∷ ks) = stops
+end_sound x s at (k ∷ ks) = stops ([], x, s)
 
 script_made : (defined : Defined) (ds : List TokenKind) (calls : List Call) (cs : List TokenKind) → SpellsDefined 0 defined ds → ClosedRoots (length ds + 2) calls cs
     → Spells (record { procs = defined.procs; tools = defined.tools; roots = calls }) (ds ++ Lower (codes "toolbus") ∷ Sign LeftParen ∷ (cs ++ []))
@@ -156,9 +163,12 @@ sound room ks s at rest e =
     let all : ks ≡ f.fits.0 = f.fits.1 ∙ ap (λ l. f.fits.0 ++ l) none ∙ append-nil f.fits.0 in
     subst (Spells s) (sym all) f.fits.3
 
--- the place of a fault is one of the tokens', or their end
-pub place_within : (room : ℕ) (ks : List TokenKind) (place : ℕ) → script room 0 ks ≡ Stops place → place ≤ length ks
-place_within room ks place e =
-    let f : Fits Spells 0 ks (Stops place) = subst (Fits Spells 0 ks) e (script_fits room ks) in
-    let within : place ≤ 0 + length ks = f.fits in
-    omega arith
+-- the place of a fault is one of the tokens', or their end, and the tokens in front of it begin some script's spelling
+pub begun : (room : ℕ) (ks : List TokenKind) (place : ℕ) → script room 0 ks ≡ Stops place → (place ≤ length ks) × Begins (take place ks)
+begun room ks place e =
+    let f = stops_begun (script_fits room ks) e in
+    let here : place ≡ 0 + length f.0 = f.3 in
+    let place_is : place ≡ length f.0 = omega arith in
+    let all : length ks ≡ length f.0 + length f.1 = ap length f.2 ∙ length-append f.0 f.1 in
+    let prefix : take place ks ≡ f.0 = ap (take place) f.2 ∙ ap (λ n. take n (f.0 ++ f.1)) place_is ∙ take-append_seam f.0 f.1 in
+    (omega arith, subst Begins (sym prefix) f.4)

@@ -10,7 +10,7 @@ use Rattle.tb_syntax.specs.Spelling.{IsSortWord, SpellsSort}
 use Rattle.tb_syntax.specs.Words.{is_free, is_sort_word}
 use Rattle.tb_parse.specs.Parsing.{Parser, Outcome, Found, Stops, after, mapped, begins, tail, is_sign, expect, lower, upper, free_name, word_sort, named_sort, sort}
 use Rattle.tb_parse.proofs.Signs.{same_name}
-use Rattle.tb_parse.proofs.Fits.{Fits, found, stops, token, behind, mapping, with_sign, expect_sign}
+use Rattle.tb_parse.proofs.Fits.{Fits, Opens, found, stops, token, behind, mapping, with_sign, expect_sign}
 
 -- what is said of a name and its token
 abbrev pub IsLower : List ℕ → List TokenKind → Type 0
@@ -19,37 +19,47 @@ IsLower name ks = ks ≡ Lower name ∷ []
 abbrev pub IsUpper : List ℕ → List TokenKind → Type 0
 IsUpper name ks = ks ≡ Upper name ∷ []
 
+-- some name may stand there
+no_lower : Opens IsLower []
+no_lower = (Lower (codes "a") ∷ [], codes "a", refl)
+
+no_upper : Opens IsUpper []
+no_upper = (Upper (codes "A") ∷ [], codes "A", refl)
+
 pub lower_sound : (at : ℕ) (ks : List TokenKind) → Fits IsLower at ks (lower at ks)
-lower_sound at [] = stops
-lower_sound at (Int n ∷ ks) = stops
-lower_sound at (Str text ∷ ks) = stops
+lower_sound at [] = stops no_lower
+lower_sound at (Int n ∷ ks) = stops no_lower
+lower_sound at (Str text ∷ ks) = stops no_lower
 lower_sound at (Lower name ∷ ks) = token (found refl)
-lower_sound at (Upper name ∷ ks) = stops
-lower_sound at (Sign symbol ∷ ks) = stops
+lower_sound at (Upper name ∷ ks) = stops no_lower
+lower_sound at (Sign symbol ∷ ks) = stops no_lower
 
 pub upper_sound : (at : ℕ) (ks : List TokenKind) → Fits IsUpper at ks (upper at ks)
-upper_sound at [] = stops
-upper_sound at (Int n ∷ ks) = stops
-upper_sound at (Str text ∷ ks) = stops
-upper_sound at (Lower name ∷ ks) = stops
+upper_sound at [] = stops no_upper
+upper_sound at (Int n ∷ ks) = stops no_upper
+upper_sound at (Str text ∷ ks) = stops no_upper
+upper_sound at (Lower name ∷ ks) = stops no_upper
 upper_sound at (Upper name ∷ ks) = token (found refl)
-upper_sound at (Sign symbol ∷ ks) = stops
+upper_sound at (Sign symbol ∷ ks) = stops no_upper
 
 abbrev pub IsFree : List ℕ → List TokenKind → Type 0
 IsFree name ks = (is_free name ≡ true) × (ks ≡ Lower name ∷ [])
 
+no_free_name : Opens IsFree []
+no_free_name = (Lower (codes "a") ∷ [], codes "a", (refl, refl))
+
 free_by : (at : ℕ) (ks : List TokenKind) (name : List ℕ) (b : Bool) → is_free name ≡ b → Fits IsFree at (Lower name ∷ ks) (if b then Found name (at + 1) ks else Stops at)
 free_by at ks name true e = token (found (e, refl))
-free_by at ks name false e = stops
+free_by at ks name false e = stops no_free_name
 
 pub free_name_sound : (at : ℕ) (ks : List TokenKind) → Fits IsFree at ks (free_name at ks)
 unfolding free_name
-free_name_sound at [] = stops
-free_name_sound at (Int n ∷ ks) = stops
-free_name_sound at (Str text ∷ ks) = stops
+free_name_sound at [] = stops no_free_name
+free_name_sound at (Int n ∷ ks) = stops no_free_name
+free_name_sound at (Str text ∷ ks) = stops no_free_name
 free_name_sound at (Lower name ∷ ks) = free_by at ks name (is_free name) refl
-free_name_sound at (Upper name ∷ ks) = stops
-free_name_sound at (Sign symbol ∷ ks) = stops
+free_name_sound at (Upper name ∷ ks) = stops no_free_name
+free_name_sound at (Sign symbol ∷ ks) = stops no_free_name
 
 -- what is said of a name by the sort that its word stands for
 abbrev pub NamedAs : List ℕ → Option Sort → Type 0
@@ -146,6 +156,6 @@ behind_sound item h at name rest f false e = plain_sound at name (at + 1) rest f
 
 pub sort_sound : (room at : ℕ) (ks : List TokenKind) → Fits (SpellsPlaced at) at ks (sort room at ks)
 unfolding sort inside_of plain
-sort_sound zero at ks = stops
+sort_sound zero at ks = stops (Lower (codes "int") ∷ [], (sorts.Int, at), SpellsSort.plain at IsSortWord.int)
 sort_sound (suc room) at ks = behind _ (free_name_sound at ks) (λ name xs rest f.
     rw f.1 (behind_sound (sort room) (sort_sound room) at name rest f.0 (bytes_eq name (codes "list")) refl))

@@ -1,5 +1,5 @@
 -- Which fault tokens have that are no script within the limits: brackets first, then the grammar, then heights.
-use Rattle.std.specs.Prelude.{◌≡◌, ℕ, ◌+◌, ◌<◌, ◌≤◌, List, length, take, Some, None, ◌⊎◌}
+use Rattle.std.specs.Prelude.{◌≡◌, ℕ, ◌+◌, ◌<◌, ◌≤◌, List, ◌++◌, length, take, Some, None, ◌⊎◌}
 use Rattle.tb_lex.specs.declared.kind.TokenKind.{TokenKind}
 use Rattle.tb_syntax.specs.declared.script.Script.{Script}
 use Rattle.tb_syntax.specs.Limits.{open_brackets, IsTooDeep, first_too_high}
@@ -21,6 +21,18 @@ pub record IsScriptOf (kinds : List TokenKind) (script : Script) : Type 0 where
 abbrev pub IsUnspelt : List TokenKind → Type 0
 IsUnspelt kinds = (script : Script) → Spells script kinds → ⊥
 
+-- the spelling of some script begins with the tokens
+abbrev pub Begins : List TokenKind → Type 0
+Begins prefix = (more : List TokenKind) × (script : Script) × Spells script (prefix ++ more)
+
+-- the tokens in front of the place begin some script's spelling, and with the one at the place they begin none, unless the place is their end
+pub record IsSyntaxFault (kinds : List TokenKind) (place : ℕ) : Type 0 where
+  pub shallow : NoneTooDeep kinds
+  pub unspelt : IsUnspelt kinds
+  pub is_place : place ≤ length kinds
+  pub begun : Begins (take place kinds)
+  pub stops : place < length kinds → Begins (take (place + 1) kinds) → ⊥
+
 -- a script is spelt, and this is the place of its first definition whose body is too high
 pub record IsTooHigh (kinds : List TokenKind) (place : ℕ) : Type 0 where
   pub shallow : NoneTooDeep kinds
@@ -28,8 +40,8 @@ pub record IsTooHigh (kinds : List TokenKind) (place : ℕ) : Type 0 where
   pub spells : Spells script kinds
   pub first : first_too_high script.procs ≡ Some place
 
--- Of the place of a fault of the grammar nothing is said but that it is one of the tokens', or their end. Want of memory may come at any time.
+-- Want of memory may come at any time.
 abbrev pub HasFault : List TokenKind → ParseFault → Type 0
 HasFault kinds (fault.TooDeep place) = IsTooDeep kinds place ⊎ IsTooHigh kinds place
-HasFault kinds (fault.Syntax place) = NoneTooDeep kinds × IsUnspelt kinds × (place ≤ length kinds)
+HasFault kinds (fault.Syntax place) = IsSyntaxFault kinds place
 HasFault kinds fault.NoMemory = Unit {0}

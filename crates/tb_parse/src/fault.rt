@@ -5,7 +5,8 @@ use thiserror::Error;
 /// Why tokens are no script. Places count the tokens from 0.
 #[derive(Clone, Copy, Debug, Drop, Error, PartialEq, Eq)]
 pub enum ParseFault {
-    /// No script is spelt by the tokens; the first token that can't go on, or the number of tokens.
+    /// No script is spelt by the tokens; the first token with which no script goes on, or the number
+    /// of tokens where all of them begin one.
     #[error("syntax at token {0}")]
     Syntax(usize),
     /// The first token behind which more than 128 of `(`, `[`, `let` and `if` are open; or, where a

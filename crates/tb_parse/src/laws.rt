@@ -1,23 +1,23 @@
 //! What holds of tokens whatever they are. These calls change nothing: their contracts are the laws.
 
-ghost use Rattle.std.specs.Prelude.{◌≡◌, ◌≢◌, ◌⊎◌, ℕ, List};
+ghost use Rattle.std.specs.Prelude.{◌≡◌, ◌≢◌, ◌⊎◌, List};
 ghost use Rattle.tb_lex.specs.declared.kind.TokenKind.{TokenKind};
 ghost use Rattle.tb_syntax.specs.declared.script.Script.{Script};
 ghost use Rattle.tb_syntax.specs.Spelling.{Spells};
 ghost use Rattle.tb_parse.specs.Faults.{IsScriptOf, HasFault};
 ghost use Rattle.tb_parse.specs.declared.fault.ParseFault.{ParseFault};
-ghost use Rattle.tb_parse.specs.declared.fault.ParseFault.TheVariants.{Syntax, TooDeep, NoMemory};
+ghost use Rattle.tb_parse.specs.declared.fault.ParseFault.TheVariants.{NoMemory};
 
 /// Tokens spell one script at most.
 pub fn spelling_is_unique()
     ensures { (kinds : List TokenKind) (s t : Script) → Spells s kinds → Spells t kinds → s ≡ t }
 {}
 
-/// But for want of memory, tokens have one fault at most, save that nothing is said of the place of a
-/// fault of the grammar, and none where they are a script within the limits.
+/// But for want of memory, tokens have one fault at most, and none where they are a script within the
+/// limits.
 pub fn faults_are_unique()
-    ensures deep { (kinds : List TokenKind) (p q : ℕ) → HasFault kinds (TooDeep p) → HasFault kinds (TooDeep q) → p ≡ q }
-    ensures apart { (kinds : List TokenKind) (p q : ℕ) → HasFault kinds (TooDeep p) → HasFault kinds (Syntax q) → ⊥ }
+    ensures one { (kinds : List TokenKind) (f g : ParseFault) → HasFault kinds f → HasFault kinds g
+        → f ≢ NoMemory → g ≢ NoMemory → f ≡ g }
     ensures none { (kinds : List TokenKind) (script : Script) (f : ParseFault) → IsScriptOf kinds script
         → HasFault kinds f → f ≡ NoMemory }
 {}

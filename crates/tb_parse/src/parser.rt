@@ -1,8 +1,7 @@
-ghost use Rattle.std.specs.Prelude.{◌≡◌, ◌⊎◌, ℕ, IfOk, IfErr, Ok, Err};
-ghost use Rattle.tb_syntax.specs.Limits.{IsTooDeep};
+ghost use Rattle.std.specs.Prelude.{◌≡◌, ◌≢◌, ◌⊎◌, IfOk, IfErr, Ok, Err};
 ghost use Rattle.tb_syntax.specs.Spelling.{kinds_of};
 ghost use Rattle.tb_syntax.specs.declared.script.Script.{Script};
-ghost use Rattle.tb_parse.specs.Faults.{IsScriptOf, IsTooHigh, HasFault};
+ghost use Rattle.tb_parse.specs.Faults.{IsScriptOf, HasFault};
 ghost use Rattle.tb_parse.specs.declared.fault.ParseFault.{ParseFault};
 
 use crate::ParseFault;
@@ -22,9 +21,9 @@ pub fn parse(alloc: Global, tokens: &Tokens) -> Result<Script, ParseFault>
         → (result ≡ Ok script) ⊎ (result ≡ Err ParseFault.NoMemory) }
     ensures fault { IfErr result (HasFault (kinds_of tokens.now)) }
 
-    // Where too many brackets are open or a body is too high, this is what comes.
-    ensures exact { (place : ℕ) → IsTooDeep (kinds_of tokens.now) place ⊎ IsTooHigh (kinds_of tokens.now) place
-        → (result ≡ Err (ParseFault.TooDeep place)) ⊎ (result ≡ Err ParseFault.NoMemory) }
+    // Where the tokens have a fault, this is what comes.
+    ensures exact { (f : ParseFault) → HasFault (kinds_of tokens.now) f → f ≢ ParseFault.NoMemory
+        → (result ≡ Err f) ⊎ (result ≡ Err ParseFault.NoMemory) }
 {
     read(alloc, tokens.as_slice())
 }

@@ -47,12 +47,14 @@ static SYNTAX_OF_DEFINITIONS: [(&[u8], usize); 18] = [
     (b"tool t is { command \"x\" } toolbus()", 5),
 ];
 
-static SYNTAX_OF_BODIES: [(&[u8], usize); 22] = [
+static SYNTAX_OF_BODIES: [(&[u8], usize); 24] = [
     (b"process P is", 3),
     (b"process P is toolbus()", 3),
     (b"process P is delay(3) toolbus()", 3),
     (b"process P is tau tau toolbus()", 4),
     (b"process P is tau . toolbus()", 5),
+    (b"process P is tau . toolbus(P)", 5),
+    (b"process P is tau toolbus(P", 7),
     (b"process P is tau * toolbus()", 5),
     (b"process P is tau || || tau toolbus()", 5),
     (b"process P is (tau toolbus()", 5),

@@ -1,17 +1,16 @@
 -- What is found of a text, and that nothing else is: by what the parts of the loader answer.
-use Rattle.std.proofs.Common.{◌≡◌, ◌≢◌, ◌⊎◌, ⊎_elim, inl, inr, ℕ, ◌<◌, ◌≤◌, List, length, Option, Some, None, Result, Ok, Err, refl, sym, ap, subst, ◌∙◌, arith}
+use Rattle.std.proofs.Common.{◌≡◌, ◌≢◌, ◌⊎◌, ⊎_elim, ℕ, ◌<◌, ◌≤◌, List, length, Some, None, Result, Ok, Err, sym, ap, subst, ◌∙◌, arith}
 use Rattle.tb_body.specs.declared.program.Program.{Program}
 use Rattle.tb_lex.specs.declared.fault.LexFault.{LexFault}
 use Rattle.tb_lex.specs.declared.fault.LexFault.TheVariants as lex
 use Rattle.tb_lex.specs.declared.token.Token.{Token}
 use Rattle.tb_lex.specs.Tokens.{Lexes}
 use Rattle.tb_lex.specs.Faults.{HasFault as HasLexFault}
-use Rattle.tb_syntax.specs.Limits.{IsTooDeep}
 use Rattle.tb_syntax.specs.Spelling.{kinds_of}
 use Rattle.tb_syntax.specs.declared.script.Script.{Script}
 use Rattle.tb_parse.specs.declared.fault.ParseFault.{ParseFault}
 use Rattle.tb_parse.specs.declared.fault.ParseFault.TheVariants as parse
-use Rattle.tb_parse.specs.Faults.{HasFault as HasParseFault, IsScriptOf, IsTooHigh}
+use Rattle.tb_parse.specs.Faults.{HasFault as HasParseFault, IsScriptOf}
 use Rattle.tb_types.specs.declared.fault.CheckFault.{CheckFault}
 use Rattle.tb_types.specs.declared.fault.CheckFault.TheVariants as check
 use Rattle.tb_types.specs.Conditions.{Proper, IsFault}
@@ -109,15 +108,13 @@ module _ (text : List ℕ) (r : Result (List Token) LexFault)
 
 module _ (tokens : List Token) (r : Result Script ParseFault)
     (only : (script : Script) → IsScriptOf (kinds_of tokens) script → (r ≡ Ok script) ⊎ (r ≡ Err parse.NoMemory))
-    (exact : (place : ℕ) → IsTooDeep (kinds_of tokens) place ⊎ IsTooHigh (kinds_of tokens) place → (r ≡ Err (parse.TooDeep place)) ⊎ (r ≡ Err parse.NoMemory)) where
+    (exact : (f : ParseFault) → HasParseFault (kinds_of tokens) f → f ≢ parse.NoMemory → (r ≡ Err f) ⊎ (r ≡ Err parse.NoMemory)) where
   no-fault : (script : Script) → r ≡ Ok script → IsScriptOf (kinds_of tokens) script → (f : ParseFault) → f ≢ parse.NoMemory → HasParseFault (kinds_of tokens) f → ⊥
-  no-fault script came is (parse.Syntax place) told h = h.1 script is.spells
-  no-fault script came is (parse.TooDeep place) told h =
+  no-fault script came is f told h =
       ⊎_elim
-      (λ (e : r ≡ Err (parse.TooDeep place)). ok-err script (parse.TooDeep place) (sym came ∙ e))
+      (λ (e : r ≡ Err f). ok-err script f (sym came ∙ e))
       (λ (e : r ≡ Err parse.NoMemory). ok-err script parse.NoMemory (sym came ∙ e))
-      (exact place h)
-  no-fault script came is parse.NoMemory told h = told refl
+      (exact f h told)
 
   -- this script came
   pub script_found : (script : Script) → r ≡ Ok script → IsScriptOf (kinds_of tokens) script → (text : List ℕ) → HasOnlyTokens text tokens → IsOnlyScript text script
@@ -142,36 +139,19 @@ module _ (tokens : List Token) (r : Result Script ParseFault)
   no-spelt : (f : ParseFault) → r ≡ Err f → f ≢ parse.NoMemory → (text : List ℕ) → HasOnlyTokens text tokens → Spelt text → ⊥
   no-spelt f came told text lexed h = no-script f came told text lexed h.script h.is_text
 
-  -- brackets or a height come before the grammar, or have a script
-  deep-spelt : (p q : ℕ) → HasParseFault (kinds_of tokens) (parse.TooDeep p) → HasParseFault (kinds_of tokens) (parse.Syntax q) → ⊥
-  deep-spelt p q (inl deep) h = omega (arith, deep.is_over, h.0 p deep.is_place)
-  deep-spelt p q (inr high) h = h.1 high.script high.spells
-
-  same-fault : (f g : ParseFault) → r ≡ Err f → f ≢ parse.NoMemory → HasParseFault (kinds_of tokens) f → g ≢ parse.NoMemory → HasParseFault (kinds_of tokens) g → IsSame (NoScript f) (NoScript g)
-  same-fault (parse.Syntax p) (parse.Syntax q) came told has other h = tt
-  same-fault (parse.Syntax p) (parse.TooDeep q) came told has other h =
+  same-fault : (f g : ParseFault) → r ≡ Err f → f ≢ parse.NoMemory → g ≢ parse.NoMemory → HasParseFault (kinds_of tokens) g → g ≡ f
+  same-fault f g came told other h =
       ⊎_elim
-      (λ (e : r ≡ Err (parse.TooDeep q)). absurd (syntax-deep p q (err-same (parse.Syntax p) (parse.TooDeep q) (sym came ∙ e))))
-      (λ (e : r ≡ Err parse.NoMemory). absurd (told (err-same (parse.Syntax p) parse.NoMemory (sym came ∙ e))))
-      (exact q h) where
-        syntax-deep : (p q : ℕ) → parse.Syntax p ≡ parse.TooDeep q → ⊥
-        syntax-deep p q e = absurd cc
-  same-fault (parse.Syntax p) parse.NoMemory came told has other h = absurd (other refl)
-  same-fault (parse.TooDeep p) (parse.Syntax q) came told has other h = absurd (deep-spelt p q has h)
-  same-fault (parse.TooDeep p) (parse.TooDeep q) came told has other h =
-      ⊎_elim
-      (λ (e : r ≡ Err (parse.TooDeep q)). ap NoScript (sym (err-same (parse.TooDeep p) (parse.TooDeep q) (sym came ∙ e))))
-      (λ (e : r ≡ Err parse.NoMemory). absurd (told (err-same (parse.TooDeep p) parse.NoMemory (sym came ∙ e))))
-      (exact q h)
-  same-fault (parse.TooDeep p) parse.NoMemory came told has other h = absurd (other refl)
-  same-fault parse.NoMemory g came told has other h = absurd (told refl)
+      (λ (e : r ≡ Err g). sym (err-same f g (sym came ∙ e)))
+      (λ (e : r ≡ Err parse.NoMemory). absurd (told (err-same f parse.NoMemory (sym came ∙ e))))
+      (exact g h other)
 
   -- this fault came
   pub parsing_failed : (f : ParseFault) → r ≡ Err f → f ≢ parse.NoMemory → HasParseFault (kinds_of tokens) f → (text : List ℕ) → HasOnlyTokens text tokens → IsFound text (NoScript f)
   parsing_failed f came told has text lexed = record { holds = record { not_memory = told; tokens = tokens; has_tokens = lexed.has_tokens; fault_is = has }; only = rest } where
     rest : (other : Finding) → Holds text other → IsSame (NoScript f) other
     rest (NoTokens g) h = absurd (lexed.sound g h)
-    rest (NoScript g) h = same-fault f g came told has h.not_memory (subst (λ ts. HasParseFault (kinds_of ts) g) (lexed.one h.tokens h.has_tokens) h.fault_is)
+    rest (NoScript g) h = ap NoScript (same-fault f g came told h.not_memory (subst (λ ts. HasParseFault (kinds_of ts) g) (lexed.one h.tokens h.has_tokens) h.fault_is))
     rest (Improper g) h = absurd (no-spelt f came told text lexed (spelt text (Improper g) tt h))
     rest (Recursive names) h = absurd (no-spelt f came told text lexed (spelt text (Recursive names) tt h))
     rest (Large name) h = absurd (no-spelt f came told text lexed (spelt text (Large name) tt h))

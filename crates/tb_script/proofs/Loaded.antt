@@ -1,5 +1,5 @@
 -- What the parts of the loader answered is what is found of the text.
-use Rattle.std.proofs.Common.{◌≡◌, ℕ, List, Result, Ok, Err}
+use Rattle.std.proofs.Common.{ℕ, List, Err}
 use Rattle.tb_body.specs.declared.body.Body.{Body}
 use Rattle.tb_syntax.specs.declared.script.Script.{Script}
 use Rattle.tb_types.specs.declared.fault.CheckFault.{CheckFault}

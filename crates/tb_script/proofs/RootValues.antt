@@ -1,5 +1,5 @@
 -- The value of a root's actual is within the limits of terms.
-use Rattle.std.proofs.Common.{◌≡◌, ℤ, Bool, true, false, List, [], Option, Some, None, option_and_then, refl, sym, ap, subst, ◌∙◌, rules}
+use Rattle.std.proofs.Common.{◌≡◌, ℤ, Bool, true, false, List, [], Option, Some, None, option_and_then, refl, sym, subst, ◌∙◌, rules}
 use Rattle.std.specs.Prelude.{if◌then◌else◌}
 use Rattle.std.proofs.lemmas.Option.{same_Some, none-some}
 use Rattle.tb_terms.specs.declared.term.Term.{Term, the_lemmas as term_lemmas}
@@ -7,7 +7,6 @@ use Rattle.tb_terms.specs.declared.term.Term.TheVariants as term
 use Rattle.tb_terms.specs.declared.expr.Expr.{Expr, out-Expr}
 use Rattle.tb_terms.specs.declared.expr.Expr.TheOpen as layer
 use Rattle.tb_terms.specs.declared.expr.Expr.TheFolds.{fold_out-Expr, map-Expr}
-use Rattle.tb_func.specs.declared.slot.Slot.{Slot}
 use Rattle.tb_func.specs.Apply.{apply_of, given}
 use Rattle.tb_func.specs.Limits.{limited, is_within_limits}
 use Rattle.tb_func.specs.Values.{all_of, value_of, value_step}

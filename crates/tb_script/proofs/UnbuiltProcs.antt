@@ -1,5 +1,5 @@
 -- The first form that isn't built, of each kind of process.
-use Rattle.std.proofs.Common.{◌≡◌, ℕ, List, [], ◌∷◌, ◌++◌, Option, Some, None, option_map, refl, ap, ◌∙◌}
+use Rattle.std.proofs.Common.{◌≡◌, ℕ, List, [], ◌∷◌, ◌++◌, Option, Some, None, refl, ap, ◌∙◌}
 use Rattle.std.specs.Option.{option_or}
 use Rattle.tb_syntax.specs.declared.ast.Ast.{Ast}
 use Rattle.tb_syntax.specs.declared.proc.AtomDef.{AtomDef}

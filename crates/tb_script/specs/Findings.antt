@@ -1,5 +1,5 @@
 -- What is found of a text: its program, or why it has none. Tokens come first, then the grammar and its limits, the conditions, cycles of calls, sizes of expansions, the number of roots, and last what isn't built.
-use Rattle.std.specs.Prelude.{◌≡◌, ◌≢◌, ℕ, ◌<◌, List, length, Option, Some, None}
+use Rattle.std.specs.Prelude.{◌≡◌, ◌≢◌, ℕ, ◌<◌, List, length, Some, None}
 use Rattle.tb_body.specs.declared.program.Program.{Program}
 use Rattle.tb_lex.specs.declared.fault.LexFault.{LexFault}
 use Rattle.tb_lex.specs.declared.fault.LexFault.TheVariants as lex
@@ -88,21 +88,14 @@ Holds text (ManyRoots count) = HasManyRoots text count
 Holds text (Unbuilt token) = IsUnbuilt text token
 Holds text (Program' program) = HasProgram text program
 
--- a fault of the grammar, at whatever token
-abbrev pub IsSyntax : Finding → Type 0
-IsSyntax (NoScript (parse.Syntax place)) = Unit {0}
-IsSyntax _ = ⊥
-
 -- a cycle of calls, whichever it is
 abbrev pub IsSomeCycle : Finding → Type 0
 IsSomeCycle (Recursive names) = Unit {0}
 IsSomeCycle _ = ⊥
 
--- The other finding is this one, but for the place of a fault of the grammar, which isn't told further, and for the cycle that is named where there are several.
+-- The other finding is this one, but for the cycle that is named where there are several.
 abbrev pub IsSame : Finding → Finding → Type 0
-IsSame (NoScript (parse.Syntax place)) other = IsSyntax other
-IsSame (NoScript (parse.TooDeep place)) other = other ≡ NoScript (parse.TooDeep place)
-IsSame (NoScript parse.NoMemory) other = other ≡ NoScript parse.NoMemory
+IsSame (NoScript fault) other = other ≡ NoScript fault
 IsSame (Recursive names) other = IsSomeCycle other
 IsSame (NoTokens fault) other = other ≡ NoTokens fault
 IsSame (Improper fault) other = other ≡ Improper fault

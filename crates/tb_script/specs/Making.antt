@@ -1,5 +1,5 @@
 -- What the parts of the loader make and find: helpers of its proofs.
-use Rattle.std.specs.Prelude.{◌≡◌, ◌≢◌, ◌<◌, ◌≤◌, ℕ, List, [], ◌∷◌, length, Option, Some, None, option_map, find, IsSome, All, Result, Ok, Err}
+use Rattle.std.specs.Prelude.{◌≡◌, ◌<◌, ◌≤◌, ℕ, List, length, Option, Some, None, option_map, find, IsSome, All, Result, Ok, Err}
 use Rattle.std.specs.List.{AllZip}
 use Rattle.tb_body.specs.declared.body.Body.{Body}
 use Rattle.tb_body.specs.declared.program.Program.{Program}
@@ -12,7 +12,6 @@ use Rattle.tb_syntax.specs.declared.script.ProcDef.{ProcDef}
 use Rattle.tb_syntax.specs.declared.script.Script.{Script}
 use Rattle.tb_types.specs.declared.fault.CheckFault.{CheckFault}
 use Rattle.tb_types.specs.declared.fault.CheckFault.TheVariants as check
-use Rattle.tb_types.specs.Conditions.{Proper, IsFault}
 use Rattle.tb_types.specs.Values.{closed_value}
 use Rattle.tb_expand.specs.declared.fault.ExpandFault.{ExpandFault}
 use Rattle.tb_expand.specs.declared.fault.ExpandFault.TheVariants as expand

@@ -1,0 +1,5 @@
+pub mod SimTraces
+pub mod SimTurns
+pub mod SimEnds
+mod SimLemmas
+mod Rows

@@ -150,6 +150,15 @@ pub delta_alone : IsSim 1000000 (sim_start (start stuck)) (Quiet ∷ Fed NoTicks
 delta_alone =
     subst (λ (term : Process). IsSim 1000000 (sim_of (bus_of stuck.program (at 1 0 term ∷ []) 0 false) 0) (Quiet ∷ Fed NoTicks Took ∷ halt ∷ []) Down) (sym fresh-one) stuck-runs
 
+stuck-limited : IsSim 0 (sim_of (bus_of stuck.program (at 1 0 (At 1 0) ∷ []) 0 false) 0) (Quiet ∷ Fed NoTicks Took ∷ []) Steps
+unfolding steps moves moves_of_all moves_of handshakes handshakes_with advance
+stuck-limited = (_, refl, (_, refl, refl))
+
+-- with no step allowed, it still says quiet, and ends only where the bus could halt
+pub delta_limited : IsSim 0 (sim_start (start stuck)) (Quiet ∷ Fed NoTicks Took ∷ []) Steps
+delta_limited =
+    subst (λ (term : Process). IsSim 0 (sim_of (bus_of stuck.program (at 1 0 term ∷ []) 0 false) 0) (Quiet ∷ Fed NoTicks Took ∷ []) Steps) (sym fresh-one) stuck-limited
+
 -- a name without arguments: as an expression, as a term, and as a pattern
 abbrev pub word : List ℕ → List Expr
 word name = expr.Appl name [] ∷ []

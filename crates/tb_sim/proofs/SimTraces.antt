@@ -26,7 +26,7 @@ quiet-leads : (sim : Sim) → steps sim.bus ≡ [] → sim.bus.down ≡ false �
     then Makes (Fed NoTicks (fed sim.bus NoTicks).reply) (record sim { bus = (fed sim.bus NoTicks).bus; quiet = false })
     else Makes Quiet (record sim { quiet = true })) ≡ Makes entry next → Leads sim entry next
 quiet-leads sim none up true entry next e =
-    makes-leads sim (Fed NoTicks (fed sim.bus NoTicks).reply) entry (record sim { bus = (fed sim.bus NoTicks).bus; quiet = false }) next e (refl, refl)
+    makes-leads sim (Fed NoTicks (fed sim.bus NoTicks).reply) entry (record sim { bus = (fed sim.bus NoTicks).bus; quiet = false }) next e ((tt, refl), refl)
 quiet-leads sim none up false entry next e = makes-leads sim Quiet entry (record sim { quiet = true }) next e ((none, up, refl), refl)
 
 step-leads : (sim : Sim) (step : Step) (rest : List Step) → steps sim.bus ≡ step ∷ rest → (limit : Bool) (entry : Entry) (next : Sim) →
@@ -45,19 +45,19 @@ turn-leads limit sim true d entry next e = absurd cc
 turn-leads limit sim false d entry next e = steps-lead limit sim (steps sim.bus) refl d entry next e
 
 -- so far
-pub front-trace : (limit : ℕ) (sim : Sim) (log : List Entry) → IsSimPrefix limit sim log → IsTrace sim.bus log
-front-trace limit sim [] h = tt
-front-trace limit sim (entry ∷ log) h =
+pub prefix-trace : (limit : ℕ) (sim : Sim) (log : List Entry) → IsSimPrefix limit sim log → IsTrace sim.bus log
+prefix-trace limit sim [] h = tt
+prefix-trace limit sim (entry ∷ log) h =
     let t = turn-leads limit sim sim.bus.down refl entry h.0 h.1 in
-    (t.0, subst (λ (b : Bus). IsTrace b log) (sym t.1) (front-trace limit h.0 log h.2))
+    (t.0, subst (λ (b : Bus). IsTrace b log) (sym t.1) (prefix-trace limit h.0 log h.2))
 
 -- and to the end
-sim-front : (limit : ℕ) (sim : Sim) (log : List Entry) (end : SimEnd) → IsSim limit sim log end → IsSimPrefix limit sim log
-sim-front limit sim [] end h = tt
-sim-front limit sim (entry ∷ log) end h = (h.0, h.1, sim-front limit h.0 log end h.2)
+whole-prefix : (limit : ℕ) (sim : Sim) (log : List Entry) (end : SimEnd) → IsSim limit sim log end → IsSimPrefix limit sim log
+whole-prefix limit sim [] end h = tt
+whole-prefix limit sim (entry ∷ log) end h = (h.0, h.1, whole-prefix limit h.0 log end h.2)
 
 pub sim-trace : (limit : ℕ) (sim : Sim) (log : List Entry) (end : SimEnd) → IsSim limit sim log end → IsTrace sim.bus log
-sim-trace limit sim log end h = front-trace limit sim log (sim-front limit sim log end h)
+sim-trace limit sim log end h = prefix-trace limit sim log (whole-prefix limit sim log end h)
 
 -- There is one such log, and one end.
 

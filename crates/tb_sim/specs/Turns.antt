@@ -24,13 +24,13 @@ pub record LedOn (limit : ℕ) (old : CoreState) (made : ℕ) (new : CoreState) 
   pub turns : SimLeads limit (sim_of old made) entries (sim_of new next)
   pub said : ends_quiet new.log ≡ false
 
--- a core that a want of memory left within the turns
+-- a core that ran out of memory within the turns
 pub record LeftWithin (limit : ℕ) (old : CoreState) (made : ℕ) (new : CoreState) : Type 0 where
   pub origin : new.origin ≡ old.origin
   pub stopped : new.stopped ≡ old.stopped
   pub entries : List Entry
   pub log : new.log ≡ old.log ++ entries
-  pub front : IsSimPrefix limit (sim_of old made) entries
+  pub prefix : IsSimPrefix limit (sim_of old made) entries
 
 -- What one go did: it made a step; it said quiet and handed in that no more ticks come; or it is the end.
 abbrev pub Goes : ℕ → CoreState → ℕ → CoreState → Turned → Type 0

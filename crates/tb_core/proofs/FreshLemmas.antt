@@ -1,0 +1,221 @@
+-- The actions of a process that was looked at: the offer of each, and what its store takes.
+use Rattle.std.proofs.Common.{◌≡◌, ℕ, ◌+◌, ◌<◌, zero, suc, List, [], ◌∷◌, ◌++◌, length, refl, ap, sym, subst, ◌∙◌, arith, Option, Some, None, Bool, true, false, slice_get, get_or, slice_index_or, option_map, option_and_then, IfSome, IsTrue, if◌then◌else◌}
+use Rattle.std.specs.Bool.{⊤}
+use Rattle.std.specs.Option.{ForSome, is_some}
+use Rattle.std.proofs.lemmas.Option.{get_or_from_slice_get, slice_get_within, same_Some}
+use Rattle.std.proofs.lemmas.List.{length-map}
+use Rattle.tb_terms.specs.declared.term.Term.{Term}
+use Rattle.tb_terms.specs.declared.pattern.Pattern.{Pattern}
+use Rattle.tb_terms.specs.declared.expr.Expr.{Expr}
+use Rattle.tb_func.specs.declared.slot.Slot.{Slot}
+use Rattle.tb_match.specs.declared.bind.Bind.{Bind}
+use Rattle.tb_match.specs.Matches.{match_list}
+use Rattle.tb_body.specs.declared.act.Act.{Act}
+use Rattle.tb_body.specs.declared.act.Act.TheVariants.{Delta, Tau, SndMsg, RecMsg, SndNote, RecNote, NoNote, Subscribe, Unsubscribe, Create, Set, Printf, Execute, RecConnect, RecDisconnectAny, RecDisconnect, SndEval, RecValue, SndDo, RecEvent, SndAckEvent, SndTerminate, Shutdown}
+use Rattle.tb_body.specs.declared.atom.Atom.{Atom}
+use Rattle.tb_algebra.specs.declared.offer.Offer.{Offer}
+use Rattle.tb_algebra.specs.Processes.{Process}
+use Rattle.tb_algebra.specs.Atoms.{act_of, times_of, is_ready, patterns_of, values_together}
+use Rattle.tb_algebra.specs.Binds.{takes_bind, takes_binds}
+use Rattle.tb_algebra.specs.Offers.{Offered, offers}
+use Rattle.tb_algebra.specs.Walks.{Walking, offers_of, seen, seen_offers, is_end}
+use Rattle.tb_algebra.specs.WalkerViews.{View}
+use Rattle.tb_algebra.proofs.Taken.{binds-taken}
+use Rattle.tb_bus.specs.Actions.{set_action, action_in, action_if, action_of}
+use Rattle.tb_bus.specs.Candidates.{row_of, rows_of, row_at, ready_one, readies}
+use Rattle.tb_bus.specs.Views.{ready_at, offer_at, offer_of, no_ready, no_offer, effect_in, Receives}
+use Rattle.tb_bus.specs.declared.action.Action.{Action}
+use Rattle.tb_bus.specs.declared.action.Action.TheVariants as action
+use Rattle.tb_bus.specs.declared.action.OwnAction.{OwnAction}
+use Rattle.tb_bus.specs.declared.action.OwnAction.TheVariants as own
+use Rattle.tb_bus.specs.declared.living.Ready.{Ready}
+use Rattle.tb_bus.specs.declared.living.Living.{Living}
+use Rattle.tb_core.specs.Lives.{term_in, proc_of}
+use Rattle.tb_core.specs.LiveBuses.{AreFresh, procs_in}
+use Rattle.tb_core.specs.declared.bus.LiveBus.{LiveBus}
+use Rattle.tb_core.proofs.ReadLemmas.{LiveAt, fresh-there, read-there}
+
+-- a process that hasn't ended offers what its term does
+offers-by : (term : Option Process) (store : List Slot) (ticks : ℕ) → is_end term ≡ false → offers_of (record { term = term; store = store; ticks = ticks }) ≡ offers (term_in term) store
+unfolding offers_of
+offers-by None store ticks e = cc
+offers-by (Some term) store ticks e = refl
+
+pub offers-alive : (walking : Walking) → is_end walking.term ≡ false → offers_of walking ≡ offers (term_in walking.term) walking.store
+offers-alive walking e = offers-by walking.term walking.store walking.ticks e
+
+-- one of the offers that are ready, where the first of all has this index
+record IsReady (atoms : List Atom) (now from : ℕ) (offers : List Offered) (ready : Ready) : Type 0 where
+  pub k : ℕ
+  pub offer : ready.offer ≡ from + k
+  pub offered : Offered
+  pub here : slice_get offers k ≡ Some offered
+  pub atom : ready.atom ≡ offered.atom
+  pub action : action_of atoms now offered ≡ Some ready.action
+
+ready-later : (atoms : List Atom) (now from : ℕ) (offered : Offered) (offers : List Offered) (ready : Ready) → IsReady atoms now (from + 1) offers ready → IsReady atoms now from (offered ∷ offers) ready
+ready-later atoms now from offered offers ready t =
+    let offer : ready.offer ≡ from + suc t.k = let e = t.offer in omega arith in
+    record { k = suc t.k; offer = offer; offered = t.offered; here = t.here; atom = t.atom; action = t.action }
+
+ready-first : (atoms : List Atom) (now from : ℕ) (offered : Offered) (offers : List Offered) (found : Action) → action_of atoms now offered ≡ Some found →
+    IsReady atoms now from (offered ∷ offers) (record { offer = from; atom = offered.atom; action = found })
+ready-first atoms now from offered offers found e = record { k = 0; offer = omega arith; offered = offered; here = refl; atom = refl; action = e }
+
+-- by the action of the first offer
+ready-by : (atoms : List Atom) (now from : ℕ) (offered : Offered) (offers : List Offered) (index : ℕ) (found : Option Action) → action_of atoms now offered ≡ found →
+    ((i : ℕ) → i < length (readies atoms now (from + 1) offers) → IsReady atoms now (from + 1) offers (slice_index_or (readies atoms now (from + 1) offers) i no_ready)) →
+    index < length (ready_one from offered found ++ readies atoms now (from + 1) offers) →
+    IsReady atoms now from (offered ∷ offers) (slice_index_or (ready_one from offered found ++ readies atoms now (from + 1) offers) index no_ready)
+ready-by atoms now from offered offers index None e rest within = ready-later atoms now from offered offers _ (rest index within)
+ready-by atoms now from offered offers zero (Some found) e rest within = ready-first atoms now from offered offers found e
+ready-by atoms now from offered offers (suc index) (Some found) e rest within = ready-later atoms now from offered offers _ (rest index (omega arith))
+
+is-ready : (atoms : List Atom) (now from : ℕ) (offers : List Offered) (index : ℕ) → index < length (readies atoms now from offers) → IsReady atoms now from offers (slice_index_or (readies atoms now from offers) index no_ready)
+is-ready atoms now from [] index within = absurd (omega arith)
+is-ready atoms now from (offered ∷ offers) index within =
+    ready-by atoms now from offered offers index (action_of atoms now offered) refl (λ i w. is-ready atoms now (from + 1) offers i w) within
+
+-- the offer of one of the actions of a process
+pub record ActionAt (atoms : List Atom) (now : ℕ) (walking : Walking) (ready : Ready) (offered : Offered) : Type 0 where
+  pub here : slice_get (offers_of walking) ready.offer ≡ Some offered
+  pub atom : ready.atom ≡ offered.atom
+  pub action : action_of atoms now offered ≡ Some ready.action
+
+action-by : (atoms : List Atom) (now : ℕ) (walking : Walking) (ready : Ready) → is_end walking.term ≡ false → IsReady atoms now 0 (offers_of walking) ready →
+    ActionAt atoms now walking ready (slice_index_or (offers (term_in walking.term) walking.store) ready.offer no_offer)
+action-by atoms now walking ready alive t =
+    let offer : ready.offer ≡ t.k = let e = t.offer in omega arith in
+    let here : slice_get (offers_of walking) ready.offer ≡ Some t.offered = ap (slice_get (offers_of walking)) offer ∙ t.here in
+    let is : slice_index_or (offers (term_in walking.term) walking.store) ready.offer no_offer ≡ t.offered =
+    ap (λ (os : List Offered). slice_index_or os ready.offer no_offer) (sym (offers-alive walking alive)) ∙ get_or_from_slice_get (offers_of walking) ready.offer t.offered no_offer here in
+    record {
+      here = here ∙ ap Some (sym is);
+      atom = t.atom ∙ ap (λ (o : Offered). o.atom) (sym is);
+      action = ap (action_of atoms now) is ∙ t.action;
+    }
+
+action-here : (atoms : List Atom) (now : ℕ) (walking : Walking) (all : List Ready) (index : ℕ) → all ≡ readies atoms now 0 (offers_of walking) → index < length all → is_end walking.term ≡ false →
+    ActionAt atoms now walking (slice_index_or all index no_ready) (slice_index_or (offers (term_in walking.term) walking.store) (slice_index_or all index no_ready).offer no_offer)
+action-here atoms now walking all index e within alive =
+    action-by atoms now walking (slice_index_or all index no_ready) alive
+    (subst (λ (rs : List Ready). IsReady atoms now 0 (offers_of walking) (slice_index_or rs index no_ready)) (sym e)
+    (is-ready atoms now 0 (offers_of walking) index (subst (λ (rs : List Ready). index < length rs) e within)))
+
+pub action-at : {W P T : Type 0} (view : View P W T) (bus : LiveBus W P T) (at index : ℕ) (living : Living W) (it : LiveAt view bus at living) → AreFresh bus.living.items → index < length (row_at (rows_of bus.living.items) at).ready →
+    ActionAt (view.body_of it.plan).atoms bus.ticks (view.walking it.plan living.walker) (ready_at (rows_of bus.living.items) at index) (offer_of (procs_in view bus) (rows_of bus.living.items) at index)
+action-at view bus at index living it fresh within =
+    let looked = it.live.ready (fresh-there bus.living.items at living fresh it.here) in
+    let atoms = (view.body_of it.plan).atoms in
+    let walking = view.walking it.plan living.walker in
+    let there = action-here atoms bus.ticks walking living.ready.items index looked.ready (subst (λ row. index < length row.ready) it.row within) it.live.alive in
+    subst (λ p. ActionAt atoms bus.ticks walking (ready_at (rows_of bus.living.items) at index) (offer_at p (ready_at (rows_of bus.living.items) at index).offer)) (sym it.proc)
+    (subst (λ row. ActionAt atoms bus.ticks walking (slice_index_or row.ready index no_ready) (offer_at (proc_of living walking) (slice_index_or row.ready index no_ready).offer)) (sym it.row) there)
+
+-- an action that was read is the one there
+pub ready-read : {W : Type 0} (all : List (Living W)) (at index : ℕ) (living : Living W) (ready : Ready) → row_at (rows_of all) at ≡ row_of living → index < length (row_at (rows_of all) at).ready → ready ≡ get_or living.ready.items index ready → ready ≡ ready_at (rows_of all) at index
+ready-read all at index living ready row within is =
+    let within_items : index < length living.ready.items = subst (λ r. index < length r.ready) row within in
+    sym (get_or_from_slice_get living.ready.items index ready no_ready (read-there living.ready.items index ready within_items is)) ∙ ap (λ r. slice_index_or r.ready index no_ready) (sym row)
+
+-- what is known of a process where the offer of one of its actions is taken
+pub record OfferAt {W P T : Type 0} (view : View P W T) (bus : LiveBus W P T) (at index : ℕ) (living : Living W) (plan : P) (ready : Ready) : Type 0 where
+  pub on : view.is_on plan living.walker
+  pub looked : view.seen living.walker ≡ Some (seen_offers (view.body_of plan).atoms bus.ticks (view.walking plan living.walker))
+  pub here : slice_get (offers_of (view.walking plan living.walker)) ready.offer ≡ Some (offer_of (procs_in view bus) (rows_of bus.living.items) at index)
+
+pub offer-read : {W P T : Type 0} (view : View P W T) (bus : LiveBus W P T) (at index : ℕ) (living : Living W) (it : LiveAt view bus at living) (plan : P) (ready : Ready) →
+    AreFresh bus.living.items → index < length (row_at (rows_of bus.living.items) at).ready → plan ≡ it.plan → ready ≡ get_or living.ready.items index ready → OfferAt view bus at index living plan ready
+offer-read view bus at index living it plan ready fresh within same is =
+    let action = action-at view bus at index living it fresh within in
+    let there = ready-read bus.living.items at index living ready it.row within is in
+    subst (λ p. OfferAt view bus at index living p ready) (sym same) (record {
+      on = it.live.is_on;
+      looked = (it.live.ready (fresh-there bus.living.items at living fresh it.here)).looked;
+      here = ap (λ (r : Ready). slice_get (offers_of (view.walking it.plan living.walker)) r.offer) there ∙ action.here;
+    })
+
+-- an index into what was seen of the offers
+pub seen-within : (atoms : List Atom) (now : ℕ) (walking : Walking) (saw : Option (List Offer)) (k : ℕ) (offered : Offered) → saw ≡ Some (seen_offers atoms now walking) → slice_get (offers_of walking) k ≡ Some offered →
+    ForSome saw (λ offers. k < length offers)
+seen-within atoms now walking saw k offered e here offers f =
+    let same : seen_offers atoms now walking ≡ offers = same_Some _ _ (sym e ∙ f) in
+    subst (λ (os : List Offer). k < length os) same
+    (let within = slice_get_within (offers_of walking) k offered here in let long = length-map (offers_of walking) (seen atoms now) in omega arith)
+
+pub seen-some : (saw : Option (List Offer)) (offers : List Offer) → saw ≡ Some offers → IsTrue (is_some saw)
+seen-some saw offers e = ap is_some e
+
+-- what an action binds, the store takes
+abbrev pub ActionFits : List Slot → Action → Type 0
+ActionFits store (action.Own own) = takes_binds store (effect_in own).binds ≡ true
+ActionFits store (action.Send terms) = ⊤
+ActionFits store (action.Receive patterns) = (terms : List Term) (binds : List Bind) → match_list patterns terms ≡ Some binds → takes_binds store binds ≡ true
+
+set-by : (store : List Slot) (bind : Bind) (b : Bool) → takes_bind store bind ≡ b → IfSome (if b then Some (action.Own (own.Set (bind.value ∷ []) (bind ∷ []))) else None) (ActionFits store)
+set-by store bind true e = rw e refl
+set-by store bind false e = tt
+
+set_action-fits : (store : List Slot) (slot : ℕ) (values : List Term) → IfSome (set_action store slot values) (ActionFits store)
+set_action-fits store slot [] = tt
+set_action-fits store slot (value ∷ []) = set-by store (record { slot = slot; value = value }) (takes_bind store (record { slot = slot; value = value })) refl
+set_action-fits store slot (value ∷ other ∷ values) = tt
+
+set-fits : (store : List Slot) (slot : ℕ) (values : Option (List Term)) → IfSome (option_and_then (set_action store slot) values) (ActionFits store)
+set-fits store slot None = tt
+set-fits store slot (Some values) = set_action-fits store slot values
+
+send-fits : (store : List Slot) (values : Option (List Term)) → IfSome (option_map action.Send values) (ActionFits store)
+send-fits store None = tt
+send-fits store (Some values) = tt
+
+receive-fits : (store : List Slot) (exprs : List Expr) (patterns : Option (List Pattern)) → patterns_of store exprs ≡ patterns → IfSome (option_map action.Receive patterns) (ActionFits store)
+receive-fits store exprs None e = tt
+receive-fits store exprs (Some patterns) e = λ terms binds h. binds-taken store exprs terms binds (ap (option_and_then (λ ps. match_list ps terms)) e ∙ h)
+
+action_in-fits : (store : List Slot) (act : Act) → IfSome (action_in store act) (ActionFits store)
+action_in-fits store Delta = tt
+action_in-fits store Tau = refl
+action_in-fits store (SndMsg exprs) = send-fits store (values_together store exprs)
+action_in-fits store (RecMsg exprs) = receive-fits store exprs (patterns_of store exprs) refl
+action_in-fits store (SndNote exprs) = tt
+action_in-fits store (RecNote exprs) = tt
+action_in-fits store (NoNote exprs) = tt
+action_in-fits store (Subscribe exprs) = tt
+action_in-fits store (Unsubscribe exprs) = tt
+action_in-fits store (Create process actuals slot) = tt
+action_in-fits store (Set slot value) = set-fits store slot (values_together store (value ∷ []))
+action_in-fits store (Printf exprs) = tt
+action_in-fits store (Execute tool slot) = tt
+action_in-fits store (RecConnect tool slot) = tt
+action_in-fits store (RecDisconnectAny tool slot) = tt
+action_in-fits store (RecDisconnect tool) = tt
+action_in-fits store (SndEval tool expr) = tt
+action_in-fits store (RecValue tool expr) = tt
+action_in-fits store (SndDo tool expr) = tt
+action_in-fits store (RecEvent tool exprs) = tt
+action_in-fits store (SndAckEvent tool exprs) = tt
+action_in-fits store (SndTerminate tool expr) = tt
+action_in-fits store (Shutdown reason) = tt
+
+if-fits : (ready : Bool) (store : List Slot) (act : Act) → IfSome (action_if ready store act) (ActionFits store)
+if-fits true store act = action_in-fits store act
+if-fits false store act = tt
+
+pub action-fits : (atoms : List Atom) (now : ℕ) (offered : Offered) (found : Action) → action_of atoms now offered ≡ Some found → ActionFits offered.store found
+action-fits atoms now offered found e =
+    subst (λ (d : Option Action). IfSome d (ActionFits offered.store)) e
+    (if-fits (is_ready offered.store offered.age now (times_of atoms offered.atom)) offered.store (act_of atoms offered.atom))
+
+pub fits-at : (atoms : List Atom) (now : ℕ) (walking : Walking) (ready : Ready) (offered : Offered) → ActionAt atoms now walking ready offered → ActionFits offered.store ready.action
+fits-at atoms now walking ready offered it = action-fits atoms now offered ready.action it.action
+
+-- what is received binds what the store takes
+pub received-takes : (store : List Slot) (found : Action) (terms : List Term) (binds : List Bind) → ActionFits store found → Receives terms found binds → takes_binds store binds ≡ true
+received-takes store (action.Own own) terms binds fits h = absurd h
+received-takes store (action.Send other) terms binds fits h = absurd h
+received-takes store (action.Receive patterns) terms binds fits h = fits terms binds h
+
+-- what a process sets by itself, its store takes
+pub own-takes : (store : List Slot) (found : Action) (own : OwnAction) → ActionFits store found → found ≡ action.Own own → takes_binds store (effect_in own).binds ≡ true
+own-takes store found own fits e = subst (ActionFits store) e fits

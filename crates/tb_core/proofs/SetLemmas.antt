@@ -1,0 +1,106 @@
+-- One of the living is replaced by another that stands for the same process.
+use Rattle.std.proofs.Common.{◌≡◌, ◌+◌, drop, drop-cons, add-one, ◌<◌, ◌≢◌, ◌&&◌, ℕ, zero, suc, List, [], ◌∷◌, length, map, refl, ap, sym, subst, ◌∙◌, Some, nat_lt, slice_get, slice_set, get_or, Contains, false, inl, inr}
+use Rattle.std.specs.Global.{Vec}
+use Rattle.std.specs.List.{All}
+use Rattle.std.proofs.Math.Seq.{map-set_same}
+use Rattle.std.proofs.lemmas.Option.{get_or_from_slice_get, same_Some}
+use Rattle.std.proofs.lemmas.List.Elements.{All-set}
+use Rattle.tb_algebra.specs.Offers.{Offered}
+use Rattle.tb_algebra.specs.WalkerViews.{View}
+use Rattle.tb_bus.specs.Buses.{Bus, Proc}
+use Rattle.tb_bus.specs.Candidates.{ascend, rows_of}
+use Rattle.tb_bus.specs.declared.living.Living.{Living}
+use Rattle.tb_core.specs.Lives.{IsLive, IsLiveOn, proc_by, proc_in}
+use Rattle.tb_core.specs.LiveBuses.{IsFreshOr, IsSound, Leaves, StandsAs, bus_of, procs_in}
+use Rattle.tb_core.specs.declared.bus.LiveBus.{LiveBus}
+use Rattle.tb_core.proofs.ReadLemmas.{LiveAt}
+
+-- what was set at an index stands there
+pub set-there : {A : Type 0} (xs : List A) (at : ℕ) (x y : A) → slice_get xs at ≡ Some x → slice_get (slice_set xs at y) at ≡ Some y
+set-there [] at x y e = cc
+set-there (z ∷ xs) zero x y e = refl
+set-there (z ∷ xs) (suc at) x y e = set-there xs at x y e
+
+-- the others stay
+pub set-other : {A : Type 0} (xs : List A) (at other : ℕ) (y : A) → other ≢ at → slice_get (slice_set xs at y) other ≡ slice_get xs other
+set-other [] at other y ne = refl
+set-other (x ∷ xs) zero zero y ne = absurd (ne refl)
+set-other (x ∷ xs) zero (suc other) y ne = refl
+set-other (x ∷ xs) (suc at) zero y ne = refl
+set-other (x ∷ xs) (suc at) (suc other) y ne = set-other xs at other y (λ e. ne (ap suc e))
+
+-- they stand by their numbers as before
+ascend-set : {W : Type 0} (below : ℕ) (all : List (Living W)) (at : ℕ) (living one : Living W) → slice_get all at ≡ Some living → one.number ≡ living.number → ascend below (rows_of (slice_set all at one)) ≡ ascend below (rows_of all)
+ascend-set below [] at living one e f = refl
+ascend-set below (x ∷ all) zero living one e f =
+    ap (λ number. nat_lt below number && ascend number (rows_of all)) (f ∙ ap (λ (l : Living _). l.number) (sym (same_Some x living e)))
+ascend-set below (x ∷ all) (suc at) living one e f = ap (λ rest. nat_lt below x.number && rest) (ascend-set x.number all at living one e f)
+
+-- another in the place of one of the living
+pub record IsInPlace {W P T : Type 0} (view : View P W T) (bus : LiveBus W P T) (plan : P) (living one : Living W) : Type 0 where
+  pub live : IsLiveOn view plan bus.ticks one
+  pub proc : proc_by view (Some plan) one ≡ proc_by view (Some plan) living
+  pub fresh : IsFreshOr bus.stale.items one
+
+pub in-place : {W P T : Type 0} (view : View P W T) (bus : LiveBus W P T) (plan its : P) (living one : Living W) → plan ≡ its → IsLiveOn view plan bus.ticks one → proc_by view (Some plan) one ≡ proc_by view (Some plan) living → IsFreshOr bus.stale.items one → IsInPlace view bus its living one
+in-place view bus plan its living one e live proc fresh = subst (λ p. IsInPlace view bus p living one) e (record { live = live; proc = proc; fresh = fresh })
+
+-- one that isn't fresh is named, and so is another with its number
+pub named-as : {W : Type 0} (stale : List ℕ) (living one : Living W) → IsFreshOr stale living → living.fresh ≡ false → one.number ≡ living.number → IsFreshOr stale one
+named-as stale living one (inl fresh) e number = cc
+named-as stale living one (inr named) e number = inr (subst (Contains stale) (sym number) named)
+
+same-proc : {W P T : Type 0} (view : View P W T) (plans : List P) (plan : P) (living one : Living W) → slice_get plans living.body ≡ Some plan → proc_by view (Some plan) one ≡ proc_by view (Some plan) living → proc_in view plans one ≡ proc_in view plans living
+same-proc view plans plan living one planned same =
+    ap (λ body. proc_by view (slice_get plans body) one) (ap (λ (p : Proc). p.body) same)
+    ∙ ap (λ p. proc_by view p one) planned ∙ same ∙ ap (λ p. proc_by view p living) (sym planned)
+
+same-procs : {W P T : Type 0} (view : View P W T) (bus : LiveBus W P T) (at : ℕ) (living one : Living W) (it : LiveAt view bus at living) → IsInPlace view bus it.plan living one →
+    map (proc_in view bus.plans) (slice_set bus.living.items at one) ≡ procs_in view bus
+same-procs view bus at living one it h =
+    map-set_same (proc_in view bus.plans) bus.living.items at one living
+    (same-proc view bus.plans it.plan living one it.planned h.proc ∙ ap (proc_in view bus.plans) (sym (get_or_from_slice_get bus.living.items at living living it.here)))
+
+sound-set : {W P T : Type 0} (view : View P W T) (bus : LiveBus W P T) (all : Vec (Living W)) (at : ℕ) (living one : Living W) (it : LiveAt view bus at living) → IsSound view bus → all.items ≡ slice_set bus.living.items at one → IsInPlace view bus it.plan living one →
+    IsSound view (record bus { living = all })
+sound-set view bus all at living one it sound e h = record {
+  in_order = ap (λ xs. ascend 0 (rows_of xs)) e ∙ ascend-set 0 bus.living.items at living one it.here (ap (λ (p : Proc). p.number) h.proc) ∙ sound.in_order;
+  planned = sound.planned;
+  live = subst (λ (xs : List (Living _)). (k : ℕ) (d : Living _) → k < length xs → IsLive view bus.plans bus.ticks (get_or xs k d)) (sym e)
+      (All-set (IsLive view bus.plans bus.ticks) bus.living.items at one (it.plan, ap (slice_get bus.plans) (ap (λ (p : Proc). p.body) h.proc) ∙ it.planned, h.live) sound.live);
+  fresh = subst (λ (xs : List (Living _)). (k : ℕ) (d : Living _) → k < length xs → IsFreshOr bus.stale.items (get_or xs k d)) (sym e)
+      (All-set (IsFreshOr bus.stale.items) bus.living.items at one h.fresh sound.fresh);
+}
+
+pub stands-set : {W P T : Type 0} (view : View P W T) (bus : LiveBus W P T) (all : Vec (Living W)) (at : ℕ) (living one : Living W) (it : LiveAt view bus at living) → IsSound view bus → all.items ≡ slice_set bus.living.items at one → IsInPlace view bus it.plan living one →
+    StandsAs view bus (record bus { living = all })
+stands-set view bus all at living one it sound e h = record {
+  sound = sound-set view bus all at living one it sound e h;
+  bus = ap (λ (procs : List Proc). let b : Bus = record (bus_of view bus) { procs = procs } in b) (ap (map (proc_in view bus.plans)) e ∙ same-procs view bus at living one it h);
+  origin = refl;
+  plans = refl;
+}
+
+-- what the offer leaves of it is what it left before
+pub leaves-set : {W P T : Type 0} (view : View P W T) (bus : LiveBus W P T) (all : Vec (Living W)) (at : ℕ) (living one : Living W) (taken : T) (offered : Offered) → slice_get bus.living.items at ≡ Some living → all.items ≡ slice_set bus.living.items at one →
+    one.body ≡ living.body → one.walker ≡ living.walker → Leaves view bus at taken offered → Leaves view (record bus { living = all }) at taken offered
+leaves-set view bus all at living one taken offered here e body walker h =
+    let same : h.0 ≡ living = same_Some h.0 living (sym h.1 ∙ here) in (
+      one,
+      ap (λ xs. slice_get xs at) e ∙ set-there bus.living.items at living one here,
+      (
+        h.2.0,
+        ap (slice_get bus.plans) (body ∙ ap (λ (l : Living _). l.body) (sym same)) ∙ h.2.1,
+        subst (λ w. view.leaves h.2.0 w taken offered) (ap (λ (l : Living _). l.walker) same ∙ sym walker) h.2.2,
+      ),
+    )
+
+-- the same bus as one that stands for the same bus
+pub stands-then : {W P T : Type 0} (view : View P W T) (old bus new : LiveBus W P T) → StandsAs view old bus → StandsAs view bus new → StandsAs view old new
+stands-then view old bus new first then = record { sound = then.sound; bus = then.bus ∙ first.bus; origin = then.origin ∙ first.origin; plans = then.plans ∙ first.plans }
+
+-- what was named from an index on is the number there, or named behind it
+pub named-from : {W : Type 0} (stale : List ℕ) (index number : ℕ) (all : List (Living W)) → index < length stale → number ≡ get_or stale index number → All (IsFreshOr (drop index stale)) all → All (IsFreshOr (number ∷ drop (index + 1) stale)) all
+named-from stale index number all within is h =
+    let front : drop index stale ≡ number ∷ drop (index + 1) stale = rw (add-one, drop-cons stale index number) (ap (λ n. n ∷ drop (suc index) stale) (sym is)) in
+    subst (λ (numbers : List ℕ). All (IsFreshOr numbers) all) front h

@@ -1,0 +1,63 @@
+use Rattle.std.proofs.Common.{sym, refl, subst}
+use Rattle.std.specs.Vec.{with_item}
+use Rattle.tb_bus.specs.Views.{proc_at}
+use Rattle.tb_core.specs.LiveBuses.{procs_in}
+use Rattle.tb_core.proofs.AdvanceLemmas.{Went, read-at, leaves-there, advanced-set, advanced-removed, set-before, gone-before, sorts-once}
+use Rattle.tb_core.proofs.bus.LiveBus.advance_at.Goals as goal
+
+pub go_on-requires-clause-on : goal.go_on-requires-clause-on
+go_on-requires-clause-on g c =
+    let before = c.index_mut-living.result.now in
+    let read = read-at g.W.Walker.view c.args.self.now c.args.at before c.index-as_slice-living.result c.as_slice.result.now c.requires.sound c.requires.within c.index_mut-living.ensures.value c.as_slice.ensures c.index-as_slice-living.is in
+    subst (λ p. g.W.Walker.view.is_on p before.walker) (sym read.same) read.it.live.is_on
+
+pub go_on-requires-clause-taken : goal.go_on-requires-clause-taken
+go_on-requires-clause-taken g c =
+    let before = c.index_mut-living.result.now in
+    let plan = c.index-as_slice-living.result in
+    let read = read-at g.W.Walker.view c.args.self.now c.args.at before plan c.as_slice.result.now c.requires.sound c.requires.within c.index_mut-living.ensures.value c.as_slice.ensures c.index-as_slice-living.is in
+    let can = c.requires.taken in
+    (can.0, leaves-there g.W.Walker.view c.args.self.now c.args.at before plan c.args.taken can.0 read can.1, can.3)
+
+pub returns-then-go_on-clause-advanced : goal.returns-then-go_on-clause-advanced
+returns-then-go_on-clause-advanced g c offered leaves =
+    let bus = c.args.self.now in
+    let before = c.index_mut-living.result.now in
+    let after = c.go_on.new.living in
+    let plan = c.index-as_slice-living.result in
+    let read = read-at g.W.Walker.view bus c.args.at before plan c.as_slice.result.now c.requires.sound c.requires.within c.index_mut-living.ensures.value c.as_slice.ensures c.index-as_slice-living.is in
+    let went : Went g.W.Walker.view plan before offered c.args.binds after = record {
+      is_on = c.go_on.ensures.on;
+      goes = c.go_on.ensures.advanced offered (leaves-there g.W.Walker.view bus c.args.at before plan c.args.taken offered read leaves);
+      number = c.go_on.ensures.number;
+      body = c.go_on.ensures.body;
+      stale = c.go_on.ensures.stale;
+    } in
+    advanced-removed g.W.Walker.view bus c.args.at before plan offered c.args.binds after c.go_on.result c.remove.new.self c.requires.sound read went c.go_on.ensures.ended c.if-go_on.true c.remove.ensures.items
+
+pub returns-then-go_on-clause-before : goal.returns-then-go_on-clause-before
+returns-then-go_on-clause-before g c other l = gone-before c.args.self.now.living.items c.remove.new.self.items c.args.at c.go_on.new.living other c.remove.ensures.items l
+
+pub returns-else-go_on-clause-advanced : goal.returns-else-go_on-clause-advanced
+returns-else-go_on-clause-advanced g c offered leaves =
+    let bus = c.args.self.now in
+    let before = c.index_mut-living.result.now in
+    let after = c.go_on.new.living in
+    let plan = c.index-as_slice-living.result in
+    let read = read-at g.W.Walker.view bus c.args.at before plan c.as_slice.result.now c.requires.sound c.requires.within c.index_mut-living.ensures.value c.as_slice.ensures c.index-as_slice-living.is in
+    let can = c.requires.taken in
+    let goes = c.go_on.ensures.advanced offered (leaves-there g.W.Walker.view bus c.args.at before plan c.args.taken offered read leaves) in
+    let its = c.go_on.ensures.advanced can.0 (leaves-there g.W.Walker.view bus c.args.at before plan c.args.taken can.0 read can.1) in
+    let went : Went g.W.Walker.view plan before offered c.args.binds after = record {
+      is_on = c.go_on.ensures.on;
+      goes = goes;
+      number = c.go_on.ensures.number;
+      body = c.go_on.ensures.body;
+      stale = c.go_on.ensures.stale;
+    } in
+    let sorts = sorts-once offered can.0 c.args.binds (g.W.Walker.view.walking plan before.walker).ticks (g.W.Walker.view.walking plan after.walker) (proc_at (procs_in g.W.Walker.view bus) c.args.at).store goes its can.2 in
+    advanced-set g.W.Walker.view bus c.args.at before plan offered c.args.binds after c.go_on.result (with_item bus.living c.args.at after) c.requires.sound read went sorts
+    c.go_on.ensures.ended c.if-go_on.false c.requires.named refl
+
+pub returns-else-go_on-clause-before : goal.returns-else-go_on-clause-before
+returns-else-go_on-clause-before g c other l = set-before c.args.self.now.living.items c.args.at c.go_on.new.living other l

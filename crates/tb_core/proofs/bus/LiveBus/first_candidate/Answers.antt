@@ -1,0 +1,17 @@
+use Rattle.std.proofs.Common.{◌≡◌, List, IfOk, subst, option_map}
+use Rattle.std.proofs.lemmas.Result.{IfOk-weaker}
+use Rattle.tb_bus.specs.Buses.{Bus}
+use Rattle.tb_bus.specs.Steps.{moves}
+use Rattle.tb_bus.specs.Candidates.{first, rows_of}
+use Rattle.tb_bus.specs.Views.{IsSearchedFor, move_of}
+use Rattle.tb_bus.specs.declared.living.Living.{Living}
+use Rattle.tb_core.specs.LiveBuses.{bus_of}
+use Rattle.tb_core.proofs.RowsLemmas.{searched-for}
+use Rattle.tb_core.proofs.bus.LiveBus.first_candidate.Goals as goal
+
+pub returns-clause-found : goal.returns-clause-found
+returns-clause-found g c =
+    let fields = c.args.self.now in
+    let on_bus = subst (λ (all : List (Living _)). IfOk c.first_candidate.result (λ found. (bus : Bus) → IsSearchedFor bus (rows_of all) fields.last_starter fields.no_ticks fields.down → option_map (move_of bus.procs (rows_of all)) found ≡ first (moves bus)))
+    c.as_slice.ensures.value c.first_candidate.ensures.on_bus in
+    IfOk-weaker c.first_candidate.result _ _ (λ found h. h (bus_of g.W.Walker.view fields) (searched-for g.W.Walker.view fields c.requires.sound c.requires.fresh)) on_bus

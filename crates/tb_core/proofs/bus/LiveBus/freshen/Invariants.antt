@@ -1,0 +1,12 @@
+use Rattle.std.proofs.Common.{◌≡◌, drop, length}
+use Rattle.std.specs.List.{All}
+use Rattle.tb_core.specs.LiveBuses.{IsFreshOr, StandsAs}
+use Rattle.tb_core.proofs.bus.LiveBus.freshen.Given as goal
+
+abbrev pub invariant-loop-index : goal.invariant-loop-index
+invariant-loop-index g l = record {
+  same : StandsAs g.W.Walker.view l.fn.self l.self;
+  stale : l.self.stale ≡ l.fn.self.stale;
+  end : l.index-end ≡ length l.self.stale.items;
+  fresh : All (IsFreshOr (drop l.index l.self.stale.items)) l.self.living.items;
+}

@@ -1,0 +1,60 @@
+use Rattle.std.proofs.Common.{arith, refl, sym, subst, ap, ◌∙◌, inl}
+use Rattle.std.specs.Vec.{with_item}
+use Rattle.tb_bus.specs.Buses.{Proc}
+use Rattle.tb_core.specs.Lives.{IsLiveOn}
+use Rattle.tb_core.specs.LiveBuses.{IsFreshOr}
+use Rattle.tb_core.proofs.ReadLemmas.{live-at, all-there, plan-within, body-within, read-is, body-is}
+use Rattle.tb_core.proofs.SetLemmas.{in-place, named-as, stands-set}
+use Rattle.tb_core.proofs.bus.LiveBus.freshen_at.Goals as goal
+
+pub returns-then-living-clause-same : goal.returns-then-living-clause-same
+returns-then-living-clause-same g c =
+    let bus = c.args.self.now in
+    let living = c.index_mut-living.result.now in
+    let it = live-at g.W.Walker.view bus c.args.at living c.requires.sound c.requires.within c.index_mut-living.ensures.value in
+    stands-set g.W.Walker.view bus (with_item bus.living c.args.at living) c.args.at living living it c.requires.sound refl
+    (in-place g.W.Walker.view bus it.plan it.plan living living refl it.live refl (inl c.if-living.true))
+
+pub bounds-as_slice-living : goal.bounds-as_slice-living
+bounds-as_slice-living g c =
+    let bus = c.args.self.now in
+    let living = c.index_mut-living.result.now in
+    let it = live-at g.W.Walker.view bus c.args.at living c.requires.sound c.requires.within c.index_mut-living.ensures.value in
+    plan-within bus.plans c.as_slice.result.now living.body it.plan c.as_slice.ensures it.planned
+
+pub offset_bounds-as_slice-living : goal.offset_bounds-as_slice-living
+offset_bounds-as_slice-living g c = let within = bounds-as_slice-living g c in omega arith
+
+pub bounds-as_slice-living-2 : goal.bounds-as_slice-living-2
+bounds-as_slice-living-2 g c =
+    let bus = c.args.self.now in
+    let living = c.index_mut-living.result.now in
+    let it = live-at g.W.Walker.view bus c.args.at living c.requires.sound c.requires.within c.index_mut-living.ensures.value in
+    body-within g.W.Walker.view.body_of bus.plans bus.origin.program.bodies c.as_slice-2.result.now living.body it.plan c.requires.sound.planned c.as_slice-2.ensures it.planned
+
+pub look-requires-clause-body : goal.look-requires-clause-body
+look-requires-clause-body g c =
+    let bus = c.args.self.now in
+    let living = c.index_mut-living.result.now in
+    let it = live-at g.W.Walker.view bus c.args.at living c.requires.sound c.requires.within c.index_mut-living.ensures.value in
+    ap g.W.Walker.view.body_of (read-is bus.plans c.as_slice.result.now living.body c.index-as_slice-living.result it.plan c.as_slice.ensures it.planned c.index-as_slice-living.is)
+    ∙ sym (body-is g.W.Walker.view.body_of bus.plans bus.origin.program.bodies c.as_slice-2.result.now living.body it.plan c.index-as_slice-living-2.result c.requires.sound.planned c.as_slice-2.ensures it.planned c.index-as_slice-living-2.is)
+
+pub look-requires-clause-live : goal.look-requires-clause-live
+look-requires-clause-live g c =
+    let bus = c.args.self.now in
+    let living = c.index_mut-living.result.now in
+    let it = live-at g.W.Walker.view bus c.args.at living c.requires.sound c.requires.within c.index_mut-living.ensures.value in
+    let plan = read-is bus.plans c.as_slice.result.now living.body c.index-as_slice-living.result it.plan c.as_slice.ensures it.planned c.index-as_slice-living.is in
+    subst (λ p. IsLiveOn g.W.Walker.view p bus.ticks living) (sym plan) it.live
+
+pub returns-clause-same : goal.returns-clause-same
+returns-clause-same g c =
+    let bus = c.args.self.now in
+    let living = c.index_mut-living.result.now in
+    let one = c.look.new.living in
+    let it = live-at g.W.Walker.view bus c.args.at living c.requires.sound c.requires.within c.index_mut-living.ensures.value in
+    let plan = read-is bus.plans c.as_slice.result.now living.body c.index-as_slice-living.result it.plan c.as_slice.ensures it.planned c.index-as_slice-living.is in
+    let named = named-as bus.stale.items living one (all-there (IsFreshOr bus.stale.items) bus.living.items c.args.at living c.requires.sound.fresh it.here) c.if-living.false (ap (λ (p : Proc). p.number) c.look.ensures.same) in
+    stands-set g.W.Walker.view bus (with_item bus.living c.args.at one) c.args.at living one it c.requires.sound refl
+    (in-place g.W.Walker.view bus c.index-as_slice-living.result it.plan living one plan c.look.ensures.live c.look.ensures.same named)

@@ -1,0 +1,120 @@
+ghost use Rattle.std.specs.Prelude.{◌≡◌, ◌≤◌, ◌<◌, ◌+◌, ◌++◌, ◌∷◌, [], IsTrue, OnOk, OnErr, min, map, sum, length};
+ghost use Rattle.std.below.core.specs.declared.int.usize.TheConstants.{MAX};
+ghost use Rattle.tb_terms.specs.Sizes.{term_size};
+ghost use Rattle.tb_log.specs.Limits.{entry_size, has_room, terms_size};
+
+use crate::entry::{Entry, Label};
+use std::alloc::Global;
+use std::marker::Model;
+use tb_terms::{NoMemory, Term, size};
+
+/// How large all terms of a log may be together.
+const MOST_SIZE: usize = 16_777_216;
+
+/// The entries of a bus, within limits: at most so many, whose terms are together at most 16,777,216 in size.
+#[derive(Debug, Drop)]
+pub struct Log {
+    entries: Vec<Entry>,
+    limit: u32,
+    /// How large the entries are together.
+    size: usize,
+}
+
+impl Model for Log {
+    ghost use Rattle.std.specs.Prelude.{◌-◌, ◌≡◌, ◌≤◌, length, vec_len, vec_capacity};
+    ghost use Rattle.tb_log.specs.Limits.{log_size, most_size};
+    ghost use Rattle.tb_log.specs.Logs.{LogState, log_code};
+
+    ghost Value = { LogState };
+
+    ghost coded = { log_code };
+
+    ghost view = { λ log. record { limit = log.limit; entries = log.entries.items; spare = vec_capacity log.entries - vec_len log.entries } };
+
+    ghost invariant = { λ log. (log.size ≡ log_size log.entries.items) × (log.size ≤ most_size) × (length log.entries.items ≤ log.limit) };
+}
+
+impl Log {
+    /// A log without entries, for at most so many.
+    pub fn new(alloc: Global, limit: u32) -> Log
+        ensures limit { result.limit ≡ limit }
+        ensures entries { result.entries ≡ [] }
+    {
+        Log {
+            entries: Vec::new(alloc),
+            limit,
+            size: 0,
+        }
+    }
+
+    pub fn entries(&self) -> &[Entry]
+        ensures { result.now ≡ self.now.entries }
+    {
+        self.entries.as_slice()
+    }
+
+    /// Whether neither limit is passed with this entry.
+    pub fn room_for(&self, entry: &Entry) -> bool
+        ensures { result ≡ has_room self.now.limit self.now.entries entry.now }
+    {
+        self.entries.len() < self.limit as usize
+            && self.size.saturating_add(size_of(entry)) <= MOST_SIZE
+    }
+
+    /// Takes memory for so many entries more.
+    pub fn reserve(&mut self, n: usize) -> Result<(), NoMemory>
+        ensures spare { OnOk result (n ≤ self.new.spare) }
+        ensures entries { self.new.entries ≡ self.old.entries }
+        ensures limit { self.new.limit ≡ self.old.limit }
+        ensures grows { self.old.spare ≤ self.new.spare }
+    {
+        self.entries.reserve(n)?;
+        Ok(())
+    }
+
+    /// For how many entries more there is memory.
+    pub fn spare(&self) -> usize
+        ensures { result ≡ self.now.spare }
+    {
+        self.entries.capacity() - self.entries.len()
+    }
+
+    /// Adds an entry at the end. This takes no memory.
+    pub fn push(&mut self, entry: Entry)
+        requires room { IsTrue (has_room self.old.limit self.old.entries entry) }
+        requires spare { 0 < self.old.spare }
+        ensures entries { self.new.entries ≡ self.old.entries ++ entry ∷ [] }
+        ensures limit { self.new.limit ≡ self.old.limit }
+        ensures spare { self.new.spare + 1 ≡ self.old.spare }
+    {
+        self.size += size_of(&entry);
+        self.entries.push_reserved(entry);
+    }
+}
+
+/// The size of an entry, or the greatest usize where it is greater.
+fn size_of(entry: &Entry) -> usize
+    ensures { result ≡ min (entry_size entry.now) MAX }
+{
+    match entry {
+        Entry::Did(label) => label_size(label),
+        Entry::Quiet => 0,
+        Entry::Fed(_, _) => 0,
+    }
+}
+
+fn label_size(label: &Label) -> usize
+    ensures { result ≡ min (terms_size label.now.terms) MAX }
+{
+    total_size(label.terms.as_slice())
+}
+
+fn total_size(terms: &[Term]) -> usize
+    ensures { result ≡ min (sum (map term_size terms.now)) MAX }
+{
+    let mut total: usize = 0;
+    for term in terms {
+        total = total.saturating_add(size(term));
+    }
+    total
+}

@@ -1,0 +1,9 @@
+use Rattle.tb_sim.specs.Simulation.{sim_start}
+use Rattle.tb_sim.proofs.SimEnds.{prefix-ends, sim-prefix}
+use Rattle.tb_sim.proofs.laws.prefixes_have_an_end.Goals as goal
+
+pub returns-clause-ends : goal.returns-clause-ends
+returns-clause-ends c = λ limit bus log h. prefix-ends limit (sim_start bus) log h
+
+pub returns-clause-prefix : goal.returns-clause-prefix
+returns-clause-prefix c = λ limit bus log more end h. sim-prefix limit (sim_start bus) log more end h
