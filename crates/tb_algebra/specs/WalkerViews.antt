@@ -9,7 +9,7 @@ use Rattle.tb_algebra.specs.declared.offer.Offer.{Offer}
 pub record View (P W T : Type 0) : Type 1 where
   -- the body that a plan is of
   pub body_of : P → Body
-  -- the walker was started with this plan
+  -- the plan fits the walker
   pub is_on : P → W → Type 0
   -- what the walker stands for
   pub walking : P → W → Walking

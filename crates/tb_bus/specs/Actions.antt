@@ -1,4 +1,4 @@
--- What an offered atom does, as its process's own store says: its action.
+-- What an offered atom does, by the store in which it is offered, its age and the ticks alone: its action.
 use Rattle.std.specs.Prelude.{ℕ, Bool, List, [], ◌∷◌, Option, Some, None, option_map, option_and_then, if◌then◌else◌}
 use Rattle.tb_terms.specs.declared.term.Term.{Term}
 use Rattle.tb_func.specs.declared.slot.Slot.{Slot}

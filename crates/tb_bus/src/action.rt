@@ -1,7 +1,7 @@
 use tb_match::Binds;
 use tb_terms::{Patterns, Terms};
 
-/// What an offered atom that is ready does, as its own store says.
+/// What an offered atom that is ready does, by the store in which it is offered alone.
 #[derive(Debug, Drop)]
 pub enum Action {
     /// It happens by itself.

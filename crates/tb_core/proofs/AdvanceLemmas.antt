@@ -1,5 +1,5 @@
 -- A process that goes on among the others: it is put in its place, or taken away.
-use Rattle.std.proofs.Common.{◌≡◌, ℕ, ◌<◌, ◌≤◌, ◌==◌, ◌&&◌, zero, suc, List, [], ◌∷◌, ◌++◌, length, refl, ap, sym, subst, ◌∙◌, arith, Option, Some, None, Bool, true, false, IsTrue, Contains, slice_get, slice_set, remove, get_or, take, drop, nat_lt, if◌then◌else◌, eq-eqb, inr, map, option_map, unwrap_or}
+use Rattle.std.proofs.Common.{◌≡◌, ℕ, ◌<◌, ◌≤◌, ◌==◌, ◌&&◌, zero, suc, List, [], ◌∷◌, ◌++◌, length, refl, ap, sym, subst, ◌∙◌, arith, Option, Some, None, Bool, true, false, Contains, slice_get, slice_set, remove, get_or, take, drop, nat_lt, if◌then◌else◌, eq-eqb, inr, map, option_map, unwrap_or}
 use Rattle.std.proofs.lemmas.Bool.{lt-ltb, eqb-true, false_from_ne_true}
 use Rattle.std.proofs.lemmas.Option.{slice_get-map, unwrap_or-slice_get}
 use Rattle.std.proofs.lemmas.List.Elements.{All-set, All-append, All-take, All-drop}
@@ -18,8 +18,8 @@ use Rattle.tb_bus.specs.Steps.{advance}
 use Rattle.tb_bus.specs.Candidates.{row_at, row_of, rows_of, no_row, ascend, Row}
 use Rattle.tb_bus.specs.Views.{proc_at, no_proc}
 use Rattle.tb_bus.specs.declared.living.Living.{Living}
-use Rattle.tb_bus.proofs.TurnLemmas.{ascend-first, ascend-above}
-use Rattle.tb_core.specs.Lives.{IsLive, IsLiveOn, term_in, proc_of, proc_by, proc_in, procs_of}
+use Rattle.tb_bus.proofs.TurnLemmas.{ascend-first}
+use Rattle.tb_core.specs.Lives.{IsLive, term_in, proc_by, proc_in, procs_of}
 use Rattle.tb_core.specs.LiveBuses.{IsSound, IsFreshOr, IsAdvanced, AreAdvanced, Leaves, CanAdvance, bus_of, procs_in}
 use Rattle.tb_core.specs.declared.bus.LiveBus.{LiveBus}
 use Rattle.tb_core.proofs.ReadLemmas.{LiveAt, live-at, read-is}
@@ -221,13 +221,17 @@ gone-before xs ys at x other e l = ap (λ zs. slice_get zs other) (e ∙ remove-
 -- who went on and hasn't ended is alive
 went-live : {W P T : Type 0} (view : View P W T) (bus : LiveBus W P T) (at : ℕ) (before : Living W) (offered : Offered) (binds : List Bind) (after : Living W) → (it : LiveAt view bus at before) →
     Went view it.plan before offered binds after → sorts_of (fired binds 0 offered).store ≡ sorts_of (proc_at (procs_in view bus) at).store → is_end (view.walking it.plan after.walker).term ≡ false → IsLive view bus.plans bus.ticks after
-went-live view bus at before offered binds after it went sorts alive = (it.plan, ap (slice_get bus.plans) went.body ∙ it.planned, record {
-  is_on = went.is_on;
-  alive = alive;
-  sorts = ap (λ (v : Walking). sorts_of v.store) went.goes ∙ sorts ∙ ap (λ (p : Proc). sorts_of p.store) it.proc ∙ it.live.sorts;
-  ticks = let e = ap (λ (v : Walking). v.ticks) went.goes in let l = it.live.ticks in omega arith;
-  ready = λ e. absurd (let f = went.stale in cc);
-})
+went-live view bus at before offered binds after it went sorts alive = (
+  it.plan,
+  ap (slice_get bus.plans) went.body ∙ it.planned,
+  record {
+    is_on = went.is_on;
+    alive = alive;
+    sorts = ap (λ (v : Walking). sorts_of v.store) went.goes ∙ sorts ∙ ap (λ (p : Proc). sorts_of p.store) it.proc ∙ it.live.sorts;
+    ticks = let e = ap (λ (v : Walking). v.ticks) went.goes in let l = it.live.ticks in omega arith;
+    ready = λ e. absurd (let f = went.stale in cc);
+  },
+)
 
 named : {W P T : Type 0} (view : View P W T) (bus : LiveBus W P T) (at : ℕ) (before : Living W) → LiveAt view bus at before → Contains bus.stale.items (row_at (rows_of bus.living.items) at).number → Contains bus.stale.items before.number
 named view bus at before it h = subst (λ (r : Row). Contains bus.stale.items r.number) it.row h

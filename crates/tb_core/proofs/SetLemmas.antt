@@ -30,7 +30,7 @@ set-other (x ∷ xs) (suc at) zero y ne = refl
 set-other (x ∷ xs) (suc at) (suc other) y ne = set-other xs at other y (λ e. ne (ap suc e))
 
 -- they stand by their numbers as before
-ascend-set : {W : Type 0} (below : ℕ) (all : List (Living W)) (at : ℕ) (living one : Living W) → slice_get all at ≡ Some living → one.number ≡ living.number → ascend below (rows_of (slice_set all at one)) ≡ ascend below (rows_of all)
+pub ascend-set : {W : Type 0} (below : ℕ) (all : List (Living W)) (at : ℕ) (living one : Living W) → slice_get all at ≡ Some living → one.number ≡ living.number → ascend below (rows_of (slice_set all at one)) ≡ ascend below (rows_of all)
 ascend-set below [] at living one e f = refl
 ascend-set below (x ∷ all) zero living one e f =
     ap (λ number. nat_lt below number && ascend number (rows_of all)) (f ∙ ap (λ (l : Living _). l.number) (sym (same_Some x living e)))

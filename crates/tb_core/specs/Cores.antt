@@ -57,7 +57,7 @@ step_entry false quiet (step ∷ rest) = Some (Did step.label)
 step_entry false true [] = None
 step_entry false false [] = Some Quiet
 
--- What a call logs, where it isn't refused: a function of the core alone.
+-- What a call logs, where it isn't refused: a function of the core and the call.
 abbrev pub would_log : CoreState → Call → Option Entry
 would_log core (HandIn input) = Some (Fed input (fed (bus_now core) input).reply)
 would_log core MakeStep = step_entry (bus_now core).down (ends_quiet core.log) (steps (bus_now core))

@@ -18,7 +18,7 @@ pub enum Stepped {
 /// Why a core refused a call. It is as it was before.
 #[derive(Clone, Copy, Debug, PartialEq, Eq)]
 pub enum CoreFault {
-    /// The log could not grow, or the terms of a message could not be copied.
+    /// Memory ran out.
     NoMemory,
     /// The core was stopped.
     Stopped,

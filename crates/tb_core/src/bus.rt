@@ -29,15 +29,14 @@ pub struct LiveBus<W: Walker> {
 }
 
 impl<W: Walker> LiveBus<W> {
-    ghost use Rattle.std.specs.Prelude.{◌≡◌, ℕ, ◌<◌, ◌≤◌, ◌+◌, ◌∷◌, ◌≢◌, List, [], length, vec_len, vec_capacity, Contains, IfOk, IfSome, IsTrue, OnOk, OnErr, Some, slice_get, true, false, option_map};
+    ghost use Rattle.std.specs.Prelude.{◌≡◌, ℕ, ◌<◌, ◌≤◌, ◌+◌, ◌∷◌, ◌≢◌, List, [], length, vec_len, vec_capacity, Contains, IfOk, IfSome, OnOk, OnErr, Some, slice_get, true, false, option_map};
     ghost use Rattle.std.specs.List.{All};
-    ghost use Rattle.tb_match.specs.declared.bind.Bind.{Bind};
     ghost use Rattle.tb_algebra.specs.Offers.{Offered};
     ghost use Rattle.tb_bus.specs.Buses.{start};
     ghost use Rattle.tb_bus.specs.Steps.{moves, apply, label_of, nowhere};
     ghost use Rattle.tb_bus.specs.Traces.{fed};
     ghost use Rattle.tb_bus.specs.Candidates.{first, row_at, rows_of};
-    ghost use Rattle.tb_bus.specs.Views.{proc_at, ready_at, offer_of, move_of, IsCandidateIn};
+    ghost use Rattle.tb_bus.specs.Views.{ready_at, offer_of, move_of, IsCandidateIn};
     ghost use Rattle.tb_core.specs.LiveBuses.{bus_of, procs_in, AreFresh, IsFreshOr, IsSound, IsSetAt, StandsAs, Leaves, CanAdvance, IsAdvanced, AreAdvanced, IsMade};
 
     /// The bus that a program opens with. Its processes are looked at later.

@@ -105,7 +105,7 @@ impl<W: Walker> Core<W> {
         Ok(reply)
     }
 
-    /// Makes the first of the steps.
+    /// Makes the first of the steps. Where there is none it logs that once, unless the bus is down.
     pub fn step(&mut self) -> Result<Stepped, CoreFault>
         ensures found { IfOk result (IsStep self.old) }
         ensures logs { IfOk result (λ _. Logs self.old self.new (entries_of self.old MakeStep)) }
