@@ -153,10 +153,23 @@ IsCaused files_old files_new out_old out_new (Words fault) = Unit {0}
 IsCaused files_old files_new out_old out_new (Limit bound) = Unit {0}
 IsCaused files_old files_new out_old out_new NoMemory = Unit {0}
 
--- a status may come: by what the words ask for, what the name holds and what was put, and by the counts of faults
-abbrev pub Comes : Result Command WordFault → (List ℕ → Option (List ℕ)) → Option (List ℕ) → Option (List ℕ) → ℕ → ℕ → ℕ → ℕ → Status → Type 0
-Comes asked held old new files_old files_new out_old out_new status =
-    CommandOutcome asked held old new status × IsCaused files_old files_new out_old out_new status
+-- the names that the files are asked for: that of the script
+abbrev pub names_of : Result Command WordFault → List (List ℕ)
+names_of (Err fault) = []
+names_of (Ok command) = script_of command ∷ []
+
+-- They were asked for, once each, and no others; where memory ran out, or standard error failed, perhaps not.
+abbrev pub AsksFor : Result Command WordFault → List (List ℕ) → List (List ℕ) → Status → Type 0
+AsksFor asked old new NoMemory = (new ≡ old) ⊎ (new ≡ old ++ names_of asked)
+AsksFor asked old new (Outside edge.Err) = (new ≡ old) ⊎ (new ≡ old ++ names_of asked)
+AsksFor asked old new status = new ≡ old ++ names_of asked
+
+-- A status may come: by what the words ask for, what the name holds and what was put; by the counts of faults; and by
+-- the names that the files were asked for before and since. That of standard error never comes so, but only in place of
+-- one that does.
+abbrev pub Comes : Result Command WordFault → (List ℕ → Option (List ℕ)) → Option (List ℕ) → Option (List ℕ) → ℕ → ℕ → ℕ → ℕ → List (List ℕ) → List (List ℕ) → Status → Type 0
+Comes asked held old new files_old files_new out_old out_new names_old names_new status =
+    CommandOutcome asked held old new status × IsCaused files_old files_new out_old out_new status × AsksFor asked names_old names_new status
 
 -- What is put of a status to standard error: nothing where all ended well; the status's line; or, where standard
 -- error failed, a front of the line of the status that it hides.
@@ -169,14 +182,3 @@ Reported comes old new (Script fault) = comes (Script fault) × Takes old new (s
 Reported comes old new (Words fault) = comes (Words fault) × Takes old new (status_line (Words fault))
 Reported comes old new (Limit bound) = comes (Limit bound) × Takes old new (status_line (Limit bound))
 Reported comes old new NoMemory = comes NoMemory × Takes old new (status_line NoMemory)
-
--- the names that the files are asked for: that of the script
-abbrev pub names_of : Result Command WordFault → List (List ℕ)
-names_of (Err fault) = []
-names_of (Ok command) = script_of command ∷ []
-
--- They were asked for, once each, and no others; where memory ran out, or standard error failed, perhaps not.
-abbrev pub AsksFor : Result Command WordFault → List (List ℕ) → List (List ℕ) → Status → Type 0
-AsksFor asked old new NoMemory = (new ≡ old) ⊎ (new ≡ old ++ names_of asked)
-AsksFor asked old new (Outside edge.Err) = (new ≡ old) ⊎ (new ≡ old ++ names_of asked)
-AsksFor asked old new status = new ≡ old ++ names_of asked

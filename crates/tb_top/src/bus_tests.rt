@@ -31,7 +31,7 @@ struct Run {
     log: &'static str,
 }
 
-static RUNS: [Run; 6] = [
+static RUNS: [Run; 21] = [
     Run {
         script: "process A is snd-msg(m) . tau process B is tau . rec-msg(m) process C is delta \
                  toolbus(A, B, C, C)",
@@ -70,6 +70,116 @@ static RUNS: [Run; 6] = [
         limit: 0,
         end: SimEnd::Steps,
         log: "1 quiet\n2 noticks\n",
+    },
+    // A choice drops its other side.
+    Run {
+        script: "process P is let X : int in (X := 1 + X := 3) . tau endlet toolbus(P)",
+        limit: 9,
+        end: SimEnd::Down,
+        log: "1 set 1.1 1\n2 tau 1.3\n3 finish\n",
+    },
+    // A star takes its first part anew until that offers nothing.
+    Run {
+        script: "process P is let X : int in (if equal(X, 0) then X := 1 fi) * tau endlet \
+                 toolbus(P)",
+        limit: 9,
+        end: SimEnd::Down,
+        log: "1 set 1.1 1\n2 tau 1.2\n3 finish\n",
+    },
+    Run {
+        script: "process P is let X : int in (if equal(X, 0) then X := add(X, 1) fi + if \
+                 equal(X, 1) then X := 9 fi) * tau endlet toolbus(P)",
+        limit: 9,
+        end: SimEnd::Down,
+        log: "1 set 1.1 1\n2 set 1.2 9\n3 tau 1.3\n4 finish\n",
+    },
+    // A merge waits for both of its sides, and another process is asked in between.
+    Run {
+        script: "process P is let X : int in (tau || X := 3) . snd-msg(X) endlet process Q is \
+                 let X : int in tau . rec-msg(X?) endlet toolbus(P, Q)",
+        limit: 9,
+        end: SimEnd::Down,
+        log: "1 tau 1.1\n2 tau 2.1\n3 set 1.2 3\n4 msg 1.3 2.2 3\n5 finish\n",
+    },
+    Run {
+        script: "process P is let X : int in X := 1 . if equal(X, 1) then tau else X := 9 fi \
+                 endlet toolbus(P)",
+        limit: 9,
+        end: SimEnd::Down,
+        log: "1 set 1.1 1\n2 tau 1.2\n3 finish\n",
+    },
+    Run {
+        script: "process P is let X : int in X := 1 . if equal(X, 0) then tau else X := 9 fi \
+                 endlet toolbus(P)",
+        limit: 9,
+        end: SimEnd::Down,
+        log: "1 set 1.1 1\n2 set 1.3 9\n3 finish\n",
+    },
+    // A test is evaluated at the step, and not where the process enters it.
+    Run {
+        script: "process P is let X : int in X := 1 || if equal(X, 1) then tau fi endlet \
+                 toolbus(P)",
+        limit: 9,
+        end: SimEnd::Down,
+        log: "1 set 1.1 1\n2 tau 1.2\n3 finish\n",
+    },
+    Run {
+        script: "process P is let X : int in if equal(X, 1) then tau fi endlet toolbus(P)",
+        limit: 9,
+        end: SimEnd::Down,
+        log: "1 quiet\n2 noticks\n3 halt\n",
+    },
+    // What is sent has the value that the call gives.
+    Run {
+        script: "process S(X : int) is snd-msg(X) process P is S(3) process Q is let X : int in \
+                 rec-msg(X?) . X := add(X, 1) endlet toolbus(P, Q)",
+        limit: 9,
+        end: SimEnd::Down,
+        log: "1 msg 1.1 2.1 3\n2 set 2.2 4\n3 finish\n",
+    },
+    Run {
+        script: "process P is let X : int in X := 3 . (snd-msg(X) + tau) endlet process Q is let \
+                 X : int in rec-msg(X?) . X := add(X, 1) endlet toolbus(P, Q)",
+        limit: 9,
+        end: SimEnd::Down,
+        log: "1 set 1.1 3\n2 msg 1.2 2.1 3\n3 set 2.2 4\n4 finish\n",
+    },
+    // The first atom that matches receives.
+    Run {
+        script: "process S is snd-msg(5) process R is rec-msg(6) + rec-msg(5) toolbus(S, R)",
+        limit: 9,
+        end: SimEnd::Down,
+        log: "1 msg 1.1 2.2 5\n2 finish\n",
+    },
+    Run {
+        script: "process S is snd-msg(5) process R is rec-msg(6) toolbus(S, R)",
+        limit: 9,
+        end: SimEnd::Down,
+        log: "1 quiet\n2 noticks\n3 halt\n",
+    },
+    // X takes numbers only, and Y any term.
+    Run {
+        script: "process S is snd-msg(f(3, 3)) process N is let X : int in rec-msg(X?) endlet \
+                 process T is let Y : term in rec-msg(Y?) endlet toolbus(S, N, T)",
+        limit: 9,
+        end: SimEnd::Down,
+        log: "1 msg 1.1 3.1 f(3,3)\n2 quiet\n3 noticks\n4 halt\n",
+    },
+    // f(1,2) doesn't match f(X?,X?), and of that match no bind is left: f(3,3) does, and X is 3.
+    Run {
+        script: "process S is snd-msg(f(1, 2)) + snd-msg(f(3, 3)) process R is let X : int in \
+                 rec-msg(f(X?, X?)) . X := add(X, 1) endlet toolbus(S, R)",
+        limit: 9,
+        end: SimEnd::Down,
+        log: "1 msg 1.2 2.1 f(3,3)\n2 set 2.2 4\n3 finish\n",
+    },
+    // Where nothing matches X stays 0.
+    Run {
+        script: "process S is snd-msg(f(1, 2)) process R is let X : int in rec-msg(f(X?, X?)) + \
+                 X := add(X, 1) endlet toolbus(S, R)",
+        limit: 9,
+        end: SimEnd::Down,
+        log: "1 set 2.2 1\n2 quiet\n3 noticks\n4 halt\n",
     },
 ];
 

@@ -36,10 +36,10 @@ pub fn toolbus<F: Files, O: Sink, E: Sink>(
     out: &mut O,
     err: &mut E,
 ) -> Status
-    // Which status comes when, and what was put then.
+    // Which status comes when, and what was put and asked for then.
     ensures outcome { Reported
         (Comes (asked (map string_bytes words.now.items)) (F.held files.old) (O.taken out.old) (O.taken out.new)
-        (F.faults files.old) (F.faults files.new) (O.faults out.old) (O.faults out.new))
+        (F.faults files.old) (F.faults files.new) (O.faults out.old) (O.faults out.new) (F.asked files.old) (F.asked files.new))
         (E.taken err.old) (E.taken err.new) result }
     ensures asks { AsksFor (asked (map string_bytes words.now.items)) (F.asked files.old) (F.asked files.new) result }
 

@@ -11,6 +11,6 @@ returns-clause-outcome g c =
     let files_new = g.F.Files.faults c.answer-status.new.files in
     let out_old = g.O.Sink.faults c.args.out.now in
     let out_new = g.O.Sink.faults c.answer-status.new.out in
-    let comes = Comes (asked (map (string_bytes {Z = Rattle.std.proofs.Common.Global}) c.args.words.now.items)) (g.F.Files.held c.args.files.now) (g.O.Sink.taken c.args.out.now) (g.O.Sink.taken c.answer-status.new.out) files_old files_new out_old out_new in
-    let came : comes given = (c.answer-status.ensures.outcome, caused files_old files_new out_old out_new given c.answer-status.ensures.file_rose c.answer-status.ensures.out_rose) in
+    let comes = Comes (asked (map (string_bytes {Z = Rattle.std.proofs.Common.Global}) c.args.words.now.items)) (g.F.Files.held c.args.files.now) (g.O.Sink.taken c.args.out.now) (g.O.Sink.taken c.answer-status.new.out) files_old files_new out_old out_new (g.F.Files.asked c.args.files.now) (g.F.Files.asked c.answer-status.new.files) in
+    let came : comes given = (c.answer-status.ensures.outcome, caused files_old files_new out_old out_new given c.answer-status.ensures.file_rose c.answer-status.ensures.out_rose, c.answer-status.ensures.asks) in
     reported comes given (g.E.Sink.taken c.args.err.now) (g.E.Sink.taken c.report.new.err) c.report.result came c.report.ensures.reports
