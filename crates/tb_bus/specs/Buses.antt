@@ -61,8 +61,8 @@ opened bodies number [] = []
 opened bodies number (root ∷ roots) = opened_one number root (slice_get bodies root.process) ++ opened bodies (number + 1) roots
 
 -- where a bus starts from: its program
-abbrev pub origin_of : Program → Origin
-origin_of program = record { program = program }
+abbrev pub origin_of : Program → ℕ → Origin
+origin_of program limit = record { program = program; limit = limit }
 
 -- the bus that a program opens with
 abbrev pub start : Origin → Bus

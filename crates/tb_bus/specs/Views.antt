@@ -71,6 +71,12 @@ sent_in (action.Own own) = []
 sent_in (action.Send terms) = terms
 sent_in (action.Receive patterns) = []
 
+-- the terms that are seen of an action: none of one that receives, since they are the sender's
+abbrev pub shown_in : Action → List Term
+shown_in (action.Own own) = (effect_in own).shown
+shown_in (action.Send terms) = terms
+shown_in (action.Receive patterns) = []
+
 -- the move that a candidate is
 abbrev pub move_of : List Proc → List Row → Candidate → Move
 move_of procs rows (candidate.Own at index) = own_move (proc_at procs at) (offer_of procs rows at index) (ready_at rows at index).action

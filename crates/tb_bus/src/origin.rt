@@ -4,4 +4,6 @@ use tb_body::Program;
 #[derive(Debug, Drop)]
 pub struct Origin {
     pub program: Program,
+    /// How many entries the log may have.
+    pub limit: u32,
 }

@@ -1,6 +1,7 @@
 -- What a core stands for, and what each of its calls logs.
-use Rattle.std.specs.Prelude.{◌≡◌, List, [], ◌∷◌, ◌++◌, ◌-◌, length, slice_get, Option, Some, None, Bool, true, false, option_to_list, refl}
+use Rattle.std.specs.Prelude.{◌≡◌, List, [], ◌∷◌, ◌++◌, ◌-◌, length, slice_get, Option, Some, None, Bool, true, false, not, option_to_list, refl}
 use Rattle.std.specs.Coded.{Coded, code_by, coded×, coded_bool, coded_list}
+use Rattle.tb_log.specs.Limits.{has_room}
 use Rattle.tb_log.specs.declared.entry.Input.{Input}
 use Rattle.tb_log.specs.declared.entry.Entry.{Entry}
 use Rattle.tb_log.specs.declared.entry.Entry.TheVariants.{Did, Quiet, Fed}
@@ -61,6 +62,14 @@ step_entry false false [] = Some Quiet
 abbrev pub would_log : CoreState → Call → Option Entry
 would_log core (HandIn input) = Some (Fed input (fed (bus_now core) input).reply)
 would_log core MakeStep = step_entry (bus_now core).down (ends_quiet core.log) (steps (bus_now core))
+
+-- the log has no room for what a call would log
+abbrev pub lacks_room : CoreState → Option Entry → Bool
+lacks_room core None = false
+lacks_room core (Some entry) = not (has_room core.origin.limit core.log entry)
+
+abbrev pub is_full : CoreState → Call → Bool
+is_full core call = lacks_room core (would_log core call)
 
 -- the entries that a call adds to the log
 abbrev pub entries_of : CoreState → Call → List Entry

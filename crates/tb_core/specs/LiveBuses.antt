@@ -6,7 +6,7 @@ use Rattle.tb_algebra.specs.Binds.{takes_binds}
 use Rattle.tb_algebra.specs.Offers.{Offered}
 use Rattle.tb_algebra.specs.Walks.{sorts_of}
 use Rattle.tb_algebra.specs.WalkerViews.{View}
-use Rattle.tb_log.specs.declared.entry.Entry.{Entry}
+use Rattle.tb_log.specs.Logs.{LogState}
 use Rattle.tb_bus.specs.Buses.{Bus, Proc, start}
 use Rattle.tb_bus.specs.Steps.{advance, apply}
 use Rattle.tb_bus.specs.Views.{move_of, proc_at}
@@ -91,9 +91,10 @@ pub record IsMade {W P T : Type 0} (view : View P W T) (old : LiveBus W P T) (ca
   pub bus : bus_of view new ≡ apply (bus_of view old) (move_of (procs_in view old) (rows_of old.living.items) candidate)
   pub origin : new.origin ≡ old.origin
 
--- The fields stand for the bus to which the log leads, the log is a trace, and each tick is an entry of it.
-pub record Represents {W P T : Type 0} (view : View P W T) (bus : LiveBus W P T) (log : List Entry) : Type 0 where
+-- The fields stand for the bus to which the log leads, the log is a trace within the limit, and each tick is an entry of it.
+pub record Represents {W P T : Type 0} (view : View P W T) (bus : LiveBus W P T) (log : LogState) : Type 0 where
   pub sound : IsSound view bus
-  pub bus_is : bus_of view bus ≡ replay (start bus.origin) log
-  pub trace : IsTrace (start bus.origin) log
-  pub ticks : bus.ticks ≤ length log
+  pub bus_is : bus_of view bus ≡ replay (start bus.origin) log.entries
+  pub trace : IsTrace (start bus.origin) log.entries
+  pub limit : log.limit ≡ bus.origin.limit
+  pub ticks : bus.ticks ≤ length log.entries

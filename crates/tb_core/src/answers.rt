@@ -18,6 +18,8 @@ pub enum Stepped {
 /// Why a core refused a call. It is as it was before.
 #[derive(Clone, Copy, Debug, PartialEq, Eq)]
 pub enum CoreFault {
+    /// The log has no room for the entry that the call would add.
+    Full,
     /// Memory ran out.
     NoMemory,
     /// The core was stopped.

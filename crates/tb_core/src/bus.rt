@@ -1,11 +1,17 @@
+ghost use Rattle.std.specs.Prelude.{◌≡◌, min};
+ghost use Rattle.std.below.core.specs.declared.int.usize.TheConstants.{MAX};
+ghost use Rattle.tb_log.specs.Limits.{terms_size};
+ghost use Rattle.tb_bus.specs.Views.{shown_in};
+
 use crate::looking::{go_on, look};
 use crate::opening::{numbers_of, open_all, plan_all};
 use std::alloc::Global;
 use tb_algebra::Walker;
 use tb_bus::{
-    Action, Candidate, Living, Origin, Partner, Ready, Received, effect_in, first_candidate,
+    Action, Candidate, Living, Origin, OwnAction, Partner, Ready, Received, effect_in,
+    first_candidate,
 };
-use tb_log::{Input, Label, LabelKind, Place, Reply, Why};
+use tb_log::{Input, Label, LabelKind, Place, Reply, Why, total_size};
 use tb_match::Binds;
 use tb_terms::{Items, NoMemory};
 
@@ -29,7 +35,9 @@ pub struct LiveBus<W: Walker> {
 }
 
 impl<W: Walker> LiveBus<W> {
-    ghost use Rattle.std.specs.Prelude.{◌≡◌, ℕ, ◌<◌, ◌≤◌, ◌+◌, ◌∷◌, ◌≢◌, List, [], length, vec_len, vec_capacity, Contains, IfOk, IfSome, OnOk, OnErr, Some, slice_get, true, false, option_map};
+    ghost use Rattle.std.specs.Prelude.{◌≡◌, ℕ, ◌<◌, ◌≤◌, ◌+◌, ◌∷◌, ◌≢◌, List, [], length, vec_len, vec_capacity, Contains, IfOk, IfSome, OnOk, OnErr, Some, slice_get, true, false, option_map, min};
+    ghost use Rattle.std.below.core.specs.declared.int.usize.TheConstants.{MAX};
+    ghost use Rattle.tb_log.specs.Limits.{terms_size};
     ghost use Rattle.std.specs.List.{All};
     ghost use Rattle.tb_algebra.specs.Offers.{Offered};
     ghost use Rattle.tb_bus.specs.Buses.{start};
@@ -169,6 +177,20 @@ impl<W: Walker> LiveBus<W> {
         let plan = &self.plans.as_slice()[living.body as usize];
         if go_on(plan, living, taken, binds) {
             self.living.remove(at);
+        }
+    }
+
+    /// How large the terms are that are seen of a move that was found, or the greatest usize where that is greater.
+    pub fn shown_size(&self, candidate: &Candidate) -> usize
+        requires sound { IsSound W.view self.now }
+        requires found { IsCandidateIn (rows_of self.now.living.items) candidate.now }
+        ensures { result ≡ min (terms_size (label_of (move_of (procs_in W.view self.now) (rows_of self.now.living.items) candidate.now)).terms) MAX }
+    {
+        match candidate {
+            Candidate::Own(at, index) | Candidate::Handshake(at, index, _) => {
+                action_size(&self.living[*at].ready[*index].action)
+            }
+            Candidate::Finish | Candidate::Halt => 0,
         }
     }
 
@@ -347,5 +369,17 @@ impl<W: Walker> LiveBus<W> {
             Input::NoTicks if self.down => {}
             Input::NoTicks => self.no_ticks = true,
         }
+    }
+}
+
+/// How large the terms are that are seen of an action.
+fn action_size(action: &Action) -> usize
+    ensures { result ≡ min (terms_size (shown_in action.now)) MAX }
+{
+    match action {
+        Action::Own(OwnAction::Tau) => 0,
+        Action::Own(OwnAction::Set(values, _)) => total_size(values.as_slice()),
+        Action::Send(terms) => total_size(terms.as_slice()),
+        Action::Receive(_) => 0,
     }
 }

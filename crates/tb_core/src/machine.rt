@@ -1,10 +1,11 @@
-ghost use Rattle.std.specs.Prelude.{◌≡◌, ◌↔◌, ◌∷◌, [], ◌++◌, IsTrue, IfOk, OnOk, OnErr, IsErrOf, true, if◌then◌else◌};
+ghost use Rattle.std.specs.Prelude.{◌≡◌, ◌↔◌, ◌∷◌, [], ◌++◌, IsTrue, IfOk, OnOk, OnErr, IsErrOf, true, false, if◌then◌else◌};
+ghost use Rattle.tb_log.specs.Limits.{has_room};
 ghost use Rattle.tb_bus.specs.Buses.{origin_of, start};
 ghost use Rattle.tb_bus.specs.Traces.{IsInForm, IsTrace, fed};
 ghost use Rattle.tb_bus.specs.Steps.{steps, apply, label_of};
 ghost use Rattle.tb_bus.specs.Candidates.{rows_of};
 ghost use Rattle.tb_bus.specs.Views.{move_of, IsCandidateIn};
-ghost use Rattle.tb_core.specs.Cores.{HandIn, MakeStep, started, bus_now, Logs, entries_of, IsStep, has_any, ends_quiet};
+ghost use Rattle.tb_core.specs.Cores.{HandIn, MakeStep, started, bus_now, Logs, entries_of, is_full, IsStep, has_any, ends_quiet};
 ghost use Rattle.tb_core.specs.LiveBuses.{bus_of, procs_in, AreFresh, IsSound, StandsAs};
 
 use crate::answers::{CoreFault, Stepped};
@@ -14,7 +15,7 @@ use std::marker::Model;
 use tb_algebra::Walker;
 use tb_body::Program;
 use tb_bus::{Candidate, Origin};
-use tb_log::{Entry, Input, Reply};
+use tb_log::{Entry, Input, Log, Reply};
 use tb_terms::NoMemory;
 
 /// A bus with its log: each call makes at most one event, and logs it. Contracts see where it was
@@ -23,7 +24,7 @@ use tb_terms::NoMemory;
 pub struct Core<W: Walker> {
     alloc: Global,
     bus: LiveBus<W>,
-    log: Vec<Entry>,
+    log: Log,
     stopped: bool,
 }
 
@@ -35,21 +36,21 @@ impl<W: Walker> Model for Core<W> {
 
     ghost coded = { core_code };
 
-    ghost view = { λ core. record { origin = core.bus.origin; log = core.log.items; stopped = core.stopped } };
+    ghost view = { λ core. record { origin = core.bus.origin; log = core.log.entries; stopped = core.stopped } };
 
-    ghost invariant = { λ core. Represents W.view core.bus core.log.items };
+    ghost invariant = { λ core. Represents W.view core.bus core.log };
 }
 
 impl<W: Walker> Core<W> {
-    /// The opening bus of a program, with an empty log.
-    pub fn start(alloc: Global, program: Program) -> Result<Core<W>, NoMemory>
-        ensures { IfOk result (λ core. core ≡ started (origin_of program)) }
+    /// The opening bus of a program, with an empty log for at most so many entries.
+    pub fn start(alloc: Global, program: Program, limit: u32) -> Result<Core<W>, NoMemory>
+        ensures { IfOk result (λ core. core ≡ started (origin_of program limit)) }
     {
-        let bus = LiveBus::open(alloc, Origin { program })?;
+        let bus = LiveBus::open(alloc, Origin { program, limit })?;
         Ok(Core {
             alloc,
             bus,
-            log: Vec::new(alloc),
+            log: Log::new(alloc, limit),
             stopped: false,
         })
     }
@@ -59,7 +60,7 @@ impl<W: Walker> Core<W> {
         ensures value { result.now ≡ self.now.log }
         ensures trace { IsTrace (start self.now.origin) self.now.log }
     {
-        self.log.as_slice()
+        self.log.entries()
     }
 
     pub fn is_down(&self) -> bool
@@ -81,6 +82,18 @@ impl<W: Walker> Core<W> {
         self.stopped = true;
     }
 
+    /// Takes memory for so many entries more.
+    pub fn reserve(&mut self, n: usize) -> Result<(), NoMemory>
+        ensures { self.new ≡ self.old }
+    {
+        self.log.reserve(n)
+    }
+
+    /// For how many entries more there is memory.
+    pub fn spare(&self) -> usize {
+        self.log.spare()
+    }
+
     /// Whether a step is possible.
     pub fn has_step(&mut self) -> Result<bool, NoMemory>
         ensures value { IfOk result (λ any. any ≡ has_any (steps (bus_now self.old))) }
@@ -96,6 +109,8 @@ impl<W: Walker> Core<W> {
         ensures reply { IfOk result (λ reply. reply ≡ (fed (bus_now self.old) input).reply) }
         ensures logs { IfOk result (λ _. Logs self.old self.new (entries_of self.old (HandIn input))) }
         ensures stopped { IsErrOf result CoreFault.Stopped ↔ IsTrue self.old.stopped }
+        ensures full { IsErrOf result CoreFault.Full → is_full self.old (HandIn input) ≡ true }
+        ensures room { IfOk result (λ _. is_full self.old (HandIn input) ≡ false) }
         ensures err { OnErr result (self.new ≡ self.old) }
     {
         if self.stopped {
@@ -110,6 +125,8 @@ impl<W: Walker> Core<W> {
         ensures found { IfOk result (IsStep self.old) }
         ensures logs { IfOk result (λ _. Logs self.old self.new (entries_of self.old MakeStep)) }
         ensures stopped { IsErrOf result CoreFault.Stopped ↔ IsTrue self.old.stopped }
+        ensures full { IsErrOf result CoreFault.Full → is_full self.old MakeStep ≡ true }
+        ensures room { IfOk result (λ _. is_full self.old MakeStep ≡ false) }
         ensures err { OnErr result (self.new ≡ self.old) }
     {
         if self.stopped {
@@ -131,23 +148,27 @@ impl<W: Walker> Core<W> {
 }
 
 /// Logs an input with what becomes of it, and receives it.
-fn hand<W: Walker>(
-    bus: &mut LiveBus<W>,
-    log: &mut Vec<Entry>,
-    input: Input,
-) -> Result<Reply, NoMemory>
+fn hand<W: Walker>(bus: &mut LiveBus<W>, log: &mut Log, input: Input) -> Result<Reply, CoreFault>
     requires { IsSound W.view bus.old }
     ensures sound { IsSound W.view bus.new }
     ensures origin { bus.new.origin ≡ bus.old.origin }
+    ensures limit { log.new.limit ≡ log.old.limit }
     ensures reply { IfOk result (λ reply. reply ≡ (fed (bus_of W.view bus.old) input).reply) }
-    ensures log { IfOk result (λ reply. log.new.items ≡ log.old.items ++ Entry.Fed input reply ∷ []) }
+    ensures log { IfOk result (λ reply. log.new.entries ≡ log.old.entries ++ Entry.Fed input reply ∷ []) }
     ensures bus { OnOk result (bus_of W.view bus.new ≡ (fed (bus_of W.view bus.old) input).bus) }
-    ensures err { OnErr result ((bus_of W.view bus.new ≡ bus_of W.view bus.old) × (log.new.items ≡ log.old.items)) }
+    ensures running { IsErrOf result CoreFault.Stopped → ⊥ }
+    ensures full { IsErrOf result CoreFault.Full → has_room log.old.limit log.old.entries (Entry.Fed input (fed (bus_of W.view bus.old) input).reply) ≡ false }
+    ensures room { OnOk result (has_room log.old.limit log.old.entries (Entry.Fed input (fed (bus_of W.view bus.old) input).reply) ≡ true) }
+    ensures err { OnErr result ((bus_of W.view bus.new ≡ bus_of W.view bus.old) × (log.new.entries ≡ log.old.entries)) }
 {
-    log.reserve(1)?;
     let reply = bus.reply(input);
+    let entry = Entry::Fed(input, reply);
+    if !log.room_for(&entry) {
+        return Err(CoreFault::Full);
+    }
+    log.reserve(1)?;
     bus.feed(input);
-    log.push_reserved(Entry::Fed(input, reply));
+    log.push(entry);
     Ok(reply)
 }
 
@@ -155,33 +176,48 @@ fn hand<W: Walker>(
 fn make<W: Walker>(
     alloc: Global,
     bus: &mut LiveBus<W>,
-    log: &mut Vec<Entry>,
+    log: &mut Log,
     candidate: Candidate,
-) -> Result<(), NoMemory>
+) -> Result<(), CoreFault>
     requires sound { IsSound W.view bus.old }
     requires fresh { AreFresh bus.old.living.items }
     requires found { IsCandidateIn (rows_of bus.old.living.items) candidate }
     ensures sound { IsSound W.view bus.new }
     ensures origin { bus.new.origin ≡ bus.old.origin }
-    ensures log { OnOk result (log.new.items ≡ log.old.items ++ Entry.Did (label_of (move_of (procs_in W.view bus.old) (rows_of bus.old.living.items) candidate)) ∷ []) }
+    ensures limit { log.new.limit ≡ log.old.limit }
+    ensures log { OnOk result (log.new.entries ≡ log.old.entries ++ Entry.Did (label_of (move_of (procs_in W.view bus.old) (rows_of bus.old.living.items) candidate)) ∷ []) }
     ensures bus { OnOk result (bus_of W.view bus.new ≡ apply (bus_of W.view bus.old) (move_of (procs_in W.view bus.old) (rows_of bus.old.living.items) candidate)) }
-    ensures err { OnErr result ((bus_of W.view bus.new ≡ bus_of W.view bus.old) × (log.new.items ≡ log.old.items)) }
+    ensures running { IsErrOf result CoreFault.Stopped → ⊥ }
+    ensures full { IsErrOf result CoreFault.Full → has_room log.old.limit log.old.entries (Entry.Did (label_of (move_of (procs_in W.view bus.old) (rows_of bus.old.living.items) candidate))) ≡ false }
+    ensures room { OnOk result (has_room log.old.limit log.old.entries (Entry.Did (label_of (move_of (procs_in W.view bus.old) (rows_of bus.old.living.items) candidate))) ≡ true) }
+    ensures err { OnErr result ((bus_of W.view bus.new ≡ bus_of W.view bus.old) × (log.new.entries ≡ log.old.entries)) }
 {
+    if !log.room_for_size(bus.shown_size(&candidate)) {
+        return Err(CoreFault::Full);
+    }
     log.reserve(1)?;
     let label = bus.make(alloc, candidate)?;
-    log.push_reserved(Entry::Did(label));
+    log.push(Entry::Did(label));
     Ok(())
 }
 
 /// Logs that nothing is possible, unless the log says so last.
-fn say_quiet(log: &mut Vec<Entry>) -> Result<(), NoMemory>
-    ensures ok { OnOk result (log.new.items ≡ log.old.items ++ (if ends_quiet log.old.items then [] else Entry.Quiet ∷ [])) }
-    ensures err { OnErr result (log.new.items ≡ log.old.items) }
+fn say_quiet(log: &mut Log) -> Result<(), CoreFault>
+    ensures ok { OnOk result (log.new.entries ≡ log.old.entries ++ (if ends_quiet log.old.entries then [] else Entry.Quiet ∷ [])) }
+    ensures limit { log.new.limit ≡ log.old.limit }
+    ensures running { IsErrOf result CoreFault.Stopped → ⊥ }
+    ensures full { IsErrOf result CoreFault.Full → (ends_quiet log.old.entries ≡ false) × (has_room log.old.limit log.old.entries Entry.Quiet ≡ false) }
+    ensures room { OnOk result (ends_quiet log.old.entries ≡ false → has_room log.old.limit log.old.entries Entry.Quiet ≡ true) }
+    ensures err { OnErr result (log.new.entries ≡ log.old.entries) }
 {
-    if !says_quiet(log.as_slice()) {
-        log.reserve(1)?;
-        log.push_reserved(Entry::Quiet);
+    if says_quiet(log.entries()) {
+        return Ok(());
     }
+    if !log.room_for(&Entry::Quiet) {
+        return Err(CoreFault::Full);
+    }
+    log.reserve(1)?;
+    log.push(Entry::Quiet);
     Ok(())
 }
 

@@ -6,5 +6,5 @@ mod log;
 mod text;
 
 pub use entry::{Entry, Input, Label, LabelKind, Place, Reply, Why};
-pub use log::Log;
+pub use log::{Log, total_size};
 pub use text::write_entry;

@@ -35,6 +35,8 @@ impl Model for Log {
 }
 
 impl Log {
+    ghost use Rattle.tb_log.specs.declared.entry.Entry.{Entry};
+
     /// A log without entries, for at most so many.
     pub fn new(alloc: Global, limit: u32) -> Log
         ensures limit { result.limit ≡ limit }
@@ -57,8 +59,14 @@ impl Log {
     pub fn room_for(&self, entry: &Entry) -> bool
         ensures { result ≡ has_room self.now.limit self.now.entries entry.now }
     {
-        self.entries.len() < self.limit as usize
-            && self.size.saturating_add(size_of(entry)) <= MOST_SIZE
+        self.room_for_size(size_of(entry))
+    }
+
+    /// Whether neither limit is passed with an entry of this size.
+    pub fn room_for_size(&self, size: usize) -> bool
+        ensures { (entry : Entry) → size ≡ min (entry_size entry) MAX → result ≡ has_room self.now.limit self.now.entries entry }
+    {
+        self.entries.len() < self.limit as usize && self.size.saturating_add(size) <= MOST_SIZE
     }
 
     /// Takes memory for so many entries more.
@@ -109,7 +117,8 @@ fn label_size(label: &Label) -> usize
     total_size(label.terms.as_slice())
 }
 
-fn total_size(terms: &[Term]) -> usize
+/// The sizes of these terms together, or the greatest usize where that is greater.
+pub fn total_size(terms: &[Term]) -> usize
     ensures { result ≡ min (sum (map term_size terms.now)) MAX }
 {
     let mut total: usize = 0;

@@ -1,17 +1,29 @@
 -- The simulation of a bus: turn after turn, always the first of the steps.
-use Rattle.std.specs.Prelude.{◌≡◌, ℕ, ◌+◌, nat_le, List, [], ◌∷◌, Bool, true, false, if◌then◌else◌, ⊤}
+use Rattle.std.specs.Prelude.{◌≡◌, ℕ, ◌+◌, nat_le, List, [], ◌∷◌, ◌++◌, Bool, true, false, if◌then◌else◌, ⊤}
+use Rattle.tb_bus.specs.declared.origin.Origin.{Origin}
 use Rattle.tb_bus.specs.Buses.{Bus}
 use Rattle.tb_bus.specs.Steps.{Step, steps}
 use Rattle.tb_bus.specs.Traces.{fed}
+use Rattle.tb_log.specs.Limits.{has_room}
 use Rattle.tb_log.specs.declared.entry.Input.TheVariants.{NoTicks}
 use Rattle.tb_log.specs.declared.entry.Entry.{Entry}
 use Rattle.tb_log.specs.declared.entry.Entry.TheVariants.{Did, Quiet, Fed}
 use Rattle.tb_sim.specs.declared.ends.SimEnd.{SimEnd}
-use Rattle.tb_sim.specs.declared.ends.SimEnd.TheVariants.{Down, Steps}
+use Rattle.tb_sim.specs.declared.ends.SimEnd.TheVariants.{Down, Steps, Events}
 
--- where a simulation stands: its bus, how many steps it has made, and whether it has just said quiet
+-- how many steps a simulation may make, and how many entries its log may have
+pub record Limits : Type 0 where
+  pub steps : ℕ
+  pub entries : ℕ
+
+-- the limits of a core's simulation: its origin says how many entries its log may have
+abbrev pub limits_of : ℕ → Origin → Limits
+limits_of steps origin = record { steps = steps; entries = origin.limit }
+
+-- where a simulation stands: its bus, its log, how many steps it has made, and whether it has just said quiet
 pub record Sim : Type 0 where
   pub bus : Bus
+  pub log : List Entry
   pub steps_made : ℕ
   pub quiet : Bool
 
@@ -20,35 +32,39 @@ pub data Turn : Type 0 where
   Ends : SimEnd → Turn
   Makes : Entry → Sim → Turn
 
--- it says quiet, and hands in what comes next from outside: here, that no more ticks come
-abbrev pub quiet_turn : Sim → Turn
-quiet_turn sim =
-    if sim.quiet
-    then Makes (Fed NoTicks (fed sim.bus NoTicks).reply) (record sim { bus = (fed sim.bus NoTicks).bus; quiet = false })
-    else Makes Quiet (record sim { quiet = true })
+-- it logs an entry and goes on, where the log has room for it; else it ends
+abbrev pub makes : Limits → Sim → Entry → Sim → Turn
+makes limits sim entry next = if has_room limits.entries sim.log entry then Makes entry (record next { log = sim.log ++ entry ∷ [] }) else Ends Events
 
--- where a step is possible, it ends where the limit is reached, and else makes the first
-abbrev pub step_turn : ℕ → Sim → List Step → Turn
-step_turn limit sim [] = quiet_turn sim
-step_turn limit sim (step ∷ rest) =
-    if nat_le limit sim.steps_made
+-- it says quiet, and hands in what comes next from outside: here, that no more ticks come
+abbrev pub quiet_turn : Limits → Sim → Turn
+quiet_turn limits sim =
+    if sim.quiet
+    then makes limits sim (Fed NoTicks (fed sim.bus NoTicks).reply) (record sim { bus = (fed sim.bus NoTicks).bus; quiet = false })
+    else makes limits sim Quiet (record sim { quiet = true })
+
+-- where a step is possible, it ends where the limit of steps is reached, and else makes the first
+abbrev pub step_turn : Limits → Sim → List Step → Turn
+step_turn limits sim [] = quiet_turn limits sim
+step_turn limits sim (step ∷ rest) =
+    if nat_le limits.steps sim.steps_made
     then Ends Steps
-    else Makes (Did step.label) (record { bus = step.bus; steps_made = sim.steps_made + 1; quiet = false })
+    else makes limits sim (Did step.label) (record sim { bus = step.bus; steps_made = sim.steps_made + 1; quiet = false })
 
 -- a bus that is down ends it
-abbrev pub turn : ℕ → Sim → Turn
-turn limit sim = if sim.bus.down then Ends Down else step_turn limit sim (steps sim.bus)
+abbrev pub turn : Limits → Sim → Turn
+turn limits sim = if sim.bus.down then Ends Down else step_turn limits sim (steps sim.bus)
 
 -- Turn after turn this log is made, and then the simulation ends so.
-abbrev pub IsSim : ℕ → Sim → List Entry → SimEnd → Type 0
-IsSim limit sim [] end = turn limit sim ≡ Ends end
-IsSim limit sim (entry ∷ log) end = (next : Sim) × (turn limit sim ≡ Makes entry next) × IsSim limit next log end
+abbrev pub IsSim : Limits → Sim → List Entry → SimEnd → Type 0
+IsSim limits sim [] end = turn limits sim ≡ Ends end
+IsSim limits sim (entry ∷ log) end = (next : Sim) × (turn limits sim ≡ Makes entry next) × IsSim limits next log end
 
--- a simulation begins with no steps made
+-- a simulation begins with an empty log, and no steps made
 abbrev pub sim_start : Bus → Sim
-sim_start bus = record { bus = bus; steps_made = 0; quiet = false }
+sim_start bus = record { bus = bus; log = []; steps_made = 0; quiet = false }
 
 -- Turn after turn the simulation makes this log, and may go on.
-abbrev pub IsSimPrefix : ℕ → Sim → List Entry → Type 0
-IsSimPrefix limit sim [] = ⊤
-IsSimPrefix limit sim (entry ∷ log) = (next : Sim) × (turn limit sim ≡ Makes entry next) × IsSimPrefix limit next log
+abbrev pub IsSimPrefix : Limits → Sim → List Entry → Type 0
+IsSimPrefix limits sim [] = ⊤
+IsSimPrefix limits sim (entry ∷ log) = (next : Sim) × (turn limits sim ≡ Makes entry next) × IsSimPrefix limits next log

@@ -5,6 +5,8 @@ pub enum SimEnd {
     Down,
     /// The limit of steps was reached, and another step was possible.
     Steps,
+    /// The log had no room for the next entry.
+    Events,
 }
 
 /// What one go of a simulation did.

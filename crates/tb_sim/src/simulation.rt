@@ -1,13 +1,13 @@
 ghost use Rattle.std.specs.Prelude.{◌≡◌, ◌&&◌, ◌==◌, ◌≤◌, [], IfOk, OnOk, OnErr, IsErrOf, false};
 ghost use Rattle.tb_bus.specs.Buses.{start};
 ghost use Rattle.tb_bus.specs.Steps.{steps as steps_of};
-ghost use Rattle.tb_core.specs.Cores.{HandIn, bus_now, has_any, ends_quiet, entries_of, Logs};
-ghost use Rattle.tb_sim.specs.Simulation.{IsSim, IsSimPrefix, sim_start};
-ghost use Rattle.tb_sim.specs.Turns.{Goes, LeftWithin};
+ghost use Rattle.tb_core.specs.Cores.{bus_now, has_any, ends_quiet};
+ghost use Rattle.tb_sim.specs.Simulation.{IsSim, IsSimPrefix, limits_of, sim_start};
+ghost use Rattle.tb_sim.specs.Turns.{EndsTicks, Goes, LeftWithin};
 
 use crate::ends::{SimEnd, Turned};
 use tb_algebra::Walker;
-use tb_core::{Core, Stepped};
+use tb_core::{Core, CoreFault, Stepped};
 use tb_log::Input;
 use tb_terms::NoMemory;
 
@@ -36,35 +36,35 @@ fn go<W: Walker>(core: &mut Core<W>, made: u64, steps: u64) -> Result<Turned, No
     match core.step() {
         Ok(Stepped::Did) => Ok(Turned::Step),
         Ok(Stepped::Down) => Ok(Turned::End(SimEnd::Down)),
-        Ok(Stepped::Quiet) => match end_ticks(core) {
-            Ok(()) => Ok(Turned::Quiet),
-            Err(fault) => Err(fault),
-        },
-        Err(_) => Err(NoMemory),
+        Ok(Stepped::Quiet) => end_ticks(core),
+        Err(CoreFault::Full) => Ok(Turned::End(SimEnd::Events)),
+        Err(CoreFault::NoMemory | CoreFault::Stopped) => Err(NoMemory),
     }
 }
 
 /// Hands in that no more ticks come.
-fn end_ticks<W: Walker>(core: &mut Core<W>) -> Result<(), NoMemory>
+fn end_ticks<W: Walker>(core: &mut Core<W>) -> Result<Turned, NoMemory>
     requires { core.old.stopped ≡ false }
-    ensures ok { OnOk result (Logs core.old core.new (entries_of core.old (HandIn Input.NoTicks))) }
+    ensures ok { IfOk result (EndsTicks core.old core.new) }
     ensures err { OnErr result (core.new ≡ core.old) }
 {
     match core.hand_in(Input::NoTicks) {
-        Ok(_) => Ok(()),
-        Err(_) => Err(NoMemory),
+        Ok(_) => Ok(Turned::Quiet),
+        Err(CoreFault::Full) => Ok(Turned::End(SimEnd::Events)),
+        Err(CoreFault::NoMemory | CoreFault::Stopped) => Err(NoMemory),
     }
 }
 
-/// Runs a core to its end, always by the first of the steps, and makes at most this many. After an
-/// `Err` the log is a prefix of the one that the simulation makes.
+/// Runs a core to its end, always by the first of the steps, and makes at most this many. The end is `Events`
+/// where its log has no room for the next entry. After an `Err` the log is a prefix of the one that the simulation
+/// makes.
 pub fn simulate<W: Walker>(core: &mut Core<W>, steps: u64) -> Result<SimEnd, NoMemory>
     requires fresh { core.old.log ≡ [] }
     requires running { core.old.stopped ≡ false }
     ensures origin { core.new.origin ≡ core.old.origin }
     ensures still_running { core.new.stopped ≡ false }
-    ensures ok { IfOk result (IsSim steps (sim_start (start core.old.origin)) core.new.log) }
-    ensures err { OnErr result (IsSimPrefix steps (sim_start (start core.old.origin)) core.new.log) }
+    ensures ok { IfOk result (IsSim (limits_of steps core.old.origin) (sim_start (start core.old.origin)) core.new.log) }
+    ensures err { OnErr result (IsSimPrefix (limits_of steps core.old.origin) (sim_start (start core.old.origin)) core.new.log) }
 {
     let mut made = 0;
     loop {
