@@ -86,6 +86,25 @@ ascend-apart below (p ∷ rest) h = (
   ascend-apart p.number rest h.1,
 )
 
+abbrev Less : Proc → Proc → Type 0
+Less p q = p.number < q.number
+
+ascend-less : (below : ℕ) (procs : List Proc) → Ascend below procs → Apart Less procs
+ascend-less below [] h = tt
+ascend-less below (p ∷ rest) h = (
+  All-weaker (Contains rest) (Less p) (λ q c. ascend-above p.number rest q h.1 c) rest (All-contains_itself rest),
+  ascend-less p.number rest h.1,
+)
+
+-- In a bus that a program reaches the numbers ascend,
+pub numbers-ascend : (origin : Origin) (bus : Bus) → Reaches origin bus → AllPairs Less bus.procs
+numbers-ascend origin bus r = to_pairs Less bus.procs (ascend-less 0 bus.procs (reached-in_order origin bus r).ascend)
+
+-- from above 0.
+pub numbers-above : (origin : Origin) (bus : Bus) → Reaches origin bus → All (λ (proc : Proc). 0 < proc.number) bus.procs
+numbers-above origin bus r =
+    All-weaker (Contains bus.procs) (λ (proc : Proc). 0 < proc.number) (λ proc c. ascend-above 0 bus.procs proc (reached-in_order origin bus r).ascend c) bus.procs (All-contains_itself bus.procs)
+
 in_turn-apart : (bus : Bus) → Apart Differ bus.procs → Apart Differ (in_turn bus)
 in_turn-apart bus h =
     let later = λ (proc : Proc). nat_lt bus.last_starter proc.number in

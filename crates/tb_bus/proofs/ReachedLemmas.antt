@@ -114,26 +114,19 @@ pub record InOrder (bus : Bus) : Type 0 where
 
 -- the opening bus is one
 
-left-ascend : (below number body : ℕ) (store : List Slot) (left : Option Process) (rest : List Proc) → below < number → ((low : ℕ) → low ≤ number → Ascend low rest) → Ascend below (proc_left number body store left ++ rest)
-left-ascend below number body store None rest l h = h below (omega arith)
-left-ascend below number body store (Some term) rest l h = (l, h number (omega arith))
-
 one-opened-ascend : (below number : ℕ) (root : Root) (body : Option Body) (rest : List Proc) → below < number → ((low : ℕ) → low ≤ number → Ascend low rest) → Ascend below (opened_one number root body ++ rest)
 one-opened-ascend below number root None rest l h = h below (omega arith)
-one-opened-ascend below number root (Some body) rest l h = left-ascend below number root.process (opening_store body root.actuals) (Some (fresh body.tree)) rest l h
+one-opened-ascend below number root (Some body) rest l h = (l, h number (omega arith))
 
 opened-ascend : (bodies : List Body) (below number : ℕ) (roots : List Root) → below < number → Ascend below (opened bodies number roots)
 opened-ascend bodies below number [] l = tt
 opened-ascend bodies below number (root ∷ roots) l =
     one-opened-ascend below number root (slice_get bodies root.process) (opened bodies (number + 1) roots) l (λ low le. opened-ascend bodies low (number + 1) roots (omega arith))
 
-left-led : (bodies : List Body) (number body : ℕ) (store : List Slot) (left : Option Process) → IsLeft bodies body left → All (IsLed bodies) (proc_left number body store left)
-left-led bodies number body store None h = All-nil (IsLed bodies)
-left-led bodies number body store (Some term) h = All-one (IsLed bodies) (record { number = number; body = body; term = term; store = store }) h
-
 one-opened-led : (bodies : List Body) (number : ℕ) (root : Root) (body : Option Body) → slice_get bodies root.process ≡ body → All (IsLed bodies) (opened_one number root body)
 one-opened-led bodies number root None e = All-nil (IsLed bodies)
-one-opened-led bodies number root (Some body) e = left-led bodies number root.process (opening_store body root.actuals) (Some (fresh body.tree)) (body, e, (0, entered))
+one-opened-led bodies number root (Some body) e =
+    All-one (IsLed bodies) (record { number = number; body = root.process; term = fresh body.tree; store = opening_store body root.actuals }) (body, e, (0, entered))
 
 opened-led : (bodies : List Body) (number : ℕ) (roots : List Root) → All (IsLed bodies) (opened bodies number roots)
 opened-led bodies number [] = All-nil (IsLed bodies)
@@ -151,14 +144,16 @@ start-in_order origin = record {
 -- a process that goes on leaves the others where they are
 
 abbrev on_one : ℕ → Offered → List Bind → Proc → List Proc
-on_one number offered binds proc = if proc.number == number then proc_left number proc.body (with_binds offered.store binds) offered.residual else proc ∷ []
+on_one number offered binds proc = if proc.number == number then proc_left proc (with_binds offered.store binds) offered.residual else proc ∷ []
 
-one-ascend : (below : ℕ) (proc : Proc) (number : ℕ) (offered : Offered) (binds : List Bind) (rest : List Proc) (b : Bool) → (proc.number == number) ≡ b → below < proc.number →
-    ((low : ℕ) → low ≤ proc.number → Ascend low rest) → Ascend below ((if b then proc_left number proc.body (with_binds offered.store binds) offered.residual else proc ∷ []) ++ rest)
-one-ascend below proc number offered binds rest true e l h =
-    let same : proc.number ≡ number = eqb-true proc.number number e in
-    left-ascend below number proc.body (with_binds offered.store binds) offered.residual rest (omega arith) (λ low le. h low (omega arith))
-one-ascend below proc number offered binds rest false e l h = (l, h proc.number (omega arith))
+left-ascend : (below : ℕ) (proc : Proc) (store : List Slot) (left : Option Process) (rest : List Proc) → below < proc.number → ((low : ℕ) → low ≤ proc.number → Ascend low rest) → Ascend below (proc_left proc store left ++ rest)
+left-ascend below proc store None rest l h = h below (omega arith)
+left-ascend below proc store (Some term) rest l h = (l, h proc.number (omega arith))
+
+one-ascend : (below : ℕ) (proc : Proc) (offered : Offered) (binds : List Bind) (rest : List Proc) (b : Bool) → below < proc.number →
+    ((low : ℕ) → low ≤ proc.number → Ascend low rest) → Ascend below ((if b then proc_left proc (with_binds offered.store binds) offered.residual else proc ∷ []) ++ rest)
+one-ascend below proc offered binds rest true l h = left-ascend below proc (with_binds offered.store binds) offered.residual rest l h
+one-ascend below proc offered binds rest false l h = (l, h proc.number (omega arith))
 
 advance-ascend : (number : ℕ) (offered : Offered) (binds : List Bind) (below : ℕ) (procs : List Proc) → Ascend below procs → Ascend below (advance number offered binds procs)
 unfolding advance
@@ -166,19 +161,18 @@ advance-ascend number offered binds below [] h = tt
 advance-ascend number offered binds below (proc ∷ procs) h =
     let on = advance number offered binds procs in
     let rest : Ascend proc.number on = advance-ascend number offered binds proc.number procs h.1 in
-    one-ascend below proc number offered binds on (proc.number == number) refl h.0 (λ low le. ascend-weaker low proc.number on le rest)
+    one-ascend below proc offered binds on (proc.number == number) h.0 (λ low le. ascend-weaker low proc.number on le rest)
 
 -- what holds of the number and the body of each process still does
 
-left-keeps : (P : ℕ → ℕ → Type 0) (number body : ℕ) (store : List Slot) (left : Option Process) → P number body → All (λ (p : Proc). P p.number p.body) (proc_left number body store left)
-left-keeps P number body store None h = All-nil _
-left-keeps P number body store (Some term) h = All-one (λ (p : Proc). P p.number p.body) (record { number = number; body = body; term = term; store = store }) h
+left-keeps : (P : ℕ → ℕ → Type 0) (proc : Proc) (store : List Slot) (left : Option Process) → P proc.number proc.body → All (λ (p : Proc). P p.number p.body) (proc_left proc store left)
+left-keeps P proc store None h = All-nil _
+left-keeps P proc store (Some term) h = All-one (λ (p : Proc). P p.number p.body) (record proc { term = term; store = store }) h
 
-one-keeps : (P : ℕ → ℕ → Type 0) (number : ℕ) (offered : Offered) (binds : List Bind) (proc : Proc) (b : Bool) → (proc.number == number) ≡ b → P proc.number proc.body →
-    All (λ (p : Proc). P p.number p.body) (if b then proc_left number proc.body (with_binds offered.store binds) offered.residual else proc ∷ [])
-one-keeps P number offered binds proc true e h =
-    left-keeps P number proc.body (with_binds offered.store binds) offered.residual (subst (λ (n : ℕ). P n proc.body) (eqb-true proc.number number e) h)
-one-keeps P number offered binds proc false e h = All-one (λ (p : Proc). P p.number p.body) proc h
+one-keeps : (P : ℕ → ℕ → Type 0) (offered : Offered) (binds : List Bind) (proc : Proc) (b : Bool) → P proc.number proc.body →
+    All (λ (p : Proc). P p.number p.body) (if b then proc_left proc (with_binds offered.store binds) offered.residual else proc ∷ [])
+one-keeps P offered binds proc true h = left-keeps P proc (with_binds offered.store binds) offered.residual h
+one-keeps P offered binds proc false h = All-one (λ (p : Proc). P p.number p.body) proc h
 
 advance-keeps : (P : ℕ → ℕ → Type 0) (number : ℕ) (offered : Offered) (binds : List Bind) (procs : List Proc) → All (λ (p : Proc). P p.number p.body) procs →
     All (λ (p : Proc). P p.number p.body) (advance number offered binds procs)
@@ -186,7 +180,7 @@ unfolding advance
 advance-keeps P number offered binds procs h =
     All-flat_map (λ (p : Proc). P p.number p.body) (on_one number offered binds) procs
     (All-weaker (λ (p : Proc). P p.number p.body) (λ proc. All (λ (p : Proc). P p.number p.body) (on_one number offered binds proc))
-    (λ proc here. one-keeps P number offered binds proc (proc.number == number) refl here) procs h)
+    (λ proc here. one-keeps P offered binds proc (proc.number == number) here) procs h)
 
 -- the process of this number may go on so, whichever body it has
 abbrev MayGo : List Body → ℕ → Option Process → ℕ → ℕ → Type 0
@@ -195,9 +189,13 @@ MayGo bodies number left n body = n ≡ number → IsLeft bodies body left
 All-both : {X : Type 0} (P Q : X → Type 0) (xs : List X) → All P xs → All Q xs → All (λ x. P x × Q x) xs
 All-both P Q xs h g = All-weaker (Contains xs) (λ x. P x × Q x) (λ x c. (All-contains P xs x h c, All-contains Q xs x g c)) xs (All-contains_itself xs)
 
+left-led : (bodies : List Body) (proc : Proc) (store : List Slot) (left : Option Process) → IsLeft bodies proc.body left → All (IsLed bodies) (proc_left proc store left)
+left-led bodies proc store None h = All-nil (IsLed bodies)
+left-led bodies proc store (Some term) h = All-one (IsLed bodies) (record proc { term = term; store = store }) h
+
 one-led : (bodies : List Body) (number : ℕ) (offered : Offered) (binds : List Bind) (proc : Proc) (b : Bool) → (proc.number == number) ≡ b → MayGo bodies number offered.residual proc.number proc.body → IsLed bodies proc →
-    All (IsLed bodies) (if b then proc_left number proc.body (with_binds offered.store binds) offered.residual else proc ∷ [])
-one-led bodies number offered binds proc true e may h = left-led bodies number proc.body (with_binds offered.store binds) offered.residual (may (eqb-true proc.number number e))
+    All (IsLed bodies) (if b then proc_left proc (with_binds offered.store binds) offered.residual else proc ∷ [])
+one-led bodies number offered binds proc true e may h = left-led bodies proc (with_binds offered.store binds) offered.residual (may (eqb-true proc.number number e))
 one-led bodies number offered binds proc false e may h = All-one (IsLed bodies) proc h
 
 advance-led : (bodies : List Body) (number : ℕ) (offered : Offered) (binds : List Bind) (procs : List Proc) → All (λ (p : Proc). MayGo bodies number offered.residual p.number p.body) procs → All (IsLed bodies) procs →

@@ -37,10 +37,10 @@ atoms_in (Some body) = body.atoms
 abbrev pub atoms_of : List Body → ℕ → List Atom
 atoms_of bodies number = atoms_in (slice_get bodies number)
 
--- the process that is left of one, where anything is
-abbrev pub proc_left : ℕ → ℕ → List Slot → Option Process → List Proc
-proc_left number body store None = []
-proc_left number body store (Some term) = record { number = number; body = body; term = term; store = store } ∷ []
+-- the process that is left of one, in this store, where anything is
+abbrev pub proc_left : Proc → List Slot → Option Process → List Proc
+proc_left proc store None = []
+proc_left proc store (Some term) = record proc { term = term; store = store } ∷ []
 
 -- the slots with these values from this slot on
 abbrev pub with_values : List Slot → ℕ → List Term → List Slot
@@ -53,12 +53,16 @@ opening_store body actuals = with_values (map fresh_slot body.sorts) 0 actuals
 
 abbrev pub opened_one : ℕ → Root → Option Body → List Proc
 opened_one number root None = []
-opened_one number root (Some body) = proc_left number root.process (opening_store body root.actuals) (Some (fresh body.tree))
+opened_one number root (Some body) = record { number = number; body = root.process; term = fresh body.tree; store = opening_store body root.actuals } ∷ []
 
 -- the roots, numbered from this number on, each as its body is entered
 abbrev pub opened : List Body → ℕ → List Root → List Proc
 opened bodies number [] = []
 opened bodies number (root ∷ roots) = opened_one number root (slice_get bodies root.process) ++ opened bodies (number + 1) roots
+
+-- where a bus starts from: its program
+abbrev pub origin_of : Program → Origin
+origin_of program = record { program = program }
 
 -- the bus that a program opens with
 abbrev pub start : Origin → Bus

@@ -96,7 +96,7 @@ moves bus = if bus.down then [] else moves_while_up bus bus.procs
 -- The process of this number goes on: with what is left, in the offered store with the binds set. It is
 -- gone where nothing is left.
 unfoldable pub advance : ℕ → Offered → List Bind → List Proc → List Proc
-advance number offered binds procs = flat_map (λ proc. if proc.number == number then proc_left number proc.body (with_binds offered.store binds) offered.residual else proc ∷ []) procs
+advance number offered binds procs = flat_map (λ proc. if proc.number == number then proc_left proc (with_binds offered.store binds) offered.residual else proc ∷ []) procs
 
 abbrev pub place_of : Proc → Offered → Place
 place_of proc offered = record { proc = proc.number; atom = offered.atom }

@@ -1,8 +1,8 @@
-ghost use Rattle.std.specs.Prelude.{◌≡◌, ◌≢◌, ◌++◌, List, Contains};
-ghost use Rattle.std.specs.List.{AllPairs};
+ghost use Rattle.std.specs.Prelude.{◌≡◌, ◌≢◌, ◌<◌, ◌++◌, List, Contains};
+ghost use Rattle.std.specs.List.{All, AllPairs};
 ghost use Rattle.tb_log.specs.declared.entry.Entry.{Entry};
 ghost use Rattle.tb_bus.specs.declared.origin.Origin.{Origin};
-ghost use Rattle.tb_bus.specs.Buses.{Bus};
+ghost use Rattle.tb_bus.specs.Buses.{Bus, Proc};
 ghost use Rattle.tb_bus.specs.Steps.{Step, steps};
 ghost use Rattle.tb_bus.specs.Traces.{IsLegal, IsTrace, after, replay};
 ghost use Rattle.tb_bus.specs.Reached.{Reaches};
@@ -12,6 +12,12 @@ pub fn prefixes_are_traces()
     ensures prefix { (bus : Bus) (log more : List Entry) → IsTrace bus (log ++ more) → IsTrace bus log }
     ensures rest { (bus : Bus) (log more : List Entry) → IsTrace bus (log ++ more) → IsTrace (replay bus log) more }
     ensures joined { (bus : Bus) (log more : List Entry) → IsTrace bus log → IsTrace (replay bus log) more → IsTrace bus (log ++ more) }
+{}
+
+/// In a bus that a program reaches the processes stand by their numbers: these ascend strictly, from above 0.
+pub fn processes_stand_by_their_numbers()
+    ensures ascend { (origin : Origin) (bus : Bus) → Reaches origin bus → AllPairs (λ (one other : Proc). one.number < other.number) bus.procs }
+    ensures above { (origin : Origin) (bus : Bus) → Reaches origin bus → All (λ (proc : Proc). 0 < proc.number) bus.procs }
 {}
 
 /// In a bus that a program reaches the labels of the steps differ, each from each.

@@ -26,18 +26,18 @@ use Rattle.tb_core.proofs.ReadLemmas.{LiveAt, live-at, read-is}
 use Rattle.tb_core.proofs.SetLemmas.{ascend-set, set-other}
 
 goes-by : (number : ℕ) (offered : Offered) (binds : List Bind) (proc : Proc) (rest : List Proc) (b : Bool) → b ≡ true →
-    (if b then proc_left number proc.body (with_binds offered.store binds) offered.residual else proc ∷ []) ++ rest ≡ proc_left number proc.body (with_binds offered.store binds) offered.residual ++ rest
+    (if b then proc_left proc (with_binds offered.store binds) offered.residual else proc ∷ []) ++ rest ≡ proc_left proc (with_binds offered.store binds) offered.residual ++ rest
 goes-by number offered binds proc rest true e = refl
 goes-by number offered binds proc rest false e = cc
 
 stays-by : (number : ℕ) (offered : Offered) (binds : List Bind) (proc : Proc) (rest : List Proc) (b : Bool) → b ≡ false →
-    (if b then proc_left number proc.body (with_binds offered.store binds) offered.residual else proc ∷ []) ++ rest ≡ proc ∷ rest
+    (if b then proc_left proc (with_binds offered.store binds) offered.residual else proc ∷ []) ++ rest ≡ proc ∷ rest
 stays-by number offered binds proc rest true e = cc
 stays-by number offered binds proc rest false e = refl
 
 -- the process itself
 advance-here : (number : ℕ) (offered : Offered) (binds : List Bind) (proc : Proc) (procs : List Proc) → proc.number ≡ number →
-    advance number offered binds (proc ∷ procs) ≡ proc_left number proc.body (with_binds offered.store binds) offered.residual ++ advance number offered binds procs
+    advance number offered binds (proc ∷ procs) ≡ proc_left proc (with_binds offered.store binds) offered.residual ++ advance number offered binds procs
 unfolding advance
 advance-here number offered binds proc procs e = goes-by number offered binds proc (advance number offered binds procs) (proc.number == number) (eq-eqb proc.number number e)
 
@@ -49,18 +49,18 @@ advance-past number offered binds proc procs h =
     stays-by number offered binds proc (advance number offered binds procs) (proc.number == number) (false_from_ne_true (proc.number == number) (λ p. h (eqb-true proc.number number p)))
 
 -- what one process became isn't touched when another goes on
-left-untouched : (a b body : ℕ) (store : List Slot) (term : Option Process) (offered : Offered) (binds : List Bind) (rest : List Proc) → (a ≡ b → ⊥) →
-    advance b offered binds (proc_left a body store term ++ rest) ≡ proc_left a body store term ++ advance b offered binds rest
-left-untouched a b body store None offered binds rest h = refl
-left-untouched a b body store (Some term) offered binds rest h = advance-past b offered binds (record { number = a; body = body; term = term; store = store }) rest h
+left-untouched : (number : ℕ) (proc : Proc) (store : List Slot) (term : Option Process) (offered : Offered) (binds : List Bind) (rest : List Proc) → (proc.number ≡ number → ⊥) →
+    advance number offered binds (proc_left proc store term ++ rest) ≡ proc_left proc store term ++ advance number offered binds rest
+left-untouched number proc store None offered binds rest h = refl
+left-untouched number proc store (Some term) offered binds rest h = advance-past number offered binds (record proc { term = term; store = store }) rest h
 
 swap-at : (a b : ℕ) (oa ob : Offered) (ba bb : List Bind) (proc : Proc) (procs : List Proc) → (a ≡ b → ⊥) → advance a oa ba (advance b ob bb procs) ≡ advance b ob bb (advance a oa ba procs) → proc.number ≡ a →
     advance a oa ba (advance b ob bb (proc ∷ procs)) ≡ advance b ob bb (advance a oa ba (proc ∷ procs))
 swap-at a b oa ob ba bb proc procs h ih e =
     ap (advance a oa ba) (advance-past b ob bb proc procs (λ q. h (sym e ∙ q)))
     ∙ advance-here a oa ba proc (advance b ob bb procs) e
-    ∙ ap (λ ps. proc_left a proc.body (with_binds oa.store ba) oa.residual ++ ps) ih
-    ∙ sym (ap (advance b ob bb) (advance-here a oa ba proc procs e) ∙ left-untouched a b proc.body (with_binds oa.store ba) oa.residual ob bb (advance a oa ba procs) h)
+    ∙ ap (λ ps. proc_left proc (with_binds oa.store ba) oa.residual ++ ps) ih
+    ∙ sym (ap (advance b ob bb) (advance-here a oa ba proc procs e) ∙ left-untouched b proc (with_binds oa.store ba) oa.residual ob bb (advance a oa ba procs) (λ q. h (sym e ∙ q)))
 
 swap-by : (a b : ℕ) (oa ob : Offered) (ba bb : List Bind) (proc : Proc) (procs : List Proc) (x y : Bool) → (proc.number == a) ≡ x → (proc.number == b) ≡ y → (a ≡ b → ⊥) →
     advance a oa ba (advance b ob bb procs) ≡ advance b ob bb (advance a oa ba procs) → advance a oa ba (advance b ob bb (proc ∷ procs)) ≡ advance b ob bb (advance a oa ba (proc ∷ procs))
@@ -83,10 +83,6 @@ proc-number : {W P T : Type 0} (view : View P W T) (plan : Option P) (living : L
 proc-number view None living = refl
 proc-number view (Some plan) living = refl
 
-proc-body : {W P T : Type 0} (view : View P W T) (plan : Option P) (living : Living W) → (proc_by view plan living).body ≡ living.body
-proc-body view None living = refl
-proc-body view (Some plan) living = refl
-
 -- those with greater numbers stay
 advance-above : {W P T : Type 0} (view : View P W T) (plans : List P) (number below : ℕ) (offered : Offered) (binds : List Bind) (all : List (Living W)) → number ≤ below → ascend below (rows_of all) ≡ true →
     advance number offered binds (procs_of view plans all) ≡ procs_of view plans all
@@ -99,9 +95,9 @@ advance-above view plans number below offered binds (living ∷ all) le h =
     advance-past number offered binds (proc_in view plans living) (procs_of view plans all) (λ e. omega arith)
     ∙ ap (λ ps. proc_in view plans living ∷ ps) (advance-above view plans number living.number offered binds all (omega arith) t.1)
 
-left-alive : (number body : ℕ) (store : List Slot) (term : Option Process) → is_end term ≡ false → proc_left number body store term ≡ record { number = number; body = body; term = term_in term; store = store } ∷ []
-left-alive number body store None e = cc
-left-alive number body store (Some term) e = refl
+left-alive : (proc : Proc) (store : List Slot) (term : Option Process) → is_end term ≡ false → proc_left proc store term ≡ record proc { term = term_in term; store = store } ∷ []
+left-alive proc store None e = cc
+left-alive proc store (Some term) e = refl
 
 -- each number is above the bound
 above-there : {W : Type 0} (below : ℕ) (all : List (Living W)) (at : ℕ) (living : Living W) → ascend below (rows_of all) ≡ true → slice_get all at ≡ Some living → below < living.number
@@ -126,10 +122,11 @@ pub record Went {W P T : Type 0} (view : View P W T) (plan : P) (before : Living
 -- what is left of the process is what the one that went on stands for
 left-moved : {W P T : Type 0} (view : View P W T) (plans : List P) (plan : P) (before : Living W) (offered : Offered) (binds : List Bind) (after : Living W) →
     Went view plan before offered binds after → slice_get plans before.body ≡ Some plan → is_end (view.walking plan after.walker).term ≡ false →
-    proc_left before.number before.body (with_binds offered.store binds) offered.residual ≡ proc_in view plans after ∷ []
+    proc_left (proc_in view plans before) (with_binds offered.store binds) offered.residual ≡ proc_in view plans after ∷ []
 left-moved view plans plan before offered binds after went h alive =
-    ap (λ (v : Walking). proc_left before.number before.body v.store v.term) (sym went.goes)
-    ∙ left-alive before.number before.body (view.walking plan after.walker).store (view.walking plan after.walker).term alive
+    ap (λ (v : Walking). proc_left (proc_in view plans before) v.store v.term) (sym went.goes)
+    ∙ left-alive (proc_in view plans before) (view.walking plan after.walker).store (view.walking plan after.walker).term alive
+    ∙ ap (λ o. let p : Proc = record (proc_by view o before) { term = term_in (view.walking plan after.walker).term; store = (view.walking plan after.walker).store } in p ∷ []) h
     ∙ ap (λ (n : ℕ). let p : Proc = record { number = n; body = before.body; term = term_in (view.walking plan after.walker).term; store = (view.walking plan after.walker).store } in p ∷ []) (sym went.number)
     ∙ ap (λ (b : ℕ). let p : Proc = record { number = after.number; body = b; term = term_in (view.walking plan after.walker).term; store = (view.walking plan after.walker).store } in p ∷ []) (sym went.body)
     ∙ ap (λ o. proc_by view o after ∷ []) (sym (ap (slice_get plans) went.body ∙ h))
@@ -144,8 +141,8 @@ procs-set view plans plan below (first ∷ all) zero before offered binds after 
     let t = ascend-first below (row_of first) (rows_of all) h in
     let proc = proc_in view plans first in
     sym (advance-here before.number offered binds proc (procs_of view plans all) (proc-number view (slice_get plans first.body) first ∙ ap (λ (l : Living _). l.number) same)
-    ∙ ap (λ ps. proc_left before.number proc.body (with_binds offered.store binds) offered.residual ++ ps) (advance-above view plans before.number first.number offered binds all (let e = ap (λ (l : Living _). l.number) same in omega arith) t.1)
-    ∙ ap (λ b. proc_left before.number b (with_binds offered.store binds) offered.residual ++ procs_of view plans all) (proc-body view (slice_get plans first.body) first ∙ ap (λ (l : Living _). l.body) same)
+    ∙ ap (λ ps. proc_left proc (with_binds offered.store binds) offered.residual ++ ps) (advance-above view plans before.number first.number offered binds all (let e = ap (λ (l : Living _). l.number) same in omega arith) t.1)
+    ∙ ap (λ (l : Living _). proc_left (proc_in view plans l) (with_binds offered.store binds) offered.residual ++ procs_of view plans all) same
     ∙ ap (λ ps. ps ++ procs_of view plans all) (left-moved view plans plan before offered binds after went planned alive))
 procs-set view plans plan below (first ∷ all) (suc at) before offered binds after h here went planned alive =
     let t = ascend-first below (row_of first) (rows_of all) h in
@@ -164,7 +161,7 @@ procs-removed view plans below (first ∷ all) zero before offered binds h here 
     let t = ascend-first below (row_of first) (rows_of all) h in
     let proc = proc_in view plans first in
     sym (advance-here before.number offered binds proc (procs_of view plans all) (proc-number view (slice_get plans first.body) first ∙ ap (λ (l : Living _). l.number) same)
-    ∙ ap (λ r. proc_left before.number proc.body (with_binds offered.store binds) r ++ advance before.number offered binds (procs_of view plans all)) e
+    ∙ ap (λ r. proc_left proc (with_binds offered.store binds) r ++ advance before.number offered binds (procs_of view plans all)) e
     ∙ advance-above view plans before.number first.number offered binds all (let e = ap (λ (l : Living _). l.number) same in omega arith) t.1)
 procs-removed view plans below (first ∷ all) (suc at) before offered binds h here e =
     let t = ascend-first below (row_of first) (rows_of all) h in

@@ -1,5 +1,5 @@
 -- What the fields of a core say of its bus, and what each call logs.
-use Rattle.std.proofs.Common.{◌≡◌, ◌≤◌, ◌+◌, ℕ, List, [], ◌∷◌, ◌++◌, length, refl, ap, sym, ◌∙◌, subst, arith, Bool, true, false, if◌then◌else◌, option_to_list, length-append}
+use Rattle.std.proofs.Common.{◌≡◌, ◌≤◌, ◌+◌, List, ◌++◌, length, refl, ap, sym, ◌∙◌, subst, arith, Bool, true, false, if◌then◌else◌, option_to_list, length-append}
 use Rattle.tb_algebra.specs.WalkerViews.{View}
 use Rattle.tb_log.specs.declared.entry.Entry.{Entry}
 use Rattle.tb_log.specs.declared.entry.Input.{Input}

@@ -1,8 +1,8 @@
 -- The first of the moves of a bus, and what a step logs of it.
-use Rattle.std.proofs.Common.{◌≡◌, List, [], ◌∷◌, refl, ap, sym, ◌∙◌, subst, Option, Some, None, Bool, true, false, is_some, option_map, option_to_list, if◌then◌else◌}
+use Rattle.std.proofs.Common.{◌≡◌, List, [], ◌∷◌, refl, ap, sym, ◌∙◌, Option, Some, None, Bool, true, false, is_some, option_map, option_to_list, if◌then◌else◌}
 use Rattle.tb_bus.specs.Candidates.{first}
 use Rattle.tb_bus.specs.Buses.{Bus}
-use Rattle.tb_bus.specs.Steps.{Move, Step, moves, moves_while_up, steps, step_of, label_of, apply}
+use Rattle.tb_bus.specs.Steps.{Move, moves, moves_while_up, steps, step_of, label_of, apply}
 use Rattle.tb_bus.specs.Traces.{IsTrace, replay}
 use Rattle.tb_core.specs.Cores.{has_any, step_entry}
 use Rattle.tb_log.specs.declared.entry.Entry.TheVariants.{Did, Quiet}

@@ -1,5 +1,5 @@
 ghost use Rattle.std.specs.Prelude.{◌≡◌, ◌↔◌, ◌∷◌, [], ◌++◌, IsTrue, IfOk, OnOk, OnErr, IsErrOf, true, if◌then◌else◌};
-ghost use Rattle.tb_bus.specs.Buses.{start};
+ghost use Rattle.tb_bus.specs.Buses.{origin_of, start};
 ghost use Rattle.tb_bus.specs.Traces.{IsInForm, IsTrace, fed};
 ghost use Rattle.tb_bus.specs.Steps.{steps, apply, label_of};
 ghost use Rattle.tb_bus.specs.Candidates.{rows_of};
@@ -43,7 +43,7 @@ impl<W: Walker> Model for Core<W> {
 impl<W: Walker> Core<W> {
     /// The opening bus of a program, with an empty log.
     pub fn start(alloc: Global, program: Program) -> Result<Core<W>, NoMemory>
-        ensures { IfOk result (λ core. core ≡ started (record { program = program })) }
+        ensures { IfOk result (λ core. core ≡ started (origin_of program)) }
     {
         let bus = LiveBus::open(alloc, Origin { program })?;
         Ok(Core {

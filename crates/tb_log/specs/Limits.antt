@@ -1,5 +1,5 @@
 -- How large an entry is, and when a log has room for one more.
-use Rattle.std.specs.Prelude.{ℕ, ◌+◌, ◌≤◌, List, [], ◌++◌, ◌∷◌, length, map, sum, Bool, nat_le, ◌&&◌}
+use Rattle.std.specs.Prelude.{ℕ, ◌+◌, List, length, map, sum, Bool, nat_le, ◌&&◌}
 use Rattle.tb_terms.specs.declared.term.Term.{Term}
 use Rattle.tb_terms.specs.Sizes.{term_size}
 use Rattle.tb_log.specs.declared.entry.Entry.{Entry}

@@ -21,7 +21,7 @@ pub record IsScriptOf (kinds : List TokenKind) (script : Script) : Type 0 where
 abbrev pub IsUnspelt : List TokenKind → Type 0
 IsUnspelt kinds = (script : Script) → Spells script kinds → ⊥
 
--- the spelling of some script begins with the tokens
+-- the spelling of some script begins with the tokens, whether it is within the limits or not
 abbrev pub Begins : List TokenKind → Type 0
 Begins prefix = (more : List TokenKind) × (script : Script) × Spells script (prefix ++ more)
 

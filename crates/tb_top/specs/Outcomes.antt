@@ -2,8 +2,7 @@
 use Rattle.std.specs.Prelude.{◌≡◌, ◌≢◌, ◌<◌, ◌≤◌, ◌⊎◌, ℕ, List, [], ◌∷◌, ◌++◌, Option, IfSome, Result, Ok, Err, length, codes}
 use Rattle.tb_edge.specs.Faults.{Rose}
 use Rattle.tb_edge.specs.Sinks.{Takes, TakesFront}
-use Rattle.tb_bus.specs.Buses.{start}
-use Rattle.tb_bus.specs.declared.origin.Origin.{Origin}
+use Rattle.tb_bus.specs.Buses.{origin_of, start}
 use Rattle.tb_bus.specs.Traces.{IsTrace}
 use Rattle.tb_sim.specs.Simulation.{IsSim, sim_start}
 use Rattle.tb_log.specs.LogText.{log_text}
@@ -28,9 +27,6 @@ use Rattle.tb_top.specs.declared.words.WordFault.TheVariants as word
 -- a script of more bytes is too long
 abbrev pub most_bytes : ℕ
 most_bytes = 1048576
-
-abbrev pub origin_of : Program → Origin
-origin_of program = record { program = program }
 
 -- What a fault of a script says of its bytes: this was found of them, and nothing else is.
 abbrev pub IsRefused : List ℕ → ScriptFault → Type 0

@@ -6,7 +6,7 @@ use Rattle.tb_bus.specs.Candidates.{first, rows_of}
 use Rattle.tb_bus.specs.Views.{move_of}
 use Rattle.tb_bus.proofs.TraceLemmas.{steps-first, steps-none}
 use Rattle.tb_core.specs.LiveBuses.{bus_of, procs_in}
-use Rattle.tb_core.specs.Cores.{CoreState, MakeStep, bus_now, ends_quiet, entries_of}
+use Rattle.tb_core.specs.Cores.{CoreState, MakeStep, ends_quiet, entries_of}
 use Rattle.tb_core.proofs.CoreLemmas.{apply-now, bus-seen, entries-on, logs-on, represents-on, represents-same, still-within}
 use Rattle.tb_core.proofs.GoLemmas.{did-entries, did-trace, did-replay, down-entries, quiet-entries, quiet-trace, quiet-replay}
 use Rattle.tb_core.proofs.machine.Core.step.Goals as goal

@@ -1,0 +1,4 @@
+pub mod Finding
+pub mod Ordering
+pub mod Subscribing
+pub mod Walking
