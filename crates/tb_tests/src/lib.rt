@@ -5,3 +5,5 @@
 mod checks;
 #[cfg(test)]
 mod expansions;
+#[cfg(test)]
+mod places;
