@@ -6,7 +6,7 @@ use Rattle.tb_top.specs.declared.words.WordFault.{WordFault}
 use Rattle.tb_top.specs.declared.words.WordFault.TheVariants as fault
 use Rattle.tb_top.specs.declared.words.verb.Verb.{Verb}
 use Rattle.tb_top.specs.declared.words.verb.Verb.TheVariants as verb
-use Rattle.tb_top.specs.Words.{Found, Part, AnOption, AWord, script_by, most_steps, steps_in, steps_by, and_script, and_steps, is_unbuilt, own_option_by, option_by, part_by, read_next, read_parts}
+use Rattle.tb_top.specs.Words.{Found, Part, AnOption, AWord, script_by, most_limit, limit_in, limit_by, and_script, and_steps, is_unbuilt, own_option_by, option_by, part_by, read_next, read_parts}
 
 abbrev IsTold : {X : Type 0} → Result X WordFault → Type 0
 IsTold answer = answer ≢ Err fault.NoMemory
@@ -19,13 +19,13 @@ script-told : (script : Option (List ℕ)) (place : ℕ) (word : List ℕ) → I
 script-told (Some script) place word = λ e. cc
 script-told None place word = in-choice (is_text word) (Ok word) (Err (fault.Unknown place)) (λ e. cc) (λ e. cc)
 
-number-told : (place : ℕ) (word : List ℕ) → IsTold (steps_in place word)
+number-told : (place : ℕ) (word : List ℕ) → IsTold (limit_in place word)
 number-told place word =
-    in-choice (is_digits word) (if nat_le 1 (digits_value word) && nat_le (digits_value word) most_steps then Ok (digits_value word) else Err (fault.Range place)) (Err (fault.Number place))
-    (in-choice (nat_le 1 (digits_value word) && nat_le (digits_value word) most_steps) (Ok (digits_value word)) (Err (fault.Range place)) (λ e. cc) (λ e. cc))
+    in-choice (is_digits word) (if nat_le 1 (digits_value word) && nat_le (digits_value word) most_limit then Ok (digits_value word) else Err (fault.Range place)) (Err (fault.Number place))
+    (in-choice (nat_le 1 (digits_value word) && nat_le (digits_value word) most_limit) (Ok (digits_value word)) (Err (fault.Range place)) (λ e. cc) (λ e. cc))
     (λ e. cc)
 
-steps-told : (steps : Option ℕ) (place : ℕ) (value : Option (List ℕ)) → IsTold (steps_by steps place value)
+steps-told : (steps : Option ℕ) (place : ℕ) (value : Option (List ℕ)) → IsTold (limit_by steps place value)
 steps-told (Some steps) place value = λ e. cc
 steps-told None place None = λ e. cc
 steps-told None place (Some value) = number-told (place + 1) value
@@ -41,8 +41,8 @@ and_steps-told found (Err f) told e = let same : f ≡ fault.NoMemory = cc in to
 own_option-told : (v : Verb) (found : Found) (place : ℕ) (name : List ℕ) (value : Option (List ℕ)) → IsTold (own_option_by v found place name value)
 own_option-told verb.Check found place name value = λ e. cc
 own_option-told verb.Sim found place name value =
-    in-choice (bytes_eq name (codes "--steps")) (and_steps found (steps_by found.steps place value)) (Err (fault.Unknown place))
-    (and_steps-told found (steps_by found.steps place value) (steps-told found.steps place value))
+    in-choice (bytes_eq name (codes "--steps")) (and_steps found (limit_by found.steps place value)) (Err (fault.Unknown place))
+    (and_steps-told found (limit_by found.steps place value) (steps-told found.steps place value))
     (λ e. cc)
 
 option-told : (v : Verb) (found : Found) (place : ℕ) (name : List ℕ) (value : Option (List ℕ)) → IsTold (option_by v found place name value)

@@ -91,6 +91,7 @@ edge_words edge.Err = codes "outside: err"
 
 abbrev pub bound_words : Bound → List ℕ
 bound_words bound.Steps = codes "limit: steps"
+bound_words bound.Events = codes "limit: events"
 
 abbrev pub status_words : Status → List ℕ
 status_words Ended = []

@@ -4,7 +4,7 @@ use Rattle.tb_edge.specs.Faults.{Rose}
 use Rattle.tb_edge.specs.Sinks.{Takes, TakesFront}
 use Rattle.tb_bus.specs.Buses.{origin_of, start}
 use Rattle.tb_bus.specs.Traces.{IsTrace}
-use Rattle.tb_sim.specs.Simulation.{IsSim, sim_start}
+use Rattle.tb_sim.specs.Simulation.{IsSim, limits_of, sim_start}
 use Rattle.tb_log.specs.LogText.{log_text}
 use Rattle.tb_log.specs.declared.entry.Entry.{Entry}
 use Rattle.tb_body.specs.declared.program.Program.{Program}
@@ -49,37 +49,39 @@ IsRefused bytes (script.Expand expand.NoMemory) = ⊥
 IsRefused bytes script.NoMemory = ⊥
 IsRefused bytes (script.TooLong len) = ⊥
 
--- The bytes have this program, and nothing else is found of them; and this log is that of its simulation with at most so many steps, which ends so. It is a trace of the program.
-pub record IsSimOf (limit : ℕ) (bytes : List ℕ) (log : List Entry) (last : SimEnd) : Type 0 where
+-- The bytes have this program, and nothing else is found of them; and this log is that of its simulation with at most so many steps and entries, which ends so. It is a trace of the program.
+pub record IsSimOf (steps events : ℕ) (bytes : List ℕ) (log : List Entry) (last : SimEnd) : Type 0 where
   pub program : Program
   pub found : IsFound bytes (Program' program)
-  pub simulated : IsSim limit (sim_start (start (origin_of program))) log last
-  pub trace : IsTrace (start (origin_of program)) log
+  pub simulated : IsSim (limits_of steps (origin_of program events)) (sim_start (start (origin_of program events))) log last
+  pub trace : IsTrace (start (origin_of program events)) log
 
 -- the whole text of the log of the simulation was put, which ends so
-abbrev pub PutsLog : ℕ → List ℕ → Option (List ℕ) → Option (List ℕ) → SimEnd → Type 0
-PutsLog limit bytes old new last = (log : List Entry) × IsSimOf limit bytes log last × Takes old new (log_text log)
+abbrev pub PutsLog : ℕ → ℕ → List ℕ → Option (List ℕ) → Option (List ℕ) → SimEnd → Type 0
+PutsLog steps events bytes old new last = (log : List Entry) × IsSimOf steps events bytes log last × Takes old new (log_text log)
 
 -- a front of that text was put
-abbrev pub PutsFront : ℕ → List ℕ → Option (List ℕ) → Option (List ℕ) → Type 0
-PutsFront limit bytes old new = (log : List Entry) × (last : SimEnd) × IsSimOf limit bytes log last × TakesFront old new (log_text log)
+abbrev pub PutsFront : ℕ → ℕ → List ℕ → Option (List ℕ) → Option (List ℕ) → Type 0
+PutsFront steps events bytes old new = (log : List Entry) × (last : SimEnd) × IsSimOf steps events bytes log last × TakesFront old new (log_text log)
 
--- How the simulation of a script's bytes with at most so many steps may end, and what was put to the sink of the log.
-abbrev pub SimOutcome : ℕ → List ℕ → Option (List ℕ) → Option (List ℕ) → Status → Type 0
+-- How the simulation of a script's bytes with at most so many steps and entries may end, and what was put to the sink of the log.
+abbrev pub SimOutcome : ℕ → ℕ → List ℕ → Option (List ℕ) → Option (List ℕ) → Status → Type 0
 -- the bus went down
-SimOutcome limit bytes old new Ended = PutsLog limit bytes old new sim.Down
+SimOutcome steps events bytes old new Ended = PutsLog steps events bytes old new sim.Down
 -- the limit of steps was reached, and another step was possible
-SimOutcome limit bytes old new (Limit bound.Steps) = PutsLog limit bytes old new sim.Steps
+SimOutcome steps events bytes old new (Limit bound.Steps) = PutsLog steps events bytes old new sim.Steps
+-- the log had no room for the next entry
+SimOutcome steps events bytes old new (Limit bound.Events) = PutsLog steps events bytes old new sim.Events
 -- the script was refused
-SimOutcome limit bytes old new (Script fault) = IsRefused bytes fault × (new ≡ old)
+SimOutcome steps events bytes old new (Script fault) = IsRefused bytes fault × (new ≡ old)
 -- the sink failed
-SimOutcome limit bytes old new (Outside edge.Out) = PutsFront limit bytes old new
+SimOutcome steps events bytes old new (Outside edge.Out) = PutsFront steps events bytes old new
 -- memory ran out, before the log was written or within it
-SimOutcome limit bytes old new NoMemory = (new ≡ old) ⊎ PutsFront limit bytes old new
+SimOutcome steps events bytes old new NoMemory = (new ≡ old) ⊎ PutsFront steps events bytes old new
 -- no other status comes
-SimOutcome limit bytes old new (Words fault) = ⊥
-SimOutcome limit bytes old new (Outside edge.File) = ⊥
-SimOutcome limit bytes old new (Outside edge.Err) = ⊥
+SimOutcome steps events bytes old new (Words fault) = ⊥
+SimOutcome steps events bytes old new (Outside edge.File) = ⊥
+SimOutcome steps events bytes old new (Outside edge.Err) = ⊥
 
 -- the bytes have a program, and nothing else is found of them
 abbrev pub HasSomeProgram : List ℕ → Type 0
@@ -99,7 +101,7 @@ CheckOutcome bytes old new (Outside edge.Out) = HasSomeProgram bytes × TakesFro
 -- memory ran out
 CheckOutcome bytes old new NoMemory = new ≡ old
 -- no other status comes
-CheckOutcome bytes old new (Limit bound.Steps) = ⊥
+CheckOutcome bytes old new (Limit bound) = ⊥
 CheckOutcome bytes old new (Words fault) = ⊥
 CheckOutcome bytes old new (Outside edge.File) = ⊥
 CheckOutcome bytes old new (Outside edge.Err) = ⊥
@@ -107,7 +109,7 @@ CheckOutcome bytes old new (Outside edge.Err) = ⊥
 -- How the work on a script's bytes may end.
 abbrev pub WorkOutcome : Command → List ℕ → Option (List ℕ) → Option (List ℕ) → Status → Type 0
 WorkOutcome (Check name) bytes old new status = CheckOutcome bytes old new status
-WorkOutcome (Sim name steps) bytes old new status = SimOutcome steps bytes old new status
+WorkOutcome (Sim name steps events) bytes old new status = SimOutcome steps events bytes old new status
 
 -- bytes that may be loaded: those that the name holds, where the files tell them, and not too many
 abbrev pub IsLoaded : Option (List ℕ) → List ℕ → Type 0
@@ -131,7 +133,7 @@ FileOutcome command told old new status = LoadedOutcome command told old new sta
 -- the name of a command's script
 abbrev pub script_of : Command → List ℕ
 script_of (Check name) = name
-script_of (Sim name steps) = name
+script_of (Sim name steps events) = name
 
 -- How a call may end whose words ask for this, or have this fault.
 abbrev pub CommandOutcome : Result Command WordFault → (List ℕ → Option (List ℕ)) → Option (List ℕ) → Option (List ℕ) → Status → Type 0

@@ -31,7 +31,7 @@ ProgramOutcome command program old new status = (bytes : List ℕ) → IsFound b
 
 -- whatever bytes the program is that of, the outcome is that of their simulation with so many steps
 abbrev pub OriginOutcome : ℕ → Origin → Option (List ℕ) → Option (List ℕ) → Status → Type 0
-OriginOutcome limit origin old new status = (bytes : List ℕ) → IsFound bytes (Program' origin.program) → SimOutcome limit bytes old new status
+OriginOutcome steps origin old new status = (bytes : List ℕ) → IsFound bytes (Program' origin.program) → SimOutcome steps origin.limit bytes old new status
 
 -- the script's name was asked for, or perhaps not where memory ran out
 abbrev pub AsksName : List ℕ → List (List ℕ) → List (List ℕ) → Status → Type 0
@@ -41,3 +41,4 @@ AsksName name old new status = new ≡ old ++ name ∷ []
 abbrev pub status_of_end : SimEnd → Status
 status_of_end sim.Down = Ended
 status_of_end sim.Steps = Limit bound.Steps
+status_of_end sim.Events = Limit bound.Events

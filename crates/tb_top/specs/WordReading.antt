@@ -6,7 +6,7 @@ use Rattle.tb_top.specs.declared.words.found.Found.{Found as FoundWords}
 use Rattle.tb_top.specs.Words.{Found, Part, AnOption, AWord, is_option}
 
 abbrev pub found_of : FoundWords → Found
-found_of found = record { script = option_copied found.script; steps = found.steps }
+found_of found = record { script = option_copied found.script; steps = found.steps; events = found.events }
 
 abbrev pub answer_of : Result FoundWords WordFault → Result Found WordFault
 answer_of (Ok found) = Ok (found_of found)

@@ -34,47 +34,53 @@ parts_from place (word ∷ next ∷ words) =
 pub record Found : Type 0 where
   pub script : Option (List ℕ)
   pub steps : Option ℕ
+  pub events : Option ℕ
 
 -- A word that is no option is the script. One more is too many, and each of its bytes is one that a string may have; words are well-formed already.
 abbrev pub script_by : Option (List ℕ) → ℕ → List ℕ → Result (List ℕ) WordFault
 script_by (Some script) place word = Err (fault.Extra place)
 script_by None place word = if is_text word then Ok word else Err (fault.Unknown place)
 
-abbrev pub most_steps : ℕ
-most_steps = 4000000
+abbrev pub most_limit : ℕ
+most_limit = 4000000
 
 -- A number is one or more decimal digits and nothing else, and it has a range.
-abbrev pub steps_in : ℕ → List ℕ → Result ℕ WordFault
-steps_in place word =
+abbrev pub limit_in : ℕ → List ℕ → Result ℕ WordFault
+limit_in place word =
     if is_digits word
-    then (if nat_le 1 (digits_value word) && nat_le (digits_value word) most_steps then Ok (digits_value word) else Err (fault.Range place))
+    then (if nat_le 1 (digits_value word) && nat_le (digits_value word) most_limit then Ok (digits_value word) else Err (fault.Range place))
     else Err (fault.Number place)
 
--- `--steps` at this place, which may be given once, with a value
-abbrev pub steps_by : Option ℕ → ℕ → Option (List ℕ) → Result ℕ WordFault
-steps_by (Some steps) place value = Err (fault.Extra place)
-steps_by None place None = Err fault.Missing
-steps_by None place (Some value) = steps_in (place + 1) value
+-- `--steps` or `--events` at this place, which may be given once, with a value
+abbrev pub limit_by : Option ℕ → ℕ → Option (List ℕ) → Result ℕ WordFault
+limit_by (Some limit) place value = Err (fault.Extra place)
+limit_by None place None = Err fault.Missing
+limit_by None place (Some value) = limit_in (place + 1) value
 
 abbrev pub and_script : Found → Result (List ℕ) WordFault → Result Found WordFault
-and_script found (Ok script) = Ok (record { script = Some script; steps = found.steps })
+and_script found (Ok script) = Ok (record found { script = Some script })
 and_script found (Err f) = Err f
 
 abbrev pub and_steps : Found → Result ℕ WordFault → Result Found WordFault
-and_steps found (Ok steps) = Ok (record { script = found.script; steps = Some steps })
+and_steps found (Ok steps) = Ok (record found { steps = Some steps })
 and_steps found (Err f) = Err f
+
+abbrev pub and_events : Found → Result ℕ WordFault → Result Found WordFault
+and_events found (Ok events) = Ok (record found { events = Some events })
+and_events found (Err f) = Err f
 
 -- options that aren't built yet, whichever command will have them
 abbrev pub is_unbuilt : List ℕ → Bool
 is_unbuilt name =
-    bytes_eq name (codes "--feed") || bytes_eq name (codes "--connect") || bytes_eq name (codes "--events") || bytes_eq name (codes "--ticks")
+    bytes_eq name (codes "--feed") || bytes_eq name (codes "--connect") || bytes_eq name (codes "--ticks")
 
--- `check` has no options of its own, and `sim` has one.
+-- `check` has no options of its own, and `sim` has two.
 abbrev pub own_option_by : Verb → Found → ℕ → List ℕ → Option (List ℕ) → Result Found WordFault
 own_option_by verb.Check found place name value = Err (fault.Unknown place)
 own_option_by verb.Sim found place name value =
-    if bytes_eq name (codes "--steps") then and_steps found (steps_by found.steps place value)
-    else Err (fault.Unknown place)
+    if bytes_eq name (codes "--steps") then and_steps found (limit_by found.steps place value)
+    else (if bytes_eq name (codes "--events") then and_events found (limit_by found.events place value)
+    else Err (fault.Unknown place))
 
 abbrev pub option_by : Verb → Found → ℕ → List ℕ → Option (List ℕ) → Result Found WordFault
 option_by v found place name value = if is_unbuilt name then Err (fault.NotBuilt place) else own_option_by v found place name value
@@ -93,20 +99,20 @@ abbrev pub read_parts : Verb → Result Found WordFault → List Part → Result
 read_parts v before parts = fold (read_next v) before parts
 
 abbrev pub nothing : Found
-nothing = record { script = None; steps = None }
+nothing = record { script = None; steps = None; events = None }
 
--- so many steps where `--steps` isn't given
-abbrev pub usual_steps : ℕ
-usual_steps = 1000000
+-- the number of an option that isn't given
+abbrev pub usual_limit : ℕ
+usual_limit = 1000000
 
 -- At the end of the words the script must be there.
-abbrev pub command_with : Verb → Option (List ℕ) → Option ℕ → Result Command WordFault
-command_with v None steps = Err fault.Missing
-command_with verb.Check (Some script) steps = Ok (Check script)
-command_with verb.Sim (Some script) steps = Ok (Sim script (unwrap_or steps usual_steps))
+abbrev pub command_with : Verb → Option (List ℕ) → Option ℕ → Option ℕ → Result Command WordFault
+command_with v None steps events = Err fault.Missing
+command_with verb.Check (Some script) steps events = Ok (Check script)
+command_with verb.Sim (Some script) steps events = Ok (Sim script (unwrap_or steps usual_limit) (unwrap_or events usual_limit))
 
 abbrev pub command_by : Verb → Result Found WordFault → Result Command WordFault
-command_by v (Ok found) = command_with v found.script found.steps
+command_by v (Ok found) = command_with v found.script found.steps found.events
 command_by v (Err f) = Err f
 
 -- The first word is the command; `run` and `ring` aren't built yet.

@@ -27,6 +27,7 @@ fn log_text(alloc: Global, core: &Bus) -> Result<Vec<u8>, Fail> {
 struct Run {
     script: &'static str,
     limit: u64,
+    entries: u32,
     end: SimEnd,
     log: &'static str,
 }
@@ -36,6 +37,7 @@ static RUNS: [Run; 21] = [
         script: "process A is snd-msg(m) . tau process B is tau . rec-msg(m) process C is delta \
                  toolbus(A, B, C, C)",
         limit: 7,
+        entries: 1_000,
         end: SimEnd::Down,
         log: "1 tau 2.1\n2 msg 1.1 2.2 m\n3 tau 1.2\n4 quiet\n5 noticks\n6 halt\n",
     },
@@ -43,6 +45,7 @@ static RUNS: [Run; 21] = [
         script: "process A is snd-msg(m) . tau process B is tau . rec-msg(m) process C is delta \
                  toolbus(C, B, A, C)",
         limit: 7,
+        entries: 1_000,
         end: SimEnd::Down,
         log: "1 tau 2.1\n2 msg 3.1 2.2 m\n3 tau 3.2\n4 quiet\n5 noticks\n6 halt\n",
     },
@@ -50,24 +53,28 @@ static RUNS: [Run; 21] = [
     Run {
         script: "process A is snd-msg(m) . tau process B is tau . rec-msg(m) toolbus(A, B, A, B)",
         limit: 7,
+        entries: 1_000,
         end: SimEnd::Down,
         log: "1 tau 2.1\n2 msg 3.1 2.2 m\n3 tau 4.1\n4 msg 1.1 4.2 m\n5 tau 3.2\n6 tau 1.2\n7 finish\n",
     },
     Run {
         script: "process T is tau . tau . tau toolbus(T)",
         limit: 3,
+        entries: 1_000,
         end: SimEnd::Steps,
         log: "1 tau 1.1\n2 tau 1.2\n3 tau 1.3\n",
     },
     Run {
         script: "process T is tau . tau . tau toolbus(T)",
         limit: 4,
+        entries: 1_000,
         end: SimEnd::Down,
         log: "1 tau 1.1\n2 tau 1.2\n3 tau 1.3\n4 finish\n",
     },
     Run {
         script: "process D is delta toolbus(D)",
         limit: 0,
+        entries: 1_000,
         end: SimEnd::Steps,
         log: "1 quiet\n2 noticks\n",
     },
@@ -75,6 +82,7 @@ static RUNS: [Run; 21] = [
     Run {
         script: "process P is let X : int in (X := 1 + X := 3) . tau endlet toolbus(P)",
         limit: 9,
+        entries: 1_000,
         end: SimEnd::Down,
         log: "1 set 1.1 1\n2 tau 1.3\n3 finish\n",
     },
@@ -83,6 +91,7 @@ static RUNS: [Run; 21] = [
         script: "process P is let X : int in (if equal(X, 0) then X := 1 fi) * tau endlet \
                  toolbus(P)",
         limit: 9,
+        entries: 1_000,
         end: SimEnd::Down,
         log: "1 set 1.1 1\n2 tau 1.2\n3 finish\n",
     },
@@ -90,6 +99,7 @@ static RUNS: [Run; 21] = [
         script: "process P is let X : int in (if equal(X, 0) then X := add(X, 1) fi + if \
                  equal(X, 1) then X := 9 fi) * tau endlet toolbus(P)",
         limit: 9,
+        entries: 1_000,
         end: SimEnd::Down,
         log: "1 set 1.1 1\n2 set 1.2 9\n3 tau 1.3\n4 finish\n",
     },
@@ -98,6 +108,7 @@ static RUNS: [Run; 21] = [
         script: "process P is let X : int in (tau || X := 3) . snd-msg(X) endlet process Q is \
                  let X : int in tau . rec-msg(X?) endlet toolbus(P, Q)",
         limit: 9,
+        entries: 1_000,
         end: SimEnd::Down,
         log: "1 tau 1.1\n2 tau 2.1\n3 set 1.2 3\n4 msg 1.3 2.2 3\n5 finish\n",
     },
@@ -105,6 +116,7 @@ static RUNS: [Run; 21] = [
         script: "process P is let X : int in X := 1 . if equal(X, 1) then tau else X := 9 fi \
                  endlet toolbus(P)",
         limit: 9,
+        entries: 1_000,
         end: SimEnd::Down,
         log: "1 set 1.1 1\n2 tau 1.2\n3 finish\n",
     },
@@ -112,6 +124,7 @@ static RUNS: [Run; 21] = [
         script: "process P is let X : int in X := 1 . if equal(X, 0) then tau else X := 9 fi \
                  endlet toolbus(P)",
         limit: 9,
+        entries: 1_000,
         end: SimEnd::Down,
         log: "1 set 1.1 1\n2 set 1.3 9\n3 finish\n",
     },
@@ -120,12 +133,14 @@ static RUNS: [Run; 21] = [
         script: "process P is let X : int in X := 1 || if equal(X, 1) then tau fi endlet \
                  toolbus(P)",
         limit: 9,
+        entries: 1_000,
         end: SimEnd::Down,
         log: "1 set 1.1 1\n2 tau 1.2\n3 finish\n",
     },
     Run {
         script: "process P is let X : int in if equal(X, 1) then tau fi endlet toolbus(P)",
         limit: 9,
+        entries: 1_000,
         end: SimEnd::Down,
         log: "1 quiet\n2 noticks\n3 halt\n",
     },
@@ -134,6 +149,7 @@ static RUNS: [Run; 21] = [
         script: "process S(X : int) is snd-msg(X) process P is S(3) process Q is let X : int in \
                  rec-msg(X?) . X := add(X, 1) endlet toolbus(P, Q)",
         limit: 9,
+        entries: 1_000,
         end: SimEnd::Down,
         log: "1 msg 1.1 2.1 3\n2 set 2.2 4\n3 finish\n",
     },
@@ -141,6 +157,7 @@ static RUNS: [Run; 21] = [
         script: "process P is let X : int in X := 3 . (snd-msg(X) + tau) endlet process Q is let \
                  X : int in rec-msg(X?) . X := add(X, 1) endlet toolbus(P, Q)",
         limit: 9,
+        entries: 1_000,
         end: SimEnd::Down,
         log: "1 set 1.1 3\n2 msg 1.2 2.1 3\n3 set 2.2 4\n4 finish\n",
     },
@@ -148,12 +165,14 @@ static RUNS: [Run; 21] = [
     Run {
         script: "process S is snd-msg(5) process R is rec-msg(6) + rec-msg(5) toolbus(S, R)",
         limit: 9,
+        entries: 1_000,
         end: SimEnd::Down,
         log: "1 msg 1.1 2.2 5\n2 finish\n",
     },
     Run {
         script: "process S is snd-msg(5) process R is rec-msg(6) toolbus(S, R)",
         limit: 9,
+        entries: 1_000,
         end: SimEnd::Down,
         log: "1 quiet\n2 noticks\n3 halt\n",
     },
@@ -162,6 +181,7 @@ static RUNS: [Run; 21] = [
         script: "process S is snd-msg(f(3, 3)) process N is let X : int in rec-msg(X?) endlet \
                  process T is let Y : term in rec-msg(Y?) endlet toolbus(S, N, T)",
         limit: 9,
+        entries: 1_000,
         end: SimEnd::Down,
         log: "1 msg 1.1 3.1 f(3,3)\n2 quiet\n3 noticks\n4 halt\n",
     },
@@ -170,6 +190,7 @@ static RUNS: [Run; 21] = [
         script: "process S is snd-msg(f(1, 2)) + snd-msg(f(3, 3)) process R is let X : int in \
                  rec-msg(f(X?, X?)) . X := add(X, 1) endlet toolbus(S, R)",
         limit: 9,
+        entries: 1_000,
         end: SimEnd::Down,
         log: "1 msg 1.2 2.1 f(3,3)\n2 set 2.2 4\n3 finish\n",
     },
@@ -178,6 +199,7 @@ static RUNS: [Run; 21] = [
         script: "process S is snd-msg(f(1, 2)) process R is let X : int in rec-msg(f(X?, X?)) + \
                  X := add(X, 1) endlet toolbus(S, R)",
         limit: 9,
+        entries: 1_000,
         end: SimEnd::Down,
         log: "1 set 2.2 1\n2 quiet\n3 noticks\n4 halt\n",
     },
@@ -185,7 +207,7 @@ static RUNS: [Run; 21] = [
 
 /// Whether the simulation ends so, with this log.
 fn runs_so(alloc: Global, run: &Run) -> Result<bool, Fail> {
-    let mut core: Bus = Core::start(alloc, program(alloc, run.script)?)?;
+    let mut core: Bus = Core::start(alloc, program(alloc, run.script)?, run.entries)?;
     let ended = simulate(&mut core, run.limit)?;
     let text = log_text(alloc, &core)?;
     Ok(ended == run.end && text.as_slice() == run.log.as_bytes())
@@ -275,7 +297,7 @@ fn answer(core: &mut Bus, call: Call) -> &'static str {
 #[test]
 fn calls_answer_in_order(rt: HostRuntime) -> Result<(), Fail> {
     let script = "process D is delta toolbus(D)";
-    let mut core: Bus = Core::start(rt.alloc(), program(rt.alloc(), script)?)?;
+    let mut core: Bus = Core::start(rt.alloc(), program(rt.alloc(), script)?, 1_000)?;
     for (place, (call, expected)) in CALLS.iter().enumerate() {
         assert_eq!(rt; answer(&mut core, *call), *expected, "call {place}");
     }

@@ -53,6 +53,7 @@ fn put_words<E: Sink>(status: &Status, err: &mut E) -> Result<(), Failed>
         Status::Outside(Edge::Out) => err.put(b"outside: out"),
         Status::Outside(Edge::Err) => err.put(b"outside: err"),
         Status::Limit(Bound::Steps) => err.put(b"limit: steps"),
+        Status::Limit(Bound::Events) => err.put(b"limit: events"),
         Status::NoMemory => err.put(b"no memory"),
     }
 }

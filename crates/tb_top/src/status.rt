@@ -13,6 +13,8 @@ pub enum Edge {
 #[derive(Clone, Copy, Debug, PartialEq, Eq)]
 pub enum Bound {
     Steps,
+    /// The log had no room for the next entry.
+    Events,
 }
 
 /// How a call of the program ended. Want of memory is `NoMemory` alone, whichever part met it.

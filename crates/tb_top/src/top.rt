@@ -2,8 +2,8 @@ ghost use Rattle.std.specs.Prelude.{◌≡◌, ◌≢◌, ℕ, List, [], false, 
 ghost use Rattle.tb_edge.specs.Faults.{Rose};
 ghost use Rattle.tb_edge.specs.Sinks.{Takes, TakesFront};
 ghost use Rattle.tb_bus.specs.Traces.{IsTrace};
-ghost use Rattle.tb_bus.specs.Buses.{start};
-ghost use Rattle.tb_sim.specs.Simulation.{IsSim, sim_start};
+ghost use Rattle.tb_bus.specs.Buses.{origin_of, start};
+ghost use Rattle.tb_sim.specs.Simulation.{IsSim, limits_of, sim_start};
 ghost use Rattle.tb_script.specs.Findings.{IsFound, Program'};
 ghost use Rattle.tb_top.specs.Words.{asked};
 ghost use Rattle.tb_top.specs.Outcomes.{Comes, CommandOutcome, FileOutcome, WorkOutcome, CheckOutcome, SimOutcome, Reported, AsksFor, script_of, ok_line};
@@ -26,8 +26,8 @@ use tb_terms::NoMemory;
 const MOST_BYTES: usize = 1_048_576;
 
 /// Does what the words of the command line ask for. `check SCRIPT` puts `ok` and a newline to `out`
-/// where the script in that file is accepted; `sim SCRIPT [--steps N]` puts the log of its simulation,
-/// which makes N steps at most. Each status but `Ended` puts its one line to `err`, and where `err`
+/// where the script in that file is accepted; `sim SCRIPT [--steps N] [--events N]` puts the log of its
+/// simulation, which makes so many steps and logs so many entries at most. Each status but `Ended` puts its one line to `err`, and where `err`
 /// fails at that, the status is `Outside(Err)`.
 pub fn toolbus<F: Files, O: Sink, E: Sink>(
     alloc: Global,
@@ -145,7 +145,9 @@ fn work_on_program<O: Sink>(
 {
     match command {
         Command::Check { .. } => accept(out),
-        Command::Sim { steps, .. } => simulate_program(alloc, program, *steps, out),
+        Command::Sim { steps, events, .. } => {
+            simulate_program(alloc, program, *steps, *events, out)
+        }
     }
 }
 
@@ -160,11 +162,17 @@ fn accept<O: Sink>(out: &mut O) -> Status
     }
 }
 
-fn simulate_program<O: Sink>(alloc: Global, program: Program, steps: u64, out: &mut O) -> Status
-    ensures outcome { OriginOutcome steps (record { program = program }) (O.taken out.old) (O.taken out.new) result }
+fn simulate_program<O: Sink>(
+    alloc: Global,
+    program: Program,
+    steps: u64,
+    events: u32,
+    out: &mut O,
+) -> Status
+    ensures outcome { OriginOutcome steps (origin_of program events) (O.taken out.old) (O.taken out.new) result }
     ensures out_rose { result ≡ Status.Outside Edge.Out → Rose (O.faults out.old) (O.faults out.new) }
 {
-    match Core::start(alloc, program) {
+    match Core::start(alloc, program, events) {
         Ok(mut core) => simulate_core(alloc, &mut core, steps, out),
         Err(NoMemory) => Status::NoMemory,
     }
@@ -195,7 +203,7 @@ fn write_log<O: Sink>(
     end: SimEnd,
     out: &mut O,
 ) -> Status
-    requires { IsSim steps (sim_start (start core.now.origin)) core.now.log end }
+    requires { IsSim (limits_of steps core.now.origin) (sim_start (start core.now.origin)) core.now.log end }
     ensures outcome { OriginOutcome steps core.now.origin (O.taken out.old) (O.taken out.new) result }
     ensures out_rose { result ≡ Status.Outside Edge.Out → Rose (O.faults out.old) (O.faults out.new) }
 {
@@ -212,5 +220,6 @@ fn status_of(end: SimEnd) -> Status
     match end {
         SimEnd::Down => Status::Ended,
         SimEnd::Steps => Status::Limit(Bound::Steps),
+        SimEnd::Events => Status::Limit(Bound::Events),
     }
 }

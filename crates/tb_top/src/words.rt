@@ -12,8 +12,13 @@ use tb_terms::Text;
 pub enum Command {
     /// Whether the script in the file of this name is accepted.
     Check { script: Text },
-    /// The log of the simulation of that script, which makes so many steps at most.
-    Sim { script: Text, steps: u64 },
+    /// The log of the simulation of that script, which makes so many steps at most, and logs so many
+    /// entries at most.
+    Sim {
+        script: Text,
+        steps: u64,
+        events: u32,
+    },
 }
 
 /// Why the words of the command line were refused. Places count from 1.

@@ -3,4 +3,5 @@
 pub struct Found<'w> {
     pub script: Option<&'w str>,
     pub steps: Option<u64>,
+    pub events: Option<u32>,
 }

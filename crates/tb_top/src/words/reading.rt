@@ -1,9 +1,9 @@
 //! How the words of the command line are read.
 
-ghost use Rattle.std.specs.Prelude.{◌≡◌, ◌≢◌, ◌<◌, ◌^◌, length, map, string_bytes, option_map, option_copied, Ok, IsOk, IsTrue, IfOk, IfErr, Err};
+ghost use Rattle.std.specs.Prelude.{◌≡◌, ◌≢◌, ◌<◌, ◌≤◌, ◌^◌, length, map, string_bytes, option_map, option_copied, Ok, IsOk, IsTrue, IfOk, IfErr, Err};
 ghost use Rattle.tb_terms.specs.Names.{is_text, is_text_byte};
 ghost use Rattle.tb_read.specs.Spelling.{is_digits};
-ghost use Rattle.tb_top.specs.Words.{asked, verb_by, verb_of, is_option, is_unbuilt, part_by, option_by, own_option_by, script_by, steps_by, steps_in, and_script, and_steps, read_parts, parts_from, nothing, command_with};
+ghost use Rattle.tb_top.specs.Words.{asked, verb_by, verb_of, is_option, is_unbuilt, part_by, option_by, own_option_by, script_by, limit_by, limit_in, and_script, and_steps, and_events, read_parts, parts_from, nothing, command_with};
 ghost use Rattle.tb_top.specs.WordReading.{found_of, answer_of, part_of, part_len, HasText};
 
 use super::found::Found;
@@ -13,11 +13,14 @@ use std::alloc::Global;
 use tb_read::digits_value;
 use tb_terms::{NoMemory, Text};
 
-/// The greatest number of `--steps`.
-const MOST_STEPS: u64 = 4_000_000;
+/// The greatest number of `--steps` and of `--events`.
+const MOST_LIMIT: u64 = 4_000_000;
 
 /// So many steps where `--steps` isn't given.
-const USUAL_STEPS: u64 = 1_000_000;
+const USUAL_LIMIT: u64 = 1_000_000;
+
+/// So many entries where `--events` isn't given.
+const USUAL_EVENTS: u32 = 1_000_000;
 
 /// What the words of the command line ask for.
 pub fn read_words(alloc: Global, words: &Vec<String>) -> Result<Command, WordFault>
@@ -65,6 +68,7 @@ fn read_parts(verb: Verb, words: &[String]) -> Result<Found<'_>, WordFault>
     let mut found = Found {
         script: None,
         steps: None,
+        events: None,
     };
     let mut index = 0;
     while index < words.len() {
@@ -122,6 +126,7 @@ fn read_script<'w>(found: Found<'w>, place: usize, word: &'w str) -> Result<Foun
     Ok(Found {
         script: Some(word),
         steps: found.steps,
+        events: found.events,
     })
 }
 
@@ -160,6 +165,7 @@ fn read_option<'w>(
     match verb {
         Verb::Check => Err(WordFault::Unknown(place)),
         Verb::Sim if name == "--steps" => read_steps(found, place, value),
+        Verb::Sim if name == "--events" => read_events(found, place, value),
         Verb::Sim => Err(WordFault::Unknown(place)),
     }
 }
@@ -168,7 +174,7 @@ fn read_option<'w>(
 fn is_unbuilt(name: &str) -> bool
     ensures { result ≡ is_unbuilt name.now }
 {
-    name == "--feed" || name == "--connect" || name == "--events" || name == "--ticks"
+    name == "--feed" || name == "--connect" || name == "--ticks"
 }
 
 /// `--steps` with its value.
@@ -179,31 +185,61 @@ fn read_steps<'w>(
 ) -> Result<Found<'w>, WordFault>
     requires room { place < 2 ^ 63 }
     requires text { HasText (found_of found) }
-    ensures found { answer_of result ≡ and_steps (found_of found.entry) (steps_by found.entry.steps place (option_map string_bytes (option_copied value.entry))) }
+    ensures found { answer_of result ≡ and_steps (found_of found.entry) (limit_by found.entry.steps place (option_map string_bytes (option_copied value.entry))) }
     ensures text { IfOk result (λ found. HasText (found_of found)) }
 {
-    if found.steps.is_some() {
+    let steps = read_limit(found.steps, place, value)?;
+    Ok(Found {
+        script: found.script,
+        steps: Some(steps),
+        events: found.events,
+    })
+}
+
+/// `--events` with its value.
+fn read_events<'w>(
+    found: Found<'w>,
+    place: usize,
+    value: Option<&String>,
+) -> Result<Found<'w>, WordFault>
+    requires room { place < 2 ^ 63 }
+    requires text { HasText (found_of found) }
+    ensures found { answer_of result ≡ and_events (found_of found.entry) (limit_by found.entry.events place (option_map string_bytes (option_copied value.entry))) }
+    ensures text { IfOk result (λ found. HasText (found_of found)) }
+{
+    let events = read_limit(found.events.map(u64::from), place, value)?;
+    Ok(Found {
+        script: found.script,
+        steps: found.steps,
+        events: Some(events as u32),
+    })
+}
+
+/// The value of an option that may be given once.
+fn read_limit(before: Option<u64>, place: usize, value: Option<&String>) -> Result<u64, WordFault>
+    requires { place < 2 ^ 63 }
+    ensures limit { result ≡ limit_by before place (option_map string_bytes (option_copied value.entry)) }
+    ensures within { IfOk result (λ limit. limit ≤ 4000000) }
+{
+    if before.is_some() {
         return Err(WordFault::Extra(place));
     }
     let Some(value) = value else {
         return Err(WordFault::Missing);
     };
-    let steps = steps_in(place + 1, value.as_str())?;
-    Ok(Found {
-        script: found.script,
-        steps: Some(steps),
-    })
+    limit_in(place + 1, value.as_str())
 }
 
-fn steps_in(place: usize, word: &str) -> Result<u64, WordFault>
-    ensures { result ≡ steps_in place word.now }
+fn limit_in(place: usize, word: &str) -> Result<u64, WordFault>
+    ensures limit { result ≡ limit_in place word.now }
+    ensures within { IfOk result (λ limit. limit ≤ 4000000) }
 {
     if !is_digits(word.as_bytes()) {
         return Err(WordFault::Number(place));
     }
-    let steps = digits_value(word.as_bytes());
-    if 1 <= steps && steps <= MOST_STEPS {
-        Ok(steps)
+    let limit = digits_value(word.as_bytes());
+    if 1 <= limit && limit <= MOST_LIMIT {
+        Ok(limit)
     } else {
         Err(WordFault::Range(place))
     }
@@ -226,9 +262,9 @@ fn is_digits(bytes: &[u8]) -> bool
 /// The command, where the script was found.
 fn make_command(alloc: Global, verb: Verb, found: Found<'_>) -> Result<Command, WordFault>
     requires { HasText (found_of found) }
-    ensures ok { IfOk result (λ command. command_with verb (option_copied found.entry.script) found.entry.steps ≡ Ok command) }
-    ensures fault { IfErr result (λ fault. fault ≢ WordFault.NoMemory → command_with verb (option_copied found.entry.script) found.entry.steps ≡ Err fault) }
-    ensures memory { result ≡ Err WordFault.NoMemory → IsOk (command_with verb (option_copied found.entry.script) found.entry.steps) }
+    ensures ok { IfOk result (λ command. command_with verb (option_copied found.entry.script) found.entry.steps found.entry.events ≡ Ok command) }
+    ensures fault { IfErr result (λ fault. fault ≢ WordFault.NoMemory → command_with verb (option_copied found.entry.script) found.entry.steps found.entry.events ≡ Err fault) }
+    ensures memory { result ≡ Err WordFault.NoMemory → IsOk (command_with verb (option_copied found.entry.script) found.entry.steps found.entry.events) }
 {
     let Some(script) = found.script else {
         return Err(WordFault::Missing);
@@ -237,8 +273,13 @@ fn make_command(alloc: Global, verb: Verb, found: Found<'_>) -> Result<Command, 
     match verb {
         Verb::Check => Ok(Command::Check { script }),
         Verb::Sim => {
-            let steps = found.steps.unwrap_or(USUAL_STEPS);
-            Ok(Command::Sim { script, steps })
+            let steps = found.steps.unwrap_or(USUAL_LIMIT);
+            let events = found.events.unwrap_or(USUAL_EVENTS);
+            Ok(Command::Sim {
+                script,
+                steps,
+                events,
+            })
         }
     }
 }
