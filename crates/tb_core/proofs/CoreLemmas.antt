@@ -1,7 +1,10 @@
 -- What the fields of a core say of its bus, and what each call logs.
-use Rattle.std.proofs.Common.{◌≡◌, ◌≤◌, ◌+◌, List, ◌++◌, length, refl, ap, sym, ◌∙◌, subst, arith, Bool, true, false, if◌then◌else◌, option_to_list, length-append}
+use Rattle.std.proofs.Common.{◌≡◌, ◌≤◌, ◌+◌, ℕ, List, ◌++◌, length, refl, ap, sym, ◌∙◌, subst, arith, Some, Bool, true, false, not, if◌then◌else◌, length-append}
 use Rattle.tb_algebra.specs.WalkerViews.{View}
+use Rattle.tb_log.specs.Limits.{has_room}
+use Rattle.tb_log.specs.Logs.{LogState}
 use Rattle.tb_log.specs.declared.entry.Entry.{Entry}
+use Rattle.tb_log.specs.declared.entry.Entry.TheVariants.{Fed}
 use Rattle.tb_log.specs.declared.entry.Input.{Input}
 use Rattle.tb_log.specs.declared.entry.Input.TheVariants.{NoTicks}
 use Rattle.tb_log.specs.declared.entry.Reply.TheVariants.{Dropped}
@@ -13,7 +16,7 @@ use Rattle.tb_bus.specs.Traces.{IsTrace, Answer, fed, replay, took}
 use Rattle.tb_bus.proofs.TraceLemmas.{replay-append, trace-append}
 use Rattle.tb_core.specs.declared.bus.LiveBus.{LiveBus}
 use Rattle.tb_core.specs.LiveBuses.{bus_of, IsSound, StandsAs, Represents}
-use Rattle.tb_core.specs.Cores.{CoreState, MakeStep, bus_now, ends_quiet, entries_of, step_entry, Logs}
+use Rattle.tb_core.specs.Cores.{CoreState, Call, HandIn, MakeStep, bus_now, ends_quiet, is_full, lacks_room, step_entry, would_log, Logs}
 
 -- what contracts see of a core with these fields
 abbrev pub seen : Origin → List Entry → Bool → CoreState
@@ -24,9 +27,29 @@ pub bus-seen : (bus : Bus) (origin : Origin) (log : List Entry) (stopped : Bool)
 unfolding bus_now
 bus-seen bus origin log stopped core is e = ap (λ (c : CoreState). replay (start c.origin) c.log) (sym e) ∙ sym is
 
--- what a step logs goes by its bus
-pub entries-on : (core : CoreState) (bus : Bus) → bus_now core ≡ bus → entries_of core MakeStep ≡ option_to_list (step_entry bus.down (ends_quiet core.log) (steps bus))
-entries-on core bus e = ap (λ (b : Bus). option_to_list (step_entry b.down (ends_quiet core.log) (steps b))) e
+-- what a step would log goes by its bus
+pub would-on : (core : CoreState) (bus : Bus) → bus_now core ≡ bus → would_log core MakeStep ≡ step_entry bus.down (ends_quiet core.log) (steps bus)
+would-on core bus e = ap (λ (b : Bus). step_entry b.down (ends_quiet core.log) (steps b)) e
+
+-- and what an input would log
+pub fed-on : (core : CoreState) (bus : Bus) (input : Input) → bus_now core ≡ bus → would_log core (HandIn input) ≡ Some (Fed input (fed bus input).reply)
+fed-on core bus input e = ap (λ (b : Bus). Some (Fed input (fed b input).reply)) e
+
+-- its log has room for what its fields' log has room for
+pub room-seen : (origin : Origin) (log : LogState) (stopped : Bool) (core : CoreState) (entry : Entry) → seen origin log.entries stopped ≡ core → log.limit ≡ origin.limit →
+    has_room core.origin.limit core.log entry ≡ has_room log.limit log.entries entry
+room-seen origin log stopped core entry view limit =
+    ap (λ (c : CoreState). has_room c.origin.limit c.log entry) (sym view) ∙ ap (λ (n : ℕ). has_room n log.entries entry) (sym limit)
+
+-- so it is full where that has no room for what the call would log
+pub full-seen : (origin : Origin) (log : LogState) (stopped : Bool) (core : CoreState) (call : Call) (entry : Entry) (room : Bool) → seen origin log.entries stopped ≡ core → log.limit ≡ origin.limit →
+    would_log core call ≡ Some entry → has_room log.limit log.entries entry ≡ room → is_full core call ≡ not room
+full-seen origin log stopped core call entry room view limit would e = ap (lacks_room core) would ∙ ap not (room-seen origin log stopped core entry view limit ∙ e)
+
+-- a log to which nothing was added has room for the same
+pub room-kept : (old new : LogState) (one other : Entry) → new.limit ≡ old.limit → new.entries ≡ old.entries → other ≡ one → has_room old.limit old.entries one ≡ true → has_room new.limit new.entries other ≡ true
+room-kept old new one other limit entries same room =
+    ap (λ (n : ℕ). has_room n new.entries other) limit ∙ ap (λ (es : List Entry). has_room old.limit es other) entries ∙ ap (has_room old.limit old.entries) same ∙ room
 
 -- A core goes on by these entries.
 pub logs-on : (bus : Bus) (origin other : Origin) (log more entries : List Entry) (stopped : Bool) (core : CoreState) → bus ≡ replay (start origin) log → seen origin log stopped ≡ core →
@@ -39,30 +62,33 @@ logs-on bus origin other log more entries stopped core is view grown same trace 
 }
 
 -- a core goes on: its fields stand for the bus to which the longer log leads
-pub represents-on : {W P T : Type 0} (view : View P W T) (old new : LiveBus W P T) (log more entries : List Entry) →
-    Represents view old log → IsSound view new → new.origin ≡ old.origin → more ≡ log ++ entries → bus_of view new ≡ replay (bus_of view old) entries → IsTrace (bus_of view old) entries →
+pub represents-on : {W P T : Type 0} (view : View P W T) (old new : LiveBus W P T) (log more : LogState) (entries : List Entry) →
+    Represents view old log → IsSound view new → new.origin ≡ old.origin → more.limit ≡ log.limit → more.entries ≡ log.entries ++ entries → bus_of view new ≡ replay (bus_of view old) entries → IsTrace (bus_of view old) entries →
     (bus_of view new).now ≤ (bus_of view old).now + length entries → Represents view new more
-represents-on view old new log more entries stands sound same grown leads trace much =
-    let long : length (log ++ entries) ≡ length log + length entries = length-append log entries in
+represents-on view old new log more entries stands sound same kept grown leads trace much =
+    let long : length more.entries ≡ length log.entries + length entries = ap length grown ∙ length-append log.entries entries in
     let ticks = stands.ticks in
-    subst (λ xs. Represents view new xs) (sym grown) (record {
+    record {
       sound = sound;
-      bus_is = leads ∙ ap (λ b. replay b entries) stands.bus_is ∙ sym (replay-append (start old.origin) log entries)
-          ∙ ap (λ o. replay (start o) (log ++ entries)) (sym same);
-      trace = subst (λ (o : Origin). IsTrace (start o) (log ++ entries)) (sym same)
-          (trace-append (start old.origin) log entries stands.trace (subst (λ (b : Bus). IsTrace b entries) stands.bus_is trace));
+      bus_is = leads ∙ ap (λ b. replay b entries) stands.bus_is ∙ sym (replay-append (start old.origin) log.entries entries)
+          ∙ ap (λ o. replay (start o) (log.entries ++ entries)) (sym same) ∙ ap (replay (start new.origin)) (sym grown);
+      trace = subst (IsTrace (start new.origin)) (sym grown)
+          (subst (λ (o : Origin). IsTrace (start o) (log.entries ++ entries)) (sym same)
+          (trace-append (start old.origin) log.entries entries stands.trace (subst (λ (b : Bus). IsTrace b entries) stands.bus_is trace)));
+      limit = kept ∙ stands.limit ∙ ap (λ (o : Origin). o.limit) (sym same);
       ticks = omega arith;
-    })
+    }
 
 -- a core whose fields stand for the same bus
-pub represents-same : {W P T : Type 0} (view : View P W T) (old new : LiveBus W P T) (log : List Entry) → Represents view old log → StandsAs view old new → Represents view new log
+pub represents-same : {W P T : Type 0} (view : View P W T) (old new : LiveBus W P T) (log : LogState) → Represents view old log → StandsAs view old new → Represents view new log
 represents-same view old new log stands same =
     let ticks = stands.ticks in
     let now : new.ticks ≡ old.ticks = ap (λ (b : Bus). b.now) same.bus in
     record {
       sound = same.sound;
-      bus_is = same.bus ∙ stands.bus_is ∙ ap (λ o. replay (start o) log) (sym same.origin);
-      trace = subst (λ (o : Origin). IsTrace (start o) log) (sym same.origin) stands.trace;
+      bus_is = same.bus ∙ stands.bus_is ∙ ap (λ o. replay (start o) log.entries) (sym same.origin);
+      trace = subst (λ (o : Origin). IsTrace (start o) log.entries) (sym same.origin) stands.trace;
+      limit = stands.limit ∙ ap (λ (o : Origin). o.limit) (sym same.origin);
       ticks = omega arith;
     }
 

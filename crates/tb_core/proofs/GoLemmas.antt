@@ -1,10 +1,12 @@
 -- The first of the moves of a bus, and what a step logs of it.
-use Rattle.std.proofs.Common.{◌≡◌, List, [], ◌∷◌, refl, ap, sym, ◌∙◌, Option, Some, None, Bool, true, false, is_some, option_map, option_to_list, if◌then◌else◌}
+use Rattle.std.proofs.Common.{◌≡◌, List, [], ◌∷◌, refl, ap, sym, ◌∙◌, Option, Some, None, Bool, true, false, not, is_some, option_map, option_to_list, if◌then◌else◌}
 use Rattle.tb_bus.specs.Candidates.{first}
 use Rattle.tb_bus.specs.Buses.{Bus}
 use Rattle.tb_bus.specs.Steps.{Move, moves, moves_while_up, steps, step_of, label_of, apply}
 use Rattle.tb_bus.specs.Traces.{IsTrace, replay}
-use Rattle.tb_core.specs.Cores.{has_any, step_entry}
+use Rattle.tb_core.specs.Cores.{CoreState, has_any, lacks_room, step_entry}
+use Rattle.tb_log.specs.Limits.{has_room}
+use Rattle.tb_log.specs.declared.entry.Entry.{Entry}
 use Rattle.tb_log.specs.declared.entry.Entry.TheVariants.{Did, Quiet}
 use Rattle.tb_bus.proofs.TraceLemmas.{steps-first, steps-none, after-first, legal-first, legal-quiet}
 
@@ -31,22 +33,34 @@ any-found bus move None e = sym (ap has_any (steps-none bus e))
 any-found bus move (Some found) e = sym (ap has_any (steps-first bus (move found) e).1)
 
 -- what is logged is the first of the steps
-pub did-entries : (bus : Bus) (said : Bool) (move : Move) → first (moves bus) ≡ Some move → option_to_list (step_entry bus.down said (steps bus)) ≡ Did (label_of move) ∷ []
-did-entries bus said move e =
-    ap (λ down. option_to_list (step_entry down said (steps bus))) (up bus move e) ∙ ap (λ ss. option_to_list (step_entry false said ss)) (steps-first bus move e).1
+pub did-entry : (bus : Bus) (said : Bool) (move : Move) → first (moves bus) ≡ Some move → step_entry bus.down said (steps bus) ≡ Some (Did (label_of move))
+did-entry bus said move e =
+    ap (λ down. step_entry down said (steps bus)) (up bus move e) ∙ ap (λ ss. step_entry false said ss) (steps-first bus move e).1
 
 -- or that there is none, unless that was said last
-said-by : (said : Bool) → option_to_list (step_entry false said []) ≡ (if said then [] else Quiet ∷ [])
+abbrev pub quiet_if : Bool → Option Entry
+quiet_if said = if said then None else Some Quiet
+
+said-by : (said : Bool) → step_entry false said [] ≡ quiet_if said
 said-by true = refl
 said-by false = refl
 
-pub quiet-entries : (bus : Bus) (said : Bool) → steps bus ≡ [] → bus.down ≡ false → option_to_list (step_entry bus.down said (steps bus)) ≡ (if said then [] else Quiet ∷ [])
-quiet-entries bus said e f =
-    ap (λ down. option_to_list (step_entry down said (steps bus))) f ∙ ap (λ ss. option_to_list (step_entry false said ss)) e ∙ said-by said
+pub quiet-entry : (bus : Bus) (said : Bool) → steps bus ≡ [] → bus.down ≡ false → step_entry bus.down said (steps bus) ≡ quiet_if said
+quiet-entry bus said e f =
+    ap (λ down. step_entry down said (steps bus)) f ∙ ap (λ ss. step_entry false said ss) e ∙ said-by said
+
+pub quiet-listed : (said : Bool) → option_to_list (quiet_if said) ≡ (if said then [] else Quiet ∷ [])
+quiet-listed true = refl
+quiet-listed false = refl
+
+-- it takes room only where it is said
+pub quiet-room : (core : CoreState) (said : Bool) → (said ≡ false → has_room core.origin.limit core.log Quiet ≡ true) → lacks_room core (quiet_if said) ≡ false
+quiet-room core true room = refl
+quiet-room core false room = ap not (room refl)
 
 -- or nothing on a bus that is down
-pub down-entries : (bus : Bus) (said : Bool) → bus.down ≡ true → option_to_list (step_entry bus.down said (steps bus)) ≡ []
-down-entries bus said f = ap (λ down. option_to_list (step_entry down said (steps bus))) f
+pub down-entry : (bus : Bus) (said : Bool) → bus.down ≡ true → step_entry bus.down said (steps bus) ≡ None
+down-entry bus said f = ap (λ down. step_entry down said (steps bus)) f
 
 pub did-trace : (bus : Bus) (move : Move) → first (moves bus) ≡ Some move → IsTrace bus (Did (label_of move) ∷ [])
 did-trace bus move e = legal-first bus (step_of bus move) (steps-first bus move e).0 (steps-first bus move e).1

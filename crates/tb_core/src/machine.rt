@@ -82,18 +82,6 @@ impl<W: Walker> Core<W> {
         self.stopped = true;
     }
 
-    /// Takes memory for so many entries more.
-    pub fn reserve(&mut self, n: usize) -> Result<(), NoMemory>
-        ensures { self.new ≡ self.old }
-    {
-        self.log.reserve(n)
-    }
-
-    /// For how many entries more there is memory.
-    pub fn spare(&self) -> usize {
-        self.log.spare()
-    }
-
     /// Whether a step is possible.
     pub fn has_step(&mut self) -> Result<bool, NoMemory>
         ensures value { IfOk result (λ any. any ≡ has_any (steps (bus_now self.old))) }
