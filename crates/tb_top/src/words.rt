@@ -11,7 +11,9 @@ use tb_terms::Text;
 #[derive(Debug, Drop)]
 pub enum Command {
     /// Whether the script in the file of this name is accepted.
-    Check { script: Text },
+    Check {
+        script: Text,
+    },
     /// The log of the simulation of that script, which makes so many steps at most, and logs so many
     /// entries at most.
     Sim {
