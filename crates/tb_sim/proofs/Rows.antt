@@ -1,5 +1,5 @@
 -- Worked scripts, computed from the definitions alone.
-use Rattle.std.proofs.Common.{◌≡◌, ℕ, pos, List, [], ◌∷◌, refl, sym, subst, arith, codes, false, true, rules, Some, None, Bool}
+use Rattle.std.proofs.Common.{◌≡◌, ℕ, ◌+◌, pos, List, [], ◌∷◌, length, refl, sym, subst, arith, codes, false, true, rules, Some, None, Bool}
 use Rattle.std.proofs.lemmas.Bool.{false_from_ne_true}
 use Rattle.tb_terms.specs.declared.expr.Expr.{Expr, the_lemmas as expr_lemmas}
 use Rattle.tb_terms.specs.declared.expr.Expr.TheVariants as expr
@@ -11,6 +11,7 @@ use Rattle.tb_terms.specs.declared.pattern.Pattern.TheVariants as pattern
 use Rattle.tb_terms.specs.declared.sort.Sort.{the_lemmas as sort_lemmas}
 use Rattle.tb_terms.specs.declared.sort.Sort.TheVariants as sort
 use Rattle.tb_terms.specs.Same.{is_same_term}
+use Rattle.tb_terms.specs.Sizes.{term_size}
 use Rattle.tb_terms.specs.Sorts.{has_sort, initial_value}
 use Rattle.tb_func.specs.declared.slot.Slot.{Slot}
 use Rattle.tb_func.specs.Limits.{is_within_limits}
@@ -32,14 +33,14 @@ use Rattle.tb_match.specs.Matches.{match_list, match_term}
 use Rattle.tb_bus.specs.declared.origin.Origin.{Origin}
 use Rattle.tb_bus.specs.Buses.{Bus, Proc, start}
 use Rattle.tb_bus.specs.Steps.{steps, moves, moves_of_all, moves_of, handshakes, handshakes_with, advance}
-use Rattle.tb_sim.specs.Simulation.{Sim, IsSim, sim_start}
+use Rattle.tb_sim.specs.Simulation.{Limits, Sim, IsSim, limits_of, sim_start}
 use Rattle.tb_log.specs.declared.entry.Entry.{Entry}
 use Rattle.tb_log.specs.declared.entry.Entry.TheVariants.{Did, Quiet, Fed}
 use Rattle.tb_log.specs.declared.entry.Input.TheVariants.{NoTicks}
 use Rattle.tb_log.specs.declared.entry.Reply.TheVariants.{Took}
 use Rattle.tb_log.specs.declared.entry.LabelKind.TheVariants as kind
 use Rattle.tb_sim.specs.declared.ends.SimEnd.{SimEnd}
-use Rattle.tb_sim.specs.declared.ends.SimEnd.TheVariants.{Down, Steps}
+use Rattle.tb_sim.specs.declared.ends.SimEnd.TheVariants.{Down, Steps, Events}
 use Rattle.tb_terms.proofs.SameLemmas.{is_same-refl, is_same-sound}
 
 -- an atom that has no times
@@ -58,9 +59,17 @@ at number body term = record { number = number; body = body; term = term; store 
 abbrev pub bus_of : Program → List Proc → ℕ → Bool → Bus
 bus_of program procs last no_ticks = record { program = program; procs = procs; now = 0; last_starter = last; no_ticks = no_ticks; down = false }
 
--- a simulation that has made so many steps, and has not just said quiet
-abbrev pub sim_of : Bus → ℕ → Sim
-sim_of bus made = record { bus = bus; steps_made = made; quiet = false }
+-- a simulation that has made this log and so many steps, and has not just said quiet
+abbrev pub sim_of : Bus → List Entry → ℕ → Sim
+sim_of bus log made = record { bus = bus; log = log; steps_made = made; quiet = false }
+
+-- one that has just said quiet
+abbrev pub quiet_of : Bus → List Entry → ℕ → Sim
+quiet_of bus log made = record { bus = bus; log = log; steps_made = made; quiet = true }
+
+-- one whose bus went down
+abbrev pub down_of : Bus → List Entry → ℕ → Sim
+down_of bus log made = record { bus = record bus { down = true }; log = log; steps_made = made; quiet = false }
 
 abbrev pub finish : Entry
 finish = Did (record { kind = kind.Finish; from = record { proc = 0; atom = 0 }; to = record { proc = 0; atom = 0 }; terms = [] })
@@ -81,10 +90,10 @@ unfolding is_program_in_range
 empty-in_range = refl
 
 abbrev pub empty : Origin
-empty = record { program = record { bodies = []; roots = []; tools = []; in_range = empty-in_range } }
+empty = record { program = record { bodies = []; roots = []; tools = []; in_range = empty-in_range }; limit = 1000000 }
 
 -- an empty bus finishes at once
-pub empty_bus : IsSim 1000000 (sim_start (start empty)) (finish ∷ []) Down
+pub empty_bus : IsSim (limits_of 1000000 empty) (sim_start (start empty)) (finish ∷ []) Down
 unfolding steps moves moves_of_all moves_of handshakes handshakes_with advance
 empty_bus = (_, refl, refl)
 
@@ -102,25 +111,25 @@ two_by_two-in_range = refl
 
 -- `process A is tau . tau process B is tau . tau toolbus(A, B)`
 abbrev pub two_by_two : Origin
-two_by_two = record { program = record { bodies = two_taus ∷ two_taus ∷ []; roots = root 0 ∷ root 1 ∷ []; tools = []; in_range = two_by_two-in_range } }
+two_by_two = record { program = record { bodies = two_taus ∷ two_taus ∷ []; roots = root 0 ∷ root 1 ∷ []; tools = []; in_range = two_by_two-in_range }; limit = 1000000 }
 
 fresh-two_taus : fresh (tree.Seq (tree.At 1) (tree.At 2)) ≡ Seq (At 1 0) (At 2 0)
 fresh-two_taus = search (rules, tree_lemmas)
 
-two_by_two-starts : (limit : ℕ) (log : List Entry) (end : SimEnd) →
-    IsSim limit (sim_of (bus_of two_by_two.program (at 1 0 (Seq (At 1 0) (At 2 0)) ∷ at 2 1 (Seq (At 1 0) (At 2 0)) ∷ []) 0 false) 0) log end → IsSim limit (sim_start (start two_by_two)) log end
-two_by_two-starts limit log end h =
-    subst (λ (term : Process). IsSim limit (sim_of (bus_of two_by_two.program (at 1 0 term ∷ at 2 1 term ∷ []) 0 false) 0) log end) (sym fresh-two_taus) h
+two_by_two-starts : (limits : Limits) (log : List Entry) (end : SimEnd) →
+    IsSim limits (sim_of (bus_of two_by_two.program (at 1 0 (Seq (At 1 0) (At 2 0)) ∷ at 2 1 (Seq (At 1 0) (At 2 0)) ∷ []) 0 false) [] 0) log end → IsSim limits (sim_start (start two_by_two)) log end
+two_by_two-starts limits log end h =
+    subst (λ (term : Process). IsSim limits (sim_of (bus_of two_by_two.program (at 1 0 term ∷ at 2 1 term ∷ []) 0 false) [] 0) log end) (sym fresh-two_taus) h
 
 -- the processes take turns
-pub in_turns : IsSim 1000000 (sim_start (start two_by_two)) (tau_of 1 1 ∷ tau_of 2 1 ∷ tau_of 1 2 ∷ tau_of 2 2 ∷ finish ∷ []) Down
+pub in_turns : IsSim (limits_of 1000000 two_by_two) (sim_start (start two_by_two)) (tau_of 1 1 ∷ tau_of 2 1 ∷ tau_of 1 2 ∷ tau_of 2 2 ∷ finish ∷ []) Down
 unfolding steps moves moves_of_all moves_of handshakes handshakes_with advance
-in_turns = two_by_two-starts 1000000 (tau_of 1 1 ∷ tau_of 2 1 ∷ tau_of 1 2 ∷ tau_of 2 2 ∷ finish ∷ []) Down (_, refl, (_, refl, (_, refl, (_, refl, (_, refl, refl)))))
+in_turns = two_by_two-starts (limits_of 1000000 two_by_two) (tau_of 1 1 ∷ tau_of 2 1 ∷ tau_of 1 2 ∷ tau_of 2 2 ∷ finish ∷ []) Down (_, refl, (_, refl, (_, refl, (_, refl, (_, refl, refl)))))
 
 -- at the limit of four steps it could still finish
-pub four_steps : IsSim 4 (sim_start (start two_by_two)) (tau_of 1 1 ∷ tau_of 2 1 ∷ tau_of 1 2 ∷ tau_of 2 2 ∷ []) Steps
+pub four_steps : IsSim (limits_of 4 two_by_two) (sim_start (start two_by_two)) (tau_of 1 1 ∷ tau_of 2 1 ∷ tau_of 1 2 ∷ tau_of 2 2 ∷ []) Steps
 unfolding steps moves moves_of_all moves_of handshakes handshakes_with advance
-four_steps = two_by_two-starts 4 (tau_of 1 1 ∷ tau_of 2 1 ∷ tau_of 1 2 ∷ tau_of 2 2 ∷ []) Steps (_, refl, (_, refl, (_, refl, (_, refl, refl))))
+four_steps = two_by_two-starts (limits_of 4 two_by_two) (tau_of 1 1 ∷ tau_of 2 1 ∷ tau_of 1 2 ∷ tau_of 2 2 ∷ []) Steps (_, refl, (_, refl, (_, refl, (_, refl, refl))))
 
 -- a body of one atom
 fresh-one : fresh (tree.At 1) ≡ At 1 0
@@ -139,25 +148,64 @@ stuck-in_range = refl
 
 -- `process P is delta toolbus(P)`
 abbrev pub stuck : Origin
-stuck = record { program = record { bodies = delta ∷ []; roots = root 0 ∷ []; tools = []; in_range = stuck-in_range } }
+stuck = record { program = record { bodies = delta ∷ []; roots = root 0 ∷ []; tools = []; in_range = stuck-in_range }; limit = 1000000 }
 
-stuck-runs : IsSim 1000000 (sim_of (bus_of stuck.program (at 1 0 (At 1 0) ∷ []) 0 false) 0) (Quiet ∷ Fed NoTicks Took ∷ halt ∷ []) Down
+stuck-runs : IsSim (limits_of 1000000 stuck) (sim_of (bus_of stuck.program (at 1 0 (At 1 0) ∷ []) 0 false) [] 0) (Quiet ∷ Fed NoTicks Took ∷ halt ∷ []) Down
 unfolding steps moves moves_of_all moves_of handshakes handshakes_with advance
 stuck-runs = (_, refl, (_, refl, (_, refl, refl)))
 
 -- what never happens halts the bus once no more ticks come
-pub delta_alone : IsSim 1000000 (sim_start (start stuck)) (Quiet ∷ Fed NoTicks Took ∷ halt ∷ []) Down
+pub delta_alone : IsSim (limits_of 1000000 stuck) (sim_start (start stuck)) (Quiet ∷ Fed NoTicks Took ∷ halt ∷ []) Down
 delta_alone =
-    subst (λ (term : Process). IsSim 1000000 (sim_of (bus_of stuck.program (at 1 0 term ∷ []) 0 false) 0) (Quiet ∷ Fed NoTicks Took ∷ halt ∷ []) Down) (sym fresh-one) stuck-runs
+    subst (λ (term : Process). IsSim (limits_of 1000000 stuck) (sim_of (bus_of stuck.program (at 1 0 term ∷ []) 0 false) [] 0) (Quiet ∷ Fed NoTicks Took ∷ halt ∷ []) Down) (sym fresh-one) stuck-runs
 
-stuck-limited : IsSim 0 (sim_of (bus_of stuck.program (at 1 0 (At 1 0) ∷ []) 0 false) 0) (Quiet ∷ Fed NoTicks Took ∷ []) Steps
+stuck-limited : IsSim (limits_of 0 stuck) (sim_of (bus_of stuck.program (at 1 0 (At 1 0) ∷ []) 0 false) [] 0) (Quiet ∷ Fed NoTicks Took ∷ []) Steps
 unfolding steps moves moves_of_all moves_of handshakes handshakes_with advance
 stuck-limited = (_, refl, (_, refl, refl))
 
 -- with no step allowed, it still says quiet, and ends only where the bus could halt
-pub delta_limited : IsSim 0 (sim_start (start stuck)) (Quiet ∷ Fed NoTicks Took ∷ []) Steps
+pub delta_limited : IsSim (limits_of 0 stuck) (sim_start (start stuck)) (Quiet ∷ Fed NoTicks Took ∷ []) Steps
 delta_limited =
-    subst (λ (term : Process). IsSim 0 (sim_of (bus_of stuck.program (at 1 0 term ∷ []) 0 false) 0) (Quiet ∷ Fed NoTicks Took ∷ []) Steps) (sym fresh-one) stuck-limited
+    subst (λ (term : Process). IsSim (limits_of 0 stuck) (sim_of (bus_of stuck.program (at 1 0 term ∷ []) 0 false) [] 0) (Quiet ∷ Fed NoTicks Took ∷ []) Steps) (sym fresh-one) stuck-limited
+
+-- `tau * delta`
+pub endless-in_range : is_body_in_range (tree.Star (tree.At 1) (tree.At 2)) (plain act.Tau ∷ plain act.Delta ∷ []) [] 0 ≡ true
+unfolding is_body_in_range
+endless-in_range = search (rules, tree_lemmas)
+
+abbrev pub endless : Body
+endless = record { tree = tree.Star (tree.At 1) (tree.At 2); atoms = plain act.Tau ∷ plain act.Delta ∷ []; sorts = []; formals = 0; in_range = endless-in_range }
+
+pub forever-in_range : is_program_in_range (endless ∷ []) (root 0 ∷ []) [] ≡ true
+unfolding is_program_in_range
+forever-in_range = refl
+
+-- `process P is tau * delta toolbus(P)`, whose log may have five entries
+abbrev pub forever : Origin
+forever = record { program = record { bodies = endless ∷ []; roots = root 0 ∷ []; tools = []; in_range = forever-in_range }; limit = 5 }
+
+-- a star of two atoms
+abbrev star : Process
+star = Star (At 1 0) (At 2 0)
+
+fresh-star : fresh (tree.Star (tree.At 1) (tree.At 2)) ≡ star
+fresh-star = search (rules, tree_lemmas)
+
+forever-starts : (limits : Limits) (log : List Entry) (end : SimEnd) → IsSim limits (sim_of (bus_of forever.program (at 1 0 star ∷ []) 0 false) [] 0) log end → IsSim limits (sim_start (start forever)) log end
+forever-starts limits log end h = subst (λ (term : Process). IsSim limits (sim_of (bus_of forever.program (at 1 0 term ∷ []) 0 false) [] 0) log end) (sym fresh-star) h
+
+abbrev pub five_taus : List Entry
+five_taus = tau_of 1 1 ∷ tau_of 1 1 ∷ tau_of 1 1 ∷ tau_of 1 1 ∷ tau_of 1 1 ∷ []
+
+-- it ends where the log has no room for another entry
+pub five_entries : IsSim (limits_of 1000000 forever) (sim_start (start forever)) five_taus Events
+unfolding steps moves moves_of_all moves_of handshakes handshakes_with advance
+five_entries = forever-starts (limits_of 1000000 forever) five_taus Events (_, refl, (_, refl, (_, refl, (_, refl, (_, refl, refl)))))
+
+-- where the limit of steps is reached too, that is the end
+pub both_limits : IsSim (limits_of 5 forever) (sim_start (start forever)) five_taus Steps
+unfolding steps moves moves_of_all moves_of handshakes handshakes_with advance
+both_limits = forever-starts (limits_of 5 forever) five_taus Steps (_, refl, (_, refl, (_, refl, (_, refl, (_, refl, refl)))))
 
 -- a name without arguments: as an expression, as a term, and as a pattern
 abbrev pub word : List ℕ → List Expr
@@ -188,6 +236,10 @@ b-wanted = search (rules, expr_lemmas, term_lemmas, pattern_lemmas)
 same-term : (t : Term) → is_same_term t t ≡ true
 same-term t = is_same-refl term_row.the_row.coded t
 
+-- one for the node, and its letters
+word-size : (name : List ℕ) → term_size (term.Appl name []) ≡ 1 + length name
+word-size name = search (rules, term_lemmas)
+
 -- a term matches itself
 fixed-matches : (name : List ℕ) → match_list (fixed name) (words name) ≡ Some []
 fixed-matches name = search (rules, pattern_lemmas, same-term)
@@ -208,24 +260,24 @@ alone-in_range = refl
 
 -- `process P is rec-msg(a) toolbus(P)`
 abbrev pub alone : Origin
-alone = record { program = record { bodies = rec_a ∷ []; roots = root 0 ∷ []; tools = []; in_range = alone-in_range } }
+alone = record { program = record { bodies = rec_a ∷ []; roots = root 0 ∷ []; tools = []; in_range = alone-in_range }; limit = 1000000 }
 
-alone-runs : IsSim 1000000 (sim_of (bus_of alone.program (at 1 0 (At 1 0) ∷ []) 0 false) 0) (Quiet ∷ Fed NoTicks Took ∷ halt ∷ []) Down
+alone-runs : IsSim (limits_of 1000000 alone) (sim_of (bus_of alone.program (at 1 0 (At 1 0) ∷ []) 0 false) [] 0) (Quiet ∷ Fed NoTicks Took ∷ halt ∷ []) Down
 unfolding steps moves moves_of_all moves_of handshakes handshakes_with advance
 alone-runs = (
-  record { bus = bus_of alone.program (at 1 0 (At 1 0) ∷ []) 0 false; steps_made = 0; quiet = true },
+  quiet_of (bus_of alone.program (at 1 0 (At 1 0) ∷ []) 0 false) (Quiet ∷ []) 0,
   simp a-wanted,
   (
-    sim_of (bus_of alone.program (at 1 0 (At 1 0) ∷ []) 0 true) 0,
+    sim_of (bus_of alone.program (at 1 0 (At 1 0) ∷ []) 0 true) (Quiet ∷ Fed NoTicks Took ∷ []) 0,
     simp a-wanted,
-    (record { bus = record { program = alone.program; procs = at 1 0 (At 1 0) ∷ []; now = 0; last_starter = 0; no_ticks = true; down = true }; steps_made = 1; quiet = false }, simp a-wanted, refl),
+    (down_of (bus_of alone.program (at 1 0 (At 1 0) ∷ []) 0 true) (Quiet ∷ Fed NoTicks Took ∷ halt ∷ []) 1, simp a-wanted, refl),
   ),
 )
 
 -- one receiver alone: nothing is possible, then no more ticks come, then the bus halts
-pub one_receiver_alone : IsSim 1000000 (sim_start (start alone)) (Quiet ∷ Fed NoTicks Took ∷ halt ∷ []) Down
+pub one_receiver_alone : IsSim (limits_of 1000000 alone) (sim_start (start alone)) (Quiet ∷ Fed NoTicks Took ∷ halt ∷ []) Down
 one_receiver_alone =
-    subst (λ (term : Process). IsSim 1000000 (sim_of (bus_of alone.program (at 1 0 term ∷ []) 0 false) 0) (Quiet ∷ Fed NoTicks Took ∷ halt ∷ []) Down) (sym fresh-one) alone-runs
+    subst (λ (term : Process). IsSim (limits_of 1000000 alone) (sim_of (bus_of alone.program (at 1 0 term ∷ []) 0 false) [] 0) (Quiet ∷ Fed NoTicks Took ∷ halt ∷ []) Down) (sym fresh-one) alone-runs
 
 hello-sent : values_together [] (word (codes "hello")) ≡ Some (words (codes "hello"))
 unfolding is_within_limits
@@ -255,20 +307,20 @@ hello-in_range = refl
 
 -- `process A is snd-msg(hello) process B is rec-msg(hello) toolbus(A, B)`
 abbrev pub hello : Origin
-hello = record { program = record { bodies = snd_hello ∷ rec_hello ∷ []; roots = root 0 ∷ root 1 ∷ []; tools = []; in_range = hello-in_range } }
+hello = record { program = record { bodies = snd_hello ∷ rec_hello ∷ []; roots = root 0 ∷ root 1 ∷ []; tools = []; in_range = hello-in_range }; limit = 1000000 }
 
-hello-runs : IsSim 1000000 (sim_of (bus_of hello.program (at 1 0 (At 1 0) ∷ at 2 1 (At 1 0) ∷ []) 0 false) 0) (shake 1 1 (words (codes "hello")) ∷ finish ∷ []) Down
+hello-runs : IsSim (limits_of 1000000 hello) (sim_of (bus_of hello.program (at 1 0 (At 1 0) ∷ at 2 1 (At 1 0) ∷ []) 0 false) [] 0) (shake 1 1 (words (codes "hello")) ∷ finish ∷ []) Down
 unfolding steps moves moves_of_all moves_of handshakes handshakes_with advance
 hello-runs = (
-  sim_of (bus_of hello.program [] 1 false) 1,
-  simp (hello-sent, hello-wanted, fixed-matches (codes "hello")),
-  (_, refl, refl),
+  sim_of (bus_of hello.program [] 1 false) (shake 1 1 (words (codes "hello")) ∷ []) 1,
+  simp (hello-sent, hello-wanted, fixed-matches (codes "hello"), word-size),
+  (down_of (bus_of hello.program [] 1 false) (shake 1 1 (words (codes "hello")) ∷ finish ∷ []) 2, simp word-size, refl),
 )
 
 -- one process hands its terms to the other, and no process is left
-pub hello_once : IsSim 1000000 (sim_start (start hello)) (shake 1 1 (words (codes "hello")) ∷ finish ∷ []) Down
+pub hello_once : IsSim (limits_of 1000000 hello) (sim_start (start hello)) (shake 1 1 (words (codes "hello")) ∷ finish ∷ []) Down
 hello_once =
-    subst (λ (term : Process). IsSim 1000000 (sim_of (bus_of hello.program (at 1 0 term ∷ at 2 1 term ∷ []) 0 false) 0) (shake 1 1 (words (codes "hello")) ∷ finish ∷ []) Down)
+    subst (λ (term : Process). IsSim (limits_of 1000000 hello) (sim_of (bus_of hello.program (at 1 0 term ∷ at 2 1 term ∷ []) 0 false) [] 0) (shake 1 1 (words (codes "hello")) ∷ finish ∷ []) Down)
     (sym fresh-one) hello-runs
 
 -- a term matches no other
@@ -308,41 +360,42 @@ twice-in_range = refl
 
 -- `process A is snd-msg(a) * snd-msg(b) process B is rec-msg(a) . rec-msg(a) . rec-msg(b) toolbus(A, B)`
 abbrev pub twice : Origin
-twice = record { program = record { bodies = sender ∷ receiver ∷ []; roots = root 0 ∷ root 1 ∷ []; tools = []; in_range = twice-in_range } }
-
-fresh-sender : fresh (tree.Star (tree.At 1) (tree.At 2)) ≡ Star (At 1 0) (At 2 0)
-fresh-sender = search (rules, tree_lemmas)
+twice = record { program = record { bodies = sender ∷ receiver ∷ []; roots = root 0 ∷ root 1 ∷ []; tools = []; in_range = twice-in_range }; limit = 1000000 }
 
 fresh-receiver : fresh (tree.Seq (tree.At 1) (tree.Seq (tree.At 2) (tree.At 3))) ≡ Seq (At 1 0) (Seq (At 2 0) (At 3 0))
 fresh-receiver = search (rules, tree_lemmas)
 
-abbrev star : Process
-star = Star (At 1 0) (At 2 0)
+-- the receiver's atom takes an a, and its last one the b
+abbrev pub a_at : ℕ → Entry
+a_at to = shake 1 to (words (codes "a"))
+
+abbrev pub b_last : Entry
+b_last = shake 2 3 (words (codes "b"))
 
 abbrev pub twice_log : List Entry
-twice_log = shake 1 1 (words (codes "a")) ∷ shake 1 2 (words (codes "a")) ∷ shake 2 3 (words (codes "b")) ∷ finish ∷ []
+twice_log = a_at 1 ∷ a_at 2 ∷ b_last ∷ finish ∷ []
 
-twice-runs : IsSim 1000000 (sim_of (bus_of twice.program (at 1 0 star ∷ at 2 1 (Seq (At 1 0) (Seq (At 2 0) (At 3 0))) ∷ []) 0 false) 0) twice_log Down
+twice-runs : IsSim (limits_of 1000000 twice) (sim_of (bus_of twice.program (at 1 0 star ∷ at 2 1 (Seq (At 1 0) (Seq (At 2 0) (At 3 0))) ∷ []) 0 false) [] 0) twice_log Down
 unfolding steps moves moves_of_all moves_of handshakes handshakes_with advance
 twice-runs = (
-  sim_of (bus_of twice.program (at 1 0 star ∷ at 2 1 (Seq (At 2 0) (At 3 0)) ∷ []) 1 false) 1,
-  simp (a-sent, b-sent, a-wanted, fixed-matches (codes "a")),
+  sim_of (bus_of twice.program (at 1 0 star ∷ at 2 1 (Seq (At 2 0) (At 3 0)) ∷ []) 1 false) (a_at 1 ∷ []) 1,
+  simp (a-sent, b-sent, a-wanted, fixed-matches (codes "a"), word-size),
   (
-    sim_of (bus_of twice.program (at 1 0 star ∷ at 2 1 (At 3 0) ∷ []) 1 false) 2,
-    simp (a-sent, b-sent, a-wanted, fixed-matches (codes "a")),
+    sim_of (bus_of twice.program (at 1 0 star ∷ at 2 1 (At 3 0) ∷ []) 1 false) (a_at 1 ∷ a_at 2 ∷ []) 2,
+    simp (a-sent, b-sent, a-wanted, fixed-matches (codes "a"), word-size),
     (
-      sim_of (bus_of twice.program [] 1 false) 3,
-      simp (a-sent, b-sent, b-wanted, fixed-matches (codes "b"), b-misses),
-      (_, refl, refl),
+      sim_of (bus_of twice.program [] 1 false) (a_at 1 ∷ a_at 2 ∷ b_last ∷ []) 3,
+      simp (a-sent, b-sent, b-wanted, fixed-matches (codes "b"), b-misses, word-size),
+      (down_of (bus_of twice.program [] 1 false) twice_log 4, simp word-size, refl),
     ),
   ),
 )
 
 -- a star's first side is taken until the other is wanted
-pub star_until : IsSim 1000000 (sim_start (start twice)) twice_log Down
+pub star_until : IsSim (limits_of 1000000 twice) (sim_start (start twice)) twice_log Down
 star_until =
-    subst (λ (term : Process). IsSim 1000000 (sim_of (bus_of twice.program (at 1 0 term ∷ at 2 1 (fresh receiver.tree) ∷ []) 0 false) 0) twice_log Down) (sym fresh-sender)
-    (subst (λ (term : Process). IsSim 1000000 (sim_of (bus_of twice.program (at 1 0 star ∷ at 2 1 term ∷ []) 0 false) 0) twice_log Down) (sym fresh-receiver) twice-runs)
+    subst (λ (term : Process). IsSim (limits_of 1000000 twice) (sim_of (bus_of twice.program (at 1 0 term ∷ at 2 1 (fresh receiver.tree) ∷ []) 0 false) [] 0) twice_log Down) (sym fresh-star)
+    (subst (λ (term : Process). IsSim (limits_of 1000000 twice) (sim_of (bus_of twice.program (at 1 0 star ∷ at 2 1 term ∷ []) 0 false) [] 0) twice_log Down) (sym fresh-receiver) twice-runs)
 
 -- `snd-msg(a) || rec-msg(a)`
 abbrev pub both_sides : List Atom
@@ -361,28 +414,28 @@ itself-in_range = refl
 
 -- `process P is snd-msg(a) || rec-msg(a) toolbus(P)`
 abbrev pub itself : Origin
-itself = record { program = record { bodies = merged ∷ []; roots = root 0 ∷ []; tools = []; in_range = itself-in_range } }
+itself = record { program = record { bodies = merged ∷ []; roots = root 0 ∷ []; tools = []; in_range = itself-in_range }; limit = 1000000 }
 
 fresh-merged : fresh (tree.Par (tree.At 1) (tree.At 2)) ≡ Par (At 1 0) (At 2 0)
 fresh-merged = search (rules, tree_lemmas)
 
-itself-runs : IsSim 1000000 (sim_of (bus_of itself.program (at 1 0 (Par (At 1 0) (At 2 0)) ∷ []) 0 false) 0) (Quiet ∷ Fed NoTicks Took ∷ halt ∷ []) Down
+itself-runs : IsSim (limits_of 1000000 itself) (sim_of (bus_of itself.program (at 1 0 (Par (At 1 0) (At 2 0)) ∷ []) 0 false) [] 0) (Quiet ∷ Fed NoTicks Took ∷ halt ∷ []) Down
 unfolding steps moves moves_of_all moves_of handshakes handshakes_with advance
 itself-runs =
     let procs : List Proc = at 1 0 (Par (At 1 0) (At 2 0)) ∷ [] in (
-      record { bus = bus_of itself.program procs 0 false; steps_made = 0; quiet = true },
+      quiet_of (bus_of itself.program procs 0 false) (Quiet ∷ []) 0,
       simp (a-sent, a-wanted),
       (
-        sim_of (bus_of itself.program procs 0 true) 0,
+        sim_of (bus_of itself.program procs 0 true) (Quiet ∷ Fed NoTicks Took ∷ []) 0,
         simp (a-sent, a-wanted),
-        (record { bus = record { program = itself.program; procs = procs; now = 0; last_starter = 0; no_ticks = true; down = true }; steps_made = 1; quiet = false }, simp (a-sent, a-wanted), refl),
+        (down_of (bus_of itself.program procs 0 true) (Quiet ∷ Fed NoTicks Took ∷ halt ∷ []) 1, simp (a-sent, a-wanted), refl),
       ),
     )
 
 -- no process shakes hands with itself
-pub none_with_itself : IsSim 1000000 (sim_start (start itself)) (Quiet ∷ Fed NoTicks Took ∷ halt ∷ []) Down
+pub none_with_itself : IsSim (limits_of 1000000 itself) (sim_start (start itself)) (Quiet ∷ Fed NoTicks Took ∷ halt ∷ []) Down
 none_with_itself =
-    subst (λ (term : Process). IsSim 1000000 (sim_of (bus_of itself.program (at 1 0 term ∷ []) 0 false) 0) (Quiet ∷ Fed NoTicks Took ∷ halt ∷ []) Down) (sym fresh-merged) itself-runs
+    subst (λ (term : Process). IsSim (limits_of 1000000 itself) (sim_of (bus_of itself.program (at 1 0 term ∷ []) 0 false) [] 0) (Quiet ∷ Fed NoTicks Took ∷ halt ∷ []) Down) (sym fresh-merged) itself-runs
 
 -- a number: as an expression, and as a term
 abbrev pub number : ℕ → Expr
@@ -390,6 +443,9 @@ number n = expr.Int (pos n)
 
 abbrev pub worth : ℕ → Term
 worth n = term.Int (pos n)
+
+number-size : (n : ℕ) → term_size (worth n) ≡ 1
+number-size n = search (rules, term_lemmas)
 
 -- a variable with a number
 abbrev pub holding : ℕ → List Slot
@@ -422,7 +478,7 @@ bound-in_range = refl
 
 -- `process A is snd-msg(5, 6) process B is let X: int in X := 5 . rec-msg(X, X?) endlet toolbus(A, B)`
 abbrev pub bound : Origin
-bound = record { program = record { bodies = five_six ∷ variable ∷ []; roots = root 0 ∷ root 1 ∷ []; tools = []; in_range = bound-in_range } }
+bound = record { program = record { bodies = five_six ∷ variable ∷ []; roots = root 0 ∷ root 1 ∷ []; tools = []; in_range = bound-in_range }; limit = 1000000 }
 
 fresh-variable : fresh (tree.Let from_start (tree.Seq (tree.At 1) (tree.At 2))) ≡ Let from_start (Seq (At 1 0) (At 2 0))
 fresh-variable = search (rules, tree_lemmas)
@@ -454,10 +510,11 @@ six-matches = search (rules, pattern_lemmas, sort_lemmas, term_lemmas)
 six-bound : match_list (pattern.Fixed (worth 5) ∷ pattern.Result 0 sort.Int ∷ []) (worth 5 ∷ worth 6 ∷ []) ≡ Some (record { slot = 0; value = worth 6 } ∷ [])
 six-bound = rw five-matches (rw six-matches refl)
 
+abbrev pub five_is_set : Entry
+five_is_set = Did (record { kind = kind.Set; from = record { proc = 2; atom = 1 }; to = record { proc = 0; atom = 0 }; terms = worth 5 ∷ [] })
+
 abbrev pub bound_log : List Entry
-bound_log =
-    Did (record { kind = kind.Set; from = record { proc = 2; atom = 1 }; to = record { proc = 0; atom = 0 }; terms = worth 5 ∷ [] })
-    ∷ shake 1 2 (worth 5 ∷ worth 6 ∷ []) ∷ finish ∷ []
+bound_log = five_is_set ∷ shake 1 2 (worth 5 ∷ worth 6 ∷ []) ∷ finish ∷ []
 
 -- the second process, with its variable
 abbrev with_variable : Process → Slot → Proc
@@ -466,21 +523,21 @@ with_variable term slot = record { number = 2; body = 1; term = term; store = sl
 abbrev int_slot : Term → Slot
 int_slot value = record { sort = sort.Int; value = value }
 
-bound-runs : IsSim 1000000 (sim_of (bus_of bound.program (at 1 0 (At 1 0) ∷ with_variable (Let from_start (Seq (At 1 0) (At 2 0))) (int_slot (worth 0)) ∷ []) 0 false) 0) bound_log Down
+bound-runs : IsSim (limits_of 1000000 bound) (sim_of (bus_of bound.program (at 1 0 (At 1 0) ∷ with_variable (Let from_start (Seq (At 1 0) (At 2 0))) (int_slot (worth 0)) ∷ []) 0 false) [] 0) bound_log Down
 unfolding steps moves moves_of_all moves_of handshakes handshakes_with advance
 bound-runs = (
-  sim_of (bus_of bound.program (at 1 0 (At 1 0) ∷ with_variable (At 2 0) (int_slot (worth 5)) ∷ []) 2 false) 1,
-  simp (both-sent, let-starts, five-set 0, is-int 5),
+  sim_of (bus_of bound.program (at 1 0 (At 1 0) ∷ with_variable (At 2 0) (int_slot (worth 5)) ∷ []) 2 false) (five_is_set ∷ []) 1,
+  simp (both-sent, let-starts, five-set 0, is-int 5, number-size),
   (
-    sim_of (bus_of bound.program [] 1 false) 2,
-    simp (both-sent, both-wanted, six-bound),
-    (_, refl, refl),
+    sim_of (bus_of bound.program [] 1 false) (five_is_set ∷ shake 1 2 (worth 5 ∷ worth 6 ∷ []) ∷ []) 2,
+    simp (both-sent, both-wanted, six-bound, number-size),
+    (down_of (bus_of bound.program [] 1 false) bound_log 3, simp number-size, refl),
   ),
 )
 
 -- a variable is set, sent terms are matched with its value, and it takes another
-pub variable_bound : IsSim 1000000 (sim_start (start bound)) bound_log Down
+pub variable_bound : IsSim (limits_of 1000000 bound) (sim_start (start bound)) bound_log Down
 variable_bound =
-    subst (λ (term : Process). IsSim 1000000 (sim_of (bus_of bound.program (at 1 0 term ∷ with_variable (fresh variable.tree) (int_slot (initial_value sort.Int)) ∷ []) 0 false) 0) bound_log Down) (sym fresh-one)
-    (subst (λ (term : Process). IsSim 1000000 (sim_of (bus_of bound.program (at 1 0 (At 1 0) ∷ with_variable term (int_slot (initial_value sort.Int)) ∷ []) 0 false) 0) bound_log Down) (sym fresh-variable)
-    (subst (λ (value : Term). IsSim 1000000 (sim_of (bus_of bound.program (at 1 0 (At 1 0) ∷ with_variable (Let from_start (Seq (At 1 0) (At 2 0))) (int_slot value) ∷ []) 0 false) 0) bound_log Down) (sym begins-zero) bound-runs))
+    subst (λ (term : Process). IsSim (limits_of 1000000 bound) (sim_of (bus_of bound.program (at 1 0 term ∷ with_variable (fresh variable.tree) (int_slot (initial_value sort.Int)) ∷ []) 0 false) [] 0) bound_log Down) (sym fresh-one)
+    (subst (λ (term : Process). IsSim (limits_of 1000000 bound) (sim_of (bus_of bound.program (at 1 0 (At 1 0) ∷ with_variable term (int_slot (initial_value sort.Int)) ∷ []) 0 false) [] 0) bound_log Down) (sym fresh-variable)
+    (subst (λ (value : Term). IsSim (limits_of 1000000 bound) (sim_of (bus_of bound.program (at 1 0 (At 1 0) ∷ with_variable (Let from_start (Seq (At 1 0) (At 2 0))) (int_slot value) ∷ []) 0 false) [] 0) bound_log Down) (sym begins-zero) bound-runs))

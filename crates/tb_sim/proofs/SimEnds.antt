@@ -1,10 +1,11 @@
 -- Each simulation has an end, and each prefix of one goes on to it.
-use Rattle.std.proofs.Common.{◌≡◌, ℕ, zero, suc, ◌+◌, ◌-◌, ◌*◌, ◌<◌, ◌≤◌, ◌⊎◌, inl, inr, List, [], ◌∷◌, ◌++◌, refl, ap, arith, Bool, true, false}
+use Rattle.std.proofs.Common.{◌≡◌, ℕ, zero, suc, ◌+◌, ◌-◌, ◌*◌, ◌<◌, ◌≤◌, ◌⊎◌, inl, inr, List, [], ◌∷◌, ◌++◌, refl, ap, arith, Bool, true, false, if◌then◌else◌}
 use Rattle.std.proofs.lemmas.Bool.{cases_lt}
 use Rattle.tb_bus.specs.Buses.{Bus}
 use Rattle.tb_bus.specs.Steps.{Step, steps}
 use Rattle.tb_bus.specs.Traces.{fed}
-use Rattle.tb_sim.specs.Simulation.{Sim, Ends, Makes, turn, IsSim, IsSimPrefix}
+use Rattle.tb_sim.specs.Simulation.{Limits, Sim, Ends, Makes, turn, IsSim, IsSimPrefix}
+use Rattle.tb_log.specs.Limits.{has_room}
 use Rattle.tb_log.specs.declared.entry.Input.TheVariants.{NoTicks}
 use Rattle.tb_log.specs.declared.entry.Entry.{Entry}
 use Rattle.tb_log.specs.declared.entry.Entry.TheVariants.{Did, Quiet, Fed}
@@ -19,14 +20,14 @@ quiets_left false true = 1
 quiets_left false false = 2
 
 -- no more turns than these log an entry
-abbrev turns_left : ℕ → Sim → ℕ
-turns_left limit sim = 3 * (limit - sim.steps_made) + quiets_left sim.bus.no_ticks sim.quiet
+abbrev turns_left : Limits → Sim → ℕ
+turns_left limits sim = 3 * (limits.steps - sim.steps_made) + quiets_left sim.bus.no_ticks sim.quiet
 
 -- a turn ends the simulation, or leaves fewer turns
-abbrev Turns : ℕ → Sim → Type 0
-Turns limit sim =
-    ((end : SimEnd) × (turn limit sim ≡ Ends end))
-    ⊎ ((entry : Entry) × (next : Sim) × (turn limit sim ≡ Makes entry next) × (turns_left limit next < turns_left limit sim))
+abbrev Turns : Limits → Sim → Type 0
+Turns limits sim =
+    ((end : SimEnd) × (turn limits sim ≡ Ends end))
+    ⊎ ((entry : Entry) × (next : Sim) × (turn limits sim ≡ Makes entry next) × (turns_left limits next < turns_left limits sim))
 
 -- a step adds one of them at most
 after-step : (no_ticks other quiet : Bool) → other ≡ no_ticks → quiets_left other false ≤ quiets_left no_ticks quiet + 1
@@ -34,58 +35,65 @@ after-step true other quiet e = rw e (omega arith)
 after-step false other true e = rw e (omega arith)
 after-step false other false e = rw e (omega arith)
 
-quiet-turns : (limit : ℕ) (bus : Bus) (made : ℕ) (quiet : Bool) → steps bus ≡ [] → bus.down ≡ false → Turns limit (record { bus = bus; steps_made = made; quiet = quiet })
-quiet-turns limit bus made true e f =
-    let sim : Sim = record { bus = bus; steps_made = made; quiet = true } in
-    let next : Sim = record { bus = (fed bus NoTicks).bus; steps_made = made; quiet = false } in
+-- where the log has no room for an entry it ends too
+room-turns : (limits : Limits) (sim : Sim) (entry : Entry) (next : Sim) (room : Bool) → turn limits sim ≡ (if room then Makes entry (record next { log = sim.log ++ entry ∷ [] }) else Ends end.Events) →
+    turns_left limits next < turns_left limits sim → Turns limits sim
+room-turns limits sim entry next true e fewer = inr (entry, record next { log = sim.log ++ entry ∷ [] }, e, fewer)
+room-turns limits sim entry next false e fewer = inl (end.Events, e)
+
+quiet-turns : (limits : Limits) (bus : Bus) (log : List Entry) (made : ℕ) (quiet : Bool) → steps bus ≡ [] → bus.down ≡ false → Turns limits (record { bus = bus; log = log; steps_made = made; quiet = quiet })
+quiet-turns limits bus log made true e f =
+    let sim : Sim = record { bus = bus; log = log; steps_made = made; quiet = true } in
+    let next : Sim = record { bus = (fed bus NoTicks).bus; log = log; steps_made = made; quiet = false } in
+    let entry : Entry = Fed NoTicks (fed bus NoTicks).reply in
     let before : quiets_left bus.no_ticks true ≡ 1 = ap (λ b. quiets_left b true) (no_ticks-quiet bus e f) in
     let after : quiets_left (fed bus NoTicks).bus.no_ticks false ≡ 0 = ap (λ (b : Bus). quiets_left b.no_ticks false) (fed-no_ticks bus f) in
-    inr (Fed NoTicks (fed bus NoTicks).reply, next, turn-quiet limit sim e f, omega (arith, before, after))
-quiet-turns limit bus made false e f =
-    let sim : Sim = record { bus = bus; steps_made = made; quiet = false } in
-    let next : Sim = record { bus = bus; steps_made = made; quiet = true } in
+    room-turns limits sim entry next (has_room limits.entries log entry) (turn-quiet limits sim e f) (omega (arith, before, after))
+quiet-turns limits bus log made false e f =
+    let sim : Sim = record { bus = bus; log = log; steps_made = made; quiet = false } in
+    let next : Sim = record { bus = bus; log = log; steps_made = made; quiet = true } in
     let before : quiets_left bus.no_ticks false ≡ 2 = ap (λ b. quiets_left b false) (no_ticks-quiet bus e f) in
     let after : quiets_left bus.no_ticks true ≡ 1 = ap (λ b. quiets_left b true) (no_ticks-quiet bus e f) in
-    inr (Quiet, next, turn-quiet limit sim e f, omega (arith, before, after))
+    room-turns limits sim Quiet next (has_room limits.entries log Quiet) (turn-quiet limits sim e f) (omega (arith, before, after))
 
-step-turns : (limit : ℕ) (sim : Sim) (step : Step) (rest : List Step) → steps sim.bus ≡ step ∷ rest → (sim.steps_made < limit) ⊎ (limit ≤ sim.steps_made) → Turns limit sim
-step-turns limit sim step rest e (inr within) = inl (end.Steps, turn-limit limit sim step rest within e)
-step-turns limit sim step rest e (inl less) =
-    let next : Sim = record { bus = step.bus; steps_made = sim.steps_made + 1; quiet = false } in
+step-turns : (limits : Limits) (sim : Sim) (step : Step) (rest : List Step) → steps sim.bus ≡ step ∷ rest → (sim.steps_made < limits.steps) ⊎ (limits.steps ≤ sim.steps_made) → Turns limits sim
+step-turns limits sim step rest e (inr within) = inl (end.Steps, turn-limit limits sim step rest within e)
+step-turns limits sim step rest e (inl less) =
+    let next : Sim = record sim { bus = step.bus; steps_made = sim.steps_made + 1; quiet = false } in
     let fewer = after-step sim.bus.no_ticks step.bus.no_ticks sim.quiet (step-no_ticks sim.bus step rest e) in
-    inr (Did step.label, next, turn-made limit sim step rest less e, omega (arith, fewer, less))
+    room-turns limits sim (Did step.label) next (has_room limits.entries sim.log (Did step.label)) (turn-made limits sim step rest less e) (omega (arith, fewer, less))
 
-up-turns : (limit : ℕ) (sim : Sim) (ss : List Step) → steps sim.bus ≡ ss → sim.bus.down ≡ false → Turns limit sim
-up-turns limit sim [] e f = quiet-turns limit sim.bus sim.steps_made sim.quiet e f
-up-turns limit sim (step ∷ rest) e f = step-turns limit sim step rest e (cases_lt sim.steps_made limit)
+up-turns : (limits : Limits) (sim : Sim) (ss : List Step) → steps sim.bus ≡ ss → sim.bus.down ≡ false → Turns limits sim
+up-turns limits sim [] e f = quiet-turns limits sim.bus sim.log sim.steps_made sim.quiet e f
+up-turns limits sim (step ∷ rest) e f = step-turns limits sim step rest e (cases_lt sim.steps_made limits.steps)
 
-turns-by : (limit : ℕ) (sim : Sim) (down : Bool) → sim.bus.down ≡ down → Turns limit sim
-turns-by limit sim true e = inl (end.Down, turn-down limit sim e)
-turns-by limit sim false e = up-turns limit sim (steps sim.bus) refl e
+turns-by : (limits : Limits) (sim : Sim) (down : Bool) → sim.bus.down ≡ down → Turns limits sim
+turns-by limits sim true e = inl (end.Down, turn-down limits sim e)
+turns-by limits sim false e = up-turns limits sim (steps sim.bus) refl e
 
 -- the simulation has a log and an end from here
-abbrev pub HasEnd : ℕ → Sim → Type 0
-HasEnd limit sim = (log : List Entry) × ((end : SimEnd) × IsSim limit sim log end)
+abbrev pub HasEnd : Limits → Sim → Type 0
+HasEnd limits sim = (log : List Entry) × ((end : SimEnd) × IsSim limits sim log end)
 
-ends-by : (limit : ℕ) (sim : Sim) → Turns limit sim → ((next : Sim) → turns_left limit next < turns_left limit sim → HasEnd limit next) → HasEnd limit sim
-ends-by limit sim (inl ended) on = ([], (ended.0, ended.1))
-ends-by limit sim (inr made) on = let rest = on made.1 made.3 in (made.0 ∷ rest.0, (rest.1.0, (made.1, made.2, rest.1.1)))
+ends-by : (limits : Limits) (sim : Sim) → Turns limits sim → ((next : Sim) → turns_left limits next < turns_left limits sim → HasEnd limits next) → HasEnd limits sim
+ends-by limits sim (inl ended) on = ([], (ended.0, ended.1))
+ends-by limits sim (inr made) on = let rest = on made.1 made.3 in (made.0 ∷ rest.0, (rest.1.0, (made.1, made.2, rest.1.1)))
 
-ends-within : (count : ℕ) (limit : ℕ) (sim : Sim) → turns_left limit sim < count → HasEnd limit sim
-ends-within zero limit sim less = absurd (omega (arith, less))
-ends-within (suc count) limit sim less = ends-by limit sim (turns-by limit sim sim.bus.down refl) (λ next fewer. ends-within count limit next (omega (arith, less, fewer)))
+ends-within : (count : ℕ) (limits : Limits) (sim : Sim) → turns_left limits sim < count → HasEnd limits sim
+ends-within zero limits sim less = absurd (omega (arith, less))
+ends-within (suc count) limits sim less = ends-by limits sim (turns-by limits sim sim.bus.down refl) (λ next fewer. ends-within count limits next (omega (arith, less, fewer)))
 
-pub sim-ends : (limit : ℕ) (sim : Sim) → HasEnd limit sim
-sim-ends limit sim = ends-within (turns_left limit sim + 1) limit sim (omega arith)
+pub sim-ends : (limits : Limits) (sim : Sim) → HasEnd limits sim
+sim-ends limits sim = ends-within (turns_left limits sim + 1) limits sim (omega arith)
 
 -- what was logged on the way goes on to the end
-pub prefix-ends : (limit : ℕ) (sim : Sim) (log : List Entry) → IsSimPrefix limit sim log → (more : List Entry) × ((end : SimEnd) × IsSim limit sim (log ++ more) end)
-prefix-ends limit sim [] h = sim-ends limit sim
-prefix-ends limit sim (entry ∷ log) h =
-    let rest = prefix-ends limit h.0 log h.2 in
+pub prefix-ends : (limits : Limits) (sim : Sim) (log : List Entry) → IsSimPrefix limits sim log → (more : List Entry) × ((end : SimEnd) × IsSim limits sim (log ++ more) end)
+prefix-ends limits sim [] h = sim-ends limits sim
+prefix-ends limits sim (entry ∷ log) h =
+    let rest = prefix-ends limits h.0 log h.2 in
     (rest.0, (rest.1.0, (h.0, h.1, rest.1.1)))
 
 -- and each prefix of a whole log was logged on the way
-pub sim-prefix : (limit : ℕ) (sim : Sim) (log more : List Entry) (end : SimEnd) → IsSim limit sim (log ++ more) end → IsSimPrefix limit sim log
-sim-prefix limit sim [] more end h = tt
-sim-prefix limit sim (entry ∷ log) more end h = (h.0, h.1, sim-prefix limit h.0 log more end h.2)
+pub sim-prefix : (limits : Limits) (sim : Sim) (log more : List Entry) (end : SimEnd) → IsSim limits sim (log ++ more) end → IsSimPrefix limits sim log
+sim-prefix limits sim [] more end h = tt
+sim-prefix limits sim (entry ∷ log) more end h = (h.0, h.1, sim-prefix limits h.0 log more end h.2)

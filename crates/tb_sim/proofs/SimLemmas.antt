@@ -1,23 +1,26 @@
 -- The turns of a simulation, by what each call of a core logged.
 use Rattle.std.proofs.Common.{◌≡◌, ℕ, ◌+◌, ◌-◌, ◌<◌, ◌≤◌, ◌==◌, ◌&&◌, List, [], ◌∷◌, ◌++◌, length, slice_get, refl, ap, sym, ◌∙◌, subst, arith, Option, Some, Bool, true, false, append-nil, append_assoc, eq-eqb, length-append}
 use Rattle.std.specs.Prelude.{option_to_list}
-use Rattle.std.proofs.lemmas.Bool.{eqb-true}
+use Rattle.std.proofs.lemmas.Bool.{eqb-true, not-true, not-false}
 use Rattle.tb_bus.specs.declared.origin.Origin.{Origin}
 use Rattle.tb_bus.specs.Buses.{Bus, start}
 use Rattle.tb_bus.specs.Steps.{Step, steps}
 use Rattle.tb_bus.specs.Traces.{replay, fed}
-use Rattle.tb_sim.specs.Simulation.{Sim, Ends, turn, IsSim, IsSimPrefix, sim_start}
-use Rattle.tb_sim.specs.Turns.{SimLeads, sim_of, LedOn, LeftWithin}
-use Rattle.tb_core.specs.Cores.{CoreState, HandIn, MakeStep, bus_now, Logs, entries_of, step_entry, IsStep, has_any, ends_quiet, says_quiet}
+use Rattle.tb_sim.specs.Simulation.{Limits, Sim, Ends, turn, limits_of, IsSim, IsSimPrefix, sim_start}
+use Rattle.tb_sim.specs.Turns.{SimLeads, sim_of, LedOn, LeftWithin, EndsTicks, Goes}
+use Rattle.tb_core.specs.Cores.{CoreState, HandIn, MakeStep, bus_now, Logs, entries_of, would_log, lacks_room, is_full, step_entry, IsStep, has_any, ends_quiet, says_quiet}
 use Rattle.tb_core.specs.declared.answers.Stepped.TheVariants as stepped
+use Rattle.tb_log.specs.Limits.{has_room}
 use Rattle.tb_log.specs.declared.entry.Input.TheVariants.{NoTicks}
 use Rattle.tb_log.specs.declared.entry.Entry.{Entry}
 use Rattle.tb_log.specs.declared.entry.Entry.TheVariants.{Did, Quiet, Fed}
 use Rattle.tb_sim.specs.declared.ends.SimEnd.{SimEnd}
 use Rattle.tb_sim.specs.declared.ends.SimEnd.TheVariants as end
+use Rattle.tb_sim.specs.declared.ends.Turned.{Turned}
+use Rattle.tb_sim.specs.declared.ends.Turned.TheVariants as turned
 use Rattle.tb_terms.proofs.SameLemmas.{both-true}
 use Rattle.tb_bus.proofs.TraceLemmas.{replay-append, after-first}
-use Rattle.tb_sim.proofs.SimTurns.{steps-up, turn-limit, turn-made, turn-quiet, step-no_ticks, no_ticks-quiet, fed-no_ticks}
+use Rattle.tb_sim.proofs.SimTurns.{steps-up, turn-limit, turn-made, turn-down, turn-says-quiet, turn-ends-ticks, makes-room, makes-full, step-no_ticks, no_ticks-quiet, fed-no_ticks}
 
 -- where a core's log leads after a call
 logs-bus : (old new : CoreState) (entries : List Entry) → Logs old new entries → bus_now new ≡ replay (bus_now old) entries
@@ -34,20 +37,31 @@ did-by true quiet step rest e = cc
 did-by false true step rest e = refl
 did-by false false step rest e = refl
 
-entries-did : (core : CoreState) (step : Step) (rest : List Step) → steps (bus_now core) ≡ step ∷ rest → entries_of core MakeStep ≡ Did step.label ∷ []
-entries-did core step rest e =
-    ap (λ (ss : List Step). option_to_list (step_entry (bus_now core).down (ends_quiet core.log) ss)) e
-    ∙ ap (λ (o : Option Entry). option_to_list o) (did-by (bus_now core).down (ends_quiet core.log) step rest (steps-up (bus_now core) step rest e))
+would-did : (core : CoreState) (step : Step) (rest : List Step) → steps (bus_now core) ≡ step ∷ rest → would_log core MakeStep ≡ Some (Did step.label)
+would-did core step rest e =
+    ap (λ (ss : List Step). step_entry (bus_now core).down (ends_quiet core.log) ss) e
+    ∙ did-by (bus_now core).down (ends_quiet core.log) step rest (steps-up (bus_now core) step rest e)
 
 quiet-by : (down quiet : Bool) → down ≡ false → quiet ≡ false → step_entry down quiet [] ≡ Some Quiet
 quiet-by true quiet e f = cc
 quiet-by false true e f = cc
 quiet-by false false e f = refl
 
-entries-quiet : (core : CoreState) → steps (bus_now core) ≡ [] → (bus_now core).down ≡ false → ends_quiet core.log ≡ false → entries_of core MakeStep ≡ Quiet ∷ []
-entries-quiet core e f said =
-    ap (λ (ss : List Step). option_to_list (step_entry (bus_now core).down (ends_quiet core.log) ss)) e
-    ∙ ap (λ (o : Option Entry). option_to_list o) (quiet-by (bus_now core).down (ends_quiet core.log) f said)
+would-quiet : (core : CoreState) → steps (bus_now core) ≡ [] → (bus_now core).down ≡ false → ends_quiet core.log ≡ false → would_log core MakeStep ≡ Some Quiet
+would-quiet core e f said =
+    ap (λ (ss : List Step). step_entry (bus_now core).down (ends_quiet core.log) ss) e
+    ∙ quiet-by (bus_now core).down (ends_quiet core.log) f said
+
+-- what would be logged is what was
+would-logs : (old new : CoreState) (o : Option Entry) (entry : Entry) → o ≡ Some entry → Logs old new (option_to_list o) → Logs old new (entry ∷ [])
+would-logs old new o entry e l = subst (Logs old new) (ap (λ (x : Option Entry). option_to_list x) e) l
+
+-- the log had room for it, or it had none
+would-room : (core : CoreState) (o : Option Entry) (entry : Entry) → o ≡ Some entry → lacks_room core o ≡ false → has_room core.origin.limit core.log entry ≡ true
+would-room core o entry e r = not-false (has_room core.origin.limit core.log entry) (sym (ap (λ (x : Option Entry). lacks_room core x) e) ∙ r)
+
+would-full : (core : CoreState) (o : Option Entry) (entry : Entry) → o ≡ Some entry → lacks_room core o ≡ true → has_room core.origin.limit core.log entry ≡ false
+would-full core o entry e r = not-true (has_room core.origin.limit core.log entry) (sym (ap (λ (x : Option Entry). lacks_room core x) e) ∙ r)
 
 down-by : (down quiet : Bool) (ss : List Step) → down ≡ true → option_to_list (step_entry down quiet ss) ≡ []
 down-by true quiet ss e = refl
@@ -57,18 +71,22 @@ down-by false quiet ss e = cc
 pub down-nothing : (old new : CoreState) → (bus_now old).down ≡ true → Logs old new (entries_of old MakeStep) → new ≡ old
 down-nothing old new e l = logs-nothing old new (subst (Logs old new) (down-by (bus_now old).down (ends_quiet old.log) (steps (bus_now old)) e) l)
 
+down-room : (core : CoreState) (down quiet : Bool) (ss : List Step) → down ≡ true → lacks_room core (step_entry down quiet ss) ≡ false
+down-room core true quiet ss e = refl
+down-room core false quiet ss e = cc
+
 any-first : (ss : List Step) → has_any ss ≡ true → (step : Step) × (rest : List Step) × (ss ≡ step ∷ rest)
 any-first [] e = absurd cc
 any-first (step ∷ rest) e = (step, rest, refl)
 
--- at the limit, with a step possible, the simulation ends
-pub limit-ends : (limit made : ℕ) (core : CoreState) (at : Bool) → at ≡ (made == limit && has_any (steps (bus_now core))) → at ≡ true → turn limit (sim_of core made) ≡ Ends end.Steps
+-- at the limit of steps, with a step possible, the simulation ends
+limit-ends : (made : ℕ) (limits : Limits) (core : CoreState) (at : Bool) → at ≡ (made == limits.steps && has_any (steps (bus_now core))) → at ≡ true → turn limits (sim_of core made) ≡ Ends end.Steps
 unfolding sim_of
-limit-ends limit made core at is h =
-    let t = both-true (made == limit) (has_any (steps (bus_now core))) (sym is ∙ h) in
-    let e : made ≡ limit = eqb-true made limit t.0 in
+limit-ends made limits core at is h =
+    let t = both-true (made == limits.steps) (has_any (steps (bus_now core))) (sym is ∙ h) in
+    let e : made ≡ limits.steps = eqb-true made limits.steps t.0 in
     let s = any-first (steps (bus_now core)) t.1 in
-    turn-limit limit (sim_of core made) s.0 s.1 (omega arith) s.2
+    turn-limit limits (sim_of core made) s.0 s.1 (omega arith) s.2
 
 slice_get-push : (log : List Entry) (entry : Entry) → slice_get (log ++ entry ∷ []) (length log) ≡ Some entry
 slice_get-push [] entry = refl
@@ -89,120 +107,226 @@ below-by made limit false any e le f g = let apart : made ≡ limit → ⊥ = λ
 below-limit : (made limit : ℕ) (any : Bool) → made ≤ limit → any ≡ true → (made == limit && any) ≡ false → made < limit
 below-limit made limit any le f g = below-by made limit (made == limit) any refl le f g
 
+-- no turn yet
+pub led-nothing : (most made : ℕ) (core : CoreState) → LedOn most core made core made
+led-nothing most made core = record { origin = refl; running = refl; entries = []; log = sym (append-nil core.log); turns = refl }
+
+-- turns after turns
+leads-append : (limits : Limits) (a b c : Sim) (xs ys : List Entry) → SimLeads limits a xs b → SimLeads limits b ys c → SimLeads limits a (xs ++ ys) c
+leads-append limits a b c [] ys p q = subst (λ (s : Sim). SimLeads limits s ys c) p q
+leads-append limits a b c (x ∷ xs) ys p q = (p.0, p.1, leads-append limits p.0 b c xs ys p.2 q)
+
+leads-ends : (limits : Limits) (a b : Sim) (xs : List Entry) (last : SimEnd) → SimLeads limits a xs b → turn limits b ≡ Ends last → IsSim limits a xs last
+leads-ends limits a b [] last p e = subst (λ (s : Sim). turn limits s ≡ Ends last) p e
+leads-ends limits a b (x ∷ xs) last p e = (p.0, p.1, leads-ends limits p.0 b xs last p.2 e)
+
+leads-so_far : (limits : Limits) (a b : Sim) (xs : List Entry) → SimLeads limits a xs b → IsSimPrefix limits a xs
+leads-so_far limits a b [] p = tt
+leads-so_far limits a b (x ∷ xs) p = (p.0, p.1, leads-so_far limits p.0 b xs p.2)
+
+leads-prefix : (limits : Limits) (a b : Sim) (xs ys : List Entry) → SimLeads limits a xs b → IsSimPrefix limits b ys → IsSimPrefix limits a (xs ++ ys)
+leads-prefix limits a b [] ys p q = subst (λ (s : Sim). IsSimPrefix limits s ys) p q
+leads-prefix limits a b (x ∷ xs) ys p q = (p.0, p.1, leads-prefix limits p.0 b xs ys p.2 q)
+
+-- one go after others
+pub led-on : (most : ℕ) (a b c : CoreState) (m n k : ℕ) → LedOn most a m b n → LedOn most b n c k → LedOn most a m c k
+led-on most a b c m n k p q = record {
+  origin = q.origin ∙ p.origin;
+  running = q.running ∙ p.running;
+  entries = p.entries ++ q.entries;
+  log = q.log ∙ ap (λ (log : List Entry). log ++ q.entries) p.log ∙ append_assoc a.log p.entries q.entries;
+  turns = leads-append (limits_of most a.origin) (sim_of a m) (sim_of b n) (sim_of c k) p.entries q.entries p.turns
+      (subst (λ (o : Origin). SimLeads (limits_of most o) (sim_of b n) q.entries (sim_of c k)) p.origin q.turns);
+}
+
 -- One go: the first step was made.
-pub led-did : (limit made : ℕ) (old new : CoreState) (at : Bool) → old.stopped ≡ false → made ≤ limit → at ≡ (made == limit && has_any (steps (bus_now old))) → at ≡ false →
-    IsStep old stepped.Did → Logs old new (entries_of old MakeStep) →
-    LedOn limit old made new (made + 1) × (made < limit) × ((bus_now new).no_ticks ≡ (bus_now old).no_ticks)
+pub goes-did : (most made : ℕ) (old new : CoreState) (at : Bool) → made ≤ most → at ≡ (made == most && has_any (steps (bus_now old))) → at ≡ false →
+    IsStep old stepped.Did → Logs old new (entries_of old MakeStep) → is_full old MakeStep ≡ false →
+    Goes most old made new turned.Step
 unfolding sim_of
-led-did limit made old new at running within is below found logs =
+goes-did most made old new at within is below found logs room =
     let step : Step = found.0 in
     let rest : List Step = found.1 in
     let e : steps (bus_now old) ≡ step ∷ rest = found.2 in
-    let l : Logs old new (Did step.label ∷ []) = subst (Logs old new) (entries-did old step rest e) logs in
-    let less = below-limit made limit (has_any (steps (bus_now old))) within (ap has_any e) (sym is ∙ below) in
-    let bus : bus_now new ≡ step.bus = logs-bus old new (Did step.label ∷ []) l ∙ after-first (bus_now old) step rest e in (
+    let limits : Limits = limits_of most old.origin in
+    let would = would-did old step rest e in
+    let l : Logs old new (Did step.label ∷ []) = would-logs old new (would_log old MakeStep) (Did step.label) would logs in
+    let less = below-limit made most (has_any (steps (bus_now old))) within (ap has_any e) (sym is ∙ below) in
+    let bus : bus_now new ≡ step.bus = logs-bus old new (Did step.label ∷ []) l ∙ after-first (bus_now old) step rest e in
+    let said : ends_quiet new.log ≡ false = ap ends_quiet l.log ∙ ends_quiet-push old.log (Did step.label) in (
       record {
         origin = l.origin;
-        running = l.stopped ∙ running;
+        running = l.stopped;
         entries = Did step.label ∷ [];
         log = l.log;
         turns = (
-          record { bus = step.bus; steps_made = made + 1; quiet = false },
-          turn-made limit (sim_of old made) step rest less e,
-          ap (λ (b : Bus). let s : Sim = record { bus = b; steps_made = made + 1; quiet = false } in s) bus,
+          record { bus = step.bus; log = old.log ++ Did step.label ∷ []; steps_made = made + 1; quiet = false },
+          turn-made limits (sim_of old made) step rest less e
+              ∙ makes-room limits (sim_of old made) (Did step.label) (record { bus = step.bus; log = old.log; steps_made = made + 1; quiet = false }) (would-room old (would_log old MakeStep) (Did step.label) would room),
+          λ i. record { bus = bus i; log = l.log i; steps_made = made + 1; quiet = said i },
         );
-        said = ap ends_quiet l.log ∙ ends_quiet-push old.log (Did step.label);
       },
       less,
+      said,
       ap (λ (b : Bus). b.no_ticks) bus ∙ step-no_ticks (bus_now old) step rest e,
     )
 
--- One go: nothing was possible, and no more ticks come.
-pub led-quiet : (limit made : ℕ) (old mid new : CoreState) → old.stopped ≡ false → ends_quiet old.log ≡ false →
-    IsStep old stepped.Quiet → Logs old mid (entries_of old MakeStep) → Logs mid new (entries_of mid (HandIn NoTicks)) →
-    LedOn limit old made new made × ((bus_now old).no_ticks ≡ false) × ((bus_now new).no_ticks ≡ true)
+-- nothing was possible, and it said so
+led-said : (most made : ℕ) (old mid : CoreState) → ends_quiet old.log ≡ false → IsStep old stepped.Quiet → Logs old mid (entries_of old MakeStep) → is_full old MakeStep ≡ false →
+    LedOn most old made mid made × (ends_quiet mid.log ≡ true) × (bus_now mid ≡ bus_now old)
 unfolding sim_of
-led-quiet limit made old mid new running said found logs m =
+led-said most made old mid said found logs room =
     let e : steps (bus_now old) ≡ [] = found.0 in
     let f : (bus_now old).down ≡ false = found.1 in
-    let l : Logs old mid (Quiet ∷ []) = subst (Logs old mid) (entries-quiet old e f said) logs in
-    let same : bus_now mid ≡ bus_now old = logs-bus old mid (Quiet ∷ []) l in
-    let fed_bus : bus_now new ≡ (fed (bus_now old) NoTicks).bus = logs-bus mid new (Fed NoTicks (fed (bus_now mid) NoTicks).reply ∷ []) m ∙ ap (λ (b : Bus). (fed b NoTicks).bus) same in
-    let input = Fed NoTicks (fed (bus_now old) NoTicks).reply in
-    let quiet_sim : Sim = record { bus = bus_now old; steps_made = made; quiet = true } in (
+    let limits : Limits = limits_of most old.origin in
+    let would = would-quiet old e f said in
+    let l : Logs old mid (Quiet ∷ []) = would-logs old mid (would_log old MakeStep) Quiet would logs in
+    let bus : bus_now mid ≡ bus_now old = logs-bus old mid (Quiet ∷ []) l in
+    let quiet : ends_quiet mid.log ≡ true = ap ends_quiet l.log ∙ ends_quiet-push old.log Quiet in (
       record {
-        origin = m.origin ∙ l.origin;
-        running = m.stopped ∙ l.stopped ∙ running;
-        entries = Quiet ∷ input ∷ [];
-        log = m.log ∙ ap (λ (log : List Entry). log ++ Fed NoTicks (fed (bus_now mid) NoTicks).reply ∷ []) l.log
-            ∙ ap (λ (b : Bus). (old.log ++ Quiet ∷ []) ++ Fed NoTicks (fed b NoTicks).reply ∷ []) same ∙ append_assoc old.log (Quiet ∷ []) (input ∷ []);
+        origin = l.origin;
+        running = l.stopped;
+        entries = Quiet ∷ [];
+        log = l.log;
         turns = (
-          quiet_sim,
-          turn-quiet limit (sim_of old made) e f,
-          (
-            record { bus = (fed (bus_now old) NoTicks).bus; steps_made = made; quiet = false },
-            turn-quiet limit quiet_sim e f,
-            ap (λ (b : Bus). let s : Sim = record { bus = b; steps_made = made; quiet = false } in s) fed_bus,
-          ),
+          record { bus = bus_now old; log = old.log ++ Quiet ∷ []; steps_made = made; quiet = true },
+          turn-says-quiet limits (sim_of old made) e f said
+              ∙ makes-room limits (sim_of old made) Quiet (record { bus = bus_now old; log = old.log; steps_made = made; quiet = true }) (would-room old (would_log old MakeStep) Quiet would room),
+          λ i. record { bus = bus i; log = l.log i; steps_made = made; quiet = quiet i },
         );
-        said = ap ends_quiet m.log ∙ ends_quiet-push mid.log (Fed NoTicks (fed (bus_now mid) NoTicks).reply);
       },
-      no_ticks-quiet (bus_now old) e f,
-      ap (λ (b : Bus). b.no_ticks) (fed_bus ∙ fed-no_ticks (bus_now old) f),
+      quiet,
+      bus,
     )
 
--- what was logged before memory ran out is a prefix of what the turns log
-pub left-quiet : (limit made : ℕ) (old mid new : CoreState) → ends_quiet old.log ≡ false → IsStep old stepped.Quiet → Logs old mid (entries_of old MakeStep) → new ≡ mid → LeftWithin limit old made new
+-- then it handed in that no more ticks come
+led-told : (most made : ℕ) (mid new : CoreState) → ends_quiet mid.log ≡ true → steps (bus_now mid) ≡ [] → (bus_now mid).down ≡ false → Logs mid new (entries_of mid (HandIn NoTicks)) → is_full mid (HandIn NoTicks) ≡ false →
+    LedOn most mid made new made × (ends_quiet new.log ≡ false) × ((bus_now new).no_ticks ≡ true)
 unfolding sim_of
-left-quiet limit made old mid new said found logs same =
-    let l : Logs old mid (Quiet ∷ []) = subst (Logs old mid) (entries-quiet old found.0 found.1 said) logs in
-    record {
-      origin = ap (λ (c : CoreState). c.origin) same ∙ l.origin;
-      stopped = ap (λ (c : CoreState). c.stopped) same ∙ l.stopped;
-      entries = Quiet ∷ [];
-      log = ap (λ (c : CoreState). c.log) same ∙ l.log;
-      prefix = (record { bus = bus_now old; steps_made = made; quiet = true }, turn-quiet limit (sim_of old made) found.0 found.1, tt);
-    }
+led-told most made mid new quiet e f l room =
+    let limits : Limits = limits_of most mid.origin in
+    let entry : Entry = Fed NoTicks (fed (bus_now mid) NoTicks).reply in
+    let bus : bus_now new ≡ (fed (bus_now mid) NoTicks).bus = logs-bus mid new (entry ∷ []) l in
+    let said : ends_quiet new.log ≡ false = ap ends_quiet l.log ∙ ends_quiet-push mid.log entry in (
+      record {
+        origin = l.origin;
+        running = l.stopped;
+        entries = entry ∷ [];
+        log = l.log;
+        turns = (
+          record { bus = (fed (bus_now mid) NoTicks).bus; log = mid.log ++ entry ∷ []; steps_made = made; quiet = false },
+          turn-ends-ticks limits (sim_of mid made) e f quiet
+              ∙ makes-room limits (sim_of mid made) entry (record { bus = (fed (bus_now mid) NoTicks).bus; log = mid.log; steps_made = made; quiet = false }) (would-room mid (Some entry) entry refl room),
+          λ i. record { bus = bus i; log = l.log i; steps_made = made; quiet = said i },
+        );
+      },
+      said,
+      ap (λ (b : Bus). b.no_ticks) (bus ∙ fed-no_ticks (bus_now mid) f),
+    )
 
--- turns after turns
-leads-append : (limit : ℕ) (a b c : Sim) (xs ys : List Entry) → SimLeads limit a xs b → SimLeads limit b ys c → SimLeads limit a (xs ++ ys) c
-leads-append limit a b c [] ys p q = subst (λ (s : Sim). SimLeads limit s ys c) p q
-leads-append limit a b c (x ∷ xs) ys p q = (p.0, p.1, leads-append limit p.0 b c xs ys p.2 q)
+-- or the log had no room for it
+told-full : (most made : ℕ) (mid : CoreState) → ends_quiet mid.log ≡ true → steps (bus_now mid) ≡ [] → (bus_now mid).down ≡ false → is_full mid (HandIn NoTicks) ≡ true → turn (limits_of most mid.origin) (sim_of mid made) ≡ Ends end.Events
+unfolding sim_of
+told-full most made mid quiet e f full =
+    let limits : Limits = limits_of most mid.origin in
+    let entry : Entry = Fed NoTicks (fed (bus_now mid) NoTicks).reply in
+    turn-ends-ticks limits (sim_of mid made) e f quiet
+    ∙ makes-full limits (sim_of mid made) entry (record { bus = (fed (bus_now mid) NoTicks).bus; log = mid.log; steps_made = made; quiet = false }) (would-full mid (Some entry) entry refl full)
 
-leads-ends : (limit : ℕ) (a b : Sim) (xs : List Entry) (last : SimEnd) → SimLeads limit a xs b → turn limit b ≡ Ends last → IsSim limit a xs last
-leads-ends limit a b [] last p e = subst (λ (s : Sim). turn limit s ≡ Ends last) p e
-leads-ends limit a b (x ∷ xs) last p e = (p.0, p.1, leads-ends limit p.0 b xs last p.2 e)
+-- One go: nothing was possible, and then what became of the word that no more ticks come.
+pub goes-quiet : (most made : ℕ) (old mid new : CoreState) → ends_quiet old.log ≡ false → IsStep old stepped.Quiet → Logs old mid (entries_of old MakeStep) → is_full old MakeStep ≡ false →
+    (t : Turned) → EndsTicks mid new t → Goes most old made new t
+goes-quiet most made old mid new said found logs room turned.Quiet h =
+    let p = led-said most made old mid said found logs room in
+    let e : steps (bus_now mid) ≡ [] = ap steps p.2 ∙ found.0 in
+    let f : (bus_now mid).down ≡ false = ap (λ (b : Bus). b.down) p.2 ∙ found.1 in
+    let q = led-told most made mid new p.1 e f h.0 h.1 in
+    (led-on most old mid new made made made p.0 q.0, q.1, no_ticks-quiet (bus_now old) found.0 found.1, q.2)
+goes-quiet most made old mid new said found logs room (turned.End end.Events) h =
+    let p = led-said most made old mid said found logs room in
+    let e : steps (bus_now mid) ≡ [] = ap steps p.2 ∙ found.0 in
+    let f : (bus_now mid).down ≡ false = ap (λ (b : Bus). b.down) p.2 ∙ found.1 in
+    let full = told-full most made mid p.1 e f h.1 in
+    let here : turn (limits_of most old.origin) (sim_of mid made) ≡ Ends end.Events = subst (λ (o : Origin). turn (limits_of most o) (sim_of mid made) ≡ Ends end.Events) p.0.origin full in (
+      subst (λ (c : CoreState). LedOn most old made c made) (sym h.0) p.0,
+      subst (λ (c : CoreState). turn (limits_of most old.origin) (sim_of c made) ≡ Ends end.Events) (sym h.0) here,
+    )
+goes-quiet most made old mid new said found logs room (turned.End end.Down) h = absurd h
+goes-quiet most made old mid new said found logs room (turned.End end.Steps) h = absurd h
+goes-quiet most made old mid new said found logs room turned.Step h = absurd h
 
-leads-prefix : (limit : ℕ) (a b : Sim) (xs ys : List Entry) → SimLeads limit a xs b → IsSimPrefix limit b ys → IsSimPrefix limit a (xs ++ ys)
-leads-prefix limit a b [] ys p q = subst (λ (s : Sim). IsSimPrefix limit s ys) p q
-leads-prefix limit a b (x ∷ xs) ys p q = (p.0, p.1, leads-prefix limit p.0 b xs ys p.2 q)
+-- One go: it is the end, and nothing was logged.
+pub goes-end : (most made : ℕ) (old new : CoreState) (last : SimEnd) → new ≡ old → turn (limits_of most old.origin) (sim_of old made) ≡ Ends last → Goes most old made new (turned.End last)
+goes-end most made old new last same e = (
+  subst (λ (c : CoreState). LedOn most old made c made) (sym same) (led-nothing most made old),
+  subst (λ (c : CoreState). turn (limits_of most old.origin) (sim_of c made) ≡ Ends last) (sym same) e,
+)
+
+pub goes-limit : (most made : ℕ) (old new : CoreState) (at : Bool) → new ≡ old → at ≡ (made == most && has_any (steps (bus_now old))) → at ≡ true → Goes most old made new (turned.End end.Steps)
+goes-limit most made old new at same is h = goes-end most made old new end.Steps same (limit-ends made (limits_of most old.origin) old at is h)
+
+pub goes-down : (most made : ℕ) (old new : CoreState) → (bus_now old).down ≡ true → Logs old new (entries_of old MakeStep) → Goes most old made new (turned.End end.Down)
+unfolding sim_of
+goes-down most made old new e logs = goes-end most made old new end.Down (down-nothing old new e logs) (turn-down (limits_of most old.origin) (sim_of old made) e)
+
+-- where the log has no room for what the step would log
+full-up : (most made : ℕ) (core : CoreState) (at : Bool) (ss : List Step) → ends_quiet core.log ≡ false → made ≤ most → at ≡ (made == most && has_any (steps (bus_now core))) → at ≡ false →
+    steps (bus_now core) ≡ ss → (bus_now core).down ≡ false → is_full core MakeStep ≡ true → turn (limits_of most core.origin) (sim_of core made) ≡ Ends end.Events
+unfolding sim_of
+full-up most made core at [] said within is below e f full =
+    let limits : Limits = limits_of most core.origin in
+    turn-says-quiet limits (sim_of core made) e f said
+    ∙ makes-full limits (sim_of core made) Quiet (record { bus = bus_now core; log = core.log; steps_made = made; quiet = true }) (would-full core (would_log core MakeStep) Quiet (would-quiet core e f said) full)
+full-up most made core at (step ∷ rest) said within is below e f full =
+    let limits : Limits = limits_of most core.origin in
+    let less = below-limit made most (has_any (steps (bus_now core))) within (ap has_any e) (sym is ∙ below) in
+    turn-made limits (sim_of core made) step rest less e
+    ∙ makes-full limits (sim_of core made) (Did step.label) (record { bus = step.bus; log = core.log; steps_made = made + 1; quiet = false }) (would-full core (would_log core MakeStep) (Did step.label) (would-did core step rest e) full)
+
+full-by : (most made : ℕ) (core : CoreState) (at down : Bool) → ends_quiet core.log ≡ false → made ≤ most → at ≡ (made == most && has_any (steps (bus_now core))) → at ≡ false →
+    (bus_now core).down ≡ down → is_full core MakeStep ≡ true → turn (limits_of most core.origin) (sim_of core made) ≡ Ends end.Events
+full-by most made core at true said within is below f full =
+    let room : is_full core MakeStep ≡ false = down-room core (bus_now core).down (ends_quiet core.log) (steps (bus_now core)) f in
+    absurd (let both : true ≡ false = sym full ∙ room in cc)
+full-by most made core at false said within is below f full = full-up most made core at (steps (bus_now core)) said within is below refl f full
+
+pub goes-full : (most made : ℕ) (old new : CoreState) (at : Bool) → ends_quiet old.log ≡ false → made ≤ most → at ≡ (made == most && has_any (steps (bus_now old))) → at ≡ false →
+    new ≡ old → is_full old MakeStep ≡ true → Goes most old made new (turned.End end.Events)
+goes-full most made old new at said within is below same full = goes-end most made old new end.Events same (full-by most made old at (bus_now old).down said within is below refl full)
+
+-- what was logged before memory ran out is a prefix of what the turns log
+left-after : (most made : ℕ) (old mid new : CoreState) → LedOn most old made mid made → new ≡ mid → LeftWithin most old made new
+left-after most made old mid new p same = record {
+  origin = ap (λ (c : CoreState). c.origin) same ∙ p.origin;
+  stopped = ap (λ (c : CoreState). c.stopped) same ∙ p.running;
+  entries = p.entries;
+  log = ap (λ (c : CoreState). c.log) same ∙ p.log;
+  prefix = leads-so_far (limits_of most old.origin) (sim_of old made) (sim_of mid made) p.entries p.turns;
+}
+
+pub left-quiet : (most made : ℕ) (old mid new : CoreState) → ends_quiet old.log ≡ false → IsStep old stepped.Quiet → Logs old mid (entries_of old MakeStep) → is_full old MakeStep ≡ false → new ≡ mid → LeftWithin most old made new
+left-quiet most made old mid new said found logs room same = left-after most made old mid new (led-said most made old mid said found logs room).0 same
 
 -- a simulation begins where the core was started
 start-sim : (core : CoreState) → core.log ≡ [] → sim_of core 0 ≡ sim_start (start core.origin)
 unfolding sim_of bus_now
-start-sim core e = ap (λ (log : List Entry). sim_start (replay (start core.origin) log)) e
-
--- one go after others
-pub led-on : (limit : ℕ) (a b c : CoreState) (m n k : ℕ) → LedOn limit a m b n → LedOn limit b n c k → LedOn limit a m c k
-led-on limit a b c m n k p q = record {
-  origin = q.origin ∙ p.origin;
-  running = q.running;
-  entries = p.entries ++ q.entries;
-  log = q.log ∙ ap (λ (log : List Entry). log ++ q.entries) p.log ∙ append_assoc a.log p.entries q.entries;
-  turns = leads-append limit (sim_of a m) (sim_of b n) (sim_of c k) p.entries q.entries p.turns q.turns;
-  said = q.said;
-}
+start-sim core e = ap (λ (log : List Entry). let s : Sim = record { bus = replay (start core.origin) log; log = log; steps_made = 0; quiet = ends_quiet log } in s) e
 
 -- at the end, the log is the simulated one
-pub led-ends : (limit : ℕ) (a b : CoreState) (n : ℕ) (last : SimEnd) → a.log ≡ [] → LedOn limit a 0 b n → turn limit (sim_of b n) ≡ Ends last → IsSim limit (sim_start (start a.origin)) b.log last
-led-ends limit a b n last e p f =
-    let whole : b.log ≡ p.entries = p.log ∙ ap (λ (log : List Entry). log ++ p.entries) e in
-    subst (λ (log : List Entry). IsSim limit (sim_start (start a.origin)) log last) (sym whole)
-    (subst (λ (s : Sim). IsSim limit s p.entries last) (start-sim a e) (leads-ends limit (sim_of a 0) (sim_of b n) p.entries last p.turns f))
+pub led-ends : (most : ℕ) (a b c : CoreState) (n : ℕ) (last : SimEnd) → a.log ≡ [] → LedOn most a 0 b n → Goes most b n c (turned.End last) → IsSim (limits_of most a.origin) (sim_start (start a.origin)) c.log last
+led-ends most a b c n last e p q =
+    let led = led-on most a b c 0 n n p q.0 in
+    let limits : Limits = limits_of most a.origin in
+    let ends : turn limits (sim_of c n) ≡ Ends last = subst (λ (o : Origin). turn (limits_of most o) (sim_of c n) ≡ Ends last) p.origin q.1 in
+    let whole : c.log ≡ led.entries = led.log ∙ ap (λ (log : List Entry). log ++ led.entries) e in
+    subst (λ (log : List Entry). IsSim limits (sim_start (start a.origin)) log last) (sym whole)
+    (subst (λ (s : Sim). IsSim limits s led.entries last) (start-sim a e) (leads-ends limits (sim_of a 0) (sim_of c n) led.entries last led.turns ends))
 
 -- where memory ran out, it is a prefix of it
-pub led-left : (limit : ℕ) (a b c : CoreState) (n : ℕ) → a.log ≡ [] → LedOn limit a 0 b n → LeftWithin limit b n c → IsSimPrefix limit (sim_start (start a.origin)) c.log
-led-left limit a b c n e p q =
+pub led-left : (most : ℕ) (a b c : CoreState) (n : ℕ) → a.log ≡ [] → LedOn most a 0 b n → LeftWithin most b n c → IsSimPrefix (limits_of most a.origin) (sim_start (start a.origin)) c.log
+led-left most a b c n e p q =
+    let limits : Limits = limits_of most a.origin in
+    let prefix : IsSimPrefix limits (sim_of b n) q.entries = subst (λ (o : Origin). IsSimPrefix (limits_of most o) (sim_of b n) q.entries) p.origin q.prefix in
     let whole : c.log ≡ p.entries ++ q.entries = q.log ∙ ap (λ (log : List Entry). log ++ q.entries) (p.log ∙ ap (λ (log : List Entry). log ++ p.entries) e) in
-    subst (λ (log : List Entry). IsSimPrefix limit (sim_start (start a.origin)) log) (sym whole)
-    (subst (λ (s : Sim). IsSimPrefix limit s (p.entries ++ q.entries)) (start-sim a e) (leads-prefix limit (sim_of a 0) (sim_of b n) p.entries q.entries p.turns q.prefix))
+    subst (λ (log : List Entry). IsSimPrefix limits (sim_start (start a.origin)) log) (sym whole)
+    (subst (λ (s : Sim). IsSimPrefix limits s (p.entries ++ q.entries)) (start-sim a e) (leads-prefix limits (sim_of a 0) (sim_of b n) p.entries q.entries p.turns prefix))

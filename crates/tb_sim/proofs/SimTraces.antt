@@ -1,14 +1,15 @@
 -- What a simulation logs is a trace.
-use Rattle.std.proofs.Common.{◌≡◌, ℕ, ◌+◌, List, [], ◌∷◌, refl, sym, ◌∙◌, subst, Bool, true, false, nat_le, if◌then◌else◌}
+use Rattle.std.proofs.Common.{◌≡◌, ◌+◌, List, [], ◌∷◌, ◌++◌, refl, sym, ◌∙◌, subst, Bool, true, false, nat_le, if◌then◌else◌}
 use Rattle.tb_bus.specs.Buses.{Bus}
 use Rattle.tb_bus.specs.Steps.{Step, steps}
 use Rattle.tb_bus.specs.Traces.{IsLegal, IsTrace, after, fed}
-use Rattle.tb_sim.specs.Simulation.{Sim, Ends, Makes, step_turn, IsSim, IsSimPrefix}
+use Rattle.tb_sim.specs.Simulation.{Limits, Sim, Ends, Makes, makes, step_turn, IsSim, IsSimPrefix}
+use Rattle.tb_log.specs.Limits.{has_room}
 use Rattle.tb_log.specs.declared.entry.Input.TheVariants.{NoTicks}
 use Rattle.tb_log.specs.declared.entry.Entry.{Entry}
 use Rattle.tb_log.specs.declared.entry.Entry.TheVariants.{Did, Quiet, Fed}
 use Rattle.tb_sim.specs.declared.ends.SimEnd.{SimEnd}
-use Rattle.tb_sim.specs.declared.ends.SimEnd.TheVariants.{Down, Steps}
+use Rattle.tb_sim.specs.declared.ends.SimEnd.TheVariants.{Down, Steps, Events}
 use Rattle.tb_bus.proofs.TraceLemmas.{after-first, legal-first}
 
 -- the entry is legal, and leads to where the simulation goes on
@@ -21,54 +22,60 @@ makes-leads sim entry other next last e h =
     let on : next ≡ last = cc in
     subst (λ (s : Sim). Leads sim other s) on (subst (λ (x : Entry). Leads sim x next) same h)
 
-quiet-leads : (sim : Sim) → steps sim.bus ≡ [] → sim.bus.down ≡ false → (quiet : Bool) (entry : Entry) (next : Sim) →
-    (if quiet
-    then Makes (Fed NoTicks (fed sim.bus NoTicks).reply) (record sim { bus = (fed sim.bus NoTicks).bus; quiet = false })
-    else Makes Quiet (record sim { quiet = true })) ≡ Makes entry next → Leads sim entry next
-quiet-leads sim none up true entry next e =
-    makes-leads sim (Fed NoTicks (fed sim.bus NoTicks).reply) entry (record sim { bus = (fed sim.bus NoTicks).bus; quiet = false }) next e ((tt, refl), refl)
-quiet-leads sim none up false entry next e = makes-leads sim Quiet entry (record sim { quiet = true }) next e ((none, up, refl), refl)
+-- also where it is made only if the log has room
+room-leads : (sim : Sim) (entry other : Entry) (next last : Sim) (room : Bool) → (if room then Makes entry (record next { log = sim.log ++ entry ∷ [] }) else Ends Events) ≡ Makes other last → Leads sim entry next → Leads sim other last
+room-leads sim entry other next last true e h = makes-leads sim entry other (record next { log = sim.log ++ entry ∷ [] }) last e h
+room-leads sim entry other next last false e h = absurd cc
 
-step-leads : (sim : Sim) (step : Step) (rest : List Step) → steps sim.bus ≡ step ∷ rest → (limit : Bool) (entry : Entry) (next : Sim) →
-    (if limit then Ends Steps else Makes (Did step.label) (record { bus = step.bus; steps_made = sim.steps_made + 1; quiet = false })) ≡ Makes entry next → Leads sim entry next
-step-leads sim step rest h true entry next e = absurd cc
-step-leads sim step rest h false entry next e =
-    makes-leads sim (Did step.label) entry (record { bus = step.bus; steps_made = sim.steps_made + 1; quiet = false }) next e
+quiet-leads : (limits : Limits) (sim : Sim) → steps sim.bus ≡ [] → sim.bus.down ≡ false → (quiet : Bool) (entry : Entry) (next : Sim) →
+    (if quiet
+    then makes limits sim (Fed NoTicks (fed sim.bus NoTicks).reply) (record sim { bus = (fed sim.bus NoTicks).bus; quiet = false })
+    else makes limits sim Quiet (record sim { quiet = true })) ≡ Makes entry next → Leads sim entry next
+quiet-leads limits sim none up true entry next e =
+    let said : Entry = Fed NoTicks (fed sim.bus NoTicks).reply in
+    room-leads sim said entry (record sim { bus = (fed sim.bus NoTicks).bus; quiet = false }) next (has_room limits.entries sim.log said) e ((tt, refl), refl)
+quiet-leads limits sim none up false entry next e = room-leads sim Quiet entry (record sim { quiet = true }) next (has_room limits.entries sim.log Quiet) e ((none, up, refl), refl)
+
+step-leads : (limits : Limits) (sim : Sim) (step : Step) (rest : List Step) → steps sim.bus ≡ step ∷ rest → (limit : Bool) (entry : Entry) (next : Sim) →
+    (if limit then Ends Steps else makes limits sim (Did step.label) (record sim { bus = step.bus; steps_made = sim.steps_made + 1; quiet = false })) ≡ Makes entry next → Leads sim entry next
+step-leads limits sim step rest h true entry next e = absurd cc
+step-leads limits sim step rest h false entry next e =
+    room-leads sim (Did step.label) entry (record sim { bus = step.bus; steps_made = sim.steps_made + 1; quiet = false }) next (has_room limits.entries sim.log (Did step.label)) e
     ((legal-first sim.bus step rest h).0, after-first sim.bus step rest h)
 
-steps-lead : (limit : ℕ) (sim : Sim) (ss : List Step) → steps sim.bus ≡ ss → sim.bus.down ≡ false → (entry : Entry) (next : Sim) → step_turn limit sim ss ≡ Makes entry next → Leads sim entry next
-steps-lead limit sim [] h up entry next e = quiet-leads sim h up sim.quiet entry next e
-steps-lead limit sim (step ∷ rest) h up entry next e = step-leads sim step rest h (nat_le limit sim.steps_made) entry next e
+steps-lead : (limits : Limits) (sim : Sim) (ss : List Step) → steps sim.bus ≡ ss → sim.bus.down ≡ false → (entry : Entry) (next : Sim) → step_turn limits sim ss ≡ Makes entry next → Leads sim entry next
+steps-lead limits sim [] h up entry next e = quiet-leads limits sim h up sim.quiet entry next e
+steps-lead limits sim (step ∷ rest) h up entry next e = step-leads limits sim step rest h (nat_le limits.steps sim.steps_made) entry next e
 
-turn-leads : (limit : ℕ) (sim : Sim) (down : Bool) → sim.bus.down ≡ down → (entry : Entry) (next : Sim) → (if down then Ends Down else step_turn limit sim (steps sim.bus)) ≡ Makes entry next → Leads sim entry next
-turn-leads limit sim true d entry next e = absurd cc
-turn-leads limit sim false d entry next e = steps-lead limit sim (steps sim.bus) refl d entry next e
+turn-leads : (limits : Limits) (sim : Sim) (down : Bool) → sim.bus.down ≡ down → (entry : Entry) (next : Sim) → (if down then Ends Down else step_turn limits sim (steps sim.bus)) ≡ Makes entry next → Leads sim entry next
+turn-leads limits sim true d entry next e = absurd cc
+turn-leads limits sim false d entry next e = steps-lead limits sim (steps sim.bus) refl d entry next e
 
 -- so far
-pub prefix-trace : (limit : ℕ) (sim : Sim) (log : List Entry) → IsSimPrefix limit sim log → IsTrace sim.bus log
-prefix-trace limit sim [] h = tt
-prefix-trace limit sim (entry ∷ log) h =
-    let t = turn-leads limit sim sim.bus.down refl entry h.0 h.1 in
-    (t.0, subst (λ (b : Bus). IsTrace b log) (sym t.1) (prefix-trace limit h.0 log h.2))
+pub prefix-trace : (limits : Limits) (sim : Sim) (log : List Entry) → IsSimPrefix limits sim log → IsTrace sim.bus log
+prefix-trace limits sim [] h = tt
+prefix-trace limits sim (entry ∷ log) h =
+    let t = turn-leads limits sim sim.bus.down refl entry h.0 h.1 in
+    (t.0, subst (λ (b : Bus). IsTrace b log) (sym t.1) (prefix-trace limits h.0 log h.2))
 
 -- and to the end
-whole-prefix : (limit : ℕ) (sim : Sim) (log : List Entry) (end : SimEnd) → IsSim limit sim log end → IsSimPrefix limit sim log
-whole-prefix limit sim [] end h = tt
-whole-prefix limit sim (entry ∷ log) end h = (h.0, h.1, whole-prefix limit h.0 log end h.2)
+whole-prefix : (limits : Limits) (sim : Sim) (log : List Entry) (end : SimEnd) → IsSim limits sim log end → IsSimPrefix limits sim log
+whole-prefix limits sim [] end h = tt
+whole-prefix limits sim (entry ∷ log) end h = (h.0, h.1, whole-prefix limits h.0 log end h.2)
 
-pub sim-trace : (limit : ℕ) (sim : Sim) (log : List Entry) (end : SimEnd) → IsSim limit sim log end → IsTrace sim.bus log
-sim-trace limit sim log end h = prefix-trace limit sim log (whole-prefix limit sim log end h)
+pub sim-trace : (limits : Limits) (sim : Sim) (log : List Entry) (end : SimEnd) → IsSim limits sim log end → IsTrace sim.bus log
+sim-trace limits sim log end h = prefix-trace limits sim log (whole-prefix limits sim log end h)
 
 -- There is one such log, and one end.
 
 same-turn : (entry other : Entry) (next last : Sim) → Makes entry next ≡ Makes other last → (entry ≡ other) × (next ≡ last)
 same-turn entry other next last e = let same : entry ≡ other = cc in let on : next ≡ last = cc in (same, on)
 
-pub one-sim : (limit : ℕ) (sim : Sim) (log more : List Entry) (end last : SimEnd) → IsSim limit sim log end → IsSim limit sim more last → (log ≡ more) × (end ≡ last)
-one-sim limit sim [] [] end last h g = let both : Ends end ≡ Ends last = sym h ∙ g in let same : end ≡ last = cc in (refl, same)
-one-sim limit sim [] (other ∷ more) end last h g = let both : Ends end ≡ Makes other g.0 = sym h ∙ g.1 in absurd cc
-one-sim limit sim (entry ∷ log) [] end last h g = let both : Ends last ≡ Makes entry h.0 = sym g ∙ h.1 in absurd cc
-one-sim limit sim (entry ∷ log) (other ∷ more) end last h g =
+pub one-sim : (limits : Limits) (sim : Sim) (log more : List Entry) (end last : SimEnd) → IsSim limits sim log end → IsSim limits sim more last → (log ≡ more) × (end ≡ last)
+one-sim limits sim [] [] end last h g = let both : Ends end ≡ Ends last = sym h ∙ g in let same : end ≡ last = cc in (refl, same)
+one-sim limits sim [] (other ∷ more) end last h g = let both : Ends end ≡ Makes other g.0 = sym h ∙ g.1 in absurd cc
+one-sim limits sim (entry ∷ log) [] end last h g = let both : Ends last ≡ Makes entry h.0 = sym g ∙ h.1 in absurd cc
+one-sim limits sim (entry ∷ log) (other ∷ more) end last h g =
     let both = same-turn entry other h.0 g.0 (sym h.1 ∙ g.1) in
-    let rest = one-sim limit h.0 log more end last h.2 (subst (λ (s : Sim). IsSim limit s more last) (sym both.1) g.2) in
+    let rest = one-sim limits h.0 log more end last h.2 (subst (λ (s : Sim). IsSim limits s more last) (sym both.1) g.2) in
     (λ i. both.0 i ∷ rest.0 i, rest.1)

@@ -1,14 +1,16 @@
--- What a turn of a simulation does: on a bus that is down, at the limit, where a step is possible, and where none is.
-use Rattle.std.proofs.Common.{◌≡◌, ℕ, ◌+◌, ◌<◌, ◌≤◌, List, [], ◌∷◌, map, refl, ap, sym, ◌∙◌, Bool, true, false, nat_le, if◌then◌else◌}
+-- What a turn of a simulation does: on a bus that is down, at the limit of steps, where a step is possible, and where none is.
+use Rattle.std.proofs.Common.{◌≡◌, ◌+◌, ◌<◌, ◌≤◌, List, [], ◌∷◌, ◌++◌, map, refl, ap, sym, ◌∙◌, Bool, true, false, nat_le, if◌then◌else◌}
 use Rattle.std.proofs.lemmas.Bool.{le-leb, lt-leb, cond-true, cond-false}
 use Rattle.tb_bus.specs.Buses.{Bus, Proc}
 use Rattle.tb_bus.specs.Steps.{Move, Own, Handshake, Finish, Halt, Step, moves, moves_while_up, moves_or_halt, moves_of_all, steps, step_of, apply}
 use Rattle.tb_bus.specs.Traces.{fed, took, Answer}
-use Rattle.tb_sim.specs.Simulation.{Sim, Turn, Ends, Makes, turn, step_turn, quiet_turn}
+use Rattle.tb_sim.specs.Simulation.{Limits, Sim, Turn, Ends, Makes, turn, step_turn, quiet_turn, makes}
+use Rattle.tb_log.specs.Limits.{has_room}
 use Rattle.tb_log.specs.declared.entry.Input.TheVariants.{NoTicks}
 use Rattle.tb_log.specs.declared.entry.Reply.TheVariants.{Dropped}
 use Rattle.tb_log.specs.declared.entry.Why.TheVariants as why
-use Rattle.tb_log.specs.declared.entry.Entry.TheVariants.{Did}
+use Rattle.tb_log.specs.declared.entry.Entry.{Entry}
+use Rattle.tb_log.specs.declared.entry.Entry.TheVariants.{Did, Quiet, Fed}
 use Rattle.tb_sim.specs.declared.ends.SimEnd.TheVariants as end
 
 -- a bus with a step is up
@@ -21,33 +23,50 @@ unfolding steps moves
 steps-up bus step rest e = up-by bus bus.down (moves_while_up bus bus.procs) step rest e
 
 -- a turn of a bus that is down ends the simulation
-pub turn-down : (limit : ℕ) (sim : Sim) → sim.bus.down ≡ true → turn limit sim ≡ Ends end.Down
-turn-down limit sim e = cond-true sim.bus.down (Ends end.Down) (step_turn limit sim (steps sim.bus)) e
+pub turn-down : (limits : Limits) (sim : Sim) → sim.bus.down ≡ true → turn limits sim ≡ Ends end.Down
+turn-down limits sim e = cond-true sim.bus.down (Ends end.Down) (step_turn limits sim (steps sim.bus)) e
 
 -- a turn of one that is up goes by its steps
-pub turn-up : (limit : ℕ) (sim : Sim) → sim.bus.down ≡ false → turn limit sim ≡ step_turn limit sim (steps sim.bus)
-turn-up limit sim e = cond-false sim.bus.down (Ends end.Down) (step_turn limit sim (steps sim.bus)) e
+pub turn-up : (limits : Limits) (sim : Sim) → sim.bus.down ≡ false → turn limits sim ≡ step_turn limits sim (steps sim.bus)
+turn-up limits sim e = cond-false sim.bus.down (Ends end.Down) (step_turn limits sim (steps sim.bus)) e
 
-turn-first : (limit : ℕ) (sim : Sim) (step : Step) (rest : List Step) → steps sim.bus ≡ step ∷ rest → turn limit sim ≡ step_turn limit sim (step ∷ rest)
-turn-first limit sim step rest e = turn-up limit sim (steps-up sim.bus step rest e) ∙ ap (step_turn limit sim) e
+turn-first : (limits : Limits) (sim : Sim) (step : Step) (rest : List Step) → steps sim.bus ≡ step ∷ rest → turn limits sim ≡ step_turn limits sim (step ∷ rest)
+turn-first limits sim step rest e = turn-up limits sim (steps-up sim.bus step rest e) ∙ ap (step_turn limits sim) e
 
 -- the turn that makes a step
-abbrev pub made_turn : Sim → Step → Turn
-made_turn sim step = Makes (Did step.label) (record { bus = step.bus; steps_made = sim.steps_made + 1; quiet = false })
+abbrev pub made_turn : Limits → Sim → Step → Turn
+made_turn limits sim step = makes limits sim (Did step.label) (record sim { bus = step.bus; steps_made = sim.steps_made + 1; quiet = false })
+
+-- where the log has room, the entry is made, and else it ends
+pub makes-room : (limits : Limits) (sim : Sim) (entry : Entry) (next : Sim) → has_room limits.entries sim.log entry ≡ true → makes limits sim entry next ≡ Makes entry (record next { log = sim.log ++ entry ∷ [] })
+makes-room limits sim entry next e = cond-true (has_room limits.entries sim.log entry) (Makes entry (record next { log = sim.log ++ entry ∷ [] })) (Ends end.Events) e
+
+pub makes-full : (limits : Limits) (sim : Sim) (entry : Entry) (next : Sim) → has_room limits.entries sim.log entry ≡ false → makes limits sim entry next ≡ Ends end.Events
+makes-full limits sim entry next e = cond-false (has_room limits.entries sim.log entry) (Makes entry (record next { log = sim.log ++ entry ∷ [] })) (Ends end.Events) e
 
 -- at the limit, with a step possible, it ends
-pub turn-limit : (limit : ℕ) (sim : Sim) (step : Step) (rest : List Step) → limit ≤ sim.steps_made → steps sim.bus ≡ step ∷ rest → turn limit sim ≡ Ends end.Steps
-turn-limit limit sim step rest within e =
-    turn-first limit sim step rest e ∙ cond-true (nat_le limit sim.steps_made) (Ends end.Steps) (made_turn sim step) (le-leb limit sim.steps_made within)
+pub turn-limit : (limits : Limits) (sim : Sim) (step : Step) (rest : List Step) → limits.steps ≤ sim.steps_made → steps sim.bus ≡ step ∷ rest → turn limits sim ≡ Ends end.Steps
+turn-limit limits sim step rest within e =
+    turn-first limits sim step rest e ∙ cond-true (nat_le limits.steps sim.steps_made) (Ends end.Steps) (made_turn limits sim step) (le-leb limits.steps sim.steps_made within)
 
 -- before it, the first step is made
-pub turn-made : (limit : ℕ) (sim : Sim) (step : Step) (rest : List Step) → sim.steps_made < limit → steps sim.bus ≡ step ∷ rest → turn limit sim ≡ made_turn sim step
-turn-made limit sim step rest less e =
-    turn-first limit sim step rest e ∙ cond-false (nat_le limit sim.steps_made) (Ends end.Steps) (made_turn sim step) (lt-leb limit sim.steps_made less)
+pub turn-made : (limits : Limits) (sim : Sim) (step : Step) (rest : List Step) → sim.steps_made < limits.steps → steps sim.bus ≡ step ∷ rest → turn limits sim ≡ made_turn limits sim step
+turn-made limits sim step rest less e =
+    turn-first limits sim step rest e ∙ cond-false (nat_le limits.steps sim.steps_made) (Ends end.Steps) (made_turn limits sim step) (lt-leb limits.steps sim.steps_made less)
+
+-- the turn that hands in that no more ticks come
+abbrev pub told_turn : Limits → Sim → Turn
+told_turn limits sim = makes limits sim (Fed NoTicks (fed sim.bus NoTicks).reply) (record sim { bus = (fed sim.bus NoTicks).bus; quiet = false })
 
 -- where no step is possible it says quiet, and then hands in that no more ticks come
-pub turn-quiet : (limit : ℕ) (sim : Sim) → steps sim.bus ≡ [] → sim.bus.down ≡ false → turn limit sim ≡ quiet_turn sim
-turn-quiet limit sim e f = turn-up limit sim f ∙ ap (step_turn limit sim) e
+pub turn-quiet : (limits : Limits) (sim : Sim) → steps sim.bus ≡ [] → sim.bus.down ≡ false → turn limits sim ≡ quiet_turn limits sim
+turn-quiet limits sim e f = turn-up limits sim f ∙ ap (step_turn limits sim) e
+
+pub turn-says-quiet : (limits : Limits) (sim : Sim) → steps sim.bus ≡ [] → sim.bus.down ≡ false → sim.quiet ≡ false → turn limits sim ≡ makes limits sim Quiet (record sim { quiet = true })
+turn-says-quiet limits sim e f q = turn-quiet limits sim e f ∙ cond-false sim.quiet (told_turn limits sim) (makes limits sim Quiet (record sim { quiet = true })) q
+
+pub turn-ends-ticks : (limits : Limits) (sim : Sim) → steps sim.bus ≡ [] → sim.bus.down ≡ false → sim.quiet ≡ true → turn limits sim ≡ told_turn limits sim
+turn-ends-ticks limits sim e f q = turn-quiet limits sim e f ∙ cond-true sim.quiet (told_turn limits sim) (makes limits sim Quiet (record sim { quiet = true })) q
 
 -- no step changes whether more ticks come
 apply-no_ticks : (bus : Bus) (move : Move) → (apply bus move).no_ticks ≡ bus.no_ticks

@@ -18,7 +18,7 @@ pub fn one_simulation()
         IsSim limits (sim_start bus) log end → IsSim limits (sim_start bus) other last → (log ≡ other) × (end ≡ last) }
 {}
 
-/// Each bus has a simulation, within each limits.
+/// Each bus has a simulation, whatever the limits.
 pub fn each_bus_has_a_simulation()
     ensures { (limits : Limits) (bus : Bus) → (log : List Entry) × ((end : SimEnd) × IsSim limits (sim_start bus) log end) }
 {}
