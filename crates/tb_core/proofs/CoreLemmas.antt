@@ -16,14 +16,14 @@ use Rattle.tb_bus.specs.Traces.{IsTrace, Answer, fed, replay, took}
 use Rattle.tb_bus.proofs.TraceLemmas.{replay-append, trace-append}
 use Rattle.tb_core.specs.declared.bus.LiveBus.{LiveBus}
 use Rattle.tb_core.specs.LiveBuses.{bus_of, IsSound, StandsAs, Represents}
-use Rattle.tb_core.specs.Cores.{CoreState, Call, HandIn, MakeStep, bus_now, ends_quiet, is_full, lacks_room, step_entry, would_log, Logs}
+use Rattle.tb_core.specs.Cores.{CoreState, Call, HandIn, MakeStep, bus_now, ends_quiet, is_full, lacks_room, step_entry, would_log, Logs, Stays}
 
 -- what contracts see of a core with these fields
-abbrev pub seen : Origin → List Entry → Bool → CoreState
-seen origin log stopped = record { origin = origin; log = log; stopped = stopped }
+abbrev pub seen : Origin → LogState → Bool → CoreState
+seen origin log stopped = record { origin = origin; log = log.entries; stopped = stopped; spare = log.spare }
 
 -- its bus is that of its fields
-pub bus-seen : (bus : Bus) (origin : Origin) (log : List Entry) (stopped : Bool) (core : CoreState) → bus ≡ replay (start origin) log → seen origin log stopped ≡ core → bus_now core ≡ bus
+pub bus-seen : (bus : Bus) (origin : Origin) (log : LogState) (stopped : Bool) (core : CoreState) → bus ≡ replay (start origin) log.entries → seen origin log stopped ≡ core → bus_now core ≡ bus
 unfolding bus_now
 bus-seen bus origin log stopped core is e = ap (λ (c : CoreState). replay (start c.origin) c.log) (sym e) ∙ sym is
 
@@ -36,13 +36,13 @@ pub fed-on : (core : CoreState) (bus : Bus) (input : Input) → bus_now core ≡
 fed-on core bus input e = ap (λ (b : Bus). Some (Fed input (fed b input).reply)) e
 
 -- its log has room for what its fields' log has room for
-pub room-seen : (origin : Origin) (log : LogState) (stopped : Bool) (core : CoreState) (entry : Entry) → seen origin log.entries stopped ≡ core → log.limit ≡ origin.limit →
+pub room-seen : (origin : Origin) (log : LogState) (stopped : Bool) (core : CoreState) (entry : Entry) → seen origin log stopped ≡ core → log.limit ≡ origin.limit →
     has_room core.origin.limit core.log entry ≡ has_room log.limit log.entries entry
 room-seen origin log stopped core entry view limit =
     ap (λ (c : CoreState). has_room c.origin.limit c.log entry) (sym view) ∙ ap (λ (n : ℕ). has_room n log.entries entry) (sym limit)
 
 -- so it is full where that has no room for what the call would log
-pub full-seen : (origin : Origin) (log : LogState) (stopped : Bool) (core : CoreState) (call : Call) (entry : Entry) (room : Bool) → seen origin log.entries stopped ≡ core → log.limit ≡ origin.limit →
+pub full-seen : (origin : Origin) (log : LogState) (stopped : Bool) (core : CoreState) (call : Call) (entry : Entry) (room : Bool) → seen origin log stopped ≡ core → log.limit ≡ origin.limit →
     would_log core call ≡ Some entry → has_room log.limit log.entries entry ≡ room → is_full core call ≡ not room
 full-seen origin log stopped core call entry room view limit would e = ap (lacks_room core) would ∙ ap not (room-seen origin log stopped core entry view limit ∙ e)
 
@@ -52,13 +52,23 @@ room-kept old new one other limit entries same room =
     ap (λ (n : ℕ). has_room n new.entries other) limit ∙ ap (λ (es : List Entry). has_room old.limit es other) entries ∙ ap (has_room old.limit old.entries) same ∙ room
 
 -- A core goes on by these entries.
-pub logs-on : (bus : Bus) (origin other : Origin) (log more entries : List Entry) (stopped : Bool) (core : CoreState) → bus ≡ replay (start origin) log → seen origin log stopped ≡ core →
-    more ≡ log ++ entries → other ≡ origin → IsTrace bus entries → Logs core (seen other more stopped) entries
-logs-on bus origin other log more entries stopped core is view grown same trace = record {
+pub logs-on : (bus : Bus) (origin other : Origin) (log more : LogState) (entries : List Entry) (stopped : Bool) (core : CoreState) → bus ≡ replay (start origin) log.entries → seen origin log stopped ≡ core →
+    more.entries ≡ log.entries ++ entries → log.spare ≤ more.spare + length entries → other ≡ origin → IsTrace bus entries → Logs core (seen other more stopped) entries
+logs-on bus origin other log more entries stopped core is view grown spare same trace = record {
   origin = same ∙ ap (λ (c : CoreState). c.origin) view;
   log = grown ∙ ap (λ (c : CoreState). c.log ++ entries) view;
   stopped = ap (λ (c : CoreState). c.stopped) view;
   trace = subst (λ (b : Bus). IsTrace b entries) (sym (bus-seen bus origin log stopped core is view)) trace;
+  spare = subst (λ (c : CoreState). c.spare ≤ more.spare + length entries) view spare;
+}
+
+-- A core stays as it is, but for its spare memory.
+pub stays-on : (origin other : Origin) (log more : LogState) (stopped : Bool) (core : CoreState) → seen origin log stopped ≡ core → more.entries ≡ log.entries → log.spare ≤ more.spare → other ≡ origin → Stays core (seen other more stopped)
+stays-on origin other log more stopped core view kept spare same = record {
+  origin = same ∙ ap (λ (c : CoreState). c.origin) view;
+  log = kept ∙ ap (λ (c : CoreState). c.log) view;
+  stopped = ap (λ (c : CoreState). c.stopped) view;
+  spare = subst (λ (c : CoreState). c.spare ≤ more.spare) view spare;
 }
 
 -- a core goes on: its fields stand for the bus to which the longer log leads

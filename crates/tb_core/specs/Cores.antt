@@ -1,6 +1,6 @@
 -- What a core stands for, and what each of its calls logs.
-use Rattle.std.specs.Prelude.{◌≡◌, List, [], ◌∷◌, ◌++◌, ◌-◌, length, slice_get, Option, Some, None, Bool, true, false, not, option_to_list, refl}
-use Rattle.std.specs.Coded.{Coded, code_by, coded×, coded_bool, coded_list}
+use Rattle.std.specs.Prelude.{◌≡◌, ◌≤◌, ℕ, List, [], ◌∷◌, ◌++◌, ◌+◌, ◌-◌, length, slice_get, Option, Some, None, Bool, true, false, not, option_to_list, refl}
+use Rattle.std.specs.Coded.{Coded, code_by, coded×, coded_ℕ, coded_bool, coded_list}
 use Rattle.tb_log.specs.Limits.{has_room}
 use Rattle.tb_log.specs.declared.entry.Input.{Input}
 use Rattle.tb_log.specs.declared.entry.Entry.{Entry}
@@ -14,16 +14,17 @@ use Rattle.tb_bus.specs.Traces.{IsTrace, fed, replay}
 use Rattle.tb_core.specs.declared.answers.Stepped.{Stepped}
 use Rattle.tb_core.specs.declared.answers.Stepped.TheVariants as stepped
 
--- where a core was started, what it has logged, and whether it was stopped
+-- where a core was started, what it has logged, whether it was stopped, and for how many entries more there is memory
 pub record CoreState : Type 0 where
   pub origin : Origin
   pub log : List Entry
   pub stopped : Bool
+  pub spare : ℕ
 
 abbrev pub core_code : Coded CoreState
 core_code =
-    code_by (Origin × (List Entry × Bool)) (coded× origin.the_row.coded (coded× (coded_list entry.the_row.coded) coded_bool))
-    (λ c. (c.origin, (c.log, c.stopped))) (λ t. record { origin = t.0; log = t.1.0; stopped = t.1.1 }) (λ _. refl)
+    code_by (Origin × (List Entry × (Bool × ℕ))) (coded× origin.the_row.coded (coded× (coded_list entry.the_row.coded) (coded× coded_bool coded_ℕ)))
+    (λ c. (c.origin, (c.log, (c.stopped, c.spare)))) (λ t. record { origin = t.0; log = t.1.0; stopped = t.1.1.0; spare = t.1.1.1 }) (λ _. refl)
 
 -- its bus is the one to which its log leads
 unfoldable pub bus_now : CoreState → Bus
@@ -31,7 +32,7 @@ bus_now core = replay (start core.origin) core.log
 
 -- a core as it is started
 abbrev pub started : Origin → CoreState
-started origin = record { origin = origin; log = []; stopped = false }
+started origin = record { origin = origin; log = []; stopped = false; spare = 0 }
 
 -- a call that may log an entry
 pub data Call : Type 0 where
@@ -75,12 +76,21 @@ is_full core call = lacks_room core (would_log core call)
 abbrev pub entries_of : CoreState → Call → List Entry
 entries_of core call = option_to_list (would_log core call)
 
--- A call logs these entries, which are a trace from the bus before it, and changes nothing else.
+-- A call logs these entries, which are a trace from the bus before it, and changes nothing else. Each takes the memory
+-- of one at most.
 pub record Logs (old new : CoreState) (entries : List Entry) : Type 0 where
   pub origin : new.origin ≡ old.origin
   pub log : new.log ≡ old.log ++ entries
   pub stopped : new.stopped ≡ old.stopped
   pub trace : IsTrace (bus_now old) entries
+  pub spare : old.spare ≤ new.spare + length entries
+
+-- Nothing changes, but that there may be memory for more entries.
+pub record Stays (old new : CoreState) : Type 0 where
+  pub origin : new.origin ≡ old.origin
+  pub log : new.log ≡ old.log
+  pub stopped : new.stopped ≡ old.stopped
+  pub spare : old.spare ≤ new.spare
 
 -- When a step answers so: where there is a step, where there is none and the bus isn't down, and where it is down.
 abbrev pub IsStep : CoreState → Stepped → Type 0

@@ -1,11 +1,11 @@
-ghost use Rattle.std.specs.Prelude.{◌≡◌, ◌↔◌, ◌∷◌, [], ◌++◌, IsTrue, IfOk, OnOk, OnErr, IsErrOf, true, false, if◌then◌else◌};
+ghost use Rattle.std.specs.Prelude.{◌≡◌, ◌≤◌, ◌+◌, ◌↔◌, ◌∷◌, [], ◌++◌, length, IsTrue, IfOk, OnOk, OnErr, IsErrOf, true, false, if◌then◌else◌};
 ghost use Rattle.tb_log.specs.Limits.{has_room};
 ghost use Rattle.tb_bus.specs.Buses.{origin_of, start};
 ghost use Rattle.tb_bus.specs.Traces.{IsInForm, IsTrace, fed};
 ghost use Rattle.tb_bus.specs.Steps.{steps, apply, label_of};
 ghost use Rattle.tb_bus.specs.Candidates.{rows_of};
 ghost use Rattle.tb_bus.specs.Views.{move_of, IsCandidateIn};
-ghost use Rattle.tb_core.specs.Cores.{HandIn, MakeStep, started, bus_now, Logs, entries_of, is_full, IsStep, has_any, ends_quiet};
+ghost use Rattle.tb_core.specs.Cores.{HandIn, MakeStep, started, bus_now, Logs, entries_of, is_full, IsStep, Stays, has_any, ends_quiet};
 ghost use Rattle.tb_core.specs.LiveBuses.{bus_of, procs_in, AreFresh, IsSound, StandsAs};
 
 use crate::answers::{CoreFault, Stepped};
@@ -19,7 +19,7 @@ use tb_log::{Entry, Input, Log, Reply};
 use tb_terms::NoMemory;
 
 /// A bus with its log: each call makes at most one event, and logs it. Contracts see where it was
-/// started, its log, and whether it was stopped, and nothing of the walkers.
+/// started, its log, whether it was stopped, and its spare memory, and nothing of the walkers.
 #[derive(Drop)]
 pub struct Core<W: Walker> {
     alloc: Global,
@@ -36,7 +36,7 @@ impl<W: Walker> Model for Core<W> {
 
     ghost coded = { core_code };
 
-    ghost view = { λ core. record { origin = core.bus.origin; log = core.log.entries; stopped = core.stopped } };
+    ghost view = { λ core. record { origin = core.bus.origin; log = core.log.entries; stopped = core.stopped; spare = core.log.spare } };
 
     ghost invariant = { λ core. Represents W.view core.bus core.log };
 }
@@ -44,7 +44,7 @@ impl<W: Walker> Model for Core<W> {
 impl<W: Walker> Core<W> {
     /// The opening bus of a program, with an empty log for at most so many entries.
     pub fn start(alloc: Global, program: Program, limit: u32) -> Result<Core<W>, NoMemory>
-        ensures { IfOk result (λ core. core ≡ started (origin_of program limit)) }
+        ensures { IfOk result (Stays (started (origin_of program limit))) }
     {
         let bus = LiveBus::open(alloc, Origin { program, limit })?;
         Ok(Core {
@@ -82,6 +82,21 @@ impl<W: Walker> Core<W> {
         self.stopped = true;
     }
 
+    /// Takes memory for so many entries more.
+    pub fn reserve(&mut self, n: usize) -> Result<(), NoMemory>
+        ensures stays { Stays self.old self.new }
+        ensures spare { OnOk result (n ≤ self.new.spare) }
+    {
+        self.log.reserve(n)
+    }
+
+    /// For how many entries more there is memory.
+    pub fn spare(&self) -> usize
+        ensures { result ≡ self.now.spare }
+    {
+        self.log.spare()
+    }
+
     /// Whether a step is possible.
     pub fn has_step(&mut self) -> Result<bool, NoMemory>
         ensures value { IfOk result (λ any. any ≡ has_any (steps (bus_now self.old))) }
@@ -99,7 +114,7 @@ impl<W: Walker> Core<W> {
         ensures stopped { IsErrOf result CoreFault.Stopped ↔ IsTrue self.old.stopped }
         ensures full { IsErrOf result CoreFault.Full → is_full self.old (HandIn input) ≡ true }
         ensures room { IfOk result (λ _. is_full self.old (HandIn input) ≡ false) }
-        ensures err { OnErr result (self.new ≡ self.old) }
+        ensures err { OnErr result (Stays self.old self.new) }
     {
         if self.stopped {
             return Err(CoreFault::Stopped);
@@ -115,7 +130,7 @@ impl<W: Walker> Core<W> {
         ensures stopped { IsErrOf result CoreFault.Stopped ↔ IsTrue self.old.stopped }
         ensures full { IsErrOf result CoreFault.Full → is_full self.old MakeStep ≡ true }
         ensures room { IfOk result (λ _. is_full self.old MakeStep ≡ false) }
-        ensures err { OnErr result (self.new ≡ self.old) }
+        ensures err { OnErr result (Stays self.old self.new) }
     {
         if self.stopped {
             return Err(CoreFault::Stopped);
@@ -143,11 +158,12 @@ fn hand<W: Walker>(bus: &mut LiveBus<W>, log: &mut Log, input: Input) -> Result<
     ensures limit { log.new.limit ≡ log.old.limit }
     ensures reply { IfOk result (λ reply. reply ≡ (fed (bus_of W.view bus.old) input).reply) }
     ensures log { IfOk result (λ reply. log.new.entries ≡ log.old.entries ++ Entry.Fed input reply ∷ []) }
+    ensures spare { OnOk result (log.old.spare ≤ log.new.spare + 1) }
     ensures bus { OnOk result (bus_of W.view bus.new ≡ (fed (bus_of W.view bus.old) input).bus) }
     ensures running { IsErrOf result CoreFault.Stopped → ⊥ }
     ensures full { IsErrOf result CoreFault.Full → has_room log.old.limit log.old.entries (Entry.Fed input (fed (bus_of W.view bus.old) input).reply) ≡ false }
     ensures room { OnOk result (has_room log.old.limit log.old.entries (Entry.Fed input (fed (bus_of W.view bus.old) input).reply) ≡ true) }
-    ensures err { OnErr result ((bus_of W.view bus.new ≡ bus_of W.view bus.old) × (log.new.entries ≡ log.old.entries)) }
+    ensures err { OnErr result ((bus_of W.view bus.new ≡ bus_of W.view bus.old) × (log.new.entries ≡ log.old.entries) × (log.old.spare ≤ log.new.spare)) }
 {
     let reply = bus.reply(input);
     let entry = Entry::Fed(input, reply);
@@ -174,11 +190,12 @@ fn make<W: Walker>(
     ensures origin { bus.new.origin ≡ bus.old.origin }
     ensures limit { log.new.limit ≡ log.old.limit }
     ensures log { OnOk result (log.new.entries ≡ log.old.entries ++ Entry.Did (label_of (move_of (procs_in W.view bus.old) (rows_of bus.old.living.items) candidate)) ∷ []) }
+    ensures spare { OnOk result (log.old.spare ≤ log.new.spare + 1) }
     ensures bus { OnOk result (bus_of W.view bus.new ≡ apply (bus_of W.view bus.old) (move_of (procs_in W.view bus.old) (rows_of bus.old.living.items) candidate)) }
     ensures running { IsErrOf result CoreFault.Stopped → ⊥ }
     ensures full { IsErrOf result CoreFault.Full → has_room log.old.limit log.old.entries (Entry.Did (label_of (move_of (procs_in W.view bus.old) (rows_of bus.old.living.items) candidate))) ≡ false }
     ensures room { OnOk result (has_room log.old.limit log.old.entries (Entry.Did (label_of (move_of (procs_in W.view bus.old) (rows_of bus.old.living.items) candidate))) ≡ true) }
-    ensures err { OnErr result ((bus_of W.view bus.new ≡ bus_of W.view bus.old) × (log.new.entries ≡ log.old.entries)) }
+    ensures err { OnErr result ((bus_of W.view bus.new ≡ bus_of W.view bus.old) × (log.new.entries ≡ log.old.entries) × (log.old.spare ≤ log.new.spare)) }
 {
     if !log.room_for_size(bus.shown_size(&candidate)) {
         return Err(CoreFault::Full);
@@ -196,7 +213,8 @@ fn say_quiet(log: &mut Log) -> Result<(), CoreFault>
     ensures running { IsErrOf result CoreFault.Stopped → ⊥ }
     ensures full { IsErrOf result CoreFault.Full → (ends_quiet log.old.entries ≡ false) × (has_room log.old.limit log.old.entries Entry.Quiet ≡ false) }
     ensures room { OnOk result (ends_quiet log.old.entries ≡ false → has_room log.old.limit log.old.entries Entry.Quiet ≡ true) }
-    ensures err { OnErr result (log.new.entries ≡ log.old.entries) }
+    ensures spare { OnOk result (log.old.spare ≤ log.new.spare + length (if ends_quiet log.old.entries then [] else Entry.Quiet ∷ [])) }
+    ensures err { OnErr result ((log.new.entries ≡ log.old.entries) × (log.old.spare ≤ log.new.spare)) }
 {
     if says_quiet(log.entries()) {
         return Ok(());

@@ -8,7 +8,7 @@ use Rattle.tb_bus.specs.Steps.{Step, steps}
 use Rattle.tb_bus.specs.Traces.{replay, fed}
 use Rattle.tb_sim.specs.Simulation.{Limits, Sim, Ends, turn, limits_of, IsSim, IsSimPrefix, sim_start}
 use Rattle.tb_sim.specs.Turns.{SimLeads, sim_of, LedOn, LeftWithin, EndsTicks, Goes}
-use Rattle.tb_core.specs.Cores.{CoreState, HandIn, MakeStep, bus_now, Logs, entries_of, would_log, lacks_room, is_full, step_entry, IsStep, has_any, ends_quiet, says_quiet}
+use Rattle.tb_core.specs.Cores.{CoreState, HandIn, MakeStep, bus_now, Logs, Stays, entries_of, would_log, lacks_room, is_full, step_entry, IsStep, has_any, ends_quiet, says_quiet}
 use Rattle.tb_core.specs.declared.answers.Stepped.TheVariants as stepped
 use Rattle.tb_log.specs.Limits.{has_room}
 use Rattle.tb_log.specs.declared.entry.Input.TheVariants.{NoTicks}
@@ -28,8 +28,26 @@ unfolding bus_now
 logs-bus old new entries l = ap (λ (log : List Entry). replay (start new.origin) log) l.log ∙ ap (λ (o : Origin). replay (start o) (old.log ++ entries)) l.origin ∙ replay-append (start old.origin) old.log entries
 
 -- a call that logged nothing changed nothing
-logs-nothing : (old new : CoreState) → Logs old new [] → new ≡ old
-logs-nothing old new l = let same : new.log ≡ old.log = l.log ∙ append-nil old.log in λ i. record { origin = l.origin i; log = same i; stopped = l.stopped i }
+logs-nothing : (old new : CoreState) → Logs old new [] → Stays old new
+logs-nothing old new l =
+    let spare : old.spare ≤ new.spare + 0 = l.spare in
+    record { origin = l.origin; log = l.log ∙ append-nil old.log; stopped = l.stopped; spare = omega arith }
+
+-- nor did one that left the core as it was
+stays-same : (old new : CoreState) → new ≡ old → Stays old new
+stays-same old new same = let spare : new.spare ≡ old.spare = ap (λ (c : CoreState). c.spare) same in record {
+  origin = ap (λ (c : CoreState). c.origin) same;
+  log = ap (λ (c : CoreState). c.log) same;
+  stopped = ap (λ (c : CoreState). c.stopped) same;
+  spare = omega arith;
+}
+
+-- the simulation stands where it stood
+stays-sim : (old new : CoreState) (made : ℕ) → Stays old new → sim_of new made ≡ sim_of old made
+unfolding sim_of bus_now
+stays-sim old new made stays =
+    ap (λ (o : Origin). let s : Sim = record { bus = replay (start o) new.log; log = new.log; steps_made = made; quiet = ends_quiet new.log } in s) stays.origin
+    ∙ ap (λ (log : List Entry). let s : Sim = record { bus = replay (start old.origin) log; log = log; steps_made = made; quiet = ends_quiet log } in s) stays.log
 
 -- what a step logs: the first of the steps, that nothing is possible, or nothing on a bus that is down
 did-by : (down quiet : Bool) (step : Step) (rest : List Step) → down ≡ false → step_entry down quiet (step ∷ rest) ≡ Some (Did step.label)
@@ -68,7 +86,7 @@ down-by true quiet ss e = refl
 down-by false quiet ss e = cc
 
 -- a step on a bus that is down changed nothing
-pub down-nothing : (old new : CoreState) → (bus_now old).down ≡ true → Logs old new (entries_of old MakeStep) → new ≡ old
+pub down-nothing : (old new : CoreState) → (bus_now old).down ≡ true → Logs old new (entries_of old MakeStep) → Stays old new
 down-nothing old new e l = logs-nothing old new (subst (Logs old new) (down-by (bus_now old).down (ends_quiet old.log) (steps (bus_now old)) e) l)
 
 down-room : (core : CoreState) (down quiet : Bool) (ss : List Step) → down ≡ true → lacks_room core (step_entry down quiet ss) ≡ false
@@ -110,6 +128,9 @@ below-limit made limit any le f g = below-by made limit (made == limit) any refl
 -- no turn yet
 pub led-nothing : (most made : ℕ) (core : CoreState) → LedOn most core made core made
 led-nothing most made core = record { origin = refl; running = refl; entries = []; log = sym (append-nil core.log); turns = refl }
+
+led-stays : (most made : ℕ) (old new : CoreState) → Stays old new → LedOn most old made new made
+led-stays most made old new stays = record { origin = stays.origin; running = stays.stopped; entries = []; log = stays.log ∙ sym (append-nil old.log); turns = stays-sim old new made stays }
 
 -- turns after turns
 leads-append : (limits : Limits) (a b c : Sim) (xs ys : List Entry) → SimLeads limits a xs b → SimLeads limits b ys c → SimLeads limits a (xs ++ ys) c
@@ -248,22 +269,19 @@ goes-quiet most made old mid new said found logs room (turned.End end.Events) h 
     let f : (bus_now mid).down ≡ false = ap (λ (b : Bus). b.down) p.2 ∙ found.1 in
     let full = told-full most made mid p.1 e f h.1 in
     let here : turn (limits_of most old.origin) (sim_of mid made) ≡ Ends end.Events = subst (λ (o : Origin). turn (limits_of most o) (sim_of mid made) ≡ Ends end.Events) p.0.origin full in (
-      subst (λ (c : CoreState). LedOn most old made c made) (sym h.0) p.0,
-      subst (λ (c : CoreState). turn (limits_of most old.origin) (sim_of c made) ≡ Ends end.Events) (sym h.0) here,
+      led-on most old mid new made made made p.0 (led-stays most made mid new h.0),
+      ap (turn (limits_of most old.origin)) (stays-sim mid new made h.0) ∙ here,
     )
 goes-quiet most made old mid new said found logs room (turned.End end.Down) h = absurd h
 goes-quiet most made old mid new said found logs room (turned.End end.Steps) h = absurd h
 goes-quiet most made old mid new said found logs room turned.Step h = absurd h
 
 -- One go: it is the end, and nothing was logged.
-pub goes-end : (most made : ℕ) (old new : CoreState) (last : SimEnd) → new ≡ old → turn (limits_of most old.origin) (sim_of old made) ≡ Ends last → Goes most old made new (turned.End last)
-goes-end most made old new last same e = (
-  subst (λ (c : CoreState). LedOn most old made c made) (sym same) (led-nothing most made old),
-  subst (λ (c : CoreState). turn (limits_of most old.origin) (sim_of c made) ≡ Ends last) (sym same) e,
-)
+pub goes-end : (most made : ℕ) (old new : CoreState) (last : SimEnd) → Stays old new → turn (limits_of most old.origin) (sim_of old made) ≡ Ends last → Goes most old made new (turned.End last)
+goes-end most made old new last stays e = (led-stays most made old new stays, ap (turn (limits_of most old.origin)) (stays-sim old new made stays) ∙ e)
 
 pub goes-limit : (most made : ℕ) (old new : CoreState) (at : Bool) → new ≡ old → at ≡ (made == most && has_any (steps (bus_now old))) → at ≡ true → Goes most old made new (turned.End end.Steps)
-goes-limit most made old new at same is h = goes-end most made old new end.Steps same (limit-ends made (limits_of most old.origin) old at is h)
+goes-limit most made old new at same is h = goes-end most made old new end.Steps (stays-same old new same) (limit-ends made (limits_of most old.origin) old at is h)
 
 pub goes-down : (most made : ℕ) (old new : CoreState) → (bus_now old).down ≡ true → Logs old new (entries_of old MakeStep) → Goes most old made new (turned.End end.Down)
 unfolding sim_of
@@ -291,21 +309,21 @@ full-by most made core at true said within is below f full =
 full-by most made core at false said within is below f full = full-up most made core at (steps (bus_now core)) said within is below refl f full
 
 pub goes-full : (most made : ℕ) (old new : CoreState) (at : Bool) → ends_quiet old.log ≡ false → made ≤ most → at ≡ (made == most && has_any (steps (bus_now old))) → at ≡ false →
-    new ≡ old → is_full old MakeStep ≡ true → Goes most old made new (turned.End end.Events)
-goes-full most made old new at said within is below same full = goes-end most made old new end.Events same (full-by most made old at (bus_now old).down said within is below refl full)
+    Stays old new → is_full old MakeStep ≡ true → Goes most old made new (turned.End end.Events)
+goes-full most made old new at said within is below stays full = goes-end most made old new end.Events stays (full-by most made old at (bus_now old).down said within is below refl full)
 
 -- what was logged before memory ran out is a prefix of what the turns log
-left-after : (most made : ℕ) (old mid new : CoreState) → LedOn most old made mid made → new ≡ mid → LeftWithin most old made new
-left-after most made old mid new p same = record {
-  origin = ap (λ (c : CoreState). c.origin) same ∙ p.origin;
-  stopped = ap (λ (c : CoreState). c.stopped) same ∙ p.running;
+left-after : (most made : ℕ) (old mid new : CoreState) → LedOn most old made mid made → Stays mid new → LeftWithin most old made new
+left-after most made old mid new p stays = record {
+  origin = stays.origin ∙ p.origin;
+  stopped = stays.stopped ∙ p.running;
   entries = p.entries;
-  log = ap (λ (c : CoreState). c.log) same ∙ p.log;
+  log = stays.log ∙ p.log;
   prefix = leads-so_far (limits_of most old.origin) (sim_of old made) (sim_of mid made) p.entries p.turns;
 }
 
-pub left-quiet : (most made : ℕ) (old mid new : CoreState) → ends_quiet old.log ≡ false → IsStep old stepped.Quiet → Logs old mid (entries_of old MakeStep) → is_full old MakeStep ≡ false → new ≡ mid → LeftWithin most old made new
-left-quiet most made old mid new said found logs room same = left-after most made old mid new (led-said most made old mid said found logs room).0 same
+pub left-quiet : (most made : ℕ) (old mid new : CoreState) → ends_quiet old.log ≡ false → IsStep old stepped.Quiet → Logs old mid (entries_of old MakeStep) → is_full old MakeStep ≡ false → Stays mid new → LeftWithin most old made new
+left-quiet most made old mid new said found logs room stays = left-after most made old mid new (led-said most made old mid said found logs room).0 stays
 
 -- a simulation begins where the core was started
 start-sim : (core : CoreState) → core.log ≡ [] → sim_of core 0 ≡ sim_start (start core.origin)

@@ -2,7 +2,7 @@
 use Rattle.std.specs.Prelude.{◌≡◌, ℕ, ◌+◌, ◌<◌, List, [], ◌∷◌, ◌++◌, true, false}
 use Rattle.tb_log.specs.declared.entry.Input.TheVariants.{NoTicks}
 use Rattle.tb_log.specs.declared.entry.Entry.{Entry}
-use Rattle.tb_core.specs.Cores.{CoreState, HandIn, bus_now, ends_quiet, entries_of, is_full, Logs}
+use Rattle.tb_core.specs.Cores.{CoreState, HandIn, bus_now, ends_quiet, entries_of, is_full, Logs, Stays}
 use Rattle.tb_sim.specs.Simulation.{Limits, Sim, Ends, Makes, turn, limits_of, IsSimPrefix}
 use Rattle.tb_sim.specs.declared.ends.SimEnd.TheVariants as end
 use Rattle.tb_sim.specs.declared.ends.Turned.{Turned}
@@ -36,7 +36,7 @@ pub record LeftWithin (steps : ℕ) (old : CoreState) (made : ℕ) (new : CoreSt
 -- What became of the word that no more ticks come: it was logged, or the log had no room for it.
 abbrev pub EndsTicks : CoreState → CoreState → Turned → Type 0
 EndsTicks old new turned.Quiet = Logs old new (entries_of old (HandIn NoTicks)) × (is_full old (HandIn NoTicks) ≡ false)
-EndsTicks old new (turned.End end.Events) = (new ≡ old) × (is_full old (HandIn NoTicks) ≡ true)
+EndsTicks old new (turned.End end.Events) = Stays old new × (is_full old (HandIn NoTicks) ≡ true)
 EndsTicks old new (turned.End end.Down) = ⊥
 EndsTicks old new (turned.End end.Steps) = ⊥
 EndsTicks old new turned.Step = ⊥

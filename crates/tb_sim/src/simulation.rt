@@ -1,7 +1,7 @@
 ghost use Rattle.std.specs.Prelude.{◌≡◌, ◌&&◌, ◌==◌, ◌≤◌, [], IfOk, OnOk, OnErr, IsErrOf, false};
 ghost use Rattle.tb_bus.specs.Buses.{start};
 ghost use Rattle.tb_bus.specs.Steps.{steps as steps_of};
-ghost use Rattle.tb_core.specs.Cores.{bus_now, has_any, ends_quiet};
+ghost use Rattle.tb_core.specs.Cores.{bus_now, has_any, ends_quiet, Stays};
 ghost use Rattle.tb_sim.specs.Simulation.{IsSim, IsSimPrefix, limits_of, sim_start};
 ghost use Rattle.tb_sim.specs.Turns.{EndsTicks, Goes, LeftWithin};
 
@@ -46,7 +46,7 @@ fn go<W: Walker>(core: &mut Core<W>, made: u64, steps: u64) -> Result<Turned, No
 fn end_ticks<W: Walker>(core: &mut Core<W>) -> Result<Turned, NoMemory>
     requires { core.old.stopped ≡ false }
     ensures ok { IfOk result (EndsTicks core.old core.new) }
-    ensures err { OnErr result (core.new ≡ core.old) }
+    ensures err { OnErr result (Stays core.old core.new) }
 {
     match core.hand_in(Input::NoTicks) {
         Ok(_) => Ok(Turned::Quiet),

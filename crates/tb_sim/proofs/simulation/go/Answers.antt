@@ -1,6 +1,6 @@
-use Rattle.std.proofs.Common.{◌≡◌, ◌∙◌, ap, false, true, Err}
+use Rattle.std.proofs.Common.{◌≡◌, ap, false, true, Err}
 use Rattle.std.proofs.lemmas.Result.{IfOk-weaker, on_err_weaker}
-use Rattle.tb_core.specs.Cores.{MakeStep, Logs, entries_of, is_full, IsStep}
+use Rattle.tb_core.specs.Cores.{MakeStep, Logs, Stays, entries_of, is_full, IsStep}
 use Rattle.tb_core.specs.declared.answers.CoreFault.{CoreFault}
 use Rattle.tb_core.specs.declared.answers.Stepped.TheVariants.{Did, Quiet, Down}
 use Rattle.tb_sim.specs.Turns.{EndsTicks, Goes}
@@ -46,6 +46,6 @@ returns-in-Ok-Quiet-clause-err g c =
 pub returns-in-Err-Full-clause-ok : goal.returns-in-Err-Full-clause-ok
 returns-in-Err-Full-clause-ok g c =
     let old = c.args.core.now in
-    let same : c.step.new.self ≡ old = c.in-Err-Full.ensures.err ∙ c.in_ok-is_at_limit.ensures.unchanged in
+    let stays : Stays old c.step.new.self = rw c.in_ok-is_at_limit.ensures.unchanged at c.in-Err-Full.ensures.err in
     let full : is_full old MakeStep ≡ true = rw c.in_ok-is_at_limit.ensures.unchanged at (c.in-Err-Full.ensures.full (ap (λ (f : CoreFault). Err f) c.in-Err-Full.field-0-is)) in
-    goes-full c.args.steps c.args.made old c.step.new.self c.in_ok-is_at_limit.field-0 c.requires.said c.requires.within c.in_ok-is_at_limit.ensures.value c.if-branch.false same full
+    goes-full c.args.steps c.args.made old c.step.new.self c.in_ok-is_at_limit.field-0 c.requires.said c.requires.within c.in_ok-is_at_limit.ensures.value c.if-branch.false stays full

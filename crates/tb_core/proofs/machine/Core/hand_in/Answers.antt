@@ -21,23 +21,23 @@ pub returns-clause-reply : goal.returns-clause-reply
 returns-clause-reply g c =
     let core = c.self.inside in
     c.in_ok-reply.ensures.reply
-    ∙ ap (λ (b : Bus). (fed b c.args.input).reply) (sym (bus-seen (bus_of g.W.Walker.view core.bus) core.bus.origin core.log.entries core.stopped c.args.self.now c.self.invariant.bus_is c.self.view_is))
+    ∙ ap (λ (b : Bus). (fed b c.args.input).reply) (sym (bus-seen (bus_of g.W.Walker.view core.bus) core.bus.origin core.log core.stopped c.args.self.now c.self.invariant.bus_is c.self.view_is))
 
 pub returns-clause-logs : goal.returns-clause-logs
 returns-clause-logs g c =
     let core = c.self.inside in
     let bus = bus_of g.W.Walker.view core.bus in
-    let same = bus-seen bus core.bus.origin core.log.entries core.stopped c.args.self.now c.self.invariant.bus_is c.self.view_is in
+    let same = bus-seen bus core.bus.origin core.log core.stopped c.args.self.now c.self.invariant.bus_is c.self.view_is in
     let reply = c.in_ok-reply.ensures.reply ∙ ap (λ (b : Bus). (fed b c.args.input).reply) (sym same) in
     rw (← reply)
-    (logs-on bus core.bus.origin (c.hand.new.bus).origin core.log.entries c.hand.new.log.entries (Fed c.args.input c.in_ok-reply.reply ∷ []) core.stopped c.args.self.now c.self.invariant.bus_is c.self.view_is
-    c.in_ok-reply.ensures.log c.hand.ensures.origin (legal-fed bus c.args.input c.in_ok-reply.reply c.requires c.in_ok-reply.ensures.reply))
+    (logs-on bus core.bus.origin (c.hand.new.bus).origin core.log c.hand.new.log (Fed c.args.input c.in_ok-reply.reply ∷ []) core.stopped c.args.self.now c.self.invariant.bus_is c.self.view_is
+    c.in_ok-reply.ensures.log c.in_ok-reply.ensures.spare c.hand.ensures.origin (legal-fed bus c.args.input c.in_ok-reply.reply c.requires c.in_ok-reply.ensures.reply))
 
 pub returns-clause-room : goal.returns-clause-room
 returns-clause-room g c =
     let core = c.self.inside in
     let bus = bus_of g.W.Walker.view core.bus in
-    let same = bus-seen bus core.bus.origin core.log.entries core.stopped c.args.self.now c.self.invariant.bus_is c.self.view_is in
+    let same = bus-seen bus core.bus.origin core.log core.stopped c.args.self.now c.self.invariant.bus_is c.self.view_is in
     full-seen core.bus.origin core.log core.stopped c.args.self.now (HandIn c.args.input) (Fed c.args.input (fed bus c.args.input).reply) true c.self.view_is c.self.invariant.limit
     (fed-on c.args.self.now bus c.args.input same) c.in_ok-reply.ensures.room
 
@@ -45,6 +45,6 @@ pub returns-in_err-reply-clause-full : goal.returns-in_err-reply-clause-full
 returns-in_err-reply-clause-full g c is =
     let core = c.self.inside in
     let bus = bus_of g.W.Walker.view core.bus in
-    let same = bus-seen bus core.bus.origin core.log.entries core.stopped c.args.self.now c.self.invariant.bus_is c.self.view_is in
+    let same = bus-seen bus core.bus.origin core.log core.stopped c.args.self.now c.self.invariant.bus_is c.self.view_is in
     full-seen core.bus.origin core.log core.stopped c.args.self.now (HandIn c.args.input) (Fed c.args.input (fed bus c.args.input).reply) false c.self.view_is c.self.invariant.limit
     (fed-on c.args.self.now bus c.args.input same) (c.hand.ensures.full (search rules))

@@ -15,4 +15,4 @@ returns-clause-value g c =
     c.is_some.ensures
     ∙ any-found (bus_of g.W.Walker.view now) (move_of (procs_in g.W.Walker.view now) (rows_of now.living.items)) c.in_ok-first_candidate.field-0 (sym c.in_ok-first_candidate.ensures.found)
     ∙ ap (λ b. has_any (steps b)) c.freshen.ensures.same.bus
-    ∙ ap (λ b. has_any (steps b)) (sym (bus-seen (bus_of g.W.Walker.view core.bus) core.bus.origin core.log.entries core.stopped c.args.self.now c.self.invariant.bus_is c.self.view_is))
+    ∙ ap (λ b. has_any (steps b)) (sym (bus-seen (bus_of g.W.Walker.view core.bus) core.bus.origin core.log core.stopped c.args.self.now c.self.invariant.bus_is c.self.view_is))

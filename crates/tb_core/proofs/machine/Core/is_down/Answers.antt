@@ -7,4 +7,4 @@ use Rattle.tb_core.proofs.machine.Core.is_down.Goals as goal
 pub returns : goal.returns
 returns g c =
     let core = c.self.inside in
-    ap (λ (b : Bus). b.down) (sym (bus-seen (bus_of g.W.Walker.view core.bus) core.bus.origin core.log.entries core.stopped c.args.self.now c.self.invariant.bus_is c.self.view_is))
+    ap (λ (b : Bus). b.down) (sym (bus-seen (bus_of g.W.Walker.view core.bus) core.bus.origin core.log core.stopped c.args.self.now c.self.invariant.bus_is c.self.view_is))

@@ -1,4 +1,4 @@
-use Rattle.std.proofs.Common.{◌≡◌, ◌∙◌, ◌∷◌, [], Some, None, ap, sym, refl, option_map, if◌then◌else◌, append-nil, true, false, option_to_list, rules}
+use Rattle.std.proofs.Common.{◌≡◌, ◌∙◌, ◌∷◌, [], Some, None, ap, sym, refl, option_map, if◌then◌else◌, append-nil, true, false, option_to_list, rules, arith}
 use Rattle.tb_log.specs.declared.entry.Entry.TheVariants.{Did, Quiet}
 use Rattle.tb_log.specs.Limits.{has_room}
 use Rattle.tb_bus.specs.Buses.{Bus}
@@ -44,7 +44,7 @@ returns-in_ok-make-in-Some-clause-found g c =
     let to = move_of (procs_in g.W.Walker.view now) (rows_of now.living.items) in
     let move = to c.in-Some.candidate in
     let found : first (moves bus) ≡ Some move = sym c.in_ok-candidate.ensures.found ∙ ap (option_map to) c.in-Some.is in
-    let same = bus-seen (bus_of g.W.Walker.view core.bus) core.bus.origin core.log.entries core.stopped c.args.self.now c.self.invariant.bus_is c.self.view_is ∙ sym c.freshen.ensures.same.bus in
+    let same = bus-seen (bus_of g.W.Walker.view core.bus) core.bus.origin core.log core.stopped c.args.self.now c.self.invariant.bus_is c.self.view_is ∙ sym c.freshen.ensures.same.bus in
     let first_step = steps-first bus move found in
     (step_of bus move, first_step.0, ap steps same ∙ first_step.1)
 
@@ -57,28 +57,28 @@ returns-in_ok-make-in-Some-clause-logs g c =
     let move = to c.in-Some.candidate in
     let found : first (moves bus) ≡ Some move = sym c.in_ok-candidate.ensures.found ∙ ap (option_map to) c.in-Some.is in
     let is = c.freshen.ensures.same.bus ∙ c.self.invariant.bus_is in
-    let same = bus-seen bus core.bus.origin core.log.entries core.stopped c.args.self.now is c.self.view_is in
+    let same = bus-seen bus core.bus.origin core.log core.stopped c.args.self.now is c.self.view_is in
     let entries : entries_of c.args.self.now MakeStep ≡ Did (label_of move) ∷ [] = ap option_to_list (would-on c.args.self.now bus same ∙ did-entry bus (ends_quiet c.args.self.now.log) move found) in
     rw entries
-    (logs-on bus core.bus.origin (c.make.new.bus).origin core.log.entries c.make.new.log.entries (Did (label_of move) ∷ []) core.stopped c.args.self.now is c.self.view_is
-    c.in_ok-make-in-Some.ensures.log (c.make.ensures.origin ∙ c.freshen.ensures.same.origin) (did-trace bus move found))
+    (logs-on bus core.bus.origin (c.make.new.bus).origin core.log c.make.new.log (Did (label_of move) ∷ []) core.stopped c.args.self.now is c.self.view_is
+    c.in_ok-make-in-Some.ensures.log c.in_ok-make-in-Some.ensures.spare (c.make.ensures.origin ∙ c.freshen.ensures.same.origin) (did-trace bus move found))
 
 pub returns-in-None-clause-found : goal.returns-in-None-clause-found
 returns-in-None-clause-found g c =
     let core = c.self.inside in
     let bus = bus_of g.W.Walker.view c.freshen.new.self in
-    ap (λ (b : Bus). b.down) (bus-seen bus core.bus.origin core.log.entries core.stopped c.args.self.now (c.freshen.ensures.same.bus ∙ c.self.invariant.bus_is) c.self.view_is) ∙ c.if-self-2.true
+    ap (λ (b : Bus). b.down) (bus-seen bus core.bus.origin core.log core.stopped c.args.self.now (c.freshen.ensures.same.bus ∙ c.self.invariant.bus_is) c.self.view_is) ∙ c.if-self-2.true
 
 pub returns-in-None-clause-logs : goal.returns-in-None-clause-logs
 returns-in-None-clause-logs g c =
     let core = c.self.inside in
     let bus = bus_of g.W.Walker.view c.freshen.new.self in
     let is = c.freshen.ensures.same.bus ∙ c.self.invariant.bus_is in
-    let same = bus-seen bus core.bus.origin core.log.entries core.stopped c.args.self.now is c.self.view_is in
+    let same = bus-seen bus core.bus.origin core.log core.stopped c.args.self.now is c.self.view_is in
     let entries : entries_of c.args.self.now MakeStep ≡ [] = ap option_to_list (would-on c.args.self.now bus same ∙ down-entry bus (ends_quiet c.args.self.now.log) c.if-self-2.true) in
     rw entries
-    (logs-on bus core.bus.origin (c.freshen.new.self).origin core.log.entries core.log.entries [] core.stopped c.args.self.now is c.self.view_is
-    (sym (append-nil core.log.entries)) c.freshen.ensures.same.origin tt)
+    (logs-on bus core.bus.origin (c.freshen.new.self).origin core.log core.log [] core.stopped c.args.self.now is c.self.view_is
+    (sym (append-nil core.log.entries)) (omega arith) c.freshen.ensures.same.origin tt)
 
 pub returns-in_ok-say_quiet-in-None-2-clause-found : goal.returns-in_ok-say_quiet-in-None-2-clause-found
 returns-in_ok-say_quiet-in-None-2-clause-found g c =
@@ -86,7 +86,7 @@ returns-in_ok-say_quiet-in-None-2-clause-found g c =
     let now = c.freshen.new.self in
     let bus = bus_of g.W.Walker.view now in
     let nothing : first (moves bus) ≡ None = sym c.in_ok-candidate.ensures.found ∙ ap (option_map (move_of (procs_in g.W.Walker.view now) (rows_of now.living.items))) c.in-None.is in
-    let same = bus-seen bus core.bus.origin core.log.entries core.stopped c.args.self.now (c.freshen.ensures.same.bus ∙ c.self.invariant.bus_is) c.self.view_is in
+    let same = bus-seen bus core.bus.origin core.log core.stopped c.args.self.now (c.freshen.ensures.same.bus ∙ c.self.invariant.bus_is) c.self.view_is in
     (ap steps same ∙ steps-none bus nothing, ap (λ (b : Bus). b.down) same ∙ c.if-self-2.false)
 
 pub returns-in_ok-say_quiet-in-None-2-clause-logs : goal.returns-in_ok-say_quiet-in-None-2-clause-logs
@@ -96,15 +96,15 @@ returns-in_ok-say_quiet-in-None-2-clause-logs g c =
     let bus = bus_of g.W.Walker.view now in
     let nothing : first (moves bus) ≡ None = sym c.in_ok-candidate.ensures.found ∙ ap (option_map (move_of (procs_in g.W.Walker.view now) (rows_of now.living.items))) c.in-None.is in
     let is = c.freshen.ensures.same.bus ∙ c.self.invariant.bus_is in
-    let same = bus-seen bus core.bus.origin core.log.entries core.stopped c.args.self.now is c.self.view_is in
+    let same = bus-seen bus core.bus.origin core.log core.stopped c.args.self.now is c.self.view_is in
     let said : ends_quiet c.args.self.now.log ≡ ends_quiet core.log.entries = ap (λ (s : CoreState). ends_quiet s.log) (sym c.self.view_is) in
     let quiet = if ends_quiet core.log.entries then [] else Quiet ∷ [] in
     let entries : entries_of c.args.self.now MakeStep ≡ quiet =
     ap option_to_list (would-on c.args.self.now bus same ∙ quiet-entry bus (ends_quiet c.args.self.now.log) (steps-none bus nothing) c.if-self-2.false)
     ∙ quiet-listed (ends_quiet c.args.self.now.log) ∙ ap (λ b. if b then [] else Quiet ∷ []) said in
     rw entries
-    (logs-on bus core.bus.origin (c.freshen.new.self).origin core.log.entries c.say_quiet.new.log.entries quiet core.stopped c.args.self.now is c.self.view_is
-    c.in_ok-say_quiet-in-None-2.ensures.ok c.freshen.ensures.same.origin
+    (logs-on bus core.bus.origin (c.freshen.new.self).origin core.log c.say_quiet.new.log quiet core.stopped c.args.self.now is c.self.view_is
+    c.in_ok-say_quiet-in-None-2.ensures.ok c.in_ok-say_quiet-in-None-2.ensures.spare c.freshen.ensures.same.origin
     (quiet-trace bus (ends_quiet core.log.entries) (steps-none bus nothing) c.if-self-2.false))
 
 pub returns-in_ok-make-in-Some-clause-room : goal.returns-in_ok-make-in-Some-clause-room
@@ -115,7 +115,7 @@ returns-in_ok-make-in-Some-clause-room g c =
     let to = move_of (procs_in g.W.Walker.view now) (rows_of now.living.items) in
     let move = to c.in-Some.candidate in
     let found : first (moves bus) ≡ Some move = sym c.in_ok-candidate.ensures.found ∙ ap (option_map to) c.in-Some.is in
-    let same = bus-seen bus core.bus.origin core.log.entries core.stopped c.args.self.now (c.freshen.ensures.same.bus ∙ c.self.invariant.bus_is) c.self.view_is in
+    let same = bus-seen bus core.bus.origin core.log core.stopped c.args.self.now (c.freshen.ensures.same.bus ∙ c.self.invariant.bus_is) c.self.view_is in
     full-seen core.bus.origin core.log core.stopped c.args.self.now MakeStep (Did (label_of move)) true c.self.view_is c.self.invariant.limit
     (would-on c.args.self.now bus same ∙ did-entry bus (ends_quiet c.args.self.now.log) move found) c.in_ok-make-in-Some.ensures.room
 
@@ -123,7 +123,7 @@ pub returns-in-None-clause-room : goal.returns-in-None-clause-room
 returns-in-None-clause-room g c =
     let core = c.self.inside in
     let bus = bus_of g.W.Walker.view c.freshen.new.self in
-    let same = bus-seen bus core.bus.origin core.log.entries core.stopped c.args.self.now (c.freshen.ensures.same.bus ∙ c.self.invariant.bus_is) c.self.view_is in
+    let same = bus-seen bus core.bus.origin core.log core.stopped c.args.self.now (c.freshen.ensures.same.bus ∙ c.self.invariant.bus_is) c.self.view_is in
     ap (lacks_room c.args.self.now) (would-on c.args.self.now bus same ∙ down-entry bus (ends_quiet c.args.self.now.log) c.if-self-2.true)
 
 pub returns-in_ok-say_quiet-in-None-2-clause-room : goal.returns-in_ok-say_quiet-in-None-2-clause-room
@@ -132,7 +132,7 @@ returns-in_ok-say_quiet-in-None-2-clause-room g c =
     let now = c.freshen.new.self in
     let bus = bus_of g.W.Walker.view now in
     let nothing : first (moves bus) ≡ None = sym c.in_ok-candidate.ensures.found ∙ ap (option_map (move_of (procs_in g.W.Walker.view now) (rows_of now.living.items))) c.in-None.is in
-    let same = bus-seen bus core.bus.origin core.log.entries core.stopped c.args.self.now (c.freshen.ensures.same.bus ∙ c.self.invariant.bus_is) c.self.view_is in
+    let same = bus-seen bus core.bus.origin core.log core.stopped c.args.self.now (c.freshen.ensures.same.bus ∙ c.self.invariant.bus_is) c.self.view_is in
     let said : ends_quiet c.args.self.now.log ≡ ends_quiet core.log.entries = ap (λ (s : CoreState). ends_quiet s.log) (sym c.self.view_is) in
     ap (lacks_room c.args.self.now) (would-on c.args.self.now bus same ∙ quiet-entry bus (ends_quiet c.args.self.now.log) (steps-none bus nothing) c.if-self-2.false)
     ∙ quiet-room c.args.self.now (ends_quiet c.args.self.now.log)
@@ -146,7 +146,7 @@ returns-in_err-make-in-Some-clause-full g c is =
     let to = move_of (procs_in g.W.Walker.view now) (rows_of now.living.items) in
     let move = to c.in-Some.candidate in
     let found : first (moves bus) ≡ Some move = sym c.in_ok-candidate.ensures.found ∙ ap (option_map to) c.in-Some.is in
-    let same = bus-seen bus core.bus.origin core.log.entries core.stopped c.args.self.now (c.freshen.ensures.same.bus ∙ c.self.invariant.bus_is) c.self.view_is in
+    let same = bus-seen bus core.bus.origin core.log core.stopped c.args.self.now (c.freshen.ensures.same.bus ∙ c.self.invariant.bus_is) c.self.view_is in
     full-seen core.bus.origin core.log core.stopped c.args.self.now MakeStep (Did (label_of move)) false c.self.view_is c.self.invariant.limit
     (would-on c.args.self.now bus same ∙ did-entry bus (ends_quiet c.args.self.now.log) move found) (c.make.ensures.full (search rules))
 
@@ -156,7 +156,7 @@ returns-in_err-say_quiet-in-None-2-clause-full g c is =
     let now = c.freshen.new.self in
     let bus = bus_of g.W.Walker.view now in
     let nothing : first (moves bus) ≡ None = sym c.in_ok-candidate.ensures.found ∙ ap (option_map (move_of (procs_in g.W.Walker.view now) (rows_of now.living.items))) c.in-None.is in
-    let same = bus-seen bus core.bus.origin core.log.entries core.stopped c.args.self.now (c.freshen.ensures.same.bus ∙ c.self.invariant.bus_is) c.self.view_is in
+    let same = bus-seen bus core.bus.origin core.log core.stopped c.args.self.now (c.freshen.ensures.same.bus ∙ c.self.invariant.bus_is) c.self.view_is in
     let said : ends_quiet c.args.self.now.log ≡ ends_quiet core.log.entries = ap (λ (s : CoreState). ends_quiet s.log) (sym c.self.view_is) in
     let refused : (ends_quiet core.log.entries ≡ false) × (has_room core.log.limit core.log.entries Quiet ≡ false) = c.say_quiet.ensures.full (search rules) in
     full-seen core.bus.origin core.log core.stopped c.args.self.now MakeStep Quiet false c.self.view_is c.self.invariant.limit
