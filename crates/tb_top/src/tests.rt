@@ -173,7 +173,38 @@ type Limited = (&'static str, &'static str, u8, &'static str, &'static str);
 
 const LIMIT: &str = "toolbus: limit: steps\n";
 
-static LIMITS: [Limited; 6] = [
+const EVENTS: &str = "toolbus: limit: events\n";
+
+static LIMITS: [Limited; 10] = [
+    (
+        "sim a.tb --events 5",
+        "process P is tau * delta toolbus(P)",
+        4,
+        "1 tau 1.1\n2 tau 1.1\n3 tau 1.1\n4 tau 1.1\n5 tau 1.1\n",
+        EVENTS,
+    ),
+    (
+        "sim a.tb --events 1",
+        "process P is delta toolbus(P)",
+        4,
+        "1 quiet\n",
+        EVENTS,
+    ),
+    (
+        "sim a.tb --events 3",
+        "process P is delta toolbus(P)",
+        0,
+        "1 quiet\n2 noticks\n3 halt\n",
+        "",
+    ),
+    // Where both limits are reached, the end is that of steps.
+    (
+        "sim a.tb --steps 2 --events 2",
+        "process P is tau * delta toolbus(P)",
+        4,
+        "1 tau 1.1\n2 tau 1.1\n",
+        LIMIT,
+    ),
     (
         "sim a.tb --steps 3",
         "process P is tau * delta toolbus(P)",

@@ -7,8 +7,8 @@ use std::test::Fail;
 enum Answer {
     /// The check of `a.tb`.
     Check,
-    /// The simulation of `a.tb` with so many steps.
-    Sim(u64),
+    /// The simulation of `a.tb` with so many steps and entries.
+    Sim(u64, u32),
     Fault(WordFault),
 }
 
@@ -16,11 +16,11 @@ use Answer::{Check, Fault, Sim};
 use WordFault::{Extra, Missing, NoCommand, NotBuilt, Number, Range, Unknown};
 
 /// Words that blanks part, and what they ask for.
-static ROWS: [(&str, Answer); 62] = [
+static ROWS: [(&str, Answer); 69] = [
     ("", Fault(NoCommand)),
     // The first word.
     ("check a.tb", Check),
-    ("sim a.tb", Sim(1_000_000)),
+    ("sim a.tb", Sim(1_000_000, 1_000_000)),
     ("run", Fault(NotBuilt(1))),
     ("run a.tb --ticks 5 --ticks 6", Fault(NotBuilt(1))),
     ("ring 2 1", Fault(NotBuilt(1))),
@@ -49,8 +49,13 @@ static ROWS: [(&str, Answer); 62] = [
     ("sim --steps=5 a.tb", Fault(Unknown(2))),
     ("sim a.tb --feed f", Fault(NotBuilt(3))),
     ("sim --connect c a.tb", Fault(NotBuilt(2))),
-    ("sim a.tb --events", Fault(NotBuilt(3))),
-    ("sim --steps 5 --events 5", Fault(NotBuilt(4))),
+    ("sim a.tb --events", Fault(Missing)),
+    ("sim --steps 5 --events 5", Fault(Missing)),
+    ("check a.tb --events 5", Fault(Unknown(3))),
+    ("sim a.tb --events 5 --events 5", Fault(Extra(5))),
+    ("sim a.tb --events 0", Fault(Range(4))),
+    ("sim a.tb --events 4000001", Fault(Range(4))),
+    ("sim a.tb --events five", Fault(Number(4))),
     ("sim -steps 5", Fault(Extra(3))),
     ("sim a.tb --steps 5 --steps 5", Fault(Extra(5))),
     ("sim --steps 5 --steps", Fault(Extra(4))),
@@ -77,10 +82,15 @@ static ROWS: [(&str, Answer); 62] = [
         "sim --steps 99999999999999999999999999 a.tb",
         Fault(Range(3)),
     ),
-    ("sim --steps 1 a.tb", Sim(1)),
-    ("sim a.tb --steps 4000000", Sim(4_000_000)),
-    ("sim --steps 00000000000000000000000000000007 a.tb", Sim(7)),
-    ("sim a.tb --steps 010", Sim(10)),
+    ("sim --steps 1 a.tb", Sim(1, 1_000_000)),
+    ("sim a.tb --steps 4000000", Sim(4_000_000, 1_000_000)),
+    (
+        "sim --steps 00000000000000000000000000000007 a.tb",
+        Sim(7, 1_000_000),
+    ),
+    ("sim a.tb --steps 010", Sim(10, 1_000_000)),
+    ("sim --events 5 a.tb --steps 7", Sim(7, 5)),
+    ("sim a.tb --events 4000000", Sim(1_000_000, 4_000_000)),
     // The first of two faults is told.
     ("sim a.tb b.tb --steps 0", Fault(Extra(3))),
     ("sim --steps 0 --ticks", Fault(Range(3))),
@@ -97,10 +107,11 @@ fn is_answer(answer: &Result<Command, WordFault>, expected: Answer, script: &str
                 Command::Sim {
                     script: name,
                     steps,
+                    events,
                 },
             ),
-            Sim(number),
-        ) => { name.as_str() == script && *steps == number }
+            Sim(most, entries),
+        ) => { name.as_str() == script && *steps == most && *events == entries }
         (Err(fault), Fault(other)) => *fault == other,
         _ => false,
     }
