@@ -5,7 +5,7 @@ use Rattle.tb_bus.specs.Buses.{start}
 use Rattle.tb_bus.specs.declared.origin.Origin.{Origin}
 use Rattle.tb_bus.specs.Traces.{IsTrace}
 use Rattle.tb_log.specs.LogText.{log_text}
-use Rattle.tb_sim.specs.Simulation.{IsSim, sim_start}
+use Rattle.tb_sim.specs.Simulation.{IsSim, limits_of, sim_start}
 use Rattle.tb_log.specs.declared.entry.Entry.{Entry}
 use Rattle.tb_sim.specs.declared.ends.SimEnd.{SimEnd}
 use Rattle.tb_sim.specs.declared.ends.SimEnd.TheVariants as sim
@@ -22,17 +22,19 @@ use Rattle.tb_top.specs.declared.words.Command.TheVariants.{Check, Sim as Simula
 use Rattle.tb_top.specs.declared.status.Edge.TheVariants as edge
 
 -- the log was put whole
-pub log-put : (limit : ℕ) (origin : Origin) (log : List Entry) (last : SimEnd) (old new : Option (List ℕ)) (status : Status) → IsSim limit (sim_start (start origin)) log last → IsTrace (start origin) log →
-    Takes old new (log_text log) → status ≡ status_of_end last → OriginOutcome limit origin old new status
-log-put limit origin log sim.Down old new status is trace takes e bytes found =
-    subst (SimOutcome limit bytes old new) (sym e) (log, record { program = origin.program; found = found; simulated = is; trace = trace }, takes)
-log-put limit origin log sim.Steps old new status is trace takes e bytes found =
-    subst (SimOutcome limit bytes old new) (sym e) (log, record { program = origin.program; found = found; simulated = is; trace = trace }, takes)
+pub log-put : (steps : ℕ) (origin : Origin) (log : List Entry) (last : SimEnd) (old new : Option (List ℕ)) (status : Status) → IsSim (limits_of steps origin) (sim_start (start origin)) log last → IsTrace (start origin) log →
+    Takes old new (log_text log) → status ≡ status_of_end last → OriginOutcome steps origin old new status
+log-put steps origin log sim.Down old new status is trace takes e bytes found =
+    subst (SimOutcome steps origin.limit bytes old new) (sym e) (log, record { program = origin.program; found = found; simulated = is; trace = trace }, takes)
+log-put steps origin log sim.Steps old new status is trace takes e bytes found =
+    subst (SimOutcome steps origin.limit bytes old new) (sym e) (log, record { program = origin.program; found = found; simulated = is; trace = trace }, takes)
+log-put steps origin log sim.Events old new status is trace takes e bytes found =
+    subst (SimOutcome steps origin.limit bytes old new) (sym e) (log, record { program = origin.program; found = found; simulated = is; trace = trace }, takes)
 
 -- a front of its text was put
-pub log-front : (limit : ℕ) (origin : Origin) (log : List Entry) (last : SimEnd) (old new : Option (List ℕ)) → IsSim limit (sim_start (start origin)) log last → IsTrace (start origin) log →
-    TakesFront old new (log_text log) → (bytes : List ℕ) → IsFound bytes (Program' origin.program) → PutsFront limit bytes old new
-log-front limit origin log last old new is trace front bytes found =
+pub log-front : (steps : ℕ) (origin : Origin) (log : List Entry) (last : SimEnd) (old new : Option (List ℕ)) → IsSim (limits_of steps origin) (sim_start (start origin)) log last → IsTrace (start origin) log →
+    TakesFront old new (log_text log) → (bytes : List ℕ) → IsFound bytes (Program' origin.program) → PutsFront steps origin.limit bytes old new
+log-front steps origin log last old new is trace front bytes found =
     (log, last, record { program = origin.program; found = found; simulated = is; trace = trace }, front)
 
 -- what the work on the bytes of a file comes to
@@ -47,10 +49,10 @@ file-read command told old new bytes (Script (script.Roots count)) held o = (byt
 file-read command told old new bytes (Script (script.NotBuilt token)) held o = (bytes, held, o)
 file-read command told old new bytes (Script script.NoMemory) held o = (bytes, held, o)
 file-read (Check name) told old new bytes (Script (script.TooLong len)) held o = absurd o.0
-file-read (Simulate name steps) told old new bytes (Script (script.TooLong len)) held o = absurd o.0
+file-read (Simulate name steps events) told old new bytes (Script (script.TooLong len)) held o = absurd o.0
 file-read command told old new bytes (Outside edge.Out) held o = (bytes, held, o)
 file-read (Check name) told old new bytes (Outside edge.File) held o = absurd o
-file-read (Simulate name steps) told old new bytes (Outside edge.File) held o = absurd o
+file-read (Simulate name steps events) told old new bytes (Outside edge.File) held o = absurd o
 file-read command told old new bytes (Outside edge.Err) held o = (bytes, held, o)
 file-read command told old new bytes (Words fault) held o = (bytes, held, o)
 file-read command told old new bytes NoMemory held o = inr (bytes, held, o)

@@ -6,7 +6,7 @@ use Rattle.tb_top.specs.declared.words.WordFault.{WordFault}
 use Rattle.tb_top.specs.declared.words.WordFault.TheVariants as fault
 use Rattle.tb_top.specs.declared.words.verb.Verb.{Verb}
 use Rattle.tb_top.specs.declared.words.verb.Verb.TheVariants as verb
-use Rattle.tb_top.specs.Words.{Found, Part, AnOption, AWord, script_by, most_limit, limit_in, limit_by, and_script, and_steps, is_unbuilt, own_option_by, option_by, part_by, read_next, read_parts}
+use Rattle.tb_top.specs.Words.{Found, Part, AnOption, AWord, script_by, most_limit, limit_in, limit_by, and_script, and_steps, and_events, is_unbuilt, own_option_by, option_by, part_by, read_next, read_parts}
 
 abbrev IsTold : {X : Type 0} → Result X WordFault → Type 0
 IsTold answer = answer ≢ Err fault.NoMemory
@@ -38,12 +38,17 @@ and_steps-told : (found : Found) (steps : Result ℕ WordFault) → IsTold steps
 and_steps-told found (Ok steps) told e = cc
 and_steps-told found (Err f) told e = let same : f ≡ fault.NoMemory = cc in told (ap Err same)
 
+and_events-told : (found : Found) (events : Result ℕ WordFault) → IsTold events → IsTold (and_events found events)
+and_events-told found (Ok events) told e = cc
+and_events-told found (Err f) told e = let same : f ≡ fault.NoMemory = cc in told (ap Err same)
+
 own_option-told : (v : Verb) (found : Found) (place : ℕ) (name : List ℕ) (value : Option (List ℕ)) → IsTold (own_option_by v found place name value)
 own_option-told verb.Check found place name value = λ e. cc
 own_option-told verb.Sim found place name value =
-    in-choice (bytes_eq name (codes "--steps")) (and_steps found (limit_by found.steps place value)) (Err (fault.Unknown place))
+    let events = and_events found (limit_by found.events place value) in
+    in-choice (bytes_eq name (codes "--steps")) (and_steps found (limit_by found.steps place value)) (if bytes_eq name (codes "--events") then events else Err (fault.Unknown place))
     (and_steps-told found (limit_by found.steps place value) (steps-told found.steps place value))
-    (λ e. cc)
+    (in-choice (bytes_eq name (codes "--events")) events (Err (fault.Unknown place)) (and_events-told found (limit_by found.events place value) (steps-told found.events place value)) (λ e. cc))
 
 option-told : (v : Verb) (found : Found) (place : ℕ) (name : List ℕ) (value : Option (List ℕ)) → IsTold (option_by v found place name value)
 option-told v found place name value =
