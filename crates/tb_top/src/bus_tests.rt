@@ -254,6 +254,7 @@ fn stepped(core: &mut Bus) -> &'static str {
         Ok(Stepped::Did) => "did",
         Ok(Stepped::Quiet) => "quiet",
         Ok(Stepped::Down) => "down",
+        Err(CoreFault::Full) => "full",
         Err(CoreFault::Stopped) => "stopped",
         Err(CoreFault::NoMemory) => "no memory",
     }
@@ -263,6 +264,7 @@ fn handed_in(core: &mut Bus) -> &'static str {
     match core.hand_in(Input::NoTicks) {
         Ok(Reply::Took) => "took",
         Ok(Reply::Dropped(Why::Down)) => "dropped",
+        Err(CoreFault::Full) => "full",
         Err(CoreFault::Stopped) => "stopped",
         Err(CoreFault::NoMemory) => "no memory",
     }
