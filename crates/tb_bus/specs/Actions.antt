@@ -1,7 +1,9 @@
 -- What an offered atom does, by the store in which it is offered, its age and the ticks alone: its action.
 use Rattle.std.specs.Prelude.{ℕ, Bool, List, [], ◌∷◌, Option, Some, None, option_map, option_and_then, if◌then◌else◌}
 use Rattle.tb_terms.specs.declared.term.Term.{Term}
+use Rattle.tb_terms.specs.declared.pattern.Pattern.{Pattern}
 use Rattle.tb_func.specs.declared.slot.Slot.{Slot}
+use Rattle.tb_func.specs.Printing.{printf_of}
 use Rattle.tb_match.specs.declared.bind.Bind.{Bind}
 use Rattle.tb_body.specs.declared.act.Act.{Act}
 use Rattle.tb_body.specs.declared.act.Act.TheVariants.{Delta, Tau, SndMsg, RecMsg, SndNote, RecNote, NoNote, Subscribe, Unsubscribe, Create, Set, Printf, Execute, RecConnect, RecDisconnectAny, RecDisconnect, SndEval, RecValue, SndDo, RecEvent, SndAckEvent, SndTerminate, Shutdown}
@@ -22,6 +24,21 @@ set_action store slot [] = None
 set_action store slot (value ∷ []) = set_bind store (record { slot = slot; value = value })
 set_action store slot (value ∷ other ∷ values) = None
 
+abbrev pub print_action : Term → Action
+print_action text = action.Own (own.Print text)
+
+abbrev pub no_note_action : List Pattern → Action
+no_note_action patterns = action.Own (own.NoNote patterns)
+
+abbrev pub subscribe_action : List Pattern → Action
+subscribe_action patterns = action.Own (own.Subscribe patterns)
+
+abbrev pub unsubscribe_action : List Pattern → Action
+unsubscribe_action patterns = action.Own (own.Unsubscribe patterns)
+
+abbrev pub create_action : ℕ → ℕ → List Term → Action
+create_action process slot actuals = action.Own (own.Create process actuals slot)
+
 -- What an atom does in a store, where its arguments have values: one line an atom.
 abbrev pub action_in : List Slot → Act → Option Action
 -- it never happens
@@ -30,18 +47,25 @@ action_in store Delta = None
 action_in store Tau = Some (action.Own own.Tau)
 -- it happens by itself, and the slot takes the value
 action_in store (Set slot value) = option_and_then (set_action store slot) (values_together store (value ∷ []))
+-- it prints the text, where the values have one by the format
+action_in store (Printf exprs) = option_map print_action (option_and_then printf_of (values_together store exprs))
 -- it happens with a process that receives these values
 action_in store (SndMsg exprs) = option_map action.Send (values_together store exprs)
 -- it happens with a process that sends what matches these patterns
 action_in store (RecMsg exprs) = option_map action.Receive (patterns_of store exprs)
+-- these values go to all processes that want them
+action_in store (SndNote exprs) = option_map action.Notify (values_together store exprs)
+-- it takes a note that matches these patterns
+action_in store (RecNote exprs) = option_map action.TakeNote (patterns_of store exprs)
+-- it happens where no note matches them
+action_in store (NoNote exprs) = option_map no_note_action (patterns_of store exprs)
+-- from now on the process wants what matches them,
+action_in store (Subscribe exprs) = option_map subscribe_action (patterns_of store exprs)
+-- or no longer does
+action_in store (Unsubscribe exprs) = option_map unsubscribe_action (patterns_of store exprs)
+-- a process begins with these values, and the slot takes its number
+action_in store (Create process actuals slot) = option_map (create_action process slot) (values_together store actuals)
 -- these don't happen yet
-action_in store (SndNote exprs) = None
-action_in store (RecNote exprs) = None
-action_in store (NoNote exprs) = None
-action_in store (Subscribe exprs) = None
-action_in store (Unsubscribe exprs) = None
-action_in store (Create process actuals slot) = None
-action_in store (Printf exprs) = None
 action_in store (Execute tool slot) = None
 action_in store (RecConnect tool slot) = None
 action_in store (RecDisconnectAny tool slot) = None

@@ -1,5 +1,5 @@
 -- The whole state of a bus, and the one that a program opens with.
-use Rattle.std.specs.Prelude.{ℕ, ◌+◌, List, [], ◌∷◌, ◌++◌, map, Bool, false, Option, Some, None, slice_get}
+use Rattle.std.specs.Prelude.{ℕ, ◌+◌, List, [], ◌∷◌, ◌++◌, map, length, Bool, false, Option, Some, None, slice_get}
 use Rattle.tb_terms.specs.declared.term.Term.{Term}
 use Rattle.tb_func.specs.declared.slot.Slot.{Slot}
 use Rattle.tb_func.specs.Stores.{fresh_slot, with_value}
@@ -8,14 +8,17 @@ use Rattle.tb_body.specs.declared.body.Body.{Body}
 use Rattle.tb_body.specs.declared.program.Program.{Program}
 use Rattle.tb_body.specs.declared.program.Root.{Root}
 use Rattle.tb_algebra.specs.Processes.{Process, fresh}
+use Rattle.tb_notes.specs.Inboxes.{Held, nothing}
 use Rattle.tb_bus.specs.declared.origin.Origin.{Origin}
 
--- a process that is alive: its number, which of the bodies it has, its term and its store
+-- a process that is alive: its number, which of the bodies it has, its term and its store, and what it has subscribed
+-- to with the notes that wait for it
 pub record Proc : Type 0 where
   pub number : ℕ
   pub body : ℕ
   pub term : Process
   pub store : List Slot
+  pub inbox : Held
 
 -- The opening bus has its processes by their numbers, the smallest first, and steps keep their order.
 pub record Bus : Type 0 where
@@ -25,6 +28,8 @@ pub record Bus : Type 0 where
   pub now : ℕ
   -- the process that began the last step of a process, the sender where it was a handshake; 0 before any
   pub last_starter : ℕ
+  -- the number of the next process that is created
+  pub next_number : ℕ
   -- no more ticks come
   pub no_ticks : Bool
   pub down : Bool
@@ -51,14 +56,16 @@ with_values slots slot (term ∷ terms) = with_values (with_value slots slot ter
 abbrev pub opening_store : Body → List Term → List Slot
 opening_store body actuals = with_values (map fresh_slot body.sorts) 0 actuals
 
-abbrev pub opened_one : ℕ → Root → Option Body → List Proc
-opened_one number root None = []
-opened_one number root (Some body) = record { number = number; body = root.process; term = fresh body.tree; store = opening_store body root.actuals } ∷ []
+-- a process of a body with this number, as it begins: nothing is subscribed to, and no note waits
+abbrev pub opened_one : ℕ → ℕ → List Term → Option Body → List Proc
+opened_one number process actuals None = []
+opened_one number process actuals (Some body) =
+    record { number = number; body = process; term = fresh body.tree; store = opening_store body actuals; inbox = nothing } ∷ []
 
 -- the roots, numbered from this number on, each as its body is entered
 abbrev pub opened : List Body → ℕ → List Root → List Proc
 opened bodies number [] = []
-opened bodies number (root ∷ roots) = opened_one number root (slice_get bodies root.process) ++ opened bodies (number + 1) roots
+opened bodies number (root ∷ roots) = opened_one number root.process root.actuals (slice_get bodies root.process) ++ opened bodies (number + 1) roots
 
 -- where a bus starts from: its program
 abbrev pub origin_of : Program → ℕ → Origin
@@ -71,6 +78,11 @@ start origin = record {
   procs = opened origin.program.bodies 1 origin.program.roots;
   now = 0;
   last_starter = 0;
+  next_number = length origin.program.roots + 1;
   no_ticks = false;
   down = false;
 }
+
+-- the process that a bus creates next, with its body and its actuals
+abbrev pub created : Bus → ℕ → List Term → List Proc
+created bus process actuals = opened_one bus.next_number process actuals (slice_get bus.program.bodies process)

@@ -1,14 +1,20 @@
 -- What the code's search goes through: for each process that is alive its actions, by indices alone.
-use Rattle.std.specs.Prelude.{◌≡◌, ℕ, ◌+◌, ◌<◌, ◌&&◌, ◌||◌, ◌==◌, nat_lt, nat_le, List, [], ◌∷◌, ◌++◌, map, take, drop, length, Bool, true, false, if◌then◌else◌, Option, Some, None, slice_index_or, ⊤}
-use Rattle.std.specs.List.{All, flat_map}
+use Rattle.std.specs.Prelude.{◌≡◌, ℕ, ◌+◌, ◌<◌, ◌&&◌, ◌||◌, ◌==◌, nat_lt, nat_le, List, [], ◌∷◌, ◌++◌, map, take, drop, length, Bool, true, false, if◌then◌else◌, Option, Some, None, is_some, not, option_to_list, slice_index_or, ⊤}
+use Rattle.std.specs.List.{All, flat_map, list_all}
 use Rattle.tb_terms.specs.declared.term.Term.{Term}
 use Rattle.tb_match.specs.declared.bind.Bind.{Bind}
 use Rattle.tb_match.specs.Matches.{match_list}
 use Rattle.tb_body.specs.declared.atom.Atom.{Atom}
 use Rattle.tb_algebra.specs.Offers.{Offered}
+use Rattle.tb_body.specs.declared.body.Body.{Body}
+use Rattle.tb_notes.specs.Inboxes.{Held, nothing, wants, oldest_match}
 use Rattle.tb_bus.specs.Actions.{action_of}
+use Rattle.tb_bus.specs.Effects.{takes_note, may_create}
+use Rattle.tb_bus.specs.declared.marks.Marks.{Marks}
 use Rattle.tb_bus.specs.declared.action.Action.{Action}
 use Rattle.tb_bus.specs.declared.action.Action.TheVariants as action
+use Rattle.tb_bus.specs.declared.action.OwnAction.{OwnAction}
+use Rattle.tb_bus.specs.declared.action.OwnAction.TheVariants as own
 use Rattle.tb_bus.specs.declared.living.Ready.{Ready}
 use Rattle.tb_bus.specs.declared.living.Living.{Living}
 use Rattle.tb_bus.specs.declared.candidate.Received.{Received}
@@ -35,17 +41,18 @@ readies atoms now at (offered ∷ others) = ready_one at offered (action_of atom
 pub record Row : Type 0 where
   pub number : ℕ
   pub body : ℕ
+  pub inbox : Held
   pub ready : List Ready
 
 abbrev pub row_of : {W : Type 0} → Living W → Row
-row_of living = record { number = living.number; body = living.body; ready = living.ready.items }
+row_of living = record { number = living.number; body = living.body; inbox = living.inbox.held; ready = living.ready.items }
 
 abbrev pub rows_of : {W : Type 0} → List (Living W) → List Row
 rows_of all = map row_of all
 
 -- what stands at an index where nobody does: no search finds it
 abbrev pub no_row : Row
-no_row = record { number = 0; body = 0; ready = [] }
+no_row = record { number = 0; body = 0; inbox = nothing; ready = [] }
 
 abbrev pub row_at : List Row → ℕ → Row
 row_at rows at = slice_index_or rows at no_row
@@ -57,6 +64,8 @@ received_if index (Some binds) = record { action = index; binds = binds } ∷ []
 abbrev pub reception : List Term → ℕ → Action → List Received
 reception terms index (action.Own own) = []
 reception terms index (action.Send other) = []
+reception terms index (action.Notify other) = []
+reception terms index (action.TakeNote patterns) = []
 reception terms index (action.Receive patterns) = received_if index (match_list patterns terms)
 
 -- which of these actions receive the terms, where the first has this index
@@ -76,6 +85,8 @@ abbrev pub is_receive : Action → Bool
 is_receive (action.Own own) = false
 is_receive (action.Send terms) = false
 is_receive (action.Receive patterns) = true
+is_receive (action.Notify terms) = false
+is_receive (action.TakeNote patterns) = false
 
 abbrev pub has_receive : List Ready → Bool
 has_receive [] = false
@@ -95,23 +106,52 @@ abbrev pub AreKnown : Option (List ℕ) → List Row → Type 0
 AreKnown None rows = ⊤
 AreKnown (Some indices) rows = (indices ≡ receivers 0 rows) × All (λ index. index < length rows) indices
 
+-- what a search goes through: the bodies, the number of the next process, and the rows
+pub record Scene : Type 0 where
+  pub bodies : List Body
+  pub next_number : ℕ
+  pub rows : List Row
+
+-- every queue that wants the note has room
+abbrev pub all_take : List Term → List Row → Bool
+all_take terms rows = list_all (λ (row : Row). takes_note terms row.inbox) rows
+
+-- the indices of those that want the note, where the first of all has this index
+abbrev pub wanting : List Term → ℕ → List Row → List ℕ
+wanting terms index [] = []
+wanting terms index (row ∷ rows) = if wants row.inbox terms then index ∷ wanting terms (index + 1) rows else wanting terms (index + 1) rows
+
+-- whether an action of a process by itself may happen
+abbrev pub may_happen : Scene → Row → OwnAction → Bool
+may_happen scene row own.Tau = true
+may_happen scene row (own.Set values binds) = true
+may_happen scene row (own.Print text) = true
+may_happen scene row (own.NoNote patterns) = not (is_some (oldest_match patterns row.inbox))
+may_happen scene row (own.Subscribe patterns) = true
+may_happen scene row (own.Unsubscribe patterns) = true
+may_happen scene row (own.Create process actuals slot) =
+    may_create scene.bodies (length scene.rows) scene.next_number row.body process actuals slot
+
 -- what an action leads to, of the process at an index among all rows
-abbrev pub candidates_by : List Row → ℕ → ℕ → ℕ → Action → List Candidate
-candidates_by rows at number index (action.Own own) = candidate.Own at index ∷ []
-candidates_by rows at number index (action.Send terms) = map (candidate.Handshake at index) (partners number terms 0 rows)
-candidates_by rows at number index (action.Receive patterns) = []
+abbrev pub candidates_by : Scene → ℕ → Row → ℕ → Action → List Candidate
+candidates_by scene at row index (action.Own own) = if may_happen scene row own then candidate.Own at index ∷ [] else []
+candidates_by scene at row index (action.Send terms) = map (candidate.Handshake at index) (partners row.number terms 0 scene.rows)
+candidates_by scene at row index (action.Receive patterns) = []
+candidates_by scene at row index (action.Notify terms) =
+    if all_take terms scene.rows then candidate.Notify at index (wanting terms 0 scene.rows) ∷ [] else []
+candidates_by scene at row index (action.TakeNote patterns) = map (candidate.TakeNote at index) (option_to_list (oldest_match patterns row.inbox))
 
-abbrev pub candidates_among : List Row → ℕ → ℕ → ℕ → List Ready → List Candidate
-candidates_among rows at number index [] = []
-candidates_among rows at number index (ready ∷ others) = candidates_by rows at number index ready.action ++ candidates_among rows at number (index + 1) others
+abbrev pub candidates_among : Scene → ℕ → Row → ℕ → List Ready → List Candidate
+candidates_among scene at row index [] = []
+candidates_among scene at row index (ready ∷ others) = candidates_by scene at row index ready.action ++ candidates_among scene at row (index + 1) others
 
-abbrev pub candidates_of : List Row → ℕ → Row → List Candidate
-candidates_of rows at row = candidates_among rows at row.number 0 row.ready
+abbrev pub candidates_of : Scene → ℕ → Row → List Candidate
+candidates_of scene at row = candidates_among scene at row 0 row.ready
 
 -- what these processes lead to, where the first of them has an index among all rows
-abbrev pub candidates_from : List Row → ℕ → List Row → List Candidate
-candidates_from rows at [] = []
-candidates_from rows at (row ∷ others) = candidates_of rows at row ++ candidates_from rows (at + 1) others
+abbrev pub candidates_from : Scene → ℕ → List Row → List Candidate
+candidates_from scene at [] = []
+candidates_from scene at (row ∷ others) = candidates_of scene at row ++ candidates_from scene (at + 1) others
 
 -- how many have a number up to this one
 abbrev pub up_to : ℕ → List Row → ℕ
@@ -119,8 +159,9 @@ up_to last [] = 0
 up_to last (row ∷ rows) = if nat_le row.number last then 1 + up_to last rows else 0
 
 -- asked in turn: those after the last starter, and then the others
-unfoldable pub candidates_in_turn : List Row → ℕ → List Candidate
-candidates_in_turn rows last = candidates_from rows (up_to last rows) (drop (up_to last rows) rows) ++ candidates_from rows 0 (take (up_to last rows) rows)
+unfoldable pub candidates_in_turn : Scene → ℕ → List Candidate
+candidates_in_turn scene last =
+    candidates_from scene (up_to last scene.rows) (drop (up_to last scene.rows) scene.rows) ++ candidates_from scene 0 (take (up_to last scene.rows) scene.rows)
 
 -- where the processes can do nothing, the bus halts once no more ticks come
 abbrev pub candidates_or_halt : Bool → List Candidate → List Candidate
@@ -128,13 +169,16 @@ candidates_or_halt no_ticks [] = if no_ticks then candidate.Halt ∷ [] else []
 candidates_or_halt no_ticks (candidate ∷ candidates) = candidate ∷ candidates
 
 -- where no process is left, it finishes
-abbrev pub candidates_while_up : List Row → ℕ → Bool → List Row → List Candidate
-candidates_while_up rows last no_ticks [] = candidate.Finish ∷ []
-candidates_while_up rows last no_ticks (row ∷ others) = candidates_or_halt no_ticks (candidates_in_turn rows last)
+abbrev pub candidates_while_up : Scene → Marks → List Row → List Candidate
+candidates_while_up scene marks [] = candidate.Finish ∷ []
+candidates_while_up scene marks (row ∷ others) = candidates_or_halt marks.no_ticks (candidates_in_turn scene marks.last_starter)
+
+abbrev pub scene_of : List Body → List Row → Marks → Scene
+scene_of bodies rows marks = record { bodies = bodies; next_number = marks.next_number; rows = rows }
 
 -- all that may happen next; nothing where the bus is down
-unfoldable pub all_candidates : List Row → ℕ → Bool → Bool → List Candidate
-all_candidates rows last no_ticks down = if down then [] else candidates_while_up rows last no_ticks rows
+unfoldable pub all_candidates : List Body → List Row → Marks → List Candidate
+all_candidates bodies rows marks = if marks.down then [] else candidates_while_up (scene_of bodies rows marks) marks rows
 
 -- the numbers ascend, from above this one on
 abbrev pub ascend : ℕ → List Row → Bool

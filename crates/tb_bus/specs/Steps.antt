@@ -8,8 +8,7 @@ use Rattle.tb_algebra.specs.Binds.{with_binds}
 use Rattle.tb_algebra.specs.Offers.{Offered, offers}
 use Rattle.tb_bus.specs.Buses.{Bus, Proc, atoms_of, proc_left}
 use Rattle.tb_bus.specs.Actions.{action_of}
-use Rattle.tb_bus.specs.Effects.{effect_of}
-use Rattle.tb_bus.specs.declared.effect.Effect.{Effect}
+use Rattle.tb_bus.specs.Effects.{Effect, effect_of, changed}
 use Rattle.tb_bus.specs.declared.action.Action.{Action}
 use Rattle.tb_bus.specs.declared.action.Action.TheVariants as action
 use Rattle.tb_log.specs.declared.entry.Place.{Place}
@@ -49,6 +48,8 @@ abbrev pub handshake_of : Proc → Offered → List Term → Proc → Offered �
 handshake_of sender sent terms receiver received None = []
 handshake_of sender sent terms receiver received (Some (action.Own own)) = []
 handshake_of sender sent terms receiver received (Some (action.Send other)) = []
+handshake_of sender sent terms receiver received (Some (action.Notify other)) = []
+handshake_of sender sent terms receiver received (Some (action.TakeNote patterns)) = []
 handshake_of sender sent terms receiver received (Some (action.Receive patterns)) = handshake_if sender sent terms receiver received (match_list patterns terms)
 
 -- with one other process: its offers in order
@@ -67,7 +68,9 @@ own_if proc offered (Some effect) = Own proc offered effect ∷ []
 -- What one offer may lead to, by its action.
 abbrev pub moves_by : Bus → Proc → Offered → Option Action → List Move
 moves_by bus proc offered None = []
-moves_by bus proc offered (Some (action.Own own)) = own_if proc offered (effect_of bus proc offered own)
+moves_by bus proc offered (Some (action.Own own)) = own_if proc offered (effect_of bus proc (action.Own own))
+moves_by bus proc offered (Some (action.Notify terms)) = own_if proc offered (effect_of bus proc (action.Notify terms))
+moves_by bus proc offered (Some (action.TakeNote patterns)) = own_if proc offered (effect_of bus proc (action.TakeNote patterns))
 moves_by bus proc offered (Some (action.Send terms)) = handshakes bus proc offered terms
 -- it is for the sender to begin
 moves_by bus proc offered (Some (action.Receive patterns)) = []
@@ -111,10 +114,14 @@ label_of (Handshake sender sent receiver received terms binds) = record { kind =
 label_of Finish = record { kind = kind.Finish; from = nowhere; to = nowhere; terms = [] }
 label_of Halt = record { kind = kind.Halt; from = nowhere; to = nowhere; terms = [] }
 
+-- a process goes on with these binds, and is the last starter
+abbrev pub went_on : Proc → Offered → List Bind → Bus → Bus
+went_on proc offered binds bus = record bus { procs = advance proc.number offered binds bus.procs; last_starter = proc.number }
+
 -- The bus after a move.
 abbrev pub apply : Bus → Move → Bus
--- the process goes on with its binds, and is the last starter
-apply bus (Own proc offered effect) = record bus { procs = advance proc.number offered effect.binds bus.procs; last_starter = proc.number }
+-- what it changes is changed, the process goes on with its binds, and is the last starter
+apply bus (Own proc offered effect) = went_on proc offered effect.binds (changed effect.change proc.number bus)
 -- both go on, the receiver with what the terms bind, and the sender is the last starter
 apply bus (Handshake sender sent receiver received terms binds) = record bus { procs = advance receiver.number received binds (advance sender.number sent [] bus.procs); last_starter = sender.number }
 -- the bus goes down, and the last starter stays

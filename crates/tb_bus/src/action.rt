@@ -1,5 +1,5 @@
 use tb_match::Binds;
-use tb_terms::{Patterns, Terms};
+use tb_terms::{Patterns, Term, Terms};
 
 /// What an offered atom that is ready does, by the store in which it is offered alone.
 #[derive(Debug, Drop)]
@@ -10,6 +10,10 @@ pub enum Action {
     Send(Terms),
     /// It receives terms that match, where another process sends them.
     Receive(Patterns),
+    /// These terms are a note for each process that wants it.
+    Notify(Terms),
+    /// It takes the oldest own note that matches.
+    TakeNote(Patterns),
 }
 
 /// What a process does by itself: one kind for each such atom.
@@ -18,4 +22,14 @@ pub enum OwnAction {
     Tau,
     /// The values that are seen of it, and what is set.
     Set(Terms, Binds),
+    /// The text that is printed.
+    Print(Term),
+    /// It happens only where no own note matches.
+    NoNote(Patterns),
+    /// From now on the process wants what matches.
+    Subscribe(Patterns),
+    /// The process no longer wants what matches just these.
+    Unsubscribe(Patterns),
+    /// A process of this body begins with these actuals, and the slot takes its number.
+    Create(u32, Terms, u32),
 }

@@ -1,4 +1,6 @@
 use tb_match::Binds;
+use tb_notes::Found;
+use tb_terms::Items;
 
 /// Where terms were received: the index of an action of a process, and what they bind.
 #[derive(Debug, Drop)]
@@ -20,6 +22,10 @@ pub enum Candidate {
     Own(usize, usize),
     /// The sender, its action, and who receives what it sends.
     Handshake(usize, usize, Partner),
+    /// Who sends a note, its action, and those that want the note, each with room for it.
+    Notify(usize, usize, Items<usize>),
+    /// Who takes a note, its action, and the note.
+    TakeNote(usize, usize, Found),
     Finish,
     Halt,
 }

@@ -4,9 +4,9 @@
 
 mod action;
 mod candidate;
-mod effect;
 mod laws;
 mod living;
+mod marks;
 mod origin;
 mod search;
 #[cfg(test)]
@@ -14,11 +14,11 @@ mod search_tests;
 
 pub use action::{Action, OwnAction};
 pub use candidate::{Candidate, Partner, Received};
-pub use effect::{Effect, effect_in};
 pub use laws::{
     labels_differ, one_bus_after_an_entry, one_step_a_label, prefixes_are_traces,
     processes_stand_by_their_numbers,
 };
 pub use living::{Living, Ready};
+pub use marks::Marks;
 pub use origin::Origin;
 pub use search::first_candidate;

@@ -1,4 +1,5 @@
 use crate::action::Action;
+use tb_notes::Inbox;
 
 /// An offer of a process that is ready for an action: its index among the offers, and its atom.
 #[derive(Debug, Drop)]
@@ -11,12 +12,14 @@ pub struct Ready {
 /// A process that is alive.
 #[derive(Drop)]
 pub struct Living<W> {
-    /// From 1, in the order of the roots.
+    /// From 1, in the order of the roots, and then of creation.
     pub number: u32,
     /// Which of the bodies it has, from 0.
     pub body: u32,
     /// The process on its way through its body.
     pub walker: W,
+    /// What it has subscribed to, and the notes that wait for it.
+    pub inbox: Inbox,
     /// What it is ready to do, in text order.
     pub ready: Vec<Ready>,
     /// Whether `ready` says what it is ready to do now.

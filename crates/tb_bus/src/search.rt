@@ -28,8 +28,7 @@ fn receive(
             })),
             None => Ok(None),
         },
-        Action::Own(_) => Ok(None),
-        Action::Send(_) => Ok(None),
+        Action::Own(_) | Action::Send(_) | Action::Notify(_) | Action::TakeNote(_) => Ok(None),
     }
 }
 
@@ -57,8 +56,7 @@ fn has_receive(actions: &[Ready]) -> bool
     for ready in actions {
         match ready.action {
             Action::Receive(_) => return true,
-            Action::Own(_) => {}
-            Action::Send(_) => {}
+            Action::Own(_) | Action::Send(_) | Action::Notify(_) | Action::TakeNote(_) => {}
         }
     }
     false
@@ -162,6 +160,59 @@ fn partner<W>(
     }
 }
 
+/// Whether the values have the sorts of the formals of a body.
+fn fits_formals(body: Option<&Body>, actuals: &Terms) -> bool
+    ensures { result ≡ fits_formals (option_now body) actuals.now }
+{
+    let Some(body) = body else {
+        return false;
+    };
+    actuals.len() == body.formals as usize && have_sorts(body.sorts.as_slice(), actuals.as_slice())
+}
+
+/// Whether an action of a process by itself may happen.
+fn may_happen<W>(
+    bodies: &[Body],
+    all: &[Living<W>],
+    next_number: u32,
+    living: &Living<W>,
+    own: &OwnAction,
+) -> Result<bool, NoMemory>
+    ensures { IfOk result (λ happens. happens ≡ may_happen (record { bodies = bodies.now; next_number = next_number; rows = rows_of all.now }) (row_of living.now) own.now) }
+{
+    match own {
+        OwnAction::Tau
+        | OwnAction::Set(_, _)
+        | OwnAction::Print(_)
+        | OwnAction::Subscribe(_)
+        | OwnAction::Unsubscribe(_) => Ok(true),
+        OwnAction::NoNote(patterns) => Ok(living.inbox.find(patterns)?.is_none()),
+        OwnAction::Create(process, actuals, slot) => Ok(all.len() < MOST_ALIVE
+            && fits_formals(bodies.get(*process as usize), actuals)
+            && takes_number(bodies.get(living.body as usize), *slot, next_number)),
+    }
+}
+
+/// The indices of those that want the note, where each has room for it.
+fn wanting<W>(
+    alloc: Global,
+    all: &[Living<W>],
+    terms: &Terms,
+) -> Result<Option<Items<usize>>, NoMemory>
+    ensures { IfOk result (λ found. found ≡ (if all_take terms.now (rows_of all.now) then Some (wanting terms.now 0 (rows_of all.now)) else None)) }
+{
+    let mut indices = Items::new(alloc);
+    for (index, living) in all.iter().enumerate() {
+        if living.inbox.wants(terms) {
+            if !living.inbox.room() {
+                return Ok(None);
+            }
+            indices.push(index)?;
+        }
+    }
+    Ok(Some(indices))
+}
+// TODO: first_by and what stands above it, over bodies and marks
 /// What an action of the process at an index leads to first.
 fn first_by<W>(
     alloc: Global,

@@ -29,6 +29,13 @@ abbrev pub label_words : LabelKind → Place → Place → List Term → List �
 label_words kind.Msg from to terms = codes "msg" ++ place_words from ++ place_words to ++ term_words terms
 label_words kind.Set from to terms = codes "set" ++ place_words from ++ term_words terms
 label_words kind.Tau from to terms = codes "tau" ++ place_words from ++ term_words terms
+label_words kind.Printf from to terms = codes "printf" ++ place_words from ++ term_words terms
+label_words kind.SndNote from to terms = codes "snd-note" ++ place_words from ++ term_words terms
+label_words kind.RecNote from to terms = codes "rec-note" ++ place_words from ++ term_words terms
+label_words kind.NoNote from to terms = codes "no-note" ++ place_words from ++ term_words terms
+label_words kind.Subscribe from to terms = codes "subscribe" ++ place_words from ++ term_words terms
+label_words kind.Unsubscribe from to terms = codes "unsubscribe" ++ place_words from ++ term_words terms
+label_words kind.Create from to terms = codes "create" ++ place_words from ++ term_words terms
 label_words kind.Finish from to terms = codes "finish"
 label_words kind.Halt from to terms = codes "halt"
 

@@ -36,6 +36,18 @@ pub enum LabelKind {
     /// A variable took a value.
     Set,
     Tau,
+    /// A text was printed.
+    Printf,
+    /// A note went to all processes that want it.
+    SndNote,
+    /// A process took a note of its own.
+    RecNote,
+    /// No own note matched.
+    NoNote,
+    Subscribe,
+    Unsubscribe,
+    /// A process began.
+    Create,
     /// No process was left.
     Finish,
     /// No process could do anything, and no more ticks come.

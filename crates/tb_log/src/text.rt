@@ -56,6 +56,13 @@ fn push_label(label: &Label, into: &mut Vec<u8>) -> Result<(), NoMemory>
         }
         LabelKind::Set => push_one_place(b"set", label, into),
         LabelKind::Tau => push_one_place(b"tau", label, into),
+        LabelKind::Printf => push_one_place(b"printf", label, into),
+        LabelKind::SndNote => push_one_place(b"snd-note", label, into),
+        LabelKind::RecNote => push_one_place(b"rec-note", label, into),
+        LabelKind::NoNote => push_one_place(b"no-note", label, into),
+        LabelKind::Subscribe => push_one_place(b"subscribe", label, into),
+        LabelKind::Unsubscribe => push_one_place(b"unsubscribe", label, into),
+        LabelKind::Create => push_one_place(b"create", label, into),
         LabelKind::Finish => push_text(b"finish", into),
         LabelKind::Halt => push_text(b"halt", into),
     }
