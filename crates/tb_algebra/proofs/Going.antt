@@ -1,15 +1,15 @@
 -- A process on its way stays where its body may have led it, and what is seen of its offers ascends.
-use Rattle.std.proofs.Common.{◌≡◌, ℕ, ◌≤◌, List, [], ◌∷◌, map, length, Option, Some, None, IfSome, slice_get, refl, ap, subst, Contains, arith}
+use Rattle.std.proofs.Common.{◌≡◌, ℕ, ◌+◌, ◌≤◌, List, [], ◌∷◌, map, length, Option, Some, None, IfSome, option_map, slice_get, refl, ap, subst, Contains, arith}
 use Rattle.std.specs.List.Sorted.{IsStrictlyIncreasing}
 use Rattle.tb_func.specs.declared.slot.Slot.{Slot}
 use Rattle.tb_match.specs.declared.bind.Bind.{Bind}
 use Rattle.tb_body.specs.declared.atom.Atom.{Atom}
 use Rattle.tb_body.specs.declared.body.Body.{Body}
 use Rattle.tb_body.specs.declared.tree.Tree.{Tree}
-use Rattle.tb_algebra.specs.Processes.{Process}
+use Rattle.tb_algebra.specs.Processes.{Process, aged}
 use Rattle.tb_algebra.specs.Offers.{Offered, offers}
-use Rattle.tb_algebra.specs.Walks.{Walking, entering, offers_of, offers_of_term, seen, seen_offers, fired}
-use Rattle.tb_algebra.specs.Reached.{Reaches, entered, went_on, IsReached}
+use Rattle.tb_algebra.specs.Walks.{Walking, entering, offers_of, offers_of_term, seen, seen_offers, fired, ticked}
+use Rattle.tb_algebra.specs.Reached.{Reaches, entered, went_on, grew_older, IsReached}
 use Rattle.tb_algebra.specs.declared.offer.Offer.{Offer}
 use Rattle.tb_algebra.proofs.Ascending.{offers-ascend, offered-once, offered-there}
 use Rattle.tb_algebra.proofs.Offering.{contains-at}
@@ -28,6 +28,13 @@ term-reached tree ticks (Some term) store k offered h e = left-reached tree tick
 pub fired-reached : (body : Body) (walking : Walking) (k : ℕ) (offered : Offered) (binds : List Bind) → IsReached body walking → slice_get (offers_of walking) k ≡ Some offered → IsReached body (fired binds walking.ticks offered)
 unfolding offers_of
 fired-reached body walking k offered binds h e = term-reached body.tree walking.ticks walking.term walking.store k offered h e
+
+aged-reached : (tree : Tree) (ticks : ℕ) (term : Option Process) → IfSome term (Reaches tree ticks) → IfSome (option_map aged term) (Reaches tree (ticks + 1))
+aged-reached tree ticks None h = tt
+aged-reached tree ticks (Some term) h = grew_older h
+
+pub ticked-reached : (body : Body) (walking : Walking) → IsReached body walking → IsReached body (ticked walking)
+ticked-reached body walking h = aged-reached body.tree walking.ticks walking.term h
 
 -- what is seen of the offers
 

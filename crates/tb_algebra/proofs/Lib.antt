@@ -1,3 +1,4 @@
+pub mod AgedOffers
 pub mod Ages
 pub mod Arities
 pub mod Ascending
@@ -16,3 +17,4 @@ pub mod SightLemmas
 pub mod TermLemmas
 pub mod StartLemmas
 pub mod WalkerLemmas
+pub mod TickLemmas

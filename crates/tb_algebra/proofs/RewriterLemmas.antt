@@ -1,5 +1,5 @@
 -- What a rewriter has found are its offers; and what becomes of it where one is taken.
-use Rattle.std.proofs.Common.{◌≡◌, ℕ, zero, suc, ◌<◌, Bool, IsTrue, Option, Some, None, List, [], ◌∷◌, map, length, slice_get, option_map, option_and_then, is_some, refl, ap, sym, subst, ◌∙◌, arith}
+use Rattle.std.proofs.Common.{◌≡◌, ℕ, zero, suc, ◌<◌, Bool, true, false, if◌then◌else◌, IsTrue, Option, Some, None, List, [], ◌∷◌, map, length, slice_get, option_map, option_and_then, is_some, refl, ap, sym, subst, ◌∙◌, arith}
 use Rattle.std.specs.Option.{ForSome}
 use Rattle.std.proofs.lemmas.Option.{slice_get-map}
 use Rattle.tb_func.specs.declared.slot.Slot.{Slot}
@@ -63,6 +63,32 @@ found_kept atoms now base founds os e = seen_less (shown base) (sighted atoms no
 pub found_seen : (atoms : List Atom) (now : ℕ) (base : List Slot) (founds : List Found) (os : List Offered) → map (shown base) founds ≡ map (sighted atoms now) os → map offer_of founds ≡ map (seen atoms now) os
 found_seen atoms now base founds os e = seen_less (shown base) (sighted atoms now) offer_sight founds os e
 
+-- what is seen
+
+is_fresh : (fresh : Bool) (founds : List Found) → IsTrue (is_some (if fresh then Some (map offer_of founds) else None)) → fresh ≡ true
+is_fresh true founds h = refl
+is_fresh false founds h = cc
+
+seen_is : (fresh : Bool) (founds : List Found) (seen : List Offer) → (if fresh then Some (map offer_of founds) else None) ≡ Some seen → (fresh ≡ true) × (map offer_of founds ≡ seen)
+seen_is true founds seen e = (refl, cc)
+seen_is false founds seen e = cc
+
+length-map : {A B : Type 0} (f : A → B) (xs : List A) → length (map f xs) ≡ length xs
+length-map f [] = refl
+length-map f (x ∷ xs) = ap suc (length-map f xs)
+
+-- as many are seen as there are
+pub seen_all : (plan : Plan) (rewriter : Rewriter) → IsOnPlan plan rewriter → ForSome (seen_of rewriter) (λ seen. length seen ≡ length (offers_of (walking_of plan rewriter)))
+seen_all plan rewriter on seen e =
+    let os = offers_of (walking_of plan rewriter) in
+    let is = seen_is rewriter.fresh rewriter.found seen e in
+    let one = length-map offer_of rewriter.found in
+    let two = length-map (kept_found rewriter.store) rewriter.found in
+    let three = length-map kept os in
+    let four = ap length (on.found is.0) in
+    let five = ap length is.1 in
+    omega arith
+
 -- what was found at a place
 
 kept_at : (base : List Slot) (founds : List Found) (os : List Offered) (k : ℕ) → map (kept_found base) founds ≡ map kept os → option_map (kept_found base) (slice_get founds k) ≡ option_map kept (slice_get os k)
@@ -74,47 +100,18 @@ by_kept g (Some offered) found e =
     let same : found ≡ kept offered = cc in
     ap g (sym same)
 
-pub at_found : {B : Type 0} (g : Kept → Option B) (plan : Plan) (rewriter : Rewriter) (founds : List Found) (k : ℕ) (found : Found) → IsOnPlan plan rewriter → rewriter.found ≡ Some founds → slice_get founds k ≡ Some found → option_and_then (λ o. g (kept o)) (slice_get (offers_of (walking_of plan rewriter)) k) ≡ g (kept_found rewriter.store found)
-at_found g plan rewriter founds k found on e h =
+pub by_found : {B : Type 0} (g : Kept → Option B) (plan : Plan) (rewriter : Rewriter) (k : ℕ) (found : Found) → IsOnPlan plan rewriter → IsTrue (is_some (seen_of rewriter)) → slice_get rewriter.found k ≡ Some found → option_and_then (λ offered. g (kept offered)) (slice_get (offers_of (walking_of plan rewriter)) k) ≡ g (kept_found rewriter.store found)
+by_found g plan rewriter k found on fresh h =
     let os = offers_of (walking_of plan rewriter) in
-    let same = kept_at rewriter.store founds os k (on.found founds e) in
+    let same = kept_at rewriter.store rewriter.found os k (on.found (is_fresh rewriter.fresh rewriter.found fresh)) in
     by_kept g (slice_get os k) (kept_found rewriter.store found) (sym (ap (option_map (kept_found rewriter.store)) h) ∙ same)
-
-found_in : {B : Type 0} (g : Kept → Option B) (plan : Plan) (rewriter : Rewriter) (k : ℕ) (found : Found) (o : Option (List Found)) → IsOnPlan plan rewriter → rewriter.found ≡ o → option_and_then (λ founds. slice_get founds k) o ≡ Some found → option_and_then (λ offered. g (kept offered)) (slice_get (offers_of (walking_of plan rewriter)) k) ≡ g (kept_found rewriter.store found)
-found_in g plan rewriter k found None on e h = cc
-found_in g plan rewriter k found (Some founds) on e h = at_found g plan rewriter founds k found on e h
-
-pub by_found : {B : Type 0} (g : Kept → Option B) (plan : Plan) (rewriter : Rewriter) (k : ℕ) (found : Found) → IsOnPlan plan rewriter → option_and_then (λ founds. slice_get founds k) rewriter.found ≡ Some found → option_and_then (λ offered. g (kept offered)) (slice_get (offers_of (walking_of plan rewriter)) k) ≡ g (kept_found rewriter.store found)
-by_found g plan rewriter k found on h = found_in g plan rewriter k found rewriter.found on refl h
 
 -- taking
 
-hit_inside : (k : ℕ) (os : List Offered) (rest : ℕ) → k < length os → hit_at k os ≡ Past rest → ⊥
+pub hit_inside : (k : ℕ) (os : List Offered) (rest : ℕ) → k < length os → hit_at k os ≡ Past rest → ⊥
 hit_inside k [] rest h e = omega arith
 hit_inside zero (o ∷ os) rest h e = cc
 hit_inside (suc k) (o ∷ os) rest h e = hit_inside k os rest (omega arith) e
-
-length-map : {A B : Type 0} (f : A → B) (xs : List A) → length (map f xs) ≡ length xs
-length-map f [] = refl
-length-map f (x ∷ xs) = ap suc (length-map f xs)
-
-seen_founds : (rewriter : Rewriter) (found : Option (List Found)) → rewriter.found ≡ found → IsTrue (is_some (seen_of rewriter)) → (P : Type 0) → ((founds : List Found) → rewriter.found ≡ Some founds → P) → P
-seen_founds rewriter None e h P f =
-    let none : ◌≡◌ {A = Bool} (is_some (seen_of rewriter)) (is_some (option_map (map offer_of) None)) = ap (λ (o : Option (List Found)). is_some (option_map (map offer_of) o)) e in
-    cc
-seen_founds rewriter (Some founds) e h P f = f founds e
-
-pub is_hit : (plan : Plan) (rewriter : Rewriter) (k rest : ℕ) → IsOnPlan plan rewriter → IsTrue (is_some (seen_of rewriter)) → ForSome (seen_of rewriter) (λ seen. k < length seen) → hit_at k (offers_of (walking_of plan rewriter)) ≡ Past rest → ⊥
-is_hit plan rewriter k rest on fresh within e =
-    seen_founds rewriter rewriter.found refl fresh ⊥ (λ founds is.
-    let os = offers_of (walking_of plan rewriter) in
-    let shown : seen_of rewriter ≡ Some (map offer_of founds) = ap (option_map (map offer_of)) is in
-    let less = within (map offer_of founds) shown in
-    let one = length-map offer_of founds in
-    let two = length-map (kept_found rewriter.store) founds in
-    let three = length-map kept os in
-    let four = ap length (on.found founds is) in
-    hit_inside k os rest (omega arith) e)
 
 hit_is : (k : ℕ) (os : List Offered) (o : Offered) → slice_get os k ≡ Some o → hit_at k os ≡ On o.residual o.store
 hit_is k [] o e = cc
@@ -123,19 +120,9 @@ hit_is zero (first ∷ os) o e =
     ap (λ (x : Offered). On x.residual x.store) same
 hit_is (suc k) (first ∷ os) o e = hit_is k os o e
 
-hit_there : (k : ℕ) (os : List Offered) (left : Option Process) (store : List Slot) → hit_at k os ≡ On left store → k < length os
-hit_there k [] left store e = cc
-hit_there zero (o ∷ os) left store e = omega arith
-hit_there (suc k) (o ∷ os) left store e =
-    let rest = hit_there k os left store e in
-    omega arith
-
 module _ (plan : Plan) (rewriter : Rewriter) (k : ℕ) (fired : Fired) (left : Left) (is : fired ≡ Taken left.term left.own) (hit : hit_of plan.nodes rewriter.ticks rewriter.store fired ≡ hit_at k (offers_of (walking_of plan rewriter))) where
   hit_left : hit_at k (offers_of (walking_of plan rewriter)) ≡ On (option_map (term_of plan.nodes rewriter.ticks) left.term) (or_own left.own rewriter.store)
   hit_left = sym hit ∙ ap (hit_of plan.nodes rewriter.ticks rewriter.store) is
-
-  pub taken_there : k < length (offers_of (walking_of plan rewriter))
-  taken_there = hit_there k (offers_of (walking_of plan rewriter)) (option_map (term_of plan.nodes rewriter.ticks) left.term) (or_own left.own rewriter.store) hit_left
 
   pub taken_left : IsTrue (is_fired_on plan.nodes rewriter.ticks fired) → ForSome (slice_get (offers_of (walking_of plan rewriter)) k) (IsLeft plan rewriter left)
   taken_left parts offered here =
@@ -159,11 +146,10 @@ inside k [] h e = omega arith
 inside zero (x ∷ xs) h e = cc
 inside (suc k) (x ∷ xs) h e = inside k xs (omega arith) e
 
-pub is_found : (rewriter : Rewriter) (k : ℕ) → IsTrue (is_some (seen_of rewriter)) → ForSome (seen_of rewriter) (λ seen. k < length seen) → option_and_then (λ founds. slice_get founds k) rewriter.found ≡ None → ⊥
+pub is_found : (rewriter : Rewriter) (k : ℕ) → IsTrue (is_some (seen_of rewriter)) → ForSome (seen_of rewriter) (λ seen. k < length seen) → slice_get rewriter.found k ≡ None → ⊥
 is_found rewriter k fresh within e =
-    seen_founds rewriter rewriter.found refl fresh ⊥ (λ founds is.
-    let shown : seen_of rewriter ≡ Some (map offer_of founds) = ap (option_map (map offer_of)) is in
-    let less = within (map offer_of founds) shown in
-    let one = length-map offer_of founds in
-    let none : slice_get founds k ≡ None = sym (ap (option_and_then (λ (l : List Found). slice_get l k)) is) ∙ e in
-    inside k founds (omega arith) none)
+    let is = is_fresh rewriter.fresh rewriter.found fresh in
+    let seen : seen_of rewriter ≡ Some (map offer_of rewriter.found) = ap (λ (b : Bool). if b then Some (map offer_of rewriter.found) else None) is in
+    let less = within (map offer_of rewriter.found) seen in
+    let one = length-map offer_of rewriter.found in
+    inside k rewriter.found (omega arith) e

@@ -1,3 +1,4 @@
+pub mod Ageing
 pub mod Atoms
 pub mod Binds
 pub mod Founds

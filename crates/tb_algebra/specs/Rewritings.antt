@@ -1,6 +1,5 @@
 -- What a rewriter stands for, and what it keeps.
-use Rattle.std.specs.Prelude.{◌≡◌, ℕ, IsTrue, List, map, Option, option_map}
-use Rattle.std.specs.Option.{ForSome}
+use Rattle.std.specs.Prelude.{◌≡◌, ℕ, true, IsTrue, List, map, Option, Some, None, option_map, if◌then◌else◌}
 use Rattle.tb_func.specs.declared.slot.Slot.{Slot}
 use Rattle.tb_algebra.specs.Founds.{offer_of}
 use Rattle.tb_algebra.specs.Hits.{is_left_on}
@@ -23,7 +22,7 @@ walking_of plan rewriter = record {
 }
 
 abbrev pub seen_of : Rewriter → Option (List Offer)
-seen_of rewriter = option_map (map offer_of) rewriter.found
+seen_of rewriter = if rewriter.fresh then Some (map offer_of rewriter.found) else None
 
 -- what doesn't change while nothing happens
 pub record Kept : Type 0 where
@@ -37,10 +36,10 @@ kept offered = record { atom = offered.atom; age = offered.age; store = offered.
 abbrev pub kept_found : List Slot → Found → Kept
 kept_found base found = record { atom = found.atom; age = found.age; store = or_own found.own base }
 
--- Its parts are in the plan, and what was found are its offers.
+-- Its parts are in the plan, and what was found are its offers where nothing has happened since.
 pub record IsOnPlan (plan : Plan) (rewriter : Rewriter) : Type 0 where
   pub parts : IsTrue (is_left_on plan.nodes rewriter.ticks rewriter.term)
-  pub found : ForSome rewriter.found (λ founds. map (kept_found rewriter.store) founds ≡ map kept (offers_of (walking_of plan rewriter)))
+  pub found : rewriter.fresh ≡ true → map (kept_found rewriter.store) rewriter.found ≡ map kept (offers_of (walking_of plan rewriter))
 
 -- What was taken is what the offer leaves: its term and its store. Its parts are in the plan.
 pub record IsLeft (plan : Plan) (rewriter : Rewriter) (left : Left) (offered : Offered) : Type 0 where

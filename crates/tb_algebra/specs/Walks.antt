@@ -1,5 +1,5 @@
 -- What a walker stands for, what is seen of its offers, and what becomes of it.
-use Rattle.std.specs.Prelude.{ℕ, Bool, true, false, List, [], map, Option, Some, None}
+use Rattle.std.specs.Prelude.{ℕ, ◌+◌, Bool, true, false, List, [], map, Option, Some, None, option_map}
 use Rattle.tb_terms.specs.declared.term.Term.{Term}
 use Rattle.tb_terms.specs.declared.sort.Sort.{Sort}
 use Rattle.tb_terms.specs.declared.pattern.Pattern.{Pattern}
@@ -7,7 +7,7 @@ use Rattle.tb_func.specs.declared.slot.Slot.{Slot}
 use Rattle.tb_match.specs.declared.bind.Bind.{Bind}
 use Rattle.tb_body.specs.declared.body.Body.{Body}
 use Rattle.tb_body.specs.declared.atom.Atom.{Atom}
-use Rattle.tb_algebra.specs.Processes.{Process, fresh}
+use Rattle.tb_algebra.specs.Processes.{Process, fresh, aged}
 use Rattle.tb_algebra.specs.Offers.{Offered, offers}
 use Rattle.tb_algebra.specs.Binds.{with_binds}
 use Rattle.tb_algebra.specs.Atoms.{act_of, times_of, sent_exprs, matched_exprs, values_together, patterns_of, accepted, is_ready}
@@ -53,6 +53,10 @@ accepted_by atoms terms offered = accepted offered.store (matched_exprs (act_of 
 -- Where the offer is taken, the process goes on with what is left, in the offered store with the binds set.
 abbrev pub fired : List Bind → ℕ → Offered → Walking
 fired binds ticks offered = record { term = offered.residual; store = with_binds offered.store binds; ticks = ticks }
+
+-- Where a tick passes, the process has seen one more: its term ages, if it hasn't ended, and its store stays.
+abbrev pub ticked : Walking → Walking
+ticked walking = record walking { term = option_map aged walking.term; ticks = walking.ticks + 1 }
 
 -- the sorts of a store's slots
 abbrev pub sorts_of : List Slot → List Sort

@@ -1,7 +1,7 @@
 //! What holds of process terms, their offers and their stores. The calls change nothing: their
 //! contracts are the laws.
 
-ghost use Rattle.std.specs.Prelude.{◌≡◌, ◌≤◌, ℕ, List, Some, IsTrue, Contains, map, length, slice_get};
+ghost use Rattle.std.specs.Prelude.{◌≡◌, ◌≤◌, ℕ, List, [], Some, IsTrue, Contains, map, length, slice_get};
 ghost use Rattle.std.specs.List.Sorted.{IsStrictlyIncreasing};
 ghost use Rattle.tb_terms.specs.declared.term.Term.{Term};
 ghost use Rattle.tb_terms.specs.declared.expr.Expr.{Expr};
@@ -10,15 +10,17 @@ ghost use Rattle.tb_func.specs.declared.slot.Slot.{Slot};
 ghost use Rattle.tb_func.specs.Functions.{signature_of};
 ghost use Rattle.tb_func.specs.Stores.{are_sorted};
 ghost use Rattle.tb_body.specs.Exprs.{arity};
+ghost use Rattle.tb_body.specs.declared.atom.Atom.{Atom};
 ghost use Rattle.tb_body.specs.declared.body.Body.{Body};
 ghost use Rattle.tb_body.specs.declared.tree.Tree.{Tree};
 ghost use Rattle.tb_match.specs.declared.bind.Bind.{Bind};
 ghost use Rattle.tb_algebra.specs.Binds.{takes_binds};
-ghost use Rattle.tb_algebra.specs.Atoms.{accepted};
-ghost use Rattle.tb_algebra.specs.Processes.{Process};
+ghost use Rattle.tb_algebra.specs.Ageing.{IsAged, AreAged};
+ghost use Rattle.tb_algebra.specs.Atoms.{accepted, is_ready, times_of};
+ghost use Rattle.tb_algebra.specs.Processes.{Process, aged};
 ghost use Rattle.tb_algebra.specs.Offers.{Offered, offers};
 ghost use Rattle.tb_algebra.specs.Reached.{Reaches, IsReached, IsAgedUpTo, IsNewBehind};
-ghost use Rattle.tb_algebra.specs.Walks.{Walking, entering, offers_of, fired, sorts_of};
+ghost use Rattle.tb_algebra.specs.Walks.{Walking, entering, offers_of, sent_by, patterns_by, accepted_by, fired, ticked, sorts_of};
 
 /// What an atom binds where it is given terms, its store takes: each slot is there, and its value has
 /// the slot's sort.
@@ -63,11 +65,34 @@ pub fn offers_ascend()
         → Contains (offers term store) offered → (1 ≤ offered.atom) × (offered.atom ≤ length body.atoms) }
 {}
 
-/// A process that enters its body is where the body may have led it, and stays so where an offer is taken.
+/// A process that enters its body is where the body may have led it, and stays so where an offer is taken and where
+/// a tick passes.
 pub fn walks_stay_reached()
     ensures entering { (body : Body) (store : List Slot) → IsReached body (entering body store) }
     ensures fired { (body : Body) (walking : Walking) (k : ℕ) (offered : Offered) (binds : List Bind) → IsReached body walking
         → slice_get (offers_of walking) k ≡ Some offered → IsReached body (fired binds walking.ticks offered) }
+    ensures ticked { (body : Body) (walking : Walking) → IsReached body walking → IsReached body (ticked walking) }
+{}
+
+/// A tick takes no offer away and brings none: those of a term a tick later are the same, one by one, of the same atom
+/// in the same store, and a tick older. What an offer leaves then has aged, but for what is entered only as it is taken.
+pub fn offers_age()
+    ensures term { (term : Process) (store : List Slot) → AreAged (offers term store) (offers (aged term) store) }
+    ensures walking { (walking : Walking) → AreAged (offers_of walking) (offers_of (ticked walking)) }
+    ensures count { (walking : Walking) → length (offers_of (ticked walking)) ≡ length (offers_of walking) }
+    ensures at { (walking : Walking) (k : ℕ) (offered : Offered) → slice_get (offers_of walking) k ≡ Some offered
+        → (later : Offered) × (slice_get (offers_of (ticked walking)) k ≡ Some later) × IsAged offered later }
+{}
+
+/// A tick later an offered atom sends and matches what it did. Where it has no times, it is as ready as it was, whatever
+/// the ticks of the bus.
+pub fn ageing_keeps_terms()
+    ensures sent { (atoms : List Atom) (offered later : Offered) → IsAged offered later → sent_by atoms later ≡ sent_by atoms offered }
+    ensures patterns { (atoms : List Atom) (offered later : Offered) → IsAged offered later → patterns_by atoms later ≡ patterns_by atoms offered }
+    ensures accepted { (atoms : List Atom) (terms : List Term) (offered later : Offered) → IsAged offered later
+        → accepted_by atoms terms later ≡ accepted_by atoms terms offered }
+    ensures ready { (atoms : List Atom) (now next : ℕ) (offered later : Offered) → IsAged offered later → times_of atoms offered.atom ≡ []
+        → is_ready later.store later.age next (times_of atoms later.atom) ≡ is_ready offered.store offered.age now (times_of atoms offered.atom) }
 {}
 
 /// A function has as many arguments in a body as its signature says.

@@ -19,8 +19,8 @@ mod values;
 mod walker;
 
 pub use laws::{
-    accepted_binds_are_taken, ages_are_within_the_ticks, ages_behind_are_new, arities_agree,
-    offers_ascend, offers_keep_sorts, walks_stay_reached,
+    accepted_binds_are_taken, ageing_keeps_terms, ages_are_within_the_ticks, ages_behind_are_new,
+    arities_agree, offers_age, offers_ascend, offers_keep_sorts, walks_stay_reached,
 };
 pub use offer::Offer;
 pub use plan::Plan;

@@ -1,5 +1,4 @@
-ghost use Rattle.std.specs.Prelude.{◌≡◌, IfOk, IsTrue, map, slice_get, option_and_then};
-ghost use Rattle.std.specs.Option.{option_copied};
+ghost use Rattle.std.specs.Prelude.{◌≡◌, IfOk, IsTrue, map};
 ghost use Rattle.tb_algebra.specs.Hits.{hit_at, hit_of, is_fired_on};
 ghost use Rattle.tb_algebra.specs.Sights.{shown, sighted};
 ghost use Rattle.tb_algebra.specs.Walks.{offers_of};
@@ -21,26 +20,20 @@ use tb_match::Binds;
 use tb_terms::{Items, NoMemory, Patterns, Terms};
 
 /// A walker that rewrites what is left of its process. Parts of the plan that wait are kept by their
-/// nodes and the ticks at which they were entered, so that a tick copies nothing.
+/// nodes and the ticks at which they were entered, so a tick leaves the term as it is: it stands for an
+/// older one then.
 #[derive(Debug, Drop)]
 pub struct Rewriter {
     pub(crate) term: Option<Running>,
     pub(crate) store: Store,
     pub(crate) ticks: u64,
-    pub(crate) found: Option<Items<Found>>,
+    /// What the last look found.
+    pub(crate) found: Items<Found>,
+    /// Nothing has happened since then.
+    pub(crate) fresh: bool,
 }
 
 impl Rewriter {
-    /// What was found at this place.
-    fn found_at(&self, k: usize) -> Option<&Found>
-        ensures { option_copied result ≡ option_and_then (λ founds. slice_get founds k) self.now.found }
-    {
-        match &self.found {
-            Some(found) => found.get(k),
-            None => None,
-        }
-    }
-
     /// What the rewriter may do next.
     fn find(&self, alloc: Global, plan: &Plan, now: u64) -> Result<Items<Found>, NoMemory>
         requires { IsOnPlan plan.now self.now }
@@ -85,7 +78,7 @@ impl Walker for Rewriter {
         Plan::new(alloc, body)
     }
 
-    fn start(_alloc: Global, plan: &Plan, store: Store) -> Result<Rewriter, NoMemory> {
+    fn start(alloc: Global, plan: &Plan, store: Store) -> Result<Rewriter, NoMemory> {
         let root = Entry {
             node: plan.root,
             entered: 0,
@@ -94,29 +87,28 @@ impl Walker for Rewriter {
             term: Some(Running::Whole(root)),
             store,
             ticks: 0,
-            found: None,
+            found: Items::new(alloc),
+            fresh: false,
         })
     }
 
     fn look(&mut self, alloc: Global, plan: &Plan, now: u64) -> Result<(), NoMemory> {
         let found = self.find(alloc, plan, now)?;
-        self.found = Some(found);
+        self.found = found;
+        self.fresh = true;
         Ok(())
     }
 
     fn is_fresh(&self) -> bool {
-        self.found.is_some()
+        self.fresh
     }
 
     fn offer_count(&self) -> usize {
-        match &self.found {
-            Some(found) => found.len(),
-            None => 0,
-        }
+        self.found.len()
     }
 
     fn offer(&self, k: usize) -> Offer {
-        match self.found_at(k) {
+        match self.found.get(k) {
             Some(found) => found.offer(),
             None => Offer {
                 atom: 0,
@@ -127,7 +119,7 @@ impl Walker for Rewriter {
     }
 
     fn sent(&self, alloc: Global, plan: &Plan, k: usize) -> Result<Option<Terms>, NoMemory> {
-        match self.found_at(k) {
+        match self.found.get(k) {
             Some(found) => {
                 let store = store_of(&self.store, &found.own);
                 Ok(sent_values(alloc, store, plan.atom(found.atom))?)
@@ -137,7 +129,7 @@ impl Walker for Rewriter {
     }
 
     fn patterns(&self, alloc: Global, plan: &Plan, k: usize) -> Result<Option<Patterns>, NoMemory> {
-        match self.found_at(k) {
+        match self.found.get(k) {
             Some(found) => {
                 let store = store_of(&self.store, &found.own);
                 Ok(matched_patterns(alloc, store, plan.atom(found.atom))?)
@@ -153,7 +145,7 @@ impl Walker for Rewriter {
         k: usize,
         ts: &Terms,
     ) -> Result<Option<Binds>, NoMemory> {
-        match self.found_at(k) {
+        match self.found.get(k) {
             Some(found) => {
                 let store = store_of(&self.store, &found.own);
                 Ok(accepted_binds(alloc, store, plan.atom(found.atom), ts)?)
@@ -180,7 +172,12 @@ impl Walker for Rewriter {
         }
         set_binds(&mut self.store, binds);
         self.term = term;
-        self.found = None;
+        self.fresh = false;
+    }
+
+    fn tick(&mut self, _plan: &Plan) {
+        self.ticks += 1;
+        self.fresh = false;
     }
 
     fn is_done(&self) -> bool {
@@ -192,16 +189,14 @@ impl Walker for Rewriter {
             Some(term) => Some(term.copy(alloc)?),
             None => None,
         };
-        let found = match &self.found {
-            Some(found) => Some(copy_founds(alloc, found)?),
-            None => None,
-        };
         let store = self.store.copy(alloc)?;
+        let found = copy_founds(alloc, &self.found)?;
         Ok(Rewriter {
             term,
             store,
             ticks: self.ticks,
             found,
+            fresh: self.fresh,
         })
     }
 }

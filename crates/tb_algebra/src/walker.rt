@@ -3,7 +3,7 @@ ghost use Rattle.std.specs.Option.{ForSome};
 ghost use Rattle.tb_algebra.specs.Binds.{takes_binds};
 ghost use Rattle.tb_algebra.specs.Offers.{Offered};
 ghost use Rattle.tb_algebra.specs.WalkerViews.{View};
-ghost use Rattle.tb_algebra.specs.Walks.{entering, offers_of, seen_offers, sent_by, patterns_by, accepted_by, fired, sorts_of, is_end};
+ghost use Rattle.tb_algebra.specs.Walks.{entering, offers_of, seen_offers, sent_by, patterns_by, accepted_by, fired, ticked, sorts_of, is_end};
 
 use crate::Offer;
 use std::alloc::Global;
@@ -49,7 +49,8 @@ pub trait Walker: Sized + Drop {
     /// How many offers there are.
     fn offer_count(&self) -> usize
         requires { IsTrue (is_some (view.seen self.now)) }
-        ensures { ForSome (view.seen self.now) (λ offers. result ≡ length offers) };
+        ensures seen { ForSome (view.seen self.now) (λ offers. result ≡ length offers) }
+        ensures all { (plan : Self.Plan) → view.is_on plan self.now → result ≡ length (offers_of (view.walking plan self.now)) };
 
     /// The offer at this place, from 0 in text order.
     fn offer(&self, k: usize) -> Offer
@@ -93,14 +94,12 @@ pub trait Walker: Sized + Drop {
         ensures { IfOk result (λ binds. binds
             ≡ option_and_then (accepted_by (view.body_of plan.now).atoms ts.now) (slice_get (offers_of (view.walking plan.now self.now)) k)) };
 
-    /// Takes the offer, and changes nothing yet.
+    /// Takes the offer at this place, and changes nothing yet. Nothing has to be seen of it.
     fn take(&self, alloc: Global, plan: &Self::Plan, k: usize) -> Result<Self::Taken, NoMemory>
         requires on { view.is_on plan.now self.now }
-        requires fresh { IsTrue (is_some (view.seen self.now)) }
-        requires within { ForSome (view.seen self.now) (λ offers. k < length offers) }
+        requires within { k < length (offers_of (view.walking plan.now self.now)) }
         ensures taken { IfOk result (λ taken. ForSome (slice_get (offers_of (view.walking plan.now self.now)) k)
-            (λ offered. view.leaves plan.now self.now taken offered)) }
-        ensures there { IfOk result (λ _. k < length (offers_of (view.walking plan.now self.now))) };
+            (λ offered. view.leaves plan.now self.now taken offered)) };
 
     /// Goes on with what was taken, and sets the binds. This takes no memory.
     fn advance(&mut self, plan: &Self::Plan, taken: Self::Taken, binds: Binds)
@@ -111,7 +110,8 @@ pub trait Walker: Sized + Drop {
             → view.walking plan.now self.new ≡ fired binds (view.walking plan.now self.old).ticks offered }
         ensures seen { view.seen self.new ≡ None };
 
-    /// Takes the offer: the process goes on with what is left, and the binds are set.
+    /// Takes the offer at this place: the process goes on with what is left, and the binds are set.
+    /// Nothing has to be seen of it.
     fn fire(
         &mut self,
         alloc: Global,
@@ -120,8 +120,7 @@ pub trait Walker: Sized + Drop {
         binds: Binds,
     ) -> Result<(), NoMemory>
         requires on { view.is_on plan.now self.old }
-        requires fresh { IsTrue (is_some (view.seen self.old)) }
-        requires within { ForSome (view.seen self.old) (λ offers. k < length offers) }
+        requires within { k < length (offers_of (view.walking plan.now self.old)) }
         requires sorted { ForSome (slice_get (offers_of (view.walking plan.now self.old)) k) (λ offered. IsTrue (takes_binds offered.store binds)) }
         ensures on { view.is_on plan.now self.new }
         ensures goes { OnOk result (ForSome (slice_get (offers_of (view.walking plan.now self.old)) k)
@@ -133,6 +132,14 @@ pub trait Walker: Sized + Drop {
         self.advance(plan, taken, binds);
         Ok(())
     }
+
+    /// One tick passes: the process ages. This takes no memory. A process sees at most 4,000,000 ticks.
+    fn tick(&mut self, plan: &Self::Plan)
+        requires on { view.is_on plan.now self.old }
+        requires within { (view.walking plan.now self.old).ticks < 4000000 }
+        ensures on { view.is_on plan.now self.new }
+        ensures aged { view.walking plan.now self.new ≡ ticked (view.walking plan.now self.old) }
+        ensures seen { view.seen self.new ≡ None };
 
     /// Whether the process has ended.
     fn is_done(&self) -> bool

@@ -1,7 +1,6 @@
-use Rattle.std.proofs.Common.{◌≡◌, Some, List, map, ap, subst}
-use Rattle.tb_algebra.specs.Rewritings.{walking_of, kept, kept_found}
+use Rattle.std.proofs.Common.{Some, ap}
+use Rattle.tb_algebra.specs.Rewritings.{walking_of}
 use Rattle.tb_algebra.specs.Walks.{offers_of}
-use Rattle.tb_algebra.specs.declared.found.Found.{Found}
 use Rattle.tb_algebra.proofs.RewriterLemmas.{found_kept, found_seen}
 use Rattle.tb_algebra.proofs.rewriter.RewriterWalker.look.Goals as goal
 
@@ -11,9 +10,7 @@ returns-clause-on c =
     let os = offers_of (walking_of c.args.plan.now c.args.self.now) in
     record {
       parts = c.requires.parts;
-      found = λ founds is.
-          let same : c.in_ok-found.found ≡ founds = cc in
-          subst (λ (l : List Found). map (kept_found base) l ≡ map kept os) same (found_kept c.args.plan.now.body.atoms c.args.now base c.in_ok-found.found os c.in_ok-found.ensures);
+      found = λ fresh. found_kept c.args.plan.now.body.atoms c.args.now base c.in_ok-found.found os c.in_ok-found.ensures;
     }
 
 pub returns-clause-seen : goal.returns-clause-seen
