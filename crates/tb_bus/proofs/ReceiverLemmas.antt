@@ -21,6 +21,8 @@ reception-none : (terms : List Term) (index : ℕ) (does : Action) → is_receiv
 reception-none terms index (action.Own own) e = refl
 reception-none terms index (action.Send other) e = refl
 reception-none terms index (action.Receive patterns) e = cc
+reception-none terms index (action.Notify other) e = refl
+reception-none terms index (action.TakeNote patterns) e = refl
 
 receptions-none : (terms : List Term) (index : ℕ) (some : List Ready) → has_receive some ≡ false → receptions terms index some ≡ []
 receptions-none terms index [] e = refl
