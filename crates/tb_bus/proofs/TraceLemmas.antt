@@ -1,9 +1,8 @@
 -- Traces and the buses to which they lead: one part after another, and the first of the steps.
-use Rattle.std.proofs.Common.{◌≡◌, ℕ, List, [], ◌∷◌, ◌++◌, map, refl, ap, sym, ◌∙◌, subst, arith, Some, None, Bool, true, false, Contains, if◌then◌else◌}
+use Rattle.std.proofs.Common.{◌≡◌, List, [], ◌∷◌, ◌++◌, map, refl, ap, sym, ◌∙◌, subst, arith, Some, None, Bool, true, false, Contains, if◌then◌else◌}
 use Rattle.tb_terms.specs.Same.{is_same}
 use Rattle.tb_bus.specs.Buses.{Bus}
 use Rattle.tb_bus.specs.Steps.{Move, Own, Handshake, Finish, Halt, Step, moves, steps, step_of, apply}
-use Rattle.tb_bus.specs.Effects.{Change, Nothing, PutsNote, TakesNote, Subscribes, Unsubscribes, Creates, Effect, changed}
 use Rattle.tb_bus.specs.Traces.{IsInForm, IsTrace, after, after_step, replay, fed, took, Answer}
 use Rattle.tb_bus.specs.Candidates.{first}
 use Rattle.tb_log.specs.contracts.entry.Label as label_row
@@ -15,6 +14,7 @@ use Rattle.tb_log.specs.declared.entry.Why.TheVariants.{Down}
 use Rattle.tb_log.specs.declared.entry.Entry.{Entry}
 use Rattle.tb_log.specs.declared.entry.Entry.TheVariants.{Did, Quiet, Fed}
 use Rattle.tb_terms.proofs.SameLemmas.{is_same-refl}
+use Rattle.tb_bus.proofs.ChangeLemmas.{changed-program}
 
 -- a log leads on from where its first part leads
 pub replay-append : (bus : Bus) (xs ys : List Entry) → replay bus (xs ++ ys) ≡ replay (replay bus xs) ys
@@ -81,14 +81,6 @@ legal-quiet bus e f = ((e, f, refl), tt)
 -- an input in form, with what became of it
 pub legal-fed : (bus : Bus) (input : Input) (reply : Reply) → IsInForm input → reply ≡ (fed bus input).reply → IsTrace bus (Fed input reply ∷ [])
 legal-fed bus input reply h e = ((h, ap (λ (r : Reply). let a : Answer = record { reply = r; bus = (fed bus input).bus } in a) e), tt)
-
-changed-program : (change : Change) (number : ℕ) (bus : Bus) → (changed change number bus).program ≡ bus.program
-changed-program Nothing number bus = refl
-changed-program (PutsNote terms) number bus = refl
-changed-program (TakesNote place) number bus = refl
-changed-program (Subscribes patterns) number bus = refl
-changed-program (Unsubscribes patterns) number bus = refl
-changed-program (Creates process actuals) number bus = refl
 
 -- no move changes the program
 pub apply-program : (bus : Bus) (move : Move) → (apply bus move).program ≡ bus.program
