@@ -32,6 +32,16 @@ IsOwnKind kind.NoNote = ⊤
 IsOwnKind kind.Subscribe = ⊤
 IsOwnKind kind.Unsubscribe = ⊤
 IsOwnKind kind.Create = ⊤
+IsOwnKind kind.Execute = ⊤
+IsOwnKind kind.RecConnect = ⊤
+IsOwnKind kind.RecDisconnect = ⊤
+IsOwnKind kind.SndEval = ⊤
+IsOwnKind kind.RecValue = ⊤
+IsOwnKind kind.SndDo = ⊤
+IsOwnKind kind.RecEvent = ⊤
+IsOwnKind kind.SndAckEvent = ⊤
+IsOwnKind kind.SndTerminate = ⊤
+IsOwnKind kind.Shutdown = ⊤
 IsOwnKind kind.Finish = ⊥
 IsOwnKind kind.Halt = ⊥
 

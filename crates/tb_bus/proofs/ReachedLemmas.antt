@@ -28,6 +28,7 @@ use Rattle.tb_bus.specs.declared.action.Action.TheVariants as action
 use Rattle.tb_bus.specs.declared.action.OwnAction.{OwnAction}
 use Rattle.tb_bus.specs.declared.action.OwnAction.TheVariants as own
 use Rattle.tb_bus.proofs.EffectLemmas.{IsOwnKind, IsOwnEffect, effect-own}
+use Rattle.tb_bus.proofs.TickLemmas.{ticked-in_order}
 use Rattle.tb_bus.proofs.OrderLemmas.{All-flat_map, All-one, contains-cases, contains-further, ascend-above, one-number, IsLeft, IsLed, InOrder, MayGo, start-in_order, advance-keeps, advance-in_order}
 use Rattle.tb_bus.proofs.ChangeLemmas.{changed-program, changed-in_order, changed-keeps}
 use Rattle.tb_log.specs.declared.entry.Label.{Label}
@@ -35,11 +36,11 @@ use Rattle.tb_log.specs.declared.entry.LabelKind.{LabelKind}
 use Rattle.tb_log.specs.declared.entry.LabelKind.TheVariants as kind
 use Rattle.tb_log.specs.contracts.entry.Label as label_row
 use Rattle.tb_log.specs.declared.entry.Input.{Input}
-use Rattle.tb_log.specs.declared.entry.Input.TheVariants.{NoTicks}
+use Rattle.tb_log.specs.declared.entry.Input.TheVariants.{Tick, NoTicks, Line, Gone, Cut}
 use Rattle.tb_log.specs.declared.entry.Reply.TheVariants.{Dropped}
 use Rattle.tb_log.specs.declared.entry.Why.TheVariants.{Down}
 use Rattle.tb_log.specs.declared.entry.Entry.{Entry}
-use Rattle.tb_log.specs.declared.entry.Entry.TheVariants.{Did, Quiet, Fed}
+use Rattle.tb_log.specs.declared.entry.Entry.TheVariants.{Did, Quiet, Fed, Gave}
 use Rattle.tb_terms.proofs.SameLemmas.{is_same-refl, is_same-sound}
 
 -- the moves of a bus name processes of it, what they offer, and what these offers are ready for
@@ -268,7 +269,11 @@ apply-in_order bus Halt h g = record { ascend = h.ascend; below = h.below; led =
 
 fed-in_order : (bus : Bus) (input : Input) (down : Bool) → InOrder bus → InOrder (let a : Answer = if down then record { reply = Dropped Down; bus = bus } else took bus input in a.bus)
 fed-in_order bus input true h = h
+fed-in_order bus Tick false h = ticked-in_order bus h
 fed-in_order bus NoTicks false h = record { ascend = h.ascend; below = h.below; led = h.led }
+fed-in_order bus (Line lane line) false h = h
+fed-in_order bus (Gone lane) false h = h
+fed-in_order bus (Cut lane) false h = h
 
 after-in_order : (bus : Bus) (entry : Entry) → InOrder bus → IsLegal bus entry (after bus entry) → InOrder (after bus entry)
 after-in_order bus (Did label) h g =
@@ -276,6 +281,7 @@ after-in_order bus (Did label) h g =
     subst InOrder (sym (ap (λ (s : Step). s.bus) m.2)) (apply-in_order bus m.0 h m.1)
 after-in_order bus Quiet h g = h
 after-in_order bus (Fed input reply) h g = fed-in_order bus input bus.down h
+after-in_order bus (Gave lane out) h g = absurd g
 
 replay-in_order : (bus : Bus) (log : List Entry) → InOrder bus → IsTrace bus log → InOrder (replay bus log)
 replay-in_order bus [] h t = h
@@ -317,3 +323,4 @@ one-bus-after origin bus next (Did label) r c =
     (one-step-a-label origin bus (record { label = label; bus = next }) (record { label = label; bus = after bus (Did label) }) r c (found bus label (steps bus) next c) refl)
 one-bus-after origin bus next Quiet r c = c.2
 one-bus-after origin bus next (Fed input reply) r c = ap (λ (a : Answer). a.bus) c.1
+one-bus-after origin bus next (Gave lane out) r c = absurd c

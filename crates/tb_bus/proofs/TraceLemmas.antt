@@ -3,11 +3,12 @@ use Rattle.std.proofs.Common.{◌≡◌, List, [], ◌∷◌, ◌++◌, map, ref
 use Rattle.tb_terms.specs.Same.{is_same}
 use Rattle.tb_bus.specs.Buses.{Bus}
 use Rattle.tb_bus.specs.Steps.{Move, Own, Handshake, Finish, Halt, Step, moves, steps, step_of, apply}
-use Rattle.tb_bus.specs.Traces.{IsInForm, IsTrace, after, after_step, replay, fed, took, Answer}
+use Rattle.tb_log.specs.Shapes.{IsInputInShape}
+use Rattle.tb_bus.specs.Traces.{IsTrace, after, after_step, replay, fed, took, Answer}
 use Rattle.tb_bus.specs.Candidates.{first}
 use Rattle.tb_log.specs.contracts.entry.Label as label_row
 use Rattle.tb_log.specs.declared.entry.Input.{Input}
-use Rattle.tb_log.specs.declared.entry.Input.TheVariants.{NoTicks}
+use Rattle.tb_log.specs.declared.entry.Input.TheVariants.{Tick, NoTicks, Line, Gone, Cut}
 use Rattle.tb_log.specs.declared.entry.Reply.{Reply}
 use Rattle.tb_log.specs.declared.entry.Reply.TheVariants.{Dropped}
 use Rattle.tb_log.specs.declared.entry.Why.TheVariants.{Down}
@@ -78,8 +79,8 @@ legal-first bus step rest e = (
 pub legal-quiet : (bus : Bus) → steps bus ≡ [] → bus.down ≡ false → IsTrace bus (Quiet ∷ [])
 legal-quiet bus e f = ((e, f, refl), tt)
 
--- an input in form, with what became of it
-pub legal-fed : (bus : Bus) (input : Input) (reply : Reply) → IsInForm input → reply ≡ (fed bus input).reply → IsTrace bus (Fed input reply ∷ [])
+-- an input in shape, with what became of it
+pub legal-fed : (bus : Bus) (input : Input) (reply : Reply) → IsInputInShape input → reply ≡ (fed bus input).reply → IsTrace bus (Fed input reply ∷ [])
 legal-fed bus input reply h e = ((h, ap (λ (r : Reply). let a : Answer = record { reply = r; bus = (fed bus input).bus } in a) e), tt)
 
 -- no move changes the program
@@ -92,7 +93,11 @@ apply-program bus Halt = refl
 -- no input changes the program
 fed-by : (bus : Bus) (input : Input) (down : Bool) → (let a : Answer = if down then record { reply = Dropped Down; bus = bus } else took bus input in a.bus.program) ≡ bus.program
 fed-by bus input true = refl
+fed-by bus Tick false = refl
 fed-by bus NoTicks false = refl
+fed-by bus (Line lane line) false = refl
+fed-by bus (Gone lane) false = refl
+fed-by bus (Cut lane) false = refl
 
 pub fed-program : (bus : Bus) (input : Input) → (fed bus input).bus.program ≡ bus.program
 fed-program bus input = fed-by bus input bus.down
