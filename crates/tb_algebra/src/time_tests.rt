@@ -61,91 +61,75 @@ const DELTA: Step = Step::Leaf(Deed::Delta, &[]);
 
 const RECEIVE_TO_2: Step = Step::Leaf(Deed::Take, &[TIMEOUT_2]);
 
-/// A body, what happens to its process, and its offers then. The bus has seen 3 ticks as it starts.
+/// What happens to a process, and its offers then. The bus has seen 3 ticks as it starts.
+type Run = (&'static [Move], &'static [Seen]);
+
+/// A body, and what happens to its process.
 type Row = (&'static [Step], &'static [Move], &'static [Seen]);
 
-/// A star whose first side is ready at age 2 alone, over five ticks.
-static TURNS: [Row; 9] = [
+/// `tau delay(2) timeout(2) * delta`
+static STAR_AT_2: [Step; 3] = [TAU_AT_2, DELTA, STAR];
+
+/// Its first side is ready at age 2 of each turn alone.
+static TURNS: [Run; 9] = [
+    (&[], &[(1, 0, false), (2, 0, true)]),
+    (&[TICK], &[(1, 1, false), (2, 1, true)]),
+    (&[TICK, TICK], &[(1, 2, true), (2, 2, true)]),
+    (&[TICK, TICK, TICK], &[(1, 3, false), (2, 3, true)]),
+    (&[TICK, TICK, TAKE_0], &[(1, 0, false), (2, 0, true)]),
+    (&[TICK, TICK, TAKE_0, TICK], &[(1, 1, false), (2, 1, true)]),
     (
-        &[TAU_AT_2, DELTA, STAR],
-        &[],
-        &[(1, 0, false), (2, 0, true)],
-    ),
-    (
-        &[TAU_AT_2, DELTA, STAR],
-        &[TICK],
-        &[(1, 1, false), (2, 1, true)],
-    ),
-    (
-        &[TAU_AT_2, DELTA, STAR],
-        &[TICK, TICK],
-        &[(1, 2, true), (2, 2, true)],
-    ),
-    (
-        &[TAU_AT_2, DELTA, STAR],
-        &[TICK, TICK, TICK],
-        &[(1, 3, false), (2, 3, true)],
-    ),
-    (
-        &[TAU_AT_2, DELTA, STAR],
-        &[TICK, TICK, TAKE_0],
-        &[(1, 0, false), (2, 0, true)],
-    ),
-    (
-        &[TAU_AT_2, DELTA, STAR],
-        &[TICK, TICK, TAKE_0, TICK],
-        &[(1, 1, false), (2, 1, true)],
-    ),
-    (
-        &[TAU_AT_2, DELTA, STAR],
         &[TICK, TICK, TAKE_0, TICK, TICK],
         &[(1, 2, true), (2, 2, true)],
     ),
     (
-        &[TAU_AT_2, DELTA, STAR],
         &[TICK, TICK, TAKE_0, TICK, TICK, TAKE_0],
         &[(1, 0, false), (2, 0, true)],
     ),
     (
-        &[TAU_AT_2, DELTA, STAR],
         &[TICK, TICK, TAKE_0, TICK, TICK, TAKE_0, TICK],
         &[(1, 1, false), (2, 1, true)],
     ),
 ];
 
-/// Each operator with ticks.
-static AGES: [Row; 34] = [
-    // The side of a merge that waits keeps its age.
-    (
-        &[TAU_FROM_1, TAU_FROM_2, PAR],
-        &[],
-        &[(1, 0, false), (2, 0, false)],
-    ),
-    (
-        &[TAU_FROM_1, TAU_FROM_2, PAR],
-        &[TICK],
-        &[(1, 1, true), (2, 1, false)],
-    ),
-    (
-        &[TAU_FROM_1, TAU_FROM_2, PAR],
-        &[TICK, TAKE_0],
-        &[(2, 1, false)],
-    ),
-    (
-        &[TAU_FROM_1, TAU_FROM_2, PAR],
-        &[TICK, TAKE_0, TICK],
-        &[(2, 2, true)],
-    ),
-    (
-        &[TAU_FROM_1, TAU_FROM_2, PAR],
-        &[TICK, TAKE_0, TICK, TAKE_0],
-        &[],
-    ),
-    (
-        &[TAU_FROM_1, TAU_FROM_2, PAR],
-        &[TICK, TICK, TAKE_1, TICK],
-        &[(1, 3, true)],
-    ),
+/// `tau delay(1) || tau delay(2)`
+static MERGE: [Step; 3] = [TAU_FROM_1, TAU_FROM_2, PAR];
+
+/// The side that waits keeps its age.
+static SIDES: [Run; 6] = [
+    (&[], &[(1, 0, false), (2, 0, false)]),
+    (&[TICK], &[(1, 1, true), (2, 1, false)]),
+    (&[TICK, TAKE_0], &[(2, 1, false)]),
+    (&[TICK, TAKE_0, TICK], &[(2, 2, true)]),
+    (&[TICK, TAKE_0, TICK, TAKE_0], &[]),
+    (&[TICK, TICK, TAKE_1, TICK], &[(1, 3, true)]),
+];
+
+/// `rec-msg(X?) timeout(2) + tau delay(3)`
+static CHOICE: [Step; 3] = [RECEIVE_TO_2, TAU_FROM_3, ALT];
+
+/// Both sides age, until one is taken.
+static CHOICES: [Run; 5] = [
+    (&[], &[(1, 0, true), (2, 0, false)]),
+    (&[TICK, TICK], &[(1, 2, true), (2, 2, false)]),
+    (&[TICK, TICK, TICK], &[(1, 3, false), (2, 3, true)]),
+    (&[TICK, TICK, TICK, TAKE_1], &[]),
+    (&[TICK, TICK, TAKE_0], &[]),
+];
+
+/// `tau . tau delay(1)`
+static SEQUENCE: [Step; 3] = [TAU, TAU_FROM_1, SEQ];
+
+/// The right side doesn't age before it is entered.
+static RIGHT_SIDES: [Run; 4] = [
+    (&[TICK, TICK], &[(1, 2, true)]),
+    (&[TICK, TICK, TAKE_0], &[(2, 0, false)]),
+    (&[TICK, TICK, TAKE_0, TICK], &[(2, 1, true)]),
+    (&[TICK, TICK, TAKE_0, TICK, TAKE_0], &[]),
+];
+
+/// Operators in each other.
+static NESTED: [Row; 12] = [
     (
         &[TAU, TAU, SEQ, TAU_FROM_2, PAR],
         &[TICK, TAKE_0],
@@ -171,39 +155,6 @@ static AGES: [Row; 34] = [
         &[TICK, TAKE_1, TICK, TAKE_0],
         &[(3, 0, false)],
     ),
-    // A choice ages by both sides.
-    (
-        &[RECEIVE_TO_2, TAU_FROM_3, ALT],
-        &[],
-        &[(1, 0, true), (2, 0, false)],
-    ),
-    (
-        &[RECEIVE_TO_2, TAU_FROM_3, ALT],
-        &[TICK, TICK],
-        &[(1, 2, true), (2, 2, false)],
-    ),
-    (
-        &[RECEIVE_TO_2, TAU_FROM_3, ALT],
-        &[TICK, TICK, TICK],
-        &[(1, 3, false), (2, 3, true)],
-    ),
-    (
-        &[RECEIVE_TO_2, TAU_FROM_3, ALT],
-        &[TICK, TICK, TICK, TAKE_1],
-        &[],
-    ),
-    // The right side of a sequence doesn't age before it is entered.
-    (&[TAU, TAU_FROM_1, SEQ], &[TICK, TICK], &[(1, 2, true)]),
-    (
-        &[TAU, TAU_FROM_1, SEQ],
-        &[TICK, TICK, TAKE_0],
-        &[(2, 0, false)],
-    ),
-    (
-        &[TAU, TAU_FROM_1, SEQ],
-        &[TICK, TICK, TAKE_0, TICK],
-        &[(2, 1, true)],
-    ),
     (
         &[TAU, TAU, SEQ, TAU_FROM_1, SEQ],
         &[TICK, TAKE_0, TICK],
@@ -213,12 +164,6 @@ static AGES: [Row; 34] = [
         &[TAU, TAU, SEQ, TAU_FROM_1, SEQ],
         &[TICK, TAKE_0, TICK, TAKE_0],
         &[(3, 0, false)],
-    ),
-    // Both sides of a star age, and its next turn is new.
-    (
-        &[TAU, TAU_FROM_2, STAR],
-        &[TICK, TICK],
-        &[(1, 2, true), (2, 2, true)],
     ),
     (
         &[TAU, TAU_FROM_2, STAR],
@@ -241,7 +186,10 @@ static AGES: [Row; 34] = [
         &[(1, 0, true), (2, 0, true), (3, 0, false)],
     ),
     (&[TAU, TAU, STAR, TAU_FROM_1, STAR], &[TICK, TAKE_2], &[]),
-    // Tests and settings age by their parts, and a time is evaluated in the offered store.
+];
+
+/// Tests and settings age by their parts, and a time is evaluated in the offered store.
+static IN_STORES: [Row; 8] = [
     (&[TAU_FROM_1, TAU, IF_0], &[TICK], &[(1, 1, true)]),
     (&[TAU_FROM_1, WHEN_0], &[TICK], &[(1, 1, true)]),
     (&[TAU_FROM_SLOT], &[], &[(1, 0, true)]),
@@ -283,9 +231,10 @@ fn ticked(plan: &Plan, walker: Rewriter) -> Result<Rewriter, NoMemory>
     Ok(walker)
 }
 
-fn seen(alloc: Global, row: &Row) -> Result<Vec<Seen>, NoMemory> {
-    let plan = Rewriter::plan(alloc, &body(alloc, row.0)?)?;
-    let walker = moved(alloc, &plan, row.1)?;
+/// What a process may do next after these moves.
+fn seen(alloc: Global, steps: &[Step], moves: &[Move]) -> Result<Vec<Seen>, NoMemory> {
+    let plan = Rewriter::plan(alloc, &body(alloc, steps)?)?;
+    let walker = moved(alloc, &plan, moves)?;
     let now = bus_ticks(&walker);
     looked(alloc, &plan, walker, now)
 }
@@ -293,17 +242,53 @@ fn seen(alloc: Global, row: &Row) -> Result<Vec<Seen>, NoMemory> {
 #[test]
 fn each_turn_of_a_star_is_ready_at_its_own_age(rt: HostRuntime) -> Result<(), Fail> {
     let alloc = rt.alloc();
-    for row in &TURNS {
-        assert_eq!(rt; seen(alloc, row)?.as_slice(), row.2);
+    for (moves, offers) in &TURNS {
+        assert_eq!(rt; seen(alloc, &STAR_AT_2, moves)?.as_slice(), *offers);
     }
     Ok(())
 }
 
 #[test]
-fn what_waits_ages_and_what_is_entered_is_new(rt: HostRuntime) -> Result<(), Fail> {
+fn a_side_of_a_merge_that_waits_keeps_its_age(rt: HostRuntime) -> Result<(), Fail> {
     let alloc = rt.alloc();
-    for row in &AGES {
-        assert_eq!(rt; seen(alloc, row)?.as_slice(), row.2);
+    for (moves, offers) in &SIDES {
+        assert_eq!(rt; seen(alloc, &MERGE, moves)?.as_slice(), *offers);
+    }
+    Ok(())
+}
+
+#[test]
+fn both_sides_of_a_choice_age(rt: HostRuntime) -> Result<(), Fail> {
+    let alloc = rt.alloc();
+    for (moves, offers) in &CHOICES {
+        assert_eq!(rt; seen(alloc, &CHOICE, moves)?.as_slice(), *offers);
+    }
+    Ok(())
+}
+
+#[test]
+fn the_right_side_of_a_sequence_ages_once_it_is_entered(rt: HostRuntime) -> Result<(), Fail> {
+    let alloc = rt.alloc();
+    for (moves, offers) in &RIGHT_SIDES {
+        assert_eq!(rt; seen(alloc, &SEQUENCE, moves)?.as_slice(), *offers);
+    }
+    Ok(())
+}
+
+#[test]
+fn operators_in_each_other_age(rt: HostRuntime) -> Result<(), Fail> {
+    let alloc = rt.alloc();
+    for (steps, moves, offers) in &NESTED {
+        assert_eq!(rt; seen(alloc, steps, moves)?.as_slice(), *offers);
+    }
+    Ok(())
+}
+
+#[test]
+fn times_are_evaluated_in_the_offered_store(rt: HostRuntime) -> Result<(), Fail> {
+    let alloc = rt.alloc();
+    for (steps, moves, offers) in &IN_STORES {
+        assert_eq!(rt; seen(alloc, steps, moves)?.as_slice(), *offers);
     }
     Ok(())
 }
