@@ -1,5 +1,5 @@
 -- The offers of an aged term are those of the term, one by one, each a tick older.
-use Rattle.std.proofs.Common.{◌≡◌, ℕ, zero, suc, ◌+◌, Bool, true, false, List, [], ◌∷◌, ◌++◌, map, length, Option, Some, None, option_map, slice_get, refl, ap, sym, subst, ◌∙◌}
+use Rattle.std.proofs.Common.{◌≡◌, ℕ, zero, suc, ◌+◌, ◌<◌, arith, Bool, true, false, List, [], ◌∷◌, ◌++◌, map, length, Option, Some, None, option_map, slice_get, refl, ap, sym, subst, ◌∙◌}
 use Rattle.tb_terms.specs.declared.term.Term.{Term}
 use Rattle.tb_func.specs.declared.slot.Slot.{Slot}
 use Rattle.tb_body.specs.declared.atom.Atom.{Atom}
@@ -99,6 +99,13 @@ length-aged (o ∷ os) (l ∷ ls) h = ap suc (length-aged os ls h.1)
 
 pub length-ticked : (walking : Walking) → length (offers_of (ticked walking)) ≡ length (offers_of walking)
 length-ticked walking = length-aged (offers_of walking) (offers_of (ticked walking)) (offers_of-age walking)
+
+-- an index among the offers stays one
+pub within-ticked : (walking later : Walking) (k : ℕ) → later ≡ ticked walking → k < length (offers_of walking) → k < length (offers_of later)
+within-ticked walking later k e within =
+    let same = length-ticked walking in
+    let long = ap (λ (w : Walking). length (offers_of w)) e in
+    omega arith
 
 pub aged-at : (os ls : List Offered) (k : ℕ) (offered : Offered) → AreAged os ls → slice_get os k ≡ Some offered → (later : Offered) × (slice_get ls k ≡ Some later) × IsAged offered later
 aged-at [] [] k offered h e = cc

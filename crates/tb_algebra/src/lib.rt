@@ -15,6 +15,8 @@ mod running;
 mod settings;
 #[cfg(test)]
 mod tests;
+#[cfg(test)]
+mod time_tests;
 mod values;
 mod walker;
 

@@ -8,18 +8,32 @@ use tb_body::{Act, Atom, Atoms, Body, Setting, Settings, Time, TimeKind, Times, 
 use tb_func::Store;
 use tb_terms::{Boxed, Expr, Func, Items, NoMemory, Sort, Term, Terms, Text};
 
-/// An atom of a body. Slot 0 is a number, 0 at first.
+/// What an atom does.
 #[derive(Clone, Copy)]
-enum Leaf {
+pub(crate) enum Deed {
+    Delta,
     Tau,
     /// Takes a number for slot 0.
     Take,
-    Timed(TimeKind, i64),
 }
+
+/// What a time is measured against. Slot 0 is a number, 0 at first.
+#[derive(Clone, Copy)]
+pub(crate) enum Worth {
+    Number(i64),
+    /// The number in slot 0.
+    Slot,
+    /// A string, and so no number.
+    Text,
+    /// A quotient that has no value.
+    Nothing,
+}
+
+pub(crate) type Limit = (TimeKind, Worth);
 
 /// An operator over two parts.
 #[derive(Clone, Copy)]
-enum Two {
+pub(crate) enum Two {
     Seq,
     Alt,
     Star,
@@ -30,7 +44,7 @@ enum Two {
 
 /// An operator over one part.
 #[derive(Clone, Copy)]
-enum One {
+pub(crate) enum One {
     When(i64),
     /// Its test is a number.
     Untold,
@@ -43,35 +57,36 @@ enum One {
 /// A step of writing a body, whose operators stand behind their parts. Atoms are numbered as they
 /// come.
 #[derive(Clone, Copy)]
-enum Step {
-    Leaf(Leaf),
+pub(crate) enum Step {
+    /// An atom, and when it may happen.
+    Leaf(Deed, &'static [Limit]),
     Two(Two),
     One(One),
 }
 
-const TAU: Step = Step::Leaf(Leaf::Tau);
+pub(crate) const TAU: Step = Step::Leaf(Deed::Tau, &[]);
 
-const SEQ: Step = Step::Two(Two::Seq);
+pub(crate) const SEQ: Step = Step::Two(Two::Seq);
 
-const ALT: Step = Step::Two(Two::Alt);
+pub(crate) const ALT: Step = Step::Two(Two::Alt);
 
-const STAR: Step = Step::Two(Two::Star);
+pub(crate) const STAR: Step = Step::Two(Two::Star);
 
-const PAR: Step = Step::Two(Two::Par);
+pub(crate) const PAR: Step = Step::Two(Two::Par);
 
-const IF_0: Step = Step::Two(Two::If(0));
+pub(crate) const IF_0: Step = Step::Two(Two::If(0));
 
-const IF_1: Step = Step::Two(Two::If(1));
+pub(crate) const IF_1: Step = Step::Two(Two::If(1));
 
-const WHEN_0: Step = Step::One(One::When(0));
+pub(crate) const WHEN_0: Step = Step::One(One::When(0));
 
-const WHEN_1: Step = Step::One(One::When(1));
+pub(crate) const WHEN_1: Step = Step::One(One::When(1));
 
 const UNTOLD: Step = Step::One(One::Untold);
 
-const LET_1: Step = Step::One(One::Let(1));
+pub(crate) const LET_1: Step = Step::One(One::Let(1));
 
-const LET_2: Step = Step::One(One::Let(2));
+pub(crate) const LET_2: Step = Step::One(One::Let(2));
 
 const UNSET: Step = Step::One(One::Unset);
 
@@ -101,36 +116,49 @@ fn settings(alloc: Global, value: Expr) -> Result<Settings, NoMemory> {
     Ok(settings)
 }
 
-fn act_of(alloc: Global, leaf: Leaf) -> Result<Act, NoMemory> {
-    match leaf {
-        Leaf::Tau | Leaf::Timed(_, _) => Ok(Act::Tau),
-        Leaf::Take => Ok(Act::RecMsg(alone(alloc, Expr::Result(0))?)),
+fn act_of(alloc: Global, deed: Deed) -> Result<Act, NoMemory> {
+    match deed {
+        Deed::Delta => Ok(Act::Delta),
+        Deed::Tau => Ok(Act::Tau),
+        Deed::Take => Ok(Act::RecMsg(alone(alloc, Expr::Result(0))?)),
     }
 }
 
-fn times_of(alloc: Global, leaf: Leaf) -> Result<Times, NoMemory> {
+fn quotient_by_0(alloc: Global) -> Result<Expr, NoMemory> {
+    let mut parts = alone(alloc, Expr::Int(1))?;
+    parts.push(Expr::Int(0))?;
+    Ok(Expr::Call(Func::Div, parts))
+}
+
+fn value_of(alloc: Global, worth: Worth) -> Result<Expr, NoMemory> {
+    match worth {
+        Worth::Number(number) => Ok(Expr::Int(number)),
+        Worth::Slot => Ok(Expr::Var(0)),
+        Worth::Text => string(alloc),
+        Worth::Nothing => quotient_by_0(alloc),
+    }
+}
+
+fn times_of(alloc: Global, limits: &[Limit]) -> Result<Times, NoMemory> {
     let mut times = Items::new(alloc);
-    match leaf {
-        Leaf::Timed(kind, value) => {
-            let value = Expr::Int(value);
-            times.push(Time { kind, value })?;
-            Ok(times)
-        }
-        _ => Ok(times),
+    for (kind, worth) in limits {
+        let value = value_of(alloc, *worth)?;
+        times.push(Time { kind: *kind, value })?;
     }
+    Ok(times)
 }
 
-fn atom_of(alloc: Global, leaf: Leaf) -> Result<Atom, NoMemory> {
-    let act = act_of(alloc, leaf)?;
-    let times = times_of(alloc, leaf)?;
+fn atom_of(alloc: Global, deed: Deed, limits: &[Limit]) -> Result<Atom, NoMemory> {
+    let act = act_of(alloc, deed)?;
+    let times = times_of(alloc, limits)?;
     Ok(Atom { act, times })
 }
 
 fn atoms_of(alloc: Global, steps: &[Step]) -> Result<Atoms, NoMemory> {
     let mut atoms = Items::new(alloc);
     for step in steps {
-        if let Step::Leaf(leaf) = step {
-            atoms.push(atom_of(alloc, *leaf)?)?;
+        if let Step::Leaf(deed, limits) = step {
+            atoms.push(atom_of(alloc, *deed, limits)?)?;
         }
     }
     Ok(atoms)
@@ -166,7 +194,7 @@ fn written(
     number: u32,
 ) -> Result<Tree, NoMemory> {
     match step {
-        Step::Leaf(_) => Ok(Tree::At(number)),
+        Step::Leaf(_, _) => Ok(Tree::At(number)),
         Step::Two(two) => {
             let y = parts.pop().ok_or(NoMemory)?;
             let x = parts.pop().ok_or(NoMemory)?;
@@ -185,14 +213,14 @@ fn tree_of(alloc: Global, steps: &[Step]) -> Result<Tree, NoMemory> {
     for step in steps {
         let tree = written(alloc, &mut parts, *step, number)?;
         parts.push(tree)?;
-        if matches!(step, Step::Leaf(_)) {
+        if matches!(step, Step::Leaf(_, _)) {
             number = number.saturating_add(1);
         }
     }
     parts.pop().ok_or(NoMemory)
 }
 
-fn body(alloc: Global, steps: &[Step]) -> Result<Body, NoMemory> {
+pub(crate) fn body(alloc: Global, steps: &[Step]) -> Result<Body, NoMemory> {
     let tree = tree_of(alloc, steps)?;
     let atoms = atoms_of(alloc, steps)?;
     let mut sorts = Items::new(alloc);
@@ -201,20 +229,31 @@ fn body(alloc: Global, steps: &[Step]) -> Result<Body, NoMemory> {
 }
 
 #[tactic(auto, using(crate::proofs::StartLemmas::sorts_fresh))]
-fn started(alloc: Global, plan: &Plan) -> Result<Rewriter, NoMemory>
+pub(crate) fn started(alloc: Global, plan: &Plan) -> Result<Rewriter, NoMemory>
     ensures { IfOk result (λ walker. IsOnPlan plan.now walker) }
 {
     let store = Store::fresh(alloc, &plan.body.sorts)?;
     Ok(Rewriter::start(alloc, plan, store)?)
 }
 
-/// The walker after it has taken the offer at this place, on a bus that has seen 3 ticks.
-fn taken(alloc: Global, plan: &Plan, walker: Rewriter, k: usize) -> Result<Rewriter, NoMemory>
+/// How many ticks the bus has seen where it has seen 3 as the process started.
+pub(crate) fn bus_ticks(walker: &Rewriter) -> u64 {
+    walker.ticks.saturating_add(3)
+}
+
+/// The walker after it has taken the offer at this place.
+pub(crate) fn taken(
+    alloc: Global,
+    plan: &Plan,
+    walker: Rewriter,
+    k: usize,
+) -> Result<Rewriter, NoMemory>
     requires { IsOnPlan plan.now walker }
     ensures { IfOk result (λ after. IsOnPlan plan.now after) }
 {
     let mut walker = walker;
-    walker.look(alloc, plan, 3)?;
+    let now = bus_ticks(&walker);
+    walker.look(alloc, plan, now)?;
     if k >= walker.offer_count() {
         return Err(NoMemory);
     }
@@ -248,23 +287,29 @@ fn walked(alloc: Global, plan: &Plan, places: &[usize]) -> Result<Rewriter, NoMe
     Ok(walker)
 }
 
-/// The atoms that it may do next, and which of them are ready.
-fn looked(alloc: Global, plan: &Plan, walker: Rewriter) -> Result<(Vec<u32>, Vec<bool>), NoMemory>
+/// What it may do next: the atoms, their ages, and which of them are ready.
+pub(crate) fn looked(
+    alloc: Global,
+    plan: &Plan,
+    walker: Rewriter,
+    now: u64,
+) -> Result<Vec<Seen>, NoMemory>
     requires { IsOnPlan plan.now walker }
 {
     let mut walker = walker;
-    walker.look(alloc, plan, 3)?;
-    let mut atoms = Vec::new(alloc);
-    let mut ready = Vec::new(alloc);
+    walker.look(alloc, plan, now)?;
+    let mut offers = Vec::new(alloc);
     for k in 0..walker.offer_count() {
         let offer = walker.offer(k);
-        atoms.push(offer.atom)?;
-        ready.push(offer.ready)?;
+        offers.push((offer.atom, offer.age, offer.ready))?;
     }
-    Ok((atoms, ready))
+    Ok(offers)
 }
 
 type Row = (&'static [Step], &'static [usize], &'static [u32]);
+
+/// An atom, its age, and whether it is ready.
+pub(crate) type Seen = (u32, u64, bool);
 
 /// A body, the places of the offers that are taken, and the atoms that may be next.
 static PLAIN: [Row; 27] = [
@@ -317,11 +362,21 @@ static TESTED: [Row; 15] = [
     (&[TAU, LET_1, TAU, WHEN_1, STAR], &[0], &[1, 2]),
 ];
 
+/// The atoms that it may do next.
+fn atoms_of_offers(alloc: Global, plan: &Plan, walker: Rewriter) -> Result<Vec<u32>, NoMemory>
+    requires { IsOnPlan plan.now walker }
+{
+    let mut atoms = Vec::new(alloc);
+    for (atom, _age, _ready) in &looked(alloc, plan, walker, 3)? {
+        atoms.push(*atom)?;
+    }
+    Ok(atoms)
+}
+
 fn offered(alloc: Global, row: &Row) -> Result<Vec<u32>, NoMemory> {
     let plan = Rewriter::plan(alloc, &body(alloc, row.0)?)?;
     let walker = walked(alloc, &plan, row.1)?;
-    let (atoms, _ready) = looked(alloc, &plan, walker)?;
-    Ok(atoms)
+    atoms_of_offers(alloc, &plan, walker)
 }
 
 #[test]
@@ -347,46 +402,14 @@ fn an_offer_is_taken_and_gone_on_with(rt: HostRuntime) -> Result<(), Fail> {
     let alloc = rt.alloc();
     let plan = Rewriter::plan(alloc, &body(alloc, &[TAU, TAU, STAR, TAU, PAR])?)?;
     let walker = advanced(alloc, &plan, started(alloc, &plan)?, 2)?;
-    let (atoms, _ready) = looked(alloc, &plan, walker)?;
+    let atoms = atoms_of_offers(alloc, &plan, walker)?;
     assert_eq!(rt; atoms.as_slice(), [1, 2].as_slice());
-    Ok(())
-}
-
-/// A time of an atom of age 0 on a bus that has seen 3 ticks, and whether the atom is ready.
-static TIMES: [(TimeKind, i64, bool); 9] = [
-    (TimeKind::Delay, 0, true),
-    (TimeKind::Delay, 1, false),
-    (TimeKind::Delay, -1, true),
-    (TimeKind::Timeout, 0, true),
-    (TimeKind::Timeout, -1, false),
-    (TimeKind::AbsDelay, 3, true),
-    (TimeKind::AbsDelay, 4, false),
-    (TimeKind::AbsTimeout, 3, true),
-    (TimeKind::AbsTimeout, 2, false),
-];
-
-fn is_ready(alloc: Global, kind: TimeKind, value: i64) -> Result<bool, NoMemory> {
-    let plan = Rewriter::plan(
-        alloc,
-        &body(alloc, &[Step::Leaf(Leaf::Timed(kind, value))])?,
-    )?;
-    let walker = started(alloc, &plan)?;
-    let (_atoms, ready) = looked(alloc, &plan, walker)?;
-    Ok(ready.len() == 1 && ready[0])
-}
-
-#[test]
-fn an_atom_is_ready_where_its_time_holds(rt: HostRuntime) -> Result<(), Fail> {
-    let alloc = rt.alloc();
-    for (kind, value, ready) in &TIMES {
-        assert_eq!(rt; is_ready(alloc, *kind, *value)?, *ready);
-    }
     Ok(())
 }
 
 /// How many variables a receive binds where it is given these terms.
 fn bound(alloc: Global, terms: &Terms) -> Result<Option<usize>, NoMemory> {
-    let plan = Rewriter::plan(alloc, &body(alloc, &[Step::Leaf(Leaf::Take)])?)?;
+    let plan = Rewriter::plan(alloc, &body(alloc, &[Step::Leaf(Deed::Take, &[])])?)?;
     let mut walker = started(alloc, &plan)?;
     walker.look(alloc, &plan, 3)?;
     let walker = walker.copy(alloc)?;
