@@ -1,4 +1,7 @@
+pub mod Answers
 pub mod Cutting
+pub mod Entries
+pub mod Lines
 pub mod Numbers
 pub mod Parts
 pub mod Terms
