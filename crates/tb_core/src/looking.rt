@@ -1,11 +1,12 @@
-ghost use Rattle.std.specs.Prelude.{◌≡◌, ◌<◌, ◌++◌, ℕ, List, length, slice_get, IfOk, IsTrue, OnOk, OnErr, Some, is_some, true, false};
+ghost use Rattle.std.specs.Prelude.{◌≡◌, ◌<◌, ◌++◌, ℕ, List, length, slice_get, IfOk, IsTrue, OnOk, OnErr, Some, is_some, option_map, true, false};
 ghost use Rattle.std.specs.Option.{ForSome};
 ghost use Rattle.tb_func.specs.declared.slot.Slot.{Slot};
 ghost use Rattle.tb_algebra.specs.Atoms.{act_of};
 ghost use Rattle.tb_algebra.specs.Binds.{has_slot_sort, takes_binds};
 ghost use Rattle.tb_algebra.specs.Offers.{Offered};
 ghost use Rattle.tb_algebra.specs.Walks.{fired, is_end, offers_of, seen, seen_offers, sorts_of};
-ghost use Rattle.tb_bus.specs.Actions.{action_in, action_of, set_action};
+ghost use Rattle.tb_func.specs.Printing.{printf_of};
+ghost use Rattle.tb_bus.specs.Actions.{action_in, action_of, print_action, set_action};
 ghost use Rattle.tb_bus.specs.Candidates.{ready_one, readies};
 ghost use Rattle.tb_core.specs.Lives.{IsLiveOn, proc_by};
 
@@ -13,6 +14,7 @@ use std::alloc::Global;
 use tb_algebra::{Offer, Walker};
 use tb_body::{Act, Atoms, Body};
 use tb_bus::{Action, Living, OwnAction, Ready};
+use tb_func::printf_text;
 use tb_match::{Bind, Binds};
 use tb_terms::{Items, NoMemory, Sorts, Term, Terms, has_sort};
 
@@ -48,6 +50,13 @@ fn set_action(
     Ok(Some(Action::Own(OwnAction::Set(values, binds))))
 }
 
+/// The text that the values have by their format is printed, where they have one.
+fn print_action(alloc: Global, values: &Terms) -> Result<Option<Action>, NoMemory>
+    ensures { IfOk result (λ action. action ≡ option_map print_action (printf_of values.now)) }
+{
+    Ok(printf_text(alloc, values)?.map(|text| Action::Own(OwnAction::Print(text))))
+}
+
 /// The action of an offered atom, where its arguments have values.
 fn action_in<W: Walker>(
     alloc: Global,
@@ -71,22 +80,28 @@ fn action_in<W: Walker>(
             Some(values) => set_action(alloc, &body.sorts, *slot, values),
             None => Ok(None),
         },
-        Act::SndMsg(_) => match walker.sent(alloc, plan, k)? {
-            Some(terms) => Ok(Some(Action::Send(terms))),
+        Act::Printf(_) => match walker.sent(alloc, plan, k)? {
+            Some(values) => print_action(alloc, &values),
             None => Ok(None),
         },
-        Act::RecMsg(_) => match walker.patterns(alloc, plan, k)? {
-            Some(patterns) => Ok(Some(Action::Receive(patterns))),
+        &Act::Create { process, slot, .. } => match walker.sent(alloc, plan, k)? {
+            Some(actuals) => Ok(Some(Action::Own(OwnAction::Create(process, actuals, slot)))),
             None => Ok(None),
         },
+        Act::SndMsg(_) => Ok(walker.sent(alloc, plan, k)?.map(Action::Send)),
+        Act::RecMsg(_) => Ok(walker.patterns(alloc, plan, k)?.map(Action::Receive)),
+        Act::SndNote(_) => Ok(walker.sent(alloc, plan, k)?.map(Action::Notify)),
+        Act::RecNote(_) => Ok(walker.patterns(alloc, plan, k)?.map(Action::TakeNote)),
+        Act::NoNote(_) => Ok(walker
+            .patterns(alloc, plan, k)?
+            .map(|patterns| Action::Own(OwnAction::NoNote(patterns)))),
+        Act::Subscribe(_) => Ok(walker
+            .patterns(alloc, plan, k)?
+            .map(|patterns| Action::Own(OwnAction::Subscribe(patterns)))),
+        Act::Unsubscribe(_) => Ok(walker
+            .patterns(alloc, plan, k)?
+            .map(|patterns| Action::Own(OwnAction::Unsubscribe(patterns)))),
         Act::Delta
-        | Act::SndNote(_)
-        | Act::RecNote(_)
-        | Act::NoNote(_)
-        | Act::Subscribe(_)
-        | Act::Unsubscribe(_)
-        | Act::Create { .. }
-        | Act::Printf(_)
         | Act::Execute { .. }
         | Act::RecConnect { .. }
         | Act::RecDisconnectAny { .. }
