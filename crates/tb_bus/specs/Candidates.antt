@@ -121,6 +121,10 @@ abbrev pub wanting : List Term → ℕ → List Row → List ℕ
 wanting terms index [] = []
 wanting terms index (row ∷ rows) = if wants row.inbox terms then index ∷ wanting terms (index + 1) rows else wanting terms (index + 1) rows
 
+-- those that want the note, where every queue that wants it has room
+abbrev pub wanting_if_room : List Term → List Row → Option (List ℕ)
+wanting_if_room terms rows = if all_take terms rows then Some (wanting terms 0 rows) else None
+
 -- whether an action of a process by itself may happen
 abbrev pub may_happen : Scene → Row → OwnAction → Bool
 may_happen scene row own.Tau = true

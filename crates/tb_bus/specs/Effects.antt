@@ -1,5 +1,5 @@
 -- What an action comes to on a bus, where it may happen: its effect, and how that changes the bus.
-use Rattle.std.specs.Prelude.{ℕ, ◌+◌, ◌==◌, ◌&&◌, ◌||◌, nat_lt, pos, List, [], ◌∷◌, ◌++◌, map, length, Bool, not, if◌then◌else◌, Option, Some, None, option_map, is_some, slice_get, slice_index_or}
+use Rattle.std.specs.Prelude.{ℕ, ◌+◌, ◌==◌, ◌&&◌, ◌||◌, nat_lt, pos, List, [], ◌∷◌, ◌++◌, map, length, Bool, false, not, if◌then◌else◌, Option, Some, None, option_map, is_some, slice_get, slice_index_or}
 use Rattle.std.specs.List.{list_all}
 use Rattle.tb_terms.specs.declared.term.Term.{Term}
 use Rattle.tb_terms.specs.declared.term.Term.TheVariants.{Int}

@@ -4,13 +4,16 @@
 
 mod action;
 mod candidate;
+mod creation;
 mod laws;
 mod living;
 mod marks;
 mod origin;
+mod receivers;
 mod search;
 #[cfg(test)]
 mod search_tests;
+mod wanting;
 
 pub use action::{Action, OwnAction};
 pub use candidate::{Candidate, Partner, Received};

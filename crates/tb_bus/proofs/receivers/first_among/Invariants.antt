@@ -1,6 +1,6 @@
 use Rattle.std.proofs.Common.{◌≡◌, drop}
 use Rattle.tb_bus.specs.Candidates.{first, partners, partners_among, rows_of}
-use Rattle.tb_bus.proofs.search.first_among.Given as goal
+use Rattle.tb_bus.proofs.receivers.first_among.Given as goal
 
 -- the receivers that are left decide
 abbrev pub invariant-loop-index : goal.invariant-loop-index

@@ -1,6 +1,6 @@
 use Rattle.std.proofs.Common.{◌≡◌, drop}
 use Rattle.tb_bus.specs.Candidates.{first, receptions}
-use Rattle.tb_bus.proofs.search.first_received.Given as goal
+use Rattle.tb_bus.proofs.receivers.first_received.Given as goal
 
 -- the actions that are left decide
 abbrev pub invariant-loop-index : goal.invariant-loop-index

@@ -1,6 +1,6 @@
 use Rattle.std.proofs.Common.{◌≡◌, drop}
 use Rattle.tb_bus.specs.Candidates.{has_receive}
-use Rattle.tb_bus.proofs.search.has_receive.Given as goal
+use Rattle.tb_bus.proofs.receivers.has_receive.Given as goal
 
 -- the actions that are left decide
 abbrev pub invariant-loop-ready : goal.invariant-loop-ready

@@ -1,6 +1,6 @@
 use Rattle.std.proofs.Common.{◌≡◌, drop}
 use Rattle.tb_bus.specs.Candidates.{first, partners, rows_of}
-use Rattle.tb_bus.proofs.search.first_of_all.Given as goal
+use Rattle.tb_bus.proofs.receivers.first_of_all.Given as goal
 
 -- the processes that are left decide
 abbrev pub invariant-loop-index : goal.invariant-loop-index
