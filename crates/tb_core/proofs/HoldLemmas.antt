@@ -1,10 +1,10 @@
 -- What the living hold, where one inbox after another changes: the other parts of each stay, and so does what rests on them.
-use Rattle.std.proofs.Common.{◌≡◌, ℕ, ◌<◌, ◌≤◌, zero, suc, List, [], ◌∷◌, length, map, refl, ap, sym, subst, ◌∙◌, arith, Option, Some, None, Bool, true, false, slice_get, slice_set, get_or, option_map, nat_lt, ◌&&◌, ◌==◌, if◌then◌else◌, eq-eqb, Contains}
+use Rattle.std.proofs.Common.{◌≡◌, ◌≢◌, ℕ, ◌<◌, ◌≤◌, zero, suc, List, [], ◌∷◌, length, map, refl, ap, sym, subst, ◌∙◌, arith, Option, Some, None, Bool, true, false, slice_get, slice_set, get_or, option_map, nat_lt, ◌&&◌, ◌==◌, if◌then◌else◌, eq-eqb, Contains}
 use Rattle.std.specs.Global.{Vec}
 use Rattle.std.specs.List.{All}
 use Rattle.std.proofs.lemmas.Bool.{eqb-true, false_from_ne_true}
-use Rattle.std.proofs.lemmas.Option.{slice_get-map, get_or_from_slice_get, same_Some}
-use Rattle.std.proofs.lemmas.List.{length-map, map-set}
+use Rattle.std.proofs.lemmas.Option.{slice_get-map, slice_get_within, get_or_from_slice_get, none-some, same_Some}
+use Rattle.std.proofs.lemmas.List.{length-map, map-set, get_or-set_other, get_or-set_same}
 use Rattle.std.proofs.Math.ListN.{get_or-map}
 use Rattle.std.proofs.Math.Seq.{map-set_same}
 use Rattle.tb_terms.specs.declared.term.Term.{Term}
@@ -56,38 +56,58 @@ module _ {W : Type 0} (all : List (Living W)) (at : ℕ) (living : Living W) (in
         helds = map-set_same (λ (l : Living W). l.inbox.held) all at changed living (e ∙ ap (λ (l : Living W). l.inbox.held) (sym (get_or_from_slice_get all at living living here)));
       }
 
+  -- the others have as much memory as before
+  pub spare-set : (other : ℕ) → other ≢ at → spare_at (slice_set all at (record living { inbox = inbox })) other ≡ spare_at all other
+  spare-set other ne =
+      ap (λ (ns : List ℕ). get_or ns other 0) (map-set (λ (l : Living W). l.inbox.spare) all at (record living { inbox = inbox })) ∙ get_or-set_other (spares_of all) at other inbox.spare 0 ne
+
+  pub spare-here : spare_at (slice_set all at (record living { inbox = inbox })) at ≡ inbox.spare
+  spare-here =
+      let many = length-map all (λ (l : Living W). l.inbox.spare) in
+      let within = slice_get_within all at living here in
+      ap (λ (ns : List ℕ). get_or ns at 0) (map-set (λ (l : Living W). l.inbox.spare) all at (record living { inbox = inbox })) ∙ get_or-set_same (spares_of all) at inbox.spare 0 (omega arith)
+
 -- what doesn't rest on inboxes
 
 pub ascend-bares : {W : Type 0} (below : ℕ) (all : List (Living W)) → ascend below (rows_of (bares_of all)) ≡ ascend below (rows_of all)
 ascend-bares below [] = refl
 ascend-bares below (living ∷ all) = ap (λ rest. nat_lt below living.number && rest) (ascend-bares living.number all)
 
+pub same-long : {W : Type 0} (old new : List (Living W)) → bares_of new ≡ bares_of old → length new ≡ length old
+same-long {W = W} old new e = sym (length-map new bare) ∙ ap (λ (xs : List (Living W)). length xs) e ∙ length-map old bare
+
 pub all-bares : {W : Type 0} (P : Living W → Type 0) (old new : List (Living W)) → ((living : Living W) → P living → P (bare living)) → ((living : Living W) → P (bare living) → P living) → bares_of new ≡ bares_of old → All P old → All P new
 all-bares {W = W} P old new to from e h k d within =
-    let long : length new ≡ length old = sym (length-map new bare) ∙ ap (λ (xs : List (Living W)). length xs) e ∙ length-map old bare in
+    let long = same-long old new e in
     let less : k < length old = omega arith in
     let same : bare (get_or old k d) ≡ bare (get_or new k d) =
     sym (get_or-map bare old k d) ∙ ap (λ (xs : List (Living W)). get_or xs k (bare d)) (sym e) ∙ get_or-map bare new k d in
     from (get_or new k d) (subst P same (to (get_or old k d) (h k d less)))
+
+live-bare : {W P T : Type 0} (view : View P W T) (plans : List P) (now : ℕ) (living : Living W) → IsLive view plans now living → IsLive view plans now (bare living)
+live-bare view plans now living h = (h.0, h.1, record { is_on = h.2.is_on; alive = h.2.alive; sorts = h.2.sorts; ticks = h.2.ticks; ready = h.2.ready })
+
+live-filled : {W P T : Type 0} (view : View P W T) (plans : List P) (now : ℕ) (living : Living W) → IsLive view plans now (bare living) → IsLive view plans now living
+live-filled view plans now living h = (h.0, h.1, record { is_on = h.2.is_on; alive = h.2.alive; sorts = h.2.sorts; ticks = h.2.ticks; ready = h.2.ready })
 
 pub sound-bares : {W P T : Type 0} (view : View P W T) (bus : LiveBus W P T) (living : Vec (Living W)) → bares_of living.items ≡ bares_of bus.living.items → IsSound view bus → IsSound view (record bus { living = living })
 sound-bares view bus living e sound = record {
   in_order = sym (ascend-bares 0 living.items) ∙ ap (λ all. ascend 0 (rows_of all)) e ∙ ascend-bares 0 bus.living.items ∙ sound.in_order;
   below = all-bares (IsBelow bus.marks.next_number) bus.living.items living.items (λ l h. h) (λ l h. h) e sound.below;
   planned = sound.planned;
-  live = all-bares (IsLive view bus.plans bus.ticks) bus.living.items living.items (λ l h. h) (λ l h. h) e sound.live;
+  live = all-bares (IsLive view bus.plans bus.ticks) bus.living.items living.items (live-bare view bus.plans bus.ticks) (live-filled view bus.plans bus.ticks) e sound.live;
   fresh = all-bares (IsFreshOr bus.stale.items) bus.living.items living.items (λ l h. h) (λ l h. h) e sound.fresh;
 }
 
 -- one at an index is as it was, but for its inbox
 
-same-by : {W : Type 0} (before : Living W) (found : Option (Living W)) → option_map bare found ≡ Some (bare before) → (after : Living W) × (found ≡ Some after) × (bare after ≡ bare before)
-same-by before None e = cc
-same-by before (Some after) e = (after, refl, same_Some (bare after) (bare before) e)
+mapped-some : {A B : Type 0} (f : A → B) (found : Option A) (y : B) → option_map f found ≡ Some y → (x : A) × (found ≡ Some x) × (f x ≡ y)
+mapped-some f None y e = absurd (none-some y e)
+mapped-some f (Some x) y e = (x, refl, same_Some (f x) y e)
 
 pub kept-bares : {W : Type 0} (old new : List (Living W)) (at : ℕ) (before : Living W) → slice_get old at ≡ Some before → bares_of new ≡ bares_of old → IsKept old new at
 kept-bares {W = W} old new at before here e =
-    let found = same-by before (slice_get new at)
+    let found = mapped-some bare (slice_get new at) (bare before)
     (sym (slice_get-map bare new at) ∙ ap (λ (xs : List (Living W)). slice_get xs at) e ∙ slice_get-map bare old at ∙ ap (option_map bare) here) in
     record {
       before = before;

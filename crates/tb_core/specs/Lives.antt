@@ -56,8 +56,8 @@ abbrev pub procs_of : {W P T : Type 0} → View P W T → List P → List (Livin
 procs_of view plans all = map (proc_in view plans) all
 
 -- one of the living as it begins: with this number, of the body at this place, by this plan and with this store
-pub record Begins {W P T : Type 0} (view : View P W T) (plan : P) (number process : ℕ) (store : List Slot) (living : Living W) : Type 0 where
-  pub number : living.number ≡ number
+pub record Begins {W P T : Type 0} (view : View P W T) (plan : P) (from process : ℕ) (store : List Slot) (living : Living W) : Type 0 where
+  pub number : living.number ≡ from
   pub body : living.body ≡ process
   pub inbox : living.inbox.held ≡ nothing
   pub walking : view.walking plan living.walker ≡ entering (view.body_of plan) store

@@ -7,15 +7,15 @@ use tb_match::{Bind, Binds};
 use tb_terms::{Items, NoMemory, Term, Terms};
 
 /// What was done: what is seen of it, and what its process binds.
-#[derive(Debug, Drop)]
+#[derive(Drop)]
 pub struct Done {
     pub kind: LabelKind,
     pub shown: Terms,
     pub binds: Binds,
 }
 
-/// What was done without terms and binds.
-pub fn done(alloc: Global, kind: LabelKind) -> Done
+/// What was done, where no term is seen and nothing is bound.
+pub fn kind_alone(alloc: Global, kind: LabelKind) -> Done
     ensures { result ≡ record { kind = kind; shown = []; binds = [] } }
 {
     Done {
@@ -29,7 +29,7 @@ pub fn done(alloc: Global, kind: LabelKind) -> Done
 pub fn printed(alloc: Global, text: Term) -> Result<Done, NoMemory>
     ensures { IfOk result (λ done. done ≡ record { kind = LabelKind.Printf; shown = text ∷ []; binds = [] }) }
 {
-    let mut done = done(alloc, LabelKind::Printf);
+    let mut done = kind_alone(alloc, LabelKind::Printf);
     done.shown.push(text)?;
     Ok(done)
 }
@@ -38,7 +38,7 @@ pub fn printed(alloc: Global, text: Term) -> Result<Done, NoMemory>
 pub fn created(alloc: Global, number: u32, slot: u32) -> Result<Done, NoMemory>
     ensures { IfOk result (λ done. done ≡ record { kind = LabelKind.Create; shown = number_term number ∷ []; binds = record { slot = slot; value = number_term number } ∷ [] }) }
 {
-    let mut done = done(alloc, LabelKind::Create);
+    let mut done = kind_alone(alloc, LabelKind::Create);
     done.shown.push(number_term(number))?;
     done.binds.push(Bind {
         slot,

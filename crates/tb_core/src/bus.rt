@@ -3,7 +3,7 @@ ghost use Rattle.std.below.core.specs.declared.int.usize.TheConstants.{MAX};
 ghost use Rattle.tb_log.specs.Limits.{terms_size};
 ghost use Rattle.tb_core.specs.Makings.{effect_by, shown_in};
 
-use crate::acting::{Done, created, done, printed};
+use crate::acting::{Done, created, kind_alone, printed};
 use crate::inboxes::{hand_out, subscribe_at, take_note_at, unsubscribe_at};
 use crate::looking::{go_on, look};
 use crate::opening::{numbers_of, open_all, open_at, plan_all};
@@ -351,21 +351,21 @@ impl<W: Walker> LiveBus<W> {
         ensures err { OnErr result (StandsAs W.view self.old self.new) }
     {
         match own {
-            OwnAction::Tau => Ok(done(alloc, LabelKind::Tau)),
+            OwnAction::Tau => Ok(kind_alone(alloc, LabelKind::Tau)),
             OwnAction::Set(shown, binds) => Ok(Done {
                 kind: LabelKind::Set,
                 shown,
                 binds,
             }),
             OwnAction::Print(text) => printed(alloc, text),
-            OwnAction::NoNote(_) => Ok(done(alloc, LabelKind::NoNote)),
+            OwnAction::NoNote(_) => Ok(kind_alone(alloc, LabelKind::NoNote)),
             OwnAction::Subscribe(patterns) => {
                 subscribe_at(&mut self.living, at, patterns)?;
-                Ok(done(alloc, LabelKind::Subscribe))
+                Ok(kind_alone(alloc, LabelKind::Subscribe))
             }
             OwnAction::Unsubscribe(patterns) => {
                 unsubscribe_at(&mut self.living, at, &patterns);
-                Ok(done(alloc, LabelKind::Unsubscribe))
+                Ok(kind_alone(alloc, LabelKind::Unsubscribe))
             }
             OwnAction::Create(process, actuals, slot) => {
                 self.create(alloc, process, actuals, slot)
@@ -390,7 +390,8 @@ impl<W: Walker> LiveBus<W> {
     {
         let number = self.marks.next_number;
         let done = created(alloc, number, slot)?;
-        let bodies = self.origin.program.bodies.as_slice();
+        let program = &self.origin.program;
+        let bodies = program.bodies.as_slice();
         let living = open_at::<W>(alloc, bodies, &self.plans, number, process, actuals)?;
         self.stale.reserve(1)?;
         self.living.push(living)?;

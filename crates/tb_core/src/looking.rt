@@ -54,7 +54,10 @@ fn set_action(
 fn print_action(alloc: Global, values: &Terms) -> Result<Option<Action>, NoMemory>
     ensures { IfOk result (λ action. action ≡ option_map print_action (printf_of values.now)) }
 {
-    Ok(printf_text(alloc, values)?.map(|text| Action::Own(OwnAction::Print(text))))
+    match printf_text(alloc, values)? {
+        Some(text) => Ok(Some(Action::Own(OwnAction::Print(text)))),
+        None => Ok(None),
+    }
 }
 
 /// The action of an offered atom, where its arguments have values.
@@ -88,19 +91,34 @@ fn action_in<W: Walker>(
             Some(actuals) => Ok(Some(Action::Own(OwnAction::Create(process, actuals, slot)))),
             None => Ok(None),
         },
-        Act::SndMsg(_) => Ok(walker.sent(alloc, plan, k)?.map(Action::Send)),
-        Act::RecMsg(_) => Ok(walker.patterns(alloc, plan, k)?.map(Action::Receive)),
-        Act::SndNote(_) => Ok(walker.sent(alloc, plan, k)?.map(Action::Notify)),
-        Act::RecNote(_) => Ok(walker.patterns(alloc, plan, k)?.map(Action::TakeNote)),
-        Act::NoNote(_) => Ok(walker
-            .patterns(alloc, plan, k)?
-            .map(|patterns| Action::Own(OwnAction::NoNote(patterns)))),
-        Act::Subscribe(_) => Ok(walker
-            .patterns(alloc, plan, k)?
-            .map(|patterns| Action::Own(OwnAction::Subscribe(patterns)))),
-        Act::Unsubscribe(_) => Ok(walker
-            .patterns(alloc, plan, k)?
-            .map(|patterns| Action::Own(OwnAction::Unsubscribe(patterns)))),
+        Act::SndMsg(_) => match walker.sent(alloc, plan, k)? {
+            Some(terms) => Ok(Some(Action::Send(terms))),
+            None => Ok(None),
+        },
+        Act::RecMsg(_) => match walker.patterns(alloc, plan, k)? {
+            Some(patterns) => Ok(Some(Action::Receive(patterns))),
+            None => Ok(None),
+        },
+        Act::SndNote(_) => match walker.sent(alloc, plan, k)? {
+            Some(terms) => Ok(Some(Action::Notify(terms))),
+            None => Ok(None),
+        },
+        Act::RecNote(_) => match walker.patterns(alloc, plan, k)? {
+            Some(patterns) => Ok(Some(Action::TakeNote(patterns))),
+            None => Ok(None),
+        },
+        Act::NoNote(_) => match walker.patterns(alloc, plan, k)? {
+            Some(patterns) => Ok(Some(Action::Own(OwnAction::NoNote(patterns)))),
+            None => Ok(None),
+        },
+        Act::Subscribe(_) => match walker.patterns(alloc, plan, k)? {
+            Some(patterns) => Ok(Some(Action::Own(OwnAction::Subscribe(patterns)))),
+            None => Ok(None),
+        },
+        Act::Unsubscribe(_) => match walker.patterns(alloc, plan, k)? {
+            Some(patterns) => Ok(Some(Action::Own(OwnAction::Unsubscribe(patterns)))),
+            None => Ok(None),
+        },
         Act::Delta
         | Act::Execute { .. }
         | Act::RecConnect { .. }
@@ -234,6 +252,7 @@ pub fn go_on<W: Walker>(
     ensures ended { result ≡ is_end (W.view.walking plan.now living.new.walker).term }
     ensures number { living.new.number ≡ living.old.number }
     ensures body { living.new.body ≡ living.old.body }
+    ensures inbox { living.new.inbox ≡ living.old.inbox }
     ensures stale { living.new.fresh ≡ false }
 {
     living.fresh = false;
