@@ -1,32 +1,51 @@
 -- A candidate that is made: what was taken of its processes leads to the bus after its move.
-use Rattle.std.proofs.Common.{◌≡◌, ℕ, ◌<◌, ◌≢◌, List, [], ◌∷◌, ◌++◌, length, ap, sym, subst, ◌∙◌, true, Contains}
+use Rattle.std.proofs.Common.{◌≡◌, ℕ, ◌<◌, ◌≢◌, List, [], ◌∷◌, ◌++◌, length, refl, ap, sym, subst, ◌∙◌, Option, Some, None, Bool, true, false, Contains, MatchOption, slice_get, nat_lt, ◌&&◌, if◌then◌else◌, option_and_then}
+use Rattle.std.proofs.lemmas.Bool.{and_from, and_parts}
+use Rattle.std.proofs.lemmas.Option.{same_Some, slice_get_within}
 use Rattle.std.proofs.lemmas.List.Elements.{Contains-append_left, Contains-push}
 use Rattle.std.specs.Global.{Vec}
 use Rattle.tb_terms.specs.declared.term.Term.{Term}
+use Rattle.tb_terms.specs.declared.sort.Sort.{Sort}
+use Rattle.tb_terms.specs.declared.pattern.Pattern.{Pattern}
 use Rattle.tb_func.specs.declared.slot.Slot.{Slot}
+use Rattle.tb_func.specs.Stores.{sort_at}
 use Rattle.tb_match.specs.declared.bind.Bind.{Bind}
-use Rattle.tb_algebra.specs.Binds.{takes_binds}
+use Rattle.tb_match.specs.Matches.{match_list}
+use Rattle.tb_body.specs.declared.body.Body.{Body}
+use Rattle.tb_algebra.specs.Binds.{has_slot_sort, takes_bind, takes_binds}
 use Rattle.tb_algebra.specs.Offers.{Offered}
 use Rattle.tb_algebra.specs.Walks.{sorts_of}
 use Rattle.tb_algebra.specs.WalkerViews.{View}
-use Rattle.tb_algebra.proofs.Sorts.{offer_at-keeps}
+use Rattle.tb_algebra.proofs.Sorts.{offer_at-keeps, sort_at-sorts_of}
+use Rattle.tb_notes.specs.Inboxes.{Held, oldest_match}
+use Rattle.tb_notes.specs.Oldest.{IsOldest, NoneMatches}
+use Rattle.tb_notes.specs.declared.queue.Found.{Found}
+use Rattle.tb_notes.proofs.Finding.{oldest-first}
 use Rattle.tb_bus.specs.Buses.{Bus, Proc}
+use Rattle.tb_bus.specs.Effects.{Effect, changed, creation, effect_of, fits_formals, fits_slot, may_create, number_term, own_effect}
 use Rattle.tb_bus.specs.Steps.{advance, apply, label_of, nowhere, place_of}
 use Rattle.tb_bus.specs.Steps as move
-use Rattle.tb_bus.specs.Candidates.{Row, row_at, rows_of}
-use Rattle.tb_bus.specs.Views.{proc_at, ready_at, offer_of, move_of, own_move, effect_in, sent_in}
+use Rattle.tb_bus.specs.Candidates.{Row, no_row, row_at, row_of, rows_of}
+use Rattle.tb_bus.specs.Views.{no_proc, proc_at, ready_at, offer_of, own_move, move_by, sent_in}
+use Rattle.tb_bus.specs.declared.action.Action.{Action}
 use Rattle.tb_bus.specs.declared.action.Action.TheVariants as action
 use Rattle.tb_bus.specs.declared.action.OwnAction.{OwnAction}
+use Rattle.tb_bus.specs.declared.action.OwnAction.TheVariants as own
 use Rattle.tb_bus.specs.declared.candidate.Candidate.TheVariants.{Handshake}
-use Rattle.tb_bus.specs.declared.effect.Effect.{Effect}
+use Rattle.tb_bus.specs.declared.living.Living.{Living}
 use Rattle.tb_bus.specs.declared.living.Ready.{Ready}
+use Rattle.tb_bus.proofs.EffectLemmas.{effect_in}
 use Rattle.tb_log.specs.declared.entry.Label.{Label}
+use Rattle.tb_log.specs.declared.entry.LabelKind.{LabelKind}
 use Rattle.tb_log.specs.declared.entry.LabelKind.TheVariants as kind
 use Rattle.tb_log.specs.declared.entry.Place.{Place}
-use Rattle.tb_core.specs.LiveBuses.{AreFresh, IsSound, IsAdvanced, AreAdvanced, Leaves, CanAdvance, bus_of, procs_in}
+use Rattle.tb_core.specs.Lives.{proc_by, proc_in}
+use Rattle.tb_core.specs.Makings.{effect_by, IsPlainIn}
+use Rattle.tb_core.specs.LiveBuses.{AreFresh, IsSound, StandsAs, AreAdvanced, Leaves, CanAdvance, IsKept, IsDone, IsChanged, HasGone, bus_of, procs_in, move_in}
+use Rattle.tb_core.specs.declared.acting.Done.{Done}
 use Rattle.tb_core.specs.declared.bus.LiveBus.{LiveBus}
-use Rattle.tb_core.proofs.ReadLemmas.{live-there}
-use Rattle.tb_core.proofs.FreshLemmas.{ActionFits, action-at, fits-at, own-takes}
+use Rattle.tb_core.proofs.ReadLemmas.{live-there, map-there}
+use Rattle.tb_core.proofs.FreshLemmas.{ActionFits, OwnFits, action-at, fits-at}
 
 -- the offer of one of the actions of a process
 pub record OfferIs {W P T : Type 0} (view : View P W T) (bus : LiveBus W P T) (at index : ℕ) : Type 0 where
@@ -45,7 +64,7 @@ offer-is view bus at index taken offered sound fresh within leaves =
     let ready = ready_at (rows_of bus.living.items) at index in
     record {
       sorts = (offer_at-keeps walking ready.offer offer there.here).sorts ∙ ap (λ (p : Proc). sorts_of p.store) (sym it.proc);
-      fits = fits-at (view.body_of it.plan).atoms bus.ticks walking ready offer there;
+      fits = fits-at (view.body_of it.plan) bus.ticks walking ready offer there;
       number = ap (λ (r : Row). r.number) it.row ∙ ap (λ (p : Proc). p.number) (sym it.proc);
       atom = there.atom;
     }
@@ -56,33 +75,6 @@ pub can-advance : {W P T : Type 0} (view : View P W T) (old new : LiveBus W P T)
 can-advance view old new at index taken binds is same leaves takes =
     (offer_of (procs_in view old) (rows_of old.living.items) at index, leaves, is.sorts ∙ ap (λ (b : Bus). sorts_of (proc_at b.procs at).store) (sym same), takes)
 
--- an action by itself, with the effect that it has
-pub record IsOwnReady (ready : Ready) (own : OwnAction) (effect : Effect) : Type 0 where
-  pub action : ready.action ≡ action.Own own
-  pub effect_is : effect ≡ effect_in own
-
-pub own-ready : (taken ready : Ready) (read own : OwnAction) (effect : Effect) → taken ≡ ready → taken.action ≡ action.Own own → effect ≡ effect_in read → read ≡ own → IsOwnReady ready own effect
-own-ready taken ready read own effect e f g h = record { action = ap (λ (r : Ready). r.action) (sym e) ∙ f; effect_is = g ∙ ap effect_in h }
-
--- the store takes what it sets
-pub own-fits : (store : List Slot) (ready : Ready) (own : OwnAction) (effect : Effect) → ActionFits store ready.action → IsOwnReady ready own effect → takes_binds store effect.binds ≡ true
-own-fits store ready own effect fits is = ap (λ (x : Effect). takes_binds store x.binds) is.effect_is ∙ own-takes store ready.action own fits is.action
-
--- the bus after a process went on by itself
-pub own-made : {W P T : Type 0} (view : View P W T) (old taken new : LiveBus W P T) (at index : ℕ) (own : OwnAction) (effect : Effect) (last : ℕ) → OfferIs view old at index → bus_of view taken ≡ bus_of view old →
-    (row_at (rows_of taken.living.items) at).number ≡ (row_at (rows_of old.living.items) at).number → IsAdvanced view taken at (offer_of (procs_in view old) (rows_of old.living.items) at index) effect.binds new →
-    IsOwnReady (ready_at (rows_of old.living.items) at index) own effect → last ≡ (row_at (rows_of old.living.items) at).number →
-    ◌≡◌ {A = Bus} (record (bus_of view new) { last_starter = last })
-    (apply (bus_of view old) (own_move (proc_at (procs_in view old) at) (offer_of (procs_in view old) (rows_of old.living.items) at index) (ready_at (rows_of old.living.items) at index).action))
-own-made view old taken new at index own effect last is same number went it g =
-    let offer = offer_of (procs_in view old) (rows_of old.living.items) at index in
-    ap (λ (b : Bus). let after : Bus = record b { last_starter = last } in after) went.bus
-    ∙ ap (λ (b : Bus). let after : Bus = record b { procs = advance (row_at (rows_of taken.living.items) at).number offer effect.binds b.procs; last_starter = last } in after) same
-    ∙ ap (λ (n : ℕ). let after : Bus = record (bus_of view old) { procs = advance n offer effect.binds (procs_in view old); last_starter = last } in after) (number ∙ is.number)
-    ∙ ap (λ (n : ℕ). let after : Bus = record (bus_of view old) { procs = advance (proc_at (procs_in view old) at).number offer effect.binds (procs_in view old); last_starter = n } in after) (g ∙ is.number)
-    ∙ ap (λ (x : Effect). let after : Bus = record (bus_of view old) { procs = advance (proc_at (procs_in view old) at).number offer x.binds (procs_in view old); last_starter = (proc_at (procs_in view old) at).number } in after) it.effect_is
-    ∙ ap (λ found. apply (bus_of view old) (own_move (proc_at (procs_in view old) at) offer found)) (sym it.action)
-
 -- the place of an offer
 pub place-is : {W P T : Type 0} (view : View P W T) (bus : LiveBus W P T) (at index : ℕ) (place : Place) → OfferIs view bus at index →
     place.proc ≡ (row_at (rows_of bus.living.items) at).number → place.atom ≡ (ready_at (rows_of bus.living.items) at index).atom →
@@ -91,13 +83,197 @@ place-is view bus at index place is e f =
     ap (λ (n : ℕ). let p : Place = record { proc = n; atom = place.atom } in p) (e ∙ is.number)
     ∙ ap (λ (n : ℕ). let p : Place = record { proc = (proc_at (procs_in view bus) at).number; atom = n } in p) (f ∙ is.atom)
 
--- what is seen of it
-pub own-label : (proc : Proc) (offer : Offered) (ready : Ready) (own : OwnAction) (effect : Effect) (place : Place) → IsOwnReady ready own effect → place ≡ place_of proc offer →
-    ◌≡◌ {A = Label} (record { kind = effect.kind; from = place; to = nowhere; terms = effect.shown }) (label_of (own_move proc offer ready.action))
-own-label proc offer ready own effect place it g =
-    ap (λ (x : Effect). let l : Label = record { kind = x.kind; from = place; to = nowhere; terms = x.shown } in l) it.effect_is
-    ∙ ap (λ (p : Place). let l : Label = record { kind = (effect_in own).kind; from = p; to = nowhere; terms = (effect_in own).shown } in l) g
-    ∙ ap (λ x. label_of (own_move proc offer x)) (sym it.action)
+-- the one at an index is kept
+
+pub kept-leaves : {W P T : Type 0} (view : View P W T) (old new : LiveBus W P T) (at : ℕ) (taken : T) (offered : Offered) → IsKept old.living.items new.living.items at → new.plans ≡ old.plans → Leaves view old at taken offered → Leaves view new at taken offered
+kept-leaves {W = W} view old new at taken offered kept plans leaves =
+    let same : leaves.0 ≡ kept.before = same_Some leaves.0 kept.before (sym leaves.1 ∙ kept.here) in (
+      kept.after,
+      kept.there,
+      (
+        leaves.2.0,
+        ap (slice_get new.plans) (kept.body ∙ ap (λ (l : Living W). l.body) (sym same)) ∙ ap (λ ps. slice_get ps leaves.0.body) plans ∙ leaves.2.1,
+        subst (λ w. view.leaves leaves.2.0 w taken offered) (ap (λ (l : Living W). l.walker) same ∙ sym kept.walker) leaves.2.2,
+      ),
+    )
+
+pub kept-number : {W : Type 0} (old new : List (Living W)) (at : ℕ) → IsKept old new at → (row_at (rows_of new) at).number ≡ (row_at (rows_of old) at).number
+kept-number old new at kept =
+    ap (λ (r : Row). r.number) (map-there row_of new at kept.after no_row kept.there) ∙ kept.number ∙ ap (λ (r : Row). r.number) (sym (map-there row_of old at kept.before no_row kept.here))
+
+store-by : {W P T : Type 0} (view : View P W T) (plan : Option P) (one other : Living W) → one.walker ≡ other.walker → (proc_by view plan one).store ≡ (proc_by view plan other).store
+store-by view None one other e = refl
+store-by view (Some plan) one other e = ap (λ w. (view.walking plan w).store) e
+
+pub kept-store : {W P T : Type 0} (view : View P W T) (old new : LiveBus W P T) (at : ℕ) → IsKept old.living.items new.living.items at → new.plans ≡ old.plans → (proc_at (procs_in view new) at).store ≡ (proc_at (procs_in view old) at).store
+kept-store view old new at kept plans =
+    ap (λ (p : Proc). p.store) (map-there (proc_in view new.plans) new.living.items at kept.after no_proc kept.there)
+    ∙ ap (λ ps. (proc_by view (slice_get ps kept.after.body) kept.after).store) plans
+    ∙ ap (λ b. (proc_by view (slice_get old.plans b) kept.after).store) kept.body
+    ∙ store-by view (slice_get old.plans kept.before.body) kept.after kept.before kept.walker
+    ∙ ap (λ (p : Proc). p.store) (sym (map-there (proc_in view old.plans) old.living.items at kept.before no_proc kept.here))
+
+pub kept-within : {W : Type 0} (old new : List (Living W)) (at : ℕ) → IsKept old new at → at < length new
+kept-within old new at kept = slice_get_within new at kept.after kept.there
+
+pub kept-then : {W : Type 0} (old middle new : List (Living W)) (at : ℕ) → IsKept old middle at → IsKept middle new at → IsKept old new at
+kept-then {W = W} old middle new at one other =
+    let same : other.before ≡ one.after = same_Some other.before one.after (sym other.here ∙ one.there) in
+    record {
+      before = one.before;
+      after = other.after;
+      here = one.here;
+      there = other.there;
+      number = other.number ∙ ap (λ (l : Living W). l.number) same ∙ one.number;
+      body = other.body ∙ ap (λ (l : Living W). l.body) same ∙ one.body;
+      walker = other.walker ∙ ap (λ (l : Living W). l.walker) same ∙ one.walker;
+    }
+
+-- a process by itself
+
+-- its action was begun, and its change was made
+pub record IsActed {W P T : Type 0} (view : View P W T) (old begun mid : LiveBus W P T) (at index : ℕ) (effect : Effect) : Type 0 where
+  pub offer : OfferIs view old at index
+  pub same : StandsAs view old begun
+  pub begun_kept : IsKept old.living.items begun.living.items at
+  pub named : Contains begun.stale.items (row_at (rows_of old.living.items) at).number
+  pub change : IsChanged view begun at effect mid
+  pub effect_is : effect_of (bus_of view old) (proc_at (procs_in view old) at) (ready_at (rows_of old.living.items) at index).action ≡ Some effect
+  pub takes : takes_binds (offer_of (procs_in view old) (rows_of old.living.items) at index).store effect.binds ≡ true
+
+-- a bus on which a process has gone on, and is the last starter
+abbrev gone_on : Offered → ℕ → List Bind → ℕ → Bus → Bus
+gone_on offered number binds last bus = record bus { procs = advance number offered binds bus.procs; last_starter = last }
+
+module _ {W P T : Type 0} (view : View P W T) (old begun mid : LiveBus W P T) (at index : ℕ) (effect : Effect) (it : IsActed view old begun mid at index effect) where
+  abbrev offered : Offered
+  offered = offer_of (procs_in view old) (rows_of old.living.items) at index
+
+  kept : IsKept old.living.items mid.living.items at
+  kept = kept-then old.living.items begun.living.items mid.living.items at it.begun_kept it.change.kept
+
+  plans : mid.plans ≡ old.plans
+  plans = it.change.plans ∙ it.same.plans
+
+  pub acted-within : at < length mid.living.items
+  acted-within = kept-within old.living.items mid.living.items at kept
+
+  pub acted-named : Contains mid.stale.items (row_at (rows_of mid.living.items) at).number
+  acted-named = subst (Contains mid.stale.items) (sym (kept-number old.living.items mid.living.items at kept)) (it.change.named (row_at (rows_of old.living.items) at).number it.named)
+
+  pub acted-leaves : (taken : T) → Leaves view old at taken offered → Leaves view mid at taken offered
+  acted-leaves taken leaves = kept-leaves view old mid at taken offered kept plans leaves
+
+  -- so it can go on with what was taken
+  pub acted-advance : (taken : T) (binds : List Bind) → Leaves view old at taken offered → binds ≡ effect.binds → CanAdvance view mid at taken binds
+  acted-advance taken binds leaves e = (
+    offered,
+    acted-leaves taken leaves,
+    it.offer.sorts ∙ ap sorts_of (sym (kept-store view old mid at kept plans)),
+    ap (takes_binds offered.store) e ∙ it.takes,
+  )
+
+  -- and then its move was made
+  pub acted-made : (new : LiveBus W P T) (binds : List Bind) (last : ℕ) → HasGone view mid at offered binds last new → binds ≡ effect.binds → last ≡ (row_at (rows_of old.living.items) at).number →
+      bus_of view new ≡ apply (bus_of view old) (move_by (bus_of view old) (rows_of old.living.items) at index)
+  acted-made new binds last went e f =
+      let proc : Proc = proc_at (procs_in view old) at in
+      let number : ℕ = (row_at (rows_of mid.living.items) at).number in
+      let its : ℕ = (row_at (rows_of begun.living.items) at).number in
+      went.bus
+      ∙ ap (gone_on offered number binds last) it.change.bus
+      ∙ ap (λ (b : Bus). gone_on offered number binds last (changed effect.change its b)) it.same.bus
+      ∙ ap (λ n. gone_on offered number binds last (changed effect.change n (bus_of view old))) (kept-number old.living.items begun.living.items at it.begun_kept ∙ it.offer.number)
+      ∙ ap (λ n. gone_on offered n binds last (changed effect.change proc.number (bus_of view old))) (kept-number old.living.items mid.living.items at kept ∙ it.offer.number)
+      ∙ ap (λ xs. gone_on offered proc.number xs last (changed effect.change proc.number (bus_of view old))) e
+      ∙ ap (λ n. gone_on offered proc.number effect.binds n (changed effect.change proc.number (bus_of view old))) (f ∙ it.offer.number)
+      ∙ ap (λ found. apply (bus_of view old) (own_move proc offered found)) (sym it.effect_is)
+
+  pub acted-origin : (new : LiveBus W P T) → new.origin ≡ mid.origin → new.origin ≡ old.origin
+  acted-origin new e = e ∙ it.change.origin ∙ it.same.origin
+
+  -- what is seen of it
+  pub acted-label : (place : Place) (done : Done) → IsDone effect done → place.proc ≡ (row_at (rows_of old.living.items) at).number → place.atom ≡ (ready_at (rows_of old.living.items) at index).atom →
+      ◌≡◌ {A = Label} (record { kind = done.kind; from = place; to = nowhere; terms = done.shown }) (label_of (move_by (bus_of view old) (rows_of old.living.items) at index))
+  acted-label place done is e f =
+      let proc : Proc = proc_at (procs_in view old) at in
+      ap (λ (k : LabelKind). let l : Label = record { kind = k; from = place; to = nowhere; terms = done.shown } in l) is.0
+      ∙ ap (λ (ts : List Term). let l : Label = record { kind = effect.kind; from = place; to = nowhere; terms = ts } in l) is.1
+      ∙ ap (λ (p : Place). let l : Label = record { kind = effect.kind; from = p; to = nowhere; terms = effect.shown } in l) (place-is view old at index place it.offer e f)
+      ∙ ap (λ found. label_of (own_move proc offered found)) (sym it.effect_is)
+
+-- what its store takes
+
+may-from : (b : Bool) (x y : Effect) → (if b then Some x else None) ≡ Some y → b ≡ true
+may-from true x y e = refl
+may-from false x y e = cc
+
+slot-fits : (found : Option Body) (body : Body) (slot : ℕ) (value : Term) → found ≡ Some body → fits_slot found slot value ≡ true → has_slot_sort (slice_get body.sorts slot) value ≡ true
+slot-fits None body slot value e h = cc
+slot-fits (Some found) body slot value e h = let same : found ≡ body = same_Some found body e in ap (λ (b : Body). has_slot_sort (slice_get b.sorts slot) value) (sym same) ∙ h
+
+-- the actuals of a creation fit, and its slot takes the number
+pub create-fits : (bus : Bus) (proc : Proc) (effect : Effect) (process : ℕ) (actuals : List Term) (slot : ℕ) → own_effect bus proc (own.Create process actuals slot) ≡ Some effect →
+    (fits_formals (slice_get bus.program.bodies process) actuals ≡ true) × (fits_slot (slice_get bus.program.bodies proc.body) slot (number_term bus.next_number) ≡ true)
+create-fits bus proc effect process actuals slot h =
+    let may = may-from (may_create bus.program.bodies (length bus.procs) bus.next_number proc.body process actuals slot) (creation bus.next_number process actuals slot) effect h in
+    let formals = fits_formals (slice_get bus.program.bodies process) actuals in
+    let parts = and_parts (nat_lt (length bus.procs) 10000 && formals) (fits_slot (slice_get bus.program.bodies proc.body) slot (number_term bus.next_number)) may in
+    ((and_parts (nat_lt (length bus.procs) 10000) formals parts.0).1, parts.1)
+
+pub own-takes : (bus : Bus) (proc : Proc) (store : List Slot) (body : Body) (own : OwnAction) → slice_get bus.program.bodies proc.body ≡ Some body → sorts_of store ≡ body.sorts → OwnFits store own →
+    own_effect bus proc own ≡ Some (effect_by bus.next_number own) → takes_binds store (effect_by bus.next_number own).binds ≡ true
+own-takes bus proc store body own.Tau there sorts fits h = refl
+own-takes bus proc store body (own.Set values binds) there sorts fits h = fits
+own-takes bus proc store body (own.Print text) there sorts fits h = refl
+own-takes bus proc store body (own.NoNote patterns) there sorts fits h = refl
+own-takes bus proc store body (own.Subscribe patterns) there sorts fits h = refl
+own-takes bus proc store body (own.Unsubscribe patterns) there sorts fits h = refl
+own-takes bus proc store body (own.Create process actuals slot) there sorts fits h =
+    let value : Term = number_term bus.next_number in
+    let takes : has_slot_sort (slice_get body.sorts slot) value ≡ true =
+    slot-fits (slice_get bus.program.bodies proc.body) body slot value there (create-fits bus proc (creation bus.next_number process actuals slot) process actuals slot h).1 in
+    let same : sort_at store slot ≡ slice_get body.sorts slot = sort_at-sorts_of store slot ∙ ap (λ (all : List Sort). slice_get all slot) sorts in
+    and_from (takes_bind store (record { slot = slot; value = value })) true (ap (λ found. has_slot_sort found value) same ∙ takes) refl
+
+-- the effects of actions by themselves, under both their names
+pub effect-same : (next : ℕ) (own : OwnAction) → effect_in next own ≡ effect_by next own
+effect-same next own.Tau = refl
+effect-same next (own.Set values binds) = refl
+effect-same next (own.Print text) = refl
+effect-same next (own.NoNote patterns) = refl
+effect-same next (own.Subscribe patterns) = refl
+effect-same next (own.Unsubscribe patterns) = refl
+effect-same next (own.Create process actuals slot) = refl
+
+pub own-plain : (store : List Slot) (own : OwnAction) → OwnFits store own → IsPlainIn own
+own-plain store own.Tau fits = tt
+own-plain store (own.Set values binds) fits = tt
+own-plain store (own.Print text) fits = tt
+own-plain store (own.NoNote patterns) fits = tt
+own-plain store (own.Subscribe patterns) fits = fits
+own-plain store (own.Unsubscribe patterns) fits = tt
+own-plain store (own.Create process actuals slot) fits = tt
+
+-- a note that was found in a queue: it stands there, and the store takes what it binds
+
+pub record IsFoundIn (patterns : List Pattern) (held : Held) (found : Found) : Type 0 where
+  pub note : List Term
+  pub there : slice_get held.notes found.place ≡ Some note
+  pub matches : match_list patterns note ≡ Some found.binds
+
+binds-by : (patterns : List Pattern) (held : Held) (found : Found) (note : Option (List Term)) → slice_get held.notes found.place ≡ note → option_and_then (match_list patterns) note ≡ Some found.binds → IsFoundIn patterns held found
+binds-by patterns held found None e h = cc
+binds-by patterns held found (Some note) e h = record { note = note; there = e; matches = h }
+
+pub found-in : (patterns : List Pattern) (held : Held) (found : Found) → oldest_match patterns held ≡ Some found → IsFoundIn patterns held found
+found-in patterns held found e =
+    let oldest : IsOldest patterns held.notes found = subst (λ o. MatchOption o (NoneMatches patterns held.notes) (IsOldest patterns held.notes)) e (oldest-first patterns held) in
+    binds-by patterns held found (slice_get held.notes found.place) refl oldest.0
+
+-- an action that is known in two ways
+pub action-own : (one : Action) (own other : OwnAction) → one ≡ action.Own own → one ≡ action.Own other → own ≡ other
+action-own one own other e f = let same : action.Own own ≡ action.Own other = sym e ∙ f in cc
 
 -- the numbers of both parties are named
 pub named-first : (old middle last stale : Vec ℕ) (one other before number : ℕ) → stale ≡ last → last.items ≡ middle.items ++ other ∷ [] → middle.items ≡ old.items ++ one ∷ [] → number ≡ before → one ≡ before → Contains stale.items number
@@ -118,7 +294,7 @@ pub handshake-made : {W P T : Type 0} (view : View P W T) (old taken new : LiveB
     (row_at (rows_of taken.living.items) at).number ≡ (row_at (rows_of old.living.items) at).number → (row_at (rows_of taken.living.items) other).number ≡ (row_at (rows_of old.living.items) other).number →
     AreAdvanced view taken at (offer_of (procs_in view old) (rows_of old.living.items) at index) other (offer_of (procs_in view old) (rows_of old.living.items) other action) binds new → last ≡ (row_at (rows_of old.living.items) at).number →
     ◌≡◌ {A = Bus} (record (bus_of view new) { last_starter = last })
-    (apply (bus_of view old) (move_of (procs_in view old) (rows_of old.living.items) (Handshake at index (record { living = other; received = record { action = action; binds = binds } }))))
+    (apply (bus_of view old) (move_in view old (Handshake at index (record { living = other; received = record { action = action; binds = binds } }))))
 handshake-made view old taken new at index other action binds last is its same number number_its went g =
     let procs = procs_in view old in
     let offer = offer_of procs (rows_of old.living.items) at index in

@@ -1,8 +1,10 @@
 //! A core: a bus over any walker, with its log. Each call makes at most one event of the bus, and logs it.
 #![tactic(auto)]
 
+mod acting;
 mod answers;
 mod bus;
+mod inboxes;
 mod looking;
 mod machine;
 mod opening;
