@@ -1,10 +1,9 @@
--- Which forms of a script aren't built yet: the times of atoms, and the atoms that speak with tools, `shutdown` among them.
+-- Which forms of a script aren't built yet: the atoms that speak with tools, `shutdown` among them.
 use Rattle.std.specs.Prelude.{ℕ, Bool, true, false, List, [], ◌∷◌, ◌++◌, map, Option, Some, None, codes, if◌then◌else◌}
 use Rattle.std.specs.List.{flat_map}
 use Rattle.tb_syntax.specs.declared.proc.ActDef.{ActDef}
 use Rattle.tb_syntax.specs.declared.proc.ActDef.TheVariants as act
 use Rattle.tb_syntax.specs.declared.proc.AtomDef.{AtomDef}
-use Rattle.tb_syntax.specs.declared.proc.TimeDef.{TimeDef}
 use Rattle.tb_syntax.specs.declared.proc.Proc.{Proc}
 use Rattle.tb_syntax.specs.declared.proc.Proc.TheOpen as tree
 use Rattle.tb_syntax.specs.declared.proc.Proc.TheFolds.{fold-Proc}
@@ -22,9 +21,9 @@ is_built (act.Set name value) = true
 is_built (act.Create call variable) = true
 is_built (act.Named word arguments) = is_among built_words word
 
--- the first tokens of the forms in an atom that aren't built, in text order: the atom itself, then its times
+-- the first token of an atom that isn't built
 abbrev pub unbuilt_atom : AtomDef → List ℕ
-unbuilt_atom atom = (if is_built atom.act then [] else atom.token ∷ []) ++ map (λ (time : TimeDef). time.token) atom.times
+unbuilt_atom atom = if is_built atom.act then [] else atom.token ∷ []
 
 -- those of the side that may lack
 abbrev pub or_nothing : Option (List ℕ) → List ℕ

@@ -74,12 +74,12 @@ static TEXTS: [(&str, Expected); 17] = [
         Expected::Accepted,
     ),
     (
-        "process P is tau delay(1) toolbus(P)",
-        Expected::NotBuilt(4),
+        "process P is tau delay(1) timeout(2) abs-delay(1) abs-timeout(3) toolbus(P)",
+        Expected::Accepted,
     ),
     (
         "process P is snd-msg(a) . tau timeout(1) delay(2) . shutdown(a) toolbus(P)",
-        Expected::NotBuilt(9),
+        Expected::NotBuilt(18),
     ),
     (
         "process P is tau process Q is delta . shutdown(a) delay(1) toolbus(P)",

@@ -4,8 +4,7 @@ ghost use Rattle.tb_script.specs.Unbuilt.{is_built, unbuilt_atom, unbuilt_in, fi
 
 use tb_syntax::{ActDef, AtomDef, Proc, Script};
 
-/// The first token of the first form that isn't built: the times of atoms, and the atoms that speak with
-/// tools, `shutdown` among them.
+/// The first token of the first form that isn't built: the atoms that speak with tools, `shutdown` among them.
 #[tactic(auto, using(crate::proofs::UnbuiltProcs::first_of_both))]
 pub(crate) fn first_unbuilt(script: &Script) -> Option<usize>
     ensures { result ≡ first_unbuilt script.now }
@@ -48,12 +47,10 @@ fn earlier(front: Option<usize>, behind: Option<usize>) -> Option<usize>
 fn first_in_atom(atom: &AtomDef) -> Option<usize>
     ensures { result ≡ first_of (unbuilt_atom atom.now) }
 {
-    if !is_built(&atom.act) {
-        return Some(atom.token);
-    }
-    match atom.times.as_slice().first() {
-        Some(time) => Some(time.token),
-        None => None,
+    if is_built(&atom.act) {
+        None
+    } else {
+        Some(atom.token)
     }
 }
 
