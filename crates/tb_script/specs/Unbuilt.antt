@@ -1,10 +1,9 @@
--- Which forms of a script aren't built yet: the times of atoms, and the atoms other than `tau`, `delta`, `:=`, `snd-msg` and `rec-msg`.
+-- Which forms of a script aren't built yet: the atoms that speak with tools, `shutdown` among them.
 use Rattle.std.specs.Prelude.{ℕ, Bool, true, false, List, [], ◌∷◌, ◌++◌, map, Option, Some, None, codes, if◌then◌else◌}
 use Rattle.std.specs.List.{flat_map}
 use Rattle.tb_syntax.specs.declared.proc.ActDef.{ActDef}
 use Rattle.tb_syntax.specs.declared.proc.ActDef.TheVariants as act
 use Rattle.tb_syntax.specs.declared.proc.AtomDef.{AtomDef}
-use Rattle.tb_syntax.specs.declared.proc.TimeDef.{TimeDef}
 use Rattle.tb_syntax.specs.declared.proc.Proc.{Proc}
 use Rattle.tb_syntax.specs.declared.proc.Proc.TheOpen as tree
 use Rattle.tb_syntax.specs.declared.proc.Proc.TheFolds.{fold-Proc}
@@ -13,16 +12,18 @@ use Rattle.tb_syntax.specs.declared.script.Script.{Script}
 use Rattle.tb_syntax.specs.Words.{is_among}
 
 abbrev pub built_words : List (List ℕ)
-built_words = codes "tau" ∷ codes "delta" ∷ codes "snd-msg" ∷ codes "rec-msg" ∷ []
+built_words =
+    codes "tau" ∷ codes "delta" ∷ codes "printf" ∷ codes "snd-msg" ∷ codes "rec-msg" ∷ codes "snd-note" ∷ codes "rec-note"
+    ∷ codes "no-note" ∷ codes "subscribe" ∷ codes "unsubscribe" ∷ []
 
 abbrev pub is_built : ActDef → Bool
 is_built (act.Set name value) = true
-is_built (act.Create call variable) = false
+is_built (act.Create call variable) = true
 is_built (act.Named word arguments) = is_among built_words word
 
--- the first tokens of the forms in an atom that aren't built, in text order: the atom itself, then its times
+-- the first token of an atom that isn't built
 abbrev pub unbuilt_atom : AtomDef → List ℕ
-unbuilt_atom atom = (if is_built atom.act then [] else atom.token ∷ []) ++ map (λ (time : TimeDef). time.token) atom.times
+unbuilt_atom atom = if is_built atom.act then [] else atom.token ∷ []
 
 -- those of the side that may lack
 abbrev pub or_nothing : Option (List ℕ) → List ℕ

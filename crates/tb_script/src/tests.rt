@@ -39,7 +39,7 @@ fn is_expected(found: &Result<Program, ScriptFault>, expected: &Expected) -> boo
     }
 }
 
-static TEXTS: [(&str, Expected); 16] = [
+static TEXTS: [(&str, Expected); 17] = [
     ("toolbus()", Expected::Accepted),
     ("process P is P toolbus()", Expected::Recursion(&["P"])),
     (
@@ -64,21 +64,25 @@ static TEXTS: [(&str, Expected); 16] = [
         "process C(R : int?) is R := 7 process Q(R : int?) is C(R?) . C(R?) process P(R : int?) is Q(R?) process O is let X : int in P(X?) . snd-msg(X) endlet toolbus(O)",
         Expected::Accepted,
     ),
-    // a process may create itself; creating isn't built yet
+    // a process may create itself
     (
         "process P is let N : int in create(P, N?) endlet toolbus(P)",
-        Expected::NotBuilt(8),
+        Expected::Accepted,
     ),
     (
-        "process P is tau delay(1) toolbus(P)",
-        Expected::NotBuilt(4),
+        "process P is subscribe(<term>) . snd-note(a) . rec-note(a) . no-note(<int>) . unsubscribe(<term>) toolbus(P)",
+        Expected::Accepted,
     ),
     (
-        "process P is snd-msg(a) . tau timeout(1) delay(2) . printf(\"a\") toolbus(P)",
-        Expected::NotBuilt(9),
+        "process P is tau delay(1) timeout(2) abs-delay(1) abs-timeout(3) toolbus(P)",
+        Expected::Accepted,
     ),
     (
-        "process P is tau process Q is delta . printf(\"a\") delay(1) toolbus(P)",
+        "process P is snd-msg(a) . tau timeout(1) delay(2) . shutdown(a) toolbus(P)",
+        Expected::NotBuilt(18),
+    ),
+    (
+        "process P is tau process Q is delta . shutdown(a) delay(1) toolbus(P)",
         Expected::NotBuilt(9),
     ),
     (
@@ -91,7 +95,7 @@ static TEXTS: [(&str, Expected); 16] = [
     ),
     // a cycle comes before what isn't built
     (
-        "process P is printf(\"a\") . P toolbus(P)",
+        "process P is shutdown(a) . P toolbus(P)",
         Expected::Recursion(&["P"]),
     ),
     (

@@ -4,8 +4,7 @@ ghost use Rattle.tb_script.specs.Unbuilt.{is_built, unbuilt_atom, unbuilt_in, fi
 
 use tb_syntax::{ActDef, AtomDef, Proc, Script};
 
-/// The first token of the first form that isn't built: the times of atoms, and the atoms other than
-/// `tau`, `delta`, `:=`, `snd-msg` and `rec-msg`.
+/// The first token of the first form that isn't built: the atoms that speak with tools, `shutdown` among them.
 #[tactic(auto, using(crate::proofs::UnbuiltProcs::first_of_both))]
 pub(crate) fn first_unbuilt(script: &Script) -> Option<usize>
     ensures { result ≡ first_unbuilt script.now }
@@ -48,12 +47,10 @@ fn earlier(front: Option<usize>, behind: Option<usize>) -> Option<usize>
 fn first_in_atom(atom: &AtomDef) -> Option<usize>
     ensures { result ≡ first_of (unbuilt_atom atom.now) }
 {
-    if !is_built(&atom.act) {
-        return Some(atom.token);
-    }
-    match atom.times.as_slice().first() {
-        Some(time) => Some(time.token),
-        None => None,
+    if is_built(&atom.act) {
+        None
+    } else {
+        Some(atom.token)
     }
 }
 
@@ -61,11 +58,19 @@ fn is_built(act: &ActDef) -> bool
     ensures { result ≡ is_built act.now }
 {
     match act {
-        ActDef::Set(_, _) => true,
-        ActDef::Create(_, _) => false,
+        ActDef::Set(_, _) | ActDef::Create(_, _) => true,
         ActDef::Named(word, _) => matches!(
             word.as_bytes(),
-            b"tau" | b"delta" | b"snd-msg" | b"rec-msg"
+            b"tau"
+                | b"delta"
+                | b"printf"
+                | b"snd-msg"
+                | b"rec-msg"
+                | b"snd-note"
+                | b"rec-note"
+                | b"no-note"
+                | b"subscribe"
+                | b"unsubscribe"
         ),
     }
 }
