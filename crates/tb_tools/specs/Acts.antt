@@ -1,0 +1,177 @@
+-- What atoms do to the lanes and their tools: where each may happen, and the bench after it.
+use Rattle.std.specs.Prelude.{ℕ, ◌+◌, nat_lt, Bool, true, false, not, ◌&&◌, ◌||◌, List, [], ◌∷◌, ◌++◌, length, map, drop, remove, slice_index_or, Option, Some, None, codes, if◌then◌else◌}
+use Rattle.tb_terms.specs.declared.term.Term.{Term}
+use Rattle.tb_terms.specs.declared.term.Term.TheVariants.{Appl}
+use Rattle.tb_log.specs.declared.entry.Out.{Out}
+use Rattle.tb_log.specs.declared.entry.Out.TheVariants.{Line, End}
+use Rattle.tb_tools.specs.declared.stage.Stage.{Stage}
+use Rattle.tb_tools.specs.declared.stage.Stage.TheVariants as stage
+use Rattle.tb_tools.specs.declared.stage.Eval.{Eval}
+use Rattle.tb_tools.specs.declared.stage.Eval.TheVariants as eval
+use Rattle.tb_tools.specs.Lanes.{Tool, Lane, BenchState, lane_at, tool_at, outs_at, on_lane, on_tool, with_tool, without_tool, with_next_tool, with_out, is_empty, is_free, is_open, started, new_tool}
+
+abbrev pub is_waiting : Stage → Bool
+is_waiting stage.Waiting = true
+is_waiting stage.Live = false
+is_waiting stage.Leaving = false
+
+abbrev pub is_live : Stage → Bool
+is_live stage.Waiting = false
+is_live stage.Live = true
+is_live stage.Leaving = false
+
+abbrev pub is_leaving : Stage → Bool
+is_leaving stage.Waiting = false
+is_leaving stage.Live = false
+is_leaving stage.Leaving = true
+
+abbrev pub is_closed : Eval → Bool
+is_closed eval.Closed = true
+is_closed eval.Asked = false
+is_closed (eval.Answered value) = false
+
+abbrev pub is_answered : Eval → Bool
+is_answered eval.Closed = false
+is_answered eval.Asked = false
+is_answered (eval.Answered value) = true
+
+-- the value with which a tool has answered
+abbrev pub answer_of : Eval → Option Term
+answer_of eval.Closed = None
+answer_of eval.Asked = None
+answer_of (eval.Answered value) = Some value
+
+-- the lane has a tool of which this holds
+abbrev pub of_tool : (Tool → Bool) → Option Tool → Bool
+of_tool test None = false
+of_tool test (Some tool) = test tool
+
+-- the event at this place
+abbrev pub event_at : ℕ → List (List Term) → List Term
+event_at place events = slice_index_or events place []
+
+-- a line to a tool: a word with these parts
+abbrev pub tool_line : List ℕ → List Term → Out
+tool_line word parts = Line (Appl word parts)
+
+-- a lane may be started
+abbrev pub can_execute : ℕ → BenchState → Bool
+can_execute lane bench = is_free (lane_at lane bench)
+
+-- The lane is started with the command of a tool, and the tool is live there, with the next number.
+abbrev pub executed : List ℕ → List ℕ → ℕ → BenchState → BenchState
+executed name command lane bench =
+    with_next_tool (on_lane (λ old. with_tool (new_tool name bench.next_tool stage.Live) (started command old)) lane bench)
+
+-- a tool waits
+abbrev pub can_connect : ℕ → BenchState → Bool
+can_connect lane bench = of_tool (λ tool. is_waiting tool.stage) (tool_at lane bench)
+
+abbrev pub with_live_tool : Lane → Lane
+with_live_tool = on_tool (λ tool. record tool { stage = stage.Live })
+
+-- It is live.
+abbrev pub connected : ℕ → BenchState → BenchState
+connected = on_lane with_live_tool
+
+-- a tool is leaving
+abbrev pub can_leave : ℕ → BenchState → Bool
+can_leave lane bench = of_tool (λ tool. is_leaving tool.stage) (tool_at lane bench)
+
+-- It leaves its lane, with its events.
+abbrev pub left : ℕ → BenchState → BenchState
+left = on_lane without_tool
+
+-- a tool is live, and no evaluation is open
+abbrev pub can_eval : ℕ → BenchState → Bool
+can_eval lane bench = of_tool (λ tool. is_live tool.stage && is_closed tool.eval) (tool_at lane bench)
+
+abbrev pub with_question : Term → Lane → Lane
+with_question term lane = with_out (tool_line (codes "rec-eval") (term ∷ [])) (on_tool (λ tool. record tool { eval = eval.Asked }) lane)
+
+-- An evaluation of the term is open, and the tool is told.
+abbrev pub asked : Term → ℕ → BenchState → BenchState
+asked term = on_lane (with_question term)
+
+-- a tool is live or leaving, and its value has come
+abbrev pub can_take_value : ℕ → BenchState → Bool
+can_take_value lane bench = of_tool (λ tool. not (is_waiting tool.stage) && is_answered tool.eval) (tool_at lane bench)
+
+abbrev pub without_answer : Lane → Lane
+without_answer = on_tool (λ tool. record tool { eval = eval.Closed })
+
+-- No evaluation is open.
+abbrev pub value_taken : ℕ → BenchState → BenchState
+value_taken = on_lane without_answer
+
+-- a tool is live
+abbrev pub can_do : ℕ → BenchState → Bool
+can_do lane bench = of_tool (λ tool. is_live tool.stage) (tool_at lane bench)
+
+-- The tool is told what to do.
+abbrev pub told : Term → ℕ → BenchState → BenchState
+told term = on_lane (with_out (tool_line (codes "rec-do") (term ∷ [])))
+
+-- a tool is live or leaving, and an event waits at this place
+abbrev pub can_take_event : ℕ → ℕ → BenchState → Bool
+can_take_event place lane bench = of_tool (λ tool. not (is_waiting tool.stage) && nat_lt place (length tool.events)) (tool_at lane bench)
+
+abbrev pub with_received : ℕ → Lane → Lane
+with_received place = on_tool (λ tool. record tool { events = remove tool.events place; received = tool.received ++ event_at place tool.events ∷ [] })
+
+-- The event comes to the end of those that were received.
+abbrev pub event_taken : ℕ → ℕ → BenchState → BenchState
+event_taken place = on_lane (with_received place)
+
+-- a tool is live, and an event at this place was received
+abbrev pub can_ack : ℕ → ℕ → BenchState → Bool
+can_ack place lane bench = of_tool (λ tool. is_live tool.stage && nat_lt place (length tool.received)) (tool_at lane bench)
+
+-- the line that acknowledges the event at this place
+abbrev pub acknowledgement : ℕ → Tool → Out
+acknowledgement place tool = tool_line (codes "rec-ack-event") (event_at place tool.received)
+
+abbrev pub with_acknowledged_of : ℕ → Lane → Option Tool → Lane
+with_acknowledged_of place lane None = lane
+with_acknowledged_of place lane (Some tool) = with_out (acknowledgement place tool) (with_tool (record tool { received = remove tool.received place }) lane)
+
+abbrev pub with_acknowledged : ℕ → Lane → Lane
+with_acknowledged place lane = with_acknowledged_of place lane lane.tool
+
+-- The event is forgotten, and the tool is told.
+abbrev pub acknowledged : ℕ → ℕ → BenchState → BenchState
+acknowledged place = on_lane (with_acknowledged place)
+
+-- the last line to a tool
+abbrev pub last_line : Term → Out
+last_line reason = tool_line (codes "rec-terminate") (reason ∷ [])
+
+-- this line and the lane's end come to what is to be handed out, and the lane has ended
+abbrev pub ended_with : Out → Lane → Lane
+ended_with line lane = record lane { ended = true; outs = lane.outs ++ line ∷ End ∷ [] }
+
+-- a tool is live
+abbrev pub can_terminate : ℕ → BenchState → Bool
+can_terminate = can_do
+
+-- The tool is told to end, and leaves its lane.
+abbrev pub terminated : Term → ℕ → BenchState → BenchState
+terminated reason = on_lane (λ lane. without_tool (ended_with (last_line reason) lane))
+
+abbrev pub dismissed : Term → Lane → Lane
+dismissed reason lane = if is_open lane then ended_with (last_line reason) lane else lane
+
+-- The bus goes down: each lane that is up and hasn't ended is told to end.
+abbrev pub gone_down : Term → BenchState → BenchState
+gone_down reason bench = record bench { lanes = map (dismissed reason) bench.lanes }
+
+-- something is to be handed out
+abbrev pub can_take_out : ℕ → BenchState → Bool
+can_take_out lane bench = not (is_empty (outs_at lane bench))
+
+abbrev pub without_out : Lane → Lane
+without_out lane = record lane { outs = drop 1 lane.outs }
+
+-- The first of what was to be handed out is.
+abbrev pub handed_out : ℕ → BenchState → BenchState
+handed_out = on_lane without_out

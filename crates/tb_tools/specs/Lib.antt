@@ -1,0 +1,5 @@
+pub mod Acts
+pub mod Finding
+pub mod Inputs
+pub mod Lanes
+pub mod Room
