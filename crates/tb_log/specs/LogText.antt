@@ -1,19 +1,23 @@
 -- The text of a log: one line for each entry, numbered from 1.
 use Rattle.std.specs.Prelude.{ℕ, ◌+◌, List, [], ◌∷◌, ◌++◌, codes}
 use Rattle.std.specs.Fmt.{decimal}
-use Rattle.tb_terms.specs.Texts.{terms_text}
+use Rattle.tb_terms.specs.Texts.{term_text, terms_text, quoted}
 use Rattle.tb_terms.specs.declared.term.Term.{Term}
 use Rattle.tb_log.specs.declared.entry.Place.{Place}
 use Rattle.tb_log.specs.declared.entry.LabelKind.{LabelKind}
 use Rattle.tb_log.specs.declared.entry.LabelKind.TheVariants as kind
+use Rattle.tb_log.specs.declared.entry.ToolLine.{ToolLine}
+use Rattle.tb_log.specs.declared.entry.ToolLine.TheVariants as tool
 use Rattle.tb_log.specs.declared.entry.Input.{Input}
-use Rattle.tb_log.specs.declared.entry.Input.TheVariants.{NoTicks}
+use Rattle.tb_log.specs.declared.entry.Input.TheVariants as input
+use Rattle.tb_log.specs.declared.entry.Out.{Out}
+use Rattle.tb_log.specs.declared.entry.Out.TheVariants as out
 use Rattle.tb_log.specs.declared.entry.Reply.{Reply}
 use Rattle.tb_log.specs.declared.entry.Reply.TheVariants.{Took, Dropped}
 use Rattle.tb_log.specs.declared.entry.Why.{Why}
-use Rattle.tb_log.specs.declared.entry.Why.TheVariants.{Down}
+use Rattle.tb_log.specs.declared.entry.Why.TheVariants as why
 use Rattle.tb_log.specs.declared.entry.Entry.{Entry}
-use Rattle.tb_log.specs.declared.entry.Entry.TheVariants.{Did, Quiet, Fed}
+use Rattle.tb_log.specs.declared.entry.Entry.TheVariants.{Did, Quiet, Fed, Gave}
 
 -- a process and one of its atoms, behind a blank
 abbrev pub place_words : Place → List ℕ
@@ -24,29 +28,82 @@ abbrev pub term_words : List Term → List ℕ
 term_words [] = []
 term_words (term ∷ terms) = 32 ∷ terms_text (term ∷ terms)
 
--- a step by its kind: both places of a message, the place of any other atom, and the terms
+-- the first word of a step's line
+abbrev pub kind_word : LabelKind → List ℕ
+kind_word kind.Msg = codes "msg"
+kind_word kind.Set = codes "set"
+kind_word kind.Tau = codes "tau"
+kind_word kind.Printf = codes "printf"
+kind_word kind.SndNote = codes "snd-note"
+kind_word kind.RecNote = codes "rec-note"
+kind_word kind.NoNote = codes "no-note"
+kind_word kind.Subscribe = codes "subscribe"
+kind_word kind.Unsubscribe = codes "unsubscribe"
+kind_word kind.Create = codes "create"
+kind_word kind.Execute = codes "execute"
+kind_word kind.RecConnect = codes "rec-connect"
+kind_word kind.RecDisconnect = codes "rec-disconnect"
+kind_word kind.SndEval = codes "snd-eval"
+kind_word kind.RecValue = codes "rec-value"
+kind_word kind.SndDo = codes "snd-do"
+kind_word kind.RecEvent = codes "rec-event"
+kind_word kind.SndAckEvent = codes "snd-ack-event"
+kind_word kind.SndTerminate = codes "snd-terminate"
+kind_word kind.Shutdown = codes "shutdown"
+kind_word kind.Finish = codes "finish"
+kind_word kind.Halt = codes "halt"
+
+-- a step by its kind: both places of a message, none of the end of a bus, the one place of any other atom; then the terms
 abbrev pub label_words : LabelKind → Place → Place → List Term → List ℕ
 label_words kind.Msg from to terms = codes "msg" ++ place_words from ++ place_words to ++ term_words terms
-label_words kind.Set from to terms = codes "set" ++ place_words from ++ term_words terms
-label_words kind.Tau from to terms = codes "tau" ++ place_words from ++ term_words terms
 label_words kind.Finish from to terms = codes "finish"
 label_words kind.Halt from to terms = codes "halt"
+label_words kind from to terms = kind_word kind ++ place_words from ++ term_words terms
+
+-- the arguments of a name, where it has any
+abbrev pub arguments_text : List Term → List ℕ
+arguments_text [] = []
+arguments_text (term ∷ terms) = 40 ∷ terms_text (term ∷ terms) ++ 41 ∷ []
+
+-- a line of a tool: the text of a term, or a question mark where it was none
+abbrev pub tool_line_words : ToolLine → List ℕ
+tool_line_words (tool.Value term) = codes "snd-value" ++ 40 ∷ term_text term ++ 41 ∷ []
+tool_line_words (tool.Event terms) = codes "snd-event" ++ arguments_text terms
+tool_line_words (tool.Connect name) = codes "snd-connect" ++ 40 ∷ name ++ 41 ∷ []
+tool_line_words tool.Disconnect = codes "snd-disconnect"
+tool_line_words tool.Bad = codes "?"
 
 abbrev pub input_words : Input → List ℕ
-input_words NoTicks = codes "noticks"
+input_words input.Tick = codes "tick"
+input_words input.NoTicks = codes "noticks"
+input_words (input.Line lane line) = codes "line " ++ decimal lane ++ 32 ∷ tool_line_words line
+input_words (input.Gone lane) = codes "gone " ++ decimal lane
+input_words (input.Cut lane) = codes "cut " ++ decimal lane
 
 abbrev pub why_words : Why → List ℕ
-why_words Down = codes "down"
+why_words why.Unasked = codes "unasked"
+why_words why.NotLive = codes "not-live"
+why_words why.Named = codes "named"
+why_words why.Stranger = codes "stranger"
+why_words why.Bad = codes "bad"
+why_words why.Down = codes "down"
 
 -- a dropped input says why it was dropped in front
 abbrev pub fed_words : Reply → Input → List ℕ
 fed_words Took input = input_words input
 fed_words (Dropped why) input = codes "drop " ++ why_words why ++ 32 ∷ input_words input
 
+-- what is handed out: the command of a start as a string, a line as its term
+abbrev pub out_words : Out → List ℕ
+out_words (out.Start command) = codes "start " ++ quoted command
+out_words (out.Line term) = term_text term
+out_words out.End = codes "end"
+
 abbrev pub entry_words : Entry → List ℕ
 entry_words (Did label) = label_words label.kind label.from label.to label.terms
 entry_words Quiet = codes "quiet"
 entry_words (Fed input reply) = fed_words reply input
+entry_words (Gave lane out) = codes "out " ++ decimal lane ++ 32 ∷ out_words out
 
 -- an entry's line: its number, a blank, its words and a newline
 abbrev pub entry_text : ℕ → Entry → List ℕ

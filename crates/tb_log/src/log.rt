@@ -1,9 +1,9 @@
 ghost use Rattle.std.specs.Prelude.{◌≡◌, ◌≤◌, ◌<◌, ◌+◌, ◌++◌, ◌∷◌, [], IsTrue, OnOk, OnErr, min, map, sum, length};
 ghost use Rattle.std.below.core.specs.declared.int.usize.TheConstants.{MAX};
 ghost use Rattle.tb_terms.specs.Sizes.{term_size};
-ghost use Rattle.tb_log.specs.Limits.{entry_size, has_room, terms_size};
+ghost use Rattle.tb_log.specs.Limits.{entry_size, input_size, tool_line_size, out_size, has_room};
 
-use crate::entry::{Entry, Label};
+use crate::entry::{Entry, Input, Out, ToolLine};
 use std::alloc::Global;
 use std::marker::Model;
 use tb_terms::{NoMemory, Term, size};
@@ -105,16 +105,41 @@ fn size_of(entry: &Entry) -> usize
     ensures { result ≡ min (entry_size entry.now) MAX }
 {
     match entry {
-        Entry::Did(label) => label_size(label),
+        Entry::Did(label) => total_size(label.terms.as_slice()),
         Entry::Quiet => 0,
-        Entry::Fed(_, _) => 0,
+        Entry::Fed(input, _) => input_size(input),
+        Entry::Gave(_, out) => out_size(out),
     }
 }
 
-fn label_size(label: &Label) -> usize
-    ensures { result ≡ min (terms_size label.now.terms) MAX }
+fn input_size(input: &Input) -> usize
+    ensures { result ≡ min (input_size input.now) MAX }
 {
-    total_size(label.terms.as_slice())
+    match input {
+        Input::Line(_, line) => tool_line_size(line),
+        Input::Tick | Input::NoTicks | Input::Gone(_) | Input::Cut(_) => 0,
+    }
+}
+
+fn tool_line_size(line: &ToolLine) -> usize
+    ensures { result ≡ min (tool_line_size line.now) MAX }
+{
+    match line {
+        ToolLine::Value(term) => size(term),
+        ToolLine::Event(terms) => total_size(terms.as_slice()),
+        ToolLine::Connect(name) => name.as_bytes().len().saturating_add(1),
+        ToolLine::Disconnect | ToolLine::Bad => 0,
+    }
+}
+
+fn out_size(out: &Out) -> usize
+    ensures { result ≡ min (out_size out.now) MAX }
+{
+    match out {
+        Out::Start(command) => command.as_bytes().len().saturating_add(1),
+        Out::Line(term) => size(term),
+        Out::End => 0,
+    }
 }
 
 /// The sizes of these terms together, or the greatest usize where that is greater.

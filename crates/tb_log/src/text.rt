@@ -1,10 +1,11 @@
-ghost use Rattle.std.specs.Prelude.{◌≡◌, ◌++◌, ◌∷◌, OnOk, OnErr, codes, decimal};
+ghost use Rattle.std.specs.Prelude.{◌≡◌, ◌++◌, [], ◌∷◌, OnOk, OnErr, codes, decimal};
 ghost use Rattle.tb_terms.specs.Fronts.{KeepsFront};
-ghost use Rattle.tb_log.specs.LogText.{entry_text, entry_words, label_words, place_words, term_words, fed_words, input_words, why_words};
+ghost use Rattle.tb_log.specs.LogText.{entry_text, entry_words, kind_word, label_words, place_words, term_words, arguments_text, fed_words, input_words, tool_line_words, out_words, why_words};
 
-use crate::entry::{Entry, Input, Label, LabelKind, Place, Reply, Why};
+use crate::entry::{Entry, Input, Label, LabelKind, Out, Place, Reply, ToolLine, Why};
+use crate::quote::push_quoted;
 use itoa::Buffer;
-use tb_terms::{NoMemory, Terms, write_terms};
+use tb_terms::{NoMemory, Terms, write_term, write_terms};
 
 /// Writes the line of an entry with this number at the end.
 pub fn write_entry(number: u64, entry: &Entry, into: &mut Vec<u8>) -> Result<(), NoMemory>
@@ -39,7 +40,8 @@ fn push_words(entry: &Entry, into: &mut Vec<u8>) -> Result<(), NoMemory>
     match entry {
         Entry::Did(label) => push_label(label, into),
         Entry::Quiet => push_text(b"quiet", into),
-        Entry::Fed(input, reply) => push_fed(*reply, *input, into),
+        Entry::Fed(input, reply) => push_fed(*reply, input, into),
+        Entry::Gave(lane, out) => push_gave(*lane, out, into),
     }
 }
 
@@ -54,21 +56,50 @@ fn push_label(label: &Label, into: &mut Vec<u8>) -> Result<(), NoMemory>
             push_place(label.to, into)?;
             push_terms(&label.terms, into)
         }
-        LabelKind::Set => push_one_place(b"set", label, into),
-        LabelKind::Tau => push_one_place(b"tau", label, into),
         LabelKind::Finish => push_text(b"finish", into),
         LabelKind::Halt => push_text(b"halt", into),
+        kind => push_one_place(kind_word(kind), label, into),
     }
 }
 
-/// The word of a label with one place, the place, and the terms.
+/// A word, the first place of a step, and the terms.
 fn push_one_place(word: &[u8], label: &Label, into: &mut Vec<u8>) -> Result<(), NoMemory>
-    ensures ok { OnOk result (into.new.items ≡ into.old.items ++ word.now ++ place_words label.now.from ++ term_words label.now.terms) }
+    ensures ok { OnOk result (into.new.items ≡ into.old.items ++ (word.now ++ place_words label.now.from ++ term_words label.now.terms)) }
     ensures err { OnErr result (KeepsFront into.old.items into.new.items) }
 {
     push_text(word, into)?;
     push_place(label.from, into)?;
     push_terms(&label.terms, into)
+}
+
+/// The word with which the line of such a step begins.
+fn kind_word(kind: LabelKind) -> &'static [u8]
+    ensures { result.now ≡ kind_word kind }
+{
+    match kind {
+        LabelKind::Msg => b"msg",
+        LabelKind::Set => b"set",
+        LabelKind::Tau => b"tau",
+        LabelKind::Printf => b"printf",
+        LabelKind::SndNote => b"snd-note",
+        LabelKind::RecNote => b"rec-note",
+        LabelKind::NoNote => b"no-note",
+        LabelKind::Subscribe => b"subscribe",
+        LabelKind::Unsubscribe => b"unsubscribe",
+        LabelKind::Create => b"create",
+        LabelKind::Execute => b"execute",
+        LabelKind::RecConnect => b"rec-connect",
+        LabelKind::RecDisconnect => b"rec-disconnect",
+        LabelKind::SndEval => b"snd-eval",
+        LabelKind::RecValue => b"rec-value",
+        LabelKind::SndDo => b"snd-do",
+        LabelKind::RecEvent => b"rec-event",
+        LabelKind::SndAckEvent => b"snd-ack-event",
+        LabelKind::SndTerminate => b"snd-terminate",
+        LabelKind::Shutdown => b"shutdown",
+        LabelKind::Finish => b"finish",
+        LabelKind::Halt => b"halt",
+    }
 }
 
 fn push_place(place: Place, into: &mut Vec<u8>) -> Result<(), NoMemory>
@@ -92,28 +123,27 @@ fn push_terms(terms: &Terms, into: &mut Vec<u8>) -> Result<(), NoMemory>
     write_terms(terms, into)
 }
 
-fn push_fed(reply: Reply, input: Input, into: &mut Vec<u8>) -> Result<(), NoMemory>
-    ensures ok { OnOk result (into.new.items ≡ into.old.items ++ fed_words reply input) }
+fn push_fed(reply: Reply, input: &Input, into: &mut Vec<u8>) -> Result<(), NoMemory>
+    ensures ok { OnOk result (into.new.items ≡ into.old.items ++ fed_words reply input.now) }
     ensures err { OnErr result (KeepsFront into.old.items into.new.items) }
 {
     match reply {
         Reply::Took => push_input(input, into),
         Reply::Dropped(why) => {
-            push_text(b"drop ", into)?;
-            push_why(why, into)?;
-            into.push(b' ')?;
+            push_drop(why, into)?;
             push_input(input, into)
         }
     }
 }
 
-fn push_input(input: Input, into: &mut Vec<u8>) -> Result<(), NoMemory>
-    ensures ok { OnOk result (into.new.items ≡ into.old.items ++ input_words input) }
-    ensures err { OnErr result (into.new.items ≡ into.old.items) }
+fn push_drop(why: Why, into: &mut Vec<u8>) -> Result<(), NoMemory>
+    ensures ok { OnOk result (into.new.items ≡ into.old.items ++ (codes "drop " ++ why_words why ++ 32 ∷ [])) }
+    ensures err { OnErr result (KeepsFront into.old.items into.new.items) }
 {
-    match input {
-        Input::NoTicks => push_text(b"noticks", into),
-    }
+    push_text(b"drop ", into)?;
+    push_why(why, into)?;
+    into.push(b' ')?;
+    Ok(())
 }
 
 fn push_why(why: Why, into: &mut Vec<u8>) -> Result<(), NoMemory>
@@ -121,7 +151,112 @@ fn push_why(why: Why, into: &mut Vec<u8>) -> Result<(), NoMemory>
     ensures err { OnErr result (into.new.items ≡ into.old.items) }
 {
     match why {
+        Why::Unasked => push_text(b"unasked", into),
+        Why::NotLive => push_text(b"not-live", into),
+        Why::Named => push_text(b"named", into),
+        Why::Stranger => push_text(b"stranger", into),
+        Why::Bad => push_text(b"bad", into),
         Why::Down => push_text(b"down", into),
+    }
+}
+
+fn push_input(input: &Input, into: &mut Vec<u8>) -> Result<(), NoMemory>
+    ensures ok { OnOk result (into.new.items ≡ into.old.items ++ input_words input.now) }
+    ensures err { OnErr result (KeepsFront into.old.items into.new.items) }
+{
+    match input {
+        Input::Tick => push_text(b"tick", into),
+        Input::NoTicks => push_text(b"noticks", into),
+        Input::Line(lane, line) => {
+            push_lane(b"line ", *lane, into)?;
+            into.push(b' ')?;
+            push_tool_line(line, into)
+        }
+        Input::Gone(lane) => push_lane(b"gone ", *lane, into),
+        Input::Cut(lane) => push_lane(b"cut ", *lane, into),
+    }
+}
+
+/// A word with the blank behind it, and the lane.
+fn push_lane(word: &[u8], lane: u8, into: &mut Vec<u8>) -> Result<(), NoMemory>
+    ensures ok { OnOk result (into.new.items ≡ into.old.items ++ (word.now ++ decimal lane)) }
+    ensures err { OnErr result (KeepsFront into.old.items into.new.items) }
+{
+    push_text(word, into)?;
+    push_number(u64::from(lane), into)
+}
+
+fn push_tool_line(line: &ToolLine, into: &mut Vec<u8>) -> Result<(), NoMemory>
+    ensures ok { OnOk result (into.new.items ≡ into.old.items ++ tool_line_words line.now) }
+    ensures err { OnErr result (KeepsFront into.old.items into.new.items) }
+{
+    match line {
+        ToolLine::Value(term) => {
+            push_text(b"snd-value(", into)?;
+            write_term(term, into)?;
+            push_text(b")", into)
+        }
+        ToolLine::Event(terms) => push_event(terms, into),
+        ToolLine::Connect(name) => push_of(b"snd-connect", name.as_bytes(), into),
+        ToolLine::Disconnect => push_text(b"snd-disconnect", into),
+        ToolLine::Bad => push_text(b"?", into),
+    }
+}
+
+fn push_event(terms: &Terms, into: &mut Vec<u8>) -> Result<(), NoMemory>
+    ensures ok { OnOk result (into.new.items ≡ into.old.items ++ (codes "snd-event" ++ arguments_text terms.now)) }
+    ensures err { OnErr result (KeepsFront into.old.items into.new.items) }
+{
+    push_text(b"snd-event", into)?;
+    push_arguments(terms, into)
+}
+
+/// The arguments of a name in parentheses, where it has any.
+fn push_arguments(terms: &Terms, into: &mut Vec<u8>) -> Result<(), NoMemory>
+    ensures ok { OnOk result (into.new.items ≡ into.old.items ++ arguments_text terms.now) }
+    ensures err { OnErr result (KeepsFront into.old.items into.new.items) }
+{
+    if terms.is_empty() {
+        return Ok(());
+    }
+    into.push(b'(')?;
+    write_terms(terms, into)?;
+    into.push(b')')?;
+    Ok(())
+}
+
+/// A word with this in parentheses behind it.
+fn push_of(word: &[u8], inner: &[u8], into: &mut Vec<u8>) -> Result<(), NoMemory>
+    ensures ok { OnOk result (into.new.items ≡ into.old.items ++ (word.now ++ 40 ∷ inner.now ++ 41 ∷ [])) }
+    ensures err { OnErr result (KeepsFront into.old.items into.new.items) }
+{
+    push_text(word, into)?;
+    into.push(b'(')?;
+    push_text(inner, into)?;
+    into.push(b')')?;
+    Ok(())
+}
+
+fn push_gave(lane: u8, out: &Out, into: &mut Vec<u8>) -> Result<(), NoMemory>
+    ensures ok { OnOk result (into.new.items ≡ into.old.items ++ (codes "out " ++ decimal lane ++ 32 ∷ out_words out.now)) }
+    ensures err { OnErr result (KeepsFront into.old.items into.new.items) }
+{
+    push_lane(b"out ", lane, into)?;
+    into.push(b' ')?;
+    push_out(out, into)
+}
+
+fn push_out(out: &Out, into: &mut Vec<u8>) -> Result<(), NoMemory>
+    ensures ok { OnOk result (into.new.items ≡ into.old.items ++ out_words out.now) }
+    ensures err { OnErr result (KeepsFront into.old.items into.new.items) }
+{
+    match out {
+        Out::Start(command) => {
+            push_text(b"start ", into)?;
+            push_quoted(command.as_bytes(), into)
+        }
+        Out::Line(term) => write_term(term, into),
+        Out::End => push_text(b"end", into),
     }
 }
 
