@@ -1,5 +1,5 @@
 -- What atoms do to the lanes and their tools: where each may happen, and the bench after it.
-use Rattle.std.specs.Prelude.{ℕ, ◌+◌, nat_lt, Bool, true, false, not, ◌&&◌, ◌||◌, List, [], ◌∷◌, ◌++◌, length, map, drop, remove, slice_index_or, Option, Some, None, codes, if◌then◌else◌}
+use Rattle.std.specs.Prelude.{ℕ, ◌+◌, nat_lt, Bool, true, false, not, ◌&&◌, List, [], ◌∷◌, ◌++◌, length, map, drop, remove, slice_index_or, Option, Some, None, is_some, codes, if◌then◌else◌}
 use Rattle.tb_terms.specs.declared.term.Term.{Term}
 use Rattle.tb_terms.specs.declared.term.Term.TheVariants.{Appl}
 use Rattle.tb_log.specs.declared.entry.Out.{Out}
@@ -8,7 +8,7 @@ use Rattle.tb_tools.specs.declared.stage.Stage.{Stage}
 use Rattle.tb_tools.specs.declared.stage.Stage.TheVariants as stage
 use Rattle.tb_tools.specs.declared.stage.Eval.{Eval}
 use Rattle.tb_tools.specs.declared.stage.Eval.TheVariants as eval
-use Rattle.tb_tools.specs.Lanes.{Tool, Lane, BenchState, lane_at, tool_at, outs_at, on_lane, on_tool, with_tool, without_tool, with_next_tool, with_out, is_empty, is_free, is_open, started, new_tool}
+use Rattle.tb_tools.specs.Lanes.{Tool, Lane, BenchState, lane_at, tool_at, on_lane, on_tool, with_tool, without_tool, with_next_tool, with_out, is_free, is_open, started, new_tool}
 
 abbrev pub is_waiting : Stage → Bool
 is_waiting stage.Waiting = true
@@ -30,11 +30,6 @@ is_closed eval.Closed = true
 is_closed eval.Asked = false
 is_closed (eval.Answered value) = false
 
-abbrev pub is_answered : Eval → Bool
-is_answered eval.Closed = false
-is_answered eval.Asked = false
-is_answered (eval.Answered value) = true
-
 -- the value with which a tool has answered
 abbrev pub answer_of : Eval → Option Term
 answer_of eval.Closed = None
@@ -46,6 +41,30 @@ abbrev pub of_tool : (Tool → Bool) → Option Tool → Bool
 of_tool test None = false
 of_tool test (Some tool) = test tool
 
+abbrev pub answer_by : Option Tool → Option Term
+answer_by None = None
+answer_by (Some tool) = answer_of tool.eval
+
+-- the value with which the tool of this lane has answered
+abbrev pub answer_at : ℕ → BenchState → Option Term
+answer_at lane bench = answer_by (tool_at lane bench)
+
+abbrev pub events_of : Option Tool → List (List Term)
+events_of None = []
+events_of (Some tool) = tool.events
+
+-- the events that wait on this lane
+abbrev pub events_at : ℕ → BenchState → List (List Term)
+events_at lane bench = events_of (tool_at lane bench)
+
+abbrev pub received_of : Option Tool → List (List Term)
+received_of None = []
+received_of (Some tool) = tool.received
+
+-- the events that were received on this lane
+abbrev pub received_at : ℕ → BenchState → List (List Term)
+received_at lane bench = received_of (tool_at lane bench)
+
 -- the event at this place
 abbrev pub event_at : ℕ → List (List Term) → List Term
 event_at place events = slice_index_or events place []
@@ -53,6 +72,14 @@ event_at place events = slice_index_or events place []
 -- a line to a tool: a word with these parts
 abbrev pub tool_line : List ℕ → List Term → Out
 tool_line word parts = Line (Appl word parts)
+
+-- a tool is live
+abbrev pub is_live_at : ℕ → BenchState → Bool
+is_live_at lane bench = of_tool (λ tool. is_live tool.stage) (tool_at lane bench)
+
+-- a tool is live or leaving
+abbrev pub is_taken_at : ℕ → BenchState → Bool
+is_taken_at lane bench = of_tool (λ tool. not (is_waiting tool.stage)) (tool_at lane bench)
 
 -- a lane may be started
 abbrev pub can_execute : ℕ → BenchState → Bool
@@ -84,18 +111,18 @@ left = on_lane without_tool
 
 -- a tool is live, and no evaluation is open
 abbrev pub can_eval : ℕ → BenchState → Bool
-can_eval lane bench = of_tool (λ tool. is_live tool.stage && is_closed tool.eval) (tool_at lane bench)
+can_eval lane bench = is_live_at lane bench && of_tool (λ tool. is_closed tool.eval) (tool_at lane bench)
 
 abbrev pub with_question : Term → Lane → Lane
-with_question term lane = with_out (tool_line (codes "rec-eval") (term ∷ [])) (on_tool (λ tool. record tool { eval = eval.Asked }) lane)
+with_question term lane = on_tool (λ tool. record tool { eval = eval.Asked }) (with_out (tool_line (codes "rec-eval") (term ∷ [])) lane)
 
--- An evaluation of the term is open, and the tool is told.
+-- The tool is told, and an evaluation of the term is open.
 abbrev pub asked : Term → ℕ → BenchState → BenchState
 asked term = on_lane (with_question term)
 
 -- a tool is live or leaving, and its value has come
 abbrev pub can_take_value : ℕ → BenchState → Bool
-can_take_value lane bench = of_tool (λ tool. not (is_waiting tool.stage) && is_answered tool.eval) (tool_at lane bench)
+can_take_value lane bench = is_taken_at lane bench && is_some (answer_at lane bench)
 
 abbrev pub without_answer : Lane → Lane
 without_answer = on_tool (λ tool. record tool { eval = eval.Closed })
@@ -106,7 +133,7 @@ value_taken = on_lane without_answer
 
 -- a tool is live
 abbrev pub can_do : ℕ → BenchState → Bool
-can_do lane bench = of_tool (λ tool. is_live tool.stage) (tool_at lane bench)
+can_do = is_live_at
 
 -- The tool is told what to do.
 abbrev pub told : Term → ℕ → BenchState → BenchState
@@ -114,7 +141,7 @@ told term = on_lane (with_out (tool_line (codes "rec-do") (term ∷ [])))
 
 -- a tool is live or leaving, and an event waits at this place
 abbrev pub can_take_event : ℕ → ℕ → BenchState → Bool
-can_take_event place lane bench = of_tool (λ tool. not (is_waiting tool.stage) && nat_lt place (length tool.events)) (tool_at lane bench)
+can_take_event place lane bench = is_taken_at lane bench && nat_lt place (length (events_at lane bench))
 
 abbrev pub with_received : ℕ → Lane → Lane
 with_received place = on_tool (λ tool. record tool { events = remove tool.events place; received = tool.received ++ event_at place tool.events ∷ [] })
@@ -125,7 +152,7 @@ event_taken place = on_lane (with_received place)
 
 -- a tool is live, and an event at this place was received
 abbrev pub can_ack : ℕ → ℕ → BenchState → Bool
-can_ack place lane bench = of_tool (λ tool. is_live tool.stage && nat_lt place (length tool.received)) (tool_at lane bench)
+can_ack place lane bench = is_live_at lane bench && nat_lt place (length (received_at lane bench))
 
 -- the line that acknowledges the event at this place
 abbrev pub acknowledgement : ℕ → Tool → Out
@@ -152,22 +179,19 @@ ended_with line lane = record lane { ended = true; outs = lane.outs ++ line ∷ 
 
 -- a tool is live
 abbrev pub can_terminate : ℕ → BenchState → Bool
-can_terminate = can_do
+can_terminate = is_live_at
 
 -- The tool is told to end, and leaves its lane.
 abbrev pub terminated : Term → ℕ → BenchState → BenchState
 terminated reason = on_lane (λ lane. without_tool (ended_with (last_line reason) lane))
 
-abbrev pub dismissed : Term → Lane → Lane
-dismissed reason lane = if is_open lane then ended_with (last_line reason) lane else lane
+-- a lane that is up and hasn't ended gets this line, and ends
+abbrev pub dismissed : Out → Lane → Lane
+dismissed line lane = if is_open lane then ended_with line lane else lane
 
 -- The bus goes down: each lane that is up and hasn't ended is told to end.
 abbrev pub gone_down : Term → BenchState → BenchState
-gone_down reason bench = record bench { lanes = map (dismissed reason) bench.lanes }
-
--- something is to be handed out
-abbrev pub can_take_out : ℕ → BenchState → Bool
-can_take_out lane bench = not (is_empty (outs_at lane bench))
+gone_down reason bench = record bench { lanes = map (dismissed (last_line reason)) bench.lanes }
 
 abbrev pub without_out : Lane → Lane
 without_out lane = record lane { outs = drop 1 lane.outs }

@@ -1,5 +1,5 @@
 -- Which lane is free, on which lane a tool stands, and which event matches.
-use Rattle.std.specs.Prelude.{ℕ, ◌+◌, nat_lt, Bool, true, false, ◌&&◌, ◌==◌, List, [], ◌∷◌, slice_get, Option, Some, None, option_map, if◌then◌else◌}
+use Rattle.std.specs.Prelude.{ℕ, ◌+◌, nat_le, Bool, true, false, ◌&&◌, ◌==◌, List, [], ◌∷◌, slice_get, Option, Some, None, option_map, if◌then◌else◌}
 use Rattle.std.specs.List.{position_from}
 use Rattle.std.specs.Str.{bytes_eq}
 use Rattle.tb_terms.specs.declared.term.Term.{Term}
@@ -11,8 +11,9 @@ use Rattle.tb_log.specs.declared.entry.Out.{Out}
 use Rattle.tb_tools.specs.declared.stage.Stage.{Stage}
 use Rattle.tb_tools.specs.declared.stage.Stage.TheVariants as stage
 use Rattle.tb_tools.specs.declared.found.FoundEvent.{FoundEvent}
-use Rattle.tb_tools.specs.Lanes.{Tool, Lane, BenchState, tool_at, outs_at, is_free, term_of}
-use Rattle.tb_tools.specs.Acts.{of_tool}
+use Rattle.tb_tools.specs.declared.found.FoundTool.{FoundTool}
+use Rattle.tb_tools.specs.Lanes.{Tool, Lane, BenchState, outs_at, is_free, term_of}
+use Rattle.tb_tools.specs.Acts.{of_tool, events_at, received_at}
 
 -- the first lane that passes the test
 abbrev pub first_lane : (Lane → Bool) → BenchState → Option ℕ
@@ -22,9 +23,12 @@ first_lane test bench = position_from test 1 bench.lanes
 abbrev pub free_lane : BenchState → Option ℕ
 free_lane = first_lane is_free
 
+abbrev pub has_tool : Term → Lane → Bool
+has_tool term lane = of_tool (λ tool. is_same_term term (term_of tool)) lane.tool
+
 -- The lane of the tool with this term.
 abbrev pub find_tool : Term → BenchState → Option ℕ
-find_tool term = first_lane (λ lane. of_tool (λ tool. is_same_term term (term_of tool)) lane.tool)
+find_tool term = first_lane (has_tool term)
 
 abbrev pub is_same_stage : Stage → Stage → Bool
 is_same_stage stage.Waiting stage.Waiting = true
@@ -40,20 +44,15 @@ is_same_stage stage.Leaving stage.Leaving = true
 abbrev pub is_at : List ℕ → Stage → Tool → Bool
 is_at name stage tool = bytes_eq tool.name name && is_same_stage tool.stage stage
 
--- a tool that was found: its number and its lane
-pub record FoundTool : Type 0 where
-  pub number : ℕ
-  pub lane : ℕ
+-- the best so far, or another tool where that has a smaller number
+abbrev pub smaller : Option FoundTool → FoundTool → FoundTool
+smaller None other = other
+smaller (Some best) other = if nat_le best.number other.number then best else other
 
--- the one with the smaller number
-abbrev pub smaller : Option FoundTool → FoundTool → Option FoundTool
-smaller None found = Some found
-smaller (Some best) found = if nat_lt found.number best.number then Some found else Some best
-
--- what was found so far, or the tool of this lane where it has a smaller number
+-- the best so far, or the tool of this lane where that has the name, is at the stage and has a smaller number
 abbrev pub smaller_of : List ℕ → Stage → Option FoundTool → ℕ → Option Tool → Option FoundTool
 smaller_of name stage best lane None = best
-smaller_of name stage best lane (Some tool) = if is_at name stage tool then smaller best (record { number = tool.number; lane = lane }) else best
+smaller_of name stage best lane (Some tool) = if is_at name stage tool then Some (smaller best (record { number = tool.number; lane = lane })) else best
 
 -- the same for all tools of these lanes, of which the first has this number
 abbrev pub smallest_from : List ℕ → Stage → Option FoundTool → ℕ → List Lane → Option FoundTool
@@ -73,22 +72,13 @@ abbrev pub first_match : ℕ → List Pattern → List (List Term) → Option Fo
 first_match place patterns [] = None
 first_match place patterns (event ∷ events) = found_or place (match_list patterns event) (first_match (place + 1) patterns events)
 
--- the events of a tool
-abbrev pub events_of : Option Tool → List (List Term)
-events_of None = []
-events_of (Some tool) = tool.events
-
-abbrev pub received_of : Option Tool → List (List Term)
-received_of None = []
-received_of (Some tool) = tool.received
-
 -- The oldest event that waits on this lane and matches.
 abbrev pub oldest_event : List Pattern → ℕ → BenchState → Option FoundEvent
-oldest_event patterns lane bench = first_match 0 patterns (events_of (tool_at lane bench))
+oldest_event patterns lane bench = first_match 0 patterns (events_at lane bench)
 
 -- The place of the oldest event that was received on this lane with just these terms.
 abbrev pub oldest_received : List Term → ℕ → BenchState → Option ℕ
-oldest_received terms lane bench = position_from (is_same_terms terms) 0 (received_of (tool_at lane bench))
+oldest_received terms lane bench = position_from (is_same_terms terms) 0 (received_at lane bench)
 
 -- What is to be handed out next on this lane.
 abbrev pub next_out : ℕ → BenchState → Option Out

@@ -1,9 +1,13 @@
-ghost use Rattle.std.specs.Prelude.{◌≡◌, ◌<◌, nat_lt, length, slice_get, IsTrue, IfOk, OnOk, OnErr, Some, None, false, option_and_then};
+ghost use Rattle.std.specs.Prelude.{◌≡◌, ◌<◌, ◌+◌, ℕ, length, slice_get, option_map, IsSome, IfOk, OnOk, OnErr, Some, None, false, replicate, if◌then◌else◌};
 ghost use Rattle.std.specs.Option.{option_copied};
-ghost use Rattle.tb_tools.specs.Lanes.{unused, started, is_free, is_open, lane_state, with_out, without_tool};
+ghost use Rattle.tb_log.specs.declared.entry.Out.{Out};
+ghost use Rattle.tb_tools.specs.declared.stage.Eval.TheVariants as eval;
+ghost use Rattle.tb_tools.specs.Lanes.{unused, started, is_free, is_open, lane_state, on_tool, with_out, without_tool};
+ghost use Rattle.tb_tools.specs.Finding.{has_tool, smaller_of};
 ghost use Rattle.tb_tools.specs.Inputs.{flushed, closed, lost, dropped, answered, with_event};
-ghost use Rattle.tb_tools.specs.Acts.{of_tool, is_answered, answer_of, with_live_tool, with_question, without_answer, with_received, with_acknowledged, ended_with, last_line, without_out};
+ghost use Rattle.tb_tools.specs.Acts.{answer_by, events_of, received_of, with_live_tool, with_question, without_answer, with_received, with_acknowledged, dismissed, ended_with, last_line, without_out};
 
+use crate::found::{FoundTool, smaller};
 use crate::stage::{LaneState, Stage};
 use crate::told::{last_line, line_with};
 use crate::tool::LaneTool;
@@ -91,6 +95,32 @@ impl LaneRow {
         ensures { option_copied result ≡ self.now.tool }
     {
         self.tool.as_ref()
+    }
+
+    /// Whether it has the tool with this term.
+    pub fn has_tool(&self, term: &Term) -> bool
+        ensures { result ≡ has_tool term.now self.now }
+    {
+        match &self.tool {
+            Some(tool) => tool.is_named(term),
+            None => false,
+        }
+    }
+
+    /// The best so far, or the tool of this lane where that has a smaller number.
+    pub fn smaller(
+        &self,
+        name: &Name,
+        stage: Stage,
+        best: Option<FoundTool>,
+        lane: u8,
+    ) -> Option<FoundTool>
+        ensures { result ≡ smaller_of name.now stage best lane self.now.tool }
+    {
+        match &self.tool {
+            Some(tool) if tool.is_at(name, stage) => Some(smaller(best, tool.number(), lane)),
+            _ => best,
+        }
     }
 
     /// Sets it up, forgets that it ended, and puts the command.
@@ -206,16 +236,22 @@ impl LaneRow {
         ensures err { OnErr result (self.new ≡ self.old) }
     {
         self.put(line_with(alloc, b"rec-eval", term)?)?;
+        self.ask();
+        Ok(())
+    }
+
+    fn ask(&mut self)
+        ensures { self.new ≡ on_tool (λ tool. record tool { eval = eval.Asked }) self.old }
+    {
         if let Some(tool) = &mut self.tool {
             tool.ask();
         }
-        Ok(())
     }
 
     /// Takes the value with which its tool has answered.
     pub fn take_answer(&mut self) -> Term
-        requires { IsTrue (of_tool (λ tool. is_answered tool.eval) self.old.tool) }
-        ensures value { option_and_then (λ tool. answer_of tool.eval) self.old.tool ≡ Some result }
+        requires { IsSome (answer_by self.old.tool) }
+        ensures value { answer_by self.old.tool ≡ Some result }
         ensures closed { self.new ≡ without_answer self.old }
     {
         match &mut self.tool {
@@ -226,7 +262,7 @@ impl LaneRow {
 
     /// The event at this place is received.
     pub fn receive(&mut self, place: usize) -> Result<(), NoMemory>
-        requires { IsTrue (of_tool (λ tool. nat_lt place (length tool.events)) self.old.tool) }
+        requires { place < length (events_of self.old.tool) }
         ensures ok { OnOk result (self.new ≡ with_received place self.old) }
         ensures err { OnErr result (self.new ≡ self.old) }
     {
@@ -238,7 +274,7 @@ impl LaneRow {
 
     /// The received event at this place is forgotten, and its tool is told.
     pub fn ack(&mut self, alloc: Global, place: usize) -> Result<(), NoMemory>
-        requires { IsTrue (of_tool (λ tool. nat_lt place (length tool.received)) self.old.tool) }
+        requires { place < length (received_of self.old.tool) }
         ensures ok { OnOk result (self.new ≡ with_acknowledged place self.old) }
         ensures err { OnErr result (self.new ≡ self.old) }
     {
@@ -265,8 +301,19 @@ impl LaneRow {
         Ok(())
     }
 
-    /// Puts the last line, and its end. Takes no memory.
-    pub fn dismiss(&mut self, line: Out)
+    /// Where it is open, puts one of the lines, and its end. Takes no memory.
+    pub fn dismiss(&mut self, lines: &mut Vec<Out>)
+        ensures { (line : Out) (left : ℕ) → lines.old.items ≡ replicate ((if is_open self.old then 1 else 0) + left) line
+            → (self.new ≡ dismissed line self.old) × (lines.new.items ≡ replicate left line) }
+    {
+        if self.is_open() {
+            if let Some(line) = lines.pop() {
+                self.end_with(line);
+            }
+        }
+    }
+
+    fn end_with(&mut self, line: Out)
         requires { self.old.ended ≡ false }
         ensures { self.new ≡ ended_with line self.old }
     {

@@ -1,9 +1,9 @@
-ghost use Rattle.std.specs.Prelude.{◌≡◌, ◌<◌, ◌++◌, ◌∷◌, [], ◌&&◌, length, remove, Some, IfOk, OnOk, OnErr, IsTrue};
+ghost use Rattle.std.specs.Prelude.{◌≡◌, ◌<◌, ◌++◌, ◌∷◌, [], not, length, remove, Some, IfOk, OnOk, OnErr, IsSome};
 ghost use Rattle.std.specs.Option.{option_copied};
 ghost use Rattle.tb_terms.specs.Same.{is_same_term};
 ghost use Rattle.tb_tools.specs.Lanes.{new_tool, term_of};
 ghost use Rattle.tb_tools.specs.Inputs.{is_asked, departed};
-ghost use Rattle.tb_tools.specs.Acts.{is_closed, is_answered, answer_of, event_at};
+ghost use Rattle.tb_tools.specs.Acts.{is_live, is_waiting, is_leaving, is_closed, answer_of, event_at};
 ghost use Rattle.tb_tools.specs.Finding.{is_at};
 ghost use Rattle.tb_tools.specs.declared.stage.Stage.TheVariants as stage;
 ghost use Rattle.tb_tools.specs.declared.stage.Eval.TheVariants as eval;
@@ -95,6 +95,25 @@ impl LaneTool {
         self.name.as_bytes() == name.as_bytes() && self.stage == stage
     }
 
+    pub fn is_live(&self) -> bool
+        ensures { result ≡ is_live self.now.stage }
+    {
+        matches!(self.stage, Stage::Live)
+    }
+
+    /// Whether it is live or leaving.
+    pub fn is_taken(&self) -> bool
+        ensures { result ≡ not (is_waiting self.now.stage) }
+    {
+        !matches!(self.stage, Stage::Waiting)
+    }
+
+    pub fn is_leaving(&self) -> bool
+        ensures { result ≡ is_leaving self.now.stage }
+    {
+        matches!(self.stage, Stage::Leaving)
+    }
+
     /// Whether no evaluation is open.
     pub fn is_closed(&self) -> bool
         ensures { result ≡ is_closed self.now.eval }
@@ -168,7 +187,7 @@ impl LaneTool {
 
     /// Takes the value with which it has answered.
     pub fn take_answer(&mut self) -> Term
-        requires { IsTrue (is_answered self.old.eval) }
+        requires { IsSome (answer_of self.old.eval) }
         ensures value { answer_of self.old.eval ≡ Some result }
         ensures closed { self.new ≡ record self.old { eval = eval.Closed } }
     {
