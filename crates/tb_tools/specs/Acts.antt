@@ -1,5 +1,5 @@
 -- What atoms do to the lanes and their tools: where each may happen, and the bench after it.
-use Rattle.std.specs.Prelude.{ℕ, ◌+◌, nat_lt, Bool, true, false, not, ◌&&◌, List, [], ◌∷◌, ◌++◌, length, map, drop, remove, slice_index_or, Option, Some, None, is_some, codes, if◌then◌else◌}
+use Rattle.std.specs.Prelude.{ℕ, ◌+◌, nat_lt, Bool, true, false, ◌&&◌, ◌||◌, List, [], ◌∷◌, ◌++◌, length, map, drop, remove, slice_index_or, Option, Some, None, is_some, codes, if◌then◌else◌}
 use Rattle.tb_terms.specs.declared.term.Term.{Term}
 use Rattle.tb_terms.specs.declared.term.Term.TheVariants.{Appl}
 use Rattle.tb_log.specs.declared.entry.Out.{Out}
@@ -8,22 +8,7 @@ use Rattle.tb_tools.specs.declared.stage.Stage.{Stage}
 use Rattle.tb_tools.specs.declared.stage.Stage.TheVariants as stage
 use Rattle.tb_tools.specs.declared.stage.Eval.{Eval}
 use Rattle.tb_tools.specs.declared.stage.Eval.TheVariants as eval
-use Rattle.tb_tools.specs.Lanes.{Tool, Lane, BenchState, lane_at, tool_at, on_lane, on_tool, with_tool, without_tool, with_next_tool, with_out, is_free, is_open, started, new_tool}
-
-abbrev pub is_waiting : Stage → Bool
-is_waiting stage.Waiting = true
-is_waiting stage.Live = false
-is_waiting stage.Leaving = false
-
-abbrev pub is_live : Stage → Bool
-is_live stage.Waiting = false
-is_live stage.Live = true
-is_live stage.Leaving = false
-
-abbrev pub is_leaving : Stage → Bool
-is_leaving stage.Waiting = false
-is_leaving stage.Live = false
-is_leaving stage.Leaving = true
+use Rattle.tb_tools.specs.Lanes.{Tool, Lane, BenchState, of_tool, is_stage_at, lane_at, tool_at, on_lane, on_tool, with_tool, without_tool, with_next_tool, with_out, is_free, is_open, started, new_tool}
 
 abbrev pub is_closed : Eval → Bool
 is_closed eval.Closed = true
@@ -35,11 +20,6 @@ abbrev pub answer_of : Eval → Option Term
 answer_of eval.Closed = None
 answer_of eval.Asked = None
 answer_of (eval.Answered value) = Some value
-
--- the lane has a tool of which this holds
-abbrev pub of_tool : (Tool → Bool) → Option Tool → Bool
-of_tool test None = false
-of_tool test (Some tool) = test tool
 
 abbrev pub answer_by : Option Tool → Option Term
 answer_by None = None
@@ -75,11 +55,11 @@ tool_line word parts = Line (Appl word parts)
 
 -- a tool is live
 abbrev pub is_live_at : ℕ → BenchState → Bool
-is_live_at lane bench = of_tool (λ tool. is_live tool.stage) (tool_at lane bench)
+is_live_at = is_stage_at stage.Live
 
 -- a tool is live or leaving
 abbrev pub is_taken_at : ℕ → BenchState → Bool
-is_taken_at lane bench = of_tool (λ tool. not (is_waiting tool.stage)) (tool_at lane bench)
+is_taken_at lane bench = is_stage_at stage.Live lane bench || is_stage_at stage.Leaving lane bench
 
 -- a lane may be started
 abbrev pub can_execute : ℕ → BenchState → Bool
@@ -92,7 +72,7 @@ executed name command lane bench =
 
 -- a tool waits
 abbrev pub can_connect : ℕ → BenchState → Bool
-can_connect lane bench = of_tool (λ tool. is_waiting tool.stage) (tool_at lane bench)
+can_connect = is_stage_at stage.Waiting
 
 abbrev pub with_live_tool : Lane → Lane
 with_live_tool = on_tool (λ tool. record tool { stage = stage.Live })
@@ -103,7 +83,7 @@ connected = on_lane with_live_tool
 
 -- a tool is leaving
 abbrev pub can_leave : ℕ → BenchState → Bool
-can_leave lane bench = of_tool (λ tool. is_leaving tool.stage) (tool_at lane bench)
+can_leave = is_stage_at stage.Leaving
 
 -- It leaves its lane, with its events.
 abbrev pub left : ℕ → BenchState → BenchState

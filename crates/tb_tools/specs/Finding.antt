@@ -9,11 +9,10 @@ use Rattle.tb_match.specs.declared.bind.Bind.{Bind}
 use Rattle.tb_match.specs.Matches.{match_list}
 use Rattle.tb_log.specs.declared.entry.Out.{Out}
 use Rattle.tb_tools.specs.declared.stage.Stage.{Stage}
-use Rattle.tb_tools.specs.declared.stage.Stage.TheVariants as stage
 use Rattle.tb_tools.specs.declared.found.FoundEvent.{FoundEvent}
 use Rattle.tb_tools.specs.declared.found.FoundTool.{FoundTool}
-use Rattle.tb_tools.specs.Lanes.{Tool, Lane, BenchState, outs_at, is_free, term_of}
-use Rattle.tb_tools.specs.Acts.{of_tool, events_at, received_at}
+use Rattle.tb_tools.specs.Lanes.{Tool, Lane, BenchState, of_tool, is_same_stage, outs_at, is_free, term_of}
+use Rattle.tb_tools.specs.Acts.{events_at, received_at}
 
 -- the first lane that passes the test
 abbrev pub first_lane : (Lane → Bool) → BenchState → Option ℕ
@@ -29,17 +28,6 @@ has_tool term lane = of_tool (λ tool. is_same_term term (term_of tool)) lane.to
 -- The lane of the tool with this term.
 abbrev pub find_tool : Term → BenchState → Option ℕ
 find_tool term = first_lane (has_tool term)
-
-abbrev pub is_same_stage : Stage → Stage → Bool
-is_same_stage stage.Waiting stage.Waiting = true
-is_same_stage stage.Waiting stage.Live = false
-is_same_stage stage.Waiting stage.Leaving = false
-is_same_stage stage.Live stage.Waiting = false
-is_same_stage stage.Live stage.Live = true
-is_same_stage stage.Live stage.Leaving = false
-is_same_stage stage.Leaving stage.Waiting = false
-is_same_stage stage.Leaving stage.Live = false
-is_same_stage stage.Leaving stage.Leaving = true
 
 abbrev pub is_at : List ℕ → Stage → Tool → Bool
 is_at name stage tool = bytes_eq tool.name name && is_same_stage tool.stage stage

@@ -58,12 +58,32 @@ term_of tool = tool_term tool.name tool.number
 abbrev pub unused : Lane
 unused = record { up = false; ended = false; tool = None; outs = [] }
 
+abbrev pub is_same_stage : Stage → Stage → Bool
+is_same_stage stage.Waiting stage.Waiting = true
+is_same_stage stage.Waiting stage.Live = false
+is_same_stage stage.Waiting stage.Leaving = false
+is_same_stage stage.Live stage.Waiting = false
+is_same_stage stage.Live stage.Live = true
+is_same_stage stage.Live stage.Leaving = false
+is_same_stage stage.Leaving stage.Waiting = false
+is_same_stage stage.Leaving stage.Live = false
+is_same_stage stage.Leaving stage.Leaving = true
+
 -- the lane with this number
 abbrev pub lane_at : ℕ → BenchState → Lane
 lane_at lane bench = slice_index_or bench.lanes (lane - 1) unused
 
 abbrev pub tool_at : ℕ → BenchState → Option Tool
 tool_at lane bench = (lane_at lane bench).tool
+
+-- the lane has a tool of which this holds
+abbrev pub of_tool : (Tool → Bool) → Option Tool → Bool
+of_tool test None = false
+of_tool test (Some tool) = test tool
+
+-- this lane has a tool at this stage
+abbrev pub is_stage_at : Stage → ℕ → BenchState → Bool
+is_stage_at stage lane bench = of_tool (λ tool. is_same_stage tool.stage stage) (tool_at lane bench)
 
 -- what is to be handed out on this lane
 abbrev pub outs_at : ℕ → BenchState → List Out

@@ -1,6 +1,6 @@
 ghost use Rattle.std.specs.Prelude.{◌≡◌, ◌≤◌, ◌<◌, ◌+◌, ◌-◌, length, pos, IsTrue, IsSome, IfOk, OnOk, OnErr, Some, option_map, map, count_by};
 ghost use Rattle.std.specs.Option.{option_copied, ForSome};
-ghost use Rattle.tb_tools.specs.Lanes.{opening, started, unused, is_open, most_tools, IsLane, lane_at, tool_at, lane_state, term_of};
+ghost use Rattle.tb_tools.specs.Lanes.{opening, started, unused, is_open, most_tools, IsLane, is_stage_at, lane_at, tool_at, lane_state, term_of};
 ghost use Rattle.tb_tools.specs.Finding.{free_lane, find_tool, first_at, oldest_event, oldest_received, next_out};
 ghost use Rattle.tb_tools.specs.Inputs.{put_line, with_line, gone, cut, has_asked};
 ghost use Rattle.tb_tools.specs.Acts.{answer_at, events_at, received_at, is_live_at, is_taken_at, can_execute, executed, can_connect, connected, can_leave, left, can_eval, asked, can_take_value, value_taken, can_do, told, can_take_event, event_taken, can_ack, acknowledged, can_terminate, terminated, gone_down, handed_out};
@@ -71,6 +71,7 @@ impl Bench {
     pub fn free_lane(&self) -> Option<u8>
         ensures lane { result ≡ free_lane self.now }
         ensures within { ForSome result IsLane }
+        ensures free { ForSome result (λ lane. IsTrue (can_execute lane self.now)) }
     {
         for index in 0..LANES {
             if self.lanes[index].is_free() {
@@ -84,6 +85,7 @@ impl Bench {
     pub fn find_tool(&self, t: &Term) -> Option<u8>
         ensures lane { result ≡ find_tool t.now self.now }
         ensures within { ForSome result IsLane }
+        ensures tool { ForSome result (λ lane. IsSome (tool_at lane self.now)) }
     {
         for index in 0..LANES {
             if self.lanes[index].has_tool(t) {
@@ -97,6 +99,7 @@ impl Bench {
     pub fn first_at(&self, tool: &Name, stage: Stage) -> Option<u8>
         ensures lane { result ≡ first_at tool.now stage self.now }
         ensures within { ForSome result IsLane }
+        ensures at { ForSome result (λ lane. IsTrue (is_stage_at stage lane self.now)) }
     {
         let mut best: Option<FoundTool> = None;
         for index in 0..LANES {
@@ -106,6 +109,13 @@ impl Bench {
             Some(found) => Some(found.lane),
             None => None,
         }
+    }
+
+    /// There are 16 lanes. The call changes nothing.
+    pub fn show_lanes(&self)
+        ensures { length self.now.lanes ≡ 16 }
+    {
+        let _lanes = self.lanes.len();
     }
 
     /// The state of a lane.

@@ -1,9 +1,9 @@
-ghost use Rattle.std.specs.Prelude.{◌≡◌, ◌<◌, ◌++◌, ◌∷◌, [], not, length, remove, Some, IfOk, OnOk, OnErr, IsSome};
+ghost use Rattle.std.specs.Prelude.{◌≡◌, ◌<◌, ◌++◌, ◌∷◌, [], ◌||◌, length, remove, Some, IfOk, OnOk, OnErr, IsSome};
 ghost use Rattle.std.specs.Option.{option_copied};
 ghost use Rattle.tb_terms.specs.Same.{is_same_term};
-ghost use Rattle.tb_tools.specs.Lanes.{new_tool, term_of};
+ghost use Rattle.tb_tools.specs.Lanes.{new_tool, term_of, is_same_stage};
 ghost use Rattle.tb_tools.specs.Inputs.{is_asked, departed};
-ghost use Rattle.tb_tools.specs.Acts.{is_live, is_waiting, is_leaving, is_closed, answer_of, event_at};
+ghost use Rattle.tb_tools.specs.Acts.{is_closed, answer_of, event_at};
 ghost use Rattle.tb_tools.specs.Finding.{is_at};
 ghost use Rattle.tb_tools.specs.declared.stage.Stage.TheVariants as stage;
 ghost use Rattle.tb_tools.specs.declared.stage.Eval.TheVariants as eval;
@@ -96,20 +96,20 @@ impl LaneTool {
     }
 
     pub fn is_live(&self) -> bool
-        ensures { result ≡ is_live self.now.stage }
+        ensures { result ≡ is_same_stage self.now.stage stage.Live }
     {
         matches!(self.stage, Stage::Live)
     }
 
     /// Whether it is live or leaving.
     pub fn is_taken(&self) -> bool
-        ensures { result ≡ not (is_waiting self.now.stage) }
+        ensures { result ≡ (is_same_stage self.now.stage stage.Live || is_same_stage self.now.stage stage.Leaving) }
     {
-        !matches!(self.stage, Stage::Waiting)
+        matches!(self.stage, Stage::Live | Stage::Leaving)
     }
 
     pub fn is_leaving(&self) -> bool
-        ensures { result ≡ is_leaving self.now.stage }
+        ensures { result ≡ is_same_stage self.now.stage stage.Leaving }
     {
         matches!(self.stage, Stage::Leaving)
     }
