@@ -38,6 +38,6 @@ smaller_of-there name stage bench best index row l e h =
     smaller_of-either (IsThere stage bench) name stage best (index + 1) row.tool h (λ tool is at. (
       record { first = omega arith; last = omega arith },
       ap (λ (x : Lane). of_tool (λ found. is_same_stage found.stage stage) x.tool) e
-      ∙ ap (λ (o : Option Tool). of_tool (λ found. is_same_stage found.stage stage) o) is
-      ∙ (both-true (bytes_eq tool.name name) (is_same_stage tool.stage stage) at).1,
+          ∙ ap (λ (o : Option Tool). of_tool (λ found. is_same_stage found.stage stage) o) is
+          ∙ (both-true (bytes_eq tool.name name) (is_same_stage tool.stage stage) at).1,
     ))

@@ -31,6 +31,7 @@ first-from test n (x ∷ xs) = by (test x) refl (first-from test (n + 1) xs)
         before : (j : ℕ) → j < suc h.0 → test (get_or (x ∷ xs) j unused) ≡ false
         before zero l = e
         before (suc j) l = let m : j < h.0 = omega arith in h.4 j m
+
     by : (b : Bool) → test x ≡ b → MatchOption (position_from test (n + 1) xs) (NonePasses test xs) (IsFirstFrom test (n + 1) xs)
         → MatchOption (cond b (Some n) (position_from test (n + 1) xs)) (NonePasses test (x ∷ xs)) (IsFirstFrom test n (x ∷ xs))
     by true e h = (0, omega arith, omega arith, e, λ j l. absurd (omega arith))
@@ -83,6 +84,7 @@ least-smaller name stage best lane None = by best
   where
     nobody : (other : FoundTool) → IsHere name stage lane None other → ⊥
     nobody other h = let e : ◌≡◌ {A = Option Tool} None (Some h.0) = h.1 in cc
+
     by : (best : Option FoundTool) → IsLeast (λ other. (best ≡ Some other) ⊎ IsHere name stage lane None other) best
     by None = λ other c. elim c [ inl e ↦ cc | inr h ↦ nobody other h ]
     by (Some found) = (inl refl, λ other c. elim c [ inl e ↦ omega (arith, ap (λ (x : FoundTool). x.number) (some-same found other e)) | inr h ↦ absurd (nobody other h) ])
@@ -90,10 +92,12 @@ least-smaller name stage best lane (Some tool) = by (is_at name stage tool) refl
   where
     new : FoundTool
     new = record { number = tool.number; lane = lane }
+
     same : (other : FoundTool) → IsHere name stage lane (Some tool) other → (is_at name stage tool ≡ true) × (other.number ≡ tool.number)
     same other h =
         let e = some-same tool h.0 h.1 in
         (ap (is_at name stage) e ∙ h.2, h.3 ∙ sym (ap (λ (x : Tool). x.number) e))
+
     chosen : (b : Bool) (found : FoundTool) → nat_le found.number tool.number ≡ b → is_at name stage tool ≡ true
         → IsLeast (λ other. (Some found ≡ Some other) ⊎ IsHere name stage lane (Some tool) other) (Some (if b then found else new))
     chosen true found e at = (
@@ -110,6 +114,7 @@ least-smaller name stage best lane (Some tool) = by (is_at name stage tool) refl
         | inr h ↦ omega (arith, (same other h).1)
       ],
     )
+
     by : (b : Bool) → is_at name stage tool ≡ b → (best : Option FoundTool)
         → IsLeast (λ other. (best ≡ Some other) ⊎ IsHere name stage lane (Some tool) other) (if b then Some (smaller best (record { number = tool.number; lane = lane })) else best)
     by true at None = (inr (tool, refl, at, refl, refl), λ other c. elim c [ inl e ↦ cc | inr h ↦ omega (arith, (same other h).1) ])
@@ -150,9 +155,11 @@ first_at-smallest name stage bench = by (smallest_from name stage None 1 bench.l
   where
     Candidate : FoundTool → Type 0
     Candidate other = (None ≡ Some other) ⊎ IsAmong name stage 1 bench.lanes other
+
     -- a tool that stands on a lane is a candidate
     made : (lane : ℕ) (tool : Tool) → IsToolAt name stage bench lane tool → Candidate (record { number = tool.number; lane = lane })
     made lane tool h = inr (lane - 1, omega (arith, h.0.0, h.0.1), (tool, h.1, h.2, refl, omega (arith, h.0.0)))
+
     -- and the other way round
     there : (found : FoundTool) → Candidate found → (tool : Tool) × IsToolAt name stage bench found.lane tool × (found.number ≡ tool.number)
     there found (inl e) = cc
@@ -162,6 +169,7 @@ first_at-smallest name stage bench = by (smallest_from name stage None 1 bench.l
           ((omega (arith, h.4), omega (arith, h.4, l)), ap (λ (i : ℕ). (get_or bench.lanes i unused).tool) at ∙ h.1, h.2),
           h.3,
         )
+
     by : (o : Option FoundTool) → IsLeast Candidate o → MatchOption (option_map (λ found. found.lane) o) (NoToolAt name stage bench) (HasSmallest name stage bench)
     by None h = λ lane tool is. h (record { number = tool.number; lane = lane }) (made lane tool is)
     by (Some found) h =

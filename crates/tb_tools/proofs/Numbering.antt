@@ -32,13 +32,13 @@ numbered-from : (before after : BenchState) → HasOrigins before after → afte
 numbered-from before after origins next h = record {
   first = omega (arith, h.first);
   given = λ lane tool is.
-    let o = origins lane tool is in
-    let g = h.given lane o.0 o.1 in
-    (omega (arith, g.0, o.2), omega (arith, g.1, o.2));
+      let o = origins lane tool is in
+      let g = h.given lane o.0 o.1 in
+      (omega (arith, g.0, o.2), omega (arith, g.1, o.2));
   once = λ lane other tool another l m is isn same.
-    let o = origins lane tool is in
-    let p = origins other another isn in
-    h.once lane other o.0 p.0 l m o.1 p.1 (o.2 ∙ same ∙ sym p.2);
+      let o = origins lane tool is in
+      let p = origins other another isn in
+      h.once lane other o.0 p.0 l m o.1 p.1 (o.2 ∙ same ∙ sym p.2);
 }
 
 -- a change of a lane gives it no tool that it hadn't
@@ -112,17 +112,21 @@ new-numbered change name stage lane bench new h = record {
     -- a tool was there before, or it is the new one
     Origin : ℕ → Tool → Type 0
     Origin other tool = (tool_at other bench ≡ Some tool) ⊎ ((tool.number ≡ bench.next_tool) × (other - 1 ≡ lane - 1))
+
     some-same : (a b : Tool) → Some a ≡ Some b → a ≡ b
     some-same a b e = cc
+
     origin : (other : ℕ) (tool : Tool) → tool_at other (on_lane change lane bench) ≡ Some tool → Origin other tool
     origin other tool is =
         elim (with_lane-or lane other (change (lane_at lane bench)) bench) [
           | inl e ↦ inl (sym (ap (λ (x : Lane). x.tool) e) ∙ is)
           | inr h ↦ inr (sym (ap (λ (x : Tool). x.number) (some-same _ tool (sym (new (lane_at lane bench)) ∙ sym (ap (λ (x : Lane). x.tool) h.0) ∙ is))), h.1)
         ]
+
     given : (other : ℕ) (tool : Tool) → Origin other tool → (1 ≤ tool.number) × (tool.number < bench.next_tool + 1)
     given other tool (inl e) = let g = h.given other tool e in (g.0, omega (arith, g.1))
     given other tool (inr e) = (omega (arith, h.first, e.0), omega (arith, e.0))
+
     once : (other third : ℕ) (tool another : Tool) → IsLane other → IsLane third → Origin other tool → Origin third another → tool.number ≡ another.number → other ≡ third
     once other third tool another l m (inl e) (inl f) same = h.once other third tool another l m e f same
     once other third tool another l m (inl e) (inr f) same = let g = h.given other tool e in absurd (omega (arith, g.1, f.0))
@@ -156,6 +160,7 @@ down-numbered reason bench h = numbered-from bench (gone_down reason bench) orig
   where
     same : (lane : Lane) → (dismissed (last_line reason) lane).tool ≡ lane.tool
     same lane = elim (is_open lane) as (λ b. (if b then ended_with (last_line reason) lane else lane).tool ≡ lane.tool) [ true ↦ refl | false ↦ refl ]
+
     origins : HasOrigins bench (gone_down reason bench)
     origins lane tool is =
         let at = get_or-map (dismissed (last_line reason)) bench.lanes (lane - 1) unused in

@@ -8,8 +8,8 @@ pub loop-index-preserved : goal.loop-index-preserved
 loop-index-preserved c =
     let within : c.loop-index.index < length c.self.inside.lanes.items = omega (arith, c.self.invariant) in
     let both = dismissed-more c.self.inside.lanes.items c.loop-index.self-inside.lanes.items c.loop-index.lines.items c.dismiss.new.lines.items
-        c.loop-index.index c.index_mut.result.now c.dismiss.new.self (last_line c.args.t.now) within
-        c.loop-index.invariant.lanes c.loop-index.invariant.lines c.index_mut.ensures.value c.dismiss.ensures in
+    c.loop-index.index c.index_mut.result.now c.dismiss.new.self (last_line c.args.t.now) within
+    c.loop-index.invariant.lanes c.loop-index.invariant.lines c.index_mut.ensures.value c.dismiss.ensures in
     record { lanes = both.0; next_tool = c.loop-index.invariant.next_tool; lines = both.1 }
 
 pub returns-clause-ok : goal.returns-clause-ok
