@@ -1,11 +1,11 @@
 -- The tool with the smallest number is chosen lane by lane.
-use Rattle.std.proofs.Common.{◌≡◌, ℕ, ◌+◌, ◌-◌, ◌<◌, ◌≤◌, nat_le, Bool, true, false, if◌then◌else◌, List, Option, Some, None, IsTrue, length, get_or, refl, ap, sym, ◌∙◌, subst, arith}
+use Rattle.std.proofs.Common.{◌≡◌, ℕ, ◌+◌, ◌<◌, nat_le, Bool, true, false, if◌then◌else◌, List, Option, Some, None, IsTrue, refl, ap, ◌∙◌, subst, arith}
 use Rattle.std.specs.Option.{ForSome}
 use Rattle.tb_terms.proofs.SameLemmas.{both-true}
 use Rattle.std.specs.Str.{bytes_eq}
 use Rattle.tb_tools.specs.declared.stage.Stage.{Stage}
 use Rattle.tb_tools.specs.declared.found.FoundTool.{FoundTool}
-use Rattle.tb_tools.specs.Lanes.{Tool, Lane, BenchState, IsLane, unused, is_same_stage, of_tool, is_stage_at, lane_at}
+use Rattle.tb_tools.specs.Lanes.{Tool, Lane, BenchState, IsLane, is_same_stage, of_tool, is_stage_at, lane_at}
 use Rattle.tb_tools.specs.Finding.{is_at, smaller, smaller_of}
 
 smaller-either : (P : FoundTool → Type 0) (best : Option FoundTool) (other : FoundTool) → ForSome best P → P other → P (smaller best other)

@@ -4,9 +4,9 @@ use Rattle.std.specs.List.{position_from}
 use Rattle.std.proofs.lemmas.Bool.{leb-true, leb-false}
 use Rattle.tb_tools.specs.declared.stage.Stage.{Stage}
 use Rattle.tb_tools.specs.declared.found.FoundTool.{FoundTool}
-use Rattle.tb_tools.specs.Lanes.{Tool, Lane, BenchState, unused, lane_at}
+use Rattle.tb_tools.specs.Lanes.{Tool, Lane, BenchState, unused}
 use Rattle.tb_tools.specs.Finding.{first_lane, is_at, smaller, smaller_of, smallest_from, first_at}
-use Rattle.tb_tools.specs.First.{IsThere, NoLane, IsFirstLane, IsToolAt, NoToolAt, HasSmallest}
+use Rattle.tb_tools.specs.First.{NoLane, IsFirstLane, IsToolAt, NoToolAt, HasSmallest}
 
 -- the first that passes stands at the offset k of lanes that have the numbers from n on
 IsFirstFrom : (Lane → Bool) → ℕ → List Lane → ℕ → Type 0

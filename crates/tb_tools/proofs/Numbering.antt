@@ -1,10 +1,9 @@
 -- Tools keep their numbers, and a new one has the next.
-use Rattle.std.proofs.Common.{◌≡◌, ◌⊎◌, inl, inr, ℤ, pos, negsuc, ℕ, zero, suc, ◌+◌, ◌-◌, ◌<◌, ◌≤◌, Bool, true, false, if◌then◌else◌, List, [], ◌∷◌, ◌++◌, length, get_or, map, replicate, option_map, Option, Some, None, refl, ap, sym, ◌∙◌, arith, rules}
+use Rattle.std.proofs.Common.{◌≡◌, ◌⊎◌, inl, inr, pos, negsuc, ℕ, zero, suc, ◌+◌, ◌-◌, ◌<◌, ◌≤◌, Bool, true, false, if◌then◌else◌, List, [], ◌∷◌, ◌++◌, length, get_or, map, replicate, option_map, Option, Some, None, refl, ap, sym, ◌∙◌, arith, rules}
 use Rattle.std.proofs.Math.ListN.{get_or-map}
 use Rattle.tb_terms.specs.declared.term.Term.{Term, out-Term, the_lemmas}
 use Rattle.tb_terms.specs.declared.term.Term.TheOpen.{Term-F}
 use Rattle.tb_terms.specs.declared.term.Term.TheOpen as term
-use Rattle.tb_log.specs.declared.entry.Out.{Out}
 use Rattle.tb_log.specs.declared.entry.ToolLine.{ToolLine}
 use Rattle.tb_log.specs.declared.entry.ToolLine.TheVariants.{Value, Event, Connect, Disconnect, Bad}
 use Rattle.tb_log.specs.declared.entry.Reply.TheVariants.{Took, Dropped}
@@ -12,9 +11,8 @@ use Rattle.tb_log.specs.declared.entry.Why.{Why}
 use Rattle.tb_log.specs.declared.entry.Why.TheVariants as why
 use Rattle.tb_tools.specs.declared.stage.Stage.{Stage}
 use Rattle.tb_tools.specs.declared.stage.Stage.TheVariants as stage
-use Rattle.tb_tools.specs.declared.stage.Eval.{Eval}
 use Rattle.tb_tools.specs.declared.stage.Eval.TheVariants as eval
-use Rattle.tb_tools.specs.Lanes.{Tool, Lane, BenchState, IsLane, unused, started, is_open, term_of, new_tool, opening, lane_at, tool_at, on_lane, on_tool, with_tool, without_tool, with_out, with_next_tool}
+use Rattle.tb_tools.specs.Lanes.{Tool, Lane, BenchState, IsLane, unused, started, is_open, term_of, new_tool, opening, lane_at, tool_at, on_lane, on_tool, with_tool, with_next_tool}
 use Rattle.tb_tools.specs.Inputs.{Answer, departed, departed_by, closed, lost, while_up, answered, with_event, with_line, line_by, dropped, put_line}
 use Rattle.tb_tools.specs.Acts.{with_acknowledged, with_acknowledged_of, dismissed, ended_with, gone_down, last_line}
 use Rattle.tb_tools.specs.Numbers.{IsNumbered, KeepsNumbers}

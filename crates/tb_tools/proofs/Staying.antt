@@ -1,7 +1,7 @@
 -- A change of one lane leaves the others, and what it keeps of its own tool.
-use Rattle.std.proofs.Common.{◌≡◌, ◌≢◌, ◌⊎◌, inl, inr, ℕ, zero, suc, ◌+◌, ◌-◌, ◌<◌, ◌≤◌, Bool, true, false, if◌then◌else◌, List, [], ◌∷◌, length, get_or, set, map, Option, Some, None, refl, ap, sym, ◌∙◌, arith}
+use Rattle.std.proofs.Common.{◌≡◌, ◌≢◌, ◌⊎◌, inl, inr, ℕ, zero, suc, ◌-◌, ◌<◌, List, [], ◌∷◌, length, get_or, set, refl, ap, arith}
 use Rattle.std.proofs.lemmas.List.{get_or-set_other, get_or-set_same}
-use Rattle.tb_tools.specs.Lanes.{Tool, Lane, BenchState, IsLane, unused, lane_at, tool_at, with_lane, on_lane}
+use Rattle.tb_tools.specs.Lanes.{Lane, BenchState, IsLane, unused, lane_at, with_lane, on_lane}
 use Rattle.tb_tools.specs.Numbers.{OthersStay}
 
 pub with_lane-other : (lane other : ℕ) (new : Lane) (bench : BenchState) → IsLane lane → IsLane other → other ≢ lane → lane_at other (with_lane lane new bench) ≡ lane_at other bench

@@ -2,7 +2,7 @@ use Rattle.std.proofs.Common.{[], ◌∷◌, ◌++◌, refl, codes}
 use Rattle.std.specs.List.{remove}
 use Rattle.tb_tools.specs.declared.stage.Stage.TheVariants as stage
 use Rattle.tb_tools.specs.declared.stage.Eval.TheVariants as eval
-use Rattle.tb_tools.specs.Lanes.{on_tool, with_out, with_tool, without_tool, new_tool, started}
+use Rattle.tb_tools.specs.Lanes.{with_out, with_tool, without_tool, new_tool, started}
 use Rattle.tb_tools.specs.Acts.{event_at, with_live_tool, with_question, without_answer, with_received, with_acknowledged, ended_with, last_line, tool_line, without_out}
 use Rattle.tb_tools.proofs.Numbering.{on_lane-numbered, on_tool-keeps, same-keeps, without_tool-keeps, acknowledged-keeps, new-numbered, down-numbered}
 use Rattle.tb_tools.proofs.laws.acts_keep_numbers.Goals as goal

@@ -1,6 +1,6 @@
 use Rattle.tb_tools.specs.declared.stage.Stage.TheVariants as stage
-use Rattle.tb_tools.specs.Lanes.{with_out, with_tool, without_tool, new_tool, started}
-use Rattle.tb_tools.specs.Acts.{with_live_tool, with_question, without_answer, with_received, with_acknowledged, ended_with, last_line, tool_line, without_out}
+use Rattle.tb_tools.specs.Lanes.{with_tool, without_tool, new_tool, started}
+use Rattle.tb_tools.specs.Acts.{with_live_tool, with_question, without_answer, with_received, with_acknowledged, ended_with, last_line, without_out}
 use Rattle.tb_tools.proofs.Staying.{on_lane-others}
 use Rattle.tb_tools.proofs.laws.acts_leave_other_lanes.Goals as goal
 
