@@ -1,0 +1,7 @@
+pub mod Choosing
+pub mod Dismissing
+pub mod Lowest
+pub mod Numbering
+pub mod Oldest
+pub mod Reading
+pub mod Staying

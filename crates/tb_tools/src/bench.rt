@@ -1,0 +1,512 @@
+ghost use Rattle.std.specs.Prelude.{◌≡◌, ◌≤◌, ◌<◌, ◌+◌, ◌-◌, length, pos, IsTrue, IsSome, IfOk, OnOk, OnErr, Some, option_map, map, count_by};
+ghost use Rattle.std.specs.Option.{option_copied, ForSome};
+ghost use Rattle.tb_tools.specs.Lanes.{opening, started, unused, is_open, most_tools, IsLane, is_stage_at, lane_at, tool_at, lane_state, term_of};
+ghost use Rattle.tb_tools.specs.Finding.{free_lane, find_tool, first_at, oldest_event, oldest_received, next_out};
+ghost use Rattle.tb_tools.specs.Inputs.{put_line, with_line, gone, cut, has_asked};
+ghost use Rattle.tb_tools.specs.Acts.{answer_at, events_at, received_at, is_live_at, is_taken_at, can_execute, executed, can_connect, connected, can_leave, left, can_eval, asked, can_take_value, value_taken, can_do, told, can_take_event, event_taken, can_ack, acknowledged, can_terminate, terminated, gone_down, handed_out};
+
+use crate::events::Events;
+use crate::found::{FoundEvent, FoundTool};
+use crate::lane::LaneRow;
+use crate::stage::{LaneState, Stage};
+use crate::told::{last_lines, line_with};
+use crate::tool::LaneTool;
+use std::alloc::Global;
+use std::marker::Model;
+use tb_log::{Out, Reply, ToolLine, Why};
+use tb_terms::{Name, NoMemory, Patterns, Term, Terms, Text, Texts};
+
+/// How many lanes there are.
+const LANES: usize = 16;
+
+/// The lanes, numbered from 1 to 16, with the tools that stand on them.
+#[derive(Debug, Drop)]
+pub struct Bench {
+    alloc: Global,
+    lanes: Vec<LaneRow>,
+    next_tool: u32,
+}
+
+impl Model for Bench {
+    ghost use Rattle.std.specs.Prelude.{◌≡◌, length};
+    ghost use Rattle.std.specs.Coded.{codes};
+    ghost use Rattle.tb_terms.specs.contracts.term.Term as term_data;
+    ghost use Rattle.tb_tools.specs.Lanes.{BenchState};
+
+    ghost Value = { BenchState };
+
+    ghost coded = { Prim.hlevel (codes, term_data.the_row.coded) };
+
+    ghost view = { λ bench. record { lanes = bench.lanes.items; next_tool = bench.next_tool } };
+
+    ghost invariant = { λ bench. length bench.lanes.items ≡ 16 };
+}
+
+impl Bench {
+    /// The first lanes are started with the commands, and no tool has come. Takes the memory for
+    /// one end on each lane, and keeps it for good.
+    pub fn new(alloc: Global, connects: &Texts) -> Result<Bench, NoMemory>
+        requires { length connects.now ≤ 16 }
+        ensures { IfOk result (λ bench. bench ≡ opening connects.now) }
+    {
+        let mut lanes = started_lanes(alloc, connects)?;
+        for _ in connects.len()..LANES {
+            lanes.push(LaneRow::unused(alloc)?)?;
+        }
+        Ok(Bench {
+            alloc,
+            lanes,
+            next_tool: 1,
+        })
+    }
+
+    /// The number of the next tool.
+    pub fn next_tool(&self) -> u32
+        ensures { result ≡ self.now.next_tool }
+    {
+        self.next_tool
+    }
+
+    /// The lowest lane that is free.
+    pub fn free_lane(&self) -> Option<u8>
+        ensures lane { result ≡ free_lane self.now }
+        ensures within { ForSome result IsLane }
+        ensures free { ForSome result (λ lane. IsTrue (can_execute lane self.now)) }
+    {
+        for index in 0..LANES {
+            if self.lanes[index].is_free() {
+                return Some(number_of(index));
+            }
+        }
+        None
+    }
+
+    /// The lane that has the tool with this term.
+    pub fn find_tool(&self, t: &Term) -> Option<u8>
+        ensures lane { result ≡ find_tool t.now self.now }
+        ensures within { ForSome result IsLane }
+        ensures tool { ForSome result (λ lane. IsSome (tool_at lane self.now)) }
+    {
+        for index in 0..LANES {
+            if self.lanes[index].has_tool(t) {
+                return Some(number_of(index));
+            }
+        }
+        None
+    }
+
+    /// The lane of the tool with the smallest number, of those with this name at this stage.
+    pub fn first_at(&self, tool: &Name, stage: Stage) -> Option<u8>
+        ensures lane { result ≡ first_at tool.now stage self.now }
+        ensures within { ForSome result IsLane }
+        ensures at { ForSome result (λ lane. IsTrue (is_stage_at stage lane self.now)) }
+    {
+        let mut best: Option<FoundTool> = None;
+        for index in 0..LANES {
+            best = self.lanes[index].smaller(tool, stage, best, number_of(index));
+        }
+        match best {
+            Some(found) => Some(found.lane),
+            None => None,
+        }
+    }
+
+    /// There are 16 lanes. The call changes nothing.
+    pub fn show_lanes(&self)
+        ensures { length self.now.lanes ≡ 16 }
+    {
+        let _lanes = self.lanes.len();
+    }
+
+    /// The state of a lane.
+    pub fn lane_state(&self, lane: u8) -> LaneState
+        requires { IsLane lane }
+        ensures { result ≡ lane_state (lane_at lane self.now) }
+    {
+        self.row(lane).state()
+    }
+
+    /// How far the tool of a lane is.
+    pub fn stage(&self, lane: u8) -> Stage
+        requires lane { IsLane lane }
+        requires tool { IsSome (tool_at lane self.now) }
+        ensures { option_map (λ tool. tool.stage) (tool_at lane self.now) ≡ Some result }
+    {
+        self.tool_on(lane).stage()
+    }
+
+    /// The term of the tool of a lane.
+    pub fn tool(&self, lane: u8) -> &Term
+        requires lane { IsLane lane }
+        requires tool { IsSome (tool_at lane self.now) }
+        ensures { option_map term_of (tool_at lane self.now) ≡ Some result.now }
+    {
+        self.tool_on(lane).term()
+    }
+
+    /// Whether the tool of a lane was asked to evaluate something, and hasn't answered.
+    pub fn asked(&self, lane: u8) -> bool
+        requires { IsLane lane }
+        ensures { result ≡ has_asked (tool_at lane self.now) }
+    {
+        match self.row(lane).tool() {
+            Some(tool) => tool.is_asked(),
+            None => false,
+        }
+    }
+
+    /// The value with which the tool of a lane has answered.
+    pub fn answer(&self, lane: u8) -> Option<&Term>
+        requires { IsLane lane }
+        ensures { option_copied result ≡ answer_at lane self.now }
+    {
+        match self.row(lane).tool() {
+            Some(tool) => tool.answer(),
+            None => None,
+        }
+    }
+
+    /// The events that wait on a lane.
+    pub fn events(&self, lane: u8) -> &Events
+        requires lane { IsLane lane }
+        requires tool { IsSome (tool_at lane self.now) }
+        ensures { result.now ≡ events_at lane self.now }
+    {
+        self.tool_on(lane).events()
+    }
+
+    /// The events that were received on a lane, and not acknowledged yet.
+    pub fn received(&self, lane: u8) -> &Events
+        requires lane { IsLane lane }
+        requires tool { IsSome (tool_at lane self.now) }
+        ensures { result.now ≡ received_at lane self.now }
+    {
+        self.tool_on(lane).received()
+    }
+
+    /// Whether a lane has a tool that is live.
+    pub fn is_live(&self, lane: u8) -> bool
+        requires { IsLane lane }
+        ensures { result ≡ is_live_at lane self.now }
+    {
+        match self.row(lane).tool() {
+            Some(tool) => tool.is_live(),
+            None => false,
+        }
+    }
+
+    /// Whether a lane has a tool that is live or leaving.
+    pub fn is_taken(&self, lane: u8) -> bool
+        requires { IsLane lane }
+        ensures { result ≡ is_taken_at lane self.now }
+    {
+        match self.row(lane).tool() {
+            Some(tool) => tool.is_taken(),
+            None => false,
+        }
+    }
+
+    /// Whether a lane has a tool that is leaving.
+    pub fn can_leave(&self, lane: u8) -> bool
+        requires { IsLane lane }
+        ensures { result ≡ can_leave lane self.now }
+    {
+        match self.row(lane).tool() {
+            Some(tool) => tool.is_leaving(),
+            None => false,
+        }
+    }
+
+    /// Whether a lane has a tool that is live and may be asked to evaluate something.
+    pub fn can_eval(&self, lane: u8) -> bool
+        requires { IsLane lane }
+        ensures { result ≡ can_eval lane self.now }
+    {
+        match self.row(lane).tool() {
+            Some(tool) => tool.is_live() && tool.is_closed(),
+            None => false,
+        }
+    }
+
+    /// The oldest event that waits on a lane and matches.
+    pub fn find_event(&self, lane: u8, ps: &Patterns) -> Result<Option<FoundEvent>, NoMemory>
+        requires { IsLane lane }
+        ensures found { IfOk result (λ found. found ≡ oldest_event ps.now lane self.now) }
+        ensures within { IfOk result (λ found. ForSome found (λ at. at.place < length (events_at lane self.now))) }
+    {
+        match self.row(lane).tool() {
+            Some(tool) => Ok(tool.events().first_match(ps)?),
+            None => Ok(None),
+        }
+    }
+
+    /// The place of the oldest event that was received on a lane with just these terms.
+    pub fn find_received(&self, lane: u8, ts: &Terms) -> Option<usize>
+        requires { IsLane lane }
+        ensures place { result ≡ oldest_received ts.now lane self.now }
+        ensures within { ForSome result (λ place. place < length (received_at lane self.now)) }
+    {
+        match self.row(lane).tool() {
+            Some(tool) => tool.received().position_of(ts),
+            None => None,
+        }
+    }
+
+    /// The tool of a lane has put a line. `declared` says whether there is a tool of the name by
+    /// which the line connects.
+    pub fn line(&mut self, lane: u8, l: ToolLine, declared: bool) -> Result<Reply, NoMemory>
+        requires lane { IsLane lane }
+        requires room { self.old.next_tool ≤ most_tools }
+        ensures reply { IfOk result (λ reply. reply ≡ (put_line declared l lane self.old).reply) }
+        ensures ok { OnOk result (self.new ≡ (put_line declared l lane self.old).bench) }
+        ensures err { OnErr result (self.new ≡ self.old) }
+    {
+        if let Some(why) = self.row(lane).drops(&l, declared) {
+            return Ok(Reply::Dropped(why));
+        }
+        self.take_line(lane, l)?;
+        Ok(Reply::Took)
+    }
+
+    fn take_line(&mut self, lane: u8, line: ToolLine) -> Result<(), NoMemory>
+        requires lane { IsLane lane }
+        requires room { self.old.next_tool ≤ most_tools }
+        ensures ok { OnOk result (self.new ≡ with_line line lane self.old) }
+        ensures err { OnErr result (self.new ≡ self.old) }
+    {
+        match line {
+            ToolLine::Value(value) => self.lanes[index_of(lane)].set_answer(value),
+            ToolLine::Event(terms) => self.lanes[index_of(lane)].push_event(terms)?,
+            ToolLine::Connect(name) => self.name_lane(lane, name)?,
+            ToolLine::Disconnect => self.lanes[index_of(lane)].close(),
+            ToolLine::Bad => {}
+        }
+        Ok(())
+    }
+
+    fn name_lane(&mut self, lane: u8, name: Name) -> Result<(), NoMemory>
+        requires lane { IsLane lane }
+        requires room { self.old.next_tool ≤ most_tools }
+        ensures ok { OnOk result (self.new ≡ with_line (ToolLine.Connect name) lane self.old) }
+        ensures err { OnErr result (self.new ≡ self.old) }
+    {
+        let tool = LaneTool::new(self.alloc, name, self.next_tool, Stage::Waiting)?;
+        self.lanes[index_of(lane)].set_tool(Some(tool));
+        self.next_tool += 1;
+        Ok(())
+    }
+
+    /// The tool of a lane has ended. Takes no memory.
+    pub fn gone(&mut self, lane: u8) -> Reply
+        requires { IsLane lane }
+        ensures reply { result ≡ (gone lane self.old).reply }
+        ensures bench { self.new ≡ (gone lane self.old).bench }
+    {
+        if !self.row(lane).is_up() {
+            return Reply::Dropped(Why::NotLive);
+        }
+        self.lanes[index_of(lane)].lose();
+        Reply::Took
+    }
+
+    /// What was handed out on a lane couldn't be put. Takes no memory.
+    pub fn cut(&mut self, lane: u8) -> Reply
+        requires { IsLane lane }
+        ensures reply { result ≡ (cut lane self.old).reply }
+        ensures bench { self.new ≡ (cut lane self.old).bench }
+    {
+        if !self.row(lane).is_up() {
+            return Reply::Dropped(Why::NotLive);
+        }
+        self.lanes[index_of(lane)].close();
+        Reply::Took
+    }
+
+    /// Starts a lane that is free with a tool's command, and gives the number of the tool.
+    pub fn execute(&mut self, lane: u8, tool: &Name, command: &Text) -> Result<i64, NoMemory>
+        requires lane { IsLane lane }
+        requires can { IsTrue (can_execute lane self.old) }
+        requires room { self.old.next_tool ≤ most_tools }
+        ensures number { IfOk result (λ number. number ≡ pos self.old.next_tool) }
+        ensures ok { OnOk result (self.new ≡ executed tool.now command.now lane self.old) }
+        ensures err { OnErr result (self.new ≡ self.old) }
+    {
+        let number = self.next_tool;
+        let live = LaneTool::new(self.alloc, tool.copy(self.alloc)?, number, Stage::Live)?;
+        let command = command.copy(self.alloc)?;
+        let row = &mut self.lanes[index_of(lane)];
+        row.start(command)?;
+        row.set_tool(Some(live));
+        self.next_tool += 1;
+        Ok(i64::from(number))
+    }
+
+    /// The tool of a lane that waits is live from now on.
+    pub fn connect(&mut self, lane: u8)
+        requires lane { IsLane lane }
+        requires can { IsTrue (can_connect lane self.old) }
+        ensures { self.new ≡ connected lane self.old }
+    {
+        self.lanes[index_of(lane)].connect();
+    }
+
+    /// The tool of a lane that is leaving leaves it, with its events.
+    pub fn leave(&mut self, lane: u8)
+        requires lane { IsLane lane }
+        requires can { IsTrue (can_leave lane self.old) }
+        ensures { self.new ≡ left lane self.old }
+    {
+        self.lanes[index_of(lane)].set_tool(None);
+    }
+
+    /// Asks the tool of a lane to evaluate the term.
+    pub fn eval(&mut self, lane: u8, t: Term) -> Result<(), NoMemory>
+        requires lane { IsLane lane }
+        requires can { IsTrue (can_eval lane self.old) }
+        ensures ok { OnOk result (self.new ≡ asked t lane self.old) }
+        ensures err { OnErr result (self.new ≡ self.old) }
+    {
+        self.lanes[index_of(lane)].eval(self.alloc, t)
+    }
+
+    /// Takes the value with which the tool of a lane has answered.
+    pub fn value(&mut self, lane: u8) -> Term
+        requires lane { IsLane lane }
+        requires can { IsTrue (can_take_value lane self.old) }
+        ensures value { answer_at lane self.old ≡ Some result }
+        ensures bench { self.new ≡ value_taken lane self.old }
+    {
+        self.lanes[index_of(lane)].take_answer()
+    }
+
+    /// Tells the tool of a lane what to do.
+    pub fn do_action(&mut self, lane: u8, t: Term) -> Result<(), NoMemory>
+        requires lane { IsLane lane }
+        requires can { IsTrue (can_do lane self.old) }
+        ensures ok { OnOk result (self.new ≡ told t lane self.old) }
+        ensures err { OnErr result (self.new ≡ self.old) }
+    {
+        let line = line_with(self.alloc, b"rec-do", t)?;
+        self.lanes[index_of(lane)].put(line)
+    }
+
+    /// The event at this place is received.
+    pub fn event(&mut self, lane: u8, place: usize) -> Result<(), NoMemory>
+        requires lane { IsLane lane }
+        requires can { IsTrue (can_take_event place lane self.old) }
+        ensures ok { OnOk result (self.new ≡ event_taken place lane self.old) }
+        ensures err { OnErr result (self.new ≡ self.old) }
+    {
+        self.lanes[index_of(lane)].receive(place)
+    }
+
+    /// The received event at this place is forgotten, and the tool is told.
+    pub fn ack(&mut self, lane: u8, place: usize) -> Result<(), NoMemory>
+        requires lane { IsLane lane }
+        requires can { IsTrue (can_ack place lane self.old) }
+        ensures ok { OnOk result (self.new ≡ acknowledged place lane self.old) }
+        ensures err { OnErr result (self.new ≡ self.old) }
+    {
+        self.lanes[index_of(lane)].ack(self.alloc, place)
+    }
+
+    /// Tells the tool of a lane to end, and it leaves the lane.
+    pub fn terminate(&mut self, lane: u8, t: Term) -> Result<(), NoMemory>
+        requires lane { IsLane lane }
+        requires can { IsTrue (can_terminate lane self.old) }
+        ensures ok { OnOk result (self.new ≡ terminated t lane self.old) }
+        ensures err { OnErr result (self.new ≡ self.old) }
+    {
+        self.lanes[index_of(lane)].terminate(self.alloc, t)
+    }
+
+    /// Each lane that is up and hasn't ended is told to end, with this reason.
+    pub fn down(&mut self, t: &Term) -> Result<(), NoMemory>
+        ensures ok { OnOk result (self.new ≡ gone_down t.now self.old) }
+        ensures err { OnErr result (self.new ≡ self.old) }
+    {
+        let mut lines = last_lines(self.alloc, t, open_count(&self.lanes))?;
+        for index in 0..LANES {
+            self.lanes[index].dismiss(&mut lines);
+        }
+        Ok(())
+    }
+
+    /// What is to be handed out next on a lane.
+    pub fn next_out(&self, lane: u8) -> Option<&Out>
+        requires { IsLane lane }
+        ensures { option_copied result ≡ next_out lane self.now }
+    {
+        self.row(lane).next_out()
+    }
+
+    /// Takes what is to be handed out next on a lane.
+    pub fn take_out(&mut self, lane: u8) -> Out
+        requires lane { IsLane lane }
+        requires some { IsSome (next_out lane self.old) }
+        ensures out { next_out lane self.old ≡ Some result }
+        ensures bench { self.new ≡ handed_out lane self.old }
+    {
+        self.lanes[index_of(lane)].take_out()
+    }
+
+    fn row(&self, lane: u8) -> &LaneRow
+        requires { IsLane lane }
+        ensures { result.now ≡ lane_at lane self.now }
+    {
+        &self.lanes[index_of(lane)]
+    }
+
+    fn tool_on(&self, lane: u8) -> &LaneTool
+        requires lane { IsLane lane }
+        requires tool { IsSome (tool_at lane self.now) }
+        ensures { tool_at lane self.now ≡ Some result.now }
+    {
+        match self.row(lane).tool() {
+            Some(tool) => tool,
+            None => unreachable!(),
+        }
+    }
+}
+
+/// Where a lane stands.
+fn index_of(lane: u8) -> usize
+    requires { IsLane lane }
+    ensures { (result ≡ lane - 1) × (result < 16) }
+{
+    usize::from(lane) - 1
+}
+
+/// Lanes that are started with these commands.
+fn started_lanes(alloc: Global, commands: &Texts) -> Result<Vec<LaneRow>, NoMemory>
+    ensures { IfOk result (λ lanes. lanes.items ≡ map (λ command. started command unused) commands.now) }
+{
+    let mut lanes = Vec::with_capacity(alloc, LANES)?;
+    for command in commands.as_slice() {
+        let mut lane = LaneRow::unused(alloc)?;
+        lane.start(command.copy(alloc)?)?;
+        lanes.push(lane)?;
+    }
+    Ok(lanes)
+}
+
+/// How many lanes are up and haven't ended.
+fn open_count(lanes: &[LaneRow]) -> usize
+    ensures { result ≡ count_by is_open lanes.now }
+{
+    let mut count = 0;
+    for lane in lanes {
+        if lane.is_open() {
+            count += 1;
+        }
+    }
+    count
+}
+
+/// The number of the lane that stands there.
+fn number_of(index: usize) -> u8
+    requires { index < 16 }
+    ensures { result ≡ index + 1 }
+{
+    index as u8 + 1
+}

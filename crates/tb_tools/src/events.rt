@@ -1,0 +1,123 @@
+ghost use Rattle.std.specs.Prelude.{◌≡◌, ◌<◌, [], ◌∷◌, ◌++◌, length, remove, slice_get, slice_index_or, IfOk, OnOk, OnErr, IfSome, Some};
+ghost use Rattle.std.specs.Option.{option_copied, ForSome};
+ghost use Rattle.std.specs.List.{position_from};
+ghost use Rattle.tb_terms.specs.Same.{is_same_terms};
+ghost use Rattle.tb_tools.specs.Finding.{first_match};
+
+use crate::found::FoundEvent;
+use std::alloc::Global;
+use std::collections::VecDeque;
+use std::marker::Model;
+use tb_match::match_list;
+use tb_terms::{NoMemory, Patterns, Terms, same_terms};
+
+/// Events of one tool, the oldest first. Contracts see them as a list.
+#[derive(Debug, Drop)]
+pub struct Events {
+    queue: VecDeque<Terms>,
+}
+
+impl Model for Events {
+    ghost use Rattle.std.specs.Prelude.{List};
+    ghost use Rattle.std.specs.Coded.{coded_list};
+    ghost use Rattle.tb_terms.specs.declared.term.Term.{Term};
+    ghost use Rattle.tb_terms.specs.contracts.term.Term as term;
+
+    ghost Value = { List (List Term) };
+
+    ghost coded = { coded_list (coded_list term.the_row.coded) };
+
+    ghost view = { λ events. events.queue.items };
+}
+
+impl Events {
+    /// Takes no memory.
+    pub(crate) fn new(alloc: Global) -> Events
+        ensures { result ≡ [] }
+    {
+        Events {
+            queue: VecDeque::new(alloc),
+        }
+    }
+
+    /// How many there are.
+    pub fn len(&self) -> usize
+        ensures { result ≡ length self.now }
+    {
+        self.queue.len()
+    }
+
+    /// The event at this place, from 0.
+    pub fn get(&self, place: usize) -> Option<&Terms>
+        ensures { option_copied result ≡ slice_get self.now place }
+    {
+        self.queue.get(place)
+    }
+
+    /// The event stands last.
+    pub(crate) fn push(&mut self, event: Terms) -> Result<(), NoMemory>
+        ensures ok { OnOk result (self.new ≡ self.old ++ event ∷ []) }
+        ensures err { OnErr result (self.new ≡ self.old) }
+    {
+        self.queue.push_back(event)?;
+        Ok(())
+    }
+
+    /// The event at this place leaves.
+    pub(crate) fn remove(&mut self, place: usize) -> Terms
+        requires { place < length self.old }
+        ensures event { result ≡ slice_index_or self.old place [] }
+        ensures rest { self.new ≡ remove self.old place }
+    {
+        match self.queue.remove(place) {
+            Some(event) => event,
+            None => unreachable!(),
+        }
+    }
+
+    /// The event at this place leaves, and stands last among the others.
+    pub(crate) fn pass_on(&mut self, place: usize, others: &mut Events) -> Result<(), NoMemory>
+        requires { place < length self.old }
+        ensures left { OnOk result (self.new ≡ remove self.old place) }
+        ensures came { OnOk result (others.new ≡ others.old ++ slice_index_or self.old place [] ∷ []) }
+        ensures stayed { OnErr result (self.new ≡ self.old) }
+        ensures none_came { OnErr result (others.new ≡ others.old) }
+    {
+        others.queue.reserve(1)?;
+        others.queue.push_back_reserved(self.remove(place));
+        Ok(())
+    }
+
+    /// The oldest event that matches.
+    pub(crate) fn first_match(&self, patterns: &Patterns) -> Result<Option<FoundEvent>, NoMemory>
+        ensures found { IfOk result (λ found. found ≡ first_match 0 patterns.now self.now) }
+        ensures within { IfOk result (λ found. ForSome found (λ at. at.place < length self.now)) }
+    {
+        let alloc = *self.queue.allocator();
+        for place in 0..self.queue.len() {
+            if let Some(binds) = match_list(alloc, patterns, &self.queue[place])? {
+                return Ok(Some(FoundEvent { place, binds }));
+            }
+        }
+        Ok(None)
+    }
+
+    /// The place of the oldest event with just these terms.
+    pub(crate) fn position_of(&self, terms: &Terms) -> Option<usize>
+        ensures place { result ≡ position_from (is_same_terms terms.now) 0 self.now }
+        ensures within { IfSome result (λ place. place < length self.now) }
+    {
+        for place in 0..self.queue.len() {
+            if are_same(terms, &self.queue[place]) {
+                return Some(place);
+            }
+        }
+        None
+    }
+}
+
+fn are_same(terms: &Terms, others: &Terms) -> bool
+    ensures { result ≡ is_same_terms terms.now others.now }
+{
+    same_terms(terms, others)
+}

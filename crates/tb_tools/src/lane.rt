@@ -1,0 +1,343 @@
+ghost use Rattle.std.specs.Prelude.{◌≡◌, ◌<◌, ◌+◌, ℕ, length, slice_get, option_map, IsSome, IfOk, OnOk, OnErr, Some, None, false, replicate, if◌then◌else◌};
+ghost use Rattle.std.specs.Option.{option_copied};
+ghost use Rattle.tb_log.specs.declared.entry.Out.{Out};
+ghost use Rattle.tb_tools.specs.declared.stage.Eval.TheVariants as eval;
+ghost use Rattle.tb_tools.specs.Lanes.{unused, started, is_free, is_open, lane_state, on_tool, with_out, without_tool};
+ghost use Rattle.tb_tools.specs.Finding.{has_tool, smaller_of};
+ghost use Rattle.tb_tools.specs.Inputs.{flushed, closed, lost, dropped, answered, with_event};
+ghost use Rattle.tb_tools.specs.Acts.{answer_by, events_of, received_of, with_live_tool, with_question, without_answer, with_received, with_acknowledged, dismissed, ended_with, last_line, without_out};
+
+use crate::found::{FoundTool, smaller};
+use crate::stage::{LaneState, Stage};
+use crate::told::{last_line, line_with};
+use crate::tool::LaneTool;
+use std::alloc::Global;
+use std::collections::VecDeque;
+use std::marker::Model;
+use tb_log::{Out, ToolLine, Why};
+use tb_terms::{Name, NoMemory, Term, Terms, Text};
+
+/// How many items a lane may always take: a tool's last line, and the lane's end.
+const LAST_ITEMS: usize = 2;
+
+/// One lane. Contracts see it without its memory.
+#[derive(Debug, Drop)]
+pub(crate) struct LaneRow {
+    up: bool,
+    ended: bool,
+    tool: Option<LaneTool>,
+    outs: VecDeque<Out>,
+}
+
+impl Model for LaneRow {
+    ghost use Rattle.std.specs.Coded.{codes};
+    ghost use Rattle.tb_terms.specs.contracts.term.Term as term_data;
+    ghost use Rattle.tb_tools.specs.Lanes.{Lane};
+    ghost use Rattle.tb_tools.specs.Room.{KeepsRoom};
+
+    ghost Value = { Lane };
+
+    ghost coded = { Prim.hlevel (codes, term_data.the_row.coded) };
+
+    ghost view = { λ lane. record { up = lane.up; ended = lane.ended; tool = lane.tool; outs = lane.outs.items } };
+
+    ghost invariant = { λ lane. KeepsRoom lane.ended lane.outs };
+}
+
+impl LaneRow {
+    /// A lane that was never started, with the memory that each lane keeps.
+    pub fn unused(alloc: Global) -> Result<LaneRow, NoMemory>
+        ensures { IfOk result (λ lane. lane ≡ unused) }
+    {
+        Ok(LaneRow {
+            up: false,
+            ended: false,
+            tool: None,
+            outs: VecDeque::with_capacity(alloc, LAST_ITEMS)?,
+        })
+    }
+
+    pub fn is_up(&self) -> bool
+        ensures { result ≡ self.now.up }
+    {
+        self.up
+    }
+
+    /// Whether it is up and hasn't ended.
+    pub fn is_open(&self) -> bool
+        ensures { result ≡ is_open self.now }
+    {
+        self.up && !self.ended
+    }
+
+    pub fn is_free(&self) -> bool
+        ensures { result ≡ is_free self.now }
+    {
+        !self.up && self.tool.is_none() && self.outs.is_empty()
+    }
+
+    pub fn state(&self) -> LaneState
+        ensures { result ≡ lane_state self.now }
+    {
+        match &self.tool {
+            Some(tool) => match tool.stage() {
+                Stage::Waiting => LaneState::Waiting,
+                Stage::Live => LaneState::Live,
+                Stage::Leaving => LaneState::Leaving,
+            },
+            None if self.is_free() => LaneState::Free,
+            None if self.is_open() => LaneState::Unnamed,
+            None => LaneState::Ending,
+        }
+    }
+
+    pub fn tool(&self) -> Option<&LaneTool>
+        ensures { option_copied result ≡ self.now.tool }
+    {
+        self.tool.as_ref()
+    }
+
+    /// Whether it has the tool with this term.
+    pub fn has_tool(&self, term: &Term) -> bool
+        ensures { result ≡ has_tool term.now self.now }
+    {
+        match &self.tool {
+            Some(tool) => tool.is_named(term),
+            None => false,
+        }
+    }
+
+    /// The best so far, or the tool of this lane where that has a smaller number.
+    pub fn smaller(
+        &self,
+        name: &Name,
+        stage: Stage,
+        best: Option<FoundTool>,
+        lane: u8,
+    ) -> Option<FoundTool>
+        ensures { result ≡ smaller_of name.now stage best lane self.now.tool }
+    {
+        match &self.tool {
+            Some(tool) if tool.is_at(name, stage) => Some(smaller(best, tool.number(), lane)),
+            _ => best,
+        }
+    }
+
+    /// Sets it up, forgets that it ended, and puts the command.
+    pub fn start(&mut self, command: Text) -> Result<(), NoMemory>
+        ensures ok { OnOk result (self.new ≡ started command self.old) }
+        ensures err { OnErr result (self.new ≡ self.old) }
+    {
+        self.outs.reserve(1 + LAST_ITEMS)?;
+        self.outs.push_back_reserved(Out::Start(command));
+        self.up = true;
+        self.ended = false;
+        Ok(())
+    }
+
+    /// Gives it this tool, or none.
+    pub fn set_tool(&mut self, tool: Option<LaneTool>)
+        ensures { self.new ≡ record self.old { tool = tool } }
+    {
+        self.tool = tool;
+    }
+
+    /// The item stands last.
+    pub fn put(&mut self, out: Out) -> Result<(), NoMemory>
+        ensures ok { OnOk result (self.new ≡ with_out out self.old) }
+        ensures err { OnErr result (self.new ≡ self.old) }
+    {
+        self.outs.reserve(1 + LAST_ITEMS)?;
+        self.outs.push_back_reserved(out);
+        Ok(())
+    }
+
+    /// Leaves nothing but its end to be handed out.
+    pub fn flush(&mut self)
+        ensures { self.new ≡ flushed self.old }
+    {
+        if self.ended && self.outs.is_empty() {
+            return;
+        }
+        self.outs.clear();
+        self.outs.push_back_reserved(Out::End);
+        self.ended = true;
+    }
+
+    /// Flushes it, and its tool goes.
+    pub fn close(&mut self)
+        ensures { self.new ≡ closed self.old }
+    {
+        self.flush();
+        self.tool = match self.tool.take() {
+            Some(tool) => tool.depart(),
+            None => None,
+        };
+    }
+
+    /// The same, and it isn't up.
+    pub fn lose(&mut self)
+        ensures { self.new ≡ lost self.old }
+    {
+        self.close();
+        self.up = false;
+    }
+
+    /// Why it drops this line.
+    pub fn drops(&self, line: &ToolLine, declared: bool) -> Option<Why>
+        ensures { result ≡ dropped declared line.now self.now }
+    {
+        if !self.is_open() {
+            return Some(Why::NotLive);
+        }
+        match (line, &self.tool) {
+            (ToolLine::Bad, _) => Some(Why::Bad),
+            (ToolLine::Connect(_), Some(_)) => Some(Why::Named),
+            (ToolLine::Connect(_), None) if !declared => Some(Why::Stranger),
+            (ToolLine::Connect(_), None) => None,
+            (_, None) => Some(Why::NotLive),
+            (ToolLine::Value(_), Some(tool)) if !tool.is_asked() => Some(Why::Unasked),
+            (_, Some(_)) => None,
+        }
+    }
+
+    /// Its tool has answered.
+    pub fn set_answer(&mut self, value: Term)
+        ensures { self.new ≡ answered value self.old }
+    {
+        if let Some(tool) = &mut self.tool {
+            tool.set_answer(value);
+        }
+    }
+
+    /// An event of its tool waits.
+    pub fn push_event(&mut self, event: Terms) -> Result<(), NoMemory>
+        ensures ok { OnOk result (self.new ≡ with_event event self.old) }
+        ensures err { OnErr result (self.new ≡ self.old) }
+    {
+        if let Some(tool) = &mut self.tool {
+            tool.push_event(event)?;
+        }
+        Ok(())
+    }
+
+    /// Its tool is live.
+    pub fn connect(&mut self)
+        ensures { self.new ≡ with_live_tool self.old }
+    {
+        if let Some(tool) = &mut self.tool {
+            tool.connect();
+        }
+    }
+
+    /// Its tool is asked to evaluate the term.
+    pub fn eval(&mut self, alloc: Global, term: Term) -> Result<(), NoMemory>
+        ensures ok { OnOk result (self.new ≡ with_question term self.old) }
+        ensures err { OnErr result (self.new ≡ self.old) }
+    {
+        self.put(line_with(alloc, b"rec-eval", term)?)?;
+        self.ask();
+        Ok(())
+    }
+
+    fn ask(&mut self)
+        ensures { self.new ≡ on_tool (λ tool. record tool { eval = eval.Asked }) self.old }
+    {
+        if let Some(tool) = &mut self.tool {
+            tool.ask();
+        }
+    }
+
+    /// Takes the value with which its tool has answered.
+    pub fn take_answer(&mut self) -> Term
+        requires { IsSome (answer_by self.old.tool) }
+        ensures value { answer_by self.old.tool ≡ Some result }
+        ensures closed { self.new ≡ without_answer self.old }
+    {
+        match &mut self.tool {
+            Some(tool) => tool.take_answer(),
+            None => unreachable!(),
+        }
+    }
+
+    /// The event at this place is received.
+    pub fn receive(&mut self, place: usize) -> Result<(), NoMemory>
+        requires { place < length (events_of self.old.tool) }
+        ensures ok { OnOk result (self.new ≡ with_received place self.old) }
+        ensures err { OnErr result (self.new ≡ self.old) }
+    {
+        if let Some(tool) = &mut self.tool {
+            tool.receive(place)?;
+        }
+        Ok(())
+    }
+
+    /// The received event at this place is forgotten, and its tool is told.
+    pub fn ack(&mut self, alloc: Global, place: usize) -> Result<(), NoMemory>
+        requires { place < length (received_of self.old.tool) }
+        ensures ok { OnOk result (self.new ≡ with_acknowledged place self.old) }
+        ensures err { OnErr result (self.new ≡ self.old) }
+    {
+        let word = Name::new(alloc, b"rec-ack-event")?;
+        self.outs.reserve(1 + LAST_ITEMS)?;
+        if let Some(tool) = &mut self.tool {
+            let line = Term::Appl(word, tool.forget(place));
+            self.outs.push_back_reserved(Out::Line(line));
+        }
+        Ok(())
+    }
+
+    /// Its tool is told to end, and leaves it.
+    pub fn terminate(&mut self, alloc: Global, term: Term) -> Result<(), NoMemory>
+        ensures ok { OnOk result (self.new ≡ without_tool (ended_with (last_line term) self.old)) }
+        ensures err { OnErr result (self.new ≡ self.old) }
+    {
+        let line = last_line(alloc, term)?;
+        self.outs.reserve(LAST_ITEMS)?;
+        self.outs.push_back_reserved(line);
+        self.outs.push_back_reserved(Out::End);
+        self.ended = true;
+        self.tool = None;
+        Ok(())
+    }
+
+    /// Where it is open, puts one of the lines, and its end. Takes no memory.
+    pub fn dismiss(&mut self, lines: &mut Vec<Out>)
+        ensures { (line : Out) (left : ℕ) → lines.old.items ≡ replicate ((if is_open self.old then 1 else 0) + left) line
+            → (self.new ≡ dismissed line self.old) × (lines.new.items ≡ replicate left line) }
+    {
+        if self.is_open() {
+            if let Some(line) = lines.pop() {
+                self.end_with(line);
+            }
+        }
+    }
+
+    fn end_with(&mut self, line: Out)
+        requires { self.old.ended ≡ false }
+        ensures { self.new ≡ ended_with line self.old }
+    {
+        self.outs.push_back_reserved(line);
+        self.outs.push_back_reserved(Out::End);
+        self.ended = true;
+    }
+
+    /// What is to be handed out next.
+    pub fn next_out(&self) -> Option<&Out>
+        ensures { option_copied result ≡ slice_get self.now.outs 0 }
+    {
+        self.outs.front()
+    }
+
+    /// The first of what is to be handed out leaves.
+    pub fn take_out(&mut self) -> Out
+        requires { 0 < length self.old.outs }
+        ensures out { slice_get self.old.outs 0 ≡ Some result }
+        ensures rest { self.new ≡ without_out self.old }
+    {
+        match self.outs.pop_front() {
+            Some(out) => out,
+            None => unreachable!(),
+        }
+    }
+}

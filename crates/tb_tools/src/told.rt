@@ -1,0 +1,35 @@
+ghost use Rattle.std.specs.Prelude.{◌≡◌, [], ◌∷◌, IsTrue, IfOk, codes, replicate};
+ghost use Rattle.tb_terms.specs.Names.{is_name};
+ghost use Rattle.tb_tools.specs.Acts.{tool_line, last_line};
+
+use std::alloc::Global;
+use tb_log::Out;
+use tb_terms::{Items, Name, NoMemory, Term, Terms};
+
+/// The line to a tool that is this word with one part.
+pub(crate) fn line_with(alloc: Global, word: &[u8], part: Term) -> Result<Out, NoMemory>
+    requires { IsTrue (is_name word.now) }
+    ensures { IfOk result (λ out. out ≡ tool_line word.now (part ∷ [])) }
+{
+    let mut parts = Items::new(alloc);
+    parts.push(part)?;
+    Ok(Out::Line(Term::Appl(Name::new(alloc, word)?, parts)))
+}
+
+/// The last line to a tool.
+pub(crate) fn last_line(alloc: Global, reason: Term) -> Result<Out, NoMemory>
+    ensures { IfOk result (λ out. out ≡ last_line reason) }
+{
+    line_with(alloc, b"rec-terminate", reason)
+}
+
+/// The last line for so many tools.
+pub(crate) fn last_lines(alloc: Global, reason: &Term, count: usize) -> Result<Vec<Out>, NoMemory>
+    ensures { IfOk result (λ lines. lines.items ≡ replicate count (last_line reason.now)) }
+{
+    let mut lines = Vec::with_capacity(alloc, count)?;
+    for _ in 0..count {
+        lines.push(last_line(alloc, reason.copy(alloc)?)?)?;
+    }
+    Ok(lines)
+}
