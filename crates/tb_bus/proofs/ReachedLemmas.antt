@@ -16,14 +16,14 @@ use Rattle.tb_body.specs.declared.program.Root.{Root}
 use Rattle.tb_algebra.specs.Processes.{Process, fresh}
 use Rattle.tb_algebra.specs.Binds.{with_binds}
 use Rattle.tb_algebra.specs.Offers.{Offered, offers}
-use Rattle.tb_algebra.specs.Reached.{Reaches as IsLedTo, entered, went_on}
+use Rattle.tb_algebra.specs.Reached.{Reaches as IsLedTo, entered, went_on, grew_older}
 use Rattle.tb_algebra.proofs.Ascending.{offered-once}
 use Rattle.tb_bus.specs.declared.origin.Origin.{Origin}
 use Rattle.tb_bus.specs.Buses.{Bus, Proc, start, opened, opened_one, opening_store, proc_left}
 use Rattle.tb_bus.specs.Effects.{effect_of}
 use Rattle.tb_bus.specs.declared.effect.Effect.{Effect}
 use Rattle.tb_bus.specs.Steps.{Move, Own, Handshake, Finish, Halt, Step, action_by, in_turn, others, handshake_if, handshake_of, handshakes_with, handshakes, own_if, moves_by, moves_of, moves_of_all, moves_or_halt, moves_while_up, moves, advance, label_of, apply, step_of, steps}
-use Rattle.tb_bus.specs.Traces.{IsLegal, IsTrace, Answer, after, after_step, replay, took}
+use Rattle.tb_bus.specs.Traces.{IsLegal, IsTrace, Answer, after, after_step, replay, took, older}
 use Rattle.tb_bus.specs.Reached.{Reaches}
 use Rattle.tb_bus.specs.declared.action.Action.{Action}
 use Rattle.tb_bus.specs.declared.action.Action.TheVariants as action
@@ -35,7 +35,7 @@ use Rattle.tb_log.specs.declared.entry.LabelKind.{LabelKind}
 use Rattle.tb_log.specs.declared.entry.LabelKind.TheVariants as kind
 use Rattle.tb_log.specs.contracts.entry.Label as label_row
 use Rattle.tb_log.specs.declared.entry.Input.{Input}
-use Rattle.tb_log.specs.declared.entry.Input.TheVariants.{NoTicks}
+use Rattle.tb_log.specs.declared.entry.Input.TheVariants.{Tick, NoTicks}
 use Rattle.tb_log.specs.declared.entry.Reply.TheVariants.{Dropped}
 use Rattle.tb_log.specs.declared.entry.Why.TheVariants.{Down}
 use Rattle.tb_log.specs.declared.entry.Entry.{Entry}
@@ -419,8 +419,18 @@ apply-in_order bus (Handshake sender sent receiver received terms binds) h g =
 apply-in_order bus Finish h g = record { ascend = h.ascend; led = h.led }
 apply-in_order bus Halt h g = record { ascend = h.ascend; led = h.led }
 
+older-ascend : (below : ℕ) (procs : List Proc) → Ascend below procs → Ascend below (map older procs)
+older-ascend below [] h = tt
+older-ascend below (proc ∷ procs) h = (h.0, older-ascend proc.number procs h.1)
+
+older-led : (bodies : List Body) (procs : List Proc) → All (IsLed bodies) procs → All (IsLed bodies) (map older procs)
+older-led bodies procs h =
+    All-map (IsLed bodies) older procs
+    (All-weaker (IsLed bodies) (λ proc. IsLed bodies (older proc)) (λ proc led. (led.0, led.1, (led.2.0 + 1, grew_older led.2.1))) procs h)
+
 fed-in_order : (bus : Bus) (input : Input) (down : Bool) → InOrder bus → InOrder (let a : Answer = if down then record { reply = Dropped Down; bus = bus } else took bus input in a.bus)
 fed-in_order bus input true h = h
+fed-in_order bus Tick false h = record { ascend = older-ascend 0 bus.procs h.ascend; led = older-led bus.program.bodies bus.procs h.led }
 fed-in_order bus NoTicks false h = record { ascend = h.ascend; led = h.led }
 
 after-in_order : (bus : Bus) (entry : Entry) → InOrder bus → IsLegal bus entry (after bus entry) → InOrder (after bus entry)

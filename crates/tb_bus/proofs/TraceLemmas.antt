@@ -7,7 +7,7 @@ use Rattle.tb_bus.specs.Traces.{IsInForm, IsTrace, after, after_step, replay, fe
 use Rattle.tb_bus.specs.Candidates.{first}
 use Rattle.tb_log.specs.contracts.entry.Label as label_row
 use Rattle.tb_log.specs.declared.entry.Input.{Input}
-use Rattle.tb_log.specs.declared.entry.Input.TheVariants.{NoTicks}
+use Rattle.tb_log.specs.declared.entry.Input.TheVariants.{Tick, NoTicks}
 use Rattle.tb_log.specs.declared.entry.Reply.{Reply}
 use Rattle.tb_log.specs.declared.entry.Reply.TheVariants.{Dropped}
 use Rattle.tb_log.specs.declared.entry.Why.TheVariants.{Down}
@@ -91,6 +91,7 @@ apply-program bus Halt = refl
 -- no input changes the program
 fed-by : (bus : Bus) (input : Input) (down : Bool) → (let a : Answer = if down then record { reply = Dropped Down; bus = bus } else took bus input in a.bus.program) ≡ bus.program
 fed-by bus input true = refl
+fed-by bus Tick false = refl
 fed-by bus NoTicks false = refl
 
 pub fed-program : (bus : Bus) (input : Input) → (fed bus input).bus.program ≡ bus.program

@@ -1,12 +1,13 @@
 -- What an entry of the log may do to a bus, which logs are traces, and the bus to which a log leads.
-use Rattle.std.specs.Prelude.{◌≡◌, List, [], ◌∷◌, true, false, if◌then◌else◌, Contains, ⊤}
+use Rattle.std.specs.Prelude.{◌≡◌, ◌+◌, List, [], ◌∷◌, map, true, false, if◌then◌else◌, Contains, ⊤}
+use Rattle.tb_algebra.specs.Processes.{aged}
 use Rattle.tb_terms.specs.Same.{is_same}
-use Rattle.tb_bus.specs.Buses.{Bus}
+use Rattle.tb_bus.specs.Buses.{Bus, Proc}
 use Rattle.tb_bus.specs.Steps.{Step, steps}
 use Rattle.tb_log.specs.declared.entry.Label.{Label}
 use Rattle.tb_log.specs.contracts.entry.Label as label_row
 use Rattle.tb_log.specs.declared.entry.Input.{Input}
-use Rattle.tb_log.specs.declared.entry.Input.TheVariants.{NoTicks}
+use Rattle.tb_log.specs.declared.entry.Input.TheVariants.{Tick, NoTicks}
 use Rattle.tb_log.specs.declared.entry.Reply.{Reply}
 use Rattle.tb_log.specs.declared.entry.Reply.TheVariants.{Took, Dropped}
 use Rattle.tb_log.specs.declared.entry.Why.TheVariants.{Down}
@@ -18,8 +19,13 @@ pub record Answer : Type 0 where
   pub reply : Reply
   pub bus : Bus
 
+-- a process that has waited one tick more
+abbrev pub older : Proc → Proc
+older proc = record proc { term = aged proc.term }
+
 -- what a bus that is up does with an input
 abbrev pub took : Bus → Input → Answer
+took bus Tick = record { reply = Took; bus = record bus { now = bus.now + 1; procs = map older bus.procs } }
 took bus NoTicks = record { reply = Took; bus = record bus { no_ticks = true } }
 
 -- A bus that is down drops every input, and a dropped input changes nothing.
@@ -28,6 +34,7 @@ fed bus input = if bus.down then record { reply = Dropped Down; bus = bus } else
 
 -- an input in form: its lane is there, and its line in shape; those that name none always are
 abbrev pub IsInForm : Input → Type 0
+IsInForm Tick = ⊤
 IsInForm NoTicks = ⊤
 
 -- From one bus an entry may lead to the next.

@@ -6,7 +6,7 @@ use Rattle.tb_log.specs.Logs.{LogState}
 use Rattle.tb_log.specs.declared.entry.Entry.{Entry}
 use Rattle.tb_log.specs.declared.entry.Entry.TheVariants.{Fed}
 use Rattle.tb_log.specs.declared.entry.Input.{Input}
-use Rattle.tb_log.specs.declared.entry.Input.TheVariants.{NoTicks}
+use Rattle.tb_log.specs.declared.entry.Input.TheVariants.{Tick, NoTicks}
 use Rattle.tb_log.specs.declared.entry.Reply.TheVariants.{Dropped}
 use Rattle.tb_log.specs.declared.entry.Why.TheVariants.{Down}
 use Rattle.tb_bus.specs.declared.origin.Origin.{Origin}
@@ -102,18 +102,19 @@ represents-same view old new log stands same =
       ticks = omega arith;
     }
 
--- no move and no input that comes yet is a tick
+-- no move is a tick, and each input is one at most
 pub apply-now : (bus : Bus) (move : Move) → (apply bus move).now ≡ bus.now
 apply-now bus (Own proc offered effect) = refl
 apply-now bus (Handshake sender sent receiver received terms binds) = refl
 apply-now bus Finish = refl
 apply-now bus Halt = refl
 
-fed-by : (bus : Bus) (input : Input) (down : Bool) → (let a : Answer = if down then record { reply = Dropped Down; bus = bus } else took bus input in a.bus.now) ≡ bus.now
-fed-by bus input true = refl
-fed-by bus NoTicks false = refl
+fed-by : (bus : Bus) (input : Input) (down : Bool) → (let a : Answer = if down then record { reply = Dropped Down; bus = bus } else took bus input in a.bus.now) ≤ bus.now + 1
+fed-by bus input true = omega arith
+fed-by bus Tick false = omega arith
+fed-by bus NoTicks false = omega arith
 
-pub fed-now : (bus : Bus) (input : Input) → (fed bus input).bus.now ≡ bus.now
+pub fed-now : (bus : Bus) (input : Input) → (fed bus input).bus.now ≤ bus.now + 1
 fed-now bus input = fed-by bus input bus.down
 
 -- so there are no more ticks than before

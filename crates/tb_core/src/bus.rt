@@ -353,19 +353,21 @@ impl<W: Walker> LiveBus<W> {
         ensures { result ≡ (fed (bus_of W.view self.now) input).reply }
     {
         match input {
-            Input::NoTicks if self.down => Reply::Dropped(Why::Down),
-            Input::NoTicks => Reply::Took,
+            Input::Tick | Input::NoTicks if self.down => Reply::Dropped(Why::Down),
+            Input::Tick | Input::NoTicks => Reply::Took,
         }
     }
 
     /// Takes an input, or drops it.
     pub fn feed(&mut self, input: Input)
         requires sound { IsSound W.view self.old }
+        requires no_tick { input ≢ Input.Tick }
         ensures sound { IsSound W.view self.new }
         ensures origin { self.new.origin ≡ self.old.origin }
         ensures bus { bus_of W.view self.new ≡ (fed (bus_of W.view self.old) input).bus }
     {
         match input {
+            Input::Tick => unreachable!(),
             Input::NoTicks if self.down => {}
             Input::NoTicks => self.no_ticks = true,
         }

@@ -1,4 +1,4 @@
-ghost use Rattle.std.specs.Prelude.{◌≡◌, ◌≤◌, ◌+◌, ◌↔◌, ◌∷◌, [], ◌++◌, length, IsTrue, IfOk, OnOk, OnErr, IsErrOf, true, false, if◌then◌else◌};
+ghost use Rattle.std.specs.Prelude.{◌≡◌, ◌≢◌, ◌≤◌, ◌+◌, ◌↔◌, ◌∷◌, [], ◌++◌, length, IsTrue, IfOk, OnOk, OnErr, IsErrOf, true, false, if◌then◌else◌};
 ghost use Rattle.tb_log.specs.Limits.{has_room};
 ghost use Rattle.tb_bus.specs.Buses.{origin_of, start};
 ghost use Rattle.tb_bus.specs.Traces.{IsInForm, IsTrace, fed};
@@ -119,6 +119,9 @@ impl<W: Walker> Core<W> {
         if self.stopped {
             return Err(CoreFault::Stopped);
         }
+        if let Input::Tick = input {
+            return Err(CoreFault::NoMemory);
+        }
         let reply = hand(&mut self.bus, &mut self.log, input)?;
         Ok(reply)
     }
@@ -152,7 +155,8 @@ impl<W: Walker> Core<W> {
 
 /// Logs an input with what becomes of it, and receives it.
 fn hand<W: Walker>(bus: &mut LiveBus<W>, log: &mut Log, input: Input) -> Result<Reply, CoreFault>
-    requires { IsSound W.view bus.old }
+    requires sound { IsSound W.view bus.old }
+    requires no_tick { input ≢ Input.Tick }
     ensures sound { IsSound W.view bus.new }
     ensures origin { bus.new.origin ≡ bus.old.origin }
     ensures limit { log.new.limit ≡ log.old.limit }

@@ -7,7 +7,7 @@ use Rattle.tb_log.specs.declared.entry.Place.{Place}
 use Rattle.tb_log.specs.declared.entry.LabelKind.{LabelKind}
 use Rattle.tb_log.specs.declared.entry.LabelKind.TheVariants as kind
 use Rattle.tb_log.specs.declared.entry.Input.{Input}
-use Rattle.tb_log.specs.declared.entry.Input.TheVariants.{NoTicks}
+use Rattle.tb_log.specs.declared.entry.Input.TheVariants.{Tick, NoTicks}
 use Rattle.tb_log.specs.declared.entry.Reply.{Reply}
 use Rattle.tb_log.specs.declared.entry.Reply.TheVariants.{Took, Dropped}
 use Rattle.tb_log.specs.declared.entry.Why.{Why}
@@ -33,6 +33,7 @@ label_words kind.Finish from to terms = codes "finish"
 label_words kind.Halt from to terms = codes "halt"
 
 abbrev pub input_words : Input → List ℕ
+input_words Tick = codes "tick"
 input_words NoTicks = codes "noticks"
 
 abbrev pub why_words : Why → List ℕ

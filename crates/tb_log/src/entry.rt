@@ -1,10 +1,27 @@
-use tb_terms::Terms;
+ghost use Rattle.std.specs.Prelude.{◌≡◌, IfOk};
+
+use std::alloc::Global;
+use tb_terms::{NoMemory, Terms};
 
 /// What comes from outside.
 #[derive(Clone, Copy, Debug, PartialEq, Eq)]
 pub enum Input {
+    /// A unit of time has passed.
+    Tick,
     /// No more ticks come.
     NoTicks,
+}
+
+impl Input {
+    /// The same input in memory of its own.
+    pub fn copy(&self, _alloc: Global) -> Result<Input, NoMemory>
+        ensures { IfOk result (λ copy. copy ≡ self.now) }
+    {
+        match self {
+            Input::Tick => Ok(Input::Tick),
+            Input::NoTicks => Ok(Input::NoTicks),
+        }
+    }
 }
 
 /// Why an input changed nothing.

@@ -112,6 +112,7 @@ fn push_input(input: Input, into: &mut Vec<u8>) -> Result<(), NoMemory>
     ensures err { OnErr result (into.new.items ≡ into.old.items) }
 {
     match input {
+        Input::Tick => push_text(b"tick", into),
         Input::NoTicks => push_text(b"noticks", into),
     }
 }
