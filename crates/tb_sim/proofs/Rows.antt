@@ -61,15 +61,15 @@ bus_of program procs last no_ticks = record { program = program; procs = procs; 
 
 -- a simulation that has made this log and so many steps, and has not just said quiet
 abbrev pub sim_of : Bus → List Entry → ℕ → Sim
-sim_of bus log made = record { bus = bus; log = log; steps_made = made; quiet = false }
+sim_of bus log made = record { bus = bus; log = log; steps_made = made; quiet = false; left = [] }
 
 -- one that has just said quiet
 abbrev pub quiet_of : Bus → List Entry → ℕ → Sim
-quiet_of bus log made = record { bus = bus; log = log; steps_made = made; quiet = true }
+quiet_of bus log made = record { bus = bus; log = log; steps_made = made; quiet = true; left = [] }
 
 -- one whose bus went down
 abbrev pub down_of : Bus → List Entry → ℕ → Sim
-down_of bus log made = record { bus = record bus { down = true }; log = log; steps_made = made; quiet = false }
+down_of bus log made = record { bus = record bus { down = true }; log = log; steps_made = made; quiet = false; left = [] }
 
 abbrev pub finish : Entry
 finish = Did (record { kind = kind.Finish; from = record { proc = 0; atom = 0 }; to = record { proc = 0; atom = 0 }; terms = [] })
@@ -93,7 +93,7 @@ abbrev pub empty : Origin
 empty = record { program = record { bodies = []; roots = []; tools = []; in_range = empty-in_range }; limit = 1000000 }
 
 -- an empty bus finishes at once
-pub empty_bus : IsSim (limits_of 1000000 empty) (sim_start (start empty)) (finish ∷ []) Down
+pub empty_bus : IsSim (limits_of 1000000 empty) (sim_start (start empty) []) (finish ∷ []) Down
 unfolding steps moves moves_of_all moves_of handshakes handshakes_with advance
 empty_bus = (_, refl, refl)
 
@@ -117,17 +117,17 @@ fresh-two_taus : fresh (tree.Seq (tree.At 1) (tree.At 2)) ≡ Seq (At 1 0) (At 2
 fresh-two_taus = search (rules, tree_lemmas)
 
 two_by_two-starts : (limits : Limits) (log : List Entry) (end : SimEnd) →
-    IsSim limits (sim_of (bus_of two_by_two.program (at 1 0 (Seq (At 1 0) (At 2 0)) ∷ at 2 1 (Seq (At 1 0) (At 2 0)) ∷ []) 0 false) [] 0) log end → IsSim limits (sim_start (start two_by_two)) log end
+    IsSim limits (sim_of (bus_of two_by_two.program (at 1 0 (Seq (At 1 0) (At 2 0)) ∷ at 2 1 (Seq (At 1 0) (At 2 0)) ∷ []) 0 false) [] 0) log end → IsSim limits (sim_start (start two_by_two) []) log end
 two_by_two-starts limits log end h =
     subst (λ (term : Process). IsSim limits (sim_of (bus_of two_by_two.program (at 1 0 term ∷ at 2 1 term ∷ []) 0 false) [] 0) log end) (sym fresh-two_taus) h
 
 -- the processes take turns
-pub in_turns : IsSim (limits_of 1000000 two_by_two) (sim_start (start two_by_two)) (tau_of 1 1 ∷ tau_of 2 1 ∷ tau_of 1 2 ∷ tau_of 2 2 ∷ finish ∷ []) Down
+pub in_turns : IsSim (limits_of 1000000 two_by_two) (sim_start (start two_by_two) []) (tau_of 1 1 ∷ tau_of 2 1 ∷ tau_of 1 2 ∷ tau_of 2 2 ∷ finish ∷ []) Down
 unfolding steps moves moves_of_all moves_of handshakes handshakes_with advance
 in_turns = two_by_two-starts (limits_of 1000000 two_by_two) (tau_of 1 1 ∷ tau_of 2 1 ∷ tau_of 1 2 ∷ tau_of 2 2 ∷ finish ∷ []) Down (_, refl, (_, refl, (_, refl, (_, refl, (_, refl, refl)))))
 
 -- at the limit of four steps it could still finish
-pub four_steps : IsSim (limits_of 4 two_by_two) (sim_start (start two_by_two)) (tau_of 1 1 ∷ tau_of 2 1 ∷ tau_of 1 2 ∷ tau_of 2 2 ∷ []) Steps
+pub four_steps : IsSim (limits_of 4 two_by_two) (sim_start (start two_by_two) []) (tau_of 1 1 ∷ tau_of 2 1 ∷ tau_of 1 2 ∷ tau_of 2 2 ∷ []) Steps
 unfolding steps moves moves_of_all moves_of handshakes handshakes_with advance
 four_steps = two_by_two-starts (limits_of 4 two_by_two) (tau_of 1 1 ∷ tau_of 2 1 ∷ tau_of 1 2 ∷ tau_of 2 2 ∷ []) Steps (_, refl, (_, refl, (_, refl, (_, refl, refl))))
 
@@ -155,7 +155,7 @@ unfolding steps moves moves_of_all moves_of handshakes handshakes_with advance
 stuck-runs = (_, refl, (_, refl, (_, refl, refl)))
 
 -- what never happens halts the bus once no more ticks come
-pub delta_alone : IsSim (limits_of 1000000 stuck) (sim_start (start stuck)) (Quiet ∷ Fed NoTicks Took ∷ halt ∷ []) Down
+pub delta_alone : IsSim (limits_of 1000000 stuck) (sim_start (start stuck) []) (Quiet ∷ Fed NoTicks Took ∷ halt ∷ []) Down
 delta_alone =
     subst (λ (term : Process). IsSim (limits_of 1000000 stuck) (sim_of (bus_of stuck.program (at 1 0 term ∷ []) 0 false) [] 0) (Quiet ∷ Fed NoTicks Took ∷ halt ∷ []) Down) (sym fresh-one) stuck-runs
 
@@ -164,7 +164,7 @@ unfolding steps moves moves_of_all moves_of handshakes handshakes_with advance
 stuck-limited = (_, refl, (_, refl, refl))
 
 -- with no step allowed, it still says quiet, and ends only where the bus could halt
-pub delta_limited : IsSim (limits_of 0 stuck) (sim_start (start stuck)) (Quiet ∷ Fed NoTicks Took ∷ []) Steps
+pub delta_limited : IsSim (limits_of 0 stuck) (sim_start (start stuck) []) (Quiet ∷ Fed NoTicks Took ∷ []) Steps
 delta_limited =
     subst (λ (term : Process). IsSim (limits_of 0 stuck) (sim_of (bus_of stuck.program (at 1 0 term ∷ []) 0 false) [] 0) (Quiet ∷ Fed NoTicks Took ∷ []) Steps) (sym fresh-one) stuck-limited
 
@@ -191,19 +191,19 @@ star = Star (At 1 0) (At 2 0)
 fresh-star : fresh (tree.Star (tree.At 1) (tree.At 2)) ≡ star
 fresh-star = search (rules, tree_lemmas)
 
-forever-starts : (limits : Limits) (log : List Entry) (end : SimEnd) → IsSim limits (sim_of (bus_of forever.program (at 1 0 star ∷ []) 0 false) [] 0) log end → IsSim limits (sim_start (start forever)) log end
+forever-starts : (limits : Limits) (log : List Entry) (end : SimEnd) → IsSim limits (sim_of (bus_of forever.program (at 1 0 star ∷ []) 0 false) [] 0) log end → IsSim limits (sim_start (start forever) []) log end
 forever-starts limits log end h = subst (λ (term : Process). IsSim limits (sim_of (bus_of forever.program (at 1 0 term ∷ []) 0 false) [] 0) log end) (sym fresh-star) h
 
 abbrev pub five_taus : List Entry
 five_taus = tau_of 1 1 ∷ tau_of 1 1 ∷ tau_of 1 1 ∷ tau_of 1 1 ∷ tau_of 1 1 ∷ []
 
 -- it ends where the log has no room for another entry
-pub five_entries : IsSim (limits_of 1000000 forever) (sim_start (start forever)) five_taus Events
+pub five_entries : IsSim (limits_of 1000000 forever) (sim_start (start forever) []) five_taus Events
 unfolding steps moves moves_of_all moves_of handshakes handshakes_with advance
 five_entries = forever-starts (limits_of 1000000 forever) five_taus Events (_, refl, (_, refl, (_, refl, (_, refl, (_, refl, refl)))))
 
 -- where the limit of steps is reached too, that is the end
-pub both_limits : IsSim (limits_of 5 forever) (sim_start (start forever)) five_taus Steps
+pub both_limits : IsSim (limits_of 5 forever) (sim_start (start forever) []) five_taus Steps
 unfolding steps moves moves_of_all moves_of handshakes handshakes_with advance
 both_limits = forever-starts (limits_of 5 forever) five_taus Steps (_, refl, (_, refl, (_, refl, (_, refl, (_, refl, refl)))))
 
@@ -275,7 +275,7 @@ alone-runs = (
 )
 
 -- one receiver alone: nothing is possible, then no more ticks come, then the bus halts
-pub one_receiver_alone : IsSim (limits_of 1000000 alone) (sim_start (start alone)) (Quiet ∷ Fed NoTicks Took ∷ halt ∷ []) Down
+pub one_receiver_alone : IsSim (limits_of 1000000 alone) (sim_start (start alone) []) (Quiet ∷ Fed NoTicks Took ∷ halt ∷ []) Down
 one_receiver_alone =
     subst (λ (term : Process). IsSim (limits_of 1000000 alone) (sim_of (bus_of alone.program (at 1 0 term ∷ []) 0 false) [] 0) (Quiet ∷ Fed NoTicks Took ∷ halt ∷ []) Down) (sym fresh-one) alone-runs
 
@@ -318,7 +318,7 @@ hello-runs = (
 )
 
 -- one process hands its terms to the other, and no process is left
-pub hello_once : IsSim (limits_of 1000000 hello) (sim_start (start hello)) (shake 1 1 (words (codes "hello")) ∷ finish ∷ []) Down
+pub hello_once : IsSim (limits_of 1000000 hello) (sim_start (start hello) []) (shake 1 1 (words (codes "hello")) ∷ finish ∷ []) Down
 hello_once =
     subst (λ (term : Process). IsSim (limits_of 1000000 hello) (sim_of (bus_of hello.program (at 1 0 term ∷ at 2 1 term ∷ []) 0 false) [] 0) (shake 1 1 (words (codes "hello")) ∷ finish ∷ []) Down)
     (sym fresh-one) hello-runs
@@ -392,7 +392,7 @@ twice-runs = (
 )
 
 -- a star's first side is taken until the other is wanted
-pub star_until : IsSim (limits_of 1000000 twice) (sim_start (start twice)) twice_log Down
+pub star_until : IsSim (limits_of 1000000 twice) (sim_start (start twice) []) twice_log Down
 star_until =
     subst (λ (term : Process). IsSim (limits_of 1000000 twice) (sim_of (bus_of twice.program (at 1 0 term ∷ at 2 1 (fresh receiver.tree) ∷ []) 0 false) [] 0) twice_log Down) (sym fresh-star)
     (subst (λ (term : Process). IsSim (limits_of 1000000 twice) (sim_of (bus_of twice.program (at 1 0 star ∷ at 2 1 term ∷ []) 0 false) [] 0) twice_log Down) (sym fresh-receiver) twice-runs)
@@ -433,7 +433,7 @@ itself-runs =
     )
 
 -- no process shakes hands with itself
-pub none_with_itself : IsSim (limits_of 1000000 itself) (sim_start (start itself)) (Quiet ∷ Fed NoTicks Took ∷ halt ∷ []) Down
+pub none_with_itself : IsSim (limits_of 1000000 itself) (sim_start (start itself) []) (Quiet ∷ Fed NoTicks Took ∷ halt ∷ []) Down
 none_with_itself =
     subst (λ (term : Process). IsSim (limits_of 1000000 itself) (sim_of (bus_of itself.program (at 1 0 term ∷ []) 0 false) [] 0) (Quiet ∷ Fed NoTicks Took ∷ halt ∷ []) Down) (sym fresh-merged) itself-runs
 
@@ -536,7 +536,7 @@ bound-runs = (
 )
 
 -- a variable is set, sent terms are matched with its value, and it takes another
-pub variable_bound : IsSim (limits_of 1000000 bound) (sim_start (start bound)) bound_log Down
+pub variable_bound : IsSim (limits_of 1000000 bound) (sim_start (start bound) []) bound_log Down
 variable_bound =
     subst (λ (term : Process). IsSim (limits_of 1000000 bound) (sim_of (bus_of bound.program (at 1 0 term ∷ with_variable (fresh variable.tree) (int_slot (initial_value sort.Int)) ∷ []) 0 false) [] 0) bound_log Down) (sym fresh-one)
     (subst (λ (term : Process). IsSim (limits_of 1000000 bound) (sim_of (bus_of bound.program (at 1 0 (At 1 0) ∷ with_variable term (int_slot (initial_value sort.Int)) ∷ []) 0 false) [] 0) bound_log Down) (sym fresh-variable)

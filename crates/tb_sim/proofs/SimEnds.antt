@@ -1,27 +1,29 @@
 -- Each simulation has an end, and each prefix of one goes on to it.
-use Rattle.std.proofs.Common.{◌≡◌, ℕ, zero, suc, ◌+◌, ◌-◌, ◌*◌, ◌<◌, ◌≤◌, ◌⊎◌, inl, inr, List, [], ◌∷◌, ◌++◌, refl, ap, arith, Bool, true, false, if◌then◌else◌}
+use Rattle.std.proofs.Common.{◌≡◌, ℕ, zero, suc, ◌+◌, ◌-◌, ◌*◌, ◌<◌, ◌≤◌, ◌⊎◌, inl, inr, List, [], ◌∷◌, ◌++◌, length, refl, ap, arith, Bool, true, false, if◌then◌else◌}
 use Rattle.std.proofs.lemmas.Bool.{cases_lt}
 use Rattle.tb_bus.specs.Buses.{Bus}
 use Rattle.tb_bus.specs.Steps.{Step, steps}
 use Rattle.tb_bus.specs.Traces.{fed}
-use Rattle.tb_sim.specs.Simulation.{Limits, Sim, Ends, Makes, turn, IsSim, IsSimPrefix}
+use Rattle.tb_sim.specs.Simulation.{Limits, Sim, Ends, Makes, turn, input_turn, IsSim, IsSimPrefix}
 use Rattle.tb_log.specs.Limits.{has_room}
+use Rattle.tb_log.specs.declared.entry.Input.{Input}
 use Rattle.tb_log.specs.declared.entry.Input.TheVariants.{NoTicks}
 use Rattle.tb_log.specs.declared.entry.Entry.{Entry}
 use Rattle.tb_log.specs.declared.entry.Entry.TheVariants.{Did, Quiet, Fed}
 use Rattle.tb_sim.specs.declared.ends.SimEnd.{SimEnd}
 use Rattle.tb_sim.specs.declared.ends.SimEnd.TheVariants as end
-use Rattle.tb_sim.proofs.SimTurns.{turn-down, turn-limit, turn-made, turn-quiet, step-no_ticks, no_ticks-quiet, fed-no_ticks}
+use Rattle.tb_sim.proofs.SimTurns.{turn-down, turn-limit, turn-made, turn-quiet, turn-outside, step-no_ticks, no_ticks-quiet, fed-no_ticks}
 
--- how many turns that make no step may come before the next that does
-abbrev quiets_left : Bool → Bool → ℕ
-quiets_left true quiet = 0
-quiets_left false true = 1
-quiets_left false false = 2
+-- how many turns may come for the word that no more ticks come, and for the word quiet
+abbrev word_left : Bool → ℕ
+word_left no_ticks = if no_ticks then 0 else 2
+
+abbrev quiet_left : Bool → ℕ
+quiet_left quiet = if quiet then 0 else 1
 
 -- no more turns than these log an entry
 abbrev turns_left : Limits → Sim → ℕ
-turns_left limits sim = 3 * (limits.steps - sim.steps_made) + quiets_left sim.bus.no_ticks sim.quiet
+turns_left limits sim = 3 * (limits.steps - sim.steps_made) + 2 * length sim.left + word_left sim.bus.no_ticks + quiet_left sim.quiet
 
 -- a turn ends the simulation, or leaves fewer turns
 abbrev Turns : Limits → Sim → Type 0
@@ -29,11 +31,13 @@ Turns limits sim =
     ((end : SimEnd) × (turn limits sim ≡ Ends end))
     ⊎ ((entry : Entry) × (next : Sim) × (turn limits sim ≡ Makes entry next) × (turns_left limits next < turns_left limits sim))
 
--- a step adds one of them at most
-after-step : (no_ticks other quiet : Bool) → other ≡ no_ticks → quiets_left other false ≤ quiets_left no_ticks quiet + 1
-after-step true other quiet e = rw e (omega arith)
-after-step false other true e = rw e (omega arith)
-after-step false other false e = rw e (omega arith)
+word-most : (no_ticks : Bool) → word_left no_ticks ≤ 2
+word-most true = omega arith
+word-most false = omega arith
+
+quiet-most : (quiet : Bool) → quiet_left quiet ≤ 1
+quiet-most true = omega arith
+quiet-most false = omega arith
 
 -- where the log has no room for an entry it ends too
 room-turns : (limits : Limits) (sim : Sim) (entry : Entry) (next : Sim) (room : Bool) → turn limits sim ≡ (if room then Makes entry (record next { log = sim.log ++ entry ∷ [] }) else Ends end.Events) →
@@ -41,30 +45,42 @@ room-turns : (limits : Limits) (sim : Sim) (entry : Entry) (next : Sim) (room : 
 room-turns limits sim entry next true e fewer = inr (entry, record next { log = sim.log ++ entry ∷ [] }, e, fewer)
 room-turns limits sim entry next false e fewer = inl (end.Events, e)
 
-quiet-turns : (limits : Limits) (bus : Bus) (log : List Entry) (made : ℕ) (quiet : Bool) → steps bus ≡ [] → bus.down ≡ false → Turns limits (record { bus = bus; log = log; steps_made = made; quiet = quiet })
-quiet-turns limits bus log made true e f =
-    let sim : Sim = record { bus = bus; log = log; steps_made = made; quiet = true } in
-    let next : Sim = record { bus = (fed bus NoTicks).bus; log = log; steps_made = made; quiet = false } in
-    let entry : Entry = Fed NoTicks (fed bus NoTicks).reply in
-    let before : quiets_left bus.no_ticks true ≡ 1 = ap (λ b. quiets_left b true) (no_ticks-quiet bus e f) in
-    let after : quiets_left (fed bus NoTicks).bus.no_ticks false ≡ 0 = ap (λ (b : Bus). quiets_left b.no_ticks false) (fed-no_ticks bus f) in
-    room-turns limits sim entry next (has_room limits.entries log entry) (turn-quiet limits sim e f) (omega (arith, before, after))
-quiet-turns limits bus log made false e f =
-    let sim : Sim = record { bus = bus; log = log; steps_made = made; quiet = false } in
-    let next : Sim = record { bus = bus; log = log; steps_made = made; quiet = true } in
-    let before : quiets_left bus.no_ticks false ≡ 2 = ap (λ b. quiets_left b false) (no_ticks-quiet bus e f) in
-    let after : quiets_left bus.no_ticks true ≡ 1 = ap (λ b. quiets_left b true) (no_ticks-quiet bus e f) in
-    room-turns limits sim Quiet next (has_room limits.entries log Quiet) (turn-quiet limits sim e f) (omega (arith, before, after))
+input-turns : (limits : Limits) (sim : Sim) (input : Input) (left : List Input) → turn limits sim ≡ input_turn limits sim input left → sim.quiet ≡ true →
+    2 * length left + word_left (fed sim.bus input).bus.no_ticks + 1 < 2 * length sim.left + word_left sim.bus.no_ticks → Turns limits sim
+input-turns limits sim input left e quiet fewer =
+    let next : Sim = record sim { bus = (fed sim.bus input).bus; quiet = false; left = left } in
+    let entry : Entry = Fed input (fed sim.bus input).reply in
+    let said : quiet_left sim.quiet ≡ 0 = ap quiet_left quiet in
+    room-turns limits sim entry next (has_room limits.entries sim.log entry) e (omega (arith, fewer, said))
+
+outside-turns : (limits : Limits) (bus : Bus) (log : List Entry) (made : ℕ) (left : List Input) → steps bus ≡ [] → bus.down ≡ false → Turns limits (record { bus = bus; log = log; steps_made = made; quiet = true; left = left })
+outside-turns limits bus log made [] e f =
+    let sim : Sim = record { bus = bus; log = log; steps_made = made; quiet = true; left = [] } in
+    let before : word_left bus.no_ticks ≡ 2 = ap word_left (no_ticks-quiet bus e f) in
+    let after : word_left (fed bus NoTicks).bus.no_ticks ≡ 0 = ap (λ (b : Bus). word_left b.no_ticks) (fed-no_ticks bus f) in
+    input-turns limits sim NoTicks [] (turn-outside limits sim e f refl) refl (omega (arith, before, after))
+outside-turns limits bus log made (input ∷ left) e f =
+    let sim : Sim = record { bus = bus; log = log; steps_made = made; quiet = true; left = input ∷ left } in
+    let before : word_left bus.no_ticks ≡ 2 = ap word_left (no_ticks-quiet bus e f) in
+    let after = word-most (fed bus input).bus.no_ticks in
+    input-turns limits sim input left (turn-outside limits sim e f refl) refl (omega (arith, before, after))
+
+quiet-turns : (limits : Limits) (bus : Bus) (log : List Entry) (made : ℕ) (quiet : Bool) (left : List Input) → steps bus ≡ [] → bus.down ≡ false → Turns limits (record { bus = bus; log = log; steps_made = made; quiet = quiet; left = left })
+quiet-turns limits bus log made true left e f = outside-turns limits bus log made left e f
+quiet-turns limits bus log made false left e f =
+    let sim : Sim = record { bus = bus; log = log; steps_made = made; quiet = false; left = left } in
+    let next : Sim = record { bus = bus; log = log; steps_made = made; quiet = true; left = left } in
+    room-turns limits sim Quiet next (has_room limits.entries log Quiet) (turn-quiet limits sim e f) (omega arith)
 
 step-turns : (limits : Limits) (sim : Sim) (step : Step) (rest : List Step) → steps sim.bus ≡ step ∷ rest → (sim.steps_made < limits.steps) ⊎ (limits.steps ≤ sim.steps_made) → Turns limits sim
 step-turns limits sim step rest e (inr within) = inl (end.Steps, turn-limit limits sim step rest within e)
 step-turns limits sim step rest e (inl less) =
     let next : Sim = record sim { bus = step.bus; steps_made = sim.steps_made + 1; quiet = false } in
-    let fewer = after-step sim.bus.no_ticks step.bus.no_ticks sim.quiet (step-no_ticks sim.bus step rest e) in
-    room-turns limits sim (Did step.label) next (has_room limits.entries sim.log (Did step.label)) (turn-made limits sim step rest less e) (omega (arith, fewer, less))
+    let same : word_left step.bus.no_ticks ≡ word_left sim.bus.no_ticks = ap word_left (step-no_ticks sim.bus step rest e) in
+    room-turns limits sim (Did step.label) next (has_room limits.entries sim.log (Did step.label)) (turn-made limits sim step rest less e) (omega (arith, same, less))
 
 up-turns : (limits : Limits) (sim : Sim) (ss : List Step) → steps sim.bus ≡ ss → sim.bus.down ≡ false → Turns limits sim
-up-turns limits sim [] e f = quiet-turns limits sim.bus sim.log sim.steps_made sim.quiet e f
+up-turns limits sim [] e f = quiet-turns limits sim.bus sim.log sim.steps_made sim.quiet sim.left e f
 up-turns limits sim (step ∷ rest) e f = step-turns limits sim step rest e (cases_lt sim.steps_made limits.steps)
 
 turns-by : (limits : Limits) (sim : Sim) (down : Bool) → sim.bus.down ≡ down → Turns limits sim

@@ -1,26 +1,28 @@
 -- The turns of a simulation, by what each call of a core logged.
-use Rattle.std.proofs.Common.{◌≡◌, ℕ, ◌+◌, ◌-◌, ◌<◌, ◌≤◌, ◌==◌, ◌&&◌, List, [], ◌∷◌, ◌++◌, length, slice_get, refl, ap, sym, ◌∙◌, subst, arith, Option, Some, Bool, true, false, append-nil, append_assoc, eq-eqb, length-append}
+use Rattle.std.proofs.Common.{◌≡◌, ℕ, zero, suc, ◌+◌, ◌-◌, ◌<◌, ◌≤◌, ◌==◌, ◌&&◌, List, [], ◌∷◌, ◌++◌, length, drop, slice_get, refl, ap, sym, ◌∙◌, subst, arith, Option, Some, Bool, true, false, append-nil, append_assoc, eq-eqb, length-append}
 use Rattle.std.specs.Prelude.{option_to_list}
 use Rattle.std.proofs.lemmas.Bool.{eqb-true, not-true, not-false}
 use Rattle.tb_bus.specs.declared.origin.Origin.{Origin}
 use Rattle.tb_bus.specs.Buses.{Bus, start}
 use Rattle.tb_bus.specs.Steps.{Step, steps}
 use Rattle.tb_bus.specs.Traces.{replay, fed}
-use Rattle.tb_sim.specs.Simulation.{Limits, Sim, Ends, turn, limits_of, IsSim, IsSimPrefix, sim_start}
-use Rattle.tb_sim.specs.Turns.{SimLeads, sim_of, LedOn, LeftWithin, EndsTicks, Goes}
+use Rattle.tb_sim.specs.Simulation.{Limits, Sim, Ends, turn, input_turn, outside_turn, limits_of, IsSim, IsSimPrefix, sim_start}
+use Rattle.tb_sim.specs.Turns.{SimLeads, sim_of, word_left, still_left, IsWithin, LedOn, LeftWithin, HandsIn, HandsInNext, Goes}
 use Rattle.tb_core.specs.Cores.{CoreState, HandIn, MakeStep, bus_now, Logs, Stays, entries_of, would_log, lacks_room, is_full, step_entry, IsStep, has_any, ends_quiet, says_quiet}
 use Rattle.tb_core.specs.declared.answers.Stepped.TheVariants as stepped
 use Rattle.tb_log.specs.Limits.{has_room}
+use Rattle.tb_log.specs.declared.entry.Input.{Input}
 use Rattle.tb_log.specs.declared.entry.Input.TheVariants.{NoTicks}
 use Rattle.tb_log.specs.declared.entry.Entry.{Entry}
 use Rattle.tb_log.specs.declared.entry.Entry.TheVariants.{Did, Quiet, Fed}
+use Rattle.tb_sim.specs.declared.ends.Progress.{Progress}
 use Rattle.tb_sim.specs.declared.ends.SimEnd.{SimEnd}
 use Rattle.tb_sim.specs.declared.ends.SimEnd.TheVariants as end
 use Rattle.tb_sim.specs.declared.ends.Turned.{Turned}
 use Rattle.tb_sim.specs.declared.ends.Turned.TheVariants as turned
 use Rattle.tb_terms.proofs.SameLemmas.{both-true}
 use Rattle.tb_bus.proofs.TraceLemmas.{replay-append, after-first}
-use Rattle.tb_sim.proofs.SimTurns.{steps-up, turn-limit, turn-made, turn-down, turn-says-quiet, turn-ends-ticks, makes-room, makes-full, step-no_ticks, no_ticks-quiet, fed-no_ticks}
+use Rattle.tb_sim.proofs.SimTurns.{steps-up, turn-limit, turn-made, turn-down, turn-says-quiet, turn-outside, makes-room, makes-full, step-no_ticks, no_ticks-quiet, fed-no_ticks}
 
 -- where a core's log leads after a call
 logs-bus : (old new : CoreState) (entries : List Entry) → Logs old new entries → bus_now new ≡ replay (bus_now old) entries
@@ -43,11 +45,11 @@ stays-same old new same = let spare : new.spare ≡ old.spare = ap (λ (c : Core
 }
 
 -- the simulation stands where it stood
-stays-sim : (old new : CoreState) (made : ℕ) → Stays old new → sim_of new made ≡ sim_of old made
+stays-sim : (feed : List Input) (old new : CoreState) (so_far : Progress) → Stays old new → sim_of feed new so_far ≡ sim_of feed old so_far
 unfolding sim_of bus_now
-stays-sim old new made stays =
-    ap (λ (o : Origin). let s : Sim = record { bus = replay (start o) new.log; log = new.log; steps_made = made; quiet = ends_quiet new.log } in s) stays.origin
-    ∙ ap (λ (log : List Entry). let s : Sim = record { bus = replay (start old.origin) log; log = log; steps_made = made; quiet = ends_quiet log } in s) stays.log
+stays-sim feed old new so_far stays =
+    ap (λ (o : Origin). let s : Sim = record { bus = replay (start o) new.log; log = new.log; steps_made = so_far.steps; quiet = ends_quiet new.log; left = drop so_far.inputs feed } in s) stays.origin
+    ∙ ap (λ (log : List Entry). let s : Sim = record { bus = replay (start old.origin) log; log = log; steps_made = so_far.steps; quiet = ends_quiet log; left = drop so_far.inputs feed } in s) stays.log
 
 -- what a step logs: the first of the steps, that nothing is possible, or nothing on a bus that is down
 did-by : (down quiet : Bool) (step : Step) (rest : List Step) → down ≡ false → step_entry down quiet (step ∷ rest) ≡ Some (Did step.label)
@@ -98,13 +100,13 @@ any-first [] e = absurd cc
 any-first (step ∷ rest) e = (step, rest, refl)
 
 -- at the limit of steps, with a step possible, the simulation ends
-limit-ends : (made : ℕ) (limits : Limits) (core : CoreState) (at : Bool) → at ≡ (made == limits.steps && has_any (steps (bus_now core))) → at ≡ true → turn limits (sim_of core made) ≡ Ends end.Steps
+limit-ends : (feed : List Input) (so_far : Progress) (limits : Limits) (core : CoreState) (at : Bool) → at ≡ (so_far.steps == limits.steps && has_any (steps (bus_now core))) → at ≡ true → turn limits (sim_of feed core so_far) ≡ Ends end.Steps
 unfolding sim_of
-limit-ends made limits core at is h =
-    let t = both-true (made == limits.steps) (has_any (steps (bus_now core))) (sym is ∙ h) in
-    let e : made ≡ limits.steps = eqb-true made limits.steps t.0 in
+limit-ends feed so_far limits core at is h =
+    let t = both-true (so_far.steps == limits.steps) (has_any (steps (bus_now core))) (sym is ∙ h) in
+    let e : so_far.steps ≡ limits.steps = eqb-true so_far.steps limits.steps t.0 in
     let s = any-first (steps (bus_now core)) t.1 in
-    turn-limit limits (sim_of core made) s.0 s.1 (omega arith) s.2
+    turn-limit limits (sim_of feed core so_far) s.0 s.1 (omega arith) s.2
 
 slice_get-push : (log : List Entry) (entry : Entry) → slice_get (log ++ entry ∷ []) (length log) ≡ Some entry
 slice_get-push [] entry = refl
@@ -126,11 +128,11 @@ below-limit : (made limit : ℕ) (any : Bool) → made ≤ limit → any ≡ tru
 below-limit made limit any le f g = below-by made limit (made == limit) any refl le f g
 
 -- no turn yet
-pub led-nothing : (most made : ℕ) (core : CoreState) → LedOn most core made core made
-led-nothing most made core = record { origin = refl; running = refl; entries = []; log = sym (append-nil core.log); turns = refl }
+pub led-nothing : (most : ℕ) (feed : List Input) (so_far : Progress) (core : CoreState) → LedOn most feed core so_far core so_far
+led-nothing most feed so_far core = record { origin = refl; running = refl; entries = []; log = sym (append-nil core.log); turns = refl }
 
-led-stays : (most made : ℕ) (old new : CoreState) → Stays old new → LedOn most old made new made
-led-stays most made old new stays = record { origin = stays.origin; running = stays.stopped; entries = []; log = stays.log ∙ sym (append-nil old.log); turns = stays-sim old new made stays }
+led-stays : (most : ℕ) (feed : List Input) (so_far : Progress) (old new : CoreState) → Stays old new → LedOn most feed old so_far new so_far
+led-stays most feed so_far old new stays = record { origin = stays.origin; running = stays.stopped; entries = []; log = stays.log ∙ sym (append-nil old.log); turns = stays-sim feed old new so_far stays }
 
 -- turns after turns
 leads-append : (limits : Limits) (a b c : Sim) (xs ys : List Entry) → SimLeads limits a xs b → SimLeads limits b ys c → SimLeads limits a (xs ++ ys) c
@@ -150,56 +152,68 @@ leads-prefix limits a b [] ys p q = subst (λ (s : Sim). IsSimPrefix limits s ys
 leads-prefix limits a b (x ∷ xs) ys p q = (p.0, p.1, leads-prefix limits p.0 b xs ys p.2 q)
 
 -- one go after others
-pub led-on : (most : ℕ) (a b c : CoreState) (m n k : ℕ) → LedOn most a m b n → LedOn most b n c k → LedOn most a m c k
-led-on most a b c m n k p q = record {
+pub led-on : (most : ℕ) (feed : List Input) (a b c : CoreState) (m n k : Progress) → LedOn most feed a m b n → LedOn most feed b n c k → LedOn most feed a m c k
+led-on most feed a b c m n k p q = record {
   origin = q.origin ∙ p.origin;
   running = q.running ∙ p.running;
   entries = p.entries ++ q.entries;
   log = q.log ∙ ap (λ (log : List Entry). log ++ q.entries) p.log ∙ append_assoc a.log p.entries q.entries;
-  turns = leads-append (limits_of most a.origin) (sim_of a m) (sim_of b n) (sim_of c k) p.entries q.entries p.turns
-      (subst (λ (o : Origin). SimLeads (limits_of most o) (sim_of b n) q.entries (sim_of c k)) p.origin q.turns);
+  turns = leads-append (limits_of most a.origin) (sim_of feed a m) (sim_of feed b n) (sim_of feed c k) p.entries q.entries p.turns
+      (subst (λ (o : Origin). SimLeads (limits_of most o) (sim_of feed b n) q.entries (sim_of feed c k)) p.origin q.turns);
 }
 
+-- one step fewer is left
+step-fewer : (most : ℕ) (feed : List Input) (old new : CoreState) (so_far : Progress) → so_far.steps < most → (bus_now new).no_ticks ≡ (bus_now old).no_ticks →
+    still_left most feed new (record so_far { steps = so_far.steps + 1 }) < still_left most feed old so_far
+step-fewer most feed old new so_far less same =
+    let words : word_left (bus_now new).no_ticks ≡ word_left (bus_now old).no_ticks = ap word_left same in
+    omega (arith, words, less)
+
 -- One go: the first step was made.
-pub goes-did : (most made : ℕ) (old new : CoreState) (at : Bool) → made ≤ most → at ≡ (made == most && has_any (steps (bus_now old))) → at ≡ false →
+pub goes-did : (most : ℕ) (feed : List Input) (so_far : Progress) (old new : CoreState) (at : Bool) → IsWithin most feed so_far → at ≡ (so_far.steps == most && has_any (steps (bus_now old))) → at ≡ false →
     IsStep old stepped.Did → Logs old new (entries_of old MakeStep) → is_full old MakeStep ≡ false →
-    Goes most old made new turned.Step
+    Goes most feed old so_far new (turned.On (record so_far { steps = so_far.steps + 1 }))
 unfolding sim_of
-goes-did most made old new at within is below found logs room =
+goes-did most feed so_far old new at within is below found logs room =
     let step : Step = found.0 in
     let rest : List Step = found.1 in
     let e : steps (bus_now old) ≡ step ∷ rest = found.2 in
     let limits : Limits = limits_of most old.origin in
+    let left : List Input = drop so_far.inputs feed in
+    let next : Sim = record { bus = step.bus; log = old.log; steps_made = so_far.steps + 1; quiet = false; left = left } in
     let would = would-did old step rest e in
     let l : Logs old new (Did step.label ∷ []) = would-logs old new (would_log old MakeStep) (Did step.label) would logs in
-    let less = below-limit made most (has_any (steps (bus_now old))) within (ap has_any e) (sym is ∙ below) in
+    let less = below-limit so_far.steps most (has_any (steps (bus_now old))) within.steps_made (ap has_any e) (sym is ∙ below) in
     let bus : bus_now new ≡ step.bus = logs-bus old new (Did step.label ∷ []) l ∙ after-first (bus_now old) step rest e in
-    let said : ends_quiet new.log ≡ false = ap ends_quiet l.log ∙ ends_quiet-push old.log (Did step.label) in (
+    let said : ends_quiet new.log ≡ false = ap ends_quiet l.log ∙ ends_quiet-push old.log (Did step.label) in
+    let ticks : (bus_now new).no_ticks ≡ (bus_now old).no_ticks = ap (λ (b : Bus). b.no_ticks) bus ∙ step-no_ticks (bus_now old) step rest e in (
       record {
         origin = l.origin;
         running = l.stopped;
         entries = Did step.label ∷ [];
         log = l.log;
         turns = (
-          record { bus = step.bus; log = old.log ++ Did step.label ∷ []; steps_made = made + 1; quiet = false },
-          turn-made limits (sim_of old made) step rest less e
-              ∙ makes-room limits (sim_of old made) (Did step.label) (record { bus = step.bus; log = old.log; steps_made = made + 1; quiet = false }) (would-room old (would_log old MakeStep) (Did step.label) would room),
-          λ i. record { bus = bus i; log = l.log i; steps_made = made + 1; quiet = said i },
+          record next { log = old.log ++ Did step.label ∷ [] },
+          turn-made limits (sim_of feed old so_far) step rest less e
+              ∙ makes-room limits (sim_of feed old so_far) (Did step.label) next (would-room old (would_log old MakeStep) (Did step.label) would room),
+          λ i. record { bus = bus i; log = l.log i; steps_made = so_far.steps + 1; quiet = said i; left = left },
         );
       },
-      less,
+      record { steps_made = omega (arith, less); inputs_fed = within.inputs_fed },
       said,
-      ap (λ (b : Bus). b.no_ticks) bus ∙ step-no_ticks (bus_now old) step rest e,
+      step-fewer most feed old new so_far less ticks,
     )
 
 -- nothing was possible, and it said so
-led-said : (most made : ℕ) (old mid : CoreState) → ends_quiet old.log ≡ false → IsStep old stepped.Quiet → Logs old mid (entries_of old MakeStep) → is_full old MakeStep ≡ false →
-    LedOn most old made mid made × (ends_quiet mid.log ≡ true) × (bus_now mid ≡ bus_now old)
+led-said : (most : ℕ) (feed : List Input) (so_far : Progress) (old mid : CoreState) → ends_quiet old.log ≡ false → IsStep old stepped.Quiet → Logs old mid (entries_of old MakeStep) → is_full old MakeStep ≡ false →
+    LedOn most feed old so_far mid so_far × (ends_quiet mid.log ≡ true) × (bus_now mid ≡ bus_now old)
 unfolding sim_of
-led-said most made old mid said found logs room =
+led-said most feed so_far old mid said found logs room =
     let e : steps (bus_now old) ≡ [] = found.0 in
     let f : (bus_now old).down ≡ false = found.1 in
     let limits : Limits = limits_of most old.origin in
+    let left : List Input = drop so_far.inputs feed in
+    let next : Sim = record { bus = bus_now old; log = old.log; steps_made = so_far.steps; quiet = true; left = left } in
     let would = would-quiet old e f said in
     let l : Logs old mid (Quiet ∷ []) = would-logs old mid (would_log old MakeStep) Quiet would logs in
     let bus : bus_now mid ≡ bus_now old = logs-bus old mid (Quiet ∷ []) l in
@@ -210,24 +224,32 @@ led-said most made old mid said found logs room =
         entries = Quiet ∷ [];
         log = l.log;
         turns = (
-          record { bus = bus_now old; log = old.log ++ Quiet ∷ []; steps_made = made; quiet = true },
-          turn-says-quiet limits (sim_of old made) e f said
-              ∙ makes-room limits (sim_of old made) Quiet (record { bus = bus_now old; log = old.log; steps_made = made; quiet = true }) (would-room old (would_log old MakeStep) Quiet would room),
-          λ i. record { bus = bus i; log = l.log i; steps_made = made; quiet = quiet i },
+          record next { log = old.log ++ Quiet ∷ [] },
+          turn-says-quiet limits (sim_of feed old so_far) e f said
+              ∙ makes-room limits (sim_of feed old so_far) Quiet next (would-room old (would_log old MakeStep) Quiet would room),
+          λ i. record { bus = bus i; log = l.log i; steps_made = so_far.steps; quiet = quiet i; left = left },
         );
       },
       quiet,
       bus,
     )
 
--- then it handed in that no more ticks come
-led-told : (most made : ℕ) (mid new : CoreState) → ends_quiet mid.log ≡ true → steps (bus_now mid) ≡ [] → (bus_now mid).down ≡ false → Logs mid new (entries_of mid (HandIn NoTicks)) → is_full mid (HandIn NoTicks) ≡ false →
-    LedOn most mid made new made × (ends_quiet new.log ≡ false) × ((bus_now new).no_ticks ≡ true)
+-- What comes next from outside is this input: the turn that hands it in leaves the rest of the feed.
+abbrev IsNextTurn : ℕ → List Input → CoreState → Progress → Input → Progress → Type 0
+IsNextTurn most feed mid so_far input next =
+    outside_turn (limits_of most mid.origin) (sim_of feed mid so_far) (drop so_far.inputs feed) ≡ input_turn (limits_of most mid.origin) (sim_of feed mid so_far) input (drop next.inputs feed)
+
+-- then the input was handed in
+led-fed : (most : ℕ) (feed : List Input) (so_far next : Progress) (mid new : CoreState) (input : Input) → IsNextTurn most feed mid so_far input next → next.steps ≡ so_far.steps →
+    ends_quiet mid.log ≡ true → steps (bus_now mid) ≡ [] → (bus_now mid).down ≡ false → Logs mid new (entries_of mid (HandIn input)) → is_full mid (HandIn input) ≡ false →
+    LedOn most feed mid so_far new next × (ends_quiet new.log ≡ false) × (bus_now new ≡ (fed (bus_now mid) input).bus)
 unfolding sim_of
-led-told most made mid new quiet e f l room =
+led-fed most feed so_far next mid new input is same quiet e f l room =
     let limits : Limits = limits_of most mid.origin in
-    let entry : Entry = Fed NoTicks (fed (bus_now mid) NoTicks).reply in
-    let bus : bus_now new ≡ (fed (bus_now mid) NoTicks).bus = logs-bus mid new (entry ∷ []) l in
+    let left : List Input = drop next.inputs feed in
+    let entry : Entry = Fed input (fed (bus_now mid) input).reply in
+    let after : Sim = record { bus = (fed (bus_now mid) input).bus; log = mid.log; steps_made = so_far.steps; quiet = false; left = left } in
+    let bus : bus_now new ≡ (fed (bus_now mid) input).bus = logs-bus mid new (entry ∷ []) l in
     let said : ends_quiet new.log ≡ false = ap ends_quiet l.log ∙ ends_quiet-push mid.log entry in (
       record {
         origin = l.origin;
@@ -235,116 +257,186 @@ led-told most made mid new quiet e f l room =
         entries = entry ∷ [];
         log = l.log;
         turns = (
-          record { bus = (fed (bus_now mid) NoTicks).bus; log = mid.log ++ entry ∷ []; steps_made = made; quiet = false },
-          turn-ends-ticks limits (sim_of mid made) e f quiet
-              ∙ makes-room limits (sim_of mid made) entry (record { bus = (fed (bus_now mid) NoTicks).bus; log = mid.log; steps_made = made; quiet = false }) (would-room mid (Some entry) entry refl room),
-          λ i. record { bus = bus i; log = l.log i; steps_made = made; quiet = said i },
+          record after { log = mid.log ++ entry ∷ [] },
+          turn-outside limits (sim_of feed mid so_far) e f quiet ∙ is ∙ makes-room limits (sim_of feed mid so_far) entry after (would-room mid (Some entry) entry refl room),
+          λ i. record { bus = bus i; log = l.log i; steps_made = same i; quiet = said i; left = left },
         );
       },
       said,
-      ap (λ (b : Bus). b.no_ticks) (bus ∙ fed-no_ticks (bus_now mid) f),
+      bus,
     )
 
 -- or the log had no room for it
-told-full : (most made : ℕ) (mid : CoreState) → ends_quiet mid.log ≡ true → steps (bus_now mid) ≡ [] → (bus_now mid).down ≡ false → is_full mid (HandIn NoTicks) ≡ true → turn (limits_of most mid.origin) (sim_of mid made) ≡ Ends end.Events
+fed-full : (most : ℕ) (feed : List Input) (so_far next : Progress) (mid : CoreState) (input : Input) → IsNextTurn most feed mid so_far input next →
+    ends_quiet mid.log ≡ true → steps (bus_now mid) ≡ [] → (bus_now mid).down ≡ false → is_full mid (HandIn input) ≡ true → turn (limits_of most mid.origin) (sim_of feed mid so_far) ≡ Ends end.Events
 unfolding sim_of
-told-full most made mid quiet e f full =
+fed-full most feed so_far next mid input is quiet e f full =
     let limits : Limits = limits_of most mid.origin in
-    let entry : Entry = Fed NoTicks (fed (bus_now mid) NoTicks).reply in
-    turn-ends-ticks limits (sim_of mid made) e f quiet
-    ∙ makes-full limits (sim_of mid made) entry (record { bus = (fed (bus_now mid) NoTicks).bus; log = mid.log; steps_made = made; quiet = false }) (would-full mid (Some entry) entry refl full)
+    let entry : Entry = Fed input (fed (bus_now mid) input).reply in
+    let after : Sim = record { bus = (fed (bus_now mid) input).bus; log = mid.log; steps_made = so_far.steps; quiet = false; left = drop next.inputs feed } in
+    turn-outside limits (sim_of feed mid so_far) e f quiet ∙ is ∙ makes-full limits (sim_of feed mid so_far) entry after (would-full mid (Some entry) entry refl full)
 
--- One go: nothing was possible, and then what became of the word that no more ticks come.
-pub goes-quiet : (most made : ℕ) (old mid new : CoreState) → ends_quiet old.log ≡ false → IsStep old stepped.Quiet → Logs old mid (entries_of old MakeStep) → is_full old MakeStep ≡ false →
-    (t : Turned) → EndsTicks mid new t → Goes most old made new t
-goes-quiet most made old mid new said found logs room turned.Quiet h =
-    let p = led-said most made old mid said found logs room in
+-- One go: nothing was possible, and then what became of the input that comes next.
+next-goes : (most : ℕ) (feed : List Input) (so_far next : Progress) (old mid new : CoreState) (input : Input) → ends_quiet old.log ≡ false → IsStep old stepped.Quiet → Logs old mid (entries_of old MakeStep) → is_full old MakeStep ≡ false →
+    IsNextTurn most feed mid so_far input next → next.steps ≡ so_far.steps → IsWithin most feed next → ((bus_now old).no_ticks ≡ false → bus_now new ≡ (fed (bus_now old) input).bus → still_left most feed new next < still_left most feed old so_far) →
+    (t : Turned) → HandsIn input next mid new t → Goes most feed old so_far new t
+next-goes most feed so_far next old mid new input said found logs room is same within fewer (turned.On progress) h =
+    let p = led-said most feed so_far old mid said found logs room in
     let e : steps (bus_now mid) ≡ [] = ap steps p.2 ∙ found.0 in
     let f : (bus_now mid).down ≡ false = ap (λ (b : Bus). b.down) p.2 ∙ found.1 in
-    let q = led-told most made mid new p.1 e f h.0 h.1 in
-    (led-on most old mid new made made made p.0 q.0, q.1, no_ticks-quiet (bus_now old) found.0 found.1, q.2)
-goes-quiet most made old mid new said found logs room (turned.End end.Events) h =
-    let p = led-said most made old mid said found logs room in
+    let q = led-fed most feed so_far next mid new input is same p.1 e f h.1 h.2 in
+    let bus : bus_now new ≡ (fed (bus_now old) input).bus = q.2 ∙ ap (λ (b : Bus). (fed b input).bus) p.2 in
+    subst (λ (n : Progress). Goes most feed old so_far new (turned.On n)) (sym h.0)
+    (led-on most feed old mid new so_far so_far next p.0 q.0, within, q.1, fewer (no_ticks-quiet (bus_now old) found.0 found.1) bus)
+next-goes most feed so_far next old mid new input said found logs room is same within fewer (turned.End end.Events) h =
+    let p = led-said most feed so_far old mid said found logs room in
     let e : steps (bus_now mid) ≡ [] = ap steps p.2 ∙ found.0 in
     let f : (bus_now mid).down ≡ false = ap (λ (b : Bus). b.down) p.2 ∙ found.1 in
-    let full = told-full most made mid p.1 e f h.1 in
-    let here : turn (limits_of most old.origin) (sim_of mid made) ≡ Ends end.Events = subst (λ (o : Origin). turn (limits_of most o) (sim_of mid made) ≡ Ends end.Events) p.0.origin full in (
-      led-on most old mid new made made made p.0 (led-stays most made mid new h.0),
-      ap (turn (limits_of most old.origin)) (stays-sim mid new made h.0) ∙ here,
+    let full = fed-full most feed so_far next mid input is p.1 e f h.1 in
+    let here : turn (limits_of most old.origin) (sim_of feed mid so_far) ≡ Ends end.Events = subst (λ (o : Origin). turn (limits_of most o) (sim_of feed mid so_far) ≡ Ends end.Events) p.0.origin full in (
+      led-on most feed old mid new so_far so_far so_far p.0 (led-stays most feed so_far mid new h.0),
+      ap (turn (limits_of most old.origin)) (stays-sim feed mid new so_far h.0) ∙ here,
     )
-goes-quiet most made old mid new said found logs room (turned.End end.Down) h = absurd h
-goes-quiet most made old mid new said found logs room (turned.End end.Steps) h = absurd h
-goes-quiet most made old mid new said found logs room turned.Step h = absurd h
+next-goes most feed so_far next old mid new input said found logs room is same within fewer (turned.End end.Down) h = absurd h
+next-goes most feed so_far next old mid new input said found logs room is same within fewer (turned.End end.Steps) h = absurd h
+
+one-word : (b : Bool) → word_left b ≤ 1
+one-word true = omega arith
+one-word false = omega arith
+
+-- one input fewer is left
+input-fewer : (most : ℕ) (feed : List Input) (old new : CoreState) (so_far : Progress) → so_far.inputs < length feed → (bus_now old).no_ticks ≡ false →
+    still_left most feed new (record so_far { inputs = so_far.inputs + 1 }) < still_left most feed old so_far
+input-fewer most feed old new so_far less ticks =
+    let before : word_left (bus_now old).no_ticks ≡ 1 = ap word_left ticks in
+    let after = one-word (bus_now new).no_ticks in
+    omega (arith, before, after, less)
+
+-- or the word that no more ticks come is left no more
+word-fewer : (most : ℕ) (feed : List Input) (old new : CoreState) (so_far : Progress) → (bus_now old).no_ticks ≡ false → (bus_now new).no_ticks ≡ true → still_left most feed new so_far < still_left most feed old so_far
+word-fewer most feed old new so_far ticks none =
+    let before : word_left (bus_now old).no_ticks ≡ 1 = ap word_left ticks in
+    let after : word_left (bus_now new).no_ticks ≡ 0 = ap word_left none in
+    omega (arith, before, after)
+
+-- an input that is found comes next
+pub drop-at : (feed : List Input) (i : ℕ) (input : Input) → slice_get feed i ≡ Some input → (left : List Input) × (drop i feed ≡ input ∷ left)
+drop-at [] zero input e = absurd cc
+drop-at [] (suc i) input e = absurd cc
+drop-at (x ∷ feed) zero input e = let same : x ≡ input = cc in (feed, ap (λ (y : Input). y ∷ feed) same)
+drop-at (x ∷ feed) (suc i) input e = drop-at feed i input e
+
+-- what is left of a feed behind the input that comes next
+drop-next : (feed : List Input) (i : ℕ) (input : Input) (left : List Input) → drop i feed ≡ input ∷ left → (drop (i + 1) feed ≡ left) × (i < length feed)
+drop-next [] zero input left e = cc
+drop-next [] (suc i) input left e = cc
+drop-next (x ∷ feed) zero input left e = let same : feed ≡ left = cc in (same, omega arith)
+drop-next (x ∷ feed) (suc i) input left e =
+    let rest = drop-next feed i input left e in
+    let next : suc i + 1 ≡ suc (i + 1) = omega arith in
+    (ap (λ (n : ℕ). drop n (x ∷ feed)) next ∙ rest.0, omega (arith, rest.1))
+
+goes-by : (most : ℕ) (feed : List Input) (so_far : Progress) (old mid new : CoreState) (left : List Input) → drop so_far.inputs feed ≡ left → IsWithin most feed so_far →
+    ends_quiet old.log ≡ false → IsStep old stepped.Quiet → Logs old mid (entries_of old MakeStep) → is_full old MakeStep ≡ false →
+    (t : Turned) → HandsInNext left so_far mid new t → Goes most feed old so_far new t
+goes-by most feed so_far old mid new [] e within said found logs room t h =
+    let sim : Sim = sim_of feed mid so_far in
+    let limits : Limits = limits_of most mid.origin in
+    next-goes most feed so_far so_far old mid new NoTicks said found logs room
+    (ap (outside_turn limits sim) e ∙ ap (input_turn limits sim NoTicks) (sym e)) refl within
+    (λ ticks bus. word-fewer most feed old new so_far ticks (ap (λ (b : Bus). b.no_ticks) (bus ∙ fed-no_ticks (bus_now old) found.1)))
+    t h
+goes-by most feed so_far old mid new (input ∷ left) e within said found logs room t h =
+    let sim : Sim = sim_of feed mid so_far in
+    let limits : Limits = limits_of most mid.origin in
+    let rest = drop-next feed so_far.inputs input left e in
+    next-goes most feed so_far (record so_far { inputs = so_far.inputs + 1 }) old mid new input said found logs room
+    (ap (outside_turn limits sim) e ∙ ap (input_turn limits sim input) (sym rest.0)) refl
+    (let less = rest.1 in record { steps_made = within.steps_made; inputs_fed = omega arith })
+    (λ ticks bus. input-fewer most feed old new so_far rest.1 ticks)
+    t h
+
+pub goes-quiet : (most : ℕ) (feed : List Input) (so_far : Progress) (old mid new : CoreState) → IsWithin most feed so_far → ends_quiet old.log ≡ false → IsStep old stepped.Quiet → Logs old mid (entries_of old MakeStep) → is_full old MakeStep ≡ false →
+    (t : Turned) → HandsInNext (drop so_far.inputs feed) so_far mid new t → Goes most feed old so_far new t
+goes-quiet most feed so_far old mid new within said found logs room t h = goes-by most feed so_far old mid new (drop so_far.inputs feed) refl within said found logs room t h
 
 -- One go: it is the end, and nothing was logged.
-pub goes-end : (most made : ℕ) (old new : CoreState) (last : SimEnd) → Stays old new → turn (limits_of most old.origin) (sim_of old made) ≡ Ends last → Goes most old made new (turned.End last)
-goes-end most made old new last stays e = (led-stays most made old new stays, ap (turn (limits_of most old.origin)) (stays-sim old new made stays) ∙ e)
+pub goes-end : (most : ℕ) (feed : List Input) (so_far : Progress) (old new : CoreState) (last : SimEnd) → Stays old new → turn (limits_of most old.origin) (sim_of feed old so_far) ≡ Ends last → Goes most feed old so_far new (turned.End last)
+goes-end most feed so_far old new last stays e = (led-stays most feed so_far old new stays, ap (turn (limits_of most old.origin)) (stays-sim feed old new so_far stays) ∙ e)
 
-pub goes-limit : (most made : ℕ) (old new : CoreState) (at : Bool) → new ≡ old → at ≡ (made == most && has_any (steps (bus_now old))) → at ≡ true → Goes most old made new (turned.End end.Steps)
-goes-limit most made old new at same is h = goes-end most made old new end.Steps (stays-same old new same) (limit-ends made (limits_of most old.origin) old at is h)
+pub goes-limit : (most : ℕ) (feed : List Input) (so_far : Progress) (old new : CoreState) (at : Bool) → new ≡ old → at ≡ (so_far.steps == most && has_any (steps (bus_now old))) → at ≡ true → Goes most feed old so_far new (turned.End end.Steps)
+goes-limit most feed so_far old new at same is h = goes-end most feed so_far old new end.Steps (stays-same old new same) (limit-ends feed so_far (limits_of most old.origin) old at is h)
 
-pub goes-down : (most made : ℕ) (old new : CoreState) → (bus_now old).down ≡ true → Logs old new (entries_of old MakeStep) → Goes most old made new (turned.End end.Down)
+pub goes-down : (most : ℕ) (feed : List Input) (so_far : Progress) (old new : CoreState) → (bus_now old).down ≡ true → Logs old new (entries_of old MakeStep) → Goes most feed old so_far new (turned.End end.Down)
 unfolding sim_of
-goes-down most made old new e logs = goes-end most made old new end.Down (down-nothing old new e logs) (turn-down (limits_of most old.origin) (sim_of old made) e)
+goes-down most feed so_far old new e logs = goes-end most feed so_far old new end.Down (down-nothing old new e logs) (turn-down (limits_of most old.origin) (sim_of feed old so_far) e)
 
 -- where the log has no room for what the step would log
-full-up : (most made : ℕ) (core : CoreState) (at : Bool) (ss : List Step) → ends_quiet core.log ≡ false → made ≤ most → at ≡ (made == most && has_any (steps (bus_now core))) → at ≡ false →
-    steps (bus_now core) ≡ ss → (bus_now core).down ≡ false → is_full core MakeStep ≡ true → turn (limits_of most core.origin) (sim_of core made) ≡ Ends end.Events
+full-up : (most : ℕ) (feed : List Input) (so_far : Progress) (core : CoreState) (at : Bool) (ss : List Step) → ends_quiet core.log ≡ false → so_far.steps ≤ most → at ≡ (so_far.steps == most && has_any (steps (bus_now core))) → at ≡ false →
+    steps (bus_now core) ≡ ss → (bus_now core).down ≡ false → is_full core MakeStep ≡ true → turn (limits_of most core.origin) (sim_of feed core so_far) ≡ Ends end.Events
 unfolding sim_of
-full-up most made core at [] said within is below e f full =
+full-up most feed so_far core at [] said within is below e f full =
     let limits : Limits = limits_of most core.origin in
-    turn-says-quiet limits (sim_of core made) e f said
-    ∙ makes-full limits (sim_of core made) Quiet (record { bus = bus_now core; log = core.log; steps_made = made; quiet = true }) (would-full core (would_log core MakeStep) Quiet (would-quiet core e f said) full)
-full-up most made core at (step ∷ rest) said within is below e f full =
+    let next : Sim = record { bus = bus_now core; log = core.log; steps_made = so_far.steps; quiet = true; left = drop so_far.inputs feed } in
+    turn-says-quiet limits (sim_of feed core so_far) e f said
+    ∙ makes-full limits (sim_of feed core so_far) Quiet next (would-full core (would_log core MakeStep) Quiet (would-quiet core e f said) full)
+full-up most feed so_far core at (step ∷ rest) said within is below e f full =
     let limits : Limits = limits_of most core.origin in
-    let less = below-limit made most (has_any (steps (bus_now core))) within (ap has_any e) (sym is ∙ below) in
-    turn-made limits (sim_of core made) step rest less e
-    ∙ makes-full limits (sim_of core made) (Did step.label) (record { bus = step.bus; log = core.log; steps_made = made + 1; quiet = false }) (would-full core (would_log core MakeStep) (Did step.label) (would-did core step rest e) full)
+    let next : Sim = record { bus = step.bus; log = core.log; steps_made = so_far.steps + 1; quiet = false; left = drop so_far.inputs feed } in
+    let less = below-limit so_far.steps most (has_any (steps (bus_now core))) within (ap has_any e) (sym is ∙ below) in
+    turn-made limits (sim_of feed core so_far) step rest less e
+    ∙ makes-full limits (sim_of feed core so_far) (Did step.label) next (would-full core (would_log core MakeStep) (Did step.label) (would-did core step rest e) full)
 
-full-by : (most made : ℕ) (core : CoreState) (at down : Bool) → ends_quiet core.log ≡ false → made ≤ most → at ≡ (made == most && has_any (steps (bus_now core))) → at ≡ false →
-    (bus_now core).down ≡ down → is_full core MakeStep ≡ true → turn (limits_of most core.origin) (sim_of core made) ≡ Ends end.Events
-full-by most made core at true said within is below f full =
+full-by : (most : ℕ) (feed : List Input) (so_far : Progress) (core : CoreState) (at down : Bool) → ends_quiet core.log ≡ false → so_far.steps ≤ most → at ≡ (so_far.steps == most && has_any (steps (bus_now core))) → at ≡ false →
+    (bus_now core).down ≡ down → is_full core MakeStep ≡ true → turn (limits_of most core.origin) (sim_of feed core so_far) ≡ Ends end.Events
+full-by most feed so_far core at true said within is below f full =
     let room : is_full core MakeStep ≡ false = down-room core (bus_now core).down (ends_quiet core.log) (steps (bus_now core)) f in
     absurd (let both : true ≡ false = sym full ∙ room in cc)
-full-by most made core at false said within is below f full = full-up most made core at (steps (bus_now core)) said within is below refl f full
+full-by most feed so_far core at false said within is below f full = full-up most feed so_far core at (steps (bus_now core)) said within is below refl f full
 
-pub goes-full : (most made : ℕ) (old new : CoreState) (at : Bool) → ends_quiet old.log ≡ false → made ≤ most → at ≡ (made == most && has_any (steps (bus_now old))) → at ≡ false →
-    Stays old new → is_full old MakeStep ≡ true → Goes most old made new (turned.End end.Events)
-goes-full most made old new at said within is below stays full = goes-end most made old new end.Events stays (full-by most made old at (bus_now old).down said within is below refl full)
+pub goes-full : (most : ℕ) (feed : List Input) (so_far : Progress) (old new : CoreState) (at : Bool) → ends_quiet old.log ≡ false → IsWithin most feed so_far → at ≡ (so_far.steps == most && has_any (steps (bus_now old))) → at ≡ false →
+    Stays old new → is_full old MakeStep ≡ true → Goes most feed old so_far new (turned.End end.Events)
+goes-full most feed so_far old new at said within is below stays full =
+    goes-end most feed so_far old new end.Events stays (full-by most feed so_far old at (bus_now old).down said within.steps_made is below refl full)
 
 -- what was logged before memory ran out is a prefix of what the turns log
-left-after : (most made : ℕ) (old mid new : CoreState) → LedOn most old made mid made → Stays mid new → LeftWithin most old made new
-left-after most made old mid new p stays = record {
+left-after : (most : ℕ) (feed : List Input) (so_far : Progress) (old mid new : CoreState) → LedOn most feed old so_far mid so_far → Stays mid new → LeftWithin most feed old so_far new
+left-after most feed so_far old mid new p stays = record {
   origin = stays.origin ∙ p.origin;
   stopped = stays.stopped ∙ p.running;
   entries = p.entries;
   log = stays.log ∙ p.log;
-  prefix = leads-so_far (limits_of most old.origin) (sim_of old made) (sim_of mid made) p.entries p.turns;
+  prefix = leads-so_far (limits_of most old.origin) (sim_of feed old so_far) (sim_of feed mid so_far) p.entries p.turns;
 }
 
-pub left-quiet : (most made : ℕ) (old mid new : CoreState) → ends_quiet old.log ≡ false → IsStep old stepped.Quiet → Logs old mid (entries_of old MakeStep) → is_full old MakeStep ≡ false → Stays mid new → LeftWithin most old made new
-left-quiet most made old mid new said found logs room stays = left-after most made old mid new (led-said most made old mid said found logs room).0 stays
+pub left-quiet : (most : ℕ) (feed : List Input) (so_far : Progress) (old mid new : CoreState) → ends_quiet old.log ≡ false → IsStep old stepped.Quiet → Logs old mid (entries_of old MakeStep) → is_full old MakeStep ≡ false → Stays mid new → LeftWithin most feed old so_far new
+left-quiet most feed so_far old mid new said found logs room stays = left-after most feed so_far old mid new (led-said most feed so_far old mid said found logs room).0 stays
+
+-- how far a simulation has come as it begins
+abbrev pub begun : Progress
+begun = record { steps = 0; inputs = 0 }
 
 -- a simulation begins where the core was started
-start-sim : (core : CoreState) → core.log ≡ [] → sim_of core 0 ≡ sim_start (start core.origin)
+start-sim : (feed : List Input) (core : CoreState) → core.log ≡ [] → sim_of feed core begun ≡ sim_start (start core.origin) feed
 unfolding sim_of bus_now
-start-sim core e = ap (λ (log : List Entry). let s : Sim = record { bus = replay (start core.origin) log; log = log; steps_made = 0; quiet = ends_quiet log } in s) e
+start-sim feed core e = ap (λ (log : List Entry). let s : Sim = record { bus = replay (start core.origin) log; log = log; steps_made = 0; quiet = ends_quiet log; left = feed } in s) e
 
 -- at the end, the log is the simulated one
-pub led-ends : (most : ℕ) (a b c : CoreState) (n : ℕ) (last : SimEnd) → a.log ≡ [] → LedOn most a 0 b n → Goes most b n c (turned.End last) → IsSim (limits_of most a.origin) (sim_start (start a.origin)) c.log last
-led-ends most a b c n last e p q =
-    let led = led-on most a b c 0 n n p q.0 in
+pub led-ends : (most : ℕ) (feed : List Input) (a b c : CoreState) (n : Progress) (last : SimEnd) → a.log ≡ [] → LedOn most feed a begun b n → Goes most feed b n c (turned.End last) →
+    IsSim (limits_of most a.origin) (sim_start (start a.origin) feed) c.log last
+led-ends most feed a b c n last e p q =
+    let led = led-on most feed a b c begun n n p q.0 in
     let limits : Limits = limits_of most a.origin in
-    let ends : turn limits (sim_of c n) ≡ Ends last = subst (λ (o : Origin). turn (limits_of most o) (sim_of c n) ≡ Ends last) p.origin q.1 in
+    let ends : turn limits (sim_of feed c n) ≡ Ends last = subst (λ (o : Origin). turn (limits_of most o) (sim_of feed c n) ≡ Ends last) p.origin q.1 in
     let whole : c.log ≡ led.entries = led.log ∙ ap (λ (log : List Entry). log ++ led.entries) e in
-    subst (λ (log : List Entry). IsSim limits (sim_start (start a.origin)) log last) (sym whole)
-    (subst (λ (s : Sim). IsSim limits s led.entries last) (start-sim a e) (leads-ends limits (sim_of a 0) (sim_of c n) led.entries last led.turns ends))
+    subst (λ (log : List Entry). IsSim limits (sim_start (start a.origin) feed) log last) (sym whole)
+    (subst (λ (s : Sim). IsSim limits s led.entries last) (start-sim feed a e) (leads-ends limits (sim_of feed a begun) (sim_of feed c n) led.entries last led.turns ends))
 
 -- where memory ran out, it is a prefix of it
-pub led-left : (most : ℕ) (a b c : CoreState) (n : ℕ) → a.log ≡ [] → LedOn most a 0 b n → LeftWithin most b n c → IsSimPrefix (limits_of most a.origin) (sim_start (start a.origin)) c.log
-led-left most a b c n e p q =
+pub led-left : (most : ℕ) (feed : List Input) (a b c : CoreState) (n : Progress) → a.log ≡ [] → LedOn most feed a begun b n → LeftWithin most feed b n c → IsSimPrefix (limits_of most a.origin) (sim_start (start a.origin) feed) c.log
+led-left most feed a b c n e p q =
     let limits : Limits = limits_of most a.origin in
-    let prefix : IsSimPrefix limits (sim_of b n) q.entries = subst (λ (o : Origin). IsSimPrefix (limits_of most o) (sim_of b n) q.entries) p.origin q.prefix in
+    let prefix : IsSimPrefix limits (sim_of feed b n) q.entries = subst (λ (o : Origin). IsSimPrefix (limits_of most o) (sim_of feed b n) q.entries) p.origin q.prefix in
     let whole : c.log ≡ p.entries ++ q.entries = q.log ∙ ap (λ (log : List Entry). log ++ q.entries) (p.log ∙ ap (λ (log : List Entry). log ++ p.entries) e) in
-    subst (λ (log : List Entry). IsSimPrefix limits (sim_start (start a.origin)) log) (sym whole)
-    (subst (λ (s : Sim). IsSimPrefix limits s (p.entries ++ q.entries)) (start-sim a e) (leads-prefix limits (sim_of a 0) (sim_of b n) p.entries q.entries p.turns prefix))
+    subst (λ (log : List Entry). IsSimPrefix limits (sim_start (start a.origin) feed) log) (sym whole)
+    (subst (λ (s : Sim). IsSimPrefix limits s (p.entries ++ q.entries)) (start-sim feed a e) (leads-prefix limits (sim_of feed a begun) (sim_of feed b n) p.entries q.entries p.turns prefix))

@@ -4,13 +4,13 @@ use Rattle.std.proofs.lemmas.Bool.{le-leb, lt-leb, cond-true, cond-false}
 use Rattle.tb_bus.specs.Buses.{Bus, Proc}
 use Rattle.tb_bus.specs.Steps.{Move, Own, Handshake, Finish, Halt, Step, moves, moves_while_up, moves_or_halt, moves_of_all, steps, step_of, apply}
 use Rattle.tb_bus.specs.Traces.{fed, took, Answer}
-use Rattle.tb_sim.specs.Simulation.{Limits, Sim, Turn, Ends, Makes, turn, step_turn, quiet_turn, makes}
+use Rattle.tb_sim.specs.Simulation.{Limits, Sim, Turn, Ends, Makes, turn, step_turn, quiet_turn, outside_turn, makes}
 use Rattle.tb_log.specs.Limits.{has_room}
 use Rattle.tb_log.specs.declared.entry.Input.TheVariants.{NoTicks}
 use Rattle.tb_log.specs.declared.entry.Reply.TheVariants.{Dropped}
 use Rattle.tb_log.specs.declared.entry.Why.TheVariants as why
 use Rattle.tb_log.specs.declared.entry.Entry.{Entry}
-use Rattle.tb_log.specs.declared.entry.Entry.TheVariants.{Did, Quiet, Fed}
+use Rattle.tb_log.specs.declared.entry.Entry.TheVariants.{Did, Quiet}
 use Rattle.tb_sim.specs.declared.ends.SimEnd.TheVariants as end
 
 -- a bus with a step is up
@@ -54,19 +54,15 @@ pub turn-made : (limits : Limits) (sim : Sim) (step : Step) (rest : List Step) �
 turn-made limits sim step rest less e =
     turn-first limits sim step rest e ∙ cond-false (nat_le limits.steps sim.steps_made) (Ends end.Steps) (made_turn limits sim step) (lt-leb limits.steps sim.steps_made less)
 
--- the turn that hands in that no more ticks come
-abbrev pub told_turn : Limits → Sim → Turn
-told_turn limits sim = makes limits sim (Fed NoTicks (fed sim.bus NoTicks).reply) (record sim { bus = (fed sim.bus NoTicks).bus; quiet = false })
-
--- where no step is possible it says quiet, and then hands in that no more ticks come
+-- where no step is possible it says quiet, and then hands in what comes next from outside
 pub turn-quiet : (limits : Limits) (sim : Sim) → steps sim.bus ≡ [] → sim.bus.down ≡ false → turn limits sim ≡ quiet_turn limits sim
 turn-quiet limits sim e f = turn-up limits sim f ∙ ap (step_turn limits sim) e
 
 pub turn-says-quiet : (limits : Limits) (sim : Sim) → steps sim.bus ≡ [] → sim.bus.down ≡ false → sim.quiet ≡ false → turn limits sim ≡ makes limits sim Quiet (record sim { quiet = true })
-turn-says-quiet limits sim e f q = turn-quiet limits sim e f ∙ cond-false sim.quiet (told_turn limits sim) (makes limits sim Quiet (record sim { quiet = true })) q
+turn-says-quiet limits sim e f q = turn-quiet limits sim e f ∙ cond-false sim.quiet (outside_turn limits sim sim.left) (makes limits sim Quiet (record sim { quiet = true })) q
 
-pub turn-ends-ticks : (limits : Limits) (sim : Sim) → steps sim.bus ≡ [] → sim.bus.down ≡ false → sim.quiet ≡ true → turn limits sim ≡ told_turn limits sim
-turn-ends-ticks limits sim e f q = turn-quiet limits sim e f ∙ cond-true sim.quiet (told_turn limits sim) (makes limits sim Quiet (record sim { quiet = true })) q
+pub turn-outside : (limits : Limits) (sim : Sim) → steps sim.bus ≡ [] → sim.bus.down ≡ false → sim.quiet ≡ true → turn limits sim ≡ outside_turn limits sim sim.left
+turn-outside limits sim e f q = turn-quiet limits sim e f ∙ cond-true sim.quiet (outside_turn limits sim sim.left) (makes limits sim Quiet (record sim { quiet = true })) q
 
 -- no step changes whether more ticks come
 apply-no_ticks : (bus : Bus) (move : Move) → (apply bus move).no_ticks ≡ bus.no_ticks

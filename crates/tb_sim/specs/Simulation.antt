@@ -1,10 +1,11 @@
--- The simulation of a bus: turn after turn, always the first of the steps.
+-- The simulation of a bus and a feed: turn after turn, always the first of the steps.
 use Rattle.std.specs.Prelude.{◌≡◌, ℕ, ◌+◌, nat_le, List, [], ◌∷◌, ◌++◌, Bool, true, false, if◌then◌else◌, ⊤}
 use Rattle.tb_bus.specs.declared.origin.Origin.{Origin}
 use Rattle.tb_bus.specs.Buses.{Bus}
 use Rattle.tb_bus.specs.Steps.{Step, steps}
 use Rattle.tb_bus.specs.Traces.{fed}
 use Rattle.tb_log.specs.Limits.{has_room}
+use Rattle.tb_log.specs.declared.entry.Input.{Input}
 use Rattle.tb_log.specs.declared.entry.Input.TheVariants.{NoTicks}
 use Rattle.tb_log.specs.declared.entry.Entry.{Entry}
 use Rattle.tb_log.specs.declared.entry.Entry.TheVariants.{Did, Quiet, Fed}
@@ -20,12 +21,13 @@ pub record Limits : Type 0 where
 abbrev pub limits_of : ℕ → Origin → Limits
 limits_of steps origin = record { steps = steps; entries = origin.limit }
 
--- where a simulation stands: its bus, its log, how many steps it has made, and whether it has just said quiet
+-- where a simulation stands: its bus, its log, how many steps it has made, whether it has just said quiet, and what is left of its feed
 pub record Sim : Type 0 where
   pub bus : Bus
   pub log : List Entry
   pub steps_made : ℕ
   pub quiet : Bool
+  pub left : List Input
 
 -- what one turn does: it ends the simulation, or it logs an entry and goes on
 pub data Turn : Type 0 where
@@ -36,11 +38,21 @@ pub data Turn : Type 0 where
 abbrev pub makes : Limits → Sim → Entry → Sim → Turn
 makes limits sim entry next = if has_room limits.entries sim.log entry then Makes entry (record next { log = sim.log ++ entry ∷ [] }) else Ends Events
 
--- it says quiet, and hands in what comes next from outside: here, that no more ticks come
+-- it hands in an input, and this is left of the feed then
+abbrev pub input_turn : Limits → Sim → Input → List Input → Turn
+input_turn limits sim input left =
+    makes limits sim (Fed input (fed sim.bus input).reply) (record sim { bus = (fed sim.bus input).bus; quiet = false; left = left })
+
+-- it hands in the first that is left of the feed, or that no more ticks come where nothing is
+abbrev pub outside_turn : Limits → Sim → List Input → Turn
+outside_turn limits sim [] = input_turn limits sim NoTicks []
+outside_turn limits sim (input ∷ left) = input_turn limits sim input left
+
+-- where no step is possible, it says quiet, and then hands in what comes next from outside
 abbrev pub quiet_turn : Limits → Sim → Turn
 quiet_turn limits sim =
     if sim.quiet
-    then makes limits sim (Fed NoTicks (fed sim.bus NoTicks).reply) (record sim { bus = (fed sim.bus NoTicks).bus; quiet = false })
+    then outside_turn limits sim sim.left
     else makes limits sim Quiet (record sim { quiet = true })
 
 -- where a step is possible, it ends where the limit of steps is reached, and else makes the first
@@ -60,9 +72,9 @@ abbrev pub IsSim : Limits → Sim → List Entry → SimEnd → Type 0
 IsSim limits sim [] end = turn limits sim ≡ Ends end
 IsSim limits sim (entry ∷ log) end = (next : Sim) × (turn limits sim ≡ Makes entry next) × IsSim limits next log end
 
--- a simulation begins with an empty log, and no steps made
-abbrev pub sim_start : Bus → Sim
-sim_start bus = record { bus = bus; log = []; steps_made = 0; quiet = false }
+-- a simulation begins with an empty log, no steps made, and all of its feed
+abbrev pub sim_start : Bus → List Input → Sim
+sim_start bus feed = record { bus = bus; log = []; steps_made = 0; quiet = false; left = feed }
 
 -- Turn after turn the simulation makes this log, and may go on.
 abbrev pub IsSimPrefix : Limits → Sim → List Entry → Type 0

@@ -1,9 +1,11 @@
 -- How the code goes through a simulation: one or two turns at a time.
-use Rattle.std.specs.Prelude.{◌≡◌, ℕ, ◌+◌, ◌<◌, List, [], ◌∷◌, ◌++◌, true, false}
+use Rattle.std.specs.Prelude.{◌≡◌, ℕ, ◌+◌, ◌-◌, ◌<◌, ◌≤◌, List, [], ◌∷◌, ◌++◌, length, drop, true, false, Bool, if◌then◌else◌}
+use Rattle.tb_log.specs.declared.entry.Input.{Input}
 use Rattle.tb_log.specs.declared.entry.Input.TheVariants.{NoTicks}
 use Rattle.tb_log.specs.declared.entry.Entry.{Entry}
 use Rattle.tb_core.specs.Cores.{CoreState, HandIn, bus_now, ends_quiet, entries_of, is_full, Logs, Stays}
 use Rattle.tb_sim.specs.Simulation.{Limits, Sim, Ends, Makes, turn, limits_of, IsSimPrefix}
+use Rattle.tb_sim.specs.declared.ends.Progress.{Progress}
 use Rattle.tb_sim.specs.declared.ends.SimEnd.TheVariants as end
 use Rattle.tb_sim.specs.declared.ends.Turned.{Turned}
 use Rattle.tb_sim.specs.declared.ends.Turned.TheVariants as turned
@@ -13,36 +15,53 @@ abbrev pub SimLeads : Limits → Sim → List Entry → Sim → Type 0
 SimLeads limits sim [] end = end ≡ sim
 SimLeads limits sim (entry ∷ log) end = (next : Sim) × (turn limits sim ≡ Makes entry next) × SimLeads limits next log end
 
--- where a simulation of a core stands after so many steps
-unfoldable pub sim_of : CoreState → ℕ → Sim
-sim_of core made = record { bus = bus_now core; log = core.log; steps_made = made; quiet = ends_quiet core.log }
+-- where a simulation of a core and a feed stands that has come so far
+unfoldable pub sim_of : List Input → CoreState → Progress → Sim
+sim_of feed core so_far = record { bus = bus_now core; log = core.log; steps_made = so_far.steps; quiet = ends_quiet core.log; left = drop so_far.inputs feed }
 
 -- a core that was led on by turns of the simulation
-pub record LedOn (steps : ℕ) (old : CoreState) (made : ℕ) (new : CoreState) (next : ℕ) : Type 0 where
+pub record LedOn (steps : ℕ) (feed : List Input) (old : CoreState) (so_far : Progress) (new : CoreState) (next : Progress) : Type 0 where
   pub origin : new.origin ≡ old.origin
   pub running : new.stopped ≡ old.stopped
   pub entries : List Entry
   pub log : new.log ≡ old.log ++ entries
-  pub turns : SimLeads (limits_of steps old.origin) (sim_of old made) entries (sim_of new next)
+  pub turns : SimLeads (limits_of steps old.origin) (sim_of feed old so_far) entries (sim_of feed new next)
 
 -- a core that ran out of memory within the turns
-pub record LeftWithin (steps : ℕ) (old : CoreState) (made : ℕ) (new : CoreState) : Type 0 where
+pub record LeftWithin (steps : ℕ) (feed : List Input) (old : CoreState) (so_far : Progress) (new : CoreState) : Type 0 where
   pub origin : new.origin ≡ old.origin
   pub stopped : new.stopped ≡ old.stopped
   pub entries : List Entry
   pub log : new.log ≡ old.log ++ entries
-  pub prefix : IsSimPrefix (limits_of steps old.origin) (sim_of old made) entries
+  pub prefix : IsSimPrefix (limits_of steps old.origin) (sim_of feed old so_far) entries
 
--- What became of the word that no more ticks come: it was logged, or the log had no room for it.
-abbrev pub EndsTicks : CoreState → CoreState → Turned → Type 0
-EndsTicks old new turned.Quiet = Logs old new (entries_of old (HandIn NoTicks)) × (is_full old (HandIn NoTicks) ≡ false)
-EndsTicks old new (turned.End end.Events) = Stays old new × (is_full old (HandIn NoTicks) ≡ true)
-EndsTicks old new (turned.End end.Down) = ⊥
-EndsTicks old new (turned.End end.Steps) = ⊥
-EndsTicks old new turned.Step = ⊥
+-- the word that no more ticks come, where it may still be handed in
+abbrev pub word_left : Bool → ℕ
+word_left no_ticks = if no_ticks then 0 else 1
 
--- What one go did: it made a step; it said quiet and handed in that no more ticks come; or it is the end, perhaps once it said quiet.
-abbrev pub Goes : ℕ → CoreState → ℕ → CoreState → Turned → Type 0
-Goes steps old made new turned.Step = LedOn steps old made new (made + 1) × (made < steps) × (ends_quiet new.log ≡ false) × ((bus_now new).no_ticks ≡ (bus_now old).no_ticks)
-Goes steps old made new turned.Quiet = LedOn steps old made new made × (ends_quiet new.log ≡ false) × ((bus_now old).no_ticks ≡ false) × ((bus_now new).no_ticks ≡ true)
-Goes steps old made new (turned.End end) = LedOn steps old made new made × (turn (limits_of steps old.origin) (sim_of new made) ≡ Ends end)
+-- what a simulation may still do: the steps, the inputs, and that word
+abbrev pub still_left : ℕ → List Input → CoreState → Progress → ℕ
+still_left steps feed core so_far = (steps - so_far.steps) + (length feed - so_far.inputs) + word_left (bus_now core).no_ticks
+
+-- it has come no further than it may
+pub record IsWithin (steps : ℕ) (feed : List Input) (so_far : Progress) : Type 0 where
+  pub steps_made : so_far.steps ≤ steps
+  pub inputs_fed : so_far.inputs ≤ length feed
+
+-- What became of an input that was handed in: it was logged, or the log had no room for it.
+abbrev pub HandsIn : Input → Progress → CoreState → CoreState → Turned → Type 0
+HandsIn input next old new (turned.On progress) = (progress ≡ next) × Logs old new (entries_of old (HandIn input)) × (is_full old (HandIn input) ≡ false)
+HandsIn input next old new (turned.End end.Events) = Stays old new × (is_full old (HandIn input) ≡ true)
+HandsIn input next old new (turned.End end.Down) = ⊥
+HandsIn input next old new (turned.End end.Steps) = ⊥
+
+-- What became of the first of these, or, where there is none, of the word that no more ticks come.
+abbrev pub HandsInNext : List Input → Progress → CoreState → CoreState → Turned → Type 0
+HandsInNext [] so_far old new turned = HandsIn NoTicks so_far old new turned
+HandsInNext (input ∷ left) so_far old new turned = HandsIn input (record so_far { inputs = so_far.inputs + 1 }) old new turned
+
+-- What one go did: it went on, by a step, or by saying quiet and handing in what comes next from outside; or it is the end, perhaps once it said quiet.
+abbrev pub Goes : ℕ → List Input → CoreState → Progress → CoreState → Turned → Type 0
+Goes steps feed old so_far new (turned.On next) =
+    LedOn steps feed old so_far new next × IsWithin steps feed next × (ends_quiet new.log ≡ false) × (still_left steps feed new next < still_left steps feed old so_far)
+Goes steps feed old so_far new (turned.End end) = LedOn steps feed old so_far new so_far × (turn (limits_of steps old.origin) (sim_of feed new so_far) ≡ Ends end)

@@ -9,10 +9,17 @@ pub enum SimEnd {
     Events,
 }
 
+/// How far a simulation has come: how many steps it has made, and how many inputs of its feed it has handed in.
+#[derive(Clone, Copy, Debug)]
+pub struct Progress {
+    pub steps: u64,
+    pub inputs: usize,
+}
+
 /// What one go of a simulation did.
 #[derive(Clone, Copy, Debug)]
 pub enum Turned {
-    Step,
-    Quiet,
+    /// It has come so far.
+    On(Progress),
     End(SimEnd),
 }

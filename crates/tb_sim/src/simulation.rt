@@ -1,13 +1,15 @@
-ghost use Rattle.std.specs.Prelude.{◌≡◌, ◌&&◌, ◌==◌, ◌≤◌, [], IfOk, OnOk, OnErr, IsErrOf, false};
+ghost use Rattle.std.specs.Prelude.{◌≡◌, ◌&&◌, ◌==◌, ◌≤◌, [], drop, IfOk, OnOk, OnErr, IsErrOf, false};
 ghost use Rattle.tb_bus.specs.Buses.{start};
 ghost use Rattle.tb_bus.specs.Steps.{steps as steps_of};
+ghost use Rattle.tb_bus.specs.Traces.{IsInForm};
 ghost use Rattle.tb_core.specs.Cores.{bus_now, has_any, ends_quiet, Stays};
 ghost use Rattle.tb_sim.specs.Simulation.{IsSim, IsSimPrefix, limits_of, sim_start};
-ghost use Rattle.tb_sim.specs.Turns.{EndsTicks, Goes, LeftWithin};
+ghost use Rattle.tb_sim.specs.Turns.{HandsIn, HandsInNext, Goes, IsWithin, LeftWithin};
 
-use crate::ends::{SimEnd, Turned};
+use crate::ends::{Progress, SimEnd, Turned};
 use tb_algebra::Walker;
 use tb_core::{Core, CoreFault, Stepped};
+use tb_feed::Feed;
 use tb_log::Input;
 use tb_terms::NoMemory;
 
@@ -22,55 +24,95 @@ fn is_at_limit<W: Walker>(core: &mut Core<W>, made: u64, steps: u64) -> Result<b
     core.has_step()
 }
 
-/// Makes a step, or says quiet and hands in that no more ticks come, or sees the end.
-fn go<W: Walker>(core: &mut Core<W>, made: u64, steps: u64) -> Result<Turned, NoMemory>
-    requires within { made ≤ steps }
+/// Makes a step, or says quiet and hands in what comes next from outside, or sees the end.
+fn go<W: Walker>(
+    core: &mut Core<W>,
+    feed: &Feed,
+    steps: u64,
+    so_far: Progress,
+) -> Result<Turned, NoMemory>
+    requires within { IsWithin steps feed.now so_far }
     requires running { core.old.stopped ≡ false }
     requires said { ends_quiet core.old.log ≡ false }
-    ensures ok { IfOk result (Goes steps core.old made core.new) }
-    ensures err { OnErr result (LeftWithin steps core.old made core.new) }
+    ensures ok { IfOk result (Goes steps feed.now core.old so_far core.new) }
+    ensures err { OnErr result (LeftWithin steps feed.now core.old so_far core.new) }
 {
-    if is_at_limit(core, made, steps)? {
+    if is_at_limit(core, so_far.steps, steps)? {
         return Ok(Turned::End(SimEnd::Steps));
     }
     match core.step() {
-        Ok(Stepped::Did) => Ok(Turned::Step),
+        Ok(Stepped::Did) => Ok(Turned::On(Progress {
+            steps: so_far.steps + 1,
+            inputs: so_far.inputs,
+        })),
         Ok(Stepped::Down) => Ok(Turned::End(SimEnd::Down)),
-        Ok(Stepped::Quiet) => end_ticks(core),
+        Ok(Stepped::Quiet) => hand_in_next(core, feed, so_far),
         Err(CoreFault::Full) => Ok(Turned::End(SimEnd::Events)),
         Err(CoreFault::NoMemory | CoreFault::Stopped) => Err(NoMemory),
     }
 }
 
-/// Hands in that no more ticks come.
-fn end_ticks<W: Walker>(core: &mut Core<W>) -> Result<Turned, NoMemory>
+/// Hands in the next of the feed, or that no more ticks come where none is left.
+fn hand_in_next<W: Walker>(
+    core: &mut Core<W>,
+    feed: &Feed,
+    so_far: Progress,
+) -> Result<Turned, NoMemory>
     requires { core.old.stopped ≡ false }
-    ensures ok { IfOk result (EndsTicks core.old core.new) }
+    ensures ok { IfOk result (HandsInNext (drop so_far.inputs feed.now) so_far core.old core.new) }
     ensures err { OnErr result (Stays core.old core.new) }
 {
-    match core.hand_in(Input::NoTicks) {
-        Ok(_) => Ok(Turned::Quiet),
+    if so_far.inputs >= feed.len() {
+        return hand_in(core, Input::NoTicks, so_far);
+    }
+    let input = feed.input(so_far.inputs)?;
+    let next = Progress {
+        steps: so_far.steps,
+        inputs: so_far.inputs + 1,
+    };
+    hand_in(core, input, next)
+}
+
+/// Hands in an input, and has come so far then.
+fn hand_in<W: Walker>(
+    core: &mut Core<W>,
+    input: Input,
+    next: Progress,
+) -> Result<Turned, NoMemory>
+    requires running { core.old.stopped ≡ false }
+    requires in_form { IsInForm input }
+    ensures ok { IfOk result (HandsIn input next core.old core.new) }
+    ensures err { OnErr result (Stays core.old core.new) }
+{
+    match core.hand_in(input) {
+        Ok(_) => Ok(Turned::On(next)),
         Err(CoreFault::Full) => Ok(Turned::End(SimEnd::Events)),
         Err(CoreFault::NoMemory | CoreFault::Stopped) => Err(NoMemory),
     }
 }
 
-/// Runs a core to its end, always by the first of the steps, and makes at most this many. The end is `Events`
-/// where its log has no room for the next entry. After an `Err` the log is a prefix of the one that the simulation
-/// makes.
-pub fn simulate<W: Walker>(core: &mut Core<W>, steps: u64) -> Result<SimEnd, NoMemory>
+/// Runs a core to its end, always by the first of the steps, and makes at most this many. Where none is possible, the
+/// next of the feed is handed in, and behind its last that no more ticks come. The end is `Events` where its log has
+/// no room for the next entry. After an `Err` the log is a prefix of the one that the simulation makes.
+pub fn simulate<W: Walker>(
+    core: &mut Core<W>,
+    feed: &Feed,
+    steps: u64,
+) -> Result<SimEnd, NoMemory>
     requires fresh { core.old.log ≡ [] }
     requires running { core.old.stopped ≡ false }
     ensures origin { core.new.origin ≡ core.old.origin }
     ensures still_running { core.new.stopped ≡ false }
-    ensures ok { IfOk result (IsSim (limits_of steps core.old.origin) (sim_start (start core.old.origin)) core.new.log) }
-    ensures err { OnErr result (IsSimPrefix (limits_of steps core.old.origin) (sim_start (start core.old.origin)) core.new.log) }
+    ensures ok { IfOk result (IsSim (limits_of steps core.old.origin) (sim_start (start core.old.origin) feed.now) core.new.log) }
+    ensures err { OnErr result (IsSimPrefix (limits_of steps core.old.origin) (sim_start (start core.old.origin) feed.now) core.new.log) }
 {
-    let mut made = 0;
+    let mut so_far = Progress {
+        steps: 0,
+        inputs: 0,
+    };
     loop {
-        match go(core, made, steps) {
-            Ok(Turned::Step) => made += 1,
-            Ok(Turned::Quiet) => {}
+        match go(core, feed, steps, so_far) {
+            Ok(Turned::On(next)) => so_far = next,
             Ok(Turned::End(end)) => return Ok(end),
             Err(fault) => return Err(fault),
         }

@@ -3,42 +3,39 @@ use Rattle.tb_log.specs.declared.entry.Entry.{Entry}
 use Rattle.tb_core.specs.Cores.{ends_quiet}
 use Rattle.tb_sim.specs.Turns.{Goes}
 use Rattle.tb_sim.specs.declared.ends.Turned.TheVariants as turned
-use Rattle.tb_sim.proofs.SimLemmas.{led-nothing, led-on, led-ends, led-left}
+use Rattle.tb_sim.proofs.SimLemmas.{begun, led-nothing, led-on, led-ends, led-left}
 use Rattle.tb_sim.proofs.simulation.simulate.Goals as goal
 
-pub loop-made-init : goal.loop-made-init
-loop-made-init g c = record {
-  led = led-nothing c.args.steps 0 c.args.core.now;
-  within = omega arith;
+pub loop-next-init : goal.loop-next-init
+loop-next-init g c = record {
+  led = led-nothing c.args.steps c.args.feed.now begun c.args.core.now;
+  within = record { steps_made = omega arith; inputs_fed = omega arith };
   said = ap (λ (log : List Entry). ends_quiet log) c.requires.fresh;
 }
 
-pub loop-made-preserved-in-Ok-Step : goal.loop-made-preserved-in-Ok-Step
-loop-made-preserved-in-Ok-Step g c =
-    let made = c.loop-made.made in
-    let gone : Goes c.args.steps c.loop-made.core made c.go.new.core turned.Step = rw c.in-Ok-Step.field-0-is at c.in-Ok-Step.ensures.ok in
+pub loop-next-preserved : goal.loop-next-preserved
+loop-next-preserved g c =
+    let so_far = c.loop-next.so_far in
+    let next = c.in-Ok-On.next in
+    let gone : Goes c.args.steps c.args.feed.now c.loop-next.core so_far c.go.new.core (turned.On next) = rw c.in-Ok-On.field-0-is at c.in-Ok-On.ensures.ok in
     record {
-      led = led-on c.args.steps c.args.core.now c.loop-made.core c.go.new.core 0 made (made + 1) c.loop-made.invariant.led gone.0;
-      within = omega (arith, gone.1);
+      led = led-on c.args.steps c.args.feed.now c.args.core.now c.loop-next.core c.go.new.core begun so_far next c.loop-next.invariant.led gone.0;
+      within = gone.1;
       said = gone.2;
     }
 
-pub loop-made-preserved : goal.loop-made-preserved
-loop-made-preserved g c =
-    let made = c.loop-made.made in
-    let gone : Goes c.args.steps c.loop-made.core made c.go.new.core turned.Quiet = rw c.in-Ok-Quiet.field-0-is at c.in-Ok-Quiet.ensures.ok in
-    record {
-      led = led-on c.args.steps c.args.core.now c.loop-made.core c.go.new.core 0 made made c.loop-made.invariant.led gone.0;
-      within = c.loop-made.invariant.within;
-      said = gone.1;
-    }
+pub loop-next-smaller : goal.loop-next-smaller
+loop-next-smaller g c =
+    let so_far = c.loop-next.so_far in
+    let gone : Goes c.args.steps c.args.feed.now c.loop-next.core so_far c.go.new.core (turned.On c.in-Ok-On.next) = rw c.in-Ok-On.field-0-is at c.in-Ok-On.ensures.ok in
+    gone.3
 
 pub returns-in-Ok-End-clause-ok : goal.returns-in-Ok-End-clause-ok
 returns-in-Ok-End-clause-ok g c =
-    let made = c.loop-made.made in
-    let gone : Goes c.args.steps c.loop-made.core made c.go.new.core (turned.End c.in-Ok-End.end) = rw c.in-Ok-End.field-0-is at c.in-Ok-End.ensures.ok in
-    led-ends c.args.steps c.args.core.now c.loop-made.core c.go.new.core made c.in-Ok-End.end c.requires.fresh c.loop-made.invariant.led gone
+    let so_far = c.loop-next.so_far in
+    let gone : Goes c.args.steps c.args.feed.now c.loop-next.core so_far c.go.new.core (turned.End c.in-Ok-End.end) = rw c.in-Ok-End.field-0-is at c.in-Ok-End.ensures.ok in
+    led-ends c.args.steps c.args.feed.now c.args.core.now c.loop-next.core c.go.new.core so_far c.in-Ok-End.end c.requires.fresh c.loop-next.invariant.led gone
 
 pub returns-in-Err-clause-err : goal.returns-in-Err-clause-err
 returns-in-Err-clause-err g c =
-    led-left c.args.steps c.args.core.now c.loop-made.core c.go.new.core c.loop-made.made c.requires.fresh c.loop-made.invariant.led c.in-Err.ensures.err
+    led-left c.args.steps c.args.feed.now c.args.core.now c.loop-next.core c.go.new.core c.loop-next.so_far c.requires.fresh c.loop-next.invariant.led c.in-Err.ensures.err

@@ -1,0 +1,54 @@
+-- What a text of lines says that comes to a bus from outside: an input for each line that isn't empty.
+use Rattle.std.specs.Prelude.{◌≡◌, ◌≢◌, ◌==◌, ℕ, ◌+◌, Bool, true, false, List, [], ◌∷◌, ◌++◌, length, filter, codes, ⊤}
+use Rattle.std.specs.List.{AllZip, slice_split}
+use Rattle.tb_bus.specs.Traces.{IsInForm}
+use Rattle.tb_log.specs.declared.entry.Input.{Input}
+use Rattle.tb_log.specs.declared.entry.Input.TheVariants.{Tick, NoTicks}
+use Rattle.tb_feed.specs.declared.fault.FeedFault.{FeedFault}
+use Rattle.tb_feed.specs.declared.fault.FeedFault.TheVariants.{Line, TooLong, NoMemory}
+
+-- an input that may stand in a feed: it is in form, and isn't that no more ticks come
+abbrev pub MayBeFed : Input → Type 0
+MayBeFed input = IsInForm input × (input ≢ NoTicks)
+
+-- the lines of a text without their newlines, byte 10; what stands behind the last newline is the last line
+abbrev pub lines_of : List ℕ → List (List ℕ)
+lines_of text = slice_split (λ byte. byte == 10) text
+
+-- A line says an input: one case for each input.
+abbrev pub Says : List ℕ → Input → Type 0
+Says line Tick = line ≡ codes "tick"
+-- no line says that no more ticks come
+Says line NoTicks = ⊥
+
+abbrev pub is_full : List ℕ → Bool
+is_full [] = false
+is_full (byte ∷ line) = true
+
+-- The lines say these inputs, one each, in order; those that are empty say nothing.
+abbrev pub SayAll : List (List ℕ) → List Input → Type 0
+SayAll lines inputs = AllZip Says (filter is_full lines) inputs
+
+-- a text is this feed
+abbrev pub IsFeedOf : List ℕ → List Input → Type 0
+IsFeedOf text inputs = SayAll (lines_of text) inputs
+
+-- The line of this number, from 1, isn't empty and says no input, and those before it are fine.
+pub record IsFirstBad (text : List ℕ) (number : ℕ) : Type 0 where
+  pub before : List (List ℕ)
+  pub line : List ℕ
+  pub after : List (List ℕ)
+  pub are_lines : lines_of text ≡ before ++ line ∷ after
+  pub number_is : number ≡ length before + 1
+  pub inputs : List Input
+  pub fine : SayAll before inputs
+  pub full : is_full line ≡ true
+  pub bad : (input : Input) → Says line input → ⊥
+
+-- What a fault says of a text.
+abbrev pub IsFaultOf : List ℕ → FeedFault → Type 0
+IsFaultOf text (Line number) = IsFirstBad text number
+-- how long a text may be is not told here
+IsFaultOf text (TooLong len) = ⊥
+-- want of memory is no fault of the text
+IsFaultOf text NoMemory = ⊤

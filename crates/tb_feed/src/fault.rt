@@ -1,0 +1,46 @@
+use std::alloc::{AllocError, AllocFailed};
+use tb_terms::NoMemory;
+
+/// Why a text is no feed.
+#[derive(Clone, Copy, Debug, PartialEq, Eq)]
+pub enum FeedFault {
+    /// The line of this number, from 1, isn't empty and says no input; it is the first such.
+    Line(u64),
+    /// The text has so many bytes, too many. Who reads the file tells this, and no call of this crate does.
+    TooLong(usize),
+    /// Memory ran out; it says nothing of the text.
+    NoMemory,
+}
+
+impl From<NoMemory> for FeedFault {
+    ghost use Rattle.std.specs.Prelude.{◌≡◌};
+    ghost use Rattle.tb_feed.specs.declared.fault.FeedFault.TheVariants.{NoMemory};
+
+    ghost from_gives = { λ _ fault. fault ≡ NoMemory };
+
+    fn from(_refused: NoMemory) -> FeedFault {
+        FeedFault::NoMemory
+    }
+}
+
+impl From<AllocError> for FeedFault {
+    ghost use Rattle.std.specs.Prelude.{◌≡◌};
+    ghost use Rattle.tb_feed.specs.declared.fault.FeedFault.TheVariants.{NoMemory};
+
+    ghost from_gives = { λ _ fault. fault ≡ NoMemory };
+
+    fn from(_refused: AllocError) -> FeedFault {
+        FeedFault::NoMemory
+    }
+}
+
+impl<T: Drop> From<AllocFailed<T>> for FeedFault {
+    ghost use Rattle.std.specs.Prelude.{◌≡◌};
+    ghost use Rattle.tb_feed.specs.declared.fault.FeedFault.TheVariants.{NoMemory};
+
+    ghost from_gives = { λ _ fault. fault ≡ NoMemory };
+
+    fn from(_refused: AllocFailed<T>) -> FeedFault {
+        FeedFault::NoMemory
+    }
+}
