@@ -1,6 +1,7 @@
 -- Worked texts, computed from the definitions alone.
 use Rattle.std.proofs.Common.{◌≡◌, ℕ, List, [], ◌∷◌, ◌++◌, refl, ap, arith, codes}
-use Rattle.tb_log.specs.declared.entry.Input.TheVariants.{Tick, NoTicks}
+use Rattle.tb_log.specs.declared.entry.Input.TheVariants.{Tick, NoTicks, Gone, Cut}
+use Rattle.tb_log.specs.declared.entry.Input.TheVariants as input_of
 use Rattle.tb_log.specs.declared.entry.Input.{Input}
 use Rattle.tb_feed.specs.Feeds.{Says, lines_of, IsFeedOf, IsFirstBad}
 
@@ -23,6 +24,9 @@ carriage-return = refl
 not-said : (line : List ℕ) → (line ≡ codes "tick" → ⊥) → (input : Input) → Says line input → ⊥
 not-said line other Tick h = other h
 not-said line other NoTicks h = h
+not-said line other (input_of.Line lane said) h = h
+not-said line other (Gone lane) h = h
+not-said line other (Cut lane) h = h
 
 abbrev second : List ℕ → ℕ
 second [] = 0

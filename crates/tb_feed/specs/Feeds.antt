@@ -1,15 +1,16 @@
 -- What a text of lines says that comes to a bus from outside: an input for each line that isn't empty.
 use Rattle.std.specs.Prelude.{◌≡◌, ◌≢◌, ◌==◌, ℕ, ◌+◌, Bool, true, false, List, [], ◌∷◌, ◌++◌, length, filter, codes, ⊤}
 use Rattle.std.specs.List.{AllZip, slice_split}
-use Rattle.tb_bus.specs.Traces.{IsInForm}
+use Rattle.tb_log.specs.Shapes.{IsInputInShape}
 use Rattle.tb_log.specs.declared.entry.Input.{Input}
-use Rattle.tb_log.specs.declared.entry.Input.TheVariants.{Tick, NoTicks}
+use Rattle.tb_log.specs.declared.entry.Input.TheVariants.{Tick, NoTicks, Gone, Cut}
+use Rattle.tb_log.specs.declared.entry.Input.TheVariants as input_of
 use Rattle.tb_feed.specs.declared.fault.FeedFault.{FeedFault}
 use Rattle.tb_feed.specs.declared.fault.FeedFault.TheVariants.{Line, TooLong, NoMemory}
 
--- an input that may stand in a feed: it is in form, and isn't that no more ticks come
+-- an input that may stand in a feed: it is in shape, and isn't that no more ticks come
 abbrev pub MayBeFed : Input → Type 0
-MayBeFed input = IsInForm input × (input ≢ NoTicks)
+MayBeFed input = IsInputInShape input × (input ≢ NoTicks)
 
 -- the lines of a text without their newlines, byte 10; what stands behind the last newline is the last line
 abbrev pub lines_of : List ℕ → List (List ℕ)
@@ -20,6 +21,10 @@ abbrev pub Says : List ℕ → Input → Type 0
 Says line Tick = line ≡ codes "tick"
 -- no line says that no more ticks come
 Says line NoTicks = ⊥
+-- what comes of a lane isn't read yet
+Says line (input_of.Line lane said) = ⊥
+Says line (Gone lane) = ⊥
+Says line (Cut lane) = ⊥
 
 abbrev pub is_full : List ℕ → Bool
 is_full [] = false

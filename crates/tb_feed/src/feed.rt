@@ -7,7 +7,7 @@ use std::marker::Model;
 use tb_log::Input;
 use tb_terms::NoMemory;
 
-/// What comes from outside, one input after the other: each is in form, and none says that no more ticks come.
+/// What comes from outside, one input after the other: each is in shape, and none says that no more ticks come.
 /// Contracts see it as a list.
 #[derive(Debug, Drop)]
 pub struct Feed {

@@ -4,7 +4,8 @@ use Rattle.std.specs.List.{All}
 use Rattle.std.proofs.lemmas.List.Elements.{All-head, All-tail}
 use Rattle.tb_bus.specs.Buses.{Bus}
 use Rattle.tb_bus.specs.Steps.{Step, steps}
-use Rattle.tb_bus.specs.Traces.{IsInForm, IsLegal, IsTrace, after, fed}
+use Rattle.tb_log.specs.Shapes.{IsInputInShape}
+use Rattle.tb_bus.specs.Traces.{IsLegal, IsTrace, after, fed}
 use Rattle.tb_sim.specs.Simulation.{Limits, Sim, Ends, Makes, makes, input_turn, outside_turn, step_turn, IsSim, IsSimPrefix}
 use Rattle.tb_log.specs.Limits.{has_room}
 use Rattle.tb_log.specs.declared.entry.Input.{Input}
@@ -30,16 +31,16 @@ room-leads : (sim : Sim) (entry other : Entry) (next last : Sim) (room : Bool) �
 room-leads sim entry other next last true e h = makes-leads sim entry other (record next { log = sim.log ++ entry ∷ [] }) last e h
 room-leads sim entry other next last false e h = absurd cc
 
-input-leads : (limits : Limits) (sim : Sim) (input : Input) (left : List Input) → IsInForm input → (entry : Entry) (next : Sim) → input_turn limits sim input left ≡ Makes entry next → Leads sim entry next
+input-leads : (limits : Limits) (sim : Sim) (input : Input) (left : List Input) → IsInputInShape input → (entry : Entry) (next : Sim) → input_turn limits sim input left ≡ Makes entry next → Leads sim entry next
 input-leads limits sim input left form entry next e =
     let said : Entry = Fed input (fed sim.bus input).reply in
     room-leads sim said entry (record sim { bus = (fed sim.bus input).bus; quiet = false; left = left }) next (has_room limits.entries sim.log said) e ((form, refl), refl)
 
-outside-leads : (limits : Limits) (sim : Sim) (left : List Input) → All IsInForm left → (entry : Entry) (next : Sim) → outside_turn limits sim left ≡ Makes entry next → Leads sim entry next
+outside-leads : (limits : Limits) (sim : Sim) (left : List Input) → All IsInputInShape left → (entry : Entry) (next : Sim) → outside_turn limits sim left ≡ Makes entry next → Leads sim entry next
 outside-leads limits sim [] forms entry next e = input-leads limits sim NoTicks [] tt entry next e
-outside-leads limits sim (input ∷ left) forms entry next e = input-leads limits sim input left (All-head IsInForm input left forms) entry next e
+outside-leads limits sim (input ∷ left) forms entry next e = input-leads limits sim input left (All-head IsInputInShape input left forms) entry next e
 
-quiet-leads : (limits : Limits) (sim : Sim) → steps sim.bus ≡ [] → sim.bus.down ≡ false → All IsInForm sim.left → (quiet : Bool) (entry : Entry) (next : Sim) →
+quiet-leads : (limits : Limits) (sim : Sim) → steps sim.bus ≡ [] → sim.bus.down ≡ false → All IsInputInShape sim.left → (quiet : Bool) (entry : Entry) (next : Sim) →
     (if quiet
     then outside_turn limits sim sim.left
     else makes limits sim Quiet (record sim { quiet = true })) ≡ Makes entry next → Leads sim entry next
@@ -53,53 +54,53 @@ step-leads limits sim step rest h false entry next e =
     room-leads sim (Did step.label) entry (record sim { bus = step.bus; steps_made = sim.steps_made + 1; quiet = false }) next (has_room limits.entries sim.log (Did step.label)) e
     ((legal-first sim.bus step rest h).0, after-first sim.bus step rest h)
 
-steps-lead : (limits : Limits) (sim : Sim) (ss : List Step) → steps sim.bus ≡ ss → sim.bus.down ≡ false → All IsInForm sim.left → (entry : Entry) (next : Sim) → step_turn limits sim ss ≡ Makes entry next → Leads sim entry next
+steps-lead : (limits : Limits) (sim : Sim) (ss : List Step) → steps sim.bus ≡ ss → sim.bus.down ≡ false → All IsInputInShape sim.left → (entry : Entry) (next : Sim) → step_turn limits sim ss ≡ Makes entry next → Leads sim entry next
 steps-lead limits sim [] h up forms entry next e = quiet-leads limits sim h up forms sim.quiet entry next e
 steps-lead limits sim (step ∷ rest) h up forms entry next e = step-leads limits sim step rest h (nat_le limits.steps sim.steps_made) entry next e
 
-turn-leads : (limits : Limits) (sim : Sim) (down : Bool) → sim.bus.down ≡ down → All IsInForm sim.left → (entry : Entry) (next : Sim) → (if down then Ends Down else step_turn limits sim (steps sim.bus)) ≡ Makes entry next → Leads sim entry next
+turn-leads : (limits : Limits) (sim : Sim) (down : Bool) → sim.bus.down ≡ down → All IsInputInShape sim.left → (entry : Entry) (next : Sim) → (if down then Ends Down else step_turn limits sim (steps sim.bus)) ≡ Makes entry next → Leads sim entry next
 turn-leads limits sim true d forms entry next e = absurd cc
 turn-leads limits sim false d forms entry next e = steps-lead limits sim (steps sim.bus) refl d forms entry next e
 
 -- What is left of the feed after a turn is in form, as all of it was.
 
-makes-forms : (entry other : Entry) (next last : Sim) → Makes entry next ≡ Makes other last → All IsInForm next.left → All IsInForm last.left
-makes-forms entry other next last e forms = let on : next ≡ last = cc in subst (λ (s : Sim). All IsInForm s.left) on forms
+makes-forms : (entry other : Entry) (next last : Sim) → Makes entry next ≡ Makes other last → All IsInputInShape next.left → All IsInputInShape last.left
+makes-forms entry other next last e forms = let on : next ≡ last = cc in subst (λ (s : Sim). All IsInputInShape s.left) on forms
 
-room-forms : (sim : Sim) (entry other : Entry) (next last : Sim) (room : Bool) → (if room then Makes entry (record next { log = sim.log ++ entry ∷ [] }) else Ends Events) ≡ Makes other last → All IsInForm next.left → All IsInForm last.left
+room-forms : (sim : Sim) (entry other : Entry) (next last : Sim) (room : Bool) → (if room then Makes entry (record next { log = sim.log ++ entry ∷ [] }) else Ends Events) ≡ Makes other last → All IsInputInShape next.left → All IsInputInShape last.left
 room-forms sim entry other next last true e forms = makes-forms entry other (record next { log = sim.log ++ entry ∷ [] }) last e forms
 room-forms sim entry other next last false e forms = absurd cc
 
-input-forms : (limits : Limits) (sim : Sim) (input : Input) (left : List Input) → All IsInForm left → (entry : Entry) (next : Sim) → input_turn limits sim input left ≡ Makes entry next → All IsInForm next.left
+input-forms : (limits : Limits) (sim : Sim) (input : Input) (left : List Input) → All IsInputInShape left → (entry : Entry) (next : Sim) → input_turn limits sim input left ≡ Makes entry next → All IsInputInShape next.left
 input-forms limits sim input left forms entry next e =
     let said : Entry = Fed input (fed sim.bus input).reply in
     room-forms sim said entry (record sim { bus = (fed sim.bus input).bus; quiet = false; left = left }) next (has_room limits.entries sim.log said) e forms
 
-outside-forms : (limits : Limits) (sim : Sim) (left : List Input) → All IsInForm left → (entry : Entry) (next : Sim) → outside_turn limits sim left ≡ Makes entry next → All IsInForm next.left
+outside-forms : (limits : Limits) (sim : Sim) (left : List Input) → All IsInputInShape left → (entry : Entry) (next : Sim) → outside_turn limits sim left ≡ Makes entry next → All IsInputInShape next.left
 outside-forms limits sim [] forms entry next e = input-forms limits sim NoTicks [] forms entry next e
-outside-forms limits sim (input ∷ left) forms entry next e = input-forms limits sim input left (All-tail IsInForm input left forms) entry next e
+outside-forms limits sim (input ∷ left) forms entry next e = input-forms limits sim input left (All-tail IsInputInShape input left forms) entry next e
 
-quiet-forms : (limits : Limits) (sim : Sim) (quiet : Bool) → All IsInForm sim.left → (entry : Entry) (next : Sim) →
-    (if quiet then outside_turn limits sim sim.left else makes limits sim Quiet (record sim { quiet = true })) ≡ Makes entry next → All IsInForm next.left
+quiet-forms : (limits : Limits) (sim : Sim) (quiet : Bool) → All IsInputInShape sim.left → (entry : Entry) (next : Sim) →
+    (if quiet then outside_turn limits sim sim.left else makes limits sim Quiet (record sim { quiet = true })) ≡ Makes entry next → All IsInputInShape next.left
 quiet-forms limits sim true forms entry next e = outside-forms limits sim sim.left forms entry next e
 quiet-forms limits sim false forms entry next e = room-forms sim Quiet entry (record sim { quiet = true }) next (has_room limits.entries sim.log Quiet) e forms
 
-step-forms : (limits : Limits) (sim : Sim) (step : Step) (limit : Bool) → All IsInForm sim.left → (entry : Entry) (next : Sim) →
-    (if limit then Ends Steps else makes limits sim (Did step.label) (record sim { bus = step.bus; steps_made = sim.steps_made + 1; quiet = false })) ≡ Makes entry next → All IsInForm next.left
+step-forms : (limits : Limits) (sim : Sim) (step : Step) (limit : Bool) → All IsInputInShape sim.left → (entry : Entry) (next : Sim) →
+    (if limit then Ends Steps else makes limits sim (Did step.label) (record sim { bus = step.bus; steps_made = sim.steps_made + 1; quiet = false })) ≡ Makes entry next → All IsInputInShape next.left
 step-forms limits sim step true forms entry next e = absurd cc
 step-forms limits sim step false forms entry next e =
     room-forms sim (Did step.label) entry (record sim { bus = step.bus; steps_made = sim.steps_made + 1; quiet = false }) next (has_room limits.entries sim.log (Did step.label)) e forms
 
-steps-forms : (limits : Limits) (sim : Sim) (ss : List Step) → All IsInForm sim.left → (entry : Entry) (next : Sim) → step_turn limits sim ss ≡ Makes entry next → All IsInForm next.left
+steps-forms : (limits : Limits) (sim : Sim) (ss : List Step) → All IsInputInShape sim.left → (entry : Entry) (next : Sim) → step_turn limits sim ss ≡ Makes entry next → All IsInputInShape next.left
 steps-forms limits sim [] forms entry next e = quiet-forms limits sim sim.quiet forms entry next e
 steps-forms limits sim (step ∷ rest) forms entry next e = step-forms limits sim step (nat_le limits.steps sim.steps_made) forms entry next e
 
-turn-forms : (limits : Limits) (sim : Sim) (down : Bool) → All IsInForm sim.left → (entry : Entry) (next : Sim) → (if down then Ends Down else step_turn limits sim (steps sim.bus)) ≡ Makes entry next → All IsInForm next.left
+turn-forms : (limits : Limits) (sim : Sim) (down : Bool) → All IsInputInShape sim.left → (entry : Entry) (next : Sim) → (if down then Ends Down else step_turn limits sim (steps sim.bus)) ≡ Makes entry next → All IsInputInShape next.left
 turn-forms limits sim true forms entry next e = absurd cc
 turn-forms limits sim false forms entry next e = steps-forms limits sim (steps sim.bus) forms entry next e
 
 -- so far
-pub prefix-trace : (limits : Limits) (sim : Sim) (log : List Entry) → All IsInForm sim.left → IsSimPrefix limits sim log → IsTrace sim.bus log
+pub prefix-trace : (limits : Limits) (sim : Sim) (log : List Entry) → All IsInputInShape sim.left → IsSimPrefix limits sim log → IsTrace sim.bus log
 prefix-trace limits sim [] forms h = tt
 prefix-trace limits sim (entry ∷ log) forms h =
     let t = turn-leads limits sim sim.bus.down refl forms entry h.0 h.1 in
@@ -111,7 +112,7 @@ whole-prefix : (limits : Limits) (sim : Sim) (log : List Entry) (end : SimEnd) �
 whole-prefix limits sim [] end h = tt
 whole-prefix limits sim (entry ∷ log) end h = (h.0, h.1, whole-prefix limits h.0 log end h.2)
 
-pub sim-trace : (limits : Limits) (sim : Sim) (log : List Entry) (end : SimEnd) → All IsInForm sim.left → IsSim limits sim log end → IsTrace sim.bus log
+pub sim-trace : (limits : Limits) (sim : Sim) (log : List Entry) (end : SimEnd) → All IsInputInShape sim.left → IsSim limits sim log end → IsTrace sim.bus log
 sim-trace limits sim log end forms h = prefix-trace limits sim log forms (whole-prefix limits sim log end h)
 
 -- There is one such log, and one end.

@@ -1,7 +1,7 @@
 ghost use Rattle.std.specs.Prelude.{◌≡◌, ◌&&◌, ◌==◌, ◌≤◌, [], drop, IfOk, OnOk, OnErr, IsErrOf, false};
 ghost use Rattle.tb_bus.specs.Buses.{start};
 ghost use Rattle.tb_bus.specs.Steps.{steps as steps_of};
-ghost use Rattle.tb_bus.specs.Traces.{IsInForm};
+ghost use Rattle.tb_log.specs.Shapes.{IsInputInShape};
 ghost use Rattle.tb_core.specs.Cores.{bus_now, has_any, ends_quiet, Stays};
 ghost use Rattle.tb_sim.specs.Simulation.{IsSim, IsSimPrefix, limits_of, sim_start};
 ghost use Rattle.tb_sim.specs.Turns.{HandsIn, HandsInNext, Goes, IsWithin, LeftWithin};
@@ -80,7 +80,7 @@ fn hand_in<W: Walker>(
     next: Progress,
 ) -> Result<Turned, NoMemory>
     requires running { core.old.stopped ≡ false }
-    requires in_form { IsInForm input }
+    requires in_form { IsInputInShape input }
     ensures ok { IfOk result (HandsIn input next core.old core.new) }
     ensures err { OnErr result (Stays core.old core.new) }
 {
