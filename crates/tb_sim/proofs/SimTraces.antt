@@ -62,7 +62,7 @@ turn-leads : (limits : Limits) (sim : Sim) (down : Bool) → sim.bus.down ≡ do
 turn-leads limits sim true d forms entry next e = absurd cc
 turn-leads limits sim false d forms entry next e = steps-lead limits sim (steps sim.bus) refl d forms entry next e
 
--- What is left of the feed after a turn is in form, as all of it was.
+-- What is left of the feed after a turn is in shape, as all of it was.
 
 makes-forms : (entry other : Entry) (next last : Sim) → Makes entry next ≡ Makes other last → All IsInputInShape next.left → All IsInputInShape last.left
 makes-forms entry other next last e forms = let on : next ≡ last = cc in subst (λ (s : Sim). All IsInputInShape s.left) on forms

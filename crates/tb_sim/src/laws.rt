@@ -9,7 +9,7 @@ ghost use Rattle.tb_sim.specs.Simulation.{IsSim, IsSimPrefix, Limits, sim_start}
 
 use crate::ends::SimEnd;
 
-/// What a simulation logs is a trace, at each of its turns and at its end, where the inputs of its feed are in form.
+/// What a simulation logs is a trace, at each of its turns and at its end, where the inputs of its feed are in shape.
 pub fn simulations_log_traces()
     ensures on_the_way { (limits : Limits) (bus : Bus) (feed : List Input) (log : List Entry) → All IsInputInShape feed → IsSimPrefix limits (sim_start bus feed) log → IsTrace bus log }
     ensures at_the_end { (limits : Limits) (bus : Bus) (feed : List Input) (log : List Entry) (end : SimEnd) → All IsInputInShape feed → IsSim limits (sim_start bus feed) log end → IsTrace bus log }
