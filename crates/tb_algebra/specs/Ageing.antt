@@ -1,6 +1,5 @@
 -- How the offers of a term change in a tick: each is there still, one tick older.
-use Rattle.std.specs.Prelude.{◌≡◌, ◌+◌, ℕ, List, [], ◌∷◌, Option, Some, None, ⊤}
-use Rattle.tb_func.specs.declared.slot.Slot.{Slot}
+use Rattle.std.specs.Prelude.{◌≡◌, ◌+◌, List, [], ◌∷◌, Option, Some, None, ⊤}
 use Rattle.tb_algebra.specs.Processes.{Process, Seq, Par, aged}
 use Rattle.tb_algebra.specs.Offers.{Offered}
 
