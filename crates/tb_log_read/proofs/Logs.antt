@@ -127,7 +127,7 @@ stops_of bytes n s =
 pub log_not_stopped : (bytes : List ℕ) (log : List Entry) (n : ℕ) → IsLog log → bytes ≡ log_text log → StopsAt bytes n → ⊥
 log_not_stopped bytes log n l e s = no_stop 1 log s.log s.rest (log_readables log l) (log_readables s.log s.is_log) (stops_of bytes n s) (sym e ∙ s.before)
 
-stops_one : (bytes : List ℕ) (m n : ℕ) → StopsAt bytes m → StopsAt bytes n → m ≡ n
+pub stops_one : (bytes : List ℕ) (m n : ℕ) → StopsAt bytes m → StopsAt bytes n → m ≡ n
 stops_one bytes m n s t =
     let a : m ≡ length s.log + 1 = s.counted in
     let b : n ≡ length t.log + 1 = t.counted in
