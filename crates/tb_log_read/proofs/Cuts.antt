@@ -56,6 +56,6 @@ lacks_by p s f [] h = refl
 lacks_by p s f (x ∷ xs) h =
     let q = and_parts (p x) (list_all p xs) h in
     and_from (not (eqb x s)) (lacks s xs) (one (eqb x s) refl q.0) (lacks_by p s f xs q.1) where
-  one : (b : Bool) → eqb x s ≡ b → p x ≡ true → not b ≡ true
-  one true e t = let same : x ≡ s = eqb-true x s e in absurd (false≢true (sym f ∙ ap p (sym same) ∙ t))
-  one false e t = refl
+      one : (b : Bool) → eqb x s ≡ b → p x ≡ true → not b ≡ true
+      one true e t = let same : x ≡ s = eqb-true x s e in absurd (false≢true (sym f ∙ ap p (sym same) ∙ t))
+      one false e t = refl

@@ -17,8 +17,9 @@ pub record IsLine (number : ℕ) (entry : Entry) (line : List ℕ) : Type 0 wher
   pub shape : InShape entry
   pub text : line ≡ entry_text number entry
 
--- entries in shape
+-- entries in shape, as many as 64 bits count
 pub record IsLog (log : List Entry) : Type 0 where
+  pub few : length log < 2 ^ 64
   pub proper : IsTrue (list_all is_proper_entry log)
   pub shape : All InShape log
 

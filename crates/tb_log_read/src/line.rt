@@ -27,9 +27,13 @@ pub fn read_entry(alloc: Global, line: &[u8]) -> Result<Option<Numbered>, NoMemo
     ensures only { (number : ℕ) (entry : Entry) → IsLine number entry line.now
         → IfOk result (λ found. found ≡ Some (record { number = number; entry = entry })) }
 {
-    match read_numbered(alloc, line)? {
-        Some(numbered) if is_line(alloc, &numbered, line)? => Ok(Some(numbered)),
-        _ => Ok(None),
+    let Some(numbered) = read_numbered(alloc, line)? else {
+        return Ok(None);
+    };
+    if is_line(alloc, &numbered, line)? {
+        Ok(Some(numbered))
+    } else {
+        Ok(None)
     }
 }
 
