@@ -82,8 +82,7 @@ second-step-trace bus one two rest log e differ t =
     ap (after_step bus two.label) e
     ∙ skipped bus two.label one two rest (is_same label_row.the_row.coded two.label one.label) apart
     (chosen bus two rest (is_same label_row.the_row.coded two.label two.label) (is_same-refl label_row.the_row.coded two.label)) in
-    let there : Contains (one ∷ two ∷ rest) two = (1, omega arith, refl) in
-    (
+    let there : Contains (one ∷ two ∷ rest) two = (1, omega arith, refl) in (
       subst (λ (ss : List Step). Contains ss (record { label = two.label; bus = after bus (Did two.label) })) (sym e)
           (subst (λ (b : Bus). Contains (one ∷ two ∷ rest) (record { label = two.label; bus = b })) (sym next) there),
       subst (λ b. IsTrace b log) (sym next) t,
