@@ -1,19 +1,22 @@
 -- What a search finds names rows and actions that there are.
-use Rattle.std.proofs.Common.{◌≡◌, ◌≢◌, ℕ, ◌+◌, ◌<◌, ◌==◌, List, [], ◌∷◌, map, take, drop, length, refl, ap, sym, subst, ◌∙◌, Option, Some, None, Bool, true, false, slice_get, eq-eqb, if◌then◌else◌, option_map, IfSome}
+use Rattle.std.proofs.Common.{◌≡◌, ◌≢◌, ℕ, ◌+◌, ◌<◌, ◌==◌, List, [], ◌∷◌, map, take, drop, length, refl, ap, sym, subst, ◌∙◌, Option, Some, None, Bool, true, false, slice_get, eq-eqb, if◌then◌else◌, option_map, option_to_list, IfSome}
 use Rattle.std.proofs.lemmas.List.Elements.{All-nil, All-cons, All-append, All-map, All-head, All-weaker}
 use Rattle.std.proofs.lemmas.Option.{get_or_from_slice_get, slice_get_within}
 use Rattle.std.specs.List.{All}
 use Rattle.tb_terms.specs.declared.term.Term.{Term}
 use Rattle.tb_match.specs.declared.bind.Bind.{Bind}
 use Rattle.tb_match.specs.Matches.{match_list}
-use Rattle.tb_bus.specs.Candidates.{first, row_at, no_row, received_if, reception, receptions, partner_in, partners, candidates_by, candidates_among, candidates_of, candidates_from, up_to, candidates_in_turn, candidates_or_halt, candidates_while_up, all_candidates, ascend}
+use Rattle.tb_body.specs.declared.body.Body.{Body}
+use Rattle.tb_notes.specs.Inboxes.{oldest_match}
+use Rattle.tb_notes.specs.declared.queue.Found.{Found}
+use Rattle.tb_bus.specs.Candidates.{Row, Scene, first, row_at, no_row, received_if, reception, receptions, partner_in, partners, all_take, wanting, may_happen, candidates_by, candidates_among, candidates_of, candidates_from, up_to, candidates_in_turn, candidates_or_halt, candidates_while_up, all_candidates, scene_of, ascend}
+use Rattle.tb_bus.specs.declared.marks.Marks.{Marks}
 use Rattle.tb_bus.specs.Buses.{Bus}
 use Rattle.tb_bus.specs.Steps.{moves}
-use Rattle.tb_bus.specs.Views.{sent_in, ready_at, move_of, IsOwn, Receives, IsCandidateIn, IsSearchedFor}
+use Rattle.tb_bus.specs.Views.{sent_in, ready_at, move_of, Receives, IsThere, IsCandidateIn, IsSearchedFor}
 use Rattle.tb_bus.specs.declared.action.Action.{Action}
 use Rattle.tb_bus.specs.declared.action.Action.TheVariants as action
 use Rattle.tb_bus.specs.declared.living.Ready.{Ready}
-use Rattle.tb_bus.specs.Candidates.{Row}
 use Rattle.tb_bus.specs.declared.candidate.Partner.{Partner}
 use Rattle.tb_bus.specs.declared.candidate.Candidate.{Candidate}
 use Rattle.tb_bus.specs.declared.candidate.Candidate.TheVariants as candidate
@@ -53,6 +56,8 @@ module _ (rows : List Row) where
         (does : Action) → ready.action ≡ does → All (λ received. IsPartnerIn rows number terms (partner_at at received)) (reception terms index does)
     reception-in at index row ready e f n (action.Own own) d = All-nil _
     reception-in at index row ready e f n (action.Send other) d = All-nil _
+    reception-in at index row ready e f n (action.Notify other) d = All-nil _
+    reception-in at index row ready e f n (action.TakeNote patterns) d = All-nil _
     reception-in at index row ready e f n (action.Receive patterns) d = matched-in at index row ready e f n (action.Receive patterns) d (match_list patterns terms) (λ b q. q)
 
     receptions-in : (at : ℕ) (row : Row) → slice_get rows at ≡ Some row → number ≢ row.number → (index : ℕ) (some : List Ready) → StandAt row.ready index some →
@@ -75,82 +80,94 @@ module _ (rows : List Row) where
         All-append (IsPartnerIn rows number terms) (partner_in number terms at row) (partners number terms (at + 1) some)
         (partner-in-by at row h.0 (row.number == number) refl) (partners-in (at + 1) some h.1)
 
-  candidates_by-in : (at index : ℕ) (row : Row) (ready : Ready) → slice_get rows at ≡ Some row → slice_get row.ready index ≡ Some ready → (does : Action) → ready.action ≡ does →
-      All (IsCandidateIn rows) (candidates_by rows at row.number index does)
+one-in : {A : Type 0} (P : A → Type 0) (b : Bool) (x : A) → (b ≡ true → P x) → All P (if b then x ∷ [] else [])
+one-in P true x h = All-cons P x [] (h refl) (All-nil P)
+one-in P false x h = All-nil P
+
+taken-in : (P : Candidate → Type 0) (make : Found → Candidate) (found : Option Found) → ((f : Found) → found ≡ Some f → P (make f)) → All P (map make (option_to_list found))
+taken-in P make None h = All-nil P
+taken-in P make (Some found) h = All-cons P (make found) [] (h found refl) (All-nil P)
+
+module _ (scene : Scene) where
+  there : (at index : ℕ) (row : Row) (ready : Ready) → slice_get scene.rows at ≡ Some row → slice_get row.ready index ≡ Some ready → IsThere scene.rows at index
+  there at index row ready e f = (slice_get_within scene.rows at row e, within-row scene.rows at index row ready e f)
+
+  candidates_by-in : (at index : ℕ) (row : Row) (ready : Ready) → slice_get scene.rows at ≡ Some row → slice_get row.ready index ≡ Some ready → (does : Action) → ready.action ≡ does →
+      All (IsCandidateIn scene) (candidates_by scene at row index does)
   candidates_by-in at index row ready e f (action.Own own) d =
-      let own : IsOwn (ready_at rows at index).action = subst IsOwn (sym (action-is at index row ready (action.Own own) e f d)) tt in
-      All-cons (IsCandidateIn rows) (candidate.Own at index) [] (slice_get_within rows at row e, within-row at index row ready e f, own) (All-nil (IsCandidateIn rows))
+      let same = get_or_from_slice_get scene.rows at row no_row e in
+      one-in (IsCandidateIn scene) (may_happen scene row own) (candidate.Own at index)
+      (λ h. (there at index row ready e f, (own, action-is scene.rows at index row ready (action.Own own) e f d, ap (λ (r : Row). may_happen scene r own) same ∙ h)))
   candidates_by-in at index row ready e f (action.Receive patterns) d = All-nil _
   candidates_by-in at index row ready e f (action.Send terms) d =
-      let sends = action-is at index row ready (action.Send terms) e f d in
-      let sent : (ready_at rows at index).action ≡ action.Send (sent_in (ready_at rows at index).action) = sends ∙ ap action.Send (sym (ap sent_in sends)) in
-      let same = get_or_from_slice_get rows at row no_row e in
-      All-map (IsCandidateIn rows) (candidate.Handshake at index) (partners row.number terms 0 rows)
-      (All-weaker (IsPartnerIn rows row.number terms) (λ (partner : Partner). IsCandidateIn rows (candidate.Handshake at index partner))
+      let sends = action-is scene.rows at index row ready (action.Send terms) e f d in
+      let sent : (ready_at scene.rows at index).action ≡ action.Send (sent_in (ready_at scene.rows at index).action) = sends ∙ ap action.Send (sym (ap sent_in sends)) in
+      let same = get_or_from_slice_get scene.rows at row no_row e in
+      All-map (IsCandidateIn scene) (candidate.Handshake at index) (partners row.number terms 0 scene.rows)
+      (All-weaker (IsPartnerIn scene.rows row.number terms) (λ (partner : Partner). IsCandidateIn scene (candidate.Handshake at index partner))
       (λ partner h. (
-        slice_get_within rows at row e,
-        within-row at index row ready e f,
-        h.0,
-        h.1,
+        there at index row ready e f,
+        (h.0, h.1),
         λ q. h.2 (sym (ap (λ (r : Row). r.number) same) ∙ q),
         sent,
-        subst (λ ts. Receives ts (ready_at rows partner.living partner.received.action).action partner.received.binds) (sym (ap sent_in sends)) h.3,
+        subst (λ ts. Receives ts (ready_at scene.rows partner.living partner.received.action).action partner.received.binds) (sym (ap sent_in sends)) h.3,
       ))
-      (partners row.number terms 0 rows) (partners-in row.number terms 0 rows (stand-whole rows)))
+      (partners row.number terms 0 scene.rows) (partners-in scene.rows row.number terms 0 scene.rows (stand-whole scene.rows)))
+  candidates_by-in at index row ready e f (action.Notify terms) d =
+      one-in (IsCandidateIn scene) (all_take terms scene.rows) (candidate.Notify at index (wanting terms 0 scene.rows))
+      (λ h. (there at index row ready e f, (terms, action-is scene.rows at index row ready (action.Notify terms) e f d, h, refl)))
+  candidates_by-in at index row ready e f (action.TakeNote patterns) d =
+      let same = get_or_from_slice_get scene.rows at row no_row e in
+      taken-in (IsCandidateIn scene) (candidate.TakeNote at index) (oldest_match patterns row.inbox)
+      (λ found h. (there at index row ready e f, (patterns, action-is scene.rows at index row ready (action.TakeNote patterns) e f d, ap (λ (r : Row). oldest_match patterns r.inbox) same ∙ h)))
 
-  candidates_among-in : (at : ℕ) (row : Row) → slice_get rows at ≡ Some row → (index : ℕ) (some : List Ready) → StandAt row.ready index some → All (IsCandidateIn rows) (candidates_among rows at row.number index some)
+  candidates_among-in : (at : ℕ) (row : Row) → slice_get scene.rows at ≡ Some row → (index : ℕ) (some : List Ready) → StandAt row.ready index some → All (IsCandidateIn scene) (candidates_among scene at row index some)
   candidates_among-in at row e index [] h = All-nil _
   candidates_among-in at row e index (ready ∷ others) h =
-      All-append (IsCandidateIn rows) (candidates_by rows at row.number index ready.action) (candidates_among rows at row.number (index + 1) others)
+      All-append (IsCandidateIn scene) (candidates_by scene at row index ready.action) (candidates_among scene at row (index + 1) others)
       (candidates_by-in at index row ready e h.0 ready.action refl) (candidates_among-in at row e (index + 1) others h.1)
 
-  candidates_from-in : (at : ℕ) (some : List Row) → StandAt rows at some → All (IsCandidateIn rows) (candidates_from rows at some)
+  candidates_from-in : (at : ℕ) (some : List Row) → StandAt scene.rows at some → All (IsCandidateIn scene) (candidates_from scene at some)
   candidates_from-in at [] h = All-nil _
   candidates_from-in at (row ∷ some) h =
-      All-append (IsCandidateIn rows) (candidates_of rows at row) (candidates_from rows (at + 1) some)
+      All-append (IsCandidateIn scene) (candidates_of scene at row) (candidates_from scene (at + 1) some)
       (candidates_among-in at row h.0 0 row.ready (stand-whole row.ready)) (candidates_from-in (at + 1) some h.1)
 
   -- All that a search in turn finds names rows and actions that there are.
-  all_in_turn : (last : ℕ) → All (IsCandidateIn rows) (candidates_in_turn rows last)
+  all_in_turn : (last : ℕ) → All (IsCandidateIn scene) (candidates_in_turn scene last)
   unfolding candidates_in_turn
   all_in_turn last =
-      let at = up_to last rows in
-      All-append (IsCandidateIn rows) (candidates_from rows at (drop at rows)) (candidates_from rows 0 (take at rows))
-      (candidates_from-in at (drop at rows) (stand-drop at rows)) (candidates_from-in 0 (take at rows) (stand-take at rows))
+      let at = up_to last scene.rows in
+      All-append (IsCandidateIn scene) (candidates_from scene at (drop at scene.rows)) (candidates_from scene 0 (take at scene.rows))
+      (candidates_from-in at (drop at scene.rows) (stand-drop at scene.rows)) (candidates_from-in 0 (take at scene.rows) (stand-take at scene.rows))
 
-  or_halt-in : (no_ticks : Bool) (candidates : List Candidate) → All (IsCandidateIn rows) candidates → All (IsCandidateIn rows) (candidates_or_halt no_ticks candidates)
-  or_halt-in true [] h = All-cons (IsCandidateIn rows) candidate.Halt [] tt (All-nil (IsCandidateIn rows))
+  or_halt-in : (no_ticks : Bool) (candidates : List Candidate) → All (IsCandidateIn scene) candidates → All (IsCandidateIn scene) (candidates_or_halt no_ticks candidates)
+  or_halt-in true [] h = All-cons (IsCandidateIn scene) candidate.Halt [] tt (All-nil (IsCandidateIn scene))
   or_halt-in false [] h = h
   or_halt-in no_ticks (found ∷ candidates) h = h
 
-  while_up-in : (last : ℕ) (no_ticks : Bool) (some : List Row) → All (IsCandidateIn rows) (candidates_while_up rows last no_ticks some)
-  while_up-in last no_ticks [] = All-cons (IsCandidateIn rows) candidate.Finish [] tt (All-nil (IsCandidateIn rows))
-  while_up-in last no_ticks (row ∷ some) = or_halt-in no_ticks (candidates_in_turn rows last) (all_in_turn last)
+  while_up-in : (marks : Marks) (some : List Row) → All (IsCandidateIn scene) (candidates_while_up scene marks some)
+  while_up-in marks [] = All-cons (IsCandidateIn scene) candidate.Finish [] tt (All-nil (IsCandidateIn scene))
+  while_up-in marks (row ∷ some) = or_halt-in marks.no_ticks (candidates_in_turn scene marks.last_starter) (all_in_turn marks.last_starter)
 
-  down-in : (down : Bool) (candidates : List Candidate) → All (IsCandidateIn rows) candidates → All (IsCandidateIn rows) (if down then [] else candidates)
+  down-in : (down : Bool) (candidates : List Candidate) → All (IsCandidateIn scene) candidates → All (IsCandidateIn scene) (if down then [] else candidates)
   down-in true candidates h = All-nil _
   down-in false candidates h = h
 
+module _ (bodies : List Body) (rows : List Row) (marks : Marks) where
   -- All that a search finds names rows and actions that there are.
-  pub all_candidates-in : (last : ℕ) (no_ticks down : Bool) → All (IsCandidateIn rows) (all_candidates rows last no_ticks down)
+  pub all_candidates-in : All (IsCandidateIn (scene_of bodies rows marks)) (all_candidates bodies rows marks)
   unfolding all_candidates
-  all_candidates-in last no_ticks down = down-in down (candidates_while_up rows last no_ticks rows) (while_up-in last no_ticks rows)
+  all_candidates-in =
+      let scene = scene_of bodies rows marks in
+      down-in scene marks.down (candidates_while_up scene marks rows) (while_up-in scene marks rows)
 
--- The first that a search finds does so.
-pub candidate_first : (rows : List Row) (last : ℕ) (no_ticks down : Bool) (found : Candidate) → first (all_candidates rows last no_ticks down) ≡ Some found → IsCandidateIn rows found
-candidate_first rows last no_ticks down found e = first-all (IsCandidateIn rows) (all_candidates rows last no_ticks down) found (all_candidates-in rows last no_ticks down) e
+  -- What is the first that a search finds is the first move of the bus that is searched.
+  pub move_first : (found : Option Candidate) → ascend 0 rows ≡ true → found ≡ first (all_candidates bodies rows marks) →
+      (bus : Bus) → IsSearchedFor bus bodies rows marks → option_map (move_of bus rows) found ≡ first (moves bus)
+  move_first found a e bus is = ap (option_map (move_of bus rows)) e ∙ first_moves bus bodies rows marks is a
 
--- What is the first that a search finds is the first move of the bus that is searched.
-pub move_first : (rows : List Row) (last : ℕ) (no_ticks down : Bool) (found : Option Candidate) → ascend 0 rows ≡ true → found ≡ first (all_candidates rows last no_ticks down) →
-    (bus : Bus) → IsSearchedFor bus rows last no_ticks down → option_map (move_of bus.procs rows) found ≡ first (moves bus)
-move_first rows last no_ticks down found a e bus is =
-    ap (option_map (move_of bus.procs rows)) (e
-    ∙ ap (λ n. first (all_candidates rows n no_ticks down)) (sym is.last_is)
-    ∙ ap (λ b. first (all_candidates rows bus.last_starter b down)) (sym is.no_ticks_is)
-    ∙ ap (λ b. first (all_candidates rows bus.last_starter bus.no_ticks b)) (sym is.down_is))
-    ∙ first_moves bus rows is.rows_are a
-
--- And it names rows and actions that there are.
-pub stands_first : (rows : List Row) (last : ℕ) (no_ticks down : Bool) (found : Option Candidate) → found ≡ first (all_candidates rows last no_ticks down) → IfSome found (IsCandidateIn rows)
-stands_first rows last no_ticks down None e = tt
-stands_first rows last no_ticks down (Some found) e = candidate_first rows last no_ticks down found (sym e)
+  -- And it names rows and actions that there are.
+  pub stands_first : (found : Option Candidate) → found ≡ first (all_candidates bodies rows marks) → IfSome found (IsCandidateIn (scene_of bodies rows marks))
+  stands_first None e = tt
+  stands_first (Some found) e = first-all (IsCandidateIn (scene_of bodies rows marks)) (all_candidates bodies rows marks) found all_candidates-in (sym e)

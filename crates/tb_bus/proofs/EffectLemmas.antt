@@ -87,10 +87,14 @@ notice terms = record { kind = kind.SndNote; shown = terms; binds = []; change =
 pub record IsSceneOf (bus : Bus) (scene : Scene) : Type 0 where
   pub bodies_are : bus.program.bodies ≡ scene.bodies
   pub next_is : bus.next_number ≡ scene.next_number
-  pub rows_are : AreRowsOf scene.bodies bus.now scene.rows bus.procs
+  pub rows_are : AreRowsOf bus.program.bodies bus.now scene.rows bus.procs
 
 pub scene-is : (bus : Bus) (bodies : List Body) (rows : List Row) (marks : Marks) → IsSearchedFor bus bodies rows marks → IsSceneOf bus (scene_of bodies rows marks)
-scene-is bus bodies rows marks h = record { bodies_are = h.bodies_are; next_is = h.next_is; rows_are = h.rows_are }
+scene-is bus bodies rows marks h = record {
+  bodies_are = h.bodies_are;
+  next_is = h.next_is;
+  rows_are = subst (λ (bs : List Body). AreRowsOf bs bus.now rows bus.procs) (sym h.bodies_are) h.rows_are;
+}
 
 module _ (bodies : List Body) (now : ℕ) where
   -- there are as many rows as processes
@@ -138,7 +142,7 @@ module _ (bus : Bus) (scene : Scene) (is : IsSceneOf bus scene) where
       ≡ may_create bus.program.bodies (length bus.procs) bus.next_number proc.body process actuals slot
   may_create-is row proc e process actuals slot =
       ap (λ bodies. may_create bodies (length scene.rows) scene.next_number row.body process actuals slot) (sym is.bodies_are)
-      ∙ ap (λ alive. may_create bus.program.bodies alive scene.next_number row.body process actuals slot) (rows-length scene.bodies bus.now scene.rows bus.procs is.rows_are)
+      ∙ ap (λ alive. may_create bus.program.bodies alive scene.next_number row.body process actuals slot) (rows-length bus.program.bodies bus.now scene.rows bus.procs is.rows_are)
       ∙ ap (λ number. may_create bus.program.bodies (length bus.procs) number row.body process actuals slot) (sym is.next_is)
       ∙ ap (λ body. may_create bus.program.bodies (length bus.procs) bus.next_number body process actuals slot) e
 
@@ -165,7 +169,7 @@ module _ (bus : Bus) (scene : Scene) (is : IsSceneOf bus scene) where
 
   -- there is room for a note where the note has an effect
   pub notifies-is : (proc : Proc) (terms : List Term) → all_take terms scene.rows ≡ is_some (effect_of bus proc (action.Notify terms))
-  notifies-is proc terms = all_take-is scene.bodies bus.now terms scene.rows bus.procs is.rows_are ∙ some-if _ _
+  notifies-is proc terms = all_take-is bus.program.bodies bus.now terms scene.rows bus.procs is.rows_are ∙ some-if _ _
 
 abbrev own-of : OwnAction → Action → OwnAction
 own-of default (action.Own own) = own

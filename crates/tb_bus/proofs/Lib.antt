@@ -4,6 +4,8 @@ pub mod EffectLemmas
 pub mod RowLemmas
 pub mod CandidateLemmas
 pub mod TraceLemmas
+pub mod OrderLemmas
+pub mod ChangeLemmas
 pub mod ReachedLemmas
 pub mod ReceiverLemmas
 pub mod ApartLemmas

@@ -1,5 +1,4 @@
--- In every bus that a program reaches the processes stand by their numbers, and each is where its body may
--- have led it. So two steps that are seen alike are the same step.
+-- Every bus that a program reaches is in order. So two steps that are seen alike are the same step.
 use Rattle.std.proofs.Common.{◌≡◌, ℕ, ◌+◌, ◌<◌, ◌≤◌, ◌==◌, List, [], ◌∷◌, ◌++◌, map, refl, ap, sym, ◌∙◌, subst, arith, Option, Some, None, Bool, true, false, Contains, if◌then◌else◌, zero, suc, ◌⊎◌, inl, inr, nat_lt, nat_le, not, filter, slice_get}
 use Rattle.std.specs.Prelude.{⊤}
 use Rattle.std.specs.List.{All, flat_map}
@@ -12,7 +11,7 @@ use Rattle.tb_func.specs.declared.slot.Slot.{Slot}
 use Rattle.tb_match.specs.declared.bind.Bind.{Bind}
 use Rattle.tb_match.specs.Matches.{match_list}
 use Rattle.tb_body.specs.declared.body.Body.{Body}
-use Rattle.tb_body.specs.declared.program.Root.{Root}
+use Rattle.tb_body.specs.declared.program.Program.{Program}
 use Rattle.tb_algebra.specs.Processes.{Process, fresh}
 use Rattle.tb_algebra.specs.Binds.{with_binds}
 use Rattle.tb_algebra.specs.Offers.{Offered, offers}
@@ -20,8 +19,7 @@ use Rattle.tb_algebra.specs.Reached.{Reaches as IsLedTo, entered, went_on}
 use Rattle.tb_algebra.proofs.Ascending.{offered-once}
 use Rattle.tb_bus.specs.declared.origin.Origin.{Origin}
 use Rattle.tb_bus.specs.Buses.{Bus, Proc, start, opened, opened_one, opening_store, proc_left}
-use Rattle.tb_bus.specs.Effects.{effect_of}
-use Rattle.tb_bus.specs.declared.effect.Effect.{Effect}
+use Rattle.tb_bus.specs.Effects.{Effect, effect_of, changed}
 use Rattle.tb_bus.specs.Steps.{Move, Own, Handshake, Finish, Halt, Step, action_by, in_turn, others, handshake_if, handshake_of, handshakes_with, handshakes, own_if, moves_by, moves_of, moves_of_all, moves_or_halt, moves_while_up, moves, advance, label_of, apply, step_of, steps}
 use Rattle.tb_bus.specs.Traces.{IsLegal, IsTrace, Answer, after, after_step, replay, took}
 use Rattle.tb_bus.specs.Reached.{Reaches}
@@ -30,6 +28,8 @@ use Rattle.tb_bus.specs.declared.action.Action.TheVariants as action
 use Rattle.tb_bus.specs.declared.action.OwnAction.{OwnAction}
 use Rattle.tb_bus.specs.declared.action.OwnAction.TheVariants as own
 use Rattle.tb_bus.proofs.EffectLemmas.{IsOwnKind, IsOwnEffect, effect-own}
+use Rattle.tb_bus.proofs.OrderLemmas.{All-flat_map, All-one, contains-cases, contains-further, ascend-above, one-number, IsLeft, IsLed, InOrder, MayGo, start-in_order, advance-keeps, advance-in_order}
+use Rattle.tb_bus.proofs.ChangeLemmas.{changed-program, changed-in_order, changed-keeps}
 use Rattle.tb_log.specs.declared.entry.Label.{Label}
 use Rattle.tb_log.specs.declared.entry.LabelKind.{LabelKind}
 use Rattle.tb_log.specs.declared.entry.LabelKind.TheVariants as kind
@@ -42,171 +42,6 @@ use Rattle.tb_log.specs.declared.entry.Entry.{Entry}
 use Rattle.tb_log.specs.declared.entry.Entry.TheVariants.{Did, Quiet, Fed}
 use Rattle.tb_terms.proofs.SameLemmas.{is_same-refl, is_same-sound}
 
--- lists
-
-pub All-flat_map : {X A : Type 0} (P : A → Type 0) (f : X → List A) (xs : List X) → All (λ x. All P (f x)) xs → All P (flat_map f xs)
-All-flat_map P f [] h = All-nil P
-All-flat_map P f (x ∷ xs) h = All-append P (f x) (flat_map f xs) (All-head (λ y. All P (f y)) x xs h) (All-flat_map P f xs (All-tail (λ y. All P (f y)) x xs h))
-
-pub All-one : {X : Type 0} (P : X → Type 0) (x : X) → P x → All P (x ∷ [])
-All-one P x p = All-cons P x [] p (All-nil P)
-
-contains-cases : {X : Type 0} (x y : X) (xs : List X) → Contains (x ∷ xs) y → (x ≡ y) ⊎ Contains xs y
-contains-cases x y xs (zero, l, e) = inl e
-contains-cases x y xs (suc k, l, e) = inr (k, omega arith, e)
-
-contains-further : {X : Type 0} (x y : X) (xs : List X) → Contains xs y → Contains (x ∷ xs) y
-contains-further x y xs (k, l, e) = (suc k, omega arith, e)
-
--- numbers that ascend
-
-abbrev pub Ascend : ℕ → List Proc → Type 0
-Ascend below [] = ⊤
-Ascend below (proc ∷ procs) = (below < proc.number) × Ascend proc.number procs
-
-ascend-weaker : (low below : ℕ) (procs : List Proc) → low ≤ below → Ascend below procs → Ascend low procs
-ascend-weaker low below [] le h = tt
-ascend-weaker low below (proc ∷ procs) le h = let less = h.0 in (omega arith, h.1)
-
-above-by : (below : ℕ) (first : Proc) (procs : List Proc) (proc : Proc) → Ascend below (first ∷ procs) → (Contains procs proc → first.number < proc.number) → (first ≡ proc) ⊎ Contains procs proc → below < proc.number
-above-by below first procs proc h more (inl e) = subst (λ (p : Proc). below < p.number) e h.0
-above-by below first procs proc h more (inr c) =
-    let less = h.0 in
-    let much = more c in
-    omega arith
-
-pub ascend-above : (below : ℕ) (procs : List Proc) (proc : Proc) → Ascend below procs → Contains procs proc → below < proc.number
-ascend-above below [] proc h c = let l = c.1 in absurd (omega arith)
-ascend-above below (first ∷ procs) proc h c = above-by below first procs proc h (ascend-above first.number procs proc h.1) (contains-cases first proc procs c)
-
-one-by : (first : Proc) (procs : List Proc) (p q : Proc) → Ascend first.number procs → (Contains procs p → Contains procs q → p ≡ q) → p.number ≡ q.number →
-    (first ≡ p) ⊎ Contains procs p → (first ≡ q) ⊎ Contains procs q → p ≡ q
-one-by first procs p q h rest e (inl f) (inl g) = sym f ∙ g
-one-by first procs p q h rest e (inl f) (inr d) =
-    let above = ascend-above first.number procs q h d in
-    let same : first.number ≡ p.number = ap (λ (x : Proc). x.number) f in
-    absurd (omega arith)
-one-by first procs p q h rest e (inr c) (inl g) =
-    let above = ascend-above first.number procs p h c in
-    let same : first.number ≡ q.number = ap (λ (x : Proc). x.number) g in
-    absurd (omega arith)
-one-by first procs p q h rest e (inr c) (inr d) = rest c d
-
--- so a number names one process
-one-number : (below : ℕ) (procs : List Proc) (p q : Proc) → Ascend below procs → p.number ≡ q.number → Contains procs p → Contains procs q → p ≡ q
-one-number below [] p q h e c d = let l = c.1 in absurd (omega arith)
-one-number below (first ∷ procs) p q h e c d =
-    one-by first procs p q h.1 (one-number first.number procs p q h.1 e) e (contains-cases first p procs c) (contains-cases first q procs d)
-
--- A bus whose processes stand by their numbers, and are where their bodies may have led them.
-
--- what is left of a process of this body, which the body may have led there
-abbrev pub IsLeft : List Body → ℕ → Option Process → Type 0
-IsLeft bodies number None = ⊤
-IsLeft bodies number (Some term) = (body : Body) × (slice_get bodies number ≡ Some body) × ((ticks : ℕ) × IsLedTo body.tree ticks term)
-
-abbrev pub IsLed : List Body → Proc → Type 0
-IsLed bodies proc = IsLeft bodies proc.body (Some proc.term)
-
-pub record InOrder (bus : Bus) : Type 0 where
-  pub ascend : Ascend 0 bus.procs
-  pub led : All (IsLed bus.program.bodies) bus.procs
-
--- the opening bus is one
-
-one-opened-ascend : (below number : ℕ) (root : Root) (body : Option Body) (rest : List Proc) → below < number → ((low : ℕ) → low ≤ number → Ascend low rest) → Ascend below (opened_one number root body ++ rest)
-one-opened-ascend below number root None rest l h = h below (omega arith)
-one-opened-ascend below number root (Some body) rest l h = (l, h number (omega arith))
-
-opened-ascend : (bodies : List Body) (below number : ℕ) (roots : List Root) → below < number → Ascend below (opened bodies number roots)
-opened-ascend bodies below number [] l = tt
-opened-ascend bodies below number (root ∷ roots) l =
-    one-opened-ascend below number root (slice_get bodies root.process) (opened bodies (number + 1) roots) l (λ low le. opened-ascend bodies low (number + 1) roots (omega arith))
-
-one-opened-led : (bodies : List Body) (number : ℕ) (root : Root) (body : Option Body) → slice_get bodies root.process ≡ body → All (IsLed bodies) (opened_one number root body)
-one-opened-led bodies number root None e = All-nil (IsLed bodies)
-one-opened-led bodies number root (Some body) e =
-    All-one (IsLed bodies) (record { number = number; body = root.process; term = fresh body.tree; store = opening_store body root.actuals }) (body, e, (0, entered))
-
-opened-led : (bodies : List Body) (number : ℕ) (roots : List Root) → All (IsLed bodies) (opened bodies number roots)
-opened-led bodies number [] = All-nil (IsLed bodies)
-opened-led bodies number (root ∷ roots) =
-    All-append (IsLed bodies) (opened_one number root (slice_get bodies root.process)) (opened bodies (number + 1) roots)
-    (one-opened-led bodies number root (slice_get bodies root.process) refl)
-    (opened-led bodies (number + 1) roots)
-
-pub start-in_order : (origin : Origin) → InOrder (start origin)
-start-in_order origin = record {
-  ascend = opened-ascend origin.program.bodies 0 1 origin.program.roots (omega arith);
-  led = opened-led origin.program.bodies 1 origin.program.roots;
-}
-
--- a process that goes on leaves the others where they are
-
-abbrev on_one : ℕ → Offered → List Bind → Proc → List Proc
-on_one number offered binds proc = if proc.number == number then proc_left proc (with_binds offered.store binds) offered.residual else proc ∷ []
-
-left-ascend : (below : ℕ) (proc : Proc) (store : List Slot) (left : Option Process) (rest : List Proc) → below < proc.number → ((low : ℕ) → low ≤ proc.number → Ascend low rest) → Ascend below (proc_left proc store left ++ rest)
-left-ascend below proc store None rest l h = h below (omega arith)
-left-ascend below proc store (Some term) rest l h = (l, h proc.number (omega arith))
-
-one-ascend : (below : ℕ) (proc : Proc) (offered : Offered) (binds : List Bind) (rest : List Proc) (b : Bool) → below < proc.number →
-    ((low : ℕ) → low ≤ proc.number → Ascend low rest) → Ascend below ((if b then proc_left proc (with_binds offered.store binds) offered.residual else proc ∷ []) ++ rest)
-one-ascend below proc offered binds rest true l h = left-ascend below proc (with_binds offered.store binds) offered.residual rest l h
-one-ascend below proc offered binds rest false l h = (l, h proc.number (omega arith))
-
-advance-ascend : (number : ℕ) (offered : Offered) (binds : List Bind) (below : ℕ) (procs : List Proc) → Ascend below procs → Ascend below (advance number offered binds procs)
-unfolding advance
-advance-ascend number offered binds below [] h = tt
-advance-ascend number offered binds below (proc ∷ procs) h =
-    let on = advance number offered binds procs in
-    let rest : Ascend proc.number on = advance-ascend number offered binds proc.number procs h.1 in
-    one-ascend below proc offered binds on (proc.number == number) h.0 (λ low le. ascend-weaker low proc.number on le rest)
-
--- what holds of the number and the body of each process still does
-
-left-keeps : (P : ℕ → ℕ → Type 0) (proc : Proc) (store : List Slot) (left : Option Process) → P proc.number proc.body → All (λ (p : Proc). P p.number p.body) (proc_left proc store left)
-left-keeps P proc store None h = All-nil _
-left-keeps P proc store (Some term) h = All-one (λ (p : Proc). P p.number p.body) (record proc { term = term; store = store }) h
-
-one-keeps : (P : ℕ → ℕ → Type 0) (offered : Offered) (binds : List Bind) (proc : Proc) (b : Bool) → P proc.number proc.body →
-    All (λ (p : Proc). P p.number p.body) (if b then proc_left proc (with_binds offered.store binds) offered.residual else proc ∷ [])
-one-keeps P offered binds proc true h = left-keeps P proc (with_binds offered.store binds) offered.residual h
-one-keeps P offered binds proc false h = All-one (λ (p : Proc). P p.number p.body) proc h
-
-advance-keeps : (P : ℕ → ℕ → Type 0) (number : ℕ) (offered : Offered) (binds : List Bind) (procs : List Proc) → All (λ (p : Proc). P p.number p.body) procs →
-    All (λ (p : Proc). P p.number p.body) (advance number offered binds procs)
-unfolding advance
-advance-keeps P number offered binds procs h =
-    All-flat_map (λ (p : Proc). P p.number p.body) (on_one number offered binds) procs
-    (All-weaker (λ (p : Proc). P p.number p.body) (λ proc. All (λ (p : Proc). P p.number p.body) (on_one number offered binds proc))
-    (λ proc here. one-keeps P offered binds proc (proc.number == number) here) procs h)
-
--- the process of this number may go on so, whichever body it has
-abbrev MayGo : List Body → ℕ → Option Process → ℕ → ℕ → Type 0
-MayGo bodies number left n body = n ≡ number → IsLeft bodies body left
-
-All-both : {X : Type 0} (P Q : X → Type 0) (xs : List X) → All P xs → All Q xs → All (λ x. P x × Q x) xs
-All-both P Q xs h g = All-weaker (Contains xs) (λ x. P x × Q x) (λ x c. (All-contains P xs x h c, All-contains Q xs x g c)) xs (All-contains_itself xs)
-
-left-led : (bodies : List Body) (proc : Proc) (store : List Slot) (left : Option Process) → IsLeft bodies proc.body left → All (IsLed bodies) (proc_left proc store left)
-left-led bodies proc store None h = All-nil (IsLed bodies)
-left-led bodies proc store (Some term) h = All-one (IsLed bodies) (record proc { term = term; store = store }) h
-
-one-led : (bodies : List Body) (number : ℕ) (offered : Offered) (binds : List Bind) (proc : Proc) (b : Bool) → (proc.number == number) ≡ b → MayGo bodies number offered.residual proc.number proc.body → IsLed bodies proc →
-    All (IsLed bodies) (if b then proc_left proc (with_binds offered.store binds) offered.residual else proc ∷ [])
-one-led bodies number offered binds proc true e may h = left-led bodies proc (with_binds offered.store binds) offered.residual (may (eqb-true proc.number number e))
-one-led bodies number offered binds proc false e may h = All-one (IsLed bodies) proc h
-
-advance-led : (bodies : List Body) (number : ℕ) (offered : Offered) (binds : List Bind) (procs : List Proc) → All (λ (p : Proc). MayGo bodies number offered.residual p.number p.body) procs → All (IsLed bodies) procs →
-    All (IsLed bodies) (advance number offered binds procs)
-unfolding advance
-advance-led bodies number offered binds procs may h =
-    let May : Proc → Type 0 = λ p. MayGo bodies number offered.residual p.number p.body in
-    All-flat_map (IsLed bodies) (on_one number offered binds) procs
-    (All-weaker (λ p. May p × IsLed bodies p) (λ proc. All (IsLed bodies) (on_one number offered binds proc))
-    (λ proc both. one-led bodies number offered binds proc (proc.number == number) refl both.0 both.1) procs (All-both May (IsLed bodies) procs may h))
-
 -- the moves of a bus name processes of it, what they offer, and what these offers are ready for
 
 abbrev IsOffered : Bus → Proc → Offered → Type 0
@@ -216,7 +51,7 @@ abbrev IsReadyFor : Bus → Proc → Offered → Action → Type 0
 IsReadyFor bus proc offered does = IsOffered bus proc offered × (action_by bus proc offered ≡ Some does)
 
 abbrev IsMoveOf : Bus → Move → Type 0
-IsMoveOf bus (Own proc offered effect) = (own : OwnAction) × IsReadyFor bus proc offered (action.Own own) × (effect_of bus proc offered own ≡ Some effect)
+IsMoveOf bus (Own proc offered effect) = (does : Action) × IsReadyFor bus proc offered does × (effect_of bus proc does ≡ Some effect)
 IsMoveOf bus (Handshake sender sent receiver received terms binds) =
     IsReadyFor bus sender sent (action.Send terms) × ((patterns : List Pattern) × IsReadyFor bus receiver received (action.Receive patterns) × (match_list patterns terms ≡ Some binds))
 IsMoveOf bus Finish = ⊤
@@ -233,6 +68,8 @@ handshake_of-moves : (bus : Bus) (sender : Proc) (sent : Offered) (terms : List 
 handshake_of-moves bus sender sent terms receiver received None h g e = All-nil (IsMoveOf bus)
 handshake_of-moves bus sender sent terms receiver received (Some (action.Own own)) h g e = All-nil (IsMoveOf bus)
 handshake_of-moves bus sender sent terms receiver received (Some (action.Send other)) h g e = All-nil (IsMoveOf bus)
+handshake_of-moves bus sender sent terms receiver received (Some (action.Notify other)) h g e = All-nil (IsMoveOf bus)
+handshake_of-moves bus sender sent terms receiver received (Some (action.TakeNote patterns)) h g e = All-nil (IsMoveOf bus)
 handshake_of-moves bus sender sent terms receiver received (Some (action.Receive patterns)) h g e =
     handshake_if-moves bus sender sent terms receiver received patterns (match_list patterns terms) h (g, e) refl
 
@@ -256,14 +93,16 @@ handshakes-moves bus sender sent terms h =
     (others bus sender)
     (All-filter (λ other. not (other.number == sender.number)) (Contains bus.procs) bus.procs (All-contains_itself bus.procs)))
 
-own_if-moves : (bus : Bus) (proc : Proc) (offered : Offered) (own : OwnAction) (effect : Option Effect) → IsReadyFor bus proc offered (action.Own own) → effect_of bus proc offered own ≡ effect →
+own_if-moves : (bus : Bus) (proc : Proc) (offered : Offered) (does : Action) (effect : Option Effect) → IsReadyFor bus proc offered does → effect_of bus proc does ≡ effect →
     All (IsMoveOf bus) (own_if proc offered effect)
-own_if-moves bus proc offered own None h e = All-nil (IsMoveOf bus)
-own_if-moves bus proc offered own (Some effect) h e = All-one (IsMoveOf bus) (Own proc offered effect) (own, h, e)
+own_if-moves bus proc offered does None h e = All-nil (IsMoveOf bus)
+own_if-moves bus proc offered does (Some effect) h e = All-one (IsMoveOf bus) (Own proc offered effect) (does, h, e)
 
 moves_by-moves : (bus : Bus) (proc : Proc) (offered : Offered) (does : Option Action) → IsOffered bus proc offered → action_by bus proc offered ≡ does → All (IsMoveOf bus) (moves_by bus proc offered does)
 moves_by-moves bus proc offered None h e = All-nil (IsMoveOf bus)
-moves_by-moves bus proc offered (Some (action.Own own)) h e = own_if-moves bus proc offered own (effect_of bus proc offered own) (h, e) refl
+moves_by-moves bus proc offered (Some (action.Own own)) h e = own_if-moves bus proc offered (action.Own own) (effect_of bus proc (action.Own own)) (h, e) refl
+moves_by-moves bus proc offered (Some (action.Notify terms)) h e = own_if-moves bus proc offered (action.Notify terms) (effect_of bus proc (action.Notify terms)) (h, e) refl
+moves_by-moves bus proc offered (Some (action.TakeNote patterns)) h e = own_if-moves bus proc offered (action.TakeNote patterns) (effect_of bus proc (action.TakeNote patterns)) (h, e) refl
 moves_by-moves bus proc offered (Some (action.Send terms)) h e = handshakes-moves bus proc offered terms (h, e)
 moves_by-moves bus proc offered (Some (action.Receive patterns)) h e = All-nil (IsMoveOf bus)
 
@@ -329,14 +168,9 @@ one-action bus p q o u does other same on e f =
     let both : ◌≡◌ {A = Option Action} (Some does) (Some other) = sym e ∙ (λ i. action_by bus (same i) (on i)) ∙ f in
     cc
 
-abbrev own_in : Action → OwnAction
-own_in (action.Own own) = own
-own_in (action.Send terms) = own.Tau
-own_in (action.Receive patterns) = own.Tau
-
-own-by : (bus : Bus) (p q : Proc) (o u : Offered) (does other : OwnAction) (effect last : Effect) → p ≡ q → o ≡ u → does ≡ other → effect_of bus p o does ≡ Some effect → effect_of bus q u other ≡ Some last → Own p o effect ≡ Own q u last
+own-by : (bus : Bus) (p q : Proc) (o u : Offered) (does other : Action) (effect last : Effect) → p ≡ q → o ≡ u → does ≡ other → effect_of bus p does ≡ Some effect → effect_of bus q other ≡ Some last → Own p o effect ≡ Own q u last
 own-by bus p q o u does other effect last same on e f g =
-    let both : ◌≡◌ {A = Option Effect} (Some effect) (Some last) = sym f ∙ (λ i. effect_of bus (same i) (on i) (e i)) ∙ g in
+    let both : ◌≡◌ {A = Option Effect} (Some effect) (Some last) = sym f ∙ (λ i. effect_of bus (same i) (e i)) ∙ g in
     let one : effect ≡ last = cc in
     λ i. Own (same i) (on i) (one i)
 
@@ -344,6 +178,8 @@ abbrev patterns_in : Action → List Pattern
 patterns_in (action.Own own) = []
 patterns_in (action.Send terms) = []
 patterns_in (action.Receive patterns) = patterns
+patterns_in (action.Notify terms) = []
+patterns_in (action.TakeNote patterns) = []
 
 one-match : (patterns others : List Pattern) (terms more : List Term) (binds last : List Bind) → patterns ≡ others → terms ≡ more → match_list patterns terms ≡ Some binds → match_list others more ≡ Some last → binds ≡ last
 one-match patterns others terms more binds last p t e f =
@@ -351,12 +187,12 @@ one-match patterns others terms more binds last p t e f =
     cc
 
 no-own : (bus : Bus) (proc : Proc) (offered : Offered) (effect : Effect) (other : LabelKind) → IsMoveOf bus (Own proc offered effect) → effect.kind ≡ other → IsOwnKind other
-no-own bus proc offered effect other h e = subst IsOwnKind e (subst IsOwnEffect h.2 (effect-own bus proc offered h.0))
+no-own bus proc offered effect other h e = subst IsOwnKind e (subst IsOwnEffect h.2 (effect-own bus proc h.0))
 
 same-move : (bus : Bus) (m n : Move) → InOrder bus → IsMoveOf bus m → IsMoveOf bus n → label_of m ≡ label_of n → m ≡ n
 same-move bus (Own p o effect) (Own q u last) h g f e =
     let same = same-offer bus p q o u h g.1.0 f.1.0 (ap (λ (x : Label). x.from.proc) e) (ap (λ (x : Label). x.from.atom) e) in
-    own-by bus p q o u g.0 f.0 effect last same.0 same.1 (ap own_in (one-action bus p q o u (action.Own g.0) (action.Own f.0) same.0 same.1 g.1.1 f.1.1)) g.2 f.2
+    own-by bus p q o u g.0 f.0 effect last same.0 same.1 (one-action bus p q o u g.0 f.0 same.0 same.1 g.1.1 f.1.1) g.2 f.2
 same-move bus (Own p o effect) (Handshake z a r y terms binds) h g f e = absurd (no-own bus p o effect kind.Msg g (ap (λ (x : Label). x.kind) e))
 same-move bus (Own p o effect) Finish h g f e = absurd (no-own bus p o effect kind.Finish g (ap (λ (x : Label). x.kind) e))
 same-move bus (Own p o effect) Halt h g f e = absurd (no-own bus p o effect kind.Halt g (ap (λ (x : Label). x.kind) e))
@@ -402,26 +238,37 @@ may-go bus proc offered h g =
     (λ p c. λ e. subst (λ (q : Proc). IsLeft bodies q.body offered.residual) (sym (one-number 0 bus.procs p proc h.ascend e c g.0)) left)
     bus.procs (All-contains_itself bus.procs)
 
+-- of the buses with these processes, a number of the processes is above 0, and below the next
+next-above : (bus : Bus) (proc : Proc) → InOrder bus → Contains bus.procs proc → (0 < bus.next_number) × (proc.number < bus.next_number)
+next-above bus proc h c =
+    let above = ascend-above 0 bus.procs proc h.ascend c in
+    let less = All-contains (λ (p : Proc). p.number < bus.next_number) bus.procs proc h.below c in
+    (omega (arith, above, less), less)
+
+own-in_order : (bus : Bus) (proc : Proc) (offered : Offered) (effect : Effect) → InOrder bus → IsOffered bus proc offered → InOrder (apply bus (Own proc offered effect))
+own-in_order bus proc offered effect h g =
+    let mid = changed effect.change proc.number bus in
+    let next = next-above bus proc h g.0 in
+    let less = next.1 in
+    let other : (process : ℕ) → MayGo bus.program.bodies proc.number offered.residual bus.next_number process = λ process e. absurd (omega (arith, e, less)) in
+    let may = changed-keeps (MayGo bus.program.bodies proc.number offered.residual) effect.change proc.number bus (may-go bus proc offered h g) other in
+    advance-in_order mid proc.number proc.number offered effect.binds (changed-in_order effect.change proc.number bus next.0 h)
+    (subst (λ (program : Program). All (λ (p : Proc). MayGo program.bodies proc.number offered.residual p.number p.body) mid.procs) (sym (changed-program effect.change proc.number bus)) may)
+
 apply-in_order : (bus : Bus) (move : Move) → InOrder bus → IsMoveOf bus move → InOrder (apply bus move)
-apply-in_order bus (Own proc offered effect) h g = record {
-  ascend = advance-ascend proc.number offered effect.binds 0 bus.procs h.ascend;
-  led = advance-led bus.program.bodies proc.number offered effect.binds bus.procs (may-go bus proc offered h g.1.0) h.led;
-}
+apply-in_order bus (Own proc offered effect) h g = own-in_order bus proc offered effect h g.1.0
 apply-in_order bus (Handshake sender sent receiver received terms binds) h g =
     let bodies = bus.program.bodies in
     let procs = advance sender.number sent [] bus.procs in
-    let led = advance-led bodies sender.number sent [] bus.procs (may-go bus sender sent h g.0.0) h.led in
+    let first = advance-in_order bus sender.number sender.number sent [] h (may-go bus sender sent h g.0.0) in
     let may = advance-keeps (MayGo bodies receiver.number received.residual) sender.number sent [] bus.procs (may-go bus receiver received h g.1.1.0) in
-    record {
-      ascend = advance-ascend receiver.number received binds 0 procs (advance-ascend sender.number sent [] 0 bus.procs h.ascend);
-      led = advance-led bodies receiver.number received binds procs may led;
-    }
-apply-in_order bus Finish h g = record { ascend = h.ascend; led = h.led }
-apply-in_order bus Halt h g = record { ascend = h.ascend; led = h.led }
+    advance-in_order (record bus { procs = procs; last_starter = sender.number }) receiver.number sender.number received binds first may
+apply-in_order bus Finish h g = record { ascend = h.ascend; below = h.below; led = h.led }
+apply-in_order bus Halt h g = record { ascend = h.ascend; below = h.below; led = h.led }
 
 fed-in_order : (bus : Bus) (input : Input) (down : Bool) → InOrder bus → InOrder (let a : Answer = if down then record { reply = Dropped Down; bus = bus } else took bus input in a.bus)
 fed-in_order bus input true h = h
-fed-in_order bus NoTicks false h = record { ascend = h.ascend; led = h.led }
+fed-in_order bus NoTicks false h = record { ascend = h.ascend; below = h.below; led = h.led }
 
 after-in_order : (bus : Bus) (entry : Entry) → InOrder bus → IsLegal bus entry (after bus entry) → InOrder (after bus entry)
 after-in_order bus (Did label) h g =

@@ -1,13 +1,15 @@
 -- Those that receive nothing are nobody's partner.
-use Rattle.std.proofs.Common.{◌≡◌, ℕ, ◌+◌, ◌<◌, ◌==◌, ◌||◌, List, [], ◌∷◌, ◌++◌, map, length, refl, ap, sym, ◌∙◌, Some, Bool, true, false, slice_get, if◌then◌else◌}
-use Rattle.std.proofs.lemmas.List.Elements.{All-nil, All-cons}
+use Rattle.std.proofs.Common.{◌≡◌, ℕ, ◌+◌, ◌<◌, ◌==◌, ◌||◌, List, [], ◌∷◌, ◌++◌, map, length, refl, ap, sym, ◌∙◌, Some, Bool, true, false, slice_get, if◌then◌else◌, drop, get_or, None, arith}
+use Rattle.std.proofs.lemmas.List.{length-map, get_or-map, drop_more}
+use Rattle.std.proofs.lemmas.List.Elements.{All-nil, All-cons, All-get_or}
 use Rattle.std.proofs.lemmas.Option.{get_or_from_slice_get, slice_get_within}
 use Rattle.std.specs.List.{All}
 use Rattle.tb_terms.specs.declared.term.Term.{Term}
-use Rattle.tb_bus.specs.Candidates.{first, no_row, reception, receptions, partner_in, partners, is_receive, has_receive, receivers, partners_among}
+use Rattle.tb_bus.specs.Candidates.{first, no_row, row_at, row_of, rows_of, reception, receptions, partner_in, partners, is_receive, has_receive, receivers, partners_among}
 use Rattle.tb_bus.specs.declared.action.Action.{Action}
 use Rattle.tb_bus.specs.declared.action.Action.TheVariants as action
 use Rattle.tb_bus.specs.declared.living.Ready.{Ready}
+use Rattle.tb_bus.specs.declared.living.Living.{Living}
 use Rattle.tb_bus.specs.Candidates.{Row}
 use Rattle.tb_bus.specs.declared.candidate.Received.{Received}
 use Rattle.tb_bus.proofs.PartLemmas.{StandAt, stand-whole, both-append}
@@ -21,6 +23,8 @@ reception-none : (terms : List Term) (index : ℕ) (does : Action) → is_receiv
 reception-none terms index (action.Own own) e = refl
 reception-none terms index (action.Send other) e = refl
 reception-none terms index (action.Receive patterns) e = cc
+reception-none terms index (action.Notify other) e = refl
+reception-none terms index (action.TakeNote patterns) e = refl
 
 receptions-none : (terms : List Term) (index : ℕ) (some : List Ready) → has_receive some ≡ false → receptions terms index some ≡ []
 receptions-none terms index [] e = refl
@@ -68,3 +72,21 @@ known_by rows indices e = (e, rw e (receivers_within rows))
 -- so the search among them is a search among all
 pub known_decide : (number : ℕ) (terms : List Term) (rows : List Row) (indices : List ℕ) → indices ≡ receivers 0 rows → first (partners_among number terms rows indices) ≡ first (partners number terms 0 rows)
 known_decide number terms rows indices e = ap (λ ps. first (partners_among number terms rows ps)) e ∙ ap first (partners_are_among number terms rows)
+
+nothing-first : {A : Type 0} (xs ys : List A) → None ≡ first xs → first (xs ++ ys) ≡ first ys
+nothing-first [] ys e = refl
+nothing-first (x ∷ xs) ys e = cc
+
+-- one that receives nothing of this is passed
+pub among-passed : {W : Type 0} (number : ℕ) (terms : List Term) (all : List (Living W)) (indices : List ℕ) (k : ℕ) (living : Living W) → k < length indices →
+    All (λ index. index < length (rows_of all)) indices → living ≡ get_or all (get_or indices k 0) living → None ≡ first (partner_in number terms (get_or indices k 0) (row_of living)) →
+    first (partners_among number terms (rows_of all) (drop (k + 1) indices)) ≡ first (partners_among number terms (rows_of all) (drop k indices))
+among-passed number terms all indices k living within are is none =
+    let index = get_or indices k 0 in
+    let inside : index < length (rows_of all) = All-get_or (λ index. index < length (rows_of all)) indices k 0 within are in
+    let many = length-map all row_of in
+    let row : row_at (rows_of all) index ≡ row_of living = get_or-map row_of all index living no_row (omega (arith, inside, many)) ∙ ap row_of (sym is) in
+    let rest = partners_among number terms (rows_of all) (drop (k + 1) indices) in
+    sym (ap (λ xs. first (partners_among number terms (rows_of all) xs)) (drop_more indices k 0 within)
+    ∙ ap (λ r. first (partner_in number terms index r ++ rest)) row
+    ∙ nothing-first (partner_in number terms index (row_of living)) rest none)

@@ -1,5 +1,5 @@
 -- Rows that stand for the processes of a bus: what a search over them finds is what the bus may do.
-use Rattle.std.proofs.Common.{◌≡◌, ℕ, ◌+◌, ◌<◌, ◌≤◌, ◌==◌, zero, suc, List, [], ◌∷◌, ◌++◌, map, filter, take, drop, refl, ap, sym, ◌∙◌, arith, Option, Some, None, option_map, Bool, true, false, not, nat_lt, nat_le, append-nil, slice_get, slice_index_or, if◌then◌else◌}
+use Rattle.std.proofs.Common.{◌≡◌, ℕ, ◌+◌, ◌<◌, ◌≤◌, ◌==◌, zero, suc, List, [], ◌∷◌, ◌++◌, map, filter, take, drop, refl, ap, sym, ◌∙◌, arith, Option, Some, None, option_map, Bool, true, false, not, nat_lt, nat_le, append-nil, slice_get, slice_index_or, if◌then◌else◌, is_some, option_to_list}
 use Rattle.std.proofs.lemmas.Grind.{flat_map-append}
 use Rattle.std.proofs.lemmas.Bool.{leb-true, leb-false, lt-ltb, le-leb, le-ltb, lt-leb}
 use Rattle.std.proofs.lemmas.List.{map-append}
@@ -11,22 +11,25 @@ use Rattle.tb_match.specs.Matches.{match_list}
 use Rattle.tb_body.specs.declared.atom.Atom.{Atom}
 use Rattle.tb_body.specs.declared.body.Body.{Body}
 use Rattle.tb_algebra.specs.Offers.{Offered, offers}
+use Rattle.tb_notes.specs.Inboxes.{Held, oldest_match}
+use Rattle.tb_notes.specs.declared.queue.Found.{Found}
 use Rattle.tb_bus.specs.Buses.{Bus, Proc, atoms_of}
 use Rattle.tb_bus.specs.Actions.{action_of}
 use Rattle.tb_bus.specs.Steps.{Move, Handshake, Halt, handshake_if, handshake_of, handshakes_with, handshakes, own_if, moves_by, moves_of, moves_of_all, moves, moves_while_up, moves_or_halt}
-use Rattle.tb_bus.specs.Candidates.{first, ready_one, readies, received_if, reception, receptions, partner_in, partners, candidates_by, candidates_among, candidates_of, candidates_from, up_to, candidates_in_turn, candidates_or_halt, candidates_while_up, all_candidates, ascend}
-use Rattle.tb_bus.specs.Views.{IsRowOf, AreRowsOf, no_proc, no_offer, no_ready, proc_at, ready_at, offer_at, offer_of, own_move, move_of, sent_in}
+use Rattle.tb_bus.specs.Effects.{Effect, taking, own_effect, effect_of}
+use Rattle.tb_bus.specs.Candidates.{Row, Scene, first, ready_one, readies, received_if, reception, receptions, partner_in, partners, all_take, wanting, may_happen, candidates_by, candidates_among, candidates_of, candidates_from, up_to, candidates_in_turn, candidates_or_halt, candidates_while_up, all_candidates, scene_of, ascend}
+use Rattle.tb_bus.specs.Views.{IsRowOf, AreRowsOf, no_proc, no_offer, no_ready, proc_at, ready_at, offer_at, offer_of, own_move, move_by, move_of, sent_in, IsSearchedFor}
+use Rattle.tb_bus.specs.declared.marks.Marks.{Marks}
 use Rattle.tb_bus.specs.declared.action.Action.{Action}
 use Rattle.tb_bus.specs.declared.action.Action.TheVariants as action
 use Rattle.tb_bus.specs.declared.living.Ready.{Ready}
-use Rattle.tb_bus.specs.Candidates.{Row}
 use Rattle.tb_bus.specs.declared.candidate.Received.{Received}
 use Rattle.tb_bus.specs.declared.candidate.Partner.{Partner}
 use Rattle.tb_bus.specs.declared.candidate.Candidate.{Candidate}
 use Rattle.tb_bus.specs.declared.candidate.Candidate.TheVariants as candidate
 use Rattle.tb_bus.proofs.PartLemmas.{StandAt, stand-whole, stand-drop, stand-take, map-twice, both-append}
 use Rattle.tb_bus.proofs.TurnLemmas.{ascend-first}
-use Rattle.tb_bus.proofs.EffectLemmas.{effect-is}
+use Rattle.tb_bus.proofs.EffectLemmas.{IsSceneOf, scene-is, happens-is, notifies-is}
 
 -- what stands at an index of a row
 pub ready_at-is : (rows : List Row) (at index : ℕ) (row : Row) (ready : Ready) → slice_get rows at ≡ Some row → slice_get row.ready index ≡ Some ready → ready_at rows at index ≡ ready
@@ -73,6 +76,8 @@ module _ (procs : List Proc) (rows : List Row) (sender : Proc) (sent : Offered) 
       map (λ received. shaken procs rows sender sent terms (partner_at at received)) (reception terms index does) ≡ handshake_of sender sent terms proc (offer_at proc ready.offer) (Some does)
   shaken-reception at index proc ready e f (action.Own own) = refl
   shaken-reception at index proc ready e f (action.Send other) = refl
+  shaken-reception at index proc ready e f (action.Notify other) = refl
+  shaken-reception at index proc ready e f (action.TakeNote patterns) = refl
   shaken-reception at index proc ready e f (action.Receive patterns) = shaken-if at index proc ready e f (match_list patterns terms)
 
   -- the actions of one process that receive are its handshakes
@@ -121,56 +126,87 @@ module _ (bus : Bus) (rows : List Row) where
       ∙ ap (λ n. if not (n == sender.number) then meets proc ++ flat_map meets others else flat_map meets others) h.0.number
       ∙ kept-by meets (not (proc.number == sender.number)) proc others
 
-  module _ (are : AreRowsOf bus.program.bodies bus.now rows bus.procs) where
-    shaken-all : (sender : Proc) (sent : Offered) (terms : List Term) → map (shaken bus.procs rows sender sent terms) (partners sender.number terms 0 rows) ≡ handshakes bus sender sent terms
-    unfolding handshakes
-    shaken-all sender sent terms = shaken-partners sender sent terms 0 rows bus.procs (stand-whole rows) (stand-whole bus.procs) are
+-- an action is found where it has an effect
+found-by : (b : Bool) (proc : Proc) (offered : Offered) (effect : Option Effect) → b ≡ is_some effect → (if b then own_move proc offered effect ∷ [] else []) ≡ own_if proc offered effect
+found-by true proc offered None e = cc
+found-by true proc offered (Some effect) e = refl
+found-by false proc offered None e = refl
+found-by false proc offered (Some effect) e = cc
 
-    -- what one action leads to
-    moved-by : (at index number : ℕ) (proc : Proc) (ready : Ready) → proc_at bus.procs at ≡ proc → ready_at rows at index ≡ ready → number ≡ proc.number → (does : Action) → ready.action ≡ does →
-        map (move_of bus.procs rows) (candidates_by rows at number index does) ≡ moves_by bus proc (offer_at proc ready.offer) (Some does)
-    moved-by at index number proc ready e f n (action.Own own) d =
-        ap (λ (p : Proc). own_move p (offer_at p (ready_at rows at index).offer) (ready_at rows at index).action ∷ []) e
-        ∙ ap (λ (r : Ready). own_move proc (offer_at proc r.offer) r.action ∷ []) f
-        ∙ ap (λ d. own_move proc (offer_at proc ready.offer) d ∷ []) d
-        ∙ ap (own_if proc (offer_at proc ready.offer)) (sym (effect-is bus proc (offer_at proc ready.offer) own))
-    moved-by at index number proc ready e f n (action.Send terms) d =
-        let partners_now = partners number terms 0 rows in
-        map-twice (move_of bus.procs rows) (candidate.Handshake at index) partners_now
-        ∙ ap (λ (p : Proc). map (shaken bus.procs rows p (offer_at p (ready_at rows at index).offer) (sent_in (ready_at rows at index).action)) partners_now) e
-        ∙ ap (λ (r : Ready). map (shaken bus.procs rows proc (offer_at proc r.offer) (sent_in r.action)) partners_now) f
-        ∙ ap (λ d. map (shaken bus.procs rows proc (offer_at proc ready.offer) (sent_in d)) partners_now) d
-        ∙ ap (λ n. map (shaken bus.procs rows proc (offer_at proc ready.offer) terms) (partners n terms 0 rows)) n
-        ∙ shaken-all proc (offer_at proc ready.offer) terms
-    moved-by at index number proc ready e f n (action.Receive patterns) d = refl
+map-if : {A B : Type 0} (f : A → B) (b : Bool) (x : A) (y : B) → f x ≡ y → map f (if b then x ∷ [] else []) ≡ (if b then y ∷ [] else [])
+map-if f true x y e = ap (λ z. z ∷ []) e
+map-if f false x y e = refl
 
-    -- what the actions of one process lead to
-    moved-among : (at : ℕ) (row : Row) (proc : Proc) → slice_get rows at ≡ Some row → slice_get bus.procs at ≡ Some proc → row.number ≡ proc.number → (index : ℕ) (some : List Ready) → StandAt row.ready index some →
-        map (move_of bus.procs rows) (candidates_among rows at row.number index some) ≡ flat_map (λ (ready : Ready). moves_by bus proc (offer_at proc ready.offer) (Some ready.action)) some
-    moved-among at row proc e f n index [] h = refl
-    moved-among at row proc e f n index (ready ∷ others) h =
-        map-append (move_of bus.procs rows) (candidates_by rows at row.number index ready.action) (candidates_among rows at row.number (index + 1) others)
-        ∙ both-append _ _ _ _
-        (moved-by at index row.number proc ready (get_or_from_slice_get bus.procs at proc no_proc f) (ready_at-is rows at index row ready e h.0) n ready.action refl)
-        (moved-among at row proc e f n (index + 1) others h.1)
+-- and a note where there is one to take
+taken-by : (view : Candidate → Move) (make : Found → Candidate) (proc : Proc) (offered : Offered) (effect : Option Effect) (inbox : Held) (found : Option Found) →
+    ((f : Found) → view (make f) ≡ own_move proc offered effect) → effect ≡ option_map (taking inbox) found → map view (map make (option_to_list found)) ≡ own_if proc offered effect
+taken-by view make proc offered effect inbox None h e = ap (own_if proc offered) (sym e)
+taken-by view make proc offered effect inbox (Some found) h e =
+    ap (λ move. move ∷ []) (h found ∙ ap (own_move proc offered) e) ∙ ap (own_if proc offered) (sym e)
 
-    moved-of : (at : ℕ) (row : Row) (proc : Proc) → slice_get rows at ≡ Some row → slice_get bus.procs at ≡ Some proc → IsRowOf bus.program.bodies bus.now row proc →
-        map (move_of bus.procs rows) (candidates_of rows at row) ≡ moves_of bus proc
-    unfolding moves_of
-    moved-of at row proc e f is =
-        moved-among at row proc e f is.number 0 row.ready (stand-whole row.ready)
-        ∙ ap (flat_map (λ (ready : Ready). moves_by bus proc (offer_at proc ready.offer) (Some ready.action))) is.ready
-        ∙ offered-readies (moves_by bus proc) (λ offered. refl) (atoms_of bus.program.bodies proc.body) bus.now (offers proc.term proc.store) 0 (offers proc.term proc.store) (stand-whole (offers proc.term proc.store))
+module _ (bus : Bus) (scene : Scene) (is : IsSceneOf bus scene) where
+  shaken-all : (sender : Proc) (sent : Offered) (terms : List Term) → map (shaken bus.procs scene.rows sender sent terms) (partners sender.number terms 0 scene.rows) ≡ handshakes bus sender sent terms
+  unfolding handshakes
+  shaken-all sender sent terms = shaken-partners bus scene.rows sender sent terms 0 scene.rows bus.procs (stand-whole scene.rows) (stand-whole bus.procs) is.rows_are
 
-    -- what a part of the processes leads to
-    moved-from : (at : ℕ) (some : List Row) (them : List Proc) → StandAt rows at some → StandAt bus.procs at them → AreRowsOf bus.program.bodies bus.now some them →
-        map (move_of bus.procs rows) (candidates_from rows at some) ≡ flat_map (moves_of bus) them
-    moved-from at [] [] e f h = refl
-    moved-from at [] (proc ∷ them) e f h = absurd h
-    moved-from at (row ∷ some) [] e f h = absurd h
-    moved-from at (row ∷ some) (proc ∷ them) e f h =
-        map-append (move_of bus.procs rows) (candidates_of rows at row) (candidates_from rows (at + 1) some)
-        ∙ both-append _ _ _ _ (moved-of at row proc e.0 f.0 h.0) (moved-from (at + 1) some them e.1 f.1 h.1)
+  -- what the action at an index leads to, where its process makes it by itself
+  move_by-is : (at index : ℕ) (proc : Proc) (ready : Ready) → proc_at bus.procs at ≡ proc → ready_at scene.rows at index ≡ ready → (does : Action) → ready.action ≡ does →
+      move_by bus scene.rows at index ≡ own_move proc (offer_at proc ready.offer) (effect_of bus proc does)
+  move_by-is at index proc ready e f does d =
+      ap (λ (p : Proc). own_move p (offer_at p (ready_at scene.rows at index).offer) (effect_of bus p (ready_at scene.rows at index).action)) e
+      ∙ ap (λ (r : Ready). own_move proc (offer_at proc r.offer) (effect_of bus proc r.action)) f
+      ∙ ap (λ d. own_move proc (offer_at proc ready.offer) (effect_of bus proc d)) d
+
+  -- what one action leads to
+  moved-by : (at index : ℕ) (row : Row) (proc : Proc) (ready : Ready) → proc_at bus.procs at ≡ proc → ready_at scene.rows at index ≡ ready → IsRowOf bus.program.bodies bus.now row proc → (does : Action) → ready.action ≡ does →
+      map (move_of bus scene.rows) (candidates_by scene at row index does) ≡ moves_by bus proc (offer_at proc ready.offer) (Some does)
+  moved-by at index row proc ready e f row_is (action.Own own) d =
+      map-if (move_of bus scene.rows) (may_happen scene row own) (candidate.Own at index) _ (move_by-is at index proc ready e f (action.Own own) d)
+      ∙ found-by (may_happen scene row own) proc (offer_at proc ready.offer) (own_effect bus proc own) (happens-is bus scene is row proc row_is.inbox row_is.body own)
+  moved-by at index row proc ready e f row_is (action.Send terms) d =
+      let partners_now = partners row.number terms 0 scene.rows in
+      map-twice (move_of bus scene.rows) (candidate.Handshake at index) partners_now
+      ∙ ap (λ (p : Proc). map (shaken bus.procs scene.rows p (offer_at p (ready_at scene.rows at index).offer) (sent_in (ready_at scene.rows at index).action)) partners_now) e
+      ∙ ap (λ (r : Ready). map (shaken bus.procs scene.rows proc (offer_at proc r.offer) (sent_in r.action)) partners_now) f
+      ∙ ap (λ d. map (shaken bus.procs scene.rows proc (offer_at proc ready.offer) (sent_in d)) partners_now) d
+      ∙ ap (λ n. map (shaken bus.procs scene.rows proc (offer_at proc ready.offer) terms) (partners n terms 0 scene.rows)) row_is.number
+      ∙ shaken-all proc (offer_at proc ready.offer) terms
+  moved-by at index row proc ready e f row_is (action.Receive patterns) d = refl
+  moved-by at index row proc ready e f row_is (action.Notify terms) d =
+      map-if (move_of bus scene.rows) (all_take terms scene.rows) (candidate.Notify at index (wanting terms 0 scene.rows)) _ (move_by-is at index proc ready e f (action.Notify terms) d)
+      ∙ found-by (all_take terms scene.rows) proc (offer_at proc ready.offer) (effect_of bus proc (action.Notify terms)) (notifies-is bus scene is proc terms)
+  moved-by at index row proc ready e f row_is (action.TakeNote patterns) d =
+      ap (λ inbox. map (move_of bus scene.rows) (map (candidate.TakeNote at index) (option_to_list (oldest_match patterns inbox)))) row_is.inbox
+      ∙ taken-by (move_of bus scene.rows) (candidate.TakeNote at index) proc (offer_at proc ready.offer) (effect_of bus proc (action.TakeNote patterns)) proc.inbox (oldest_match patterns proc.inbox)
+      (λ found. move_by-is at index proc ready e f (action.TakeNote patterns) d) refl
+
+  -- what the actions of one process lead to
+  moved-among : (at : ℕ) (row : Row) (proc : Proc) → slice_get scene.rows at ≡ Some row → slice_get bus.procs at ≡ Some proc → IsRowOf bus.program.bodies bus.now row proc → (index : ℕ) (some : List Ready) → StandAt row.ready index some →
+      map (move_of bus scene.rows) (candidates_among scene at row index some) ≡ flat_map (λ (ready : Ready). moves_by bus proc (offer_at proc ready.offer) (Some ready.action)) some
+  moved-among at row proc e f row_is index [] h = refl
+  moved-among at row proc e f row_is index (ready ∷ others) h =
+      map-append (move_of bus scene.rows) (candidates_by scene at row index ready.action) (candidates_among scene at row (index + 1) others)
+      ∙ both-append _ _ _ _
+      (moved-by at index row proc ready (get_or_from_slice_get bus.procs at proc no_proc f) (ready_at-is scene.rows at index row ready e h.0) row_is ready.action refl)
+      (moved-among at row proc e f row_is (index + 1) others h.1)
+
+  moved-of : (at : ℕ) (row : Row) (proc : Proc) → slice_get scene.rows at ≡ Some row → slice_get bus.procs at ≡ Some proc → IsRowOf bus.program.bodies bus.now row proc →
+      map (move_of bus scene.rows) (candidates_of scene at row) ≡ moves_of bus proc
+  unfolding moves_of
+  moved-of at row proc e f row_is =
+      moved-among at row proc e f row_is 0 row.ready (stand-whole row.ready)
+      ∙ ap (flat_map (λ (ready : Ready). moves_by bus proc (offer_at proc ready.offer) (Some ready.action))) row_is.ready
+      ∙ offered-readies (moves_by bus proc) (λ offered. refl) (atoms_of bus.program.bodies proc.body) bus.now (offers proc.term proc.store) 0 (offers proc.term proc.store) (stand-whole (offers proc.term proc.store))
+
+  -- what a part of the processes leads to
+  moved-from : (at : ℕ) (some : List Row) (them : List Proc) → StandAt scene.rows at some → StandAt bus.procs at them → AreRowsOf bus.program.bodies bus.now some them →
+      map (move_of bus scene.rows) (candidates_from scene at some) ≡ flat_map (moves_of bus) them
+  moved-from at [] [] e f h = refl
+  moved-from at [] (proc ∷ them) e f h = absurd h
+  moved-from at (row ∷ some) [] e f h = absurd h
+  moved-from at (row ∷ some) (proc ∷ them) e f h =
+      map-append (move_of bus scene.rows) (candidates_of scene at row) (candidates_from scene (at + 1) some)
+      ∙ both-append _ _ _ _ (moved-of at row proc e.0 f.0 h.0) (moved-from (at + 1) some them e.1 f.1 h.1)
 
 -- the first of what is made of each
 pub first-map : {A B : Type 0} (f : A → B) (xs : List A) → option_map f (first xs) ≡ first (map f xs)
@@ -270,51 +306,53 @@ module _ (bodies : List Body) (now : ℕ) where
       let rest = turn-parts row.number last rows procs h.1 t.1 in
       after-by below last row rows proc procs h a rest.0 rest.1 (nat_le row.number last) refl
 
--- What a search in turn finds is what the processes may do, in turn.
-pub moves_in_turn : (bus : Bus) (rows : List Row) → AreRowsOf bus.program.bodies bus.now rows bus.procs → ascend 0 rows ≡ true →
-    map (move_of bus.procs rows) (candidates_in_turn rows bus.last_starter) ≡ moves_of_all bus
-unfolding candidates_in_turn moves_of_all
-moves_in_turn bus rows are a =
-    let at = up_to bus.last_starter rows in
-    let bodies = bus.program.bodies in
-    let view = move_of bus.procs rows in
-    let parts = turn-parts bodies bus.now 0 bus.last_starter rows bus.procs are a in
-    let after = filter (is_after bus.last_starter) bus.procs in
-    let others = filter (is_up_to bus.last_starter) bus.procs in
-    map-append view (candidates_from rows at (drop at rows)) (candidates_from rows 0 (take at rows))
-    ∙ both-append _ _ _ _
-    (moved-from bus rows are at (drop at rows) (drop at bus.procs) (stand-drop at rows) (stand-drop at bus.procs) (rows-drop bodies bus.now at rows bus.procs are) ∙ ap (flat_map (moves_of bus)) (sym parts.0))
-    (moved-from bus rows are 0 (take at rows) (take at bus.procs) (stand-take at rows) (stand-take at bus.procs) (rows-take bodies bus.now at rows bus.procs are) ∙ ap (flat_map (moves_of bus)) (sym parts.1))
-    ∙ sym (flat_map-append (moves_of bus) after others)
-
 or_halt-map : (view : Candidate → Move) → view candidate.Halt ≡ Halt → (no_ticks : Bool) (candidates : List Candidate) → map view (candidates_or_halt no_ticks candidates) ≡ moves_or_halt no_ticks (map view candidates)
 or_halt-map view e true [] = ap (λ move. move ∷ []) e
 or_halt-map view e false [] = refl
 or_halt-map view e no_ticks (found ∷ candidates) = refl
 
-while_up-map : (bus : Bus) (rows : List Row) → AreRowsOf bus.program.bodies bus.now rows bus.procs → ascend 0 rows ≡ true →
-    (some : List Row) (them : List Proc) → AreRowsOf bus.program.bodies bus.now some them → map (move_of bus.procs rows) (candidates_while_up rows bus.last_starter bus.no_ticks some) ≡ moves_while_up bus them
-while_up-map bus rows are a [] [] h = refl
-while_up-map bus rows are a [] (proc ∷ them) h = absurd h
-while_up-map bus rows are a (row ∷ some) [] h = absurd h
-while_up-map bus rows are a (row ∷ some) (proc ∷ them) h =
-    or_halt-map (move_of bus.procs rows) refl bus.no_ticks (candidates_in_turn rows bus.last_starter)
-    ∙ ap (moves_or_halt bus.no_ticks) (moves_in_turn bus rows are a)
-
 down-map : (view : Candidate → Move) (down : Bool) (candidates : List Candidate) → map view (if down then [] else candidates) ≡ (if down then [] else map view candidates)
 down-map view true candidates = refl
 down-map view false candidates = refl
 
--- What a search finds is what may happen next, in order.
-pub moves_found : (bus : Bus) (rows : List Row) → AreRowsOf bus.program.bodies bus.now rows bus.procs → ascend 0 rows ≡ true →
-    map (move_of bus.procs rows) (all_candidates rows bus.last_starter bus.no_ticks bus.down) ≡ moves bus
-unfolding all_candidates moves
-moves_found bus rows are a =
-    down-map (move_of bus.procs rows) bus.down (candidates_while_up rows bus.last_starter bus.no_ticks rows)
-    ∙ ap (λ ms. if bus.down then [] else ms) (while_up-map bus rows are a rows bus.procs are)
+module _ (bus : Bus) (bodies : List Body) (rows : List Row) (marks : Marks) (is : IsSearchedFor bus bodies rows marks) (a : ascend 0 rows ≡ true) where
+  -- What a search in turn finds is what the processes may do, in turn.
+  moves_in_turn : map (move_of bus rows) (candidates_in_turn (scene_of bodies rows marks) bus.last_starter) ≡ moves_of_all bus
+  unfolding candidates_in_turn moves_of_all
+  moves_in_turn =
+      let scene = scene_of bodies rows marks in
+      let scene_is = scene-is bus bodies rows marks is in
+      let at = up_to bus.last_starter rows in
+      let view = move_of bus rows in
+      let parts = turn-parts bus.program.bodies bus.now 0 bus.last_starter rows bus.procs scene_is.rows_are a in
+      let after = filter (is_after bus.last_starter) bus.procs in
+      let others = filter (is_up_to bus.last_starter) bus.procs in
+      map-append view (candidates_from scene at (drop at rows)) (candidates_from scene 0 (take at rows))
+      ∙ both-append _ _ _ _
+      (moved-from bus scene scene_is at (drop at rows) (drop at bus.procs) (stand-drop at rows) (stand-drop at bus.procs) (rows-drop bus.program.bodies bus.now at rows bus.procs scene_is.rows_are) ∙ ap (flat_map (moves_of bus)) (sym parts.0))
+      (moved-from bus scene scene_is 0 (take at rows) (take at bus.procs) (stand-take at rows) (stand-take at bus.procs) (rows-take bus.program.bodies bus.now at rows bus.procs scene_is.rows_are) ∙ ap (flat_map (moves_of bus)) (sym parts.1))
+      ∙ sym (flat_map-append (moves_of bus) after others)
 
--- The first that a search finds is the first move.
-pub first_moves : (bus : Bus) (rows : List Row) → AreRowsOf bus.program.bodies bus.now rows bus.procs → ascend 0 rows ≡ true →
-    option_map (move_of bus.procs rows) (first (all_candidates rows bus.last_starter bus.no_ticks bus.down)) ≡ first (moves bus)
-first_moves bus rows are a =
-    first-map (move_of bus.procs rows) (all_candidates rows bus.last_starter bus.no_ticks bus.down) ∙ ap first (moves_found bus rows are a)
+  while_up-map : (some : List Row) (them : List Proc) → AreRowsOf bodies bus.now some them → map (move_of bus rows) (candidates_while_up (scene_of bodies rows marks) marks some) ≡ moves_while_up bus them
+  while_up-map [] [] h = refl
+  while_up-map [] (proc ∷ them) h = absurd h
+  while_up-map (row ∷ some) [] h = absurd h
+  while_up-map (row ∷ some) (proc ∷ them) h =
+      let scene = scene_of bodies rows marks in
+      let view = move_of bus rows in
+      or_halt-map view refl marks.no_ticks (candidates_in_turn scene marks.last_starter)
+      ∙ ap (λ no_ticks. moves_or_halt no_ticks (map view (candidates_in_turn scene marks.last_starter))) (sym is.no_ticks_is)
+      ∙ ap (λ last. moves_or_halt bus.no_ticks (map view (candidates_in_turn scene last))) (sym is.last_is)
+      ∙ ap (moves_or_halt bus.no_ticks) moves_in_turn
+
+  -- What a search finds is what may happen next, in order.
+  pub moves_found : map (move_of bus rows) (all_candidates bodies rows marks) ≡ moves bus
+  unfolding all_candidates moves
+  moves_found =
+      down-map (move_of bus rows) marks.down (candidates_while_up (scene_of bodies rows marks) marks rows)
+      ∙ ap (λ ms. if marks.down then [] else ms) (while_up-map rows bus.procs is.rows_are)
+      ∙ ap (λ down. if down then [] else moves_while_up bus bus.procs) (sym is.down_is)
+
+  -- The first that a search finds is the first move.
+  pub first_moves : option_map (move_of bus rows) (first (all_candidates bodies rows marks)) ≡ first (moves bus)
+  first_moves = first-map (move_of bus rows) (all_candidates bodies rows marks) ∙ ap first moves_found

@@ -14,6 +14,7 @@ use Rattle.tb_log.specs.declared.entry.Why.TheVariants.{Down}
 use Rattle.tb_log.specs.declared.entry.Entry.{Entry}
 use Rattle.tb_log.specs.declared.entry.Entry.TheVariants.{Did, Quiet, Fed}
 use Rattle.tb_terms.proofs.SameLemmas.{is_same-refl}
+use Rattle.tb_bus.proofs.ChangeLemmas.{changed-program}
 
 -- a log leads on from where its first part leads
 pub replay-append : (bus : Bus) (xs ys : List Entry) → replay bus (xs ++ ys) ≡ replay (replay bus xs) ys
@@ -83,7 +84,7 @@ legal-fed bus input reply h e = ((h, ap (λ (r : Reply). let a : Answer = record
 
 -- no move changes the program
 pub apply-program : (bus : Bus) (move : Move) → (apply bus move).program ≡ bus.program
-apply-program bus (Own proc offered effect) = refl
+apply-program bus (Own proc offered effect) = changed-program effect.change proc.number bus
 apply-program bus (Handshake sender sent receiver received terms binds) = refl
 apply-program bus Finish = refl
 apply-program bus Halt = refl

@@ -1,11 +1,12 @@
 -- The order in which the processes are asked, where they stand by their numbers.
-use Rattle.std.proofs.Common.{◌≡◌, ℕ, ◌<◌, ◌≤◌, zero, suc, List, [], ◌∷◌, ◌++◌, take, drop, length, refl, ap, sym, ◌∙◌, arith, rules, Some, None, Bool, true, false, ◌==◌, nat_lt, nat_le, get_or}
+use Rattle.std.proofs.Common.{◌≡◌, ℕ, ◌<◌, ◌≤◌, zero, suc, List, [], ◌∷◌, ◌++◌, take, drop, length, refl, ap, sym, ◌∙◌, arith, rules, Some, None, Bool, true, false, ◌==◌, nat_lt, nat_le, get_or, if◌then◌else◌, Option}
 use Rattle.std.proofs.lemmas.Bool.{leb-true, le-leb, eqb-true}
 use Rattle.std.proofs.lemmas.List.{length-map, get_or-map}
 use Rattle.std.specs.List.{AllWithin}
 use Rattle.std.specs.List.Sorted.{IsPartitionedBy, IsPartitionPoint}
-use Rattle.tb_bus.specs.Candidates.{first, candidates_from, candidates_in_turn, candidates_or_halt, all_candidates, up_to, ascend, row_of, rows_of}
-use Rattle.tb_bus.specs.Candidates.{Row}
+use Rattle.tb_body.specs.declared.body.Body.{Body}
+use Rattle.tb_bus.specs.Candidates.{Row, Scene, first, candidates_from, candidates_in_turn, candidates_or_halt, candidates_while_up, all_candidates, scene_of, up_to, ascend, row_of, rows_of}
+use Rattle.tb_bus.specs.declared.marks.Marks.{Marks}
 use Rattle.tb_bus.specs.declared.living.Living.{Living}
 use Rattle.tb_bus.specs.declared.candidate.Candidate.{Candidate}
 use Rattle.tb_bus.specs.declared.candidate.Candidate.TheVariants.{Finish}
@@ -70,18 +71,21 @@ none-from_first [] e = refl
 none-from_first (x ∷ xs) e = cc
 
 -- what is found behind the last starter is the first in turn
-pub turn-found : (rows : List Row) (last start : ℕ) (found : Candidate) → start ≡ up_to last rows → Some found ≡ first (candidates_from rows start (drop start rows)) → Some found ≡ first (candidates_in_turn rows last)
+pub turn-found : (scene : Scene) (last start : ℕ) (found : Candidate) → start ≡ up_to last scene.rows → Some found ≡ first (candidates_from scene start (drop start scene.rows)) →
+    Some found ≡ first (candidates_in_turn scene last)
 unfolding candidates_in_turn
-turn-found rows last start found e hit =
-    first-append_some (candidates_from rows (up_to last rows) (drop (up_to last rows) rows)) (candidates_from rows 0 (take (up_to last rows) rows)) found (rw e at hit)
+turn-found scene last start found e hit =
+    let at = up_to last scene.rows in
+    first-append_some (candidates_from scene at (drop at scene.rows)) (candidates_from scene 0 (take at scene.rows)) found (rw e at hit)
 
 -- where nothing is found there, the first of the others is
-pub turn-again : (rows : List Row) (last start : ℕ) → start ≡ up_to last rows → None ≡ first (candidates_from rows start (drop start rows)) → first (candidates_from rows 0 (take start rows)) ≡ first (candidates_in_turn rows last)
+pub turn-again : (scene : Scene) (last start : ℕ) → start ≡ up_to last scene.rows → None ≡ first (candidates_from scene start (drop start scene.rows)) →
+    first (candidates_from scene 0 (take start scene.rows)) ≡ first (candidates_in_turn scene last)
 unfolding candidates_in_turn
-turn-again rows last start e miss =
-    let at = up_to last rows in
-    let nothing : candidates_from rows at (drop at rows) ≡ [] = none-from_first (candidates_from rows at (drop at rows)) (rw e at miss) in
-    ap (λ k. first (candidates_from rows 0 (take k rows))) e ∙ sym (ap (λ fs. first (fs ++ candidates_from rows 0 (take at rows))) nothing)
+turn-again scene last start e miss =
+    let at = up_to last scene.rows in
+    let nothing : candidates_from scene at (drop at scene.rows) ≡ [] = none-from_first (candidates_from scene at (drop at scene.rows)) (rw e at miss) in
+    ap (λ k. first (candidates_from scene 0 (take k scene.rows))) e ∙ sym (ap (λ fs. first (fs ++ candidates_from scene 0 (take at scene.rows))) nothing)
 
 or_halt-some : (no_ticks : Bool) (candidates : List Candidate) (found : Candidate) → Some found ≡ first candidates → Some found ≡ first (candidates_or_halt no_ticks candidates)
 or_halt-some no_ticks [] found e = cc
@@ -91,31 +95,50 @@ or_halt-none : (no_ticks : Bool) (candidates : List Candidate) → None ≡ firs
 or_halt-none no_ticks [] e = refl
 or_halt-none no_ticks (f ∷ candidates) e = cc
 
--- nothing happens on a bus that is down
-pub first_all-down : (rows : List Row) (last : ℕ) (no_ticks down : Bool) → down ≡ true → None ≡ first (all_candidates rows last no_ticks down)
-unfolding all_candidates
-first_all-down rows last no_ticks true e = refl
-first_all-down rows last no_ticks false e = cc
+down-by : (down : Bool) (candidates : List Candidate) → down ≡ true → None ≡ first (if down then [] else candidates)
+down-by true candidates e = refl
+down-by false candidates e = cc
 
--- where no process is left, the bus finishes
-pub first_all-finish : (rows : List Row) (last : ℕ) (no_ticks down : Bool) → down ≡ false → (length rows == 0) ≡ true → Some Finish ≡ first (all_candidates rows last no_ticks down)
-unfolding all_candidates
-first_all-finish rows last no_ticks true e f = cc
-first_all-finish [] last no_ticks false e f = refl
-first_all-finish (row ∷ rows) last no_ticks false e f = let nobody : length (row ∷ rows) ≡ 0 = eqb-true _ _ f in absurd (omega arith)
+up-by : (down : Bool) (candidates : List Candidate) (found : Option Candidate) → down ≡ false → found ≡ first candidates → found ≡ first (if down then [] else candidates)
+up-by true candidates found e f = cc
+up-by false candidates found e f = f
 
--- what the processes do first happens first
-pub first_all-some : (rows : List Row) (last : ℕ) (no_ticks down : Bool) (found : Candidate) → down ≡ false → (length rows == 0) ≡ false →
-    Some found ≡ first (candidates_in_turn rows last) → Some found ≡ first (all_candidates rows last no_ticks down)
-unfolding all_candidates
-first_all-some rows last no_ticks true found e f hit = cc
-first_all-some [] last no_ticks false found e f hit = cc
-first_all-some (row ∷ rows) last no_ticks false found e f hit = or_halt-some no_ticks (candidates_in_turn (row ∷ rows) last) found hit
+while_up-finish : (scene : Scene) (marks : Marks) (rows : List Row) → (length rows == 0) ≡ true → Some Finish ≡ first (candidates_while_up scene marks rows)
+while_up-finish scene marks [] f = refl
+while_up-finish scene marks (row ∷ rows) f = let nobody : length (row ∷ rows) ≡ 0 = eqb-true _ _ f in absurd (omega arith)
 
--- where they can do nothing, only the halt is left
-pub first_all-none : (rows : List Row) (last : ℕ) (no_ticks down : Bool) → down ≡ false → (length rows == 0) ≡ false →
-    None ≡ first (candidates_in_turn rows last) → first (candidates_or_halt no_ticks []) ≡ first (all_candidates rows last no_ticks down)
-unfolding all_candidates
-first_all-none rows last no_ticks true e f miss = cc
-first_all-none [] last no_ticks false e f miss = cc
-first_all-none (row ∷ rows) last no_ticks false e f miss = or_halt-none no_ticks (candidates_in_turn (row ∷ rows) last) miss
+while_up-some : (scene : Scene) (marks : Marks) (rows : List Row) (found : Candidate) → (length rows == 0) ≡ false →
+    Some found ≡ first (candidates_in_turn scene marks.last_starter) → Some found ≡ first (candidates_while_up scene marks rows)
+while_up-some scene marks [] found f hit = cc
+while_up-some scene marks (row ∷ rows) found f hit = or_halt-some marks.no_ticks (candidates_in_turn scene marks.last_starter) found hit
+
+while_up-none : (scene : Scene) (marks : Marks) (rows : List Row) → (length rows == 0) ≡ false →
+    None ≡ first (candidates_in_turn scene marks.last_starter) → first (candidates_or_halt marks.no_ticks []) ≡ first (candidates_while_up scene marks rows)
+while_up-none scene marks [] f miss = cc
+while_up-none scene marks (row ∷ rows) f miss = or_halt-none marks.no_ticks (candidates_in_turn scene marks.last_starter) miss
+
+module _ (bodies : List Body) (rows : List Row) (marks : Marks) where
+  -- nothing happens on a bus that is down
+  pub first_all-down : marks.down ≡ true → None ≡ first (all_candidates bodies rows marks)
+  unfolding all_candidates
+  first_all-down e = down-by marks.down (candidates_while_up (scene_of bodies rows marks) marks rows) e
+
+  -- where no process is left, the bus finishes
+  pub first_all-finish : marks.down ≡ false → (length rows == 0) ≡ true → Some Finish ≡ first (all_candidates bodies rows marks)
+  unfolding all_candidates
+  first_all-finish e f =
+      up-by marks.down (candidates_while_up (scene_of bodies rows marks) marks rows) (Some Finish) e (while_up-finish (scene_of bodies rows marks) marks rows f)
+
+  -- what the processes do first happens first
+  pub first_all-some : (found : Candidate) → marks.down ≡ false → (length rows == 0) ≡ false →
+      Some found ≡ first (candidates_in_turn (scene_of bodies rows marks) marks.last_starter) → Some found ≡ first (all_candidates bodies rows marks)
+  unfolding all_candidates
+  first_all-some found e f hit =
+      up-by marks.down (candidates_while_up (scene_of bodies rows marks) marks rows) (Some found) e (while_up-some (scene_of bodies rows marks) marks rows found f hit)
+
+  -- where they can do nothing, only the halt is left
+  pub first_all-none : marks.down ≡ false → (length rows == 0) ≡ false →
+      None ≡ first (candidates_in_turn (scene_of bodies rows marks) marks.last_starter) → first (candidates_or_halt marks.no_ticks []) ≡ first (all_candidates bodies rows marks)
+  unfolding all_candidates
+  first_all-none e f miss =
+      up-by marks.down (candidates_while_up (scene_of bodies rows marks) marks rows) (first (candidates_or_halt marks.no_ticks [])) e (while_up-none (scene_of bodies rows marks) marks rows f miss)

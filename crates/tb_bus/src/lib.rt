@@ -8,7 +8,11 @@ mod creation;
 mod laws;
 mod living;
 mod marks;
+#[cfg(test)]
+mod note_tests;
 mod origin;
+#[cfg(test)]
+mod plans;
 mod receivers;
 mod search;
 #[cfg(test)]

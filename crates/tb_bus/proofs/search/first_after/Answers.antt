@@ -1,21 +1,23 @@
 use Rattle.std.proofs.Common.{◌∙◌, ap, sym}
 use Rattle.std.proofs.lemmas.List.{take_rest, drop-map, take-map}
-use Rattle.tb_bus.specs.Candidates.{first, candidates_from, row_of, rows_of}
+use Rattle.tb_bus.specs.Candidates.{first, candidates_from, scene_of, row_of, rows_of}
 use Rattle.tb_bus.proofs.TurnLemmas.{turn-found, turn-again}
 use Rattle.tb_bus.proofs.search.first_after.Goals as goal
 
 pub returns-in-Some : goal.returns-in-Some
 returns-in-Some g c =
-    let all = c.args.all.now in
-    let rows = rows_of all in
+    let all = c.args.searched.now.all.now in
+    let marks = c.args.searched.now.marks in
+    let scene = scene_of c.args.searched.now.bodies.now (rows_of all) marks in
     let start = c.turn_start-start.result in
-    turn-found rows c.args.last start c.in-Some.found c.turn_start-start.ensures.count
-    (sym c.in-Some.is ∙ c.in_ok-found.ensures.found ∙ ap (λ asked. first (candidates_from rows start asked)) (ap rows_of (take_rest all start) ∙ sym (drop-map row_of start all)))
+    turn-found scene marks.last_starter start c.in-Some.found c.turn_start-start.ensures.count
+    (sym c.in-Some.is ∙ c.in_ok-found.ensures.found ∙ ap (λ asked. first (candidates_from scene start asked)) (ap rows_of (take_rest all start) ∙ sym (drop-map row_of start all)))
 
 pub returns-in-None : goal.returns-in-None
 returns-in-None g c =
-    let all = c.args.all.now in
-    let rows = rows_of all in
+    let all = c.args.searched.now.all.now in
+    let marks = c.args.searched.now.marks in
+    let scene = scene_of c.args.searched.now.bodies.now (rows_of all) marks in
     let start = c.turn_start-start.result in
-    rw (← turn-again rows c.args.last start c.turn_start-start.ensures.count
-    (sym c.in-None.is ∙ c.in_ok-found.ensures.found ∙ ap (λ asked. first (candidates_from rows start asked)) (ap rows_of (take_rest all start) ∙ sym (drop-map row_of start all)))) (rw (take-map row_of start all) c.first_from-in-None.ensures.found)
+    rw (← turn-again scene marks.last_starter start c.turn_start-start.ensures.count
+    (sym c.in-None.is ∙ c.in_ok-found.ensures.found ∙ ap (λ asked. first (candidates_from scene start asked)) (ap rows_of (take_rest all start) ∙ sym (drop-map row_of start all)))) (rw (take-map row_of start all) c.first_from-in-None.ensures.found)

@@ -1,6 +1,6 @@
 use Rattle.std.proofs.Common.{◌≡◌, drop}
 use Rattle.tb_bus.specs.Candidates.{ascend, rows_of}
-use Rattle.tb_bus.proofs.search_tests.ascends.Given as goal
+use Rattle.tb_bus.proofs.plans.ascends.Given as goal
 
 -- the processes that are left decide
 abbrev pub invariant-loop-living : goal.invariant-loop-living

@@ -1,0 +1,217 @@
+//! Processes for the tests of searches: what each is ready for, and what it holds.
+
+ghost use Rattle.std.specs.Prelude.{◌≡◌, IsTrue, IfOk};
+ghost use Rattle.tb_match.specs.Matches.{are_plain};
+ghost use Rattle.tb_bus.specs.Candidates.{ascend, rows_of};
+
+use crate::action::{Action, OwnAction};
+use crate::candidate::Candidate;
+use crate::living::{Living, Ready};
+use crate::marks::Marks;
+use crate::search::first_candidate;
+use std::alloc::Global;
+use std::test::Fail;
+use tb_body::Body;
+use tb_match::Bind;
+use tb_notes::Inbox;
+use tb_terms::{Items, NoMemory, Pattern, Patterns, Sort, Term, Terms};
+
+/// A search asks no walker.
+#[derive(Drop)]
+pub(crate) struct NoWalker;
+
+pub(crate) fn one(alloc: Global, number: i64) -> Result<Terms, NoMemory> {
+    Ok(Items::from_vec(vec![in alloc; Term::Int(number)]?))
+}
+
+/// What a term is to be.
+#[derive(Clone, Copy)]
+pub(crate) enum Want {
+    Just(i64),
+    Any,
+}
+
+/// What an atom is to be ready for.
+#[derive(Clone, Copy)]
+pub(crate) enum Wish {
+    Tau,
+    Sends(i64),
+    Wants(i64),
+    /// Any number, for the variable with this slot.
+    Takes(u32),
+    Sets(u32, i64),
+    Notes(i64),
+    TakesNote(i64),
+    /// Any number, for the variable with this slot.
+    TakesAnyNote(u32),
+    NoNote(Want),
+    /// A process of this body, with these actuals, whose number goes to this slot.
+    Creates(u32, &'static [i64], u32),
+}
+
+pub(crate) fn list(alloc: Global, pattern: Pattern) -> Result<Patterns, NoMemory> {
+    Ok(Items::from_vec(vec![in alloc; pattern]?))
+}
+
+pub(crate) fn wanted(alloc: Global, want: Want) -> Result<Patterns, NoMemory>
+    ensures plain { IfOk result (λ patterns. IsTrue (are_plain patterns)) }
+{
+    match want {
+        Want::Just(number) => list(alloc, Pattern::Fixed(Term::Int(number))),
+        Want::Any => list(alloc, Pattern::Hole(Sort::Int)),
+    }
+}
+
+pub(crate) fn set(alloc: Global, slot: u32, number: i64) -> Result<Action, NoMemory> {
+    let value = Term::Int(number);
+    let binds = Items::from_vec(vec![in alloc; Bind { slot, value }]?);
+    Ok(Action::Own(OwnAction::Set(one(alloc, number)?, binds)))
+}
+
+pub(crate) fn numbers_of(alloc: Global, numbers: &[i64]) -> Result<Terms, NoMemory> {
+    let mut terms = Items::new(alloc);
+    for number in numbers {
+        terms.push(Term::Int(*number))?;
+    }
+    Ok(terms)
+}
+
+pub(crate) fn action(alloc: Global, wish: Wish) -> Result<Action, NoMemory> {
+    match wish {
+        Wish::Tau => Ok(Action::Own(OwnAction::Tau)),
+        Wish::Sends(number) => Ok(Action::Send(one(alloc, number)?)),
+        Wish::Wants(number) => Ok(Action::Receive(wanted(alloc, Want::Just(number))?)),
+        Wish::Takes(slot) => Ok(Action::Receive(list(alloc, Pattern::Result(slot, Sort::Int))?)),
+        Wish::Sets(slot, number) => set(alloc, slot, number),
+        Wish::Notes(number) => Ok(Action::Notify(one(alloc, number)?)),
+        Wish::TakesNote(number) => Ok(Action::TakeNote(wanted(alloc, Want::Just(number))?)),
+        Wish::TakesAnyNote(slot) => Ok(Action::TakeNote(list(
+            alloc,
+            Pattern::Result(slot, Sort::Int),
+        )?)),
+        Wish::NoNote(want) => Ok(Action::Own(OwnAction::NoNote(wanted(alloc, want)?))),
+        Wish::Creates(body, actuals, slot) => Ok(Action::Own(OwnAction::Create(
+            body,
+            numbers_of(alloc, actuals)?,
+            slot,
+        ))),
+    }
+}
+
+/// What is subscribed to, and the notes that wait.
+pub(crate) fn inbox(alloc: Global, wants: &[Want], notes: &[i64]) -> Result<Inbox, NoMemory> {
+    let mut inbox = Inbox::new(alloc);
+    for want in wants {
+        inbox.subscribe(wanted(alloc, *want)?)?;
+    }
+    for note in notes {
+        if inbox.room() {
+            inbox.offer_note(one(alloc, *note)?)?;
+        }
+    }
+    Ok(inbox)
+}
+
+/// A process of the first body.
+pub(crate) fn living(
+    alloc: Global,
+    number: u32,
+    wishes: &[Wish],
+    inbox: Inbox,
+) -> Result<Living<NoWalker>, NoMemory> {
+    let mut ready = Vec::new(alloc);
+    for (offer, wish) in wishes.iter().enumerate() {
+        let action = action(alloc, *wish)?;
+        ready.push(Ready {
+            offer,
+            atom: 1,
+            action,
+        })?;
+    }
+    Ok(Living {
+        number,
+        body: 0,
+        walker: NoWalker,
+        inbox,
+        ready,
+        fresh: true,
+    })
+}
+
+/// Processes by their numbers, and what each is ready for.
+pub(crate) fn all(
+    alloc: Global,
+    plan: &[(u32, &[Wish])],
+) -> Result<Vec<Living<NoWalker>>, NoMemory> {
+    let mut all = Vec::new(alloc);
+    for (number, wishes) in plan {
+        all.push(living(alloc, *number, wishes, Inbox::new(alloc))?)?;
+    }
+    Ok(all)
+}
+
+pub(crate) fn ascends(all: &[Living<NoWalker>]) -> bool
+    ensures { result ≡ ascend 0 (rows_of all.now) }
+{
+    let mut below = 0;
+    for living in all {
+        if living.number <= below {
+            return false;
+        }
+        below = living.number;
+    }
+    true
+}
+
+/// What happens first on a bus of these bodies.
+pub(crate) fn searched(
+    alloc: Global,
+    bodies: &[Body],
+    all: &[Living<NoWalker>],
+    marks: Marks,
+) -> Result<Option<Candidate>, Fail> {
+    if ascends(all) {
+        return Ok(first_candidate(alloc, bodies, all, marks)?);
+    }
+    Err(Fail::new("not by their numbers"))
+}
+
+/// What is marked on a bus that is up, after a step of this process.
+pub(crate) fn marks(last_starter: u32) -> Marks {
+    Marks {
+        last_starter,
+        next_number: 20_000,
+        no_ticks: false,
+        down: false,
+    }
+}
+
+pub(crate) fn asked(
+    alloc: Global,
+    all: &[Living<NoWalker>],
+    last: u32,
+) -> Result<Option<Candidate>, Fail> {
+    searched(alloc, &[], all, marks(last))
+}
+
+pub(crate) fn moved(
+    alloc: Global,
+    all: &[Living<NoWalker>],
+    no_ticks: bool,
+    down: bool,
+) -> Result<Option<Candidate>, Fail> {
+    let marks = Marks {
+        no_ticks,
+        down,
+        ..marks(0)
+    };
+    searched(alloc, &[], all, marks)
+}
+
+/// The indices of a process and its action, where it goes on by itself.
+pub(crate) fn own(found: &Option<Candidate>) -> Option<(usize, usize)> {
+    match found {
+        Some(Candidate::Own(at, index)) => Some((*at, *index)),
+        _ => None,
+    }
+}
