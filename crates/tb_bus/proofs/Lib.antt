@@ -9,3 +9,4 @@ pub mod ChangeLemmas
 pub mod ReachedLemmas
 pub mod ReceiverLemmas
 pub mod ApartLemmas
+pub mod Rows
