@@ -1,12 +1,13 @@
 -- What the fields of a core say of its bus, and what each call logs.
-use Rattle.std.proofs.Common.{◌≡◌, ◌≤◌, ◌+◌, ℕ, List, [], ◌∷◌, ◌++◌, length, refl, ap, sym, ◌∙◌, subst, arith, Some, Bool, true, false, not, if◌then◌else◌, length-append}
+use Rattle.std.proofs.Common.{◌≡◌, ◌≤◌, ◌<◌, ◌+◌, ℕ, List, [], ◌∷◌, ◌++◌, length, refl, ap, sym, ◌∙◌, subst, arith, Some, Bool, true, false, not, if◌then◌else◌, length-append}
+use Rattle.std.proofs.lemmas.Bool.{and_parts, leb-true}
 use Rattle.tb_algebra.specs.WalkerViews.{View}
 use Rattle.tb_log.specs.Limits.{has_room}
 use Rattle.tb_log.specs.Logs.{LogState}
 use Rattle.tb_log.specs.declared.entry.Entry.{Entry}
 use Rattle.tb_log.specs.declared.entry.Entry.TheVariants.{Fed}
 use Rattle.tb_log.specs.declared.entry.Input.{Input}
-use Rattle.tb_log.specs.declared.entry.Input.TheVariants.{NoTicks}
+use Rattle.tb_log.specs.declared.entry.Input.TheVariants.{Tick, NoTicks, Line, Gone, Cut}
 use Rattle.tb_log.specs.declared.entry.Reply.TheVariants.{Dropped}
 use Rattle.tb_log.specs.declared.entry.Why.TheVariants.{Down}
 use Rattle.tb_bus.specs.declared.origin.Origin.{Origin}
@@ -51,6 +52,10 @@ full-seen origin log stopped core call entry room view limit would e = ap (lacks
 pub room-kept : (old new : LogState) (one other : Entry) → new.limit ≡ old.limit → new.entries ≡ old.entries → other ≡ one → has_room old.limit old.entries one ≡ true → has_room new.limit new.entries other ≡ true
 room-kept old new one other limit entries same room =
     ap (λ (n : ℕ). has_room n new.entries other) limit ∙ ap (λ (es : List Entry). has_room old.limit es other) entries ∙ ap (has_room old.limit old.entries) same ∙ room
+
+-- where there is room for an entry, there are fewer than the limit
+pub room-left : (limit : ℕ) (log : List Entry) (entry : Entry) → has_room limit log entry ≡ true → length log < limit
+room-left limit log entry e = let t = leb-true (length log + 1) limit (and_parts _ _ e).0 in omega arith
 
 -- A core goes on by these entries.
 pub logs-on : (bus : Bus) (origin other : Origin) (log more : LogState) (entries : List Entry) (stopped : Bool) (core : CoreState) → bus ≡ replay (start origin) log.entries → seen origin log stopped ≡ core →
@@ -110,7 +115,7 @@ represents-same view old new log stands same =
       next = omega arith;
     }
 
--- no move and no input that comes yet is a tick
+-- no move is a tick
 changed-now : (bus : Bus) (number : ℕ) (change : Change) → (changed change number bus).now ≡ bus.now
 changed-now bus number Nothing = refl
 changed-now bus number (PutsNote terms) = refl
@@ -125,12 +130,20 @@ apply-now bus (Handshake sender sent receiver received terms binds) = refl
 apply-now bus Finish = refl
 apply-now bus Halt = refl
 
-fed-by : (bus : Bus) (input : Input) (down : Bool) → (let a : Answer = if down then record { reply = Dropped Down; bus = bus } else took bus input in a.bus.now) ≡ bus.now
-fed-by bus input true = refl
-fed-by bus NoTicks false = refl
+-- and an input is one at most
+fed-by : (bus : Bus) (input : Input) (down : Bool) → (let a : Answer = if down then record { reply = Dropped Down; bus = bus } else took bus input in a.bus.now) ≤ bus.now + 1
+fed-by bus input true = omega arith
+fed-by bus Tick false = omega arith
+fed-by bus NoTicks false = omega arith
+fed-by bus (Line lane line) false = omega arith
+fed-by bus (Gone lane) false = omega arith
+fed-by bus (Cut lane) false = omega arith
 
-pub fed-now : (bus : Bus) (input : Input) → (fed bus input).bus.now ≡ bus.now
-fed-now bus input = fed-by bus input bus.down
+pub fed-within : (bus new : Bus) (input : Input) (entry : Entry) → new ≡ (fed bus input).bus → new.now ≤ bus.now + length (entry ∷ [])
+fed-within bus new input entry e =
+    let same : new.now ≡ (fed bus input).bus.now = ap (λ (b : Bus). b.now) e in
+    let most = fed-by bus input bus.down in
+    omega arith
 
 -- a move takes one number at most
 changed-next : (bus : Bus) (number : ℕ) (change : Change) → (changed change number bus).next_number ≤ bus.next_number + 1
@@ -150,7 +163,11 @@ apply-next bus Halt = omega arith
 -- an input none
 next-by : (bus : Bus) (input : Input) (down : Bool) → (let a : Answer = if down then record { reply = Dropped Down; bus = bus } else took bus input in a.bus.next_number) ≡ bus.next_number
 next-by bus input true = refl
+next-by bus Tick false = refl
 next-by bus NoTicks false = refl
+next-by bus (Line lane line) false = refl
+next-by bus (Gone lane) false = refl
+next-by bus (Cut lane) false = refl
 
 pub fed-next : (bus : Bus) (input : Input) → (fed bus input).bus.next_number ≡ bus.next_number
 fed-next bus input = next-by bus input bus.down

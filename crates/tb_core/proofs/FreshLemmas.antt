@@ -132,7 +132,6 @@ ready-read all at index living ready row within is =
 -- what is known of a process where the offer of one of its actions is taken
 pub record OfferAt {W P T : Type 0} (view : View P W T) (bus : LiveBus W P T) (at index : ℕ) (living : Living W) (plan : P) (ready : Ready) : Type 0 where
   pub on : view.is_on plan living.walker
-  pub looked : view.seen living.walker ≡ Some (seen_offers (view.body_of plan).atoms bus.ticks (view.walking plan living.walker))
   pub here : slice_get (offers_of (view.walking plan living.walker)) ready.offer ≡ Some (offer_of (procs_in view bus) (rows_of bus.living.items) at index)
 
 pub offer-read : {W P T : Type 0} (view : View P W T) (bus : LiveBus W P T) (at index : ℕ) (living : Living W) (it : LiveAt view bus at living) (plan : P) (ready : Ready) →
@@ -142,20 +141,8 @@ offer-read view bus at index living it plan ready fresh within same is =
     let there = ready-read bus.living.items at index living ready it.row within is in
     subst (λ p. OfferAt view bus at index living p ready) (sym same) (record {
       on = it.live.is_on;
-      looked = (it.live.ready (fresh-there bus.living.items at living fresh it.here)).looked;
       here = ap (λ (r : Ready). slice_get (offers_of (view.walking it.plan living.walker)) r.offer) there ∙ action.here;
     })
-
--- an index into what was seen of the offers
-pub seen-within : (atoms : List Atom) (now : ℕ) (walking : Walking) (saw : Option (List Offer)) (k : ℕ) (offered : Offered) → saw ≡ Some (seen_offers atoms now walking) → slice_get (offers_of walking) k ≡ Some offered →
-    ForSome saw (λ offers. k < length offers)
-seen-within atoms now walking saw k offered e here offers f =
-    let same : seen_offers atoms now walking ≡ offers = same_Some _ _ (sym e ∙ f) in
-    subst (λ (os : List Offer). k < length os) same
-    (let within = slice_get_within (offers_of walking) k offered here in let long = length-map (offers_of walking) (seen atoms now) in omega arith)
-
-pub seen-some : (saw : Option (List Offer)) (offers : List Offer) → saw ≡ Some offers → IsTrue (is_some saw)
-seen-some saw offers e = ap is_some e
 
 -- patterns that bind only what the store takes
 abbrev pub PatternsFit : List Slot → List Pattern → Type 0

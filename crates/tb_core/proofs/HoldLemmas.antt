@@ -96,7 +96,7 @@ sound-bares view bus living e sound = record {
   below = all-bares (IsBelow bus.marks.next_number) bus.living.items living.items (λ l h. h) (λ l h. h) e sound.below;
   planned = sound.planned;
   live = all-bares (IsLive view bus.plans bus.ticks) bus.living.items living.items (live-bare view bus.plans bus.ticks) (live-filled view bus.plans bus.ticks) e sound.live;
-  fresh = all-bares (IsFreshOr bus.stale.items) bus.living.items living.items (λ l h. h) (λ l h. h) e sound.fresh;
+  fresh = λ young. all-bares (IsFreshOr bus.stale.items) bus.living.items living.items (λ l h. h) (λ l h. h) e (sound.fresh young);
 }
 
 -- one at an index is as it was, but for its inbox

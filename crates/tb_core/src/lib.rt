@@ -8,6 +8,7 @@ mod inboxes;
 mod looking;
 mod machine;
 mod opening;
+mod ticking;
 
 pub use answers::{CoreFault, Stepped};
 pub use machine::Core;

@@ -7,5 +7,5 @@ returns-clause-sound g c = record {
   in_order = c.in_ok-living.ensures.in_order;
   planned = c.in_ok-plans.ensures ∙ c.as_slice.ensures;
   live = c.in_ok-living.ensures.live;
-  fresh = all-named c.in_ok-living.living.items c.as_slice-2.result.now c.in_ok-stale.stale.items c.as_slice-2.ensures.value c.in_ok-stale.ensures;
+  fresh = λ young. all-named c.in_ok-living.living.items c.as_slice-2.result.now c.in_ok-stale.stale.items c.as_slice-2.ensures.value c.in_ok-stale.ensures;
 }

@@ -2,7 +2,7 @@ use Rattle.std.proofs.Common.{◌<◌, ◌+◌, ℕ, List, arith, length, drop, 
 use Rattle.std.specs.List.{All}
 use Rattle.tb_core.specs.LiveBuses.{IsFreshOr}
 use Rattle.tb_core.proofs.SetLemmas.{stands-then, named-from}
-use Rattle.tb_core.proofs.bus.LiveBus.freshen.Goals as goal
+use Rattle.tb_core.proofs.bus.LiveBus.freshen_noted.Goals as goal
 
 pub loop-index-preserved : goal.loop-index-preserved
 loop-index-preserved g c =
