@@ -1,10 +1,11 @@
 -- A tick for the living, one after another, and the bus for which they stand then.
-use Rattle.std.proofs.Common.{◌≡◌, ◌≤◌, ◌<◌, ◌+◌, ◌⊎◌, ◌&&◌, ℕ, zero, suc, List, [], ◌∷◌, length, map, get_or, refl, ap, sym, subst, ◌∙◌, arith, inl, inr, Option, Some, None, Bool, true, false, nat_lt, option_map, slice_get, slice_set}
+use Rattle.std.proofs.Common.{◌≡◌, ◌≤◌, ◌<◌, ◌+◌, ◌⊎◌, ◌&&◌, ℕ, zero, suc, List, [], ◌∷◌, ◌++◌, append-nil, length, map, drop, take, get_or, refl, ap, sym, subst, ◌∙◌, arith, inl, inr, Option, Some, None, Bool, true, false, nat_lt, option_map, slice_get, slice_set}
 use Rattle.std.specs.Bool.{⊤}
 use Rattle.std.specs.Global.{Vec}
 use Rattle.std.specs.List.{All}
 use Rattle.std.proofs.lemmas.Bool.{cases_eq}
 use Rattle.std.proofs.lemmas.Option.{same_Some, slice_get-get_or}
+use Rattle.std.proofs.lemmas.List.{drop_all, take_all}
 use Rattle.std.proofs.lemmas.List.Elements.{All-cons, All-head, All-nil, All-tail, All-weaker}
 use Rattle.tb_algebra.specs.Processes.{Process, aged}
 use Rattle.tb_algebra.specs.Walks.{Walking, is_end, sorts_of, ticked}
@@ -15,9 +16,10 @@ use Rattle.tb_bus.specs.Candidates.{ascend, rows_of}
 use Rattle.tb_bus.specs.Traces.{aged_proc}
 use Rattle.tb_bus.specs.declared.living.Living.{Living}
 use Rattle.tb_core.specs.Lives.{IsBelow, IsLive, IsLiveOn, proc_by, proc_in, proc_of, procs_of, term_in}
-use Rattle.tb_core.specs.LiveBuses.{AreFresh, IsSound, bus_of, procs_in}
+use Rattle.tb_core.specs.LiveBuses.{AreFresh, IsFreshOr, IsSound, StandsAs, bus_of, procs_in}
 use Rattle.tb_core.specs.Ticking.{AreTicked, CanTick, HasTicked, IsBefore, IsTicked}
 use Rattle.tb_core.specs.declared.bus.LiveBus.{LiveBus}
+use Rattle.tb_core.proofs.ReadLemmas.{all-there}
 use Rattle.tb_core.proofs.SetLemmas.{set-other, set-there}
 
 -- those in front of an index are a tick older, and the others are as they were
@@ -36,6 +38,12 @@ still-there view plans (suc at) [] (new ∷ news) h = absurd h
 still-there view plans (suc at) (old ∷ olds) [] h = absurd h
 still-there view plans (suc at) (old ∷ olds) (new ∷ news) h = still-there view plans at olds news h.1
 
+pub next-there : {W P T : Type 0} (view : View P W T) (plans : List P) (at : ℕ) (olds news : List (Living W)) (d : Living W) → AreTickedBelow view plans at olds news → at < length news → slice_get olds at ≡ Some (get_or news at d)
+next-there view plans at olds news d h within = sym (still-there view plans at olds news h) ∙ slice_get-get_or news at d within
+
+pub can-next : {W P T : Type 0} (view : View P W T) (plans : List P) (at : ℕ) (olds news : List (Living W)) (d : Living W) → All (CanTick view plans) olds → AreTickedBelow view plans at olds news → at < length news → CanTick view plans (get_or news at d)
+can-next view plans at olds news d can h within = all-there (CanTick view plans) olds at (get_or news at d) can (next-there view plans at olds news d h within)
+
 first-ticked : {W P T : Type 0} (view : View P W T) (plans : List P) (olds : List (Living W)) (old new : Living W) → slice_get olds zero ≡ Some old → IsTicked view plans old new → AreTickedBelow view plans 1 olds (slice_set olds zero new)
 first-ticked view plans [] old new here t = cc
 first-ticked view plans (first ∷ olds) old new here t =
@@ -50,6 +58,11 @@ ticked-more view plans zero olds news old new h here t =
 ticked-more view plans (suc at) [] news old new h here t = cc
 ticked-more view plans (suc at) (first ∷ olds) [] old new h here t = absurd h
 ticked-more view plans (suc at) (first ∷ olds) (its ∷ news) old new h here t = (h.0, ticked-more view plans at olds news old new h.1 here t)
+
+-- what was written is what stands there
+pub written : {A : Type 0} (xs ys : List A) (n : ℕ) → length ys ≡ length xs → n ≡ length xs → take n (ys ++ drop (length ys) xs) ≡ ys
+written xs ys n e f =
+    ap (λ zs. take n (ys ++ zs)) (drop_all (length ys) xs (omega arith)) ∙ ap (take n) (append-nil ys) ∙ take_all n ys (omega arith)
 
 none-left : {W P T : Type 0} (view : View P W T) (plans : List P) (news : List (Living W)) → news ≡ [] → AreTicked view plans [] news
 none-left view plans news e = subst (AreTicked view plans []) (sym e) tt
@@ -158,3 +171,19 @@ fresh-more all new at one e within looked fresh k living less here =
 
 pub all-fresh : {W : Type 0} (all : List (Living W)) → AreFreshBelow (length all) all → AreFresh all
 all-fresh all fresh k d within = fresh k (get_or all k d) within (slice_get-get_or all k d within)
+
+-- once all were looked at, none is named
+pub none-stale : {W P T : Type 0} (view : View P W T) (old bus : LiveBus W P T) (stale : Vec ℕ) → StandsAs view old bus → AreFresh bus.living.items → StandsAs view old (record bus { stale = stale; aged = false })
+none-stale view old bus stale same fresh = record {
+  sound = record {
+    in_order = same.sound.in_order;
+    below = same.sound.below;
+    planned = same.sound.planned;
+    live = same.sound.live;
+    fresh = λ young. All-weaker (λ living. living.fresh ≡ true) (IsFreshOr stale.items) (λ living e. inl e) bus.living.items fresh;
+  };
+  bus = same.bus;
+  origin = same.origin;
+  plans = same.plans;
+  marks = same.marks;
+}
