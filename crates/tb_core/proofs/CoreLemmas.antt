@@ -1,8 +1,8 @@
 -- What the fields of a core say of its bus, and what each call logs.
-use Rattle.std.proofs.Common.{◌≡◌, ◌≤◌, ◌<◌, ◌+◌, ℕ, List, [], ◌∷◌, ◌++◌, length, refl, ap, sym, ◌∙◌, subst, arith, Some, Bool, true, false, not, if◌then◌else◌, length-append}
-use Rattle.std.proofs.lemmas.Bool.{and_parts, leb-true}
+use Rattle.std.proofs.Common.{◌≡◌, ◌≤◌, ◌+◌, ℕ, List, [], ◌∷◌, ◌++◌, length, refl, ap, sym, ◌∙◌, subst, arith, Some, Bool, true, false, not, nat_le, if◌then◌else◌, length-append}
 use Rattle.tb_algebra.specs.WalkerViews.{View}
-use Rattle.tb_log.specs.Limits.{has_room}
+use Rattle.std.proofs.lemmas.Bool.{and_parts, leb-true}
+use Rattle.tb_log.specs.Limits.{entry_size, has_room, log_size, most_size}
 use Rattle.tb_log.specs.Logs.{LogState}
 use Rattle.tb_log.specs.declared.entry.Entry.{Entry}
 use Rattle.tb_log.specs.declared.entry.Entry.TheVariants.{Fed}
@@ -48,14 +48,14 @@ pub full-seen : (origin : Origin) (log : LogState) (stopped : Bool) (core : Core
     would_log core call ≡ Some entry → has_room log.limit log.entries entry ≡ room → is_full core call ≡ not room
 full-seen origin log stopped core call entry room view limit would e = ap (lacks_room core) would ∙ ap not (room-seen origin log stopped core entry view limit ∙ e)
 
+-- with room it is shorter than its limit
+pub room-long : (limit : ℕ) (log : List Entry) (entry : Entry) → has_room limit log entry ≡ true → length log + 1 ≤ limit
+room-long limit log entry room = leb-true (length log + 1) limit (and_parts (nat_le (length log + 1) limit) (nat_le (log_size log + entry_size entry) most_size) room).0
+
 -- a log to which nothing was added has room for the same
 pub room-kept : (old new : LogState) (one other : Entry) → new.limit ≡ old.limit → new.entries ≡ old.entries → other ≡ one → has_room old.limit old.entries one ≡ true → has_room new.limit new.entries other ≡ true
 room-kept old new one other limit entries same room =
     ap (λ (n : ℕ). has_room n new.entries other) limit ∙ ap (λ (es : List Entry). has_room old.limit es other) entries ∙ ap (has_room old.limit old.entries) same ∙ room
-
--- where there is room for an entry, there are fewer than the limit
-pub room-left : (limit : ℕ) (log : List Entry) (entry : Entry) → has_room limit log entry ≡ true → length log < limit
-room-left limit log entry e = let t = leb-true (length log + 1) limit (and_parts _ _ e).0 in omega arith
 
 -- A core goes on by these entries.
 pub logs-on : (bus : Bus) (origin other : Origin) (log more : LogState) (entries : List Entry) (stopped : Bool) (core : CoreState) → bus ≡ replay (start origin) log.entries → seen origin log stopped ≡ core →

@@ -181,6 +181,14 @@ procs-unheld view plans old new same =
     (bare-procs view plans new ∙ ap (procs_of view plans) same.bares ∙ sym (bare-procs view plans old))
     (inbox-procs view plans new ∙ same.helds ∙ sym (inbox-procs view plans old))
 
+-- and where they stand for the same, they hold the same
+pub helds-same : {W P T : Type 0} (view : View P W T) (old new : LiveBus W P T) → StandsAs view old new → helds_of new.living.items ≡ helds_of old.living.items
+helds-same view old new same =
+    sym (inbox-procs view new.plans new.living.items) ∙ ap (λ (b : Bus). map inbox_of b.procs) same.bus ∙ inbox-procs view old.plans old.living.items
+
+pub held-same : {W P T : Type 0} (view : View P W T) (old new : LiveBus W P T) (at : ℕ) → StandsAs view old new → held_at new.living.items at ≡ held_at old.living.items at
+held-same view old new at same = ap (λ (hs : List Held). get_or hs at nothing) (helds-same view old new same)
+
 pub hold-then : {W : Type 0} (old middle new : List (Living W)) → HoldTheSame old middle → HoldTheSame middle new → HoldTheSame old new
 hold-then old middle new one other = record { bares = other.bares ∙ one.bares; helds = other.helds ∙ one.helds }
 

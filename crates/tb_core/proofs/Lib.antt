@@ -1,5 +1,6 @@
 pub mod ActionLemmas
 pub mod AdvanceLemmas
+pub mod CreateLemmas
 pub mod FreshLemmas
 pub mod HoldLemmas
 pub mod MakeLemmas

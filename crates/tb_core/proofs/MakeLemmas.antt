@@ -1,7 +1,8 @@
 -- A candidate that is made: what was taken of its processes leads to the bus after its move.
-use Rattle.std.proofs.Common.{◌≡◌, ℕ, ◌<◌, ◌≢◌, List, [], ◌∷◌, ◌++◌, length, refl, ap, sym, subst, ◌∙◌, Option, Some, None, Bool, true, false, Contains, MatchOption, slice_get, nat_lt, ◌&&◌, if◌then◌else◌, option_and_then}
+use Rattle.std.proofs.Common.{◌≡◌, ◌⊎◌, ℕ, ◌<◌, ◌≢◌, arith, inl, inr, List, [], ◌∷◌, ◌++◌, length, refl, ap, sym, subst, ◌∙◌, Option, Some, None, Bool, true, false, Contains, MatchOption, slice_get, nat_lt, ◌&&◌, if◌then◌else◌, option_and_then}
 use Rattle.std.proofs.lemmas.Bool.{and_from, and_parts}
-use Rattle.std.proofs.lemmas.Option.{same_Some, slice_get_within}
+use Rattle.std.proofs.lemmas.Option.{get_or_from_slice_get, same_Some, slice_get_within}
+use Rattle.std.proofs.lemmas.List.{length-map}
 use Rattle.std.proofs.lemmas.List.Elements.{Contains-append_left, Contains-push}
 use Rattle.std.specs.Global.{Vec}
 use Rattle.tb_terms.specs.declared.term.Term.{Term}
@@ -22,30 +23,37 @@ use Rattle.tb_notes.specs.Oldest.{IsOldest, NoneMatches}
 use Rattle.tb_notes.specs.declared.queue.Found.{Found}
 use Rattle.tb_notes.proofs.Finding.{oldest-first}
 use Rattle.tb_bus.specs.Buses.{Bus, Proc}
-use Rattle.tb_bus.specs.Effects.{Effect, changed, creation, effect_of, fits_formals, fits_slot, may_create, number_term, own_effect}
+use Rattle.tb_bus.specs.Effects.{Effect, changed, creation, effect_of, fits_formals, fits_slot, may_create, note_at, number_term, own_effect, taking}
 use Rattle.tb_bus.specs.Steps.{advance, apply, label_of, nowhere, place_of}
 use Rattle.tb_bus.specs.Steps as move
 use Rattle.tb_bus.specs.Candidates.{Row, no_row, row_at, row_of, rows_of}
-use Rattle.tb_bus.specs.Views.{no_proc, proc_at, ready_at, offer_of, own_move, move_by, sent_in}
+use Rattle.tb_bus.specs.Views.{no_proc, proc_at, ready_at, offer_of, own_move, move_by, sent_in, IsCandidateIn}
 use Rattle.tb_bus.specs.declared.action.Action.{Action}
 use Rattle.tb_bus.specs.declared.action.Action.TheVariants as action
 use Rattle.tb_bus.specs.declared.action.OwnAction.{OwnAction}
 use Rattle.tb_bus.specs.declared.action.OwnAction.TheVariants as own
 use Rattle.tb_bus.specs.declared.candidate.Candidate.TheVariants.{Handshake}
+use Rattle.tb_bus.specs.declared.candidate.Candidate.TheVariants as candidate
+use Rattle.tb_bus.specs.declared.candidate.Candidate.{Candidate}
+use Rattle.tb_bus.specs.declared.candidate.Partner.{Partner}
+use Rattle.tb_bus.specs.declared.marks.Marks.{Marks}
 use Rattle.tb_bus.specs.declared.living.Living.{Living}
 use Rattle.tb_bus.specs.declared.living.Ready.{Ready}
-use Rattle.tb_bus.proofs.EffectLemmas.{effect_in}
+use Rattle.tb_bus.proofs.EffectLemmas.{effect_in, note-effect-is, own-effect-is, take-effect-is}
 use Rattle.tb_log.specs.declared.entry.Label.{Label}
 use Rattle.tb_log.specs.declared.entry.LabelKind.{LabelKind}
 use Rattle.tb_log.specs.declared.entry.LabelKind.TheVariants as kind
 use Rattle.tb_log.specs.declared.entry.Place.{Place}
 use Rattle.tb_core.specs.Lives.{proc_by, proc_in}
-use Rattle.tb_core.specs.Makings.{effect_by, IsPlainIn}
-use Rattle.tb_core.specs.LiveBuses.{AreFresh, IsSound, StandsAs, AreAdvanced, Leaves, CanAdvance, IsKept, IsDone, IsChanged, HasGone, bus_of, procs_in, move_in}
+use Rattle.tb_core.specs.Holdings.{held_at}
+use Rattle.tb_core.specs.Makings.{effect_by, noting, shown_in, IsPlainIn}
+use Rattle.tb_core.specs.LiveBuses.{AreFresh, IsSound, StandsAs, AreAdvanced, Leaves, CanAdvance, IsKept, IsDone, IsChanged, HasGone, bus_of, procs_in, move_in, scene_in}
 use Rattle.tb_core.specs.declared.acting.Done.{Done}
 use Rattle.tb_core.specs.declared.bus.LiveBus.{LiveBus}
-use Rattle.tb_core.proofs.ReadLemmas.{live-there, map-there}
-use Rattle.tb_core.proofs.FreshLemmas.{ActionFits, OwnFits, action-at, fits-at}
+use Rattle.tb_core.proofs.ReadLemmas.{body-there, live-there, map-there, some-at}
+use Rattle.tb_core.proofs.FreshLemmas.{ActionFits, OwnFits, PatternsFit, action-at, fits-at}
+use Rattle.tb_core.proofs.HoldLemmas.{row-held}
+use Rattle.tb_core.proofs.RowsLemmas.{searched-for}
 
 -- the offer of one of the actions of a process
 pub record OfferIs {W P T : Type 0} (view : View P W T) (bus : LiveBus W P T) (at index : ℕ) : Type 0 where
@@ -53,6 +61,9 @@ pub record OfferIs {W P T : Type 0} (view : View P W T) (bus : LiveBus W P T) (a
   pub fits : ActionFits (offer_of (procs_in view bus) (rows_of bus.living.items) at index).store (ready_at (rows_of bus.living.items) at index).action
   pub number : (row_at (rows_of bus.living.items) at).number ≡ (proc_at (procs_in view bus) at).number
   pub atom : (ready_at (rows_of bus.living.items) at index).atom ≡ (offer_of (procs_in view bus) (rows_of bus.living.items) at index).atom
+  pub body : Body
+  pub body_is : slice_get bus.origin.program.bodies (proc_at (procs_in view bus) at).body ≡ Some body
+  pub body_sorts : sorts_of (offer_of (procs_in view bus) (rows_of bus.living.items) at index).store ≡ body.sorts
 
 pub offer-is : {W P T : Type 0} (view : View P W T) (bus : LiveBus W P T) (at index : ℕ) (taken : T) (offered : Offered) → IsSound view bus → AreFresh bus.living.items → index < length (row_at (rows_of bus.living.items) at).ready → Leaves view bus at taken offered →
     OfferIs view bus at index
@@ -67,6 +78,9 @@ offer-is view bus at index taken offered sound fresh within leaves =
       fits = fits-at (view.body_of it.plan) bus.ticks walking ready offer there;
       number = ap (λ (r : Row). r.number) it.row ∙ ap (λ (p : Proc). p.number) (sym it.proc);
       atom = there.atom;
+      body = view.body_of it.plan;
+      body_is = ap (slice_get bus.origin.program.bodies) (ap (λ (p : Proc). p.body) it.proc) ∙ body-there view.body_of bus.plans bus.origin.program.bodies leaves.0.body it.plan sound.planned it.planned;
+      body_sorts = (offer_at-keeps walking ready.offer offer there.here).sorts ∙ it.live.sorts;
     }
 
 -- what was taken of it leads on, on another state of the same bus
@@ -115,6 +129,9 @@ kept-store view old new at kept plans =
 
 pub kept-within : {W : Type 0} (old new : List (Living W)) (at : ℕ) → IsKept old new at → at < length new
 kept-within old new at kept = slice_get_within new at kept.after kept.there
+
+pub kept-same : {W : Type 0} (all : List (Living W)) (at : ℕ) → at < length all → IsKept all all at
+kept-same all at within = let it = some-at all at within in record { before = it.0; after = it.0; here = it.1; there = it.1; number = refl; body = refl; walker = refl }
 
 pub kept-then : {W : Type 0} (old middle new : List (Living W)) (at : ℕ) → IsKept old middle at → IsKept middle new at → IsKept old new at
 kept-then {W = W} old middle new at one other =
@@ -271,9 +288,141 @@ found-in patterns held found e =
     let oldest : IsOldest patterns held.notes found = subst (λ o. MatchOption o (NoneMatches patterns held.notes) (IsOldest patterns held.notes)) e (oldest-first patterns held) in
     binds-by patterns held found (slice_get held.notes found.place) refl oldest.0
 
--- an action that is known in two ways
-pub action-own : (one : Action) (own other : OwnAction) → one ≡ action.Own own → one ≡ action.Own other → own ≡ other
-action-own one own other e f = let same : action.Own own ≡ action.Own other = sym e ∙ f in cc
+-- what a process does by itself, once it was begun
+pub record IsOwnAt {W P T : Type 0} (view : View P W T) (old begun : LiveBus W P T) (at index : ℕ) (own : OwnAction) : Type 0 where
+  pub offer : OfferIs view old at index
+  pub plain : IsPlainIn own
+  pub effect_is : effect_of (bus_of view old) (proc_at (procs_in view old) at) (ready_at (rows_of old.living.items) at index).action ≡ Some (effect_by begun.marks.next_number own)
+  pub happens : own_effect (bus_of view begun) (proc_at (procs_in view begun) at) own ≡ Some (effect_by begun.marks.next_number own)
+  pub takes : takes_binds (offer_of (procs_in view old) (rows_of old.living.items) at index).store (effect_by begun.marks.next_number own).binds ≡ true
+
+pub own-at : {W P T : Type 0} (view : View P W T) (old begun : LiveBus W P T) (at index : ℕ) (taken : T) (own : OwnAction) → IsSound view old → AreFresh old.living.items → IsCandidateIn (scene_in old) (candidate.Own at index) →
+    Leaves view old at taken (offer_of (procs_in view old) (rows_of old.living.items) at index) → (ready_at (rows_of old.living.items) at index).action ≡ action.Own own → StandsAs view old begun → IsOwnAt view old begun at index own
+own-at view old begun at index taken own sound fresh found leaves e same =
+    let bus = bus_of view old in
+    let rows = rows_of old.living.items in
+    let proc = proc_at (procs_in view old) at in
+    let offer = offer_of (procs_in view old) rows at index in
+    let is = offer-is view old at index taken offer sound fresh found.0.1 leaves in
+    let fits : OwnFits offer.store own = subst (ActionFits offer.store) e is.fits in
+    let effect : effect_of bus proc (ready_at rows at index).action ≡ Some (effect_by old.marks.next_number own) =
+    own-effect-is bus old.origin.program.bodies rows old.marks (searched-for view old sound fresh) at index found own e ∙ ap (λ (x : Effect). Some x) (effect-same old.marks.next_number own) in
+    let happens : own_effect bus proc own ≡ Some (effect_by bus.next_number own) = ap (effect_of bus proc) (sym e) ∙ effect in
+    record {
+      offer = is;
+      plain = own-plain offer.store own fits;
+      effect_is = effect ∙ ap (λ (m : Marks). Some (effect_by m.next_number own)) (sym same.marks);
+      happens = subst (λ (b : Bus). own_effect b (proc_at b.procs at) own ≡ Some (effect_by b.next_number own)) (sym same.bus) happens;
+      takes = subst (λ (m : Marks). takes_binds offer.store (effect_by m.next_number own).binds ≡ true) (sym same.marks) (own-takes bus proc offer.store is.body own is.body_is is.body_sorts fits happens);
+    }
+
+pub acted-own : {W P T : Type 0} (view : View P W T) (old begun mid : LiveBus W P T) (at index : ℕ) (own : OwnAction) → IsOwnAt view old begun at index own → StandsAs view old begun → IsKept old.living.items begun.living.items at →
+    Contains begun.stale.items (row_at (rows_of old.living.items) at).number → IsChanged view begun at (effect_by begun.marks.next_number own) mid → IsActed view old begun mid at index (effect_by begun.marks.next_number own)
+acted-own view old begun mid at index own it same kept named change = record {
+  offer = it.offer;
+  same = same;
+  begun_kept = kept;
+  named = named;
+  change = change;
+  effect_is = it.effect_is;
+  takes = it.takes;
+}
+
+-- a note that is sent
+pub acted-note : {W P T : Type 0} (view : View P W T) (old begun mid : LiveBus W P T) (at index : ℕ) (indices : List ℕ) (taken : T) (note : List Term) → IsSound view old → AreFresh old.living.items → IsCandidateIn (scene_in old) (candidate.Notify at index indices) →
+    Leaves view old at taken (offer_of (procs_in view old) (rows_of old.living.items) at index) → (ready_at (rows_of old.living.items) at index).action ≡ action.Notify note → StandsAs view old begun → IsKept old.living.items begun.living.items at →
+    Contains begun.stale.items (row_at (rows_of old.living.items) at).number → IsChanged view begun at (noting note) mid → IsActed view old begun mid at index (noting note)
+acted-note view old begun mid at index indices taken note sound fresh found leaves e same kept named change = record {
+  offer = offer-is view old at index taken (offer_of (procs_in view old) (rows_of old.living.items) at index) sound fresh found.0.1 leaves;
+  same = same;
+  begun_kept = kept;
+  named = named;
+  change = change;
+  effect_is = note-effect-is (bus_of view old) old.origin.program.bodies (rows_of old.living.items) old.marks (searched-for view old sound fresh) at index indices found note e;
+  takes = refl;
+}
+
+-- a note that is taken
+pub acted-taking : {W P T : Type 0} (view : View P W T) (old begun mid : LiveBus W P T) (at index : ℕ) (found : Found) (taken : T) → IsSound view old → AreFresh old.living.items → IsCandidateIn (scene_in old) (candidate.TakeNote at index found) →
+    Leaves view old at taken (offer_of (procs_in view old) (rows_of old.living.items) at index) → StandsAs view old begun → IsKept old.living.items begun.living.items at →
+    Contains begun.stale.items (row_at (rows_of old.living.items) at).number → IsChanged view begun at (taking (row_at (rows_of old.living.items) at).inbox found) mid →
+    IsActed view old begun mid at index (taking (row_at (rows_of old.living.items) at).inbox found)
+acted-taking view old begun mid at index found taken sound fresh h leaves same kept named change =
+    let rows = rows_of old.living.items in
+    let offer = offer_of (procs_in view old) rows at index in
+    let is = offer-is view old at index taken offer sound fresh h.0.1 leaves in
+    let fits : PatternsFit offer.store h.1.0 = subst (ActionFits offer.store) h.1.1 is.fits in
+    let it = found-in h.1.0 (row_at rows at).inbox found h.1.2 in
+    record {
+      offer = is;
+      same = same;
+      begun_kept = kept;
+      named = named;
+      change = change;
+      effect_is = take-effect-is (bus_of view old) old.origin.program.bodies rows old.marks (searched-for view old sound fresh) at index found h;
+      takes = fits it.note found.binds it.matches;
+    }
+
+-- the note that is taken is the one that was found
+pub found-in_row : {W : Type 0} (all : List (Living W)) (at : ℕ) (patterns : List Pattern) (found : Found) → oldest_match patterns (row_at (rows_of all) at).inbox ≡ Some found → found.place < length (row_at (rows_of all) at).inbox.notes
+found-in_row all at patterns found e =
+    let it = found-in patterns (row_at (rows_of all) at).inbox found e in
+    slice_get_within (row_at (rows_of all) at).inbox.notes found.place it.note it.there
+
+pub note-there : (held : Held) (place : ℕ) (note : List Term) → slice_get held.notes place ≡ Some note → note ≡ note_at held place
+note-there held place note e = sym (get_or_from_slice_get held.notes place note [] e)
+
+-- the terms that are seen
+
+pub shown-own : {W P T : Type 0} (view : View P W T) (bus : LiveBus W P T) (at index : ℕ) → IsSound view bus → AreFresh bus.living.items → IsCandidateIn (scene_in bus) (candidate.Own at index) →
+    shown_in bus.marks.next_number (ready_at (rows_of bus.living.items) at index).action ≡ (label_of (move_in view bus (candidate.Own at index))).terms
+shown-own view bus at index sound fresh found =
+    let rows = rows_of bus.living.items in
+    let proc = proc_at (procs_in view bus) at in
+    let offer = offer_of (procs_in view bus) rows at index in
+    let own = found.1.0 in
+    ap (shown_in bus.marks.next_number) found.1.1
+    ∙ ap (λ (x : Effect). x.shown) (sym (effect-same bus.marks.next_number own))
+    ∙ ap (λ o. (label_of (own_move proc offer o)).terms) (sym (own-effect-is (bus_of view bus) bus.origin.program.bodies rows bus.marks (searched-for view bus sound fresh) at index found own found.1.1))
+
+pub shown-note : {W P T : Type 0} (view : View P W T) (bus : LiveBus W P T) (at index : ℕ) (indices : List ℕ) → IsSound view bus → AreFresh bus.living.items → IsCandidateIn (scene_in bus) (candidate.Notify at index indices) →
+    shown_in bus.marks.next_number (ready_at (rows_of bus.living.items) at index).action ≡ (label_of (move_in view bus (candidate.Notify at index indices))).terms
+shown-note view bus at index indices sound fresh found =
+    let rows = rows_of bus.living.items in
+    ap (shown_in bus.marks.next_number) found.1.1
+    ∙ ap (λ o. (label_of (own_move (proc_at (procs_in view bus) at) (offer_of (procs_in view bus) rows at index) o)).terms)
+    (sym (note-effect-is (bus_of view bus) bus.origin.program.bodies rows bus.marks (searched-for view bus sound fresh) at index indices found found.1.0 found.1.1))
+
+pub shown-taking : {W P T : Type 0} (view : View P W T) (bus : LiveBus W P T) (at index : ℕ) (found : Found) → IsSound view bus → AreFresh bus.living.items → IsCandidateIn (scene_in bus) (candidate.TakeNote at index found) →
+    note_at (held_at bus.living.items at) found.place ≡ (label_of (move_in view bus (candidate.TakeNote at index found))).terms
+shown-taking view bus at index found sound fresh h =
+    let rows = rows_of bus.living.items in
+    ap (λ (held : Held). note_at held found.place) (sym (row-held bus.living.items at))
+    ∙ ap (λ o. (label_of (own_move (proc_at (procs_in view bus) at) (offer_of (procs_in view bus) rows at index) o)).terms)
+    (sym (take-effect-is (bus_of view bus) bus.origin.program.bodies rows bus.marks (searched-for view bus sound fresh) at index found h))
+
+pub shown-sent : {W P T : Type 0} (view : View P W T) (bus : LiveBus W P T) (at index : ℕ) (partner : Partner) → IsCandidateIn (scene_in bus) (candidate.Handshake at index partner) →
+    shown_in bus.marks.next_number (ready_at (rows_of bus.living.items) at index).action ≡ (label_of (move_in view bus (candidate.Handshake at index partner))).terms
+shown-sent view bus at index partner found = ap (shown_in bus.marks.next_number) found.3
+
+-- one of the three candidates that name an action
+abbrev pub IsOfAction : Candidate → ℕ → ℕ → Type 0
+IsOfAction found at index = (found ≡ candidate.Own at index) ⊎ (((partner : Partner) × (found ≡ candidate.Handshake at index partner)) ⊎ ((indices : List ℕ) × (found ≡ candidate.Notify at index indices)))
+
+pub there-by : {W P T : Type 0} (view : View P W T) (bus : LiveBus W P T) (found : Candidate) (at index : ℕ) → IsCandidateIn (scene_in bus) found → IsOfAction found at index →
+    (at < length bus.living.items) × (index < length (row_at (rows_of bus.living.items) at).ready)
+there-by view bus found at index is (inl e) = let it = subst (IsCandidateIn (scene_in bus)) e is in let many = length-map bus.living.items row_of in (omega (arith, it.0.0), it.0.1)
+there-by view bus found at index is (inr (inl h)) = let it = subst (IsCandidateIn (scene_in bus)) h.1 is in let many = length-map bus.living.items row_of in (omega (arith, it.0.0), it.0.1)
+there-by view bus found at index is (inr (inr h)) = let it = subst (IsCandidateIn (scene_in bus)) h.1 is in let many = length-map bus.living.items row_of in (omega (arith, it.0.0), it.0.1)
+
+pub shown-by : {W P T : Type 0} (view : View P W T) (bus : LiveBus W P T) (found : Candidate) (at index : ℕ) → IsSound view bus → AreFresh bus.living.items → IsCandidateIn (scene_in bus) found → IsOfAction found at index →
+    shown_in bus.marks.next_number (ready_at (rows_of bus.living.items) at index).action ≡ (label_of (move_in view bus found)).terms
+shown-by view bus found at index sound fresh is (inl e) =
+    shown-own view bus at index sound fresh (subst (IsCandidateIn (scene_in bus)) e is) ∙ ap (λ x. (label_of (move_in view bus x)).terms) (sym e)
+shown-by view bus found at index sound fresh is (inr (inl h)) =
+    shown-sent view bus at index h.0 (subst (IsCandidateIn (scene_in bus)) h.1 is) ∙ ap (λ x. (label_of (move_in view bus x)).terms) (sym h.1)
+shown-by view bus found at index sound fresh is (inr (inr h)) =
+    shown-note view bus at index h.0 sound fresh (subst (IsCandidateIn (scene_in bus)) h.1 is) ∙ ap (λ x. (label_of (move_in view bus x)).terms) (sym h.1)
 
 -- the numbers of both parties are named
 pub named-first : (old middle last stale : Vec ℕ) (one other before number : ℕ) → stale ≡ last → last.items ≡ middle.items ++ other ∷ [] → middle.items ≡ old.items ++ one ∷ [] → number ≡ before → one ≡ before → Contains stale.items number

@@ -1,5 +1,5 @@
 -- A note for each of those that want it: their indices, and what they hold once each was given a copy.
-use Rattle.std.proofs.Common.{◌≡◌, ℕ, ◌+◌, ◌<◌, ◌≤◌, ◌⊎◌, zero, suc, List, [], ◌∷◌, ◌++◌, length, take, map, refl, ap, sym, subst, ◌∙◌, arith, Bool, true, false, not, ◌||◌, slice_set, get_or, nat_lt, if◌then◌else◌, append_assoc, inl, inr}
+use Rattle.std.proofs.Common.{◌≡◌, ℕ, ◌+◌, ◌<◌, ◌≤◌, ◌⊎◌, zero, suc, List, [], ◌∷◌, ◌++◌, length, take, map, refl, ap, sym, subst, ◌∙◌, arith, Bool, true, false, not, ◌&&◌, ◌||◌, slice_set, get_or, nat_lt, if◌then◌else◌, append_assoc, inl, inr}
 use Rattle.std.specs.List.{All}
 use Rattle.std.proofs.lemmas.Bool.{and_parts, ltb-true, cases_eq, cases_lt}
 use Rattle.std.proofs.lemmas.List.{take_more, take_all, length-map, get_or-set_other, get_or_append_left, get_or_default, length_push}
@@ -34,7 +34,7 @@ wanting-by note from row rows others true e h zero d l = record { place = 0; sta
 wanting-by note from row rows others true e h (suc k) d l = wanting-later note from row rows (get_or others k d) (h k d (omega arith))
 
 pub wanting-is : (note : List Term) (from : ℕ) (rows : List Row) → All (IsWanting note from rows) (wanting note from rows)
-wanting-is note from [] k d l = absurd (omega arith)
+wanting-is note from [] = λ k d l. absurd (omega arith)
 wanting-is note from (row ∷ rows) = wanting-by note from row rows (wanting note (from + 1) rows) (wants row.inbox note) refl (wanting-is note (from + 1) rows)
 
 -- the indices ascend
@@ -93,6 +93,30 @@ all-can {W = W} note all now indices e room same spare k d l =
 
 pub apart-of : (note : List Term) (rows : List Row) (indices : List ℕ) → indices ≡ wanting note 0 rows → AreApart indices
 apart-of note rows indices e = subst AreApart (sym e) (wanting-apart note 0 rows)
+
+-- both rest on what is held alone
+
+wanting-by_held : {W : Type 0} (note : List Term) (from : ℕ) (one other : List (Living W)) → helds_of one ≡ helds_of other → wanting note from (rows_of one) ≡ wanting note from (rows_of other)
+wanting-by_held note from [] [] e = refl
+wanting-by_held note from [] (y ∷ ys) e = cc
+wanting-by_held note from (x ∷ xs) [] e = cc
+wanting-by_held note from (x ∷ xs) (y ∷ ys) e =
+    let head : x.inbox.held ≡ y.inbox.held = cc in
+    let tail : helds_of xs ≡ helds_of ys = cc in
+    ap (λ is. if wants x.inbox.held note then from ∷ is else is) (wanting-by_held note (from + 1) xs ys tail)
+    ∙ ap (λ held. if wants held note then from ∷ wanting note (from + 1) (rows_of ys) else wanting note (from + 1) (rows_of ys)) head
+
+pub wanting-same : {W : Type 0} (note : List Term) (one other : List (Living W)) → helds_of one ≡ helds_of other → wanting note 0 (rows_of one) ≡ wanting note 0 (rows_of other)
+wanting-same note one other e = wanting-by_held note 0 one other e
+
+pub all_take-same : {W : Type 0} (note : List Term) (one other : List (Living W)) → helds_of one ≡ helds_of other → all_take note (rows_of one) ≡ all_take note (rows_of other)
+all_take-same note [] [] e = refl
+all_take-same note [] (y ∷ ys) e = cc
+all_take-same note (x ∷ xs) [] e = cc
+all_take-same note (x ∷ xs) (y ∷ ys) e =
+    let head : x.inbox.held ≡ y.inbox.held = cc in
+    let tail : helds_of xs ≡ helds_of ys = cc in
+    ap (λ held. takes_note note held && all_take note (rows_of xs)) head ∙ ap (λ rest. takes_note note y.inbox.held && rest) (all_take-same note xs ys tail)
 
 -- memory for each
 

@@ -1,5 +1,5 @@
 -- What stands at an index of a sound bus: one of the living, its plan and its process.
-use Rattle.std.proofs.Common.{◌≡◌, ℕ, ◌<◌, zero, suc, List, [], ◌∷◌, length, map, refl, ap, sym, subst, ◌∙◌, arith, Option, Some, None, true, slice_get, get_or, option_map}
+use Rattle.std.proofs.Common.{◌≡◌, ℕ, ◌<◌, zero, suc, List, [], ◌∷◌, length, map, refl, ap, sym, subst, ◌∙◌, arith, Option, Some, None, true, slice_get, get_or, option_map, Result, Ok, Err, OnOk, OnErr}
 use Rattle.std.proofs.lemmas.Option.{get_or_from_slice_get, slice_get-get_or, slice_get_within, slice_get-map}
 use Rattle.tb_body.specs.declared.body.Body.{Body}
 use Rattle.tb_algebra.specs.WalkerViews.{View}
@@ -52,11 +52,26 @@ live-at view bus at living sound within is = live-there view bus at living sound
 pub fresh-there : {W : Type 0} (all : List (Living W)) (at : ℕ) (living : Living W) → AreFresh all → slice_get all at ≡ Some living → living.fresh ≡ true
 fresh-there all at living fresh here = all-there (λ living. living.fresh ≡ true) all at living fresh here
 
+-- something stands at an index within
+pub some-at : {A : Type 0} (xs : List A) (at : ℕ) → at < length xs → (x : A) × (slice_get xs at ≡ Some x)
+some-at [] at l = absurd (omega arith)
+some-at (x ∷ xs) zero l = (x, refl)
+some-at (x ∷ xs) (suc at) l = some-at xs at (omega arith)
+
+-- what holds whatever is answered
+pub on-ok : {T E P : Type 0} (r : Result T E) → P → OnOk r P
+on-ok (Ok x) p = p
+on-ok (Err e) p = tt
+
+pub on-err : {T E P : Type 0} (r : Result T E) → P → OnErr r P
+on-err (Ok x) p = tt
+on-err (Err e) p = p
+
 -- an index into the plans, and into the bodies, whose plans they are
 pub plan-within : {P : Type 0} (plans read : List P) (at : ℕ) (plan : P) → read ≡ plans → slice_get plans at ≡ Some plan → at < length read
 plan-within plans read at plan e h = subst (λ (ps : List _). at < length ps) (sym e) (slice_get_within plans at plan h)
 
-body-there : {P : Type 0} (body_of : P → Body) (plans : List P) (bodies : List Body) (at : ℕ) (plan : P) → map body_of plans ≡ bodies → slice_get plans at ≡ Some plan → slice_get bodies at ≡ Some (body_of plan)
+pub body-there : {P : Type 0} (body_of : P → Body) (plans : List P) (bodies : List Body) (at : ℕ) (plan : P) → map body_of plans ≡ bodies → slice_get plans at ≡ Some plan → slice_get bodies at ≡ Some (body_of plan)
 body-there body_of plans bodies at plan e h = ap (λ bs. slice_get bs at) (sym e) ∙ slice_get-map body_of plans at ∙ ap (option_map body_of) h
 
 pub body-within : {P : Type 0} (body_of : P → Body) (plans : List P) (bodies read : List Body) (at : ℕ) (plan : P) → map body_of plans ≡ bodies → read ≡ bodies → slice_get plans at ≡ Some plan → at < length read

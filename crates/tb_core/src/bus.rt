@@ -192,10 +192,9 @@ impl<W: Walker> LiveBus<W> {
         ensures ready { result ≡ ready_at (rows_of self.old.living.items) at index }
         ensures same { StandsAs W.view self.old self.new }
         ensures stale { self.new.stale ≡ self.old.stale }
-        ensures number { (row_at (rows_of self.new.living.items) at).number ≡ (row_at (rows_of self.old.living.items) at).number }
+        ensures kept { IsKept self.old.living.items self.new.living.items at }
         ensures others { (other : ℕ) → other ≢ at → slice_get self.new.living.items other ≡ slice_get self.old.living.items other }
         ensures long { length self.new.living.items ≡ length self.old.living.items }
-        ensures leaves { (taken : W.Taken) (offered : Offered) → Leaves W.view self.old at taken offered → Leaves W.view self.new at taken offered }
     {
         let living = &mut self.living[at];
         living.fresh = false;
@@ -223,6 +222,7 @@ impl<W: Walker> LiveBus<W> {
     /// How large the terms are that are seen of a move that was found, or the greatest usize where that is greater.
     pub fn shown_size(&self, candidate: &Candidate) -> usize
         requires sound { IsSound W.view self.now }
+        requires fresh { AreFresh self.now.living.items }
         requires found { IsCandidateIn (scene_in self.now) candidate.now }
         ensures { result ≡ min (terms_size (label_of (move_in W.view self.now candidate.now)).terms) MAX }
     {

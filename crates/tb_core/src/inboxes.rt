@@ -66,7 +66,7 @@ fn copies_of(alloc: Global, note: &Terms, many: usize) -> Result<Vec<Terms>, NoM
     ensures many { IfOk result (λ copies. length copies.items ≡ many) }
     ensures copies { IfOk result (λ copies. All (λ copy. copy ≡ note.now) copies.items) }
 {
-    let mut copies = Vec::new(alloc);
+    let mut copies = Vec::with_capacity(alloc, many)?;
     for _made in 0..many {
         copies.push(copy_terms(alloc, note)?)?;
     }

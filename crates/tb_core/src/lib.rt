@@ -8,6 +8,8 @@ mod inboxes;
 mod looking;
 mod machine;
 mod opening;
+#[cfg(test)]
+mod tests;
 mod ticking;
 
 pub use answers::{CoreFault, Stepped};

@@ -3,7 +3,7 @@ use Rattle.tb_log.specs.declared.entry.Entry.TheVariants.{Fed}
 use Rattle.tb_log.specs.Limits.{has_room}
 use Rattle.tb_bus.specs.Traces.{fed}
 use Rattle.tb_core.specs.LiveBuses.{bus_of}
-use Rattle.tb_core.proofs.CoreLemmas.{room-kept, room-left}
+use Rattle.tb_core.proofs.CoreLemmas.{room-kept, room-long}
 use Rattle.tb_core.proofs.machine.hand.Goals as goal
 
 pub returns-then-not-room_for_size-clause-full : goal.returns-then-not-room_for_size-clause-full
@@ -14,7 +14,7 @@ pub feed-reply-requires-clause-few : goal.feed-reply-requires-clause-few
 feed-reply-requires-clause-few g c =
     let entry = Fed c.args.input (fed (bus_of g.W.Walker.view c.args.bus.now) c.args.input).reply in
     let room : has_room c.args.log.now.limit c.args.log.now.entries entry ≡ true = sym (c.room_for_size.ensures entry c.input_size.ensures) ∙ c.if-not-room_for_size.false in
-    let left = room-left c.args.log.now.limit c.args.log.now.entries entry room in
+    let left = room-long c.args.log.now.limit c.args.log.now.entries entry room in
     omega arith
 
 pub push-requires-clause-room : goal.push-requires-clause-room

@@ -4,7 +4,7 @@ use Rattle.tb_bus.specs.Views.{proc_at, offer_of, ready_at, sent_in}
 use Rattle.tb_core.specs.LiveBuses.{procs_in}
 use Rattle.tb_core.proofs.AdvanceLemmas.{number-kept, leaves-kept}
 use Rattle.tb_core.proofs.FreshLemmas.{received-takes}
-use Rattle.tb_core.proofs.MakeLemmas.{offer-is, can-advance, place-is, named-first, named-second, index-apart, handshake-made, sent-is, handshake-label}
+use Rattle.tb_core.proofs.MakeLemmas.{offer-is, can-advance, kept-number, kept-leaves, place-is, named-first, named-second, index-apart, handshake-made, sent-is, handshake-label}
 use Rattle.tb_core.proofs.bus.LiveBus.make_handshake.Goals as goal
 
 pub advance_both-requires-clause-apart : goal.advance_both-requires-clause-apart
@@ -13,12 +13,14 @@ advance_both-requires-clause-apart g c e =
     let new = c.take_ready.new.self in
     let other = c.args.partner.living in
     let kept = c.take_ready.ensures.others other (index-apart (rows_of old.living.items) c.args.at other c.requires.found.2) in
-    c.requires.found.2 (sym c.take_ready.ensures.number ∙ e ∙ number-kept old.living.items new.living.items other kept)
+    c.requires.found.2 (sym (kept-number old.living.items new.living.items c.args.at c.take_ready.ensures.kept) ∙ e ∙ number-kept old.living.items new.living.items other kept)
 
 pub advance_both-requires-clause-named : goal.advance_both-requires-clause-named
 advance_both-requires-clause-named g c =
-    named-first c.args.self.now.stale c.push_reserved.new.self c.push_reserved-2.new.self c.take_ready.new.self.stale c.place_at-from.result.proc c.place_at-to.result.proc _ _
-    c.take_ready.ensures.stale c.push_reserved-2.ensures.items c.push_reserved.ensures.items c.take_ready.ensures.number c.place_at-from.ensures.proc
+    let old = c.args.self.now in
+    let new = c.take_ready.new.self in
+    named-first old.stale c.push_reserved.new.self c.push_reserved-2.new.self c.take_ready.new.self.stale c.place_at-from.result.proc c.place_at-to.result.proc _ _
+    c.take_ready.ensures.stale c.push_reserved-2.ensures.items c.push_reserved.ensures.items (kept-number old.living.items new.living.items c.args.at c.take_ready.ensures.kept) c.place_at-from.ensures.proc
 
 pub advance_both-requires-clause-other_named : goal.advance_both-requires-clause-other_named
 advance_both-requires-clause-other_named g c =
@@ -33,7 +35,9 @@ advance_both-requires-clause-sent g c =
     let old = c.args.self.now in
     let offer = offer_of (procs_in g.W.Walker.view old) (rows_of old.living.items) c.args.at c.args.index in
     let is = offer-is g.W.Walker.view old c.args.at c.args.index c.args.sent offer c.requires.sound c.requires.fresh c.requires.found.0.1 c.requires.sent in
-    can-advance g.W.Walker.view old c.take_ready.new.self c.args.at c.args.index c.args.sent [] is c.take_ready.ensures.same.bus (c.take_ready.ensures.leaves c.args.sent offer c.requires.sent) refl
+    let new = c.take_ready.new.self in
+    can-advance g.W.Walker.view old new c.args.at c.args.index c.args.sent [] is c.take_ready.ensures.same.bus
+    (kept-leaves g.W.Walker.view old new c.args.at c.args.sent offer c.take_ready.ensures.kept c.take_ready.ensures.same.plans c.requires.sent) refl
 
 pub advance_both-requires-clause-received : goal.advance_both-requires-clause-received
 advance_both-requires-clause-received g c =
@@ -60,12 +64,12 @@ returns-clause-made g c =
     let is = offer-is g.W.Walker.view old c.args.at c.args.index c.args.sent offer c.requires.sound c.requires.fresh c.requires.found.0.1 c.requires.sent in
     let its = offer-is g.W.Walker.view old partner.living partner.received.action c.args.received received c.requires.sound c.requires.fresh c.requires.found.1.1 c.requires.received in
     let kept = c.take_ready.ensures.others partner.living (index-apart rows c.args.at partner.living c.requires.found.2) in
-    let went = c.advance_both.ensures offer received (c.take_ready.ensures.leaves c.args.sent offer c.requires.sent)
+    let went = c.advance_both.ensures offer received (kept-leaves g.W.Walker.view old taken c.args.at c.args.sent offer c.take_ready.ensures.kept c.take_ready.ensures.same.plans c.requires.sent)
     (leaves-kept g.W.Walker.view old taken partner.living c.args.received received kept c.take_ready.ensures.same.plans c.requires.received) in
     record {
       sound = record { in_order = went.sound.in_order; below = went.sound.below; planned = went.sound.planned; live = went.sound.live; fresh = went.sound.fresh };
       bus = handshake-made g.W.Walker.view old taken new c.args.at c.args.index partner.living partner.received.action partner.received.binds c.place_at-from.result.proc is its c.take_ready.ensures.same.bus
-          c.take_ready.ensures.number (number-kept old.living.items taken.living.items partner.living kept) went c.place_at-from.ensures.proc;
+          (kept-number old.living.items taken.living.items c.args.at c.take_ready.ensures.kept) (number-kept old.living.items taken.living.items partner.living kept) went c.place_at-from.ensures.proc;
       origin = went.origin ∙ c.take_ready.ensures.same.origin;
     }
 
