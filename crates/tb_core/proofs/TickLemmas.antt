@@ -1,5 +1,5 @@
 -- A tick for the living, one after another, and the bus for which they stand then.
-use Rattle.std.proofs.Common.{◌≡◌, ◌≤◌, ◌<◌, ◌+◌, ◌⊎◌, ◌&&◌, ℕ, zero, suc, List, [], ◌∷◌, ◌++◌, append-nil, length, map, drop, take, get_or, refl, ap, sym, subst, ◌∙◌, arith, inl, inr, Option, Some, None, Bool, true, false, nat_lt, option_map, slice_get, slice_set}
+use Rattle.std.proofs.Common.{◌≡◌, ◌<◌, ◌+◌, ◌⊎◌, ◌&&◌, ℕ, zero, suc, List, [], ◌∷◌, ◌++◌, append-nil, length, map, drop, take, get_or, refl, ap, sym, subst, ◌∙◌, arith, inl, inr, Option, Some, None, true, false, nat_lt, option_map, slice_get, slice_set}
 use Rattle.std.specs.Bool.{⊤}
 use Rattle.std.specs.Global.{Vec}
 use Rattle.std.specs.List.{All}
@@ -17,7 +17,7 @@ use Rattle.tb_bus.specs.Traces.{aged_proc}
 use Rattle.tb_bus.specs.declared.living.Living.{Living}
 use Rattle.tb_core.specs.Lives.{IsBelow, IsLive, IsLiveOn, proc_by, proc_in, proc_of, procs_of, term_in}
 use Rattle.tb_core.specs.LiveBuses.{AreFresh, IsFreshOr, IsSound, StandsAs, bus_of, procs_in}
-use Rattle.tb_core.specs.Ticking.{AreTicked, CanTick, HasTicked, IsBefore, IsTicked}
+use Rattle.tb_core.specs.Ticking.{AreTicked, CanTick, IsTicked}
 use Rattle.tb_core.specs.declared.bus.LiveBus.{LiveBus}
 use Rattle.tb_core.proofs.ReadLemmas.{all-there}
 use Rattle.tb_core.proofs.SetLemmas.{set-other, set-there}

@@ -1,5 +1,5 @@
 -- What a tick does to the living of the code, whatever their walkers are.
-use Rattle.std.specs.Prelude.{◌≡◌, ◌<◌, ℕ, List, [], ◌∷◌, false, Some, slice_get, ⊤}
+use Rattle.std.specs.Prelude.{◌≡◌, ◌<◌, List, [], ◌∷◌, false, Some, slice_get, ⊤}
 use Rattle.tb_algebra.specs.Walks.{ticked}
 use Rattle.tb_algebra.specs.WalkerViews.{View}
 use Rattle.tb_bus.specs.declared.living.Living.{Living}

@@ -1,4 +1,3 @@
-ghost use Rattle.std.specs.Prelude.{Some, slice_get};
 ghost use Rattle.std.specs.List.{All};
 ghost use Rattle.tb_core.specs.Ticking.{AreTicked, CanTick, HasTicked, IsBefore};
 
