@@ -264,8 +264,8 @@ advanced-set view bus at before plan offered binds after over living sound read 
             (subst (λ n. n < bus.marks.next_number) (sym went.number) (all-there (IsBelow bus.marks.next_number) bus.living.items at before sound.below it.here)) sound.below);
         planned = sound.planned;
         live = subst (All (IsLive view bus.plans bus.ticks)) (sym e) (All-set (IsLive view bus.plans bus.ticks) bus.living.items at after (went-live view bus at before offered binds after it goes sorts lives) sound.live);
-        fresh = subst (All (IsFreshOr bus.stale.items)) (sym e) (All-set (IsFreshOr bus.stale.items) bus.living.items at after
-            (inr (subst (Contains bus.stale.items) (sym went.number) (named view bus at before it stale))) sound.fresh);
+        fresh = λ young. subst (All (IsFreshOr bus.stale.items)) (sym e) (All-set (IsFreshOr bus.stale.items) bus.living.items at after
+            (inr (subst (Contains bus.stale.items) (sym went.number) (named view bus at before it stale))) (sound.fresh young));
       };
       bus = moved view bus at before offered binds (procs_of view bus.plans living.items) it
           (ap (procs_of view bus.plans) e ∙ procs-set view bus.plans it.plan 0 bus.living.items at before offered binds after sound.in_order it.here goes it.planned lives);
@@ -291,7 +291,7 @@ advanced-removed view bus at before plan offered binds after over living sound r
         below = subst (All (IsBelow bus.marks.next_number)) (sym e) (All-removed (IsBelow bus.marks.next_number) bus.living.items at sound.below);
         planned = sound.planned;
         live = subst (All (IsLive view bus.plans bus.ticks)) (sym e) (All-removed (IsLive view bus.plans bus.ticks) bus.living.items at sound.live);
-        fresh = subst (All (IsFreshOr bus.stale.items)) (sym e) (All-removed (IsFreshOr bus.stale.items) bus.living.items at sound.fresh);
+        fresh = λ young. subst (All (IsFreshOr bus.stale.items)) (sym e) (All-removed (IsFreshOr bus.stale.items) bus.living.items at (sound.fresh young));
       };
       bus = moved view bus at before offered binds (procs_of view bus.plans living.items) read.it
           (ap (procs_of view bus.plans) e ∙ procs-removed view bus.plans 0 bus.living.items at before offered binds sound.in_order read.it.here left);

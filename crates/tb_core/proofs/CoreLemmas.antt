@@ -7,7 +7,7 @@ use Rattle.tb_log.specs.Logs.{LogState}
 use Rattle.tb_log.specs.declared.entry.Entry.{Entry}
 use Rattle.tb_log.specs.declared.entry.Entry.TheVariants.{Fed}
 use Rattle.tb_log.specs.declared.entry.Input.{Input}
-use Rattle.tb_log.specs.declared.entry.Input.TheVariants.{NoTicks}
+use Rattle.tb_log.specs.declared.entry.Input.TheVariants.{Tick, NoTicks, Line, Gone, Cut}
 use Rattle.tb_log.specs.declared.entry.Reply.TheVariants.{Dropped}
 use Rattle.tb_log.specs.declared.entry.Why.TheVariants.{Down}
 use Rattle.tb_bus.specs.declared.origin.Origin.{Origin}
@@ -115,7 +115,7 @@ represents-same view old new log stands same =
       next = omega arith;
     }
 
--- no move and no input that comes yet is a tick
+-- no move is a tick
 changed-now : (bus : Bus) (number : ℕ) (change : Change) → (changed change number bus).now ≡ bus.now
 changed-now bus number Nothing = refl
 changed-now bus number (PutsNote terms) = refl
@@ -130,12 +130,20 @@ apply-now bus (Handshake sender sent receiver received terms binds) = refl
 apply-now bus Finish = refl
 apply-now bus Halt = refl
 
-fed-by : (bus : Bus) (input : Input) (down : Bool) → (let a : Answer = if down then record { reply = Dropped Down; bus = bus } else took bus input in a.bus.now) ≡ bus.now
-fed-by bus input true = refl
-fed-by bus NoTicks false = refl
+-- and an input is one at most
+fed-by : (bus : Bus) (input : Input) (down : Bool) → (let a : Answer = if down then record { reply = Dropped Down; bus = bus } else took bus input in a.bus.now) ≤ bus.now + 1
+fed-by bus input true = omega arith
+fed-by bus Tick false = omega arith
+fed-by bus NoTicks false = omega arith
+fed-by bus (Line lane line) false = omega arith
+fed-by bus (Gone lane) false = omega arith
+fed-by bus (Cut lane) false = omega arith
 
-pub fed-now : (bus : Bus) (input : Input) → (fed bus input).bus.now ≡ bus.now
-fed-now bus input = fed-by bus input bus.down
+pub fed-within : (bus new : Bus) (input : Input) (entry : Entry) → new ≡ (fed bus input).bus → new.now ≤ bus.now + length (entry ∷ [])
+fed-within bus new input entry e =
+    let same : new.now ≡ (fed bus input).bus.now = ap (λ (b : Bus). b.now) e in
+    let most = fed-by bus input bus.down in
+    omega arith
 
 -- a move takes one number at most
 changed-next : (bus : Bus) (number : ℕ) (change : Change) → (changed change number bus).next_number ≤ bus.next_number + 1
@@ -155,7 +163,11 @@ apply-next bus Halt = omega arith
 -- an input none
 next-by : (bus : Bus) (input : Input) (down : Bool) → (let a : Answer = if down then record { reply = Dropped Down; bus = bus } else took bus input in a.bus.next_number) ≡ bus.next_number
 next-by bus input true = refl
+next-by bus Tick false = refl
 next-by bus NoTicks false = refl
+next-by bus (Line lane line) false = refl
+next-by bus (Gone lane) false = refl
+next-by bus (Cut lane) false = refl
 
 pub fed-next : (bus : Bus) (input : Input) → (fed bus input).bus.next_number ≡ bus.next_number
 fed-next bus input = next-by bus input bus.down

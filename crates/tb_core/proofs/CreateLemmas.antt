@@ -1,5 +1,5 @@
 -- A process that is created stands behind all others.
-use Rattle.std.proofs.Common.{◌≡◌, ℕ, ◌+◌, ◌<◌, ◌≤◌, ◌&&◌, zero, suc, List, [], ◌∷◌, ◌++◌, length, refl, ap, sym, subst, ◌∙◌, arith, Some, true, slice_get, get_or, nat_lt, inl, inr, Contains}
+use Rattle.std.proofs.Common.{◌≡◌, ℕ, ◌+◌, ◌<◌, zero, suc, List, [], ◌∷◌, ◌++◌, length, refl, ap, sym, subst, ◌∙◌, arith, Some, true, slice_get, get_or, inl, inr, Contains}
 use Rattle.std.specs.Global.{Vec}
 use Rattle.std.specs.List.{All}
 use Rattle.std.proofs.lemmas.Bool.{lt-ltb}
@@ -13,7 +13,7 @@ use Rattle.tb_bus.specs.Candidates.{ascend, row_of, rows_of}
 use Rattle.tb_bus.specs.declared.living.Living.{Living}
 use Rattle.tb_bus.proofs.TurnLemmas.{ascend-first}
 use Rattle.tb_core.specs.Lives.{IsBelow, IsLive, proc_in, procs_of}
-use Rattle.tb_core.specs.LiveBuses.{IsChanged, IsFreshOr, IsKept, IsSound, bus_of, procs_in}
+use Rattle.tb_core.specs.LiveBuses.{IsChanged, IsFreshOr, IsSound, bus_of, procs_in}
 use Rattle.tb_core.specs.declared.bus.LiveBus.{LiveBus}
 use Rattle.tb_core.proofs.ReadLemmas.{above-there, all-there, some-at}
 
@@ -56,9 +56,9 @@ module _ {W P T : Type 0} (view : View P W T) (bus : LiveBus W P T) (at : ℕ) (
           below = All-same (IsBelow (next + 1)) all.items (bus.living.items ++ living ∷ []) e (All-push (IsBelow (next + 1)) bus.living.items living (below-more next bus.living.items sound.below) here);
           planned = sound.planned;
           live = All-same (IsLive view bus.plans bus.ticks) all.items (bus.living.items ++ living ∷ []) e (All-push (IsLive view bus.plans bus.ticks) bus.living.items living sound.live (live bus.ticks));
-          fresh = subst (λ (numbers : List ℕ). All (IsFreshOr numbers) all.items) (sym f)
+          fresh = λ young. subst (λ (numbers : List ℕ). All (IsFreshOr numbers) all.items) (sym f)
               (All-same (IsFreshOr (bus.stale.items ++ next ∷ [])) all.items (bus.living.items ++ living ∷ []) e
-              (All-push (IsFreshOr (bus.stale.items ++ next ∷ [])) bus.living.items living (fresh-more bus.stale.items (next ∷ []) bus.living.items sound.fresh)
+              (All-push (IsFreshOr (bus.stale.items ++ next ∷ [])) bus.living.items living (fresh-more bus.stale.items (next ∷ []) bus.living.items (sound.fresh young))
               (inr (subst (Contains (bus.stale.items ++ next ∷ [])) (sym number) (Contains-push bus.stale.items next)))));
         };
         bus = ap (λ (ps : List Proc). let b : Bus = record (bus_of view bus) { procs = ps; next_number = next + 1 } in b)

@@ -1,11 +1,9 @@
 -- The actions of a process that was looked at: the offer of each, and what its store takes.
-use Rattle.std.proofs.Common.{◌≡◌, ℕ, ◌+◌, ◌-◌, ◌<◌, zero, suc, List, [], ◌∷◌, ◌++◌, length, refl, ap, sym, subst, ◌∙◌, arith, Option, Some, None, Bool, true, false, slice_get, get_or, slice_index_or, option_map, option_and_then, IfSome, IsTrue, if◌then◌else◌}
+use Rattle.std.proofs.Common.{◌≡◌, ℕ, ◌+◌, ◌-◌, ◌<◌, zero, suc, List, [], ◌∷◌, ◌++◌, length, refl, ap, sym, subst, ◌∙◌, arith, Option, Some, None, Bool, true, false, slice_get, get_or, slice_index_or, option_map, option_and_then, IfSome, if◌then◌else◌}
 use Rattle.std.specs.Bool.{⊤}
 use Rattle.std.specs.List.{list_all}
-use Rattle.std.specs.Option.{ForSome, is_some}
 use Rattle.std.proofs.lemmas.Bool.{and_parts}
-use Rattle.std.proofs.lemmas.Option.{get_or_from_slice_get, slice_get_within, same_Some}
-use Rattle.std.proofs.lemmas.List.{length-map}
+use Rattle.std.proofs.lemmas.Option.{get_or_from_slice_get}
 use Rattle.tb_terms.specs.declared.term.Term.{Term}
 use Rattle.tb_terms.specs.declared.sort.Sort.{Sort}
 use Rattle.tb_terms.specs.declared.pattern.Pattern.{Pattern}
@@ -23,12 +21,11 @@ use Rattle.tb_body.specs.declared.tree.Tree.{Tree}
 use Rattle.tb_body.specs.Acts.{is_act_in_body, is_atom_in_body}
 use Rattle.tb_body.specs.Exprs.{is_value}
 use Rattle.tb_body.specs.InRange.{is_body_in_range}
-use Rattle.tb_algebra.specs.declared.offer.Offer.{Offer}
 use Rattle.tb_algebra.specs.Processes.{Process}
 use Rattle.tb_algebra.specs.Atoms.{act_in, act_of, times_of, is_ready, patterns_of, values_together}
 use Rattle.tb_algebra.specs.Binds.{takes_bind, takes_binds}
 use Rattle.tb_algebra.specs.Offers.{Offered, offers}
-use Rattle.tb_algebra.specs.Walks.{Walking, offers_of, seen, seen_offers, is_end}
+use Rattle.tb_algebra.specs.Walks.{Walking, offers_of, is_end}
 use Rattle.tb_algebra.specs.WalkerViews.{View}
 use Rattle.tb_algebra.proofs.Taken.{binds-taken}
 use Rattle.tb_bus.specs.Actions.{set_action, print_action, no_note_action, subscribe_action, unsubscribe_action, create_action, action_in, action_if, action_of}
@@ -132,7 +129,6 @@ ready-read all at index living ready row within is =
 -- what is known of a process where the offer of one of its actions is taken
 pub record OfferAt {W P T : Type 0} (view : View P W T) (bus : LiveBus W P T) (at index : ℕ) (living : Living W) (plan : P) (ready : Ready) : Type 0 where
   pub on : view.is_on plan living.walker
-  pub looked : view.seen living.walker ≡ Some (seen_offers (view.body_of plan).atoms bus.ticks (view.walking plan living.walker))
   pub here : slice_get (offers_of (view.walking plan living.walker)) ready.offer ≡ Some (offer_of (procs_in view bus) (rows_of bus.living.items) at index)
 
 pub offer-read : {W P T : Type 0} (view : View P W T) (bus : LiveBus W P T) (at index : ℕ) (living : Living W) (it : LiveAt view bus at living) (plan : P) (ready : Ready) →
@@ -142,20 +138,8 @@ offer-read view bus at index living it plan ready fresh within same is =
     let there = ready-read bus.living.items at index living ready it.row within is in
     subst (λ p. OfferAt view bus at index living p ready) (sym same) (record {
       on = it.live.is_on;
-      looked = (it.live.ready (fresh-there bus.living.items at living fresh it.here)).looked;
       here = ap (λ (r : Ready). slice_get (offers_of (view.walking it.plan living.walker)) r.offer) there ∙ action.here;
     })
-
--- an index into what was seen of the offers
-pub seen-within : (atoms : List Atom) (now : ℕ) (walking : Walking) (saw : Option (List Offer)) (k : ℕ) (offered : Offered) → saw ≡ Some (seen_offers atoms now walking) → slice_get (offers_of walking) k ≡ Some offered →
-    ForSome saw (λ offers. k < length offers)
-seen-within atoms now walking saw k offered e here offers f =
-    let same : seen_offers atoms now walking ≡ offers = same_Some _ _ (sym e ∙ f) in
-    subst (λ (os : List Offer). k < length os) same
-    (let within = slice_get_within (offers_of walking) k offered here in let long = length-map (offers_of walking) (seen atoms now) in omega arith)
-
-pub seen-some : (saw : Option (List Offer)) (offers : List Offer) → saw ≡ Some offers → IsTrue (is_some saw)
-seen-some saw offers e = ap is_some e
 
 -- patterns that bind only what the store takes
 abbrev pub PatternsFit : List Slot → List Pattern → Type 0

@@ -1,5 +1,5 @@
 -- What the living hold, where one inbox after another changes: the other parts of each stay, and so does what rests on them.
-use Rattle.std.proofs.Common.{◌≡◌, ◌≢◌, ℕ, ◌<◌, ◌≤◌, zero, suc, List, [], ◌∷◌, length, map, refl, ap, sym, subst, ◌∙◌, arith, Option, Some, None, Bool, true, false, slice_get, slice_set, get_or, option_map, nat_lt, ◌&&◌, ◌==◌, if◌then◌else◌, eq-eqb, Contains}
+use Rattle.std.proofs.Common.{◌≡◌, ◌≢◌, ℕ, ◌<◌, ◌≤◌, zero, suc, List, [], ◌∷◌, length, map, refl, ap, sym, subst, ◌∙◌, arith, Option, Some, None, Bool, true, false, slice_get, slice_set, get_or, option_map, nat_lt, ◌&&◌, ◌==◌, if◌then◌else◌, eq-eqb}
 use Rattle.std.specs.Global.{Vec}
 use Rattle.std.specs.List.{All}
 use Rattle.std.proofs.lemmas.Bool.{eqb-true, false_from_ne_true}
@@ -96,7 +96,7 @@ sound-bares view bus living e sound = record {
   below = all-bares (IsBelow bus.marks.next_number) bus.living.items living.items (λ l h. h) (λ l h. h) e sound.below;
   planned = sound.planned;
   live = all-bares (IsLive view bus.plans bus.ticks) bus.living.items living.items (live-bare view bus.plans bus.ticks) (live-filled view bus.plans bus.ticks) e sound.live;
-  fresh = all-bares (IsFreshOr bus.stale.items) bus.living.items living.items (λ l h. h) (λ l h. h) e sound.fresh;
+  fresh = λ young. all-bares (IsFreshOr bus.stale.items) bus.living.items living.items (λ l h. h) (λ l h. h) e (sound.fresh young);
 }
 
 -- one at an index is as it was, but for its inbox

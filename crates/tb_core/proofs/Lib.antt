@@ -11,5 +11,6 @@ pub mod PlainLemmas
 pub mod ReadLemmas
 pub mod RowsLemmas
 pub mod SetLemmas
+pub mod TickLemmas
 pub mod GoLemmas
 pub mod CoreLemmas

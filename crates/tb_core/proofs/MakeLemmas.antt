@@ -28,7 +28,6 @@ use Rattle.tb_bus.specs.Steps.{advance, apply, label_of, nowhere, place_of}
 use Rattle.tb_bus.specs.Steps as move
 use Rattle.tb_bus.specs.Candidates.{Row, no_row, row_at, row_of, rows_of}
 use Rattle.tb_bus.specs.Views.{no_proc, proc_at, ready_at, offer_of, own_move, move_by, sent_in, IsCandidateIn}
-use Rattle.tb_bus.specs.declared.action.Action.{Action}
 use Rattle.tb_bus.specs.declared.action.Action.TheVariants as action
 use Rattle.tb_bus.specs.declared.action.OwnAction.{OwnAction}
 use Rattle.tb_bus.specs.declared.action.OwnAction.TheVariants as own

@@ -39,9 +39,9 @@ ascend-set below (x ∷ all) (suc at) living one e f = ap (λ rest. nat_lt below
 pub record IsInPlace {W P T : Type 0} (view : View P W T) (bus : LiveBus W P T) (plan : P) (living one : Living W) : Type 0 where
   pub live : IsLiveOn view plan bus.ticks one
   pub proc : proc_by view (Some plan) one ≡ proc_by view (Some plan) living
-  pub fresh : IsFreshOr bus.stale.items one
+  pub fresh : bus.aged ≡ false → IsFreshOr bus.stale.items one
 
-pub in-place : {W P T : Type 0} (view : View P W T) (bus : LiveBus W P T) (plan its : P) (living one : Living W) → plan ≡ its → IsLiveOn view plan bus.ticks one → proc_by view (Some plan) one ≡ proc_by view (Some plan) living → IsFreshOr bus.stale.items one → IsInPlace view bus its living one
+pub in-place : {W P T : Type 0} (view : View P W T) (bus : LiveBus W P T) (plan its : P) (living one : Living W) → plan ≡ its → IsLiveOn view plan bus.ticks one → proc_by view (Some plan) one ≡ proc_by view (Some plan) living → (bus.aged ≡ false → IsFreshOr bus.stale.items one) → IsInPlace view bus its living one
 in-place view bus plan its living one e live proc fresh = subst (λ p. IsInPlace view bus p living one) e (record { live = live; proc = proc; fresh = fresh })
 
 -- one that isn't fresh is named, and so is another with its number
@@ -70,8 +70,8 @@ sound-set view bus all at living one it sound e h = record {
   planned = sound.planned;
   live = subst (λ (xs : List (Living _)). (k : ℕ) (d : Living _) → k < length xs → IsLive view bus.plans bus.ticks (get_or xs k d)) (sym e)
       (All-set (IsLive view bus.plans bus.ticks) bus.living.items at one (it.plan, ap (slice_get bus.plans) (ap (λ (p : Proc). p.body) h.proc) ∙ it.planned, h.live) sound.live);
-  fresh = subst (λ (xs : List (Living _)). (k : ℕ) (d : Living _) → k < length xs → IsFreshOr bus.stale.items (get_or xs k d)) (sym e)
-      (All-set (IsFreshOr bus.stale.items) bus.living.items at one h.fresh sound.fresh);
+  fresh = λ young. subst (λ (xs : List (Living _)). (k : ℕ) (d : Living _) → k < length xs → IsFreshOr bus.stale.items (get_or xs k d)) (sym e)
+      (All-set (IsFreshOr bus.stale.items) bus.living.items at one (h.fresh young) (sound.fresh young));
 }
 
 pub stands-set : {W P T : Type 0} (view : View P W T) (bus : LiveBus W P T) (all : Vec (Living W)) (at : ℕ) (living one : Living W) (it : LiveAt view bus at living) → IsSound view bus → all.items ≡ slice_set bus.living.items at one → IsInPlace view bus it.plan living one →
@@ -92,7 +92,7 @@ stands-moved view bus all stale sound e f = record {
     below = subst (λ xs. All (IsBelow bus.marks.next_number) xs) (sym e) sound.below;
     planned = sound.planned;
     live = subst (λ xs. All (IsLive view bus.plans bus.ticks) xs) (sym e) sound.live;
-    fresh = subst (λ (numbers : List ℕ). All (IsFreshOr numbers) all.items) (sym f) (subst (λ xs. All (IsFreshOr bus.stale.items) xs) (sym e) sound.fresh);
+    fresh = λ young. subst (λ (numbers : List ℕ). All (IsFreshOr numbers) all.items) (sym f) (subst (λ xs. All (IsFreshOr bus.stale.items) xs) (sym e) (sound.fresh young));
   };
   bus = ap (λ (procs : List Proc). let b : Bus = record (bus_of view bus) { procs = procs } in b) (ap (map (proc_in view bus.plans)) e);
   origin = refl;

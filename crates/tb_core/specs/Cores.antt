@@ -3,8 +3,9 @@ use Rattle.std.specs.Prelude.{◌≡◌, ◌≤◌, ℕ, List, [], ◌∷◌, �
 use Rattle.std.specs.Coded.{Coded, code_by, coded×, coded_ℕ, coded_bool, coded_list}
 use Rattle.tb_log.specs.Limits.{has_room}
 use Rattle.tb_log.specs.declared.entry.Input.{Input}
+use Rattle.tb_log.specs.declared.entry.Input.TheVariants.{Tick, NoTicks, Line, Gone, Cut}
 use Rattle.tb_log.specs.declared.entry.Entry.{Entry}
-use Rattle.tb_log.specs.declared.entry.Entry.TheVariants.{Did, Quiet, Fed}
+use Rattle.tb_log.specs.declared.entry.Entry.TheVariants.{Did, Quiet, Fed, Gave}
 use Rattle.tb_log.specs.contracts.entry.Entry as entry
 use Rattle.tb_bus.specs.declared.origin.Origin.{Origin}
 use Rattle.tb_bus.specs.contracts.origin.Origin as origin
@@ -44,6 +45,7 @@ says_quiet None = false
 says_quiet (Some Quiet) = true
 says_quiet (Some (Did label)) = false
 says_quiet (Some (Fed input reply)) = false
+says_quiet (Some (Gave lane out)) = false
 
 -- the last entry says quiet
 abbrev pub ends_quiet : List Entry → Bool
@@ -75,6 +77,14 @@ is_full core call = lacks_room core (would_log core call)
 -- the entries that a call adds to the log
 abbrev pub entries_of : CoreState → Call → List Entry
 entries_of core call = option_to_list (would_log core call)
+
+-- whether an input may take memory of the bus, beside that of its entry
+abbrev pub takes_memory : Input → Bool
+takes_memory Tick = false
+takes_memory NoTicks = false
+takes_memory (Line lane line) = true
+takes_memory (Gone lane) = false
+takes_memory (Cut lane) = false
 
 -- A call logs these entries, which are a trace from the bus before it, and changes nothing else. Each takes the memory
 -- of one at most.

@@ -3,3 +3,4 @@ pub mod Lives
 pub mod Makings
 pub mod Holdings
 pub mod LiveBuses
+pub mod Ticking

@@ -1,5 +1,5 @@
 -- The bus for which the fields of a core stand, and when they stand for what contracts see of it.
-use Rattle.std.specs.Prelude.{◌≡◌, ◌≤◌, ◌+◌, ◌⊎◌, ℕ, List, [], map, length, true, IsTrue, Some, slice_get, slice_set, Contains}
+use Rattle.std.specs.Prelude.{◌≡◌, ◌≤◌, ◌+◌, ◌⊎◌, ℕ, List, [], map, length, true, false, IsTrue, Some, slice_get, slice_set, Contains}
 use Rattle.std.specs.List.{All}
 use Rattle.tb_match.specs.declared.bind.Bind.{Bind}
 use Rattle.tb_algebra.specs.Binds.{takes_binds}
@@ -51,13 +51,13 @@ abbrev pub IsFreshOr : {W : Type 0} → List ℕ → Living W → Type 0
 IsFreshOr stale living = (living.fresh ≡ true) ⊎ Contains stale living.number
 
 -- The plans are those of the bodies, the living stand by their numbers, which are below that of the next, each lives
--- by its plan, and those that have to be looked at anew are named.
+-- by its plan, and those that have to be looked at anew are named, unless a tick has passed.
 pub record IsSound {W P T : Type 0} (view : View P W T) (bus : LiveBus W P T) : Type 0 where
   pub in_order : ascend 0 (rows_of bus.living.items) ≡ true
   pub below : All (IsBelow bus.marks.next_number) bus.living.items
   pub planned : map view.body_of bus.plans ≡ bus.origin.program.bodies
   pub live : All (IsLive view bus.plans bus.ticks) bus.living.items
-  pub fresh : All (IsFreshOr bus.stale.items) bus.living.items
+  pub fresh : bus.aged ≡ false → All (IsFreshOr bus.stale.items) bus.living.items
 
 -- the fields stand for the same bus as before
 pub record StandsAs {W P T : Type 0} (view : View P W T) (old new : LiveBus W P T) : Type 0 where

@@ -7,6 +7,7 @@ use crate::acting::{Done, created, kind_alone, printed};
 use crate::inboxes::{hand_out, subscribe_at, take_note_at, unsubscribe_at};
 use crate::looking::{go_on, look};
 use crate::opening::{numbers_of, open_all, open_at, plan_all};
+use crate::ticking::tick_all;
 use std::alloc::Global;
 use tb_algebra::Walker;
 use tb_bus::{
@@ -29,6 +30,8 @@ pub struct LiveBus<W: Walker> {
     pub living: Vec<Living<W>>,
     /// The numbers of those that have to be looked at anew; some of these may be gone.
     pub stale: Vec<u32>,
+    /// A tick has passed since all were looked at: each may have to be looked at anew.
+    pub aged: bool,
     /// How many ticks there were.
     pub ticks: u64,
     pub marks: Marks,
@@ -42,7 +45,7 @@ struct Begun {
 }
 
 impl<W: Walker> LiveBus<W> {
-    ghost use Rattle.std.specs.Prelude.{◌≡◌, ℕ, ◌<◌, ◌≤◌, ◌+◌, ◌∷◌, ◌≢◌, List, [], length, vec_len, vec_capacity, Contains, IfOk, IfSome, IsTrue, OnOk, OnErr, Some, slice_get, true, false, option_map, min};
+    ghost use Rattle.std.specs.Prelude.{◌≡◌, ℕ, ◌<◌, ◌≤◌, ◌+◌, ◌∷◌, ◌≢◌, List, [], length, vec_len, vec_capacity, Contains, IfOk, IfSome, IsTrue, OnOk, OnErr, Some, slice_get, true, false, option_map, map, min};
     ghost use Rattle.std.below.core.specs.declared.int.usize.TheConstants.{MAX};
     ghost use Rattle.tb_log.specs.Limits.{terms_size};
     ghost use Rattle.std.specs.List.{All};
@@ -50,7 +53,7 @@ impl<W: Walker> LiveBus<W> {
     ghost use Rattle.tb_bus.specs.Buses.{start};
     ghost use Rattle.tb_bus.specs.Effects.{creation, fits_formals, own_effect};
     ghost use Rattle.tb_bus.specs.Steps.{moves, apply, label_of, nowhere};
-    ghost use Rattle.tb_bus.specs.Traces.{fed};
+    ghost use Rattle.tb_bus.specs.Traces.{aged_proc, fed};
     ghost use Rattle.tb_bus.specs.Candidates.{first, row_at, rows_of};
     ghost use Rattle.tb_bus.specs.Views.{ready_at, offer_of, proc_at, IsCandidateIn};
     ghost use Rattle.tb_core.specs.Makings.{effect_by, IsPlainIn};
@@ -71,6 +74,7 @@ impl<W: Walker> LiveBus<W> {
             plans,
             living,
             stale,
+            aged: false,
             ticks: 0,
             marks: Marks {
                 last_starter: 0,
@@ -113,9 +117,10 @@ impl<W: Walker> LiveBus<W> {
         Ok(())
     }
 
-    /// Looks at all processes that have to be looked at.
-    pub fn freshen(&mut self, alloc: Global) -> Result<(), NoMemory>
-        requires { IsSound W.view self.old }
+    /// Looks at those that have to be looked at, where no tick has passed: their numbers are noted.
+    fn freshen_noted(&mut self, alloc: Global) -> Result<(), NoMemory>
+        requires sound { IsSound W.view self.old }
+        requires young { self.old.aged ≡ false }
         ensures same { StandsAs W.view self.old self.new }
         ensures fresh { OnOk result (AreFresh self.new.living.items) }
     {
@@ -123,7 +128,34 @@ impl<W: Walker> LiveBus<W> {
             let number = self.stale[index];
             self.freshen_number(alloc, number)?;
         }
+        Ok(())
+    }
+
+    /// Looks at those that have to be looked at, of all.
+    fn freshen_all(&mut self, alloc: Global) -> Result<(), NoMemory>
+        requires { IsSound W.view self.old }
+        ensures same { StandsAs W.view self.old self.new }
+        ensures fresh { OnOk result (AreFresh self.new.living.items) }
+    {
+        for at in 0..self.living.len() {
+            self.freshen_at(alloc, at)?;
+        }
+        Ok(())
+    }
+
+    /// Looks at all processes that have to be looked at.
+    pub fn freshen(&mut self, alloc: Global) -> Result<(), NoMemory>
+        requires { IsSound W.view self.old }
+        ensures same { StandsAs W.view self.old self.new }
+        ensures fresh { OnOk result (AreFresh self.new.living.items) }
+    {
+        if self.aged {
+            self.freshen_all(alloc)?;
+        } else {
+            self.freshen_noted(alloc)?;
+        }
         self.stale.clear();
+        self.aged = false;
         Ok(())
     }
 
@@ -508,26 +540,42 @@ impl<W: Walker> LiveBus<W> {
         }
     }
 
-    /// What would become of an input.
-    pub fn reply(&self, input: Input) -> Reply
-        ensures { result ≡ (fed (bus_of W.view self.now) input).reply }
-    {
-        match input {
-            Input::NoTicks if self.marks.down => Reply::Dropped(Why::Down),
-            Input::NoTicks => Reply::Took,
-        }
-    }
-
-    /// Takes an input, or drops it.
-    pub fn feed(&mut self, input: Input)
+    /// A tick passes: all processes age. This takes no memory.
+    fn tick(&mut self)
         requires sound { IsSound W.view self.old }
+        requires few { self.old.ticks < 4000000 }
         ensures sound { IsSound W.view self.new }
         ensures origin { self.new.origin ≡ self.old.origin }
-        ensures bus { bus_of W.view self.new ≡ (fed (bus_of W.view self.old) input).bus }
+        ensures bus { bus_of W.view self.new ≡ record (bus_of W.view self.old) { procs = map aged_proc (procs_in W.view self.old); now = self.old.ticks + 1 } }
     {
+        tick_all(&self.plans, &mut self.living);
+        self.ticks += 1;
+        self.aged = true;
+    }
+
+    /// Takes an input, or drops it: what became of it. This takes no memory.
+    pub fn feed(&mut self, input: &Input) -> Reply
+        requires sound { IsSound W.view self.old }
+        requires few { self.old.ticks < 4000000 }
+        ensures reply { result ≡ (fed (bus_of W.view self.old) input.now).reply }
+        ensures sound { IsSound W.view self.new }
+        ensures origin { self.new.origin ≡ self.old.origin }
+        ensures bus { bus_of W.view self.new ≡ (fed (bus_of W.view self.old) input.now).bus }
+    {
+        if self.marks.down {
+            return Reply::Dropped(Why::Down);
+        }
         match input {
-            Input::NoTicks if self.marks.down => {}
-            Input::NoTicks => self.marks.no_ticks = true,
+            Input::Tick => {
+                self.tick();
+                Reply::Took
+            }
+            Input::NoTicks => {
+                self.marks.no_ticks = true;
+                Reply::Took
+            }
+            // No lane is ever up.
+            Input::Line(_, _) | Input::Gone(_) | Input::Cut(_) => Reply::Dropped(Why::NotLive),
         }
     }
 }

@@ -10,6 +10,7 @@ mod machine;
 mod opening;
 #[cfg(test)]
 mod tests;
+mod ticking;
 
 pub use answers::{CoreFault, Stepped};
 pub use machine::Core;

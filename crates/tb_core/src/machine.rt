@@ -1,10 +1,11 @@
-ghost use Rattle.std.specs.Prelude.{◌≡◌, ◌≤◌, ◌+◌, ◌↔◌, ◌∷◌, [], ◌++◌, length, IsTrue, IfOk, OnOk, OnErr, IsErrOf, true, false, if◌then◌else◌};
+ghost use Rattle.std.specs.Prelude.{◌≡◌, ◌≤◌, ◌<◌, ◌+◌, ◌↔◌, ◌∷◌, [], ◌++◌, length, IsTrue, IfOk, OnOk, OnErr, IsErrOf, true, false, if◌then◌else◌};
 ghost use Rattle.tb_log.specs.Limits.{has_room};
+ghost use Rattle.tb_log.specs.Shapes.{IsInputInShape};
 ghost use Rattle.tb_bus.specs.Buses.{origin_of, start};
-ghost use Rattle.tb_bus.specs.Traces.{IsInForm, IsTrace, fed};
+ghost use Rattle.tb_bus.specs.Traces.{IsTrace, fed};
 ghost use Rattle.tb_bus.specs.Steps.{steps, apply, label_of};
 ghost use Rattle.tb_bus.specs.Views.{IsCandidateIn};
-ghost use Rattle.tb_core.specs.Cores.{HandIn, MakeStep, started, bus_now, Logs, entries_of, is_full, IsStep, Stays, has_any, ends_quiet};
+ghost use Rattle.tb_core.specs.Cores.{HandIn, MakeStep, started, bus_now, Logs, entries_of, is_full, IsStep, Stays, has_any, ends_quiet, takes_memory};
 ghost use Rattle.tb_core.specs.LiveBuses.{bus_of, move_in, scene_in, AreFresh, IsSound, StandsAs};
 
 use crate::answers::{CoreFault, Stepped};
@@ -14,7 +15,7 @@ use std::marker::Model;
 use tb_algebra::Walker;
 use tb_body::Program;
 use tb_bus::{Candidate, Origin};
-use tb_log::{Entry, Input, Log, Reply};
+use tb_log::{Entry, Input, Log, Reply, input_size};
 use tb_terms::NoMemory;
 
 /// A bus with its log: each call makes at most one event, and logs it. Contracts see where it was
@@ -108,12 +109,13 @@ impl<W: Walker> Core<W> {
 
     /// Hands in what comes from outside.
     pub fn hand_in(&mut self, input: Input) -> Result<Reply, CoreFault>
-        requires { IsInForm input }
+        requires { IsInputInShape input }
         ensures reply { IfOk result (λ reply. reply ≡ (fed (bus_now self.old) input).reply) }
         ensures logs { IfOk result (λ _. Logs self.old self.new (entries_of self.old (HandIn input))) }
         ensures stopped { IsErrOf result CoreFault.Stopped ↔ IsTrue self.old.stopped }
         ensures full { IsErrOf result CoreFault.Full → is_full self.old (HandIn input) ≡ true }
         ensures room { IfOk result (λ _. is_full self.old (HandIn input) ≡ false) }
+        ensures calm { takes_memory input ≡ false → 0 < self.old.spare → IsErrOf result CoreFault.NoMemory → ⊥ }
         ensures err { OnErr result (Stays self.old self.new) }
     {
         if self.stopped {
@@ -150,9 +152,11 @@ impl<W: Walker> Core<W> {
     }
 }
 
-/// Logs an input with what becomes of it, and receives it.
+/// Logs an input with what becomes of it, and receives it. All memory is taken before anything changes.
 fn hand<W: Walker>(bus: &mut LiveBus<W>, log: &mut Log, input: Input) -> Result<Reply, CoreFault>
-    requires { IsSound W.view bus.old }
+    requires sound { IsSound W.view bus.old }
+    requires ticks { bus.old.ticks ≤ length log.old.entries }
+    requires few { log.old.limit ≤ 4000000 }
     ensures sound { IsSound W.view bus.new }
     ensures origin { bus.new.origin ≡ bus.old.origin }
     ensures limit { log.new.limit ≡ log.old.limit }
@@ -163,16 +167,15 @@ fn hand<W: Walker>(bus: &mut LiveBus<W>, log: &mut Log, input: Input) -> Result<
     ensures running { IsErrOf result CoreFault.Stopped → ⊥ }
     ensures full { IsErrOf result CoreFault.Full → has_room log.old.limit log.old.entries (Entry.Fed input (fed (bus_of W.view bus.old) input).reply) ≡ false }
     ensures room { OnOk result (has_room log.old.limit log.old.entries (Entry.Fed input (fed (bus_of W.view bus.old) input).reply) ≡ true) }
+    ensures calm { 0 < log.old.spare → IsErrOf result CoreFault.NoMemory → ⊥ }
     ensures err { OnErr result ((bus_of W.view bus.new ≡ bus_of W.view bus.old) × (log.new.entries ≡ log.old.entries) × (log.old.spare ≤ log.new.spare)) }
 {
-    let reply = bus.reply(input);
-    let entry = Entry::Fed(input, reply);
-    if !log.room_for(&entry) {
+    if !log.room_for_size(input_size(&input)) {
         return Err(CoreFault::Full);
     }
     log.reserve(1)?;
-    bus.feed(input);
-    log.push(entry);
+    let reply = bus.feed(&input);
+    log.push(Entry::Fed(input, reply));
     Ok(reply)
 }
 
@@ -236,6 +239,7 @@ fn says_quiet(log: &[Entry]) -> bool
         Some(Entry::Quiet) => true,
         Some(Entry::Did(_)) => false,
         Some(Entry::Fed(_, _)) => false,
+        Some(Entry::Gave(_, _)) => false,
         None => false,
     }
 }

@@ -1,4 +1,4 @@
-ghost use Rattle.std.specs.Prelude.{◌≡◌, ◌≤◌, ◌<◌, ◌+◌, ◌++◌, ◌∷◌, [], IsTrue, OnOk, OnErr, min, map, sum, length};
+ghost use Rattle.std.specs.Prelude.{◌≡◌, ◌≤◌, ◌<◌, ◌+◌, ◌++◌, ◌∷◌, [], IsTrue, IsOk, OnOk, OnErr, min, map, sum, length};
 ghost use Rattle.std.below.core.specs.declared.int.usize.TheConstants.{MAX};
 ghost use Rattle.tb_terms.specs.Sizes.{term_size};
 ghost use Rattle.tb_log.specs.Limits.{entry_size, input_size, tool_line_size, out_size, has_room};
@@ -69,9 +69,10 @@ impl Log {
         self.entries.len() < self.limit as usize && self.size.saturating_add(size) <= MOST_SIZE
     }
 
-    /// Takes memory for so many entries more.
+    /// Takes memory for so many entries more, where there isn't enough yet.
     pub fn reserve(&mut self, n: usize) -> Result<(), NoMemory>
         ensures spare { OnOk result (n ≤ self.new.spare) }
+        ensures enough { n ≤ self.old.spare → IsOk result }
         ensures entries { self.new.entries ≡ self.old.entries }
         ensures limit { self.new.limit ≡ self.old.limit }
         ensures grows { self.old.spare ≤ self.new.spare }
@@ -112,7 +113,8 @@ fn size_of(entry: &Entry) -> usize
     }
 }
 
-fn input_size(input: &Input) -> usize
+/// The size of an input, or the greatest usize where it is greater.
+pub fn input_size(input: &Input) -> usize
     ensures { result ≡ min (input_size input.now) MAX }
 {
     match input {

@@ -1,9 +1,14 @@
-use Rattle.std.proofs.Common.{◌∙◌, ◌++◌, ◌∷◌, [], ap, slice_get}
+use Rattle.std.proofs.Common.{◌∙◌, ◌++◌, ◌∷◌, [], ap, refl, slice_get}
 use Rattle.tb_bus.specs.Buses.{opened_one}
 use Rattle.tb_core.proofs.ReadLemmas.{on-err}
 use Rattle.tb_core.proofs.SetLemmas.{stands-moved}
 use Rattle.tb_core.proofs.CreateLemmas.{created-changed}
 use Rattle.tb_core.proofs.bus.LiveBus.create.Goals as goal
+
+pub returns-in_err-reserve-clause-err : goal.returns-in_err-reserve-clause-err
+returns-in_err-reserve-clause-err g c =
+    let bus = c.args.self.now in
+    on-err c.from_residual-in_err-reserve.result (stands-moved g.W.Walker.view bus bus.living c.reserve.new.self c.requires.sound refl c.reserve.ensures.items)
 
 pub returns-in_err-push-clause-err : goal.returns-in_err-push-clause-err
 returns-in_err-push-clause-err g c =

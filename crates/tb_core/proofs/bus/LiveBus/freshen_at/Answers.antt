@@ -1,4 +1,4 @@
-use Rattle.std.proofs.Common.{arith, refl, sym, subst, ap, ◌∙◌, inl}
+use Rattle.std.proofs.Common.{◌≡◌, false, arith, refl, sym, subst, ap, ◌∙◌, inl}
 use Rattle.std.specs.Vec.{with_item}
 use Rattle.tb_bus.specs.Buses.{Proc}
 use Rattle.tb_core.specs.Lives.{IsLiveOn}
@@ -13,7 +13,7 @@ returns-then-living-clause-same g c =
     let living = c.index_mut-living.result.now in
     let it = live-at g.W.Walker.view bus c.args.at living c.requires.sound c.requires.within c.index_mut-living.ensures.value in
     stands-set g.W.Walker.view bus (with_item bus.living c.args.at living) c.args.at living living it c.requires.sound refl
-    (in-place g.W.Walker.view bus it.plan it.plan living living refl it.live refl (inl c.if-living.true))
+    (in-place g.W.Walker.view bus it.plan it.plan living living refl it.live refl (λ young. inl c.if-living.true))
 
 pub bounds-as_slice-living : goal.bounds-as_slice-living
 bounds-as_slice-living g c =
@@ -55,6 +55,6 @@ returns-clause-same g c =
     let one = c.look.new.living in
     let it = live-at g.W.Walker.view bus c.args.at living c.requires.sound c.requires.within c.index_mut-living.ensures.value in
     let plan = read-is bus.plans c.as_slice.result.now living.body c.index-as_slice-living.result it.plan c.as_slice.ensures it.planned c.index-as_slice-living.is in
-    let named = named-as bus.stale.items living one (all-there (IsFreshOr bus.stale.items) bus.living.items c.args.at living c.requires.sound.fresh it.here) c.if-living.false (ap (λ (p : Proc). p.number) c.look.ensures.same) in
+    let named = λ (young : bus.aged ≡ false). named-as bus.stale.items living one (all-there (IsFreshOr bus.stale.items) bus.living.items c.args.at living (c.requires.sound.fresh young) it.here) c.if-living.false (ap (λ (p : Proc). p.number) c.look.ensures.same) in
     stands-set g.W.Walker.view bus (with_item bus.living c.args.at one) c.args.at living one it c.requires.sound refl
     (in-place g.W.Walker.view bus c.index-as_slice-living.result it.plan living one plan c.look.ensures.live c.look.ensures.same named)

@@ -10,7 +10,7 @@ returns-clause-sound g c = record {
   below = subst (λ many. All (IsBelow (many + 1)) c.in_ok-living.living.items) (sym c.len.ensures) c.in_ok-living.ensures.below;
   planned = c.in_ok-plans.ensures ∙ c.as_slice.ensures;
   live = c.in_ok-living.ensures.live;
-  fresh = all-named c.in_ok-living.living.items c.as_slice-2.result.now c.in_ok-stale.stale.items c.as_slice-2.ensures.value c.in_ok-stale.ensures;
+  fresh = λ young. all-named c.in_ok-living.living.items c.as_slice-2.result.now c.in_ok-stale.stale.items c.as_slice-2.ensures.value c.in_ok-stale.ensures;
 }
 
 pub overflow_cast-next_number : goal.overflow_cast-next_number

@@ -1,10 +1,12 @@
 use Rattle.std.proofs.Common.{arith, subst}
+use Rattle.std.proofs.lemmas.Option.{slice_get_within}
 use Rattle.std.proofs.lemmas.Result.{IfOk-weaker}
+use Rattle.tb_algebra.specs.Walks.{offers_of}
 use Rattle.tb_bus.specs.Candidates.{rows_of}
 use Rattle.tb_bus.specs.Views.{offer_of}
 use Rattle.tb_core.specs.LiveBuses.{Leaves, procs_in}
 use Rattle.tb_core.proofs.ReadLemmas.{live-at, plan-within, read-is}
-use Rattle.tb_core.proofs.FreshLemmas.{OfferAt, offer-read, seen-some, seen-within}
+use Rattle.tb_core.proofs.FreshLemmas.{OfferAt, offer-read}
 use Rattle.tb_core.proofs.bus.LiveBus.take_at.Given.{Over}
 use Rattle.tb_core.proofs.bus.LiveBus.take_at.Goals.{After-index}
 use Rattle.tb_core.proofs.bus.LiveBus.take_at.Goals as goal
@@ -30,17 +32,12 @@ offset_bounds-as_slice-living g c = let within = bounds-as_slice-living g c in o
 pub take-requires-clause-on : goal.take-requires-clause-on
 take-requires-clause-on g c = (offer-there g c).on
 
-pub take-requires-clause-fresh : goal.take-requires-clause-fresh
-take-requires-clause-fresh g c = seen-some (g.W.Walker.view.seen c.index-living.result.now.walker) _ (offer-there g c).looked
-
 pub take-requires-clause-within : goal.take-requires-clause-within
 take-requires-clause-within g c =
     let bus = c.args.self.now in
     let plan = c.index-as_slice-living.result in
     let walker = c.index-living.result.now.walker in
-    let it = offer-there g c in
-    seen-within (g.W.Walker.view.body_of plan).atoms bus.ticks (g.W.Walker.view.walking plan walker) (g.W.Walker.view.seen walker)
-    c.index.result.now.offer (offer_of (procs_in g.W.Walker.view bus) (rows_of bus.living.items) c.args.at c.args.index) it.looked it.here
+    slice_get_within (offers_of (g.W.Walker.view.walking plan walker)) c.index.result.now.offer (offer_of (procs_in g.W.Walker.view bus) (rows_of bus.living.items) c.args.at c.args.index) (offer-there g c).here
 
 pub returns : goal.returns
 returns g c =

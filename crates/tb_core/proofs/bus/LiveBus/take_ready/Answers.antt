@@ -13,7 +13,7 @@ returns-clause-same g c =
     stands-set g.W.Walker.view bus (with_item bus.living c.args.at one) c.args.at living one it c.requires.sound refl (record {
       live = record { is_on = it.live.is_on; alive = it.live.alive; sorts = it.live.sorts; ticks = it.live.ticks; ready = λ e. cc };
       proc = refl;
-      fresh = inr (subst (λ row. Contains bus.stale.items row.number) it.row c.requires.named);
+      fresh = λ young. inr (subst (λ row. Contains bus.stale.items row.number) it.row c.requires.named);
     })
 
 pub returns-clause-kept : goal.returns-clause-kept

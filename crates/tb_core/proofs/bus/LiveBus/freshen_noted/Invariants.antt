@@ -1,7 +1,7 @@
 use Rattle.std.proofs.Common.{◌≡◌, drop, length}
 use Rattle.std.specs.List.{All}
 use Rattle.tb_core.specs.LiveBuses.{IsFreshOr, StandsAs}
-use Rattle.tb_core.proofs.bus.LiveBus.freshen.Given as goal
+use Rattle.tb_core.proofs.bus.LiveBus.freshen_noted.Given as goal
 
 abbrev pub invariant-loop-index : goal.invariant-loop-index
 invariant-loop-index g l = record {

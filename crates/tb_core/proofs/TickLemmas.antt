@@ -1,0 +1,189 @@
+-- A tick for the living, one after another, and the bus for which they stand then.
+use Rattle.std.proofs.Common.{◌≡◌, ◌<◌, ◌+◌, ◌⊎◌, ◌&&◌, ℕ, zero, suc, List, [], ◌∷◌, ◌++◌, append-nil, length, map, drop, take, get_or, refl, ap, sym, subst, ◌∙◌, arith, inl, inr, Option, Some, None, true, false, nat_lt, option_map, slice_get, slice_set}
+use Rattle.std.specs.Bool.{⊤}
+use Rattle.std.specs.Global.{Vec}
+use Rattle.std.specs.List.{All}
+use Rattle.std.proofs.lemmas.Bool.{cases_eq}
+use Rattle.std.proofs.lemmas.Option.{same_Some, slice_get-get_or}
+use Rattle.std.proofs.lemmas.List.{drop_all, take_all}
+use Rattle.std.proofs.lemmas.List.Elements.{All-cons, All-head, All-nil, All-tail, All-weaker}
+use Rattle.tb_algebra.specs.Processes.{Process, aged}
+use Rattle.tb_algebra.specs.Walks.{Walking, is_end, sorts_of, ticked}
+use Rattle.tb_algebra.specs.WalkerViews.{View}
+use Rattle.tb_algebra.proofs.AgedOffers.{is_end-ticked}
+use Rattle.tb_bus.specs.Buses.{Bus, Proc}
+use Rattle.tb_bus.specs.Candidates.{ascend, rows_of}
+use Rattle.tb_bus.specs.Traces.{aged_proc}
+use Rattle.tb_bus.specs.declared.living.Living.{Living}
+use Rattle.tb_core.specs.Lives.{IsBelow, IsLive, IsLiveOn, proc_by, proc_in, proc_of, procs_of, term_in}
+use Rattle.tb_core.specs.LiveBuses.{AreFresh, IsFreshOr, IsSound, StandsAs, bus_of, procs_in}
+use Rattle.tb_core.specs.Ticking.{AreTicked, CanTick, IsTicked}
+use Rattle.tb_core.specs.declared.bus.LiveBus.{LiveBus}
+use Rattle.tb_core.proofs.ReadLemmas.{all-there}
+use Rattle.tb_core.proofs.SetLemmas.{set-other, set-there}
+
+-- those in front of an index are a tick older, and the others are as they were
+abbrev pub AreTickedBelow : {W P T : Type 0} → View P W T → List P → ℕ → List (Living W) → List (Living W) → Type 0
+AreTickedBelow view plans zero olds news = news ≡ olds
+AreTickedBelow view plans (suc at) [] [] = ⊤
+AreTickedBelow view plans (suc at) [] (new ∷ news) = ⊥
+AreTickedBelow view plans (suc at) (old ∷ olds) [] = ⊥
+AreTickedBelow view plans (suc at) (old ∷ olds) (new ∷ news) = IsTicked view plans old new × AreTickedBelow view plans at olds news
+
+-- the one at the index is as it was
+pub still-there : {W P T : Type 0} (view : View P W T) (plans : List P) (at : ℕ) (olds news : List (Living W)) → AreTickedBelow view plans at olds news → slice_get news at ≡ slice_get olds at
+still-there view plans zero olds news h = ap (λ all. slice_get all zero) h
+still-there view plans (suc at) [] [] h = refl
+still-there view plans (suc at) [] (new ∷ news) h = absurd h
+still-there view plans (suc at) (old ∷ olds) [] h = absurd h
+still-there view plans (suc at) (old ∷ olds) (new ∷ news) h = still-there view plans at olds news h.1
+
+pub next-there : {W P T : Type 0} (view : View P W T) (plans : List P) (at : ℕ) (olds news : List (Living W)) (d : Living W) → AreTickedBelow view plans at olds news → at < length news → slice_get olds at ≡ Some (get_or news at d)
+next-there view plans at olds news d h within = sym (still-there view plans at olds news h) ∙ slice_get-get_or news at d within
+
+pub can-next : {W P T : Type 0} (view : View P W T) (plans : List P) (at : ℕ) (olds news : List (Living W)) (d : Living W) → All (CanTick view plans) olds → AreTickedBelow view plans at olds news → at < length news → CanTick view plans (get_or news at d)
+can-next view plans at olds news d can h within = all-there (CanTick view plans) olds at (get_or news at d) can (next-there view plans at olds news d h within)
+
+first-ticked : {W P T : Type 0} (view : View P W T) (plans : List P) (olds : List (Living W)) (old new : Living W) → slice_get olds zero ≡ Some old → IsTicked view plans old new → AreTickedBelow view plans 1 olds (slice_set olds zero new)
+first-ticked view plans [] old new here t = cc
+first-ticked view plans (first ∷ olds) old new here t =
+    let same : first ≡ old = cc in
+    (subst (λ (l : Living _). IsTicked view plans l new) (sym same) t, refl)
+
+-- and may be the next
+pub ticked-more : {W P T : Type 0} (view : View P W T) (plans : List P) (at : ℕ) (olds news : List (Living W)) (old new : Living W) → AreTickedBelow view plans at olds news → slice_get olds at ≡ Some old → IsTicked view plans old new →
+    AreTickedBelow view plans (suc at) olds (slice_set news at new)
+ticked-more view plans zero olds news old new h here t =
+    subst (λ all. AreTickedBelow view plans 1 olds (slice_set all zero new)) (sym h) (first-ticked view plans olds old new here t)
+ticked-more view plans (suc at) [] news old new h here t = cc
+ticked-more view plans (suc at) (first ∷ olds) [] old new h here t = absurd h
+ticked-more view plans (suc at) (first ∷ olds) (its ∷ news) old new h here t = (h.0, ticked-more view plans at olds news old new h.1 here t)
+
+-- what was written is what stands there
+pub written : {A : Type 0} (xs ys : List A) (n : ℕ) → length ys ≡ length xs → n ≡ length xs → take n (ys ++ drop (length ys) xs) ≡ ys
+written xs ys n e f =
+    ap (λ zs. take n (ys ++ zs)) (drop_all (length ys) xs (omega arith)) ∙ ap (take n) (append-nil ys) ∙ take_all n ys (omega arith)
+
+none-left : {W P T : Type 0} (view : View P W T) (plans : List P) (news : List (Living W)) → news ≡ [] → AreTicked view plans [] news
+none-left view plans news e = subst (AreTicked view plans []) (sym e) tt
+
+pub all-ticked : {W P T : Type 0} (view : View P W T) (plans : List P) (olds news : List (Living W)) → AreTickedBelow view plans (length olds) olds news → AreTicked view plans olds news
+all-ticked view plans [] news h = none-left view plans news h
+all-ticked view plans (old ∷ olds) [] h = absurd h
+all-ticked view plans (old ∷ olds) (new ∷ news) h = (h.0, all-ticked view plans olds news h.1)
+
+-- what holds of each of the others, where it did before the tick
+ticked-by : {W P T : Type 0} (view : View P W T) (plans : List P) (Q R : Living W → Type 0) (olds news : List (Living W)) → ((old new : Living W) → IsTicked view plans old new → Q old → R new) → AreTicked view plans olds news → All Q olds → All R news
+ticked-by view plans Q R [] [] each h q = All-nil R
+ticked-by view plans Q R [] (new ∷ news) each h q = absurd h
+ticked-by view plans Q R (old ∷ olds) [] each h q = absurd h
+ticked-by view plans Q R (old ∷ olds) (new ∷ news) each h q =
+    All-cons R new news (each old new h.0 (All-head Q old olds q)) (ticked-by view plans Q R olds news each h.1 (All-tail Q old olds q))
+
+ticked-ascend : {W P T : Type 0} (view : View P W T) (plans : List P) (below : ℕ) (olds news : List (Living W)) → AreTicked view plans olds news → ascend below (rows_of news) ≡ ascend below (rows_of olds)
+ticked-ascend view plans below [] [] h = refl
+ticked-ascend view plans below [] (new ∷ news) h = absurd h
+ticked-ascend view plans below (old ∷ olds) [] h = absurd h
+ticked-ascend view plans below (old ∷ olds) (new ∷ news) h =
+    let number = h.0.2.number in
+    ap (λ n. nat_lt below n && ascend n (rows_of news)) number ∙ ap (λ rest. nat_lt below old.number && rest) (ticked-ascend view plans old.number olds news h.1)
+
+ticked-live : {W P T : Type 0} (view : View P W T) (plans : List P) (now : ℕ) (old new : Living W) → IsTicked view plans old new → IsLive view plans now old → IsLive view plans (now + 1) new
+ticked-live view plans now old new t h =
+    let same : h.0 ≡ t.0 = same_Some h.0 t.0 (sym h.1 ∙ t.1) in
+    let live = subst (λ p. IsLiveOn view p now old) same h.2 in (
+      t.0,
+      ap (slice_get plans) t.2.body ∙ t.1,
+      record {
+        is_on = t.2.is_on;
+        alive = ap (λ (w : Walking). is_end w.term) t.2.aged ∙ is_end-ticked (view.walking t.0 old.walker) ∙ live.alive;
+        sorts = ap (λ (w : Walking). sorts_of w.store) t.2.aged ∙ live.sorts;
+        ticks = let e = ap (λ (w : Walking). w.ticks) t.2.aged in let l = live.ticks in omega arith;
+        ready = λ e. absurd (let f = t.2.stale in cc);
+      },
+    )
+
+-- the process of one that hasn't ended is a tick older
+aged-term : (term : Option Process) → is_end term ≡ false → term_in (option_map aged term) ≡ aged (term_in term)
+aged-term None e = cc
+aged-term (Some term) e = refl
+
+ticked-proc : {W P T : Type 0} (view : View P W T) (plans : List P) (now : ℕ) (old new : Living W) → IsTicked view plans old new → IsLive view plans now old → proc_in view plans new ≡ aged_proc (proc_in view plans old)
+ticked-proc view plans now old new t h =
+    let same : h.0 ≡ t.0 = same_Some h.0 t.0 (sym h.1 ∙ t.1) in
+    let live = subst (λ p. IsLiveOn view p now old) same h.2 in
+    let walking = view.walking t.0 old.walker in
+    ap (λ p. proc_by view p new) (ap (slice_get plans) t.2.body ∙ t.1)
+    ∙ ap (λ (w : Walking). proc_of new w) t.2.aged
+    ∙ ap (λ (n : ℕ). let p : Proc = record (proc_of new (ticked walking)) { number = n } in p) t.2.number
+    ∙ ap (λ (n : ℕ). let p : Proc = record (proc_of new (ticked walking)) { number = old.number; body = n } in p) t.2.body
+    ∙ ap (λ (i : _). let p : Proc = record { number = old.number; body = old.body; term = term_in (option_map aged walking.term); store = walking.store; inbox = i.held } in p) t.2.inbox
+    ∙ ap (λ (term : Process). let p : Proc = record { number = old.number; body = old.body; term = term; store = walking.store; inbox = old.inbox.held } in p) (aged-term walking.term live.alive)
+    ∙ ap (λ p. aged_proc (proc_by view p old)) (sym t.1)
+
+ticked-procs : {W P T : Type 0} (view : View P W T) (plans : List P) (now : ℕ) (olds news : List (Living W)) → AreTicked view plans olds news → All (IsLive view plans now) olds → procs_of view plans news ≡ map aged_proc (procs_of view plans olds)
+ticked-procs view plans now [] [] h live = refl
+ticked-procs view plans now [] (new ∷ news) h live = absurd h
+ticked-procs view plans now (old ∷ olds) [] h live = absurd h
+ticked-procs view plans now (old ∷ olds) (new ∷ news) h live =
+    ap (λ (p : Proc). p ∷ procs_of view plans news) (ticked-proc view plans now old new h.0 (All-head (IsLive view plans now) old olds live))
+    ∙ ap (λ (ps : List Proc). aged_proc (proc_in view plans old) ∷ ps) (ticked-procs view plans now olds news h.1 (All-tail (IsLive view plans now) old olds live))
+
+-- where a bus has seen few ticks, one more may pass for each of the living
+live-few : {W P T : Type 0} (view : View P W T) (plans : List P) (now : ℕ) → now < 4000000 → (living : Living W) → IsLive view plans now living → CanTick view plans living
+live-few view plans now few living h = (h.0, h.1, record { is_on = h.2.is_on; few = let l = h.2.ticks in omega arith })
+
+pub all-few : {W P T : Type 0} (view : View P W T) (bus : LiveBus W P T) → IsSound view bus → bus.ticks < 4000000 → All (CanTick view bus.plans) bus.living.items
+all-few view bus sound few = All-weaker (IsLive view bus.plans bus.ticks) (CanTick view bus.plans) (live-few view bus.plans bus.ticks few) bus.living.items sound.live
+
+-- a bus a tick later
+pub sound-ticked : {W P T : Type 0} (view : View P W T) (bus : LiveBus W P T) (living : Vec (Living W)) → IsSound view bus → AreTicked view bus.plans bus.living.items living.items → IsSound view (record bus { living = living; ticks = bus.ticks + 1; aged = true })
+sound-ticked view bus living sound h = record {
+  in_order = ticked-ascend view bus.plans 0 bus.living.items living.items h ∙ sound.in_order;
+  below = ticked-by view bus.plans (IsBelow bus.marks.next_number) (IsBelow bus.marks.next_number) bus.living.items living.items
+      (λ old new t l. let e = t.2.number in omega arith) h sound.below;
+  planned = sound.planned;
+  live = ticked-by view bus.plans (IsLive view bus.plans bus.ticks) (IsLive view bus.plans (bus.ticks + 1)) bus.living.items living.items (ticked-live view bus.plans bus.ticks) h sound.live;
+  fresh = λ young. cc;
+}
+
+pub bus-ticked : {W P T : Type 0} (view : View P W T) (bus : LiveBus W P T) (living : Vec (Living W)) → IsSound view bus → AreTicked view bus.plans bus.living.items living.items →
+    bus_of view (record bus { living = living; ticks = bus.ticks + 1; aged = true }) ≡ record (bus_of view bus) { procs = map aged_proc (procs_in view bus); now = bus.ticks + 1 }
+bus-ticked view bus living sound h =
+    ap (λ (ps : List Proc). let b : Bus = record (bus_of view bus) { procs = ps; now = bus.ticks + 1 } in b) (ticked-procs view bus.plans bus.ticks bus.living.items living.items h sound.live)
+
+-- those in front of an index are fresh
+abbrev pub AreFreshBelow : {W : Type 0} → ℕ → List (Living W) → Type 0
+AreFreshBelow {W = W} at all = (k : ℕ) (living : Living W) → k < at → slice_get all k ≡ Some living → living.fresh ≡ true
+
+fresh-by : {W : Type 0} (all : List (Living W)) (at : ℕ) (one : Living W) (k : ℕ) (living : Living W) → (k ≡ at) ⊎ (k ≡ at → ⊥) → at < length all → one.fresh ≡ true → AreFreshBelow at all → k < at + 1 → slice_get (slice_set all at one) k ≡ Some living → living.fresh ≡ true
+fresh-by all at one k living (inl e) within looked fresh less here =
+    let there = set-there all at (get_or all at one) one (slice_get-get_or all at one within) in
+    let same : one ≡ living = same_Some one living (sym there ∙ ap (slice_get (slice_set all at one)) (sym e) ∙ here) in
+    ap (λ (l : Living _). l.fresh) (sym same) ∙ looked
+fresh-by all at one k living (inr ne) within looked fresh less here =
+    fresh k living (omega arith) (sym (set-other all at k one ne) ∙ here)
+
+-- and so is the one there once it was looked at
+pub fresh-more : {W : Type 0} (all new : List (Living W)) (at : ℕ) (one : Living W) → new ≡ slice_set all at one → at < length all → one.fresh ≡ true → AreFreshBelow at all → AreFreshBelow (at + 1) new
+fresh-more all new at one e within looked fresh k living less here =
+    fresh-by all at one k living (cases_eq k at) within looked fresh less (ap (λ xs. slice_get xs k) (sym e) ∙ here)
+
+pub all-fresh : {W : Type 0} (all : List (Living W)) → AreFreshBelow (length all) all → AreFresh all
+all-fresh all fresh k d within = fresh k (get_or all k d) within (slice_get-get_or all k d within)
+
+-- once all were looked at, none is named
+pub none-stale : {W P T : Type 0} (view : View P W T) (old bus : LiveBus W P T) (stale : Vec ℕ) → StandsAs view old bus → AreFresh bus.living.items → StandsAs view old (record bus { stale = stale; aged = false })
+none-stale view old bus stale same fresh = record {
+  sound = record {
+    in_order = same.sound.in_order;
+    below = same.sound.below;
+    planned = same.sound.planned;
+    live = same.sound.live;
+    fresh = λ young. All-weaker (λ living. living.fresh ≡ true) (IsFreshOr stale.items) (λ living e. inl e) bus.living.items fresh;
+  };
+  bus = same.bus;
+  origin = same.origin;
+  plans = same.plans;
+  marks = same.marks;
+}

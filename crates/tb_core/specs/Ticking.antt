@@ -1,0 +1,34 @@
+-- What a tick does to the living of the code, whatever their walkers are.
+use Rattle.std.specs.Prelude.{◌≡◌, ◌<◌, List, [], ◌∷◌, false, Some, slice_get, ⊤}
+use Rattle.tb_algebra.specs.Walks.{ticked}
+use Rattle.tb_algebra.specs.WalkerViews.{View}
+use Rattle.tb_bus.specs.declared.living.Living.{Living}
+
+-- one that goes by this plan has seen so few ticks that one more may pass
+pub record IsBefore {W P T : Type 0} (view : View P W T) (plan : P) (living : Living W) : Type 0 where
+  pub is_on : view.is_on plan living.walker
+  pub few : (view.walking plan living.walker).ticks < 4000000
+
+-- by the plan of its body
+abbrev pub CanTick : {W P T : Type 0} → View P W T → List P → Living W → Type 0
+CanTick {P = P} view plans living = (plan : P) × (slice_get plans living.body ≡ Some plan) × IsBefore view plan living
+
+-- One that goes by this plan is a tick older, and has to be looked at anew.
+pub record HasTicked {W P T : Type 0} (view : View P W T) (plan : P) (old new : Living W) : Type 0 where
+  pub is_on : view.is_on plan new.walker
+  pub aged : view.walking plan new.walker ≡ ticked (view.walking plan old.walker)
+  pub number : new.number ≡ old.number
+  pub body : new.body ≡ old.body
+  pub inbox : new.inbox ≡ old.inbox
+  pub stale : new.fresh ≡ false
+
+-- by the plan of its body
+abbrev pub IsTicked : {W P T : Type 0} → View P W T → List P → Living W → Living W → Type 0
+IsTicked {P = P} view plans old new = (plan : P) × (slice_get plans old.body ≡ Some plan) × HasTicked view plan old new
+
+-- each is a tick older
+abbrev pub AreTicked : {W P T : Type 0} → View P W T → List P → List (Living W) → List (Living W) → Type 0
+AreTicked view plans [] [] = ⊤
+AreTicked view plans [] (new ∷ news) = ⊥
+AreTicked view plans (old ∷ olds) [] = ⊥
+AreTicked view plans (old ∷ olds) (new ∷ news) = IsTicked view plans old new × AreTicked view plans olds news
