@@ -135,6 +135,7 @@ pub(crate) fn living(
         inbox,
         ready,
         fresh: true,
+        timed: false,
     })
 }
 
