@@ -24,4 +24,6 @@ pub struct Living<W> {
     pub ready: Vec<Ready>,
     /// Whether `ready` says what it is ready to do now.
     pub fresh: bool,
+    /// Whether an atom with times may be next, so that a tick may change what it is ready to do.
+    pub timed: bool,
 }

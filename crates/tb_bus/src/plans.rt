@@ -137,6 +137,7 @@ pub(crate) fn living(
         inbox,
         ready,
         fresh: true,
+        timed: false,
     })
 }
 

@@ -1,11 +1,14 @@
 -- How the offers that were seen give what is ready.
-use Rattle.std.proofs.Common.{◌≡◌, ℕ, ◌+◌, ◌<◌, List, [], ◌∷◌, ◌++◌, length, take, ap, sym, ◌∙◌, arith, Option, Some, None, slice_get, option_map, append-nil, append_assoc, get_or}
+use Rattle.std.proofs.Common.{◌≡◌, ℕ, ◌+◌, ◌<◌, ◌≤◌, List, [], ◌∷◌, ◌++◌, length, take, ap, subst, sym, ◌∙◌, arith, Option, Some, None, slice_get, option_map, append-nil, append_assoc, get_or}
+use Rattle.std.specs.List.{All}
 use Rattle.std.specs.Option.{ForSome}
 use Rattle.std.proofs.lemmas.Option.{slice_get-map, slice_get-get_or}
-use Rattle.std.proofs.lemmas.List.{take_more, length-take-le, length-map}
+use Rattle.std.proofs.lemmas.List.{take_all, take_more, length-take-le, length-map}
+use Rattle.std.proofs.lemmas.List.Elements.{All-more}
 use Rattle.tb_terms.specs.declared.sort.Sort.{Sort}
 use Rattle.tb_body.specs.declared.atom.Atom.{Atom}
 use Rattle.tb_algebra.specs.declared.offer.Offer.{Offer}
+use Rattle.tb_algebra.specs.Atoms.{times_of}
 use Rattle.tb_algebra.specs.Offers.{Offered}
 use Rattle.tb_algebra.specs.Walks.{Walking, offers_of, seen, seen_offers, sorts_of}
 use Rattle.tb_algebra.proofs.Sorts.{offer_at-keeps}
@@ -14,6 +17,7 @@ use Rattle.tb_bus.specs.Actions.{action_of}
 use Rattle.tb_bus.specs.Candidates.{ready_one, readies}
 use Rattle.tb_bus.specs.Views.{no_offer}
 use Rattle.tb_bus.specs.declared.living.Ready.{Ready}
+use Rattle.tb_core.specs.Lives.{IsTimeless}
 
 -- the offer that was seen at a place is that of the process there
 offer-seen : (atoms : List Atom) (now : ℕ) (walking : Walking) (looked : Option (List Offer)) (at : ℕ) (offered : Offered) (offer : Offer) →
@@ -74,3 +78,22 @@ readies-filled atoms now walking looked at many sorts before after less saw coun
     goes offered here ((offer_at-keeps walking at offered here).sorts ∙ sorted)
     ∙ ap (λ rs. rs ++ ready_one at offered (action_of atoms now offered)) filled
     ∙ sym (readies-step atoms now at offers no_offer within)
+
+-- one offer more that has no times
+pub timeless-more : (atoms : List Atom) (now : ℕ) (walking : Walking) (looked : Option (List Offer)) (at many : ℕ) (offer : Offer) →
+    at < many → looked ≡ Some (seen_offers atoms now walking) → ForSome looked (λ offers. many ≡ length offers) → ForSome looked (λ offers. slice_get offers at ≡ Some offer) → times_of atoms offer.atom ≡ [] →
+    All (IsTimeless atoms) (take at (offers_of walking)) → All (IsTimeless atoms) (take (at + 1) (offers_of walking))
+timeless-more atoms now walking looked at many offer less saw counted there none before =
+    let offers : List Offered = offers_of walking in
+    let long : many ≡ length offers = counted (seen_offers atoms now walking) saw ∙ length-map offers (seen atoms now) in
+    let within : at < length offers = omega arith in
+    let same = offer-seen atoms now walking looked at (get_or offers at no_offer) offer saw there (slice_get-get_or offers at no_offer within) in
+    All-more (IsTimeless atoms) offers at no_offer within before (ap (λ (o : Offer). times_of atoms o.atom) (sym same) ∙ none)
+
+-- and all of them
+pub timeless-all : (atoms : List Atom) (now : ℕ) (walking : Walking) (looked : Option (List Offer)) (at many : ℕ) →
+    many ≤ at → looked ≡ Some (seen_offers atoms now walking) → ForSome looked (λ offers. many ≡ length offers) → All (IsTimeless atoms) (take at (offers_of walking)) → All (IsTimeless atoms) (offers_of walking)
+timeless-all atoms now walking looked at many past saw counted before =
+    let offers : List Offered = offers_of walking in
+    let long : many ≡ length offers = counted (seen_offers atoms now walking) saw ∙ length-map offers (seen atoms now) in
+    subst (All (IsTimeless atoms)) (take_all at offers (omega arith)) before

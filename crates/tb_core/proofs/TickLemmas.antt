@@ -1,23 +1,33 @@
 -- A tick for the living, one after another, and the bus for which they stand then.
-use Rattle.std.proofs.Common.{◌≡◌, ◌<◌, ◌+◌, ◌⊎◌, ◌&&◌, ℕ, zero, suc, List, [], ◌∷◌, ◌++◌, append-nil, length, map, drop, take, get_or, refl, ap, sym, subst, ◌∙◌, arith, inl, inr, Option, Some, None, true, false, nat_lt, option_map, slice_get, slice_set}
+use Rattle.std.proofs.Common.{◌≡◌, ◌<◌, ◌+◌, ◌⊎◌, ◌&&◌, ℕ, zero, suc, List, [], ◌∷◌, ◌++◌, append-nil, length, map, drop, take, get_or, refl, ap, sym, subst, ◌∙◌, arith, inl, inr, Option, Some, None, Bool, true, false, not, nat_lt, option_map, slice_get, slice_set}
 use Rattle.std.specs.Bool.{⊤}
 use Rattle.std.specs.Global.{Vec}
 use Rattle.std.specs.List.{All}
-use Rattle.std.proofs.lemmas.Bool.{cases_eq}
+use Rattle.std.proofs.lemmas.Bool.{and_parts, cases_eq, not-true}
 use Rattle.std.proofs.lemmas.Option.{same_Some, slice_get-get_or}
 use Rattle.std.proofs.lemmas.List.{drop_all, take_all}
 use Rattle.std.proofs.lemmas.List.Elements.{All-cons, All-head, All-nil, All-tail, All-weaker}
+use Rattle.tb_func.specs.declared.slot.Slot.{Slot}
+use Rattle.tb_body.specs.declared.act.Act.{Act}
+use Rattle.tb_body.specs.declared.atom.Atom.{Atom}
+use Rattle.tb_body.specs.declared.body.Body.{Body}
+use Rattle.tb_algebra.specs.Ageing.{AreAged}
+use Rattle.tb_algebra.specs.Atoms.{act_of, is_ready, times_of}
+use Rattle.tb_algebra.specs.Offers.{Offered}
 use Rattle.tb_algebra.specs.Processes.{Process, aged}
-use Rattle.tb_algebra.specs.Walks.{Walking, is_end, sorts_of, ticked}
+use Rattle.tb_algebra.specs.Walks.{Walking, is_end, offers_of, sorts_of, ticked}
 use Rattle.tb_algebra.specs.WalkerViews.{View}
-use Rattle.tb_algebra.proofs.AgedOffers.{is_end-ticked}
+use Rattle.tb_algebra.proofs.AgedOffers.{is_end-ticked, offers_of-age, ready-aged}
 use Rattle.tb_bus.specs.Buses.{Bus, Proc}
-use Rattle.tb_bus.specs.Candidates.{ascend, rows_of}
+use Rattle.tb_bus.specs.Actions.{action_if, action_of}
+use Rattle.tb_bus.specs.Candidates.{ascend, readies, ready_one, rows_of}
 use Rattle.tb_bus.specs.Traces.{aged_proc}
+use Rattle.tb_bus.specs.declared.action.Action.{Action}
 use Rattle.tb_bus.specs.declared.living.Living.{Living}
-use Rattle.tb_core.specs.Lives.{IsBelow, IsLive, IsLiveOn, proc_by, proc_in, proc_of, procs_of, term_in}
+use Rattle.tb_bus.specs.declared.living.Ready.{Ready}
+use Rattle.tb_core.specs.Lives.{IsBelow, IsFreshFor, IsLive, IsLiveOn, IsTimeless, proc_by, proc_in, proc_of, procs_of, term_in}
 use Rattle.tb_core.specs.LiveBuses.{AreFresh, IsFreshOr, IsSound, StandsAs, bus_of, procs_in}
-use Rattle.tb_core.specs.Ticking.{AreTicked, CanTick, IsTicked}
+use Rattle.tb_core.specs.Ticking.{AreTicked, CanTick, HasTicked, IsTicked}
 use Rattle.tb_core.specs.declared.bus.LiveBus.{LiveBus}
 use Rattle.tb_core.proofs.ReadLemmas.{all-there}
 use Rattle.tb_core.proofs.SetLemmas.{set-other, set-there}
@@ -88,6 +98,56 @@ ticked-ascend view plans below (old ∷ olds) (new ∷ news) h =
     let number = h.0.2.number in
     ap (λ n. nat_lt below n && ascend n (rows_of news)) number ∙ ap (λ rest. nat_lt below old.number && rest) (ticked-ascend view plans old.number olds news h.1)
 
+ready-atom : (at : ℕ) (one other : Offered) (found : Option Action) → one.atom ≡ other.atom → ready_one at one found ≡ ready_one at other found
+ready-atom at one other None e = refl
+ready-atom at one other (Some found) e = ap (λ (n : ℕ). let r : Ready = record { offer = at; atom = n; action = found } in r ∷ []) e
+
+-- what offers are ready for stays, where no time is set
+same-ready : (at : ℕ) (one other : Offered) (ready is : Bool) (act its : Act) → other.atom ≡ one.atom → other.store ≡ one.store → is ≡ ready → its ≡ act → ready_one at other (action_if is other.store its) ≡ ready_one at one (action_if ready one.store act)
+same-ready at one other ready is act its e f r a =
+    ap (λ (found : Option Action). ready_one at other found) (ap (λ (s : List Slot). action_if is s its) f ∙ ap (λ (b : Bool). action_if b one.store its) r ∙ ap (action_if ready one.store) a)
+    ∙ ready-atom at other one (action_if ready one.store act) e
+
+readies-aged : (atoms : List Atom) (now next at : ℕ) (offers laters : List Offered) → AreAged offers laters → All (IsTimeless atoms) offers → readies atoms next at laters ≡ readies atoms now at offers
+readies-aged atoms now next at [] [] h none = refl
+readies-aged atoms now next at [] (later ∷ laters) h none = absurd h
+readies-aged atoms now next at (offered ∷ offers) [] h none = absurd h
+readies-aged atoms now next at (offered ∷ offers) (later ∷ laters) h none =
+    let timeless = All-head (IsTimeless atoms) offered offers none in
+    ap (λ (rs : List Ready). rs ++ readies atoms next (at + 1) laters)
+    (same-ready at offered later (is_ready offered.store offered.age now (times_of atoms offered.atom)) (is_ready later.store later.age next (times_of atoms later.atom)) (act_of atoms offered.atom) (act_of atoms later.atom)
+    h.0.atom h.0.store (ready-aged atoms now next offered later h.0 timeless) (ap (act_of atoms) h.0.atom))
+    ∙ ap (λ (rs : List Ready). ready_one at offered (action_of atoms now offered) ++ rs) (readies-aged atoms now next (at + 1) offers laters h.1 (All-tail (IsTimeless atoms) offered offers none))
+
+timeless-aged : (atoms : List Atom) (offers laters : List Offered) → AreAged offers laters → All (IsTimeless atoms) offers → All (IsTimeless atoms) laters
+timeless-aged atoms [] [] h none = none
+timeless-aged atoms [] (later ∷ laters) h none = absurd h
+timeless-aged atoms (offered ∷ offers) [] h none = absurd h
+timeless-aged atoms (offered ∷ offers) (later ∷ laters) h none =
+    All-cons (IsTimeless atoms) later laters (ap (times_of atoms) h.0.atom ∙ All-head (IsTimeless atoms) offered offers none)
+    (timeless-aged atoms offers laters h.1 (All-tail (IsTimeless atoms) offered offers none))
+
+fresh-ticked : (body : Body) (now : ℕ) (walking later : Walking) (ready its : List Ready) → later ≡ ticked walking → its ≡ ready → IsFreshFor body now walking false ready → IsFreshFor body (now + 1) later false its
+fresh-ticked body now walking later ready its e f h =
+    let age = offers_of-age walking in
+    let none = h.lasting refl in
+    record {
+      ready = f ∙ h.ready ∙ sym (readies-aged body.atoms now (now + 1) 0 (offers_of walking) (offers_of (ticked walking)) age none)
+          ∙ ap (λ (w : Walking). readies body.atoms (now + 1) 0 (offers_of w)) (sym e);
+      lasting = λ young. subst (λ (w : Walking). All (IsTimeless body.atoms) (offers_of w)) (sym e)
+          (timeless-aged body.atoms (offers_of walking) (offers_of (ticked walking)) age none);
+    }
+
+-- one that was looked at needn't be looked at anew, unless it is timed
+still-fresh : {W P T : Type 0} (view : View P W T) (plan : P) (now : ℕ) (old new : Living W) → HasTicked view plan old new → IsLiveOn view plan now old → new.fresh ≡ true →
+    IsFreshFor (view.body_of plan) (now + 1) (view.walking plan new.walker) new.timed new.ready.items
+still-fresh view plan now old new t live e =
+    let both = and_parts old.fresh (not old.timed) (sym t.fresh ∙ e) in
+    let untimed : old.timed ≡ false = not-true old.timed both.1 in
+    let looked = subst (λ timed. IsFreshFor (view.body_of plan) now (view.walking plan old.walker) timed old.ready.items) untimed (live.ready both.0) in
+    subst (λ timed. IsFreshFor (view.body_of plan) (now + 1) (view.walking plan new.walker) timed new.ready.items) (sym (t.timed ∙ untimed))
+    (fresh-ticked (view.body_of plan) now (view.walking plan old.walker) (view.walking plan new.walker) old.ready.items new.ready.items t.aged (ap (λ (v : Vec Ready). v.items) t.ready) looked)
+
 ticked-live : {W P T : Type 0} (view : View P W T) (plans : List P) (now : ℕ) (old new : Living W) → IsTicked view plans old new → IsLive view plans now old → IsLive view plans (now + 1) new
 ticked-live view plans now old new t h =
     let same : h.0 ≡ t.0 = same_Some h.0 t.0 (sym h.1 ∙ t.1) in
@@ -99,7 +159,7 @@ ticked-live view plans now old new t h =
         alive = ap (λ (w : Walking). is_end w.term) t.2.aged ∙ is_end-ticked (view.walking t.0 old.walker) ∙ live.alive;
         sorts = ap (λ (w : Walking). sorts_of w.store) t.2.aged ∙ live.sorts;
         ticks = let e = ap (λ (w : Walking). w.ticks) t.2.aged in let l = live.ticks in omega arith;
-        ready = λ e. absurd (let f = t.2.stale in cc);
+        ready = λ e. still-fresh view t.0 now old new t.2 live e;
       },
     )
 

@@ -1,7 +1,11 @@
 -- The processes for which the living of the code stand, whatever their walkers are.
-use Rattle.std.specs.Prelude.{◌≡◌, ◌≤◌, ◌<◌, ℕ, List, [], map, true, false, Option, Some, None, slice_get}
+use Rattle.std.specs.Prelude.{◌≡◌, ◌≤◌, ◌<◌, ℕ, List, [], map, Bool, true, false, Option, Some, None, slice_get}
+use Rattle.std.specs.List.{All}
+use Rattle.tb_body.specs.declared.atom.Atom.{Atom}
 use Rattle.tb_body.specs.declared.body.Body.{Body}
 use Rattle.tb_func.specs.declared.slot.Slot.{Slot}
+use Rattle.tb_algebra.specs.Atoms.{times_of}
+use Rattle.tb_algebra.specs.Offers.{Offered}
 use Rattle.tb_algebra.specs.Processes.{Process, At}
 use Rattle.tb_algebra.specs.Walks.{Walking, entering, offers_of, sorts_of, is_end}
 use Rattle.tb_algebra.specs.WalkerViews.{View}
@@ -11,9 +15,14 @@ use Rattle.tb_bus.specs.Candidates.{readies}
 use Rattle.tb_bus.specs.declared.living.Ready.{Ready}
 use Rattle.tb_bus.specs.declared.living.Living.{Living}
 
--- what was looked at is what the process is ready to do now
-pub record IsFreshFor (body : Body) (now : ℕ) (walking : Walking) (all : List Ready) : Type 0 where
+-- its atom has no times
+abbrev pub IsTimeless : List Atom → Offered → Type 0
+IsTimeless atoms offered = times_of atoms offered.atom ≡ []
+
+-- What was looked at is what the process is ready to do now, and so it stays over ticks unless it is timed.
+pub record IsFreshFor (body : Body) (now : ℕ) (walking : Walking) (timed : Bool) (all : List Ready) : Type 0 where
   pub ready : all ≡ readies body.atoms now 0 (offers_of walking)
+  pub lasting : timed ≡ false → All (IsTimeless body.atoms) (offers_of walking)
 
 -- A process on its way through its body, which goes by this plan and hasn't ended. What is ready is right where
 -- it is fresh.
@@ -23,7 +32,7 @@ pub record IsLiveOn {W P T : Type 0} (view : View P W T) (plan : P) (now : ℕ) 
   pub sorts : sorts_of (view.walking plan living.walker).store ≡ (view.body_of plan).sorts
   -- it has seen no more ticks than the bus
   pub ticks : (view.walking plan living.walker).ticks ≤ now
-  pub ready : living.fresh ≡ true → IsFreshFor (view.body_of plan) now (view.walking plan living.walker) living.ready.items
+  pub ready : living.fresh ≡ true → IsFreshFor (view.body_of plan) now (view.walking plan living.walker) living.timed living.ready.items
 
 -- it goes by the plan of its body
 abbrev pub IsLive : {W P T : Type 0} → View P W T → List P → ℕ → Living W → Type 0

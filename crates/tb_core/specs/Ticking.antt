@@ -1,5 +1,5 @@
 -- What a tick does to the living of the code, whatever their walkers are.
-use Rattle.std.specs.Prelude.{◌≡◌, ◌<◌, List, [], ◌∷◌, false, Some, slice_get, ⊤}
+use Rattle.std.specs.Prelude.{◌≡◌, ◌<◌, ◌&&◌, List, [], ◌∷◌, not, Some, slice_get, ⊤}
 use Rattle.tb_algebra.specs.Walks.{ticked}
 use Rattle.tb_algebra.specs.WalkerViews.{View}
 use Rattle.tb_bus.specs.declared.living.Living.{Living}
@@ -13,14 +13,16 @@ pub record IsBefore {W P T : Type 0} (view : View P W T) (plan : P) (living : Li
 abbrev pub CanTick : {W P T : Type 0} → View P W T → List P → Living W → Type 0
 CanTick {P = P} view plans living = (plan : P) × (slice_get plans living.body ≡ Some plan) × IsBefore view plan living
 
--- One that goes by this plan is a tick older, and has to be looked at anew.
+-- One that goes by this plan is a tick older. Where it is timed, it has to be looked at anew.
 pub record HasTicked {W P T : Type 0} (view : View P W T) (plan : P) (old new : Living W) : Type 0 where
   pub is_on : view.is_on plan new.walker
   pub aged : view.walking plan new.walker ≡ ticked (view.walking plan old.walker)
   pub number : new.number ≡ old.number
   pub body : new.body ≡ old.body
   pub inbox : new.inbox ≡ old.inbox
-  pub stale : new.fresh ≡ false
+  pub ready : new.ready ≡ old.ready
+  pub fresh : new.fresh ≡ (old.fresh && not old.timed)
+  pub timed : new.timed ≡ old.timed
 
 -- by the plan of its body
 abbrev pub IsTicked : {W P T : Type 0} → View P W T → List P → Living W → Living W → Type 0

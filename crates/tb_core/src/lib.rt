@@ -10,6 +10,8 @@ mod machine;
 mod opening;
 #[cfg(test)]
 mod tests;
+#[cfg(test)]
+mod tick_tests;
 mod ticking;
 
 pub use answers::{CoreFault, Stepped};

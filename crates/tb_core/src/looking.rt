@@ -1,14 +1,15 @@
-ghost use Rattle.std.specs.Prelude.{◌≡◌, ◌<◌, ◌++◌, ℕ, List, length, slice_get, IfOk, IsTrue, OnOk, OnErr, Some, is_some, option_map, true, false};
+ghost use Rattle.std.specs.Prelude.{◌≡◌, ◌<◌, ◌++◌, ℕ, List, [], length, slice_get, IfOk, IsTrue, OnOk, OnErr, Some, is_some, option_map, true, false};
+ghost use Rattle.std.specs.List.{All};
 ghost use Rattle.std.specs.Option.{ForSome};
 ghost use Rattle.tb_func.specs.declared.slot.Slot.{Slot};
-ghost use Rattle.tb_algebra.specs.Atoms.{act_of};
+ghost use Rattle.tb_algebra.specs.Atoms.{act_of, times_of};
 ghost use Rattle.tb_algebra.specs.Binds.{has_slot_sort, takes_binds};
 ghost use Rattle.tb_algebra.specs.Offers.{Offered};
-ghost use Rattle.tb_algebra.specs.Walks.{fired, is_end, offers_of, seen, seen_offers, sorts_of};
+ghost use Rattle.tb_algebra.specs.Walks.{Walking, fired, is_end, offers_of, seen, seen_offers, sorts_of};
 ghost use Rattle.tb_func.specs.Printing.{printf_of};
 ghost use Rattle.tb_bus.specs.Actions.{action_in, action_of, print_action, set_action};
 ghost use Rattle.tb_bus.specs.Candidates.{ready_one, readies};
-ghost use Rattle.tb_core.specs.Lives.{IsLiveOn, proc_by};
+ghost use Rattle.tb_core.specs.Lives.{IsLiveOn, IsTimeless, proc_by};
 
 use std::alloc::Global;
 use tb_algebra::{Offer, Walker};
@@ -216,6 +217,31 @@ fn fill<W: Walker>(
     Ok(())
 }
 
+/// Whether an atom has times, by its number.
+fn has_times(atoms: &Atoms, number: u32) -> bool
+    ensures { result ≡ false → times_of atoms.now number ≡ [] }
+{
+    let place = (number as usize).saturating_sub(1);
+    match atoms.get(place) {
+        Some(atom) => !atom.times.is_empty(),
+        None => false,
+    }
+}
+
+/// Whether an atom with times is among the offers of a process that was looked at.
+fn is_timed<W: Walker>(atoms: &Atoms, walker: &W) -> bool
+    requires { IsTrue (is_some (W.view.seen walker.now)) }
+    ensures { (now : ℕ) (walking : Walking) → W.view.seen walker.now ≡ Some (seen_offers atoms.now now walking) →
+        result ≡ false → All (IsTimeless atoms.now) (offers_of walking) }
+{
+    for at in 0..walker.offer_count() {
+        if has_times(atoms, walker.offer(at).atom) {
+            return true;
+        }
+    }
+    false
+}
+
 /// Looks anew what a process is ready to do, on a bus that has seen so many ticks.
 pub fn look<W: Walker>(
     alloc: Global,
@@ -233,6 +259,7 @@ pub fn look<W: Walker>(
     living.fresh = false;
     living.walker.look(alloc, plan, now)?;
     fill(alloc, plan, body, &living.walker, &mut living.ready)?;
+    living.timed = is_timed(&body.atoms, &living.walker);
     living.fresh = true;
     Ok(())
 }

@@ -61,6 +61,7 @@ fn open_one<W: Walker>(
         inbox: Inbox::new(alloc),
         ready: Vec::new(alloc),
         fresh: false,
+        timed: false,
     })
 }
 

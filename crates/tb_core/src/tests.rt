@@ -107,7 +107,7 @@ static RUNS: [Run; 6] = [
     },
 ];
 
-fn one(alloc: Global, expr: Expr) -> Result<Exprs, NoMemory> {
+pub(crate) fn one(alloc: Global, expr: Expr) -> Result<Exprs, NoMemory> {
     let mut exprs = Items::new(alloc);
     exprs.push(expr)?;
     Ok(exprs)
@@ -183,6 +183,14 @@ fn program(alloc: Global, run: &Run) -> Result<Option<Program>, NoMemory> {
     Ok(Program::new(bodies, roots, Items::new(alloc)))
 }
 
+pub(crate) fn log_text(alloc: Global, core: &Core<Rewriter>) -> Result<Vec<u8>, Fail> {
+    let mut text = Vec::new(alloc);
+    for (place, entry) in core.log().iter().enumerate() {
+        write_entry(place as u64 + 1, entry, &mut text)?;
+    }
+    Ok(text)
+}
+
 /// The log once no step is possible, or the bus is down.
 fn log_of(alloc: Global, program: Program) -> Result<Vec<u8>, Fail> {
     let mut core: Core<Rewriter> = Core::start(alloc, program, 20)?;
@@ -192,11 +200,7 @@ fn log_of(alloc: Global, program: Program) -> Result<Vec<u8>, Fail> {
             Stepped::Quiet | Stepped::Down => break,
         }
     }
-    let mut text = Vec::new(alloc);
-    for (place, entry) in core.log().iter().enumerate() {
-        write_entry(place as u64 + 1, entry, &mut text)?;
-    }
-    Ok(text)
+    log_text(alloc, &core)
 }
 
 #[test]

@@ -5,13 +5,13 @@ use tb_algebra::Walker;
 use tb_bus::Living;
 use tb_terms::Items;
 
-/// A tick passes for a process: it ages, and has to be looked at anew.
+/// A tick passes for a process: it ages. Where it is timed, it has to be looked at anew.
 fn tick_one<W: Walker>(plan: &W::Plan, living: &mut Living<W>)
     requires { IsBefore W.view plan.now living.old }
     ensures { HasTicked W.view plan.now living.old living.new }
 {
     living.walker.tick(plan);
-    living.fresh = false;
+    living.fresh = living.fresh && !living.timed;
 }
 
 /// A tick passes for each of the living, by the plan of its body. This takes no memory.
