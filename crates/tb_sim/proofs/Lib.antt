@@ -2,4 +2,4 @@ pub mod SimTraces
 pub mod SimTurns
 pub mod SimEnds
 mod SimLemmas
-mod Rows
+pub mod Rows
