@@ -31,7 +31,7 @@ returns-in-None-input_of-clause-fault c =
     let lines = c.loop-line.yielded in
     let line = c.in-Some.line in
     let at = next-part lines _ c.loop-line.yielded_by _ _ line c.in-Some.is c.next.ensures.steps
-        (YieldsList-at c.into_iter-line-iterator.ensures.into_iter_gives (YieldsList-from_slice_split _ (λ b. b == 10) text c.split-line-items.ensures.rest c.split-line-items.ensures.done c.split-line-items.ensures.closure (λ x r q k. search (rules, tests)))) in
+    (YieldsList-at c.into_iter-line-iterator.ensures.into_iter_gives (YieldsList-from_slice_split _ (λ b. b == 10) text c.split-line-items.ensures.rest c.split-line-items.ensures.done c.split-line-items.ensures.closure (λ x r q k. search (rules, tests)))) in
     next-bad text lines line c.loop-line.number c.loop-line.inputs.items at.0 at.1 c.loop-line.invariant.counted c.loop-line.invariant.said
     (full-by line.now c.is_empty.ensures c.if-is_empty.false) c.in-None-input_of.ensures
 
@@ -40,5 +40,5 @@ returns-clause-ok c =
     let text = c.args.bytes.now in
     let lines = c.loop-line.yielded in
     let all = last-part lines _ c.loop-line.yielded_by _ _ c.in-None.is c.next.ensures.steps
-        (YieldsList-at c.into_iter-line-iterator.ensures.into_iter_gives (YieldsList-from_slice_split _ (λ b. b == 10) text c.split-line-items.ensures.rest c.split-line-items.ensures.done c.split-line-items.ensures.closure (λ x r q k. search (rules, tests)))) in
+    (YieldsList-at c.into_iter-line-iterator.ensures.into_iter_gives (YieldsList-from_slice_split _ (λ b. b == 10) text c.split-line-items.ensures.rest c.split-line-items.ensures.done c.split-line-items.ensures.closure (λ x r q k. search (rules, tests)))) in
     subst (IsFeedOf text) (sym c.new.ensures) (subst (λ (ls : List (List ℕ)). SayAll ls c.loop-line.inputs.items) all c.loop-line.invariant.said)
