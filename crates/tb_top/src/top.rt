@@ -1,10 +1,10 @@
-ghost use Rattle.std.specs.Prelude.{◌≡◌, ◌≢◌, ℕ, List, [], false, map, string_bytes, IfOk, IfErr, Err};
+ghost use Rattle.std.specs.Prelude.{◌≤◌, ◌≡◌, ◌≢◌, ℕ, List, [], false, map, string_bytes, IfOk, IfErr, Err};
 ghost use Rattle.tb_edge.specs.Faults.{Rose};
 ghost use Rattle.tb_bus.specs.Buses.{origin_of};
 ghost use Rattle.tb_script.specs.Findings.{IsFound, Program'};
-ghost use Rattle.tb_top.specs.Words.{asked};
+ghost use Rattle.tb_top.specs.Words.{asked, most_limit};
 ghost use Rattle.tb_top.specs.Outcomes.{Comes, CommandOutcome, FileOutcome, WorkOutcome, CheckOutcome, SimOutcome, Reported, AsksFor, CommandAsks, IsFed, script_of, feed_of, ok_line};
-ghost use Rattle.tb_top.specs.Requests.{Reports, ProgramOutcome, OriginOutcome, IsUnread, AsksFeed, AsksFeedBy, WorkAsks, WritesLog, status_of_end};
+ghost use Rattle.tb_top.specs.Requests.{Reports, ProgramOutcome, OriginOutcome, IsUnread, AsksFeed, AsksFeedBy, WorkAsks, WritesLog, status_of_end, IsWithin};
 
 use crate::line::put_line;
 use crate::log_writer::{LogFault, put_log};
@@ -98,6 +98,7 @@ fn do_command<F: Files, O: Sink>(
     files: &mut F,
     out: &mut O,
 ) -> Status
+    requires { IsWithin command.now }
     ensures outcome { FileOutcome (F.held files.old) command.now (O.taken out.old) (O.taken out.new) result }
     ensures asks { CommandAsks (F.held files.old) command.now (F.asked files.old) (F.asked files.new) result }
     ensures file_rose { result ≡ Status.Outside Edge.File → Rose (F.faults files.old) (F.faults files.new) }
@@ -129,6 +130,7 @@ fn work_on_bytes<F: Files, O: Sink>(
     files: &mut F,
     out: &mut O,
 ) -> Status
+    requires { IsWithin command.now }
     ensures outcome { WorkOutcome (F.held files.old) command.now bytes.now (O.taken out.old) (O.taken out.new) result }
     ensures asks { WorkAsks command.now bytes.now (F.asked files.old) (F.asked files.new) result }
     ensures file_rose { result ≡ Status.Outside Edge.File → Rose (F.faults files.old) (F.faults files.new) }
@@ -148,6 +150,7 @@ fn work_on_program<F: Files, O: Sink>(
     files: &mut F,
     out: &mut O,
 ) -> Status
+    requires { IsWithin command.now }
     ensures outcome { ProgramOutcome (F.held files.old) command.now program (O.taken out.old) (O.taken out.new) result }
     ensures asks { AsksFeed (feed_of command.now) (F.asked files.old) (F.asked files.new) result }
     ensures file_rose { result ≡ Status.Outside Edge.File → Rose (F.faults files.old) (F.faults files.new) }
@@ -208,6 +211,7 @@ fn simulate_program<O: Sink>(
     events: u32,
     out: &mut O,
 ) -> Status
+    requires { events ≤ most_limit }
     ensures outcome { OriginOutcome steps (origin_of program events) feed.now (O.taken out.old) (O.taken out.new) result }
     ensures out_rose { result ≡ Status.Outside Edge.Out → Rose (O.faults out.old) (O.faults out.new) }
 {
