@@ -1,6 +1,7 @@
-ghost use Rattle.std.specs.Prelude.{◌≡◌};
+ghost use Rattle.std.specs.Prelude.{◌≡◌, map};
 ghost use Rattle.std.specs.Option.{option_or};
-ghost use Rattle.tb_script.specs.Unbuilt.{is_built, unbuilt_atom, unbuilt_in, first_of, first_unbuilt};
+ghost use Rattle.tb_syntax.specs.Words.{is_among};
+ghost use Rattle.tb_script.specs.Unbuilt.{built_words, is_built, unbuilt_atom, unbuilt_in, first_of, first_unbuilt};
 
 use tb_syntax::{ActDef, AtomDef, Proc, Script};
 
@@ -59,18 +60,37 @@ fn is_built(act: &ActDef) -> bool
 {
     match act {
         ActDef::Set(_, _) | ActDef::Create(_, _) => true,
-        ActDef::Named(word, _) => matches!(
-            word.as_bytes(),
-            b"tau"
-                | b"delta"
-                | b"printf"
-                | b"snd-msg"
-                | b"rec-msg"
-                | b"snd-note"
-                | b"rec-note"
-                | b"no-note"
-                | b"subscribe"
-                | b"unsubscribe"
-        ),
+        ActDef::Named(word, _) => is_built_word(word.as_bytes()),
     }
+}
+
+fn is_built_word(word: &[u8]) -> bool
+    ensures { result ≡ is_among built_words word.now }
+{
+    is_among(
+        &[
+            "tau",
+            "delta",
+            "printf",
+            "snd-msg",
+            "rec-msg",
+            "snd-note",
+            "rec-note",
+            "no-note",
+            "subscribe",
+            "unsubscribe",
+        ],
+        word,
+    )
+}
+
+fn is_among(words: &[&str], name: &[u8]) -> bool
+    ensures { result ≡ is_among (map (λ word. word.now) words.now) name.now }
+{
+    for word in words {
+        if name == word.as_bytes() {
+            return true;
+        }
+    }
+    false
 }
