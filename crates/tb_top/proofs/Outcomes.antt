@@ -46,7 +46,7 @@ put-whole steps origin inputs log sim.Events old new status is trace takes e hel
 -- or a front of its text was
 pub log-written : (steps : ℕ) (origin : Origin) (inputs : List Input) (log : List Entry) (last : SimEnd) (old new : Option (List ℕ)) (status : Status) → IsSim (limits_of steps origin) (sim_start (start origin) inputs) log last → IsTrace (start origin) log →
     WritesLog log last old new status → OriginOutcome steps origin inputs old new status
-log-written steps origin inputs log last old new status is trace (inl whole) = put-whole steps origin inputs log last old new status is trace whole.1 whole.0
+log-written steps origin inputs log last old new status is trace (inl whole) held name fed bytes found = put-whole steps origin inputs log last old new status is trace whole.1 whole.0 held name fed bytes found
 log-written steps origin inputs log last old new status is trace (inr (inl e, front)) held name fed bytes found =
     subst (SimOutcome (record { held = held; feed = name; steps = steps; events = origin.limit }) bytes old new) (sym e) (log, last, simulated steps origin inputs held name log last bytes is trace fed found, front)
 log-written steps origin inputs log last old new status is trace (inr (inr e, front)) held name fed bytes found =

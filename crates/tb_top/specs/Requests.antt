@@ -1,5 +1,5 @@
 -- What the parts of the top call say to each other.
-use Rattle.std.specs.Prelude.{◌≡◌, ◌≢◌, ◌≤◌, ◌⊎◌, ⊤, ℕ, List, ◌++◌, Option, IsSome, option_to_list, Result, Ok, Err}
+use Rattle.std.specs.Prelude.{◌≡◌, ◌≢◌, ◌⊎◌, ℕ, List, ◌++◌, Option, IsSome, option_to_list, Result, Ok, Err, ◌≤◌, ⊤}
 use Rattle.tb_edge.specs.Sinks.{Takes, TakesFront}
 use Rattle.tb_body.specs.declared.program.Program.{Program}
 use Rattle.tb_bus.specs.declared.origin.Origin.{Origin}

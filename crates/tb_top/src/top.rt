@@ -173,6 +173,7 @@ fn work_on_program<F: Files, O: Sink>(
 /// Says of a script that it is accepted.
 fn accept<O: Sink>(out: &mut O) -> Status
     ensures outcome { (bytes : List ℕ) (program : Program) → IsFound bytes (Program' program) → CheckOutcome bytes (O.taken out.old) (O.taken out.new) result }
+    ensures not_file { result ≢ Status.Outside Edge.File }
     ensures out_rose { result ≡ Status.Outside Edge.Out → Rose (O.faults out.old) (O.faults out.new) }
 {
     match out.put(b"ok\n") {
@@ -213,6 +214,7 @@ fn simulate_program<O: Sink>(
 ) -> Status
     requires { events ≤ most_limit }
     ensures outcome { OriginOutcome steps (origin_of program events) feed.now (O.taken out.old) (O.taken out.new) result }
+    ensures not_file { result ≢ Status.Outside Edge.File }
     ensures out_rose { result ≡ Status.Outside Edge.Out → Rose (O.faults out.old) (O.faults out.new) }
 {
     match Core::start(alloc, program, events) {
@@ -231,6 +233,7 @@ fn simulate_core<O: Sink>(
     requires fresh { core.old.log ≡ [] }
     requires running { core.old.stopped ≡ false }
     ensures outcome { OriginOutcome steps core.old.origin feed.now (O.taken out.old) (O.taken out.new) result }
+    ensures not_file { result ≢ Status.Outside Edge.File }
     ensures out_rose { result ≡ Status.Outside Edge.Out → Rose (O.faults out.old) (O.faults out.new) }
 {
     match simulate(core, feed, steps) {
@@ -242,6 +245,7 @@ fn simulate_core<O: Sink>(
 /// Puts the log of a simulation that ended so.
 fn write_log<O: Sink>(alloc: Global, log: &[Entry], end: SimEnd, out: &mut O) -> Status
     ensures outcome { WritesLog log.now end (O.taken out.old) (O.taken out.new) result }
+    ensures not_file { result ≢ Status.Outside Edge.File }
     ensures out_rose { result ≡ Status.Outside Edge.Out → Rose (O.faults out.old) (O.faults out.new) }
 {
     match put_log(alloc, log, out) {
