@@ -265,6 +265,7 @@ fn handed_in(core: &mut Bus) -> &'static str {
     match core.hand_in(Input::NoTicks) {
         Ok(Reply::Took) => "took",
         Ok(Reply::Dropped(Why::Down)) => "dropped",
+        Ok(Reply::Dropped(_)) => "dropped for another reason",
         Err(CoreFault::Full) => "full",
         Err(CoreFault::Stopped) => "stopped",
         Err(CoreFault::NoMemory) => "no memory",
