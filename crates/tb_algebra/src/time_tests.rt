@@ -108,13 +108,13 @@ static SIDES: [Run; 6] = [
 /// `rec-msg(X?) timeout(2) + tau delay(3)`
 static CHOICE: [Step; 3] = [RECEIVE_TO_2, TAU_FROM_3, ALT];
 
-/// Both sides age, until one is taken.
+/// Both sides age, until one is taken. A process that has ended sees ticks too.
 static CHOICES: [Run; 5] = [
     (&[], &[(1, 0, true), (2, 0, false)]),
     (&[TICK, TICK], &[(1, 2, true), (2, 2, false)]),
     (&[TICK, TICK, TICK], &[(1, 3, false), (2, 3, true)]),
     (&[TICK, TICK, TICK, TAKE_1], &[]),
-    (&[TICK, TICK, TAKE_0], &[]),
+    (&[TICK, TICK, TAKE_0, TICK], &[]),
 ];
 
 /// `tau . tau delay(1)`
