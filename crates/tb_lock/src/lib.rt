@@ -1,0 +1,14 @@
+//! The shared bus: threads take turns at one core, each by a seat of its own, and there is one history.
+#![tactic(auto)]
+
+mod board;
+mod plays;
+mod rights;
+mod seat;
+mod share;
+mod shared;
+mod turn;
+
+pub use rights::Rights;
+pub use seat::Seat;
+pub use shared::{NoRoom, Shared};
