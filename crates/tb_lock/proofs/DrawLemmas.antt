@@ -1,12 +1,12 @@
 -- Drawing a turn keeps the rule.
-use Rattle.std.proofs.Common.{◌≡◌, ◌≢◌, ◌⊎◌, ◌≤◌, ◌<◌, ◌+◌, ◌%◌, ◌^◌, ℕ, List, [], ◌∷◌, set, slice_index, slice_set, Bool, true, false, Some, refl, sym, ap, ◌∙◌, inr, ⊎_elim, arith}
+use Rattle.std.proofs.Common.{◌≡◌, ◌≢◌, ◌<◌, ◌+◌, ◌%◌, ◌^◌, ℕ, List, [], ◌∷◌, slice_index, slice_set, true, refl, sym, ap, ◌∙◌, inr, ⊎_elim, arith}
 use Rattle.std.proofs.Math.Nat.{mod-add-mod}
 use mathlib.Core.Option as opt
 use lib.ListN.{get_elem?}
 use Rattle.atomic_table.specs.Table.{keeps, stepped, Allows}
 use Rattle.tb_bus.specs.declared.origin.Origin.{Origin}
 use Rattle.tb_lock.specs.Seats.{SeatView, Idle, Waiting}
-use Rattle.tb_lock.specs.Rule.{Board, tickets, ticket_of, has_turn, Fits, Apart, Running, IsNew, Kept}
+use Rattle.tb_lock.specs.Rule.{Board, tickets, has_turn, Fits, Apart, Running, IsNew, Kept}
 use Rattle.tb_lock.specs.Plays.{Place, Draws}
 use Rattle.tb_lock.proofs.ListLemmas.{any_set}
 use Rattle.tb_lock.proofs.FrameLemmas.{changes, slot_kept, opens}

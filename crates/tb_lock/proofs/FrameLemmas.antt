@@ -1,8 +1,7 @@
 -- What stays of a bus at work where one seat makes a step.
-use Rattle.std.proofs.Common.{◌≡◌, ◌≢◌, ◌⊎◌, ◌≤◌, ◌<◌, ◌+◌, ◌%◌, ◌^◌, ℕ, zero, suc, List, [], ◌∷◌, ◌++◌, set, sum_by, Bool, true, false, Option, Some, None, true≢false, refl, sym, ap, ◌∙◌, subst, inl, inr, ⊎_elim, arith}
+use Rattle.std.proofs.Common.{◌≡◌, ◌≢◌, ◌⊎◌, ◌≤◌, ◌+◌, ◌%◌, ◌^◌, ℕ, zero, suc, List, [], ◌∷◌, set, Bool, true, false, Option, true≢false, refl, sym, ap, ◌∙◌, inl, inr, ⊎_elim, arith}
 use mathlib.Core.Option as opt
 use lib.ListN.{get_elem?}
-use Rattle.atomic_table.specs.Table.{State}
 use Rattle.tb_log.specs.declared.entry.Entry.{Entry}
 use Rattle.tb_bus.specs.declared.origin.Origin.{Origin}
 use Rattle.tb_bus.specs.Buses.{start}
@@ -10,9 +9,9 @@ use Rattle.tb_bus.specs.Traces.{IsTrace}
 use Rattle.tb_core.specs.Cores.{CoreState}
 use Rattle.tb_lock.specs.Rights.{own, all_rights}
 use Rattle.tb_lock.specs.Histories.{IsSparse}
-use Rattle.tb_lock.specs.Seats.{SeatView, Stage, Opening, Idle, Waiting, Serving, Joined, nobody}
-use Rattle.tb_lock.specs.Rule.{Board, ticket_of, tickets, has_turn, FitsStage, Fits, Apart, Somewhere, AtHome, Away, Running, IsNew, opening_seat}
-use Rattle.tb_lock.proofs.ListLemmas.{EachTwo, sum_set, sum_at, sum_le_sum, each_set, pairs_set, any_set}
+use Rattle.tb_lock.specs.Seats.{SeatView, Stage, Opening, Idle, Waiting, Serving, Joined}
+use Rattle.tb_lock.specs.Rule.{Board, tickets, has_turn, Fits, Apart, Somewhere, AtHome, Away, Running, IsNew, opening_seat}
+use Rattle.tb_lock.proofs.ListLemmas.{sum_set, sum_le_sum, each_set, pairs_set, any_set}
 
 -- a bus at work, of which one seat has changed, and what goes with it
 pub record Changes (origin : Origin) (board : Board) (run : Running origin board) (id : ℕ) (seat after : SeatView) (words : List ℕ) (homes : List (opt.Option (Option CoreState))) (log : List Entry) (stopped : Bool) (served drawn : ℕ) : Type 0 where

@@ -1,6 +1,5 @@
 -- How the history grows, and where the entries of seats stand in it.
-use Rattle.std.proofs.Common.{◌≡◌, ◌≢◌, ◌⊎◌, ◌≤◌, ◌<◌, ◌+◌, ◌-◌, ◌==◌, ℕ, zero, suc, nat_lt, List, [], ◌∷◌, ◌++◌, length, slice_get, Some, None, Bool, true, false, ◌||◌, if◌then◌else◌, true≢false, refl, sym, ap, ◌∙◌, subst, inl, inr, ⊎_elim, arith, length-append, append-nil, append_assoc, add-one, eqb-true, eq-eqb, ne_eqb, ltb-true, ltb-false}
-use Rattle.std.specs.List.{list_any}
+use Rattle.std.proofs.Common.{◌≡◌, ◌⊎◌, ◌≤◌, ◌<◌, ◌+◌, ◌-◌, ◌==◌, ℕ, zero, suc, nat_lt, List, [], ◌∷◌, ◌++◌, length, slice_get, Some, Bool, true, false, ◌||◌, if◌then◌else◌, true≢false, refl, sym, ap, ◌∙◌, subst, inl, inr, ⊎_elim, arith, length-append, append-nil, append_assoc, eqb-true, eq-eqb, ltb-true, ltb-false}
 use Rattle.std.proofs.lemmas.List.Folds.{list_any-append}
 use Rattle.std.proofs.lemmas.Option.{slice_get_within, slice_get_past}
 use mathlib.Core.Logic.{dite}
@@ -57,9 +56,9 @@ pub grows_joined : (rights more : Rights) (one other log : List Entry) → Grows
 grows_joined rights more one other log g h =
     ⊎_elim
     (λ (t : (longer one other ≡ other) × (length one ≤ length other)). subst (λ (xs : List Entry). Grows (united rights more) xs log) (sym t.0)
-        (record { rest = h.rest; is = h.is; none = own_both rights more h.rest (grows_to rights one other log h.rest g h.is t.1).1 h.none }))
+    (record { rest = h.rest; is = h.is; none = own_both rights more h.rest (grows_to rights one other log h.rest g h.is t.1).1 h.none }))
     (λ (t : (longer one other ≡ one) × (length other ≤ length one)). subst (λ (xs : List Entry). Grows (united rights more) xs log) (sym t.0)
-        (record { rest = g.rest; is = g.is; none = own_both rights more g.rest g.none (grows_to more other one log g.rest h g.is t.1).1 }))
+    (record { rest = g.rest; is = g.is; none = own_both rights more g.rest g.none (grows_to more other one log g.rest h g.is t.1).1 }))
     (longer_is one other)
 
 -- each of them has seen all entries of its rights in the longer
@@ -206,6 +205,7 @@ in_merged log from (own ∷ owns) more h g apart =
     or_right : (a b : Bool) → b ≡ true → (a || b) ≡ true
     or_right true b e = refl
     or_right false b e = e
+
     nowhere : (b : Bool) → has_place own.place (merged owns more) ≡ b → has_place own.place (merged owns more) ≡ false
     nowhere false e = e
     nowhere true e = absurd (⊎_elim
@@ -229,9 +229,9 @@ sparse_more log entry h new place e =
     dite (dec_lt (suc place) (length log))
     (λ within. ap says_quiet (get-within log (entry ∷ []) (suc place) within) ∙ h place (sym (ap says_quiet (get-within log (entry ∷ []) place (omega arith))) ∙ e))
     (λ past. dite (ℕ_discrete (suc place) (length log))
-        (λ is. ap says_quiet (get-end log [] entry (suc place) is)
-            ∙ not_both (ends_quiet log) (says_quiet (Some entry)) (ap (λ (k : ℕ). says_quiet (slice_get log k)) (last place is) ∙ sym (ap says_quiet (get-within log (entry ∷ []) place (omega arith))) ∙ e) new)
-        (λ other. ap says_quiet (slice_get_past (log ++ entry ∷ []) (suc place) (omega (arith, length-append log (entry ∷ []))))))
+    (λ is. ap says_quiet (get-end log [] entry (suc place) is)
+    ∙ not_both (ends_quiet log) (says_quiet (Some entry)) (ap (λ (k : ℕ). says_quiet (slice_get log k)) (last place is) ∙ sym (ap says_quiet (get-within log (entry ∷ []) place (omega arith))) ∙ e) new)
+    (λ other. ap says_quiet (slice_get_past (log ++ entry ∷ []) (suc place) (omega (arith, length-append log (entry ∷ []))))))
   where
     last : (place : ℕ) → suc place ≡ length log → length log - 1 ≡ place
     last place is = omega arith

@@ -9,3 +9,5 @@ pub mod ReadLemmas
 pub mod PassLemmas
 pub mod NoteLemmas
 pub mod ShareLemmas
+pub mod TurnLemmas
+pub mod CallLemmas

@@ -5,7 +5,7 @@ use mathlib.Core.Logic.{dite}
 use mathlib.Core.Option.{some, some-injective, some-ne-none}
 use native.Mathlib.Decide.{ℕ_discrete}
 use lib.ListN.{get_elem?}
-use Rattle.atomic_table.proofs.Lists.{at_set, set_here, set_else, at_longer, at_last}
+use Rattle.atomic_table.proofs.Lists.{at_set, set_here, set_else, at_longer}
 
 module _ {A : Type 0} where
   pub was_there : (xs : List A) (i : ℕ) (a : A) → get_elem? xs i ≡ some a → i < length xs
@@ -80,26 +80,26 @@ module _ {A : Type 0} where
     pairs_set xs i b all others j k u v apart one other =
         ⊎_elim
         (λ (s : (j ≡ i) × (b ≡ u)). ⊎_elim
-            (λ (t : (k ≡ i) × (b ≡ v)). absurd (apart (s.0 ∙ sym t.0)))
-            (λ (t : (k ≢ i) × (get_elem? xs k ≡ some v)). subst (λ (x : A). R x v) s.1 (others k v t.0 t.1))
-            (at_set xs i k b v other))
+        (λ (t : (k ≡ i) × (b ≡ v)). absurd (apart (s.0 ∙ sym t.0)))
+        (λ (t : (k ≢ i) × (get_elem? xs k ≡ some v)). subst (λ (x : A). R x v) s.1 (others k v t.0 t.1))
+        (at_set xs i k b v other))
         (λ (s : (j ≢ i) × (get_elem? xs j ≡ some u)). ⊎_elim
-            (λ (t : (k ≡ i) × (b ≡ v)). subst (λ (x : A). R u x) t.1 (swaps b u (others j u s.0 s.1)))
-            (λ (t : (k ≢ i) × (get_elem? xs k ≡ some v)). all j k u v apart s.1 t.1)
-            (at_set xs i k b v other))
+        (λ (t : (k ≡ i) × (b ≡ v)). subst (λ (x : A). R u x) t.1 (swaps b u (others j u s.0 s.1)))
+        (λ (t : (k ≢ i) × (get_elem? xs k ≡ some v)). all j k u v apart s.1 t.1)
+        (at_set xs i k b v other))
         (at_set xs i j b u one)
 
     pub pairs_end : (xs : List A) (b : A) → EachTwo R xs → ((j : ℕ) (u : A) → get_elem? xs j ≡ some u → R b u) → EachTwo R (xs ++ b ∷ [])
     pairs_end xs b all others j k u v apart one other =
         ⊎_elim
         (λ (s : get_elem? xs j ≡ some u). ⊎_elim
-            (λ (t : get_elem? xs k ≡ some v). all j k u v apart s t)
-            (λ (t : (k ≡ length xs) × (b ≡ v)). subst (λ (x : A). R u x) t.1 (swaps b u (others j u s)))
-            (at_end xs b v k other))
+        (λ (t : get_elem? xs k ≡ some v). all j k u v apart s t)
+        (λ (t : (k ≡ length xs) × (b ≡ v)). subst (λ (x : A). R u x) t.1 (swaps b u (others j u s)))
+        (at_end xs b v k other))
         (λ (s : (j ≡ length xs) × (b ≡ u)). ⊎_elim
-            (λ (t : get_elem? xs k ≡ some v). subst (λ (x : A). R x v) s.1 (others k v t))
-            (λ (t : (k ≡ length xs) × (b ≡ v)). absurd (apart (s.0 ∙ sym t.0)))
-            (at_end xs b v k other))
+        (λ (t : get_elem? xs k ≡ some v). subst (λ (x : A). R x v) s.1 (others k v t))
+        (λ (t : (k ≡ length xs) × (b ≡ v)). absurd (apart (s.0 ∙ sym t.0)))
+        (at_end xs b v k other))
         (at_end xs b u j one)
 
   -- what holds of some
@@ -125,5 +125,5 @@ module _ {A : Type 0} where
       dite (ℕ_discrete it.0 i)
       (λ same. (i, c, here, goes (subst P (same_there xs it.0 i it.1 a same it.2 one) it.3)))
       (λ not_i. dite (ℕ_discrete it.0 j)
-          (λ same. (i, c, here, comes (subst P (same_there xs it.0 j it.1 b same it.2 other) it.3)))
-          (λ not_j. (it.0, it.1, set_else (set xs i c) j it.0 d not_j ∙ set_else xs i it.0 c not_i ∙ it.2, it.3)))
+      (λ same. (i, c, here, comes (subst P (same_there xs it.0 j it.1 b same it.2 other) it.3)))
+      (λ not_j. (it.0, it.1, set_else (set xs i c) j it.0 d not_j ∙ set_else xs i it.0 c not_i ∙ it.2, it.3)))

@@ -1,5 +1,5 @@
 -- Noting a call on the core in hand keeps the rule, and so does noting that it was stopped.
-use Rattle.std.proofs.Common.{◌≡◌, ◌≢◌, ◌⊎◌, ◌≤◌, ◌<◌, ◌+◌, ◌%◌, ◌^◌, ℕ, List, [], ◌∷◌, ◌++◌, length, set, slice_index, slice_set, Bool, true, false, ◌||◌, Option, Some, None, IfSome, true≢false, refl, sym, ap, ◌∙◌, subst, inl, inr, ⊎_elim, arith, length-append}
+use Rattle.std.proofs.Common.{◌≡◌, ◌≢◌, ◌<◌, ◌+◌, ◌%◌, ◌^◌, ℕ, List, [], ◌∷◌, ◌++◌, length, slice_index, slice_set, Bool, true, Option, Some, IfSome, refl, sym, ap, ◌∙◌, subst, inr, ⊎_elim, arith, length-append}
 use Rattle.std.proofs.lemmas.List.{append_cancel_left}
 use mathlib.Core.Option as opt
 use lib.ListN.{get_elem?}
@@ -10,10 +10,10 @@ use Rattle.tb_bus.specs.Buses.{start}
 use Rattle.tb_bus.specs.Traces.{IsTrace, replay}
 use Rattle.tb_bus.proofs.TraceLemmas.{trace-append}
 use Rattle.tb_core.specs.Cores.{CoreState}
-use Rattle.tb_lock.specs.Rights.{own, all_rights}
-use Rattle.tb_lock.specs.Histories.{Grows, IsSparse, AreIn, has_place, placed}
+use Rattle.tb_lock.specs.Rights.{all_rights}
+use Rattle.tb_lock.specs.Histories.{Grows, IsSparse, has_place, placed}
 use Rattle.tb_lock.specs.Seats.{SeatView, Serving}
-use Rattle.tb_lock.specs.Rule.{Board, tickets, ticket_of, has_turn, FitsStage, Fits, Apart, AtHome, Away, Running, IsNew, Kept}
+use Rattle.tb_lock.specs.Rule.{Board, tickets, ticket_of, has_turn, FitsStage, Fits, Apart, Away, Running, IsNew, Kept}
 use Rattle.tb_lock.specs.Plays.{Place, Adds, noting, in_hand, Notes, stopping, Stops}
 use Rattle.tb_lock.proofs.ListLemmas.{any_set, any_here}
 use Rattle.tb_lock.proofs.FrameLemmas.{changes, slot_out, stays_out, opens, ticket_room}
@@ -75,11 +75,11 @@ module _ (origin : Origin) (board : Board) (run : Running origin board) (id : �
           places = λ place mine their. ⊎_elim
               (λ old. a.places place old their)
               (λ new.
-                  let above = placed_from (length seat.seen) entries place new in
-                  let below = place_within other.seen 0 other.mine place theirs.mine their in
-                  let long : length run.log ≡ length other.seen + length theirs.grows.rest = ap length theirs.grows.is ∙ length-append other.seen theirs.grows.rest in
-                  let same : length seat.seen ≡ length run.log = ap length now.2 in
-                  let never : ⊥ = omega arith in never)
+              let above = placed_from (length seat.seen) entries place new in
+              let below = place_within other.seen 0 other.mine place theirs.mine their in
+              let long : length run.log ≡ length other.seen + length theirs.grows.rest = ap length theirs.grows.is ∙ length-append other.seen theirs.grows.rest in
+              let same : length seat.seen ≡ length run.log = ap length now.2 in
+              let never : ⊥ = omega arith in never)
               (or_true (has_place place seat.mine) (has_place place (placed (length seat.seen) entries)) (sym (has_place-append place seat.mine (placed (length seat.seen) entries)) ∙ mine));
         }
 

@@ -1,8 +1,8 @@
 -- Which entries of a log need which rights.
-use Rattle.std.proofs.Common.{◌≡◌, ◌⊎◌, ◌≤◌, ◌+◌, ℕ, List, [], ◌∷◌, ◌++◌, length, filter, Bool, true, false, cond, true≢false, refl, sym, ap, ◌∙◌, subst, ⊎_elim, arith, length-append, append-nil}
+use Rattle.std.proofs.Common.{◌≡◌, ◌≤◌, ◌+◌, ℕ, List, [], ◌∷◌, ◌++◌, length, Bool, true, false, cond, true≢false, refl, sym, ap, ◌∙◌, subst, ⊎_elim, arith, length-append, append-nil}
 use Rattle.std.proofs.lemmas.List.Elements.{filter-append}
 use Rattle.std.proofs.lemmas.List.Sums.{length-filter, count_by-le-length}
-use Rattle.std.proofs.lemmas.List.{nil_from_length, append_cancel_left}
+use Rattle.std.proofs.lemmas.List.{nil_from_length}
 use Rattle.tb_log.specs.declared.entry.Entry.{Entry}
 use Rattle.tb_lock.specs.declared.rights.Rights.{Rights}
 use Rattle.tb_lock.specs.Rights.{Right, has, right_of, own, AreAmong, united}

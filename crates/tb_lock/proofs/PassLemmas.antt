@@ -1,19 +1,17 @@
 -- Passing a turn on keeps the rule; so does the first turn of a bus that is being made.
-use Rattle.std.proofs.Common.{◌≡◌, ◌≢◌, ◌⊎◌, ◌≤◌, ◌<◌, ◌+◌, ◌%◌, ◌^◌, ℕ, zero, suc, List, [], ◌∷◌, set, slice_index, slice_set, replicate, Bool, true, false, Option, Some, None, true≢false, refl, sym, ap, ◌∙◌, subst, inl, inr, ⊎_elim, arith}
+use Rattle.std.proofs.Common.{◌≡◌, ◌≢◌, ◌<◌, ◌+◌, ◌%◌, ◌^◌, ℕ, zero, suc, List, [], ◌∷◌, set, slice_index, slice_set, replicate, true, false, Some, None, true≢false, refl, sym, ap, ◌∙◌, subst, inl, inr, ⊎_elim, arith}
 use Rattle.std.proofs.Math.Nat.{mod-add-mod}
 use mathlib.Core.Option as opt
 use lib.ListN.{get_elem?}
 use Rattle.atomic_table.specs.Table.{gives, takes, stepped, opening, Allows}
-use Rattle.tb_log.specs.declared.entry.Entry.{Entry}
 use Rattle.tb_bus.specs.declared.origin.Origin.{Origin}
 use Rattle.tb_core.specs.Cores.{CoreState}
-use Rattle.tb_lock.specs.Histories.{longer}
-use Rattle.tb_lock.specs.Seats.{SeatView, Idle, Waiting, Serving}
+use Rattle.tb_lock.specs.Seats.{SeatView, Opening, Idle, Serving}
 use Rattle.tb_lock.specs.Rule.{Board, tickets, ticket_of, has_turn, FitsStage, Fits, Apart, AtHome, Away, Running, IsNew, Kept, opening_seat}
 use Rattle.tb_lock.specs.Plays.{Place, Passes, Opens}
-use Rattle.tb_lock.proofs.ListLemmas.{was_there, set_there, each_set, any_set}
+use Rattle.tb_lock.proofs.ListLemmas.{set_there, each_set, any_set}
 use Rattle.tb_lock.proofs.FrameLemmas.{changes, slot_out, opens, alone_at, ticket_room}
-use Rattle.tb_lock.proofs.StageLemmas.{ticket_range, turn_ticket, fits_passed}
+use Rattle.tb_lock.proofs.StageLemmas.{turn_ticket, fits_passed}
 use Rattle.tb_lock.proofs.OwnLemmas.{not_false}
 use Rattle.tb_lock.proofs.HistoryLemmas.{grows_refl, sparse_nil}
 
@@ -145,16 +143,27 @@ module _ (origin : Origin) where
     reason = λ e. absurd (true≢false (sym e));
   }
 
-  pub first_opens : (slots : ℕ) → Allows (Kept origin) slots 0 (opening_seat origin, []) 1 (λ n. n) (Opens (opening_seat origin, []))
-  first_opens slots board kept wide at _ = ⊎_elim
-      (λ (new : IsNew origin board). (
-        opened_by origin,
-        takes 0 None,
-        ap (λ hs. get_elem? hs 0) new.homes,
-        inr (subst (Running origin)
-            (λ i. record { words = slice_set (sym new.words i) 1 (slice_index (sym new.words i) 1); homes = slice_set (sym new.homes i) 0 opt.none; views = set (sym new.views i) 0 (opened_by origin) })
-            first_turn),
-        refl,
-      ))
-      (λ (run : Running origin board). absurd (run.fits 0 (opening_seat origin) at).stage)
-      kept
+-- it has the number 0
+first_number : {A : Type 0} (x a : A) (i : ℕ) → get_elem? (x ∷ []) i ≡ opt.some a → i ≡ 0
+first_number x a zero e = refl
+first_number x a (suc i) e = absurd (opt.some-ne-none a (sym e))
+
+pub first_opens : (origin : Origin) (slots id : ℕ) (me : Place) → me.0.stage ≡ Opening → me.1 ≡ [] → Allows (Kept origin) slots id me 1 (λ n. n) (Opens me)
+first_opens origin slots id me opening_is empty = subst (λ (m : Place). Allows (Kept origin) slots id m 1 (λ n. n) (Opens m)) (λ i. (me.0, sym empty i)) (λ board kept wide at _. ⊎_elim
+    (λ (new : IsNew origin board).
+    let is : me.0 ≡ opening_seat origin = opens origin board id me.0 new at in
+    let number : id ≡ 0 = first_number (opening_seat origin) me.0 id (ap (λ (views : List SeatView). get_elem? views id) (sym new.views) ∙ at) in (
+      record me.0 { stage = Serving 0 false },
+      takes 0 None,
+      ap (λ hs. get_elem? hs 0) new.homes,
+      inr (subst (Running origin)
+          (λ i. record {
+            words = slice_set (sym new.words i) 1 (slice_index (sym new.words i) 1);
+            homes = slice_set (sym new.homes i) 0 opt.none;
+            views = set (sym new.views i) (sym number i) (record (sym is i) { stage = Serving 0 false });
+          })
+          (first_turn origin)),
+      refl,
+    ))
+    (λ (run : Running origin board). absurd (subst (FitsStage run.log run.stopped run.served run.drawn me.0) opening_is (run.fits id me.0 at).stage))
+    kept)

@@ -1,5 +1,5 @@
 -- Reading whose turn it is keeps the rule, and tells of the core that is taken.
-use Rattle.std.proofs.Common.{◌≡◌, ◌≢◌, ◌⊎◌, ◌≤◌, ◌<◌, ◌+◌, ◌%◌, ◌^◌, ℕ, List, [], ◌∷◌, set, slice_index, slice_set, Bool, true, false, Option, Some, None, true≢false, refl, sym, ap, ◌∙◌, subst, inl, inr, ⊎_elim, arith}
+use Rattle.std.proofs.Common.{◌≡◌, ◌≢◌, ◌≤◌, ◌<◌, ◌%◌, ◌^◌, ℕ, List, [], ◌∷◌, slice_index, slice_set, true, false, Option, Some, true≢false, refl, sym, ap, ◌∙◌, subst, inr, ⊎_elim, arith}
 use Rattle.std.proofs.lemmas.List.{set-get_or}
 use mathlib.Core.Logic.{dite}
 use mathlib.Core.Option as opt
@@ -14,11 +14,11 @@ use Rattle.tb_bus.specs.Traces.{IsTrace}
 use Rattle.tb_core.specs.Cores.{CoreState}
 use Rattle.tb_lock.specs.Rights.{own, all_rights}
 use Rattle.tb_lock.specs.Histories.{Grows, IsSparse, AreIn}
-use Rattle.tb_lock.specs.Seats.{SeatView, Idle, Waiting, Serving}
+use Rattle.tb_lock.specs.Seats.{SeatView, Waiting, Serving}
 use Rattle.tb_lock.specs.Calls.{Meets}
 use Rattle.tb_lock.specs.Rule.{Board, tickets, ticket_of, has_turn, FitsStage, Fits, Apart, AtHome, Away, Running, IsNew, Kept}
 use Rattle.tb_lock.specs.Plays.{Place, Reads, Takes}
-use Rattle.tb_lock.proofs.ListLemmas.{was_there, same_there, set_there, sum_two, any_set, any_here}
+use Rattle.tb_lock.proofs.ListLemmas.{same_there, set_there, sum_two, any_set, any_here}
 use Rattle.tb_lock.proofs.FrameLemmas.{changes, opens, ticket_room, few_tickets}
 use Rattle.tb_lock.proofs.StageLemmas.{turn_ticket}
 use Rattle.tb_lock.proofs.HistoryLemmas.{grows_refl, in_more}
@@ -36,10 +36,10 @@ module _ (origin : Origin) (board : Board) (run : Running origin board) (id : �
       dite (ℕ_discrete it.0 id)
       (λ same. ap (λ (s : SeatView). s.called) (sym (same_there board.views it.0 id it.1 seat same it.2 at)) ∙ it.3)
       (λ differ.
-          let both = sum_two (λ s. s.room) board.views it.0 id it.1 seat differ it.2 at in
-          let rooms = run.rooms in
-          let is : it.1.room ≡ 0 = omega arith in
-          absurd (true≢false (sym it.3 ∙ ap (λ (s : SeatView). s.called) ((run.fits it.0 it.1 it.2).gone is))))
+      let both = sum_two (λ s. s.room) board.views it.0 id it.1 seat differ it.2 at in
+      let rooms = run.rooms in
+      let is : it.1.room ≡ 0 = omega arith in
+      absurd (true≢false (sym it.3 ∙ ap (λ (s : SeatView). s.called) ((run.fits it.0 it.1 it.2).gone is))))
 
   module _ (ticket : ℕ) (waits : seat.stage ≡ Waiting ticket) where
     fits : Fits origin run.log run.stopped run.served run.drawn seat
@@ -69,15 +69,15 @@ module _ (origin : Origin) (board : Board) (run : Running origin board) (id : �
     at_home is = ⊎_elim
         (λ (home : AtHome origin run.log run.stopped board). home)
         (λ (away : Away board).
-            let it = away.somebody_has in
-            dite (ℕ_discrete it.0 id)
-            (λ same.
-                let here : it.1 ≡ seat = same_there board.views it.0 id it.1 seat same it.2 at in
-                let none : has_turn it.1.stage ≡ false = ap (λ (s : SeatView). has_turn s.stage) here ∙ ap has_turn waits in
-                absurd (true≢false (sym it.3 ∙ none)))
-            (λ differ.
-                let theirs = turn_ticket run.log run.stopped run.served run.drawn it.1 it.1.stage (run.fits it.0 it.1 it.2).stage it.3 in
-                absurd ((run.apart it.0 id it.1 seat differ it.2 at).tickets run.served theirs (ap ticket_of waits ∙ ap Some (sym is)))))
+        let it = away.somebody_has in
+        dite (ℕ_discrete it.0 id)
+        (λ same.
+        let here : it.1 ≡ seat = same_there board.views it.0 id it.1 seat same it.2 at in
+        let none : has_turn it.1.stage ≡ false = ap (λ (s : SeatView). has_turn s.stage) here ∙ ap has_turn waits in
+        absurd (true≢false (sym it.3 ∙ none)))
+        (λ differ.
+        let theirs = turn_ticket run.log run.stopped run.served run.drawn it.1 it.1.stage (run.fits it.0 it.1 it.2).stage it.3 in
+        absurd ((run.apart it.0 id it.1 seat differ it.2 at).tickets run.served theirs (ap ticket_of waits ∙ ap Some (sym is)))))
         run.slot
 
     module _ (is : run.served ≡ ticket) (home : AtHome origin run.log run.stopped board) where
@@ -150,15 +150,15 @@ pub reads : (origin : Origin) (slots id : ℕ) (me : Place) (ticket : ℕ) → m
 reads origin slots id me ticket waits empty = subst (λ (m : Place). Allows (Kept origin) slots id m 1 (λ n. n) (Reads m)) (λ i. (me.0, sym empty i)) (λ board kept wide at _. ⊎_elim
     (λ (new : IsNew origin board). let opening = ap (λ (s : SeatView). s.stage) (opens origin board id me.0 new at) in absurd (cc))
     (λ (run : Running origin board). dite (ℕ_discrete (slice_index board.words 1) (ticket % 2 ^ 64))
-        (λ hit.
-            let is = served origin board run id me.0 at ticket waits hit in
-            let home = at_home origin board run id me.0 at ticket waits is in
-            let after : Place = (record me.0 { seen = home.core.log; stage = Serving ticket home.core.stopped }, (0, Some home.core) ∷ []) in (
-              after.0,
-              takes 0 (Some home.core),
-              home.here,
-              inr (taken origin board run id me.0 at ticket waits is home),
-              told_by (me.0, []) after (slice_index board.words 1) ticket waits (λ _. (home.core, refl, meets origin board run id me.0 at ticket waits is home)) (λ miss. absurd (miss hit)),
-            ))
-        (λ miss. (me.0, keeps, tt, stays origin board 1 id me.0 [] kept at, told_by (me.0, []) (me.0, []) (slice_index board.words 1) ticket waits (λ hit. absurd (miss hit)) (λ _. refl))))
+    (λ hit.
+    let is = served origin board run id me.0 at ticket waits hit in
+    let home = at_home origin board run id me.0 at ticket waits is in
+    let after : Place = (record me.0 { seen = home.core.log; stage = Serving ticket home.core.stopped }, (0, Some home.core) ∷ []) in (
+      after.0,
+      takes 0 (Some home.core),
+      home.here,
+      inr (taken origin board run id me.0 at ticket waits is home),
+      told_by (me.0, []) after (slice_index board.words 1) ticket waits (λ _. (home.core, refl, meets origin board run id me.0 at ticket waits is home)) (λ miss. absurd (miss hit)),
+    ))
+    (λ miss. (me.0, keeps, tt, stays origin board 1 id me.0 [] kept at, told_by (me.0, []) (me.0, []) (slice_index board.words 1) ticket waits (λ hit. absurd (miss hit)) (λ _. refl))))
     kept)

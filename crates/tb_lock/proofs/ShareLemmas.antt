@@ -1,5 +1,5 @@
 -- Parting a seat and joining two keep the rule, and so does the look after a join, which tells what each had seen.
-use Rattle.std.proofs.Common.{◌≡◌, ◌≢◌, ◌⊎◌, ◌≤◌, ◌<◌, ◌+◌, ◌-◌, ◌%◌, ◌^◌, ℕ, List, [], ◌∷◌, ◌++◌, set, sum_by, slice_index, slice_set, Bool, true, false, ◌||◌, Option, Some, None, true≢false, refl, sym, ap, ◌∙◌, subst, inl, inr, ⊎_elim, arith, length, length-append, append-nil, ◌==◌}
+use Rattle.std.proofs.Common.{◌≡◌, ◌≢◌, ◌⊎◌, ◌≤◌, ◌<◌, ◌+◌, ◌-◌, ℕ, List, [], ◌∷◌, ◌++◌, set, slice_index, slice_set, Bool, true, false, ◌||◌, Some, None, true≢false, refl, sym, ap, ◌∙◌, subst, inl, inr, ⊎_elim, arith, length, length-append, append-nil, ◌==◌}
 use Rattle.std.proofs.lemmas.List.{set_comm, nil_from_length}
 use Rattle.std.proofs.lemmas.List.Sums.{sum_by_push}
 use Rattle.std.proofs.lemmas.Nat.Bits.{bit_at-zero}
@@ -11,14 +11,13 @@ use Rattle.atomic_table.specs.Table.{keeps, stepped, Allows, Splits, Joins}
 use Rattle.atomic_table.proofs.Lists.{set_else}
 use Rattle.tb_log.specs.declared.entry.Entry.{Entry}
 use Rattle.tb_bus.specs.declared.origin.Origin.{Origin}
-use Rattle.tb_core.specs.Cores.{CoreState}
 use Rattle.tb_lock.specs.declared.rights.Rights.{Rights}
 use Rattle.tb_lock.specs.Rights.{Right, Steps, Ticks, In, Out, has, right_of, AreAmong, no_rights, without}
-use Rattle.tb_lock.specs.Histories.{Own, Grows, AreIn, has_place, longer, merged}
+use Rattle.tb_lock.specs.Histories.{Own, Grows, AreIn, has_place, longer}
 use Rattle.tb_lock.specs.Seats.{SeatView, Stage, Idle, Joined, nobody, kept_of, handed_on}
 use Rattle.tb_lock.specs.Rule.{Board, tickets, ticket_of, has_turn, FitsStage, Fits, Apart, Somewhere, AtHome, Away, Running, IsNew, Kept}
 use Rattle.tb_lock.specs.Plays.{Place, joining, Looks}
-use Rattle.tb_lock.proofs.ListLemmas.{EachTwo, sum_set, each_set, each_end, pairs_set, pairs_end, any_set, any_end, any_two, set_there}
+use Rattle.tb_lock.proofs.ListLemmas.{sum_set, each_set, each_end, pairs_set, pairs_end, any_set, any_end, any_two, set_there}
 use Rattle.tb_lock.proofs.FrameLemmas.{apart_swaps, changes, slot_kept, opens}
 use Rattle.tb_lock.proofs.RightLemmas.{has-united, left_among, left_apart, of_united, or_true}
 use Rattle.tb_lock.proofs.OwnLemmas.{NeedsNone, none_needed, not_false}
@@ -180,10 +179,10 @@ or_right false b e = e
 whole : (rights more : Rights) (one other log : List Entry) → one ≡ log → Grows more other log → longer one other ≡ log
 whole rights more one other log e g = ⊎_elim
     (λ (t : (longer one other ≡ other) × (length one ≤ length other)).
-        let short : length log ≡ length other + length g.rest = ap length g.is ∙ length-append other g.rest in
-        let same : length one ≡ length log = ap length e in
-        let none : g.rest ≡ [] = nil_from_length g.rest (omega arith) in
-        t.0 ∙ sym (g.is ∙ ap (λ (xs : List Entry). other ++ xs) none ∙ append-nil other))
+    let short : length log ≡ length other + length g.rest = ap length g.is ∙ length-append other g.rest in
+    let same : length one ≡ length log = ap length e in
+    let none : g.rest ≡ [] = nil_from_length g.rest (omega arith) in
+    t.0 ∙ sym (g.is ∙ ap (λ (xs : List Entry). other ++ xs) none ∙ append-nil other))
     (λ (t : (longer one other ≡ one) × (length other ≤ length one)). t.0 ∙ e)
     (longer_is one other)
 
@@ -191,10 +190,10 @@ whole_too : (rights more : Rights) (one other log : List Entry) → Grows rights
 whole_too rights more one other log g e = ⊎_elim
     (λ (t : (longer one other ≡ other) × (length one ≤ length other)). t.0 ∙ e)
     (λ (t : (longer one other ≡ one) × (length other ≤ length one)).
-        let short : length log ≡ length one + length g.rest = ap length g.is ∙ length-append one g.rest in
-        let same : length other ≡ length log = ap length e in
-        let none : g.rest ≡ [] = nil_from_length g.rest (omega arith) in
-        t.0 ∙ sym (g.is ∙ ap (λ (xs : List Entry). one ++ xs) none ∙ append-nil one))
+    let short : length log ≡ length one + length g.rest = ap length g.is ∙ length-append one g.rest in
+    let same : length other ≡ length log = ap length e in
+    let none : g.rest ≡ [] = nil_from_length g.rest (omega arith) in
+    t.0 ∙ sym (g.is ∙ ap (λ (xs : List Entry). one ++ xs) none ∙ append-nil one))
     (longer_is one other)
 
 module _ (origin : Origin) (board : Board) (run : Running origin board) (id by : ℕ) (seat other : SeatView) (at : get_elem? board.views id ≡ opt.some seat) (differ : by ≢ id) (there : get_elem? board.views by ≡ opt.some other)
@@ -254,14 +253,14 @@ module _ (origin : Origin) (board : Board) (run : Running origin board) (id by :
   both_apart j u apart e = dite (ℕ_discrete j by)
       (λ same. subst (Apart both) (opt.some-injective nobody u (sym (set_there board.views by other nobody there) ∙ ap (get_elem? (set board.views by nobody)) (sym same) ∙ e)) (apart_swaps nobody both (nobody_apart both)))
       (λ further.
-          let at_j : get_elem? board.views j ≡ opt.some u = sym (set_else board.views by j nobody further) ∙ e in
-          let a = run.apart id j seat u (λ x. apart (sym x)) at at_j in
-          let b = run.apart by j other u (λ x. further (sym x)) there at_j in
-          record {
-            rights = λ right mine theirs. ⊎_elim (λ t. a.rights right t theirs) (λ t. b.rights right t theirs) (of_united seat.rights other.rights right mine);
-            tickets = λ ticket mine theirs. absurd (cc);
-            places = λ place mine theirs. or_either (has_place place seat.mine) (has_place place other.mine) (sym (has_place-merged place seat.mine other.mine) ∙ mine) (λ t. a.places place t theirs) (λ t. b.places place t theirs);
-          })
+      let at_j : get_elem? board.views j ≡ opt.some u = sym (set_else board.views by j nobody further) ∙ e in
+      let a = run.apart id j seat u (λ x. apart (sym x)) at at_j in
+      let b = run.apart by j other u (λ x. further (sym x)) there at_j in
+      record {
+        rights = λ right mine theirs. ⊎_elim (λ t. a.rights right t theirs) (λ t. b.rights right t theirs) (of_united seat.rights other.rights right mine);
+        tickets = λ ticket mine theirs. absurd (cc);
+        places = λ place mine theirs. or_either (has_place place seat.mine) (has_place place other.mine) (sym (has_place-merged place seat.mine other.mine) ∙ mine) (λ t. a.places place t theirs) (λ t. b.places place t theirs);
+      })
 
   abbrev views : List SeatView
   views = set (set board.views by nobody) id both
@@ -282,7 +281,7 @@ module _ (origin : Origin) (board : Board) (run : Running origin board) (id by :
         out = away.out;
         somebody_has = subst (λ (vs : List SeatView). Somewhere (λ s. has_turn s.stage ≡ true) vs) (set_comm board.views id by both nobody (λ e. differ (sym e)))
             (any_two (λ s. has_turn s.stage ≡ true) board.views id by seat other both nobody differ at there
-                (λ has. absurd (true≢false (sym has ∙ ap has_turn idle))) (λ has. absurd (true≢false (sym has ∙ ap has_turn their_idle))) away.somebody_has);
+            (λ has. absurd (true≢false (sym has ∙ ap has_turn idle))) (λ has. absurd (true≢false (sym has ∙ ap has_turn their_idle))) away.somebody_has);
       }))
       run.slot
 
@@ -290,7 +289,7 @@ module _ (origin : Origin) (board : Board) (run : Running origin board) (id by :
   join_seen : Somewhere (λ s. s.seen ≡ run.log) views
   join_seen = subst (λ (vs : List SeatView). Somewhere (λ s. s.seen ≡ run.log) vs) (set_comm board.views id by both nobody (λ e. differ (sym e)))
       (any_two (λ s. s.seen ≡ run.log) board.views id by seat other both nobody differ at there
-          (λ e. whole seat.rights other.rights seat.seen other.seen run.log e their_fits.grows) (λ e. whole_too seat.rights other.rights seat.seen other.seen run.log mine_fits.grows e) run.seen)
+      (λ e. whole seat.rights other.rights seat.seen other.seen run.log e their_fits.grows) (λ e. whole_too seat.rights other.rights seat.seen other.seen run.log mine_fits.grows e) run.seen)
 
   pub united_views : Running origin (record { words = board.words; homes = board.homes; views = views })
   united_views =
@@ -329,8 +328,8 @@ joins origin id by seat other idle their_idle room board kept at differ then_the
     ⊎_elim
     (λ (new : IsNew origin board). let opening = ap (λ (s : SeatView). s.stage) (opens origin board id seat new at) in absurd (cc))
     (λ (run : Running origin board). inr (subst (λ (vs : List SeatView). Running origin (record { words = board.words; homes = board.homes; views = vs }))
-        (set_comm board.views by id nobody (joining seat other) differ)
-        (united_views origin board run id by seat other at differ there idle their_idle room)))
+    (set_comm board.views by id nobody (joining seat other) differ)
+    (united_views origin board run id by seat other at differ there idle their_idle room)))
     kept
 
 module _ (origin : Origin) (board : Board) (run : Running origin board) (id : ℕ) (seat : SeatView) (at : get_elem? board.views id ≡ opt.some seat) (one other : List Entry) (rights more : Rights) (joined_is : seat.stage ≡ Joined one rights other more) where

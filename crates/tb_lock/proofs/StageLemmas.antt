@@ -1,5 +1,5 @@
 -- What the stage of a seat says of the tickets, and what stays of it where another seat makes a step.
-use Rattle.std.proofs.Common.{◌≡◌, ◌≢◌, ◌≤◌, ◌<◌, ◌+◌, ℕ, suc, List, [], ◌++◌, length, Bool, true, false, Some, None, true≢false, refl, sym, ap, ◌∙◌, subst, arith}
+use Rattle.std.proofs.Common.{◌≡◌, ◌≤◌, ◌<◌, ◌+◌, ℕ, List, [], ◌++◌, Bool, true, Some, true≢false, refl, sym, ap, arith}
 use Rattle.tb_log.specs.declared.entry.Entry.{Entry}
 use Rattle.tb_bus.specs.declared.origin.Origin.{Origin}
 use Rattle.tb_lock.specs.Rights.{own}

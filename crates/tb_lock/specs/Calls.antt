@@ -1,5 +1,5 @@
 -- What a call comes to that waits for the seat's turn: it is answered as by one core, whose log is the one history.
-use Rattle.std.specs.Prelude.{◌≡◌, ◌↔◌, List, [], ◌++◌, length, Bool, true, false, ◌||◌, IsTrue, Result, Ok, Err, IfOk, IsErrOf}
+use Rattle.std.specs.Prelude.{◌≡◌, ◌↔◌, List, [], ◌++◌, length, true, false, ◌||◌, IsTrue, Result, Ok, Err, IfOk, IsErrOf}
 use Rattle.tb_log.specs.declared.entry.Entry.{Entry}
 use Rattle.tb_log.specs.declared.entry.Input.{Input}
 use Rattle.tb_log.specs.declared.entry.Reply.{Reply}

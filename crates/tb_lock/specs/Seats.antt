@@ -1,5 +1,5 @@
 -- What contracts see of a seat, and what opening, parting and joining make of one.
-use Rattle.std.specs.Prelude.{◌≡◌, ℕ, ◌+◌, ◌-◌, List, [], ◌++◌, Bool, true, false, ◌||◌, ◌⊎◌, refl}
+use Rattle.std.specs.Prelude.{◌≡◌, ℕ, ◌+◌, ◌-◌, List, [], Bool, true, false, ◌||◌, ◌⊎◌, refl}
 use Rattle.std.specs.Coded.{Coded, code_by, coded×, coded⊎, coded_ℕ, coded_bool, coded_list}
 use mathlib.Core.Logic.{inl, inr}
 use base.Stored.{coded_unit}

@@ -11,7 +11,11 @@ use crate::rights::Rights;
 use tb_algebra::Walker;
 
 /// Parts a seat in two.
-pub(crate) fn part<W: Walker, H: HandsOn>(board: &Board<W>, place: &mut Place<W>, rights: Rights) -> Place<W>
+pub(crate) fn part<W: Walker, H: HandsOn>(
+    board: &Board<W>,
+    place: &mut Place<W>,
+    rights: Rights,
+) -> Place<W>
     requires board { IsBoard board.now.table_id }
     requires place { place.old.table_id ≡ board.now.table_id }
     requires picked { rights ≡ H.rights }

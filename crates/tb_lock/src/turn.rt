@@ -30,11 +30,7 @@ pub(crate) fn open<W: Walker>(board: &Board<W>, place: &mut Place<W>, core: Core
 }
 
 /// Waits for the seat's turn, and takes the core out.
-pub(crate) fn enter<W: Walker, R: Wait>(
-    rt: &R,
-    board: &Board<W>,
-    place: &mut Place<W>,
-) -> Core<W>
+pub(crate) fn enter<W: Walker, R: Wait>(rt: &R, board: &Board<W>, place: &mut Place<W>) -> Core<W>
     requires board { IsBoard board.now.table_id }
     requires place { place.old.table_id ≡ board.now.table_id }
     requires idle { (place.old.me.1 ≡ []) × (place.old.me.0.stage ≡ Idle) }
