@@ -6,6 +6,7 @@ use Rattle.std.proofs.lemmas.List.{nil_from_length}
 use Rattle.tb_log.specs.declared.entry.Entry.{Entry}
 use Rattle.tb_lock.specs.declared.rights.Rights.{Rights}
 use Rattle.tb_lock.specs.Rights.{Right, has, right_of, own, AreAmong, united}
+use Rattle.tb_lock.specs.Histories.{Grows}
 use Rattle.tb_lock.proofs.RightLemmas.{of_united}
 
 -- each entry needs one of these rights, or none does
@@ -106,3 +107,8 @@ no_rest rights seen rest all none =
     let short : length (own rights seen) ≤ length seen = length-own rights seen in
     let long : length (own rights seen) ≡ length seen + length rest = ap length is ∙ length-append seen rest in
     nil_from_length rest (omega arith)
+
+-- a log that has grown has no more entries of these rights, or of some of them
+pub own-grows : (some rights : Rights) (seen log : List Entry) → Grows rights seen log → AreAmong some rights → own some log ≡ own some seen
+own-grows some rights seen log g among =
+    ap (own some) g.is ∙ own-append some seen g.rest ∙ ap (λ (xs : List Entry). own some seen ++ xs) (own_fewer some rights g.rest among g.none) ∙ append-nil (own some seen)

@@ -2,13 +2,17 @@
 #![tactic(auto)]
 
 mod board;
+mod laws;
 mod plays;
 mod rights;
 mod seat;
 mod share;
 mod shared;
+#[cfg(test)]
+mod tests;
 mod turn;
 
+pub use laws::{calls_add_their_own, joins_keep_their_own};
 pub use rights::Rights;
 pub use seat::Seat;
 pub use shared::{NoRoom, Shared};
