@@ -1,7 +1,9 @@
--- Worked lines without terms.
-use Rattle.std.specs.Prelude.{◌≡◌, [], ◌∷◌, codes, refl}
+-- Worked lines without terms, and what a log says of its lanes.
+use Rattle.std.specs.Prelude.{◌≡◌, List, [], ◌∷◌, codes, refl}
 use Rattle.std.specs.Fmt.{digits}
 use Rattle.tb_log.specs.LogText.{log_text_from, log_text}
+use Rattle.tb_log.specs.Lanes.{handed, sent, inputs, ticks}
+use Rattle.tb_log.specs.declared.entry.Entry.{Entry}
 use Rattle.tb_log.specs.declared.entry.Entry.TheVariants.{Quiet, Fed, Gave}
 use Rattle.tb_log.specs.declared.entry.Input.TheVariants as input
 use Rattle.tb_log.specs.declared.entry.ToolLine.TheVariants as tool
@@ -18,3 +20,34 @@ bad_lines = refl
 quiet_lines : log_text (Quiet ∷ Fed input.Tick Took ∷ Gave 1 (out.Start (codes "calc")) ∷ Gave 1 out.End ∷ Fed input.NoTicks (Dropped why.Down) ∷ []) ≡ codes "1 quiet\n2 tick\n3 out 1 start \"calc\"\n4 out 1 end\n5 drop down noticks\n"
 unfolding digits
 quiet_lines = refl
+
+-- On lane 1 an end was handed out that couldn't be put, on lane 2 only what came after the cut.
+two_lanes : List Entry
+two_lanes =
+    Gave 1 (out.Start (codes "t")) ∷ Fed (input.Cut 2) (Dropped why.NotLive) ∷ Gave 2 (out.Start (codes "u")) ∷ Fed input.Tick Took
+    ∷ Gave 1 out.End ∷ Quiet ∷ Fed (input.Cut 1) (Dropped why.Down) ∷ Fed (input.Gone 2) Took ∷ Gave 2 out.End ∷ Fed input.Tick (Dropped why.Down)
+    ∷ Fed (input.Line 1 tool.Bad) (Dropped why.Down) ∷ []
+
+first_handed : handed two_lanes 1 ≡ out.Start (codes "t") ∷ out.End ∷ []
+unfolding two_lanes
+first_handed = refl
+
+first_sent : sent two_lanes 1 ≡ out.Start (codes "t") ∷ []
+unfolding two_lanes
+first_sent = refl
+
+second_sent : sent two_lanes 2 ≡ out.Start (codes "u") ∷ out.End ∷ []
+unfolding two_lanes
+second_sent = refl
+
+first_inputs : inputs two_lanes 1 ≡ input.Line 1 tool.Bad ∷ []
+unfolding two_lanes
+first_inputs = refl
+
+second_inputs : inputs two_lanes 2 ≡ input.Gone 2 ∷ []
+unfolding two_lanes
+second_inputs = refl
+
+both_ticks : ticks two_lanes ≡ 2
+unfolding two_lanes
+both_ticks = refl

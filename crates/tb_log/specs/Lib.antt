@@ -1,3 +1,6 @@
-pub mod LogText
+pub mod Lanes
 pub mod Limits
+pub mod LogText
 pub mod Logs
+pub mod Proper
+pub mod Shapes

@@ -80,18 +80,18 @@ input_words (input.Line lane line) = codes "line " ++ decimal lane ++ 32 ∷ too
 input_words (input.Gone lane) = codes "gone " ++ decimal lane
 input_words (input.Cut lane) = codes "cut " ++ decimal lane
 
-abbrev pub why_words : Why → List ℕ
-why_words why.Unasked = codes "unasked"
-why_words why.NotLive = codes "not-live"
-why_words why.Named = codes "named"
-why_words why.Stranger = codes "stranger"
-why_words why.Bad = codes "bad"
-why_words why.Down = codes "down"
+abbrev pub why_word : Why → List ℕ
+why_word why.Unasked = codes "unasked"
+why_word why.NotLive = codes "not-live"
+why_word why.Named = codes "named"
+why_word why.Stranger = codes "stranger"
+why_word why.Bad = codes "bad"
+why_word why.Down = codes "down"
 
 -- a dropped input says why it was dropped in front
 abbrev pub fed_words : Reply → Input → List ℕ
 fed_words Took input = input_words input
-fed_words (Dropped why) input = codes "drop " ++ why_words why ++ 32 ∷ input_words input
+fed_words (Dropped why) input = codes "drop " ++ why_word why ++ 32 ∷ input_words input
 
 -- what is handed out: the command of a start as a string, a line as its term
 abbrev pub out_words : Out → List ℕ

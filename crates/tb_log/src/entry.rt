@@ -1,7 +1,7 @@
 ghost use Rattle.std.specs.Prelude.{◌≡◌, IfOk};
 
 use std::alloc::Global;
-use tb_terms::{Name, NoMemory, Term, Terms, Text, copy_terms};
+use tb_terms::{Items, Name, NoMemory, Term, Terms, Text, copy_terms};
 
 /// A line that a tool put.
 #[derive(Debug, Drop)]
@@ -185,6 +185,9 @@ pub enum Entry {
     /// This was handed out on a lane, which has a number from 1 to 16.
     Gave(u8, Out),
 }
+
+/// Entries in a row, as a log has them.
+pub type Entries = Items<Entry>;
 
 impl Entry {
     /// The same entry in memory of its own.

@@ -3,11 +3,15 @@
 
 mod entry;
 mod log;
+mod proper;
 mod quote;
+mod shape;
 #[cfg(test)]
 mod tests;
 mod text;
 
-pub use entry::{Entry, Input, Label, LabelKind, Out, Place, Reply, ToolLine, Why};
+pub use entry::{Entries, Entry, Input, Label, LabelKind, Out, Place, Reply, ToolLine, Why};
 pub use log::{Log, total_size};
-pub use text::write_entry;
+pub use proper::{show_proper_entry, show_proper_log};
+pub use shape::{is_in_shape, is_out_in_shape, is_tool_line_in_shape};
+pub use text::{kind_word, why_word, write_entry};

@@ -1,6 +1,6 @@
 ghost use Rattle.std.specs.Prelude.{◌≡◌, ◌++◌, [], ◌∷◌, OnOk, OnErr, codes, decimal};
 ghost use Rattle.tb_terms.specs.Fronts.{KeepsFront};
-ghost use Rattle.tb_log.specs.LogText.{entry_text, entry_words, kind_word, label_words, place_words, term_words, arguments_text, fed_words, input_words, tool_line_words, out_words, why_words};
+ghost use Rattle.tb_log.specs.LogText.{entry_text, entry_words, kind_word, label_words, place_words, term_words, arguments_text, fed_words, input_words, tool_line_words, out_words, why_word};
 
 use crate::entry::{Entry, Input, Label, LabelKind, Out, Place, Reply, ToolLine, Why};
 use crate::quote::push_quoted;
@@ -73,7 +73,7 @@ fn push_one_place(word: &[u8], label: &Label, into: &mut Vec<u8>) -> Result<(), 
 }
 
 /// The word with which the line of such a step begins.
-fn kind_word(kind: LabelKind) -> &'static [u8]
+pub fn kind_word(kind: LabelKind) -> &'static [u8]
     ensures { result.now ≡ kind_word kind }
 {
     match kind {
@@ -137,7 +137,7 @@ fn push_fed(reply: Reply, input: &Input, into: &mut Vec<u8>) -> Result<(), NoMem
 }
 
 fn push_drop(why: Why, into: &mut Vec<u8>) -> Result<(), NoMemory>
-    ensures ok { OnOk result (into.new.items ≡ into.old.items ++ (codes "drop " ++ why_words why ++ 32 ∷ [])) }
+    ensures ok { OnOk result (into.new.items ≡ into.old.items ++ (codes "drop " ++ why_word why ++ 32 ∷ [])) }
     ensures err { OnErr result (KeepsFront into.old.items into.new.items) }
 {
     push_text(b"drop ", into)?;
@@ -147,16 +147,23 @@ fn push_drop(why: Why, into: &mut Vec<u8>) -> Result<(), NoMemory>
 }
 
 fn push_why(why: Why, into: &mut Vec<u8>) -> Result<(), NoMemory>
-    ensures ok { OnOk result (into.new.items ≡ into.old.items ++ why_words why) }
+    ensures ok { OnOk result (into.new.items ≡ into.old.items ++ why_word why) }
     ensures err { OnErr result (into.new.items ≡ into.old.items) }
 {
+    push_text(why_word(why), into)
+}
+
+/// The word for why an input was dropped.
+pub fn why_word(why: Why) -> &'static [u8]
+    ensures { result.now ≡ why_word why }
+{
     match why {
-        Why::Unasked => push_text(b"unasked", into),
-        Why::NotLive => push_text(b"not-live", into),
-        Why::Named => push_text(b"named", into),
-        Why::Stranger => push_text(b"stranger", into),
-        Why::Bad => push_text(b"bad", into),
-        Why::Down => push_text(b"down", into),
+        Why::Unasked => b"unasked",
+        Why::NotLive => b"not-live",
+        Why::Named => b"named",
+        Why::Stranger => b"stranger",
+        Why::Bad => b"bad",
+        Why::Down => b"down",
     }
 }
 

@@ -1,0 +1,102 @@
+ghost use Rattle.std.specs.Prelude.{IsTrue};
+ghost use Rattle.std.specs.List.{list_all};
+ghost use Rattle.tb_terms.specs.Names.{is_string};
+ghost use Rattle.tb_terms.specs.Proper.{is_proper};
+ghost use Rattle.tb_log.specs.Proper.{is_proper_entry, is_proper_input, is_proper_tool_line, is_proper_out, is_proper_place};
+
+use crate::entry::{Entry, Input, Label, Out, Place, ToolLine};
+use tb_terms::{Term, Text, show_proper};
+
+/// Every log is one of proper entries. The call walks the log and changes nothing: its contract is
+/// what a proof may use of entries whose parts it doesn't see.
+pub fn show_proper_log(log: &[Entry])
+    ensures { IsTrue (list_all is_proper_entry log.now) }
+{
+    for entry in log {
+        show_proper_entry(entry);
+    }
+}
+
+/// Every entry is proper. The call walks the entry and changes nothing.
+pub fn show_proper_entry(entry: &Entry)
+    ensures { IsTrue (is_proper_entry entry.now) }
+{
+    match entry {
+        Entry::Did(label) => {
+            let Label {
+                kind: _,
+                from,
+                to,
+                terms,
+            } = label;
+            show_place(*from);
+            show_place(*to);
+            show_terms(terms.as_slice());
+        }
+        Entry::Quiet => {}
+        Entry::Fed(input, _) => show_input(input),
+        Entry::Gave(lane, out) => {
+            let _lane = *lane;
+            show_out(out);
+        }
+    }
+}
+
+fn show_place(place: Place)
+    ensures { IsTrue (is_proper_place place) }
+{
+    let _proc = place.proc;
+    let _atom = place.atom;
+}
+
+fn show_terms(terms: &[Term])
+    ensures { IsTrue (list_all is_proper terms.now) }
+{
+    for term in terms {
+        show_proper(term);
+    }
+}
+
+fn show_input(input: &Input)
+    ensures { IsTrue (is_proper_input input.now) }
+{
+    match input {
+        Input::Tick | Input::NoTicks => {}
+        Input::Line(lane, line) => {
+            let _lane = *lane;
+            show_tool_line(line);
+        }
+        Input::Gone(lane) | Input::Cut(lane) => {
+            let _lane = *lane;
+        }
+    }
+}
+
+fn show_tool_line(line: &ToolLine)
+    ensures { IsTrue (is_proper_tool_line line.now) }
+{
+    match line {
+        ToolLine::Value(term) => show_proper(term),
+        ToolLine::Event(terms) => show_terms(terms.as_slice()),
+        ToolLine::Connect(name) => {
+            let _name = name.as_bytes();
+        }
+        ToolLine::Disconnect | ToolLine::Bad => {}
+    }
+}
+
+fn show_out(out: &Out)
+    ensures { IsTrue (is_proper_out out.now) }
+{
+    match out {
+        Out::Start(command) => show_text(command),
+        Out::Line(term) => show_proper(term),
+        Out::End => {}
+    }
+}
+
+fn show_text(text: &Text)
+    ensures { IsTrue (is_string text.now) }
+{
+    let _text = text.as_str();
+}

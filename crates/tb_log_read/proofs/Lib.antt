@@ -1,0 +1,13 @@
+pub mod Cuts
+pub mod Decimals
+pub mod Entries
+pub mod LabelKinds
+pub mod LineReadings
+pub mod Logs
+pub mod Newlines
+pub mod Parting
+pub mod Propers
+pub mod Readings
+pub mod Skips
+pub mod Texts
+pub mod Unescapes

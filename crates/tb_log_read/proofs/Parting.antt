@@ -1,0 +1,35 @@
+-- A part and what is behind its comma.
+use Rattle.std.proofs.Common.{◌≡◌, ◌≤◌, ℕ, zero, suc, ◌+◌, Bool, true, false, cond, List, [], ◌∷◌, ◌++◌, length, take, drop, Option, Some, None, refl, ap, sym, ◌∙◌, arith}
+use Rattle.tb_log_read.specs.Parts.{after, is_cut, part_len, onto, parts_from, parts}
+use Rattle.tb_log_read.specs.declared.part.Standing.{Standing}
+use Rattle.tb_log_read.specs.declared.part.Standing.TheVariants.{Plain}
+
+-- the parts behind the first, by the bytes from its comma on
+abbrev pub parts_behind : List ℕ → List (List ℕ)
+parts_behind [] = []
+parts_behind (comma ∷ bytes) = parts bytes
+
+parted_by : (cuts : Bool) (s : Standing) (b : ℕ) (bytes : List ℕ) → is_cut s b ≡ cuts → parts_from (after s b) bytes ≡ take (part_len (after s b) bytes) bytes ∷ parts_behind (drop (part_len (after s b) bytes) bytes) → parts_from s (b ∷ bytes) ≡ take (part_len s (b ∷ bytes)) (b ∷ bytes) ∷ parts_behind (drop (part_len s (b ∷ bytes)) (b ∷ bytes))
+parted_by true s b bytes e h = rw e refl
+parted_by false s b bytes e h = rw (e, h) refl
+
+-- by how long the first part is
+pub parted : (s : Standing) (bytes : List ℕ) → parts_from s bytes ≡ take (part_len s bytes) bytes ∷ parts_behind (drop (part_len s bytes) bytes)
+parted s [] = refl
+parted s (b ∷ bytes) = parted_by (is_cut s b) s b bytes refl (parted (after s b) bytes)
+
+pub parted_some : (bytes front behind more : List ℕ) (n comma : ℕ) → n ≡ part_len (Plain 0) bytes → front ≡ take n bytes → behind ≡ drop n bytes → behind ≡ comma ∷ more → parts bytes ≡ front ∷ parts more
+parted_some bytes front behind more n comma en ef eb em =
+    let cut : drop (part_len (Plain 0) bytes) bytes ≡ comma ∷ more = ap (λ k. drop k bytes) (sym en) ∙ sym eb ∙ em in
+    let first : take (part_len (Plain 0) bytes) bytes ≡ front = ap (λ k. take k bytes) (sym en) ∙ sym ef in
+    parted (Plain 0) bytes ∙ ap (λ (l : List ℕ). take (part_len (Plain 0) bytes) bytes ∷ parts_behind l) cut ∙ ap (λ (l : List ℕ). l ∷ parts more) first
+
+empty : (l : List ℕ) → length l ≡ 0 → l ≡ []
+empty [] e = refl
+empty (x ∷ l) e = absurd (omega arith)
+
+pub parted_none : (bytes front behind : List ℕ) (n : ℕ) → n ≡ part_len (Plain 0) bytes → front ≡ take n bytes → behind ≡ drop n bytes → length behind ≡ 0 → parts bytes ≡ front ∷ []
+parted_none bytes front behind n en ef eb em =
+    let cut : drop (part_len (Plain 0) bytes) bytes ≡ [] = ap (λ k. drop k bytes) (sym en) ∙ sym eb ∙ empty behind em in
+    let first : take (part_len (Plain 0) bytes) bytes ≡ front = ap (λ k. take k bytes) (sym en) ∙ sym ef in
+    parted (Plain 0) bytes ∙ ap (λ (l : List ℕ). take (part_len (Plain 0) bytes) bytes ∷ parts_behind l) cut ∙ ap (λ (l : List ℕ). l ∷ []) first

@@ -1,0 +1,9 @@
+pub mod Answers
+pub mod Cutting
+pub mod Entries
+pub mod Lines
+pub mod Numbers
+pub mod Parts
+pub mod Terms
+pub mod Unescaping
+pub mod Words

@@ -1,0 +1,22 @@
+ghost use Rattle.std.specs.Prelude.{◌≡◌, ◌≤◌, length};
+ghost use Rattle.tb_log_read.specs.Cutting.{front, behind, without_last};
+
+/// The bytes before the first such byte, and the bytes behind it. Where there is none, all and none.
+pub(crate) fn cut(separator: u8, bytes: &[u8]) -> (&[u8], &[u8])
+    ensures front { result.0.now ≡ front separator bytes.now }
+    ensures behind { result.1.now ≡ behind separator bytes.now }
+{
+    for (place, byte) in bytes.iter().enumerate() {
+        if *byte == separator {
+            return (&bytes[..place], &bytes[place + 1..]);
+        }
+    }
+    (bytes, &bytes[bytes.len()..])
+}
+
+/// All bytes but the last one.
+pub(crate) fn without_last(bytes: &[u8]) -> &[u8]
+    ensures { result.now ≡ without_last bytes.now }
+{
+    &bytes[..bytes.len().saturating_sub(1)]
+}

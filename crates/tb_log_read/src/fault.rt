@@ -1,0 +1,44 @@
+use std::alloc::{AllocError, AllocFailed};
+use tb_terms::NoMemory;
+
+/// Why bytes are no text of a log.
+#[derive(Clone, Copy, Debug, PartialEq, Eq)]
+pub enum LogFault {
+    /// The first line, counted from 1, that isn't the line of an entry with this number.
+    Line(u64),
+    /// There wasn't memory enough; it says nothing of the bytes.
+    NoMemory,
+}
+
+impl From<NoMemory> for LogFault {
+    ghost use Rattle.std.specs.Prelude.{◌≡◌};
+    ghost use Rattle.tb_log_read.specs.declared.fault.LogFault.TheVariants.{NoMemory};
+
+    ghost from_gives = { λ _ fault. fault ≡ NoMemory };
+
+    fn from(_refused: NoMemory) -> LogFault {
+        LogFault::NoMemory
+    }
+}
+
+impl From<AllocError> for LogFault {
+    ghost use Rattle.std.specs.Prelude.{◌≡◌};
+    ghost use Rattle.tb_log_read.specs.declared.fault.LogFault.TheVariants.{NoMemory};
+
+    ghost from_gives = { λ _ fault. fault ≡ NoMemory };
+
+    fn from(_refused: AllocError) -> LogFault {
+        LogFault::NoMemory
+    }
+}
+
+impl<T: Drop> From<AllocFailed<T>> for LogFault {
+    ghost use Rattle.std.specs.Prelude.{◌≡◌};
+    ghost use Rattle.tb_log_read.specs.declared.fault.LogFault.TheVariants.{NoMemory};
+
+    ghost from_gives = { λ _ fault. fault ≡ NoMemory };
+
+    fn from(_refused: AllocFailed<T>) -> LogFault {
+        LogFault::NoMemory
+    }
+}

@@ -1,0 +1,21 @@
+//! The reading of logs: each line that is the text of an entry gives its number and the entry.
+#![tactic(auto)]
+
+mod cut;
+mod fault;
+mod laws;
+mod line;
+mod log;
+mod number;
+mod part;
+mod terms;
+#[cfg(test)]
+mod tests;
+mod unescape;
+mod word;
+mod words;
+
+pub use fault::LogFault;
+pub use laws::{bytes_stop_once, log_text_is_one_to_one};
+pub use line::{Numbered, read_entry};
+pub use log::read_log;

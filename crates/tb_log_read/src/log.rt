@@ -1,0 +1,78 @@
+ghost use Rattle.std.specs.Prelude.{◌≡◌, ◌<◌, ◌≤◌, ◌⊎◌, ◌++◌, ℕ, List, Ok, Err, length, take, IfOk, IfErr};
+ghost use Rattle.tb_log.specs.LogText.{log_text};
+ghost use Rattle.tb_log.specs.declared.entry.Entry.{Entry};
+ghost use Rattle.tb_log_read.specs.Lines.{IsLine, IsLog, StopsAt, HasFault, first_line};
+ghost use Rattle.tb_log_read.specs.Answers.{IsNoLine};
+
+use crate::fault::LogFault;
+use crate::line::read_entry;
+use std::alloc::Global;
+use tb_log::{Entries, Entry};
+use tb_terms::Items;
+
+/// The log whose text the bytes are: entries in shape, numbered from 1, a line each.
+pub fn read_log(alloc: Global, bytes: &[u8]) -> Result<Entries, LogFault>
+    ensures found { IfOk result (λ log. IsLog log × (bytes.now ≡ log_text log)) }
+
+    // Nothing else keeps a log from being read.
+    ensures only { (log : List Entry) → IsLog log → bytes.now ≡ log_text log
+        → (result ≡ Ok log) ⊎ (result ≡ Err LogFault.NoMemory) }
+    ensures fault { IfErr result (HasFault bytes.now) }
+
+    // Where a line is no entry's, this is what comes.
+    ensures exact { (number : ℕ) → StopsAt bytes.now number
+        → (result ≡ Err (LogFault.Line number)) ⊎ (result ≡ Err LogFault.NoMemory) }
+{
+    read(alloc, bytes)
+}
+
+fn read(alloc: Global, bytes: &[u8]) -> Result<Entries, LogFault>
+    ensures found { IfOk result (λ log. IsLog log × (bytes.now ≡ log_text log)) }
+    ensures fault { IfErr result (HasFault bytes.now) }
+{
+    let mut entries = Items::new(alloc);
+    let mut rest = bytes;
+    'lines: while !rest.is_empty() {
+        let (line, later) = split_line(rest);
+        let number = entries.len() as u64 + 1;
+        entries.push(read_line(alloc, number, line)?)?;
+        rest = later;
+    }
+    Ok(entries)
+}
+
+/// The entry of this line, where its number is this one.
+fn read_line(alloc: Global, number: u64, line: &[u8]) -> Result<Entry, LogFault>
+    ensures found { IfOk result (λ entry. IsLine number entry line.now) }
+    ensures fault { IfErr result (IsNoLine number line.now) }
+{
+    match read_entry(alloc, line)? {
+        Some(numbered) if numbered.number == number => Ok(numbered.entry),
+        _ => Err(LogFault::Line(number)),
+    }
+}
+
+/// The first line, with its newline, and what is behind it.
+fn split_line(bytes: &[u8]) -> (&[u8], &[u8])
+    requires { 0 < length bytes.now }
+    ensures line { result.0.now ≡ first_line bytes.now }
+    ensures parts { bytes.now ≡ result.0.now ++ result.1.now }
+    ensures shorter { length result.1.now < length bytes.now }
+{
+    bytes.split_at(line_len(bytes))
+}
+
+/// How long the first line is.
+fn line_len(bytes: &[u8]) -> usize
+    requires { 0 < length bytes.now }
+    ensures line { take result bytes.now ≡ first_line bytes.now }
+    ensures within { result ≤ length bytes.now }
+    ensures some { 0 < result }
+{
+    for (place, byte) in bytes.iter().enumerate() {
+        if *byte == b'\n' {
+            return place + 1;
+        }
+    }
+    bytes.len()
+}

@@ -1,0 +1,54 @@
+ghost use Rattle.std.specs.Prelude.{◌≡◌, ◌↔◌, IsTrue, IfOk};
+ghost use Rattle.tb_read.specs.declared.fault.TermFault.{TermFault};
+ghost use Rattle.tb_log_read.specs.Terms.{term_of, terms_of, label_terms};
+
+use crate::part::next_part;
+use std::alloc::Global;
+use tb_read::{TermFault, read_term};
+use tb_terms::{Items, NoMemory, Term, Terms};
+
+/// The terms of a step: none where nothing is written.
+pub(crate) fn read_label_terms(alloc: Global, bytes: &[u8]) -> Result<Option<Terms>, NoMemory>
+    ensures { IfOk result (λ found. found ≡ label_terms bytes.now) }
+{
+    if bytes.is_empty() {
+        return Ok(Some(Items::new(alloc)));
+    }
+    read_terms(alloc, bytes)
+}
+
+/// The terms whose texts are parted by commas; none where one is no term within the limits.
+pub(crate) fn read_terms(alloc: Global, bytes: &[u8]) -> Result<Option<Terms>, NoMemory>
+    ensures { IfOk result (λ found. found ≡ terms_of bytes.now) }
+{
+    let mut terms = Items::new(alloc);
+    let mut rest = bytes;
+    'parts: loop {
+        let (part, more) = next_part(rest);
+        let Some(term) = read_one(alloc, part)? else {
+            return Ok(None);
+        };
+        terms.push(term)?;
+        match more {
+            Some(behind) => rest = behind,
+            None => return Ok(Some(terms)),
+        }
+    }
+}
+
+/// The term with this text, where it is one within the limits.
+pub(crate) fn read_one(alloc: Global, bytes: &[u8]) -> Result<Option<Term>, NoMemory>
+    ensures { IfOk result (λ found. found ≡ term_of bytes.now) }
+{
+    match read_term(alloc, bytes) {
+        Ok(term) => Ok(Some(term)),
+        Err(fault) if is_of_memory(fault) => Err(NoMemory),
+        Err(_) => Ok(None),
+    }
+}
+
+fn is_of_memory(fault: TermFault) -> bool
+    ensures { IsTrue result ↔ (fault ≡ TermFault.NoMemory) }
+{
+    matches!(fault, TermFault::NoMemory)
+}
