@@ -5,7 +5,8 @@ use Rattle.tb_terms.proofs.SameLemmas.{both-true}
 use Rattle.std.specs.Str.{bytes_eq}
 use Rattle.tb_tools.specs.declared.stage.Stage.{Stage}
 use Rattle.tb_tools.specs.declared.found.FoundTool.{FoundTool}
-use Rattle.tb_tools.specs.Lanes.{Tool, Lane, BenchState, IsLane, is_same_stage, of_tool, is_stage_at, lane_at}
+use Rattle.tb_log.specs.Shapes.{IsLane}
+use Rattle.tb_tools.specs.Lanes.{Tool, Lane, BenchState, is_same_stage, of_tool, is_stage_at, lane_at}
 use Rattle.tb_tools.specs.Finding.{is_at, smaller, smaller_of}
 
 smaller-either : (P : FoundTool → Type 0) (best : Option FoundTool) (other : FoundTool) → ForSome best P → P other → P (smaller best other)
@@ -36,7 +37,7 @@ pub smaller_of-there : (name : List ℕ) (stage : Stage) (bench : BenchState) (b
     → ForSome best (IsThere stage bench) → ForSome (smaller_of name stage best (index + 1) row.tool) (IsThere stage bench)
 smaller_of-there name stage bench best index row l e h =
     smaller_of-either (IsThere stage bench) name stage best (index + 1) row.tool h (λ tool is at. (
-      record { first = omega arith; last = omega arith },
+      (omega arith, omega arith),
       ap (λ (x : Lane). of_tool (λ found. is_same_stage found.stage stage) x.tool) e
           ∙ ap (λ (o : Option Tool). of_tool (λ found. is_same_stage found.stage stage) o) is
           ∙ (both-true (bytes_eq tool.name name) (is_same_stage tool.stage stage) at).1,

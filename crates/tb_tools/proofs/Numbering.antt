@@ -12,7 +12,8 @@ use Rattle.tb_log.specs.declared.entry.Why.TheVariants as why
 use Rattle.tb_tools.specs.declared.stage.Stage.{Stage}
 use Rattle.tb_tools.specs.declared.stage.Stage.TheVariants as stage
 use Rattle.tb_tools.specs.declared.stage.Eval.TheVariants as eval
-use Rattle.tb_tools.specs.Lanes.{Tool, Lane, BenchState, IsLane, unused, started, is_open, term_of, new_tool, opening, lane_at, tool_at, on_lane, on_tool, with_tool, with_next_tool}
+use Rattle.tb_log.specs.Shapes.{IsLane}
+use Rattle.tb_tools.specs.Lanes.{Tool, Lane, BenchState, unused, started, is_open, term_of, new_tool, opening, lane_at, tool_at, on_lane, on_tool, with_tool, with_next_tool}
 use Rattle.tb_tools.specs.Inputs.{Answer, departed, departed_by, closed, lost, while_up, answered, with_event, with_line, line_by, dropped, put_line}
 use Rattle.tb_tools.specs.Acts.{with_acknowledged, with_acknowledged_of, dismissed, ended_with, gone_down, last_line}
 use Rattle.tb_tools.specs.Numbers.{IsNumbered, KeepsNumbers}
@@ -129,7 +130,7 @@ new-numbered change name stage lane bench new h = record {
     once other third tool another l m (inl e) (inl f) same = h.once other third tool another l m e f same
     once other third tool another l m (inl e) (inr f) same = let g = h.given other tool e in absurd (omega (arith, g.1, f.0))
     once other third tool another l m (inr e) (inl f) same = let g = h.given third another f in absurd (omega (arith, g.1, e.0))
-    once other third tool another l m (inr e) (inr f) same = omega (arith, l.first, m.first, e.1, f.1)
+    once other third tool another l m (inr e) (inr f) same = omega (arith, l.0, m.0, e.1, f.1)
 
 none-unused : (n k : ℕ) → (get_or (replicate n unused) k unused).tool ≡ None
 none-unused zero k = refl

@@ -1,12 +1,13 @@
 -- A change of one lane leaves the others, and what it keeps of its own tool.
 use Rattle.std.proofs.Common.{◌≡◌, ◌≢◌, ◌⊎◌, inl, inr, ℕ, zero, suc, ◌-◌, ◌<◌, List, [], ◌∷◌, length, get_or, set, refl, ap, arith}
 use Rattle.std.proofs.lemmas.List.{get_or-set_other, get_or-set_same}
-use Rattle.tb_tools.specs.Lanes.{Lane, BenchState, IsLane, unused, lane_at, with_lane, on_lane}
+use Rattle.tb_log.specs.Shapes.{IsLane}
+use Rattle.tb_tools.specs.Lanes.{Lane, BenchState, unused, lane_at, with_lane, on_lane}
 use Rattle.tb_tools.specs.Numbers.{OthersStay}
 
 pub with_lane-other : (lane other : ℕ) (new : Lane) (bench : BenchState) → IsLane lane → IsLane other → other ≢ lane → lane_at other (with_lane lane new bench) ≡ lane_at other bench
 with_lane-other lane other new bench l o apart =
-    let places : other - 1 ≢ lane - 1 = λ e. apart (omega (arith, l.first, o.first)) in
+    let places : other - 1 ≢ lane - 1 = λ e. apart (omega (arith, l.0, o.0)) in
     get_or-set_other bench.lanes (lane - 1) (other - 1) new unused places
 
 pub on_lane-others : (change : Lane → Lane) → OthersStay (on_lane change)

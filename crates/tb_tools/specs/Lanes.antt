@@ -38,11 +38,6 @@ pub record BenchState : Type 0 where
 abbrev pub lane_count : ℕ
 lane_count = 16
 
--- the number of a lane
-pub record IsLane (lane : ℕ) : Type 0 where
-  pub first : 1 ≤ lane
-  pub last : lane ≤ 16
-
 -- the greatest number of a tool
 abbrev pub most_tools : ℕ
 most_tools = 4000000

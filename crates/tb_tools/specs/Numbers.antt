@@ -1,6 +1,7 @@
 -- How the tools of a bench are numbered, and what it is to change one lane alone.
 use Rattle.std.specs.Prelude.{◌≡◌, ◌≢◌, ℕ, ◌<◌, ◌≤◌, Some}
-use Rattle.tb_tools.specs.Lanes.{Tool, BenchState, IsLane, lane_at, tool_at}
+use Rattle.tb_log.specs.Shapes.{IsLane}
+use Rattle.tb_tools.specs.Lanes.{Tool, BenchState, lane_at, tool_at}
 
 -- every lane but the one that is named stays
 abbrev pub OthersStay : (ℕ → BenchState → BenchState) → Type 0

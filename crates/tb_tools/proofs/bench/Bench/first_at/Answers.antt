@@ -1,6 +1,7 @@
 use Rattle.std.proofs.Common.{◌≡◌, ℕ, ◌<◌, length, ap, sym, subst, ◌∙◌, arith}
 use Rattle.std.proofs.lemmas.Grind.{common_steps}
-use Rattle.tb_tools.specs.Lanes.{BenchState, IsLane}
+use Rattle.tb_log.specs.Shapes.{IsLane}
+use Rattle.tb_tools.specs.Lanes.{BenchState}
 use Rattle.tb_tools.specs.Finding.{smaller_of}
 use Rattle.tb_tools.proofs.Reading.{lane_at-index}
 use Rattle.tb_tools.proofs.Choosing.{smaller_of-there}

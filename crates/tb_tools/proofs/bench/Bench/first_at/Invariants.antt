@@ -1,6 +1,7 @@
 use Rattle.std.proofs.Common.{◌≡◌, ◌+◌, drop, None, IsTrue}
 use Rattle.std.specs.Option.{ForSome}
-use Rattle.tb_tools.specs.Lanes.{IsLane, is_stage_at}
+use Rattle.tb_log.specs.Shapes.{IsLane}
+use Rattle.tb_tools.specs.Lanes.{is_stage_at}
 use Rattle.tb_tools.specs.Finding.{smallest_from}
 use Rattle.tb_tools.proofs.bench.Bench.first_at.Given as goal
 
