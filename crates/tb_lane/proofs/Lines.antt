@@ -1,5 +1,5 @@
 -- Bytes are one tool line, and the right one.
-use Rattle.std.proofs.Common.{◌≡◌, ◌⊎◌, inl, inr, ℕ, ◌+◌, ◌<◌, ◌≤◌, List, length, refl, ap, sym, ◌∙◌, arith}
+use Rattle.std.proofs.Common.{◌≡◌, ◌⊎◌, inl, inr, ℕ, ◌+◌, ◌<◌, ◌≤◌, List, length, refl, ap, sym, subst, ◌∙◌, arith}
 use Rattle.std.proofs.lemmas.Bool.{cases_lt}
 use Rattle.tb_terms.specs.declared.term.Term.{Term}
 use Rattle.tb_terms.specs.Sizes.{term_size, term_levels}
@@ -47,7 +47,7 @@ pub lines-same : (bytes : List ℕ) (line other : ToolLine) → IsToolLine bytes
 lines-same bytes line other (inl said) (inl told) = said.2 ∙ ap line_of (reads_one bytes said.0 told.0 said.1.1 told.1.1) ∙ sym told.2
 lines-same bytes line other (inl said) (inr none) = absurd (none.0 said.0 said.1)
 lines-same bytes line other (inr none) (inl told) = absurd (none.0 told.0 told.1)
-lines-same bytes line other (inr none) (inr no) = none.1 ∙ sym no.1
+lines-same bytes line other (inr none) (inr neither) = none.1 ∙ sym neither.1
 
 abbrev OneLine : List ℕ → Type 0
 OneLine bytes = (line : ToolLine) × IsToolLine bytes line

@@ -12,7 +12,7 @@ use Rattle.tb_log.specs.declared.entry.ToolLine.{ToolLine}
 use Rattle.tb_log.specs.declared.entry.ToolLine.TheVariants.{Value, Event, Connect, Disconnect, Bad}
 use Rattle.tb_log.specs.Limits.{terms_size}
 use Rattle.tb_log.specs.Shapes.{IsToolLineInShape, AreParts}
-use Rattle.tb_lane.specs.ToolLines.{is_within, are_within, only, value_line, event_line, named_line, connect_line, disconnect_line, line_by_name, line_by_layer, line_of}
+use Rattle.tb_lane.specs.ToolLines.{is_within, are_within, only, value_line, event_line, name_line, named_line, connect_line, disconnect_line, line_by_name, line_by_layer, line_of}
 
 pub within-limits : (term : Term) → is_within term ≡ true → IsWithinLimits term
 within-limits term h =
@@ -43,15 +43,18 @@ event-cases P bad (part ∷ parts) good = by (are_within (part ∷ parts)) refl
     by true e = good (omega arith) e
     by false e = bad
 
+name_line-cases : (P : ToolLine → Type 0) → P Bad → (name : List ℕ) (parts : List Term) → (parts ≡ [] → length name ≤ 65534 → P (Connect name)) → P (name_line name parts)
+name_line-cases P bad name [] good = by (nat_le (length name) 65534) refl
+  where
+    by : (b : Bool) → nat_le (length name) 65534 ≡ b → P (if b then Connect name else Bad)
+    by true e = good refl (leb-true (length name) 65534 e)
+    by false e = bad
+name_line-cases P bad name (part ∷ parts) good = bad
+
 named-cases : (P : ToolLine → Type 0) → P Bad → (part : Term-F Term) → ((name : List ℕ) → part ≡ layer.Appl name [] → length name ≤ 65534 → P (Connect name)) → P (named_line part)
 named-cases P bad (layer.Int number) good = bad
 named-cases P bad (layer.Str bytes) good = bad
-named-cases P bad (layer.Appl name []) good = by (nat_le (length name) 65534) refl
-  where
-    by : (b : Bool) → nat_le (length name) 65534 ≡ b → P (if b then Connect name else Bad)
-    by true e = good name refl (leb-true (length name) 65534 e)
-    by false e = bad
-named-cases P bad (layer.Appl name (part ∷ parts)) good = bad
+named-cases P bad (layer.Appl name parts) good = name_line-cases P bad name parts (λ e l. good name (ap (λ (ps : List Term). layer.Appl name ps) e) l)
 named-cases P bad (layer.List parts) good = bad
 
 connect-cases : (P : ToolLine → Type 0) → P Bad → (part : Option Term) → ((term : Term) (name : List ℕ) → part ≡ Some term → out-Term term ≡ layer.Appl name [] → length name ≤ 65534 → P (Connect name)) → P (connect_line part)

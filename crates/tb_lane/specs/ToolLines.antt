@@ -35,11 +35,15 @@ abbrev pub event_line : List Term → ToolLine
 event_line [] = Bad
 event_line (part ∷ parts) = if are_within (part ∷ parts) then Event (part ∷ parts) else Bad
 
+-- a name without parts, which is no longer than that of a tool may be
+abbrev pub name_line : List ℕ → List Term → ToolLine
+name_line name [] = if nat_le (length name) 65534 then Connect name else Bad
+name_line name (part ∷ parts) = Bad
+
 abbrev pub named_line : Term-F Term → ToolLine
 named_line (layer.Int number) = Bad
 named_line (layer.Str bytes) = Bad
-named_line (layer.Appl name []) = if nat_le (length name) 65534 then Connect name else Bad
-named_line (layer.Appl name (part ∷ parts)) = Bad
+named_line (layer.Appl name parts) = name_line name parts
 named_line (layer.List parts) = Bad
 
 -- one part, which is a name without parts

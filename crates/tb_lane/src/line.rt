@@ -1,7 +1,7 @@
 ghost use Rattle.std.specs.Prelude.{◌≡◌};
 ghost use Rattle.std.specs.List.{list_all};
 ghost use Rattle.tb_terms.specs.declared.term.Term.{out-Term};
-ghost use Rattle.tb_lane.specs.ToolLines.{is_within, are_within, only, value_line, event_line, connect_line, named_line, disconnect_line, line_by_name, line_of};
+ghost use Rattle.tb_lane.specs.ToolLines.{is_within, are_within, only, value_line, event_line, connect_line, named_line, name_line, disconnect_line, line_by_name, line_of};
 
 use tb_log::{ToolLine, total_size};
 use tb_terms::{Name, Term, Terms, depth, size};
@@ -72,10 +72,18 @@ fn named_line(part: Term) -> ToolLine
     ensures { result ≡ named_line (out-Term part) }
 {
     match part {
-        Term::Appl(name, parts) if parts.is_empty() && name.as_bytes().len() <= MOST_NAME => {
-            ToolLine::Connect(name)
-        }
+        Term::Appl(name, parts) => name_line(name, &parts),
         _ => ToolLine::Bad,
+    }
+}
+
+fn name_line(name: Name, parts: &Terms) -> ToolLine
+    ensures { result ≡ name_line name parts.now }
+{
+    if parts.is_empty() && name.as_bytes().len() <= MOST_NAME {
+        ToolLine::Connect(name)
+    } else {
+        ToolLine::Bad
     }
 }
 

@@ -1,4 +1,4 @@
-ghost use Rattle.std.specs.Prelude.{IfOk};
+ghost use Rattle.std.specs.Prelude.{◌≢◌, IfOk, OnOk};
 ghost use Rattle.tb_log.specs.Shapes.{IsToolLineInShape};
 ghost use Rattle.tb_lane.specs.ToolLines.{IsToolLine};
 
@@ -26,7 +26,19 @@ pub fn read_tool_line(alloc: Global, bytes: &[u8]) -> Result<ToolLine, NoMemory>
     };
     match read_within(alloc, bytes, limits) {
         Ok(term) => Ok(line_of(term)),
-        Err(TermFault::NoMemory) => Err(NoMemory),
-        Err(_) => Ok(ToolLine::Bad),
+        Err(fault) => {
+            out_of_memory(fault)?;
+            Ok(ToolLine::Bad)
+        }
+    }
+}
+
+/// Whether memory ran out, and no fault of the bytes was found.
+fn out_of_memory(fault: TermFault) -> Result<(), NoMemory>
+    ensures { OnOk result (fault ≢ TermFault.NoMemory) }
+{
+    match fault {
+        TermFault::NoMemory => Err(NoMemory),
+        _ => Ok(()),
     }
 }
