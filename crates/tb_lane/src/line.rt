@@ -8,6 +8,7 @@ use tb_terms::{Name, Term, Terms, depth, size};
 
 /// How large a term may be, and how many levels it may have.
 const MOST_SIZE: usize = 65_536;
+
 const MOST_LEVELS: usize = 64;
 
 /// How many bytes the name of a tool may have.

@@ -102,10 +102,18 @@ fn a_part_may_have_64_levels(rt: HostRuntime) -> Result<(), Fail> {
     for (levels, bad) in [(1, false), (64, false), (65, true), (66, true)] {
         let lists = line_of(alloc, b"snd-value(", levels, b"[", b"")?;
         let value = line_of(alloc, lists.as_slice(), levels, b"]", b")")?;
-        assert_eq!(rt; is_bad(&read_tool_line(alloc, value.as_slice())?), bad, "with {levels} levels");
+        assert_eq!(rt;
+            is_bad(&read_tool_line(alloc, value.as_slice())?),
+            bad,
+            "with {levels} levels"
+        );
         let lists = line_of(alloc, b"snd-event(1,", levels, b"[", b"")?;
         let event = line_of(alloc, lists.as_slice(), levels, b"]", b",2)")?;
-        assert_eq!(rt; is_bad(&read_tool_line(alloc, event.as_slice())?), bad, "with {levels} levels");
+        assert_eq!(rt;
+            is_bad(&read_tool_line(alloc, event.as_slice())?),
+            bad,
+            "with {levels} levels"
+        );
     }
     Ok(())
 }
