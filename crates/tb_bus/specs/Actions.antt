@@ -14,6 +14,7 @@ use Rattle.tb_algebra.specs.Offers.{Offered}
 use Rattle.tb_bus.specs.declared.action.Action.{Action}
 use Rattle.tb_bus.specs.declared.action.Action.TheVariants as action
 use Rattle.tb_bus.specs.declared.action.OwnAction.TheVariants as own
+use Rattle.tb_bus.specs.declared.action.ToolAction.TheVariants as tool
 
 -- a slot is set to a value that has its sort
 abbrev pub set_bind : List Slot → Bind → Option Action
@@ -38,6 +39,30 @@ unsubscribe_action patterns = action.Own (own.Unsubscribe patterns)
 
 abbrev pub create_action : ℕ → ℕ → List Term → Action
 create_action process slot actuals = action.Own (own.Create process actuals slot)
+
+abbrev pub disconnect_action : List Term → Action
+disconnect_action terms = action.OnLane (tool.Disconnect terms)
+
+abbrev pub eval_action : List Term → Action
+eval_action terms = action.OnLane (tool.Eval terms)
+
+abbrev pub do_action : List Term → Action
+do_action terms = action.OnLane (tool.Do terms)
+
+abbrev pub terminate_action : List Term → Action
+terminate_action terms = action.OnLane (tool.Terminate terms)
+
+-- of a tool what matches these patterns, where there are values and patterns
+abbrev pub value_action : Option (List Term) → Option (List Pattern) → Option Action
+value_action terms patterns = option_and_then (λ tool. option_map (action.TakeValue tool) patterns) terms
+
+abbrev pub event_action : Option (List Term) → Option (List Pattern) → Option Action
+event_action terms patterns = option_and_then (λ tool. option_map (action.TakeEvent tool) patterns) terms
+
+abbrev pub shutdown_action : List Term → Option Action
+shutdown_action [] = None
+shutdown_action (reason ∷ []) = Some (action.Own (own.Shutdown reason))
+shutdown_action (reason ∷ other ∷ terms) = None
 
 -- What an atom does in a store, where its arguments have values: one line an atom.
 abbrev pub action_in : List Slot → Act → Option Action
@@ -65,18 +90,24 @@ action_in store (Subscribe exprs) = option_map subscribe_action (patterns_of sto
 action_in store (Unsubscribe exprs) = option_map unsubscribe_action (patterns_of store exprs)
 -- a process begins with these values, and the slot takes its number
 action_in store (Create process actuals slot) = option_map (create_action process slot) (values_together store actuals)
--- these don't happen yet
-action_in store (Execute tool slot) = None
-action_in store (RecConnect tool slot) = None
-action_in store (RecDisconnectAny tool slot) = None
-action_in store (RecDisconnect tool) = None
-action_in store (SndEval tool expr) = None
-action_in store (RecValue tool expr) = None
-action_in store (SndDo tool expr) = None
-action_in store (RecEvent tool exprs) = None
-action_in store (SndAckEvent tool exprs) = None
-action_in store (SndTerminate tool expr) = None
-action_in store (Shutdown reason) = None
+-- a tool of a kind is started, has connected, or leaves, and the slot takes it
+action_in store (Execute tool slot) = Some (action.OnLane (tool.Execute tool slot))
+action_in store (RecConnect tool slot) = Some (action.OnLane (tool.Connect tool slot))
+action_in store (RecDisconnectAny tool slot) = Some (action.OnLane (tool.DisconnectAny tool slot))
+-- this tool leaves
+action_in store (RecDisconnect expr) = option_map disconnect_action (values_together store (expr ∷ []))
+-- it is asked for the value of the term, and that is taken where it matches
+action_in store (SndEval tool expr) = option_map eval_action (values_together store (tool ∷ expr ∷ []))
+action_in store (RecValue tool expr) = value_action (values_together store (tool ∷ [])) (patterns_of store (expr ∷ []))
+-- it is told to do something
+action_in store (SndDo tool expr) = option_map do_action (values_together store (tool ∷ expr ∷ []))
+-- an event of it that matches is received, and one with just these terms acknowledged
+action_in store (RecEvent tool exprs) = event_action (values_together store (tool ∷ [])) (patterns_of store exprs)
+action_in store (SndAckEvent tool exprs) = option_map action.Acknowledge (values_together store (tool ∷ exprs))
+-- it is told to end
+action_in store (SndTerminate tool expr) = option_map terminate_action (values_together store (tool ∷ expr ∷ []))
+-- the bus goes down
+action_in store (Shutdown reason) = option_and_then shutdown_action (values_together store (reason ∷ []))
 
 -- an atom does nothing before all its times hold
 abbrev pub action_if : Bool → List Slot → Act → Option Action

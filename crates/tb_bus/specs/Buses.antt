@@ -9,6 +9,7 @@ use Rattle.tb_body.specs.declared.program.Program.{Program}
 use Rattle.tb_body.specs.declared.program.Root.{Root}
 use Rattle.tb_algebra.specs.Processes.{Process, fresh}
 use Rattle.tb_notes.specs.Inboxes.{Held, nothing}
+use Rattle.tb_tools.specs.Lanes.{BenchState, opening}
 use Rattle.tb_bus.specs.declared.origin.Origin.{Origin}
 
 -- a process that is alive: its number, which of the bodies it has, its term and its store, and what it has subscribed
@@ -30,6 +31,8 @@ pub record Bus : Type 0 where
   pub last_starter : ℕ
   -- the number of the next process that is created
   pub next_number : ℕ
+  -- the lanes and their tools
+  pub bench : BenchState
   -- no more ticks come
   pub no_ticks : Bool
   pub down : Bool
@@ -67,9 +70,9 @@ abbrev pub opened : List Body → ℕ → List Root → List Proc
 opened bodies number [] = []
 opened bodies number (root ∷ roots) = opened_one number root.process root.actuals (slice_get bodies root.process) ++ opened bodies (number + 1) roots
 
--- where a bus starts from: its program
-abbrev pub origin_of : Program → ℕ → Origin
-origin_of program limit = record { program = program; limit = limit }
+-- where a bus starts from: its program, the commands that are started at its opening, and how many entries its log may have
+abbrev pub origin_of : Program → List (List ℕ) → ℕ → Origin
+origin_of program connects limit = record { program = program; connects = connects; limit = limit }
 
 -- the bus that a program opens with
 abbrev pub start : Origin → Bus
@@ -79,6 +82,7 @@ start origin = record {
   now = 0;
   last_starter = 0;
   next_number = length origin.program.roots + 1;
+  bench = opening origin.connects;
   no_ticks = false;
   down = false;
 }

@@ -1,4 +1,4 @@
--- What an action comes to on a bus, where it may happen: its effect, and how that changes the bus.
+-- What an action comes to on a bus, where it may happen: its effect.
 use Rattle.std.specs.Prelude.{ℕ, ◌+◌, ◌==◌, ◌&&◌, ◌||◌, nat_lt, pos, List, [], ◌∷◌, ◌++◌, map, length, Bool, not, if◌then◌else◌, Option, Some, None, option_map, is_some, slice_get, slice_index_or}
 use Rattle.std.specs.List.{list_all}
 use Rattle.tb_terms.specs.declared.term.Term.{Term}
@@ -13,31 +13,14 @@ use Rattle.tb_notes.specs.Inboxes.{Held, subscribed, unsubscribed, wants, with_n
 use Rattle.tb_notes.specs.declared.queue.Found.{Found}
 use Rattle.tb_log.specs.declared.entry.LabelKind.{LabelKind}
 use Rattle.tb_log.specs.declared.entry.LabelKind.TheVariants as kind
-use Rattle.tb_bus.specs.Buses.{Bus, Proc, created}
+use Rattle.tb_bus.specs.Buses.{Bus, Proc}
+use Rattle.tb_bus.specs.Slots.{fits_formals, fits_slot}
+use Rattle.tb_bus.specs.Changes.{Effect, Nothing, PutsNote, TakesNote, Subscribes, Unsubscribes, Creates, GoesDown}
+use Rattle.tb_bus.specs.ToolEffects.{Setting, lane_for, lane_effect, value_for, value_effect, event_for, event_effect, received_for, acknowledge_effect}
 use Rattle.tb_bus.specs.declared.action.Action.{Action}
-use Rattle.tb_bus.specs.declared.action.Action.TheVariants.{Own, Send, Receive, Notify, TakeNote}
+use Rattle.tb_bus.specs.declared.action.Action.TheVariants.{Own, Send, Receive, Notify, TakeNote, OnLane, TakeValue, TakeEvent, Acknowledge}
 use Rattle.tb_bus.specs.declared.action.OwnAction.{OwnAction}
-use Rattle.tb_bus.specs.declared.action.OwnAction.TheVariants.{Tau, Set, Print, NoNote, Subscribe, Unsubscribe, Create}
-
--- What a step changes on the bus, beside that who makes it goes on.
-pub data Change : Type 0 where
-  Nothing : Change
-  -- these terms are a note for each process that wants it
-  PutsNote : List Term → Change
-  -- the note at this place leaves the own queue
-  TakesNote : ℕ → Change
-  -- from now on the process wants what these match, or no longer does
-  Subscribes : List Pattern → Change
-  Unsubscribes : List Pattern → Change
-  -- a process of this body begins with these actuals
-  Creates : ℕ → List Term → Change
-
--- what is seen of an action, what its process binds, and what else it changes
-pub record Effect : Type 0 where
-  pub kind : LabelKind
-  pub shown : List Term
-  pub binds : List Bind
-  pub change : Change
+use Rattle.tb_bus.specs.declared.action.OwnAction.TheVariants.{Tau, Set, Print, NoNote, Subscribe, Unsubscribe, Create, Shutdown}
 
 -- a queue takes a note where it doesn't want it, or has room
 abbrev pub takes_note : List Term → Held → Bool
@@ -46,16 +29,6 @@ takes_note terms held = not (wants held terms) || nat_lt (length held.notes) 655
 -- the note at a place of the queue
 abbrev pub note_at : Held → ℕ → List Term
 note_at held place = slice_index_or held.notes place []
-
--- the values have the sorts of the body's formals
-abbrev pub fits_formals : Option Body → List Term → Bool
-fits_formals None actuals = false
-fits_formals (Some body) actuals = length actuals == body.formals && have_sorts body.sorts actuals
-
--- the slot of a body takes the value, by its sort
-abbrev pub fits_slot : Option Body → ℕ → Term → Bool
-fits_slot None slot value = false
-fits_slot (Some body) slot value = has_slot_sort (slice_get body.sorts slot) value
 
 abbrev pub number_term : ℕ → Term
 number_term number = Int (pos number)
@@ -91,6 +64,11 @@ own_effect bus proc (Unsubscribe patterns) = Some (record { kind = kind.Unsubscr
 own_effect bus proc (Create process actuals slot) =
     if may_create bus.program.bodies (length bus.procs) bus.next_number proc.body process actuals slot
     then Some (creation bus.next_number process actuals slot) else None
+own_effect bus proc (Shutdown reason) = Some (record { kind = kind.Shutdown; shown = reason ∷ []; binds = []; change = GoesDown reason })
+
+-- where a process speaks with tools
+abbrev pub setting_of : Bus → Proc → Setting
+setting_of bus proc = record { program = bus.program; body = proc.body; bench = bus.bench }
 
 -- The effect of an action: none where it can't happen, or needs another process.
 abbrev pub effect_of : Bus → Proc → Action → Option Effect
@@ -103,20 +81,8 @@ effect_of bus proc (Notify terms) =
     then Some (record { kind = kind.SndNote; shown = terms; binds = []; change = PutsNote terms }) else None
 -- the oldest note in the own queue that matches is taken
 effect_of bus proc (TakeNote patterns) = option_map (taking proc.inbox) (oldest_match patterns proc.inbox)
-
--- a copy of the note for a process that wants it
-abbrev pub given : List Term → Proc → Proc
-given terms proc = if wants proc.inbox terms then record proc { inbox = with_note terms proc.inbox } else proc
-
--- the process of this number has its inbox changed
-abbrev pub with_inbox : ℕ → (Held → Held) → Proc → Proc
-with_inbox number change proc = if proc.number == number then record proc { inbox = change proc.inbox } else proc
-
--- The bus after a change that the process of this number makes: one line a kind of change.
-abbrev pub changed : Change → ℕ → Bus → Bus
-changed Nothing number bus = bus
-changed (PutsNote terms) number bus = record bus { procs = map (given terms) bus.procs }
-changed (TakesNote place) number bus = record bus { procs = map (with_inbox number (without_note place)) bus.procs }
-changed (Subscribes patterns) number bus = record bus { procs = map (with_inbox number (subscribed patterns)) bus.procs }
-changed (Unsubscribes patterns) number bus = record bus { procs = map (with_inbox number (unsubscribed patterns)) bus.procs }
-changed (Creates process actuals) number bus = record bus { procs = bus.procs ++ created bus process actuals; next_number = bus.next_number + 1 }
+-- these speak with a tool
+effect_of bus proc (OnLane does) = option_map (lane_effect (setting_of bus proc) does) (lane_for (setting_of bus proc) does)
+effect_of bus proc (TakeValue tool patterns) = option_map (value_effect bus.bench tool) (value_for bus.bench tool patterns)
+effect_of bus proc (TakeEvent tool patterns) = option_map (event_effect bus.bench tool) (event_for bus.bench tool patterns)
+effect_of bus proc (Acknowledge terms) = option_map (acknowledge_effect bus.bench terms) (received_for bus.bench terms)

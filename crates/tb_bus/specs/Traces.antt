@@ -1,26 +1,59 @@
 -- What an entry of the log may do to a bus, which logs are traces, and the bus to which a log leads.
-use Rattle.std.specs.Prelude.{◌≡◌, List, [], ◌∷◌, true, false, if◌then◌else◌, Contains, ⊤}
+use Rattle.std.specs.Str.{bytes_eq}
+use Rattle.std.specs.List.{list_any}
+use Rattle.std.specs.Prelude.{◌≡◌, ◌+◌, Some, Bool, map, List, [], ◌∷◌, true, false, if◌then◌else◌, Contains, ⊤}
 use Rattle.tb_terms.specs.Same.{is_same}
-use Rattle.tb_bus.specs.Buses.{Bus}
+use Rattle.tb_body.specs.declared.program.Tool.{Tool}
+use Rattle.tb_algebra.specs.Processes.{aged}
+use Rattle.tb_log.specs.declared.entry.ToolLine.{ToolLine}
+use Rattle.tb_log.specs.declared.entry.ToolLine.TheVariants.{Value, Event, Connect, Disconnect, Bad}
+use Rattle.tb_log.specs.Shapes.{IsToolLineInShape}
+use Rattle.tb_tools.specs.Lanes.{IsLane}
+use Rattle.tb_tools.specs.Acts.{handed_out}
+use Rattle.tb_tools.specs.Finding.{next_out}
+use Rattle.tb_tools.specs.Inputs.{put_line, gone, cut}
+use Rattle.tb_tools.specs.Inputs as lanes
+use Rattle.tb_bus.specs.Buses.{Bus, Proc}
 use Rattle.tb_bus.specs.Steps.{Step, steps}
 use Rattle.tb_log.specs.declared.entry.Label.{Label}
 use Rattle.tb_log.specs.contracts.entry.Label as label_row
 use Rattle.tb_log.specs.declared.entry.Input.{Input}
-use Rattle.tb_log.specs.declared.entry.Input.TheVariants.{NoTicks}
+use Rattle.tb_log.specs.declared.entry.Input.TheVariants.{Tick, NoTicks, Line, Gone, Cut}
 use Rattle.tb_log.specs.declared.entry.Reply.{Reply}
 use Rattle.tb_log.specs.declared.entry.Reply.TheVariants.{Took, Dropped}
 use Rattle.tb_log.specs.declared.entry.Why.TheVariants.{Down}
 use Rattle.tb_log.specs.declared.entry.Entry.{Entry}
-use Rattle.tb_log.specs.declared.entry.Entry.TheVariants.{Did, Quiet, Fed}
+use Rattle.tb_log.specs.declared.entry.Entry.TheVariants.{Did, Quiet, Fed, Gave}
 
 -- what becomes of an input, and the bus after it
 pub record Answer : Type 0 where
   pub reply : Reply
   pub bus : Bus
 
+-- a process ages by a tick
+abbrev pub aged_proc : Proc → Proc
+aged_proc proc = record proc { term = aged proc.term }
+
+-- a line that names a tool names one that the script declares
+abbrev pub declares : List Tool → ToolLine → Bool
+declares tools (Connect name) = list_any (λ (tool : Tool). bytes_eq name tool.name) tools
+declares tools (Value value) = false
+declares tools (Event terms) = false
+declares tools Disconnect = false
+declares tools Bad = false
+
+-- what the lanes make of an input
+abbrev pub on_bench : Bus → lanes.Answer → Answer
+on_bench bus answer = record { reply = answer.reply; bus = record bus { bench = answer.bench } }
+
 -- what a bus that is up does with an input
 abbrev pub took : Bus → Input → Answer
+-- time passes, and all processes age
+took bus Tick = record { reply = Took; bus = record bus { procs = map aged_proc bus.procs; now = bus.now + 1 } }
 took bus NoTicks = record { reply = Took; bus = record bus { no_ticks = true } }
+took bus (Line lane line) = on_bench bus (put_line (declares bus.program.tools line) line lane bus.bench)
+took bus (Gone lane) = on_bench bus (gone lane bus.bench)
+took bus (Cut lane) = on_bench bus (cut lane bus.bench)
 
 -- A bus that is down drops every input, and a dropped input changes nothing.
 abbrev pub fed : Bus → Input → Answer
@@ -28,7 +61,11 @@ fed bus input = if bus.down then record { reply = Dropped Down; bus = bus } else
 
 -- an input in form: its lane is there, and its line in shape; those that name none always are
 abbrev pub IsInForm : Input → Type 0
+IsInForm Tick = ⊤
 IsInForm NoTicks = ⊤
+IsInForm (Line lane line) = IsLane lane × IsToolLineInShape line
+IsInForm (Gone lane) = IsLane lane
+IsInForm (Cut lane) = IsLane lane
 
 -- From one bus an entry may lead to the next.
 abbrev pub IsLegal : Bus → Entry → Bus → Type 0
@@ -38,6 +75,8 @@ IsLegal bus (Did label) next = Contains (steps bus) (record { label = label; bus
 IsLegal bus Quiet next = (steps bus ≡ []) × (bus.down ≡ false) × (next ≡ bus)
 -- an input in form came, and this became of it
 IsLegal bus (Fed input reply) next = IsInForm input × (record { reply = reply; bus = next } ≡ fed bus input)
+-- this was the first to be handed out on the lane
+IsLegal bus (Gave lane out) next = IsLane lane × (next_out lane bus.bench ≡ Some out) × (next ≡ record bus { bench = handed_out lane bus.bench })
 
 -- the bus after the first of these steps that is seen as the label, or the old one where none is
 abbrev pub after_step : Bus → Label → List Step → Bus
@@ -49,6 +88,7 @@ abbrev pub after : Bus → Entry → Bus
 after bus (Did label) = after_step bus label (steps bus)
 after bus Quiet = bus
 after bus (Fed input reply) = (fed bus input).bus
+after bus (Gave lane out) = record bus { bench = handed_out lane bus.bench }
 
 -- A log is a trace from a bus where each entry may lead from the bus before it to the bus after it.
 -- No two steps of a bus that a program reaches are seen alike; elsewhere an entry stands for the first that is.

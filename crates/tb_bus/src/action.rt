@@ -14,6 +14,34 @@ pub enum Action {
     Notify(Terms),
     /// It takes the oldest own note that matches.
     TakeNote(Patterns),
+    /// It speaks with a tool on a lane.
+    OnLane(ToolAction),
+    /// Of this tool it takes the value that has come, where it matches.
+    TakeValue(Terms, Patterns),
+    /// Of this tool it takes the oldest event that waits and matches.
+    TakeEvent(Terms, Patterns),
+    /// The tool, and the terms of an event of it that is acknowledged.
+    Acknowledge(Terms),
+}
+
+/// What a process does with a tool of a lane. Kinds of tools go by their indices in the program, from 0; where
+/// there are terms, the tool's own is the first of them.
+#[derive(Debug, Drop)]
+pub enum ToolAction {
+    /// A tool of this kind is started, and the slot takes it.
+    Execute(u32, u32),
+    /// A tool of this kind that waits is live from now on, and the slot takes it.
+    Connect(u32, u32),
+    /// A tool of this kind that is leaving leaves, and the slot takes it.
+    DisconnectAny(u32, u32),
+    /// This tool, which is leaving, leaves.
+    Disconnect(Terms),
+    /// The tool is asked for the value of the term behind it.
+    Eval(Terms),
+    /// The tool is told to do the term behind it.
+    Do(Terms),
+    /// The tool is told to end, for the reason behind it.
+    Terminate(Terms),
 }
 
 /// What a process does by itself: one kind for each such atom.
@@ -32,4 +60,6 @@ pub enum OwnAction {
     Unsubscribe(Patterns),
     /// A process of this body begins with these actuals, and the slot takes its number.
     Create(u32, Terms, u32),
+    /// The bus goes down for this reason.
+    Shutdown(Term),
 }

@@ -1,6 +1,7 @@
 use tb_match::Binds;
 use tb_notes::Found;
 use tb_terms::Items;
+use tb_tools::FoundEvent;
 
 /// Where terms were received: the index of an action of a process, and what they bind.
 #[derive(Debug, Drop)]
@@ -26,6 +27,14 @@ pub enum Candidate {
     Notify(usize, usize, Items<usize>),
     /// Who takes a note, its action, and the note.
     TakeNote(usize, usize, Found),
+    /// Who speaks with a tool, its action, and the lane.
+    OnLane(usize, usize, u8),
+    /// Who takes a value, its action, the lane, and what the value binds.
+    TakeValue(usize, usize, u8, Binds),
+    /// Who takes an event, its action, the lane, and the event.
+    TakeEvent(usize, usize, u8, FoundEvent),
+    /// Who acknowledges an event, its action, the lane, and the event's place among those received.
+    Acknowledge(usize, usize, u8, usize),
     Finish,
     Halt,
 }
