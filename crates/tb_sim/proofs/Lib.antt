@@ -2,4 +2,5 @@ pub mod SimTraces
 pub mod SimTurns
 pub mod SimEnds
 mod SimLemmas
-mod Rows
+pub mod Rows
+mod FedRows

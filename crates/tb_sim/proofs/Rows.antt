@@ -132,7 +132,7 @@ unfolding steps moves moves_of_all moves_of handshakes handshakes_with advance
 four_steps = two_by_two-starts (limits_of 4 two_by_two) (tau_of 1 1 ∷ tau_of 2 1 ∷ tau_of 1 2 ∷ tau_of 2 2 ∷ []) Steps (_, refl, (_, refl, (_, refl, (_, refl, refl))))
 
 -- a body of one atom
-fresh-one : fresh (tree.At 1) ≡ At 1 0
+pub fresh-one : fresh (tree.At 1) ≡ At 1 0
 fresh-one = search (rules, tree_lemmas)
 
 pub delta-in_range : is_body_in_range (tree.At 1) (plain act.Delta ∷ []) [] 0 ≡ true
@@ -185,10 +185,10 @@ abbrev pub forever : Origin
 forever = record { program = record { bodies = endless ∷ []; roots = root 0 ∷ []; tools = []; in_range = forever-in_range }; limit = 5 }
 
 -- a star of two atoms
-abbrev star : Process
+abbrev pub star : Process
 star = Star (At 1 0) (At 2 0)
 
-fresh-star : fresh (tree.Star (tree.At 1) (tree.At 2)) ≡ star
+pub fresh-star : fresh (tree.Star (tree.At 1) (tree.At 2)) ≡ star
 fresh-star = search (rules, tree_lemmas)
 
 forever-starts : (limits : Limits) (log : List Entry) (end : SimEnd) → IsSim limits (sim_of (bus_of forever.program (at 1 0 star ∷ []) 0 false) [] 0) log end → IsSim limits (sim_start (start forever) []) log end

@@ -1,5 +1,5 @@
 -- What some words ask for, and the faults of others, worked out by hand: each rule once at least.
-use Rattle.std.proofs.Common.{◌≡◌, [], ◌∷◌, Ok, Err, codes, refl}
+use Rattle.std.proofs.Common.{◌≡◌, [], ◌∷◌, Some, None, Ok, Err, codes, refl}
 use Rattle.tb_top.specs.declared.words.Command.TheVariants.{Check, Sim}
 use Rattle.tb_top.specs.declared.words.WordFault.TheVariants.{NoCommand, Unknown, Missing, Extra, Number, Range, NotBuilt}
 use Rattle.tb_top.specs.Words.{asked}
@@ -13,15 +13,15 @@ check_asked : asked (codes "check" ∷ codes "a.tb" ∷ []) ≡ Ok (Check (codes
 check_asked = refl
 
 -- sim a.tb
-sim_asked : asked (codes "sim" ∷ codes "a.tb" ∷ []) ≡ Ok (Sim (codes "a.tb") 1000000 1000000)
+sim_asked : asked (codes "sim" ∷ codes "a.tb" ∷ []) ≡ Ok (Sim (codes "a.tb") None 1000000 1000000)
 sim_asked = refl
 
 -- sim --steps 5 a.tb
-steps_first : asked (codes "sim" ∷ codes "--steps" ∷ codes "5" ∷ codes "a.tb" ∷ []) ≡ Ok (Sim (codes "a.tb") 5 1000000)
+steps_first : asked (codes "sim" ∷ codes "--steps" ∷ codes "5" ∷ codes "a.tb" ∷ []) ≡ Ok (Sim (codes "a.tb") None 5 1000000)
 steps_first = refl
 
 -- sim a.tb --steps 007
-steps_last : asked (codes "sim" ∷ codes "a.tb" ∷ codes "--steps" ∷ codes "007" ∷ []) ≡ Ok (Sim (codes "a.tb") 7 1000000)
+steps_last : asked (codes "sim" ∷ codes "a.tb" ∷ codes "--steps" ∷ codes "007" ∷ []) ≡ Ok (Sim (codes "a.tb") None 7 1000000)
 steps_last = refl
 
 -- an empty word is a script's name
@@ -64,20 +64,33 @@ check_steps = refl
 sim_ticks : asked (codes "sim" ∷ codes "a.tb" ∷ codes "--ticks" ∷ codes "5" ∷ []) ≡ Err (NotBuilt 3)
 sim_ticks = refl
 
-sim_feed : asked (codes "sim" ∷ codes "a.tb" ∷ codes "--feed" ∷ []) ≡ Err (NotBuilt 3)
-sim_feed = refl
-
 sim_connect : asked (codes "sim" ∷ codes "--connect" ∷ codes "c" ∷ []) ≡ Err (NotBuilt 2)
 sim_connect = refl
 
 sim_events : asked (codes "sim" ∷ codes "--events" ∷ codes "c" ∷ []) ≡ Err (Number 3)
 sim_events = refl
 
-both_limits : asked (codes "sim" ∷ codes "--events" ∷ codes "6" ∷ codes "a.tb" ∷ codes "--steps" ∷ codes "5" ∷ []) ≡ Ok (Sim (codes "a.tb") 5 6)
+both_limits : asked (codes "sim" ∷ codes "--events" ∷ codes "6" ∷ codes "a.tb" ∷ codes "--steps" ∷ codes "5" ∷ []) ≡ Ok (Sim (codes "a.tb") None 5 6)
 both_limits = refl
 
 check_events : asked (codes "check" ∷ codes "a.tb" ∷ codes "--events" ∷ codes "6" ∷ []) ≡ Err (Unknown 3)
 check_events = refl
+
+-- the feed's name, once, and whatever word comes next, unless it is no string
+fed_asked : asked (codes "sim" ∷ codes "--feed" ∷ codes "--steps" ∷ codes "a.tb" ∷ []) ≡ Ok (Sim (codes "a.tb") (Some (codes "--steps")) 1000000 1000000)
+fed_asked = refl
+
+feed_bare : asked (codes "sim" ∷ codes "a.tb" ∷ codes "--feed" ∷ []) ≡ Err Missing
+feed_bare = refl
+
+feed_twice : asked (codes "sim" ∷ codes "--feed" ∷ codes "f" ∷ codes "--feed" ∷ []) ≡ Err (Extra 4)
+feed_twice = refl
+
+feed_odd : asked (codes "sim" ∷ codes "a.tb" ∷ codes "--feed" ∷ (11 ∷ []) ∷ []) ≡ Err (Unknown 4)
+feed_odd = refl
+
+check_feed : asked (codes "check" ∷ codes "a.tb" ∷ codes "--feed" ∷ codes "f" ∷ []) ≡ Err (Unknown 3)
+check_feed = refl
 
 -- an option that was given before, whether or not it has a value
 steps_twice : asked (codes "sim" ∷ codes "--steps" ∷ codes "5" ∷ codes "--steps" ∷ []) ≡ Err (Extra 4)
@@ -104,7 +117,7 @@ late_letter = refl
 no_steps : asked (codes "sim" ∷ codes "a.tb" ∷ codes "--steps" ∷ codes "0" ∷ []) ≡ Err (Range 4)
 no_steps = refl
 
-most_asked : asked (codes "sim" ∷ codes "a.tb" ∷ codes "--steps" ∷ codes "4000000" ∷ []) ≡ Ok (Sim (codes "a.tb") 4000000 1000000)
+most_asked : asked (codes "sim" ∷ codes "a.tb" ∷ codes "--steps" ∷ codes "4000000" ∷ []) ≡ Ok (Sim (codes "a.tb") None 4000000 1000000)
 most_asked = refl
 
 past_most : asked (codes "sim" ∷ codes "a.tb" ∷ codes "--steps" ∷ codes "4000001" ∷ []) ≡ Err (Range 4)

@@ -6,7 +6,7 @@ use Rattle.tb_top.specs.declared.words.WordFault.{WordFault}
 use Rattle.tb_top.specs.declared.words.WordFault.TheVariants as fault
 use Rattle.tb_top.specs.declared.words.verb.Verb.{Verb}
 use Rattle.tb_top.specs.declared.words.verb.Verb.TheVariants as verb
-use Rattle.tb_top.specs.Words.{Found, Part, AnOption, AWord, script_by, most_limit, limit_in, limit_by, and_script, and_steps, and_events, is_unbuilt, own_option_by, option_by, part_by, read_next, read_parts}
+use Rattle.tb_top.specs.Words.{Found, Part, AnOption, AWord, name_in, script_by, feed_by, most_limit, limit_in, limit_by, and_script, and_feed, and_steps, and_events, is_unbuilt, own_option_by, option_by, part_by, read_next, read_parts}
 
 abbrev IsTold : {X : Type 0} → Result X WordFault → Type 0
 IsTold answer = answer ≢ Err fault.NoMemory
@@ -15,9 +15,17 @@ in-choice : {X : Type 0} (b : Bool) (x y : Result X WordFault) → IsTold x → 
 in-choice true x y told other = told
 in-choice false x y told other = other
 
+name-told : (place : ℕ) (word : List ℕ) → IsTold (name_in place word)
+name-told place word = in-choice (is_text word) (Ok word) (Err (fault.Unknown place)) (λ e. cc) (λ e. cc)
+
 script-told : (script : Option (List ℕ)) (place : ℕ) (word : List ℕ) → IsTold (script_by script place word)
 script-told (Some script) place word = λ e. cc
-script-told None place word = in-choice (is_text word) (Ok word) (Err (fault.Unknown place)) (λ e. cc) (λ e. cc)
+script-told None place word = name-told place word
+
+feed-told : (feed : Option (List ℕ)) (place : ℕ) (value : Option (List ℕ)) → IsTold (feed_by feed place value)
+feed-told (Some feed) place value = λ e. cc
+feed-told None place None = λ e. cc
+feed-told None place (Some value) = name-told (place + 1) value
 
 number-told : (place : ℕ) (word : List ℕ) → IsTold (limit_in place word)
 number-told place word =
@@ -34,6 +42,10 @@ and_script-told : (found : Found) (script : Result (List ℕ) WordFault) → IsT
 and_script-told found (Ok script) told e = cc
 and_script-told found (Err f) told e = let same : f ≡ fault.NoMemory = cc in told (ap Err same)
 
+and_feed-told : (found : Found) (feed : Result (List ℕ) WordFault) → IsTold feed → IsTold (and_feed found feed)
+and_feed-told found (Ok feed) told e = cc
+and_feed-told found (Err f) told e = let same : f ≡ fault.NoMemory = cc in told (ap Err same)
+
 and_steps-told : (found : Found) (steps : Result ℕ WordFault) → IsTold steps → IsTold (and_steps found steps)
 and_steps-told found (Ok steps) told e = cc
 and_steps-told found (Err f) told e = let same : f ≡ fault.NoMemory = cc in told (ap Err same)
@@ -46,9 +58,12 @@ own_option-told : (v : Verb) (found : Found) (place : ℕ) (name : List ℕ) (va
 own_option-told verb.Check found place name value = λ e. cc
 own_option-told verb.Sim found place name value =
     let events = and_events found (limit_by found.events place value) in
-    in-choice (bytes_eq name (codes "--steps")) (and_steps found (limit_by found.steps place value)) (if bytes_eq name (codes "--events") then events else Err (fault.Unknown place))
+    let feed = and_feed found (feed_by found.feed place value) in
+    let last = if bytes_eq name (codes "--feed") then feed else Err (fault.Unknown place) in
+    in-choice (bytes_eq name (codes "--steps")) (and_steps found (limit_by found.steps place value)) (if bytes_eq name (codes "--events") then events else last)
     (and_steps-told found (limit_by found.steps place value) (steps-told found.steps place value))
-    (in-choice (bytes_eq name (codes "--events")) events (Err (fault.Unknown place)) (and_events-told found (limit_by found.events place value) (steps-told found.events place value)) (λ e. cc))
+    (in-choice (bytes_eq name (codes "--events")) events last (and_events-told found (limit_by found.events place value) (steps-told found.events place value))
+    (in-choice (bytes_eq name (codes "--feed")) feed (Err (fault.Unknown place)) (and_feed-told found (feed_by found.feed place value) (feed-told found.feed place value)) (λ e. cc)))
 
 option-told : (v : Verb) (found : Found) (place : ℕ) (name : List ℕ) (value : Option (List ℕ)) → IsTold (option_by v found place name value)
 option-told v found place name value =

@@ -3,7 +3,7 @@ use Rattle.std.specs.Prelude.{ℕ, List, [], ◌∷◌, ◌++◌, codes}
 use Rattle.std.specs.Fmt.{decimal}
 use Rattle.std.specs.List.{join_with_byte}
 use Rattle.tb_top.specs.declared.status.Status.{Status}
-use Rattle.tb_top.specs.declared.status.Status.TheVariants.{Ended, Script, Words, Outside, Limit, NoMemory}
+use Rattle.tb_top.specs.declared.status.Status.TheVariants.{Ended, Script, Feed, Words, Outside, Limit, NoMemory}
 use Rattle.tb_script.specs.declared.fault.ScriptFault.{ScriptFault}
 use Rattle.tb_script.specs.declared.fault.ScriptFault.TheVariants as script
 use Rattle.tb_lex.specs.declared.fault.LexFault.{LexFault}
@@ -14,6 +14,8 @@ use Rattle.tb_types.specs.declared.fault.CheckFault.{CheckFault}
 use Rattle.tb_types.specs.declared.fault.CheckFault.TheVariants as check
 use Rattle.tb_expand.specs.declared.fault.ExpandFault.{ExpandFault}
 use Rattle.tb_expand.specs.declared.fault.ExpandFault.TheVariants as expand
+use Rattle.tb_feed.specs.declared.fault.FeedFault.{FeedFault}
+use Rattle.tb_feed.specs.declared.fault.FeedFault.TheVariants as feed_fault
 use Rattle.tb_top.specs.declared.words.WordFault.{WordFault}
 use Rattle.tb_top.specs.declared.words.WordFault.TheVariants as word
 use Rattle.tb_top.specs.declared.status.Edge.{Edge}
@@ -24,6 +26,7 @@ use Rattle.tb_top.specs.declared.status.Bound.TheVariants as bound
 abbrev pub status_number : Status → ℕ
 status_number Ended = 0
 status_number (Script fault) = 1
+status_number (Feed fault) = 1
 status_number (Words fault) = 2
 status_number (Outside edge) = 3
 status_number (Limit bound) = 4
@@ -73,6 +76,12 @@ script_words (script.TooLong bytes) = codes "script: too long " ++ decimal bytes
 script_words (script.NotBuilt token) = codes "script: not built at token " ++ decimal token
 script_words script.NoMemory = codes "no memory"
 
+-- a fault of the feed, at its line, or by its number of bytes
+abbrev pub feed_words : FeedFault → List ℕ
+feed_words (feed_fault.Line number) = codes "feed: line " ++ decimal number
+feed_words (feed_fault.TooLong bytes) = codes "feed: too long " ++ decimal bytes
+feed_words feed_fault.NoMemory = codes "no memory"
+
 -- a fault of the words, most of them at a place
 abbrev pub word_words : WordFault → List ℕ
 word_words word.NoCommand = codes "words: no command"
@@ -96,6 +105,7 @@ bound_words bound.Events = codes "limit: events"
 abbrev pub status_words : Status → List ℕ
 status_words Ended = []
 status_words (Script fault) = script_words fault
+status_words (Feed fault) = feed_words fault
 status_words (Words fault) = word_words fault
 status_words (Outside edge) = edge_words edge
 status_words (Limit bound) = bound_words bound

@@ -1,11 +1,12 @@
 -- When the program ends with which status, what was put then, and what was asked for.
-use Rattle.std.specs.Prelude.{◌≡◌, ◌≢◌, ◌<◌, ◌≤◌, ◌⊎◌, ℕ, List, [], ◌∷◌, ◌++◌, Option, IfSome, Result, Ok, Err, length, codes}
+use Rattle.std.specs.Prelude.{◌≡◌, ◌≢◌, ◌<◌, ◌≤◌, ◌⊎◌, ℕ, List, [], ◌∷◌, ◌++◌, Option, Some, None, IsSome, IfSome, option_to_list, Result, Ok, Err, length, codes}
 use Rattle.tb_edge.specs.Faults.{Rose}
 use Rattle.tb_edge.specs.Sinks.{Takes, TakesFront}
 use Rattle.tb_bus.specs.Buses.{origin_of, start}
 use Rattle.tb_bus.specs.Traces.{IsTrace}
 use Rattle.tb_sim.specs.Simulation.{IsSim, limits_of, sim_start}
 use Rattle.tb_log.specs.LogText.{log_text}
+use Rattle.tb_log.specs.declared.entry.Input.{Input}
 use Rattle.tb_log.specs.declared.entry.Entry.{Entry}
 use Rattle.tb_body.specs.declared.program.Program.{Program}
 use Rattle.tb_sim.specs.declared.ends.SimEnd.{SimEnd}
@@ -14,9 +15,12 @@ use Rattle.tb_expand.specs.declared.fault.ExpandFault.TheVariants as expand
 use Rattle.tb_script.specs.declared.fault.ScriptFault.{ScriptFault}
 use Rattle.tb_script.specs.declared.fault.ScriptFault.TheVariants as script
 use Rattle.tb_script.specs.Findings.{IsFound, NoTokens, NoScript, Improper, Recursive, Large, ManyRoots, Unbuilt, Program'}
+use Rattle.tb_feed.specs.Feeds.{IsFeedOf, IsFirstBad}
+use Rattle.tb_feed.specs.declared.fault.FeedFault.{FeedFault}
+use Rattle.tb_feed.specs.declared.fault.FeedFault.TheVariants as feed_fault
 use Rattle.tb_top.specs.Lines.{status_line}
 use Rattle.tb_top.specs.declared.status.Status.{Status}
-use Rattle.tb_top.specs.declared.status.Status.TheVariants.{Ended, Script, Words, Outside, Limit, NoMemory}
+use Rattle.tb_top.specs.declared.status.Status.TheVariants.{Ended, Script, Feed, Words, Outside, Limit, NoMemory}
 use Rattle.tb_top.specs.declared.status.Edge.TheVariants as edge
 use Rattle.tb_top.specs.declared.status.Bound.TheVariants as bound
 use Rattle.tb_top.specs.declared.words.Command.{Command}
@@ -24,7 +28,7 @@ use Rattle.tb_top.specs.declared.words.Command.TheVariants.{Check, Sim}
 use Rattle.tb_top.specs.declared.words.WordFault.{WordFault}
 use Rattle.tb_top.specs.declared.words.WordFault.TheVariants as word
 
--- a script of more bytes is too long
+-- a file of more bytes is too long
 abbrev pub most_bytes : ℕ
 most_bytes = 1048576
 
@@ -49,43 +53,78 @@ IsRefused bytes (script.Expand expand.NoMemory) = ⊥
 IsRefused bytes script.NoMemory = ⊥
 IsRefused bytes (script.TooLong len) = ⊥
 
--- The bytes have this program, and nothing else is found of them; and this log is that of its simulation with at most so many steps and entries, which ends so. It is a trace of the program.
-pub record IsSimOf (steps events : ℕ) (bytes : List ℕ) (log : List Entry) (last : SimEnd) : Type 0 where
-  pub program : Program
-  pub found : IsFound bytes (Program' program)
-  pub simulated : IsSim (limits_of steps (origin_of program events)) (sim_start (start (origin_of program events))) log last
-  pub trace : IsTrace (start (origin_of program events)) log
-
--- the whole text of the log of the simulation was put, which ends so
-abbrev pub PutsLog : ℕ → ℕ → List ℕ → Option (List ℕ) → Option (List ℕ) → SimEnd → Type 0
-PutsLog steps events bytes old new last = (log : List Entry) × IsSimOf steps events bytes log last × Takes old new (log_text log)
-
--- a front of that text was put
-abbrev pub PutsFront : ℕ → ℕ → List ℕ → Option (List ℕ) → Option (List ℕ) → Type 0
-PutsFront steps events bytes old new = (log : List Entry) × (last : SimEnd) × IsSimOf steps events bytes log last × TakesFront old new (log_text log)
-
--- How the simulation of a script's bytes with at most so many steps and entries may end, and what was put to the sink of the log.
-abbrev pub SimOutcome : ℕ → ℕ → List ℕ → Option (List ℕ) → Option (List ℕ) → Status → Type 0
--- the bus went down
-SimOutcome steps events bytes old new Ended = PutsLog steps events bytes old new sim.Down
--- the limit of steps was reached, and another step was possible
-SimOutcome steps events bytes old new (Limit bound.Steps) = PutsLog steps events bytes old new sim.Steps
--- the log had no room for the next entry
-SimOutcome steps events bytes old new (Limit bound.Events) = PutsLog steps events bytes old new sim.Events
--- the script was refused
-SimOutcome steps events bytes old new (Script fault) = IsRefused bytes fault × (new ≡ old)
--- the sink failed
-SimOutcome steps events bytes old new (Outside edge.Out) = PutsFront steps events bytes old new
--- memory ran out, before the log was written or within it
-SimOutcome steps events bytes old new NoMemory = (new ≡ old) ⊎ PutsFront steps events bytes old new
--- no other status comes
-SimOutcome steps events bytes old new (Words fault) = ⊥
-SimOutcome steps events bytes old new (Outside edge.File) = ⊥
-SimOutcome steps events bytes old new (Outside edge.Err) = ⊥
-
 -- the bytes have a program, and nothing else is found of them
 abbrev pub HasSomeProgram : List ℕ → Type 0
 HasSomeProgram bytes = (program : Program) × IsFound bytes (Program' program)
+
+-- bytes that may be loaded: those that the name holds, where the files tell them, and not too many
+abbrev pub IsLoaded : Option (List ℕ) → List ℕ → Type 0
+IsLoaded told bytes = IfSome told (λ held. bytes ≡ held) × (length bytes ≤ most_bytes)
+
+-- the name holds so many bytes, where the files tell them, and these are too many
+abbrev pub IsTooLong : Option (List ℕ) → ℕ → Type 0
+IsTooLong told len = (most_bytes < len) × IfSome told (λ held. len ≡ length held)
+
+-- How a script is simulated: what the files hold, where they tell it, by names; the name of the feed's file, where there is one; and how many steps and entries there may be.
+pub record Run : Type 0 where
+  pub held : List ℕ → Option (List ℕ)
+  pub feed : Option (List ℕ)
+  pub steps : ℕ
+  pub events : ℕ
+
+-- These inputs are fed: those of the file, or none where no file is named.
+abbrev pub IsFed : (List ℕ → Option (List ℕ)) → Option (List ℕ) → List Input → Type 0
+IsFed held None inputs = inputs ≡ []
+IsFed held (Some name) inputs = (bytes : List ℕ) × IsLoaded (held name) bytes × IsFeedOf bytes inputs
+
+-- What a fault of a feed says of its file.
+abbrev pub IsFeedRefused : (List ℕ → Option (List ℕ)) → Option (List ℕ) → FeedFault → Type 0
+IsFeedRefused held None fault = ⊥
+-- the line of this number is its first bad one
+IsFeedRefused held (Some name) (feed_fault.Line number) = (bytes : List ℕ) × IsLoaded (held name) bytes × IsFirstBad bytes number
+-- it has so many bytes, too many
+IsFeedRefused held (Some name) (feed_fault.TooLong len) = IsTooLong (held name) len
+-- want of memory is no fault of the feed
+IsFeedRefused held (Some name) feed_fault.NoMemory = ⊥
+
+-- The bytes have this program, and nothing else is found of them; these inputs are fed; and this log is that of its simulation with at most so many steps and entries, which ends so. It is a trace of the program.
+pub record IsSimOf (run : Run) (bytes : List ℕ) (log : List Entry) (last : SimEnd) : Type 0 where
+  pub program : Program
+  pub found : IsFound bytes (Program' program)
+  pub inputs : List Input
+  pub fed : IsFed run.held run.feed inputs
+  pub simulated : IsSim (limits_of run.steps (origin_of program run.events)) (sim_start (start (origin_of program run.events)) inputs) log last
+  pub trace : IsTrace (start (origin_of program run.events)) log
+
+-- the whole text of the log of the simulation was put, which ends so
+abbrev pub PutsLog : Run → List ℕ → Option (List ℕ) → Option (List ℕ) → SimEnd → Type 0
+PutsLog run bytes old new last = (log : List Entry) × IsSimOf run bytes log last × Takes old new (log_text log)
+
+-- a front of that text was put
+abbrev pub PutsFront : Run → List ℕ → Option (List ℕ) → Option (List ℕ) → Type 0
+PutsFront run bytes old new = (log : List Entry) × (last : SimEnd) × IsSimOf run bytes log last × TakesFront old new (log_text log)
+
+-- How such a simulation of a script's bytes may end, and what was put to the sink of the log.
+abbrev pub SimOutcome : Run → List ℕ → Option (List ℕ) → Option (List ℕ) → Status → Type 0
+-- the bus went down
+SimOutcome run bytes old new Ended = PutsLog run bytes old new sim.Down
+-- the limit of steps was reached, and another step was possible
+SimOutcome run bytes old new (Limit bound.Steps) = PutsLog run bytes old new sim.Steps
+-- the log had no room for the next entry
+SimOutcome run bytes old new (Limit bound.Events) = PutsLog run bytes old new sim.Events
+-- the script was refused
+SimOutcome run bytes old new (Script fault) = IsRefused bytes fault × (new ≡ old)
+-- it has a program, and the feed was refused
+SimOutcome run bytes old new (Feed fault) = HasSomeProgram bytes × IsFeedRefused run.held run.feed fault × (new ≡ old)
+-- it has a program, and the feed's file could not be read
+SimOutcome run bytes old new (Outside edge.File) = HasSomeProgram bytes × IsSome run.feed × (new ≡ old)
+-- the sink failed
+SimOutcome run bytes old new (Outside edge.Out) = PutsFront run bytes old new
+-- memory ran out, before the log was written or within it
+SimOutcome run bytes old new NoMemory = (new ≡ old) ⊎ PutsFront run bytes old new
+-- no other status comes
+SimOutcome run bytes old new (Words fault) = ⊥
+SimOutcome run bytes old new (Outside edge.Err) = ⊥
 
 abbrev pub ok_line : List ℕ
 ok_line = codes "ok\n"
@@ -102,43 +141,40 @@ CheckOutcome bytes old new (Outside edge.Out) = HasSomeProgram bytes × TakesFro
 CheckOutcome bytes old new NoMemory = new ≡ old
 -- no other status comes
 CheckOutcome bytes old new (Limit bound) = ⊥
+CheckOutcome bytes old new (Feed fault) = ⊥
 CheckOutcome bytes old new (Words fault) = ⊥
 CheckOutcome bytes old new (Outside edge.File) = ⊥
 CheckOutcome bytes old new (Outside edge.Err) = ⊥
 
--- How the work on a script's bytes may end.
-abbrev pub WorkOutcome : Command → List ℕ → Option (List ℕ) → Option (List ℕ) → Status → Type 0
-WorkOutcome (Check name) bytes old new status = CheckOutcome bytes old new status
-WorkOutcome (Sim name steps events) bytes old new status = SimOutcome steps events bytes old new status
-
--- bytes that may be loaded: those that the name holds, where the files tell them, and not too many
-abbrev pub IsLoaded : Option (List ℕ) → List ℕ → Type 0
-IsLoaded told bytes = IfSome told (λ held. bytes ≡ held) × (length bytes ≤ most_bytes)
-
--- the work was done on bytes that were loaded
-abbrev pub LoadedOutcome : Command → Option (List ℕ) → Option (List ℕ) → Option (List ℕ) → Status → Type 0
-LoadedOutcome command told old new status = (bytes : List ℕ) × IsLoaded told bytes × WorkOutcome command bytes old new status
-
--- How a command may end, where the files tell perhaps what the script's name holds.
-abbrev pub FileOutcome : Command → Option (List ℕ) → Option (List ℕ) → Option (List ℕ) → Status → Type 0
--- the file could not be read
-FileOutcome command told old new (Outside edge.File) = new ≡ old
--- it has so many bytes, too many
-FileOutcome command told old new (Script (script.TooLong len)) = (most_bytes < len) × IfSome told (λ held. len ≡ length held) × (new ≡ old)
--- memory ran out before the bytes were read, or later
-FileOutcome command told old new NoMemory = (new ≡ old) ⊎ LoadedOutcome command told old new NoMemory
--- some bytes were read
-FileOutcome command told old new status = LoadedOutcome command told old new status
+-- How the work on a script's bytes may end, where the files tell perhaps what names hold.
+abbrev pub WorkOutcome : (List ℕ → Option (List ℕ)) → Command → List ℕ → Option (List ℕ) → Option (List ℕ) → Status → Type 0
+WorkOutcome held (Check name) bytes old new status = CheckOutcome bytes old new status
+WorkOutcome held (Sim name feed steps events) bytes old new status = SimOutcome (record { held = held; feed = feed; steps = steps; events = events }) bytes old new status
 
 -- the name of a command's script
 abbrev pub script_of : Command → List ℕ
 script_of (Check name) = name
-script_of (Sim name steps events) = name
+script_of (Sim name feed steps events) = name
+
+-- the work was done on bytes that were loaded
+abbrev pub LoadedOutcome : (List ℕ → Option (List ℕ)) → Command → Option (List ℕ) → Option (List ℕ) → Status → Type 0
+LoadedOutcome held command old new status = (bytes : List ℕ) × IsLoaded (held (script_of command)) bytes × WorkOutcome held command bytes old new status
+
+-- How a command may end.
+abbrev pub FileOutcome : (List ℕ → Option (List ℕ)) → Command → Option (List ℕ) → Option (List ℕ) → Status → Type 0
+-- a file could not be read: the script's, or the feed's after it
+FileOutcome held command old new (Outside edge.File) = (new ≡ old) ⊎ LoadedOutcome held command old new (Outside edge.File)
+-- the script has so many bytes, too many
+FileOutcome held command old new (Script (script.TooLong len)) = IsTooLong (held (script_of command)) len × (new ≡ old)
+-- memory ran out before the bytes were read, or later
+FileOutcome held command old new NoMemory = (new ≡ old) ⊎ LoadedOutcome held command old new NoMemory
+-- some bytes were read
+FileOutcome held command old new status = LoadedOutcome held command old new status
 
 -- How a call may end whose words ask for this, or have this fault.
 abbrev pub CommandOutcome : Result Command WordFault → (List ℕ → Option (List ℕ)) → Option (List ℕ) → Option (List ℕ) → Status → Type 0
 CommandOutcome (Err fault) held old new status = (status ≡ Words fault) × (fault ≢ word.NoMemory) × (new ≡ old)
-CommandOutcome (Ok command) held old new status = FileOutcome command (held (script_of command)) old new status
+CommandOutcome (Ok command) held old new status = FileOutcome held command old new status
 
 -- A thing of the outside is named only where its count of faults rose in the call.
 abbrev pub IsCaused : ℕ → ℕ → ℕ → ℕ → Status → Type 0
@@ -147,27 +183,49 @@ IsCaused files_old files_new out_old out_new (Outside edge.Out) = Rose out_old o
 IsCaused files_old files_new out_old out_new (Outside edge.Err) = Unit {0}
 IsCaused files_old files_new out_old out_new Ended = Unit {0}
 IsCaused files_old files_new out_old out_new (Script fault) = Unit {0}
+IsCaused files_old files_new out_old out_new (Feed fault) = Unit {0}
 IsCaused files_old files_new out_old out_new (Words fault) = Unit {0}
 IsCaused files_old files_new out_old out_new (Limit bound) = Unit {0}
 IsCaused files_old files_new out_old out_new NoMemory = Unit {0}
 
--- the names that the files are asked for: that of the script
-abbrev pub names_of : Result Command WordFault → List (List ℕ)
-names_of (Err fault) = []
-names_of (Ok command) = script_of command ∷ []
+-- the name of a command's feed, where it has one
+abbrev pub feed_of : Command → Option (List ℕ)
+feed_of (Check name) = None
+feed_of (Sim name feed steps events) = feed
 
--- They were asked for, once each, and no others; where memory ran out, or standard error failed, perhaps not.
-abbrev pub AsksFor : Result Command WordFault → List (List ℕ) → List (List ℕ) → Status → Type 0
-AsksFor asked old new NoMemory = (new ≡ old) ⊎ (new ≡ old ++ names_of asked)
-AsksFor asked old new (Outside edge.Err) = (new ≡ old) ⊎ (new ≡ old ++ names_of asked)
-AsksFor asked old new status = new ≡ old ++ names_of asked
+-- the script's name was asked for, and nothing else
+abbrev pub AsksScript : Command → List (List ℕ) → List (List ℕ) → Type 0
+AsksScript command old new = new ≡ old ++ script_of command ∷ []
 
--- A status may come: by what the words ask for, what the name holds and what was put; by the counts of faults; and by
+-- The script's name was asked for, and then, since the script has a program, that of the feed, where the command has one.
+abbrev pub AsksAll : (List ℕ → Option (List ℕ)) → Command → List (List ℕ) → List (List ℕ) → Type 0
+AsksAll held command old new =
+    ((bytes : List ℕ) × IsLoaded (held (script_of command)) bytes × HasSomeProgram bytes)
+    × (new ≡ old ++ script_of command ∷ option_to_list (feed_of command))
+
+-- Which names the files are asked for, each once at most, and no others.
+abbrev pub CommandAsks : (List ℕ → Option (List ℕ)) → Command → List (List ℕ) → List (List ℕ) → Status → Type 0
+-- that of a script that was refused
+CommandAsks held command old new (Script fault) = AsksScript command old new
+-- that of the file which could not be read, after those before it
+CommandAsks held command old new (Outside edge.File) = AsksScript command old new ⊎ AsksAll held command old new
+-- perhaps none, or not all, where memory ran out, or standard error failed
+CommandAsks held command old new NoMemory = (new ≡ old) ⊎ (AsksScript command old new ⊎ AsksAll held command old new)
+CommandAsks held command old new (Outside edge.Err) = (new ≡ old) ⊎ (AsksScript command old new ⊎ AsksAll held command old new)
+-- else all
+CommandAsks held command old new status = AsksAll held command old new
+
+-- none, where the words have a fault
+abbrev pub AsksFor : Result Command WordFault → (List ℕ → Option (List ℕ)) → List (List ℕ) → List (List ℕ) → Status → Type 0
+AsksFor (Err fault) held old new status = new ≡ old
+AsksFor (Ok command) held old new status = CommandAsks held command old new status
+
+-- A status may come: by what the words ask for, what names hold and what was put; by the counts of faults; and by
 -- the names that the files were asked for before and since. That of standard error never comes so, but only in place of
 -- one that does.
 abbrev pub Comes : Result Command WordFault → (List ℕ → Option (List ℕ)) → Option (List ℕ) → Option (List ℕ) → ℕ → ℕ → ℕ → ℕ → List (List ℕ) → List (List ℕ) → Status → Type 0
 Comes asked held old new files_old files_new out_old out_new names_old names_new status =
-    CommandOutcome asked held old new status × IsCaused files_old files_new out_old out_new status × AsksFor asked names_old names_new status
+    CommandOutcome asked held old new status × IsCaused files_old files_new out_old out_new status × AsksFor asked held names_old names_new status
 
 -- What is put of a status to standard error: nothing where all ended well; the status's line; or, where standard
 -- error failed, a front of the line of the status that it hides.
@@ -177,6 +235,7 @@ Reported comes old new (Outside edge.Err) = (hidden : Status) × comes hidden ×
 Reported comes old new (Outside edge.File) = comes (Outside edge.File) × Takes old new (status_line (Outside edge.File))
 Reported comes old new (Outside edge.Out) = comes (Outside edge.Out) × Takes old new (status_line (Outside edge.Out))
 Reported comes old new (Script fault) = comes (Script fault) × Takes old new (status_line (Script fault))
+Reported comes old new (Feed fault) = comes (Feed fault) × Takes old new (status_line (Feed fault))
 Reported comes old new (Words fault) = comes (Words fault) × Takes old new (status_line (Words fault))
 Reported comes old new (Limit bound) = comes (Limit bound) × Takes old new (status_line (Limit bound))
 Reported comes old new NoMemory = comes NoMemory × Takes old new (status_line NoMemory)

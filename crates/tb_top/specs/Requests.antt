@@ -1,17 +1,20 @@
 -- What the parts of the top call say to each other.
-use Rattle.std.specs.Prelude.{◌≡◌, ◌≢◌, ◌⊎◌, ℕ, List, [], ◌∷◌, ◌++◌, Option}
+use Rattle.std.specs.Prelude.{◌≡◌, ◌≢◌, ◌⊎◌, ℕ, List, ◌++◌, Option, IsSome, option_to_list, Result, Ok, Err}
 use Rattle.tb_edge.specs.Sinks.{Takes, TakesFront}
 use Rattle.tb_body.specs.declared.program.Program.{Program}
 use Rattle.tb_bus.specs.declared.origin.Origin.{Origin}
+use Rattle.tb_log.specs.LogText.{log_text}
+use Rattle.tb_log.specs.declared.entry.Entry.{Entry}
+use Rattle.tb_log.specs.declared.entry.Input.{Input}
 use Rattle.tb_sim.specs.declared.ends.SimEnd.{SimEnd}
 use Rattle.tb_sim.specs.declared.ends.SimEnd.TheVariants as sim
 use Rattle.tb_script.specs.Findings.{IsFound, Program'}
 use Rattle.tb_top.specs.declared.status.Bound.TheVariants as bound
 use Rattle.tb_top.specs.Lines.{status_line}
-use Rattle.tb_top.specs.Outcomes.{SimOutcome, WorkOutcome}
+use Rattle.tb_top.specs.Outcomes.{HasSomeProgram, Run, IsFed, IsFeedRefused, SimOutcome, WorkOutcome, feed_of}
 use Rattle.tb_top.specs.declared.words.Command.{Command}
 use Rattle.tb_top.specs.declared.status.Status.{Status}
-use Rattle.tb_top.specs.declared.status.Status.TheVariants.{Ended, Script, Words, Outside, Limit, NoMemory}
+use Rattle.tb_top.specs.declared.status.Status.TheVariants.{Ended, Script, Feed, Words, Outside, Limit, NoMemory}
 use Rattle.tb_top.specs.declared.status.Edge.TheVariants as edge
 
 -- What was put of a status, and which status is reported for it.
@@ -21,24 +24,64 @@ Reports given old new (Outside edge.Err) = (given ≢ Ended) × TakesFront old n
 Reports given old new (Outside edge.File) = (given ≡ Outside edge.File) × Takes old new (status_line given)
 Reports given old new (Outside edge.Out) = (given ≡ Outside edge.Out) × Takes old new (status_line given)
 Reports given old new (Script fault) = (given ≡ Script fault) × Takes old new (status_line given)
+Reports given old new (Feed fault) = (given ≡ Feed fault) × Takes old new (status_line given)
 Reports given old new (Words fault) = (given ≡ Words fault) × Takes old new (status_line given)
 Reports given old new (Limit bound) = (given ≡ Limit bound) × Takes old new (status_line given)
 Reports given old new NoMemory = (given ≡ NoMemory) × Takes old new (status_line given)
 
 -- whatever bytes the program is that of, the outcome is that of the work on them
-abbrev pub ProgramOutcome : Command → Program → Option (List ℕ) → Option (List ℕ) → Status → Type 0
-ProgramOutcome command program old new status = (bytes : List ℕ) → IsFound bytes (Program' program) → WorkOutcome command bytes old new status
+abbrev pub ProgramOutcome : (List ℕ → Option (List ℕ)) → Command → Program → Option (List ℕ) → Option (List ℕ) → Status → Type 0
+ProgramOutcome held command program old new status = (bytes : List ℕ) → IsFound bytes (Program' program) → WorkOutcome held command bytes old new status
 
--- whatever bytes the program is that of, the outcome is that of their simulation with so many steps
-abbrev pub OriginOutcome : ℕ → Origin → Option (List ℕ) → Option (List ℕ) → Status → Type 0
-OriginOutcome steps origin old new status = (bytes : List ℕ) → IsFound bytes (Program' origin.program) → SimOutcome steps origin.limit bytes old new status
+-- whatever bytes the program is that of, the outcome is that of their simulation
+abbrev pub RunOutcome : Run → Program → Option (List ℕ) → Option (List ℕ) → Status → Type 0
+RunOutcome run program old new status = (bytes : List ℕ) → IsFound bytes (Program' program) → SimOutcome run bytes old new status
 
--- the script's name was asked for, or perhaps not where memory ran out
-abbrev pub AsksName : List ℕ → List (List ℕ) → List (List ℕ) → Status → Type 0
-AsksName name old new NoMemory = (new ≡ old) ⊎ (new ≡ old ++ name ∷ [])
-AsksName name old new status = new ≡ old ++ name ∷ []
+-- whatever file says these inputs, and whatever bytes the program is that of, the outcome is that of their simulation with so many steps
+abbrev pub OriginOutcome : ℕ → Origin → List Input → Option (List ℕ) → Option (List ℕ) → Status → Type 0
+OriginOutcome steps origin inputs old new status =
+    (held : List ℕ → Option (List ℕ)) (name : Option (List ℕ)) → IsFed held name inputs → RunOutcome (record { held = held; feed = name; steps = steps; events = origin.limit }) origin.program old new status
 
+-- Which status a feed gives that isn't read.
+abbrev pub IsUnread : (List ℕ → Option (List ℕ)) → Option (List ℕ) → Status → Type 0
+IsUnread held name (Feed fault) = IsFeedRefused held name fault
+IsUnread held name (Outside edge.File) = IsSome name
+IsUnread held name NoMemory = Unit {0}
+IsUnread held name (Outside edge.Out) = ⊥
+IsUnread held name (Outside edge.Err) = ⊥
+IsUnread held name Ended = ⊥
+IsUnread held name (Script fault) = ⊥
+IsUnread held name (Words fault) = ⊥
+IsUnread held name (Limit bound) = ⊥
+
+-- these names were asked for, or perhaps not where memory ran out
+abbrev pub AsksNames : List (List ℕ) → List (List ℕ) → List (List ℕ) → Status → Type 0
+AsksNames names old new NoMemory = (new ≡ old) ⊎ (new ≡ old ++ names)
+AsksNames names old new status = new ≡ old ++ names
+
+-- the feed's name was asked for, where the command has one
+abbrev pub AsksFeed : Option (List ℕ) → List (List ℕ) → List (List ℕ) → Status → Type 0
+AsksFeed name old new status = AsksNames (option_to_list name) old new status
+
+-- also where it is told whether there is a feed
+abbrev pub AsksFeedBy : Option (List ℕ) → List (List ℕ) → List (List ℕ) → Result (List Input) Status → Type 0
+AsksFeedBy name old new (Ok inputs) = new ≡ old ++ option_to_list name
+AsksFeedBy name old new (Err status) = AsksFeed name old new status
+
+-- the same of the work on a script's bytes, which comes to the feed where they have a program
+abbrev pub WorkAsks : Command → List ℕ → List (List ℕ) → List (List ℕ) → Status → Type 0
+WorkAsks command bytes old new (Script fault) = new ≡ old
+WorkAsks command bytes old new NoMemory = (new ≡ old) ⊎ (HasSomeProgram bytes × (new ≡ old ++ option_to_list (feed_of command)))
+WorkAsks command bytes old new status = HasSomeProgram bytes × (new ≡ old ++ option_to_list (feed_of command))
+
+-- the status of a simulation that ended so, where its log was put
 abbrev pub status_of_end : SimEnd → Status
 status_of_end sim.Down = Ended
 status_of_end sim.Steps = Limit bound.Steps
 status_of_end sim.Events = Limit bound.Events
+
+-- What came of a log behind a simulation that ended so: it was put whole, or its sink failed, or memory ran out.
+abbrev pub WritesLog : List Entry → SimEnd → Option (List ℕ) → Option (List ℕ) → Status → Type 0
+WritesLog log last old new status =
+    ((status ≡ status_of_end last) × Takes old new (log_text log))
+    ⊎ (((status ≡ Outside edge.Out) ⊎ (status ≡ NoMemory)) × TakesFront old new (log_text log))

@@ -33,13 +33,24 @@ parts_from place (word ∷ next ∷ words) =
 -- what parts have given
 pub record Found : Type 0 where
   pub script : Option (List ℕ)
+  pub feed : Option (List ℕ)
   pub steps : Option ℕ
   pub events : Option ℕ
 
--- A word that is no option is the script. One more is too many, and each of its bytes is one that a string may have; words are well-formed already.
+-- A file's name is a string: each of its bytes is one that a string may have, and words are well-formed already.
+abbrev pub name_in : ℕ → List ℕ → Result (List ℕ) WordFault
+name_in place word = if is_text word then Ok word else Err (fault.Unknown place)
+
+-- A word that is no option is the name of the script's file. One more is too many.
 abbrev pub script_by : Option (List ℕ) → ℕ → List ℕ → Result (List ℕ) WordFault
 script_by (Some script) place word = Err (fault.Extra place)
-script_by None place word = if is_text word then Ok word else Err (fault.Unknown place)
+script_by None place word = name_in place word
+
+-- `--feed` at this place, which may be given once, with a value, the name of the feed's file
+abbrev pub feed_by : Option (List ℕ) → ℕ → Option (List ℕ) → Result (List ℕ) WordFault
+feed_by (Some feed) place value = Err (fault.Extra place)
+feed_by None place None = Err fault.Missing
+feed_by None place (Some value) = name_in (place + 1) value
 
 abbrev pub most_limit : ℕ
 most_limit = 4000000
@@ -61,6 +72,10 @@ abbrev pub and_script : Found → Result (List ℕ) WordFault → Result Found W
 and_script found (Ok script) = Ok (record found { script = Some script })
 and_script found (Err f) = Err f
 
+abbrev pub and_feed : Found → Result (List ℕ) WordFault → Result Found WordFault
+and_feed found (Ok feed) = Ok (record found { feed = Some feed })
+and_feed found (Err f) = Err f
+
 abbrev pub and_steps : Found → Result ℕ WordFault → Result Found WordFault
 and_steps found (Ok steps) = Ok (record found { steps = Some steps })
 and_steps found (Err f) = Err f
@@ -71,16 +86,16 @@ and_events found (Err f) = Err f
 
 -- options that aren't built yet, whichever command will have them
 abbrev pub is_unbuilt : List ℕ → Bool
-is_unbuilt name =
-    bytes_eq name (codes "--feed") || bytes_eq name (codes "--connect") || bytes_eq name (codes "--ticks")
+is_unbuilt name = bytes_eq name (codes "--connect") || bytes_eq name (codes "--ticks")
 
--- `check` has no options of its own, and `sim` has two.
+-- `check` has no options of its own, and `sim` has three.
 abbrev pub own_option_by : Verb → Found → ℕ → List ℕ → Option (List ℕ) → Result Found WordFault
 own_option_by verb.Check found place name value = Err (fault.Unknown place)
 own_option_by verb.Sim found place name value =
     if bytes_eq name (codes "--steps") then and_steps found (limit_by found.steps place value)
     else (if bytes_eq name (codes "--events") then and_events found (limit_by found.events place value)
-    else Err (fault.Unknown place))
+    else (if bytes_eq name (codes "--feed") then and_feed found (feed_by found.feed place value)
+    else Err (fault.Unknown place)))
 
 abbrev pub option_by : Verb → Found → ℕ → List ℕ → Option (List ℕ) → Result Found WordFault
 option_by v found place name value = if is_unbuilt name then Err (fault.NotBuilt place) else own_option_by v found place name value
@@ -99,20 +114,20 @@ abbrev pub read_parts : Verb → Result Found WordFault → List Part → Result
 read_parts v before parts = fold (read_next v) before parts
 
 abbrev pub nothing : Found
-nothing = record { script = None; steps = None; events = None }
+nothing = record { script = None; feed = None; steps = None; events = None }
 
 -- the number of an option that isn't given
 abbrev pub usual_limit : ℕ
 usual_limit = 1000000
 
 -- At the end of the words the script must be there.
-abbrev pub command_with : Verb → Option (List ℕ) → Option ℕ → Option ℕ → Result Command WordFault
-command_with v None steps events = Err fault.Missing
-command_with verb.Check (Some script) steps events = Ok (Check script)
-command_with verb.Sim (Some script) steps events = Ok (Sim script (unwrap_or steps usual_limit) (unwrap_or events usual_limit))
+abbrev pub command_with : Verb → Option (List ℕ) → Option (List ℕ) → Option ℕ → Option ℕ → Result Command WordFault
+command_with v None feed steps events = Err fault.Missing
+command_with verb.Check (Some script) feed steps events = Ok (Check script)
+command_with verb.Sim (Some script) feed steps events = Ok (Sim script feed (unwrap_or steps usual_limit) (unwrap_or events usual_limit))
 
 abbrev pub command_by : Verb → Result Found WordFault → Result Command WordFault
-command_by v (Ok found) = command_with v found.script found.steps found.events
+command_by v (Ok found) = command_with v found.script found.feed found.steps found.events
 command_by v (Err f) = Err f
 
 -- The first word is the command; `run` and `ring` aren't built yet.

@@ -3,6 +3,7 @@ use std::test::Fail;
 use tb_algebra::Rewriter;
 use tb_body::Program;
 use tb_core::{Core, CoreFault, Stepped};
+use tb_feed::Feed;
 use tb_log::{Input, Reply, Why, write_entry};
 use tb_script::load;
 use tb_sim::{SimEnd, simulate};
@@ -208,7 +209,7 @@ static RUNS: [Run; 21] = [
 /// Whether the simulation ends so, with this log.
 fn runs_so(alloc: Global, run: &Run) -> Result<bool, Fail> {
     let mut core: Bus = Core::start(alloc, program(alloc, run.script)?, run.entries)?;
-    let ended = simulate(&mut core, run.limit)?;
+    let ended = simulate(&mut core, &Feed::empty(alloc), run.limit)?;
     let text = log_text(alloc, &core)?;
     Ok(ended == run.end && text.as_slice() == run.log.as_bytes())
 }

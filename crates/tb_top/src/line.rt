@@ -3,13 +3,14 @@ ghost use Rattle.std.specs.Prelude.{◌≡◌, ◌++◌, ◌∷◌, [], ◌≤�
 ghost use Rattle.std.specs.List.{flat_map, join_with_byte};
 ghost use Rattle.tb_edge.specs.Faults.{Rose};
 ghost use Rattle.tb_edge.specs.Sinks.{Takes, TakesFront};
-ghost use Rattle.tb_top.specs.Lines.{status_line, status_words, script_words, lex_words, parse_words, check_words, expand_words, word_words, edge_words, bound_words};
+ghost use Rattle.tb_top.specs.Lines.{status_line, status_words, script_words, lex_words, parse_words, check_words, expand_words, feed_words, word_words, edge_words, bound_words};
 
 use crate::status::{Bound, Edge, Status};
 use crate::words::WordFault;
 use itoa::Buffer;
 use tb_edge::{Failed, Sink};
 use tb_expand::ExpandFault;
+use tb_feed::FeedFault;
 use tb_lex::LexFault;
 use tb_parse::ParseFault;
 use tb_script::ScriptFault;
@@ -48,6 +49,7 @@ fn put_words<E: Sink>(status: &Status, err: &mut E) -> Result<(), Failed>
     match status {
         Status::Ended => err.put(b""),
         Status::Script(fault) => put_script_words(fault, err),
+        Status::Feed(fault) => put_feed_words(*fault, err),
         Status::Words(fault) => put_word_words(*fault, err),
         Status::Outside(Edge::File) => err.put(b"outside: file"),
         Status::Outside(Edge::Out) => err.put(b"outside: out"),
@@ -55,6 +57,19 @@ fn put_words<E: Sink>(status: &Status, err: &mut E) -> Result<(), Failed>
         Status::Limit(Bound::Steps) => err.put(b"limit: steps"),
         Status::Limit(Bound::Events) => err.put(b"limit: events"),
         Status::NoMemory => err.put(b"no memory"),
+    }
+}
+
+fn put_feed_words<E: Sink>(fault: FeedFault, err: &mut E) -> Result<(), Failed>
+    ensures ok { OnOk result (Takes (E.taken err.old) (E.taken err.new) (feed_words fault)) }
+    ensures front { OnErr result (TakesFront (E.taken err.old) (E.taken err.new) (feed_words fault)) }
+    ensures rose { OnErr result (Rose (E.faults err.old) (E.faults err.new)) }
+    ensures never_falls { E.faults err.old ≤ E.faults err.new }
+{
+    match fault {
+        FeedFault::Line(number) => put_numbered(b"feed: line ", number as usize, err),
+        FeedFault::TooLong(bytes) => put_numbered(b"feed: too long ", bytes, err),
+        FeedFault::NoMemory => err.put(b"no memory"),
     }
 }
 

@@ -1,4 +1,5 @@
 use crate::words::WordFault;
+use tb_feed::FeedFault;
 use tb_script::ScriptFault;
 
 /// Which part of the outside failed.
@@ -23,6 +24,8 @@ pub enum Status {
     Ended,
     /// The script was refused; never for want of memory.
     Script(ScriptFault),
+    /// The feed was refused; never for want of memory.
+    Feed(FeedFault),
     /// The words were refused; never for want of memory.
     Words(WordFault),
     Outside(Edge),
@@ -41,6 +44,7 @@ impl Status {
         match self {
             Status::Ended => 0,
             Status::Script(_) => 1,
+            Status::Feed(_) => 1,
             Status::Words(_) => 2,
             Status::Outside(_) => 3,
             Status::Limit(_) => 4,

@@ -3,6 +3,7 @@ use crate::{Bound, Edge, Status, toolbus};
 use std::alloc::Global;
 use std::test::Fail;
 use tb_edge::{Bytes, HeldFile, MemFiles, MemSink};
+use tb_feed::FeedFault;
 use tb_lex::LexFault;
 use tb_parse::ParseFault;
 use tb_script::ScriptFault;
@@ -33,15 +34,41 @@ const NONE: Fails = Fails {
     err: 0,
 };
 
+fn file(alloc: Global, name: &str, bytes: &[u8]) -> Result<HeldFile, Fail> {
+    let name = Text::from_str(alloc, name)?.ok_or("no text")?;
+    let bytes = Bytes::from_slice(alloc, bytes)?;
+    Ok(HeldFile { name, bytes })
+}
+
 /// Calls the ToolBus with these words, which blanks part, and with files that hold one script, `a.tb`.
 fn call(alloc: Global, words: &str, script: &[u8], fails: Fails) -> Result<Called, Fail> {
+    let held = vec![in alloc; file(alloc, "a.tb", script)?]?;
+    call_on(alloc, words, held, fails)
+}
+
+/// The same, where a second file `f` holds a feed.
+fn call_fed(
+    alloc: Global,
+    words: &str,
+    script: &[u8],
+    feed: &[u8],
+    fails: Fails,
+) -> Result<Called, Fail> {
+    let held = vec![in alloc; file(alloc, "a.tb", script)?, file(alloc, "f", feed)?]?;
+    call_on(alloc, words, held, fails)
+}
+
+fn call_on(
+    alloc: Global,
+    words: &str,
+    held: Vec<HeldFile>,
+    fails: Fails,
+) -> Result<Called, Fail> {
     let mut list = Vec::new(alloc);
     for word in words.split_whitespace() {
         list.push(String::from_str(alloc, word)?)?;
     }
-    let name = Text::from_str(alloc, "a.tb")?.ok_or("no text")?;
-    let bytes = Bytes::from_slice(alloc, script)?;
-    let held = Items::from_vec(vec![in alloc; HeldFile { name, bytes }]?);
+    let held = Items::from_vec(held);
     let mut files = MemFiles::new(alloc, held, Items::from_vec(vec![in alloc; fails.files]?));
     let mut out = MemSink::new(
         alloc,
@@ -296,7 +323,7 @@ static REFUSALS: [Refusal; 19] = [
         "toolbus: words: range at 4\n",
     ),
     (
-        "sim a.tb --feed f",
+        "sim a.tb --connect c",
         NONE,
         2,
         "toolbus: words: not built at 3\n",
@@ -609,6 +636,194 @@ fn a_million_steps_are_the_limit(rt: HostRuntime) -> Result<(), Fail> {
     Ok(())
 }
 
+const IDLE: &str = "process P is delta toolbus(P)";
+
+/// Words, the script and the feed, which call of the files fails, the exit status, the log, and the line of a fault.
+type Feeding = (
+    &'static str,
+    &'static str,
+    &'static [u8],
+    u64,
+    u8,
+    &'static str,
+    &'static str,
+);
+
+static FEEDINGS: [Feeding; 15] = [
+    // A feed that says nothing is as none.
+    (
+        "sim a.tb --feed f",
+        IDLE,
+        b"",
+        0,
+        0,
+        "1 quiet\n2 noticks\n3 halt\n",
+        "",
+    ),
+    (
+        "sim --feed f a.tb",
+        IDLE,
+        b"\n\n\n",
+        0,
+        0,
+        "1 quiet\n2 noticks\n3 halt\n",
+        "",
+    ),
+    // It is read before the simulation begins, also where nothing would be handed in.
+    (
+        "sim a.tb --feed f",
+        "toolbus()",
+        b"tick\ntick",
+        0,
+        0,
+        "1 finish\n",
+        "",
+    ),
+    (
+        "sim a.tb --feed f",
+        "toolbus()",
+        b"tick\ntock",
+        0,
+        1,
+        "",
+        "toolbus: feed: line 2\n",
+    ),
+    (
+        "sim a.tb --feed f",
+        IDLE,
+        b"\n\ntick\r\n",
+        0,
+        1,
+        "",
+        "toolbus: feed: line 3\n",
+    ),
+    (
+        "sim a.tb --feed f",
+        IDLE,
+        b" tick",
+        0,
+        1,
+        "",
+        "toolbus: feed: line 1\n",
+    ),
+    (
+        "sim a.tb --feed f",
+        IDLE,
+        b"tick\nnoticks\n",
+        0,
+        1,
+        "",
+        "toolbus: feed: line 2\n",
+    ),
+    // The script comes first, whatever the feed is.
+    (
+        "sim a.tb --feed f",
+        "process P is Q toolbus(P)",
+        b"tock",
+        0,
+        1,
+        "",
+        "toolbus: script: no process at token 3\n",
+    ),
+    (
+        "sim a.tb --feed gone",
+        "process P is Q toolbus(P)",
+        b"",
+        0,
+        1,
+        "",
+        "toolbus: script: no process at token 3\n",
+    ),
+    // A file that isn't there, or fails.
+    (
+        "sim a.tb --feed gone",
+        IDLE,
+        b"",
+        0,
+        3,
+        "",
+        "toolbus: outside: file\n",
+    ),
+    (
+        "sim a.tb --feed f",
+        IDLE,
+        b"tock",
+        1,
+        3,
+        "",
+        "toolbus: outside: file\n",
+    ),
+    (
+        "sim a.tb --feed f",
+        IDLE,
+        b"tock",
+        2,
+        3,
+        "",
+        "toolbus: outside: file\n",
+    ),
+    (
+        "sim a.tb",
+        IDLE,
+        b"tock",
+        2,
+        0,
+        "1 quiet\n2 noticks\n3 halt\n",
+        "",
+    ),
+    // The script may be its own feed, which it seldom is.
+    (
+        "sim a.tb --feed a.tb",
+        "\n\ntoolbus()",
+        b"",
+        0,
+        1,
+        "",
+        "toolbus: feed: line 3\n",
+    ),
+    (
+        "check a.tb --feed f",
+        IDLE,
+        b"tick",
+        0,
+        2,
+        "",
+        "toolbus: words: unknown at 3\n",
+    ),
+];
+
+#[test]
+fn feeds_have_their_statuses(rt: HostRuntime) -> Result<(), Fail> {
+    for (words, script, feed, failing, status, out, err) in &FEEDINGS {
+        let fails = Fails {
+            files: *failing,
+            out: 0,
+            err: 0,
+        };
+        let called = call_fed(rt.alloc(), words, script.as_bytes(), feed, fails)?;
+        assert_eq!(rt; called.status.number(), *status, "{words}: {feed:?}");
+        assert_eq!(rt; called.out.as_slice(), out.as_bytes(), "{words}: {feed:?}");
+        assert_eq!(rt; called.err.as_slice(), err.as_bytes(), "{words}: {feed:?}");
+    }
+    Ok(())
+}
+
+#[test]
+fn the_longest_feed_is_read(rt: HostRuntime) -> Result<(), Fail> {
+    let alloc = rt.alloc();
+    let mut feed = Vec::new(alloc);
+    feed.resize(1_048_576, b'\n')?;
+    let called = call_fed(alloc, "sim a.tb --feed f", IDLE.as_bytes(), &feed, NONE)?;
+    assert_eq!(rt; called.status.number(), 0);
+    feed.push(b'\n')?;
+    let called = call_fed(alloc, "sim a.tb --feed f", IDLE.as_bytes(), &feed, NONE)?;
+    assert_eq!(rt; called.status.number(), 1);
+    let line = b"toolbus: feed: too long 1048577\n".as_slice();
+    assert_eq!(rt; called.err.as_slice(), line);
+    assert!(rt; called.out.as_slice().is_empty());
+    Ok(())
+}
+
 #[test]
 fn each_status_has_its_number(rt: HostRuntime) {
     let rows = [
@@ -617,6 +832,8 @@ fn each_status_has_its_number(rt: HostRuntime) {
         (Status::Script(ScriptFault::Lex(LexFault::TooMany)), 1),
         (Status::Script(ScriptFault::Parse(ParseFault::Syntax(0))), 1),
         (Status::Script(ScriptFault::Check(CheckFault::Twice(4))), 1),
+        (Status::Feed(FeedFault::Line(1)), 1),
+        (Status::Feed(FeedFault::TooLong(7)), 1),
         (Status::Words(WordFault::NoCommand), 2),
         (Status::Outside(Edge::Err), 3),
         (Status::Limit(Bound::Steps), 4),

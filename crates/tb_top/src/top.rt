@@ -1,13 +1,10 @@
-ghost use Rattle.std.specs.Prelude.{◌≡◌, ◌≢◌, ℕ, List, [], false, map, string_bytes, OnOk, OnErr, Ok};
+ghost use Rattle.std.specs.Prelude.{◌≡◌, ◌≢◌, ℕ, List, [], false, map, string_bytes, IfOk, IfErr, Err};
 ghost use Rattle.tb_edge.specs.Faults.{Rose};
-ghost use Rattle.tb_edge.specs.Sinks.{Takes, TakesFront};
-ghost use Rattle.tb_bus.specs.Traces.{IsTrace};
-ghost use Rattle.tb_bus.specs.Buses.{origin_of, start};
-ghost use Rattle.tb_sim.specs.Simulation.{IsSim, limits_of, sim_start};
+ghost use Rattle.tb_bus.specs.Buses.{origin_of};
 ghost use Rattle.tb_script.specs.Findings.{IsFound, Program'};
 ghost use Rattle.tb_top.specs.Words.{asked};
-ghost use Rattle.tb_top.specs.Outcomes.{Comes, CommandOutcome, FileOutcome, WorkOutcome, CheckOutcome, SimOutcome, Reported, AsksFor, script_of, ok_line};
-ghost use Rattle.tb_top.specs.Requests.{Reports, ProgramOutcome, OriginOutcome, AsksName, status_of_end};
+ghost use Rattle.tb_top.specs.Outcomes.{Comes, CommandOutcome, FileOutcome, WorkOutcome, CheckOutcome, SimOutcome, Reported, AsksFor, CommandAsks, IsFed, script_of, feed_of, ok_line};
+ghost use Rattle.tb_top.specs.Requests.{Reports, ProgramOutcome, OriginOutcome, IsUnread, AsksFeed, AsksFeedBy, WorkAsks, WritesLog, status_of_end};
 
 use crate::line::put_line;
 use crate::log_writer::{LogFault, put_log};
@@ -18,17 +15,19 @@ use tb_algebra::Rewriter;
 use tb_body::Program;
 use tb_core::Core;
 use tb_edge::{Failed, Files, FilesFault, Loaded, Sink};
+use tb_feed::{Feed, FeedFault, read_feed};
+use tb_log::Entry;
 use tb_script::{ScriptFault, load};
 use tb_sim::{SimEnd, simulate};
-use tb_terms::NoMemory;
+use tb_terms::{NoMemory, Text};
 
-/// A longer script is refused.
+/// A longer script or feed is refused.
 const MOST_BYTES: usize = 1_048_576;
 
 /// Does what the words of the command line ask for. `check SCRIPT` puts `ok` and a newline to `out`
-/// where the script in that file is accepted; `sim SCRIPT [--steps N] [--events N]` puts the log of its
-/// simulation, which makes so many steps and logs so many entries at most. Each status but `Ended` puts its one line to `err`, and where `err`
-/// fails at that, the status is `Outside(Err)`.
+/// where the script in that file is accepted; `sim SCRIPT [--feed FILE] [--steps N] [--events N]` puts the log of its
+/// simulation, which hands in what the feed in that file says, makes so many steps and logs so many entries at most.
+/// Each status but `Ended` puts its one line to `err`, and where `err` fails at that, the status is `Outside(Err)`.
 pub fn toolbus<F: Files, O: Sink, E: Sink>(
     alloc: Global,
     words: &Vec<String>,
@@ -41,7 +40,7 @@ pub fn toolbus<F: Files, O: Sink, E: Sink>(
         (Comes (asked (map string_bytes words.now.items)) (F.held files.old) (O.taken out.old) (O.taken out.new)
         (F.faults files.old) (F.faults files.new) (O.faults out.old) (O.faults out.new) (F.asked files.old) (F.asked files.new))
         (E.taken err.old) (E.taken err.new) result }
-    ensures asks { AsksFor (asked (map string_bytes words.now.items)) (F.asked files.old) (F.asked files.new) result }
+    ensures asks { AsksFor (asked (map string_bytes words.now.items)) (F.held files.old) (F.asked files.old) (F.asked files.new) result }
 
     // A thing of the outside is named only where it failed in this call.
     ensures file_rose { result ≡ Status.Outside Edge.File → Rose (F.faults files.old) (F.faults files.new) }
@@ -81,7 +80,7 @@ fn answer<F: Files, O: Sink>(
     out: &mut O,
 ) -> Status
     ensures outcome { CommandOutcome (asked (map string_bytes words.now.items)) (F.held files.old) (O.taken out.old) (O.taken out.new) result }
-    ensures asks { AsksFor (asked (map string_bytes words.now.items)) (F.asked files.old) (F.asked files.new) result }
+    ensures asks { AsksFor (asked (map string_bytes words.now.items)) (F.held files.old) (F.asked files.old) (F.asked files.new) result }
     ensures file_rose { result ≡ Status.Outside Edge.File → Rose (F.faults files.old) (F.faults files.new) }
     ensures out_rose { result ≡ Status.Outside Edge.Out → Rose (O.faults out.old) (O.faults out.new) }
     ensures not_err { result ≢ Status.Outside Edge.Err }
@@ -99,14 +98,14 @@ fn do_command<F: Files, O: Sink>(
     files: &mut F,
     out: &mut O,
 ) -> Status
-    ensures outcome { FileOutcome command.now (F.held files.old (script_of command.now)) (O.taken out.old) (O.taken out.new) result }
-    ensures asks { AsksName (script_of command.now) (F.asked files.old) (F.asked files.new) result }
+    ensures outcome { FileOutcome (F.held files.old) command.now (O.taken out.old) (O.taken out.new) result }
+    ensures asks { CommandAsks (F.held files.old) command.now (F.asked files.old) (F.asked files.new) result }
     ensures file_rose { result ≡ Status.Outside Edge.File → Rose (F.faults files.old) (F.faults files.new) }
     ensures out_rose { result ≡ Status.Outside Edge.Out → Rose (O.faults out.old) (O.faults out.new) }
     ensures not_err { result ≢ Status.Outside Edge.Err }
 {
     match files.load(alloc, script_of(command), MOST_BYTES) {
-        Ok(Loaded::Bytes(bytes)) => work_on_bytes(alloc, command, bytes.as_slice(), out),
+        Ok(Loaded::Bytes(bytes)) => work_on_bytes(alloc, command, bytes.as_slice(), files, out),
         Ok(Loaded::TooLong(len)) => Status::Script(ScriptFault::TooLong(len)),
         Err(FilesFault::Failed) => Status::Outside(Edge::File),
         Err(FilesFault::NoMemory) => Status::NoMemory,
@@ -123,37 +122,55 @@ fn script_of(command: &Command) -> &str
     }
 }
 
-fn work_on_bytes<O: Sink>(alloc: Global, command: &Command, bytes: &[u8], out: &mut O) -> Status
-    ensures outcome { WorkOutcome command.now bytes.now (O.taken out.old) (O.taken out.new) result }
+fn work_on_bytes<F: Files, O: Sink>(
+    alloc: Global,
+    command: &Command,
+    bytes: &[u8],
+    files: &mut F,
+    out: &mut O,
+) -> Status
+    ensures outcome { WorkOutcome (F.held files.old) command.now bytes.now (O.taken out.old) (O.taken out.new) result }
+    ensures asks { WorkAsks command.now bytes.now (F.asked files.old) (F.asked files.new) result }
+    ensures file_rose { result ≡ Status.Outside Edge.File → Rose (F.faults files.old) (F.faults files.new) }
     ensures out_rose { result ≡ Status.Outside Edge.Out → Rose (O.faults out.old) (O.faults out.new) }
 {
     match load(alloc, bytes) {
-        Ok(program) => work_on_program(alloc, command, program, out),
+        Ok(program) => work_on_program(alloc, command, program, files, out),
         Err(ScriptFault::NoMemory) => Status::NoMemory,
         Err(fault) => Status::Script(fault),
     }
 }
 
-fn work_on_program<O: Sink>(
+fn work_on_program<F: Files, O: Sink>(
     alloc: Global,
     command: &Command,
     program: Program,
+    files: &mut F,
     out: &mut O,
 ) -> Status
-    ensures outcome { ProgramOutcome command.now program (O.taken out.old) (O.taken out.new) result }
+    ensures outcome { ProgramOutcome (F.held files.old) command.now program (O.taken out.old) (O.taken out.new) result }
+    ensures asks { AsksFeed (feed_of command.now) (F.asked files.old) (F.asked files.new) result }
+    ensures file_rose { result ≡ Status.Outside Edge.File → Rose (F.faults files.old) (F.faults files.new) }
     ensures out_rose { result ≡ Status.Outside Edge.Out → Rose (O.faults out.old) (O.faults out.new) }
 {
     match command {
         Command::Check { .. } => accept(out),
-        Command::Sim { steps, events, .. } => {
-            simulate_program(alloc, program, *steps, *events, out)
-        }
+        Command::Sim {
+            feed,
+            steps,
+            events,
+            ..
+        } => match load_feed(alloc, feed, files) {
+            Ok(feed) => simulate_program(alloc, program, &feed, *steps, *events, out),
+            Err(status) => status,
+        },
     }
 }
 
 /// Says of a script that it is accepted.
 fn accept<O: Sink>(out: &mut O) -> Status
     ensures outcome { (bytes : List ℕ) (program : Program) → IsFound bytes (Program' program) → CheckOutcome bytes (O.taken out.old) (O.taken out.new) result }
+    ensures not_file { result ≢ Status.Outside Edge.File }
     ensures out_rose { result ≡ Status.Outside Edge.Out → Rose (O.faults out.old) (O.faults out.new) }
 {
     match out.put(b"ok\n") {
@@ -162,18 +179,46 @@ fn accept<O: Sink>(out: &mut O) -> Status
     }
 }
 
+/// The feed in the file of this name, or an empty one, where it isn't refused.
+fn load_feed<F: Files>(
+    alloc: Global,
+    name: &Option<Text>,
+    files: &mut F,
+) -> Result<Feed, Status>
+    ensures ok { IfOk result (IsFed (F.held files.old) name.now) }
+    ensures err { IfErr result (IsUnread (F.held files.old) name.now) }
+    ensures asks { AsksFeedBy name.now (F.asked files.old) (F.asked files.new) result }
+    ensures file_rose { result ≡ Err (Status.Outside Edge.File) → Rose (F.faults files.old) (F.faults files.new) }
+{
+    let Some(name) = name else {
+        return Ok(Feed::empty(alloc));
+    };
+    match files.load(alloc, name.as_str(), MOST_BYTES) {
+        Ok(Loaded::Bytes(bytes)) => match read_feed(alloc, bytes.as_slice()) {
+            Ok(feed) => Ok(feed),
+            Err(FeedFault::NoMemory) => Err(Status::NoMemory),
+            Err(fault) => Err(Status::Feed(fault)),
+        },
+        Ok(Loaded::TooLong(len)) => Err(Status::Feed(FeedFault::TooLong(len))),
+        Err(FilesFault::Failed) => Err(Status::Outside(Edge::File)),
+        Err(FilesFault::NoMemory) => Err(Status::NoMemory),
+    }
+}
+
 fn simulate_program<O: Sink>(
     alloc: Global,
     program: Program,
+    feed: &Feed,
     steps: u64,
     events: u32,
     out: &mut O,
 ) -> Status
-    ensures outcome { OriginOutcome steps (origin_of program events) (O.taken out.old) (O.taken out.new) result }
+    ensures outcome { OriginOutcome steps (origin_of program events) feed.now (O.taken out.old) (O.taken out.new) result }
+    ensures not_file { result ≢ Status.Outside Edge.File }
     ensures out_rose { result ≡ Status.Outside Edge.Out → Rose (O.faults out.old) (O.faults out.new) }
 {
     match Core::start(alloc, program, events) {
-        Ok(mut core) => simulate_core(alloc, &mut core, steps, out),
+        Ok(mut core) => simulate_core(alloc, &mut core, feed, steps, out),
         Err(NoMemory) => Status::NoMemory,
     }
 }
@@ -181,33 +226,29 @@ fn simulate_program<O: Sink>(
 fn simulate_core<O: Sink>(
     alloc: Global,
     core: &mut Core<Rewriter>,
+    feed: &Feed,
     steps: u64,
     out: &mut O,
 ) -> Status
     requires fresh { core.old.log ≡ [] }
     requires running { core.old.stopped ≡ false }
-    ensures outcome { OriginOutcome steps core.old.origin (O.taken out.old) (O.taken out.new) result }
+    ensures outcome { OriginOutcome steps core.old.origin feed.now (O.taken out.old) (O.taken out.new) result }
+    ensures not_file { result ≢ Status.Outside Edge.File }
     ensures out_rose { result ≡ Status.Outside Edge.Out → Rose (O.faults out.old) (O.faults out.new) }
 {
-    match simulate(core, steps) {
-        Ok(end) => write_log(alloc, core, steps, end, out),
+    match simulate(core, feed, steps) {
+        Ok(end) => write_log(alloc, core.log(), end, out),
         Err(NoMemory) => Status::NoMemory,
     }
 }
 
-/// Puts the log of a simulation with so many steps, which ended so.
-fn write_log<O: Sink>(
-    alloc: Global,
-    core: &Core<Rewriter>,
-    steps: u64,
-    end: SimEnd,
-    out: &mut O,
-) -> Status
-    requires { IsSim (limits_of steps core.now.origin) (sim_start (start core.now.origin)) core.now.log end }
-    ensures outcome { OriginOutcome steps core.now.origin (O.taken out.old) (O.taken out.new) result }
+/// Puts the log of a simulation that ended so.
+fn write_log<O: Sink>(alloc: Global, log: &[Entry], end: SimEnd, out: &mut O) -> Status
+    ensures outcome { WritesLog log.now end (O.taken out.old) (O.taken out.new) result }
+    ensures not_file { result ≢ Status.Outside Edge.File }
     ensures out_rose { result ≡ Status.Outside Edge.Out → Rose (O.faults out.old) (O.faults out.new) }
 {
-    match put_log(alloc, core.log(), out) {
+    match put_log(alloc, log, out) {
         Ok(()) => status_of(end),
         Err(LogFault::Out) => Status::Outside(Edge::Out),
         Err(LogFault::NoMemory) => Status::NoMemory,

@@ -14,10 +14,11 @@ pub enum Command {
     Check {
         script: Text,
     },
-    /// The log of the simulation of that script, which makes so many steps at most, and logs so many
-    /// entries at most.
+    /// The log of the simulation of that script and of the feed in the file of this name, or of an empty one;
+    /// it makes so many steps at most, and logs so many entries at most.
     Sim {
         script: Text,
+        feed: Option<Text>,
         steps: u64,
         events: u32,
     },
@@ -28,7 +29,8 @@ pub enum Command {
 pub enum WordFault {
     /// There were no words.
     NoCommand,
-    /// The word at this place is no command, no option of its command, or a script that is no string.
+    /// The word at this place is no command, no option of its command, or a file's name that is no
+    /// string.
     Unknown(usize),
     /// The script lacks, or the value of an option.
     Missing,

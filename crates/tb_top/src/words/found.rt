@@ -2,6 +2,7 @@
 #[derive(Clone, Copy)]
 pub struct Found<'w> {
     pub script: Option<&'w str>,
+    pub feed: Option<&'w str>,
     pub steps: Option<u64>,
     pub events: Option<u32>,
 }

@@ -3,8 +3,8 @@
 ghost use Rattle.std.specs.Prelude.{◌≡◌, ◌≢◌, ◌<◌, ◌≤◌, ◌^◌, length, map, string_bytes, option_map, option_copied, Ok, IsOk, IsTrue, IfOk, IfErr, Err};
 ghost use Rattle.tb_terms.specs.Names.{is_text, is_text_byte};
 ghost use Rattle.tb_read.specs.Spelling.{is_digits};
-ghost use Rattle.tb_top.specs.Words.{asked, verb_by, verb_of, is_option, is_unbuilt, part_by, option_by, own_option_by, script_by, limit_by, limit_in, and_script, and_steps, and_events, read_parts, parts_from, nothing, command_with};
-ghost use Rattle.tb_top.specs.WordReading.{found_of, answer_of, part_of, part_len, HasText};
+ghost use Rattle.tb_top.specs.Words.{asked, verb_by, verb_of, is_option, is_unbuilt, part_by, option_by, own_option_by, name_in, script_by, feed_by, limit_by, limit_in, and_script, and_feed, and_steps, and_events, read_parts, parts_from, nothing, command_by};
+ghost use Rattle.tb_top.specs.WordReading.{found_of, answer_of, bytes_of, part_of, part_len, HasText, IsText};
 
 use super::found::Found;
 use super::verb::Verb;
@@ -67,6 +67,7 @@ fn read_parts(verb: Verb, words: &[String]) -> Result<Found<'_>, WordFault>
 {
     let mut found = Found {
         script: None,
+        feed: None,
         steps: None,
         events: None,
     };
@@ -98,7 +99,7 @@ fn read_part<'w>(
     found: Found<'w>,
     place: usize,
     word: &'w str,
-    next: Option<&String>,
+    next: Option<&'w String>,
 ) -> Result<Found<'w>, WordFault>
     requires room { place < 2 ^ 63 }
     requires text { HasText (found_of found) }
@@ -114,20 +115,30 @@ fn read_part<'w>(
 
 /// A word that is no option.
 fn read_script<'w>(found: Found<'w>, place: usize, word: &'w str) -> Result<Found<'w>, WordFault>
+    requires { HasText (found_of found) }
     ensures found { answer_of result ≡ and_script (found_of found.entry) (script_by (option_copied found.entry.script) place word.now) }
     ensures text { IfOk result (λ found. HasText (found_of found)) }
 {
     if found.script.is_some() {
         return Err(WordFault::Extra(place));
     }
-    if !is_text(word.as_bytes()) {
-        return Err(WordFault::Unknown(place));
-    }
+    let script = name_in(place, word)?;
     Ok(Found {
-        script: Some(word),
-        steps: found.steps,
-        events: found.events,
+        script: Some(script),
+        ..found
     })
+}
+
+/// The name of a file.
+fn name_in(place: usize, word: &str) -> Result<&str, WordFault>
+    ensures name { bytes_of result ≡ name_in place word.now }
+    ensures text { IfOk result (λ name. IsTrue (is_text name.now)) }
+{
+    if is_text(word.as_bytes()) {
+        Ok(word)
+    } else {
+        Err(WordFault::Unknown(place))
+    }
 }
 
 fn is_text(bytes: &[u8]) -> bool
@@ -152,7 +163,7 @@ fn read_option<'w>(
     found: Found<'w>,
     place: usize,
     name: &str,
-    value: Option<&String>,
+    value: Option<&'w String>,
 ) -> Result<Found<'w>, WordFault>
     requires room { place < 2 ^ 63 }
     requires text { HasText (found_of found) }
@@ -166,6 +177,7 @@ fn read_option<'w>(
         Verb::Check => Err(WordFault::Unknown(place)),
         Verb::Sim if name == "--steps" => read_steps(found, place, value),
         Verb::Sim if name == "--events" => read_events(found, place, value),
+        Verb::Sim if name == "--feed" => read_feed(found, place, value),
         Verb::Sim => Err(WordFault::Unknown(place)),
     }
 }
@@ -174,7 +186,7 @@ fn read_option<'w>(
 fn is_unbuilt(name: &str) -> bool
     ensures { result ≡ is_unbuilt name.now }
 {
-    name == "--feed" || name == "--connect" || name == "--ticks"
+    name == "--connect" || name == "--ticks"
 }
 
 /// `--steps` with its value.
@@ -190,9 +202,8 @@ fn read_steps<'w>(
 {
     let steps = read_limit(found.steps, place, value)?;
     Ok(Found {
-        script: found.script,
         steps: Some(steps),
-        events: found.events,
+        ..found
     })
 }
 
@@ -209,9 +220,32 @@ fn read_events<'w>(
 {
     let events = read_limit(found.events.map(u64::from), place, value)?;
     Ok(Found {
-        script: found.script,
-        steps: found.steps,
         events: Some(events as u32),
+        ..found
+    })
+}
+
+/// `--feed` with its value.
+fn read_feed<'w>(
+    found: Found<'w>,
+    place: usize,
+    value: Option<&'w String>,
+) -> Result<Found<'w>, WordFault>
+    requires room { place < 2 ^ 63 }
+    requires text { HasText (found_of found) }
+    ensures found { answer_of result ≡ and_feed (found_of found.entry) (feed_by (option_copied found.entry.feed) place (option_map string_bytes (option_copied value.entry))) }
+    ensures text { IfOk result (λ found. HasText (found_of found)) }
+{
+    if found.feed.is_some() {
+        return Err(WordFault::Extra(place));
+    }
+    let Some(value) = value else {
+        return Err(WordFault::Missing);
+    };
+    let feed = name_in(place + 1, value.as_str())?;
+    Ok(Found {
+        feed: Some(feed),
+        ..found
     })
 }
 
@@ -262,9 +296,9 @@ fn is_digits(bytes: &[u8]) -> bool
 /// The command, where the script was found.
 fn make_command(alloc: Global, verb: Verb, found: Found<'_>) -> Result<Command, WordFault>
     requires { HasText (found_of found) }
-    ensures ok { IfOk result (λ command. command_with verb (option_copied found.entry.script) found.entry.steps found.entry.events ≡ Ok command) }
-    ensures fault { IfErr result (λ fault. fault ≢ WordFault.NoMemory → command_with verb (option_copied found.entry.script) found.entry.steps found.entry.events ≡ Err fault) }
-    ensures memory { result ≡ Err WordFault.NoMemory → IsOk (command_with verb (option_copied found.entry.script) found.entry.steps found.entry.events) }
+    ensures ok { IfOk result (λ command. command_by verb (Ok (found_of found.entry)) ≡ Ok command) }
+    ensures fault { IfErr result (λ fault. fault ≢ WordFault.NoMemory → command_by verb (Ok (found_of found.entry)) ≡ Err fault) }
+    ensures memory { result ≡ Err WordFault.NoMemory → IsOk (command_by verb (Ok (found_of found.entry))) }
 {
     let Some(script) = found.script else {
         return Err(WordFault::Missing);
@@ -273,14 +307,27 @@ fn make_command(alloc: Global, verb: Verb, found: Found<'_>) -> Result<Command, 
     match verb {
         Verb::Check => Ok(Command::Check { script }),
         Verb::Sim => {
+            let feed = make_name(alloc, found.feed)?;
             let steps = found.steps.unwrap_or(USUAL_LIMIT);
             let events = found.events.unwrap_or(USUAL_EVENTS);
             Ok(Command::Sim {
                 script,
+                feed,
                 steps,
                 events,
             })
         }
+    }
+}
+
+fn make_name(alloc: Global, word: Option<&str>) -> Result<Option<Text>, WordFault>
+    requires { IsText (option_copied word) }
+    ensures ok { IfOk result (λ name. name ≡ option_copied word.entry) }
+    ensures fault { IfErr result (λ fault. fault ≡ WordFault.NoMemory) }
+{
+    match word {
+        Some(word) => Ok(Some(make_text(alloc, word)?)),
+        None => Ok(None),
     }
 }
 

@@ -9,14 +9,16 @@ enum Answer {
     Check,
     /// The simulation of `a.tb` with so many steps and entries.
     Sim(u64, u32),
+    /// The simulation of `a.tb` and the feed of this name.
+    Fed(&'static str),
     Fault(WordFault),
 }
 
-use Answer::{Check, Fault, Sim};
+use Answer::{Check, Fault, Fed, Sim};
 use WordFault::{Extra, Missing, NoCommand, NotBuilt, Number, Range, Unknown};
 
 /// Words that blanks part, and what they ask for.
-static ROWS: [(&str, Answer); 69] = [
+static ROWS: [(&str, Answer); 80] = [
     ("", Fault(NoCommand)),
     // The first word.
     ("check a.tb", Check),
@@ -40,14 +42,25 @@ static ROWS: [(&str, Answer); 69] = [
     ("check a.tb check", Fault(Extra(3))),
     // Options.
     ("check --steps 5 a.tb", Fault(Unknown(2))),
-    ("check a.tb --feed f", Fault(NotBuilt(3))),
+    ("check a.tb --feed f", Fault(Unknown(3))),
     ("check -- a.tb", Fault(Unknown(2))),
     ("sim --", Fault(Unknown(2))),
     ("sim a.tb --step 5", Fault(Unknown(3))),
     ("sim a.tb --stepss 5", Fault(Unknown(3))),
     ("sim --ticks 5 a.tb", Fault(NotBuilt(2))),
     ("sim --steps=5 a.tb", Fault(Unknown(2))),
-    ("sim a.tb --feed f", Fault(NotBuilt(3))),
+    ("sim a.tb --feed f", Fed("f")),
+    ("sim --feed f a.tb", Fed("f")),
+    ("sim a.tb --feed a.tb", Fed("a.tb")),
+    ("sim --feed --feed a.tb", Fed("--feed")),
+    ("sim --feed --steps a.tb --steps 1000000", Fed("--steps")),
+    ("sim a.tb --feed", Fault(Missing)),
+    ("sim --feed a.tb", Fault(Missing)),
+    ("sim a.tb --feed f --feed g", Fault(Extra(5))),
+    ("sim a.tb --feed f --feed", Fault(Extra(5))),
+    ("sim a.tb --feed f g", Fault(Extra(5))),
+    ("sim a.tb --feeds f", Fault(Unknown(3))),
+    ("sim a.tb --feed=f", Fault(Unknown(3))),
     ("sim --connect c a.tb", Fault(NotBuilt(2))),
     ("sim a.tb --events", Fault(Missing)),
     ("sim --steps 5 --events 5", Fault(Missing)),
@@ -96,7 +109,7 @@ static ROWS: [(&str, Answer); 69] = [
     ("sim --steps 0 --ticks", Fault(Range(3))),
     ("sim --ticks --steps 0", Fault(NotBuilt(2))),
     ("sim --steps x --feed", Fault(Number(3))),
-    ("check --feed", Fault(NotBuilt(2))),
+    ("check --feed", Fault(Unknown(2))),
 ];
 
 fn is_answer(answer: &Result<Command, WordFault>, expected: Answer, script: &str) -> bool {
@@ -106,12 +119,24 @@ fn is_answer(answer: &Result<Command, WordFault>, expected: Answer, script: &str
             Ok(
                 Command::Sim {
                     script: name,
+                    feed: None,
                     steps,
                     events,
                 },
             ),
             Sim(most, entries),
         ) => { name.as_str() == script && *steps == most && *events == entries }
+        (
+            Ok(
+                Command::Sim {
+                    script: name,
+                    feed: Some(feed),
+                    steps: 1_000_000,
+                    events: 1_000_000,
+                },
+            ),
+            Fed(file),
+        ) => { name.as_str() == script && feed.as_str() == file }
         (Err(fault), Fault(other)) => *fault == other,
         _ => false,
     }
@@ -141,7 +166,7 @@ fn of_two(alloc: Global, first: &str, second: &str) -> Result<Result<Command, Wo
 }
 
 /// Words that blanks can't part: two behind `sim`, and the script's name where they ask for one.
-static ODD: [(&str, &str, Answer, &str); 12] = [
+static ODD: [(&str, &str, Answer, &str); 14] = [
     ("", "", Fault(Extra(3)), ""),
     ("", "--steps", Fault(Missing), ""),
     ("--steps", "", Fault(Number(3)), ""),
@@ -155,9 +180,11 @@ static ODD: [(&str, &str, Answer, &str); 12] = [
     (
         "\t\r\n \u{7f}\u{e9}\u{10ffff}",
         "--feed",
-        Fault(NotBuilt(3)),
+        Fault(Missing),
         "",
     ),
+    ("--feed", "a\u{0}", Fault(Unknown(3)), ""),
+    ("--feed", "", Fault(Missing), ""),
     ("\u{b}", "", Fault(Unknown(2)), ""),
 ];
 
