@@ -1,10 +1,10 @@
 -- Worked scripts with feeds of ticks, computed from the definitions alone.
-use Rattle.std.proofs.Common.{◌≡◌, ℕ, codes, pos, List, [], ◌∷◌, refl, sym, subst, false, true, rules, Some, Option, option_and_then, Bool}
+use Rattle.std.proofs.Common.{◌≡◌, ℕ, codes, pos, List, [], ◌∷◌, refl, sym, subst, false, true, rules, Some, option_and_then, Bool}
 use Rattle.tb_terms.specs.declared.expr.Expr.{the_lemmas as expr_lemmas}
 use Rattle.tb_terms.specs.declared.term.Term.{the_lemmas as term_lemmas}
 use Rattle.tb_func.specs.Arguments.{int_of}
 use Rattle.tb_func.specs.Values.{value_of}
-use Rattle.tb_body.specs.declared.tree.Tree.{Tree, the_lemmas as tree_lemmas}
+use Rattle.tb_body.specs.declared.tree.Tree.{the_lemmas as tree_lemmas}
 use Rattle.tb_body.specs.declared.tree.Tree.TheVariants as tree
 use Rattle.tb_body.specs.declared.act.Act.TheVariants as act
 use Rattle.tb_body.specs.declared.atom.Atom.{Atom}
@@ -15,19 +15,18 @@ use Rattle.tb_body.specs.declared.body.Body.{Body}
 use Rattle.tb_body.specs.declared.program.Program.{Program}
 use Rattle.tb_body.specs.InRange.{is_body_in_range}
 use Rattle.tb_body.specs.Programs.{is_program_in_range}
-use Rattle.tb_algebra.specs.Processes.{Process, At, Seq, Alt, Star, Par, fresh}
+use Rattle.tb_algebra.specs.Processes.{Process, At, Seq, Alt, Par, fresh}
 use Rattle.tb_bus.specs.declared.origin.Origin.{Origin}
 use Rattle.tb_bus.specs.Buses.{Bus, Proc, start}
 use Rattle.tb_bus.specs.Steps.{steps, moves, moves_of_all, moves_of, handshakes, handshakes_with, advance}
-use Rattle.tb_sim.specs.Simulation.{Limits, Sim, IsSim, limits_of, sim_start}
+use Rattle.tb_sim.specs.Simulation.{Sim, IsSim, limits_of, sim_start}
 use Rattle.tb_log.specs.declared.entry.Entry.{Entry}
-use Rattle.tb_log.specs.declared.entry.Entry.TheVariants.{Did, Quiet, Fed}
+use Rattle.tb_log.specs.declared.entry.Entry.TheVariants.{Quiet, Fed}
 use Rattle.tb_log.specs.declared.entry.Input.{Input}
 use Rattle.tb_log.specs.declared.entry.Input.TheVariants.{Tick, NoTicks}
 use Rattle.tb_log.specs.declared.entry.Reply.TheVariants.{Took}
-use Rattle.tb_sim.specs.declared.ends.SimEnd.{SimEnd}
 use Rattle.tb_sim.specs.declared.ends.SimEnd.TheVariants.{Down, Events}
-use Rattle.tb_sim.proofs.Rows.{a-wanted, at, delta, finish, fresh-one, halt, number, plain, root, star, fresh-star, stuck, tau_of, word, worth}
+use Rattle.tb_sim.proofs.Rows.{a-wanted, at, finish, fresh-one, halt, number, plain, root, star, fresh-star, stuck, tau_of, word}
 
 -- a bus that is up and has seen so many ticks
 abbrev bus_at : Program → List Proc → ℕ → ℕ → Bool → Bus

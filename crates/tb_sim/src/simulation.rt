@@ -74,11 +74,7 @@ fn hand_in_next<W: Walker>(
 }
 
 /// Hands in an input, and has come so far then.
-fn hand_in<W: Walker>(
-    core: &mut Core<W>,
-    input: Input,
-    next: Progress,
-) -> Result<Turned, NoMemory>
+fn hand_in<W: Walker>(core: &mut Core<W>, input: Input, next: Progress) -> Result<Turned, NoMemory>
     requires running { core.old.stopped ≡ false }
     requires in_form { IsInForm input }
     ensures ok { IfOk result (HandsIn input next core.old core.new) }
@@ -94,11 +90,7 @@ fn hand_in<W: Walker>(
 /// Runs a core to its end, always by the first of the steps, and makes at most this many. Where none is possible, the
 /// next of the feed is handed in, and behind its last that no more ticks come. The end is `Events` where its log has
 /// no room for the next entry. After an `Err` the log is a prefix of the one that the simulation makes.
-pub fn simulate<W: Walker>(
-    core: &mut Core<W>,
-    feed: &Feed,
-    steps: u64,
-) -> Result<SimEnd, NoMemory>
+pub fn simulate<W: Walker>(core: &mut Core<W>, feed: &Feed, steps: u64) -> Result<SimEnd, NoMemory>
     requires fresh { core.old.log ≡ [] }
     requires running { core.old.stopped ≡ false }
     ensures origin { core.new.origin ≡ core.old.origin }

@@ -58,12 +58,7 @@ fn call_fed(
     call_on(alloc, words, held, fails)
 }
 
-fn call_on(
-    alloc: Global,
-    words: &str,
-    held: Vec<HeldFile>,
-    fails: Fails,
-) -> Result<Called, Fail> {
+fn call_on(alloc: Global, words: &str, held: Vec<HeldFile>, fails: Fails) -> Result<Called, Fail> {
     let mut list = Vec::new(alloc);
     for word in words.split_whitespace() {
         list.push(String::from_str(alloc, word)?)?;

@@ -180,11 +180,7 @@ fn accept<O: Sink>(out: &mut O) -> Status
 }
 
 /// The feed in the file of this name, or an empty one, where it isn't refused.
-fn load_feed<F: Files>(
-    alloc: Global,
-    name: &Option<Text>,
-    files: &mut F,
-) -> Result<Feed, Status>
+fn load_feed<F: Files>(alloc: Global, name: &Option<Text>, files: &mut F) -> Result<Feed, Status>
     ensures ok { IfOk result (IsFed (F.held files.old) name.now) }
     ensures err { IfErr result (IsUnread (F.held files.old) name.now) }
     ensures asks { AsksFeedBy name.now (F.asked files.old) (F.asked files.new) result }

@@ -1,10 +1,9 @@
-use Rattle.std.proofs.Common.{rules, tests, ◌≡◌, ◌==◌, ℕ, ◌+◌, List, [], ◌∷◌, ◌++◌, length, subst, sym, ◌∙◌, Bor, arith, true, length-append}
+use Rattle.std.proofs.Common.{rules, tests, ◌≡◌, ◌==◌, ℕ, List, [], ◌∷◌, ◌++◌, subst, sym, arith, true, length-append}
 use Rattle.std.specs.List.{All}
 use Rattle.std.proofs.lemmas.Iterator.Consumers.{YieldsList-at}
 use Rattle.std.proofs.lemmas.Iterator.Splits.{YieldsList-from_slice_split}
 use Rattle.std.proofs.lemmas.List.Elements.{All-push}
-use Rattle.tb_log.specs.declared.entry.Input.{Input}
-use Rattle.tb_feed.specs.Feeds.{MayBeFed, SayAll, is_full, IsFeedOf, lines_of}
+use Rattle.tb_feed.specs.Feeds.{MayBeFed, SayAll, is_full, IsFeedOf}
 use Rattle.tb_feed.proofs.FeedLemmas.{full-by, next-bad, read_lines, read-more, says-may}
 use Rattle.tb_feed.proofs.Roads.{next-part, last-part}
 use Rattle.tb_feed.proofs.reading.read_feed.Goals as goal
@@ -31,7 +30,7 @@ returns-in-None-input_of-clause-fault c =
     let lines = c.loop-line.yielded in
     let line = c.in-Some.line in
     let at = next-part lines _ c.loop-line.yielded_by _ _ line c.in-Some.is c.next.ensures.steps
-        (YieldsList-at c.into_iter-line-iterator.ensures.into_iter_gives (YieldsList-from_slice_split _ (λ b. b == 10) text c.split-line-items.ensures.rest c.split-line-items.ensures.done c.split-line-items.ensures.closure (λ x r q k. search (rules, tests)))) in
+    (YieldsList-at c.into_iter-line-iterator.ensures.into_iter_gives (YieldsList-from_slice_split _ (λ b. b == 10) text c.split-line-items.ensures.rest c.split-line-items.ensures.done c.split-line-items.ensures.closure (λ x r q k. search (rules, tests)))) in
     next-bad text lines line c.loop-line.number c.loop-line.inputs.items at.0 at.1 c.loop-line.invariant.counted c.loop-line.invariant.said
     (full-by line.now c.is_empty.ensures c.if-is_empty.false) c.in-None-input_of.ensures
 
@@ -40,5 +39,5 @@ returns-clause-ok c =
     let text = c.args.bytes.now in
     let lines = c.loop-line.yielded in
     let all = last-part lines _ c.loop-line.yielded_by _ _ c.in-None.is c.next.ensures.steps
-        (YieldsList-at c.into_iter-line-iterator.ensures.into_iter_gives (YieldsList-from_slice_split _ (λ b. b == 10) text c.split-line-items.ensures.rest c.split-line-items.ensures.done c.split-line-items.ensures.closure (λ x r q k. search (rules, tests)))) in
+    (YieldsList-at c.into_iter-line-iterator.ensures.into_iter_gives (YieldsList-from_slice_split _ (λ b. b == 10) text c.split-line-items.ensures.rest c.split-line-items.ensures.done c.split-line-items.ensures.closure (λ x r q k. search (rules, tests)))) in
     subst (IsFeedOf text) (sym c.new.ensures) (subst (λ (ls : List (List ℕ)). SayAll ls c.loop-line.inputs.items) all c.loop-line.invariant.said)

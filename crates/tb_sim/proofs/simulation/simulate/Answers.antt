@@ -1,4 +1,4 @@
-use Rattle.std.proofs.Common.{◌+◌, List, ap, arith}
+use Rattle.std.proofs.Common.{List, ap, arith}
 use Rattle.tb_log.specs.declared.entry.Entry.{Entry}
 use Rattle.tb_core.specs.Cores.{ends_quiet}
 use Rattle.tb_sim.specs.Turns.{Goes}

@@ -14,6 +14,6 @@ returns-in-Ok-clause-outcome g c =
     let log = c.simulate.new.core.log in
     let last = c.in-Ok.end in
     let trace : IsTrace (start c.args.core.now.origin) log =
-        subst (λ (o : Origin). IsTrace (start o) log) c.in-Ok.ensures.origin c.log.ensures.trace in
+    subst (λ (o : Origin). IsTrace (start o) log) c.in-Ok.ensures.origin c.log.ensures.trace in
     let written : WritesLog log last old new c.write_log.result = subst (λ (l : List Entry). WritesLog l last old new c.write_log.result) c.log.ensures.value c.write_log.ensures.outcome in
     log-written c.args.steps c.args.core.now.origin c.args.feed.now log last old new c.write_log.result c.in-Ok.ensures.ok trace written
