@@ -10,10 +10,9 @@ use Rattle.tb_algebra.specs.Processes.{At}
 use Rattle.tb_algebra.specs.Offers.{Offered, offers}
 use Rattle.tb_bus.specs.Buses.{Bus, Proc, atoms_of}
 use Rattle.tb_bus.specs.Steps.{Move, Own, Handshake, Finish, Halt}
-use Rattle.tb_algebra.specs.Walks.{sorts_of}
 use Rattle.tb_notes.specs.Inboxes.{nothing, oldest_match}
 use Rattle.tb_bus.specs.Effects.{Effect, effect_of}
-use Rattle.tb_bus.specs.Candidates.{Row, Scene, row_at, readies, all_take, wanting, may_happen, scene_of}
+use Rattle.tb_bus.specs.Candidates.{Row, Scene, row_at, readies, all_take, wanting, may_happen}
 use Rattle.tb_bus.specs.declared.marks.Marks.{Marks}
 use Rattle.tb_bus.specs.declared.action.Action.{Action}
 use Rattle.tb_bus.specs.declared.action.Action.TheVariants as action
