@@ -1,5 +1,5 @@
 -- A process that is created stands behind all others.
-use Rattle.std.proofs.Common.{◌≡◌, ℕ, ◌+◌, ◌<◌, ◌≤◌, ◌&&◌, zero, suc, List, [], ◌∷◌, ◌++◌, length, refl, ap, sym, subst, ◌∙◌, arith, Some, true, slice_get, get_or, nat_lt, inl, inr, Contains}
+use Rattle.std.proofs.Common.{◌≡◌, ℕ, ◌+◌, ◌<◌, zero, suc, List, [], ◌∷◌, ◌++◌, length, refl, ap, sym, subst, ◌∙◌, arith, Some, true, slice_get, get_or, inl, inr, Contains}
 use Rattle.std.specs.Global.{Vec}
 use Rattle.std.specs.List.{All}
 use Rattle.std.proofs.lemmas.Bool.{lt-ltb}
@@ -13,7 +13,7 @@ use Rattle.tb_bus.specs.Candidates.{ascend, row_of, rows_of}
 use Rattle.tb_bus.specs.declared.living.Living.{Living}
 use Rattle.tb_bus.proofs.TurnLemmas.{ascend-first}
 use Rattle.tb_core.specs.Lives.{IsBelow, IsLive, proc_in, procs_of}
-use Rattle.tb_core.specs.LiveBuses.{IsChanged, IsFreshOr, IsKept, IsSound, bus_of, procs_in}
+use Rattle.tb_core.specs.LiveBuses.{IsChanged, IsFreshOr, IsSound, bus_of, procs_in}
 use Rattle.tb_core.specs.declared.bus.LiveBus.{LiveBus}
 use Rattle.tb_core.proofs.ReadLemmas.{above-there, all-there, some-at}
 

@@ -1,4 +1,4 @@
-use Rattle.std.proofs.Common.{ap, sym, ◌∙◌, ◌<◌, subst}
+use Rattle.std.proofs.Common.{sym, ◌<◌, subst}
 use Rattle.std.proofs.lemmas.Result.{on_ok_weaker}
 use Rattle.tb_core.proofs.ReadLemmas.{read-there}
 use Rattle.tb_core.proofs.HoldLemmas.{same-set, spare-set, spare-here}

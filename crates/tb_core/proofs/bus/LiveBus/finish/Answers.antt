@@ -1,4 +1,4 @@
-use Rattle.std.proofs.Common.{◌∙◌, ap}
+use Rattle.std.proofs.Common.{ap}
 use Rattle.tb_bus.specs.Buses.{Bus}
 use Rattle.tb_core.proofs.bus.LiveBus.finish.Goals as goal
 

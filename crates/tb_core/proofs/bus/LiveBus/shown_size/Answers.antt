@@ -1,12 +1,11 @@
-use Rattle.std.proofs.Common.{◌<◌, ◌≡◌, ◌∙◌, ap, arith, length, min, subst, sym}
+use Rattle.std.proofs.Common.{◌<◌, ◌∙◌, ap, arith, length, min, subst, sym}
 use Rattle.std.below.core.specs.declared.int.usize.TheConstants.{MAX}
 use Rattle.std.proofs.lemmas.List.{length-map}
 use Rattle.tb_log.specs.Limits.{terms_size}
 use Rattle.tb_notes.specs.Inboxes.{Held}
 use Rattle.tb_bus.specs.Effects.{note_at}
-use Rattle.tb_bus.specs.Candidates.{Row, no_row, row_of, rows_of}
-use Rattle.tb_bus.specs.Views.{ready_at, IsCandidateIn}
-use Rattle.tb_bus.specs.declared.candidate.Candidate.TheVariants.{TakeNote}
+use Rattle.tb_bus.specs.Candidates.{Row, no_row, row_of}
+use Rattle.tb_bus.specs.Views.{IsCandidateIn}
 use Rattle.tb_bus.specs.declared.living.Ready.{Ready}
 use Rattle.tb_bus.specs.Steps.{label_of}
 use Rattle.tb_core.specs.LiveBuses.{move_in, scene_in}
