@@ -13,16 +13,17 @@ use Rattle.tb_algebra.specs.Offers.{Offered}
 use Rattle.tb_algebra.specs.Walks.{Walking, is_end, fired, sorts_of}
 use Rattle.tb_algebra.specs.WalkerViews.{View}
 use Rattle.tb_algebra.proofs.Sorts.{sorts-with_binds}
+use Rattle.tb_notes.specs.Inboxes.{Contents}
 use Rattle.tb_bus.specs.Buses.{Bus, Proc, proc_left}
 use Rattle.tb_bus.specs.Steps.{advance}
 use Rattle.tb_bus.specs.Candidates.{row_at, row_of, rows_of, no_row, ascend, Row}
 use Rattle.tb_bus.specs.Views.{proc_at, no_proc}
 use Rattle.tb_bus.specs.declared.living.Living.{Living}
 use Rattle.tb_bus.proofs.TurnLemmas.{ascend-first}
-use Rattle.tb_core.specs.Lives.{IsLive, term_in, proc_by, proc_in, procs_of}
+use Rattle.tb_core.specs.Lives.{IsBelow, IsLive, term_in, proc_by, proc_in, procs_of}
 use Rattle.tb_core.specs.LiveBuses.{IsSound, IsFreshOr, IsAdvanced, AreAdvanced, Leaves, CanAdvance, bus_of, procs_in}
 use Rattle.tb_core.specs.declared.bus.LiveBus.{LiveBus}
-use Rattle.tb_core.proofs.ReadLemmas.{LiveAt, live-at, read-is}
+use Rattle.tb_core.proofs.ReadLemmas.{LiveAt, above-there, all-there, live-at, proc-number, read-is}
 use Rattle.tb_core.proofs.SetLemmas.{ascend-set, set-other}
 
 goes-by : (number : ℕ) (offered : Offered) (binds : List Bind) (proc : Proc) (rest : List Proc) (b : Bool) → b ≡ true →
@@ -79,10 +80,6 @@ unfolding advance
 advance-swap a b oa ob ba bb [] h = refl
 advance-swap a b oa ob ba bb (proc ∷ procs) h = swap-by a b oa ob ba bb proc procs (proc.number == a) (proc.number == b) refl refl h (advance-swap a b oa ob ba bb procs h)
 
-proc-number : {W P T : Type 0} (view : View P W T) (plan : Option P) (living : Living W) → (proc_by view plan living).number ≡ living.number
-proc-number view None living = refl
-proc-number view (Some plan) living = refl
-
 -- those with greater numbers stay
 advance-above : {W P T : Type 0} (view : View P W T) (plans : List P) (number below : ℕ) (offered : Offered) (binds : List Bind) (all : List (Living W)) → number ≤ below → ascend below (rows_of all) ≡ true →
     advance number offered binds (procs_of view plans all) ≡ procs_of view plans all
@@ -99,24 +96,13 @@ left-alive : (proc : Proc) (store : List Slot) (term : Option Process) → is_en
 left-alive proc store None e = cc
 left-alive proc store (Some term) e = refl
 
--- each number is above the bound
-above-there : {W : Type 0} (below : ℕ) (all : List (Living W)) (at : ℕ) (living : Living W) → ascend below (rows_of all) ≡ true → slice_get all at ≡ Some living → below < living.number
-above-there below [] at living h here = cc
-above-there below (first ∷ all) zero living h here =
-    let same : first ≡ living = cc in
-    let t = ascend-first below (row_of first) (rows_of all) h in
-    subst (λ (l : Living _). below < l.number) same t.0
-above-there below (first ∷ all) (suc at) living h here =
-    let t = ascend-first below (row_of first) (rows_of all) h in
-    let above = above-there first.number all at living t.1 here in
-    omega arith
-
 -- what one of the living is after it went on
 pub record Went {W P T : Type 0} (view : View P W T) (plan : P) (before : Living W) (offered : Offered) (binds : List Bind) (after : Living W) : Type 0 where
   pub is_on : view.is_on plan after.walker
   pub goes : view.walking plan after.walker ≡ fired binds (view.walking plan before.walker).ticks offered
   pub number : after.number ≡ before.number
   pub body : after.body ≡ before.body
+  pub inbox : after.inbox ≡ before.inbox
   pub stale : after.fresh ≡ false
 
 -- what is left of the process is what the one that went on stands for
@@ -124,11 +110,14 @@ left-moved : {W P T : Type 0} (view : View P W T) (plans : List P) (plan : P) (b
     Went view plan before offered binds after → slice_get plans before.body ≡ Some plan → is_end (view.walking plan after.walker).term ≡ false →
     proc_left (proc_in view plans before) (with_binds offered.store binds) offered.residual ≡ proc_in view plans after ∷ []
 left-moved view plans plan before offered binds after went h alive =
+    let term = term_in (view.walking plan after.walker).term in
+    let store = (view.walking plan after.walker).store in
     ap (λ (v : Walking). proc_left (proc_in view plans before) v.store v.term) (sym went.goes)
-    ∙ left-alive (proc_in view plans before) (view.walking plan after.walker).store (view.walking plan after.walker).term alive
-    ∙ ap (λ o. let p : Proc = record (proc_by view o before) { term = term_in (view.walking plan after.walker).term; store = (view.walking plan after.walker).store } in p ∷ []) h
-    ∙ ap (λ (n : ℕ). let p : Proc = record { number = n; body = before.body; term = term_in (view.walking plan after.walker).term; store = (view.walking plan after.walker).store } in p ∷ []) (sym went.number)
-    ∙ ap (λ (b : ℕ). let p : Proc = record { number = after.number; body = b; term = term_in (view.walking plan after.walker).term; store = (view.walking plan after.walker).store } in p ∷ []) (sym went.body)
+    ∙ left-alive (proc_in view plans before) store (view.walking plan after.walker).term alive
+    ∙ ap (λ o. let p : Proc = record (proc_by view o before) { term = term; store = store } in p ∷ []) h
+    ∙ ap (λ (n : ℕ). let p : Proc = record { number = n; body = before.body; term = term; store = store; inbox = before.inbox.held } in p ∷ []) (sym went.number)
+    ∙ ap (λ (b : ℕ). let p : Proc = record { number = after.number; body = b; term = term; store = store; inbox = before.inbox.held } in p ∷ []) (sym went.body)
+    ∙ ap (λ (i : Contents). let p : Proc = record { number = after.number; body = after.body; term = term; store = store; inbox = i.held } in p ∷ []) (sym went.inbox)
     ∙ ap (λ o. proc_by view o after ∷ []) (sym (ap (slice_get plans) went.body ∙ h))
 
 -- A process that goes on is put in its place.
@@ -271,6 +260,8 @@ advanced-set view bus at before plan offered binds after over living sound read 
     record {
       sound = record {
         in_order = ap (λ (all : List (Living _)). ascend 0 (rows_of all)) e ∙ ascend-set 0 bus.living.items at before after it.here went.number ∙ sound.in_order;
+        below = subst (All (IsBelow bus.marks.next_number)) (sym e) (All-set (IsBelow bus.marks.next_number) bus.living.items at after
+            (subst (λ n. n < bus.marks.next_number) (sym went.number) (all-there (IsBelow bus.marks.next_number) bus.living.items at before sound.below it.here)) sound.below);
         planned = sound.planned;
         live = subst (All (IsLive view bus.plans bus.ticks)) (sym e) (All-set (IsLive view bus.plans bus.ticks) bus.living.items at after (went-live view bus at before offered binds after it goes sorts lives) sound.live);
         fresh = subst (All (IsFreshOr bus.stale.items)) (sym e) (All-set (IsFreshOr bus.stale.items) bus.living.items at after
@@ -280,6 +271,7 @@ advanced-set view bus at before plan offered binds after over living sound read 
           (ap (procs_of view bus.plans) e ∙ procs-set view bus.plans it.plan 0 bus.living.items at before offered binds after sound.in_order it.here goes it.planned lives);
       origin = refl;
       plans = refl;
+      marks = refl;
     }
 
 ended-none : (term : Option Process) → is_end term ≡ true → term ≡ None
@@ -296,6 +288,7 @@ advanced-removed view bus at before plan offered binds after over living sound r
     record {
       sound = record {
         in_order = ap (λ (all : List (Living _)). ascend 0 (rows_of all)) e ∙ ascend-removed 0 bus.living.items at sound.in_order;
+        below = subst (All (IsBelow bus.marks.next_number)) (sym e) (All-removed (IsBelow bus.marks.next_number) bus.living.items at sound.below);
         planned = sound.planned;
         live = subst (All (IsLive view bus.plans bus.ticks)) (sym e) (All-removed (IsLive view bus.plans bus.ticks) bus.living.items at sound.live);
         fresh = subst (All (IsFreshOr bus.stale.items)) (sym e) (All-removed (IsFreshOr bus.stale.items) bus.living.items at sound.fresh);
@@ -304,6 +297,7 @@ advanced-removed view bus at before plan offered binds after over living sound r
           (ap (procs_of view bus.plans) e ∙ procs-removed view bus.plans 0 bus.living.items at before offered binds sound.in_order read.it.here left);
       origin = refl;
       plans = refl;
+      marks = refl;
     }
 
 -- all that was taken leads to one store

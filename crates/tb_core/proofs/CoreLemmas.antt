@@ -1,7 +1,8 @@
 -- What the fields of a core say of its bus, and what each call logs.
-use Rattle.std.proofs.Common.{◌≡◌, ◌≤◌, ◌+◌, ℕ, List, ◌++◌, length, refl, ap, sym, ◌∙◌, subst, arith, Some, Bool, true, false, not, if◌then◌else◌, length-append}
+use Rattle.std.proofs.Common.{◌≡◌, ◌≤◌, ◌+◌, ℕ, List, [], ◌∷◌, ◌++◌, length, refl, ap, sym, ◌∙◌, subst, arith, Some, Bool, true, false, not, nat_le, if◌then◌else◌, length-append}
 use Rattle.tb_algebra.specs.WalkerViews.{View}
-use Rattle.tb_log.specs.Limits.{has_room}
+use Rattle.std.proofs.lemmas.Bool.{and_parts, leb-true}
+use Rattle.tb_log.specs.Limits.{entry_size, has_room, log_size, most_size}
 use Rattle.tb_log.specs.Logs.{LogState}
 use Rattle.tb_log.specs.declared.entry.Entry.{Entry}
 use Rattle.tb_log.specs.declared.entry.Entry.TheVariants.{Fed}
@@ -11,6 +12,7 @@ use Rattle.tb_log.specs.declared.entry.Reply.TheVariants.{Dropped}
 use Rattle.tb_log.specs.declared.entry.Why.TheVariants.{Down}
 use Rattle.tb_bus.specs.declared.origin.Origin.{Origin}
 use Rattle.tb_bus.specs.Buses.{Bus, start}
+use Rattle.tb_bus.specs.Effects.{Change, Nothing, PutsNote, TakesNote, Subscribes, Unsubscribes, Creates, changed}
 use Rattle.tb_bus.specs.Steps.{Move, Own, Handshake, Finish, Halt, apply, steps}
 use Rattle.tb_bus.specs.Traces.{IsTrace, Answer, fed, replay, took}
 use Rattle.tb_bus.proofs.TraceLemmas.{replay-append, trace-append}
@@ -46,6 +48,10 @@ pub full-seen : (origin : Origin) (log : LogState) (stopped : Bool) (core : Core
     would_log core call ≡ Some entry → has_room log.limit log.entries entry ≡ room → is_full core call ≡ not room
 full-seen origin log stopped core call entry room view limit would e = ap (lacks_room core) would ∙ ap not (room-seen origin log stopped core entry view limit ∙ e)
 
+-- with room it is shorter than its limit
+pub room-long : (limit : ℕ) (log : List Entry) (entry : Entry) → has_room limit log entry ≡ true → length log + 1 ≤ limit
+room-long limit log entry room = leb-true (length log + 1) limit (and_parts (nat_le (length log + 1) limit) (nat_le (log_size log + entry_size entry) most_size) room).0
+
 -- a log to which nothing was added has room for the same
 pub room-kept : (old new : LogState) (one other : Entry) → new.limit ≡ old.limit → new.entries ≡ old.entries → other ≡ one → has_room old.limit old.entries one ≡ true → has_room new.limit new.entries other ≡ true
 room-kept old new one other limit entries same room =
@@ -74,10 +80,11 @@ stays-on origin other log more stopped core view kept spare same = record {
 -- a core goes on: its fields stand for the bus to which the longer log leads
 pub represents-on : {W P T : Type 0} (view : View P W T) (old new : LiveBus W P T) (log more : LogState) (entries : List Entry) →
     Represents view old log → IsSound view new → new.origin ≡ old.origin → more.limit ≡ log.limit → more.entries ≡ log.entries ++ entries → bus_of view new ≡ replay (bus_of view old) entries → IsTrace (bus_of view old) entries →
-    (bus_of view new).now ≤ (bus_of view old).now + length entries → Represents view new more
-represents-on view old new log more entries stands sound same kept grown leads trace much =
+    (bus_of view new).now ≤ (bus_of view old).now + length entries → (bus_of view new).next_number ≤ (bus_of view old).next_number + length entries → Represents view new more
+represents-on view old new log more entries stands sound same kept grown leads trace much many =
     let long : length more.entries ≡ length log.entries + length entries = ap length grown ∙ length-append log.entries entries in
     let ticks = stands.ticks in
+    let next = stands.next in
     record {
       sound = sound;
       bus_is = leads ∙ ap (λ b. replay b entries) stands.bus_is ∙ sym (replay-append (start old.origin) log.entries entries)
@@ -86,7 +93,9 @@ represents-on view old new log more entries stands sound same kept grown leads t
           (subst (λ (o : Origin). IsTrace (start o) (log.entries ++ entries)) (sym same)
           (trace-append (start old.origin) log.entries entries stands.trace (subst (λ (b : Bus). IsTrace b entries) stands.bus_is trace)));
       limit = kept ∙ stands.limit ∙ ap (λ (o : Origin). o.limit) (sym same);
+      few = subst (λ (o : Origin). o.limit ≤ 4000000) (sym same) stands.few;
       ticks = omega arith;
+      next = omega arith;
     }
 
 -- a core whose fields stand for the same bus
@@ -94,17 +103,29 @@ pub represents-same : {W P T : Type 0} (view : View P W T) (old new : LiveBus W 
 represents-same view old new log stands same =
     let ticks = stands.ticks in
     let now : new.ticks ≡ old.ticks = ap (λ (b : Bus). b.now) same.bus in
+    let next = stands.next in
+    let number : new.marks.next_number ≡ old.marks.next_number = ap (λ (b : Bus). b.next_number) same.bus in
     record {
       sound = same.sound;
       bus_is = same.bus ∙ stands.bus_is ∙ ap (λ o. replay (start o) log.entries) (sym same.origin);
       trace = subst (λ (o : Origin). IsTrace (start o) log.entries) (sym same.origin) stands.trace;
       limit = stands.limit ∙ ap (λ (o : Origin). o.limit) (sym same.origin);
+      few = subst (λ (o : Origin). o.limit ≤ 4000000) (sym same.origin) stands.few;
       ticks = omega arith;
+      next = omega arith;
     }
 
 -- no move and no input that comes yet is a tick
+changed-now : (bus : Bus) (number : ℕ) (change : Change) → (changed change number bus).now ≡ bus.now
+changed-now bus number Nothing = refl
+changed-now bus number (PutsNote terms) = refl
+changed-now bus number (TakesNote place) = refl
+changed-now bus number (Subscribes patterns) = refl
+changed-now bus number (Unsubscribes patterns) = refl
+changed-now bus number (Creates process actuals) = refl
+
 pub apply-now : (bus : Bus) (move : Move) → (apply bus move).now ≡ bus.now
-apply-now bus (Own proc offered effect) = refl
+apply-now bus (Own proc offered effect) = changed-now bus proc.number effect.change
 apply-now bus (Handshake sender sent receiver received terms binds) = refl
 apply-now bus Finish = refl
 apply-now bus Halt = refl
@@ -116,6 +137,39 @@ fed-by bus NoTicks false = refl
 pub fed-now : (bus : Bus) (input : Input) → (fed bus input).bus.now ≡ bus.now
 fed-now bus input = fed-by bus input bus.down
 
+-- a move takes one number at most
+changed-next : (bus : Bus) (number : ℕ) (change : Change) → (changed change number bus).next_number ≤ bus.next_number + 1
+changed-next bus number Nothing = omega arith
+changed-next bus number (PutsNote terms) = omega arith
+changed-next bus number (TakesNote place) = omega arith
+changed-next bus number (Subscribes patterns) = omega arith
+changed-next bus number (Unsubscribes patterns) = omega arith
+changed-next bus number (Creates process actuals) = omega arith
+
+pub apply-next : (bus : Bus) (move : Move) → (apply bus move).next_number ≤ bus.next_number + 1
+apply-next bus (Own proc offered effect) = changed-next bus proc.number effect.change
+apply-next bus (Handshake sender sent receiver received terms binds) = omega arith
+apply-next bus Finish = omega arith
+apply-next bus Halt = omega arith
+
+-- an input none
+next-by : (bus : Bus) (input : Input) (down : Bool) → (let a : Answer = if down then record { reply = Dropped Down; bus = bus } else took bus input in a.bus.next_number) ≡ bus.next_number
+next-by bus input true = refl
+next-by bus NoTicks false = refl
+
+pub fed-next : (bus : Bus) (input : Input) → (fed bus input).bus.next_number ≡ bus.next_number
+fed-next bus input = next-by bus input bus.down
+
 -- so there are no more ticks than before
 pub still-within : (bus : Bus) (new : Bus) (entries : List Entry) → new.now ≡ bus.now → new.now ≤ bus.now + length entries
 still-within bus new entries e = omega (arith, e)
+
+pub still-next : (bus : Bus) (new : Bus) (entries : List Entry) → new.next_number ≡ bus.next_number → new.next_number ≤ bus.next_number + length entries
+still-next bus new entries e = omega (arith, e)
+
+-- and a number more at most
+pub one-next : (bus : Bus) (new : Bus) (move : Move) (entry : Entry) → new ≡ apply bus move → new.next_number ≤ bus.next_number + length (entry ∷ [])
+one-next bus new move entry e =
+    let same : new.next_number ≡ (apply bus move).next_number = ap (λ (b : Bus). b.next_number) e in
+    let most = apply-next bus move in
+    omega arith

@@ -1,29 +1,39 @@
 -- The actions of a process that was looked at: the offer of each, and what its store takes.
-use Rattle.std.proofs.Common.{◌≡◌, ℕ, ◌+◌, ◌<◌, zero, suc, List, [], ◌∷◌, ◌++◌, length, refl, ap, sym, subst, ◌∙◌, arith, Option, Some, None, Bool, true, false, slice_get, get_or, slice_index_or, option_map, option_and_then, IfSome, IsTrue, if◌then◌else◌}
+use Rattle.std.proofs.Common.{◌≡◌, ℕ, ◌+◌, ◌-◌, ◌<◌, zero, suc, List, [], ◌∷◌, ◌++◌, length, refl, ap, sym, subst, ◌∙◌, arith, Option, Some, None, Bool, true, false, slice_get, get_or, slice_index_or, option_map, option_and_then, IfSome, IsTrue, if◌then◌else◌}
 use Rattle.std.specs.Bool.{⊤}
+use Rattle.std.specs.List.{list_all}
 use Rattle.std.specs.Option.{ForSome, is_some}
+use Rattle.std.proofs.lemmas.Bool.{and_parts}
 use Rattle.std.proofs.lemmas.Option.{get_or_from_slice_get, slice_get_within, same_Some}
 use Rattle.std.proofs.lemmas.List.{length-map}
 use Rattle.tb_terms.specs.declared.term.Term.{Term}
+use Rattle.tb_terms.specs.declared.sort.Sort.{Sort}
 use Rattle.tb_terms.specs.declared.pattern.Pattern.{Pattern}
 use Rattle.tb_terms.specs.declared.expr.Expr.{Expr}
 use Rattle.tb_func.specs.declared.slot.Slot.{Slot}
 use Rattle.tb_match.specs.declared.bind.Bind.{Bind}
-use Rattle.tb_match.specs.Matches.{match_list}
+use Rattle.tb_func.specs.Printing.{printf_of}
+use Rattle.tb_match.specs.Matches.{match_list, are_plain}
 use Rattle.tb_body.specs.declared.act.Act.{Act}
 use Rattle.tb_body.specs.declared.act.Act.TheVariants.{Delta, Tau, SndMsg, RecMsg, SndNote, RecNote, NoNote, Subscribe, Unsubscribe, Create, Set, Printf, Execute, RecConnect, RecDisconnectAny, RecDisconnect, SndEval, RecValue, SndDo, RecEvent, SndAckEvent, SndTerminate, Shutdown}
 use Rattle.tb_body.specs.declared.atom.Atom.{Atom}
+use Rattle.tb_body.specs.declared.atom.Time.{Time}
+use Rattle.tb_body.specs.declared.body.Body.{Body}
+use Rattle.tb_body.specs.declared.tree.Tree.{Tree}
+use Rattle.tb_body.specs.Acts.{is_act_in_body, is_atom_in_body}
+use Rattle.tb_body.specs.Exprs.{is_value}
+use Rattle.tb_body.specs.InRange.{is_body_in_range}
 use Rattle.tb_algebra.specs.declared.offer.Offer.{Offer}
 use Rattle.tb_algebra.specs.Processes.{Process}
-use Rattle.tb_algebra.specs.Atoms.{act_of, times_of, is_ready, patterns_of, values_together}
+use Rattle.tb_algebra.specs.Atoms.{act_in, act_of, times_of, is_ready, patterns_of, values_together}
 use Rattle.tb_algebra.specs.Binds.{takes_bind, takes_binds}
 use Rattle.tb_algebra.specs.Offers.{Offered, offers}
 use Rattle.tb_algebra.specs.Walks.{Walking, offers_of, seen, seen_offers, is_end}
 use Rattle.tb_algebra.specs.WalkerViews.{View}
 use Rattle.tb_algebra.proofs.Taken.{binds-taken}
-use Rattle.tb_bus.specs.Actions.{set_action, action_in, action_if, action_of}
+use Rattle.tb_bus.specs.Actions.{set_action, print_action, no_note_action, subscribe_action, unsubscribe_action, create_action, action_in, action_if, action_of}
 use Rattle.tb_bus.specs.Candidates.{row_of, rows_of, row_at, ready_one, readies}
-use Rattle.tb_bus.specs.Views.{ready_at, offer_at, offer_of, no_ready, no_offer, effect_in, Receives}
+use Rattle.tb_bus.specs.Views.{ready_at, offer_at, offer_of, no_ready, no_offer, Receives}
 use Rattle.tb_bus.specs.declared.action.Action.{Action}
 use Rattle.tb_bus.specs.declared.action.Action.TheVariants as action
 use Rattle.tb_bus.specs.declared.action.OwnAction.{OwnAction}
@@ -33,6 +43,7 @@ use Rattle.tb_bus.specs.declared.living.Living.{Living}
 use Rattle.tb_core.specs.Lives.{term_in, proc_of}
 use Rattle.tb_core.specs.LiveBuses.{AreFresh, procs_in}
 use Rattle.tb_core.specs.declared.bus.LiveBus.{LiveBus}
+use Rattle.tb_core.proofs.PlainLemmas.{patterns-plain}
 use Rattle.tb_core.proofs.ReadLemmas.{LiveAt, fresh-there, read-there}
 
 -- a process that hasn't ended offers what its term does
@@ -146,11 +157,26 @@ seen-within atoms now walking saw k offered e here offers f =
 pub seen-some : (saw : Option (List Offer)) (offers : List Offer) → saw ≡ Some offers → IsTrue (is_some saw)
 seen-some saw offers e = ap is_some e
 
--- what an action binds, the store takes
+-- patterns that bind only what the store takes
+abbrev pub PatternsFit : List Slot → List Pattern → Type 0
+PatternsFit store patterns = (terms : List Term) (binds : List Bind) → match_list patterns terms ≡ Some binds → takes_binds store binds ≡ true
+
+abbrev pub OwnFits : List Slot → OwnAction → Type 0
+OwnFits store own.Tau = ⊤
+OwnFits store (own.Set values binds) = takes_binds store binds ≡ true
+OwnFits store (own.Print text) = ⊤
+OwnFits store (own.NoNote patterns) = ⊤
+OwnFits store (own.Subscribe patterns) = are_plain patterns ≡ true
+OwnFits store (own.Unsubscribe patterns) = ⊤
+OwnFits store (own.Create process actuals slot) = ⊤
+
+-- what an action binds, the store takes, and what it subscribes to takes no term
 abbrev pub ActionFits : List Slot → Action → Type 0
-ActionFits store (action.Own own) = takes_binds store (effect_in own).binds ≡ true
+ActionFits store (action.Own own) = OwnFits store own
 ActionFits store (action.Send terms) = ⊤
-ActionFits store (action.Receive patterns) = (terms : List Term) (binds : List Bind) → match_list patterns terms ≡ Some binds → takes_binds store binds ≡ true
+ActionFits store (action.Receive patterns) = PatternsFit store patterns
+ActionFits store (action.Notify terms) = ⊤
+ActionFits store (action.TakeNote patterns) = PatternsFit store patterns
 
 set-by : (store : List Slot) (bind : Bind) (b : Bool) → takes_bind store bind ≡ b → IfSome (if b then Some (action.Own (own.Set (bind.value ∷ []) (bind ∷ []))) else None) (ActionFits store)
 set-by store bind true e = rw e refl
@@ -165,57 +191,78 @@ set-fits : (store : List Slot) (slot : ℕ) (values : Option (List Term)) → If
 set-fits store slot None = tt
 set-fits store slot (Some values) = set_action-fits store slot values
 
-send-fits : (store : List Slot) (values : Option (List Term)) → IfSome (option_map action.Send values) (ActionFits store)
-send-fits store None = tt
-send-fits store (Some values) = tt
+-- an action that fits whatever it holds
+any-fits : {A : Type 0} (store : List Slot) (does : A → Action) (found : Option A) → ((x : A) → ActionFits store (does x)) → IfSome (option_map does found) (ActionFits store)
+any-fits store does None h = tt
+any-fits store does (Some x) h = h x
 
-receive-fits : (store : List Slot) (exprs : List Expr) (patterns : Option (List Pattern)) → patterns_of store exprs ≡ patterns → IfSome (option_map action.Receive patterns) (ActionFits store)
-receive-fits store exprs None e = tt
-receive-fits store exprs (Some patterns) e = λ terms binds h. binds-taken store exprs terms binds (ap (option_and_then (λ ps. match_list ps terms)) e ∙ h)
+patterns-fit : (store : List Slot) (exprs : List Expr) (patterns : List Pattern) → patterns_of store exprs ≡ Some patterns → PatternsFit store patterns
+patterns-fit store exprs patterns e terms binds h = binds-taken store exprs terms binds (ap (option_and_then (λ ps. match_list ps terms)) e ∙ h)
 
-action_in-fits : (store : List Slot) (act : Act) → IfSome (action_in store act) (ActionFits store)
-action_in-fits store Delta = tt
-action_in-fits store Tau = refl
-action_in-fits store (SndMsg exprs) = send-fits store (values_together store exprs)
-action_in-fits store (RecMsg exprs) = receive-fits store exprs (patterns_of store exprs) refl
-action_in-fits store (SndNote exprs) = tt
-action_in-fits store (RecNote exprs) = tt
-action_in-fits store (NoNote exprs) = tt
-action_in-fits store (Subscribe exprs) = tt
-action_in-fits store (Unsubscribe exprs) = tt
-action_in-fits store (Create process actuals slot) = tt
-action_in-fits store (Set slot value) = set-fits store slot (values_together store (value ∷ []))
-action_in-fits store (Printf exprs) = tt
-action_in-fits store (Execute tool slot) = tt
-action_in-fits store (RecConnect tool slot) = tt
-action_in-fits store (RecDisconnectAny tool slot) = tt
-action_in-fits store (RecDisconnect tool) = tt
-action_in-fits store (SndEval tool expr) = tt
-action_in-fits store (RecValue tool expr) = tt
-action_in-fits store (SndDo tool expr) = tt
-action_in-fits store (RecEvent tool exprs) = tt
-action_in-fits store (SndAckEvent tool exprs) = tt
-action_in-fits store (SndTerminate tool expr) = tt
-action_in-fits store (Shutdown reason) = tt
+-- one that fits with these patterns
+matched-fits : (store : List Slot) (does : List Pattern → Action) (patterns : Option (List Pattern)) → ((ps : List Pattern) → patterns ≡ Some ps → ActionFits store (does ps)) → IfSome (option_map does patterns) (ActionFits store)
+matched-fits store does None h = tt
+matched-fits store does (Some ps) h = h ps refl
 
-if-fits : (ready : Bool) (store : List Slot) (act : Act) → IfSome (action_if ready store act) (ActionFits store)
-if-fits true store act = action_in-fits store act
-if-fits false store act = tt
+action_in-fits : (slots : ℕ) (store : List Slot) (act : Act) → is_act_in_body slots act ≡ true → IfSome (action_in store act) (ActionFits store)
+action_in-fits slots store Delta h = tt
+action_in-fits slots store Tau h = tt
+action_in-fits slots store (SndMsg exprs) h = any-fits store action.Send (values_together store exprs) (λ x. tt)
+action_in-fits slots store (RecMsg exprs) h = matched-fits store action.Receive (patterns_of store exprs) (patterns-fit store exprs)
+action_in-fits slots store (SndNote exprs) h = any-fits store action.Notify (values_together store exprs) (λ x. tt)
+action_in-fits slots store (RecNote exprs) h = matched-fits store action.TakeNote (patterns_of store exprs) (patterns-fit store exprs)
+action_in-fits slots store (NoNote exprs) h = any-fits store no_note_action (patterns_of store exprs) (λ x. tt)
+action_in-fits slots store (Subscribe exprs) h = matched-fits store subscribe_action (patterns_of store exprs) (λ ps e. patterns-plain slots store exprs ps h e)
+action_in-fits slots store (Unsubscribe exprs) h = any-fits store unsubscribe_action (patterns_of store exprs) (λ x. tt)
+action_in-fits slots store (Create process actuals slot) h = any-fits store (create_action process slot) (values_together store actuals) (λ x. tt)
+action_in-fits slots store (Set slot value) h = set-fits store slot (values_together store (value ∷ []))
+action_in-fits slots store (Printf exprs) h = any-fits store print_action (option_and_then printf_of (values_together store exprs)) (λ x. tt)
+action_in-fits slots store (Execute tool slot) h = tt
+action_in-fits slots store (RecConnect tool slot) h = tt
+action_in-fits slots store (RecDisconnectAny tool slot) h = tt
+action_in-fits slots store (RecDisconnect tool) h = tt
+action_in-fits slots store (SndEval tool expr) h = tt
+action_in-fits slots store (RecValue tool expr) h = tt
+action_in-fits slots store (SndDo tool expr) h = tt
+action_in-fits slots store (RecEvent tool exprs) h = tt
+action_in-fits slots store (SndAckEvent tool exprs) h = tt
+action_in-fits slots store (SndTerminate tool expr) h = tt
+action_in-fits slots store (Shutdown reason) h = tt
 
-pub action-fits : (atoms : List Atom) (now : ℕ) (offered : Offered) (found : Action) → action_of atoms now offered ≡ Some found → ActionFits offered.store found
-action-fits atoms now offered found e =
+if-fits : (slots : ℕ) (ready : Bool) (store : List Slot) (act : Act) → is_act_in_body slots act ≡ true → IfSome (action_if ready store act) (ActionFits store)
+if-fits slots true store act h = action_in-fits slots store act h
+if-fits slots false store act h = tt
+
+-- the acts of a body are in its range
+act-in : (slots : ℕ) (atoms : List Atom) (at : ℕ) (found : Option Atom) → slice_get atoms at ≡ found → list_all (is_atom_in_body slots) atoms ≡ true → is_act_in_body slots (act_in found) ≡ true
+act-in slots atoms at None e h = refl
+act-in slots [] at (Some atom) e h = cc
+act-in slots (first ∷ atoms) zero (Some atom) e h =
+    let same : first ≡ atom = cc in
+    let parts = and_parts (is_atom_in_body slots first) (list_all (is_atom_in_body slots) atoms) h in
+    let its = and_parts (is_act_in_body slots first.act) (list_all (λ (time : Time). is_value slots time.value) first.times) parts.0 in
+    ap (λ (a : Atom). is_act_in_body slots a.act) (sym same) ∙ its.0
+act-in slots (first ∷ atoms) (suc at) (Some atom) e h = act-in slots atoms at (Some atom) e (and_parts (is_atom_in_body slots first) (list_all (is_atom_in_body slots) atoms) h).1
+
+body-atoms : (tree : Tree) (atoms : List Atom) (sorts : List Sort) (formals : ℕ) → is_body_in_range tree atoms sorts formals ≡ true → list_all (is_atom_in_body (length sorts)) atoms ≡ true
+unfolding is_body_in_range
+body-atoms tree atoms sorts formals h = (and_parts _ (list_all (is_atom_in_body (length sorts)) atoms) h).1
+
+act-in-body : (body : Body) (number : ℕ) → is_act_in_body (length body.sorts) (act_of body.atoms number) ≡ true
+act-in-body body number = act-in (length body.sorts) body.atoms (number - 1) (slice_get body.atoms (number - 1)) refl (body-atoms body.tree body.atoms body.sorts body.formals body.in_range)
+
+pub action-fits : (body : Body) (now : ℕ) (offered : Offered) (found : Action) → action_of body.atoms now offered ≡ Some found → ActionFits offered.store found
+action-fits body now offered found e =
     subst (λ (d : Option Action). IfSome d (ActionFits offered.store)) e
-    (if-fits (is_ready offered.store offered.age now (times_of atoms offered.atom)) offered.store (act_of atoms offered.atom))
+    (if-fits (length body.sorts) (is_ready offered.store offered.age now (times_of body.atoms offered.atom)) offered.store (act_of body.atoms offered.atom) (act-in-body body offered.atom))
 
-pub fits-at : (atoms : List Atom) (now : ℕ) (walking : Walking) (ready : Ready) (offered : Offered) → ActionAt atoms now walking ready offered → ActionFits offered.store ready.action
-fits-at atoms now walking ready offered it = action-fits atoms now offered ready.action it.action
+pub fits-at : (body : Body) (now : ℕ) (walking : Walking) (ready : Ready) (offered : Offered) → ActionAt body.atoms now walking ready offered → ActionFits offered.store ready.action
+fits-at body now walking ready offered it = action-fits body now offered ready.action it.action
 
 -- what is received binds what the store takes
 pub received-takes : (store : List Slot) (found : Action) (terms : List Term) (binds : List Bind) → ActionFits store found → Receives terms found binds → takes_binds store binds ≡ true
 received-takes store (action.Own own) terms binds fits h = absurd h
 received-takes store (action.Send other) terms binds fits h = absurd h
 received-takes store (action.Receive patterns) terms binds fits h = fits terms binds h
-
--- what a process sets by itself, its store takes
-pub own-takes : (store : List Slot) (found : Action) (own : OwnAction) → ActionFits store found → found ≡ action.Own own → takes_binds store (effect_in own).binds ≡ true
-own-takes store found own fits e = subst (ActionFits store) e fits
+received-takes store (action.Notify other) terms binds fits h = absurd h
+received-takes store (action.TakeNote patterns) terms binds fits h = absurd h

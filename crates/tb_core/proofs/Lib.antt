@@ -1,9 +1,13 @@
 pub mod ActionLemmas
 pub mod AdvanceLemmas
+pub mod CreateLemmas
 pub mod FreshLemmas
+pub mod HoldLemmas
 pub mod MakeLemmas
+pub mod NoteLemmas
 pub mod NumberLemmas
 pub mod OpenLemmas
+pub mod PlainLemmas
 pub mod ReadLemmas
 pub mod RowsLemmas
 pub mod SetLemmas

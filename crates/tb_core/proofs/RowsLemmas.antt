@@ -19,6 +19,7 @@ row-of view plans bodies now living e h fresh =
     subst (λ o. IsRowOf bodies now (row_of living) (proc_by view o living)) (sym h.1) (record {
       number = refl;
       body = refl;
+      inbox = refl;
       ready = (h.2.ready fresh).ready
           ∙ ap (readies (view.body_of h.0).atoms now 0) (offers-alive walking h.2.alive)
           ∙ ap (λ atoms. readies atoms now 0 (offers (term_in walking.term) walking.store)) (sym (plan-atoms view.body_of plans bodies living.body h.0 e h.1));
@@ -33,10 +34,12 @@ rows-of view plans bodies now (living ∷ all) e h fresh = (
 )
 
 -- a search over them is a search for the moves of the bus
-pub searched-for : {W P T : Type 0} (view : View P W T) (bus : LiveBus W P T) → IsSound view bus → AreFresh bus.living.items → IsSearchedFor (bus_of view bus) (rows_of bus.living.items) bus.last_starter bus.no_ticks bus.down
+pub searched-for : {W P T : Type 0} (view : View P W T) (bus : LiveBus W P T) → IsSound view bus → AreFresh bus.living.items → IsSearchedFor (bus_of view bus) bus.origin.program.bodies (rows_of bus.living.items) bus.marks
 searched-for view bus sound fresh = record {
+  bodies_are = refl;
   rows_are = rows-of view bus.plans bus.origin.program.bodies bus.ticks bus.living.items sound.planned sound.live fresh;
   last_is = refl;
+  next_is = refl;
   no_ticks_is = refl;
   down_is = refl;
 }

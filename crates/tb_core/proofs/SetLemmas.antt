@@ -5,15 +5,14 @@ use Rattle.std.specs.List.{All}
 use Rattle.std.proofs.Math.Seq.{map-set_same}
 use Rattle.std.proofs.lemmas.Option.{get_or_from_slice_get, same_Some}
 use Rattle.std.proofs.lemmas.List.Elements.{All-set}
-use Rattle.tb_algebra.specs.Offers.{Offered}
 use Rattle.tb_algebra.specs.WalkerViews.{View}
 use Rattle.tb_bus.specs.Buses.{Bus, Proc}
 use Rattle.tb_bus.specs.Candidates.{ascend, rows_of}
 use Rattle.tb_bus.specs.declared.living.Living.{Living}
-use Rattle.tb_core.specs.Lives.{IsLive, IsLiveOn, proc_by, proc_in}
-use Rattle.tb_core.specs.LiveBuses.{IsFreshOr, IsSound, Leaves, StandsAs, bus_of, procs_in}
+use Rattle.tb_core.specs.Lives.{IsBelow, IsLive, IsLiveOn, proc_by, proc_in}
+use Rattle.tb_core.specs.LiveBuses.{IsFreshOr, IsSound, StandsAs, bus_of, procs_in}
 use Rattle.tb_core.specs.declared.bus.LiveBus.{LiveBus}
-use Rattle.tb_core.proofs.ReadLemmas.{LiveAt}
+use Rattle.tb_core.proofs.ReadLemmas.{LiveAt, all-there}
 
 -- what was set at an index stands there
 pub set-there : {A : Type 0} (xs : List A) (at : ℕ) (x y : A) → slice_get xs at ≡ Some x → slice_get (slice_set xs at y) at ≡ Some y
@@ -65,6 +64,9 @@ sound-set : {W P T : Type 0} (view : View P W T) (bus : LiveBus W P T) (all : Ve
     IsSound view (record bus { living = all })
 sound-set view bus all at living one it sound e h = record {
   in_order = ap (λ xs. ascend 0 (rows_of xs)) e ∙ ascend-set 0 bus.living.items at living one it.here (ap (λ (p : Proc). p.number) h.proc) ∙ sound.in_order;
+  below = subst (All (IsBelow bus.marks.next_number)) (sym e)
+      (All-set (IsBelow bus.marks.next_number) bus.living.items at one
+      (subst (λ n. n < bus.marks.next_number) (sym (ap (λ (p : Proc). p.number) h.proc)) (all-there (IsBelow bus.marks.next_number) bus.living.items at living sound.below it.here)) sound.below);
   planned = sound.planned;
   live = subst (λ (xs : List (Living _)). (k : ℕ) (d : Living _) → k < length xs → IsLive view bus.plans bus.ticks (get_or xs k d)) (sym e)
       (All-set (IsLive view bus.plans bus.ticks) bus.living.items at one (it.plan, ap (slice_get bus.plans) (ap (λ (p : Proc). p.body) h.proc) ∙ it.planned, h.live) sound.live);
@@ -79,25 +81,28 @@ stands-set view bus all at living one it sound e h = record {
   bus = ap (λ (procs : List Proc). let b : Bus = record (bus_of view bus) { procs = procs } in b) (ap (map (proc_in view bus.plans)) e ∙ same-procs view bus at living one it h);
   origin = refl;
   plans = refl;
+  marks = refl;
 }
 
--- what the offer leaves of it is what it left before
-pub leaves-set : {W P T : Type 0} (view : View P W T) (bus : LiveBus W P T) (all : Vec (Living W)) (at : ℕ) (living one : Living W) (taken : T) (offered : Offered) → slice_get bus.living.items at ≡ Some living → all.items ≡ slice_set bus.living.items at one →
-    one.body ≡ living.body → one.walker ≡ living.walker → Leaves view bus at taken offered → Leaves view (record bus { living = all }) at taken offered
-leaves-set view bus all at living one taken offered here e body walker h =
-    let same : h.0 ≡ living = same_Some h.0 living (sym h.1 ∙ here) in (
-      one,
-      ap (λ xs. slice_get xs at) e ∙ set-there bus.living.items at living one here,
-      (
-        h.2.0,
-        ap (slice_get bus.plans) (body ∙ ap (λ (l : Living _). l.body) (sym same)) ∙ h.2.1,
-        subst (λ w. view.leaves h.2.0 w taken offered) (ap (λ (l : Living _). l.walker) same ∙ sym walker) h.2.2,
-      ),
-    )
+-- with the same living and the same numbers named it stands for the same bus, wherever they are kept
+pub stands-moved : {W P T : Type 0} (view : View P W T) (bus : LiveBus W P T) (all : Vec (Living W)) (stale : Vec ℕ) → IsSound view bus → all.items ≡ bus.living.items → stale.items ≡ bus.stale.items → StandsAs view bus (record bus { living = all; stale = stale })
+stands-moved view bus all stale sound e f = record {
+  sound = record {
+    in_order = ap (λ xs. ascend 0 (rows_of xs)) e ∙ sound.in_order;
+    below = subst (λ xs. All (IsBelow bus.marks.next_number) xs) (sym e) sound.below;
+    planned = sound.planned;
+    live = subst (λ xs. All (IsLive view bus.plans bus.ticks) xs) (sym e) sound.live;
+    fresh = subst (λ (numbers : List ℕ). All (IsFreshOr numbers) all.items) (sym f) (subst (λ xs. All (IsFreshOr bus.stale.items) xs) (sym e) sound.fresh);
+  };
+  bus = ap (λ (procs : List Proc). let b : Bus = record (bus_of view bus) { procs = procs } in b) (ap (map (proc_in view bus.plans)) e);
+  origin = refl;
+  plans = refl;
+  marks = refl;
+}
 
 -- the same bus as one that stands for the same bus
 pub stands-then : {W P T : Type 0} (view : View P W T) (old bus new : LiveBus W P T) → StandsAs view old bus → StandsAs view bus new → StandsAs view old new
-stands-then view old bus new first then = record { sound = then.sound; bus = then.bus ∙ first.bus; origin = then.origin ∙ first.origin; plans = then.plans ∙ first.plans }
+stands-then view old bus new first then = record { sound = then.sound; bus = then.bus ∙ first.bus; origin = then.origin ∙ first.origin; plans = then.plans ∙ first.plans; marks = then.marks ∙ first.marks }
 
 -- what was named from an index on is the number there, or named behind it
 pub named-from : {W : Type 0} (stale : List ℕ) (index number : ℕ) (all : List (Living W)) → index < length stale → number ≡ get_or stale index number → All (IsFreshOr (drop index stale)) all → All (IsFreshOr (number ∷ drop (index + 1) stale)) all

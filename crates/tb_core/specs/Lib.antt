@@ -1,3 +1,5 @@
 pub mod Cores
 pub mod Lives
+pub mod Makings
+pub mod Holdings
 pub mod LiveBuses

@@ -1,10 +1,12 @@
 -- The processes for which the living of the code stand, whatever their walkers are.
-use Rattle.std.specs.Prelude.{◌≡◌, ◌≤◌, ℕ, List, [], map, true, false, Option, Some, None, slice_get}
+use Rattle.std.specs.Prelude.{◌≡◌, ◌≤◌, ◌<◌, ℕ, List, [], map, true, false, Option, Some, None, slice_get}
 use Rattle.tb_body.specs.declared.body.Body.{Body}
+use Rattle.tb_func.specs.declared.slot.Slot.{Slot}
 use Rattle.tb_algebra.specs.declared.offer.Offer.{Offer}
 use Rattle.tb_algebra.specs.Processes.{Process, At}
-use Rattle.tb_algebra.specs.Walks.{Walking, offers_of, seen_offers, sorts_of, is_end}
+use Rattle.tb_algebra.specs.Walks.{Walking, entering, offers_of, seen_offers, sorts_of, is_end}
 use Rattle.tb_algebra.specs.WalkerViews.{View}
+use Rattle.tb_notes.specs.Inboxes.{nothing}
 use Rattle.tb_bus.specs.Buses.{Proc}
 use Rattle.tb_bus.specs.Candidates.{readies}
 use Rattle.tb_bus.specs.declared.living.Ready.{Ready}
@@ -29,6 +31,10 @@ pub record IsLiveOn {W P T : Type 0} (view : View P W T) (plan : P) (now : ℕ) 
 abbrev pub IsLive : {W P T : Type 0} → View P W T → List P → ℕ → Living W → Type 0
 IsLive {P = P} view plans now living = (plan : P) × (slice_get plans living.body ≡ Some plan) × IsLiveOn view plan now living
 
+-- its number is below that of the next
+abbrev pub IsBelow : {W : Type 0} → ℕ → Living W → Type 0
+IsBelow next living = living.number < next
+
 -- a term that hasn't ended
 abbrev pub term_in : Option Process → Process
 term_in None = At 0 0
@@ -36,7 +42,7 @@ term_in (Some term) = term
 
 -- the process of a walker that stands for this
 abbrev pub proc_of : {W : Type 0} → Living W → Walking → Proc
-proc_of living walking = record { number = living.number; body = living.body; term = term_in walking.term; store = walking.store }
+proc_of living walking = record { number = living.number; body = living.body; term = term_in walking.term; store = walking.store; inbox = living.inbox.held }
 
 abbrev pub proc_by : {W P T : Type 0} → View P W T → Option P → Living W → Proc
 proc_by view None living = proc_of living (record { term = None; store = []; ticks = 0 })
@@ -48,3 +54,11 @@ proc_in view plans living = proc_by view (slice_get plans living.body) living
 
 abbrev pub procs_of : {W P T : Type 0} → View P W T → List P → List (Living W) → List Proc
 procs_of view plans all = map (proc_in view plans) all
+
+-- one of the living as it begins: with this number, of the body at this place, by this plan and with this store
+pub record Begins {W P T : Type 0} (view : View P W T) (plan : P) (from process : ℕ) (store : List Slot) (living : Living W) : Type 0 where
+  pub number : living.number ≡ from
+  pub body : living.body ≡ process
+  pub inbox : living.inbox.held ≡ nothing
+  pub walking : view.walking plan living.walker ≡ entering (view.body_of plan) store
+  pub live : (now : ℕ) → IsLiveOn view plan now living

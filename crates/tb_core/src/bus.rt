@@ -1,19 +1,22 @@
-ghost use Rattle.std.specs.Prelude.{◌≡◌, min};
+ghost use Rattle.std.specs.Prelude.{◌≡◌, ℕ, min};
 ghost use Rattle.std.below.core.specs.declared.int.usize.TheConstants.{MAX};
 ghost use Rattle.tb_log.specs.Limits.{terms_size};
-ghost use Rattle.tb_bus.specs.Views.{shown_in};
+ghost use Rattle.tb_bus.specs.Views.{effect_in};
+ghost use Rattle.tb_core.specs.Makings.{shown_in};
 
+use crate::acting::{Done, created, kind_alone, printed};
+use crate::inboxes::{hand_out, subscribe_at, take_note_at, unsubscribe_at};
 use crate::looking::{go_on, look};
-use crate::opening::{numbers_of, open_all, plan_all};
+use crate::opening::{numbers_of, open_all, open_at, plan_all};
 use std::alloc::Global;
 use tb_algebra::Walker;
 use tb_bus::{
-    Action, Candidate, Living, Origin, OwnAction, Partner, Ready, Received, effect_in,
-    first_candidate,
+    Action, Candidate, Living, Marks, Origin, OwnAction, Partner, Ready, Received, first_candidate,
 };
 use tb_log::{Input, Label, LabelKind, Place, Reply, Why, total_size};
 use tb_match::Binds;
-use tb_terms::{Items, NoMemory};
+use tb_notes::Found;
+use tb_terms::{Items, NoMemory, Terms, size};
 
 const NOWHERE: Place = Place { proc: 0, atom: 0 };
 
@@ -29,23 +32,30 @@ pub struct LiveBus<W: Walker> {
     pub stale: Vec<u32>,
     /// How many ticks there were.
     pub ticks: u64,
-    pub last_starter: u32,
-    pub no_ticks: bool,
-    pub down: bool,
+    pub marks: Marks,
+}
+
+/// What a process does, and where it stands.
+#[derive(Drop)]
+struct Begun {
+    from: Place,
+    action: Action,
 }
 
 impl<W: Walker> LiveBus<W> {
-    ghost use Rattle.std.specs.Prelude.{◌≡◌, ℕ, ◌<◌, ◌≤◌, ◌+◌, ◌∷◌, ◌≢◌, List, [], length, vec_len, vec_capacity, Contains, IfOk, IfSome, OnOk, OnErr, Some, slice_get, true, false, option_map, min};
+    ghost use Rattle.std.specs.Prelude.{◌≡◌, ℕ, ◌<◌, ◌≤◌, ◌+◌, ◌∷◌, ◌≢◌, List, [], length, vec_len, vec_capacity, Contains, IfOk, IfSome, IsTrue, OnOk, OnErr, Some, slice_get, true, false, option_map, min};
     ghost use Rattle.std.below.core.specs.declared.int.usize.TheConstants.{MAX};
     ghost use Rattle.tb_log.specs.Limits.{terms_size};
     ghost use Rattle.std.specs.List.{All};
     ghost use Rattle.tb_algebra.specs.Offers.{Offered};
     ghost use Rattle.tb_bus.specs.Buses.{start};
+    ghost use Rattle.tb_bus.specs.Effects.{creation, fits_formals, own_effect};
     ghost use Rattle.tb_bus.specs.Steps.{moves, apply, label_of, nowhere};
     ghost use Rattle.tb_bus.specs.Traces.{fed};
     ghost use Rattle.tb_bus.specs.Candidates.{first, row_at, rows_of};
-    ghost use Rattle.tb_bus.specs.Views.{ready_at, offer_of, move_of, IsCandidateIn};
-    ghost use Rattle.tb_core.specs.LiveBuses.{bus_of, procs_in, AreFresh, IsFreshOr, IsSound, IsSetAt, StandsAs, Leaves, CanAdvance, IsAdvanced, AreAdvanced, IsMade};
+    ghost use Rattle.tb_bus.specs.Views.{ready_at, offer_of, proc_at, effect_in, IsCandidateIn};
+    ghost use Rattle.tb_core.specs.Makings.{IsPlainIn};
+    ghost use Rattle.tb_core.specs.LiveBuses.{bus_of, procs_in, scene_in, move_in, AreFresh, IsFreshOr, IsSound, IsSetAt, StandsAs, Leaves, CanAdvance, IsAdvanced, AreAdvanced, IsKept, IsDone, IsChanged, HasGone, IsMade};
 
     /// The bus that a program opens with. Its processes are looked at later.
     pub fn open(alloc: Global, origin: Origin) -> Result<LiveBus<W>, NoMemory>
@@ -56,15 +66,19 @@ impl<W: Walker> LiveBus<W> {
         let plans = plan_all::<W>(alloc, origin.program.bodies.as_slice())?;
         let living = open_all::<W>(alloc, &origin.program, &plans)?;
         let stale = numbers_of(alloc, living.as_slice())?;
+        let next_number = origin.program.roots.len() as u32 + 1;
         Ok(LiveBus {
             origin,
             plans,
             living,
             stale,
             ticks: 0,
-            last_starter: 0,
-            no_ticks: false,
-            down: false,
+            marks: Marks {
+                last_starter: 0,
+                next_number,
+                no_ticks: false,
+                down: false,
+            },
         })
     }
 
@@ -118,16 +132,11 @@ impl<W: Walker> LiveBus<W> {
     pub fn first_candidate(&self, alloc: Global) -> Result<Option<Candidate>, NoMemory>
         requires sound { IsSound W.view self.now }
         requires fresh { AreFresh self.now.living.items }
-        ensures found { IfOk result (λ found. option_map (move_of (procs_in W.view self.now) (rows_of self.now.living.items)) found ≡ first (moves (bus_of W.view self.now))) }
-        ensures stands { IfOk result (λ found. IfSome found (IsCandidateIn (rows_of self.now.living.items))) }
+        ensures found { IfOk result (λ found. option_map (move_in W.view self.now) found ≡ first (moves (bus_of W.view self.now))) }
+        ensures stands { IfOk result (λ found. IfSome found (IsCandidateIn (scene_in self.now))) }
     {
-        first_candidate(
-            alloc,
-            self.living.as_slice(),
-            self.last_starter,
-            self.no_ticks,
-            self.down,
-        )
+        let bodies = self.origin.program.bodies.as_slice();
+        first_candidate(alloc, bodies, self.living.as_slice(), self.marks)
     }
 
     /// Takes the offer of one of the actions of a process, and changes nothing yet.
@@ -152,10 +161,9 @@ impl<W: Walker> LiveBus<W> {
         ensures ready { result ≡ ready_at (rows_of self.old.living.items) at index }
         ensures same { StandsAs W.view self.old self.new }
         ensures stale { self.new.stale ≡ self.old.stale }
-        ensures number { (row_at (rows_of self.new.living.items) at).number ≡ (row_at (rows_of self.old.living.items) at).number }
+        ensures kept { IsKept self.old.living.items self.new.living.items at }
         ensures others { (other : ℕ) → other ≢ at → slice_get self.new.living.items other ≡ slice_get self.old.living.items other }
         ensures long { length self.new.living.items ≡ length self.old.living.items }
-        ensures leaves { (taken : W.Taken) (offered : Offered) → Leaves W.view self.old at taken offered → Leaves W.view self.new at taken offered }
     {
         let living = &mut self.living[at];
         living.fresh = false;
@@ -183,12 +191,18 @@ impl<W: Walker> LiveBus<W> {
     /// How large the terms are that are seen of a move that was found, or the greatest usize where that is greater.
     pub fn shown_size(&self, candidate: &Candidate) -> usize
         requires sound { IsSound W.view self.now }
-        requires found { IsCandidateIn (rows_of self.now.living.items) candidate.now }
-        ensures { result ≡ min (terms_size (label_of (move_of (procs_in W.view self.now) (rows_of self.now.living.items) candidate.now)).terms) MAX }
+        requires fresh { AreFresh self.now.living.items }
+        requires found { IsCandidateIn (scene_in self.now) candidate.now }
+        ensures { result ≡ min (terms_size (label_of (move_in W.view self.now candidate.now)).terms) MAX }
     {
         match candidate {
-            Candidate::Own(at, index) | Candidate::Handshake(at, index, _) => {
+            Candidate::Own(at, index)
+            | Candidate::Handshake(at, index, _)
+            | Candidate::Notify(at, index, _) => {
                 action_size(&self.living[*at].ready[*index].action)
+            }
+            Candidate::TakeNote(at, _, found) => {
+                total_size(self.living[*at].inbox.note(found.place).as_slice())
             }
             Candidate::Finish | Candidate::Halt => 0,
         }
@@ -198,24 +212,24 @@ impl<W: Walker> LiveBus<W> {
     pub fn make(&mut self, alloc: Global, candidate: Candidate) -> Result<Label, NoMemory>
         requires sound { IsSound W.view self.old }
         requires fresh { AreFresh self.old.living.items }
-        requires found { IsCandidateIn (rows_of self.old.living.items) candidate }
+        requires next { self.old.marks.next_number < 4294967295 }
+        requires found { IsCandidateIn (scene_in self.old) candidate }
         ensures sound { IsSound W.view self.new }
         ensures origin { self.new.origin ≡ self.old.origin }
-        ensures label { IfOk result (λ label. label ≡ label_of (move_of (procs_in W.view self.old) (rows_of self.old.living.items) candidate)) }
-        ensures bus { OnOk result (bus_of W.view self.new ≡ apply (bus_of W.view self.old) (move_of (procs_in W.view self.old) (rows_of self.old.living.items) candidate)) }
+        ensures label { IfOk result (λ label. label ≡ label_of (move_in W.view self.old candidate)) }
+        ensures bus { OnOk result (bus_of W.view self.new ≡ apply (bus_of W.view self.old) (move_in W.view self.old candidate)) }
         ensures err { OnErr result (bus_of W.view self.new ≡ bus_of W.view self.old) }
     {
-        self.stale.reserve(2)?;
         match candidate {
-            Candidate::Own(at, index) => {
-                let taken = self.take_at(alloc, at, index)?;
-                Ok(self.make_own(alloc, at, index, taken))
-            }
+            Candidate::Own(at, index) => self.make_own(alloc, at, index),
             Candidate::Handshake(at, index, partner) => {
+                self.stale.reserve(2)?;
                 let sent = self.take_at(alloc, at, index)?;
                 let received = self.take_at(alloc, partner.living, partner.received.action)?;
                 Ok(self.make_handshake(alloc, at, index, sent, partner, received))
             }
+            Candidate::Notify(at, index, indices) => self.make_note(alloc, at, index, &indices),
+            Candidate::TakeNote(at, index, found) => self.make_taking(alloc, at, index, found),
             Candidate::Finish => Ok(self.go_down(alloc, LabelKind::Finish)),
             Candidate::Halt => Ok(self.go_down(alloc, LabelKind::Halt)),
         }
@@ -234,29 +248,176 @@ impl<W: Walker> LiveBus<W> {
         }
     }
 
-    /// A process goes on by itself.
-    fn make_own(&mut self, alloc: Global, at: usize, index: usize, taken: W::Taken) -> Label
+    /// One of the actions of a process, which has to be looked at anew from then on.
+    fn begin(&mut self, at: usize, index: usize) -> Result<Begun, NoMemory>
         requires sound { IsSound W.view self.old }
-        requires fresh { AreFresh self.old.living.items }
-        requires found { IsCandidateIn (rows_of self.old.living.items) (Candidate.Own at index) }
-        requires taken { Leaves W.view self.old at taken (offer_of (procs_in W.view self.old) (rows_of self.old.living.items) at index) }
-        requires room { vec_len self.old.stale < vec_capacity self.old.stale }
-        ensures made { IsMade W.view self.old (Candidate.Own at index) self.new }
-        ensures label { result ≡ label_of (move_of (procs_in W.view self.old) (rows_of self.old.living.items) (Candidate.Own at index)) }
+        requires within { at < length self.old.living.items }
+        requires index_within { index < length (row_at (rows_of self.old.living.items) at).ready }
+        ensures same { StandsAs W.view self.old self.new }
+        ensures number { IfOk result (λ begun. begun.from.proc ≡ (row_at (rows_of self.old.living.items) at).number) }
+        ensures atom { IfOk result (λ begun. begun.from.atom ≡ (ready_at (rows_of self.old.living.items) at index).atom) }
+        ensures action { IfOk result (λ begun. begun.action ≡ (ready_at (rows_of self.old.living.items) at index).action) }
+        ensures kept { IsKept self.old.living.items self.new.living.items at }
+        ensures named { OnOk result (Contains self.new.stale.items (row_at (rows_of self.old.living.items) at).number) }
     {
         let from = self.place_at(at, index);
-        self.stale.push_reserved(from.proc);
-        let Action::Own(own) = self.take_ready(at, index).action else {
+        self.stale.push(from.proc)?;
+        let action = self.take_ready(at, index).action;
+        Ok(Begun { from, action })
+    }
+
+    /// A process goes on by itself.
+    fn make_own(&mut self, alloc: Global, at: usize, index: usize) -> Result<Label, NoMemory>
+        requires sound { IsSound W.view self.old }
+        requires fresh { AreFresh self.old.living.items }
+        requires next { self.old.marks.next_number < 4294967295 }
+        requires found { IsCandidateIn (scene_in self.old) (Candidate.Own at index) }
+        ensures made { OnOk result (IsMade W.view self.old (Candidate.Own at index) self.new) }
+        ensures label { IfOk result (λ label. label ≡ label_of (move_in W.view self.old (Candidate.Own at index))) }
+        ensures err { OnErr result (StandsAs W.view self.old self.new) }
+    {
+        let taken = self.take_at(alloc, at, index)?;
+        let Begun { from, action } = self.begin(at, index)?;
+        let Action::Own(own) = action else {
             unreachable!()
         };
-        let effect = effect_in(alloc, own);
-        self.advance_at(at, taken, effect.binds);
-        self.last_starter = from.proc;
+        let done = self.act(alloc, at, own)?;
+        Ok(self.finish(at, taken, from, done))
+    }
+
+    /// A process sends a note to these, which want it.
+    fn make_note(
+        &mut self,
+        alloc: Global,
+        at: usize,
+        index: usize,
+        indices: &Items<usize>,
+    ) -> Result<Label, NoMemory>
+        requires sound { IsSound W.view self.old }
+        requires fresh { AreFresh self.old.living.items }
+        requires found { IsCandidateIn (scene_in self.old) (Candidate.Notify at index indices.now) }
+        ensures made { OnOk result (IsMade W.view self.old (Candidate.Notify at index indices.now) self.new) }
+        ensures label { IfOk result (λ label. label ≡ label_of (move_in W.view self.old (Candidate.Notify at index indices.now))) }
+        ensures err { OnErr result (StandsAs W.view self.old self.new) }
+    {
+        let taken = self.take_at(alloc, at, index)?;
+        let Begun { from, action } = self.begin(at, index)?;
+        let Action::Notify(shown) = action else {
+            unreachable!()
+        };
+        hand_out(alloc, &mut self.living, indices.as_slice(), &shown)?;
+        let done = Done {
+            kind: LabelKind::SndNote,
+            shown,
+            binds: Items::new(alloc),
+        };
+        Ok(self.finish(at, taken, from, done))
+    }
+
+    /// A process takes a note that was found in its queue.
+    fn make_taking(
+        &mut self,
+        alloc: Global,
+        at: usize,
+        index: usize,
+        found: Found,
+    ) -> Result<Label, NoMemory>
+        requires sound { IsSound W.view self.old }
+        requires fresh { AreFresh self.old.living.items }
+        requires found { IsCandidateIn (scene_in self.old) (Candidate.TakeNote at index found) }
+        ensures made { OnOk result (IsMade W.view self.old (Candidate.TakeNote at index found) self.new) }
+        ensures label { IfOk result (λ label. label ≡ label_of (move_in W.view self.old (Candidate.TakeNote at index found))) }
+        ensures err { OnErr result (StandsAs W.view self.old self.new) }
+    {
+        let taken = self.take_at(alloc, at, index)?;
+        let Begun { from, .. } = self.begin(at, index)?;
+        let Found { place, binds } = found;
+        let done = Done {
+            kind: LabelKind::RecNote,
+            shown: take_note_at(&mut self.living, at, place),
+            binds,
+        };
+        Ok(self.finish(at, taken, from, done))
+    }
+
+    /// Makes the change of what a process does by itself. After want of memory nothing has changed.
+    fn act(&mut self, alloc: Global, at: usize, own: OwnAction) -> Result<Done, NoMemory>
+        requires sound { IsSound W.view self.old }
+        requires within { at < length self.old.living.items }
+        requires next { self.old.marks.next_number < 4294967295 }
+        requires plain { IsPlainIn own }
+        requires happens { own_effect (bus_of W.view self.old) (proc_at (procs_in W.view self.old) at) own ≡ Some (effect_in self.old.marks.next_number own) }
+        ensures changed { OnOk result (IsChanged W.view self.old at (effect_in self.old.marks.next_number own) self.new) }
+        ensures done { IfOk result (IsDone (effect_in self.old.marks.next_number own)) }
+        ensures err { OnErr result (StandsAs W.view self.old self.new) }
+    {
+        match own {
+            OwnAction::Tau => Ok(kind_alone(alloc, LabelKind::Tau)),
+            OwnAction::Set(shown, binds) => Ok(Done {
+                kind: LabelKind::Set,
+                shown,
+                binds,
+            }),
+            OwnAction::Print(text) => printed(alloc, text),
+            OwnAction::NoNote(_) => Ok(kind_alone(alloc, LabelKind::NoNote)),
+            OwnAction::Subscribe(patterns) => {
+                subscribe_at(&mut self.living, at, patterns)?;
+                Ok(kind_alone(alloc, LabelKind::Subscribe))
+            }
+            OwnAction::Unsubscribe(patterns) => {
+                unsubscribe_at(&mut self.living, at, &patterns);
+                Ok(kind_alone(alloc, LabelKind::Unsubscribe))
+            }
+            OwnAction::Create(process, actuals, slot) => {
+                self.create(alloc, process, actuals, slot)
+            }
+        }
+    }
+
+    /// A process of this body begins with these actuals, behind all others, and its number goes to the slot.
+    fn create(
+        &mut self,
+        alloc: Global,
+        process: u32,
+        actuals: Terms,
+        slot: u32,
+    ) -> Result<Done, NoMemory>
+        requires sound { IsSound W.view self.old }
+        requires next { self.old.marks.next_number < 4294967295 }
+        requires fits { IsTrue (fits_formals (slice_get self.old.origin.program.bodies process) actuals) }
+        ensures changed { OnOk result ((at : ℕ) → at < length self.old.living.items → IsChanged W.view self.old at (creation self.old.marks.next_number process actuals slot) self.new) }
+        ensures done { IfOk result (IsDone (creation self.old.marks.next_number process actuals slot)) }
+        ensures err { OnErr result (StandsAs W.view self.old self.new) }
+    {
+        let number = self.marks.next_number;
+        let done = created(alloc, number, slot)?;
+        let program = &self.origin.program;
+        let bodies = program.bodies.as_slice();
+        let living = open_at::<W>(alloc, bodies, &self.plans, number, process, actuals)?;
+        self.stale.reserve(1)?;
+        self.living.push(living)?;
+        self.stale.push_reserved(number);
+        self.marks.next_number = number + 1;
+        Ok(done)
+    }
+
+    /// A process whose change was made goes on with what was taken of it and its binds, and is the last starter.
+    fn finish(&mut self, at: usize, taken: W::Taken, from: Place, done: Done) -> Label
+        requires sound { IsSound W.view self.old }
+        requires within { at < length self.old.living.items }
+        requires named { Contains self.old.stale.items (row_at (rows_of self.old.living.items) at).number }
+        requires taken { CanAdvance W.view self.old at taken done.binds }
+        ensures gone { (offered : Offered) → Leaves W.view self.old at taken offered → HasGone W.view self.old at offered done.binds from.proc self.new }
+        ensures label { result ≡ record { kind = done.kind; from = from; to = nowhere; terms = done.shown } }
+    {
+        let Done { kind, shown, binds } = done;
+        self.advance_at(at, taken, binds);
+        self.marks.last_starter = from.proc;
         Label {
-            kind: effect.kind,
+            kind,
             from,
             to: NOWHERE,
-            terms: effect.shown,
+            terms: shown,
         }
     }
 
@@ -272,12 +433,12 @@ impl<W: Walker> LiveBus<W> {
     ) -> Label
         requires sound { IsSound W.view self.old }
         requires fresh { AreFresh self.old.living.items }
-        requires found { IsCandidateIn (rows_of self.old.living.items) (Candidate.Handshake at index partner) }
+        requires found { IsCandidateIn (scene_in self.old) (Candidate.Handshake at index partner) }
         requires sent { Leaves W.view self.old at sent (offer_of (procs_in W.view self.old) (rows_of self.old.living.items) at index) }
         requires received { Leaves W.view self.old partner.living received (offer_of (procs_in W.view self.old) (rows_of self.old.living.items) partner.living partner.received.action) }
         requires room { vec_len self.old.stale + 1 < vec_capacity self.old.stale }
         ensures made { IsMade W.view self.old (Candidate.Handshake at index partner) self.new }
-        ensures label { result ≡ label_of (move_of (procs_in W.view self.old) (rows_of self.old.living.items) (Candidate.Handshake at index partner)) }
+        ensures label { result ≡ label_of (move_in W.view self.old (Candidate.Handshake at index partner)) }
     {
         let Partner {
             living: other,
@@ -291,7 +452,7 @@ impl<W: Walker> LiveBus<W> {
             unreachable!()
         };
         self.advance_both(alloc, at, sent, other, received, binds);
-        self.last_starter = from.proc;
+        self.marks.last_starter = from.proc;
         Label {
             kind: LabelKind::Msg,
             from,
@@ -339,7 +500,7 @@ impl<W: Walker> LiveBus<W> {
         ensures bus { bus_of W.view self.new ≡ record (bus_of W.view self.old) { down = true } }
         ensures label { result ≡ record { kind = kind; from = nowhere; to = nowhere; terms = [] } }
     {
-        self.down = true;
+        self.marks.down = true;
         Label {
             kind,
             from: NOWHERE,
@@ -353,7 +514,7 @@ impl<W: Walker> LiveBus<W> {
         ensures { result ≡ (fed (bus_of W.view self.now) input).reply }
     {
         match input {
-            Input::NoTicks if self.down => Reply::Dropped(Why::Down),
+            Input::NoTicks if self.marks.down => Reply::Dropped(Why::Down),
             Input::NoTicks => Reply::Took,
         }
     }
@@ -366,20 +527,33 @@ impl<W: Walker> LiveBus<W> {
         ensures bus { bus_of W.view self.new ≡ (fed (bus_of W.view self.old) input).bus }
     {
         match input {
-            Input::NoTicks if self.down => {}
-            Input::NoTicks => self.no_ticks = true,
+            Input::NoTicks if self.marks.down => {}
+            Input::NoTicks => self.marks.no_ticks = true,
         }
     }
 }
 
 /// How large the terms are that are seen of an action.
 fn action_size(action: &Action) -> usize
-    ensures { result ≡ min (terms_size (shown_in action.now)) MAX }
+    ensures { (next : ℕ) → result ≡ min (terms_size (shown_in next action.now)) MAX }
 {
     match action {
-        Action::Own(OwnAction::Tau) => 0,
-        Action::Own(OwnAction::Set(values, _)) => total_size(values.as_slice()),
-        Action::Send(terms) => total_size(terms.as_slice()),
-        Action::Receive(_) => 0,
+        Action::Own(own) => own_size(own),
+        Action::Send(terms) | Action::Notify(terms) => total_size(terms.as_slice()),
+        Action::Receive(_) | Action::TakeNote(_) => 0,
+    }
+}
+
+fn own_size(own: &OwnAction) -> usize
+    ensures { (next : ℕ) → result ≡ min (terms_size (effect_in next own.now).shown) MAX }
+{
+    match own {
+        OwnAction::Set(values, _) => total_size(values.as_slice()),
+        OwnAction::Print(text) => size(text),
+        OwnAction::Create(_, _, _) => 1,
+        OwnAction::Tau
+        | OwnAction::NoNote(_)
+        | OwnAction::Subscribe(_)
+        | OwnAction::Unsubscribe(_) => 0,
     }
 }

@@ -1,11 +1,12 @@
-ghost use Rattle.std.specs.Prelude.{◌≡◌, ◌<◌, ◌++◌, ℕ, List, length, slice_get, IfOk, IsTrue, OnOk, OnErr, Some, is_some, true, false};
+ghost use Rattle.std.specs.Prelude.{◌≡◌, ◌<◌, ◌++◌, ℕ, List, length, slice_get, IfOk, IsTrue, OnOk, OnErr, Some, is_some, option_map, true, false};
 ghost use Rattle.std.specs.Option.{ForSome};
 ghost use Rattle.tb_func.specs.declared.slot.Slot.{Slot};
 ghost use Rattle.tb_algebra.specs.Atoms.{act_of};
 ghost use Rattle.tb_algebra.specs.Binds.{has_slot_sort, takes_binds};
 ghost use Rattle.tb_algebra.specs.Offers.{Offered};
 ghost use Rattle.tb_algebra.specs.Walks.{fired, is_end, offers_of, seen, seen_offers, sorts_of};
-ghost use Rattle.tb_bus.specs.Actions.{action_in, action_of, set_action};
+ghost use Rattle.tb_func.specs.Printing.{printf_of};
+ghost use Rattle.tb_bus.specs.Actions.{action_in, action_of, print_action, set_action};
 ghost use Rattle.tb_bus.specs.Candidates.{ready_one, readies};
 ghost use Rattle.tb_core.specs.Lives.{IsLiveOn, proc_by};
 
@@ -13,6 +14,7 @@ use std::alloc::Global;
 use tb_algebra::{Offer, Walker};
 use tb_body::{Act, Atoms, Body};
 use tb_bus::{Action, Living, OwnAction, Ready};
+use tb_func::printf_text;
 use tb_match::{Bind, Binds};
 use tb_terms::{Items, NoMemory, Sorts, Term, Terms, has_sort};
 
@@ -48,6 +50,16 @@ fn set_action(
     Ok(Some(Action::Own(OwnAction::Set(values, binds))))
 }
 
+/// The text that the values have by their format is printed, where they have one.
+fn print_action(alloc: Global, values: &Terms) -> Result<Option<Action>, NoMemory>
+    ensures { IfOk result (λ action. action ≡ option_map print_action (printf_of values.now)) }
+{
+    match printf_text(alloc, values)? {
+        Some(text) => Ok(Some(Action::Own(OwnAction::Print(text)))),
+        None => Ok(None),
+    }
+}
+
 /// The action of an offered atom, where its arguments have values.
 fn action_in<W: Walker>(
     alloc: Global,
@@ -71,6 +83,14 @@ fn action_in<W: Walker>(
             Some(values) => set_action(alloc, &body.sorts, *slot, values),
             None => Ok(None),
         },
+        Act::Printf(_) => match walker.sent(alloc, plan, k)? {
+            Some(values) => print_action(alloc, &values),
+            None => Ok(None),
+        },
+        &Act::Create { process, slot, .. } => match walker.sent(alloc, plan, k)? {
+            Some(actuals) => Ok(Some(Action::Own(OwnAction::Create(process, actuals, slot)))),
+            None => Ok(None),
+        },
         Act::SndMsg(_) => match walker.sent(alloc, plan, k)? {
             Some(terms) => Ok(Some(Action::Send(terms))),
             None => Ok(None),
@@ -79,14 +99,27 @@ fn action_in<W: Walker>(
             Some(patterns) => Ok(Some(Action::Receive(patterns))),
             None => Ok(None),
         },
+        Act::SndNote(_) => match walker.sent(alloc, plan, k)? {
+            Some(terms) => Ok(Some(Action::Notify(terms))),
+            None => Ok(None),
+        },
+        Act::RecNote(_) => match walker.patterns(alloc, plan, k)? {
+            Some(patterns) => Ok(Some(Action::TakeNote(patterns))),
+            None => Ok(None),
+        },
+        Act::NoNote(_) => match walker.patterns(alloc, plan, k)? {
+            Some(patterns) => Ok(Some(Action::Own(OwnAction::NoNote(patterns)))),
+            None => Ok(None),
+        },
+        Act::Subscribe(_) => match walker.patterns(alloc, plan, k)? {
+            Some(patterns) => Ok(Some(Action::Own(OwnAction::Subscribe(patterns)))),
+            None => Ok(None),
+        },
+        Act::Unsubscribe(_) => match walker.patterns(alloc, plan, k)? {
+            Some(patterns) => Ok(Some(Action::Own(OwnAction::Unsubscribe(patterns)))),
+            None => Ok(None),
+        },
         Act::Delta
-        | Act::SndNote(_)
-        | Act::RecNote(_)
-        | Act::NoNote(_)
-        | Act::Subscribe(_)
-        | Act::Unsubscribe(_)
-        | Act::Create { .. }
-        | Act::Printf(_)
         | Act::Execute { .. }
         | Act::RecConnect { .. }
         | Act::RecDisconnectAny { .. }
@@ -219,6 +252,7 @@ pub fn go_on<W: Walker>(
     ensures ended { result ≡ is_end (W.view.walking plan.now living.new.walker).term }
     ensures number { living.new.number ≡ living.old.number }
     ensures body { living.new.body ≡ living.old.body }
+    ensures inbox { living.new.inbox ≡ living.old.inbox }
     ensures stale { living.new.fresh ≡ false }
 {
     living.fresh = false;

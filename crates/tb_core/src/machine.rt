@@ -3,10 +3,9 @@ ghost use Rattle.tb_log.specs.Limits.{has_room};
 ghost use Rattle.tb_bus.specs.Buses.{origin_of, start};
 ghost use Rattle.tb_bus.specs.Traces.{IsInForm, IsTrace, fed};
 ghost use Rattle.tb_bus.specs.Steps.{steps, apply, label_of};
-ghost use Rattle.tb_bus.specs.Candidates.{rows_of};
-ghost use Rattle.tb_bus.specs.Views.{move_of, IsCandidateIn};
+ghost use Rattle.tb_bus.specs.Views.{IsCandidateIn};
 ghost use Rattle.tb_core.specs.Cores.{HandIn, MakeStep, started, bus_now, Logs, entries_of, is_full, IsStep, Stays, has_any, ends_quiet};
-ghost use Rattle.tb_core.specs.LiveBuses.{bus_of, procs_in, AreFresh, IsSound, StandsAs};
+ghost use Rattle.tb_core.specs.LiveBuses.{bus_of, move_in, scene_in, AreFresh, IsSound, StandsAs};
 
 use crate::answers::{CoreFault, Stepped};
 use crate::bus::LiveBus;
@@ -42,8 +41,9 @@ impl<W: Walker> Model for Core<W> {
 }
 
 impl<W: Walker> Core<W> {
-    /// The opening bus of a program, with an empty log for at most so many entries.
+    /// The opening bus of a program, with an empty log for at most so many entries, of which there may be 4,000,000.
     pub fn start(alloc: Global, program: Program, limit: u32) -> Result<Core<W>, NoMemory>
+        requires { limit ≤ 4000000 }
         ensures { IfOk result (Stays (started (origin_of program limit))) }
     {
         let bus = LiveBus::open(alloc, Origin { program, limit })?;
@@ -66,7 +66,7 @@ impl<W: Walker> Core<W> {
     pub fn is_down(&self) -> bool
         ensures { result ≡ (bus_now self.now).down }
     {
-        self.bus.down
+        self.bus.marks.down
     }
 
     pub fn is_stopped(&self) -> bool
@@ -141,7 +141,7 @@ impl<W: Walker> Core<W> {
                 make(self.alloc, &mut self.bus, &mut self.log, candidate)?;
                 Ok(Stepped::Did)
             }
-            None if self.bus.down => Ok(Stepped::Down),
+            None if self.bus.marks.down => Ok(Stepped::Down),
             None => {
                 say_quiet(&mut self.log)?;
                 Ok(Stepped::Quiet)
@@ -185,16 +185,18 @@ fn make<W: Walker>(
 ) -> Result<(), CoreFault>
     requires sound { IsSound W.view bus.old }
     requires fresh { AreFresh bus.old.living.items }
-    requires found { IsCandidateIn (rows_of bus.old.living.items) candidate }
+    requires next { bus.old.marks.next_number ≤ 10001 + length log.old.entries }
+    requires few { log.old.limit ≤ 4000000 }
+    requires found { IsCandidateIn (scene_in bus.old) candidate }
     ensures sound { IsSound W.view bus.new }
     ensures origin { bus.new.origin ≡ bus.old.origin }
     ensures limit { log.new.limit ≡ log.old.limit }
-    ensures log { OnOk result (log.new.entries ≡ log.old.entries ++ Entry.Did (label_of (move_of (procs_in W.view bus.old) (rows_of bus.old.living.items) candidate)) ∷ []) }
+    ensures log { OnOk result (log.new.entries ≡ log.old.entries ++ Entry.Did (label_of (move_in W.view bus.old candidate)) ∷ []) }
     ensures spare { OnOk result (log.old.spare ≤ log.new.spare + 1) }
-    ensures bus { OnOk result (bus_of W.view bus.new ≡ apply (bus_of W.view bus.old) (move_of (procs_in W.view bus.old) (rows_of bus.old.living.items) candidate)) }
+    ensures bus { OnOk result (bus_of W.view bus.new ≡ apply (bus_of W.view bus.old) (move_in W.view bus.old candidate)) }
     ensures running { IsErrOf result CoreFault.Stopped → ⊥ }
-    ensures full { IsErrOf result CoreFault.Full → has_room log.old.limit log.old.entries (Entry.Did (label_of (move_of (procs_in W.view bus.old) (rows_of bus.old.living.items) candidate))) ≡ false }
-    ensures room { OnOk result (has_room log.old.limit log.old.entries (Entry.Did (label_of (move_of (procs_in W.view bus.old) (rows_of bus.old.living.items) candidate))) ≡ true) }
+    ensures full { IsErrOf result CoreFault.Full → has_room log.old.limit log.old.entries (Entry.Did (label_of (move_in W.view bus.old candidate))) ≡ false }
+    ensures room { OnOk result (has_room log.old.limit log.old.entries (Entry.Did (label_of (move_in W.view bus.old candidate))) ≡ true) }
     ensures err { OnErr result ((bus_of W.view bus.new ≡ bus_of W.view bus.old) × (log.new.entries ≡ log.old.entries) × (log.old.spare ≤ log.new.spare)) }
 {
     if !log.room_for_size(bus.shown_size(&candidate)) {

@@ -1,18 +1,18 @@
-ghost use Rattle.std.specs.Prelude.{◌≡◌, ◌<◌, ◌+◌, ◌∷◌, ℕ, List, [], length, IfOk, IsTrue, map, slice_get, true};
+ghost use Rattle.std.specs.Prelude.{◌≡◌, ◌<◌, ◌+◌, ◌∷◌, ℕ, List, [], length, Some, IfOk, IsTrue, map, slice_get, true};
 ghost use Rattle.std.specs.Option.{ForSome};
 ghost use Rattle.std.specs.List.{All};
-ghost use Rattle.tb_body.specs.Programs.{are_actuals};
-ghost use Rattle.tb_algebra.specs.Walks.{entering};
-ghost use Rattle.tb_bus.specs.Buses.{opening_store, opened};
+ghost use Rattle.tb_bus.specs.Buses.{opening_store, opened, opened_one};
+ghost use Rattle.tb_bus.specs.Effects.{fits_formals};
 ghost use Rattle.tb_bus.specs.Candidates.{ascend, rows_of};
-ghost use Rattle.tb_core.specs.Lives.{IsLive, IsLiveOn, procs_of};
+ghost use Rattle.tb_core.specs.Lives.{Begins, IsBelow, IsLive, procs_of};
 
 use std::alloc::Global;
 use tb_algebra::Walker;
-use tb_body::{Body, Program, Root};
+use tb_body::{Body, Program};
 use tb_bus::Living;
 use tb_func::Store;
-use tb_terms::{Items, NoMemory, Terms};
+use tb_notes::Inbox;
+use tb_terms::{Items, NoMemory, Terms, copy_terms};
 
 /// The plans of the bodies, in their order.
 pub fn plan_all<W: Walker>(alloc: Global, bodies: &[Body]) -> Result<Items<W::Plan>, NoMemory>
@@ -26,46 +26,66 @@ pub fn plan_all<W: Walker>(alloc: Global, bodies: &[Body]) -> Result<Items<W::Pl
 }
 
 /// The store of a process as it begins.
-fn begin_store(alloc: Global, body: &Body, actuals: &Terms) -> Result<Store, NoMemory>
-    requires { IsTrue (are_actuals body.now actuals.now) }
-    ensures { IfOk result (λ store. store ≡ opening_store body.now actuals.now) }
+fn begin_store(alloc: Global, body: &Body, mut actuals: Terms) -> Result<Store, NoMemory>
+    requires { IsTrue (fits_formals (Some body.now) actuals) }
+    ensures { IfOk result (λ store. store ≡ opening_store body.now actuals) }
 {
     let mut store = Store::fresh(alloc, &body.sorts)?;
-    for slot in 0..body.formals {
-        let actual = actuals.as_slice()[slot as usize].copy(alloc)?;
+    let mut slot = body.formals;
+    while let Some(actual) = actuals.pop() {
+        slot -= 1;
         store.set(slot, actual);
     }
     Ok(store)
 }
 
-/// The process of a root with this number.
+/// A process with this number, of the body at this place.
 fn open_one<W: Walker>(
     alloc: Global,
     plan: &W::Plan,
     body: &Body,
     number: u32,
-    root: &Root,
+    process: u32,
+    actuals: Terms,
 ) -> Result<Living<W>, NoMemory>
     requires body { W.view.body_of plan.now ≡ body.now }
-    requires actuals { IsTrue (are_actuals body.now root.now.actuals) }
-    ensures number { IfOk result (λ living. living.number ≡ number) }
-    ensures body { IfOk result (λ living. living.body ≡ root.now.process) }
-    ensures live { IfOk result (λ living. IsLiveOn W.view plan.now 0 living) }
-    ensures term { IfOk result (λ living. W.view.walking plan.now living.walker ≡ entering body.now (opening_store body.now root.now.actuals)) }
+    requires fits { IsTrue (fits_formals (Some body.now) actuals) }
+    ensures { IfOk result (Begins W.view plan.now number process (opening_store body.now actuals)) }
 {
-    let store = begin_store(alloc, body, &root.actuals)?;
+    let store = begin_store(alloc, body, actuals)?;
     let walker = W::start(alloc, plan, store)?;
     Ok(Living {
         number,
-        body: root.process,
+        body: process,
         walker,
+        inbox: Inbox::new(alloc),
         ready: Vec::new(alloc),
         fresh: false,
     })
 }
 
+/// The same, where the body and its plan are looked up.
+pub fn open_at<W: Walker>(
+    alloc: Global,
+    bodies: &[Body],
+    plans: &Items<W::Plan>,
+    number: u32,
+    process: u32,
+    actuals: Terms,
+) -> Result<Living<W>, NoMemory>
+    requires plans { map W.view.body_of plans.now ≡ bodies.now }
+    requires fits { IsTrue (fits_formals (slice_get bodies.now process) actuals) }
+    ensures number { IfOk result (λ living. living.number ≡ number) }
+    ensures live { IfOk result (λ living. (now : ℕ) → IsLive W.view plans.now now living) }
+    ensures procs { IfOk result (λ living. procs_of W.view plans.now (living ∷ []) ≡ opened_one number process actuals (slice_get bodies.now process)) }
+{
+    let place = process as usize;
+    let plan = &plans.as_slice()[place];
+    open_one::<W>(alloc, plan, &bodies[place], number, process, actuals)
+}
+
 /// The process of the root at this index.
-fn open_at<W: Walker>(
+fn open_root<W: Walker>(
     alloc: Global,
     program: &Program,
     plans: &Items<W::Plan>,
@@ -74,15 +94,14 @@ fn open_at<W: Walker>(
     requires plans { map W.view.body_of plans.now ≡ program.now.bodies }
     requires within { at < length program.now.roots }
     ensures number { IfOk result (λ living. living.number ≡ at + 1) }
-    ensures live { IfOk result (IsLive W.view plans.now 0) }
+    ensures live { IfOk result (λ living. (now : ℕ) → IsLive W.view plans.now now living) }
     ensures procs { ForSome (slice_get program.now.roots at) (λ root. IfOk result (λ living.
-        procs_of W.view plans.now (living ∷ []) ≡ opened program.now.bodies (at + 1) (root ∷ []))) }
+        procs_of W.view plans.now (living ∷ []) ≡ opened_one (at + 1) root.process root.actuals (slice_get program.now.bodies root.process))) }
 {
     let root = &program.roots.as_slice()[at];
-    let place = root.process as usize;
-    let body = &program.bodies.as_slice()[place];
-    let plan = &plans.as_slice()[place];
-    open_one::<W>(alloc, plan, body, at as u32 + 1, root)
+    let actuals = copy_terms(alloc, &root.actuals)?;
+    let bodies = program.bodies.as_slice();
+    open_at::<W>(alloc, bodies, plans, at as u32 + 1, root.process, actuals)
 }
 
 /// The processes of the roots, numbered from 1.
@@ -93,12 +112,13 @@ pub fn open_all<W: Walker>(
 ) -> Result<Vec<Living<W>>, NoMemory>
     requires { map W.view.body_of plans.now ≡ program.now.bodies }
     ensures in_order { IfOk result (λ all. ascend 0 (rows_of all.items) ≡ true) }
+    ensures below { IfOk result (λ all. All (IsBelow (length program.now.roots + 1)) all.items) }
     ensures live { IfOk result (λ all. All (IsLive W.view plans.now 0) all.items) }
     ensures procs { IfOk result (λ all. procs_of W.view plans.now all.items ≡ opened program.now.bodies 1 program.now.roots) }
 {
     let mut all = Vec::new(alloc);
     for at in 0..program.roots.len() {
-        all.push(open_at::<W>(alloc, program, plans, at)?)?;
+        all.push(open_root::<W>(alloc, program, plans, at)?)?;
     }
     Ok(all)
 }

@@ -1,24 +1,33 @@
-use Rattle.std.proofs.Common.{◌∙◌, ap, sym}
+use Rattle.std.proofs.Common.{◌≡◌, ◌∙◌, ap, arith, sym, true}
+use Rattle.tb_log.specs.Limits.{has_room}
 use Rattle.tb_log.specs.declared.entry.Entry.TheVariants.{Did}
-use Rattle.tb_bus.specs.Candidates.{rows_of}
 use Rattle.tb_bus.specs.Steps.{label_of}
-use Rattle.tb_bus.specs.Views.{move_of}
-use Rattle.tb_core.specs.LiveBuses.{procs_in}
-use Rattle.tb_core.proofs.CoreLemmas.{room-kept}
+use Rattle.tb_core.specs.LiveBuses.{move_in}
+use Rattle.tb_core.proofs.CoreLemmas.{room-kept, room-long}
 use Rattle.tb_core.proofs.machine.make.Goals as goal
 
 pub returns-then-not-room_for_size-clause-full : goal.returns-then-not-room_for_size-clause-full
 returns-then-not-room_for_size-clause-full g c is =
-    let label = label_of (move_of (procs_in g.W.Walker.view c.args.bus.now) (rows_of c.args.bus.now.living.items) c.args.candidate) in
+    let label = label_of (move_in g.W.Walker.view c.args.bus.now c.args.candidate) in
     sym (c.room_for_size.ensures (Did label) c.shown_size.ensures) ∙ c.if-not-room_for_size.true
 
 pub push-requires-clause-room : goal.push-requires-clause-room
 push-requires-clause-room g c =
-    let label = label_of (move_of (procs_in g.W.Walker.view c.args.bus.now) (rows_of c.args.bus.now.living.items) c.args.candidate) in
+    let label = label_of (move_in g.W.Walker.view c.args.bus.now c.args.candidate) in
     room-kept c.args.log.now c.reserve.new.self (Did label) (Did c.in_ok-label.label) c.in_ok-reserve.ensures.limit c.in_ok-reserve.ensures.entries (ap Did c.in_ok-label.ensures.label)
     (sym (c.room_for_size.ensures (Did label) c.shown_size.ensures) ∙ c.if-not-room_for_size.false)
 
 pub returns-clause-room : goal.returns-clause-room
 returns-clause-room g c =
-    let label = label_of (move_of (procs_in g.W.Walker.view c.args.bus.now) (rows_of c.args.bus.now.living.items) c.args.candidate) in
+    let label = label_of (move_in g.W.Walker.view c.args.bus.now c.args.candidate) in
     sym (c.room_for_size.ensures (Did label) c.shown_size.ensures) ∙ c.if-not-room_for_size.false
+
+pub make-requires-clause-next : goal.make-requires-clause-next
+make-requires-clause-next g c =
+    let label = label_of (move_in g.W.Walker.view c.args.bus.now c.args.candidate) in
+    let log = c.args.log.now in
+    let room : has_room log.limit log.entries (Did label) ≡ true = sym (c.room_for_size.ensures (Did label) c.shown_size.ensures) ∙ c.if-not-room_for_size.false in
+    let long = room-long log.limit log.entries (Did label) room in
+    let next = c.requires.next in
+    let few = c.requires.few in
+    omega arith

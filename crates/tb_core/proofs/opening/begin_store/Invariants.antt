@@ -1,9 +1,9 @@
-use Rattle.std.proofs.Common.{◌≡◌, drop}
-use Rattle.tb_algebra.specs.Walks.{sorts_of}
-use Rattle.tb_bus.specs.Buses.{with_values, opening_store}
+use Rattle.std.proofs.Common.{length}
+use Rattle.tb_core.proofs.OpenLemmas.{IsBeginning}
 use Rattle.tb_core.proofs.opening.begin_store.Given as goal
 
-abbrev pub invariant-loop-slot : goal.invariant-loop-slot
-invariant-loop-slot l =
-    (sorts_of l.store ≡ l.body.sorts)
-    × (with_values l.store l.slot (drop l.slot l.actuals) ≡ opening_store l.body l.actuals)
+abbrev pub invariant-loop-actual : goal.invariant-loop-actual
+invariant-loop-actual l = IsBeginning l.body l.store l.slot l.fn.actuals l.actuals
+
+abbrev pub decreases-loop-actual : goal.decreases-loop-actual
+decreases-loop-actual l = length l.actuals

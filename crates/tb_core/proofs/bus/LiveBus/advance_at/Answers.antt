@@ -31,6 +31,7 @@ returns-then-go_on-clause-advanced g c offered leaves =
       goes = c.go_on.ensures.advanced offered (leaves-there g.W.Walker.view bus c.args.at before plan c.args.taken offered read leaves);
       number = c.go_on.ensures.number;
       body = c.go_on.ensures.body;
+      inbox = c.go_on.ensures.inbox;
       stale = c.go_on.ensures.stale;
     } in
     advanced-removed g.W.Walker.view bus c.args.at before plan offered c.args.binds after c.go_on.result c.remove.new.self c.requires.sound read went c.go_on.ensures.ended c.if-go_on.true c.remove.ensures.items
@@ -53,6 +54,7 @@ returns-else-go_on-clause-advanced g c offered leaves =
       goes = goes;
       number = c.go_on.ensures.number;
       body = c.go_on.ensures.body;
+      inbox = c.go_on.ensures.inbox;
       stale = c.go_on.ensures.stale;
     } in
     let sorts = sorts-once offered can.0 c.args.binds (g.W.Walker.view.walking plan before.walker).ticks (g.W.Walker.view.walking plan after.walker) (proc_at (procs_in g.W.Walker.view bus) c.args.at).store goes its can.2 in

@@ -1,9 +1,10 @@
-use Rattle.std.proofs.Common.{◌≡◌, List, IfOk, subst, option_map}
+use Rattle.std.proofs.Common.{◌≡◌, List, IfOk, IfSome, subst, option_map}
 use Rattle.std.proofs.lemmas.Result.{IfOk-weaker}
+use Rattle.tb_body.specs.declared.body.Body.{Body}
 use Rattle.tb_bus.specs.Buses.{Bus}
 use Rattle.tb_bus.specs.Steps.{moves}
-use Rattle.tb_bus.specs.Candidates.{first, rows_of}
-use Rattle.tb_bus.specs.Views.{IsSearchedFor, move_of}
+use Rattle.tb_bus.specs.Candidates.{first, rows_of, scene_of}
+use Rattle.tb_bus.specs.Views.{IsCandidateIn, IsSearchedFor, move_of}
 use Rattle.tb_bus.specs.declared.living.Living.{Living}
 use Rattle.tb_core.specs.LiveBuses.{bus_of}
 use Rattle.tb_core.proofs.RowsLemmas.{searched-for}
@@ -12,6 +13,15 @@ use Rattle.tb_core.proofs.bus.LiveBus.first_candidate.Goals as goal
 pub returns-clause-found : goal.returns-clause-found
 returns-clause-found g c =
     let fields = c.args.self.now in
-    let on_bus = subst (λ (all : List (Living _)). IfOk c.first_candidate.result (λ found. (bus : Bus) → IsSearchedFor bus (rows_of all) fields.last_starter fields.no_ticks fields.down → option_map (move_of bus.procs (rows_of all)) found ≡ first (moves bus)))
+    let on_rows = subst (λ (all : List (Living _)). IfOk c.first_candidate.result (λ found. (bus : Bus) → IsSearchedFor bus c.as_slice-bodies.result.now (rows_of all) fields.marks → option_map (move_of bus (rows_of all)) found ≡ first (moves bus)))
     c.as_slice.ensures.value c.first_candidate.ensures.on_bus in
+    let on_bus = subst (λ (bodies : List Body). IfOk c.first_candidate.result (λ found. (bus : Bus) → IsSearchedFor bus bodies (rows_of fields.living.items) fields.marks → option_map (move_of bus (rows_of fields.living.items)) found ≡ first (moves bus)))
+    c.as_slice-bodies.ensures on_rows in
     IfOk-weaker c.first_candidate.result _ _ (λ found h. h (bus_of g.W.Walker.view fields) (searched-for g.W.Walker.view fields c.requires.sound c.requires.fresh)) on_bus
+
+pub returns-clause-stands : goal.returns-clause-stands
+returns-clause-stands g c =
+    let fields = c.args.self.now in
+    let in_rows = subst (λ (all : List (Living _)). IfOk c.first_candidate.result (λ found. IfSome found (IsCandidateIn (scene_of c.as_slice-bodies.result.now (rows_of all) fields.marks))))
+    c.as_slice.ensures.value c.first_candidate.ensures.stands in
+    subst (λ (bodies : List Body). IfOk c.first_candidate.result (λ found. IfSome found (IsCandidateIn (scene_of bodies (rows_of fields.living.items) fields.marks)))) c.as_slice-bodies.ensures in_rows

@@ -1,11 +1,28 @@
-use Rattle.std.proofs.Common.{◌∙◌}
-use Rattle.tb_core.proofs.OpenLemmas.{all-named}
+use Rattle.std.proofs.Common.{◌∙◌, ◌+◌, arith, subst, sym}
+use Rattle.std.specs.List.{All}
+use Rattle.tb_core.specs.Lives.{IsBelow}
+use Rattle.tb_core.proofs.OpenLemmas.{all-named, few-roots}
 use Rattle.tb_core.proofs.bus.LiveBus.open.Goals as goal
 
 pub returns-clause-sound : goal.returns-clause-sound
 returns-clause-sound g c = record {
   in_order = c.in_ok-living.ensures.in_order;
+  below = subst (λ many. All (IsBelow (many + 1)) c.in_ok-living.living.items) (sym c.len.ensures) c.in_ok-living.ensures.below;
   planned = c.in_ok-plans.ensures ∙ c.as_slice.ensures;
   live = c.in_ok-living.ensures.live;
   fresh = all-named c.in_ok-living.living.items c.as_slice-2.result.now c.in_ok-stale.stale.items c.as_slice-2.ensures.value c.in_ok-stale.ensures;
 }
+
+pub overflow_cast-next_number : goal.overflow_cast-next_number
+overflow_cast-next_number g c =
+    let program = c.args.origin.program in
+    let few = few-roots program.bodies program.roots program.tools program.in_range in
+    let many = c.len.ensures in
+    omega arith
+
+pub overflow_add-next_number : goal.overflow_add-next_number
+overflow_add-next_number g c =
+    let program = c.args.origin.program in
+    let few = few-roots program.bodies program.roots program.tools program.in_range in
+    let many = c.len.ensures in
+    omega arith

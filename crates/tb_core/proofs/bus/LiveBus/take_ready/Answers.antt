@@ -1,8 +1,7 @@
-use Rattle.std.proofs.Common.{refl, subst, inr, ap, sym, ◌∙◌, false, Contains, slice_set}
+use Rattle.std.proofs.Common.{refl, subst, inr, false, Contains}
 use Rattle.std.specs.Vec.{with_item}
-use Rattle.tb_bus.specs.Candidates.{Row, row_of, no_row}
-use Rattle.tb_core.proofs.ReadLemmas.{live-at, map-there}
-use Rattle.tb_core.proofs.SetLemmas.{stands-set, set-there, set-other, leaves-set}
+use Rattle.tb_core.proofs.ReadLemmas.{live-at}
+use Rattle.tb_core.proofs.SetLemmas.{stands-set, set-there, set-other}
 use Rattle.tb_core.proofs.bus.LiveBus.take_ready.Goals as goal
 
 pub returns-clause-same : goal.returns-clause-same
@@ -17,22 +16,21 @@ returns-clause-same g c =
       fresh = inr (subst (λ row. Contains bus.stale.items row.number) it.row c.requires.named);
     })
 
-pub returns-clause-number : goal.returns-clause-number
-returns-clause-number g c =
+pub returns-clause-kept : goal.returns-clause-kept
+returns-clause-kept g c =
     let bus = c.args.self.now in
     let living = c.index_mut-living.result.now in
     let one = record living { ready = c.swap_remove.new.self; fresh = false } in
     let it = live-at g.W.Walker.view bus c.args.at living c.requires.sound c.requires.within c.index_mut-living.ensures.value in
-    ap (λ (row : Row). row.number) (map-there row_of (slice_set bus.living.items c.args.at one) c.args.at one no_row (set-there bus.living.items c.args.at living one it.here))
-    ∙ ap (λ (row : Row). row.number) (sym it.row)
+    record {
+      before = living;
+      after = one;
+      here = it.here;
+      there = set-there bus.living.items c.args.at living one it.here;
+      number = refl;
+      body = refl;
+      walker = refl;
+    }
 
 pub returns-clause-others : goal.returns-clause-others
 returns-clause-others g c other ne = set-other c.args.self.now.living.items c.args.at other _ ne
-
-pub returns-clause-leaves : goal.returns-clause-leaves
-returns-clause-leaves g c taken offered leaves =
-    let bus = c.args.self.now in
-    let living = c.index_mut-living.result.now in
-    let one = record living { ready = c.swap_remove.new.self; fresh = false } in
-    let it = live-at g.W.Walker.view bus c.args.at living c.requires.sound c.requires.within c.index_mut-living.ensures.value in
-    leaves-set g.W.Walker.view bus (with_item bus.living c.args.at one) c.args.at living one taken offered it.here refl refl refl leaves

@@ -5,7 +5,7 @@ use Rattle.tb_bus.specs.Traces.{fed}
 use Rattle.tb_bus.proofs.TraceLemmas.{legal-fed}
 use Rattle.tb_core.specs.Cores.{HandIn}
 use Rattle.tb_core.specs.LiveBuses.{bus_of}
-use Rattle.tb_core.proofs.CoreLemmas.{bus-seen, fed-now, fed-on, full-seen, logs-on, represents-on, still-within}
+use Rattle.tb_core.proofs.CoreLemmas.{bus-seen, fed-next, fed-now, fed-on, full-seen, logs-on, represents-on, still-next, still-within}
 use Rattle.tb_core.proofs.machine.Core.hand_in.Goals as goal
 
 pub invariant_of-self-2 : goal.invariant_of-self-2
@@ -16,6 +16,7 @@ invariant_of-self-2 g c =
     represents-on g.W.Walker.view old c.hand.new.bus c.self.inside.log c.hand.new.log entries c.self.invariant c.hand.ensures.sound c.hand.ensures.origin c.hand.ensures.limit
     c.in_ok-reply.ensures.log c.in_ok-reply.ensures.bus (legal-fed bus c.args.input c.in_ok-reply.reply c.requires c.in_ok-reply.ensures.reply)
     (still-within bus (bus_of g.W.Walker.view c.hand.new.bus) entries (ap (λ (b : Bus). b.now) c.in_ok-reply.ensures.bus ∙ fed-now bus c.args.input))
+    (still-next bus (bus_of g.W.Walker.view c.hand.new.bus) entries (ap (λ (b : Bus). b.next_number) c.in_ok-reply.ensures.bus ∙ fed-next bus c.args.input))
 
 pub returns-clause-reply : goal.returns-clause-reply
 returns-clause-reply g c =

@@ -1,8 +1,6 @@
 use Rattle.std.proofs.Common.{◌∙◌, ap, sym}
 use Rattle.tb_bus.specs.Steps.{steps}
-use Rattle.tb_bus.specs.Candidates.{rows_of}
-use Rattle.tb_bus.specs.Views.{move_of}
-use Rattle.tb_core.specs.LiveBuses.{bus_of, procs_in}
+use Rattle.tb_core.specs.LiveBuses.{bus_of, move_in}
 use Rattle.tb_core.specs.Cores.{has_any}
 use Rattle.tb_core.proofs.CoreLemmas.{bus-seen}
 use Rattle.tb_core.proofs.GoLemmas.{any-found}
@@ -13,6 +11,6 @@ returns-clause-value g c =
     let core = c.self.inside in
     let now = c.freshen.new.self in
     c.is_some.ensures
-    ∙ any-found (bus_of g.W.Walker.view now) (move_of (procs_in g.W.Walker.view now) (rows_of now.living.items)) c.in_ok-first_candidate.field-0 (sym c.in_ok-first_candidate.ensures.found)
+    ∙ any-found (bus_of g.W.Walker.view now) (move_in g.W.Walker.view now) c.in_ok-first_candidate.field-0 (sym c.in_ok-first_candidate.ensures.found)
     ∙ ap (λ b. has_any (steps b)) c.freshen.ensures.same.bus
     ∙ ap (λ b. has_any (steps b)) (sym (bus-seen (bus_of g.W.Walker.view core.bus) core.bus.origin core.log core.stopped c.args.self.now c.self.invariant.bus_is c.self.view_is))

@@ -3,12 +3,11 @@ use Rattle.tb_log.specs.declared.entry.Entry.TheVariants.{Did, Quiet}
 use Rattle.tb_log.specs.Limits.{has_room}
 use Rattle.tb_bus.specs.Buses.{Bus}
 use Rattle.tb_bus.specs.Steps.{moves, steps, step_of, label_of}
-use Rattle.tb_bus.specs.Candidates.{first, rows_of}
-use Rattle.tb_bus.specs.Views.{move_of}
+use Rattle.tb_bus.specs.Candidates.{first}
 use Rattle.tb_bus.proofs.TraceLemmas.{steps-first, steps-none}
-use Rattle.tb_core.specs.LiveBuses.{bus_of, procs_in}
+use Rattle.tb_core.specs.LiveBuses.{bus_of, move_in}
 use Rattle.tb_core.specs.Cores.{CoreState, MakeStep, ends_quiet, entries_of, lacks_room}
-use Rattle.tb_core.proofs.CoreLemmas.{apply-now, bus-seen, full-seen, logs-on, represents-on, represents-same, room-seen, still-within, would-on}
+use Rattle.tb_core.proofs.CoreLemmas.{apply-now, bus-seen, full-seen, logs-on, one-next, represents-on, represents-same, room-seen, still-next, still-within, would-on}
 use Rattle.tb_core.proofs.GoLemmas.{did-entry, did-trace, did-replay, down-entry, quiet_if, quiet-entry, quiet-listed, quiet-room, quiet-trace, quiet-replay}
 use Rattle.tb_core.proofs.machine.Core.step.Goals as goal
 
@@ -16,13 +15,14 @@ pub invariant_of-self-in-Some : goal.invariant_of-self-in-Some
 invariant_of-self-in-Some g c =
     let now = c.freshen.new.self in
     let bus = bus_of g.W.Walker.view now in
-    let to = move_of (procs_in g.W.Walker.view now) (rows_of now.living.items) in
+    let to = move_in g.W.Walker.view now in
     let move = to c.in-Some.candidate in
     let found : first (moves bus) ≡ Some move = sym c.in_ok-candidate.ensures.found ∙ ap (option_map to) c.in-Some.is in
     represents-on g.W.Walker.view now c.make.new.bus c.self.inside.log c.make.new.log (Did (label_of move) ∷ [])
     (represents-same g.W.Walker.view c.self.inside.bus now c.self.inside.log c.self.invariant c.freshen.ensures.same)
     c.make.ensures.sound c.make.ensures.origin c.make.ensures.limit c.in_ok-make-in-Some.ensures.log (c.in_ok-make-in-Some.ensures.bus ∙ did-replay bus move found) (did-trace bus move found)
     (still-within bus (bus_of g.W.Walker.view c.make.new.bus) (Did (label_of move) ∷ []) (ap (λ (b : Bus). b.now) c.in_ok-make-in-Some.ensures.bus ∙ apply-now bus move))
+    (one-next bus (bus_of g.W.Walker.view c.make.new.bus) move (Did (label_of move)) c.in_ok-make-in-Some.ensures.bus)
 
 pub invariant_of-self-in-None-2 : goal.invariant_of-self-in-None-2
 invariant_of-self-in-None-2 g c =
@@ -30,18 +30,18 @@ invariant_of-self-in-None-2 g c =
     let bus = bus_of g.W.Walker.view now in
     let log = c.self.inside.log in
     let entries = if ends_quiet log.entries then [] else Quiet ∷ [] in
-    let nothing : first (moves bus) ≡ None = sym c.in_ok-candidate.ensures.found ∙ ap (option_map (move_of (procs_in g.W.Walker.view now) (rows_of now.living.items))) c.in-None.is in
+    let nothing : first (moves bus) ≡ None = sym c.in_ok-candidate.ensures.found ∙ ap (option_map (move_in g.W.Walker.view now)) c.in-None.is in
     represents-on g.W.Walker.view now now log c.say_quiet.new.log entries
     (represents-same g.W.Walker.view c.self.inside.bus now log c.self.invariant c.freshen.ensures.same)
     c.freshen.ensures.same.sound refl c.say_quiet.ensures.limit c.in_ok-say_quiet-in-None-2.ensures.ok (quiet-replay bus (ends_quiet log.entries)) (quiet-trace bus (ends_quiet log.entries) (steps-none bus nothing) c.if-self-2.false)
-    (still-within bus bus entries refl)
+    (still-within bus bus entries refl) (still-next bus bus entries refl)
 
 pub returns-in_ok-make-in-Some-clause-found : goal.returns-in_ok-make-in-Some-clause-found
 returns-in_ok-make-in-Some-clause-found g c =
     let core = c.self.inside in
     let now = c.freshen.new.self in
     let bus = bus_of g.W.Walker.view now in
-    let to = move_of (procs_in g.W.Walker.view now) (rows_of now.living.items) in
+    let to = move_in g.W.Walker.view now in
     let move = to c.in-Some.candidate in
     let found : first (moves bus) ≡ Some move = sym c.in_ok-candidate.ensures.found ∙ ap (option_map to) c.in-Some.is in
     let same = bus-seen (bus_of g.W.Walker.view core.bus) core.bus.origin core.log core.stopped c.args.self.now c.self.invariant.bus_is c.self.view_is ∙ sym c.freshen.ensures.same.bus in
@@ -53,7 +53,7 @@ returns-in_ok-make-in-Some-clause-logs g c =
     let core = c.self.inside in
     let now = c.freshen.new.self in
     let bus = bus_of g.W.Walker.view now in
-    let to = move_of (procs_in g.W.Walker.view now) (rows_of now.living.items) in
+    let to = move_in g.W.Walker.view now in
     let move = to c.in-Some.candidate in
     let found : first (moves bus) ≡ Some move = sym c.in_ok-candidate.ensures.found ∙ ap (option_map to) c.in-Some.is in
     let is = c.freshen.ensures.same.bus ∙ c.self.invariant.bus_is in
@@ -85,7 +85,7 @@ returns-in_ok-say_quiet-in-None-2-clause-found g c =
     let core = c.self.inside in
     let now = c.freshen.new.self in
     let bus = bus_of g.W.Walker.view now in
-    let nothing : first (moves bus) ≡ None = sym c.in_ok-candidate.ensures.found ∙ ap (option_map (move_of (procs_in g.W.Walker.view now) (rows_of now.living.items))) c.in-None.is in
+    let nothing : first (moves bus) ≡ None = sym c.in_ok-candidate.ensures.found ∙ ap (option_map (move_in g.W.Walker.view now)) c.in-None.is in
     let same = bus-seen bus core.bus.origin core.log core.stopped c.args.self.now (c.freshen.ensures.same.bus ∙ c.self.invariant.bus_is) c.self.view_is in
     (ap steps same ∙ steps-none bus nothing, ap (λ (b : Bus). b.down) same ∙ c.if-self-2.false)
 
@@ -94,7 +94,7 @@ returns-in_ok-say_quiet-in-None-2-clause-logs g c =
     let core = c.self.inside in
     let now = c.freshen.new.self in
     let bus = bus_of g.W.Walker.view now in
-    let nothing : first (moves bus) ≡ None = sym c.in_ok-candidate.ensures.found ∙ ap (option_map (move_of (procs_in g.W.Walker.view now) (rows_of now.living.items))) c.in-None.is in
+    let nothing : first (moves bus) ≡ None = sym c.in_ok-candidate.ensures.found ∙ ap (option_map (move_in g.W.Walker.view now)) c.in-None.is in
     let is = c.freshen.ensures.same.bus ∙ c.self.invariant.bus_is in
     let same = bus-seen bus core.bus.origin core.log core.stopped c.args.self.now is c.self.view_is in
     let said : ends_quiet c.args.self.now.log ≡ ends_quiet core.log.entries = ap (λ (s : CoreState). ends_quiet s.log) (sym c.self.view_is) in
@@ -112,7 +112,7 @@ returns-in_ok-make-in-Some-clause-room g c =
     let core = c.self.inside in
     let now = c.freshen.new.self in
     let bus = bus_of g.W.Walker.view now in
-    let to = move_of (procs_in g.W.Walker.view now) (rows_of now.living.items) in
+    let to = move_in g.W.Walker.view now in
     let move = to c.in-Some.candidate in
     let found : first (moves bus) ≡ Some move = sym c.in_ok-candidate.ensures.found ∙ ap (option_map to) c.in-Some.is in
     let same = bus-seen bus core.bus.origin core.log core.stopped c.args.self.now (c.freshen.ensures.same.bus ∙ c.self.invariant.bus_is) c.self.view_is in
@@ -131,7 +131,7 @@ returns-in_ok-say_quiet-in-None-2-clause-room g c =
     let core = c.self.inside in
     let now = c.freshen.new.self in
     let bus = bus_of g.W.Walker.view now in
-    let nothing : first (moves bus) ≡ None = sym c.in_ok-candidate.ensures.found ∙ ap (option_map (move_of (procs_in g.W.Walker.view now) (rows_of now.living.items))) c.in-None.is in
+    let nothing : first (moves bus) ≡ None = sym c.in_ok-candidate.ensures.found ∙ ap (option_map (move_in g.W.Walker.view now)) c.in-None.is in
     let same = bus-seen bus core.bus.origin core.log core.stopped c.args.self.now (c.freshen.ensures.same.bus ∙ c.self.invariant.bus_is) c.self.view_is in
     let said : ends_quiet c.args.self.now.log ≡ ends_quiet core.log.entries = ap (λ (s : CoreState). ends_quiet s.log) (sym c.self.view_is) in
     ap (lacks_room c.args.self.now) (would-on c.args.self.now bus same ∙ quiet-entry bus (ends_quiet c.args.self.now.log) (steps-none bus nothing) c.if-self-2.false)
@@ -143,7 +143,7 @@ returns-in_err-make-in-Some-clause-full g c is =
     let core = c.self.inside in
     let now = c.freshen.new.self in
     let bus = bus_of g.W.Walker.view now in
-    let to = move_of (procs_in g.W.Walker.view now) (rows_of now.living.items) in
+    let to = move_in g.W.Walker.view now in
     let move = to c.in-Some.candidate in
     let found : first (moves bus) ≡ Some move = sym c.in_ok-candidate.ensures.found ∙ ap (option_map to) c.in-Some.is in
     let same = bus-seen bus core.bus.origin core.log core.stopped c.args.self.now (c.freshen.ensures.same.bus ∙ c.self.invariant.bus_is) c.self.view_is in
@@ -155,7 +155,7 @@ returns-in_err-say_quiet-in-None-2-clause-full g c is =
     let core = c.self.inside in
     let now = c.freshen.new.self in
     let bus = bus_of g.W.Walker.view now in
-    let nothing : first (moves bus) ≡ None = sym c.in_ok-candidate.ensures.found ∙ ap (option_map (move_of (procs_in g.W.Walker.view now) (rows_of now.living.items))) c.in-None.is in
+    let nothing : first (moves bus) ≡ None = sym c.in_ok-candidate.ensures.found ∙ ap (option_map (move_in g.W.Walker.view now)) c.in-None.is in
     let same = bus-seen bus core.bus.origin core.log core.stopped c.args.self.now (c.freshen.ensures.same.bus ∙ c.self.invariant.bus_is) c.self.view_is in
     let said : ends_quiet c.args.self.now.log ≡ ends_quiet core.log.entries = ap (λ (s : CoreState). ends_quiet s.log) (sym c.self.view_is) in
     let refused : (ends_quiet core.log.entries ≡ false) × (has_room core.log.limit core.log.entries Quiet ≡ false) = c.say_quiet.ensures.full (search rules) in

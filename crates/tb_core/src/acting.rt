@@ -1,0 +1,54 @@
+ghost use Rattle.std.specs.Prelude.{◌≡◌, ◌∷◌, [], IfOk};
+ghost use Rattle.tb_bus.specs.Effects.{number_term};
+
+use std::alloc::Global;
+use tb_log::LabelKind;
+use tb_match::{Bind, Binds};
+use tb_terms::{Items, NoMemory, Term, Terms};
+
+/// What was done: what is seen of it, and what its process binds.
+#[derive(Drop)]
+pub struct Done {
+    pub kind: LabelKind,
+    pub shown: Terms,
+    pub binds: Binds,
+}
+
+/// What was done, where no term is seen and nothing is bound.
+pub fn kind_alone(alloc: Global, kind: LabelKind) -> Done
+    ensures { result ≡ record { kind = kind; shown = []; binds = [] } }
+{
+    Done {
+        kind,
+        shown: Items::new(alloc),
+        binds: Items::new(alloc),
+    }
+}
+
+/// A text was printed.
+pub fn printed(alloc: Global, text: Term) -> Result<Done, NoMemory>
+    ensures { IfOk result (λ done. done ≡ record { kind = LabelKind.Printf; shown = text ∷ []; binds = [] }) }
+{
+    let mut done = kind_alone(alloc, LabelKind::Printf);
+    done.shown.push(text)?;
+    Ok(done)
+}
+
+/// A process with this number began, and the slot takes the number.
+pub fn created(alloc: Global, number: u32, slot: u32) -> Result<Done, NoMemory>
+    ensures { IfOk result (λ done. done ≡ record { kind = LabelKind.Create; shown = number_term number ∷ []; binds = record { slot = slot; value = number_term number } ∷ [] }) }
+{
+    let mut done = kind_alone(alloc, LabelKind::Create);
+    done.shown.push(number_term(number))?;
+    done.binds.push(Bind {
+        slot,
+        value: number_term(number),
+    })?;
+    Ok(done)
+}
+
+fn number_term(number: u32) -> Term
+    ensures { result ≡ number_term number }
+{
+    Term::Int(i64::from(number))
+}
