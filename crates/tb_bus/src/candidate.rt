@@ -19,6 +19,7 @@ pub struct Partner {
 /// A move that a search found, by indices among those alive and among their actions.
 #[derive(Debug, Drop)]
 pub enum Candidate {
+    /// Who goes on by itself, and its action.
     Own(usize, usize),
     /// The sender, its action, and who receives what it sends.
     Handshake(usize, usize, Partner),

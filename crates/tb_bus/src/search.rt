@@ -13,9 +13,9 @@ use crate::receivers::first_partner;
 use crate::wanting::wanting;
 use std::alloc::Global;
 use tb_body::Body;
-use tb_terms::{Items, NoMemory, Patterns, Terms};
+use tb_terms::{Items, NoMemory};
 
-/// What a search goes through.
+/// What a search goes through: the bodies of the processes, those alive by their numbers, and what is marked.
 #[derive(Drop)]
 pub(crate) struct Searched<'a, W> {
     pub bodies: &'a [Body],
