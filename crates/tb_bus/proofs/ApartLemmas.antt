@@ -105,6 +105,9 @@ pub numbers-above : (origin : Origin) (bus : Bus) → Reaches origin bus → All
 numbers-above origin bus r =
     All-weaker (Contains bus.procs) (λ (proc : Proc). 0 < proc.number) (λ proc c. ascend-above 0 bus.procs proc (reached-in_order origin bus r).ascend c) bus.procs (All-contains_itself bus.procs)
 
+pub numbers-below : (origin : Origin) (bus : Bus) → Reaches origin bus → All (λ (proc : Proc). proc.number < bus.next_number) bus.procs
+numbers-below origin bus r = (reached-in_order origin bus r).below
+
 in_turn-apart : (bus : Bus) → Apart Differ bus.procs → Apart Differ (in_turn bus)
 in_turn-apart bus h =
     let later = λ (proc : Proc). nat_lt bus.last_starter proc.number in

@@ -10,9 +10,9 @@ use Rattle.tb_notes.specs.declared.queue.Found.{Found}
 use Rattle.tb_log.specs.declared.entry.LabelKind.{LabelKind}
 use Rattle.tb_log.specs.declared.entry.LabelKind.TheVariants as kind
 use Rattle.tb_bus.specs.Buses.{Bus, Proc}
-use Rattle.tb_bus.specs.Effects.{Nothing, PutsNote, Subscribes, Unsubscribes, Effect, takes_note, may_create, creation, taking, own_effect, effect_of}
+use Rattle.tb_bus.specs.Effects.{Effect, takes_note, may_create, taking, own_effect, effect_of}
 use Rattle.tb_bus.specs.Candidates.{Row, Scene, row_at, all_take, may_happen, scene_of}
-use Rattle.tb_bus.specs.Views.{IsRowOf, AreRowsOf, proc_at, ready_at, sent_in, HappensIn, NotifiesIn, TakesIn, IsCandidateIn, IsSearchedFor}
+use Rattle.tb_bus.specs.Views.{IsRowOf, AreRowsOf, proc_at, ready_at, sent_in, effect_in, notice, HappensIn, NotifiesIn, TakesIn, IsCandidateIn, IsSearchedFor}
 use Rattle.tb_bus.specs.declared.marks.Marks.{Marks}
 use Rattle.tb_bus.specs.declared.action.Action.{Action}
 use Rattle.tb_bus.specs.declared.action.Action.TheVariants as action
@@ -78,20 +78,6 @@ effect-own bus proc (action.Send terms) = tt
 effect-own bus proc (action.Receive patterns) = tt
 effect-own bus proc (action.Notify terms) = if-own (list_all (λ (other : Proc). takes_note terms other.inbox) bus.procs) _ tt
 effect-own bus proc (action.TakeNote patterns) = taken-own proc.inbox (oldest_match patterns proc.inbox)
-
--- What an action of a process by itself comes to where it happens, and the next process has this number.
-abbrev pub effect_in : ℕ → OwnAction → Effect
-effect_in number own.Tau = record { kind = kind.Tau; shown = []; binds = []; change = Nothing }
-effect_in number (own.Set values binds) = record { kind = kind.Set; shown = values; binds = binds; change = Nothing }
-effect_in number (own.Print text) = record { kind = kind.Printf; shown = text ∷ []; binds = []; change = Nothing }
-effect_in number (own.NoNote patterns) = record { kind = kind.NoNote; shown = []; binds = []; change = Nothing }
-effect_in number (own.Subscribe patterns) = record { kind = kind.Subscribe; shown = []; binds = []; change = Subscribes patterns }
-effect_in number (own.Unsubscribe patterns) = record { kind = kind.Unsubscribe; shown = []; binds = []; change = Unsubscribes patterns }
-effect_in number (own.Create process actuals slot) = creation number process actuals slot
-
--- what a note comes to for which there is room
-abbrev pub notice : List Term → Effect
-notice terms = record { kind = kind.SndNote; shown = terms; binds = []; change = PutsNote terms }
 
 -- what is searched is the bus, as far as an action asks for it
 pub record IsSceneOf (bus : Bus) (scene : Scene) : Type 0 where

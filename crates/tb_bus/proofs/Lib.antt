@@ -10,3 +10,4 @@ pub mod TickLemmas
 pub mod ReachedLemmas
 pub mod ReceiverLemmas
 pub mod ApartLemmas
+pub mod Rows

@@ -12,12 +12,14 @@ use Rattle.tb_bus.specs.Buses.{Bus, Proc, atoms_of}
 use Rattle.tb_bus.specs.Steps.{Move, Own, Handshake, Finish, Halt}
 use Rattle.tb_algebra.specs.Walks.{sorts_of}
 use Rattle.tb_notes.specs.Inboxes.{nothing, oldest_match}
-use Rattle.tb_bus.specs.Effects.{Effect, effect_of}
+use Rattle.tb_bus.specs.Effects.{Effect, Nothing, PutsNote, Subscribes, Unsubscribes, creation, effect_of}
 use Rattle.tb_bus.specs.Candidates.{Row, Scene, row_at, readies, all_take, wanting, may_happen, scene_of}
 use Rattle.tb_bus.specs.declared.marks.Marks.{Marks}
 use Rattle.tb_bus.specs.declared.action.Action.{Action}
 use Rattle.tb_bus.specs.declared.action.Action.TheVariants as action
 use Rattle.tb_bus.specs.declared.action.OwnAction.{OwnAction}
+use Rattle.tb_bus.specs.declared.action.OwnAction.TheVariants as own
+use Rattle.tb_log.specs.declared.entry.LabelKind.TheVariants as kind
 use Rattle.tb_bus.specs.declared.living.Ready.{Ready}
 use Rattle.tb_bus.specs.declared.candidate.Candidate.{Candidate}
 use Rattle.tb_bus.specs.declared.candidate.Candidate.TheVariants as candidate
@@ -66,6 +68,20 @@ sent_in (action.Send terms) = terms
 sent_in (action.Receive patterns) = []
 sent_in (action.Notify terms) = terms
 sent_in (action.TakeNote patterns) = []
+
+-- What an action of a process by itself comes to where it happens, and the next process has this number.
+abbrev pub effect_in : ℕ → OwnAction → Effect
+effect_in number own.Tau = record { kind = kind.Tau; shown = []; binds = []; change = Nothing }
+effect_in number (own.Set values binds) = record { kind = kind.Set; shown = values; binds = binds; change = Nothing }
+effect_in number (own.Print text) = record { kind = kind.Printf; shown = text ∷ []; binds = []; change = Nothing }
+effect_in number (own.NoNote patterns) = record { kind = kind.NoNote; shown = []; binds = []; change = Nothing }
+effect_in number (own.Subscribe patterns) = record { kind = kind.Subscribe; shown = []; binds = []; change = Subscribes patterns }
+effect_in number (own.Unsubscribe patterns) = record { kind = kind.Unsubscribe; shown = []; binds = []; change = Unsubscribes patterns }
+effect_in number (own.Create process actuals slot) = creation number process actuals slot
+
+-- what a note comes to for which there is room
+abbrev pub notice : List Term → Effect
+notice terms = record { kind = kind.SndNote; shown = terms; binds = []; change = PutsNote terms }
 
 -- a process goes on by itself with the effect that there is
 abbrev pub own_move : Proc → Offered → Option Effect → Move

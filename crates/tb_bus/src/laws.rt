@@ -14,10 +14,12 @@ pub fn prefixes_are_traces()
     ensures joined { (bus : Bus) (log more : List Entry) → IsTrace bus log → IsTrace (replay bus log) more → IsTrace bus (log ++ more) }
 {}
 
-/// In a bus that a program reaches the processes stand by their numbers: these ascend strictly, from above 0.
+/// In a bus that a program reaches the processes stand by their numbers: these ascend strictly, from above 0, and are
+/// below the next one.
 pub fn processes_stand_by_their_numbers()
     ensures ascend { (origin : Origin) (bus : Bus) → Reaches origin bus → AllPairs (λ (one other : Proc). one.number < other.number) bus.procs }
     ensures above { (origin : Origin) (bus : Bus) → Reaches origin bus → All (λ (proc : Proc). 0 < proc.number) bus.procs }
+    ensures below { (origin : Origin) (bus : Bus) → Reaches origin bus → All (λ (proc : Proc). proc.number < bus.next_number) bus.procs }
 {}
 
 /// In a bus that a program reaches the labels of the steps differ, each from each.

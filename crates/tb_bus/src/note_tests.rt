@@ -24,14 +24,12 @@ static WANTING: [(&[&[Want]], &[usize]); 5] = [
     (&[&[], &[], &[Want::Just(5), Want::Any]], &[2]),
 ];
 
-/// The first process is ready to send the note 5, and each has subscribed to these.
+/// The first of at most three processes is ready to send the note 5, and each has subscribed to these.
 fn noting(alloc: Global, wants: &[&[Want]]) -> Result<Vec<Living<NoWalker>>, NoMemory> {
     let mut all = Vec::new(alloc);
-    let mut number = 1;
-    for mine in wants {
-        let wishes: &[Wish] = if number == 1 { &[Wish::Notes(5)] } else { &[] };
-        all.push(living(alloc, number, wishes, inbox(alloc, mine, &[])?)?)?;
-        number += 1;
+    for (number, mine) in [1, 2, 3].iter().zip(wants) {
+        let wishes: &[Wish] = if *number == 1 { &[Wish::Notes(5)] } else { &[] };
+        all.push(living(alloc, *number, wishes, inbox(alloc, mine, &[])?)?)?;
     }
     Ok(all)
 }
@@ -179,7 +177,7 @@ fn what_is_created_fits_its_body(rt: HostRuntime) -> Result<(), Fail> {
 /// So many processes, the first of which is ready to create one more.
 fn many(alloc: Global, count: u32) -> Result<Vec<Living<NoWalker>>, NoMemory> {
     let mut all = Vec::new(alloc);
-    for number in 1..count + 1 {
+    for number in 1..=count {
         let wishes: &[Wish] = if number == 1 {
             &[Wish::Creates(0, &[7], 0)]
         } else {

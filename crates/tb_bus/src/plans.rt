@@ -1,6 +1,6 @@
 //! Processes for the tests of searches: what each is ready for, and what it holds.
 
-ghost use Rattle.std.specs.Prelude.{◌≡◌, IsTrue, IfOk};
+ghost use Rattle.std.specs.Prelude.{◌≡◌, [], ◌∷◌, IsTrue, IfOk};
 ghost use Rattle.tb_match.specs.Matches.{are_plain};
 ghost use Rattle.tb_bus.specs.Candidates.{ascend, rows_of};
 
@@ -49,7 +49,9 @@ pub(crate) enum Wish {
     Creates(u32, &'static [i64], u32),
 }
 
-pub(crate) fn list(alloc: Global, pattern: Pattern) -> Result<Patterns, NoMemory> {
+pub(crate) fn list(alloc: Global, pattern: Pattern) -> Result<Patterns, NoMemory>
+    ensures { IfOk result (λ patterns. patterns ≡ pattern ∷ []) }
+{
     Ok(Items::from_vec(vec![in alloc; pattern]?))
 }
 

@@ -17,7 +17,7 @@ use Rattle.tb_bus.specs.declared.living.Living.{Living}
 use Rattle.tb_bus.proofs.TurnLemmas.{ascend-first}
 use Rattle.tb_core.specs.Lives.{IsBelow, IsLive, proc_by, proc_in, procs_of}
 use Rattle.tb_core.specs.Holdings.{helds_of, held_at, spares_of, spare_at, bare, bares_of, IsHeldAt, HoldTheSame, with_given}
-use Rattle.tb_core.specs.Makings.{noting}
+use Rattle.tb_bus.specs.Views.{notice}
 use Rattle.tb_core.specs.LiveBuses.{IsChanged, IsFreshOr, IsKept, IsSound, StandsAs, bus_of, procs_in}
 use Rattle.tb_core.specs.declared.bus.LiveBus.{LiveBus}
 use Rattle.tb_core.proofs.ReadLemmas.{above-there, map-there, proc-number}
@@ -296,7 +296,7 @@ held-changed view bus at before effect change living sound here held e =
 
 -- the inboxes of those that want a note
 pub noted-changed : {W P T : Type 0} (view : View P W T) (bus : LiveBus W P T) (at : ℕ) (before : Living W) (note : List Term) (living : Vec (Living W)) → IsSound view bus → slice_get bus.living.items at ≡ Some before →
-    bares_of living.items ≡ bares_of bus.living.items → helds_of living.items ≡ map (with_given note) (helds_of bus.living.items) → IsChanged view bus at (noting note) (record bus { living = living })
+    bares_of living.items ≡ bares_of bus.living.items → helds_of living.items ≡ map (with_given note) (helds_of bus.living.items) → IsChanged view bus at (notice note) (record bus { living = living })
 noted-changed view bus at before note living sound here bares helds =
     let all = bus.living.items in
     let procs = procs-held view bus.plans all living.items (given note) (given-bare note) bares

@@ -27,7 +27,7 @@ use Rattle.tb_bus.specs.Effects.{Effect, changed, creation, effect_of, fits_form
 use Rattle.tb_bus.specs.Steps.{advance, apply, label_of, nowhere, place_of}
 use Rattle.tb_bus.specs.Steps as move
 use Rattle.tb_bus.specs.Candidates.{Row, no_row, row_at, row_of, rows_of}
-use Rattle.tb_bus.specs.Views.{no_proc, proc_at, ready_at, offer_of, own_move, move_by, sent_in, IsCandidateIn}
+use Rattle.tb_bus.specs.Views.{no_proc, proc_at, ready_at, offer_of, own_move, move_by, sent_in, effect_in, notice, IsCandidateIn}
 use Rattle.tb_bus.specs.declared.action.Action.TheVariants as action
 use Rattle.tb_bus.specs.declared.action.OwnAction.{OwnAction}
 use Rattle.tb_bus.specs.declared.action.OwnAction.TheVariants as own
@@ -38,14 +38,14 @@ use Rattle.tb_bus.specs.declared.candidate.Partner.{Partner}
 use Rattle.tb_bus.specs.declared.marks.Marks.{Marks}
 use Rattle.tb_bus.specs.declared.living.Living.{Living}
 use Rattle.tb_bus.specs.declared.living.Ready.{Ready}
-use Rattle.tb_bus.proofs.EffectLemmas.{effect_in, note-effect-is, own-effect-is, take-effect-is}
+use Rattle.tb_bus.proofs.EffectLemmas.{note-effect-is, own-effect-is, take-effect-is}
 use Rattle.tb_log.specs.declared.entry.Label.{Label}
 use Rattle.tb_log.specs.declared.entry.LabelKind.{LabelKind}
 use Rattle.tb_log.specs.declared.entry.LabelKind.TheVariants as kind
 use Rattle.tb_log.specs.declared.entry.Place.{Place}
 use Rattle.tb_core.specs.Lives.{proc_by, proc_in}
 use Rattle.tb_core.specs.Holdings.{held_at}
-use Rattle.tb_core.specs.Makings.{effect_by, noting, shown_in, IsPlainIn}
+use Rattle.tb_core.specs.Makings.{shown_in, IsPlainIn}
 use Rattle.tb_core.specs.LiveBuses.{AreFresh, IsSound, StandsAs, AreAdvanced, Leaves, CanAdvance, IsKept, IsDone, IsChanged, HasGone, bus_of, procs_in, move_in, scene_in}
 use Rattle.tb_core.specs.declared.acting.Done.{Done}
 use Rattle.tb_core.specs.declared.bus.LiveBus.{LiveBus}
@@ -238,7 +238,7 @@ create-fits bus proc effect process actuals slot h =
     ((and_parts (nat_lt (length bus.procs) 10000) formals parts.0).1, parts.1)
 
 pub own-takes : (bus : Bus) (proc : Proc) (store : List Slot) (body : Body) (own : OwnAction) → slice_get bus.program.bodies proc.body ≡ Some body → sorts_of store ≡ body.sorts → OwnFits store own →
-    own_effect bus proc own ≡ Some (effect_by bus.next_number own) → takes_binds store (effect_by bus.next_number own).binds ≡ true
+    own_effect bus proc own ≡ Some (effect_in bus.next_number own) → takes_binds store (effect_in bus.next_number own).binds ≡ true
 own-takes bus proc store body own.Tau there sorts fits h = refl
 own-takes bus proc store body (own.Set values binds) there sorts fits h = fits
 own-takes bus proc store body (own.Print text) there sorts fits h = refl
@@ -252,16 +252,7 @@ own-takes bus proc store body (own.Create process actuals slot) there sorts fits
     let same : sort_at store slot ≡ slice_get body.sorts slot = sort_at-sorts_of store slot ∙ ap (λ (all : List Sort). slice_get all slot) sorts in
     and_from (takes_bind store (record { slot = slot; value = value })) true (ap (λ found. has_slot_sort found value) same ∙ takes) refl
 
--- the effects of actions by themselves, under both their names
-pub effect-same : (next : ℕ) (own : OwnAction) → effect_in next own ≡ effect_by next own
-effect-same next own.Tau = refl
-effect-same next (own.Set values binds) = refl
-effect-same next (own.Print text) = refl
-effect-same next (own.NoNote patterns) = refl
-effect-same next (own.Subscribe patterns) = refl
-effect-same next (own.Unsubscribe patterns) = refl
-effect-same next (own.Create process actuals slot) = refl
-
+-- what it subscribes to takes no term
 pub own-plain : (store : List Slot) (own : OwnAction) → OwnFits store own → IsPlainIn own
 own-plain store own.Tau fits = tt
 own-plain store (own.Set values binds) fits = tt
@@ -291,9 +282,9 @@ found-in patterns held found e =
 pub record IsOwnAt {W P T : Type 0} (view : View P W T) (old begun : LiveBus W P T) (at index : ℕ) (own : OwnAction) : Type 0 where
   pub offer : OfferIs view old at index
   pub plain : IsPlainIn own
-  pub effect_is : effect_of (bus_of view old) (proc_at (procs_in view old) at) (ready_at (rows_of old.living.items) at index).action ≡ Some (effect_by begun.marks.next_number own)
-  pub happens : own_effect (bus_of view begun) (proc_at (procs_in view begun) at) own ≡ Some (effect_by begun.marks.next_number own)
-  pub takes : takes_binds (offer_of (procs_in view old) (rows_of old.living.items) at index).store (effect_by begun.marks.next_number own).binds ≡ true
+  pub effect_is : effect_of (bus_of view old) (proc_at (procs_in view old) at) (ready_at (rows_of old.living.items) at index).action ≡ Some (effect_in begun.marks.next_number own)
+  pub happens : own_effect (bus_of view begun) (proc_at (procs_in view begun) at) own ≡ Some (effect_in begun.marks.next_number own)
+  pub takes : takes_binds (offer_of (procs_in view old) (rows_of old.living.items) at index).store (effect_in begun.marks.next_number own).binds ≡ true
 
 pub own-at : {W P T : Type 0} (view : View P W T) (old begun : LiveBus W P T) (at index : ℕ) (taken : T) (own : OwnAction) → IsSound view old → AreFresh old.living.items → IsCandidateIn (scene_in old) (candidate.Own at index) →
     Leaves view old at taken (offer_of (procs_in view old) (rows_of old.living.items) at index) → (ready_at (rows_of old.living.items) at index).action ≡ action.Own own → StandsAs view old begun → IsOwnAt view old begun at index own
@@ -304,19 +295,19 @@ own-at view old begun at index taken own sound fresh found leaves e same =
     let offer = offer_of (procs_in view old) rows at index in
     let is = offer-is view old at index taken offer sound fresh found.0.1 leaves in
     let fits : OwnFits offer.store own = subst (ActionFits offer.store) e is.fits in
-    let effect : effect_of bus proc (ready_at rows at index).action ≡ Some (effect_by old.marks.next_number own) =
-    own-effect-is bus old.origin.program.bodies rows old.marks (searched-for view old sound fresh) at index found own e ∙ ap (λ (x : Effect). Some x) (effect-same old.marks.next_number own) in
-    let happens : own_effect bus proc own ≡ Some (effect_by bus.next_number own) = ap (effect_of bus proc) (sym e) ∙ effect in
+    let effect : effect_of bus proc (ready_at rows at index).action ≡ Some (effect_in old.marks.next_number own) =
+    own-effect-is bus old.origin.program.bodies rows old.marks (searched-for view old sound fresh) at index found own e in
+    let happens : own_effect bus proc own ≡ Some (effect_in bus.next_number own) = ap (effect_of bus proc) (sym e) ∙ effect in
     record {
       offer = is;
       plain = own-plain offer.store own fits;
-      effect_is = effect ∙ ap (λ (m : Marks). Some (effect_by m.next_number own)) (sym same.marks);
-      happens = subst (λ (b : Bus). own_effect b (proc_at b.procs at) own ≡ Some (effect_by b.next_number own)) (sym same.bus) happens;
-      takes = subst (λ (m : Marks). takes_binds offer.store (effect_by m.next_number own).binds ≡ true) (sym same.marks) (own-takes bus proc offer.store is.body own is.body_is is.body_sorts fits happens);
+      effect_is = effect ∙ ap (λ (m : Marks). Some (effect_in m.next_number own)) (sym same.marks);
+      happens = subst (λ (b : Bus). own_effect b (proc_at b.procs at) own ≡ Some (effect_in b.next_number own)) (sym same.bus) happens;
+      takes = subst (λ (m : Marks). takes_binds offer.store (effect_in m.next_number own).binds ≡ true) (sym same.marks) (own-takes bus proc offer.store is.body own is.body_is is.body_sorts fits happens);
     }
 
 pub acted-own : {W P T : Type 0} (view : View P W T) (old begun mid : LiveBus W P T) (at index : ℕ) (own : OwnAction) → IsOwnAt view old begun at index own → StandsAs view old begun → IsKept old.living.items begun.living.items at →
-    Contains begun.stale.items (row_at (rows_of old.living.items) at).number → IsChanged view begun at (effect_by begun.marks.next_number own) mid → IsActed view old begun mid at index (effect_by begun.marks.next_number own)
+    Contains begun.stale.items (row_at (rows_of old.living.items) at).number → IsChanged view begun at (effect_in begun.marks.next_number own) mid → IsActed view old begun mid at index (effect_in begun.marks.next_number own)
 acted-own view old begun mid at index own it same kept named change = record {
   offer = it.offer;
   same = same;
@@ -330,7 +321,7 @@ acted-own view old begun mid at index own it same kept named change = record {
 -- a note that is sent
 pub acted-note : {W P T : Type 0} (view : View P W T) (old begun mid : LiveBus W P T) (at index : ℕ) (indices : List ℕ) (taken : T) (note : List Term) → IsSound view old → AreFresh old.living.items → IsCandidateIn (scene_in old) (candidate.Notify at index indices) →
     Leaves view old at taken (offer_of (procs_in view old) (rows_of old.living.items) at index) → (ready_at (rows_of old.living.items) at index).action ≡ action.Notify note → StandsAs view old begun → IsKept old.living.items begun.living.items at →
-    Contains begun.stale.items (row_at (rows_of old.living.items) at).number → IsChanged view begun at (noting note) mid → IsActed view old begun mid at index (noting note)
+    Contains begun.stale.items (row_at (rows_of old.living.items) at).number → IsChanged view begun at (notice note) mid → IsActed view old begun mid at index (notice note)
 acted-note view old begun mid at index indices taken note sound fresh found leaves e same kept named change = record {
   offer = offer-is view old at index taken (offer_of (procs_in view old) (rows_of old.living.items) at index) sound fresh found.0.1 leaves;
   same = same;
@@ -381,7 +372,6 @@ shown-own view bus at index sound fresh found =
     let offer = offer_of (procs_in view bus) rows at index in
     let own = found.1.0 in
     ap (shown_in bus.marks.next_number) found.1.1
-    ∙ ap (λ (x : Effect). x.shown) (sym (effect-same bus.marks.next_number own))
     ∙ ap (λ o. (label_of (own_move proc offer o)).terms) (sym (own-effect-is (bus_of view bus) bus.origin.program.bodies rows bus.marks (searched-for view bus sound fresh) at index found own found.1.1))
 
 pub shown-note : {W P T : Type 0} (view : View P W T) (bus : LiveBus W P T) (at index : ℕ) (indices : List ℕ) → IsSound view bus → AreFresh bus.living.items → IsCandidateIn (scene_in bus) (candidate.Notify at index indices) →

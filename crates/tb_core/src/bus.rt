@@ -1,7 +1,8 @@
 ghost use Rattle.std.specs.Prelude.{◌≡◌, ℕ, min};
 ghost use Rattle.std.below.core.specs.declared.int.usize.TheConstants.{MAX};
 ghost use Rattle.tb_log.specs.Limits.{terms_size};
-ghost use Rattle.tb_core.specs.Makings.{effect_by, shown_in};
+ghost use Rattle.tb_bus.specs.Views.{effect_in};
+ghost use Rattle.tb_core.specs.Makings.{shown_in};
 
 use crate::acting::{Done, created, kind_alone, printed};
 use crate::inboxes::{hand_out, subscribe_at, take_note_at, unsubscribe_at};
@@ -55,8 +56,8 @@ impl<W: Walker> LiveBus<W> {
     ghost use Rattle.tb_bus.specs.Steps.{moves, apply, label_of, nowhere};
     ghost use Rattle.tb_bus.specs.Traces.{aged_proc, fed};
     ghost use Rattle.tb_bus.specs.Candidates.{first, row_at, rows_of};
-    ghost use Rattle.tb_bus.specs.Views.{ready_at, offer_of, proc_at, IsCandidateIn};
-    ghost use Rattle.tb_core.specs.Makings.{effect_by, IsPlainIn};
+    ghost use Rattle.tb_bus.specs.Views.{ready_at, offer_of, proc_at, effect_in, IsCandidateIn};
+    ghost use Rattle.tb_core.specs.Makings.{IsPlainIn};
     ghost use Rattle.tb_core.specs.LiveBuses.{bus_of, procs_in, scene_in, move_in, AreFresh, IsFreshOr, IsSound, IsSetAt, StandsAs, Leaves, CanAdvance, IsAdvanced, AreAdvanced, IsKept, IsDone, IsChanged, HasGone, IsMade};
 
     /// The bus that a program opens with. Its processes are looked at later.
@@ -377,9 +378,9 @@ impl<W: Walker> LiveBus<W> {
         requires within { at < length self.old.living.items }
         requires next { self.old.marks.next_number < 4294967295 }
         requires plain { IsPlainIn own }
-        requires happens { own_effect (bus_of W.view self.old) (proc_at (procs_in W.view self.old) at) own ≡ Some (effect_by self.old.marks.next_number own) }
-        ensures changed { OnOk result (IsChanged W.view self.old at (effect_by self.old.marks.next_number own) self.new) }
-        ensures done { IfOk result (IsDone (effect_by self.old.marks.next_number own)) }
+        requires happens { own_effect (bus_of W.view self.old) (proc_at (procs_in W.view self.old) at) own ≡ Some (effect_in self.old.marks.next_number own) }
+        ensures changed { OnOk result (IsChanged W.view self.old at (effect_in self.old.marks.next_number own) self.new) }
+        ensures done { IfOk result (IsDone (effect_in self.old.marks.next_number own)) }
         ensures err { OnErr result (StandsAs W.view self.old self.new) }
     {
         match own {
@@ -592,7 +593,7 @@ fn action_size(action: &Action) -> usize
 }
 
 fn own_size(own: &OwnAction) -> usize
-    ensures { (next : ℕ) → result ≡ min (terms_size (effect_by next own.now).shown) MAX }
+    ensures { (next : ℕ) → result ≡ min (terms_size (effect_in next own.now).shown) MAX }
 {
     match own {
         OwnAction::Set(values, _) => total_size(values.as_slice()),

@@ -2,6 +2,8 @@
 #![tactic(auto)]
 
 mod entry;
+#[cfg(test)]
+mod label_tests;
 mod log;
 mod proper;
 mod quote;

@@ -30,6 +30,7 @@ use Rattle.tb_algebra.specs.Processes.{Process, At, Seq, Star, Par, Let, fresh}
 use Rattle.tb_algebra.specs.Atoms.{values_together, patterns_of}
 use Rattle.tb_algebra.specs.Settings.{with_settings}
 use Rattle.tb_match.specs.Matches.{match_list, match_term}
+use Rattle.tb_notes.specs.Inboxes.{nothing}
 use Rattle.tb_bus.specs.declared.origin.Origin.{Origin}
 use Rattle.tb_bus.specs.Buses.{Bus, Proc, start}
 use Rattle.tb_bus.specs.Steps.{steps, moves, moves_of_all, moves_of, handshakes, handshakes_with, advance}
@@ -53,11 +54,19 @@ root process = record { process = process; actuals = [] }
 
 -- it stands at this term, and has no variables
 abbrev pub at : ℕ → ℕ → Process → Proc
-at number body term = record { number = number; body = body; term = term; store = [] }
+at number body term = record { number = number; body = body; term = term; store = []; inbox = nothing }
 
--- a bus that is up
+-- a bus that is up, and has created no process
 abbrev pub bus_of : Program → List Proc → ℕ → Bool → Bus
-bus_of program procs last no_ticks = record { program = program; procs = procs; now = 0; last_starter = last; no_ticks = no_ticks; down = false }
+bus_of program procs last no_ticks = record {
+  program = program;
+  procs = procs;
+  now = 0;
+  last_starter = last;
+  next_number = length program.roots + 1;
+  no_ticks = no_ticks;
+  down = false;
+}
 
 -- a simulation that has made this log and so many steps, and has not just said quiet
 abbrev pub sim_of : Bus → List Entry → ℕ → Sim
@@ -518,7 +527,7 @@ bound_log = five_is_set ∷ shake 1 2 (worth 5 ∷ worth 6 ∷ []) ∷ finish �
 
 -- the second process, with its variable
 abbrev with_variable : Process → Slot → Proc
-with_variable term slot = record { number = 2; body = 1; term = term; store = slot ∷ [] }
+with_variable term slot = record { number = 2; body = 1; term = term; store = slot ∷ []; inbox = nothing }
 
 abbrev int_slot : Term → Slot
 int_slot value = record { sort = sort.Int; value = value }

@@ -1,7 +1,8 @@
 -- What a turn of a simulation does: on a bus that is down, at the limit of steps, where a step is possible, and where none is.
-use Rattle.std.proofs.Common.{◌≡◌, ◌+◌, ◌<◌, ◌≤◌, List, [], ◌∷◌, ◌++◌, map, refl, ap, sym, ◌∙◌, Bool, true, false, nat_le, if◌then◌else◌}
+use Rattle.std.proofs.Common.{◌≡◌, ℕ, ◌+◌, ◌<◌, ◌≤◌, List, [], ◌∷◌, ◌++◌, map, refl, ap, sym, ◌∙◌, Bool, true, false, nat_le, if◌then◌else◌}
 use Rattle.std.proofs.lemmas.Bool.{le-leb, lt-leb, cond-true, cond-false}
 use Rattle.tb_bus.specs.Buses.{Bus, Proc}
+use Rattle.tb_bus.specs.Effects.{Change, Nothing, PutsNote, TakesNote, Subscribes, Unsubscribes, Creates, changed}
 use Rattle.tb_bus.specs.Steps.{Move, Own, Handshake, Finish, Halt, Step, moves, moves_while_up, moves_or_halt, moves_of_all, steps, step_of, apply}
 use Rattle.tb_bus.specs.Traces.{fed, took, Answer}
 use Rattle.tb_sim.specs.Simulation.{Limits, Sim, Turn, Ends, Makes, turn, step_turn, quiet_turn, makes}
@@ -69,8 +70,16 @@ pub turn-ends-ticks : (limits : Limits) (sim : Sim) → steps sim.bus ≡ [] →
 turn-ends-ticks limits sim e f q = turn-quiet limits sim e f ∙ cond-true sim.quiet (told_turn limits sim) (makes limits sim Quiet (record sim { quiet = true })) q
 
 -- no step changes whether more ticks come
+changed-no_ticks : (change : Change) (number : ℕ) (bus : Bus) → (changed change number bus).no_ticks ≡ bus.no_ticks
+changed-no_ticks Nothing number bus = refl
+changed-no_ticks (PutsNote terms) number bus = refl
+changed-no_ticks (TakesNote place) number bus = refl
+changed-no_ticks (Subscribes patterns) number bus = refl
+changed-no_ticks (Unsubscribes patterns) number bus = refl
+changed-no_ticks (Creates process actuals) number bus = refl
+
 apply-no_ticks : (bus : Bus) (move : Move) → (apply bus move).no_ticks ≡ bus.no_ticks
-apply-no_ticks bus (Own proc offered effect) = refl
+apply-no_ticks bus (Own proc offered effect) = changed-no_ticks effect.change proc.number bus
 apply-no_ticks bus (Handshake sender sent receiver received terms binds) = refl
 apply-no_ticks bus Finish = refl
 apply-no_ticks bus Halt = refl

@@ -1,8 +1,8 @@
 use Rattle.std.proofs.Common.{ap}
 use Rattle.tb_notes.specs.Inboxes.{subscribed, unsubscribed}
 use Rattle.tb_bus.specs.Effects.{changed}
+use Rattle.tb_bus.specs.Views.{effect_in}
 use Rattle.tb_core.specs.LiveBuses.{bus_of}
-use Rattle.tb_core.specs.Makings.{effect_by}
 use Rattle.tb_core.proofs.ReadLemmas.{on-err, on-ok, some-at}
 use Rattle.tb_core.proofs.HoldLemmas.{held-changed, nothing-changed, stands-held}
 use Rattle.tb_core.proofs.bus.LiveBus.act.Goals as goal
@@ -11,25 +11,25 @@ pub returns-in-Tau-clause-changed : goal.returns-in-Tau-clause-changed
 returns-in-Tau-clause-changed g c =
     let bus = c.args.self.now in
     let before = some-at bus.living.items c.args.at c.requires.within in
-    nothing-changed g.W.Walker.view bus c.args.at before.0 (effect_by bus.marks.next_number c.args.own) c.requires.sound before.1 (ap (λ own. (effect_by bus.marks.next_number own).change) c.in-Tau.is)
+    nothing-changed g.W.Walker.view bus c.args.at before.0 (effect_in bus.marks.next_number c.args.own) c.requires.sound before.1 (ap (λ own. (effect_in bus.marks.next_number own).change) c.in-Tau.is)
 
 pub returns-in-Set-clause-changed : goal.returns-in-Set-clause-changed
 returns-in-Set-clause-changed g c =
     let bus = c.args.self.now in
     let before = some-at bus.living.items c.args.at c.requires.within in
-    nothing-changed g.W.Walker.view bus c.args.at before.0 (effect_by bus.marks.next_number c.args.own) c.requires.sound before.1 (ap (λ own. (effect_by bus.marks.next_number own).change) c.in-Set.is)
+    nothing-changed g.W.Walker.view bus c.args.at before.0 (effect_in bus.marks.next_number c.args.own) c.requires.sound before.1 (ap (λ own. (effect_in bus.marks.next_number own).change) c.in-Set.is)
 
 pub returns-in-NoNote-clause-changed : goal.returns-in-NoNote-clause-changed
 returns-in-NoNote-clause-changed g c =
     let bus = c.args.self.now in
     let before = some-at bus.living.items c.args.at c.requires.within in
-    nothing-changed g.W.Walker.view bus c.args.at before.0 (effect_by bus.marks.next_number c.args.own) c.requires.sound before.1 (ap (λ own. (effect_by bus.marks.next_number own).change) c.in-NoNote.is)
+    nothing-changed g.W.Walker.view bus c.args.at before.0 (effect_in bus.marks.next_number c.args.own) c.requires.sound before.1 (ap (λ own. (effect_in bus.marks.next_number own).change) c.in-NoNote.is)
 
 pub returns-in-Print-clause-changed : goal.returns-in-Print-clause-changed
 returns-in-Print-clause-changed g c =
     let bus = c.args.self.now in
     let before = some-at bus.living.items c.args.at c.requires.within in
-    on-ok c.printed.result (nothing-changed g.W.Walker.view bus c.args.at before.0 (effect_by bus.marks.next_number c.args.own) c.requires.sound before.1 (ap (λ own. (effect_by bus.marks.next_number own).change) c.in-Print.is))
+    on-ok c.printed.result (nothing-changed g.W.Walker.view bus c.args.at before.0 (effect_in bus.marks.next_number c.args.own) c.requires.sound before.1 (ap (λ own. (effect_in bus.marks.next_number own).change) c.in-Print.is))
 
 pub returns-in_err-subscribe_at-in-Subscribe-clause-err : goal.returns-in_err-subscribe_at-in-Subscribe-clause-err
 returns-in_err-subscribe_at-in-Subscribe-clause-err g c =
@@ -40,13 +40,13 @@ returns-in-Subscribe-clause-changed g c =
     let bus = c.args.self.now in
     let next = bus.marks.next_number in
     let before = some-at bus.living.items c.args.at c.requires.within in
-    held-changed g.W.Walker.view bus c.args.at before.0 (effect_by next c.args.own) (subscribed c.in-Subscribe.patterns) c.subscribe_at.new.all c.requires.sound before.1 c.in_ok-subscribe_at-in-Subscribe.ensures.ok
-    (λ number. ap (λ own. changed (effect_by next own).change number (bus_of g.W.Walker.view bus)) c.in-Subscribe.is)
+    held-changed g.W.Walker.view bus c.args.at before.0 (effect_in next c.args.own) (subscribed c.in-Subscribe.patterns) c.subscribe_at.new.all c.requires.sound before.1 c.in_ok-subscribe_at-in-Subscribe.ensures.ok
+    (λ number. ap (λ own. changed (effect_in next own).change number (bus_of g.W.Walker.view bus)) c.in-Subscribe.is)
 
 pub returns-in-Unsubscribe-clause-changed : goal.returns-in-Unsubscribe-clause-changed
 returns-in-Unsubscribe-clause-changed g c =
     let bus = c.args.self.now in
     let next = bus.marks.next_number in
     let before = some-at bus.living.items c.args.at c.requires.within in
-    held-changed g.W.Walker.view bus c.args.at before.0 (effect_by next c.args.own) (unsubscribed c.in-Unsubscribe.patterns) c.unsubscribe_at.new.all c.requires.sound before.1 c.unsubscribe_at.ensures
-    (λ number. ap (λ own. changed (effect_by next own).change number (bus_of g.W.Walker.view bus)) c.in-Unsubscribe.is)
+    held-changed g.W.Walker.view bus c.args.at before.0 (effect_in next c.args.own) (unsubscribed c.in-Unsubscribe.patterns) c.unsubscribe_at.new.all c.requires.sound before.1 c.unsubscribe_at.ensures
+    (λ number. ap (λ own. changed (effect_in next own).change number (bus_of g.W.Walker.view bus)) c.in-Unsubscribe.is)

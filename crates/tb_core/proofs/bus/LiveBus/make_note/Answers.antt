@@ -1,10 +1,9 @@
 use Rattle.std.proofs.Common.{◌≡◌, ◌∙◌, ap, refl, sym}
 use Rattle.tb_bus.specs.Candidates.{all_take, rows_of, wanting}
-use Rattle.tb_bus.specs.Views.{offer_of, ready_at, sent_in}
+use Rattle.tb_bus.specs.Views.{notice, offer_of, ready_at, sent_in}
 use Rattle.tb_bus.specs.declared.action.Action.TheVariants as action
 use Rattle.tb_log.specs.declared.entry.LabelKind.TheVariants as kind
 use Rattle.tb_core.specs.LiveBuses.{procs_in}
-use Rattle.tb_core.specs.Makings.{noting}
 use Rattle.tb_core.specs.Holdings.{HoldTheSame}
 use Rattle.tb_core.proofs.HoldLemmas.{helds-same, noted-changed, stands-held}
 use Rattle.tb_core.proofs.ReadLemmas.{some-at, on-err}
@@ -49,7 +48,7 @@ finish-requires-clause-sound g c =
     let before = some-at begun.living.items c.args.at (kept-within old.living.items begun.living.items c.args.at c.begin.ensures.kept) in
     let change = noted-changed g.W.Walker.view begun c.args.at before.0 c.in-Notify.shown c.hand_out.new.all c.begin.ensures.same.sound before.1 c.hand_out.ensures.bares c.in_ok-hand_out.ensures.ok in
     let mid = record begun { living = c.hand_out.new.all } in
-    let effect = noting c.in-Notify.shown in
+    let effect = notice c.in-Notify.shown in
     let acted = acted-note g.W.Walker.view old begun mid c.args.at c.args.index c.args.indices.now c.in_ok-taken.taken c.in-Notify.shown c.requires.sound c.requires.fresh found c.in_ok-taken.ensures does c.begin.ensures.same
     c.begin.ensures.kept c.in_ok-from.ensures.named change in
     change.sound
@@ -63,7 +62,7 @@ finish-requires-clause-within g c =
     let before = some-at begun.living.items c.args.at (kept-within old.living.items begun.living.items c.args.at c.begin.ensures.kept) in
     let change = noted-changed g.W.Walker.view begun c.args.at before.0 c.in-Notify.shown c.hand_out.new.all c.begin.ensures.same.sound before.1 c.hand_out.ensures.bares c.in_ok-hand_out.ensures.ok in
     let mid = record begun { living = c.hand_out.new.all } in
-    let effect = noting c.in-Notify.shown in
+    let effect = notice c.in-Notify.shown in
     let acted = acted-note g.W.Walker.view old begun mid c.args.at c.args.index c.args.indices.now c.in_ok-taken.taken c.in-Notify.shown c.requires.sound c.requires.fresh found c.in_ok-taken.ensures does c.begin.ensures.same
     c.begin.ensures.kept c.in_ok-from.ensures.named change in
     acted-within g.W.Walker.view old begun mid c.args.at c.args.index effect acted
@@ -77,7 +76,7 @@ finish-requires-clause-named g c =
     let before = some-at begun.living.items c.args.at (kept-within old.living.items begun.living.items c.args.at c.begin.ensures.kept) in
     let change = noted-changed g.W.Walker.view begun c.args.at before.0 c.in-Notify.shown c.hand_out.new.all c.begin.ensures.same.sound before.1 c.hand_out.ensures.bares c.in_ok-hand_out.ensures.ok in
     let mid = record begun { living = c.hand_out.new.all } in
-    let effect = noting c.in-Notify.shown in
+    let effect = notice c.in-Notify.shown in
     let acted = acted-note g.W.Walker.view old begun mid c.args.at c.args.index c.args.indices.now c.in_ok-taken.taken c.in-Notify.shown c.requires.sound c.requires.fresh found c.in_ok-taken.ensures does c.begin.ensures.same
     c.begin.ensures.kept c.in_ok-from.ensures.named change in
     acted-named g.W.Walker.view old begun mid c.args.at c.args.index effect acted
@@ -91,7 +90,7 @@ finish-requires-clause-taken g c =
     let before = some-at begun.living.items c.args.at (kept-within old.living.items begun.living.items c.args.at c.begin.ensures.kept) in
     let change = noted-changed g.W.Walker.view begun c.args.at before.0 c.in-Notify.shown c.hand_out.new.all c.begin.ensures.same.sound before.1 c.hand_out.ensures.bares c.in_ok-hand_out.ensures.ok in
     let mid = record begun { living = c.hand_out.new.all } in
-    let effect = noting c.in-Notify.shown in
+    let effect = notice c.in-Notify.shown in
     let acted = acted-note g.W.Walker.view old begun mid c.args.at c.args.index c.args.indices.now c.in_ok-taken.taken c.in-Notify.shown c.requires.sound c.requires.fresh found c.in_ok-taken.ensures does c.begin.ensures.same
     c.begin.ensures.kept c.in_ok-from.ensures.named change in
     acted-advance g.W.Walker.view old begun mid c.args.at c.args.index effect acted c.in_ok-taken.taken c.new.result c.in_ok-taken.ensures c.new.ensures
@@ -105,7 +104,7 @@ returns-clause-made g c =
     let before = some-at begun.living.items c.args.at (kept-within old.living.items begun.living.items c.args.at c.begin.ensures.kept) in
     let change = noted-changed g.W.Walker.view begun c.args.at before.0 c.in-Notify.shown c.hand_out.new.all c.begin.ensures.same.sound before.1 c.hand_out.ensures.bares c.in_ok-hand_out.ensures.ok in
     let mid = record begun { living = c.hand_out.new.all } in
-    let effect = noting c.in-Notify.shown in
+    let effect = notice c.in-Notify.shown in
     let acted = acted-note g.W.Walker.view old begun mid c.args.at c.args.index c.args.indices.now c.in_ok-taken.taken c.in-Notify.shown c.requires.sound c.requires.fresh found c.in_ok-taken.ensures does c.begin.ensures.same
     c.begin.ensures.kept c.in_ok-from.ensures.named change in
     let offer = offer_of (procs_in g.W.Walker.view old) (rows_of old.living.items) c.args.at c.args.index in
@@ -125,7 +124,7 @@ returns-clause-label g c =
     let before = some-at begun.living.items c.args.at (kept-within old.living.items begun.living.items c.args.at c.begin.ensures.kept) in
     let change = noted-changed g.W.Walker.view begun c.args.at before.0 c.in-Notify.shown c.hand_out.new.all c.begin.ensures.same.sound before.1 c.hand_out.ensures.bares c.in_ok-hand_out.ensures.ok in
     let mid = record begun { living = c.hand_out.new.all } in
-    let effect = noting c.in-Notify.shown in
+    let effect = notice c.in-Notify.shown in
     let acted = acted-note g.W.Walker.view old begun mid c.args.at c.args.index c.args.indices.now c.in_ok-taken.taken c.in-Notify.shown c.requires.sound c.requires.fresh found c.in_ok-taken.ensures does c.begin.ensures.same
     c.begin.ensures.kept c.in_ok-from.ensures.named change in
     c.finish.ensures.label ∙ acted-label g.W.Walker.view old begun mid c.args.at c.args.index effect acted c.in_ok-from.field-0.from (record { kind = kind.SndNote; shown = c.in-Notify.shown; binds = c.new.result }) (refl, refl, c.new.ensures) c.in_ok-from.ensures.number c.in_ok-from.ensures.atom

@@ -1,9 +1,8 @@
 use Rattle.std.proofs.Common.{◌≡◌, ◌∙◌, sym}
 use Rattle.tb_bus.specs.Candidates.{rows_of}
-use Rattle.tb_bus.specs.Views.{offer_of, ready_at}
+use Rattle.tb_bus.specs.Views.{effect_in, offer_of, ready_at}
 use Rattle.tb_bus.specs.declared.action.Action.TheVariants as action
 use Rattle.tb_core.specs.LiveBuses.{procs_in}
-use Rattle.tb_core.specs.Makings.{effect_by}
 use Rattle.tb_core.proofs.MakeLemmas.{own-at, acted-own, acted-within, acted-named, acted-leaves, acted-advance, acted-made, acted-origin, acted-label}
 use Rattle.tb_core.proofs.bus.LiveBus.make_own.Goals as goal
 
@@ -30,7 +29,7 @@ finish-requires-clause-within g c =
     let does : (ready_at (rows_of old.living.items) c.args.at c.args.index).action ≡ action.Own c.in-Own.own = sym c.in_ok-from.ensures.action ∙ c.in-Own.is in
     let own = own-at g.W.Walker.view old begun c.args.at c.args.index c.in_ok-taken.taken c.in-Own.own c.requires.sound c.requires.fresh c.requires.found c.in_ok-taken.ensures does c.begin.ensures.same in
     let mid = c.act.new.self in
-    let effect = effect_by begun.marks.next_number c.in-Own.own in
+    let effect = effect_in begun.marks.next_number c.in-Own.own in
     let acted = acted-own g.W.Walker.view old begun mid c.args.at c.args.index c.in-Own.own own c.begin.ensures.same c.begin.ensures.kept c.in_ok-from.ensures.named c.in_ok-done.ensures.changed in
     acted-within g.W.Walker.view old begun mid c.args.at c.args.index effect acted
 
@@ -41,7 +40,7 @@ finish-requires-clause-named g c =
     let does : (ready_at (rows_of old.living.items) c.args.at c.args.index).action ≡ action.Own c.in-Own.own = sym c.in_ok-from.ensures.action ∙ c.in-Own.is in
     let own = own-at g.W.Walker.view old begun c.args.at c.args.index c.in_ok-taken.taken c.in-Own.own c.requires.sound c.requires.fresh c.requires.found c.in_ok-taken.ensures does c.begin.ensures.same in
     let mid = c.act.new.self in
-    let effect = effect_by begun.marks.next_number c.in-Own.own in
+    let effect = effect_in begun.marks.next_number c.in-Own.own in
     let acted = acted-own g.W.Walker.view old begun mid c.args.at c.args.index c.in-Own.own own c.begin.ensures.same c.begin.ensures.kept c.in_ok-from.ensures.named c.in_ok-done.ensures.changed in
     acted-named g.W.Walker.view old begun mid c.args.at c.args.index effect acted
 
@@ -52,7 +51,7 @@ finish-requires-clause-taken g c =
     let does : (ready_at (rows_of old.living.items) c.args.at c.args.index).action ≡ action.Own c.in-Own.own = sym c.in_ok-from.ensures.action ∙ c.in-Own.is in
     let own = own-at g.W.Walker.view old begun c.args.at c.args.index c.in_ok-taken.taken c.in-Own.own c.requires.sound c.requires.fresh c.requires.found c.in_ok-taken.ensures does c.begin.ensures.same in
     let mid = c.act.new.self in
-    let effect = effect_by begun.marks.next_number c.in-Own.own in
+    let effect = effect_in begun.marks.next_number c.in-Own.own in
     let acted = acted-own g.W.Walker.view old begun mid c.args.at c.args.index c.in-Own.own own c.begin.ensures.same c.begin.ensures.kept c.in_ok-from.ensures.named c.in_ok-done.ensures.changed in
     acted-advance g.W.Walker.view old begun mid c.args.at c.args.index effect acted c.in_ok-taken.taken c.in_ok-done.done.binds c.in_ok-taken.ensures c.in_ok-done.ensures.done.2
 
@@ -63,7 +62,7 @@ returns-clause-made g c =
     let does : (ready_at (rows_of old.living.items) c.args.at c.args.index).action ≡ action.Own c.in-Own.own = sym c.in_ok-from.ensures.action ∙ c.in-Own.is in
     let own = own-at g.W.Walker.view old begun c.args.at c.args.index c.in_ok-taken.taken c.in-Own.own c.requires.sound c.requires.fresh c.requires.found c.in_ok-taken.ensures does c.begin.ensures.same in
     let mid = c.act.new.self in
-    let effect = effect_by begun.marks.next_number c.in-Own.own in
+    let effect = effect_in begun.marks.next_number c.in-Own.own in
     let acted = acted-own g.W.Walker.view old begun mid c.args.at c.args.index c.in-Own.own own c.begin.ensures.same c.begin.ensures.kept c.in_ok-from.ensures.named c.in_ok-done.ensures.changed in
     let offer = offer_of (procs_in g.W.Walker.view old) (rows_of old.living.items) c.args.at c.args.index in
     let gone = c.finish.ensures.gone offer (acted-leaves g.W.Walker.view old begun mid c.args.at c.args.index effect acted c.in_ok-taken.taken c.in_ok-taken.ensures) in
@@ -80,6 +79,6 @@ returns-clause-label g c =
     let does : (ready_at (rows_of old.living.items) c.args.at c.args.index).action ≡ action.Own c.in-Own.own = sym c.in_ok-from.ensures.action ∙ c.in-Own.is in
     let own = own-at g.W.Walker.view old begun c.args.at c.args.index c.in_ok-taken.taken c.in-Own.own c.requires.sound c.requires.fresh c.requires.found c.in_ok-taken.ensures does c.begin.ensures.same in
     let mid = c.act.new.self in
-    let effect = effect_by begun.marks.next_number c.in-Own.own in
+    let effect = effect_in begun.marks.next_number c.in-Own.own in
     let acted = acted-own g.W.Walker.view old begun mid c.args.at c.args.index c.in-Own.own own c.begin.ensures.same c.begin.ensures.kept c.in_ok-from.ensures.named c.in_ok-done.ensures.changed in
     c.finish.ensures.label ∙ acted-label g.W.Walker.view old begun mid c.args.at c.args.index effect acted c.in_ok-from.field-0.from c.in_ok-done.done c.in_ok-done.ensures.done c.in_ok-from.ensures.number c.in_ok-from.ensures.atom
