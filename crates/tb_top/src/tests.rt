@@ -429,16 +429,16 @@ static FAULTS: [(&str, &str); 29] = [
     ),
     (DOUBLED, "toolbus: script: too large O\n"),
     (
-        "process P is tau delay(1) toolbus(P)",
-        "toolbus: script: not built at token 4\n",
+        "process P is tau delay(1) . shutdown(a) toolbus(P)",
+        "toolbus: script: not built at token 9\n",
     ),
     (
-        "process P is printf(\"a\") toolbus(P)",
+        "process P is shutdown(\"a\") toolbus(P)",
         "toolbus: script: not built at token 3\n",
     ),
     (
-        "process P is let N : int in create(P, N?) endlet toolbus(P)",
-        "toolbus: script: not built at token 8\n",
+        "process P is let N : int in create(P, N?) . shutdown(N) endlet toolbus(P)",
+        "toolbus: script: not built at token 16\n",
     ),
     // The first fault by kind is told, wherever the others stand.
     (
@@ -454,11 +454,11 @@ static FAULTS: [(&str, &str); 29] = [
         "toolbus: script: twice at token 14\n",
     ),
     (
-        "process P is printf(\"a\") . P toolbus(P)",
+        "process P is shutdown(a) . P toolbus(P)",
         "toolbus: script: recursion P\n",
     ),
     (
-        "process P is tau . printf(\"a\") delay(1) . tau delay(1) toolbus(P)",
+        "process P is tau . shutdown(a) delay(1) . shutdown(b) toolbus(P)",
         "toolbus: script: not built at token 5\n",
     ),
 ];
