@@ -3,7 +3,7 @@ use Rattle.std.proofs.Common.{◌≡◌, ℕ, ℤ, suc, ◌-◌, ◌≤◌, ◌<
 use Rattle.std.proofs.lemmas.Bool.{ltb-true, ltb-false}
 use Rattle.std.specs.List.{prefix_len}
 use Rattle.tb_terms.specs.Names.{is_digit}
-use Rattle.tb_terms.specs.Sizes.{term_size, term_levels, IsWithinLimits}
+use Rattle.tb_terms.specs.Sizes.{term_size, term_levels}
 use Rattle.tb_terms.specs.declared.term.Term.{Term}
 use Rattle.tb_read.specs.declared.token.Token.{Token}
 use Rattle.tb_read.specs.declared.fault.TermFault.{TermFault}
@@ -21,7 +21,7 @@ use Rattle.tb_read.specs.Building.{built_from, nothing}
 use Rattle.tb_read.specs.Spelling.{digits_value, Spaced, Reads}
 use Rattle.tb_read.specs.Lexing.{string_turn, string_rest, with_front, string_of, is_real, is_negative, number_of, in_range, number_from, kind_of, token_of, skip_blanks}
 use Rattle.tb_read.specs.Scanning.{Ends as Stops, allows, after, may_end, made, next_at, start, Runs, Scans}
-use Rattle.tb_read.specs.Reading.{HasFault}
+use Rattle.tb_read.specs.Reading.{IsWithin, HasFaultWithin}
 use Rattle.tb_read.specs.Answers.{Faulted}
 use Rattle.tb_read.proofs.Strings.{turned}
 use Rattle.tb_read.proofs.Lexed.{Lexed, runs_sound}
@@ -105,13 +105,13 @@ pub runs_placed : (ks : List Token) (s : Shape) (total : ℕ) (bytes : List ℕ)
 runs_placed [] s total bytes f r = next_placed s total (skip_blanks bytes) f r
 runs_placed (k ∷ ks) s total bytes f r = runs_placed ks (after s k) total r.0 f r.2
 
-pub fault_of_scan : (bytes : List ℕ) (e : TermFault) → Faulted (λ f. (ks : List Token) × Scans bytes ks (Some f)) e → HasFault bytes e
-fault_of_scan bytes fault.NoMemory h = tt
-fault_of_scan bytes (fault.Syntax place) h = h
-fault_of_scan bytes (fault.Real place) h = h
-fault_of_scan bytes (fault.IntRange place) h = h
-fault_of_scan bytes fault.TooLarge h = absurd (runs_placed h.0 start (length bytes) bytes fault.TooLarge h.1)
-fault_of_scan bytes fault.TooDeep h = absurd (runs_placed h.0 start (length bytes) bytes fault.TooDeep h.1)
+pub fault_of_scan : (size levels : ℕ) (bytes : List ℕ) (e : TermFault) → Faulted (λ f. (ks : List Token) × Scans bytes ks (Some f)) e → HasFaultWithin size levels bytes e
+fault_of_scan most deepest bytes fault.NoMemory h = tt
+fault_of_scan most deepest bytes (fault.Syntax place) h = h
+fault_of_scan most deepest bytes (fault.Real place) h = h
+fault_of_scan most deepest bytes (fault.IntRange place) h = h
+fault_of_scan most deepest bytes fault.TooLarge h = absurd (runs_placed h.0 start (length bytes) bytes fault.TooLarge h.1)
+fault_of_scan most deepest bytes fault.TooDeep h = absurd (runs_placed h.0 start (length bytes) bytes fault.TooDeep h.1)
 
 -- what is scanned to the end is one term's text
 abbrev Whole : List ℕ → List Token → Type 0
@@ -123,46 +123,46 @@ scanned bytes ks r =
     let q = term-accepts ks p.0 in
     (q.0, q.1, q.2, subst (λ l. Spaced l bytes) q.2 p.1)
 
-abbrev Limited : ℕ → ℕ → Option TermFault → Type 0
-Limited size levels None = (size ≤ 65536) × (levels ≤ 64)
-Limited size levels (Some fault.TooLarge) = 65536 < size
-Limited size levels (Some fault.TooDeep) = (size ≤ 65536) × (64 < levels)
-Limited size levels (Some _) = ⊥
+abbrev Limited : ℕ → ℕ → ℕ → ℕ → Option TermFault → Type 0
+Limited most deepest size levels None = (size ≤ most) × (levels ≤ deepest)
+Limited most deepest size levels (Some fault.TooLarge) = most < size
+Limited most deepest size levels (Some fault.TooDeep) = (size ≤ most) × (deepest < levels)
+Limited most deepest size levels (Some _) = ⊥
 
-limited_by : (size levels : ℕ) (v w : Bool) → ltb 65536 size ≡ v → ltb 64 levels ≡ w → Limited size levels (cond v (Some fault.TooLarge) (cond w (Some fault.TooDeep) None))
-limited_by size levels true w ev ew = ltb-true 65536 size ev
-limited_by size levels false true ev ew = (ltb-false 65536 size ev, ltb-true 64 levels ew)
-limited_by size levels false false ev ew = (ltb-false 65536 size ev, ltb-false 64 levels ew)
+limited_by : (most deepest size levels : ℕ) (v w : Bool) → ltb most size ≡ v → ltb deepest levels ≡ w → Limited most deepest size levels (cond v (Some fault.TooLarge) (cond w (Some fault.TooDeep) None))
+limited_by most deepest size levels true w ev ew = ltb-true most size ev
+limited_by most deepest size levels false true ev ew = (ltb-false most size ev, ltb-true deepest levels ew)
+limited_by most deepest size levels false false ev ew = (ltb-false most size ev, ltb-false deepest levels ew)
 
-limited : (ks : List Token) → Limited (tokens_size ks) (tokens_levels 0 ks) (over_limit ks)
-limited ks = limited_by (tokens_size ks) (tokens_levels 0 ks) (ltb 65536 (tokens_size ks)) (ltb 64 (tokens_levels 0 ks)) refl refl
+limited : (most deepest : ℕ) (ks : List Token) → Limited most deepest (tokens_size ks) (tokens_levels 0 ks) (over_limit most deepest ks)
+limited most deepest ks = limited_by most deepest (tokens_size ks) (tokens_levels 0 ks) (ltb most (tokens_size ks)) (ltb deepest (tokens_levels 0 ks)) refl refl
 
-limited_term : (ks : List Token) (t : Term) → ks ≡ tokens_of t → Limited (term_size t) (term_levels t) (over_limit ks)
-limited_term ks t e =
+limited_term : (most deepest : ℕ) (ks : List Token) (t : Term) → ks ≡ tokens_of t → Limited most deepest (term_size t) (term_levels t) (over_limit most deepest ks)
+limited_term most deepest ks t e =
     let size : tokens_size ks ≡ term_size t = ap tokens_size e ∙ tokens_size-tokens_of t in
     let levels : tokens_levels 0 ks ≡ term_levels t = ap (tokens_levels 0) e ∙ tokens_levels-tokens_of t in
-    subst (λ n. Limited n (term_levels t) (over_limit ks)) size (subst (λ n. Limited (tokens_size ks) n (over_limit ks)) levels (limited ks))
+    subst (λ n. Limited most deepest n (term_levels t) (over_limit most deepest ks)) size (subst (λ n. Limited most deepest (tokens_size ks) n (over_limit most deepest ks)) levels (limited most deepest ks))
 
-pub found_term : (bytes : List ℕ) (ks : List Token) (t : Term) → Scans bytes ks None → over_limit ks ≡ None → (built_from nothing ks).done ≡ Some t → Reads bytes t × IsWithinLimits t
-found_term bytes ks t r o b =
+pub found_term : (most deepest : ℕ) (bytes : List ℕ) (ks : List Token) (t : Term) → Scans bytes ks None → over_limit most deepest ks ≡ None → (built_from nothing ks).done ≡ Some t → Reads bytes t × IsWithin most deepest t
+found_term most deepest bytes ks t r o b =
     let w = scanned bytes ks r in
     let same : ◌≡◌ {A = Option Term} (Some w.0) (Some t) = sym w.1 ∙ b in
     let is : w.0 ≡ t = cc in
-    let l : Limited (term_size w.0) (term_levels w.0) None = subst (λ f. Limited (term_size w.0) (term_levels w.0) f) o (limited_term ks w.0 w.2) in
-    subst (λ (u : Term). Reads bytes u × IsWithinLimits u) is (w.3, record { size = l.0; levels = l.1 })
+    let l : Limited most deepest (term_size w.0) (term_levels w.0) None = subst (λ f. Limited most deepest (term_size w.0) (term_levels w.0) f) o (limited_term most deepest ks w.0 w.2) in
+    subst (λ (u : Term). Reads bytes u × IsWithin most deepest u) is (w.3, l)
 
-over_fault : (bytes : List ℕ) (t : Term) (f : TermFault) → Reads bytes t → Limited (term_size t) (term_levels t) (Some f) → HasFault bytes f
-over_fault bytes t (fault.Syntax place) r l = absurd l
-over_fault bytes t (fault.Real place) r l = absurd l
-over_fault bytes t (fault.IntRange place) r l = absurd l
-over_fault bytes t fault.TooLarge r l = (t, r, l)
-over_fault bytes t fault.TooDeep r l = (t, r, l.0, l.1)
-over_fault bytes t fault.NoMemory r l = tt
+over_fault : (most deepest : ℕ) (bytes : List ℕ) (t : Term) (f : TermFault) → Reads bytes t → Limited most deepest (term_size t) (term_levels t) (Some f) → HasFaultWithin most deepest bytes f
+over_fault most deepest bytes t (fault.Syntax place) r l = absurd l
+over_fault most deepest bytes t (fault.Real place) r l = absurd l
+over_fault most deepest bytes t (fault.IntRange place) r l = absurd l
+over_fault most deepest bytes t fault.TooLarge r l = (t, r, l)
+over_fault most deepest bytes t fault.TooDeep r l = (t, r, l.0, l.1)
+over_fault most deepest bytes t fault.NoMemory r l = tt
 
-pub fault_of_limit : (bytes : List ℕ) (ks : List Token) (f : TermFault) → Scans bytes ks None → over_limit ks ≡ Some f → HasFault bytes f
-fault_of_limit bytes ks f r o =
+pub fault_of_limit : (most deepest : ℕ) (bytes : List ℕ) (ks : List Token) (f : TermFault) → Scans bytes ks None → over_limit most deepest ks ≡ Some f → HasFaultWithin most deepest bytes f
+fault_of_limit most deepest bytes ks f r o =
     let w = scanned bytes ks r in
-    over_fault bytes w.0 f w.3 (subst (λ g. Limited (term_size w.0) (term_levels w.0) g) o (limited_term ks w.0 w.2))
+    over_fault most deepest bytes w.0 f w.3 (subst (λ g. Limited most deepest (term_size w.0) (term_levels w.0) g) o (limited_term most deepest ks w.0 w.2))
 
 pub always_built : (bytes : List ℕ) (ks : List Token) → Scans bytes ks None → (built_from nothing ks).done ≡ None → ⊥
 always_built bytes ks r e =

@@ -44,8 +44,8 @@ abbrev pub tokens_levels : ℕ → List Token → ℕ
 tokens_levels nested [] = 0
 tokens_levels nested (token ∷ tokens) = max (token_level nested token) (tokens_levels (nested_after nested token) tokens)
 
--- how the term with these tokens passes a limit
-abbrev pub over_limit : List Token → Option TermFault
-over_limit tokens =
-    if nat_lt 65536 (tokens_size tokens) then Some TooLarge
-    else (if nat_lt 64 (tokens_levels 0 tokens) then Some TooDeep else None)
+-- how the term with these tokens passes limits of size and levels
+abbrev pub over_limit : ℕ → ℕ → List Token → Option TermFault
+over_limit size levels tokens =
+    if nat_lt size (tokens_size tokens) then Some TooLarge
+    else (if nat_lt levels (tokens_levels 0 tokens) then Some TooDeep else None)

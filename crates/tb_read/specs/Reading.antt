@@ -1,4 +1,4 @@
--- Which fault bytes have that are no term within the limits.
+-- Which fault bytes have that are no term within limits of size and levels.
 use Rattle.std.specs.Prelude.{ℕ, ◌<◌, ◌≤◌, List, Some}
 use Rattle.tb_terms.specs.Sizes.{term_size, term_levels}
 use Rattle.tb_terms.specs.declared.term.Term.{Term}
@@ -12,11 +12,19 @@ use Rattle.tb_read.specs.declared.fault.TermFault.TheVariants as fault
 abbrev pub StopsAt : List ℕ → TermFault → Type 0
 StopsAt bytes stop = (tokens : List Token) × Scans bytes tokens (Some stop)
 
+-- the term is within limits of size and levels
+abbrev pub IsWithin : ℕ → ℕ → Term → Type 0
+IsWithin size levels term = (term_size term ≤ size) × (term_levels term ≤ levels)
+
 -- A fault of the text comes first, then the size, then the levels. Want of memory may come at any time.
+abbrev pub HasFaultWithin : ℕ → ℕ → List ℕ → TermFault → Type 0
+HasFaultWithin size levels bytes (fault.Syntax place) = StopsAt bytes (fault.Syntax place)
+HasFaultWithin size levels bytes (fault.Real place) = StopsAt bytes (fault.Real place)
+HasFaultWithin size levels bytes (fault.IntRange place) = StopsAt bytes (fault.IntRange place)
+HasFaultWithin size levels bytes fault.TooLarge = (term : Term) × Reads bytes term × (size < term_size term)
+HasFaultWithin size levels bytes fault.TooDeep = (term : Term) × Reads bytes term × (term_size term ≤ size) × (levels < term_levels term)
+HasFaultWithin size levels bytes fault.NoMemory = Unit {0}
+
+-- the same for the limits that every term has
 abbrev pub HasFault : List ℕ → TermFault → Type 0
-HasFault bytes (fault.Syntax place) = StopsAt bytes (fault.Syntax place)
-HasFault bytes (fault.Real place) = StopsAt bytes (fault.Real place)
-HasFault bytes (fault.IntRange place) = StopsAt bytes (fault.IntRange place)
-HasFault bytes fault.TooLarge = (term : Term) × Reads bytes term × (65536 < term_size term)
-HasFault bytes fault.TooDeep = (term : Term) × Reads bytes term × (term_size term ≤ 65536) × (64 < term_levels term)
-HasFault bytes fault.NoMemory = Unit {0}
+HasFault bytes fault = HasFaultWithin 65536 64 bytes fault

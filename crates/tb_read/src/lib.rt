@@ -23,6 +23,7 @@ pub use laws::{
     syntax_stops, written_text_reads,
 };
 pub use lex::{is_blank, is_name_byte};
+pub use limits::Limits;
 pub use number::{digits_len, digits_value, is_real, number_of};
 pub use quoted::{Turn, Within, string_turn};
-pub use read::read_term;
+pub use read::{read_term, read_within};

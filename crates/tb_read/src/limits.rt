@@ -3,6 +3,13 @@ ghost use Rattle.tb_read.specs.Limits.{token_size, tokens_size, token_level, tok
 
 use crate::token::Token;
 
+/// How large a term may be that is read, and how many levels it may have.
+#[derive(Clone, Copy, Debug, PartialEq, Eq)]
+pub struct Limits {
+    pub size: usize,
+    pub levels: usize,
+}
+
 /// The size of the term with these tokens. The greatest `usize` stands for all greater numbers.
 pub(crate) fn tokens_size(tokens: &[Token]) -> usize
     ensures { result ≡ min (tokens_size tokens.now) usize.MAX }

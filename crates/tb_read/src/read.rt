@@ -1,14 +1,14 @@
-ghost use Rattle.std.specs.Prelude.{◌≡◌, ◌≢◌, ◌⊎◌, IfOk, IfErr, Ok, Err};
+ghost use Rattle.std.specs.Prelude.{◌≡◌, ◌≢◌, ◌<◌, ◌⊎◌, IfOk, IfErr, Ok, Err};
 ghost use Rattle.tb_terms.specs.declared.term.Term.{Term};
 ghost use Rattle.tb_terms.specs.Sizes.{IsWithinLimits};
 ghost use Rattle.tb_read.specs.Spelling.{Reads};
 ghost use Rattle.tb_read.specs.Limits.{over_limit};
-ghost use Rattle.tb_read.specs.Reading.{HasFault};
+ghost use Rattle.tb_read.specs.Reading.{IsWithin, HasFaultWithin, HasFault};
 ghost use Rattle.tb_read.specs.declared.fault.TermFault.{TermFault};
 
 use crate::TermFault;
 use crate::build::build;
-use crate::limits::{tokens_levels, tokens_size};
+use crate::limits::{Limits, tokens_levels, tokens_size};
 use crate::scan::scan;
 use crate::token::Token;
 use std::alloc::Global;
@@ -27,15 +27,37 @@ pub fn read_term(alloc: Global, bytes: &[u8]) -> Result<Term, TermFault>
     ensures exact { (f : TermFault) → HasFault bytes.now f → f ≢ TermFault.NoMemory
         → (result ≡ Err f) ⊎ (result ≡ Err TermFault.NoMemory) }
 {
-    read(alloc, bytes)
+    let limits = Limits {
+        size: 65_536,
+        levels: 64,
+    };
+    read_within(alloc, bytes, limits)
 }
 
-fn read(alloc: Global, bytes: &[u8]) -> Result<Term, TermFault>
-    ensures found { IfOk result (λ term. Reads bytes.now term × IsWithinLimits term) }
-    ensures fault { IfErr result (HasFault bytes.now) }
+/// The same within other limits, where `TooLarge` and `TooDeep` are told by these.
+pub fn read_within(alloc: Global, bytes: &[u8], limits: Limits) -> Result<Term, TermFault>
+    requires { limits.size < usize.MAX }
+    ensures found { IfOk result (λ term. Reads bytes.now term × IsWithin limits.size limits.levels term) }
+
+    // Nothing else keeps a term from being read.
+    ensures only { (term : Term) → Reads bytes.now term → IsWithin limits.size limits.levels term
+        → (result ≡ Ok term) ⊎ (result ≡ Err TermFault.NoMemory) }
+    ensures fault { IfErr result (HasFaultWithin limits.size limits.levels bytes.now) }
+
+    // Where the text has a fault, this is what comes.
+    ensures exact { (f : TermFault) → HasFaultWithin limits.size limits.levels bytes.now f → f ≢ TermFault.NoMemory
+        → (result ≡ Err f) ⊎ (result ≡ Err TermFault.NoMemory) }
+{
+    read(alloc, bytes, limits)
+}
+
+fn read(alloc: Global, bytes: &[u8], limits: Limits) -> Result<Term, TermFault>
+    requires { limits.size < usize.MAX }
+    ensures found { IfOk result (λ term. Reads bytes.now term × IsWithin limits.size limits.levels term) }
+    ensures fault { IfErr result (HasFaultWithin limits.size limits.levels bytes.now) }
 {
     let tokens = scan(alloc, bytes)?;
-    if let Some(fault) = over_limit(tokens.as_slice()) {
+    if let Some(fault) = over_limit(tokens.as_slice(), limits) {
         return Err(fault);
     }
     match build(alloc, tokens)? {
@@ -44,12 +66,13 @@ fn read(alloc: Global, bytes: &[u8]) -> Result<Term, TermFault>
     }
 }
 
-fn over_limit(tokens: &[Token]) -> Option<TermFault>
-    ensures { result ≡ over_limit tokens.now }
+fn over_limit(tokens: &[Token], limits: Limits) -> Option<TermFault>
+    requires { limits.size < usize.MAX }
+    ensures { result ≡ over_limit limits.size limits.levels tokens.now }
 {
-    if tokens_size(tokens) > 65536 {
+    if tokens_size(tokens) > limits.size {
         Some(TermFault::TooLarge)
-    } else if tokens_levels(tokens) > 64 {
+    } else if tokens_levels(tokens) > limits.levels {
         Some(TermFault::TooDeep)
     } else {
         None

@@ -1,6 +1,6 @@
 use crate::{
-    TermFault, each_text_has_one, faults_are_unique, numeral_faults, read_term, reading_is_unique,
-    syntax_begins, syntax_stops, written_text_reads,
+    Limits, TermFault, each_text_has_one, faults_are_unique, numeral_faults, read_term,
+    read_within, reading_is_unique, syntax_begins, syntax_stops, written_text_reads,
 };
 use std::alloc::Global;
 use std::test::Fail;
@@ -183,6 +183,25 @@ fn the_limits_are_kept(rt: HostRuntime) -> Result<(), Fail> {
     syntax_begins();
     syntax_stops();
     numeral_faults();
+    Ok(())
+}
+
+#[test]
+fn other_limits_are_kept(rt: HostRuntime) -> Result<(), Fail> {
+    let alloc = rt.alloc();
+    let table = [
+        (3, 2, None),
+        (2, 2, Some(TermFault::TooLarge)),
+        (3, 1, Some(TermFault::TooDeep)),
+        (2, 1, Some(TermFault::TooLarge)),
+    ];
+    for (size, levels, want) in table {
+        let found = match read_within(alloc, b"[1,2]", Limits { size, levels }) {
+            Ok(_term) => None,
+            Err(fault) => Some(fault),
+        };
+        assert_eq!(rt; found, want, "within {size} and {levels}");
+    }
     Ok(())
 }
 

@@ -1,8 +1,8 @@
-use Rattle.tb_read.proofs.Outcomes.{only_term, exact_fault}
+use Rattle.tb_read.proofs.Outcomes.{within_limits}
 use Rattle.tb_read.proofs.read.read_term.Goals as goal
 
-pub returns-clause-only : goal.returns-clause-only
-returns-clause-only c = only_term c.args.bytes.now c.read.result c.read.ensures.found c.read.ensures.fault
+pub returns-clause-found : goal.returns-clause-found
+returns-clause-found c = within_limits c.args.bytes.now c.read_within.result c.read_within.ensures.found
 
-pub returns-clause-exact : goal.returns-clause-exact
-returns-clause-exact c = exact_fault c.args.bytes.now c.read.result c.read.ensures.found c.read.ensures.fault
+pub returns-clause-only : goal.returns-clause-only
+returns-clause-only c = λ term reads within. c.read_within.ensures.only term reads (within.size, within.levels)

@@ -1,0 +1,85 @@
+-- Which line of a tool given bytes are.
+use Rattle.std.specs.Prelude.{◌≡◌, ℕ, ◌≤◌, nat_le, Bool, ◌&&◌, List, [], ◌∷◌, length, Option, Some, None, ◌⊎◌, codes, if◌then◌else◌}
+use Rattle.std.specs.List.{list_all}
+use Rattle.std.specs.Str.{bytes_eq}
+use Rattle.tb_terms.specs.declared.term.Term.{Term, out-Term}
+use Rattle.tb_terms.specs.declared.term.Term.TheOpen.{Term-F}
+use Rattle.tb_terms.specs.declared.term.Term.TheOpen as layer
+use Rattle.tb_terms.specs.Sizes.{term_size, term_levels}
+use Rattle.tb_log.specs.declared.entry.ToolLine.{ToolLine}
+use Rattle.tb_log.specs.declared.entry.ToolLine.TheVariants.{Value, Event, Connect, Disconnect, Bad}
+use Rattle.tb_log.specs.Limits.{terms_size}
+use Rattle.tb_read.specs.Spelling.{Reads}
+
+-- a part of a line is within the limits of a term; the name around the parts isn't counted
+abbrev pub is_within : Term → Bool
+is_within part = nat_le (term_size part) 65536 && nat_le (term_levels part) 64
+
+-- and all parts of a line are no larger together than a term may be
+abbrev pub are_within : List Term → Bool
+are_within parts = list_all is_within parts && nat_le (terms_size parts) 65536
+
+-- the part that has no other beside it
+abbrev pub only : List Term → Option Term
+only [] = None
+only (part ∷ []) = Some part
+only (part ∷ other ∷ parts) = None
+
+-- one part
+abbrev pub value_line : Option Term → ToolLine
+value_line None = Bad
+value_line (Some part) = if is_within part then Value part else Bad
+
+-- one part or more
+abbrev pub event_line : List Term → ToolLine
+event_line [] = Bad
+event_line (part ∷ parts) = if are_within (part ∷ parts) then Event (part ∷ parts) else Bad
+
+-- a name without parts, which is no longer than that of a tool may be
+abbrev pub name_line : List ℕ → List Term → ToolLine
+name_line name [] = if nat_le (length name) 65534 then Connect name else Bad
+name_line name (part ∷ parts) = Bad
+
+abbrev pub named_line : Term-F Term → ToolLine
+named_line (layer.Int number) = Bad
+named_line (layer.Str bytes) = Bad
+named_line (layer.Appl name parts) = name_line name parts
+named_line (layer.List parts) = Bad
+
+-- one part, which is a name without parts
+abbrev pub connect_line : Option Term → ToolLine
+connect_line None = Bad
+connect_line (Some part) = named_line (out-Term part)
+
+-- no part
+abbrev pub disconnect_line : List Term → ToolLine
+disconnect_line [] = Disconnect
+disconnect_line (part ∷ parts) = Bad
+
+-- Which line a name with these parts is.
+abbrev pub line_by_name : List ℕ → List Term → ToolLine
+line_by_name name parts =
+    if bytes_eq name (codes "snd-value") then value_line (only parts)
+    else (if bytes_eq name (codes "snd-event") then event_line parts
+    else (if bytes_eq name (codes "snd-connect") then connect_line (only parts)
+    else (if bytes_eq name (codes "snd-disconnect") then disconnect_line parts else Bad)))
+
+abbrev pub line_by_layer : Term-F Term → ToolLine
+line_by_layer (layer.Int number) = Bad
+line_by_layer (layer.Str bytes) = Bad
+line_by_layer (layer.Appl name parts) = line_by_name name parts
+line_by_layer (layer.List parts) = Bad
+
+-- Which line a term is.
+abbrev pub line_of : Term → ToolLine
+line_of term = line_by_layer (out-Term term)
+
+-- the bytes are no more than a line may have, and read as this term
+abbrev pub Says : List ℕ → Term → Type 0
+Says bytes term = (length bytes ≤ 65536) × Reads bytes term
+
+-- The bytes say a term, and are the line that it is; or they say none, and are a bad line.
+abbrev pub IsToolLine : List ℕ → ToolLine → Type 0
+IsToolLine bytes line =
+    ((term : Term) × Says bytes term × (line ≡ line_of term))
+    ⊎ (((term : Term) → Says bytes term → ⊥) × (line ≡ Bad))

@@ -1,0 +1,11 @@
+//! The lines between tools and the bus.
+#![tactic(auto)]
+
+mod laws;
+mod line;
+mod read;
+#[cfg(test)]
+mod tests;
+
+pub use laws::{each_line_is_one, tool_lines_are_unique};
+pub use read::read_tool_line;
