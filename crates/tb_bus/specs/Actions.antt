@@ -14,6 +14,8 @@ use Rattle.tb_algebra.specs.Offers.{Offered}
 use Rattle.tb_bus.specs.declared.action.Action.{Action}
 use Rattle.tb_bus.specs.declared.action.Action.TheVariants as action
 use Rattle.tb_bus.specs.declared.action.OwnAction.TheVariants as own
+use Rattle.tb_bus.specs.declared.action.ToolAction.{ToolAction}
+use Rattle.tb_bus.specs.declared.action.ToolAction.TheVariants as tool_action
 
 -- a slot is set to a value that has its sort
 abbrev pub set_bind : List Slot → Bind → Option Action
@@ -38,6 +40,19 @@ unsubscribe_action patterns = action.Own (own.Unsubscribe patterns)
 
 abbrev pub create_action : ℕ → ℕ → List Term → Action
 create_action process slot actuals = action.Own (own.Create process actuals slot)
+
+-- it speaks with the tool that is the first of these values
+abbrev pub speak_by : (List Term → ToolAction) → List Term → Action
+speak_by does terms = action.Speak (does terms)
+
+-- it speaks with the tool that is the first of these values, about what matches these patterns
+abbrev pub speak_about : (List Term → List Pattern → ToolAction) → Option (List Pattern) → List Term → Option Action
+speak_about does patterns terms = option_map (λ those. action.Speak (does terms those)) patterns
+
+abbrev pub shutdown_action : List Term → Option Action
+shutdown_action [] = None
+shutdown_action (reason ∷ []) = Some (action.Own (own.Shutdown reason))
+shutdown_action (reason ∷ other ∷ terms) = None
 
 -- What an atom does in a store, where its arguments have values: one line an atom.
 abbrev pub action_in : List Slot → Act → Option Action
@@ -65,18 +80,24 @@ action_in store (Subscribe exprs) = option_map subscribe_action (patterns_of sto
 action_in store (Unsubscribe exprs) = option_map unsubscribe_action (patterns_of store exprs)
 -- a process begins with these values, and the slot takes its number
 action_in store (Create process actuals slot) = option_map (create_action process slot) (values_together store actuals)
--- these don't happen yet
-action_in store (Execute tool slot) = None
-action_in store (RecConnect tool slot) = None
-action_in store (RecDisconnectAny tool slot) = None
-action_in store (RecDisconnect tool) = None
-action_in store (SndEval tool expr) = None
-action_in store (RecValue tool expr) = None
-action_in store (SndDo tool expr) = None
-action_in store (RecEvent tool exprs) = None
-action_in store (SndAckEvent tool exprs) = None
-action_in store (SndTerminate tool expr) = None
-action_in store (Shutdown reason) = None
+-- a tool of a kind is started, has connected, or leaves, and the slot takes it
+action_in store (Execute tool slot) = Some (action.Speak (tool_action.Execute tool slot))
+action_in store (RecConnect tool slot) = Some (action.Speak (tool_action.Connect tool slot))
+action_in store (RecDisconnectAny tool slot) = Some (action.Speak (tool_action.DisconnectAny tool slot))
+-- this tool leaves
+action_in store (RecDisconnect tool) = option_map (speak_by tool_action.Disconnect) (values_together store (tool ∷ []))
+-- the tool is asked to evaluate the value, and its answer is taken where it matches
+action_in store (SndEval tool expr) = option_map (speak_by tool_action.Eval) (values_together store (tool ∷ expr ∷ []))
+action_in store (RecValue tool expr) = option_and_then (speak_about tool_action.TakeValue (patterns_of store (expr ∷ []))) (values_together store (tool ∷ []))
+-- the tool is told what to do
+action_in store (SndDo tool expr) = option_map (speak_by tool_action.Do) (values_together store (tool ∷ expr ∷ []))
+-- an event of the tool that matches is received, and one with just these values acknowledged
+action_in store (RecEvent tool exprs) = option_and_then (speak_about tool_action.TakeEvent (patterns_of store exprs)) (values_together store (tool ∷ []))
+action_in store (SndAckEvent tool exprs) = option_map (speak_by tool_action.Acknowledge) (values_together store (tool ∷ exprs))
+-- the tool is told to end
+action_in store (SndTerminate tool expr) = option_map (speak_by tool_action.Terminate) (values_together store (tool ∷ expr ∷ []))
+-- the bus goes down
+action_in store (Shutdown reason) = option_and_then shutdown_action (values_together store (reason ∷ []))
 
 -- an atom does nothing before all its times hold
 abbrev pub action_if : Bool → List Slot → Act → Option Action

@@ -9,6 +9,7 @@ use Rattle.tb_body.specs.declared.program.Program.{Program}
 use Rattle.tb_body.specs.declared.program.Root.{Root}
 use Rattle.tb_algebra.specs.Processes.{Process, fresh}
 use Rattle.tb_notes.specs.Inboxes.{Held, nothing}
+use Rattle.tb_tools.specs.Lanes.{BenchState, opening}
 use Rattle.tb_bus.specs.declared.origin.Origin.{Origin}
 
 -- a process that is alive: its number, which of the bodies it has, its term and its store, and what it has subscribed
@@ -33,6 +34,8 @@ pub record Bus : Type 0 where
   -- no more ticks come
   pub no_ticks : Bool
   pub down : Bool
+  -- the lanes with the tools that stand on them
+  pub bench : BenchState
 
 abbrev pub atoms_in : Option Body → List Atom
 atoms_in None = []
@@ -67,11 +70,12 @@ abbrev pub opened : List Body → ℕ → List Root → List Proc
 opened bodies number [] = []
 opened bodies number (root ∷ roots) = opened_one number root.process root.actuals (slice_get bodies root.process) ++ opened bodies (number + 1) roots
 
--- where a bus starts from: its program
-abbrev pub origin_of : Program → ℕ → Origin
-origin_of program limit = record { program = program; limit = limit }
+-- where a bus starts from: its program, the commands with which its first lanes are started, and how many entries its
+-- log may have
+abbrev pub origin_of : Program → List (List ℕ) → ℕ → Origin
+origin_of program connects limit = record { program = program; connects = connects; limit = limit }
 
--- the bus that a program opens with
+-- the bus that a program opens with: its roots, and the first lanes started
 abbrev pub start : Origin → Bus
 start origin = record {
   program = origin.program;
@@ -81,6 +85,7 @@ start origin = record {
   next_number = length origin.program.roots + 1;
   no_ticks = false;
   down = false;
+  bench = opening origin.connects;
 }
 
 -- the process that a bus creates next, with its body and its actuals

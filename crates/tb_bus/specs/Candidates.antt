@@ -1,5 +1,5 @@
 -- What the code's search goes through: for each process that is alive its actions, by indices alone.
-use Rattle.std.specs.Prelude.{◌≡◌, ℕ, ◌+◌, ◌<◌, ◌&&◌, ◌||◌, ◌==◌, nat_lt, nat_le, List, [], ◌∷◌, ◌++◌, map, take, drop, length, Bool, true, false, if◌then◌else◌, Option, Some, None, is_some, not, option_to_list, slice_index_or, ⊤}
+use Rattle.std.specs.Prelude.{◌≡◌, ℕ, ◌+◌, ◌<◌, ◌&&◌, ◌||◌, ◌==◌, nat_lt, nat_le, List, [], ◌∷◌, ◌++◌, map, take, drop, length, Bool, true, false, if◌then◌else◌, Option, Some, None, is_some, not, option_to_list, slice_get, slice_index_or, ⊤}
 use Rattle.std.specs.List.{All, flat_map, list_all}
 use Rattle.tb_terms.specs.declared.term.Term.{Term}
 use Rattle.tb_match.specs.declared.bind.Bind.{Bind}
@@ -9,7 +9,10 @@ use Rattle.tb_algebra.specs.Offers.{Offered}
 use Rattle.tb_body.specs.declared.body.Body.{Body}
 use Rattle.tb_notes.specs.Inboxes.{Held, nothing, wants, oldest_match}
 use Rattle.tb_bus.specs.Actions.{action_of}
+use Rattle.tb_body.specs.declared.program.Tool.{Tool as ToolKind}
+use Rattle.tb_tools.specs.Lanes.{BenchState}
 use Rattle.tb_bus.specs.Effects.{takes_note, may_create}
+use Rattle.tb_bus.specs.Exchanges.{Setting, exchange_for}
 use Rattle.tb_bus.specs.declared.marks.Marks.{Marks}
 use Rattle.tb_bus.specs.declared.action.Action.{Action}
 use Rattle.tb_bus.specs.declared.action.Action.TheVariants as action
@@ -66,6 +69,7 @@ reception terms index (action.Own own) = []
 reception terms index (action.Send other) = []
 reception terms index (action.Notify other) = []
 reception terms index (action.TakeNote patterns) = []
+reception terms index (action.Speak does) = []
 reception terms index (action.Receive patterns) = received_if index (match_list patterns terms)
 
 -- which of these actions receive the terms, where the first has this index
@@ -87,6 +91,7 @@ is_receive (action.Send terms) = false
 is_receive (action.Receive patterns) = true
 is_receive (action.Notify terms) = false
 is_receive (action.TakeNote patterns) = false
+is_receive (action.Speak does) = false
 
 abbrev pub has_receive : List Ready → Bool
 has_receive [] = false
@@ -106,9 +111,11 @@ abbrev pub AreKnown : Option (List ℕ) → List Row → Type 0
 AreKnown None rows = ⊤
 AreKnown (Some indices) rows = (indices ≡ receivers 0 rows) × All (λ index. index < length rows) indices
 
--- what a search goes through: the bodies, the number of the next process, and the rows
+-- what a search goes through: the bodies, the kinds of tools, the lanes, the number of the next process, and the rows
 pub record Scene : Type 0 where
   pub bodies : List Body
+  pub kinds : List ToolKind
+  pub bench : BenchState
   pub next_number : ℕ
   pub rows : List Row
 
@@ -135,6 +142,11 @@ may_happen scene row (own.Subscribe patterns) = true
 may_happen scene row (own.Unsubscribe patterns) = true
 may_happen scene row (own.Create process actuals slot) =
     may_create scene.bodies (length scene.rows) scene.next_number row.body process actuals slot
+may_happen scene row (own.Shutdown reason) = true
+
+-- where a process speaks with tools
+abbrev pub setting_in : Scene → Row → Setting
+setting_in scene row = record { body = slice_get scene.bodies row.body; kinds = scene.kinds; bench = scene.bench }
 
 -- what an action leads to, of the process at an index among all rows
 abbrev pub candidates_by : Scene → ℕ → Row → ℕ → Action → List Candidate
@@ -144,6 +156,7 @@ candidates_by scene at row index (action.Receive patterns) = []
 candidates_by scene at row index (action.Notify terms) =
     if all_take terms scene.rows then candidate.Notify at index (wanting terms 0 scene.rows) ∷ [] else []
 candidates_by scene at row index (action.TakeNote patterns) = map (candidate.TakeNote at index) (option_to_list (oldest_match patterns row.inbox))
+candidates_by scene at row index (action.Speak does) = map (candidate.Speak at index) (option_to_list (exchange_for (setting_in scene row) does))
 
 abbrev pub candidates_among : Scene → ℕ → Row → ℕ → List Ready → List Candidate
 candidates_among scene at row index [] = []
@@ -177,12 +190,12 @@ abbrev pub candidates_while_up : Scene → Marks → List Row → List Candidate
 candidates_while_up scene marks [] = candidate.Finish ∷ []
 candidates_while_up scene marks (row ∷ others) = candidates_or_halt marks.no_ticks (candidates_in_turn scene marks.last_starter)
 
-abbrev pub scene_of : List Body → List Row → Marks → Scene
-scene_of bodies rows marks = record { bodies = bodies; next_number = marks.next_number; rows = rows }
+abbrev pub scene_of : List Body → List ToolKind → BenchState → List Row → Marks → Scene
+scene_of bodies kinds bench rows marks = record { bodies = bodies; kinds = kinds; bench = bench; next_number = marks.next_number; rows = rows }
 
 -- all that may happen next; nothing where the bus is down
-unfoldable pub all_candidates : List Body → List Row → Marks → List Candidate
-all_candidates bodies rows marks = if marks.down then [] else candidates_while_up (scene_of bodies rows marks) marks rows
+unfoldable pub all_candidates : Scene → Marks → List Candidate
+all_candidates scene marks = if marks.down then [] else candidates_while_up scene marks scene.rows
 
 -- the numbers ascend, from above this one on
 abbrev pub ascend : ℕ → List Row → Bool

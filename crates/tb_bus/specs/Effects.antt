@@ -1,5 +1,5 @@
 -- What an action comes to on a bus, where it may happen: its effect, and how that changes the bus.
-use Rattle.std.specs.Prelude.{ℕ, ◌+◌, ◌==◌, ◌&&◌, ◌||◌, nat_lt, pos, List, [], ◌∷◌, ◌++◌, map, length, Bool, false, not, if◌then◌else◌, Option, Some, None, option_map, is_some, slice_get, slice_index_or}
+use Rattle.std.specs.Prelude.{ℕ, ◌+◌, ◌==◌, ◌&&◌, ◌||◌, nat_lt, pos, List, [], ◌∷◌, ◌++◌, map, length, Bool, true, not, if◌then◌else◌, Option, Some, None, option_map, is_some, slice_get, slice_index_or}
 use Rattle.std.specs.List.{list_all}
 use Rattle.tb_terms.specs.declared.term.Term.{Term}
 use Rattle.tb_terms.specs.declared.term.Term.TheVariants.{Int}
@@ -7,17 +7,21 @@ use Rattle.tb_terms.specs.declared.sort.Sort.{Sort}
 use Rattle.tb_terms.specs.declared.pattern.Pattern.{Pattern}
 use Rattle.tb_match.specs.declared.bind.Bind.{Bind}
 use Rattle.tb_body.specs.declared.body.Body.{Body}
-use Rattle.tb_body.specs.Programs.{have_sorts}
-use Rattle.tb_algebra.specs.Binds.{has_slot_sort}
 use Rattle.tb_notes.specs.Inboxes.{Held, subscribed, unsubscribed, wants, with_note, oldest_match, without_note}
 use Rattle.tb_notes.specs.declared.queue.Found.{Found}
 use Rattle.tb_log.specs.declared.entry.LabelKind.{LabelKind}
 use Rattle.tb_log.specs.declared.entry.LabelKind.TheVariants as kind
+use Rattle.tb_tools.specs.Lanes.{BenchState}
+use Rattle.tb_tools.specs.Acts.{gone_down}
 use Rattle.tb_bus.specs.Buses.{Bus, Proc, created}
+use Rattle.tb_bus.specs.Slots.{fits_formals, fits_slot}
+use Rattle.tb_bus.specs.Exchanges.{Setting, exchange_for, kind_of, terms_seen, bench_after}
 use Rattle.tb_bus.specs.declared.action.Action.{Action}
-use Rattle.tb_bus.specs.declared.action.Action.TheVariants.{Own, Send, Receive, Notify, TakeNote}
+use Rattle.tb_bus.specs.declared.action.Action.TheVariants.{Own, Send, Receive, Notify, TakeNote, Speak}
 use Rattle.tb_bus.specs.declared.action.OwnAction.{OwnAction}
-use Rattle.tb_bus.specs.declared.action.OwnAction.TheVariants.{Tau, Set, Print, NoNote, Subscribe, Unsubscribe, Create}
+use Rattle.tb_bus.specs.declared.action.OwnAction.TheVariants.{Tau, Set, Print, NoNote, Subscribe, Unsubscribe, Create, Shutdown}
+use Rattle.tb_bus.specs.declared.action.ToolAction.{ToolAction}
+use Rattle.tb_bus.specs.declared.exchange.Exchange.{Exchange}
 
 -- What a step changes on the bus, beside that who makes it goes on.
 pub data Change : Type 0 where
@@ -31,6 +35,10 @@ pub data Change : Type 0 where
   Unsubscribes : List Pattern → Change
   -- a process of this body begins with these actuals
   Creates : ℕ → List Term → Change
+  -- the lanes and their tools are so from now on
+  SetsBench : BenchState → Change
+  -- the bus goes down for this reason
+  GoesDown : Term → Change
 
 -- what is seen of an action, what its process binds, and what else it changes
 pub record Effect : Type 0 where
@@ -46,16 +54,6 @@ takes_note terms held = not (wants held terms) || nat_lt (length held.notes) 655
 -- the note at a place of the queue
 abbrev pub note_at : Held → ℕ → List Term
 note_at held place = slice_index_or held.notes place []
-
--- the values have the sorts of the body's formals
-abbrev pub fits_formals : Option Body → List Term → Bool
-fits_formals None actuals = false
-fits_formals (Some body) actuals = length actuals == body.formals && have_sorts body.sorts actuals
-
--- the slot of a body takes the value, by its sort
-abbrev pub fits_slot : Option Body → ℕ → Term → Bool
-fits_slot None slot value = false
-fits_slot (Some body) slot value = has_slot_sort (slice_get body.sorts slot) value
 
 abbrev pub number_term : ℕ → Term
 number_term number = Int (pos number)
@@ -92,6 +90,21 @@ own_effect bus proc (Create process actuals slot) =
     if may_create bus.program.bodies (length bus.procs) bus.next_number proc.body process actuals slot
     then Some (creation bus.next_number process actuals slot) else None
 
+-- the bus goes down, and its tools are told
+own_effect bus proc (Shutdown reason) = Some (record { kind = kind.Shutdown; shown = reason ∷ []; binds = []; change = GoesDown reason })
+
+-- where a process speaks with tools
+abbrev pub setting_of : Bus → Proc → Setting
+setting_of bus proc = record { body = slice_get bus.program.bodies proc.body; kinds = bus.program.tools; bench = bus.bench }
+
+abbrev pub speaking : Setting → ToolAction → Exchange → Effect
+speaking setting does exchange = record {
+  kind = kind_of does;
+  shown = terms_seen setting does exchange;
+  binds = exchange.binds;
+  change = SetsBench (bench_after setting does exchange);
+}
+
 -- The effect of an action: none where it can't happen, or needs another process.
 abbrev pub effect_of : Bus → Proc → Action → Option Effect
 effect_of bus proc (Own own) = own_effect bus proc own
@@ -104,6 +117,9 @@ effect_of bus proc (Notify terms) =
 -- the oldest note in the own queue that matches is taken
 effect_of bus proc (TakeNote patterns) = option_map (taking proc.inbox) (oldest_match patterns proc.inbox)
 
+-- it speaks with a tool, where it may
+effect_of bus proc (Speak does) = option_map (speaking (setting_of bus proc) does) (exchange_for (setting_of bus proc) does)
+
 -- a copy of the note for a process that wants it
 abbrev pub given : List Term → Proc → Proc
 given terms proc = if wants proc.inbox terms then record proc { inbox = with_note terms proc.inbox } else proc
@@ -111,6 +127,10 @@ given terms proc = if wants proc.inbox terms then record proc { inbox = with_not
 -- the process of this number has its inbox changed
 abbrev pub with_inbox : ℕ → (Held → Held) → Proc → Proc
 with_inbox number change proc = if proc.number == number then record proc { inbox = change proc.inbox } else proc
+
+-- the bus goes down for this reason, and each tool that is there is told
+abbrev pub went_down : Term → Bus → Bus
+went_down reason bus = record bus { down = true; bench = gone_down reason bus.bench }
 
 -- The bus after a change that the process of this number makes: one line a kind of change.
 abbrev pub changed : Change → ℕ → Bus → Bus
@@ -120,3 +140,5 @@ changed (TakesNote place) number bus = record bus { procs = map (with_inbox numb
 changed (Subscribes patterns) number bus = record bus { procs = map (with_inbox number (subscribed patterns)) bus.procs }
 changed (Unsubscribes patterns) number bus = record bus { procs = map (with_inbox number (unsubscribed patterns)) bus.procs }
 changed (Creates process actuals) number bus = record bus { procs = bus.procs ++ created bus process actuals; next_number = bus.next_number + 1 }
+changed (SetsBench bench) number bus = record bus { bench = bench }
+changed (GoesDown reason) number bus = went_down reason bus

@@ -1,5 +1,7 @@
 pub mod Buses
 pub mod Actions
+pub mod Slots
+pub mod Exchanges
 pub mod Effects
 pub mod Steps
 pub mod Traces

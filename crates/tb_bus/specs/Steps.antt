@@ -1,14 +1,15 @@
 -- All that may happen next on a bus, in order, and the bus after each.
-use Rattle.std.specs.Prelude.{ℕ, ◌==◌, nat_lt, nat_le, List, [], ◌∷◌, ◌++◌, map, filter, Bool, true, not, if◌then◌else◌, Option, Some, None}
+use Rattle.std.specs.Prelude.{ℕ, codes, ◌==◌, nat_lt, nat_le, List, [], ◌∷◌, ◌++◌, map, filter, Bool, true, not, if◌then◌else◌, Option, Some, None}
 use Rattle.std.specs.List.{flat_map}
 use Rattle.tb_terms.specs.declared.term.Term.{Term}
+use Rattle.tb_terms.specs.declared.term.Term.TheVariants.{Appl}
 use Rattle.tb_match.specs.declared.bind.Bind.{Bind}
 use Rattle.tb_match.specs.Matches.{match_list}
 use Rattle.tb_algebra.specs.Binds.{with_binds}
 use Rattle.tb_algebra.specs.Offers.{Offered, offers}
 use Rattle.tb_bus.specs.Buses.{Bus, Proc, atoms_of, proc_left}
 use Rattle.tb_bus.specs.Actions.{action_of}
-use Rattle.tb_bus.specs.Effects.{Effect, effect_of, changed}
+use Rattle.tb_bus.specs.Effects.{Effect, effect_of, changed, went_down}
 use Rattle.tb_bus.specs.declared.action.Action.{Action}
 use Rattle.tb_bus.specs.declared.action.Action.TheVariants as action
 use Rattle.tb_log.specs.declared.entry.Place.{Place}
@@ -50,6 +51,7 @@ handshake_of sender sent terms receiver received (Some (action.Own own)) = []
 handshake_of sender sent terms receiver received (Some (action.Send other)) = []
 handshake_of sender sent terms receiver received (Some (action.Notify other)) = []
 handshake_of sender sent terms receiver received (Some (action.TakeNote patterns)) = []
+handshake_of sender sent terms receiver received (Some (action.Speak does)) = []
 handshake_of sender sent terms receiver received (Some (action.Receive patterns)) = handshake_if sender sent terms receiver received (match_list patterns terms)
 
 -- with one other process: its offers in order
@@ -71,6 +73,7 @@ moves_by bus proc offered None = []
 moves_by bus proc offered (Some (action.Own own)) = own_if proc offered (effect_of bus proc (action.Own own))
 moves_by bus proc offered (Some (action.Notify terms)) = own_if proc offered (effect_of bus proc (action.Notify terms))
 moves_by bus proc offered (Some (action.TakeNote patterns)) = own_if proc offered (effect_of bus proc (action.TakeNote patterns))
+moves_by bus proc offered (Some (action.Speak does)) = own_if proc offered (effect_of bus proc (action.Speak does))
 moves_by bus proc offered (Some (action.Send terms)) = handshakes bus proc offered terms
 -- it is for the sender to begin
 moves_by bus proc offered (Some (action.Receive patterns)) = []
@@ -118,6 +121,13 @@ label_of Halt = record { kind = kind.Halt; from = nowhere; to = nowhere; terms =
 abbrev pub went_on : Proc → Offered → List Bind → Bus → Bus
 went_on proc offered binds bus = record bus { procs = advance proc.number offered binds bus.procs; last_starter = proc.number }
 
+-- why the bus goes down where no process is left, and where none can do anything any more
+abbrev pub finish_reason : Term
+finish_reason = Appl (codes "finish") []
+
+abbrev pub halt_reason : Term
+halt_reason = Appl (codes "halt") []
+
 -- The bus after a move.
 abbrev pub apply : Bus → Move → Bus
 -- what it changes is changed, the process goes on with its binds, and is the last starter
@@ -125,8 +135,8 @@ apply bus (Own proc offered effect) = went_on proc offered effect.binds (changed
 -- both go on, the receiver with what the terms bind, and the sender is the last starter
 apply bus (Handshake sender sent receiver received terms binds) = record bus { procs = advance receiver.number received binds (advance sender.number sent [] bus.procs); last_starter = sender.number }
 -- the bus goes down, and the last starter stays
-apply bus Finish = record bus { down = true }
-apply bus Halt = record bus { down = true }
+apply bus Finish = went_down finish_reason bus
+apply bus Halt = went_down halt_reason bus
 
 -- a step: what is seen of it, and the bus after it
 pub record Step : Type 0 where

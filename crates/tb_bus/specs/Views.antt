@@ -13,11 +13,14 @@ use Rattle.tb_bus.specs.Steps.{Move, Own, Handshake, Finish, Halt}
 use Rattle.tb_algebra.specs.Walks.{sorts_of}
 use Rattle.tb_notes.specs.Inboxes.{nothing, oldest_match}
 use Rattle.tb_bus.specs.Effects.{Effect, effect_of}
-use Rattle.tb_bus.specs.Candidates.{Row, Scene, row_at, readies, all_take, wanting, may_happen, scene_of}
+use Rattle.tb_bus.specs.Exchanges.{exchange_for}
+use Rattle.tb_bus.specs.Candidates.{Row, Scene, row_at, readies, all_take, wanting, may_happen, setting_in}
 use Rattle.tb_bus.specs.declared.marks.Marks.{Marks}
 use Rattle.tb_bus.specs.declared.action.Action.{Action}
 use Rattle.tb_bus.specs.declared.action.Action.TheVariants as action
 use Rattle.tb_bus.specs.declared.action.OwnAction.{OwnAction}
+use Rattle.tb_bus.specs.declared.action.ToolAction.{ToolAction}
+use Rattle.tb_bus.specs.declared.exchange.Exchange.{Exchange}
 use Rattle.tb_bus.specs.declared.living.Ready.{Ready}
 use Rattle.tb_bus.specs.declared.candidate.Candidate.{Candidate}
 use Rattle.tb_bus.specs.declared.candidate.Candidate.TheVariants as candidate
@@ -66,6 +69,7 @@ sent_in (action.Send terms) = terms
 sent_in (action.Receive patterns) = []
 sent_in (action.Notify terms) = terms
 sent_in (action.TakeNote patterns) = []
+sent_in (action.Speak does) = []
 
 -- a process goes on by itself with the effect that there is
 abbrev pub own_move : Proc → Offered → Option Effect → Move
@@ -85,6 +89,7 @@ move_of bus rows (candidate.Handshake at index partner) =
     (sent_in (ready_at rows at index).action) partner.received.binds
 move_of bus rows (candidate.Notify at index wanting) = move_by bus rows at index
 move_of bus rows (candidate.TakeNote at index found) = move_by bus rows at index
+move_of bus rows (candidate.Speak at index exchange) = move_by bus rows at index
 move_of bus rows candidate.Finish = Finish
 move_of bus rows candidate.Halt = Halt
 
@@ -101,6 +106,10 @@ NotifiesIn scene does indices =
 abbrev pub TakesIn : Row → Action → Found → Type 0
 TakesIn row does found = (patterns : List Pattern) × (does ≡ action.TakeNote patterns) × (oldest_match patterns row.inbox ≡ Some found)
 
+-- the exchange with a tool that may happen
+abbrev pub SpeaksIn : Scene → Row → Action → Exchange → Type 0
+SpeaksIn scene row does exchange = (speaks : ToolAction) × (does ≡ action.Speak speaks) × (exchange_for (setting_in scene row) speaks ≡ Some exchange)
+
 -- the action receives the terms, which bind these
 abbrev pub Receives : List Term → Action → List Bind → Type 0
 Receives terms (action.Own own) binds = ⊥
@@ -108,6 +117,7 @@ Receives terms (action.Send other) binds = ⊥
 Receives terms (action.Receive patterns) binds = match_list patterns terms ≡ Some binds
 Receives terms (action.Notify other) binds = ⊥
 Receives terms (action.TakeNote patterns) binds = ⊥
+Receives terms (action.Speak does) binds = ⊥
 
 -- there is a process at the index, and it has such an action
 abbrev pub IsThere : List Row → ℕ → ℕ → Type 0
@@ -126,14 +136,18 @@ IsCandidateIn scene (candidate.Notify at index indices) =
     IsThere scene.rows at index × NotifiesIn scene (ready_at scene.rows at index).action indices
 IsCandidateIn scene (candidate.TakeNote at index found) =
     IsThere scene.rows at index × TakesIn (row_at scene.rows at) (ready_at scene.rows at index).action found
+IsCandidateIn scene (candidate.Speak at index exchange) =
+    IsThere scene.rows at index × SpeaksIn scene (row_at scene.rows at) (ready_at scene.rows at index).action exchange
 IsCandidateIn scene candidate.Finish = ⊤
 IsCandidateIn scene candidate.Halt = ⊤
 
--- These rows are searched for the moves of a bus, with what is marked on it.
-pub record IsSearchedFor (bus : Bus) (bodies : List Body) (rows : List Row) (marks : Marks) : Type 0 where
-  pub bodies_are : bus.program.bodies ≡ bodies
-  pub rows_are : AreRowsOf bodies bus.now rows bus.procs
+-- This scene is searched for the moves of a bus, with what is marked on it.
+pub record IsSearchedFor (bus : Bus) (scene : Scene) (marks : Marks) : Type 0 where
+  pub bodies_are : bus.program.bodies ≡ scene.bodies
+  pub kinds_are : bus.program.tools ≡ scene.kinds
+  pub bench_is : bus.bench ≡ scene.bench
+  pub rows_are : AreRowsOf scene.bodies bus.now scene.rows bus.procs
   pub last_is : bus.last_starter ≡ marks.last_starter
-  pub next_is : bus.next_number ≡ marks.next_number
+  pub next_is : bus.next_number ≡ scene.next_number
   pub no_ticks_is : bus.no_ticks ≡ marks.no_ticks
   pub down_is : bus.down ≡ marks.down

@@ -14,6 +14,34 @@ pub enum Action {
     Notify(Terms),
     /// It takes the oldest own note that matches.
     TakeNote(Patterns),
+    /// It speaks with a tool.
+    Speak(ToolAction),
+}
+
+/// How a process speaks with a tool. Kinds of tools go by their indices among definitions, from 0, and so do slots. Where
+/// there are terms, the first of them is the tool's own.
+#[derive(Debug, Drop)]
+pub enum ToolAction {
+    /// A tool of this kind is started, and the slot takes it.
+    Execute(u32, u32),
+    /// A tool of this kind that waits is live from then on, and the slot takes it.
+    Connect(u32, u32),
+    /// A tool of this kind that is leaving leaves its lane, and the slot takes it.
+    DisconnectAny(u32, u32),
+    /// This tool, which is leaving, leaves its lane.
+    Disconnect(Terms),
+    /// The tool is asked to evaluate the second of the terms.
+    Eval(Terms),
+    /// The tool's answer is taken, where it matches.
+    TakeValue(Terms, Patterns),
+    /// The tool is told to do the second of the terms.
+    Do(Terms),
+    /// The oldest event of the tool that waits and matches is received.
+    TakeEvent(Terms, Patterns),
+    /// An event of the tool with just the terms behind its own is acknowledged.
+    Acknowledge(Terms),
+    /// The tool is told to end, with the second of the terms as the reason.
+    Terminate(Terms),
 }
 
 /// What a process does by itself: one kind for each such atom.
@@ -32,4 +60,6 @@ pub enum OwnAction {
     Unsubscribe(Patterns),
     /// A process of this body begins with these actuals, and the slot takes its number.
     Create(u32, Terms, u32),
+    /// The bus goes down for this reason.
+    Shutdown(Term),
 }

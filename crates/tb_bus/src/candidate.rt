@@ -1,3 +1,4 @@
+use crate::exchange::Exchange;
 use tb_match::Binds;
 use tb_notes::Found;
 use tb_terms::Items;
@@ -26,6 +27,8 @@ pub enum Candidate {
     Notify(usize, usize, Items<usize>),
     /// Who takes a note, its action, and the note.
     TakeNote(usize, usize, Found),
+    /// Who speaks with a tool, its action, and how.
+    Speak(usize, usize, Exchange),
     Finish,
     Halt,
 }

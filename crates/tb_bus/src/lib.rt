@@ -5,6 +5,7 @@
 mod action;
 mod candidate;
 mod creation;
+mod exchange;
 mod laws;
 mod living;
 mod marks;
@@ -19,8 +20,9 @@ mod search;
 mod search_tests;
 mod wanting;
 
-pub use action::{Action, OwnAction};
+pub use action::{Action, OwnAction, ToolAction};
 pub use candidate::{Candidate, Partner, Received};
+pub use exchange::Exchange;
 pub use laws::{
     labels_differ, one_bus_after_an_entry, one_step_a_label, prefixes_are_traces,
     processes_stand_by_their_numbers,

@@ -1,9 +1,12 @@
 use tb_body::Program;
+use tb_terms::Texts;
 
 /// What a bus was started from, which nothing changes.
 #[derive(Debug, Drop)]
 pub struct Origin {
     pub program: Program,
+    /// The commands with which the first lanes are started.
+    pub connects: Texts,
     /// How many entries the log may have.
     pub limit: u32,
 }

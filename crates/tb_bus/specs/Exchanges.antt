@@ -1,0 +1,188 @@
+-- What an action comes to that speaks with a tool: where it may happen, what is seen of it, and the lanes after it.
+use Rattle.std.specs.Prelude.{ℕ, ◌&&◌, Bool, List, [], ◌∷◌, ◌++◌, map, drop, if◌then◌else◌, Option, Some, None, option_map, option_and_then, option_to_list, slice_get}
+use Rattle.tb_terms.specs.declared.term.Term.{Term}
+use Rattle.tb_terms.specs.declared.pattern.Pattern.{Pattern}
+use Rattle.tb_match.specs.declared.bind.Bind.{Bind}
+use Rattle.tb_match.specs.Matches.{match_list}
+use Rattle.tb_body.specs.declared.body.Body.{Body}
+use Rattle.tb_body.specs.declared.program.Tool.{Tool as ToolKind}
+use Rattle.tb_body.specs.Programs.{is_limited}
+use Rattle.tb_log.specs.declared.entry.LabelKind.{LabelKind}
+use Rattle.tb_log.specs.declared.entry.LabelKind.TheVariants as kind
+use Rattle.tb_tools.specs.declared.stage.Stage.{Stage}
+use Rattle.tb_tools.specs.declared.stage.Stage.TheVariants.{Waiting, Leaving}
+use Rattle.tb_tools.specs.declared.found.FoundEvent.{FoundEvent}
+use Rattle.tb_tools.specs.Lanes.{BenchState, tool_at, tool_term, term_of}
+use Rattle.tb_tools.specs.Acts.{answer_at, events_at, event_at, is_live_at, is_taken_at, can_leave, can_eval, executed, connected, left, asked, value_taken, told, event_taken, acknowledged, terminated}
+use Rattle.tb_tools.specs.Finding.{free_lane, find_tool, first_at, oldest_event, oldest_received}
+use Rattle.tb_bus.specs.Slots.{fits_slot}
+use Rattle.tb_bus.specs.declared.action.ToolAction.{ToolAction}
+use Rattle.tb_bus.specs.declared.action.ToolAction.TheVariants.{Execute, Connect, DisconnectAny, Disconnect, Eval, TakeValue, Do, TakeEvent, Acknowledge, Terminate}
+use Rattle.tb_bus.specs.declared.exchange.Exchange.{Exchange}
+
+-- Who speaks with a tool has this body, on a bus with these kinds of tools and these lanes.
+pub record Setting : Type 0 where
+  pub body : Option Body
+  pub kinds : List ToolKind
+  pub bench : BenchState
+
+-- of a kind of tool its name, and its command where it has one
+abbrev pub name_of : Option ToolKind → List ℕ
+name_of None = []
+name_of (Some tool) = tool.name
+
+abbrev pub command_of : Option ToolKind → Option (List ℕ)
+command_of None = None
+command_of (Some tool) = tool.command
+
+abbrev pub command_or_none : Option (List ℕ) → List ℕ
+command_or_none None = []
+command_or_none (Some command) = command
+
+abbrev pub kind_name : Setting → ℕ → List ℕ
+kind_name setting tool = name_of (slice_get setting.kinds tool)
+
+abbrev pub kind_command : Setting → ℕ → Option (List ℕ)
+kind_command setting tool = command_of (slice_get setting.kinds tool)
+
+-- the term of the tool on a lane
+abbrev pub term_on : ℕ → BenchState → Option Term
+term_on lane bench = option_map term_of (tool_at lane bench)
+
+-- the term of the next tool, where it is of this kind
+abbrev pub next_term : Setting → ℕ → Term
+next_term setting tool = tool_term (kind_name setting tool) setting.bench.next_tool
+
+-- on a lane, with nothing bound
+abbrev pub plain_on : ℕ → Exchange
+plain_on lane = record { lane = lane; event = 0; binds = [] }
+
+-- on a lane, where the slot takes the term, which is within the limits
+abbrev pub binding_on : Setting → ℕ → ℕ → Term → Option Exchange
+binding_on setting slot lane term =
+    if is_limited term && fits_slot setting.body slot term
+    then Some (record { lane = lane; event = 0; binds = record { slot = slot; value = term } ∷ [] }) else None
+
+-- the first lane that is free, where the slot takes the next tool
+abbrev pub starting : Setting → ℕ → ℕ → Option Exchange
+starting setting tool slot = option_and_then (λ lane. binding_on setting slot lane (next_term setting tool)) (free_lane setting.bench)
+
+-- on a lane, where the slot takes the tool that stands there
+abbrev pub taking_tool : Setting → ℕ → ℕ → Option Exchange
+taking_tool setting slot lane = option_and_then (binding_on setting slot lane) (term_on lane setting.bench)
+
+-- the tool of a kind at a stage that has the smallest number, where the slot takes it
+abbrev pub first_of_kind : Setting → Stage → ℕ → ℕ → Option Exchange
+first_of_kind setting stage tool slot = option_and_then (taking_tool setting slot) (first_at (kind_name setting tool) stage setting.bench)
+
+abbrev pub lane_if : (ℕ → BenchState → Bool) → BenchState → ℕ → Option ℕ
+lane_if may bench lane = if may lane bench then Some lane else None
+
+-- the lane of the tool that is the first of these terms, where it may
+abbrev pub lane_of : (ℕ → BenchState → Bool) → BenchState → List Term → Option ℕ
+lane_of may bench [] = None
+lane_of may bench (tool ∷ terms) = option_and_then (lane_if may bench) (find_tool tool bench)
+
+-- the value on a lane, where it has come and matches
+abbrev pub value_on : List Pattern → BenchState → ℕ → Option Exchange
+value_on patterns bench lane =
+    option_and_then (λ value. option_map (λ binds. record { lane = lane; event = 0; binds = binds }) (match_list patterns (value ∷ []))) (answer_at lane bench)
+
+-- the oldest event that waits on a lane and matches
+abbrev pub event_on : List Pattern → BenchState → ℕ → Option Exchange
+event_on patterns bench lane =
+    option_map (λ (found : FoundEvent). record { lane = lane; event = found.place; binds = found.binds }) (oldest_event patterns lane bench)
+
+-- the oldest event that was received on a lane with just these terms
+abbrev pub received_on : List Term → BenchState → ℕ → Option Exchange
+received_on terms bench lane = option_map (λ place. record { lane = lane; event = place; binds = [] }) (oldest_received terms lane bench)
+
+-- the terms behind the tool's own
+abbrev pub behind : List Term → List Term
+behind = drop 1
+
+-- How an action may happen, where it may: one line an atom.
+abbrev pub exchange_for : Setting → ToolAction → Option Exchange
+-- the kind has a command, a lane is free, and the slot takes the new tool
+exchange_for setting (Execute tool slot) = option_and_then (λ command. starting setting tool slot) (kind_command setting tool)
+-- a tool of the kind waits
+exchange_for setting (Connect tool slot) = first_of_kind setting Waiting tool slot
+-- a tool of the kind is leaving
+exchange_for setting (DisconnectAny tool slot) = first_of_kind setting Leaving tool slot
+-- the tool is leaving
+exchange_for setting (Disconnect terms) = option_map plain_on (lane_of can_leave setting.bench terms)
+-- the tool is live, and no evaluation is open
+exchange_for setting (Eval terms) = option_map plain_on (lane_of can_eval setting.bench terms)
+-- the tool is live or leaving, and its value has come and matches
+exchange_for setting (TakeValue terms patterns) = option_and_then (value_on patterns setting.bench) (lane_of is_taken_at setting.bench terms)
+-- the tool is live, and no evaluation is open
+exchange_for setting (Do terms) = option_map plain_on (lane_of can_eval setting.bench terms)
+-- the tool is live or leaving, and an event of it that waits matches
+exchange_for setting (TakeEvent terms patterns) = option_and_then (event_on patterns setting.bench) (lane_of is_taken_at setting.bench terms)
+-- the tool is live, and an event with just these terms was received
+exchange_for setting (Acknowledge terms) = option_and_then (received_on (behind terms) setting.bench) (lane_of is_live_at setting.bench terms)
+-- the tool is live
+exchange_for setting (Terminate terms) = option_map plain_on (lane_of is_live_at setting.bench terms)
+
+-- what is seen of the kind of a step
+abbrev pub kind_of : ToolAction → LabelKind
+kind_of (Execute tool slot) = kind.Execute
+kind_of (Connect tool slot) = kind.RecConnect
+kind_of (DisconnectAny tool slot) = kind.RecDisconnect
+kind_of (Disconnect terms) = kind.RecDisconnect
+kind_of (Eval terms) = kind.SndEval
+kind_of (TakeValue terms patterns) = kind.RecValue
+kind_of (Do terms) = kind.SndDo
+kind_of (TakeEvent terms patterns) = kind.RecEvent
+kind_of (Acknowledge terms) = kind.SndAckEvent
+kind_of (Terminate terms) = kind.SndTerminate
+
+abbrev pub values_in : List Bind → List Term
+values_in = map (λ (bind : Bind). bind.value)
+
+-- the value that has come on a lane
+abbrev pub values_on : ℕ → BenchState → List Term
+values_on lane bench = option_to_list (answer_at lane bench)
+
+-- The terms that are seen: the tool that the slot takes; else the tool with the terms behind it.
+abbrev pub terms_seen : Setting → ToolAction → Exchange → List Term
+terms_seen setting (Execute tool slot) exchange = values_in exchange.binds
+terms_seen setting (Connect tool slot) exchange = values_in exchange.binds
+terms_seen setting (DisconnectAny tool slot) exchange = values_in exchange.binds
+terms_seen setting (Disconnect terms) exchange = terms
+terms_seen setting (Eval terms) exchange = terms
+-- with the value that has come
+terms_seen setting (TakeValue terms patterns) exchange = terms ++ values_on exchange.lane setting.bench
+terms_seen setting (Do terms) exchange = terms
+-- with what the event carries
+terms_seen setting (TakeEvent terms patterns) exchange = terms ++ event_at exchange.event (events_at exchange.lane setting.bench)
+terms_seen setting (Acknowledge terms) exchange = terms
+terms_seen setting (Terminate terms) exchange = terms
+
+-- the lanes with the one term that is told a tool
+abbrev pub with_told : (Term → ℕ → BenchState → BenchState) → List Term → ℕ → BenchState → BenchState
+with_told change [] lane bench = bench
+with_told change (term ∷ terms) lane bench = change term lane bench
+
+-- The lanes after it: one line an atom.
+abbrev pub bench_after : Setting → ToolAction → Exchange → BenchState
+-- the lane is started with the command of the kind, and the new tool is live there
+bench_after setting (Execute tool slot) exchange =
+    executed (kind_name setting tool) (command_or_none (kind_command setting tool)) exchange.lane setting.bench
+-- the tool is live
+bench_after setting (Connect tool slot) exchange = connected exchange.lane setting.bench
+-- the tool leaves its lane, with its events
+bench_after setting (DisconnectAny tool slot) exchange = left exchange.lane setting.bench
+bench_after setting (Disconnect terms) exchange = left exchange.lane setting.bench
+-- an evaluation is open, and the tool is asked
+bench_after setting (Eval terms) exchange = with_told asked (behind terms) exchange.lane setting.bench
+-- no evaluation is open
+bench_after setting (TakeValue terms patterns) exchange = value_taken exchange.lane setting.bench
+-- the tool is told
+bench_after setting (Do terms) exchange = with_told told (behind terms) exchange.lane setting.bench
+-- the event comes to the end of those received
+bench_after setting (TakeEvent terms patterns) exchange = event_taken exchange.event exchange.lane setting.bench
+-- the event is forgotten, and the tool is told
+bench_after setting (Acknowledge terms) exchange = acknowledged exchange.event exchange.lane setting.bench
+-- the tool is told to end, and leaves its lane
+bench_after setting (Terminate terms) exchange = with_told terminated (behind terms) exchange.lane setting.bench
