@@ -2,6 +2,8 @@
 use Rattle.std.specs.Prelude.{◌≡◌, ◌≤◌, ℕ, List, [], ◌∷◌, ◌++◌, ◌+◌, ◌-◌, length, slice_get, Option, Some, None, Bool, true, false, not, option_to_list, refl}
 use Rattle.std.specs.Coded.{Coded, code_by, coded×, coded_ℕ, coded_bool, coded_list}
 use Rattle.tb_log.specs.Limits.{has_room}
+use Rattle.tb_log.specs.declared.entry.Out.{Out}
+use Rattle.tb_tools.specs.Finding.{next_out}
 use Rattle.tb_log.specs.declared.entry.Input.{Input}
 use Rattle.tb_log.specs.declared.entry.Input.TheVariants.{Tick, NoTicks, Line, Gone, Cut}
 use Rattle.tb_log.specs.declared.entry.Entry.{Entry}
@@ -14,6 +16,8 @@ use Rattle.tb_bus.specs.Steps.{Step, steps}
 use Rattle.tb_bus.specs.Traces.{IsTrace, fed, replay}
 use Rattle.tb_core.specs.declared.answers.Stepped.{Stepped}
 use Rattle.tb_core.specs.declared.answers.Stepped.TheVariants as stepped
+use Rattle.tb_core.specs.declared.answers.TakeOut.{TakeOut}
+use Rattle.tb_core.specs.declared.answers.TakeOut.TheVariants as taken
 
 -- where a core was started, what it has logged, whether it was stopped, and for how many entries more there is memory
 pub record CoreState : Type 0 where
@@ -39,6 +43,7 @@ started origin = record { origin = origin; log = []; stopped = false; spare = 0 
 pub data Call : Type 0 where
   HandIn : Input → Call
   MakeStep : Call
+  HandOut : ℕ → Call
 
 abbrev pub says_quiet : Option Entry → Bool
 says_quiet None = false
@@ -61,10 +66,16 @@ step_entry false quiet (step ∷ rest) = Some (Did step.label)
 step_entry false true [] = None
 step_entry false false [] = Some Quiet
 
+-- what a call logs that takes from a lane what is to be handed out next: nothing where nothing is
+abbrev pub out_entry : ℕ → Option Out → Option Entry
+out_entry lane None = None
+out_entry lane (Some out) = Some (Gave lane out)
+
 -- What a call logs, where it isn't refused: a function of the core and the call.
 abbrev pub would_log : CoreState → Call → Option Entry
 would_log core (HandIn input) = Some (Fed input (fed (bus_now core) input).reply)
 would_log core MakeStep = step_entry (bus_now core).down (ends_quiet core.log) (steps (bus_now core))
+would_log core (HandOut lane) = out_entry lane (next_out lane (bus_now core).bench)
 
 -- the log has no room for what a call would log
 abbrev pub lacks_room : CoreState → Option Entry → Bool
@@ -107,6 +118,13 @@ abbrev pub IsStep : CoreState → Stepped → Type 0
 IsStep core stepped.Did = (first : Step) × (rest : List Step) × (steps (bus_now core) ≡ first ∷ rest)
 IsStep core stepped.Quiet = (steps (bus_now core) ≡ []) × ((bus_now core).down ≡ false)
 IsStep core stepped.Down = (bus_now core).down ≡ true
+
+-- When a call to take from a lane answers so: what was to be handed out next; that there was nothing, on a bus that isn't
+-- down and on one that is.
+abbrev pub IsTakenOut : CoreState → ℕ → TakeOut → Type 0
+IsTakenOut core lane (taken.Out out) = next_out lane (bus_now core).bench ≡ Some out
+IsTakenOut core lane taken.Nothing = (next_out lane (bus_now core).bench ≡ None) × ((bus_now core).down ≡ false)
+IsTakenOut core lane taken.Closed = (next_out lane (bus_now core).bench ≡ None) × ((bus_now core).down ≡ true)
 
 -- whether any step is possible
 abbrev pub has_any : List Step → Bool

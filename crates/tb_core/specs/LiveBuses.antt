@@ -32,11 +32,12 @@ bus_of view bus = record {
   next_number = bus.marks.next_number;
   no_ticks = bus.marks.no_ticks;
   down = bus.marks.down;
+  bench = bus.bench;
 }
 
 -- what a search goes through
 abbrev pub scene_in : {W P T : Type 0} → LiveBus W P T → Scene
-scene_in bus = scene_of bus.origin.program.bodies (rows_of bus.living.items) bus.marks
+scene_in bus = scene_of bus.origin.program.bodies bus.origin.program.tools bus.bench (rows_of bus.living.items) bus.marks
 
 -- the move that a candidate is
 abbrev pub move_in : {W P T : Type 0} → View P W T → LiveBus W P T → Candidate → Move
@@ -51,13 +52,14 @@ abbrev pub IsFreshOr : {W : Type 0} → List ℕ → Living W → Type 0
 IsFreshOr stale living = (living.fresh ≡ true) ⊎ Contains stale living.number
 
 -- The plans are those of the bodies, the living stand by their numbers, which are below that of the next, each lives
--- by its plan, and those that have to be looked at anew are named, unless a tick has passed.
+-- by its plan, those that have to be looked at anew are named, unless a tick has passed, and there are 16 lanes.
 pub record IsSound {W P T : Type 0} (view : View P W T) (bus : LiveBus W P T) : Type 0 where
   pub in_order : ascend 0 (rows_of bus.living.items) ≡ true
   pub below : All (IsBelow bus.marks.next_number) bus.living.items
   pub planned : map view.body_of bus.plans ≡ bus.origin.program.bodies
   pub live : All (IsLive view bus.plans bus.ticks) bus.living.items
   pub fresh : bus.aged ≡ false → All (IsFreshOr bus.stale.items) bus.living.items
+  pub lanes : length bus.bench.lanes ≡ 16
 
 -- the fields stand for the same bus as before
 pub record StandsAs {W P T : Type 0} (view : View P W T) (old new : LiveBus W P T) : Type 0 where
@@ -138,7 +140,7 @@ pub record IsMade {W P T : Type 0} (view : View P W T) (old : LiveBus W P T) (ca
   pub origin : new.origin ≡ old.origin
 
 -- The fields stand for the bus to which the log leads, the log is a trace within the limit, each tick is an entry of it, and
--- so is each creation.
+-- so is each creation, and each tool that comes.
 pub record Represents {W P T : Type 0} (view : View P W T) (bus : LiveBus W P T) (log : LogState) : Type 0 where
   pub sound : IsSound view bus
   pub bus_is : bus_of view bus ≡ replay (start bus.origin) log.entries
@@ -147,3 +149,4 @@ pub record Represents {W P T : Type 0} (view : View P W T) (bus : LiveBus W P T)
   pub few : bus.origin.limit ≤ 4000000
   pub ticks : bus.ticks ≤ length log.entries
   pub next : bus.marks.next_number ≤ 10001 + length log.entries
+  pub tools : bus.bench.next_tool ≤ 1 + length log.entries

@@ -1,10 +1,13 @@
 ghost use Rattle.std.specs.Prelude.{◌≡◌, ◌∷◌, [], IfOk};
 ghost use Rattle.tb_bus.specs.Effects.{number_term};
+ghost use Rattle.tb_bus.specs.Steps.{finish_reason, halt_reason, nowhere};
 
 use std::alloc::Global;
-use tb_log::LabelKind;
+use tb_log::{Label, LabelKind, Place};
 use tb_match::{Bind, Binds};
-use tb_terms::{Items, NoMemory, Term, Terms};
+use tb_terms::{Items, Name, NoMemory, Term, Terms};
+
+pub const NOWHERE: Place = Place { proc: 0, atom: 0 };
 
 /// What was done: what is seen of it, and what its process binds.
 #[derive(Drop)]
@@ -51,4 +54,39 @@ fn number_term(number: u32) -> Term
     ensures { result ≡ number_term number }
 {
     Term::Int(i64::from(number))
+}
+
+/// The bus went down for this reason.
+pub fn shut_down(alloc: Global, reason: Term) -> Result<Done, NoMemory>
+    ensures { IfOk result (λ done. done ≡ record { kind = LabelKind.Shutdown; shown = reason ∷ []; binds = [] }) }
+{
+    let mut done = kind_alone(alloc, LabelKind::Shutdown);
+    done.shown.push(reason)?;
+    Ok(done)
+}
+
+/// What is seen of the end of a bus.
+pub fn end_label(alloc: Global, kind: LabelKind) -> Label
+    ensures { result ≡ record { kind = kind; from = nowhere; to = nowhere; terms = [] } }
+{
+    Label {
+        kind,
+        from: NOWHERE,
+        to: NOWHERE,
+        terms: Items::new(alloc),
+    }
+}
+
+/// Why the bus goes down where no process is left.
+pub fn finish_reason(alloc: Global) -> Result<Term, NoMemory>
+    ensures { IfOk result (λ reason. reason ≡ finish_reason) }
+{
+    Ok(Term::Appl(Name::new(alloc, b"finish")?, Items::new(alloc)))
+}
+
+/// Why it goes down where none can do anything any more.
+pub fn halt_reason(alloc: Global) -> Result<Term, NoMemory>
+    ensures { IfOk result (λ reason. reason ≡ halt_reason) }
+{
+    Ok(Term::Appl(Name::new(alloc, b"halt")?, Items::new(alloc)))
 }

@@ -2,6 +2,7 @@ ghost use Rattle.std.specs.Prelude.{◌≡◌};
 ghost use Rattle.tb_core.specs.declared.answers.CoreFault.TheVariants.{NoMemory as OutOfMemory};
 
 use std::alloc::AllocError;
+use tb_log::Out;
 use tb_terms::NoMemory;
 
 /// What a step found.
@@ -13,6 +14,17 @@ pub enum Stepped {
     Quiet,
     /// The bus is down.
     Down,
+}
+
+/// What was taken from a lane.
+#[derive(Debug, Drop)]
+pub enum TakeOut {
+    /// What was to be handed out next.
+    Out(Out),
+    /// Nothing was to be handed out, and the bus isn't down.
+    Nothing,
+    /// Nothing was to be handed out, and the bus is down: nothing more comes.
+    Closed,
 }
 
 /// Why a core refused a call. It is as it was before.

@@ -3,22 +3,25 @@ ghost use Rattle.std.below.core.specs.declared.int.usize.TheConstants.{MAX};
 ghost use Rattle.tb_log.specs.Limits.{terms_size};
 ghost use Rattle.tb_core.specs.Makings.{effect_by, shown_in};
 
-use crate::acting::{Done, created, kind_alone, printed};
+use crate::acting::{
+    Done, NOWHERE, created, end_label, finish_reason, halt_reason, kind_alone, printed, shut_down,
+};
 use crate::inboxes::{hand_out, subscribe_at, take_note_at, unsubscribe_at};
 use crate::looking::{go_on, look};
 use crate::opening::{numbers_of, open_all, open_at, plan_all};
+use crate::speaking::{is_declared, seen_size, speak};
 use crate::ticking::tick_all;
 use std::alloc::Global;
 use tb_algebra::Walker;
 use tb_bus::{
-    Action, Candidate, Living, Marks, Origin, OwnAction, Partner, Ready, Received, first_candidate,
+    Action, Candidate, Exchange, Living, Marks, Origin, OwnAction, Partner, Ready, Received,
+    first_candidate,
 };
-use tb_log::{Input, Label, LabelKind, Place, Reply, Why, total_size};
+use tb_log::{Input, Label, LabelKind, Place, Reply, ToolLine, Why, total_size};
 use tb_match::Binds;
 use tb_notes::Found;
-use tb_terms::{Items, NoMemory, Terms, size};
-
-const NOWHERE: Place = Place { proc: 0, atom: 0 };
+use tb_terms::{Items, NoMemory, Term, Terms, size};
+use tb_tools::{Bench, Handout};
 
 /// The state of a bus.
 #[derive(Drop)]
@@ -35,6 +38,8 @@ pub struct LiveBus<W: Walker> {
     /// How many ticks there were.
     pub ticks: u64,
     pub marks: Marks,
+    /// The lanes, with the tools that stand on them.
+    pub bench: Bench,
 }
 
 /// What a process does, and where it stands.
@@ -45,22 +50,28 @@ struct Begun {
 }
 
 impl<W: Walker> LiveBus<W> {
-    ghost use Rattle.std.specs.Prelude.{◌≡◌, ℕ, ◌<◌, ◌≤◌, ◌+◌, ◌∷◌, ◌≢◌, List, [], length, vec_len, vec_capacity, Contains, IfOk, IfSome, IsTrue, OnOk, OnErr, Some, slice_get, true, false, option_map, map, min};
+    ghost use Rattle.std.specs.Prelude.{◌≡◌, ℕ, ◌<◌, ◌≤◌, ◌+◌, ◌∷◌, ◌≢◌, List, [], length, vec_len, vec_capacity, Contains, IfOk, IfSome, IsSome, IsTrue, OnOk, OnErr, Some, slice_get, true, false, option_map, map, min};
     ghost use Rattle.std.below.core.specs.declared.int.usize.TheConstants.{MAX};
     ghost use Rattle.tb_log.specs.Limits.{terms_size};
     ghost use Rattle.std.specs.List.{All};
     ghost use Rattle.tb_algebra.specs.Offers.{Offered};
     ghost use Rattle.tb_bus.specs.Buses.{start};
-    ghost use Rattle.tb_bus.specs.Effects.{creation, fits_formals, own_effect};
-    ghost use Rattle.tb_bus.specs.Steps.{moves, apply, label_of, nowhere};
-    ghost use Rattle.tb_bus.specs.Traces.{aged_proc, fed};
+    ghost use Rattle.tb_bus.specs.Effects.{creation, own_effect, went_down};
+    ghost use Rattle.tb_bus.specs.Slots.{fits_formals};
+    ghost use Rattle.tb_log.specs.Shapes.{IsInputInShape, IsLane};
+    ghost use Rattle.tb_tools.specs.Lanes.{most_tools};
+    ghost use Rattle.tb_tools.specs.Finding.{next_out};
+    ghost use Rattle.tb_bus.specs.Steps.{moves, apply, label_of, nowhere, finish_reason, halt_reason};
+    ghost use Rattle.tb_bus.specs.Traces.{aged_proc, fed, took, taken_out};
     ghost use Rattle.tb_bus.specs.Candidates.{first, row_at, rows_of};
     ghost use Rattle.tb_bus.specs.Views.{ready_at, offer_of, proc_at, IsCandidateIn};
+    ghost use Rattle.tb_core.specs.Cores.{takes_memory};
     ghost use Rattle.tb_core.specs.Makings.{effect_by, IsPlainIn};
     ghost use Rattle.tb_core.specs.LiveBuses.{bus_of, procs_in, scene_in, move_in, AreFresh, IsFreshOr, IsSound, IsSetAt, StandsAs, Leaves, CanAdvance, IsAdvanced, AreAdvanced, IsKept, IsDone, IsChanged, HasGone, IsMade};
 
     /// The bus that a program opens with. Its processes are looked at later.
     pub fn open(alloc: Global, origin: Origin) -> Result<LiveBus<W>, NoMemory>
+        requires { length origin.connects ≤ 16 }
         ensures sound { IfOk result (IsSound W.view) }
         ensures bus { IfOk result (λ bus. bus_of W.view bus ≡ start origin) }
         ensures origin { IfOk result (λ bus. bus.origin ≡ origin) }
@@ -69,6 +80,8 @@ impl<W: Walker> LiveBus<W> {
         let living = open_all::<W>(alloc, &origin.program, &plans)?;
         let stale = numbers_of(alloc, living.as_slice())?;
         let next_number = origin.program.roots.len() as u32 + 1;
+        let bench = Bench::new(alloc, &origin.connects)?;
+        bench.show_lanes();
         Ok(LiveBus {
             origin,
             plans,
@@ -82,6 +95,7 @@ impl<W: Walker> LiveBus<W> {
                 no_ticks: false,
                 down: false,
             },
+            bench,
         })
     }
 
@@ -166,8 +180,8 @@ impl<W: Walker> LiveBus<W> {
         ensures found { IfOk result (λ found. option_map (move_in W.view self.now) found ≡ first (moves (bus_of W.view self.now))) }
         ensures stands { IfOk result (λ found. IfSome found (IsCandidateIn (scene_in self.now))) }
     {
-        let bodies = self.origin.program.bodies.as_slice();
-        first_candidate(alloc, bodies, self.living.as_slice(), self.marks)
+        let program = &self.origin.program;
+        first_candidate(alloc, program, &self.bench, self.living.as_slice(), self.marks)
     }
 
     /// Takes the offer of one of the actions of a process, and changes nothing yet.
@@ -235,6 +249,9 @@ impl<W: Walker> LiveBus<W> {
             Candidate::TakeNote(at, _, found) => {
                 total_size(self.living[*at].inbox.note(found.place).as_slice())
             }
+            Candidate::Speak(at, index, exchange) => {
+                seen_size(&self.bench, &self.living[*at].ready[*index].action, exchange)
+            }
             Candidate::Finish | Candidate::Halt => 0,
         }
     }
@@ -244,6 +261,7 @@ impl<W: Walker> LiveBus<W> {
         requires sound { IsSound W.view self.old }
         requires fresh { AreFresh self.old.living.items }
         requires next { self.old.marks.next_number < 4294967295 }
+        requires tools { self.old.bench.next_tool ≤ most_tools }
         requires found { IsCandidateIn (scene_in self.old) candidate }
         ensures sound { IsSound W.view self.new }
         ensures origin { self.new.origin ≡ self.old.origin }
@@ -261,8 +279,11 @@ impl<W: Walker> LiveBus<W> {
             }
             Candidate::Notify(at, index, indices) => self.make_note(alloc, at, index, &indices),
             Candidate::TakeNote(at, index, found) => self.make_taking(alloc, at, index, found),
-            Candidate::Finish => Ok(self.go_down(alloc, LabelKind::Finish)),
-            Candidate::Halt => Ok(self.go_down(alloc, LabelKind::Halt)),
+            Candidate::Speak(at, index, exchange) => {
+                self.make_exchange(alloc, at, index, exchange)
+            }
+            Candidate::Finish => self.finish_bus(alloc),
+            Candidate::Halt => self.halt_bus(alloc),
         }
     }
 
@@ -371,6 +392,33 @@ impl<W: Walker> LiveBus<W> {
         Ok(self.finish(at, taken, from, done))
     }
 
+    /// A process speaks with a tool, as was found.
+    fn make_exchange(
+        &mut self,
+        alloc: Global,
+        at: usize,
+        index: usize,
+        exchange: Exchange,
+    ) -> Result<Label, NoMemory>
+        requires sound { IsSound W.view self.old }
+        requires fresh { AreFresh self.old.living.items }
+        requires tools { self.old.bench.next_tool ≤ most_tools }
+        requires found { IsCandidateIn (scene_in self.old) (Candidate.Speak at index exchange) }
+        ensures made { OnOk result (IsMade W.view self.old (Candidate.Speak at index exchange) self.new) }
+        ensures label { IfOk result (λ label. label ≡ label_of (move_in W.view self.old (Candidate.Speak at index exchange))) }
+        ensures err { OnErr result (StandsAs W.view self.old self.new) }
+    {
+        let taken = self.take_at(alloc, at, index)?;
+        let Begun { from, action } = self.begin(at, index)?;
+        let Action::Speak(does) = action else {
+            unreachable!()
+        };
+        let kinds = self.origin.program.tools.as_slice();
+        let done = speak(alloc, kinds, &mut self.bench, does, exchange)?;
+        self.bench.show_lanes();
+        Ok(self.finish(at, taken, from, done))
+    }
+
     /// Makes the change of what a process does by itself. After want of memory nothing has changed.
     fn act(&mut self, alloc: Global, at: usize, own: OwnAction) -> Result<Done, NoMemory>
         requires sound { IsSound W.view self.old }
@@ -401,6 +449,10 @@ impl<W: Walker> LiveBus<W> {
             }
             OwnAction::Create(process, actuals, slot) => {
                 self.create(alloc, process, actuals, slot)
+            }
+            OwnAction::Shutdown(reason) => {
+                self.go_down(&reason)?;
+                shut_down(alloc, reason)
             }
         }
     }
@@ -523,21 +575,47 @@ impl<W: Walker> LiveBus<W> {
         }
     }
 
-    /// The bus goes down by a step of its own.
-    fn go_down(&mut self, alloc: Global, kind: LabelKind) -> Label
+    /// The bus goes down, and each tool that is there is told why.
+    fn go_down(&mut self, reason: &Term) -> Result<(), NoMemory>
         requires { IsSound W.view self.old }
         ensures sound { IsSound W.view self.new }
         ensures origin { self.new.origin ≡ self.old.origin }
-        ensures bus { bus_of W.view self.new ≡ record (bus_of W.view self.old) { down = true } }
-        ensures label { result ≡ record { kind = kind; from = nowhere; to = nowhere; terms = [] } }
+        ensures plans { self.new.plans ≡ self.old.plans }
+        ensures living { self.new.living ≡ self.old.living }
+        ensures stale { self.new.stale ≡ self.old.stale }
+        ensures ok { OnOk result (bus_of W.view self.new ≡ went_down reason.now (bus_of W.view self.old)) }
+        ensures err { OnErr result (StandsAs W.view self.old self.new) }
     {
+        self.bench.down(reason)?;
+        self.bench.show_lanes();
         self.marks.down = true;
-        Label {
-            kind,
-            from: NOWHERE,
-            to: NOWHERE,
-            terms: Items::new(alloc),
-        }
+        Ok(())
+    }
+
+    /// No process is left: the bus goes down by a step of its own.
+    fn finish_bus(&mut self, alloc: Global) -> Result<Label, NoMemory>
+        requires { IsSound W.view self.old }
+        ensures sound { IsSound W.view self.new }
+        ensures origin { self.new.origin ≡ self.old.origin }
+        ensures bus { OnOk result (bus_of W.view self.new ≡ went_down finish_reason (bus_of W.view self.old)) }
+        ensures label { IfOk result (λ label. label ≡ record { kind = LabelKind.Finish; from = nowhere; to = nowhere; terms = [] }) }
+        ensures err { OnErr result (bus_of W.view self.new ≡ bus_of W.view self.old) }
+    {
+        self.go_down(&finish_reason(alloc)?)?;
+        Ok(end_label(alloc, LabelKind::Finish))
+    }
+
+    /// No process can do anything, and no more ticks come: likewise.
+    fn halt_bus(&mut self, alloc: Global) -> Result<Label, NoMemory>
+        requires { IsSound W.view self.old }
+        ensures sound { IsSound W.view self.new }
+        ensures origin { self.new.origin ≡ self.old.origin }
+        ensures bus { OnOk result (bus_of W.view self.new ≡ went_down halt_reason (bus_of W.view self.old)) }
+        ensures label { IfOk result (λ label. label ≡ record { kind = LabelKind.Halt; from = nowhere; to = nowhere; terms = [] }) }
+        ensures err { OnErr result (bus_of W.view self.new ≡ bus_of W.view self.old) }
+    {
+        self.go_down(&halt_reason(alloc)?)?;
+        Ok(end_label(alloc, LabelKind::Halt))
     }
 
     /// A tick passes: all processes age. This takes no memory.
@@ -553,30 +631,97 @@ impl<W: Walker> LiveBus<W> {
         self.aged = true;
     }
 
-    /// Takes an input, or drops it: what became of it. This takes no memory.
-    pub fn feed(&mut self, input: &Input) -> Reply
+    /// Takes an input, or drops it: what became of it. Only a line takes memory.
+    pub fn feed(&mut self, alloc: Global, input: &Input) -> Result<Reply, NoMemory>
         requires sound { IsSound W.view self.old }
         requires few { self.old.ticks < 4000000 }
-        ensures reply { result ≡ (fed (bus_of W.view self.old) input.now).reply }
+        requires tools { self.old.bench.next_tool ≤ most_tools }
+        requires shape { IsInputInShape input.now }
+        ensures reply { IfOk result (λ reply. reply ≡ (fed (bus_of W.view self.old) input.now).reply) }
         ensures sound { IsSound W.view self.new }
         ensures origin { self.new.origin ≡ self.old.origin }
-        ensures bus { bus_of W.view self.new ≡ (fed (bus_of W.view self.old) input.now).bus }
+        ensures bus { OnOk result (bus_of W.view self.new ≡ (fed (bus_of W.view self.old) input.now).bus) }
+        ensures calm { takes_memory input.now ≡ false → OnErr result ⊥ }
+        ensures err { OnErr result (bus_of W.view self.new ≡ bus_of W.view self.old) }
     {
         if self.marks.down {
-            return Reply::Dropped(Why::Down);
+            return Ok(Reply::Dropped(Why::Down));
         }
         match input {
             Input::Tick => {
                 self.tick();
-                Reply::Took
+                Ok(Reply::Took)
             }
             Input::NoTicks => {
                 self.marks.no_ticks = true;
-                Reply::Took
+                Ok(Reply::Took)
             }
-            // No lane is ever up.
-            Input::Line(_, _) | Input::Gone(_) | Input::Cut(_) => Reply::Dropped(Why::NotLive),
+            Input::Line(lane, line) => self.put_line(alloc, *lane, line),
+            Input::Gone(lane) => Ok(self.lose(*lane)),
+            Input::Cut(lane) => Ok(self.cut(*lane)),
         }
+    }
+
+    /// The tool of a lane has put a line.
+    fn put_line(&mut self, alloc: Global, lane: u8, line: &ToolLine) -> Result<Reply, NoMemory>
+        requires sound { IsSound W.view self.old }
+        requires tools { self.old.bench.next_tool ≤ most_tools }
+        requires lane { IsLane lane }
+        ensures reply { IfOk result (λ reply. reply ≡ (took (bus_of W.view self.old) (Input.Line lane line.now)).reply) }
+        ensures sound { IsSound W.view self.new }
+        ensures origin { self.new.origin ≡ self.old.origin }
+        ensures bus { OnOk result (bus_of W.view self.new ≡ (took (bus_of W.view self.old) (Input.Line lane line.now)).bus) }
+        ensures err { OnErr result (bus_of W.view self.new ≡ bus_of W.view self.old) }
+    {
+        let declared = is_declared(self.origin.program.tools.as_slice(), line);
+        let line = line.copy(alloc)?;
+        let reply = self.bench.line(lane, line, declared)?;
+        self.bench.show_lanes();
+        Ok(reply)
+    }
+
+    /// The tool of a lane has ended. This takes no memory.
+    fn lose(&mut self, lane: u8) -> Reply
+        requires sound { IsSound W.view self.old }
+        requires lane { IsLane lane }
+        ensures reply { result ≡ (took (bus_of W.view self.old) (Input.Gone lane)).reply }
+        ensures sound { IsSound W.view self.new }
+        ensures origin { self.new.origin ≡ self.old.origin }
+        ensures bus { bus_of W.view self.new ≡ (took (bus_of W.view self.old) (Input.Gone lane)).bus }
+    {
+        let reply = self.bench.gone(lane);
+        self.bench.show_lanes();
+        reply
+    }
+
+    /// What was handed out on a lane couldn't be put. This takes no memory.
+    fn cut(&mut self, lane: u8) -> Reply
+        requires sound { IsSound W.view self.old }
+        requires lane { IsLane lane }
+        ensures reply { result ≡ (took (bus_of W.view self.old) (Input.Cut lane)).reply }
+        ensures sound { IsSound W.view self.new }
+        ensures origin { self.new.origin ≡ self.old.origin }
+        ensures bus { bus_of W.view self.new ≡ (took (bus_of W.view self.old) (Input.Cut lane)).bus }
+    {
+        let reply = self.bench.cut(lane);
+        self.bench.show_lanes();
+        reply
+    }
+
+    /// Takes what is to be handed out next on a lane, twice. This takes no memory.
+    pub fn hand_out(&mut self, lane: u8) -> Handout
+        requires sound { IsSound W.view self.old }
+        requires lane { IsLane lane }
+        requires some { IsSome (next_out lane self.old.bench) }
+        ensures given { next_out lane self.old.bench ≡ Some result.given }
+        ensures logged { next_out lane self.old.bench ≡ Some result.logged }
+        ensures sound { IsSound W.view self.new }
+        ensures origin { self.new.origin ≡ self.old.origin }
+        ensures bus { bus_of W.view self.new ≡ taken_out lane (bus_of W.view self.old) }
+    {
+        let handout = self.bench.take_handout(lane);
+        self.bench.show_lanes();
+        handout
     }
 }
 
@@ -587,7 +732,7 @@ fn action_size(action: &Action) -> usize
     match action {
         Action::Own(own) => own_size(own),
         Action::Send(terms) | Action::Notify(terms) => total_size(terms.as_slice()),
-        Action::Receive(_) | Action::TakeNote(_) => 0,
+        Action::Receive(_) | Action::TakeNote(_) | Action::Speak(_) => 0,
     }
 }
 
@@ -596,7 +741,7 @@ fn own_size(own: &OwnAction) -> usize
 {
     match own {
         OwnAction::Set(values, _) => total_size(values.as_slice()),
-        OwnAction::Print(text) => size(text),
+        OwnAction::Print(text) | OwnAction::Shutdown(text) => size(text),
         OwnAction::Create(_, _, _) => 1,
         OwnAction::Tau
         | OwnAction::NoNote(_)

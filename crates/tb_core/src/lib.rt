@@ -8,11 +8,12 @@ mod inboxes;
 mod looking;
 mod machine;
 mod opening;
+mod speaking;
 #[cfg(test)]
 mod tests;
 #[cfg(test)]
 mod tick_tests;
 mod ticking;
 
-pub use answers::{CoreFault, Stepped};
+pub use answers::{CoreFault, Stepped, TakeOut};
 pub use machine::Core;

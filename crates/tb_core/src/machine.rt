@@ -1,22 +1,25 @@
-ghost use Rattle.std.specs.Prelude.{◌≡◌, ◌≤◌, ◌<◌, ◌+◌, ◌↔◌, ◌∷◌, [], ◌++◌, length, IsTrue, IfOk, OnOk, OnErr, IsErrOf, true, false, if◌then◌else◌};
+ghost use Rattle.std.specs.Prelude.{◌≡◌, IsSome, Some, option_map, ◌≤◌, ◌<◌, ◌+◌, ◌↔◌, ◌∷◌, [], ◌++◌, length, IsTrue, IfOk, OnOk, OnErr, IsErrOf, true, false, if◌then◌else◌};
 ghost use Rattle.tb_log.specs.Limits.{has_room};
-ghost use Rattle.tb_log.specs.Shapes.{IsInputInShape};
+ghost use Rattle.tb_log.specs.Shapes.{IsInputInShape, IsLane};
+ghost use Rattle.tb_tools.specs.Lanes.{lane_at, lane_state};
+ghost use Rattle.tb_tools.specs.Finding.{first_out, next_out};
 ghost use Rattle.tb_bus.specs.Buses.{origin_of, start};
-ghost use Rattle.tb_bus.specs.Traces.{IsTrace, fed};
+ghost use Rattle.tb_bus.specs.Traces.{IsTrace, fed, taken_out};
 ghost use Rattle.tb_bus.specs.Steps.{steps, apply, label_of};
 ghost use Rattle.tb_bus.specs.Views.{IsCandidateIn};
-ghost use Rattle.tb_core.specs.Cores.{HandIn, MakeStep, started, bus_now, Logs, entries_of, is_full, IsStep, Stays, has_any, ends_quiet, takes_memory};
+ghost use Rattle.tb_core.specs.Cores.{HandIn, MakeStep, HandOut, IsTakenOut, started, bus_now, Logs, entries_of, is_full, IsStep, Stays, has_any, ends_quiet, takes_memory};
 ghost use Rattle.tb_core.specs.LiveBuses.{bus_of, move_in, scene_in, AreFresh, IsSound, StandsAs};
 
-use crate::answers::{CoreFault, Stepped};
+use crate::answers::{CoreFault, Stepped, TakeOut};
 use crate::bus::LiveBus;
 use std::alloc::Global;
 use std::marker::Model;
 use tb_algebra::Walker;
 use tb_body::Program;
 use tb_bus::{Candidate, Origin};
-use tb_log::{Entry, Input, Log, Reply, input_size};
-use tb_terms::NoMemory;
+use tb_log::{Entry, Input, Log, Out, Reply, input_size, out_size};
+use tb_terms::{Items, NoMemory, Text, Texts};
+use tb_tools::{Handout, LaneState};
 
 /// A bus with its log: each call makes at most one event, and logs it. Contracts see where it was
 /// started, its log, whether it was stopped, and its spare memory, and nothing of the walkers.
@@ -42,12 +45,24 @@ impl<W: Walker> Model for Core<W> {
 }
 
 impl<W: Walker> Core<W> {
-    /// The opening bus of a program, with an empty log for at most so many entries, of which there may be 4,000,000.
-    pub fn start(alloc: Global, program: Program, limit: u32) -> Result<Core<W>, NoMemory>
-        requires { limit ≤ 4000000 }
-        ensures { IfOk result (Stays (started (origin_of program limit))) }
+    /// The opening bus of a program, whose first lanes are started with these commands, with an empty log for at most so
+    /// many entries, of which there may be 4,000,000.
+    pub fn start(
+        alloc: Global,
+        program: Program,
+        connects: &Texts,
+        limit: u32,
+    ) -> Result<Core<W>, NoMemory>
+        requires connects { length connects.now ≤ 16 }
+        requires limit { limit ≤ 4000000 }
+        ensures { IfOk result (Stays (started (origin_of program connects.now limit))) }
     {
-        let bus = LiveBus::open(alloc, Origin { program, limit })?;
+        let origin = Origin {
+            program,
+            connects: copy_texts(alloc, connects)?,
+            limit,
+        };
+        let bus = LiveBus::open(alloc, origin)?;
         Ok(Core {
             alloc,
             bus,
@@ -121,7 +136,7 @@ impl<W: Walker> Core<W> {
         if self.stopped {
             return Err(CoreFault::Stopped);
         }
-        let reply = hand(&mut self.bus, &mut self.log, input)?;
+        let reply = hand(self.alloc, &mut self.bus, &mut self.log, input)?;
         Ok(reply)
     }
 
@@ -150,13 +165,70 @@ impl<W: Walker> Core<W> {
             }
         }
     }
+
+    /// Takes what is to be handed out next on a lane, and logs it. Where nothing is, it logs nothing. With spare memory for
+    /// an entry it takes none.
+    pub fn take_out(&mut self, lane: u8) -> Result<TakeOut, CoreFault>
+        requires { IsLane lane }
+        ensures found { IfOk result (IsTakenOut self.old lane) }
+        ensures logs { IfOk result (λ _. Logs self.old self.new (entries_of self.old (HandOut lane))) }
+        ensures stopped { IsErrOf result CoreFault.Stopped ↔ IsTrue self.old.stopped }
+        ensures full { IsErrOf result CoreFault.Full → is_full self.old (HandOut lane) ≡ true }
+        ensures room { IfOk result (λ _. is_full self.old (HandOut lane) ≡ false) }
+        ensures calm { 0 < self.old.spare → IsErrOf result CoreFault.NoMemory → ⊥ }
+        ensures err { OnErr result (Stays self.old self.new) }
+    {
+        if self.stopped {
+            return Err(CoreFault::Stopped);
+        }
+        let Some(out) = self.bus.bench.next_out(lane) else {
+            return Ok(nothing_left(self.bus.marks.down));
+        };
+        let out_size = out_size(out);
+        Ok(TakeOut::Out(take(&mut self.bus, &mut self.log, lane, out_size)?))
+    }
+
+    /// The state of a lane.
+    pub fn lane_state(&self, lane: u8) -> LaneState
+        requires { IsLane lane }
+        ensures { result ≡ lane_state (lane_at lane (bus_now self.now).bench) }
+    {
+        self.bus.bench.lane_state(lane)
+    }
+
+    /// The lowest lane on which something is to be handed out.
+    pub fn first_out(&self) -> Option<u8>
+        ensures lane { result ≡ first_out (bus_now self.now).bench }
+        ensures within { ForSome result IsLane }
+        ensures some { ForSome result (λ lane. IsSome (next_out lane (bus_now self.now).bench)) }
+    {
+        self.bus.bench.first_out()
+    }
+}
+
+/// What is answered where nothing is to be handed out.
+fn nothing_left(down: bool) -> TakeOut
+    ensures { result ≡ (if down then TakeOut.Closed else TakeOut.Nothing) }
+{
+    if down {
+        TakeOut::Closed
+    } else {
+        TakeOut::Nothing
+    }
 }
 
 /// Logs an input with what becomes of it, and receives it. All memory is taken before anything changes.
-fn hand<W: Walker>(bus: &mut LiveBus<W>, log: &mut Log, input: Input) -> Result<Reply, CoreFault>
+fn hand<W: Walker>(
+    alloc: Global,
+    bus: &mut LiveBus<W>,
+    log: &mut Log,
+    input: Input,
+) -> Result<Reply, CoreFault>
     requires sound { IsSound W.view bus.old }
     requires ticks { bus.old.ticks ≤ length log.old.entries }
+    requires tools { bus.old.bench.next_tool ≤ 1 + length log.old.entries }
     requires few { log.old.limit ≤ 4000000 }
+    requires shape { IsInputInShape input }
     ensures sound { IsSound W.view bus.new }
     ensures origin { bus.new.origin ≡ bus.old.origin }
     ensures limit { log.new.limit ≡ log.old.limit }
@@ -167,16 +239,60 @@ fn hand<W: Walker>(bus: &mut LiveBus<W>, log: &mut Log, input: Input) -> Result<
     ensures running { IsErrOf result CoreFault.Stopped → ⊥ }
     ensures full { IsErrOf result CoreFault.Full → has_room log.old.limit log.old.entries (Entry.Fed input (fed (bus_of W.view bus.old) input).reply) ≡ false }
     ensures room { OnOk result (has_room log.old.limit log.old.entries (Entry.Fed input (fed (bus_of W.view bus.old) input).reply) ≡ true) }
-    ensures calm { 0 < log.old.spare → IsErrOf result CoreFault.NoMemory → ⊥ }
+    ensures calm { takes_memory input ≡ false → 0 < log.old.spare → IsErrOf result CoreFault.NoMemory → ⊥ }
     ensures err { OnErr result ((bus_of W.view bus.new ≡ bus_of W.view bus.old) × (log.new.entries ≡ log.old.entries) × (log.old.spare ≤ log.new.spare)) }
 {
     if !log.room_for_size(input_size(&input)) {
         return Err(CoreFault::Full);
     }
     log.reserve(1)?;
-    let reply = bus.feed(&input);
+    let reply = bus.feed(alloc, &input)?;
     log.push(Entry::Fed(input, reply));
     Ok(reply)
+}
+
+/// Logs what is handed out next on a lane, and takes it. All memory is taken before anything changes.
+fn take<W: Walker>(
+    bus: &mut LiveBus<W>,
+    log: &mut Log,
+    lane: u8,
+    out_size: usize,
+) -> Result<Out, CoreFault>
+    requires sound { IsSound W.view bus.old }
+    requires lane { IsLane lane }
+    requires some { IsSome (next_out lane bus.old.bench) }
+    requires size { (out : Out) → next_out lane bus.old.bench ≡ Some out → out_size ≡ min (out_size out) MAX }
+    ensures sound { IsSound W.view bus.new }
+    ensures origin { bus.new.origin ≡ bus.old.origin }
+    ensures limit { log.new.limit ≡ log.old.limit }
+    ensures out { IfOk result (λ out. next_out lane bus.old.bench ≡ Some out) }
+    ensures log { IfOk result (λ out. log.new.entries ≡ log.old.entries ++ Entry.Gave lane out ∷ []) }
+    ensures spare { OnOk result (log.old.spare ≤ log.new.spare + 1) }
+    ensures bus { OnOk result (bus_of W.view bus.new ≡ taken_out lane (bus_of W.view bus.old)) }
+    ensures running { IsErrOf result CoreFault.Stopped → ⊥ }
+    ensures full { IsErrOf result CoreFault.Full → (out : Out) → next_out lane bus.old.bench ≡ Some out → has_room log.old.limit log.old.entries (Entry.Gave lane out) ≡ false }
+    ensures room { IfOk result (λ out. has_room log.old.limit log.old.entries (Entry.Gave lane out) ≡ true) }
+    ensures calm { 0 < log.old.spare → IsErrOf result CoreFault.NoMemory → ⊥ }
+    ensures err { OnErr result ((bus_of W.view bus.new ≡ bus_of W.view bus.old) × (log.new.entries ≡ log.old.entries) × (log.old.spare ≤ log.new.spare)) }
+{
+    if !log.room_for_size(out_size) {
+        return Err(CoreFault::Full);
+    }
+    log.reserve(1)?;
+    let Handout { given, logged } = bus.hand_out(lane);
+    log.push(Entry::Gave(lane, logged));
+    Ok(given)
+}
+
+/// The same texts in memory of their own.
+fn copy_texts(alloc: Global, texts: &Texts) -> Result<Texts, NoMemory>
+    ensures { IfOk result (λ copies. copies ≡ texts.now) }
+{
+    let mut copies = Items::new(alloc);
+    for text in texts.as_slice() {
+        copies.push(text.copy(alloc)?)?;
+    }
+    Ok(copies)
 }
 
 /// Logs a move that was found, and makes it. All memory is taken before anything changes.
@@ -189,6 +305,7 @@ fn make<W: Walker>(
     requires sound { IsSound W.view bus.old }
     requires fresh { AreFresh bus.old.living.items }
     requires next { bus.old.marks.next_number ≤ 10001 + length log.old.entries }
+    requires tools { bus.old.bench.next_tool ≤ 1 + length log.old.entries }
     requires few { log.old.limit ≤ 4000000 }
     requires found { IsCandidateIn (scene_in bus.old) candidate }
     ensures sound { IsSound W.view bus.new }
