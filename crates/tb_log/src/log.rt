@@ -134,7 +134,8 @@ fn tool_line_size(line: &ToolLine) -> usize
     }
 }
 
-fn out_size(out: &Out) -> usize
+/// The size of what is handed out, or the greatest usize where it is greater.
+pub fn out_size(out: &Out) -> usize
     ensures { result ≡ min (out_size out.now) MAX }
 {
     match out {
