@@ -120,18 +120,46 @@ fn action_in<W: Walker>(
             Some(patterns) => Ok(Some(Action::Own(OwnAction::Unsubscribe(patterns)))),
             None => Ok(None),
         },
-        Act::Delta
-        | Act::Execute { .. }
-        | Act::RecConnect { .. }
-        | Act::RecDisconnectAny { .. }
-        | Act::RecDisconnect(_)
-        | Act::SndEval(_, _)
-        | Act::RecValue(_, _)
-        | Act::SndDo(_, _)
-        | Act::RecEvent(_, _)
-        | Act::SndAckEvent(_, _)
-        | Act::SndTerminate(_, _)
-        | Act::Shutdown(_) => Ok(None),
+        &Act::Execute { tool, slot } => Ok(Some(Action::Speak(ToolAction::Execute(tool, slot)))),
+        &Act::RecConnect { tool, slot } => {
+            Ok(Some(Action::Speak(ToolAction::Connect(tool, slot))))
+        }
+        &Act::RecDisconnectAny { tool, slot } => {
+            Ok(Some(Action::Speak(ToolAction::DisconnectAny(tool, slot))))
+        }
+        Act::RecDisconnect(_) => match walker.sent(alloc, plan, k)? {
+            Some(terms) => Ok(Some(Action::Speak(ToolAction::Disconnect(terms)))),
+            None => Ok(None),
+        },
+        Act::SndEval(_, _) => match walker.sent(alloc, plan, k)? {
+            Some(terms) => Ok(Some(Action::Speak(ToolAction::Eval(terms)))),
+            None => Ok(None),
+        },
+        Act::RecValue(_, _) => match about(alloc, plan, walker, k)? {
+            Some((terms, patterns)) => Ok(Some(Action::Speak(ToolAction::TakeValue(terms, patterns)))),
+            None => Ok(None),
+        },
+        Act::SndDo(_, _) => match walker.sent(alloc, plan, k)? {
+            Some(terms) => Ok(Some(Action::Speak(ToolAction::Do(terms)))),
+            None => Ok(None),
+        },
+        Act::RecEvent(_, _) => match about(alloc, plan, walker, k)? {
+            Some((terms, patterns)) => Ok(Some(Action::Speak(ToolAction::TakeEvent(terms, patterns)))),
+            None => Ok(None),
+        },
+        Act::SndAckEvent(_, _) => match walker.sent(alloc, plan, k)? {
+            Some(terms) => Ok(Some(Action::Speak(ToolAction::Acknowledge(terms)))),
+            None => Ok(None),
+        },
+        Act::SndTerminate(_, _) => match walker.sent(alloc, plan, k)? {
+            Some(terms) => Ok(Some(Action::Speak(ToolAction::Terminate(terms)))),
+            None => Ok(None),
+        },
+        Act::Shutdown(_) => match walker.sent(alloc, plan, k)? {
+            Some(reasons) => shutdown_action(reasons),
+            None => Ok(None),
+        },
+        Act::Delta => Ok(None),
     }
 }
 

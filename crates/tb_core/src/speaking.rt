@@ -94,3 +94,131 @@ fn seen(kind: LabelKind, shown: Terms, binds: Binds) -> Done
 {
     Done { kind, shown, binds }
 }
+
+/// The tool that was bound is seen.
+fn bound(alloc: Global, kind: LabelKind, binds: Binds) -> Result<Done, NoMemory>
+    ensures { IfOk result (λ done. done ≡ record { kind = kind; shown = values_in binds; binds = binds }) }
+{
+    let mut shown = Items::new(alloc);
+    for bind in binds.as_slice() {
+        shown.push(bind.value.copy(alloc)?)?;
+    }
+    Ok(Done { kind, shown, binds })
+}
+
+/// Starts a lane with the command of a kind, and a new tool of it.
+fn execute(kinds: &[Tool], bench: &mut Bench, tool: u32, lane: u8) -> Result<(), NoMemory>
+    requires lane { IsLane lane }
+    requires can { IsTrue (can_execute lane bench.old) }
+    requires command { IsSome (kind_command (record { body = None; kinds = kinds.now; bench = bench.old }) tool) }
+    requires tools { bench.old.next_tool ≤ most_tools }
+    ensures ok { OnOk result (bench.new ≡ executed (kind_name (record { body = None; kinds = kinds.now; bench = bench.old }) tool)
+        (command_or_none (kind_command (record { body = None; kinds = kinds.now; bench = bench.old }) tool)) lane bench.old) }
+    ensures err { OnErr result (bench.new ≡ bench.old) }
+{
+    let kind = &kinds[tool as usize];
+    match &kind.command {
+        Some(command) => {
+            bench.execute(lane, &kind.name, command)?;
+            Ok(())
+        }
+        None => unreachable!(),
+    }
+}
+
+/// The second of these terms.
+fn second(alloc: Global, terms: &Terms) -> Result<Option<Term>, NoMemory>
+    ensures { IfOk result (λ term. term ≡ slice_get (behind terms.now) 0) }
+{
+    match terms.get(1) {
+        Some(term) => Ok(Some(term.copy(alloc)?)),
+        None => Ok(None),
+    }
+}
+
+/// These terms, and behind them the value of the tool of a lane, which is taken.
+fn with_value(
+    alloc: Global,
+    terms: Terms,
+    bench: &mut Bench,
+    lane: u8,
+) -> Result<Terms, NoMemory>
+    requires lane { IsLane lane }
+    requires can { IsTrue (can_take_value lane bench.old) }
+    ensures shown { IfOk result (λ shown. shown ≡ terms ++ values_on lane bench.old) }
+    ensures ok { OnOk result (bench.new ≡ value_taken lane bench.old) }
+    ensures err { OnErr result (bench.new ≡ bench.old) }
+{
+    let mut shown = Vec::with_capacity(alloc, terms.len() + 1)?;
+    for term in terms {
+        shown.push_reserved(term);
+    }
+    shown.push_reserved(bench.value(lane));
+    Ok(Items::from_vec(shown))
+}
+
+/// These terms, and behind them what an event on a lane carries.
+fn with_event(
+    alloc: Global,
+    mut terms: Terms,
+    bench: &Bench,
+    lane: u8,
+    event: usize,
+) -> Result<Terms, NoMemory>
+    requires lane { IsLane lane }
+    requires can { IsTrue (can_take_event event lane bench.now) }
+    ensures { IfOk result (λ shown. shown ≡ terms ++ event_at event (events_at lane bench.now)) }
+{
+    if let Some(carried) = bench.events(lane).get(event) {
+        for term in carried.as_slice() {
+            terms.push(term.copy(alloc)?)?;
+        }
+    }
+    Ok(terms)
+}
+
+/// How large the terms are that are seen of an exchange, or the greatest usize where that is greater; 0 where the action
+/// doesn't speak with a tool.
+pub fn seen_size(bench: &Bench, action: &Action, exchange: &Exchange) -> usize
+    requires { IsLane exchange.now.lane }
+    ensures { IfSpeaks action.now (λ does. (kinds : List Tool) → result ≡ min (terms_size (terms_seen (record { body = None; kinds = kinds; bench = bench.now }) does exchange.now)) MAX) }
+{
+    match action {
+        Action::Speak(does) => exchange_size(bench, does, exchange),
+        Action::Own(_)
+        | Action::Send(_)
+        | Action::Receive(_)
+        | Action::Notify(_)
+        | Action::TakeNote(_) => 0,
+    }
+}
+
+fn exchange_size(bench: &Bench, does: &ToolAction, exchange: &Exchange) -> usize
+    requires { IsLane exchange.now.lane }
+    ensures { (kinds : List Tool) → result ≡ min (terms_size (terms_seen (record { body = None; kinds = kinds; bench = bench.now }) does.now exchange.now)) MAX }
+{
+    match does {
+        ToolAction::Execute(_, _) | ToolAction::Connect(_, _) | ToolAction::DisconnectAny(_, _) => {
+            values_size(exchange.binds.as_slice())
+        }
+        ToolAction::Disconnect(terms)
+        | ToolAction::Eval(terms)
+        | ToolAction::Do(terms)
+        | ToolAction::Acknowledge(terms)
+        | ToolAction::Terminate(terms) => total_size(terms.as_slice()),
+        ToolAction::TakeValue(terms, _) => total_size(terms.as_slice())
+            .saturating_add(answer_size(bench.answer(exchange.lane))),
+        ToolAction::TakeEvent(terms, _) => total_size(terms.as_slice())
+            .saturating_add(event_size(bench, exchange.lane, exchange.event)),
+    }
+}
+
+/// Whether a line by which a tool connects names a kind that is declared.
+pub fn is_declared(kinds: &[Tool], line: &ToolLine) -> bool
+    ensures { result ≡ declares kinds.now line.now }
+{
+    match line {
+        ToolLine::Connect(name) => kinds.iter().any(|kind| kind.name.is_same(name)),
+        ToolLine::Value(_) | ToolLine::Event(_) | ToolLine::Disconnect | ToolLine::Bad => false,
+    }
+}
