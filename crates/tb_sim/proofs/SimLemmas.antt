@@ -1,20 +1,22 @@
 -- The turns of a simulation, by what each call of a core logged.
-use Rattle.std.proofs.Common.{◌≡◌, ℕ, zero, suc, ◌+◌, ◌-◌, ◌<◌, ◌≤◌, ◌==◌, ◌&&◌, List, [], ◌∷◌, ◌++◌, length, drop, slice_get, refl, ap, sym, ◌∙◌, subst, arith, Option, Some, Bool, true, false, append-nil, append_assoc, eq-eqb, length-append}
+use Rattle.std.proofs.Common.{◌≡◌, ℕ, zero, suc, ◌+◌, ◌-◌, ◌<◌, ◌≤◌, ◌==◌, ◌&&◌, List, [], ◌∷◌, ◌++◌, length, drop, slice_get, refl, ap, sym, ◌∙◌, subst, arith, Option, Some, None, IsSome, Bool, true, false, nat_le, append-nil, append_assoc, eq-eqb, length-append}
 use Rattle.std.specs.Prelude.{option_to_list}
-use Rattle.std.proofs.lemmas.Bool.{eqb-true, not-true, not-false}
+use Rattle.std.proofs.lemmas.Bool.{eqb-true, not-true, not-false, leb-true}
 use Rattle.tb_bus.specs.declared.origin.Origin.{Origin}
 use Rattle.tb_bus.specs.Buses.{Bus, start}
 use Rattle.tb_bus.specs.Steps.{Step, steps}
-use Rattle.tb_bus.specs.Traces.{replay, fed}
+use Rattle.tb_bus.specs.Traces.{replay, fed, taken_out}
+use Rattle.tb_tools.specs.Finding.{first_out, next_out}
 use Rattle.tb_sim.specs.Simulation.{Limits, Sim, Ends, turn, input_turn, outside_turn, limits_of, IsSim, IsSimPrefix, sim_start}
-use Rattle.tb_sim.specs.Turns.{SimLeads, sim_of, word_left, still_left, IsWithin, LedOn, LeftWithin, HandsIn, HandsInNext, Goes}
-use Rattle.tb_core.specs.Cores.{CoreState, HandIn, MakeStep, bus_now, Logs, Stays, entries_of, would_log, lacks_room, is_full, step_entry, IsStep, has_any, ends_quiet, says_quiet}
+use Rattle.tb_sim.specs.Turns.{SimLeads, sim_of, entries_left, IsLonger, IsWithin, LedOn, LeftWithin, HandsIn, HandsInNext, HandsOut, Goes}
+use Rattle.tb_core.specs.Cores.{CoreState, HandIn, HandOut, MakeStep, bus_now, Logs, Stays, entries_of, would_log, lacks_room, is_full, step_entry, out_entry, IsStep, has_any, ends_quiet, says_quiet}
 use Rattle.tb_core.specs.declared.answers.Stepped.TheVariants as stepped
-use Rattle.tb_log.specs.Limits.{has_room}
+use Rattle.tb_log.specs.Limits.{has_room, log_size, entry_size, most_size}
+use Rattle.tb_log.specs.declared.entry.Out.{Out}
 use Rattle.tb_log.specs.declared.entry.Input.{Input}
 use Rattle.tb_log.specs.declared.entry.Input.TheVariants.{NoTicks}
 use Rattle.tb_log.specs.declared.entry.Entry.{Entry}
-use Rattle.tb_log.specs.declared.entry.Entry.TheVariants.{Did, Quiet, Fed}
+use Rattle.tb_log.specs.declared.entry.Entry.TheVariants.{Did, Quiet, Fed, Gave}
 use Rattle.tb_sim.specs.declared.ends.Progress.{Progress}
 use Rattle.tb_sim.specs.declared.ends.SimEnd.{SimEnd}
 use Rattle.tb_sim.specs.declared.ends.SimEnd.TheVariants as end
@@ -22,7 +24,7 @@ use Rattle.tb_sim.specs.declared.ends.Turned.{Turned}
 use Rattle.tb_sim.specs.declared.ends.Turned.TheVariants as turned
 use Rattle.tb_terms.proofs.SameLemmas.{both-true}
 use Rattle.tb_bus.proofs.TraceLemmas.{replay-append, after-first}
-use Rattle.tb_sim.proofs.SimTurns.{steps-up, turn-limit, turn-made, turn-down, turn-says-quiet, turn-outside, makes-room, makes-full, step-no_ticks, no_ticks-quiet, fed-no_ticks}
+use Rattle.tb_sim.proofs.SimTurns.{IsIdle, steps-up, turn-hands, turn-limit, turn-made, turn-down, turn-says-quiet, turn-outside, makes-room, makes-full}
 
 -- where a core's log leads after a call
 logs-bus : (old new : CoreState) (entries : List Entry) → Logs old new entries → bus_now new ≡ replay (bus_now old) entries
@@ -100,13 +102,13 @@ any-first [] e = absurd cc
 any-first (step ∷ rest) e = (step, rest, refl)
 
 -- at the limit of steps, with a step possible, the simulation ends
-limit-ends : (feed : List Input) (so_far : Progress) (limits : Limits) (core : CoreState) (at : Bool) → at ≡ (so_far.steps == limits.steps && has_any (steps (bus_now core))) → at ≡ true → turn limits (sim_of feed core so_far) ≡ Ends end.Steps
+limit-ends : (feed : List Input) (so_far : Progress) (limits : Limits) (core : CoreState) (at : Bool) → IsIdle (bus_now core) → at ≡ (so_far.steps == limits.steps && has_any (steps (bus_now core))) → at ≡ true → turn limits (sim_of feed core so_far) ≡ Ends end.Steps
 unfolding sim_of
-limit-ends feed so_far limits core at is h =
+limit-ends feed so_far limits core at idle is h =
     let t = both-true (so_far.steps == limits.steps) (has_any (steps (bus_now core))) (sym is ∙ h) in
     let e : so_far.steps ≡ limits.steps = eqb-true so_far.steps limits.steps t.0 in
     let s = any-first (steps (bus_now core)) t.1 in
-    turn-limit limits (sim_of feed core so_far) s.0 s.1 (omega arith) s.2
+    turn-limit limits (sim_of feed core so_far) s.0 s.1 idle (omega arith) s.2
 
 slice_get-push : (log : List Entry) (entry : Entry) → slice_get (log ++ entry ∷ []) (length log) ≡ Some entry
 slice_get-push [] entry = refl
@@ -162,19 +164,71 @@ led-on most feed a b c m n k p q = record {
       (subst (λ (o : Origin). SimLeads (limits_of most o) (sim_of feed b n) q.entries (sim_of feed c k)) p.origin q.turns);
 }
 
--- one step fewer is left
-step-fewer : (most : ℕ) (feed : List Input) (old new : CoreState) (so_far : Progress) → so_far.steps < most → (bus_now new).no_ticks ≡ (bus_now old).no_ticks →
-    still_left most feed new (record so_far { steps = so_far.steps + 1 }) < still_left most feed old so_far
-step-fewer most feed old new so_far less same =
-    let words : word_left (bus_now new).no_ticks ≡ word_left (bus_now old).no_ticks = ap word_left same in
-    omega (arith, words, less)
+-- what was logged makes the log longer, within its limit
+logs-longer : (old new : CoreState) (entry : Entry) → Logs old new (entry ∷ []) → has_room old.origin.limit old.log entry ≡ true → IsLonger old new
+logs-longer old new entry l room =
+    let long : length new.log ≡ length (old.log ++ entry ∷ []) = ap (λ (log : List Entry). length log) l.log in
+    let one = length-append old.log (entry ∷ []) in
+    let within : length old.log + 1 ≤ old.origin.limit = leb-true (length old.log + 1) old.origin.limit (both-true (nat_le (length old.log + 1) old.origin.limit) (nat_le (log_size old.log + entry_size entry) most_size) room).0 in
+    record { more = omega (arith, long, one); within = omega (arith, long, one, within) }
+
+longer-then : (old mid new : CoreState) → mid.origin ≡ old.origin → IsLonger old mid → IsLonger mid new → IsLonger old new
+longer-then old mid new origin p q =
+    let limit : mid.origin.limit ≡ old.origin.limit = ap (λ (o : Origin). o.limit) origin in
+    let one = p.more in
+    let two = q.more in
+    let within = q.within in
+    record { more = omega (arith, one, two); within = omega (arith, within, limit) }
+
+-- fewer entries are left then
+pub left-fewer : (old new : CoreState) → new.origin ≡ old.origin → IsLonger old new → entries_left new < entries_left old
+left-fewer old new origin longer =
+    let limit : new.origin.limit ≡ old.origin.limit = ap (λ (o : Origin). o.limit) origin in
+    let more = longer.more in
+    let within = longer.within in
+    omega (arith, limit, more, within)
+
+-- One go: what was next on a lane was handed out.
+handed-on : (most : ℕ) (feed : List Input) (so_far : Progress) (old new : CoreState) (lane : ℕ) (out : Out) → IsWithin most feed so_far → first_out (bus_now old).bench ≡ Some lane → next_out lane (bus_now old).bench ≡ Some out →
+    Logs old new (Gave lane out ∷ []) → has_room old.origin.limit old.log (Gave lane out) ≡ true → Goes most feed old so_far new (turned.On so_far)
+unfolding sim_of
+handed-on most feed so_far old new lane out within first next l room =
+    let limits : Limits = limits_of most old.origin in
+    let left : List Input = drop so_far.inputs feed in
+    let after : Sim = record { bus = taken_out lane (bus_now old); log = old.log; steps_made = so_far.steps; quiet = false; left = left } in
+    let bus : bus_now new ≡ taken_out lane (bus_now old) = logs-bus old new (Gave lane out ∷ []) l in
+    let said : ends_quiet new.log ≡ false = ap ends_quiet l.log ∙ ends_quiet-push old.log (Gave lane out) in (
+      record {
+        origin = l.origin;
+        running = l.stopped;
+        entries = Gave lane out ∷ [];
+        log = l.log;
+        turns = (
+          record after { log = old.log ++ Gave lane out ∷ [] },
+          turn-hands limits (sim_of feed old so_far) lane out first next ∙ makes-room limits (sim_of feed old so_far) (Gave lane out) after room,
+          λ i. record { bus = bus i; log = l.log i; steps_made = so_far.steps; quiet = said i; left = left },
+        );
+      },
+      within,
+      said,
+      logs-longer old new (Gave lane out) l room,
+    )
+
+-- or the log had no room for it
+handed-full : (most : ℕ) (feed : List Input) (so_far : Progress) (old : CoreState) (lane : ℕ) (out : Out) → first_out (bus_now old).bench ≡ Some lane → next_out lane (bus_now old).bench ≡ Some out →
+    has_room old.origin.limit old.log (Gave lane out) ≡ false → turn (limits_of most old.origin) (sim_of feed old so_far) ≡ Ends end.Events
+unfolding sim_of
+handed-full most feed so_far old lane out first next room =
+    let limits : Limits = limits_of most old.origin in
+    let after : Sim = record { bus = taken_out lane (bus_now old); log = old.log; steps_made = so_far.steps; quiet = false; left = drop so_far.inputs feed } in
+    turn-hands limits (sim_of feed old so_far) lane out first next ∙ makes-full limits (sim_of feed old so_far) (Gave lane out) after room
 
 -- One go: the first step was made.
-pub goes-did : (most : ℕ) (feed : List Input) (so_far : Progress) (old new : CoreState) (at : Bool) → IsWithin most feed so_far → at ≡ (so_far.steps == most && has_any (steps (bus_now old))) → at ≡ false →
+pub goes-did : (most : ℕ) (feed : List Input) (so_far : Progress) (old new : CoreState) (at : Bool) → IsIdle (bus_now old) → IsWithin most feed so_far → at ≡ (so_far.steps == most && has_any (steps (bus_now old))) → at ≡ false →
     IsStep old stepped.Did → Logs old new (entries_of old MakeStep) → is_full old MakeStep ≡ false →
     Goes most feed old so_far new (turned.On (record so_far { steps = so_far.steps + 1 }))
 unfolding sim_of
-goes-did most feed so_far old new at within is below found logs room =
+goes-did most feed so_far old new at idle within is below found logs room =
     let step : Step = found.0 in
     let rest : List Step = found.1 in
     let e : steps (bus_now old) ≡ step ∷ rest = found.2 in
@@ -186,7 +240,7 @@ goes-did most feed so_far old new at within is below found logs room =
     let less = below-limit so_far.steps most (has_any (steps (bus_now old))) within.steps_made (ap has_any e) (sym is ∙ below) in
     let bus : bus_now new ≡ step.bus = logs-bus old new (Did step.label ∷ []) l ∙ after-first (bus_now old) step rest e in
     let said : ends_quiet new.log ≡ false = ap ends_quiet l.log ∙ ends_quiet-push old.log (Did step.label) in
-    let ticks : (bus_now new).no_ticks ≡ (bus_now old).no_ticks = ap (λ (b : Bus). b.no_ticks) bus ∙ step-no_ticks (bus_now old) step rest e in (
+    let has : has_room old.origin.limit old.log (Did step.label) ≡ true = would-room old (would_log old MakeStep) (Did step.label) would room in (
       record {
         origin = l.origin;
         running = l.stopped;
@@ -194,21 +248,20 @@ goes-did most feed so_far old new at within is below found logs room =
         log = l.log;
         turns = (
           record next { log = old.log ++ Did step.label ∷ [] },
-          turn-made limits (sim_of feed old so_far) step rest less e
-              ∙ makes-room limits (sim_of feed old so_far) (Did step.label) next (would-room old (would_log old MakeStep) (Did step.label) would room),
+          turn-made limits (sim_of feed old so_far) step rest idle less e ∙ makes-room limits (sim_of feed old so_far) (Did step.label) next has,
           λ i. record { bus = bus i; log = l.log i; steps_made = so_far.steps + 1; quiet = said i; left = left },
         );
       },
       record { steps_made = omega (arith, less); inputs_fed = within.inputs_fed },
       said,
-      step-fewer most feed old new so_far less ticks,
+      logs-longer old new (Did step.label) l has,
     )
 
 -- nothing was possible, and it said so
-led-said : (most : ℕ) (feed : List Input) (so_far : Progress) (old mid : CoreState) → ends_quiet old.log ≡ false → IsStep old stepped.Quiet → Logs old mid (entries_of old MakeStep) → is_full old MakeStep ≡ false →
-    LedOn most feed old so_far mid so_far × (ends_quiet mid.log ≡ true) × (bus_now mid ≡ bus_now old)
+led-said : (most : ℕ) (feed : List Input) (so_far : Progress) (old mid : CoreState) → IsIdle (bus_now old) → ends_quiet old.log ≡ false → IsStep old stepped.Quiet → Logs old mid (entries_of old MakeStep) → is_full old MakeStep ≡ false →
+    LedOn most feed old so_far mid so_far × (ends_quiet mid.log ≡ true) × (bus_now mid ≡ bus_now old) × IsLonger old mid
 unfolding sim_of
-led-said most feed so_far old mid said found logs room =
+led-said most feed so_far old mid idle said found logs room =
     let e : steps (bus_now old) ≡ [] = found.0 in
     let f : (bus_now old).down ≡ false = found.1 in
     let limits : Limits = limits_of most old.origin in
@@ -217,6 +270,7 @@ led-said most feed so_far old mid said found logs room =
     let would = would-quiet old e f said in
     let l : Logs old mid (Quiet ∷ []) = would-logs old mid (would_log old MakeStep) Quiet would logs in
     let bus : bus_now mid ≡ bus_now old = logs-bus old mid (Quiet ∷ []) l in
+    let has : has_room old.origin.limit old.log Quiet ≡ true = would-room old (would_log old MakeStep) Quiet would room in
     let quiet : ends_quiet mid.log ≡ true = ap ends_quiet l.log ∙ ends_quiet-push old.log Quiet in (
       record {
         origin = l.origin;
@@ -225,13 +279,13 @@ led-said most feed so_far old mid said found logs room =
         log = l.log;
         turns = (
           record next { log = old.log ++ Quiet ∷ [] },
-          turn-says-quiet limits (sim_of feed old so_far) e f said
-              ∙ makes-room limits (sim_of feed old so_far) Quiet next (would-room old (would_log old MakeStep) Quiet would room),
+          turn-says-quiet limits (sim_of feed old so_far) idle e f said ∙ makes-room limits (sim_of feed old so_far) Quiet next has,
           λ i. record { bus = bus i; log = l.log i; steps_made = so_far.steps; quiet = quiet i; left = left },
         );
       },
       quiet,
       bus,
+      logs-longer old mid Quiet l has,
     )
 
 -- What comes next from outside is this input: the turn that hands it in leaves the rest of the feed.
@@ -241,15 +295,16 @@ IsNextTurn most feed mid so_far input next =
 
 -- then the input was handed in
 led-fed : (most : ℕ) (feed : List Input) (so_far next : Progress) (mid new : CoreState) (input : Input) → IsNextTurn most feed mid so_far input next → next.steps ≡ so_far.steps →
-    ends_quiet mid.log ≡ true → steps (bus_now mid) ≡ [] → (bus_now mid).down ≡ false → Logs mid new (entries_of mid (HandIn input)) → is_full mid (HandIn input) ≡ false →
-    LedOn most feed mid so_far new next × (ends_quiet new.log ≡ false) × (bus_now new ≡ (fed (bus_now mid) input).bus)
+    IsIdle (bus_now mid) → ends_quiet mid.log ≡ true → steps (bus_now mid) ≡ [] → (bus_now mid).down ≡ false → Logs mid new (entries_of mid (HandIn input)) → is_full mid (HandIn input) ≡ false →
+    LedOn most feed mid so_far new next × (ends_quiet new.log ≡ false) × IsLonger mid new
 unfolding sim_of
-led-fed most feed so_far next mid new input is same quiet e f l room =
+led-fed most feed so_far next mid new input is same idle quiet e f l room =
     let limits : Limits = limits_of most mid.origin in
     let left : List Input = drop next.inputs feed in
     let entry : Entry = Fed input (fed (bus_now mid) input).reply in
     let after : Sim = record { bus = (fed (bus_now mid) input).bus; log = mid.log; steps_made = so_far.steps; quiet = false; left = left } in
     let bus : bus_now new ≡ (fed (bus_now mid) input).bus = logs-bus mid new (entry ∷ []) l in
+    let has : has_room mid.origin.limit mid.log entry ≡ true = would-room mid (Some entry) entry refl room in
     let said : ends_quiet new.log ≡ false = ap ends_quiet l.log ∙ ends_quiet-push mid.log entry in (
       record {
         origin = l.origin;
@@ -258,66 +313,47 @@ led-fed most feed so_far next mid new input is same quiet e f l room =
         log = l.log;
         turns = (
           record after { log = mid.log ++ entry ∷ [] },
-          turn-outside limits (sim_of feed mid so_far) e f quiet ∙ is ∙ makes-room limits (sim_of feed mid so_far) entry after (would-room mid (Some entry) entry refl room),
+          turn-outside limits (sim_of feed mid so_far) idle e f quiet ∙ is ∙ makes-room limits (sim_of feed mid so_far) entry after has,
           λ i. record { bus = bus i; log = l.log i; steps_made = same i; quiet = said i; left = left },
         );
       },
       said,
-      bus,
+      logs-longer mid new entry l has,
     )
 
 -- or the log had no room for it
 fed-full : (most : ℕ) (feed : List Input) (so_far next : Progress) (mid : CoreState) (input : Input) → IsNextTurn most feed mid so_far input next →
-    ends_quiet mid.log ≡ true → steps (bus_now mid) ≡ [] → (bus_now mid).down ≡ false → is_full mid (HandIn input) ≡ true → turn (limits_of most mid.origin) (sim_of feed mid so_far) ≡ Ends end.Events
+    IsIdle (bus_now mid) → ends_quiet mid.log ≡ true → steps (bus_now mid) ≡ [] → (bus_now mid).down ≡ false → is_full mid (HandIn input) ≡ true → turn (limits_of most mid.origin) (sim_of feed mid so_far) ≡ Ends end.Events
 unfolding sim_of
-fed-full most feed so_far next mid input is quiet e f full =
+fed-full most feed so_far next mid input is idle quiet e f full =
     let limits : Limits = limits_of most mid.origin in
     let entry : Entry = Fed input (fed (bus_now mid) input).reply in
     let after : Sim = record { bus = (fed (bus_now mid) input).bus; log = mid.log; steps_made = so_far.steps; quiet = false; left = drop next.inputs feed } in
-    turn-outside limits (sim_of feed mid so_far) e f quiet ∙ is ∙ makes-full limits (sim_of feed mid so_far) entry after (would-full mid (Some entry) entry refl full)
+    turn-outside limits (sim_of feed mid so_far) idle e f quiet ∙ is ∙ makes-full limits (sim_of feed mid so_far) entry after (would-full mid (Some entry) entry refl full)
 
 -- One go: nothing was possible, and then what became of the input that comes next.
-next-goes : (most : ℕ) (feed : List Input) (so_far next : Progress) (old mid new : CoreState) (input : Input) → ends_quiet old.log ≡ false → IsStep old stepped.Quiet → Logs old mid (entries_of old MakeStep) → is_full old MakeStep ≡ false →
-    IsNextTurn most feed mid so_far input next → next.steps ≡ so_far.steps → IsWithin most feed next → ((bus_now old).no_ticks ≡ false → bus_now new ≡ (fed (bus_now old) input).bus → still_left most feed new next < still_left most feed old so_far) →
-    (t : Turned) → HandsIn input next mid new t → Goes most feed old so_far new t
-next-goes most feed so_far next old mid new input said found logs room is same within fewer (turned.On progress) h =
-    let p = led-said most feed so_far old mid said found logs room in
+next-goes : (most : ℕ) (feed : List Input) (so_far next : Progress) (old mid new : CoreState) (input : Input) → IsIdle (bus_now old) → ends_quiet old.log ≡ false → IsStep old stepped.Quiet → Logs old mid (entries_of old MakeStep) → is_full old MakeStep ≡ false →
+    IsNextTurn most feed mid so_far input next → next.steps ≡ so_far.steps → IsWithin most feed next → (t : Turned) → HandsIn input next mid new t → Goes most feed old so_far new t
+next-goes most feed so_far next old mid new input idle said found logs room is same within (turned.On progress) h =
+    let p = led-said most feed so_far old mid idle said found logs room in
     let e : steps (bus_now mid) ≡ [] = ap steps p.2 ∙ found.0 in
     let f : (bus_now mid).down ≡ false = ap (λ (b : Bus). b.down) p.2 ∙ found.1 in
-    let q = led-fed most feed so_far next mid new input is same p.1 e f h.1 h.2 in
-    let bus : bus_now new ≡ (fed (bus_now old) input).bus = q.2 ∙ ap (λ (b : Bus). (fed b input).bus) p.2 in
+    let still : IsIdle (bus_now mid) = ap (λ (b : Bus). first_out b.bench) p.2 ∙ idle in
+    let q = led-fed most feed so_far next mid new input is same still p.1 e f h.1 h.2 in
     subst (λ (n : Progress). Goes most feed old so_far new (turned.On n)) (sym h.0)
-    (led-on most feed old mid new so_far so_far next p.0 q.0, within, q.1, fewer (no_ticks-quiet (bus_now old) found.0 found.1) bus)
-next-goes most feed so_far next old mid new input said found logs room is same within fewer (turned.End end.Events) h =
-    let p = led-said most feed so_far old mid said found logs room in
+    (led-on most feed old mid new so_far so_far next p.0 q.0, within, q.1, longer-then old mid new p.0.origin p.3 q.2)
+next-goes most feed so_far next old mid new input idle said found logs room is same within (turned.End end.Events) h =
+    let p = led-said most feed so_far old mid idle said found logs room in
     let e : steps (bus_now mid) ≡ [] = ap steps p.2 ∙ found.0 in
     let f : (bus_now mid).down ≡ false = ap (λ (b : Bus). b.down) p.2 ∙ found.1 in
-    let full = fed-full most feed so_far next mid input is p.1 e f h.1 in
+    let still : IsIdle (bus_now mid) = ap (λ (b : Bus). first_out b.bench) p.2 ∙ idle in
+    let full = fed-full most feed so_far next mid input is still p.1 e f h.1 in
     let here : turn (limits_of most old.origin) (sim_of feed mid so_far) ≡ Ends end.Events = subst (λ (o : Origin). turn (limits_of most o) (sim_of feed mid so_far) ≡ Ends end.Events) p.0.origin full in (
       led-on most feed old mid new so_far so_far so_far p.0 (led-stays most feed so_far mid new h.0),
       ap (turn (limits_of most old.origin)) (stays-sim feed mid new so_far h.0) ∙ here,
     )
-next-goes most feed so_far next old mid new input said found logs room is same within fewer (turned.End end.Down) h = absurd h
-next-goes most feed so_far next old mid new input said found logs room is same within fewer (turned.End end.Steps) h = absurd h
-
-one-word : (b : Bool) → word_left b ≤ 1
-one-word true = omega arith
-one-word false = omega arith
-
--- one input fewer is left
-input-fewer : (most : ℕ) (feed : List Input) (old new : CoreState) (so_far : Progress) → so_far.inputs < length feed → (bus_now old).no_ticks ≡ false →
-    still_left most feed new (record so_far { inputs = so_far.inputs + 1 }) < still_left most feed old so_far
-input-fewer most feed old new so_far less ticks =
-    let before : word_left (bus_now old).no_ticks ≡ 1 = ap word_left ticks in
-    let after = one-word (bus_now new).no_ticks in
-    omega (arith, before, after, less)
-
--- or the word that no more ticks come is left no more
-word-fewer : (most : ℕ) (feed : List Input) (old new : CoreState) (so_far : Progress) → (bus_now old).no_ticks ≡ false → (bus_now new).no_ticks ≡ true → still_left most feed new so_far < still_left most feed old so_far
-word-fewer most feed old new so_far ticks none =
-    let before : word_left (bus_now old).no_ticks ≡ 1 = ap word_left ticks in
-    let after : word_left (bus_now new).no_ticks ≡ 0 = ap word_left none in
-    omega (arith, before, after)
+next-goes most feed so_far next old mid new input idle said found logs room is same within (turned.End end.Down) h = absurd h
+next-goes most feed so_far next old mid new input idle said found logs room is same within (turned.End end.Steps) h = absurd h
 
 -- an input that is found comes next
 pub drop-at : (feed : List Input) (i : ℕ) (input : Input) → slice_get feed i ≡ Some input → (left : List Input) × (drop i feed ≡ input ∷ left)
@@ -336,68 +372,64 @@ drop-next (x ∷ feed) (suc i) input left e =
     let next : suc i + 1 ≡ suc (i + 1) = omega arith in
     (ap (λ (n : ℕ). drop n (x ∷ feed)) next ∙ rest.0, omega (arith, rest.1))
 
-goes-by : (most : ℕ) (feed : List Input) (so_far : Progress) (old mid new : CoreState) (left : List Input) → drop so_far.inputs feed ≡ left → IsWithin most feed so_far →
+goes-by : (most : ℕ) (feed : List Input) (so_far : Progress) (old mid new : CoreState) (left : List Input) → drop so_far.inputs feed ≡ left → IsIdle (bus_now old) → IsWithin most feed so_far →
     ends_quiet old.log ≡ false → IsStep old stepped.Quiet → Logs old mid (entries_of old MakeStep) → is_full old MakeStep ≡ false →
     (t : Turned) → HandsInNext left so_far mid new t → Goes most feed old so_far new t
-goes-by most feed so_far old mid new [] e within said found logs room t h =
+goes-by most feed so_far old mid new [] e idle within said found logs room t h =
     let sim : Sim = sim_of feed mid so_far in
     let limits : Limits = limits_of most mid.origin in
-    next-goes most feed so_far so_far old mid new NoTicks said found logs room
-    (ap (outside_turn limits sim) e ∙ ap (input_turn limits sim NoTicks) (sym e)) refl within
-    (λ ticks bus. word-fewer most feed old new so_far ticks (ap (λ (b : Bus). b.no_ticks) (bus ∙ fed-no_ticks (bus_now old) found.1)))
-    t h
-goes-by most feed so_far old mid new (input ∷ left) e within said found logs room t h =
+    next-goes most feed so_far so_far old mid new NoTicks idle said found logs room
+    (ap (outside_turn limits sim) e ∙ ap (input_turn limits sim NoTicks) (sym e)) refl within t h
+goes-by most feed so_far old mid new (input ∷ left) e idle within said found logs room t h =
     let sim : Sim = sim_of feed mid so_far in
     let limits : Limits = limits_of most mid.origin in
     let rest = drop-next feed so_far.inputs input left e in
-    next-goes most feed so_far (record so_far { inputs = so_far.inputs + 1 }) old mid new input said found logs room
+    next-goes most feed so_far (record so_far { inputs = so_far.inputs + 1 }) old mid new input idle said found logs room
     (ap (outside_turn limits sim) e ∙ ap (input_turn limits sim input) (sym rest.0)) refl
-    (let less = rest.1 in record { steps_made = within.steps_made; inputs_fed = omega arith })
-    (λ ticks bus. input-fewer most feed old new so_far rest.1 ticks)
-    t h
+    (let less = rest.1 in record { steps_made = within.steps_made; inputs_fed = omega arith }) t h
 
-pub goes-quiet : (most : ℕ) (feed : List Input) (so_far : Progress) (old mid new : CoreState) → IsWithin most feed so_far → ends_quiet old.log ≡ false → IsStep old stepped.Quiet → Logs old mid (entries_of old MakeStep) → is_full old MakeStep ≡ false →
+pub goes-quiet : (most : ℕ) (feed : List Input) (so_far : Progress) (old mid new : CoreState) → IsIdle (bus_now old) → IsWithin most feed so_far → ends_quiet old.log ≡ false → IsStep old stepped.Quiet → Logs old mid (entries_of old MakeStep) → is_full old MakeStep ≡ false →
     (t : Turned) → HandsInNext (drop so_far.inputs feed) so_far mid new t → Goes most feed old so_far new t
-goes-quiet most feed so_far old mid new within said found logs room t h = goes-by most feed so_far old mid new (drop so_far.inputs feed) refl within said found logs room t h
+goes-quiet most feed so_far old mid new idle within said found logs room t h = goes-by most feed so_far old mid new (drop so_far.inputs feed) refl idle within said found logs room t h
 
 -- One go: it is the end, and nothing was logged.
 pub goes-end : (most : ℕ) (feed : List Input) (so_far : Progress) (old new : CoreState) (last : SimEnd) → Stays old new → turn (limits_of most old.origin) (sim_of feed old so_far) ≡ Ends last → Goes most feed old so_far new (turned.End last)
 goes-end most feed so_far old new last stays e = (led-stays most feed so_far old new stays, ap (turn (limits_of most old.origin)) (stays-sim feed old new so_far stays) ∙ e)
 
-pub goes-limit : (most : ℕ) (feed : List Input) (so_far : Progress) (old new : CoreState) (at : Bool) → new ≡ old → at ≡ (so_far.steps == most && has_any (steps (bus_now old))) → at ≡ true → Goes most feed old so_far new (turned.End end.Steps)
-goes-limit most feed so_far old new at same is h = goes-end most feed so_far old new end.Steps (stays-same old new same) (limit-ends feed so_far (limits_of most old.origin) old at is h)
+pub goes-limit : (most : ℕ) (feed : List Input) (so_far : Progress) (old new : CoreState) (at : Bool) → IsIdle (bus_now old) → new ≡ old → at ≡ (so_far.steps == most && has_any (steps (bus_now old))) → at ≡ true → Goes most feed old so_far new (turned.End end.Steps)
+goes-limit most feed so_far old new at idle same is h = goes-end most feed so_far old new end.Steps (stays-same old new same) (limit-ends feed so_far (limits_of most old.origin) old at idle is h)
 
-pub goes-down : (most : ℕ) (feed : List Input) (so_far : Progress) (old new : CoreState) → (bus_now old).down ≡ true → Logs old new (entries_of old MakeStep) → Goes most feed old so_far new (turned.End end.Down)
+pub goes-down : (most : ℕ) (feed : List Input) (so_far : Progress) (old new : CoreState) → IsIdle (bus_now old) → (bus_now old).down ≡ true → Logs old new (entries_of old MakeStep) → Goes most feed old so_far new (turned.End end.Down)
 unfolding sim_of
-goes-down most feed so_far old new e logs = goes-end most feed so_far old new end.Down (down-nothing old new e logs) (turn-down (limits_of most old.origin) (sim_of feed old so_far) e)
+goes-down most feed so_far old new idle e logs = goes-end most feed so_far old new end.Down (down-nothing old new e logs) (turn-down (limits_of most old.origin) (sim_of feed old so_far) idle e)
 
 -- where the log has no room for what the step would log
-full-up : (most : ℕ) (feed : List Input) (so_far : Progress) (core : CoreState) (at : Bool) (ss : List Step) → ends_quiet core.log ≡ false → so_far.steps ≤ most → at ≡ (so_far.steps == most && has_any (steps (bus_now core))) → at ≡ false →
+full-up : (most : ℕ) (feed : List Input) (so_far : Progress) (core : CoreState) (at : Bool) (ss : List Step) → IsIdle (bus_now core) → ends_quiet core.log ≡ false → so_far.steps ≤ most → at ≡ (so_far.steps == most && has_any (steps (bus_now core))) → at ≡ false →
     steps (bus_now core) ≡ ss → (bus_now core).down ≡ false → is_full core MakeStep ≡ true → turn (limits_of most core.origin) (sim_of feed core so_far) ≡ Ends end.Events
 unfolding sim_of
-full-up most feed so_far core at [] said within is below e f full =
+full-up most feed so_far core at [] idle said within is below e f full =
     let limits : Limits = limits_of most core.origin in
     let next : Sim = record { bus = bus_now core; log = core.log; steps_made = so_far.steps; quiet = true; left = drop so_far.inputs feed } in
-    turn-says-quiet limits (sim_of feed core so_far) e f said
+    turn-says-quiet limits (sim_of feed core so_far) idle e f said
     ∙ makes-full limits (sim_of feed core so_far) Quiet next (would-full core (would_log core MakeStep) Quiet (would-quiet core e f said) full)
-full-up most feed so_far core at (step ∷ rest) said within is below e f full =
+full-up most feed so_far core at (step ∷ rest) idle said within is below e f full =
     let limits : Limits = limits_of most core.origin in
     let next : Sim = record { bus = step.bus; log = core.log; steps_made = so_far.steps + 1; quiet = false; left = drop so_far.inputs feed } in
     let less = below-limit so_far.steps most (has_any (steps (bus_now core))) within (ap has_any e) (sym is ∙ below) in
-    turn-made limits (sim_of feed core so_far) step rest less e
+    turn-made limits (sim_of feed core so_far) step rest idle less e
     ∙ makes-full limits (sim_of feed core so_far) (Did step.label) next (would-full core (would_log core MakeStep) (Did step.label) (would-did core step rest e) full)
 
-full-by : (most : ℕ) (feed : List Input) (so_far : Progress) (core : CoreState) (at down : Bool) → ends_quiet core.log ≡ false → so_far.steps ≤ most → at ≡ (so_far.steps == most && has_any (steps (bus_now core))) → at ≡ false →
+full-by : (most : ℕ) (feed : List Input) (so_far : Progress) (core : CoreState) (at down : Bool) → IsIdle (bus_now core) → ends_quiet core.log ≡ false → so_far.steps ≤ most → at ≡ (so_far.steps == most && has_any (steps (bus_now core))) → at ≡ false →
     (bus_now core).down ≡ down → is_full core MakeStep ≡ true → turn (limits_of most core.origin) (sim_of feed core so_far) ≡ Ends end.Events
-full-by most feed so_far core at true said within is below f full =
+full-by most feed so_far core at true idle said within is below f full =
     let room : is_full core MakeStep ≡ false = down-room core (bus_now core).down (ends_quiet core.log) (steps (bus_now core)) f in
     absurd (let both : true ≡ false = sym full ∙ room in cc)
-full-by most feed so_far core at false said within is below f full = full-up most feed so_far core at (steps (bus_now core)) said within is below refl f full
+full-by most feed so_far core at false idle said within is below f full = full-up most feed so_far core at (steps (bus_now core)) idle said within is below refl f full
 
-pub goes-full : (most : ℕ) (feed : List Input) (so_far : Progress) (old new : CoreState) (at : Bool) → ends_quiet old.log ≡ false → IsWithin most feed so_far → at ≡ (so_far.steps == most && has_any (steps (bus_now old))) → at ≡ false →
+pub goes-full : (most : ℕ) (feed : List Input) (so_far : Progress) (old new : CoreState) (at : Bool) → IsIdle (bus_now old) → ends_quiet old.log ≡ false → IsWithin most feed so_far → at ≡ (so_far.steps == most && has_any (steps (bus_now old))) → at ≡ false →
     Stays old new → is_full old MakeStep ≡ true → Goes most feed old so_far new (turned.End end.Events)
-goes-full most feed so_far old new at said within is below stays full =
-    goes-end most feed so_far old new end.Events stays (full-by most feed so_far old at (bus_now old).down said within.steps_made is below refl full)
+goes-full most feed so_far old new at idle said within is below stays full =
+    goes-end most feed so_far old new end.Events stays (full-by most feed so_far old at (bus_now old).down idle said within.steps_made is below refl full)
 
 -- what was logged before memory ran out is a prefix of what the turns log
 left-after : (most : ℕ) (feed : List Input) (so_far : Progress) (old mid new : CoreState) → LedOn most feed old so_far mid so_far → Stays mid new → LeftWithin most feed old so_far new
@@ -409,8 +441,26 @@ left-after most feed so_far old mid new p stays = record {
   prefix = leads-so_far (limits_of most old.origin) (sim_of feed old so_far) (sim_of feed mid so_far) p.entries p.turns;
 }
 
-pub left-quiet : (most : ℕ) (feed : List Input) (so_far : Progress) (old mid new : CoreState) → ends_quiet old.log ≡ false → IsStep old stepped.Quiet → Logs old mid (entries_of old MakeStep) → is_full old MakeStep ≡ false → Stays mid new → LeftWithin most feed old so_far new
-left-quiet most feed so_far old mid new said found logs room stays = left-after most feed so_far old mid new (led-said most feed so_far old mid said found logs room).0 stays
+pub left-quiet : (most : ℕ) (feed : List Input) (so_far : Progress) (old mid new : CoreState) → IsIdle (bus_now old) → ends_quiet old.log ≡ false → IsStep old stepped.Quiet → Logs old mid (entries_of old MakeStep) → is_full old MakeStep ≡ false → Stays mid new → LeftWithin most feed old so_far new
+left-quiet most feed so_far old mid new idle said found logs room stays = left-after most feed so_far old mid new (led-said most feed so_far old mid idle said found logs room).0 stays
+
+-- One go: what was next on a lane was handed out, or the log had no room for it.
+hands-by : (most : ℕ) (feed : List Input) (so_far : Progress) (old new : CoreState) (lane : ℕ) (found : Option Out) → IsWithin most feed so_far → first_out (bus_now old).bench ≡ Some lane → next_out lane (bus_now old).bench ≡ found → IsSome found →
+    (t : Turned) → HandsOut lane so_far old new t → Goes most feed old so_far new t
+hands-by most feed so_far old new lane None within first next some t h = absurd some
+hands-by most feed so_far old new lane (Some out) within first next some (turned.On progress) h =
+    let would : would_log old (HandOut lane) ≡ Some (Gave lane out) = ap (out_entry lane) next in
+    subst (λ (n : Progress). Goes most feed old so_far new (turned.On n)) (sym h.0)
+    (handed-on most feed so_far old new lane out within first next (would-logs old new (would_log old (HandOut lane)) (Gave lane out) would h.1) (would-room old (would_log old (HandOut lane)) (Gave lane out) would h.2))
+hands-by most feed so_far old new lane (Some out) within first next some (turned.End end.Events) h =
+    let would : would_log old (HandOut lane) ≡ Some (Gave lane out) = ap (out_entry lane) next in
+    goes-end most feed so_far old new end.Events h.0 (handed-full most feed so_far old lane out first next (would-full old (would_log old (HandOut lane)) (Gave lane out) would h.1))
+hands-by most feed so_far old new lane (Some out) within first next some (turned.End end.Down) h = absurd h
+hands-by most feed so_far old new lane (Some out) within first next some (turned.End end.Steps) h = absurd h
+
+pub goes-handed : (most : ℕ) (feed : List Input) (so_far : Progress) (old new : CoreState) (lane : ℕ) → IsWithin most feed so_far → first_out (bus_now old).bench ≡ Some lane → IsSome (next_out lane (bus_now old).bench) →
+    (t : Turned) → HandsOut lane so_far old new t → Goes most feed old so_far new t
+goes-handed most feed so_far old new lane within first some t h = hands-by most feed so_far old new lane (next_out lane (bus_now old).bench) within first refl some t h
 
 -- how far a simulation has come as it begins
 abbrev pub begun : Progress

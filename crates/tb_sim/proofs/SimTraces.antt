@@ -1,17 +1,21 @@
 -- What a simulation logs is a trace.
-use Rattle.std.proofs.Common.{◌≡◌, ◌+◌, List, [], ◌∷◌, ◌++◌, refl, sym, ◌∙◌, subst, Bool, true, false, nat_le, if◌then◌else◌}
+use Rattle.std.proofs.Common.{◌≡◌, ℕ, ◌+◌, ap, length, Option, Some, None, option_map, option_and_then, List, [], ◌∷◌, ◌++◌, refl, sym, ◌∙◌, subst, Bool, true, false, nat_le, if◌then◌else◌}
 use Rattle.std.specs.List.{All}
 use Rattle.std.proofs.lemmas.List.Elements.{All-head, All-tail}
 use Rattle.tb_bus.specs.Buses.{Bus}
 use Rattle.tb_bus.specs.Steps.{Step, steps}
-use Rattle.tb_log.specs.Shapes.{IsInputInShape}
-use Rattle.tb_bus.specs.Traces.{IsLegal, IsTrace, after, fed}
-use Rattle.tb_sim.specs.Simulation.{Limits, Sim, Ends, Makes, makes, input_turn, outside_turn, step_turn, IsSim, IsSimPrefix}
+use Rattle.tb_log.specs.Shapes.{IsInputInShape, IsLane}
+use Rattle.tb_log.specs.declared.entry.Out.{Out}
+use Rattle.tb_tools.specs.Lanes.{BenchState}
+use Rattle.tb_tools.specs.Finding.{first_out, next_out}
+use Rattle.tb_bus.specs.Traces.{IsLegal, IsTrace, after, fed, taken_out}
+use Rattle.tb_bus.proofs.LaneLemmas.{after-lanes, first_out-lane}
+use Rattle.tb_sim.specs.Simulation.{Limits, Sim, Ends, Makes, Handing, HasLanes, makes, input_turn, outside_turn, step_turn, turn_by, handing_on, first_handing, IsSim, IsSimPrefix}
 use Rattle.tb_log.specs.Limits.{has_room}
 use Rattle.tb_log.specs.declared.entry.Input.{Input}
 use Rattle.tb_log.specs.declared.entry.Input.TheVariants.{NoTicks}
 use Rattle.tb_log.specs.declared.entry.Entry.{Entry}
-use Rattle.tb_log.specs.declared.entry.Entry.TheVariants.{Did, Quiet, Fed}
+use Rattle.tb_log.specs.declared.entry.Entry.TheVariants.{Did, Quiet, Fed, Gave}
 use Rattle.tb_sim.specs.declared.ends.SimEnd.{SimEnd}
 use Rattle.tb_sim.specs.declared.ends.SimEnd.TheVariants.{Down, Steps, Events}
 use Rattle.tb_bus.proofs.TraceLemmas.{after-first, legal-first}
@@ -58,9 +62,31 @@ steps-lead : (limits : Limits) (sim : Sim) (ss : List Step) → steps sim.bus �
 steps-lead limits sim [] h up forms entry next e = quiet-leads limits sim h up forms sim.quiet entry next e
 steps-lead limits sim (step ∷ rest) h up forms entry next e = step-leads limits sim step rest h (nat_le limits.steps sim.steps_made) entry next e
 
-turn-leads : (limits : Limits) (sim : Sim) (down : Bool) → sim.bus.down ≡ down → All IsInputInShape sim.left → (entry : Entry) (next : Sim) → (if down then Ends Down else step_turn limits sim (steps sim.bus)) ≡ Makes entry next → Leads sim entry next
-turn-leads limits sim true d forms entry next e = absurd cc
-turn-leads limits sim false d forms entry next e = steps-lead limits sim (steps sim.bus) refl d forms entry next e
+up-leads : (limits : Limits) (sim : Sim) (down : Bool) → sim.bus.down ≡ down → All IsInputInShape sim.left → (entry : Entry) (next : Sim) → (if down then Ends Down else step_turn limits sim (steps sim.bus)) ≡ Makes entry next → Leads sim entry next
+up-leads limits sim true d forms entry next e = absurd cc
+up-leads limits sim false d forms entry next e = steps-lead limits sim (steps sim.bus) refl d forms entry next e
+
+-- what is handed out first is what comes next on a lane that is there
+pub record IsHanding (bench : BenchState) (handing : Handing) : Type 0 where
+  pub lane : IsLane handing.lane
+  pub next : next_out handing.lane bench ≡ Some handing.out
+
+handing-by : (bench : BenchState) (lane : ℕ) (found : Option Out) (handing : Handing) → IsLane lane → next_out lane bench ≡ found → option_map (λ (out : Out). let h : Handing = record { lane = lane; out = out } in h) found ≡ Some handing → IsHanding bench handing
+handing-by bench lane None handing is next e = cc
+handing-by bench lane (Some out) handing is next e =
+    let same : (let h : Handing = record { lane = lane; out = out } in h) ≡ handing = cc in
+    subst (IsHanding bench) same (record { lane = is; next = next })
+
+lane-by : (bench : BenchState) (first : Option ℕ) (handing : Handing) → length bench.lanes ≡ 16 → first_out bench ≡ first → option_and_then (handing_on bench) first ≡ Some handing → IsHanding bench handing
+lane-by bench None handing lanes e h = cc
+lane-by bench (Some lane) handing lanes e h = handing-by bench lane (next_out lane bench) handing (first_out-lane bench lane lanes e) refl h
+
+turn-leads : (limits : Limits) (sim : Sim) (found : Option Handing) → HasLanes sim.bus → first_handing sim.bus.bench ≡ found → All IsInputInShape sim.left → (entry : Entry) (next : Sim) → turn_by limits sim found ≡ Makes entry next → Leads sim entry next
+turn-leads limits sim None lanes f forms entry next e = up-leads limits sim sim.bus.down refl forms entry next e
+turn-leads limits sim (Some handing) lanes f forms entry next e =
+    let is = lane-by sim.bus.bench (first_out sim.bus.bench) handing lanes refl f in
+    room-leads sim (Gave handing.lane handing.out) entry (record sim { bus = taken_out handing.lane sim.bus; quiet = false }) next
+    (has_room limits.entries sim.log (Gave handing.lane handing.out)) e ((is.lane, is.next, refl), refl)
 
 -- What is left of the feed after a turn is in shape, as all of it was.
 
@@ -95,25 +121,31 @@ steps-forms : (limits : Limits) (sim : Sim) (ss : List Step) → All IsInputInSh
 steps-forms limits sim [] forms entry next e = quiet-forms limits sim sim.quiet forms entry next e
 steps-forms limits sim (step ∷ rest) forms entry next e = step-forms limits sim step (nat_le limits.steps sim.steps_made) forms entry next e
 
-turn-forms : (limits : Limits) (sim : Sim) (down : Bool) → All IsInputInShape sim.left → (entry : Entry) (next : Sim) → (if down then Ends Down else step_turn limits sim (steps sim.bus)) ≡ Makes entry next → All IsInputInShape next.left
-turn-forms limits sim true forms entry next e = absurd cc
-turn-forms limits sim false forms entry next e = steps-forms limits sim (steps sim.bus) forms entry next e
+up-forms : (limits : Limits) (sim : Sim) (down : Bool) → All IsInputInShape sim.left → (entry : Entry) (next : Sim) → (if down then Ends Down else step_turn limits sim (steps sim.bus)) ≡ Makes entry next → All IsInputInShape next.left
+up-forms limits sim true forms entry next e = absurd cc
+up-forms limits sim false forms entry next e = steps-forms limits sim (steps sim.bus) forms entry next e
+
+turn-forms : (limits : Limits) (sim : Sim) (found : Option Handing) → All IsInputInShape sim.left → (entry : Entry) (next : Sim) → turn_by limits sim found ≡ Makes entry next → All IsInputInShape next.left
+turn-forms limits sim None forms entry next e = up-forms limits sim sim.bus.down forms entry next e
+turn-forms limits sim (Some handing) forms entry next e =
+    room-forms sim (Gave handing.lane handing.out) entry (record sim { bus = taken_out handing.lane sim.bus; quiet = false }) next (has_room limits.entries sim.log (Gave handing.lane handing.out)) e forms
 
 -- so far
-pub prefix-trace : (limits : Limits) (sim : Sim) (log : List Entry) → All IsInputInShape sim.left → IsSimPrefix limits sim log → IsTrace sim.bus log
-prefix-trace limits sim [] forms h = tt
-prefix-trace limits sim (entry ∷ log) forms h =
-    let t = turn-leads limits sim sim.bus.down refl forms entry h.0 h.1 in
-    let left = turn-forms limits sim sim.bus.down forms entry h.0 h.1 in
-    (t.0, subst (λ (b : Bus). IsTrace b log) (sym t.1) (prefix-trace limits h.0 log left h.2))
+pub prefix-trace : (limits : Limits) (sim : Sim) (log : List Entry) → HasLanes sim.bus → All IsInputInShape sim.left → IsSimPrefix limits sim log → IsTrace sim.bus log
+prefix-trace limits sim [] lanes forms h = tt
+prefix-trace limits sim (entry ∷ log) lanes forms h =
+    let t = turn-leads limits sim (first_handing sim.bus.bench) lanes refl forms entry h.0 h.1 in
+    let left = turn-forms limits sim (first_handing sim.bus.bench) forms entry h.0 h.1 in
+    let still : HasLanes h.0.bus = ap (λ (b : Bus). length b.bench.lanes) (sym t.1) ∙ after-lanes sim.bus entry ∙ lanes in
+    (t.0, subst (λ (b : Bus). IsTrace b log) (sym t.1) (prefix-trace limits h.0 log still left h.2))
 
 -- and to the end
 whole-prefix : (limits : Limits) (sim : Sim) (log : List Entry) (end : SimEnd) → IsSim limits sim log end → IsSimPrefix limits sim log
 whole-prefix limits sim [] end h = tt
 whole-prefix limits sim (entry ∷ log) end h = (h.0, h.1, whole-prefix limits h.0 log end h.2)
 
-pub sim-trace : (limits : Limits) (sim : Sim) (log : List Entry) (end : SimEnd) → All IsInputInShape sim.left → IsSim limits sim log end → IsTrace sim.bus log
-sim-trace limits sim log end forms h = prefix-trace limits sim log forms (whole-prefix limits sim log end h)
+pub sim-trace : (limits : Limits) (sim : Sim) (log : List Entry) (end : SimEnd) → HasLanes sim.bus → All IsInputInShape sim.left → IsSim limits sim log end → IsTrace sim.bus log
+sim-trace limits sim log end lanes forms h = prefix-trace limits sim log lanes forms (whole-prefix limits sim log end h)
 
 -- There is one such log, and one end.
 

@@ -1,17 +1,15 @@
 -- What a turn of a simulation does: on a bus that is down, at the limit of steps, where a step is possible, and where none is.
-use Rattle.std.proofs.Common.{◌≡◌, ℕ, ◌+◌, ◌<◌, ◌≤◌, List, [], ◌∷◌, ◌++◌, map, refl, ap, sym, ◌∙◌, Bool, true, false, nat_le, if◌then◌else◌}
+use Rattle.std.proofs.Common.{◌≡◌, ℕ, ◌+◌, ◌<◌, ◌≤◌, List, [], ◌∷◌, ◌++◌, map, refl, ap, sym, ◌∙◌, Bool, true, false, nat_le, if◌then◌else◌, Option, Some, None, option_map, option_and_then}
 use Rattle.std.proofs.lemmas.Bool.{le-leb, lt-leb, cond-true, cond-false}
-use Rattle.tb_bus.specs.Buses.{Bus, Proc}
-use Rattle.tb_bus.specs.Effects.{Change, Nothing, PutsNote, TakesNote, Subscribes, Unsubscribes, Creates, changed}
-use Rattle.tb_bus.specs.Steps.{Move, Own, Handshake, Finish, Halt, Step, moves, moves_while_up, moves_or_halt, moves_of_all, steps, step_of, apply}
-use Rattle.tb_bus.specs.Traces.{fed, took, Answer}
-use Rattle.tb_sim.specs.Simulation.{Limits, Sim, Turn, Ends, Makes, turn, step_turn, quiet_turn, outside_turn, makes}
+use Rattle.tb_bus.specs.Buses.{Bus}
+use Rattle.tb_bus.specs.Steps.{Move, Step, moves, moves_while_up, steps, step_of}
+use Rattle.tb_bus.specs.Traces.{taken_out}
+use Rattle.tb_tools.specs.Finding.{first_out, next_out}
+use Rattle.tb_sim.specs.Simulation.{Limits, Sim, Turn, Ends, Makes, Handing, turn, turn_by, up_turn, handing_on, step_turn, quiet_turn, outside_turn, makes}
 use Rattle.tb_log.specs.Limits.{has_room}
-use Rattle.tb_log.specs.declared.entry.Input.TheVariants.{NoTicks}
-use Rattle.tb_log.specs.declared.entry.Reply.TheVariants.{Dropped}
-use Rattle.tb_log.specs.declared.entry.Why.TheVariants as why
+use Rattle.tb_log.specs.declared.entry.Out.{Out}
 use Rattle.tb_log.specs.declared.entry.Entry.{Entry}
-use Rattle.tb_log.specs.declared.entry.Entry.TheVariants.{Did, Quiet}
+use Rattle.tb_log.specs.declared.entry.Entry.TheVariants.{Did, Quiet, Gave}
 use Rattle.tb_sim.specs.declared.ends.SimEnd.TheVariants as end
 
 -- a bus with a step is up
@@ -23,16 +21,35 @@ pub steps-up : (bus : Bus) (step : Step) (rest : List Step) → steps bus ≡ st
 unfolding steps moves
 steps-up bus step rest e = up-by bus bus.down (moves_while_up bus bus.procs) step rest e
 
+-- nothing is to be handed out
+abbrev pub IsIdle : Bus → Type 0
+IsIdle bus = first_out bus.bench ≡ None
+
+-- then a turn goes on
+turn-idle : (limits : Limits) (sim : Sim) → IsIdle sim.bus → turn limits sim ≡ up_turn limits sim
+turn-idle limits sim idle = ap (λ (lane : Option ℕ). turn_by limits sim (option_and_then (handing_on sim.bus.bench) lane)) idle
+
+handing-is : (limits : Limits) (sim : Sim) (lane : ℕ) (out : Out) → next_out lane sim.bus.bench ≡ Some out →
+    turn_by limits sim (handing_on sim.bus.bench lane) ≡ makes limits sim (Gave lane out) (record sim { bus = taken_out lane sim.bus; quiet = false })
+handing-is limits sim lane out e =
+    ap (λ (found : Option Out). turn_by limits sim (option_map (λ (x : Out). let h : Handing = record { lane = lane; out = x } in h) found)) e
+
+-- what is next on the lowest lane is handed out
+pub turn-hands : (limits : Limits) (sim : Sim) (lane : ℕ) (out : Out) → first_out sim.bus.bench ≡ Some lane → next_out lane sim.bus.bench ≡ Some out →
+    turn limits sim ≡ makes limits sim (Gave lane out) (record sim { bus = taken_out lane sim.bus; quiet = false })
+turn-hands limits sim lane out first next =
+    ap (λ (found : Option ℕ). turn_by limits sim (option_and_then (handing_on sim.bus.bench) found)) first ∙ handing-is limits sim lane out next
+
 -- a turn of a bus that is down ends the simulation
-pub turn-down : (limits : Limits) (sim : Sim) → sim.bus.down ≡ true → turn limits sim ≡ Ends end.Down
-turn-down limits sim e = cond-true sim.bus.down (Ends end.Down) (step_turn limits sim (steps sim.bus)) e
+pub turn-down : (limits : Limits) (sim : Sim) → IsIdle sim.bus → sim.bus.down ≡ true → turn limits sim ≡ Ends end.Down
+turn-down limits sim idle e = turn-idle limits sim idle ∙ cond-true sim.bus.down (Ends end.Down) (step_turn limits sim (steps sim.bus)) e
 
 -- a turn of one that is up goes by its steps
-pub turn-up : (limits : Limits) (sim : Sim) → sim.bus.down ≡ false → turn limits sim ≡ step_turn limits sim (steps sim.bus)
-turn-up limits sim e = cond-false sim.bus.down (Ends end.Down) (step_turn limits sim (steps sim.bus)) e
+pub turn-up : (limits : Limits) (sim : Sim) → IsIdle sim.bus → sim.bus.down ≡ false → turn limits sim ≡ step_turn limits sim (steps sim.bus)
+turn-up limits sim idle e = turn-idle limits sim idle ∙ cond-false sim.bus.down (Ends end.Down) (step_turn limits sim (steps sim.bus)) e
 
-turn-first : (limits : Limits) (sim : Sim) (step : Step) (rest : List Step) → steps sim.bus ≡ step ∷ rest → turn limits sim ≡ step_turn limits sim (step ∷ rest)
-turn-first limits sim step rest e = turn-up limits sim (steps-up sim.bus step rest e) ∙ ap (step_turn limits sim) e
+turn-first : (limits : Limits) (sim : Sim) (step : Step) (rest : List Step) → IsIdle sim.bus → steps sim.bus ≡ step ∷ rest → turn limits sim ≡ step_turn limits sim (step ∷ rest)
+turn-first limits sim step rest idle e = turn-up limits sim idle (steps-up sim.bus step rest e) ∙ ap (step_turn limits sim) e
 
 -- the turn that makes a step
 abbrev pub made_turn : Limits → Sim → Step → Turn
@@ -46,68 +63,21 @@ pub makes-full : (limits : Limits) (sim : Sim) (entry : Entry) (next : Sim) → 
 makes-full limits sim entry next e = cond-false (has_room limits.entries sim.log entry) (Makes entry (record next { log = sim.log ++ entry ∷ [] })) (Ends end.Events) e
 
 -- at the limit, with a step possible, it ends
-pub turn-limit : (limits : Limits) (sim : Sim) (step : Step) (rest : List Step) → limits.steps ≤ sim.steps_made → steps sim.bus ≡ step ∷ rest → turn limits sim ≡ Ends end.Steps
-turn-limit limits sim step rest within e =
-    turn-first limits sim step rest e ∙ cond-true (nat_le limits.steps sim.steps_made) (Ends end.Steps) (made_turn limits sim step) (le-leb limits.steps sim.steps_made within)
+pub turn-limit : (limits : Limits) (sim : Sim) (step : Step) (rest : List Step) → IsIdle sim.bus → limits.steps ≤ sim.steps_made → steps sim.bus ≡ step ∷ rest → turn limits sim ≡ Ends end.Steps
+turn-limit limits sim step rest idle within e =
+    turn-first limits sim step rest idle e ∙ cond-true (nat_le limits.steps sim.steps_made) (Ends end.Steps) (made_turn limits sim step) (le-leb limits.steps sim.steps_made within)
 
 -- before it, the first step is made
-pub turn-made : (limits : Limits) (sim : Sim) (step : Step) (rest : List Step) → sim.steps_made < limits.steps → steps sim.bus ≡ step ∷ rest → turn limits sim ≡ made_turn limits sim step
-turn-made limits sim step rest less e =
-    turn-first limits sim step rest e ∙ cond-false (nat_le limits.steps sim.steps_made) (Ends end.Steps) (made_turn limits sim step) (lt-leb limits.steps sim.steps_made less)
+pub turn-made : (limits : Limits) (sim : Sim) (step : Step) (rest : List Step) → IsIdle sim.bus → sim.steps_made < limits.steps → steps sim.bus ≡ step ∷ rest → turn limits sim ≡ made_turn limits sim step
+turn-made limits sim step rest idle less e =
+    turn-first limits sim step rest idle e ∙ cond-false (nat_le limits.steps sim.steps_made) (Ends end.Steps) (made_turn limits sim step) (lt-leb limits.steps sim.steps_made less)
 
 -- where no step is possible it says quiet, and then hands in what comes next from outside
-pub turn-quiet : (limits : Limits) (sim : Sim) → steps sim.bus ≡ [] → sim.bus.down ≡ false → turn limits sim ≡ quiet_turn limits sim
-turn-quiet limits sim e f = turn-up limits sim f ∙ ap (step_turn limits sim) e
+pub turn-quiet : (limits : Limits) (sim : Sim) → IsIdle sim.bus → steps sim.bus ≡ [] → sim.bus.down ≡ false → turn limits sim ≡ quiet_turn limits sim
+turn-quiet limits sim idle e f = turn-up limits sim idle f ∙ ap (step_turn limits sim) e
 
-pub turn-says-quiet : (limits : Limits) (sim : Sim) → steps sim.bus ≡ [] → sim.bus.down ≡ false → sim.quiet ≡ false → turn limits sim ≡ makes limits sim Quiet (record sim { quiet = true })
-turn-says-quiet limits sim e f q = turn-quiet limits sim e f ∙ cond-false sim.quiet (outside_turn limits sim sim.left) (makes limits sim Quiet (record sim { quiet = true })) q
+pub turn-says-quiet : (limits : Limits) (sim : Sim) → IsIdle sim.bus → steps sim.bus ≡ [] → sim.bus.down ≡ false → sim.quiet ≡ false → turn limits sim ≡ makes limits sim Quiet (record sim { quiet = true })
+turn-says-quiet limits sim idle e f q = turn-quiet limits sim idle e f ∙ cond-false sim.quiet (outside_turn limits sim sim.left) (makes limits sim Quiet (record sim { quiet = true })) q
 
-pub turn-outside : (limits : Limits) (sim : Sim) → steps sim.bus ≡ [] → sim.bus.down ≡ false → sim.quiet ≡ true → turn limits sim ≡ outside_turn limits sim sim.left
-turn-outside limits sim e f q = turn-quiet limits sim e f ∙ cond-true sim.quiet (outside_turn limits sim sim.left) (makes limits sim Quiet (record sim { quiet = true })) q
-
--- no step changes whether more ticks come
-changed-no_ticks : (change : Change) (number : ℕ) (bus : Bus) → (changed change number bus).no_ticks ≡ bus.no_ticks
-changed-no_ticks Nothing number bus = refl
-changed-no_ticks (PutsNote terms) number bus = refl
-changed-no_ticks (TakesNote place) number bus = refl
-changed-no_ticks (Subscribes patterns) number bus = refl
-changed-no_ticks (Unsubscribes patterns) number bus = refl
-changed-no_ticks (Creates process actuals) number bus = refl
-
-apply-no_ticks : (bus : Bus) (move : Move) → (apply bus move).no_ticks ≡ bus.no_ticks
-apply-no_ticks bus (Own proc offered effect) = changed-no_ticks effect.change proc.number bus
-apply-no_ticks bus (Handshake sender sent receiver received terms binds) = refl
-apply-no_ticks bus Finish = refl
-apply-no_ticks bus Halt = refl
-
-step-no_ticks-by : (bus : Bus) (ms : List Move) (step : Step) (rest : List Step) → map (step_of bus) ms ≡ step ∷ rest → step.bus.no_ticks ≡ bus.no_ticks
-step-no_ticks-by bus [] step rest e = cc
-step-no_ticks-by bus (m ∷ ms) step rest e = let same : step_of bus m ≡ step = cc in ap (λ (s : Step). s.bus.no_ticks) (sym same) ∙ apply-no_ticks bus m
-
-pub step-no_ticks : (bus : Bus) (step : Step) (rest : List Step) → steps bus ≡ step ∷ rest → step.bus.no_ticks ≡ bus.no_ticks
-unfolding steps
-step-no_ticks bus step rest e = step-no_ticks-by bus (moves bus) step rest e
-
-halt-by : (no_ticks : Bool) (ms : List Move) → moves_or_halt no_ticks ms ≡ [] → no_ticks ≡ false
-halt-by true [] e = cc
-halt-by false [] e = refl
-halt-by no_ticks (m ∷ ms) e = cc
-
-quiet-up : (bus : Bus) (procs : List Proc) → moves_while_up bus procs ≡ [] → bus.no_ticks ≡ false
-quiet-up bus [] e = cc
-quiet-up bus (proc ∷ procs) e = halt-by bus.no_ticks (moves_of_all bus) e
-
-map-nothing : {A B : Type 0} (f : A → B) (xs : List A) → map f xs ≡ [] → xs ≡ []
-map-nothing f [] e = refl
-map-nothing f (x ∷ xs) e = cc
-
--- where nothing is possible on a bus that is up, more ticks may come
-pub no_ticks-quiet : (bus : Bus) → steps bus ≡ [] → bus.down ≡ false → bus.no_ticks ≡ false
-unfolding steps moves
-no_ticks-quiet bus e f =
-    quiet-up bus bus.procs
-    (map-nothing (step_of bus) (moves_while_up bus bus.procs) (ap (map (step_of bus)) (sym (cond-false bus.down [] (moves_while_up bus bus.procs) f)) ∙ e))
-
--- a bus that is up takes it that no more ticks come
-pub fed-no_ticks : (bus : Bus) → bus.down ≡ false → (fed bus NoTicks).bus ≡ record bus { no_ticks = true }
-fed-no_ticks bus e = let dropped : Answer = record { reply = Dropped why.Down; bus = bus } in ap (λ (a : Answer). a.bus) (cond-false bus.down dropped (took bus NoTicks) e)
+pub turn-outside : (limits : Limits) (sim : Sim) → IsIdle sim.bus → steps sim.bus ≡ [] → sim.bus.down ≡ false → sim.quiet ≡ true → turn limits sim ≡ outside_turn limits sim sim.left
+turn-outside limits sim idle e f q = turn-quiet limits sim idle e f ∙ cond-true sim.quiet (outside_turn limits sim sim.left) (makes limits sim Quiet (record sim { quiet = true })) q

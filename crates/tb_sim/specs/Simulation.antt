@@ -1,14 +1,18 @@
--- The simulation of a bus and a feed: turn after turn, always the first of the steps.
-use Rattle.std.specs.Prelude.{◌≡◌, ℕ, ◌+◌, nat_le, List, [], ◌∷◌, ◌++◌, Bool, true, false, if◌then◌else◌, ⊤}
+-- The simulation of a bus and a feed: turn after turn, what is to be handed out before anything else, and always the first
+-- of the steps.
+use Rattle.std.specs.Prelude.{◌≡◌, ℕ, ◌+◌, nat_le, List, [], ◌∷◌, ◌++◌, length, Bool, true, false, if◌then◌else◌, Option, Some, None, option_map, option_and_then, ⊤}
 use Rattle.tb_bus.specs.declared.origin.Origin.{Origin}
 use Rattle.tb_bus.specs.Buses.{Bus}
 use Rattle.tb_bus.specs.Steps.{Step, steps}
-use Rattle.tb_bus.specs.Traces.{fed}
+use Rattle.tb_bus.specs.Traces.{fed, taken_out}
+use Rattle.tb_tools.specs.Lanes.{BenchState}
+use Rattle.tb_tools.specs.Finding.{first_out, next_out}
 use Rattle.tb_log.specs.Limits.{has_room}
+use Rattle.tb_log.specs.declared.entry.Out.{Out}
 use Rattle.tb_log.specs.declared.entry.Input.{Input}
 use Rattle.tb_log.specs.declared.entry.Input.TheVariants.{NoTicks}
 use Rattle.tb_log.specs.declared.entry.Entry.{Entry}
-use Rattle.tb_log.specs.declared.entry.Entry.TheVariants.{Did, Quiet, Fed}
+use Rattle.tb_log.specs.declared.entry.Entry.TheVariants.{Did, Quiet, Fed, Gave}
 use Rattle.tb_sim.specs.declared.ends.SimEnd.{SimEnd}
 use Rattle.tb_sim.specs.declared.ends.SimEnd.TheVariants.{Down, Steps, Events}
 
@@ -64,8 +68,30 @@ step_turn limits sim (step ∷ rest) =
     else makes limits sim (Did step.label) (record sim { bus = step.bus; steps_made = sim.steps_made + 1; quiet = false })
 
 -- a bus that is down ends it
+abbrev pub up_turn : Limits → Sim → Turn
+up_turn limits sim = if sim.bus.down then Ends Down else step_turn limits sim (steps sim.bus)
+
+-- what is handed out on a lane
+pub record Handing : Type 0 where
+  pub lane : ℕ
+  pub out : Out
+
+abbrev pub handing_on : BenchState → ℕ → Option Handing
+handing_on bench lane = option_map (λ out. record { lane = lane; out = out }) (next_out lane bench)
+
+-- what is to be handed out first: what comes next on the lowest lane that has something
+abbrev pub first_handing : BenchState → Option Handing
+first_handing bench = option_and_then (handing_on bench) (first_out bench)
+
+-- it hands that out; where nothing is to be handed out, it goes on
+abbrev pub turn_by : Limits → Sim → Option Handing → Turn
+turn_by limits sim None = up_turn limits sim
+turn_by limits sim (Some handing) =
+    makes limits sim (Gave handing.lane handing.out) (record sim { bus = taken_out handing.lane sim.bus; quiet = false })
+
+-- What one turn does.
 abbrev pub turn : Limits → Sim → Turn
-turn limits sim = if sim.bus.down then Ends Down else step_turn limits sim (steps sim.bus)
+turn limits sim = turn_by limits sim (first_handing sim.bus.bench)
 
 -- Turn after turn this log is made, and then the simulation ends so.
 abbrev pub IsSim : Limits → Sim → List Entry → SimEnd → Type 0
@@ -75,6 +101,10 @@ IsSim limits sim (entry ∷ log) end = (next : Sim) × (turn limits sim ≡ Make
 -- a simulation begins with an empty log, no steps made, and all of its feed
 abbrev pub sim_start : Bus → List Input → Sim
 sim_start bus feed = record { bus = bus; log = []; steps_made = 0; quiet = false; left = feed }
+
+-- the bus has 16 lanes
+abbrev pub HasLanes : Bus → Type 0
+HasLanes bus = length bus.bench.lanes ≡ 16
 
 -- Turn after turn the simulation makes this log, and may go on.
 abbrev pub IsSimPrefix : Limits → Sim → List Entry → Type 0

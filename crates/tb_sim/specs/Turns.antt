@@ -1,9 +1,9 @@
 -- How the code goes through a simulation: one or two turns at a time.
-use Rattle.std.specs.Prelude.{◌≡◌, ℕ, ◌+◌, ◌-◌, ◌<◌, ◌≤◌, List, [], ◌∷◌, ◌++◌, length, drop, true, false, Bool, if◌then◌else◌}
+use Rattle.std.specs.Prelude.{◌≡◌, ℕ, ◌+◌, ◌-◌, ◌<◌, ◌≤◌, List, [], ◌∷◌, ◌++◌, length, drop, true, false}
 use Rattle.tb_log.specs.declared.entry.Input.{Input}
 use Rattle.tb_log.specs.declared.entry.Input.TheVariants.{NoTicks}
 use Rattle.tb_log.specs.declared.entry.Entry.{Entry}
-use Rattle.tb_core.specs.Cores.{CoreState, HandIn, bus_now, ends_quiet, entries_of, is_full, Logs, Stays}
+use Rattle.tb_core.specs.Cores.{CoreState, HandIn, HandOut, bus_now, ends_quiet, entries_of, is_full, Logs, Stays}
 use Rattle.tb_sim.specs.Simulation.{Limits, Sim, Ends, Makes, turn, limits_of, IsSimPrefix}
 use Rattle.tb_sim.specs.declared.ends.Progress.{Progress}
 use Rattle.tb_sim.specs.declared.ends.SimEnd.TheVariants as end
@@ -35,13 +35,14 @@ pub record LeftWithin (steps : ℕ) (feed : List Input) (old : CoreState) (so_fa
   pub log : new.log ≡ old.log ++ entries
   pub prefix : IsSimPrefix (limits_of steps old.origin) (sim_of feed old so_far) entries
 
--- the word that no more ticks come, where it may still be handed in
-abbrev pub word_left : Bool → ℕ
-word_left no_ticks = if no_ticks then 0 else 1
+-- how many more entries the log of a core may have
+abbrev pub entries_left : CoreState → ℕ
+entries_left core = core.origin.limit - length core.log
 
--- what a simulation may still do: the steps, the inputs, and that word
-abbrev pub still_left : ℕ → List Input → CoreState → Progress → ℕ
-still_left steps feed core so_far = (steps - so_far.steps) + (length feed - so_far.inputs) + word_left (bus_now core).no_ticks
+-- a core has logged more, within its limit
+pub record IsLonger (old new : CoreState) : Type 0 where
+  pub more : length old.log < length new.log
+  pub within : length new.log ≤ old.origin.limit
 
 -- it has come no further than it may
 pub record IsWithin (steps : ℕ) (feed : List Input) (so_far : Progress) : Type 0 where
@@ -55,13 +56,20 @@ HandsIn input next old new (turned.End end.Events) = Stays old new × (is_full o
 HandsIn input next old new (turned.End end.Down) = ⊥
 HandsIn input next old new (turned.End end.Steps) = ⊥
 
+-- What became of what was handed out on a lane: it was logged, or the log had no room for it.
+abbrev pub HandsOut : ℕ → Progress → CoreState → CoreState → Turned → Type 0
+HandsOut lane so_far old new (turned.On progress) = (progress ≡ so_far) × Logs old new (entries_of old (HandOut lane)) × (is_full old (HandOut lane) ≡ false)
+HandsOut lane so_far old new (turned.End end.Events) = Stays old new × (is_full old (HandOut lane) ≡ true)
+HandsOut lane so_far old new (turned.End end.Down) = ⊥
+HandsOut lane so_far old new (turned.End end.Steps) = ⊥
+
 -- What became of the first of these, or, where there is none, of the word that no more ticks come.
 abbrev pub HandsInNext : List Input → Progress → CoreState → CoreState → Turned → Type 0
 HandsInNext [] so_far old new turned = HandsIn NoTicks so_far old new turned
 HandsInNext (input ∷ left) so_far old new turned = HandsIn input (record so_far { inputs = so_far.inputs + 1 }) old new turned
 
--- What one go did: it went on, by a step, or by saying quiet and handing in what comes next from outside; or it is the end, perhaps once it said quiet.
+-- What one go did: it went on, by what it handed out, by a step, or by saying quiet and handing in what comes next from outside; or it is the end, perhaps once it said quiet.
 abbrev pub Goes : ℕ → List Input → CoreState → Progress → CoreState → Turned → Type 0
 Goes steps feed old so_far new (turned.On next) =
-    LedOn steps feed old so_far new next × IsWithin steps feed next × (ends_quiet new.log ≡ false) × (still_left steps feed new next < still_left steps feed old so_far)
+    LedOn steps feed old so_far new next × IsWithin steps feed next × (ends_quiet new.log ≡ false) × IsLonger old new
 Goes steps feed old so_far new (turned.End end) = LedOn steps feed old so_far new so_far × (turn (limits_of steps old.origin) (sim_of feed new so_far) ≡ Ends end)

@@ -1,14 +1,15 @@
-ghost use Rattle.std.specs.Prelude.{◌≡◌, ◌&&◌, ◌==◌, ◌≤◌, [], drop, IfOk, OnOk, OnErr, IsErrOf, false};
+ghost use Rattle.std.specs.Prelude.{◌≡◌, ◌&&◌, ◌==◌, ◌≤◌, [], drop, IfOk, IsSome, OnOk, OnErr, IsErrOf, false, None};
 ghost use Rattle.tb_bus.specs.Buses.{start};
 ghost use Rattle.tb_bus.specs.Steps.{steps as steps_of};
-ghost use Rattle.tb_log.specs.Shapes.{IsInputInShape};
+ghost use Rattle.tb_log.specs.Shapes.{IsInputInShape, IsLane};
+ghost use Rattle.tb_tools.specs.Finding.{first_out, next_out};
 ghost use Rattle.tb_core.specs.Cores.{bus_now, has_any, ends_quiet, Stays};
 ghost use Rattle.tb_sim.specs.Simulation.{IsSim, IsSimPrefix, limits_of, sim_start};
-ghost use Rattle.tb_sim.specs.Turns.{HandsIn, HandsInNext, Goes, IsWithin, LeftWithin};
+ghost use Rattle.tb_sim.specs.Turns.{HandsIn, HandsInNext, HandsOut, Goes, IsWithin, LeftWithin};
 
 use crate::ends::{Progress, SimEnd, Turned};
 use tb_algebra::Walker;
-use tb_core::{Core, CoreFault, Stepped};
+use tb_core::{Core, CoreFault, Stepped, TakeOut};
 use tb_feed::Feed;
 use tb_log::Input;
 use tb_terms::NoMemory;
@@ -24,13 +25,55 @@ fn is_at_limit<W: Walker>(core: &mut Core<W>, made: u64, steps: u64) -> Result<b
     core.has_step()
 }
 
-/// Makes a step, or says quiet and hands in what comes next from outside, or sees the end.
+/// Hands out what is next on a lane, or makes a step, or says quiet and hands in what comes next from outside, or sees the
+/// end.
 fn go<W: Walker>(
     core: &mut Core<W>,
     feed: &Feed,
     steps: u64,
     so_far: Progress,
 ) -> Result<Turned, NoMemory>
+    requires within { IsWithin steps feed.now so_far }
+    requires running { core.old.stopped ≡ false }
+    requires said { ends_quiet core.old.log ≡ false }
+    ensures ok { IfOk result (Goes steps feed.now core.old so_far core.new) }
+    ensures err { OnErr result (LeftWithin steps feed.now core.old so_far core.new) }
+{
+    match core.first_out() {
+        Some(lane) => hand_out(core, lane, so_far),
+        None => go_up(core, feed, steps, so_far),
+    }
+}
+
+/// Hands out what is next on a lane.
+fn hand_out<W: Walker>(
+    core: &mut Core<W>,
+    lane: u8,
+    so_far: Progress,
+) -> Result<Turned, NoMemory>
+    requires lane { IsLane lane }
+    requires some { IsSome (next_out lane (bus_now core.old).bench) }
+    requires running { core.old.stopped ≡ false }
+    ensures ok { IfOk result (HandsOut lane so_far core.old core.new) }
+    ensures err { OnErr result (Stays core.old core.new) }
+{
+    match core.take_out(lane) {
+        Ok(TakeOut::Out(_)) => Ok(Turned::On(so_far)),
+        Ok(TakeOut::Nothing | TakeOut::Closed) => unreachable!(),
+        Err(CoreFault::Full) => Ok(Turned::End(SimEnd::Events)),
+        Err(CoreFault::NoMemory | CoreFault::Stopped) => Err(NoMemory),
+    }
+}
+
+/// Where nothing is to be handed out, makes a step, or says quiet and hands in what comes next from outside, or sees the
+/// end.
+fn go_up<W: Walker>(
+    core: &mut Core<W>,
+    feed: &Feed,
+    steps: u64,
+    so_far: Progress,
+) -> Result<Turned, NoMemory>
+    requires idle { first_out (bus_now core.old).bench ≡ None }
     requires within { IsWithin steps feed.now so_far }
     requires running { core.old.stopped ≡ false }
     requires said { ends_quiet core.old.log ≡ false }
@@ -87,8 +130,8 @@ fn hand_in<W: Walker>(core: &mut Core<W>, input: Input, next: Progress) -> Resul
     }
 }
 
-/// Runs a core to its end, always by the first of the steps, and makes at most this many. Where none is possible, the
-/// next of the feed is handed in, and behind its last that no more ticks come. The end is `Events` where its log has
+/// Runs a core to its end, always by the first of the steps, and makes at most this many. What is to be handed out on a
+/// lane comes before a step, the lowest lane first. Where no step is possible, the next of the feed is handed in, and behind its last that no more ticks come. The end is `Events` where its log has
 /// no room for the next entry. After an `Err` the log is a prefix of the one that the simulation makes.
 pub fn simulate<W: Walker>(core: &mut Core<W>, feed: &Feed, steps: u64) -> Result<SimEnd, NoMemory>
     requires fresh { core.old.log ≡ [] }

@@ -3,7 +3,7 @@ use Rattle.tb_log.specs.declared.entry.Entry.{Entry}
 use Rattle.tb_core.specs.Cores.{ends_quiet}
 use Rattle.tb_sim.specs.Turns.{Goes}
 use Rattle.tb_sim.specs.declared.ends.Turned.TheVariants as turned
-use Rattle.tb_sim.proofs.SimLemmas.{begun, led-nothing, led-on, led-ends, led-left}
+use Rattle.tb_sim.proofs.SimLemmas.{begun, led-nothing, led-on, led-ends, led-left, left-fewer}
 use Rattle.tb_sim.proofs.simulation.simulate.Goals as goal
 
 pub loop-next-init : goal.loop-next-init
@@ -28,7 +28,7 @@ pub loop-next-smaller : goal.loop-next-smaller
 loop-next-smaller g c =
     let so_far = c.loop-next.so_far in
     let gone : Goes c.args.steps c.args.feed.now c.loop-next.core so_far c.go.new.core (turned.On c.in-Ok-On.next) = rw c.in-Ok-On.field-0-is at c.in-Ok-On.ensures.ok in
-    gone.3
+    left-fewer c.loop-next.core c.go.new.core gone.0.origin gone.3
 
 pub returns-in-Ok-End-clause-ok : goal.returns-in-Ok-End-clause-ok
 returns-in-Ok-End-clause-ok g c =
