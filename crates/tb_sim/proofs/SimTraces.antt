@@ -9,7 +9,7 @@ use Rattle.tb_log.specs.declared.entry.Out.{Out}
 use Rattle.tb_tools.specs.Lanes.{BenchState}
 use Rattle.tb_tools.specs.Finding.{first_out, next_out}
 use Rattle.tb_bus.specs.Traces.{IsLegal, IsTrace, after, fed, taken_out}
-use Rattle.tb_bus.proofs.LaneLemmas.{after-lanes, first_out-lane}
+use Rattle.tb_bus.proofs.LaneLemmas.{legal-lanes, first_out-lane}
 use Rattle.tb_sim.specs.Simulation.{Limits, Sim, Ends, Makes, Handing, HasLanes, makes, input_turn, outside_turn, step_turn, turn_by, handing_on, first_handing, IsSim, IsSimPrefix}
 use Rattle.tb_log.specs.Limits.{has_room}
 use Rattle.tb_log.specs.declared.entry.Input.{Input}
@@ -136,7 +136,7 @@ prefix-trace limits sim [] lanes forms h = tt
 prefix-trace limits sim (entry ∷ log) lanes forms h =
     let t = turn-leads limits sim (first_handing sim.bus.bench) lanes refl forms entry h.0 h.1 in
     let left = turn-forms limits sim (first_handing sim.bus.bench) forms entry h.0 h.1 in
-    let still : HasLanes h.0.bus = ap (λ (b : Bus). length b.bench.lanes) (sym t.1) ∙ after-lanes sim.bus entry ∙ lanes in
+    let still : HasLanes h.0.bus = ap (λ (b : Bus). length b.bench.lanes) (sym t.1) ∙ legal-lanes sim.bus entry t.0 ∙ lanes in
     (t.0, subst (λ (b : Bus). IsTrace b log) (sym t.1) (prefix-trace limits h.0 log still left h.2))
 
 -- and to the end
