@@ -3,3 +3,4 @@ pub mod SimTurns
 pub mod SimEnds
 mod SimLemmas
 pub mod Rows
+pub mod FedRows

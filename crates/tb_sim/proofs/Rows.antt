@@ -31,6 +31,7 @@ use Rattle.tb_algebra.specs.Atoms.{values_together, patterns_of}
 use Rattle.tb_algebra.specs.Settings.{with_settings}
 use Rattle.tb_match.specs.Matches.{match_list, match_term}
 use Rattle.tb_notes.specs.Inboxes.{nothing}
+use Rattle.tb_tools.specs.Lanes.{opening}
 use Rattle.tb_bus.specs.declared.origin.Origin.{Origin}
 use Rattle.tb_bus.specs.Buses.{Bus, Proc, start}
 use Rattle.tb_bus.specs.Steps.{steps, moves, moves_of_all, moves_of, handshakes, handshakes_with, advance}
@@ -66,6 +67,7 @@ bus_of program procs last no_ticks = record {
   next_number = length program.roots + 1;
   no_ticks = no_ticks;
   down = false;
+  bench = opening [];
 }
 
 -- a simulation that has made this log and so many steps, and has not just said quiet
@@ -99,7 +101,7 @@ unfolding is_program_in_range
 empty-in_range = refl
 
 abbrev pub empty : Origin
-empty = record { program = record { bodies = []; roots = []; tools = []; in_range = empty-in_range }; limit = 1000000 }
+empty = record { program = record { bodies = []; roots = []; tools = []; in_range = empty-in_range }; connects = []; limit = 1000000 }
 
 -- an empty bus finishes at once
 pub empty_bus : IsSim (limits_of 1000000 empty) (sim_start (start empty) []) (finish ∷ []) Down
@@ -120,7 +122,7 @@ two_by_two-in_range = refl
 
 -- `process A is tau . tau process B is tau . tau toolbus(A, B)`
 abbrev pub two_by_two : Origin
-two_by_two = record { program = record { bodies = two_taus ∷ two_taus ∷ []; roots = root 0 ∷ root 1 ∷ []; tools = []; in_range = two_by_two-in_range }; limit = 1000000 }
+two_by_two = record { program = record { bodies = two_taus ∷ two_taus ∷ []; roots = root 0 ∷ root 1 ∷ []; tools = []; in_range = two_by_two-in_range }; connects = []; limit = 1000000 }
 
 fresh-two_taus : fresh (tree.Seq (tree.At 1) (tree.At 2)) ≡ Seq (At 1 0) (At 2 0)
 fresh-two_taus = search (rules, tree_lemmas)
@@ -157,7 +159,7 @@ stuck-in_range = refl
 
 -- `process P is delta toolbus(P)`
 abbrev pub stuck : Origin
-stuck = record { program = record { bodies = delta ∷ []; roots = root 0 ∷ []; tools = []; in_range = stuck-in_range }; limit = 1000000 }
+stuck = record { program = record { bodies = delta ∷ []; roots = root 0 ∷ []; tools = []; in_range = stuck-in_range }; connects = []; limit = 1000000 }
 
 stuck-runs : IsSim (limits_of 1000000 stuck) (sim_of (bus_of stuck.program (at 1 0 (At 1 0) ∷ []) 0 false) [] 0) (Quiet ∷ Fed NoTicks Took ∷ halt ∷ []) Down
 unfolding steps moves moves_of_all moves_of handshakes handshakes_with advance
@@ -191,7 +193,7 @@ forever-in_range = refl
 
 -- `process P is tau * delta toolbus(P)`, whose log may have five entries
 abbrev pub forever : Origin
-forever = record { program = record { bodies = endless ∷ []; roots = root 0 ∷ []; tools = []; in_range = forever-in_range }; limit = 5 }
+forever = record { program = record { bodies = endless ∷ []; roots = root 0 ∷ []; tools = []; in_range = forever-in_range }; connects = []; limit = 5 }
 
 -- a star of two atoms
 abbrev pub star : Process
@@ -269,7 +271,7 @@ alone-in_range = refl
 
 -- `process P is rec-msg(a) toolbus(P)`
 abbrev pub alone : Origin
-alone = record { program = record { bodies = rec_a ∷ []; roots = root 0 ∷ []; tools = []; in_range = alone-in_range }; limit = 1000000 }
+alone = record { program = record { bodies = rec_a ∷ []; roots = root 0 ∷ []; tools = []; in_range = alone-in_range }; connects = []; limit = 1000000 }
 
 alone-runs : IsSim (limits_of 1000000 alone) (sim_of (bus_of alone.program (at 1 0 (At 1 0) ∷ []) 0 false) [] 0) (Quiet ∷ Fed NoTicks Took ∷ halt ∷ []) Down
 unfolding steps moves moves_of_all moves_of handshakes handshakes_with advance
@@ -316,7 +318,7 @@ hello-in_range = refl
 
 -- `process A is snd-msg(hello) process B is rec-msg(hello) toolbus(A, B)`
 abbrev pub hello : Origin
-hello = record { program = record { bodies = snd_hello ∷ rec_hello ∷ []; roots = root 0 ∷ root 1 ∷ []; tools = []; in_range = hello-in_range }; limit = 1000000 }
+hello = record { program = record { bodies = snd_hello ∷ rec_hello ∷ []; roots = root 0 ∷ root 1 ∷ []; tools = []; in_range = hello-in_range }; connects = []; limit = 1000000 }
 
 hello-runs : IsSim (limits_of 1000000 hello) (sim_of (bus_of hello.program (at 1 0 (At 1 0) ∷ at 2 1 (At 1 0) ∷ []) 0 false) [] 0) (shake 1 1 (words (codes "hello")) ∷ finish ∷ []) Down
 unfolding steps moves moves_of_all moves_of handshakes handshakes_with advance
@@ -369,7 +371,7 @@ twice-in_range = refl
 
 -- `process A is snd-msg(a) * snd-msg(b) process B is rec-msg(a) . rec-msg(a) . rec-msg(b) toolbus(A, B)`
 abbrev pub twice : Origin
-twice = record { program = record { bodies = sender ∷ receiver ∷ []; roots = root 0 ∷ root 1 ∷ []; tools = []; in_range = twice-in_range }; limit = 1000000 }
+twice = record { program = record { bodies = sender ∷ receiver ∷ []; roots = root 0 ∷ root 1 ∷ []; tools = []; in_range = twice-in_range }; connects = []; limit = 1000000 }
 
 fresh-receiver : fresh (tree.Seq (tree.At 1) (tree.Seq (tree.At 2) (tree.At 3))) ≡ Seq (At 1 0) (Seq (At 2 0) (At 3 0))
 fresh-receiver = search (rules, tree_lemmas)
@@ -423,7 +425,7 @@ itself-in_range = refl
 
 -- `process P is snd-msg(a) || rec-msg(a) toolbus(P)`
 abbrev pub itself : Origin
-itself = record { program = record { bodies = merged ∷ []; roots = root 0 ∷ []; tools = []; in_range = itself-in_range }; limit = 1000000 }
+itself = record { program = record { bodies = merged ∷ []; roots = root 0 ∷ []; tools = []; in_range = itself-in_range }; connects = []; limit = 1000000 }
 
 fresh-merged : fresh (tree.Par (tree.At 1) (tree.At 2)) ≡ Par (At 1 0) (At 2 0)
 fresh-merged = search (rules, tree_lemmas)
@@ -487,7 +489,7 @@ bound-in_range = refl
 
 -- `process A is snd-msg(5, 6) process B is let X: int in X := 5 . rec-msg(X, X?) endlet toolbus(A, B)`
 abbrev pub bound : Origin
-bound = record { program = record { bodies = five_six ∷ variable ∷ []; roots = root 0 ∷ root 1 ∷ []; tools = []; in_range = bound-in_range }; limit = 1000000 }
+bound = record { program = record { bodies = five_six ∷ variable ∷ []; roots = root 0 ∷ root 1 ∷ []; tools = []; in_range = bound-in_range }; connects = []; limit = 1000000 }
 
 fresh-variable : fresh (tree.Let from_start (tree.Seq (tree.At 1) (tree.At 2))) ≡ Let from_start (Seq (At 1 0) (At 2 0))
 fresh-variable = search (rules, tree_lemmas)
