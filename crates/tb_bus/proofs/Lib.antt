@@ -1,3 +1,4 @@
+pub mod ExchangeLemmas
 pub mod PartLemmas
 pub mod TurnLemmas
 pub mod EffectLemmas
