@@ -29,7 +29,7 @@ use Rattle.tb_log.specs.Shapes.{IsLane}
 use Rattle.tb_tools.specs.declared.stage.Stage.{Stage}
 use Rattle.tb_tools.specs.declared.stage.Stage.TheVariants.{Waiting, Leaving}
 use Rattle.tb_tools.specs.declared.found.FoundEvent.{FoundEvent}
-use Rattle.tb_tools.specs.Lanes.{Tool, Lane, BenchState, of_tool, is_same_stage, is_stage_at, tool_at, is_free, term_of}
+use Rattle.tb_tools.specs.Lanes.{Tool, Lane, BenchState, of_tool, is_same_stage, is_stage_at, tool_at, is_free, tool_term, term_of}
 use Rattle.tb_tools.specs.Acts.{answer_at, events_at, received_at, is_live_at, is_taken_at, can_execute, can_connect, can_leave, can_eval, can_take_value, can_do, can_take_event, can_ack, can_terminate, is_closed}
 use Rattle.tb_tools.specs.Finding.{first_lane, free_lane, find_tool, has_tool, first_at, oldest_event, oldest_received}
 use Rattle.tb_tools.specs.First.{IsThere, NoLane, IsFirstLane, NoToolAt, HasSmallest, NoneMatches, IsOldest}
@@ -37,7 +37,7 @@ use Rattle.tb_tools.proofs.Lowest.{first_lane-lowest, first_at-smallest}
 use Rattle.tb_tools.proofs.Oldest.{oldest-first}
 use Rattle.tb_bus.specs.Slots.{fits_slot}
 use Rattle.tb_bus.specs.Actions.{speak_about}
-use Rattle.tb_bus.specs.Exchanges.{Setting, command_of, kind_name, kind_command, term_on, next_term, plain_on, binding_on, starting, taking_tool, first_of_kind, lane_if, lane_of, value_on, event_on, received_on, behind, exchange_for}
+use Rattle.tb_bus.specs.Exchanges.{Setting, command_of, kind_name, kind_command, term_on, plain_on, bound_on, binding_on, starting, taking_tool, first_of, first_of_kind, lane_if, lane_of, value_on, event_on, received_on, behind, exchange_for}
 use Rattle.tb_bus.specs.declared.action.Action.{Action}
 use Rattle.tb_bus.specs.declared.action.Action.TheVariants as action
 use Rattle.tb_bus.specs.declared.action.ToolAction.{ToolAction}
@@ -63,6 +63,10 @@ pub record HasCommand (setting : Setting) (tool : ℕ) : Type 0 where
   pub command : List ℕ
   pub there : slice_get setting.kinds tool ≡ Some kind
   pub is : kind.command ≡ Some command
+
+-- the term of the next tool, where it is of this kind
+abbrev pub next_term : Setting → ℕ → Term
+next_term setting tool = tool_term (kind_name setting tool) setting.bench.next_tool
 
 -- the slot takes the term, which is within the limits, and nothing else is bound
 pub record IsTaking (setting : Setting) (slot : ℕ) (term : Term) (exchange : Exchange) : Type 0 where
@@ -165,8 +169,7 @@ command-by setting tool (Some kind) command e h = record { kind = kind; command 
 
 is-taking : (setting : Setting) (slot lane : ℕ) (term : Term) (exchange : Exchange) → binding_on setting slot lane term ≡ Some exchange → (lane ≡ exchange.lane) × IsTaking setting slot term exchange
 is-taking setting slot lane term exchange e =
-    let new : Exchange = record { lane = lane; event = 0; binds = record { slot = slot; value = term } ∷ [] } in
-    let it = if-some (is_limited term && fits_slot setting.body slot term) new exchange e in
+    let it = if-some (is_limited term && fits_slot setting.body slot term) (bound_on slot lane term) exchange e in
     let parts = and_parts (is_limited term) (fits_slot setting.body slot term) it.0 in (
       ap (λ (x : Exchange). x.lane) it.1,
       record { limited = parts.0; fits = parts.1; event = sym (ap (λ (x : Exchange). x.event) it.1); binds = sym (ap (λ (x : Exchange). x.binds) it.1) },
@@ -174,7 +177,7 @@ is-taking setting slot lane term exchange e =
 
 is-executing : (setting : Setting) (tool slot : ℕ) (exchange : Exchange) → exchange_for setting (Execute tool slot) ≡ Some exchange → IsExchange setting (Execute tool slot) exchange
 is-executing setting tool slot exchange e =
-    let command = and_then-some (λ command. starting setting tool slot) (kind_command setting tool) exchange e in
+    let command = and_then-some (λ command. starting setting slot (kind_name setting tool)) (kind_command setting tool) exchange e in
     let at = and_then-some (λ lane. binding_on setting slot lane (next_term setting tool)) (free_lane setting.bench) exchange command.2 in
     let free = found-lane is_free setting.bench at.0 at.1 in
     let taking = is-taking setting slot at.0 (next_term setting tool) exchange at.2 in
@@ -188,8 +191,9 @@ is-kind : (setting : Setting) (stage : Stage) (tool slot : ℕ) (exchange : Exch
     IsThere setting.bench exchange.lane × (is_stage_at stage exchange.lane setting.bench ≡ true) × IsTakingTool setting slot exchange
 is-kind setting stage tool slot exchange e =
     let bench = setting.bench in
-    let at = and_then-some (taking_tool setting slot) (first_at (kind_name setting tool) stage bench) exchange e in
-    let it = found-stage (kind_name setting tool) stage bench at.0 at.1 in
+    let kind = and_then-some (first_of setting stage slot) (slice_get setting.kinds tool) exchange e in
+    let at = and_then-some (taking_tool setting slot) (first_at kind.0.name stage bench) exchange kind.2 in
+    let it = found-stage kind.0.name stage bench at.0 at.1 in
     let term = and_then-some (binding_on setting slot at.0) (term_on at.0 bench) exchange at.2 in
     let found = map-some term_of (tool_at at.0 bench) term.0 term.1 in
     let taking = is-taking setting slot at.0 term.0 exchange term.2 in (

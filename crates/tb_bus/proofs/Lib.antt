@@ -1,4 +1,7 @@
 pub mod ExchangeLemmas
+pub mod LevelLemmas
+pub mod SentLemmas
+pub mod LaneShapes
 pub mod PartLemmas
 pub mod TurnLemmas
 pub mod EffectLemmas
