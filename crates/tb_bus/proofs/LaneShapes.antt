@@ -2,10 +2,11 @@
 use Rattle.std.proofs.Common.{◌≡◌, ℕ, zero, suc, ◌-◌, ◌≤◌, Bool, true, false, ◌&&◌, List, [], ◌∷◌, ◌++◌, map, length, take, drop, remove, replicate, slice_get, slice_index_or, Option, Some, None, IfSome, option_map, if◌then◌else◌, refl, sym, subst, codes}
 use Rattle.std.specs.List.{All}
 use Rattle.std.proofs.lemmas.Bool.{le-leb}
-use Rattle.std.proofs.lemmas.Option.{get_or_from_slice_get}
+use Rattle.std.proofs.lemmas.Option.{get_or_from_slice_get, same_Some}
 use Rattle.std.proofs.lemmas.List.Elements.{All-nil, All-cons, All-head, All-tail, All-append, All-push, All-map, All-set, All-take, All-drop, All-replicate, All-weaker}
 use Rattle.tb_terms.specs.declared.term.Term.{Term}
 use Rattle.tb_terms.specs.declared.term.Term.TheVariants.{Appl, outs-Appl}
+use Rattle.tb_terms.specs.Sizes.{IsWithinLimits}
 use Rattle.tb_log.specs.declared.entry.Out.{Out}
 use Rattle.tb_log.specs.declared.entry.Out.TheVariants.{Start, Line, End}
 use Rattle.tb_log.specs.declared.entry.ToolLine.{ToolLine}
@@ -16,16 +17,17 @@ use Rattle.tb_log.specs.declared.entry.Reply.TheVariants.{Took, Dropped}
 use Rattle.tb_log.specs.Shapes.{has_parts, AreParts, IsForTool, IsOutInShape, IsToolLineInShape}
 use Rattle.tb_tools.specs.declared.stage.Stage.{Stage}
 use Rattle.tb_tools.specs.declared.stage.Stage.TheVariants as stage
+use Rattle.tb_tools.specs.declared.stage.Eval.{Eval}
 use Rattle.tb_tools.specs.declared.stage.Eval.TheVariants as eval
 use Rattle.tb_tools.specs.Lanes.{Tool, Lane, BenchState, lane_count, unused, lane_at, tool_at, outs_at, on_lane, on_tool, with_tool, without_tool, with_out, is_empty, is_open, started, new_tool, opening}
-use Rattle.tb_tools.specs.Acts.{events_of, events_at, received_of, received_at, event_at, executed, connected, with_live_tool, left, with_question, asked, without_answer, value_taken, told, with_received, event_taken, with_acknowledged_of, with_acknowledged, acknowledged, last_line, ended_with, terminated, dismissed, gone_down, without_out, handed_out}
+use Rattle.tb_tools.specs.Acts.{answer_of, answer_by, answer_at, events_of, events_at, received_of, received_at, event_at, executed, connected, with_live_tool, left, with_question, asked, without_answer, value_taken, told, with_received, event_taken, with_acknowledged_of, with_acknowledged, acknowledged, last_line, ended_with, terminated, dismissed, gone_down, without_out, handed_out}
 use Rattle.tb_tools.specs.Inputs.{Answer, departed_by, departed, closed, lost, while_up, gone, cut, answered, with_event, with_line, dropped, line_by, put_line}
 use Rattle.tb_tools.specs.Finding.{next_out}
-use Rattle.tb_bus.specs.Waiting.{IsEvent, IsToolInShape, IsLaneInShape, IsBenchInShape}
+use Rattle.tb_bus.specs.Waiting.{IsEvent, IsEvalInShape, IsToolInShape, IsLaneInShape, IsBenchInShape}
 
 -- items by their indices
 
-all-there : {A : Type 0} (P : A → Type 0) (xs : List A) (at : ℕ) (x : A) → All P xs → slice_get xs at ≡ Some x → P x
+pub all-there : {A : Type 0} (P : A → Type 0) (xs : List A) (at : ℕ) (x : A) → All P xs → slice_get xs at ≡ Some x → P x
 all-there P [] at x h e = cc
 all-there P (y ∷ xs) zero x h e = let same : y ≡ x = cc in subst P same (All-head P y xs h)
 all-there P (y ∷ xs) (suc at) x h e = all-there P xs at x (All-tail P y xs h) e
@@ -35,7 +37,7 @@ all-or P [] at d h k = k
 all-or P (x ∷ xs) zero d h k = All-head P x xs h
 all-or P (x ∷ xs) (suc at) d h k = all-or P xs at d (All-tail P x xs h) k
 
-all-remove : {A : Type 0} (P : A → Type 0) (xs : List A) (at : ℕ) → All P xs → All P (remove xs at)
+pub all-remove : {A : Type 0} (P : A → Type 0) (xs : List A) (at : ℕ) → All P xs → All P (remove xs at)
 all-remove P xs at h = All-append P (take at xs) (drop (suc at) xs) (All-take P at xs h) (All-drop P (suc at) xs h)
 
 -- lines for tools
@@ -224,3 +226,25 @@ opening-in commands =
     All-append IsLaneInShape (map (λ command. started command unused) commands) (replicate (lane_count - length commands) unused)
     (All-map IsLaneInShape (λ command. started command unused) commands (λ k d l. record { tool = tt; outs = All-push IsOutInShape [] (Start (slice_index_or commands k d)) (All-nil IsOutInShape) tt }))
     (All-replicate IsLaneInShape (lane_count - length commands) unused unused-in)
+
+-- what stands on a lane
+
+answer-by : (tool : Option Tool) (value : Term) → IfSome tool IsToolInShape → answer_by tool ≡ Some value → IsWithinLimits value
+answer-by None value h e = cc
+answer-by (Some tool) value h e = by tool.eval h.eval e
+  where
+    by : (found : Eval) → IsEvalInShape found → answer_of found ≡ Some value → IsWithinLimits value
+    by eval.Closed k f = cc
+    by eval.Asked k f = cc
+    by (eval.Answered other) k f = subst IsWithinLimits (same_Some other value f) k
+
+pub answer-in : (lane : ℕ) (bench : BenchState) (value : Term) → IsBenchInShape bench → answer_at lane bench ≡ Some value → IsWithinLimits value
+answer-in lane bench value h e = let old = lane-in lane bench h in answer-by (tool_at lane bench) value old.tool e
+
+events-by : (tool : Option Tool) → IfSome tool IsToolInShape → All IsEvent (events_of tool)
+events-by None h = All-nil IsEvent
+events-by (Some tool) h = h.events
+
+-- an event that waits there
+pub event_at-in : (place lane : ℕ) (bench : BenchState) (terms : List Term) → IsBenchInShape bench → slice_get (events_at lane bench) place ≡ Some terms → IsEvent (event_at place (events_at lane bench))
+event_at-in place lane bench terms h e = let old = lane-in lane bench h in event-in place (events_at lane bench) terms (events-by (tool_at lane bench) old.tool) e
