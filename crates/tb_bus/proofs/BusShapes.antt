@@ -84,7 +84,7 @@ changed-in (PutsNote terms) number bus k h = record {
   procs = All-map IsProcInShape (given terms) bus.procs (All-weaker IsProcInShape (λ proc. IsProcInShape (given terms proc)) (λ proc p. given-in terms proc k p) bus.procs h.procs);
   bench = h.bench;
 }
-changed-in (TakesNote place) number bus k h = record { procs = with_inbox-in number (without_note place) (λ held notes. all-remove IsNote held.notes place notes) bus.procs h.procs; bench = h.bench }
+changed-in (TakesNote index) number bus k h = record { procs = with_inbox-in number (without_note index) (λ held notes. all-remove IsNote held.notes index notes) bus.procs h.procs; bench = h.bench }
 changed-in (Subscribes patterns) number bus k h = record { procs = with_inbox-in number (subscribed patterns) (λ held notes. notes) bus.procs h.procs; bench = h.bench }
 changed-in (Unsubscribes patterns) number bus k h = record { procs = with_inbox-in number (unsubscribed patterns) (λ held notes. notes) bus.procs h.procs; bench = h.bench }
 changed-in (Creates process actuals) number bus k h = record {

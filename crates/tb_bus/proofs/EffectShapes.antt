@@ -77,7 +77,7 @@ all-levels terms h = All-weaker IsWithinLimits IsShallow (λ t w. w.levels) term
 abbrev pub IsChangeInShape : Change → Type 0
 IsChangeInShape Nothing = ⊤
 IsChangeInShape (PutsNote terms) = IsNote terms
-IsChangeInShape (TakesNote place) = ⊤
+IsChangeInShape (TakesNote index) = ⊤
 IsChangeInShape (Subscribes patterns) = ⊤
 IsChangeInShape (Unsubscribes patterns) = ⊤
 IsChangeInShape (Creates process actuals) = All IsShallow actuals

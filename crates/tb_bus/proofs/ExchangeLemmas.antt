@@ -254,9 +254,9 @@ is-event setting terms patterns exchange e =
     let found = map-some (λ (found : FoundEvent). let x : Exchange = record { lane = at.0; event = found.place; binds = found.binds } in x) (oldest_event patterns at.0 bench) exchange at.2 in
     let event = oldest-is patterns at.0 bench found.0 found.1 in
     let lane = ap (λ (x : Exchange). x.lane) found.2 in
-    let place = ap (λ (x : Exchange). x.event) found.2 in
+    let index = ap (λ (x : Exchange). x.event) found.2 in
     let there : slice_get (events_at exchange.lane bench) exchange.event ≡ Some event.terms =
-    subst (λ n. slice_get (events_at n bench) exchange.event ≡ Some event.terms) lane (subst (λ p. slice_get (events_at at.0 bench) p ≡ Some event.terms) place event.there) in
+    subst (λ n. slice_get (events_at n bench) exchange.event ≡ Some event.terms) lane (subst (λ p. slice_get (events_at at.0 bench) p ≡ Some event.terms) index event.there) in
     record {
       there = subst (IsThere bench) lane it.0;
       can = and_from (is_taken_at exchange.lane bench) (nat_lt exchange.event (length (events_at exchange.lane bench))) (subst (λ n. is_taken_at n bench ≡ true) lane it.1)
@@ -266,10 +266,10 @@ is-event setting terms patterns exchange e =
 
 -- the first that passes, of those from an index on
 pub record IsPassing {A : Type 0} (test : A → Bool) (from : ℕ) (xs : List A) (found : ℕ) : Type 0 where
-  pub place : ℕ
+  pub index : ℕ
   pub item : A
-  pub stands : found ≡ from + place
-  pub there : slice_get xs place ≡ Some item
+  pub stands : found ≡ from + index
+  pub there : slice_get xs index ≡ Some item
   pub passes : test item ≡ true
 
 position-is : {A : Type 0} (test : A → Bool) (from : ℕ) (xs : List A) (found : ℕ) → position_from test from xs ≡ Some found → IsPassing test from xs found
@@ -277,17 +277,17 @@ position-is test from [] found e = cc
 position-is {A = A} test from (x ∷ xs) found e = by (test x) refl (position-is test (from + 1) xs found) e
   where
     later : IsPassing test (from + 1) xs found → IsPassing test from (x ∷ xs) found
-    later it = record { place = suc it.place; item = it.item; stands = let s = it.stands in omega arith; there = it.there; passes = it.passes }
+    later it = record { index = suc it.index; item = it.item; stands = let s = it.stands in omega arith; there = it.there; passes = it.passes }
 
     by : (b : Bool) → test x ≡ b → (position_from test (from + 1) xs ≡ Some found → IsPassing test (from + 1) xs found) → cond b (Some from) (position_from test (from + 1) xs) ≡ Some found → IsPassing test from (x ∷ xs) found
-    by true p rest h = let s : from ≡ found = cc in record { place = 0; item = x; stands = omega arith; there = refl; passes = p }
+    by true p rest h = let s : from ≡ found = cc in record { index = 0; item = x; stands = omega arith; there = refl; passes = p }
     by false p rest h = later (rest h)
 
-received-is : (terms : List Term) (events : List (List Term)) (place : ℕ) → position_from (is_same_terms terms) 0 events ≡ Some place → slice_get events place ≡ Some terms
-received-is terms events place e =
-    let it = position-is (is_same_terms terms) 0 events place e in
+received-is : (terms : List Term) (events : List (List Term)) (index : ℕ) → position_from (is_same_terms terms) 0 events ≡ Some index → slice_get events index ≡ Some terms
+received-is terms events index e =
+    let it = position-is (is_same_terms terms) 0 events index e in
     let same : terms ≡ it.item = is_same-sound (coded_list term.the_row.coded) terms it.item it.passes in
-    let at : it.place ≡ place = let s = it.stands in omega arith in
+    let at : it.index ≡ index = let s = it.stands in omega arith in
     subst (λ p. slice_get events p ≡ Some terms) at (it.there ∙ ap (λ (ts : List Term). Some ts) (sym same))
 
 is-received : (setting : Setting) (terms : List Term) (exchange : Exchange) → exchange_for setting (Acknowledge terms) ≡ Some exchange → IsExchange setting (Acknowledge terms) exchange
@@ -295,12 +295,12 @@ is-received setting terms exchange e =
     let bench = setting.bench in
     let at = and_then-some (received_on (behind terms) bench) (lane_of is_live_at bench terms) exchange e in
     let it = spoken-lane is_live_at bench terms at.0 at.1 in
-    let found = map-some (λ (place : ℕ). let x : Exchange = record { lane = at.0; event = place; binds = [] } in x) (oldest_received (behind terms) at.0 bench) exchange at.2 in
+    let found = map-some (λ (index : ℕ). let x : Exchange = record { lane = at.0; event = index; binds = [] } in x) (oldest_received (behind terms) at.0 bench) exchange at.2 in
     let event = received-is (behind terms) (received_at at.0 bench) found.0 found.1 in
     let lane = ap (λ (x : Exchange). x.lane) found.2 in
-    let place = ap (λ (x : Exchange). x.event) found.2 in
+    let index = ap (λ (x : Exchange). x.event) found.2 in
     let there : slice_get (received_at exchange.lane bench) exchange.event ≡ Some (behind terms) =
-    subst (λ n. slice_get (received_at n bench) exchange.event ≡ Some (behind terms)) lane (subst (λ p. slice_get (received_at at.0 bench) p ≡ Some (behind terms)) place event) in
+    subst (λ n. slice_get (received_at n bench) exchange.event ≡ Some (behind terms)) lane (subst (λ p. slice_get (received_at at.0 bench) p ≡ Some (behind terms)) index event) in
     record {
       there = subst (IsThere bench) lane it.0;
       can = and_from (is_live_at exchange.lane bench) (nat_lt exchange.event (length (received_at exchange.lane bench))) (subst (λ n. is_live_at n bench ≡ true) lane it.1)

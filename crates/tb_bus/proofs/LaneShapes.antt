@@ -102,37 +102,37 @@ told-in term lane bench k h =
     (with_out-in (Line (Appl (codes "rec-do") (term ∷ []))) (lane_at lane bench) (line-in (codes "rec-do") (term ∷ []) refl k) (lane-in lane bench h))
 
 -- an event that stands there
-event-in : (place : ℕ) (events : List (List Term)) (terms : List Term) → All IsEvent events → slice_get events place ≡ Some terms → IsEvent (event_at place events)
-event-in place events terms h e = subst IsEvent (sym (get_or_from_slice_get events place terms [] e)) (all-there IsEvent events place terms h e)
+event-in : (index : ℕ) (events : List (List Term)) (terms : List Term) → All IsEvent events → slice_get events index ≡ Some terms → IsEvent (event_at index events)
+event-in index events terms h e = subst IsEvent (sym (get_or_from_slice_get events index terms [] e)) (all-there IsEvent events index terms h e)
 
-pub event_taken-in : (place lane : ℕ) (bench : BenchState) (terms : List Term) → slice_get (events_at lane bench) place ≡ Some terms → IsBenchInShape bench → IsBenchInShape (event_taken place lane bench)
-event_taken-in place lane bench terms e h =
-    on_lane-in (with_received place) lane bench h
-    (on_tool-in (λ tool. record tool { events = remove tool.events place; received = tool.received ++ event_at place tool.events ∷ [] }) (lane_at lane bench)
+pub event_taken-in : (index lane : ℕ) (bench : BenchState) (terms : List Term) → slice_get (events_at lane bench) index ≡ Some terms → IsBenchInShape bench → IsBenchInShape (event_taken index lane bench)
+event_taken-in index lane bench terms e h =
+    on_lane-in (with_received index) lane bench h
+    (on_tool-in (λ tool. record tool { events = remove tool.events index; received = tool.received ++ event_at index tool.events ∷ [] }) (lane_at lane bench)
     (λ old f k. record {
       eval = k.eval;
-      events = all-remove IsEvent old.events place k.events;
-      received = All-push IsEvent old.received (event_at place old.events) k.received
-          (event-in place old.events terms k.events (subst (λ (o : Option Tool). slice_get (events_of o) place ≡ Some terms) f e));
+      events = all-remove IsEvent old.events index k.events;
+      received = All-push IsEvent old.received (event_at index old.events) k.received
+          (event-in index old.events terms k.events (subst (λ (o : Option Tool). slice_get (events_of o) index ≡ Some terms) f e));
     })
     (lane-in lane bench h))
 
 parts-there : (count : ℕ) → 1 ≤ count → has_parts (codes "rec-ack-event") count ≡ true
 parts-there count l = le-leb 1 count l
 
-acknowledged-by : (place : ℕ) (lane : Lane) (tool : Option Tool) (terms : List Term) → slice_get (received_of tool) place ≡ Some terms → IfSome tool IsToolInShape → IsLaneInShape lane → IsLaneInShape (with_acknowledged_of place lane tool)
-acknowledged-by place lane None terms e k h = h
-acknowledged-by place lane (Some tool) terms e k h =
-    let parts = event_at place tool.received in
-    let event = event-in place tool.received terms k.received e in
-    let after : Tool = record tool { received = remove tool.received place } in
+acknowledged-by : (index : ℕ) (lane : Lane) (tool : Option Tool) (terms : List Term) → slice_get (received_of tool) index ≡ Some terms → IfSome tool IsToolInShape → IsLaneInShape lane → IsLaneInShape (with_acknowledged_of index lane tool)
+acknowledged-by index lane None terms e k h = h
+acknowledged-by index lane (Some tool) terms e k h =
+    let parts = event_at index tool.received in
+    let event = event-in index tool.received terms k.received e in
+    let after : Tool = record tool { received = remove tool.received index } in
     with_out-in (Line (Appl (codes "rec-ack-event") parts)) (with_tool after lane) (line-in (codes "rec-ack-event") parts (parts-there (length parts) event.0) event.1)
-    (record { tool = record { eval = k.eval; events = k.events; received = all-remove IsEvent tool.received place k.received }; outs = h.outs })
+    (record { tool = record { eval = k.eval; events = k.events; received = all-remove IsEvent tool.received index k.received }; outs = h.outs })
 
-pub acknowledged-in : (place lane : ℕ) (bench : BenchState) (terms : List Term) → slice_get (received_at lane bench) place ≡ Some terms → IsBenchInShape bench → IsBenchInShape (acknowledged place lane bench)
-acknowledged-in place lane bench terms e h =
+pub acknowledged-in : (index lane : ℕ) (bench : BenchState) (terms : List Term) → slice_get (received_at lane bench) index ≡ Some terms → IsBenchInShape bench → IsBenchInShape (acknowledged index lane bench)
+acknowledged-in index lane bench terms e h =
     let old = lane-in lane bench h in
-    on_lane-in (with_acknowledged place) lane bench h (acknowledged-by place (lane_at lane bench) (tool_at lane bench) terms e old.tool old)
+    on_lane-in (with_acknowledged index) lane bench h (acknowledged-by index (lane_at lane bench) (tool_at lane bench) terms e old.tool old)
 
 ended-in : (reason : Term) (lane : Lane) → AreParts (reason ∷ []) → IsLaneInShape lane → IsLaneInShape (ended_with (last_line reason) lane)
 ended-in reason lane k h = record {
@@ -246,5 +246,5 @@ events-by None h = All-nil IsEvent
 events-by (Some tool) h = h.events
 
 -- an event that waits there
-pub event_at-in : (place lane : ℕ) (bench : BenchState) (terms : List Term) → IsBenchInShape bench → slice_get (events_at lane bench) place ≡ Some terms → IsEvent (event_at place (events_at lane bench))
-event_at-in place lane bench terms h e = let old = lane-in lane bench h in event-in place (events_at lane bench) terms (events-by (tool_at lane bench) old.tool) e
+pub event_at-in : (index lane : ℕ) (bench : BenchState) (terms : List Term) → IsBenchInShape bench → slice_get (events_at lane bench) index ≡ Some terms → IsEvent (event_at index (events_at lane bench))
+event_at-in index lane bench terms h e = let old = lane-in lane bench h in event-in index (events_at lane bench) terms (events-by (tool_at lane bench) old.tool) e
