@@ -1,3 +1,9 @@
+pub mod ExchangeLemmas
+pub mod LevelLemmas
+pub mod SentLemmas
+pub mod LaneShapes
+pub mod EffectShapes
+pub mod BusShapes
 pub mod PartLemmas
 pub mod TurnLemmas
 pub mod EffectLemmas

@@ -45,13 +45,13 @@ use Rattle.tb_terms.proofs.SameLemmas.{is_same-refl, is_same-sound}
 
 -- the moves of a bus name processes of it, what they offer, and what these offers are ready for
 
-abbrev IsOffered : Bus → Proc → Offered → Type 0
+abbrev pub IsOffered : Bus → Proc → Offered → Type 0
 IsOffered bus proc offered = Contains bus.procs proc × Contains (offers proc.term proc.store) offered
 
-abbrev IsReadyFor : Bus → Proc → Offered → Action → Type 0
+abbrev pub IsReadyFor : Bus → Proc → Offered → Action → Type 0
 IsReadyFor bus proc offered does = IsOffered bus proc offered × (action_by bus proc offered ≡ Some does)
 
-abbrev IsMoveOf : Bus → Move → Type 0
+abbrev pub IsMoveOf : Bus → Move → Type 0
 IsMoveOf bus (Own proc offered effect) = (does : Action) × IsReadyFor bus proc offered does × (effect_of bus proc does ≡ Some effect)
 IsMoveOf bus (Handshake sender sent receiver received terms binds) =
     IsReadyFor bus sender sent (action.Send terms) × ((patterns : List Pattern) × IsReadyFor bus receiver received (action.Receive patterns) × (match_list patterns terms ≡ Some binds))
@@ -147,10 +147,10 @@ moves-moves bus = down-moves bus bus.down (moves_while_up bus bus.procs) (up-mov
 
 -- each step is that of a move
 
-abbrev IsMade : Bus → Step → Type 0
+abbrev pub IsMade : Bus → Step → Type 0
 IsMade bus step = (move : Move) × IsMoveOf bus move × (step ≡ step_of bus move)
 
-step-made : (bus : Bus) (step : Step) → Contains (steps bus) step → IsMade bus step
+pub step-made : (bus : Bus) (step : Step) → Contains (steps bus) step → IsMade bus step
 unfolding steps
 step-made bus step c =
     All-contains (IsMade bus) (map (step_of bus) (moves bus)) step

@@ -8,3 +8,4 @@ pub mod Traces
 pub mod Reached
 pub mod Candidates
 pub mod Views
+pub mod Waiting

@@ -19,6 +19,7 @@ mod receivers;
 mod search;
 #[cfg(test)]
 mod search_tests;
+mod shapes;
 mod slots;
 mod wanting;
 
@@ -33,3 +34,4 @@ pub use living::{Living, Ready};
 pub use marks::Marks;
 pub use origin::Origin;
 pub use search::first_candidate;
+pub use shapes::{entries_are_in_shape, what_waits_is_in_shape};
