@@ -9,6 +9,7 @@ pub mod TurnLemmas
 pub mod EffectLemmas
 pub mod RowLemmas
 pub mod CandidateLemmas
+pub mod LaneLemmas
 pub mod TraceLemmas
 pub mod OrderLemmas
 pub mod ChangeLemmas
