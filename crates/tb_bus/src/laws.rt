@@ -1,4 +1,4 @@
-ghost use Rattle.std.specs.Prelude.{◌≡◌, ◌≢◌, ◌<◌, ◌++◌, List, Contains};
+ghost use Rattle.std.specs.Prelude.{◌≡◌, ◌≢◌, ◌≤◌, ◌<◌, ◌++◌, List, Contains, length};
 ghost use Rattle.std.specs.List.{All, AllPairs};
 ghost use Rattle.tb_log.specs.declared.entry.Entry.{Entry};
 ghost use Rattle.tb_bus.specs.declared.origin.Origin.{Origin};
@@ -36,4 +36,9 @@ pub fn one_step_a_label()
 /// From a bus that a program reaches, an entry leads to one bus.
 pub fn one_bus_after_an_entry()
     ensures { (origin : Origin) (bus next : Bus) (entry : Entry) → Reaches origin bus → IsLegal bus entry next → next ≡ after bus entry }
+{}
+
+/// A bus that a program reaches has 16 lanes, where no more commands are started at its opening.
+pub fn there_are_16_lanes()
+    ensures { (origin : Origin) (bus : Bus) → length origin.connects ≤ 16 → Reaches origin bus → length bus.bench.lanes ≡ 16 }
 {}

@@ -28,7 +28,7 @@ pub use candidate::{Candidate, Partner, Received};
 pub use exchange::Exchange;
 pub use laws::{
     labels_differ, one_bus_after_an_entry, one_step_a_label, prefixes_are_traces,
-    processes_stand_by_their_numbers,
+    processes_stand_by_their_numbers, there_are_16_lanes,
 };
 pub use living::{Living, Ready};
 pub use marks::Marks;
