@@ -21,6 +21,10 @@ mod search;
 mod search_tests;
 mod shapes;
 mod slots;
+#[cfg(test)]
+mod tool_plans;
+#[cfg(test)]
+mod tool_tests;
 mod wanting;
 
 pub use action::{Action, OwnAction, ToolAction};
