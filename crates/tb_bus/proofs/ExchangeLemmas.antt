@@ -316,9 +316,7 @@ exchange-is setting (DisconnectAny tool slot) exchange e = let it = is-kind sett
 exchange-is setting (Disconnect terms) exchange e = let it = is-plain setting can_leave terms exchange e in record { there = it.0; can = it.1; is = it.2 }
 exchange-is setting (Eval terms) exchange e = let it = is-plain setting can_eval terms exchange e in record { there = it.0; can = it.1; is = it.2 }
 exchange-is setting (TakeValue terms patterns) exchange e = is-value setting terms patterns exchange e
-exchange-is setting (Do terms) exchange e =
-    let it = is-plain setting can_eval terms exchange e in
-    record { there = it.0; can = (and_parts (is_live_at exchange.lane setting.bench) (of_tool (λ tool. is_closed tool.eval) (tool_at exchange.lane setting.bench)) it.1).0; is = it.2 }
+exchange-is setting (Do terms) exchange e = let it = is-plain setting can_eval terms exchange e in record { there = it.0; can = it.1; is = it.2 }
 exchange-is setting (TakeEvent terms patterns) exchange e = is-event setting terms patterns exchange e
 exchange-is setting (Acknowledge terms) exchange e = is-received setting terms exchange e
 exchange-is setting (Terminate terms) exchange e = let it = is-plain setting is_live_at terms exchange e in record { there = it.0; can = it.1; is = it.2 }

@@ -89,7 +89,7 @@ own_effect bus proc (Unsubscribe patterns) = Some (record { kind = kind.Unsubscr
 own_effect bus proc (Create process actuals slot) =
     if may_create bus.program.bodies (length bus.procs) bus.next_number proc.body process actuals slot
     then Some (creation bus.next_number process actuals slot) else None
--- the bus goes down, and its tools are told
+-- the bus goes down
 own_effect bus proc (Shutdown reason) = Some (record { kind = kind.Shutdown; shown = reason ∷ []; binds = []; change = GoesDown reason })
 
 -- where a process speaks with tools
@@ -126,7 +126,7 @@ given terms proc = if wants proc.inbox terms then record proc { inbox = with_not
 abbrev pub with_inbox : ℕ → (Held → Held) → Proc → Proc
 with_inbox number change proc = if proc.number == number then record proc { inbox = change proc.inbox } else proc
 
--- the bus goes down for this reason, and each tool that is there is told
+-- the bus goes down for this reason, and each lane that is up and hasn't ended is told to end
 abbrev pub went_down : Term → Bus → Bus
 went_down reason bus = record bus { down = true; bench = gone_down reason bus.bench }
 

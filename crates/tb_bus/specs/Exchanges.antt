@@ -61,7 +61,8 @@ plain_on lane = record { lane = lane; event = 0; binds = [] }
 abbrev pub bound_on : ℕ → ℕ → Term → Exchange
 bound_on slot lane term = record { lane = lane; event = 0; binds = record { slot = slot; value = term } ∷ [] }
 
--- the slot takes the term, which is within the limits
+-- the slot takes the term, which is within the limits: only that of a tool that is started may be too large, since a tool
+-- that connects has a shorter name
 abbrev pub binding_on : Setting → ℕ → ℕ → Term → Option Exchange
 binding_on setting slot lane term = if is_limited term && fits_slot setting.body slot term then Some (bound_on slot lane term) else None
 
@@ -109,11 +110,11 @@ behind = drop 1
 
 -- How an action may happen, where it may: one line an atom.
 abbrev pub exchange_for : Setting → ToolAction → Option Exchange
--- the kind has a command, a lane is free, and the slot takes the new tool
+-- the kind has a command, a lane is free, and the slot takes the new tool, whose term is within the limits
 exchange_for setting (Execute tool slot) = option_and_then (λ command. starting setting slot (kind_name setting tool)) (kind_command setting tool)
--- a tool of the kind waits
+-- a tool of the kind waits: the one with the smallest number, where the slot takes it
 exchange_for setting (Connect tool slot) = first_of_kind setting Waiting tool slot
--- a tool of the kind is leaving
+-- a tool of the kind is leaving: likewise
 exchange_for setting (DisconnectAny tool slot) = first_of_kind setting Leaving tool slot
 -- the tool is leaving
 exchange_for setting (Disconnect terms) = option_map plain_on (lane_of can_leave setting.bench terms)

@@ -65,7 +65,7 @@ abbrev pub arguments_text : List Term → List ℕ
 arguments_text [] = []
 arguments_text (term ∷ terms) = 40 ∷ terms_text (term ∷ terms) ++ 41 ∷ []
 
--- a line of a tool: the text of a term, or a question mark where it was none
+-- a line of a tool: the text of a term, or a question mark where it was a bad one
 abbrev pub tool_line_words : ToolLine → List ℕ
 tool_line_words (tool.Value term) = codes "snd-value" ++ 40 ∷ term_text term ++ 41 ∷ []
 tool_line_words (tool.Event terms) = codes "snd-event" ++ arguments_text terms

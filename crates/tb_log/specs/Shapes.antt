@@ -67,7 +67,7 @@ pub record AreParts (parts : List Term) : Type 0 where
   pub each : All IsWithinLimits parts
   pub together : terms_size parts ≤ 65536
 
--- a line that a tool may put, or a bad one; with the parentheses around it a tool's name is no longer than a term may be
+-- a line that a tool may put, or a bad one; the term of a tool, which is its name with a number, is 2 larger than the name
 abbrev pub IsToolLineInShape : ToolLine → Type 0
 IsToolLineInShape (tool.Value term) = IsWithinLimits term
 IsToolLineInShape (tool.Event terms) = (1 ≤ length terms) × AreParts terms

@@ -40,9 +40,9 @@ pub enum Input {
     Tick,
     /// No more ticks come.
     NoTicks,
-    /// The tool on this lane put a line.
+    /// The program on this lane put a line.
     Line(u8, ToolLine),
-    /// The tool on this lane has ended.
+    /// The program on this lane has ended.
     Gone(u8),
     /// What was handed out on this lane couldn't be put.
     Cut(u8),
@@ -68,7 +68,7 @@ impl Input {
 pub enum Why {
     /// A value came that nobody had asked for, or a second one.
     Unasked,
-    /// The lane wasn't up, or had no tool that could put such a line.
+    /// The lane wasn't up or had ended, or it had no tool that could put such a line.
     NotLive,
     /// A tool named itself on a lane that has a tool.
     Named,

@@ -110,9 +110,9 @@ without_answer = on_tool (λ tool. record tool { eval = eval.Closed })
 abbrev pub value_taken : ℕ → BenchState → BenchState
 value_taken = on_lane without_answer
 
--- a tool is live
+-- a tool is live, and no evaluation is open
 abbrev pub can_do : ℕ → BenchState → Bool
-can_do = is_live_at
+can_do = can_eval
 
 -- The tool is told what to do.
 abbrev pub told : Term → ℕ → BenchState → BenchState

@@ -47,7 +47,7 @@ while_up change lane bench =
     if (lane_at lane bench).up then record { reply = Took; bench = on_lane change lane bench }
     else record { reply = Dropped why.NotLive; bench = bench }
 
--- The tool of a lane has ended.
+-- The program on a lane has ended.
 abbrev pub gone : ℕ → BenchState → Answer
 gone = while_up lost
 
@@ -132,6 +132,6 @@ abbrev pub line_by : Option Why → ToolLine → ℕ → BenchState → Answer
 line_by None line lane bench = record { reply = Took; bench = with_line line lane bench }
 line_by (Some why) line lane bench = record { reply = Dropped why; bench = bench }
 
--- The tool of a lane has put a line. A line that is dropped changes nothing.
+-- The program on a lane has put a line. A line that is dropped changes nothing.
 abbrev pub put_line : Bool → ToolLine → ℕ → BenchState → Answer
 put_line declared line lane bench = line_by (dropped declared line (lane_at lane bench)) line lane bench

@@ -254,7 +254,7 @@ impl Bench {
         }
     }
 
-    /// The tool of a lane has put a line. `declared` says whether there is a tool of the name by
+    /// The program on a lane has put a line. `declared` says whether there is a tool of the name by
     /// which the line connects.
     pub fn line(&mut self, lane: u8, l: ToolLine, declared: bool) -> Result<Reply, NoMemory>
         requires lane { IsLane lane }
@@ -298,7 +298,7 @@ impl Bench {
         Ok(())
     }
 
-    /// The tool of a lane has ended. Takes no memory.
+    /// The program on a lane has ended. Takes no memory.
     pub fn gone(&mut self, lane: u8) -> Reply
         requires { IsLane lane }
         ensures reply { result ≡ (gone lane self.old).reply }

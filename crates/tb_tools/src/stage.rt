@@ -7,7 +7,7 @@ pub enum Stage {
     Waiting,
     /// Processes may use it.
     Live,
-    /// It has ended or was cut off, and no process has noticed yet.
+    /// It has ended, was cut off, or says that it leaves, and no process has noticed yet.
     Leaving,
 }
 
@@ -33,7 +33,7 @@ pub enum LaneState {
     Waiting,
     /// Processes may use its tool.
     Live,
-    /// Its tool has ended or was cut off, and no process has noticed yet.
+    /// Its tool has ended, was cut off, or says that it leaves, and no process has noticed yet.
     Leaving,
     /// It has no tool, and isn't free yet.
     Ending,
