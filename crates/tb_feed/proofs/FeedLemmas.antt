@@ -3,29 +3,8 @@ use Rattle.std.proofs.Common.{◌≡◌, ◌==◌, ℕ, suc, ◌+◌, ◌<◌, B
 use Rattle.std.specs.List.{AllZip}
 use Rattle.std.proofs.lemmas.List.{drop_more, length-map, take-append-drop, map_push}
 use Rattle.tb_log.specs.declared.entry.Input.{Input}
-use Rattle.tb_log.specs.declared.entry.Input.TheVariants.{Tick, NoTicks, Gone, Cut}
-use Rattle.tb_log.specs.declared.entry.Input.TheVariants as input_of
-use Rattle.tb_feed.specs.Feeds.{MayBeFed, Says, SayAll, lines_of, is_full, IsFeedOf, IsFirstBad}
-
--- a line says one input at most
-says-one : (line : List ℕ) (input other : Input) → Says line input → Says line other → input ≡ other
-says-one line Tick Tick h g = refl
-says-one line Tick NoTicks h g = absurd g
-says-one line Tick (input_of.Line lane said) h g = absurd g
-says-one line Tick (Gone lane) h g = absurd g
-says-one line Tick (Cut lane) h g = absurd g
-says-one line NoTicks other h g = absurd h
-says-one line (input_of.Line lane said) other h g = absurd h
-says-one line (Gone lane) other h g = absurd h
-says-one line (Cut lane) other h g = absurd h
-
--- and one that may be fed
-pub says-may : (line : List ℕ) (input : Input) → Says line input → MayBeFed input
-says-may line Tick h = (tt, λ e. cc)
-says-may line NoTicks h = absurd h
-says-may line (input_of.Line lane said) h = absurd h
-says-may line (Gone lane) h = absurd h
-says-may line (Cut lane) h = absurd h
+use Rattle.tb_feed.specs.Feeds.{Says, SayAll, lines_of, is_full, IsFeedOf, IsFirstBad}
+use Rattle.tb_feed.proofs.LineLemmas.{says-one}
 
 -- so lines say one list of inputs at most
 zip-once : (lines : List (List ℕ)) (inputs others : List Input) → AllZip Says lines inputs → AllZip Says lines others → inputs ≡ others

@@ -1,3 +1,5 @@
 pub mod FeedLemmas
+pub mod LaneNumbers
+pub mod LineLemmas
 pub mod Roads
 mod Rows

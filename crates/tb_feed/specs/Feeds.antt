@@ -1,10 +1,12 @@
 -- What a text of lines says that comes to a bus from outside: an input for each line that isn't empty.
 use Rattle.std.specs.Prelude.{◌≡◌, ◌≢◌, ◌==◌, ℕ, ◌+◌, Bool, true, false, List, [], ◌∷◌, ◌++◌, length, filter, codes, ⊤}
 use Rattle.std.specs.List.{AllZip, slice_split}
-use Rattle.tb_log.specs.Shapes.{IsInputInShape}
+use Rattle.std.specs.Fmt.{decimal}
+use Rattle.tb_log.specs.Shapes.{IsLane, IsInputInShape}
 use Rattle.tb_log.specs.declared.entry.Input.{Input}
 use Rattle.tb_log.specs.declared.entry.Input.TheVariants.{Tick, NoTicks, Gone, Cut}
 use Rattle.tb_log.specs.declared.entry.Input.TheVariants as input_of
+use Rattle.tb_lane.specs.ToolLines.{IsToolLine}
 use Rattle.tb_feed.specs.declared.fault.FeedFault.{FeedFault}
 use Rattle.tb_feed.specs.declared.fault.FeedFault.TheVariants.{Line, TooLong, NoMemory}
 
@@ -16,15 +18,15 @@ MayBeFed input = IsInputInShape input × (input ≢ NoTicks)
 abbrev pub lines_of : List ℕ → List (List ℕ)
 lines_of text = slice_split (λ byte. byte == 10) text
 
--- A line says an input: one case for each input.
+-- A line says an input: one case for each input. A lane has its number there in decimal, without leading zeros.
 abbrev pub Says : List ℕ → Input → Type 0
 Says line Tick = line ≡ codes "tick"
 -- no line says that no more ticks come
 Says line NoTicks = ⊥
--- what comes of a lane isn't read yet
-Says line (input_of.Line lane said) = ⊥
-Says line (Gone lane) = ⊥
-Says line (Cut lane) = ⊥
+-- behind one blank come the bytes that the tool put, whatever they are
+Says line (input_of.Line lane said) = IsLane lane × ((text : List ℕ) × (line ≡ codes "line " ++ decimal lane ++ codes " " ++ text) × IsToolLine text said)
+Says line (Gone lane) = IsLane lane × (line ≡ codes "gone " ++ decimal lane)
+Says line (Cut lane) = IsLane lane × (line ≡ codes "cut " ++ decimal lane)
 
 abbrev pub is_full : List ℕ → Bool
 is_full [] = false

@@ -4,6 +4,7 @@
 mod fault;
 mod feed;
 mod laws;
+mod line;
 mod reading;
 
 pub use fault::FeedFault;

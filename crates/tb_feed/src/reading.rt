@@ -1,14 +1,12 @@
 //! How a text is read line by line.
 
-ghost use Rattle.std.specs.Prelude.{◌≡◌, IfOk, IfErr};
-ghost use Rattle.std.specs.Option.{MatchOption};
-ghost use Rattle.tb_log.specs.declared.entry.Input.{Input};
-ghost use Rattle.tb_feed.specs.Feeds.{Says, IsFeedOf, IsFaultOf};
+ghost use Rattle.std.specs.Prelude.{IfOk, IfErr};
+ghost use Rattle.tb_feed.specs.Feeds.{IsFeedOf, IsFaultOf};
 
 use crate::fault::FeedFault;
 use crate::feed::Feed;
+use crate::line::input_of;
 use std::alloc::Global;
-use tb_log::Input;
 
 /// Reads a text of lines, each ended by a newline or the end of the text. An empty line says nothing. The fault is
 /// `Line` where some line is neither empty nor an input, with the number of the first such, from 1; it is never
@@ -24,20 +22,10 @@ pub fn read_feed(alloc: Global, bytes: &[u8]) -> Result<Feed, FeedFault>
         if line.is_empty() {
             continue;
         }
-        match input_of(line) {
+        match input_of(alloc, line)? {
             Some(input) => inputs.push(input)?,
             None => return Err(FeedFault::Line(number)),
         }
     }
     Ok(Feed::new(alloc, inputs))
-}
-
-/// The input that a line says, where it says one.
-fn input_of(line: &[u8]) -> Option<Input>
-    ensures { MatchOption result ((input : Input) → Says line.now input → ⊥) (Says line.now) }
-{
-    if line == b"tick".as_slice() {
-        return Some(Input::Tick);
-    }
-    None
 }

@@ -1,0 +1,7 @@
+use Rattle.std.proofs.Common.{◌≡◌, take, true}
+use Rattle.tb_feed.specs.OneLine.{lacks_blank}
+use Rattle.tb_feed.proofs.line.at_blank.Given as goal
+
+-- no blank so far
+abbrev pub invariant-loop-place : goal.invariant-loop-place
+invariant-loop-place l = lacks_blank (take l.place l.bytes) ≡ true
