@@ -10,6 +10,7 @@ pub mod EffectLemmas
 pub mod RowLemmas
 pub mod CandidateLemmas
 pub mod LaneLemmas
+pub mod DownLemmas
 pub mod TraceLemmas
 pub mod OrderLemmas
 pub mod ChangeLemmas

@@ -5,6 +5,7 @@ pub mod Exchanges
 pub mod Effects
 pub mod Steps
 pub mod Traces
+pub mod Ends
 pub mod Reached
 pub mod Candidates
 pub mod Views

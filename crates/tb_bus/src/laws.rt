@@ -1,10 +1,16 @@
-ghost use Rattle.std.specs.Prelude.{◌≡◌, ◌≢◌, ◌≤◌, ◌<◌, ◌++◌, List, Contains, length};
+ghost use Rattle.std.specs.Prelude.{◌≡◌, ◌≢◌, ◌≤◌, ◌<◌, ◌++◌, List, Contains, length, true, false};
 ghost use Rattle.std.specs.List.{All, AllPairs};
+ghost use Rattle.tb_log.specs.declared.entry.Input.{Input};
+ghost use Rattle.tb_log.specs.declared.entry.Label.{Label};
+ghost use Rattle.tb_log.specs.declared.entry.Reply.TheVariants.{Dropped};
+ghost use Rattle.tb_log.specs.declared.entry.Why.{Why};
 ghost use Rattle.tb_log.specs.declared.entry.Entry.{Entry};
+ghost use Rattle.tb_log.specs.declared.entry.Entry.TheVariants.{Did};
 ghost use Rattle.tb_bus.specs.declared.origin.Origin.{Origin};
 ghost use Rattle.tb_bus.specs.Buses.{Bus, Proc};
 ghost use Rattle.tb_bus.specs.Steps.{Step, steps};
-ghost use Rattle.tb_bus.specs.Traces.{IsLegal, IsTrace, after, replay};
+ghost use Rattle.tb_bus.specs.Traces.{IsLegal, IsTrace, after, fed, replay};
+ghost use Rattle.tb_bus.specs.Ends.{TakesDown};
 ghost use Rattle.tb_bus.specs.Reached.{Reaches};
 
 /// Each prefix of a trace is a trace; and where one trace leads, another may follow.
@@ -41,4 +47,15 @@ pub fn one_bus_after_an_entry()
 /// A bus that a program reaches has 16 lanes, where no more commands are started at its opening.
 pub fn there_are_16_lanes()
     ensures { (origin : Origin) (bus : Bus) → length origin.connects ≤ 16 → Reaches origin bus → length bus.bench.lanes ≡ 16 }
+{}
+
+/// An input that is dropped leaves the bus as it was.
+pub fn dropped_inputs_change_nothing()
+    ensures { (bus : Bus) (input : Input) (why : Why) → (fed bus input).reply ≡ Dropped why → (fed bus input).bus ≡ bus }
+{}
+
+/// Only the end of all processes, that none can do anything any more, and a process that shuts it down take a bus down.
+pub fn three_steps_take_a_bus_down()
+    ensures { (bus next : Bus) (entry : Entry) → IsLegal bus entry next → bus.down ≡ false → next.down ≡ true →
+        (label : Label) × (entry ≡ Did label) × TakesDown label.kind }
 {}

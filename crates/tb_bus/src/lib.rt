@@ -31,8 +31,9 @@ pub use action::{Action, OwnAction, ToolAction};
 pub use candidate::{Candidate, Partner, Received};
 pub use exchange::Exchange;
 pub use laws::{
-    labels_differ, one_bus_after_an_entry, one_step_a_label, prefixes_are_traces,
-    processes_stand_by_their_numbers, there_are_16_lanes,
+    dropped_inputs_change_nothing, labels_differ, one_bus_after_an_entry, one_step_a_label,
+    prefixes_are_traces, processes_stand_by_their_numbers, there_are_16_lanes,
+    three_steps_take_a_bus_down,
 };
 pub use living::{Living, Ready};
 pub use marks::Marks;
