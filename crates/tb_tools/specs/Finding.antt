@@ -1,5 +1,5 @@
--- Which lane is free, on which lane a tool stands, and which event matches.
-use Rattle.std.specs.Prelude.{ℕ, ◌+◌, nat_le, Bool, ◌&&◌, List, [], ◌∷◌, slice_get, Option, Some, None, option_map, if◌then◌else◌}
+-- Which lane is free or has something to hand out, on which lane a tool stands, and which event matches.
+use Rattle.std.specs.Prelude.{ℕ, ◌+◌, nat_le, Bool, not, ◌&&◌, List, [], ◌∷◌, slice_get, Option, Some, None, option_map, if◌then◌else◌}
 use Rattle.std.specs.List.{position_from}
 use Rattle.std.specs.Str.{bytes_eq}
 use Rattle.tb_terms.specs.declared.term.Term.{Term}
@@ -11,7 +11,7 @@ use Rattle.tb_log.specs.declared.entry.Out.{Out}
 use Rattle.tb_tools.specs.declared.stage.Stage.{Stage}
 use Rattle.tb_tools.specs.declared.found.FoundEvent.{FoundEvent}
 use Rattle.tb_tools.specs.declared.found.FoundTool.{FoundTool}
-use Rattle.tb_tools.specs.Lanes.{Tool, Lane, BenchState, of_tool, is_same_stage, outs_at, is_free, term_of}
+use Rattle.tb_tools.specs.Lanes.{Tool, Lane, BenchState, of_tool, is_same_stage, is_empty, outs_at, is_free, term_of}
 use Rattle.tb_tools.specs.Acts.{events_at, received_at}
 
 -- the first lane that passes the test
@@ -71,3 +71,10 @@ oldest_received terms lane bench = position_from (is_same_terms terms) 0 (receiv
 -- What is to be handed out next on this lane.
 abbrev pub next_out : ℕ → BenchState → Option Out
 next_out lane bench = slice_get (outs_at lane bench) 0
+
+abbrev pub has_out : Lane → Bool
+has_out lane = not (is_empty lane.outs)
+
+-- The lowest lane that has something to hand out.
+abbrev pub first_out : BenchState → Option ℕ
+first_out = first_lane has_out

@@ -2,12 +2,13 @@ ghost use Rattle.std.specs.Prelude.{◌≡◌, ◌≤◌, ◌<◌, ◌+◌, ◌-
 ghost use Rattle.std.specs.Option.{option_copied, ForSome};
 ghost use Rattle.tb_log.specs.Shapes.{IsLane};
 ghost use Rattle.tb_tools.specs.Lanes.{opening, started, unused, is_open, most_tools, is_stage_at, lane_at, tool_at, lane_state, term_of};
-ghost use Rattle.tb_tools.specs.Finding.{free_lane, find_tool, first_at, oldest_event, oldest_received, next_out};
+ghost use Rattle.tb_tools.specs.Finding.{free_lane, find_tool, first_at, oldest_event, oldest_received, next_out, first_out};
 ghost use Rattle.tb_tools.specs.Inputs.{put_line, with_line, gone, cut, has_asked};
 ghost use Rattle.tb_tools.specs.Acts.{answer_at, events_at, received_at, is_live_at, is_taken_at, can_execute, executed, can_connect, connected, can_leave, left, can_eval, asked, can_take_value, value_taken, can_do, told, can_take_event, event_taken, can_ack, acknowledged, can_terminate, terminated, gone_down, handed_out};
 
 use crate::events::Events;
 use crate::found::{FoundEvent, FoundTool};
+use crate::handout::Handout;
 use crate::lane::LaneRow;
 use crate::stage::{LaneState, Stage};
 use crate::told::{last_lines, line_with};
@@ -336,7 +337,7 @@ impl Bench {
         let live = LaneTool::new(self.alloc, tool.copy(self.alloc)?, number, Stage::Live)?;
         let command = command.copy(self.alloc)?;
         let row = &mut self.lanes[index_of(lane)];
-        row.start(command)?;
+        row.start(self.alloc, command)?;
         row.set_tool(Some(live));
         self.next_tool += 1;
         Ok(i64::from(number))
@@ -441,6 +442,20 @@ impl Bench {
         self.row(lane).next_out()
     }
 
+    /// The lowest lane that has something to hand out.
+    pub fn first_out(&self) -> Option<u8>
+        ensures lane { result ≡ first_out self.now }
+        ensures within { ForSome result IsLane }
+        ensures some { ForSome result (λ lane. IsSome (next_out lane self.now)) }
+    {
+        for index in 0..LANES {
+            if self.lanes[index].has_out() {
+                return Some(number_of(index));
+            }
+        }
+        None
+    }
+
     /// Takes what is to be handed out next on a lane.
     pub fn take_out(&mut self, lane: u8) -> Out
         requires lane { IsLane lane }
@@ -448,7 +463,18 @@ impl Bench {
         ensures out { next_out lane self.old ≡ Some result }
         ensures bench { self.new ≡ handed_out lane self.old }
     {
-        self.lanes[index_of(lane)].take_out()
+        self.take_handout(lane).given
+    }
+
+    /// Takes it twice: for the tool, and for a log. Takes no memory.
+    pub fn take_handout(&mut self, lane: u8) -> Handout
+        requires lane { IsLane lane }
+        requires some { IsSome (next_out lane self.old) }
+        ensures given { next_out lane self.old ≡ Some result.given }
+        ensures logged { next_out lane self.old ≡ Some result.logged }
+        ensures bench { self.new ≡ handed_out lane self.old }
+    {
+        self.lanes[index_of(lane)].take_out().into_handout()
     }
 
     fn row(&self, lane: u8) -> &LaneRow
@@ -485,7 +511,7 @@ fn started_lanes(alloc: Global, commands: &Texts) -> Result<Vec<LaneRow>, NoMemo
     let mut lanes = Vec::with_capacity(alloc, LANES)?;
     for command in commands.as_slice() {
         let mut lane = LaneRow::unused(alloc)?;
-        lane.start(command.copy(alloc)?)?;
+        lane.start(alloc, command.copy(alloc)?)?;
         lanes.push(lane)?;
     }
     Ok(lanes)

@@ -9,7 +9,7 @@ use std::alloc::Global;
 use std::collections::VecDeque;
 use std::marker::Model;
 use tb_match::match_list;
-use tb_terms::{NoMemory, Patterns, Terms, same_terms};
+use tb_terms::{NoMemory, Patterns, Terms, copy_terms, same_terms};
 
 /// Events of one tool, the oldest first. Contracts see them as a list.
 #[derive(Debug, Drop)]
@@ -52,6 +52,14 @@ impl Events {
         ensures { option_copied result ≡ slice_get self.now place }
     {
         self.queue.get(place)
+    }
+
+    /// The event at this place in memory of its own.
+    pub(crate) fn copy_at(&self, alloc: Global, place: usize) -> Result<Terms, NoMemory>
+        requires { place < length self.now }
+        ensures { IfOk result (λ copy. copy ≡ slice_index_or self.now place []) }
+    {
+        copy_terms(alloc, &self.queue[place])
     }
 
     /// The event stands last.

@@ -3,11 +3,12 @@ ghost use Rattle.std.specs.Option.{option_copied};
 ghost use Rattle.tb_log.specs.declared.entry.Out.{Out};
 ghost use Rattle.tb_tools.specs.declared.stage.Eval.TheVariants as eval;
 ghost use Rattle.tb_tools.specs.Lanes.{unused, started, is_free, is_open, lane_state, on_tool, with_out, without_tool};
-ghost use Rattle.tb_tools.specs.Finding.{has_tool, smaller_of};
+ghost use Rattle.tb_tools.specs.Finding.{has_tool, has_out, smaller_of};
 ghost use Rattle.tb_tools.specs.Inputs.{flushed, closed, lost, dropped, answered, with_event};
 ghost use Rattle.tb_tools.specs.Acts.{answer_by, events_of, received_of, with_live_tool, with_question, without_answer, with_received, with_acknowledged, dismissed, ended_with, last_line, without_out};
 
 use crate::found::{FoundTool, smaller};
+use crate::handout::KeptOut;
 use crate::stage::{LaneState, Stage};
 use crate::told::{last_line, line_with};
 use crate::tool::LaneTool;
@@ -26,7 +27,7 @@ pub(crate) struct LaneRow {
     up: bool,
     ended: bool,
     tool: Option<LaneTool>,
-    outs: VecDeque<Out>,
+    outs: VecDeque<KeptOut>,
 }
 
 impl Model for LaneRow {
@@ -124,12 +125,13 @@ impl LaneRow {
     }
 
     /// Sets it up, forgets that it ended, and puts the command.
-    pub fn start(&mut self, command: Text) -> Result<(), NoMemory>
+    pub fn start(&mut self, alloc: Global, command: Text) -> Result<(), NoMemory>
         ensures ok { OnOk result (self.new ≡ started command self.old) }
         ensures err { OnErr result (self.new ≡ self.old) }
     {
+        let start = KeptOut::new(alloc, Out::Start(command))?;
         self.outs.reserve(1 + LAST_ITEMS)?;
-        self.outs.push_back_reserved(Out::Start(command));
+        self.outs.push_back_reserved(start);
         self.up = true;
         self.ended = false;
         Ok(())
@@ -143,7 +145,7 @@ impl LaneRow {
     }
 
     /// The item stands last.
-    pub fn put(&mut self, out: Out) -> Result<(), NoMemory>
+    pub fn put(&mut self, out: KeptOut) -> Result<(), NoMemory>
         ensures ok { OnOk result (self.new ≡ with_out out self.old) }
         ensures err { OnErr result (self.new ≡ self.old) }
     {
@@ -160,7 +162,7 @@ impl LaneRow {
             return;
         }
         self.outs.clear();
-        self.outs.push_back_reserved(Out::End);
+        self.outs.push_back_reserved(KeptOut::end());
         self.ended = true;
     }
 
@@ -278,11 +280,10 @@ impl LaneRow {
         ensures ok { OnOk result (self.new ≡ with_acknowledged place self.old) }
         ensures err { OnErr result (self.new ≡ self.old) }
     {
-        let word = Name::new(alloc, b"rec-ack-event")?;
         self.outs.reserve(1 + LAST_ITEMS)?;
         if let Some(tool) = &mut self.tool {
-            let line = Term::Appl(word, tool.forget(place));
-            self.outs.push_back_reserved(Out::Line(line));
+            let line = tool.acknowledge(alloc, place)?;
+            self.outs.push_back_reserved(line);
         }
         Ok(())
     }
@@ -295,14 +296,14 @@ impl LaneRow {
         let line = last_line(alloc, term)?;
         self.outs.reserve(LAST_ITEMS)?;
         self.outs.push_back_reserved(line);
-        self.outs.push_back_reserved(Out::End);
+        self.outs.push_back_reserved(KeptOut::end());
         self.ended = true;
         self.tool = None;
         Ok(())
     }
 
     /// Where it is open, puts one of the lines, and its end. Takes no memory.
-    pub fn dismiss(&mut self, lines: &mut Vec<Out>)
+    pub fn dismiss(&mut self, lines: &mut Vec<KeptOut>)
         ensures { (line : Out) (left : ℕ) → lines.old.items ≡ replicate ((if is_open self.old then 1 else 0) + left) line
             → (self.new ≡ dismissed line self.old) × (lines.new.items ≡ replicate left line) }
     {
@@ -313,12 +314,12 @@ impl LaneRow {
         }
     }
 
-    fn end_with(&mut self, line: Out)
+    fn end_with(&mut self, line: KeptOut)
         requires { self.old.ended ≡ false }
         ensures { self.new ≡ ended_with line self.old }
     {
         self.outs.push_back_reserved(line);
-        self.outs.push_back_reserved(Out::End);
+        self.outs.push_back_reserved(KeptOut::end());
         self.ended = true;
     }
 
@@ -326,11 +327,21 @@ impl LaneRow {
     pub fn next_out(&self) -> Option<&Out>
         ensures { option_copied result ≡ slice_get self.now.outs 0 }
     {
-        self.outs.front()
+        match self.outs.front() {
+            Some(kept) => Some(kept.item()),
+            None => None,
+        }
+    }
+
+    /// Whether it has something to hand out.
+    pub fn has_out(&self) -> bool
+        ensures { result ≡ has_out self.now }
+    {
+        !self.outs.is_empty()
     }
 
     /// The first of what is to be handed out leaves.
-    pub fn take_out(&mut self) -> Out
+    pub fn take_out(&mut self) -> KeptOut
         requires { 0 < length self.old.outs }
         ensures out { slice_get self.old.outs 0 ≡ Some result }
         ensures rest { self.new ≡ without_out self.old }

@@ -3,16 +3,18 @@ ghost use Rattle.std.specs.Option.{option_copied};
 ghost use Rattle.tb_terms.specs.Same.{is_same_term};
 ghost use Rattle.tb_tools.specs.Lanes.{new_tool, term_of, is_same_stage};
 ghost use Rattle.tb_tools.specs.Inputs.{is_asked, departed};
-ghost use Rattle.tb_tools.specs.Acts.{is_closed, answer_of, event_at};
+ghost use Rattle.tb_tools.specs.Acts.{is_closed, answer_of, event_at, acknowledgement};
 ghost use Rattle.tb_tools.specs.Finding.{is_at};
 ghost use Rattle.tb_tools.specs.declared.stage.Stage.TheVariants as stage;
 ghost use Rattle.tb_tools.specs.declared.stage.Eval.TheVariants as eval;
 
 use crate::events::Events;
+use crate::handout::KeptOut;
 use crate::stage::{Eval, Stage};
 use std::alloc::Global;
 use std::marker::Model;
 use std::mem;
+use tb_log::Out;
 use tb_terms::{Items, Name, NoMemory, Term, Terms, same};
 
 /// A tool that stands on a lane.
@@ -214,12 +216,16 @@ impl LaneTool {
         self.events.pass_on(place, &mut self.received)
     }
 
-    /// The received event at this place is forgotten.
-    pub fn forget(&mut self, place: usize) -> Terms
+    /// The received event at this place is forgotten, and this line acknowledges it.
+    pub fn acknowledge(&mut self, alloc: Global, place: usize) -> Result<KeptOut, NoMemory>
         requires { place < length self.old.received }
-        ensures event { result ≡ event_at place self.old.received }
-        ensures rest { self.new ≡ record self.old { received = remove self.old.received place } }
+        ensures line { IfOk result (λ line. line ≡ acknowledgement place self.old) }
+        ensures ok { OnOk result (self.new ≡ record self.old { received = remove self.old.received place }) }
+        ensures err { OnErr result (self.new ≡ self.old) }
     {
-        self.received.remove(place)
+        let word = Name::new(alloc, b"rec-ack-event")?;
+        let copy = Term::Appl(word.copy(alloc)?, self.received.copy_at(alloc, place)?);
+        let line = Term::Appl(word, self.received.remove(place));
+        Ok(KeptOut::of(Out::Line(line), Out::Line(copy)))
     }
 }
