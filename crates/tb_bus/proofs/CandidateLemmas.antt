@@ -6,16 +6,16 @@ use Rattle.std.specs.List.{All}
 use Rattle.tb_terms.specs.declared.term.Term.{Term}
 use Rattle.tb_match.specs.declared.bind.Bind.{Bind}
 use Rattle.tb_match.specs.Matches.{match_list}
-use Rattle.tb_body.specs.declared.body.Body.{Body}
 use Rattle.tb_notes.specs.Inboxes.{oldest_match}
-use Rattle.tb_notes.specs.declared.queue.Found.{Found}
-use Rattle.tb_bus.specs.Candidates.{Row, Scene, first, row_at, no_row, received_if, reception, receptions, partner_in, partners, all_take, wanting, may_happen, candidates_by, candidates_among, candidates_of, candidates_from, up_to, candidates_in_turn, candidates_or_halt, candidates_while_up, all_candidates, scene_of, ascend}
+use Rattle.tb_bus.specs.Candidates.{Row, Scene, first, row_at, no_row, received_if, reception, receptions, partner_in, partners, all_take, wanting, may_happen, candidates_by, candidates_among, candidates_of, candidates_from, up_to, candidates_in_turn, candidates_or_halt, candidates_while_up, all_candidates, setting_in, ascend}
 use Rattle.tb_bus.specs.declared.marks.Marks.{Marks}
 use Rattle.tb_bus.specs.Buses.{Bus}
 use Rattle.tb_bus.specs.Steps.{moves}
 use Rattle.tb_bus.specs.Views.{sent_in, ready_at, move_of, Receives, IsThere, IsCandidateIn, IsSearchedFor}
 use Rattle.tb_bus.specs.declared.action.Action.{Action}
 use Rattle.tb_bus.specs.declared.action.Action.TheVariants as action
+use Rattle.tb_bus.specs.Exchanges.{exchange_for}
+use Rattle.tb_bus.specs.declared.exchange.Exchange.{Exchange}
 use Rattle.tb_bus.specs.declared.living.Ready.{Ready}
 use Rattle.tb_bus.specs.declared.candidate.Partner.{Partner}
 use Rattle.tb_bus.specs.declared.candidate.Candidate.{Candidate}
@@ -58,6 +58,7 @@ module _ (rows : List Row) where
     reception-in at index row ready e f n (action.Send other) d = All-nil _
     reception-in at index row ready e f n (action.Notify other) d = All-nil _
     reception-in at index row ready e f n (action.TakeNote patterns) d = All-nil _
+    reception-in at index row ready e f n (action.Speak does) d = All-nil _
     reception-in at index row ready e f n (action.Receive patterns) d = matched-in at index row ready e f n (action.Receive patterns) d (match_list patterns terms) (λ b q. q)
 
     receptions-in : (at : ℕ) (row : Row) → slice_get rows at ≡ Some row → number ≢ row.number → (index : ℕ) (some : List Ready) → StandAt row.ready index some →
@@ -84,7 +85,7 @@ one-in : {A : Type 0} (P : A → Type 0) (b : Bool) (x : A) → (b ≡ true → 
 one-in P true x h = All-cons P x [] (h refl) (All-nil P)
 one-in P false x h = All-nil P
 
-taken-in : (P : Candidate → Type 0) (make : Found → Candidate) (found : Option Found) → ((f : Found) → found ≡ Some f → P (make f)) → All P (map make (option_to_list found))
+taken-in : {F : Type 0} (P : Candidate → Type 0) (make : F → Candidate) (found : Option F) → ((f : F) → found ≡ Some f → P (make f)) → All P (map make (option_to_list found))
 taken-in P make None h = All-nil P
 taken-in P make (Some found) h = All-cons P (make found) [] (h found refl) (All-nil P)
 
@@ -120,6 +121,10 @@ module _ (scene : Scene) where
       let same = get_or_from_slice_get scene.rows at row no_row e in
       taken-in (IsCandidateIn scene) (candidate.TakeNote at index) (oldest_match patterns row.inbox)
       (λ found h. (there at index row ready e f, (patterns, action-is scene.rows at index row ready (action.TakeNote patterns) e f d, ap (λ (r : Row). oldest_match patterns r.inbox) same ∙ h)))
+  candidates_by-in at index row ready e f (action.Speak does) d =
+      let same = get_or_from_slice_get scene.rows at row no_row e in
+      taken-in (IsCandidateIn scene) (candidate.Speak at index) (exchange_for (setting_in scene row) does)
+      (λ (exchange : Exchange) h. (there at index row ready e f, (does, action-is scene.rows at index row ready (action.Speak does) e f d, ap (λ (r : Row). exchange_for (setting_in scene r) does) same ∙ h)))
 
   candidates_among-in : (at : ℕ) (row : Row) → slice_get scene.rows at ≡ Some row → (index : ℕ) (some : List Ready) → StandAt row.ready index some → All (IsCandidateIn scene) (candidates_among scene at row index some)
   candidates_among-in at row e index [] h = All-nil _
@@ -154,20 +159,19 @@ module _ (scene : Scene) where
   down-in true candidates h = All-nil _
   down-in false candidates h = h
 
-module _ (bodies : List Body) (rows : List Row) (marks : Marks) where
-  -- All that a search finds names rows and actions that there are.
-  pub all_candidates-in : All (IsCandidateIn (scene_of bodies rows marks)) (all_candidates bodies rows marks)
+module _ (scene : Scene) (marks : Marks) where
+  -- All that a search finds names scene.rows and actions that there are.
+  pub all_candidates-in : All (IsCandidateIn scene) (all_candidates scene marks)
   unfolding all_candidates
   all_candidates-in =
-      let scene = scene_of bodies rows marks in
-      down-in scene marks.down (candidates_while_up scene marks rows) (while_up-in scene marks rows)
+      down-in scene marks.down (candidates_while_up scene marks scene.rows) (while_up-in scene marks scene.rows)
 
   -- What is the first that a search finds is the first move of the bus that is searched.
-  pub move_first : (found : Option Candidate) → ascend 0 rows ≡ true → found ≡ first (all_candidates bodies rows marks) →
-      (bus : Bus) → IsSearchedFor bus bodies rows marks → option_map (move_of bus rows) found ≡ first (moves bus)
-  move_first found a e bus is = ap (option_map (move_of bus rows)) e ∙ first_moves bus bodies rows marks is a
+  pub move_first : (found : Option Candidate) → ascend 0 scene.rows ≡ true → found ≡ first (all_candidates scene marks) →
+      (bus : Bus) → IsSearchedFor bus scene marks → option_map (move_of bus scene.rows) found ≡ first (moves bus)
+  move_first found a e bus is = ap (option_map (move_of bus scene.rows)) e ∙ first_moves bus scene marks is a
 
-  -- And it names rows and actions that there are.
-  pub stands_first : (found : Option Candidate) → found ≡ first (all_candidates bodies rows marks) → IfSome found (IsCandidateIn (scene_of bodies rows marks))
+  -- And it names scene.rows and actions that there are.
+  pub stands_first : (found : Option Candidate) → found ≡ first (all_candidates scene marks) → IfSome found (IsCandidateIn scene)
   stands_first None e = tt
-  stands_first (Some found) e = first-all (IsCandidateIn (scene_of bodies rows marks)) (all_candidates bodies rows marks) found all_candidates-in (sym e)
+  stands_first (Some found) e = first-all (IsCandidateIn scene) (all_candidates scene marks) found all_candidates-in (sym e)

@@ -6,7 +6,7 @@ use Rattle.tb_terms.specs.declared.term.Term.{Term}
 use Rattle.tb_body.specs.declared.body.Body.{Body}
 use Rattle.tb_notes.specs.Inboxes.{Held, subscribed, unsubscribed, wants, with_note, without_note}
 use Rattle.tb_bus.specs.Buses.{Bus, Proc, opened_one, created}
-use Rattle.tb_bus.specs.Effects.{Change, Nothing, PutsNote, TakesNote, Subscribes, Unsubscribes, Creates, given, with_inbox, changed}
+use Rattle.tb_bus.specs.Effects.{Change, Nothing, PutsNote, TakesNote, Subscribes, Unsubscribes, Creates, SetsBench, GoesDown, given, with_inbox, changed}
 use Rattle.tb_bus.proofs.OrderLemmas.{Ascend, IsLeft, IsLed, InOrder, one-opened-led, one-opened-keeps}
 
 -- no change changes the program
@@ -17,6 +17,8 @@ changed-program (TakesNote place) number bus = refl
 changed-program (Subscribes patterns) number bus = refl
 changed-program (Unsubscribes patterns) number bus = refl
 changed-program (Creates process actuals) number bus = refl
+changed-program (SetsBench bench) number bus = refl
+changed-program (GoesDown reason) number bus = refl
 
 -- a change of an inbox leaves number, body and term
 
@@ -90,6 +92,8 @@ changed-in_order (TakesNote place) number bus l h = map-in_order bus (with_inbox
 changed-in_order (Subscribes patterns) number bus l h = map-in_order bus (with_inbox number (subscribed patterns)) (with_inbox-keeps number (subscribed patterns)) h
 changed-in_order (Unsubscribes patterns) number bus l h = map-in_order bus (with_inbox number (unsubscribed patterns)) (with_inbox-keeps number (unsubscribed patterns)) h
 changed-in_order (Creates process actuals) number bus l h = created-in_order bus process actuals l h
+changed-in_order (SetsBench bench) number bus l h = record { ascend = h.ascend; below = h.below; led = h.led }
+changed-in_order (GoesDown reason) number bus l h = record { ascend = h.ascend; below = h.below; led = h.led }
 
 -- And what holds of all by their numbers and bodies, and of the next number, still does.
 pub changed-keeps : (P : ℕ → ℕ → Type 0) (change : Change) (number : ℕ) (bus : Bus) → All (λ (p : Proc). P p.number p.body) bus.procs → ((process : ℕ) → P bus.next_number process) →
@@ -102,3 +106,5 @@ changed-keeps P (Unsubscribes patterns) number bus h next = map-keeps P (with_in
 changed-keeps P (Creates process actuals) number bus h next =
     All-append (λ (p : Proc). P p.number p.body) bus.procs (created bus process actuals) h
     (one-opened-keeps P bus.next_number process actuals (slice_get bus.program.bodies process) (next process))
+changed-keeps P (SetsBench bench) number bus h next = h
+changed-keeps P (GoesDown reason) number bus h next = h

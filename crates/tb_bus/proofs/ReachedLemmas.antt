@@ -71,6 +71,7 @@ handshake_of-moves bus sender sent terms receiver received (Some (action.Own own
 handshake_of-moves bus sender sent terms receiver received (Some (action.Send other)) h g e = All-nil (IsMoveOf bus)
 handshake_of-moves bus sender sent terms receiver received (Some (action.Notify other)) h g e = All-nil (IsMoveOf bus)
 handshake_of-moves bus sender sent terms receiver received (Some (action.TakeNote patterns)) h g e = All-nil (IsMoveOf bus)
+handshake_of-moves bus sender sent terms receiver received (Some (action.Speak does)) h g e = All-nil (IsMoveOf bus)
 handshake_of-moves bus sender sent terms receiver received (Some (action.Receive patterns)) h g e =
     handshake_if-moves bus sender sent terms receiver received patterns (match_list patterns terms) h (g, e) refl
 
@@ -104,6 +105,7 @@ moves_by-moves bus proc offered None h e = All-nil (IsMoveOf bus)
 moves_by-moves bus proc offered (Some (action.Own own)) h e = own_if-moves bus proc offered (action.Own own) (effect_of bus proc (action.Own own)) (h, e) refl
 moves_by-moves bus proc offered (Some (action.Notify terms)) h e = own_if-moves bus proc offered (action.Notify terms) (effect_of bus proc (action.Notify terms)) (h, e) refl
 moves_by-moves bus proc offered (Some (action.TakeNote patterns)) h e = own_if-moves bus proc offered (action.TakeNote patterns) (effect_of bus proc (action.TakeNote patterns)) (h, e) refl
+moves_by-moves bus proc offered (Some (action.Speak does)) h e = own_if-moves bus proc offered (action.Speak does) (effect_of bus proc (action.Speak does)) (h, e) refl
 moves_by-moves bus proc offered (Some (action.Send terms)) h e = handshakes-moves bus proc offered terms (h, e)
 moves_by-moves bus proc offered (Some (action.Receive patterns)) h e = All-nil (IsMoveOf bus)
 
@@ -181,6 +183,7 @@ patterns_in (action.Send terms) = []
 patterns_in (action.Receive patterns) = patterns
 patterns_in (action.Notify terms) = []
 patterns_in (action.TakeNote patterns) = []
+patterns_in (action.Speak does) = []
 
 one-match : (patterns others : List Pattern) (terms more : List Term) (binds last : List Bind) → patterns ≡ others → terms ≡ more → match_list patterns terms ≡ Some binds → match_list others more ≡ Some last → binds ≡ last
 one-match patterns others terms more binds last p t e f =
@@ -271,9 +274,9 @@ fed-in_order : (bus : Bus) (input : Input) (down : Bool) → InOrder bus → InO
 fed-in_order bus input true h = h
 fed-in_order bus Tick false h = ticked-in_order bus h
 fed-in_order bus NoTicks false h = record { ascend = h.ascend; below = h.below; led = h.led }
-fed-in_order bus (Line lane line) false h = h
-fed-in_order bus (Gone lane) false h = h
-fed-in_order bus (Cut lane) false h = h
+fed-in_order bus (Line lane line) false h = record { ascend = h.ascend; below = h.below; led = h.led }
+fed-in_order bus (Gone lane) false h = record { ascend = h.ascend; below = h.below; led = h.led }
+fed-in_order bus (Cut lane) false h = record { ascend = h.ascend; below = h.below; led = h.led }
 
 after-in_order : (bus : Bus) (entry : Entry) → InOrder bus → IsLegal bus entry (after bus entry) → InOrder (after bus entry)
 after-in_order bus (Did label) h g =
@@ -281,7 +284,7 @@ after-in_order bus (Did label) h g =
     subst InOrder (sym (ap (λ (s : Step). s.bus) m.2)) (apply-in_order bus m.0 h m.1)
 after-in_order bus Quiet h g = h
 after-in_order bus (Fed input reply) h g = fed-in_order bus input bus.down h
-after-in_order bus (Gave lane out) h g = absurd g
+after-in_order bus (Gave lane out) h g = record { ascend = h.ascend; below = h.below; led = h.led }
 
 replay-in_order : (bus : Bus) (log : List Entry) → InOrder bus → IsTrace bus log → InOrder (replay bus log)
 replay-in_order bus [] h t = h
@@ -323,4 +326,4 @@ one-bus-after origin bus next (Did label) r c =
     (one-step-a-label origin bus (record { label = label; bus = next }) (record { label = label; bus = after bus (Did label) }) r c (found bus label (steps bus) next c) refl)
 one-bus-after origin bus next Quiet r c = c.2
 one-bus-after origin bus next (Fed input reply) r c = ap (λ (a : Answer). a.bus) c.1
-one-bus-after origin bus next (Gave lane out) r c = absurd c
+one-bus-after origin bus next (Gave lane out) r c = c.2

@@ -24,6 +24,7 @@ reception-none terms index (action.Own own) e = refl
 reception-none terms index (action.Send other) e = refl
 reception-none terms index (action.Receive patterns) e = cc
 reception-none terms index (action.Notify other) e = refl
+reception-none terms index (action.Speak does) e = refl
 reception-none terms index (action.TakeNote patterns) e = refl
 
 receptions-none : (terms : List Term) (index : ℕ) (some : List Ready) → has_receive some ≡ false → receptions terms index some ≡ []

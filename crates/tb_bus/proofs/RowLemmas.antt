@@ -16,12 +16,15 @@ use Rattle.tb_notes.specs.declared.queue.Found.{Found}
 use Rattle.tb_bus.specs.Buses.{Bus, Proc, atoms_of}
 use Rattle.tb_bus.specs.Actions.{action_of}
 use Rattle.tb_bus.specs.Steps.{Move, Handshake, Halt, handshake_if, handshake_of, handshakes_with, handshakes, own_if, moves_by, moves_of, moves_of_all, moves, moves_while_up, moves_or_halt}
-use Rattle.tb_bus.specs.Effects.{Effect, taking, own_effect, effect_of}
-use Rattle.tb_bus.specs.Candidates.{Row, Scene, first, ready_one, readies, received_if, reception, receptions, partner_in, partners, all_take, wanting, may_happen, candidates_by, candidates_among, candidates_of, candidates_from, up_to, candidates_in_turn, candidates_or_halt, candidates_while_up, all_candidates, scene_of, ascend}
+use Rattle.tb_bus.specs.Effects.{Effect, taking, own_effect, setting_of, speaking, effect_of}
+use Rattle.tb_bus.specs.Exchanges.{Setting, exchange_for}
+use Rattle.tb_bus.specs.Candidates.{Row, Scene, first, ready_one, readies, received_if, reception, receptions, partner_in, partners, all_take, wanting, may_happen, candidates_by, candidates_among, candidates_of, candidates_from, up_to, candidates_in_turn, candidates_or_halt, candidates_while_up, all_candidates, setting_in, ascend}
 use Rattle.tb_bus.specs.Views.{IsRowOf, AreRowsOf, no_proc, no_offer, no_ready, proc_at, ready_at, offer_at, offer_of, own_move, move_by, move_of, sent_in, IsSearchedFor}
 use Rattle.tb_bus.specs.declared.marks.Marks.{Marks}
 use Rattle.tb_bus.specs.declared.action.Action.{Action}
 use Rattle.tb_bus.specs.declared.action.Action.TheVariants as action
+use Rattle.tb_bus.specs.declared.action.ToolAction.{ToolAction}
+use Rattle.tb_bus.specs.declared.exchange.Exchange.{Exchange}
 use Rattle.tb_bus.specs.declared.living.Ready.{Ready}
 use Rattle.tb_bus.specs.declared.candidate.Received.{Received}
 use Rattle.tb_bus.specs.declared.candidate.Partner.{Partner}
@@ -29,7 +32,7 @@ use Rattle.tb_bus.specs.declared.candidate.Candidate.{Candidate}
 use Rattle.tb_bus.specs.declared.candidate.Candidate.TheVariants as candidate
 use Rattle.tb_bus.proofs.PartLemmas.{StandAt, stand-whole, stand-drop, stand-take, map-twice, both-append}
 use Rattle.tb_bus.proofs.TurnLemmas.{ascend-first}
-use Rattle.tb_bus.proofs.EffectLemmas.{IsSceneOf, scene-is, happens-is, notifies-is}
+use Rattle.tb_bus.proofs.EffectLemmas.{IsSceneOf, scene-is, setting-is, happens-is, notifies-is}
 
 -- what stands at an index of a row
 pub ready_at-is : (rows : List Row) (at index : ℕ) (row : Row) (ready : Ready) → slice_get rows at ≡ Some row → slice_get row.ready index ≡ Some ready → ready_at rows at index ≡ ready
@@ -78,6 +81,7 @@ module _ (procs : List Proc) (rows : List Row) (sender : Proc) (sent : Offered) 
   shaken-reception at index proc ready e f (action.Send other) = refl
   shaken-reception at index proc ready e f (action.Notify other) = refl
   shaken-reception at index proc ready e f (action.TakeNote patterns) = refl
+  shaken-reception at index proc ready e f (action.Speak does) = refl
   shaken-reception at index proc ready e f (action.Receive patterns) = shaken-if at index proc ready e f (match_list patterns terms)
 
   -- the actions of one process that receive are its handshakes
@@ -144,6 +148,13 @@ taken-by view make proc offered effect inbox None h e = ap (own_if proc offered)
 taken-by view make proc offered effect inbox (Some found) h e =
     ap (λ move. move ∷ []) (h found ∙ ap (own_move proc offered) e) ∙ ap (own_if proc offered) (sym e)
 
+-- and what is said to a tool where it may be
+spoken-by : (view : Candidate → Move) (make : Exchange → Candidate) (proc : Proc) (offered : Offered) (effect : Option Effect) (setting : Setting) (does : ToolAction) (found : Option Exchange) →
+    ((x : Exchange) → view (make x) ≡ own_move proc offered effect) → effect ≡ option_map (speaking setting does) found → map view (map make (option_to_list found)) ≡ own_if proc offered effect
+spoken-by view make proc offered effect setting does None h e = ap (own_if proc offered) (sym e)
+spoken-by view make proc offered effect setting does (Some exchange) h e =
+    ap (λ move. move ∷ []) (h exchange ∙ ap (own_move proc offered) e) ∙ ap (own_if proc offered) (sym e)
+
 module _ (bus : Bus) (scene : Scene) (is : IsSceneOf bus scene) where
   shaken-all : (sender : Proc) (sent : Offered) (terms : List Term) → map (shaken bus.procs scene.rows sender sent terms) (partners sender.number terms 0 scene.rows) ≡ handshakes bus sender sent terms
   unfolding handshakes
@@ -179,6 +190,11 @@ module _ (bus : Bus) (scene : Scene) (is : IsSceneOf bus scene) where
       ap (λ inbox. map (move_of bus scene.rows) (map (candidate.TakeNote at index) (option_to_list (oldest_match patterns inbox)))) row_is.inbox
       ∙ taken-by (move_of bus scene.rows) (candidate.TakeNote at index) proc (offer_at proc ready.offer) (effect_of bus proc (action.TakeNote patterns)) proc.inbox (oldest_match patterns proc.inbox)
       (λ found. move_by-is at index proc ready e f (action.TakeNote patterns) d) refl
+  moved-by at index row proc ready e f row_is (action.Speak does) d =
+      let setting = setting_of bus proc in
+      ap (λ setting. map (move_of bus scene.rows) (map (candidate.Speak at index) (option_to_list (exchange_for setting does)))) (setting-is bus scene is row proc row_is.body)
+      ∙ spoken-by (move_of bus scene.rows) (candidate.Speak at index) proc (offer_at proc ready.offer) (effect_of bus proc (action.Speak does)) setting does (exchange_for setting does)
+      (λ exchange. move_by-is at index proc ready e f (action.Speak does) d) refl
 
   -- what the actions of one process lead to
   moved-among : (at : ℕ) (row : Row) (proc : Proc) → slice_get scene.rows at ≡ Some row → slice_get bus.procs at ≡ Some proc → IsRowOf bus.program.bodies bus.now row proc → (index : ℕ) (some : List Ready) → StandAt row.ready index some →
@@ -315,44 +331,42 @@ down-map : (view : Candidate → Move) (down : Bool) (candidates : List Candidat
 down-map view true candidates = refl
 down-map view false candidates = refl
 
-module _ (bus : Bus) (bodies : List Body) (rows : List Row) (marks : Marks) (is : IsSearchedFor bus bodies rows marks) (a : ascend 0 rows ≡ true) where
+module _ (bus : Bus) (scene : Scene) (marks : Marks) (is : IsSearchedFor bus scene marks) (a : ascend 0 scene.rows ≡ true) where
   -- What a search in turn finds is what the processes may do, in turn.
-  moves_in_turn : map (move_of bus rows) (candidates_in_turn (scene_of bodies rows marks) bus.last_starter) ≡ moves_of_all bus
+  moves_in_turn : map (move_of bus scene.rows) (candidates_in_turn scene bus.last_starter) ≡ moves_of_all bus
   unfolding candidates_in_turn moves_of_all
   moves_in_turn =
-      let scene = scene_of bodies rows marks in
-      let scene_is = scene-is bus bodies rows marks is in
-      let at = up_to bus.last_starter rows in
-      let view = move_of bus rows in
-      let parts = turn-parts bus.program.bodies bus.now 0 bus.last_starter rows bus.procs scene_is.rows_are a in
+      let scene_is = scene-is bus scene marks is in
+      let at = up_to bus.last_starter scene.rows in
+      let view = move_of bus scene.rows in
+      let parts = turn-parts bus.program.bodies bus.now 0 bus.last_starter scene.rows bus.procs scene_is.rows_are a in
       let after = filter (is_after bus.last_starter) bus.procs in
       let others = filter (is_up_to bus.last_starter) bus.procs in
-      map-append view (candidates_from scene at (drop at rows)) (candidates_from scene 0 (take at rows))
+      map-append view (candidates_from scene at (drop at scene.rows)) (candidates_from scene 0 (take at scene.rows))
       ∙ both-append _ _ _ _
-      (moved-from bus scene scene_is at (drop at rows) (drop at bus.procs) (stand-drop at rows) (stand-drop at bus.procs) (rows-drop bus.program.bodies bus.now at rows bus.procs scene_is.rows_are) ∙ ap (flat_map (moves_of bus)) (sym parts.0))
-      (moved-from bus scene scene_is 0 (take at rows) (take at bus.procs) (stand-take at rows) (stand-take at bus.procs) (rows-take bus.program.bodies bus.now at rows bus.procs scene_is.rows_are) ∙ ap (flat_map (moves_of bus)) (sym parts.1))
+      (moved-from bus scene scene_is at (drop at scene.rows) (drop at bus.procs) (stand-drop at scene.rows) (stand-drop at bus.procs) (rows-drop bus.program.bodies bus.now at scene.rows bus.procs scene_is.rows_are) ∙ ap (flat_map (moves_of bus)) (sym parts.0))
+      (moved-from bus scene scene_is 0 (take at scene.rows) (take at bus.procs) (stand-take at scene.rows) (stand-take at bus.procs) (rows-take bus.program.bodies bus.now at scene.rows bus.procs scene_is.rows_are) ∙ ap (flat_map (moves_of bus)) (sym parts.1))
       ∙ sym (flat_map-append (moves_of bus) after others)
 
-  while_up-map : (some : List Row) (them : List Proc) → AreRowsOf bodies bus.now some them → map (move_of bus rows) (candidates_while_up (scene_of bodies rows marks) marks some) ≡ moves_while_up bus them
+  while_up-map : (some : List Row) (them : List Proc) → AreRowsOf scene.bodies bus.now some them → map (move_of bus scene.rows) (candidates_while_up scene marks some) ≡ moves_while_up bus them
   while_up-map [] [] h = refl
   while_up-map [] (proc ∷ them) h = absurd h
   while_up-map (row ∷ some) [] h = absurd h
   while_up-map (row ∷ some) (proc ∷ them) h =
-      let scene = scene_of bodies rows marks in
-      let view = move_of bus rows in
+      let view = move_of bus scene.rows in
       or_halt-map view refl marks.no_ticks (candidates_in_turn scene marks.last_starter)
       ∙ ap (λ no_ticks. moves_or_halt no_ticks (map view (candidates_in_turn scene marks.last_starter))) (sym is.no_ticks_is)
       ∙ ap (λ last. moves_or_halt bus.no_ticks (map view (candidates_in_turn scene last))) (sym is.last_is)
       ∙ ap (moves_or_halt bus.no_ticks) moves_in_turn
 
   -- What a search finds is what may happen next, in order.
-  pub moves_found : map (move_of bus rows) (all_candidates bodies rows marks) ≡ moves bus
+  pub moves_found : map (move_of bus scene.rows) (all_candidates scene marks) ≡ moves bus
   unfolding all_candidates moves
   moves_found =
-      down-map (move_of bus rows) marks.down (candidates_while_up (scene_of bodies rows marks) marks rows)
-      ∙ ap (λ ms. if marks.down then [] else ms) (while_up-map rows bus.procs is.rows_are)
+      down-map (move_of bus scene.rows) marks.down (candidates_while_up scene marks scene.rows)
+      ∙ ap (λ ms. if marks.down then [] else ms) (while_up-map scene.rows bus.procs is.rows_are)
       ∙ ap (λ down. if down then [] else moves_while_up bus bus.procs) (sym is.down_is)
 
   -- The first that a search finds is the first move.
-  pub first_moves : option_map (move_of bus rows) (first (all_candidates bodies rows marks)) ≡ first (moves bus)
-  first_moves = first-map (move_of bus rows) (all_candidates bodies rows marks) ∙ ap first moves_found
+  pub first_moves : option_map (move_of bus scene.rows) (first (all_candidates scene marks)) ≡ first (moves bus)
+  first_moves = first-map (move_of bus scene.rows) (all_candidates scene marks) ∙ ap first moves_found

@@ -27,6 +27,7 @@ use Rattle.tb_algebra.specs.Processes.{Process, At, Seq, Alt, fresh}
 use Rattle.tb_algebra.specs.Atoms.{values_together, patterns_of}
 use Rattle.tb_match.specs.Matches.{match_list}
 use Rattle.tb_notes.specs.Inboxes.{Held, nothing}
+use Rattle.tb_tools.specs.Lanes.{opening}
 use Rattle.tb_bus.specs.declared.origin.Origin.{Origin}
 use Rattle.tb_bus.specs.Buses.{Bus, Proc, start}
 use Rattle.tb_bus.specs.Steps.{Step, steps, moves, moves_of_all, moves_of, handshakes, handshakes_with, advance}
@@ -102,7 +103,7 @@ at number body term held = record { number = number; body = body; term = term; s
 
 -- a bus that is up, and has created nobody
 abbrev pub bus_of : Program → List Proc → ℕ → ℕ → Bus
-bus_of program procs last next = record { program = program; procs = procs; now = 0; last_starter = last; next_number = next; no_ticks = false; down = false }
+bus_of program procs last next = record { program = program; procs = procs; now = 0; last_starter = last; next_number = next; no_ticks = false; down = false; bench = opening [] }
 
 -- `tau + tau`
 pub choice-in_range : is_body_in_range (tree.Alt (tree.At 1) (tree.At 2)) (plain act.Tau ∷ plain act.Tau ∷ []) [] 0 ≡ true
@@ -118,7 +119,7 @@ either-in_range = refl
 
 -- `process P is tau + tau toolbus(P)`
 abbrev pub either : Origin
-either = record { program = record { bodies = choice ∷ []; roots = root 0 ∷ []; tools = []; in_range = either-in_range }; limit = 1000000 }
+either = record { program = record { bodies = choice ∷ []; roots = root 0 ∷ []; tools = []; in_range = either-in_range }; connects = []; limit = 1000000 }
 
 fresh-choice : fresh (tree.Alt (tree.At 1) (tree.At 2)) ≡ Alt (At 1 0) (At 2 0)
 fresh-choice = search (rules, tree_lemmas)
@@ -230,7 +231,7 @@ noted-in_range = refl
 
 -- `process A is subscribe(<term>) . rec-note(b) . rec-note(a) . no-note(<term>) process D is snd-note(a) . snd-note(b) toolbus(A, D)`
 abbrev pub noted : Origin
-noted = record { program = record { bodies = taker ∷ giver ∷ []; roots = root 0 ∷ root 1 ∷ []; tools = []; in_range = noted-in_range }; limit = 1000000 }
+noted = record { program = record { bodies = taker ∷ giver ∷ []; roots = root 0 ∷ root 1 ∷ []; tools = []; in_range = noted-in_range }; connects = []; limit = 1000000 }
 
 fresh-taker : fresh taker.tree ≡ Seq (At 1 0) (Seq (At 2 0) (Seq (At 3 0) (At 4 0)))
 fresh-taker = search (rules, tree_lemmas)

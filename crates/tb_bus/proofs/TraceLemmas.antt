@@ -1,10 +1,12 @@
 -- Traces and the buses to which they lead: one part after another, and the first of the steps.
-use Rattle.std.proofs.Common.{◌≡◌, List, [], ◌∷◌, ◌++◌, map, refl, ap, sym, ◌∙◌, subst, arith, Some, None, Bool, true, false, Contains, if◌then◌else◌}
+use Rattle.std.proofs.Common.{◌≡◌, ℕ, List, [], ◌∷◌, ◌++◌, map, refl, ap, sym, ◌∙◌, subst, arith, Some, None, Bool, true, false, Contains, if◌then◌else◌}
 use Rattle.tb_terms.specs.Same.{is_same}
 use Rattle.tb_bus.specs.Buses.{Bus}
 use Rattle.tb_bus.specs.Steps.{Move, Own, Handshake, Finish, Halt, Step, moves, steps, step_of, apply}
-use Rattle.tb_log.specs.Shapes.{IsInputInShape}
-use Rattle.tb_bus.specs.Traces.{IsTrace, after, after_step, replay, fed, took, Answer}
+use Rattle.tb_log.specs.Shapes.{IsInputInShape, IsLane}
+use Rattle.tb_log.specs.declared.entry.Out.{Out}
+use Rattle.tb_tools.specs.Finding.{next_out}
+use Rattle.tb_bus.specs.Traces.{IsTrace, after, after_step, replay, fed, took, taken_out, Answer}
 use Rattle.tb_bus.specs.Candidates.{first}
 use Rattle.tb_log.specs.contracts.entry.Label as label_row
 use Rattle.tb_log.specs.declared.entry.Input.{Input}
@@ -13,7 +15,7 @@ use Rattle.tb_log.specs.declared.entry.Reply.{Reply}
 use Rattle.tb_log.specs.declared.entry.Reply.TheVariants.{Dropped}
 use Rattle.tb_log.specs.declared.entry.Why.TheVariants.{Down}
 use Rattle.tb_log.specs.declared.entry.Entry.{Entry}
-use Rattle.tb_log.specs.declared.entry.Entry.TheVariants.{Did, Quiet, Fed}
+use Rattle.tb_log.specs.declared.entry.Entry.TheVariants.{Did, Quiet, Fed, Gave}
 use Rattle.tb_terms.proofs.SameLemmas.{is_same-refl}
 use Rattle.tb_bus.proofs.ChangeLemmas.{changed-program}
 
@@ -82,6 +84,14 @@ legal-quiet bus e f = ((e, f, refl), tt)
 -- an input in shape, with what became of it
 pub legal-fed : (bus : Bus) (input : Input) (reply : Reply) → IsInputInShape input → reply ≡ (fed bus input).reply → IsTrace bus (Fed input reply ∷ [])
 legal-fed bus input reply h e = ((h, ap (λ (r : Reply). let a : Answer = record { reply = r; bus = (fed bus input).bus } in a) e), tt)
+
+-- the first that was to be handed out on a lane
+pub legal-gave : (bus : Bus) (lane : ℕ) (out : Out) → IsLane lane → next_out lane bus.bench ≡ Some out → IsTrace bus (Gave lane out ∷ [])
+legal-gave bus lane out l e = ((l, e, refl), tt)
+
+-- and then it was
+pub after-gave : (bus : Bus) (lane : ℕ) (out : Out) → after bus (Gave lane out) ≡ taken_out lane bus
+after-gave bus lane out = refl
 
 -- no move changes the program
 pub apply-program : (bus : Bus) (move : Move) → (apply bus move).program ≡ bus.program

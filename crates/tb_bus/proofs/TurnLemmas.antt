@@ -4,8 +4,7 @@ use Rattle.std.proofs.lemmas.Bool.{leb-true, le-leb, eqb-true}
 use Rattle.std.proofs.lemmas.List.{length-map, get_or-map}
 use Rattle.std.specs.List.{AllWithin}
 use Rattle.std.specs.List.Sorted.{IsPartitionedBy, IsPartitionPoint}
-use Rattle.tb_body.specs.declared.body.Body.{Body}
-use Rattle.tb_bus.specs.Candidates.{Row, Scene, first, candidates_from, candidates_in_turn, candidates_or_halt, candidates_while_up, all_candidates, scene_of, up_to, ascend, row_of, rows_of}
+use Rattle.tb_bus.specs.Candidates.{Row, Scene, first, candidates_from, candidates_in_turn, candidates_or_halt, candidates_while_up, all_candidates, up_to, ascend, row_of, rows_of}
 use Rattle.tb_bus.specs.declared.marks.Marks.{Marks}
 use Rattle.tb_bus.specs.declared.living.Living.{Living}
 use Rattle.tb_bus.specs.declared.candidate.Candidate.{Candidate}
@@ -117,28 +116,28 @@ while_up-none : (scene : Scene) (marks : Marks) (rows : List Row) → (length ro
 while_up-none scene marks [] f miss = cc
 while_up-none scene marks (row ∷ rows) f miss = or_halt-none marks.no_ticks (candidates_in_turn scene marks.last_starter) miss
 
-module _ (bodies : List Body) (rows : List Row) (marks : Marks) where
+module _ (scene : Scene) (marks : Marks) where
   -- nothing happens on a bus that is down
-  pub first_all-down : marks.down ≡ true → None ≡ first (all_candidates bodies rows marks)
+  pub first_all-down : marks.down ≡ true → None ≡ first (all_candidates scene marks)
   unfolding all_candidates
-  first_all-down e = down-by marks.down (candidates_while_up (scene_of bodies rows marks) marks rows) e
+  first_all-down e = down-by marks.down (candidates_while_up scene marks scene.rows) e
 
   -- where no process is left, the bus finishes
-  pub first_all-finish : marks.down ≡ false → (length rows == 0) ≡ true → Some Finish ≡ first (all_candidates bodies rows marks)
+  pub first_all-finish : marks.down ≡ false → (length scene.rows == 0) ≡ true → Some Finish ≡ first (all_candidates scene marks)
   unfolding all_candidates
   first_all-finish e f =
-      up-by marks.down (candidates_while_up (scene_of bodies rows marks) marks rows) (Some Finish) e (while_up-finish (scene_of bodies rows marks) marks rows f)
+      up-by marks.down (candidates_while_up scene marks scene.rows) (Some Finish) e (while_up-finish scene marks scene.rows f)
 
   -- what the processes do first happens first
-  pub first_all-some : (found : Candidate) → marks.down ≡ false → (length rows == 0) ≡ false →
-      Some found ≡ first (candidates_in_turn (scene_of bodies rows marks) marks.last_starter) → Some found ≡ first (all_candidates bodies rows marks)
+  pub first_all-some : (found : Candidate) → marks.down ≡ false → (length scene.rows == 0) ≡ false →
+      Some found ≡ first (candidates_in_turn scene marks.last_starter) → Some found ≡ first (all_candidates scene marks)
   unfolding all_candidates
   first_all-some found e f hit =
-      up-by marks.down (candidates_while_up (scene_of bodies rows marks) marks rows) (Some found) e (while_up-some (scene_of bodies rows marks) marks rows found f hit)
+      up-by marks.down (candidates_while_up scene marks scene.rows) (Some found) e (while_up-some scene marks scene.rows found f hit)
 
   -- where they can do nothing, only the halt is left
-  pub first_all-none : marks.down ≡ false → (length rows == 0) ≡ false →
-      None ≡ first (candidates_in_turn (scene_of bodies rows marks) marks.last_starter) → first (candidates_or_halt marks.no_ticks []) ≡ first (all_candidates bodies rows marks)
+  pub first_all-none : marks.down ≡ false → (length scene.rows == 0) ≡ false →
+      None ≡ first (candidates_in_turn scene marks.last_starter) → first (candidates_or_halt marks.no_ticks []) ≡ first (all_candidates scene marks)
   unfolding all_candidates
   first_all-none e f miss =
-      up-by marks.down (candidates_while_up (scene_of bodies rows marks) marks rows) (first (candidates_or_halt marks.no_ticks [])) e (while_up-none (scene_of bodies rows marks) marks rows f miss)
+      up-by marks.down (candidates_while_up scene marks scene.rows) (first (candidates_or_halt marks.no_ticks [])) e (while_up-none scene marks scene.rows f miss)

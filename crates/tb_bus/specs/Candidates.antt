@@ -1,5 +1,5 @@
 -- What the code's search goes through: for each process that is alive its actions, by indices alone.
-use Rattle.std.specs.Prelude.{◌≡◌, ℕ, ◌+◌, ◌<◌, ◌&&◌, ◌||◌, ◌==◌, nat_lt, nat_le, List, [], ◌∷◌, ◌++◌, map, take, drop, length, Bool, true, false, if◌then◌else◌, Option, Some, None, is_some, not, option_to_list, slice_get, slice_index_or, ⊤}
+use Rattle.std.specs.Prelude.{◌≡◌, ℕ, ◌+◌, ◌<◌, ◌&&◌, ◌||◌, ◌==◌, nat_lt, nat_le, List, [], ◌∷◌, ◌++◌, map, take, drop, length, Bool, true, false, if◌then◌else◌, Option, Some, None, is_some, not, option_to_list, slice_index_or, ⊤}
 use Rattle.std.specs.List.{All, flat_map, list_all}
 use Rattle.tb_terms.specs.declared.term.Term.{Term}
 use Rattle.tb_match.specs.declared.bind.Bind.{Bind}
@@ -12,7 +12,7 @@ use Rattle.tb_bus.specs.Actions.{action_of}
 use Rattle.tb_body.specs.declared.program.Tool.{Tool as ToolKind}
 use Rattle.tb_tools.specs.Lanes.{BenchState}
 use Rattle.tb_bus.specs.Effects.{takes_note, may_create}
-use Rattle.tb_bus.specs.Exchanges.{Setting, exchange_for}
+use Rattle.tb_bus.specs.Exchanges.{Setting, setting_by, exchange_for}
 use Rattle.tb_bus.specs.declared.marks.Marks.{Marks}
 use Rattle.tb_bus.specs.declared.action.Action.{Action}
 use Rattle.tb_bus.specs.declared.action.Action.TheVariants as action
@@ -146,7 +146,7 @@ may_happen scene row (own.Shutdown reason) = true
 
 -- where a process speaks with tools
 abbrev pub setting_in : Scene → Row → Setting
-setting_in scene row = record { body = slice_get scene.bodies row.body; kinds = scene.kinds; bench = scene.bench }
+setting_in scene row = setting_by scene.bodies scene.kinds scene.bench row.body
 
 -- what an action leads to, of the process at an index among all rows
 abbrev pub candidates_by : Scene → ℕ → Row → ℕ → Action → List Candidate

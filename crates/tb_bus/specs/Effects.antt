@@ -15,7 +15,7 @@ use Rattle.tb_tools.specs.Lanes.{BenchState}
 use Rattle.tb_tools.specs.Acts.{gone_down}
 use Rattle.tb_bus.specs.Buses.{Bus, Proc, created}
 use Rattle.tb_bus.specs.Slots.{fits_formals, fits_slot}
-use Rattle.tb_bus.specs.Exchanges.{Setting, exchange_for, kind_of, terms_seen, bench_after}
+use Rattle.tb_bus.specs.Exchanges.{Setting, setting_by, exchange_for, kind_of, terms_seen, bench_after}
 use Rattle.tb_bus.specs.declared.action.Action.{Action}
 use Rattle.tb_bus.specs.declared.action.Action.TheVariants.{Own, Send, Receive, Notify, TakeNote, Speak}
 use Rattle.tb_bus.specs.declared.action.OwnAction.{OwnAction}
@@ -95,7 +95,7 @@ own_effect bus proc (Shutdown reason) = Some (record { kind = kind.Shutdown; sho
 
 -- where a process speaks with tools
 abbrev pub setting_of : Bus → Proc → Setting
-setting_of bus proc = record { body = slice_get bus.program.bodies proc.body; kinds = bus.program.tools; bench = bus.bench }
+setting_of bus proc = setting_by bus.program.bodies bus.program.tools bus.bench proc.body
 
 abbrev pub speaking : Setting → ToolAction → Exchange → Effect
 speaking setting does exchange = record {

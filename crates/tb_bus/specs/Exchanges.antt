@@ -26,6 +26,10 @@ pub record Setting : Type 0 where
   pub kinds : List ToolKind
   pub bench : BenchState
 
+-- where a process of this body speaks with tools
+abbrev pub setting_by : List Body → List ToolKind → BenchState → ℕ → Setting
+setting_by bodies kinds bench body = record { body = slice_get bodies body; kinds = kinds; bench = bench }
+
 -- of a kind of tool its name, and its command where it has one
 abbrev pub name_of : Option ToolKind → List ℕ
 name_of None = []
@@ -49,31 +53,33 @@ kind_command setting tool = command_of (slice_get setting.kinds tool)
 abbrev pub term_on : ℕ → BenchState → Option Term
 term_on lane bench = option_map term_of (tool_at lane bench)
 
--- the term of the next tool, where it is of this kind
-abbrev pub next_term : Setting → ℕ → Term
-next_term setting tool = tool_term (kind_name setting tool) setting.bench.next_tool
-
 -- on a lane, with nothing bound
 abbrev pub plain_on : ℕ → Exchange
 plain_on lane = record { lane = lane; event = 0; binds = [] }
 
--- on a lane, where the slot takes the term, which is within the limits
-abbrev pub binding_on : Setting → ℕ → ℕ → Term → Option Exchange
-binding_on setting slot lane term =
-    if is_limited term && fits_slot setting.body slot term
-    then Some (record { lane = lane; event = 0; binds = record { slot = slot; value = term } ∷ [] }) else None
+-- on a lane, where the slot takes the term
+abbrev pub bound_on : ℕ → ℕ → Term → Exchange
+bound_on slot lane term = record { lane = lane; event = 0; binds = record { slot = slot; value = term } ∷ [] }
 
--- the first lane that is free, where the slot takes the next tool
-abbrev pub starting : Setting → ℕ → ℕ → Option Exchange
-starting setting tool slot = option_and_then (λ lane. binding_on setting slot lane (next_term setting tool)) (free_lane setting.bench)
+-- the slot takes the term, which is within the limits
+abbrev pub binding_on : Setting → ℕ → ℕ → Term → Option Exchange
+binding_on setting slot lane term = if is_limited term && fits_slot setting.body slot term then Some (bound_on slot lane term) else None
+
+-- the first lane that is free, where the slot takes the next tool, of this name
+abbrev pub starting : Setting → ℕ → List ℕ → Option Exchange
+starting setting slot name =
+    option_and_then (λ lane. binding_on setting slot lane (tool_term name setting.bench.next_tool)) (free_lane setting.bench)
 
 -- on a lane, where the slot takes the tool that stands there
 abbrev pub taking_tool : Setting → ℕ → ℕ → Option Exchange
 taking_tool setting slot lane = option_and_then (binding_on setting slot lane) (term_on lane setting.bench)
 
 -- the tool of a kind at a stage that has the smallest number, where the slot takes it
+abbrev pub first_of : Setting → Stage → ℕ → ToolKind → Option Exchange
+first_of setting stage slot kind = option_and_then (taking_tool setting slot) (first_at kind.name stage setting.bench)
+
 abbrev pub first_of_kind : Setting → Stage → ℕ → ℕ → Option Exchange
-first_of_kind setting stage tool slot = option_and_then (taking_tool setting slot) (first_at (kind_name setting tool) stage setting.bench)
+first_of_kind setting stage tool slot = option_and_then (first_of setting stage slot) (slice_get setting.kinds tool)
 
 abbrev pub lane_if : (ℕ → BenchState → Bool) → BenchState → ℕ → Option ℕ
 lane_if may bench lane = if may lane bench then Some lane else None
@@ -104,7 +110,7 @@ behind = drop 1
 -- How an action may happen, where it may: one line an atom.
 abbrev pub exchange_for : Setting → ToolAction → Option Exchange
 -- the kind has a command, a lane is free, and the slot takes the new tool
-exchange_for setting (Execute tool slot) = option_and_then (λ command. starting setting tool slot) (kind_command setting tool)
+exchange_for setting (Execute tool slot) = option_and_then (λ command. starting setting slot (kind_name setting tool)) (kind_command setting tool)
 -- a tool of the kind waits
 exchange_for setting (Connect tool slot) = first_of_kind setting Waiting tool slot
 -- a tool of the kind is leaving

@@ -6,6 +6,7 @@ mod action;
 mod candidate;
 mod creation;
 mod exchange;
+mod exchanging;
 mod laws;
 mod living;
 mod marks;
@@ -18,6 +19,7 @@ mod receivers;
 mod search;
 #[cfg(test)]
 mod search_tests;
+mod slots;
 mod wanting;
 
 pub use action::{Action, OwnAction, ToolAction};

@@ -25,7 +25,7 @@ fn receive(
             })),
             None => Ok(None),
         },
-        Action::Own(_) | Action::Send(_) | Action::Notify(_) | Action::TakeNote(_) => Ok(None),
+        Action::Own(_) | Action::Send(_) | Action::Notify(_) | Action::TakeNote(_) | Action::Speak(_) => Ok(None),
     }
 }
 
@@ -53,7 +53,7 @@ fn has_receive(actions: &[Ready]) -> bool
     for ready in actions {
         match ready.action {
             Action::Receive(_) => return true,
-            Action::Own(_) | Action::Send(_) | Action::Notify(_) | Action::TakeNote(_) => {}
+            Action::Own(_) | Action::Send(_) | Action::Notify(_) | Action::TakeNote(_) | Action::Speak(_) => {}
         }
     }
     false

@@ -2,23 +2,28 @@ ghost use Rattle.std.specs.Prelude.{◌≡◌, ◌+◌, ◌≤◌, [], length, o
 ghost use Rattle.tb_bus.specs.Buses.{Bus};
 ghost use Rattle.tb_bus.specs.Steps.{moves};
 ghost use Rattle.tb_bus.specs.Views.{IsSearchedFor, IsCandidateIn, move_of};
-ghost use Rattle.tb_bus.specs.Candidates.{first, AreKnown, may_happen, candidates_by, candidates_of, candidates_from, candidates_in_turn, all_candidates, candidates_or_halt, up_to, ascend, row_of, rows_of, scene_of};
+ghost use Rattle.tb_bus.specs.Exchanges.{exchange_for};
+ghost use Rattle.tb_bus.specs.Candidates.{first, AreKnown, may_happen, setting_in, candidates_by, candidates_of, candidates_from, candidates_in_turn, all_candidates, candidates_or_halt, up_to, ascend, row_of, rows_of, scene_of};
 
-use crate::action::{Action, OwnAction};
+use crate::action::{Action, OwnAction, ToolAction};
 use crate::candidate::Candidate;
 use crate::creation::may_create;
+use crate::exchange::Exchange;
+use crate::exchanging::{Speaker, exchange_for};
 use crate::living::Living;
 use crate::marks::Marks;
 use crate::receivers::first_partner;
 use crate::wanting::wanting;
 use std::alloc::Global;
-use tb_body::Body;
-use tb_terms::{Items, NoMemory, Patterns, Terms};
+use tb_body::Program;
+use tb_terms::{Items, NoMemory};
+use tb_tools::Bench;
 
 /// What a search goes through.
 #[derive(Drop)]
 pub(crate) struct Searched<'a, W> {
-    pub bodies: &'a [Body],
+    pub program: &'a Program,
+    pub bench: &'a Bench,
     pub all: &'a [Living<W>],
     pub marks: Marks,
 }
@@ -29,17 +34,18 @@ fn may_happen<W>(
     living: &Living<W>,
     own: &OwnAction,
 ) -> Result<bool, NoMemory>
-    ensures { IfOk result (λ happens. happens ≡ may_happen (scene_of searched.now.bodies.now (rows_of searched.now.all.now) searched.now.marks) (row_of living.now) own.now) }
+    ensures { IfOk result (λ happens. happens ≡ may_happen (scene_of searched.now.program.now.bodies searched.now.program.now.tools searched.now.bench.now (rows_of searched.now.all.now) searched.now.marks) (row_of living.now) own.now) }
 {
     match own {
         OwnAction::Tau
         | OwnAction::Set(_, _)
         | OwnAction::Print(_)
         | OwnAction::Subscribe(_)
-        | OwnAction::Unsubscribe(_) => Ok(true),
+        | OwnAction::Unsubscribe(_)
+        | OwnAction::Shutdown(_) => Ok(true),
         OwnAction::NoNote(patterns) => Ok(living.inbox.find(patterns)?.is_none()),
         OwnAction::Create(process, actuals, slot) => Ok(may_create(
-            searched.bodies,
+            searched.program.bodies.as_slice(),
             searched.all.len(),
             searched.marks.next_number,
             living.body,
@@ -48,6 +54,23 @@ fn may_happen<W>(
             *slot,
         )),
     }
+}
+
+/// How an action of a process with a tool may happen.
+fn exchange<W>(
+    alloc: Global,
+    searched: &Searched<W>,
+    living: &Living<W>,
+    does: &ToolAction,
+) -> Result<Option<Exchange>, NoMemory>
+    ensures { IfOk result (λ found. found ≡ exchange_for (setting_in (scene_of searched.now.program.now.bodies searched.now.program.now.tools searched.now.bench.now (rows_of searched.now.all.now) searched.now.marks) (row_of living.now)) does.now) }
+{
+    let speaker = Speaker {
+        program: searched.program,
+        bench: searched.bench,
+        body: living.body,
+    };
+    exchange_for(alloc, &speaker, does)
 }
 
 /// What an action of the process at an index leads to first.
@@ -62,7 +85,7 @@ fn first_by<W>(
 ) -> Result<Option<Candidate>, NoMemory>
     requires { AreKnown known.old (rows_of searched.now.all.now) }
     ensures known { AreKnown known.new (rows_of searched.now.all.now) }
-    ensures found { IfOk result (λ found. found ≡ first (candidates_by (scene_of searched.now.bodies.now (rows_of searched.now.all.now) searched.now.marks) at (row_of living.now) index action.now)) }
+    ensures found { IfOk result (λ found. found ≡ first (candidates_by (scene_of searched.now.program.now.bodies searched.now.program.now.tools searched.now.bench.now (rows_of searched.now.all.now) searched.now.marks) at (row_of living.now) index action.now)) }
 {
     match action {
         Action::Own(own) => {
@@ -87,6 +110,10 @@ fn first_by<W>(
             Some(found) => Ok(Some(Candidate::TakeNote(at, index, found))),
             None => Ok(None),
         },
+        Action::Speak(does) => match exchange(alloc, searched, living, does)? {
+            Some(exchange) => Ok(Some(Candidate::Speak(at, index, exchange))),
+            None => Ok(None),
+        },
     }
 }
 
@@ -100,7 +127,7 @@ fn first_of<W>(
 ) -> Result<Option<Candidate>, NoMemory>
     requires { AreKnown known.old (rows_of searched.now.all.now) }
     ensures known { AreKnown known.new (rows_of searched.now.all.now) }
-    ensures found { IfOk result (λ found. found ≡ first (candidates_of (scene_of searched.now.bodies.now (rows_of searched.now.all.now) searched.now.marks) at (row_of living.now))) }
+    ensures found { IfOk result (λ found. found ≡ first (candidates_of (scene_of searched.now.program.now.bodies searched.now.program.now.tools searched.now.bench.now (rows_of searched.now.all.now) searched.now.marks) at (row_of living.now))) }
 {
     for (index, ready) in living.ready.as_slice().iter().enumerate() {
         match first_by(alloc, searched, known, at, living, index, &ready.action)? {
@@ -122,7 +149,7 @@ fn first_from<W>(
     requires within { start + length asked.now ≤ length searched.now.all.now }
     requires known { AreKnown known.old (rows_of searched.now.all.now) }
     ensures known { AreKnown known.new (rows_of searched.now.all.now) }
-    ensures found { IfOk result (λ found. found ≡ first (candidates_from (scene_of searched.now.bodies.now (rows_of searched.now.all.now) searched.now.marks) start (rows_of asked.now))) }
+    ensures found { IfOk result (λ found. found ≡ first (candidates_from (scene_of searched.now.program.now.bodies searched.now.program.now.tools searched.now.bench.now (rows_of searched.now.all.now) searched.now.marks) start (rows_of asked.now))) }
 {
     for (offset, living) in asked.iter().enumerate() {
         match first_of(alloc, searched, known, start + offset, living)? {
@@ -148,7 +175,7 @@ pub(crate) fn first_in_turn<W>(
     searched: &Searched<W>,
 ) -> Result<Option<Candidate>, NoMemory>
     requires { IsTrue (ascend 0 (rows_of searched.now.all.now)) }
-    ensures { IfOk result (λ found. found ≡ first (candidates_in_turn (scene_of searched.now.bodies.now (rows_of searched.now.all.now) searched.now.marks) searched.now.marks.last_starter)) }
+    ensures { IfOk result (λ found. found ≡ first (candidates_in_turn (scene_of searched.now.program.now.bodies searched.now.program.now.tools searched.now.bench.now (rows_of searched.now.all.now) searched.now.marks) searched.now.marks.last_starter)) }
 {
     let mut known = None;
     first_after(alloc, searched, &mut known)
@@ -162,7 +189,7 @@ fn first_after<W>(
 ) -> Result<Option<Candidate>, NoMemory>
     requires ascend { IsTrue (ascend 0 (rows_of searched.now.all.now)) }
     requires known { AreKnown known.old (rows_of searched.now.all.now) }
-    ensures { IfOk result (λ found. found ≡ first (candidates_in_turn (scene_of searched.now.bodies.now (rows_of searched.now.all.now) searched.now.marks) searched.now.marks.last_starter)) }
+    ensures { IfOk result (λ found. found ≡ first (candidates_in_turn (scene_of searched.now.program.now.bodies searched.now.program.now.tools searched.now.bench.now (rows_of searched.now.all.now) searched.now.marks) searched.now.marks.last_starter)) }
 {
     let start = turn_start(searched.all, searched.marks.last_starter);
     match first_from(alloc, searched, known, start, &searched.all[start..])? {
@@ -185,14 +212,15 @@ fn halt_if(no_ticks: bool) -> Option<Candidate>
 /// What may happen first, of all that may; None where nothing may, or the bus is down.
 pub fn first_candidate<W>(
     alloc: Global,
-    bodies: &[Body],
+    program: &Program,
+    bench: &Bench,
     all: &[Living<W>],
     marks: Marks,
 ) -> Result<Option<Candidate>, NoMemory>
     requires { IsTrue (ascend 0 (rows_of all.now)) }
-    ensures found { IfOk result (λ found. found ≡ first (all_candidates bodies.now (rows_of all.now) marks)) }
-    ensures on_bus { IfOk result (λ found. (bus : Bus) → IsSearchedFor bus bodies.now (rows_of all.now) marks → option_map (move_of bus (rows_of all.now)) found ≡ first (moves bus)) }
-    ensures stands { IfOk result (λ found. IfSome found (IsCandidateIn (scene_of bodies.now (rows_of all.now) marks))) }
+    ensures found { IfOk result (λ found. found ≡ first (all_candidates (scene_of program.now.bodies program.now.tools bench.now (rows_of all.now) marks) marks)) }
+    ensures on_bus { IfOk result (λ found. (bus : Bus) → IsSearchedFor bus (scene_of program.now.bodies program.now.tools bench.now (rows_of all.now) marks) marks → option_map (move_of bus (rows_of all.now)) found ≡ first (moves bus)) }
+    ensures stands { IfOk result (λ found. IfSome found (IsCandidateIn (scene_of program.now.bodies program.now.tools bench.now (rows_of all.now) marks))) }
 {
     if marks.down {
         return Ok(None);
@@ -200,7 +228,12 @@ pub fn first_candidate<W>(
     if all.is_empty() {
         return Ok(Some(Candidate::Finish));
     }
-    let searched = Searched { bodies, all, marks };
+    let searched = Searched {
+        program,
+        bench,
+        all,
+        marks,
+    };
     match first_in_turn(alloc, &searched)? {
         Some(found) => Ok(Some(found)),
         None => Ok(halt_if(marks.no_ticks)),

@@ -8,7 +8,7 @@ pub returns-in-Some : goal.returns-in-Some
 returns-in-Some g c =
     let all = c.args.searched.now.all.now in
     let marks = c.args.searched.now.marks in
-    let scene = scene_of c.args.searched.now.bodies.now (rows_of all) marks in
+    let scene = scene_of c.args.searched.now.program.now.bodies c.args.searched.now.program.now.tools c.args.searched.now.bench.now (rows_of all) marks in
     let start = c.turn_start-start.result in
     turn-found scene marks.last_starter start c.in-Some.found c.turn_start-start.ensures.count
     (sym c.in-Some.is ∙ c.in_ok-found.ensures.found ∙ ap (λ asked. first (candidates_from scene start asked)) (ap rows_of (take_rest all start) ∙ sym (drop-map row_of start all)))
@@ -17,7 +17,7 @@ pub returns-in-None : goal.returns-in-None
 returns-in-None g c =
     let all = c.args.searched.now.all.now in
     let marks = c.args.searched.now.marks in
-    let scene = scene_of c.args.searched.now.bodies.now (rows_of all) marks in
+    let scene = scene_of c.args.searched.now.program.now.bodies c.args.searched.now.program.now.tools c.args.searched.now.bench.now (rows_of all) marks in
     let start = c.turn_start-start.result in
     rw (← turn-again scene marks.last_starter start c.turn_start-start.ensures.count
     (sym c.in-None.is ∙ c.in_ok-found.ensures.found ∙ ap (λ asked. first (candidates_from scene start asked)) (ap rows_of (take_rest all start) ∙ sym (drop-map row_of start all)))) (rw (take-map row_of start all) c.first_from-in-None.ensures.found)

@@ -1,7 +1,7 @@
 use Rattle.std.proofs.Common.{ℕ, ◌<◌, suc, add-one, Bool, ◌&&◌, drop, length, ap, sym, ◌∙◌, arith}
 use Rattle.tb_body.specs.Programs.{have_sorts}
 use Rattle.tb_body.proofs.Sorted.{have_sorts_from, have_no_sort}
-use Rattle.tb_bus.proofs.creation.have_sorts.Goals as goal
+use Rattle.tb_bus.proofs.slots.have_sorts.Goals as goal
 
 pub returns-then-not-has_sort : goal.returns-then-not-has_sort
 returns-then-not-has_sort c =

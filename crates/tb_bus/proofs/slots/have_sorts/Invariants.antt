@@ -1,6 +1,6 @@
 use Rattle.std.proofs.Common.{◌≡◌, drop}
 use Rattle.tb_body.specs.Programs.{have_sorts}
-use Rattle.tb_bus.proofs.creation.have_sorts.Given as goal
+use Rattle.tb_bus.proofs.slots.have_sorts.Given as goal
 
 -- the terms that are left decide
 abbrev pub invariant-loop-place : goal.invariant-loop-place
