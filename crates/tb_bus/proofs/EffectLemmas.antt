@@ -3,7 +3,6 @@ use Rattle.std.proofs.Common.{◌≡◌, ℕ, ◌<◌, ◌&&◌, zero, suc, List
 use Rattle.std.specs.Bool.{⊤}
 use Rattle.std.specs.List.{list_all}
 use Rattle.tb_terms.specs.declared.term.Term.{Term}
-use Rattle.tb_terms.specs.declared.pattern.Pattern.{Pattern}
 use Rattle.tb_body.specs.declared.body.Body.{Body}
 use Rattle.tb_notes.specs.Inboxes.{Held, oldest_match}
 use Rattle.tb_notes.specs.declared.queue.Found.{Found}
@@ -13,7 +12,7 @@ use Rattle.tb_bus.specs.Buses.{Bus, Proc}
 use Rattle.tb_bus.specs.Exchanges.{Setting, setting_by, exchange_for, kind_of}
 use Rattle.tb_bus.specs.Effects.{Nothing, PutsNote, Subscribes, Unsubscribes, GoesDown, Effect, takes_note, may_create, creation, taking, own_effect, setting_of, speaking, effect_of}
 use Rattle.tb_bus.specs.Candidates.{Row, Scene, row_at, all_take, may_happen, setting_in}
-use Rattle.tb_bus.specs.Views.{IsRowOf, AreRowsOf, proc_at, ready_at, sent_in, HappensIn, NotifiesIn, TakesIn, SpeaksIn, IsCandidateIn, IsSearchedFor}
+use Rattle.tb_bus.specs.Views.{IsRowOf, AreRowsOf, proc_at, ready_at, sent_in, IsCandidateIn, IsSearchedFor}
 use Rattle.tb_bus.specs.declared.marks.Marks.{Marks}
 use Rattle.tb_bus.specs.declared.action.Action.{Action}
 use Rattle.tb_bus.specs.declared.action.Action.TheVariants as action

@@ -1,32 +1,27 @@
 -- Every bus that a program reaches is in order. So two steps that are seen alike are the same step.
-use Rattle.std.proofs.Common.{◌≡◌, ℕ, ◌+◌, ◌<◌, ◌≤◌, ◌==◌, List, [], ◌∷◌, ◌++◌, map, refl, ap, sym, ◌∙◌, subst, arith, Option, Some, None, Bool, true, false, Contains, if◌then◌else◌, zero, suc, ◌⊎◌, inl, inr, nat_lt, nat_le, not, filter, slice_get}
+use Rattle.std.proofs.Common.{◌≡◌, ℕ, ◌<◌, ◌==◌, List, [], ◌∷◌, map, refl, ap, sym, ◌∙◌, subst, arith, Option, Some, None, Bool, true, false, Contains, if◌then◌else◌, ◌⊎◌, inl, inr, nat_lt, nat_le, not, filter}
 use Rattle.std.specs.Prelude.{⊤}
-use Rattle.std.specs.List.{All, flat_map}
-use Rattle.std.proofs.lemmas.Bool.{eqb-true}
-use Rattle.std.proofs.lemmas.List.Elements.{All-nil, All-cons, All-head, All-tail, All-append, All-weaker, All-map, All-filter, All-contains, All-contains_itself}
+use Rattle.std.specs.List.{All}
+use Rattle.std.proofs.lemmas.List.Elements.{All-nil, All-append, All-weaker, All-map, All-filter, All-contains, All-contains_itself}
 use Rattle.tb_terms.specs.declared.term.Term.{Term}
 use Rattle.tb_terms.specs.declared.pattern.Pattern.{Pattern}
 use Rattle.tb_terms.specs.Same.{is_same}
-use Rattle.tb_func.specs.declared.slot.Slot.{Slot}
 use Rattle.tb_match.specs.declared.bind.Bind.{Bind}
 use Rattle.tb_match.specs.Matches.{match_list}
 use Rattle.tb_body.specs.declared.body.Body.{Body}
 use Rattle.tb_body.specs.declared.program.Program.{Program}
-use Rattle.tb_algebra.specs.Processes.{Process, fresh}
-use Rattle.tb_algebra.specs.Binds.{with_binds}
+use Rattle.tb_algebra.specs.Processes.{Process}
 use Rattle.tb_algebra.specs.Offers.{Offered, offers}
-use Rattle.tb_algebra.specs.Reached.{Reaches as IsLedTo, entered, went_on}
+use Rattle.tb_algebra.specs.Reached.{went_on}
 use Rattle.tb_algebra.proofs.Ascending.{offered-once}
 use Rattle.tb_bus.specs.declared.origin.Origin.{Origin}
-use Rattle.tb_bus.specs.Buses.{Bus, Proc, start, opened, opened_one, opening_store, proc_left}
+use Rattle.tb_bus.specs.Buses.{Bus, Proc, start}
 use Rattle.tb_bus.specs.Effects.{Effect, effect_of, changed}
 use Rattle.tb_bus.specs.Steps.{Move, Own, Handshake, Finish, Halt, Step, action_by, in_turn, others, handshake_if, handshake_of, handshakes_with, handshakes, own_if, moves_by, moves_of, moves_of_all, moves_or_halt, moves_while_up, moves, advance, label_of, apply, step_of, steps}
 use Rattle.tb_bus.specs.Traces.{IsLegal, IsTrace, Answer, after, after_step, replay, took}
 use Rattle.tb_bus.specs.Reached.{Reaches}
 use Rattle.tb_bus.specs.declared.action.Action.{Action}
 use Rattle.tb_bus.specs.declared.action.Action.TheVariants as action
-use Rattle.tb_bus.specs.declared.action.OwnAction.{OwnAction}
-use Rattle.tb_bus.specs.declared.action.OwnAction.TheVariants as own
 use Rattle.tb_bus.proofs.EffectLemmas.{IsOwnKind, IsOwnEffect, effect-own}
 use Rattle.tb_bus.proofs.TickLemmas.{ticked-in_order}
 use Rattle.tb_bus.proofs.OrderLemmas.{All-flat_map, All-one, contains-cases, contains-further, ascend-above, one-number, IsLeft, IsLed, InOrder, MayGo, start-in_order, advance-keeps, advance-in_order}

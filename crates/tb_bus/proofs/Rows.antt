@@ -1,5 +1,5 @@
 -- Worked scripts, computed from the definitions alone.
-use Rattle.std.proofs.Common.{◌≡◌, ℕ, ◌<◌, List, [], ◌∷◌, map, length, refl, ap, sym, ◌∙◌, subst, arith, codes, false, true, rules, Option, Some, None, Bool, Contains, if◌then◌else◌}
+use Rattle.std.proofs.Common.{◌≡◌, ℕ, List, [], ◌∷◌, map, refl, ap, sym, ◌∙◌, subst, arith, codes, false, true, rules, Option, Some, None, Bool, Contains, if◌then◌else◌}
 use Rattle.std.specs.Prelude.{◌≢◌, ⊤}
 use Rattle.std.proofs.lemmas.Bool.{false_from_ne_true}
 use Rattle.tb_terms.specs.declared.expr.Expr.{Expr, the_lemmas as expr_lemmas}

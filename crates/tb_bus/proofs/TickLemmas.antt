@@ -1,7 +1,5 @@
 -- A tick leaves the processes in order: each is where its body may have led it, a tick later.
 use Rattle.std.proofs.Common.{◌+◌, ◌<◌, ℕ, List, [], ◌∷◌, map}
-use Rattle.std.specs.Prelude.{⊤}
-use Rattle.std.specs.List.{All}
 use Rattle.std.proofs.lemmas.List.Elements.{All-map, All-weaker}
 use Rattle.tb_body.specs.declared.body.Body.{Body}
 use Rattle.tb_algebra.specs.Reached.{grew_older}

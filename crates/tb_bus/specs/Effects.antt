@@ -3,7 +3,6 @@ use Rattle.std.specs.Prelude.{ℕ, ◌+◌, ◌==◌, ◌&&◌, ◌||◌, nat_lt
 use Rattle.std.specs.List.{list_all}
 use Rattle.tb_terms.specs.declared.term.Term.{Term}
 use Rattle.tb_terms.specs.declared.term.Term.TheVariants.{Int}
-use Rattle.tb_terms.specs.declared.sort.Sort.{Sort}
 use Rattle.tb_terms.specs.declared.pattern.Pattern.{Pattern}
 use Rattle.tb_match.specs.declared.bind.Bind.{Bind}
 use Rattle.tb_body.specs.declared.body.Body.{Body}
@@ -89,7 +88,6 @@ own_effect bus proc (Unsubscribe patterns) = Some (record { kind = kind.Unsubscr
 own_effect bus proc (Create process actuals slot) =
     if may_create bus.program.bodies (length bus.procs) bus.next_number proc.body process actuals slot
     then Some (creation bus.next_number process actuals slot) else None
-
 -- the bus goes down, and its tools are told
 own_effect bus proc (Shutdown reason) = Some (record { kind = kind.Shutdown; shown = reason ∷ []; binds = []; change = GoesDown reason })
 
@@ -116,7 +114,6 @@ effect_of bus proc (Notify terms) =
     then Some (record { kind = kind.SndNote; shown = terms; binds = []; change = PutsNote terms }) else None
 -- the oldest note in the own queue that matches is taken
 effect_of bus proc (TakeNote patterns) = option_map (taking proc.inbox) (oldest_match patterns proc.inbox)
-
 -- it speaks with a tool, where it may
 effect_of bus proc (Speak does) = option_map (speaking (setting_of bus proc) does) (exchange_for (setting_of bus proc) does)
 

@@ -1,5 +1,5 @@
 -- All that may happen next on a bus, in order, and the bus after each.
-use Rattle.std.specs.Prelude.{ℕ, codes, ◌==◌, nat_lt, nat_le, List, [], ◌∷◌, ◌++◌, map, filter, Bool, true, not, if◌then◌else◌, Option, Some, None}
+use Rattle.std.specs.Prelude.{ℕ, codes, ◌==◌, nat_lt, nat_le, List, [], ◌∷◌, ◌++◌, map, filter, Bool, not, if◌then◌else◌, Option, Some, None}
 use Rattle.std.specs.List.{flat_map}
 use Rattle.tb_terms.specs.declared.term.Term.{Term}
 use Rattle.tb_terms.specs.declared.term.Term.TheVariants.{Appl}

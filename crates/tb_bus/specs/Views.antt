@@ -10,7 +10,6 @@ use Rattle.tb_algebra.specs.Processes.{At}
 use Rattle.tb_algebra.specs.Offers.{Offered, offers}
 use Rattle.tb_bus.specs.Buses.{Bus, Proc, atoms_of}
 use Rattle.tb_bus.specs.Steps.{Move, Own, Handshake, Finish, Halt}
-use Rattle.tb_algebra.specs.Walks.{sorts_of}
 use Rattle.tb_notes.specs.Inboxes.{nothing, oldest_match}
 use Rattle.tb_bus.specs.Effects.{Effect, effect_of}
 use Rattle.tb_bus.specs.Exchanges.{exchange_for}

@@ -21,6 +21,7 @@ use tb_tools::{Bench, Stage};
 
 /// The most a term may have in size, and the most levels.
 const MOST_SIZE: usize = 65_536;
+
 const MOST_DEPTH: usize = 64;
 
 /// A process that may speak with tools: its body among those of a program, and the lanes on which the tools stand.
@@ -75,7 +76,11 @@ fn leaving_lane(bench: &Bench, terms: &Terms) -> Option<u8>
     ensures within { ForSome result IsLane }
 {
     let lane = tool_lane(bench, terms)?;
-    if bench.can_leave(lane) { Some(lane) } else { None }
+    if bench.can_leave(lane) {
+        Some(lane)
+    } else {
+        None
+    }
 }
 
 /// The lane of such a tool, where it is live and no evaluation is open.
@@ -84,7 +89,11 @@ fn idle_lane(bench: &Bench, terms: &Terms) -> Option<u8>
     ensures within { ForSome result IsLane }
 {
     let lane = tool_lane(bench, terms)?;
-    if bench.can_eval(lane) { Some(lane) } else { None }
+    if bench.can_eval(lane) {
+        Some(lane)
+    } else {
+        None
+    }
 }
 
 /// The lane of such a tool, where it is live or leaving.
@@ -93,7 +102,11 @@ fn taken_lane(bench: &Bench, terms: &Terms) -> Option<u8>
     ensures within { ForSome result IsLane }
 {
     let lane = tool_lane(bench, terms)?;
-    if bench.is_taken(lane) { Some(lane) } else { None }
+    if bench.is_taken(lane) {
+        Some(lane)
+    } else {
+        None
+    }
 }
 
 /// The lane of such a tool, where it is live.
@@ -102,7 +115,11 @@ fn live_lane(bench: &Bench, terms: &Terms) -> Option<u8>
     ensures within { ForSome result IsLane }
 {
     let lane = tool_lane(bench, terms)?;
-    if bench.is_live(lane) { Some(lane) } else { None }
+    if bench.is_live(lane) {
+        Some(lane)
+    } else {
+        None
+    }
 }
 
 /// On a lane, with nothing bound.
@@ -160,11 +177,7 @@ fn value_on(
 }
 
 /// The oldest event of a tool that is live or leaving, of those that wait and match.
-fn event_of(
-    bench: &Bench,
-    terms: &Terms,
-    patterns: &Patterns,
-) -> Result<Option<Exchange>, NoMemory>
+fn event_of(bench: &Bench, terms: &Terms, patterns: &Patterns) -> Result<Option<Exchange>, NoMemory>
     ensures { IfOk result (λ found. found ≡ option_and_then (event_on patterns.now bench.now) (lane_of is_taken_at bench.now terms.now)) }
 {
     match taken_lane(bench, terms) {
@@ -188,11 +201,7 @@ fn event_on(bench: &Bench, lane: u8, patterns: &Patterns) -> Result<Option<Excha
 }
 
 /// The oldest event that was received of a live tool with just the terms behind its own.
-fn received_of(
-    alloc: Global,
-    bench: &Bench,
-    terms: &Terms,
-) -> Result<Option<Exchange>, NoMemory>
+fn received_of(alloc: Global, bench: &Bench, terms: &Terms) -> Result<Option<Exchange>, NoMemory>
     ensures { IfOk result (λ found. found ≡ option_and_then (received_on (behind terms.now) bench.now) (lane_of is_live_at bench.now terms.now)) }
 {
     match live_lane(bench, terms) {

@@ -20,6 +20,10 @@ mod search;
 #[cfg(test)]
 mod search_tests;
 mod slots;
+#[cfg(test)]
+mod tool_plans;
+#[cfg(test)]
+mod tool_tests;
 mod wanting;
 
 pub use action::{Action, OwnAction, ToolAction};

@@ -1,12 +1,13 @@
 use crate::candidate::Candidate;
 use crate::living::Living;
-use crate::plans::{NoWalker, Want, Wish, asked, inbox, living, marks, own, searched};
+use crate::plans::{NoWalker, Want, Wish, asked, inbox, living, marks, own, program, searched};
 use std::alloc::Global;
 use std::test::Fail;
-use tb_body::{Act, Atom, Body, Tree};
+use tb_body::{Act, Atom, Body, Program, Tree};
 use tb_match::Bind;
 use tb_notes::Inbox;
 use tb_terms::{Items, NoMemory, Sort, Term};
+use tb_tools::Bench;
 
 /// What each process has subscribed to, and the indices of those that want the note 5 of the first.
 static WANTING: [(&[&[Want]], &[usize]); 5] = [
@@ -151,6 +152,16 @@ fn body(alloc: Global, formal: Sort) -> Result<Body, Fail> {
     }
 }
 
+/// Two kinds of processes, the first with a number and the second with a string.
+fn creators(alloc: Global) -> Result<Program, Fail> {
+    let bodies = vec![in alloc; body(alloc, Sort::Int)?, body(alloc, Sort::Str)?]?;
+    program(
+        Items::from_vec(bodies),
+        Items::new(alloc),
+        Items::new(alloc),
+    )
+}
+
 /// The body that is to begin, its actuals, and the slot of its number; and whether it does.
 static CREATING: [(u32, &[i64], u32, bool); 7] = [
     (0, &[7], 0, true),
@@ -164,11 +175,12 @@ static CREATING: [(u32, &[i64], u32, bool); 7] = [
 
 #[test]
 fn what_is_created_fits_its_body(rt: HostRuntime) -> Result<(), Fail> {
-    let bodies = vec![in rt.alloc(); body(rt.alloc(), Sort::Int)?, body(rt.alloc(), Sort::Str)?]?;
+    let program = creators(rt.alloc())?;
+    let bench = Bench::new(rt.alloc(), &Items::new(rt.alloc()))?;
     for (process, actuals, slot, happens) in &CREATING {
         let wish = Wish::Creates(*process, actuals, *slot);
         let all = vec![in rt.alloc(); living(rt.alloc(), 1, &[wish], Inbox::new(rt.alloc()))?]?;
-        let found = searched(rt.alloc(), &bodies, &all, marks(0))?;
+        let found = searched(rt.alloc(), &program, &bench, &all, marks(0))?;
         assert_eq!(rt; own(&found).is_some(), *happens);
     }
     Ok(())
@@ -190,10 +202,11 @@ fn many(alloc: Global, count: u32) -> Result<Vec<Living<NoWalker>>, NoMemory> {
 
 #[test]
 fn ten_thousand_may_be_alive(rt: HostRuntime) -> Result<(), Fail> {
-    let bodies = vec![in rt.alloc(); body(rt.alloc(), Sort::Int)?, body(rt.alloc(), Sort::Str)?]?;
+    let program = creators(rt.alloc())?;
+    let bench = Bench::new(rt.alloc(), &Items::new(rt.alloc()))?;
     for (count, happens) in [(9_999, true), (10_000, false)] {
         let all = many(rt.alloc(), count)?;
-        let found = searched(rt.alloc(), &bodies, &all, marks(0))?;
+        let found = searched(rt.alloc(), &program, &bench, &all, marks(0))?;
         assert_eq!(rt; own(&found).is_some(), happens);
     }
     Ok(())

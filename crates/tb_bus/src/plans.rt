@@ -4,17 +4,18 @@ ghost use Rattle.std.specs.Prelude.{◌≡◌, [], ◌∷◌, IsTrue, IfOk};
 ghost use Rattle.tb_match.specs.Matches.{are_plain};
 ghost use Rattle.tb_bus.specs.Candidates.{ascend, rows_of};
 
-use crate::action::{Action, OwnAction};
+use crate::action::{Action, OwnAction, ToolAction};
 use crate::candidate::Candidate;
 use crate::living::{Living, Ready};
 use crate::marks::Marks;
 use crate::search::first_candidate;
 use std::alloc::Global;
 use std::test::Fail;
-use tb_body::Body;
+use tb_body::{Bodies, Program, Roots, Tools};
 use tb_match::Bind;
 use tb_notes::Inbox;
-use tb_terms::{Items, NoMemory, Pattern, Patterns, Sort, Term, Terms};
+use tb_terms::{Items, Name, NoMemory, Pattern, Patterns, Sort, Term, Terms};
+use tb_tools::Bench;
 
 /// A search asks no walker.
 #[derive(Drop)]
@@ -47,6 +48,32 @@ pub(crate) enum Wish {
     NoNote(Want),
     /// A process of this body, with these actuals, whose number goes to this slot.
     Creates(u32, &'static [i64], u32),
+    Speaks(Speech),
+    ShutsDown,
+}
+
+/// What is to be said to a tool of the first kind with this number, or to be heard of it. What is executed, connected or
+/// disconnected is of a kind, and goes to a slot.
+#[derive(Clone, Copy)]
+pub(crate) enum Speech {
+    Execute(u32, u32),
+    Connect(u32, u32),
+    DisconnectAny(u32, u32),
+    Disconnect(i64),
+    Eval(i64),
+    TakeValue(i64, Heard),
+    Do(i64),
+    TakeEvent(i64, Heard),
+    Acknowledge(i64, i64),
+    Terminate(i64),
+}
+
+/// What is to be heard of a tool.
+#[derive(Clone, Copy)]
+pub(crate) enum Heard {
+    Just(i64),
+    /// Any number, for the variable with this slot.
+    Into(u32),
 }
 
 pub(crate) fn list(alloc: Global, pattern: Pattern) -> Result<Patterns, NoMemory>
@@ -97,6 +124,47 @@ pub(crate) fn action(alloc: Global, wish: Wish) -> Result<Action, NoMemory> {
             numbers_of(alloc, actuals)?,
             slot,
         ))),
+        Wish::Speaks(speech) => Ok(Action::Speak(spoken(alloc, speech)?)),
+        Wish::ShutsDown => Ok(Action::Own(OwnAction::Shutdown(Term::Int(0)))),
+    }
+}
+
+/// The tool of the first kind with this number, and then these terms.
+fn to_tool(alloc: Global, number: i64, behind: &[i64]) -> Result<Terms, NoMemory> {
+    let tool = Term::Appl(Name::new(alloc, b"a")?, one(alloc, number)?);
+    let mut terms = Items::from_vec(vec![in alloc; tool]?);
+    terms.append(numbers_of(alloc, behind)?)?;
+    Ok(terms)
+}
+
+fn to_hear(alloc: Global, heard: Heard) -> Result<Patterns, NoMemory> {
+    match heard {
+        Heard::Just(number) => list(alloc, Pattern::Fixed(Term::Int(number))),
+        Heard::Into(slot) => list(alloc, Pattern::Result(slot, Sort::Int)),
+    }
+}
+
+/// What is sent to a tool is 7.
+fn spoken(alloc: Global, speech: Speech) -> Result<ToolAction, NoMemory> {
+    match speech {
+        Speech::Execute(kind, slot) => Ok(ToolAction::Execute(kind, slot)),
+        Speech::Connect(kind, slot) => Ok(ToolAction::Connect(kind, slot)),
+        Speech::DisconnectAny(kind, slot) => Ok(ToolAction::DisconnectAny(kind, slot)),
+        Speech::Disconnect(tool) => Ok(ToolAction::Disconnect(to_tool(alloc, tool, &[])?)),
+        Speech::Eval(tool) => Ok(ToolAction::Eval(to_tool(alloc, tool, &[7])?)),
+        Speech::TakeValue(tool, value) => Ok(ToolAction::TakeValue(
+            to_tool(alloc, tool, &[])?,
+            to_hear(alloc, value)?,
+        )),
+        Speech::Do(tool) => Ok(ToolAction::Do(to_tool(alloc, tool, &[7])?)),
+        Speech::TakeEvent(tool, event) => Ok(ToolAction::TakeEvent(
+            to_tool(alloc, tool, &[])?,
+            to_hear(alloc, event)?,
+        )),
+        Speech::Acknowledge(tool, event) => {
+            Ok(ToolAction::Acknowledge(to_tool(alloc, tool, &[event])?))
+        }
+        Speech::Terminate(tool) => Ok(ToolAction::Terminate(to_tool(alloc, tool, &[7])?)),
     }
 }
 
@@ -166,15 +234,23 @@ pub(crate) fn ascends(all: &[Living<NoWalker>]) -> bool
     true
 }
 
-/// What happens first on a bus of these bodies.
+pub(crate) fn program(bodies: Bodies, tools: Tools, roots: Roots) -> Result<Program, Fail> {
+    match Program::new(bodies, roots, tools) {
+        Some(program) => Ok(program),
+        None => Err(Fail::new("not in range")),
+    }
+}
+
+/// What happens first on a bus with this program and these lanes.
 pub(crate) fn searched(
     alloc: Global,
-    bodies: &[Body],
+    program: &Program,
+    bench: &Bench,
     all: &[Living<NoWalker>],
     marks: Marks,
 ) -> Result<Option<Candidate>, Fail> {
     if ascends(all) {
-        return Ok(first_candidate(alloc, bodies, all, marks)?);
+        return Ok(first_candidate(alloc, program, bench, all, marks)?);
     }
     Err(Fail::new("not by their numbers"))
 }
@@ -189,12 +265,23 @@ pub(crate) fn marks(last_starter: u32) -> Marks {
     }
 }
 
+/// What happens first on a bus without bodies and tools.
+fn searched_alone(
+    alloc: Global,
+    all: &[Living<NoWalker>],
+    marks: Marks,
+) -> Result<Option<Candidate>, Fail> {
+    let program = program(Items::new(alloc), Items::new(alloc), Items::new(alloc))?;
+    let bench = Bench::new(alloc, &Items::new(alloc))?;
+    searched(alloc, &program, &bench, all, marks)
+}
+
 pub(crate) fn asked(
     alloc: Global,
     all: &[Living<NoWalker>],
     last: u32,
 ) -> Result<Option<Candidate>, Fail> {
-    searched(alloc, &[], all, marks(last))
+    searched_alone(alloc, all, marks(last))
 }
 
 pub(crate) fn moved(
@@ -208,7 +295,7 @@ pub(crate) fn moved(
         down,
         ..marks(0)
     };
-    searched(alloc, &[], all, marks)
+    searched_alone(alloc, all, marks)
 }
 
 /// The indices of a process and its action, where it goes on by itself.

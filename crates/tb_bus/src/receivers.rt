@@ -25,7 +25,11 @@ fn receive(
             })),
             None => Ok(None),
         },
-        Action::Own(_) | Action::Send(_) | Action::Notify(_) | Action::TakeNote(_) | Action::Speak(_) => Ok(None),
+        Action::Own(_)
+        | Action::Send(_)
+        | Action::Notify(_)
+        | Action::TakeNote(_)
+        | Action::Speak(_) => Ok(None),
     }
 }
 
@@ -53,7 +57,11 @@ fn has_receive(actions: &[Ready]) -> bool
     for ready in actions {
         match ready.action {
             Action::Receive(_) => return true,
-            Action::Own(_) | Action::Send(_) | Action::Notify(_) | Action::TakeNote(_) | Action::Speak(_) => {}
+            Action::Own(_)
+            | Action::Send(_)
+            | Action::Notify(_)
+            | Action::TakeNote(_)
+            | Action::Speak(_) => {}
         }
     }
     false

@@ -136,3 +136,12 @@ fn what_is_set_happens_where_nobody_sends(rt: HostRuntime) -> Result<(), Fail> {
     assert_eq!(rt; own(&asked(rt.alloc(), &all, 0)?), Some((0, 1)));
     Ok(())
 }
+
+static SHUTTING: [(u32, &[Wish]); 1] = [(1, &[Wish::Wants(5), Wish::ShutsDown])];
+
+#[test]
+fn a_process_shuts_the_bus_down(rt: HostRuntime) -> Result<(), Fail> {
+    let all = all(rt.alloc(), &SHUTTING)?;
+    assert_eq!(rt; own(&asked(rt.alloc(), &all, 0)?), Some((0, 1)));
+    Ok(())
+}
