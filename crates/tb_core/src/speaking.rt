@@ -1,7 +1,10 @@
 ghost use Rattle.std.specs.Prelude.{◌≡◌, ◌≤◌, ◌∷◌, [], Bool, Option, None, Some, IfOk, OnOk, OnErr, IsSome, IsTrue, option_map, min, slice_get};
 ghost use Rattle.std.below.core.specs.declared.int.usize.TheConstants.{MAX};
+ghost use Rattle.std.specs.List.{list_any};
+ghost use Rattle.std.specs.Str.{bytes_eq};
 ghost use Rattle.tb_terms.specs.declared.term.Term.{Term};
 ghost use Rattle.tb_body.specs.declared.body.Body.{Body};
+ghost use Rattle.tb_body.specs.declared.program.Tool.{Tool};
 ghost use Rattle.tb_log.specs.Limits.{terms_size};
 ghost use Rattle.tb_log.specs.Shapes.{IsLane};
 ghost use Rattle.tb_tools.specs.Lanes.{most_tools};
@@ -17,7 +20,7 @@ use tb_body::Tool;
 use tb_bus::{Action, Exchange, ToolAction};
 use tb_log::{LabelKind, ToolLine, total_size};
 use tb_match::Binds;
-use tb_terms::{Items, NoMemory, Term, Terms, copy_terms, size};
+use tb_terms::{Items, Name, NoMemory, Term, Terms, copy_terms, size};
 use tb_tools::Bench;
 
 /// Speaks with a tool, as was found. After want of memory the lanes are as before.
@@ -218,7 +221,19 @@ pub fn is_declared(kinds: &[Tool], line: &ToolLine) -> bool
     ensures { result ≡ declares kinds.now line.now }
 {
     match line {
-        ToolLine::Connect(name) => kinds.iter().any(|kind| kind.name.is_same(name)),
+        ToolLine::Connect(name) => has_kind(kinds, name),
         ToolLine::Value(_) | ToolLine::Event(_) | ToolLine::Disconnect | ToolLine::Bad => false,
     }
+}
+
+/// Whether one of the kinds has this name.
+fn has_kind(kinds: &[Tool], name: &Name) -> bool
+    ensures { result ≡ list_any (λ (tool : Tool). bytes_eq tool.name name.now) kinds.now }
+{
+    for kind in kinds {
+        if kind.name.as_bytes() == name.as_bytes() {
+            return true;
+        }
+    }
+    false
 }
