@@ -14,3 +14,4 @@ pub mod SetLemmas
 pub mod TickLemmas
 pub mod GoLemmas
 pub mod CoreLemmas
+pub mod ToolLemmas

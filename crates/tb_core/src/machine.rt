@@ -1,5 +1,7 @@
-ghost use Rattle.std.specs.Prelude.{◌≡◌, IsSome, Some, option_map, ◌≤◌, ◌<◌, ◌+◌, ◌↔◌, ◌∷◌, [], ◌++◌, length, IsTrue, IfOk, OnOk, OnErr, IsErrOf, true, false, if◌then◌else◌};
-ghost use Rattle.tb_log.specs.Limits.{has_room};
+ghost use Rattle.std.specs.Option.{ForSome};
+ghost use Rattle.std.below.core.specs.declared.int.usize.TheConstants.{MAX};
+ghost use Rattle.std.specs.Prelude.{◌≡◌, IsSome, Some, min, ◌≤◌, ◌<◌, ◌+◌, ◌↔◌, ◌∷◌, [], ◌++◌, length, IsTrue, IfOk, OnOk, OnErr, IsErrOf, true, false, if◌then◌else◌};
+ghost use Rattle.tb_log.specs.Limits.{has_room, out_size};
 ghost use Rattle.tb_log.specs.Shapes.{IsInputInShape, IsLane};
 ghost use Rattle.tb_tools.specs.Lanes.{lane_at, lane_state};
 ghost use Rattle.tb_tools.specs.Finding.{first_out, next_out};
