@@ -15,3 +15,4 @@ pub mod TickLemmas
 pub mod GoLemmas
 pub mod CoreLemmas
 pub mod ToolLemmas
+pub mod OutLemmas
