@@ -16,3 +16,4 @@ pub mod GoLemmas
 pub mod CoreLemmas
 pub mod ToolLemmas
 pub mod OutLemmas
+pub mod SpokenLemmas

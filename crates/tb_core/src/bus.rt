@@ -181,7 +181,13 @@ impl<W: Walker> LiveBus<W> {
         ensures stands { IfOk result (λ found. IfSome found (IsCandidateIn (scene_in self.now))) }
     {
         let program = &self.origin.program;
-        first_candidate(alloc, program, &self.bench, self.living.as_slice(), self.marks)
+        first_candidate(
+            alloc,
+            program,
+            &self.bench,
+            self.living.as_slice(),
+            self.marks,
+        )
     }
 
     /// Takes the offer of one of the actions of a process, and changes nothing yet.
@@ -250,7 +256,11 @@ impl<W: Walker> LiveBus<W> {
                 total_size(self.living[*at].inbox.note(found.place).as_slice())
             }
             Candidate::Speak(at, index, exchange) => {
-                seen_size(&self.bench, &self.living[*at].ready[*index].action, exchange)
+                seen_size(
+                    &self.bench,
+                    &self.living[*at].ready[*index].action,
+                    exchange,
+                )
             }
             Candidate::Finish | Candidate::Halt => 0,
         }
