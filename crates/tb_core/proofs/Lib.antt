@@ -17,3 +17,4 @@ pub mod CoreLemmas
 pub mod ToolLemmas
 pub mod OutLemmas
 pub mod SpokenLemmas
+pub mod BenchLemmas

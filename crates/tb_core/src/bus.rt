@@ -423,8 +423,14 @@ impl<W: Walker> LiveBus<W> {
         let Action::Speak(does) = action else {
             unreachable!()
         };
-        let kinds = self.origin.program.tools.as_slice();
-        let done = speak(alloc, kinds, &mut self.bench, does, exchange)?;
+        let program = &self.origin.program;
+        let done = speak(
+            alloc,
+            program.tools.as_slice(),
+            &mut self.bench,
+            does,
+            exchange,
+        )?;
         self.bench.show_lanes();
         Ok(self.finish(at, taken, from, done))
     }
@@ -461,8 +467,9 @@ impl<W: Walker> LiveBus<W> {
                 self.create(alloc, process, actuals, slot)
             }
             OwnAction::Shutdown(reason) => {
-                self.go_down(&reason)?;
-                shut_down(alloc, reason)
+                let done = shut_down(alloc, reason)?;
+                self.go_down(&done.shown.as_slice()[0])?;
+                Ok(done)
             }
         }
     }
