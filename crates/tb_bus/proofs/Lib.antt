@@ -6,6 +6,7 @@ pub mod CandidateLemmas
 pub mod TraceLemmas
 pub mod OrderLemmas
 pub mod ChangeLemmas
+pub mod ExchangeLemmas
 pub mod TickLemmas
 pub mod ReachedLemmas
 pub mod ReceiverLemmas
