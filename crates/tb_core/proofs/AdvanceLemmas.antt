@@ -263,6 +263,7 @@ advanced-set view bus at before plan offered binds after over living sound read 
         below = subst (All (IsBelow bus.marks.next_number)) (sym e) (All-set (IsBelow bus.marks.next_number) bus.living.items at after
             (subst (λ n. n < bus.marks.next_number) (sym went.number) (all-there (IsBelow bus.marks.next_number) bus.living.items at before sound.below it.here)) sound.below);
         planned = sound.planned;
+        lanes = sound.lanes;
         live = subst (All (IsLive view bus.plans bus.ticks)) (sym e) (All-set (IsLive view bus.plans bus.ticks) bus.living.items at after (went-live view bus at before offered binds after it goes sorts lives) sound.live);
         fresh = λ young. subst (All (IsFreshOr bus.stale.items)) (sym e) (All-set (IsFreshOr bus.stale.items) bus.living.items at after
             (inr (subst (Contains bus.stale.items) (sym went.number) (named view bus at before it stale))) (sound.fresh young));
@@ -290,6 +291,7 @@ advanced-removed view bus at before plan offered binds after over living sound r
         in_order = ap (λ (all : List (Living _)). ascend 0 (rows_of all)) e ∙ ascend-removed 0 bus.living.items at sound.in_order;
         below = subst (All (IsBelow bus.marks.next_number)) (sym e) (All-removed (IsBelow bus.marks.next_number) bus.living.items at sound.below);
         planned = sound.planned;
+        lanes = sound.lanes;
         live = subst (All (IsLive view bus.plans bus.ticks)) (sym e) (All-removed (IsLive view bus.plans bus.ticks) bus.living.items at sound.live);
         fresh = λ young. subst (All (IsFreshOr bus.stale.items)) (sym e) (All-removed (IsFreshOr bus.stale.items) bus.living.items at (sound.fresh young));
       };

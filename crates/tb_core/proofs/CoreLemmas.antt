@@ -12,7 +12,7 @@ use Rattle.tb_log.specs.declared.entry.Reply.TheVariants.{Dropped}
 use Rattle.tb_log.specs.declared.entry.Why.TheVariants.{Down}
 use Rattle.tb_bus.specs.declared.origin.Origin.{Origin}
 use Rattle.tb_bus.specs.Buses.{Bus, start}
-use Rattle.tb_bus.specs.Effects.{Change, Nothing, PutsNote, TakesNote, Subscribes, Unsubscribes, Creates, changed}
+use Rattle.tb_bus.specs.Effects.{Change, Nothing, PutsNote, TakesNote, Subscribes, Unsubscribes, Creates, SetsBench, GoesDown, changed}
 use Rattle.tb_bus.specs.Steps.{Move, Own, Handshake, Finish, Halt, apply, steps}
 use Rattle.tb_bus.specs.Traces.{IsTrace, Answer, fed, replay, took}
 use Rattle.tb_bus.proofs.TraceLemmas.{replay-append, trace-append}
@@ -80,11 +80,13 @@ stays-on origin other log more stopped core view kept spare same = record {
 -- a core goes on: its fields stand for the bus to which the longer log leads
 pub represents-on : {W P T : Type 0} (view : View P W T) (old new : LiveBus W P T) (log more : LogState) (entries : List Entry) →
     Represents view old log → IsSound view new → new.origin ≡ old.origin → more.limit ≡ log.limit → more.entries ≡ log.entries ++ entries → bus_of view new ≡ replay (bus_of view old) entries → IsTrace (bus_of view old) entries →
-    (bus_of view new).now ≤ (bus_of view old).now + length entries → (bus_of view new).next_number ≤ (bus_of view old).next_number + length entries → Represents view new more
-represents-on view old new log more entries stands sound same kept grown leads trace much many =
+    (bus_of view new).now ≤ (bus_of view old).now + length entries → (bus_of view new).next_number ≤ (bus_of view old).next_number + length entries →
+    (bus_of view new).bench.next_tool ≤ (bus_of view old).bench.next_tool + length entries → Represents view new more
+represents-on view old new log more entries stands sound same kept grown leads trace much many came =
     let long : length more.entries ≡ length log.entries + length entries = ap length grown ∙ length-append log.entries entries in
     let ticks = stands.ticks in
     let next = stands.next in
+    let tools = stands.tools in
     record {
       sound = sound;
       bus_is = leads ∙ ap (λ b. replay b entries) stands.bus_is ∙ sym (replay-append (start old.origin) log.entries entries)
@@ -96,6 +98,7 @@ represents-on view old new log more entries stands sound same kept grown leads t
       few = subst (λ (o : Origin). o.limit ≤ 4000000) (sym same) stands.few;
       ticks = omega arith;
       next = omega arith;
+      tools = omega arith;
     }
 
 -- a core whose fields stand for the same bus
@@ -105,6 +108,8 @@ represents-same view old new log stands same =
     let now : new.ticks ≡ old.ticks = ap (λ (b : Bus). b.now) same.bus in
     let next = stands.next in
     let number : new.marks.next_number ≡ old.marks.next_number = ap (λ (b : Bus). b.next_number) same.bus in
+    let tools = stands.tools in
+    let tool : new.bench.next_tool ≡ old.bench.next_tool = ap (λ (b : Bus). b.bench.next_tool) same.bus in
     record {
       sound = same.sound;
       bus_is = same.bus ∙ stands.bus_is ∙ ap (λ o. replay (start o) log.entries) (sym same.origin);
@@ -113,6 +118,7 @@ represents-same view old new log stands same =
       few = subst (λ (o : Origin). o.limit ≤ 4000000) (sym same.origin) stands.few;
       ticks = omega arith;
       next = omega arith;
+      tools = omega arith;
     }
 
 -- no move is a tick
@@ -123,6 +129,8 @@ changed-now bus number (TakesNote place) = refl
 changed-now bus number (Subscribes patterns) = refl
 changed-now bus number (Unsubscribes patterns) = refl
 changed-now bus number (Creates process actuals) = refl
+changed-now bus number (SetsBench bench) = refl
+changed-now bus number (GoesDown reason) = refl
 
 pub apply-now : (bus : Bus) (move : Move) → (apply bus move).now ≡ bus.now
 apply-now bus (Own proc offered effect) = changed-now bus proc.number effect.change
@@ -153,6 +161,8 @@ changed-next bus number (TakesNote place) = omega arith
 changed-next bus number (Subscribes patterns) = omega arith
 changed-next bus number (Unsubscribes patterns) = omega arith
 changed-next bus number (Creates process actuals) = omega arith
+changed-next bus number (SetsBench bench) = omega arith
+changed-next bus number (GoesDown reason) = omega arith
 
 pub apply-next : (bus : Bus) (move : Move) → (apply bus move).next_number ≤ bus.next_number + 1
 apply-next bus (Own proc offered effect) = changed-next bus proc.number effect.change

@@ -55,6 +55,7 @@ module _ {W P T : Type 0} (view : View P W T) (bus : LiveBus W P T) (at : ℕ) (
           in_order = ap (λ xs. ascend 0 (rows_of xs)) e ∙ ascend-push 0 bus.living.items living sound.in_order below_it (omega (arith, number));
           below = All-same (IsBelow (next + 1)) all.items (bus.living.items ++ living ∷ []) e (All-push (IsBelow (next + 1)) bus.living.items living (below-more next bus.living.items sound.below) here);
           planned = sound.planned;
+          lanes = sound.lanes;
           live = All-same (IsLive view bus.plans bus.ticks) all.items (bus.living.items ++ living ∷ []) e (All-push (IsLive view bus.plans bus.ticks) bus.living.items living sound.live (live bus.ticks));
           fresh = λ young. subst (λ (numbers : List ℕ). All (IsFreshOr numbers) all.items) (sym f)
               (All-same (IsFreshOr (bus.stale.items ++ next ∷ [])) all.items (bus.living.items ++ living ∷ []) e

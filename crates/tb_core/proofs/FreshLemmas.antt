@@ -28,15 +28,17 @@ use Rattle.tb_algebra.specs.Offers.{Offered, offers}
 use Rattle.tb_algebra.specs.Walks.{Walking, offers_of, is_end}
 use Rattle.tb_algebra.specs.WalkerViews.{View}
 use Rattle.tb_algebra.proofs.Taken.{binds-taken}
-use Rattle.tb_bus.specs.Actions.{set_action, print_action, no_note_action, subscribe_action, unsubscribe_action, create_action, action_in, action_if, action_of}
+use Rattle.tb_bus.specs.Actions.{set_action, print_action, no_note_action, subscribe_action, unsubscribe_action, create_action, speak_by, shutdown_action, action_in, action_if, action_of}
 use Rattle.tb_bus.specs.Candidates.{row_of, rows_of, row_at, ready_one, readies}
 use Rattle.tb_bus.specs.Views.{ready_at, offer_at, offer_of, no_ready, no_offer, Receives}
 use Rattle.tb_bus.specs.declared.action.Action.{Action}
 use Rattle.tb_bus.specs.declared.action.Action.TheVariants as action
 use Rattle.tb_bus.specs.declared.action.OwnAction.{OwnAction}
+use Rattle.tb_bus.specs.declared.action.ToolAction.TheVariants as does
 use Rattle.tb_bus.specs.declared.action.OwnAction.TheVariants as own
 use Rattle.tb_bus.specs.declared.living.Ready.{Ready}
 use Rattle.tb_bus.specs.declared.living.Living.{Living}
+use Rattle.tb_bus.proofs.ExchangeLemmas.{PatternsTake, SpeakTakes, patterns-take, about-some}
 use Rattle.tb_core.specs.Lives.{term_in, proc_of}
 use Rattle.tb_core.specs.LiveBuses.{AreFresh, procs_in}
 use Rattle.tb_core.specs.declared.bus.LiveBus.{LiveBus}
@@ -141,10 +143,6 @@ offer-read view bus at index living it plan ready fresh within same is =
       here = ap (λ (r : Ready). slice_get (offers_of (view.walking it.plan living.walker)) r.offer) there ∙ action.here;
     })
 
--- patterns that bind only what the store takes
-abbrev pub PatternsFit : List Slot → List Pattern → Type 0
-PatternsFit store patterns = (terms : List Term) (binds : List Bind) → match_list patterns terms ≡ Some binds → takes_binds store binds ≡ true
-
 abbrev pub OwnFits : List Slot → OwnAction → Type 0
 OwnFits store own.Tau = ⊤
 OwnFits store (own.Set values binds) = takes_binds store binds ≡ true
@@ -153,14 +151,16 @@ OwnFits store (own.NoNote patterns) = ⊤
 OwnFits store (own.Subscribe patterns) = are_plain patterns ≡ true
 OwnFits store (own.Unsubscribe patterns) = ⊤
 OwnFits store (own.Create process actuals slot) = ⊤
+OwnFits store (own.Shutdown reason) = ⊤
 
 -- what an action binds, the store takes, and what it subscribes to takes no term
 abbrev pub ActionFits : List Slot → Action → Type 0
 ActionFits store (action.Own own) = OwnFits store own
 ActionFits store (action.Send terms) = ⊤
-ActionFits store (action.Receive patterns) = PatternsFit store patterns
+ActionFits store (action.Receive patterns) = PatternsTake store patterns
 ActionFits store (action.Notify terms) = ⊤
-ActionFits store (action.TakeNote patterns) = PatternsFit store patterns
+ActionFits store (action.TakeNote patterns) = PatternsTake store patterns
+ActionFits store (action.Speak does) = SpeakTakes store does
 
 set-by : (store : List Slot) (bind : Bind) (b : Bool) → takes_bind store bind ≡ b → IfSome (if b then Some (action.Own (own.Set (bind.value ∷ []) (bind ∷ []))) else None) (ActionFits store)
 set-by store bind true e = rw e refl
@@ -180,21 +180,27 @@ any-fits : {A : Type 0} (store : List Slot) (does : A → Action) (found : Optio
 any-fits store does None h = tt
 any-fits store does (Some x) h = h x
 
-patterns-fit : (store : List Slot) (exprs : List Expr) (patterns : List Pattern) → patterns_of store exprs ≡ Some patterns → PatternsFit store patterns
-patterns-fit store exprs patterns e terms binds h = binds-taken store exprs terms binds (ap (option_and_then (λ ps. match_list ps terms)) e ∙ h)
-
 -- one that fits with these patterns
 matched-fits : (store : List Slot) (does : List Pattern → Action) (patterns : Option (List Pattern)) → ((ps : List Pattern) → patterns ≡ Some ps → ActionFits store (does ps)) → IfSome (option_map does patterns) (ActionFits store)
 matched-fits store does None h = tt
 matched-fits store does (Some ps) h = h ps refl
 
+shutdown_action-fits : (store : List Slot) (reasons : List Term) → IfSome (shutdown_action reasons) (ActionFits store)
+shutdown_action-fits store [] = tt
+shutdown_action-fits store (reason ∷ []) = tt
+shutdown_action-fits store (reason ∷ other ∷ terms) = tt
+
+shutdown-fits : (store : List Slot) (reasons : Option (List Term)) → IfSome (option_and_then shutdown_action reasons) (ActionFits store)
+shutdown-fits store None = tt
+shutdown-fits store (Some reasons) = shutdown_action-fits store reasons
+
 action_in-fits : (slots : ℕ) (store : List Slot) (act : Act) → is_act_in_body slots act ≡ true → IfSome (action_in store act) (ActionFits store)
 action_in-fits slots store Delta h = tt
 action_in-fits slots store Tau h = tt
 action_in-fits slots store (SndMsg exprs) h = any-fits store action.Send (values_together store exprs) (λ x. tt)
-action_in-fits slots store (RecMsg exprs) h = matched-fits store action.Receive (patterns_of store exprs) (patterns-fit store exprs)
+action_in-fits slots store (RecMsg exprs) h = matched-fits store action.Receive (patterns_of store exprs) (patterns-take store exprs)
 action_in-fits slots store (SndNote exprs) h = any-fits store action.Notify (values_together store exprs) (λ x. tt)
-action_in-fits slots store (RecNote exprs) h = matched-fits store action.TakeNote (patterns_of store exprs) (patterns-fit store exprs)
+action_in-fits slots store (RecNote exprs) h = matched-fits store action.TakeNote (patterns_of store exprs) (patterns-take store exprs)
 action_in-fits slots store (NoNote exprs) h = any-fits store no_note_action (patterns_of store exprs) (λ x. tt)
 action_in-fits slots store (Subscribe exprs) h = matched-fits store subscribe_action (patterns_of store exprs) (λ ps e. patterns-plain slots store exprs ps h e)
 action_in-fits slots store (Unsubscribe exprs) h = any-fits store unsubscribe_action (patterns_of store exprs) (λ x. tt)
@@ -204,14 +210,16 @@ action_in-fits slots store (Printf exprs) h = any-fits store print_action (optio
 action_in-fits slots store (Execute tool slot) h = tt
 action_in-fits slots store (RecConnect tool slot) h = tt
 action_in-fits slots store (RecDisconnectAny tool slot) h = tt
-action_in-fits slots store (RecDisconnect tool) h = tt
-action_in-fits slots store (SndEval tool expr) h = tt
-action_in-fits slots store (RecValue tool expr) h = tt
-action_in-fits slots store (SndDo tool expr) h = tt
-action_in-fits slots store (RecEvent tool exprs) h = tt
-action_in-fits slots store (SndAckEvent tool exprs) h = tt
-action_in-fits slots store (SndTerminate tool expr) h = tt
-action_in-fits slots store (Shutdown reason) h = tt
+action_in-fits slots store (RecDisconnect tool) h = any-fits store (speak_by does.Disconnect) (values_together store (tool ∷ [])) (λ x. tt)
+action_in-fits slots store (SndEval tool expr) h = any-fits store (speak_by does.Eval) (values_together store (tool ∷ expr ∷ [])) (λ x. tt)
+action_in-fits slots store (RecValue tool expr) h =
+    about-some (ActionFits store) does.TakeValue (patterns_of store (expr ∷ [])) (values_together store (tool ∷ [])) (λ ts ps d e. patterns-take store (expr ∷ []) ps e)
+action_in-fits slots store (SndDo tool expr) h = any-fits store (speak_by does.Do) (values_together store (tool ∷ expr ∷ [])) (λ x. tt)
+action_in-fits slots store (RecEvent tool exprs) h =
+    about-some (ActionFits store) does.TakeEvent (patterns_of store exprs) (values_together store (tool ∷ [])) (λ ts ps d e. patterns-take store exprs ps e)
+action_in-fits slots store (SndAckEvent tool exprs) h = any-fits store (speak_by does.Acknowledge) (values_together store (tool ∷ exprs)) (λ x. tt)
+action_in-fits slots store (SndTerminate tool expr) h = any-fits store (speak_by does.Terminate) (values_together store (tool ∷ expr ∷ [])) (λ x. tt)
+action_in-fits slots store (Shutdown reason) h = shutdown-fits store (values_together store (reason ∷ []))
 
 if-fits : (slots : ℕ) (ready : Bool) (store : List Slot) (act : Act) → is_act_in_body slots act ≡ true → IfSome (action_if ready store act) (ActionFits store)
 if-fits slots true store act h = action_in-fits slots store act h
@@ -250,3 +258,4 @@ received-takes store (action.Send other) terms binds fits h = absurd h
 received-takes store (action.Receive patterns) terms binds fits h = fits terms binds h
 received-takes store (action.Notify other) terms binds fits h = absurd h
 received-takes store (action.TakeNote patterns) terms binds fits h = absurd h
+received-takes store (action.Speak does) terms binds fits h = absurd h

@@ -95,6 +95,7 @@ sound-bares view bus living e sound = record {
   in_order = sym (ascend-bares 0 living.items) ∙ ap (λ all. ascend 0 (rows_of all)) e ∙ ascend-bares 0 bus.living.items ∙ sound.in_order;
   below = all-bares (IsBelow bus.marks.next_number) bus.living.items living.items (λ l h. h) (λ l h. h) e sound.below;
   planned = sound.planned;
+  lanes = sound.lanes;
   live = all-bares (IsLive view bus.plans bus.ticks) bus.living.items living.items (live-bare view bus.plans bus.ticks) (live-filled view bus.plans bus.ticks) e sound.live;
   fresh = λ young. all-bares (IsFreshOr bus.stale.items) bus.living.items living.items (λ l h. h) (λ l h. h) e (sound.fresh young);
 }

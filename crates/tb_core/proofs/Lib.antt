@@ -14,3 +14,7 @@ pub mod SetLemmas
 pub mod TickLemmas
 pub mod GoLemmas
 pub mod CoreLemmas
+pub mod ToolLemmas
+pub mod OutLemmas
+pub mod SpokenLemmas
+pub mod BenchLemmas

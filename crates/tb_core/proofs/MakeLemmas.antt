@@ -23,13 +23,18 @@ use Rattle.tb_notes.specs.Oldest.{IsOldest, NoneMatches}
 use Rattle.tb_notes.specs.declared.queue.Found.{Found}
 use Rattle.tb_notes.proofs.Finding.{oldest-first}
 use Rattle.tb_bus.specs.Buses.{Bus, Proc}
-use Rattle.tb_bus.specs.Effects.{Effect, changed, creation, effect_of, fits_formals, fits_slot, may_create, note_at, number_term, own_effect, taking}
+use Rattle.tb_bus.specs.Effects.{Effect, changed, creation, effect_of, may_create, note_at, number_term, own_effect, speaking, taking}
+use Rattle.tb_bus.specs.Exchanges.{Setting, exchange_for}
+use Rattle.tb_bus.specs.Slots.{fits_formals, fits_slot}
 use Rattle.tb_bus.specs.Steps.{advance, apply, label_of, nowhere, place_of}
 use Rattle.tb_bus.specs.Steps as move
-use Rattle.tb_bus.specs.Candidates.{Row, no_row, row_at, row_of, rows_of}
+use Rattle.tb_bus.specs.Candidates.{Row, no_row, row_at, row_of, rows_of, setting_in}
 use Rattle.tb_bus.specs.Views.{no_proc, proc_at, ready_at, offer_of, own_move, move_by, sent_in, IsCandidateIn}
 use Rattle.tb_bus.specs.declared.action.Action.TheVariants as action
 use Rattle.tb_bus.specs.declared.action.OwnAction.{OwnAction}
+use Rattle.tb_bus.specs.declared.action.ToolAction.{ToolAction}
+use Rattle.tb_bus.specs.declared.exchange.Exchange.{Exchange}
+use Rattle.tb_bus.specs.declared.origin.Origin.{Origin}
 use Rattle.tb_bus.specs.declared.action.OwnAction.TheVariants as own
 use Rattle.tb_bus.specs.declared.candidate.Candidate.TheVariants.{Handshake}
 use Rattle.tb_bus.specs.declared.candidate.Candidate.TheVariants as candidate
@@ -38,7 +43,8 @@ use Rattle.tb_bus.specs.declared.candidate.Partner.{Partner}
 use Rattle.tb_bus.specs.declared.marks.Marks.{Marks}
 use Rattle.tb_bus.specs.declared.living.Living.{Living}
 use Rattle.tb_bus.specs.declared.living.Ready.{Ready}
-use Rattle.tb_bus.proofs.EffectLemmas.{effect_in, note-effect-is, own-effect-is, take-effect-is}
+use Rattle.tb_bus.proofs.ExchangeLemmas.{PatternsTake, SpeakTakes, exchange-takes}
+use Rattle.tb_bus.proofs.EffectLemmas.{effect_in, found-row, note-effect-is, own-effect-is, speak-effect-is, take-effect-is}
 use Rattle.tb_log.specs.declared.entry.Label.{Label}
 use Rattle.tb_log.specs.declared.entry.LabelKind.{LabelKind}
 use Rattle.tb_log.specs.declared.entry.LabelKind.TheVariants as kind
@@ -47,12 +53,14 @@ use Rattle.tb_core.specs.Lives.{proc_by, proc_in}
 use Rattle.tb_core.specs.Holdings.{held_at}
 use Rattle.tb_core.specs.Makings.{effect_by, noting, shown_in, IsPlainIn}
 use Rattle.tb_core.specs.LiveBuses.{AreFresh, IsSound, StandsAs, AreAdvanced, Leaves, CanAdvance, IsKept, IsDone, IsChanged, HasGone, bus_of, procs_in, move_in, scene_in}
+use Rattle.tb_core.specs.Spoken.{CanSpeak, CanSpeakBy, around, seen_by}
 use Rattle.tb_core.specs.declared.acting.Done.{Done}
 use Rattle.tb_core.specs.declared.bus.LiveBus.{LiveBus}
 use Rattle.tb_core.proofs.ReadLemmas.{body-there, live-there, map-there, some-at}
-use Rattle.tb_core.proofs.FreshLemmas.{ActionFits, OwnFits, PatternsFit, action-at, fits-at}
+use Rattle.tb_core.proofs.FreshLemmas.{ActionFits, OwnFits, action-at, fits-at}
 use Rattle.tb_core.proofs.HoldLemmas.{row-held}
 use Rattle.tb_core.proofs.RowsLemmas.{searched-for}
+use Rattle.tb_core.proofs.SpokenLemmas.{seen-around, speaking-around}
 
 -- the offer of one of the actions of a process
 pub record OfferIs {W P T : Type 0} (view : View P W T) (bus : LiveBus W P T) (at index : ℕ) : Type 0 where
@@ -245,6 +253,7 @@ own-takes bus proc store body (own.Print text) there sorts fits h = refl
 own-takes bus proc store body (own.NoNote patterns) there sorts fits h = refl
 own-takes bus proc store body (own.Subscribe patterns) there sorts fits h = refl
 own-takes bus proc store body (own.Unsubscribe patterns) there sorts fits h = refl
+own-takes bus proc store body (own.Shutdown reason) there sorts fits h = refl
 own-takes bus proc store body (own.Create process actuals slot) there sorts fits h =
     let value : Term = number_term bus.next_number in
     let takes : has_slot_sort (slice_get body.sorts slot) value ≡ true =
@@ -261,6 +270,7 @@ effect-same next (own.NoNote patterns) = refl
 effect-same next (own.Subscribe patterns) = refl
 effect-same next (own.Unsubscribe patterns) = refl
 effect-same next (own.Create process actuals slot) = refl
+effect-same next (own.Shutdown reason) = refl
 
 pub own-plain : (store : List Slot) (own : OwnAction) → OwnFits store own → IsPlainIn own
 own-plain store own.Tau fits = tt
@@ -270,6 +280,7 @@ own-plain store (own.NoNote patterns) fits = tt
 own-plain store (own.Subscribe patterns) fits = fits
 own-plain store (own.Unsubscribe patterns) fits = tt
 own-plain store (own.Create process actuals slot) fits = tt
+own-plain store (own.Shutdown reason) fits = tt
 
 -- a note that was found in a queue: it stands there, and the store takes what it binds
 
@@ -305,7 +316,7 @@ own-at view old begun at index taken own sound fresh found leaves e same =
     let is = offer-is view old at index taken offer sound fresh found.0.1 leaves in
     let fits : OwnFits offer.store own = subst (ActionFits offer.store) e is.fits in
     let effect : effect_of bus proc (ready_at rows at index).action ≡ Some (effect_by old.marks.next_number own) =
-    own-effect-is bus old.origin.program.bodies rows old.marks (searched-for view old sound fresh) at index found own e ∙ ap (λ (x : Effect). Some x) (effect-same old.marks.next_number own) in
+    own-effect-is bus (scene_in old) old.marks (searched-for view old sound fresh) at index found own e ∙ ap (λ (x : Effect). Some x) (effect-same old.marks.next_number own) in
     let happens : own_effect bus proc own ≡ Some (effect_by bus.next_number own) = ap (effect_of bus proc) (sym e) ∙ effect in
     record {
       offer = is;
@@ -337,7 +348,7 @@ acted-note view old begun mid at index indices taken note sound fresh found leav
   begun_kept = kept;
   named = named;
   change = change;
-  effect_is = note-effect-is (bus_of view old) old.origin.program.bodies (rows_of old.living.items) old.marks (searched-for view old sound fresh) at index indices found note e;
+  effect_is = note-effect-is (bus_of view old) (scene_in old) old.marks (searched-for view old sound fresh) at index indices found note e;
   takes = refl;
 }
 
@@ -350,7 +361,7 @@ acted-taking view old begun mid at index found taken sound fresh h leaves same k
     let rows = rows_of old.living.items in
     let offer = offer_of (procs_in view old) rows at index in
     let is = offer-is view old at index taken offer sound fresh h.0.1 leaves in
-    let fits : PatternsFit offer.store h.1.0 = subst (ActionFits offer.store) h.1.1 is.fits in
+    let fits : PatternsTake offer.store h.1.0 = subst (ActionFits offer.store) h.1.1 is.fits in
     let it = found-in h.1.0 (row_at rows at).inbox found h.1.2 in
     record {
       offer = is;
@@ -358,9 +369,55 @@ acted-taking view old begun mid at index found taken sound fresh h leaves same k
       begun_kept = kept;
       named = named;
       change = change;
-      effect_is = take-effect-is (bus_of view old) old.origin.program.bodies rows old.marks (searched-for view old sound fresh) at index found h;
+      effect_is = take-effect-is (bus_of view old) (scene_in old) old.marks (searched-for view old sound fresh) at index found h;
       takes = fits it.note found.binds it.matches;
     }
+
+-- a process that speaks with a tool, once it was begun
+pub record IsSpeakAt {W P T : Type 0} (view : View P W T) (old begun : LiveBus W P T) (at index : ℕ) (does : ToolAction) (exchange : Exchange) : Type 0 where
+  pub offer : OfferIs view old at index
+  pub can : CanSpeak begun.origin.program.tools begun.bench does exchange
+  pub effect_is : effect_of (bus_of view old) (proc_at (procs_in view old) at) (ready_at (rows_of old.living.items) at index).action ≡ Some (speaking (around begun.origin.program.tools begun.bench) does exchange)
+  pub takes : takes_binds (offer_of (procs_in view old) (rows_of old.living.items) at index).store exchange.binds ≡ true
+
+pub speak-at : {W P T : Type 0} (view : View P W T) (old begun : LiveBus W P T) (at index : ℕ) (taken : T) (does : ToolAction) (exchange : Exchange) → IsSound view old → AreFresh old.living.items → IsCandidateIn (scene_in old) (candidate.Speak at index exchange) →
+    Leaves view old at taken (offer_of (procs_in view old) (rows_of old.living.items) at index) → (ready_at (rows_of old.living.items) at index).action ≡ action.Speak does → StandsAs view old begun → IsSpeakAt view old begun at index does exchange
+speak-at view old begun at index taken does exchange sound fresh found leaves e same =
+    let bus = bus_of view old in
+    let scene = scene_in old in
+    let rows = rows_of old.living.items in
+    let offer = offer_of (procs_in view old) rows at index in
+    let is = offer-is view old at index taken offer sound fresh found.0.1 leaves in
+    let searched = searched-for view old sound fresh in
+    let row = found-row bus scene old.marks searched at found.0.0 in
+    let setting : Setting = setting_in scene (row_at rows at) in
+    let action_is : action.Speak found.1.0 ≡ action.Speak does = sym found.1.1 ∙ e in
+    let does_is : found.1.0 ≡ does = cc in
+    let finds : exchange_for setting does ≡ Some exchange = subst (λ d. exchange_for setting d ≡ Some exchange) does_is found.1.2 in
+    let can : CanSpeak old.origin.program.tools old.bench does exchange = record { body = setting.body; found = finds; lanes = sound.lanes } in
+    let fits : SpeakTakes offer.store does = subst (ActionFits offer.store) e is.fits in
+    record {
+      offer = is;
+      can = subst (λ (b : Bus). CanSpeak begun.origin.program.tools b.bench does exchange) (sym same.bus) (subst (λ (o : Origin). CanSpeak o.program.tools old.bench does exchange) (sym same.origin) can);
+      effect_is = speak-effect-is bus scene old.marks searched at index exchange found does e
+          ∙ ap (λ (x : Effect). Some x) (speaking-around setting does exchange)
+          ∙ ap (λ (o : Origin). Some (speaking (around o.program.tools old.bench) does exchange)) (sym same.origin)
+          ∙ ap (λ (b : Bus). Some (speaking (around begun.origin.program.tools b.bench) does exchange)) (sym same.bus);
+      takes = exchange-takes setting is.body offer.store does exchange (ap (slice_get old.origin.program.bodies) row.body ∙ is.body_is) is.body_sorts fits finds;
+    }
+
+pub acted-speak : {W P T : Type 0} (view : View P W T) (old begun mid : LiveBus W P T) (at index : ℕ) (does : ToolAction) (exchange : Exchange) → IsSpeakAt view old begun at index does exchange → StandsAs view old begun → IsKept old.living.items begun.living.items at →
+    Contains begun.stale.items (row_at (rows_of old.living.items) at).number → IsChanged view begun at (speaking (around begun.origin.program.tools begun.bench) does exchange) mid →
+    IsActed view old begun mid at index (speaking (around begun.origin.program.tools begun.bench) does exchange)
+acted-speak view old begun mid at index does exchange it same kept named change = record {
+  offer = it.offer;
+  same = same;
+  begun_kept = kept;
+  named = named;
+  change = change;
+  effect_is = it.effect_is;
+  takes = it.takes;
+}
 
 -- the note that is taken is the one that was found
 pub found-in_row : {W : Type 0} (all : List (Living W)) (at : ℕ) (patterns : List Pattern) (found : Found) → oldest_match patterns (row_at (rows_of all) at).inbox ≡ Some found → found.place < length (row_at (rows_of all) at).inbox.notes
@@ -382,7 +439,7 @@ shown-own view bus at index sound fresh found =
     let own = found.1.0 in
     ap (shown_in bus.marks.next_number) found.1.1
     ∙ ap (λ (x : Effect). x.shown) (sym (effect-same bus.marks.next_number own))
-    ∙ ap (λ o. (label_of (own_move proc offer o)).terms) (sym (own-effect-is (bus_of view bus) bus.origin.program.bodies rows bus.marks (searched-for view bus sound fresh) at index found own found.1.1))
+    ∙ ap (λ o. (label_of (own_move proc offer o)).terms) (sym (own-effect-is (bus_of view bus) (scene_in bus) bus.marks (searched-for view bus sound fresh) at index found own found.1.1))
 
 pub shown-note : {W P T : Type 0} (view : View P W T) (bus : LiveBus W P T) (at index : ℕ) (indices : List ℕ) → IsSound view bus → AreFresh bus.living.items → IsCandidateIn (scene_in bus) (candidate.Notify at index indices) →
     shown_in bus.marks.next_number (ready_at (rows_of bus.living.items) at index).action ≡ (label_of (move_in view bus (candidate.Notify at index indices))).terms
@@ -390,7 +447,7 @@ shown-note view bus at index indices sound fresh found =
     let rows = rows_of bus.living.items in
     ap (shown_in bus.marks.next_number) found.1.1
     ∙ ap (λ o. (label_of (own_move (proc_at (procs_in view bus) at) (offer_of (procs_in view bus) rows at index) o)).terms)
-    (sym (note-effect-is (bus_of view bus) bus.origin.program.bodies rows bus.marks (searched-for view bus sound fresh) at index indices found found.1.0 found.1.1))
+    (sym (note-effect-is (bus_of view bus) (scene_in bus) bus.marks (searched-for view bus sound fresh) at index indices found found.1.0 found.1.1))
 
 pub shown-taking : {W P T : Type 0} (view : View P W T) (bus : LiveBus W P T) (at index : ℕ) (found : Found) → IsSound view bus → AreFresh bus.living.items → IsCandidateIn (scene_in bus) (candidate.TakeNote at index found) →
     note_at (held_at bus.living.items at) found.place ≡ (label_of (move_in view bus (candidate.TakeNote at index found))).terms
@@ -398,7 +455,24 @@ shown-taking view bus at index found sound fresh h =
     let rows = rows_of bus.living.items in
     ap (λ (held : Held). note_at held found.place) (sym (row-held bus.living.items at))
     ∙ ap (λ o. (label_of (own_move (proc_at (procs_in view bus) at) (offer_of (procs_in view bus) rows at index) o)).terms)
-    (sym (take-effect-is (bus_of view bus) bus.origin.program.bodies rows bus.marks (searched-for view bus sound fresh) at index found h))
+    (sym (take-effect-is (bus_of view bus) (scene_in bus) bus.marks (searched-for view bus sound fresh) at index found h))
+
+-- of what is said to a tool, or heard of it
+pub shown-spoken : {W P T : Type 0} (view : View P W T) (bus : LiveBus W P T) (at index : ℕ) (exchange : Exchange) → IsSound view bus → AreFresh bus.living.items → IsCandidateIn (scene_in bus) (candidate.Speak at index exchange) →
+    seen_by [] bus.bench (ready_at (rows_of bus.living.items) at index).action exchange ≡ (label_of (move_in view bus (candidate.Speak at index exchange))).terms
+shown-spoken view bus at index exchange sound fresh found =
+    let rows = rows_of bus.living.items in
+    ap (λ does. seen_by [] bus.bench does exchange) found.1.1
+    ∙ sym (seen-around (setting_in (scene_in bus) (row_at rows at)) found.1.0 exchange)
+    ∙ ap (λ o. (label_of (own_move (proc_at (procs_in view bus) at) (offer_of (procs_in view bus) rows at index) o)).terms)
+    (sym (speak-effect-is (bus_of view bus) (scene_in bus) bus.marks (searched-for view bus sound fresh) at index exchange found found.1.0 found.1.1))
+
+-- and such an exchange may happen
+pub spoken-by : {W P T : Type 0} (view : View P W T) (bus : LiveBus W P T) (at index : ℕ) (exchange : Exchange) → IsSound view bus → IsCandidateIn (scene_in bus) (candidate.Speak at index exchange) →
+    CanSpeakBy bus.origin.program.tools bus.bench (ready_at (rows_of bus.living.items) at index).action exchange
+spoken-by view bus at index exchange sound found =
+    subst (λ does. CanSpeakBy bus.origin.program.tools bus.bench does exchange) (sym found.1.1)
+    (record { body = (setting_in (scene_in bus) (row_at (rows_of bus.living.items) at)).body; found = found.1.2; lanes = sound.lanes })
 
 pub shown-sent : {W P T : Type 0} (view : View P W T) (bus : LiveBus W P T) (at index : ℕ) (partner : Partner) → IsCandidateIn (scene_in bus) (candidate.Handshake at index partner) →
     shown_in bus.marks.next_number (ready_at (rows_of bus.living.items) at index).action ≡ (label_of (move_in view bus (candidate.Handshake at index partner))).terms

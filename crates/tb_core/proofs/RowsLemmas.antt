@@ -8,7 +8,7 @@ use Rattle.tb_bus.specs.Candidates.{readies, row_of, rows_of}
 use Rattle.tb_bus.specs.Views.{AreRowsOf, IsRowOf, IsSearchedFor}
 use Rattle.tb_bus.specs.declared.living.Living.{Living}
 use Rattle.tb_core.specs.Lives.{IsLive, term_in, proc_by, proc_in, procs_of}
-use Rattle.tb_core.specs.LiveBuses.{AreFresh, IsSound, bus_of}
+use Rattle.tb_core.specs.LiveBuses.{AreFresh, IsSound, bus_of, scene_in}
 use Rattle.tb_core.specs.declared.bus.LiveBus.{LiveBus}
 use Rattle.tb_core.proofs.ReadLemmas.{plan-atoms}
 use Rattle.tb_core.proofs.FreshLemmas.{offers-alive}
@@ -34,9 +34,11 @@ rows-of view plans bodies now (living ∷ all) e h fresh = (
 )
 
 -- a search over them is a search for the moves of the bus
-pub searched-for : {W P T : Type 0} (view : View P W T) (bus : LiveBus W P T) → IsSound view bus → AreFresh bus.living.items → IsSearchedFor (bus_of view bus) bus.origin.program.bodies (rows_of bus.living.items) bus.marks
+pub searched-for : {W P T : Type 0} (view : View P W T) (bus : LiveBus W P T) → IsSound view bus → AreFresh bus.living.items → IsSearchedFor (bus_of view bus) (scene_in bus) bus.marks
 searched-for view bus sound fresh = record {
   bodies_are = refl;
+  kinds_are = refl;
+  bench_is = refl;
   rows_are = rows-of view bus.plans bus.origin.program.bodies bus.ticks bus.living.items sound.planned sound.live fresh;
   last_is = refl;
   next_is = refl;

@@ -72,6 +72,7 @@ sound-set view bus all at living one it sound e h = record {
       (All-set (IsLive view bus.plans bus.ticks) bus.living.items at one (it.plan, ap (slice_get bus.plans) (ap (λ (p : Proc). p.body) h.proc) ∙ it.planned, h.live) sound.live);
   fresh = λ young. subst (λ (xs : List (Living _)). (k : ℕ) (d : Living _) → k < length xs → IsFreshOr bus.stale.items (get_or xs k d)) (sym e)
       (All-set (IsFreshOr bus.stale.items) bus.living.items at one (h.fresh young) (sound.fresh young));
+  lanes = sound.lanes;
 }
 
 pub stands-set : {W P T : Type 0} (view : View P W T) (bus : LiveBus W P T) (all : Vec (Living W)) (at : ℕ) (living one : Living W) (it : LiveAt view bus at living) → IsSound view bus → all.items ≡ slice_set bus.living.items at one → IsInPlace view bus it.plan living one →
@@ -93,6 +94,7 @@ stands-moved view bus all stale sound e f = record {
     planned = sound.planned;
     live = subst (λ xs. All (IsLive view bus.plans bus.ticks) xs) (sym e) sound.live;
     fresh = λ young. subst (λ (numbers : List ℕ). All (IsFreshOr numbers) all.items) (sym f) (subst (λ xs. All (IsFreshOr bus.stale.items) xs) (sym e) (sound.fresh young));
+    lanes = sound.lanes;
   };
   bus = ap (λ (procs : List Proc). let b : Bus = record (bus_of view bus) { procs = procs } in b) (ap (map (proc_in view bus.plans)) e);
   origin = refl;

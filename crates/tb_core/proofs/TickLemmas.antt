@@ -205,6 +205,7 @@ sound-ticked view bus living sound h = record {
   planned = sound.planned;
   live = ticked-by view bus.plans (IsLive view bus.plans bus.ticks) (IsLive view bus.plans (bus.ticks + 1)) bus.living.items living.items (ticked-live view bus.plans bus.ticks) h sound.live;
   fresh = λ young. cc;
+  lanes = sound.lanes;
 }
 
 pub bus-ticked : {W P T : Type 0} (view : View P W T) (bus : LiveBus W P T) (living : Vec (Living W)) → IsSound view bus → AreTicked view bus.plans bus.living.items living.items →
@@ -241,6 +242,7 @@ none-stale view old bus stale same fresh = record {
     planned = same.sound.planned;
     live = same.sound.live;
     fresh = λ young. All-weaker (λ living. living.fresh ≡ true) (IsFreshOr stale.items) (λ living e. inl e) bus.living.items fresh;
+    lanes = same.sound.lanes;
   };
   bus = same.bus;
   origin = same.origin;

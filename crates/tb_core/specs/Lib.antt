@@ -4,3 +4,4 @@ pub mod Makings
 pub mod Holdings
 pub mod LiveBuses
 pub mod Ticking
+pub mod Spoken

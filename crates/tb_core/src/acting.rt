@@ -56,7 +56,7 @@ fn number_term(number: u32) -> Term
     Term::Int(i64::from(number))
 }
 
-/// The bus went down for this reason.
+/// The bus goes down for this reason.
 pub fn shut_down(alloc: Global, reason: Term) -> Result<Done, NoMemory>
     ensures { IfOk result (λ done. done ≡ record { kind = LabelKind.Shutdown; shown = reason ∷ []; binds = [] }) }
 {

@@ -181,7 +181,13 @@ impl<W: Walker> LiveBus<W> {
         ensures stands { IfOk result (λ found. IfSome found (IsCandidateIn (scene_in self.now))) }
     {
         let program = &self.origin.program;
-        first_candidate(alloc, program, &self.bench, self.living.as_slice(), self.marks)
+        first_candidate(
+            alloc,
+            program,
+            &self.bench,
+            self.living.as_slice(),
+            self.marks,
+        )
     }
 
     /// Takes the offer of one of the actions of a process, and changes nothing yet.
@@ -250,7 +256,11 @@ impl<W: Walker> LiveBus<W> {
                 total_size(self.living[*at].inbox.note(found.place).as_slice())
             }
             Candidate::Speak(at, index, exchange) => {
-                seen_size(&self.bench, &self.living[*at].ready[*index].action, exchange)
+                seen_size(
+                    &self.bench,
+                    &self.living[*at].ready[*index].action,
+                    exchange,
+                )
             }
             Candidate::Finish | Candidate::Halt => 0,
         }
@@ -413,8 +423,14 @@ impl<W: Walker> LiveBus<W> {
         let Action::Speak(does) = action else {
             unreachable!()
         };
-        let kinds = self.origin.program.tools.as_slice();
-        let done = speak(alloc, kinds, &mut self.bench, does, exchange)?;
+        let program = &self.origin.program;
+        let done = speak(
+            alloc,
+            program.tools.as_slice(),
+            &mut self.bench,
+            does,
+            exchange,
+        )?;
         self.bench.show_lanes();
         Ok(self.finish(at, taken, from, done))
     }
@@ -451,8 +467,9 @@ impl<W: Walker> LiveBus<W> {
                 self.create(alloc, process, actuals, slot)
             }
             OwnAction::Shutdown(reason) => {
-                self.go_down(&reason)?;
-                shut_down(alloc, reason)
+                let done = shut_down(alloc, reason)?;
+                self.go_down(&done.shown.as_slice()[0])?;
+                Ok(done)
             }
         }
     }

@@ -5,6 +5,8 @@ mod acting;
 mod answers;
 mod bus;
 mod inboxes;
+#[cfg(test)]
+mod lane_tests;
 mod looking;
 mod machine;
 mod opening;

@@ -7,14 +7,14 @@ ghost use Rattle.tb_algebra.specs.Binds.{has_slot_sort, takes_binds};
 ghost use Rattle.tb_algebra.specs.Offers.{Offered};
 ghost use Rattle.tb_algebra.specs.Walks.{Walking, fired, is_end, offers_of, seen, seen_offers, sorts_of};
 ghost use Rattle.tb_func.specs.Printing.{printf_of};
-ghost use Rattle.tb_bus.specs.Actions.{action_in, action_of, print_action, set_action};
+ghost use Rattle.tb_bus.specs.Actions.{action_in, action_of, print_action, set_action, shutdown_action};
 ghost use Rattle.tb_bus.specs.Candidates.{ready_one, readies};
 ghost use Rattle.tb_core.specs.Lives.{IsLiveOn, IsTimeless, proc_by};
 
 use std::alloc::Global;
 use tb_algebra::{Offer, Walker};
 use tb_body::{Act, Atoms, Body};
-use tb_bus::{Action, Living, OwnAction, Ready};
+use tb_bus::{Action, Living, OwnAction, Ready, ToolAction};
 use tb_func::printf_text;
 use tb_match::{Bind, Binds};
 use tb_terms::{Items, NoMemory, Sorts, Term, Terms, has_sort};
@@ -61,6 +61,18 @@ fn print_action(alloc: Global, values: &Terms) -> Result<Option<Action>, NoMemor
     }
 }
 
+/// The bus goes down, for the one reason that there is.
+fn shutdown_action(mut reasons: Terms) -> Option<Action>
+    ensures { result ≡ shutdown_action reasons }
+{
+    let reason = reasons.pop()?;
+    if reasons.is_empty() {
+        Some(Action::Own(OwnAction::Shutdown(reason)))
+    } else {
+        None
+    }
+}
+
 /// The action of an offered atom, where its arguments have values.
 fn action_in<W: Walker>(
     alloc: Global,
@@ -79,6 +91,7 @@ fn action_in<W: Walker>(
         IfOk result (λ action. action ≡ action_in offered.store act.now) }
 {
     match act {
+        Act::Delta => Ok(None),
         Act::Tau => Ok(Some(Action::Own(OwnAction::Tau))),
         Act::Set { slot, .. } => match walker.sent(alloc, plan, k)? {
             Some(values) => set_action(alloc, &body.sorts, *slot, values),
@@ -92,34 +105,41 @@ fn action_in<W: Walker>(
             Some(actuals) => Ok(Some(Action::Own(OwnAction::Create(process, actuals, slot)))),
             None => Ok(None),
         },
-        Act::SndMsg(_) => match walker.sent(alloc, plan, k)? {
-            Some(terms) => Ok(Some(Action::Send(terms))),
-            None => Ok(None),
-        },
-        Act::RecMsg(_) => match walker.patterns(alloc, plan, k)? {
-            Some(patterns) => Ok(Some(Action::Receive(patterns))),
-            None => Ok(None),
-        },
-        Act::SndNote(_) => match walker.sent(alloc, plan, k)? {
-            Some(terms) => Ok(Some(Action::Notify(terms))),
-            None => Ok(None),
-        },
-        Act::RecNote(_) => match walker.patterns(alloc, plan, k)? {
-            Some(patterns) => Ok(Some(Action::TakeNote(patterns))),
-            None => Ok(None),
-        },
-        Act::NoNote(_) => match walker.patterns(alloc, plan, k)? {
-            Some(patterns) => Ok(Some(Action::Own(OwnAction::NoNote(patterns)))),
-            None => Ok(None),
-        },
-        Act::Subscribe(_) => match walker.patterns(alloc, plan, k)? {
-            Some(patterns) => Ok(Some(Action::Own(OwnAction::Subscribe(patterns)))),
-            None => Ok(None),
-        },
-        Act::Unsubscribe(_) => match walker.patterns(alloc, plan, k)? {
-            Some(patterns) => Ok(Some(Action::Own(OwnAction::Unsubscribe(patterns)))),
-            None => Ok(None),
-        },
+        Act::SndMsg(_) => Ok(
+            walker
+                .sent(alloc, plan, k)?
+                .map(|terms| Action::Send(terms)),
+        ),
+        Act::RecMsg(_) => Ok(
+            walker
+                .patterns(alloc, plan, k)?
+                .map(|patterns| Action::Receive(patterns)),
+        ),
+        Act::SndNote(_) => Ok(
+            walker
+                .sent(alloc, plan, k)?
+                .map(|terms| Action::Notify(terms)),
+        ),
+        Act::RecNote(_) => Ok(
+            walker
+                .patterns(alloc, plan, k)?
+                .map(|patterns| Action::TakeNote(patterns)),
+        ),
+        Act::NoNote(_) => Ok(
+            walker
+                .patterns(alloc, plan, k)?
+                .map(|patterns| Action::Own(OwnAction::NoNote(patterns))),
+        ),
+        Act::Subscribe(_) => Ok(
+            walker
+                .patterns(alloc, plan, k)?
+                .map(|patterns| Action::Own(OwnAction::Subscribe(patterns))),
+        ),
+        Act::Unsubscribe(_) => Ok(
+            walker
+                .patterns(alloc, plan, k)?
+                .map(|patterns| Action::Own(OwnAction::Unsubscribe(patterns))),
+        ),
         &Act::Execute { tool, slot } => Ok(Some(Action::Speak(ToolAction::Execute(tool, slot)))),
         &Act::RecConnect { tool, slot } => {
             Ok(Some(Action::Speak(ToolAction::Connect(tool, slot))))
@@ -127,39 +147,51 @@ fn action_in<W: Walker>(
         &Act::RecDisconnectAny { tool, slot } => {
             Ok(Some(Action::Speak(ToolAction::DisconnectAny(tool, slot))))
         }
-        Act::RecDisconnect(_) => match walker.sent(alloc, plan, k)? {
-            Some(terms) => Ok(Some(Action::Speak(ToolAction::Disconnect(terms)))),
+        Act::RecDisconnect(_) => Ok(
+            walker
+                .sent(alloc, plan, k)?
+                .map(|terms| Action::Speak(ToolAction::Disconnect(terms))),
+        ),
+        Act::SndEval(_, _) => Ok(
+            walker
+                .sent(alloc, plan, k)?
+                .map(|terms| Action::Speak(ToolAction::Eval(terms))),
+        ),
+        Act::RecValue(_, _) => match walker.sent(alloc, plan, k)? {
+            Some(terms) => Ok(
+                walker.patterns(alloc, plan, k)?.map(|patterns| Action::Speak(ToolAction::TakeValue(
+                    terms, patterns,
+                ))),
+            ),
             None => Ok(None),
         },
-        Act::SndEval(_, _) => match walker.sent(alloc, plan, k)? {
-            Some(terms) => Ok(Some(Action::Speak(ToolAction::Eval(terms)))),
+        Act::SndDo(_, _) => Ok(
+            walker
+                .sent(alloc, plan, k)?
+                .map(|terms| Action::Speak(ToolAction::Do(terms))),
+        ),
+        Act::RecEvent(_, _) => match walker.sent(alloc, plan, k)? {
+            Some(terms) => Ok(
+                walker.patterns(alloc, plan, k)?.map(|patterns| Action::Speak(ToolAction::TakeEvent(
+                    terms, patterns,
+                ))),
+            ),
             None => Ok(None),
         },
-        Act::RecValue(_, _) => match about(alloc, plan, walker, k)? {
-            Some((terms, patterns)) => Ok(Some(Action::Speak(ToolAction::TakeValue(terms, patterns)))),
-            None => Ok(None),
-        },
-        Act::SndDo(_, _) => match walker.sent(alloc, plan, k)? {
-            Some(terms) => Ok(Some(Action::Speak(ToolAction::Do(terms)))),
-            None => Ok(None),
-        },
-        Act::RecEvent(_, _) => match about(alloc, plan, walker, k)? {
-            Some((terms, patterns)) => Ok(Some(Action::Speak(ToolAction::TakeEvent(terms, patterns)))),
-            None => Ok(None),
-        },
-        Act::SndAckEvent(_, _) => match walker.sent(alloc, plan, k)? {
-            Some(terms) => Ok(Some(Action::Speak(ToolAction::Acknowledge(terms)))),
-            None => Ok(None),
-        },
-        Act::SndTerminate(_, _) => match walker.sent(alloc, plan, k)? {
-            Some(terms) => Ok(Some(Action::Speak(ToolAction::Terminate(terms)))),
-            None => Ok(None),
-        },
+        Act::SndAckEvent(_, _) => Ok(
+            walker
+                .sent(alloc, plan, k)?
+                .map(|terms| Action::Speak(ToolAction::Acknowledge(terms))),
+        ),
+        Act::SndTerminate(_, _) => Ok(
+            walker
+                .sent(alloc, plan, k)?
+                .map(|terms| Action::Speak(ToolAction::Terminate(terms))),
+        ),
         Act::Shutdown(_) => match walker.sent(alloc, plan, k)? {
-            Some(reasons) => shutdown_action(reasons),
+            Some(reasons) => Ok(shutdown_action(reasons)),
             None => Ok(None),
         },
-        Act::Delta => Ok(None),
     }
 }
 

@@ -1,5 +1,7 @@
-ghost use Rattle.std.specs.Prelude.{◌≡◌, IsSome, Some, option_map, ◌≤◌, ◌<◌, ◌+◌, ◌↔◌, ◌∷◌, [], ◌++◌, length, IsTrue, IfOk, OnOk, OnErr, IsErrOf, true, false, if◌then◌else◌};
-ghost use Rattle.tb_log.specs.Limits.{has_room};
+ghost use Rattle.std.specs.Option.{ForSome};
+ghost use Rattle.std.below.core.specs.declared.int.usize.TheConstants.{MAX};
+ghost use Rattle.std.specs.Prelude.{◌≡◌, IsSome, Some, min, ◌≤◌, ◌<◌, ◌+◌, ◌↔◌, ◌∷◌, [], ◌++◌, length, IsTrue, IfOk, OnOk, OnErr, IsErrOf, true, false, if◌then◌else◌};
+ghost use Rattle.tb_log.specs.Limits.{has_room, out_size};
 ghost use Rattle.tb_log.specs.Shapes.{IsInputInShape, IsLane};
 ghost use Rattle.tb_tools.specs.Lanes.{lane_at, lane_state};
 ghost use Rattle.tb_tools.specs.Finding.{first_out, next_out};
@@ -181,11 +183,13 @@ impl<W: Walker> Core<W> {
         if self.stopped {
             return Err(CoreFault::Stopped);
         }
-        let Some(out) = self.bus.bench.next_out(lane) else {
-            return Ok(nothing_left(self.bus.marks.down));
-        };
-        let out_size = out_size(out);
-        Ok(TakeOut::Out(take(&mut self.bus, &mut self.log, lane, out_size)?))
+        match self.bus.bench.next_out(lane) {
+            None => Ok(nothing_left(self.bus.marks.down)),
+            Some(out) => {
+                let size = out_size(out);
+                Ok(TakeOut::Out(take(&mut self.bus, &mut self.log, lane, size)?))
+            }
+        }
     }
 
     /// The state of a lane.
@@ -251,17 +255,17 @@ fn hand<W: Walker>(
     Ok(reply)
 }
 
-/// Logs what is handed out next on a lane, and takes it. All memory is taken before anything changes.
+/// Logs what is handed out next on a lane, which has this size, and takes it. All memory is taken before anything changes.
 fn take<W: Walker>(
     bus: &mut LiveBus<W>,
     log: &mut Log,
     lane: u8,
-    out_size: usize,
+    size: usize,
 ) -> Result<Out, CoreFault>
     requires sound { IsSound W.view bus.old }
     requires lane { IsLane lane }
     requires some { IsSome (next_out lane bus.old.bench) }
-    requires size { (out : Out) → next_out lane bus.old.bench ≡ Some out → out_size ≡ min (out_size out) MAX }
+    requires sized { (out : Out) → next_out lane bus.old.bench ≡ Some out → size ≡ min (out_size out) MAX }
     ensures sound { IsSound W.view bus.new }
     ensures origin { bus.new.origin ≡ bus.old.origin }
     ensures limit { log.new.limit ≡ log.old.limit }
@@ -275,7 +279,7 @@ fn take<W: Walker>(
     ensures calm { 0 < log.old.spare → IsErrOf result CoreFault.NoMemory → ⊥ }
     ensures err { OnErr result ((bus_of W.view bus.new ≡ bus_of W.view bus.old) × (log.new.entries ≡ log.old.entries) × (log.old.spare ≤ log.new.spare)) }
 {
-    if !log.room_for_size(out_size) {
+    if !log.room_for_size(size) {
         return Err(CoreFault::Full);
     }
     log.reserve(1)?;

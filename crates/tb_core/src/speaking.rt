@@ -1,23 +1,25 @@
-ghost use Rattle.std.specs.Prelude.{◌≡◌, ◌≤◌, ◌∷◌, [], Bool, Option, None, Some, IfOk, OnOk, OnErr, IsSome, IsTrue, option_map, min, slice_get};
+ghost use Rattle.std.specs.Prelude.{◌≡◌, ◌≤◌, ◌++◌, [], IfOk, OnOk, OnErr, IsSome, IsTrue, List, min, slice_get};
+ghost use Rattle.std.specs.List.{list_any};
+ghost use Rattle.std.specs.Str.{bytes_eq};
 ghost use Rattle.std.below.core.specs.declared.int.usize.TheConstants.{MAX};
-ghost use Rattle.tb_terms.specs.declared.term.Term.{Term};
-ghost use Rattle.tb_body.specs.declared.body.Body.{Body};
+ghost use Rattle.tb_body.specs.declared.program.Tool.{Tool as ToolKind};
 ghost use Rattle.tb_log.specs.Limits.{terms_size};
 ghost use Rattle.tb_log.specs.Shapes.{IsLane};
 ghost use Rattle.tb_tools.specs.Lanes.{most_tools};
-ghost use Rattle.tb_tools.specs.Acts.{can_execute, executed};
+ghost use Rattle.tb_tools.specs.Acts.{can_execute, can_take_event, can_take_value, event_at, events_at, executed, value_taken};
 ghost use Rattle.tb_bus.specs.Effects.{speaking};
-ghost use Rattle.tb_bus.specs.Exchanges.{bench_after, behind, command_or_none, exchange_for, kind_command, kind_name, terms_seen, values_in};
+ghost use Rattle.tb_bus.specs.Exchanges.{behind, bench_after, command_or_none, kind_command, kind_name, terms_seen, values_in, values_on};
 ghost use Rattle.tb_bus.specs.Traces.{declares};
 ghost use Rattle.tb_core.specs.LiveBuses.{IsDone};
+ghost use Rattle.tb_core.specs.Spoken.{CanSpeak, CanSpeakBy, around, seen_by};
 
 use crate::acting::Done;
 use std::alloc::Global;
 use tb_body::Tool;
 use tb_bus::{Action, Exchange, ToolAction};
 use tb_log::{LabelKind, ToolLine, total_size};
-use tb_match::Binds;
-use tb_terms::{Items, NoMemory, Term, Terms, copy_terms, size};
+use tb_match::{Bind, Binds};
+use tb_terms::{Items, Name, NoMemory, Term, Terms, size};
 use tb_tools::Bench;
 
 /// Speaks with a tool, as was found. After want of memory the lanes are as before.
@@ -28,10 +30,10 @@ pub fn speak(
     does: ToolAction,
     exchange: Exchange,
 ) -> Result<Done, NoMemory>
-    requires found { (body : Option Body) × (exchange_for (record { body = body; kinds = kinds.now; bench = bench.old }) does ≡ Some exchange) }
+    requires found { CanSpeak kinds.now bench.old does exchange }
     requires tools { bench.old.next_tool ≤ most_tools }
-    ensures done { IfOk result (IsDone (speaking (record { body = None; kinds = kinds.now; bench = bench.old }) does exchange)) }
-    ensures ok { OnOk result (bench.new ≡ bench_after (record { body = None; kinds = kinds.now; bench = bench.old }) does exchange) }
+    ensures done { IfOk result (IsDone (speaking (around kinds.now bench.old) does exchange)) }
+    ensures ok { OnOk result (bench.new ≡ bench_after (around kinds.now bench.old) does exchange) }
     ensures err { OnErr result (bench.new ≡ bench.old) }
 {
     let Exchange { lane, event, binds } = exchange;
@@ -62,7 +64,7 @@ pub fn speak(
             Ok(seen(LabelKind::SndEval, terms, binds))
         }
         ToolAction::TakeValue(terms, _) => {
-            let shown = with_value(alloc, terms, bench, lane)?;
+            let shown = with_value(terms, bench, lane)?;
             Ok(seen(LabelKind::RecValue, shown, binds))
         }
         ToolAction::Do(terms) => {
@@ -110,10 +112,9 @@ fn bound(alloc: Global, kind: LabelKind, binds: Binds) -> Result<Done, NoMemory>
 fn execute(kinds: &[Tool], bench: &mut Bench, tool: u32, lane: u8) -> Result<(), NoMemory>
     requires lane { IsLane lane }
     requires can { IsTrue (can_execute lane bench.old) }
-    requires command { IsSome (kind_command (record { body = None; kinds = kinds.now; bench = bench.old }) tool) }
+    requires command { IsSome (kind_command (around kinds.now bench.old) tool) }
     requires tools { bench.old.next_tool ≤ most_tools }
-    ensures ok { OnOk result (bench.new ≡ executed (kind_name (record { body = None; kinds = kinds.now; bench = bench.old }) tool)
-        (command_or_none (kind_command (record { body = None; kinds = kinds.now; bench = bench.old }) tool)) lane bench.old) }
+    ensures ok { OnOk result (bench.new ≡ executed (kind_name (around kinds.now bench.old) tool) (command_or_none (kind_command (around kinds.now bench.old) tool)) lane bench.old) }
     ensures err { OnErr result (bench.new ≡ bench.old) }
 {
     let kind = &kinds[tool as usize];
@@ -137,24 +138,18 @@ fn second(alloc: Global, terms: &Terms) -> Result<Option<Term>, NoMemory>
 }
 
 /// These terms, and behind them the value of the tool of a lane, which is taken.
-fn with_value(
-    alloc: Global,
-    terms: Terms,
-    bench: &mut Bench,
-    lane: u8,
-) -> Result<Terms, NoMemory>
+fn with_value(mut terms: Terms, bench: &mut Bench, lane: u8) -> Result<Terms, NoMemory>
     requires lane { IsLane lane }
     requires can { IsTrue (can_take_value lane bench.old) }
     ensures shown { IfOk result (λ shown. shown ≡ terms ++ values_on lane bench.old) }
     ensures ok { OnOk result (bench.new ≡ value_taken lane bench.old) }
     ensures err { OnErr result (bench.new ≡ bench.old) }
 {
-    let mut shown = Vec::with_capacity(alloc, terms.len() + 1)?;
-    for term in terms {
-        shown.push_reserved(term);
-    }
-    shown.push_reserved(bench.value(lane));
-    Ok(Items::from_vec(shown))
+    let last = terms.len();
+    // This takes the memory for the value, which is then put in place of the number.
+    terms.push(Term::Int(0))?;
+    terms.set(last, bench.value(lane));
+    Ok(terms)
 }
 
 /// These terms, and behind them what an event on a lane carries.
@@ -180,8 +175,8 @@ fn with_event(
 /// How large the terms are that are seen of an exchange, or the greatest usize where that is greater; 0 where the action
 /// doesn't speak with a tool.
 pub fn seen_size(bench: &Bench, action: &Action, exchange: &Exchange) -> usize
-    requires { IsLane exchange.now.lane }
-    ensures { IfSpeaks action.now (λ does. (kinds : List Tool) → result ≡ min (terms_size (terms_seen (record { body = None; kinds = kinds; bench = bench.now }) does exchange.now)) MAX) }
+    requires { (kinds : List ToolKind) × CanSpeakBy kinds bench.now action.now exchange.now }
+    ensures { result ≡ min (terms_size (seen_by [] bench.now action.now exchange.now)) MAX }
 {
     match action {
         Action::Speak(does) => exchange_size(bench, does, exchange),
@@ -194,8 +189,8 @@ pub fn seen_size(bench: &Bench, action: &Action, exchange: &Exchange) -> usize
 }
 
 fn exchange_size(bench: &Bench, does: &ToolAction, exchange: &Exchange) -> usize
-    requires { IsLane exchange.now.lane }
-    ensures { (kinds : List Tool) → result ≡ min (terms_size (terms_seen (record { body = None; kinds = kinds; bench = bench.now }) does.now exchange.now)) MAX }
+    requires { (kinds : List ToolKind) × CanSpeak kinds bench.now does.now exchange.now }
+    ensures { result ≡ min (terms_size (terms_seen (around [] bench.now) does.now exchange.now)) MAX }
 {
     match does {
         ToolAction::Execute(_, _) | ToolAction::Connect(_, _) | ToolAction::DisconnectAny(_, _) => {
@@ -206,10 +201,48 @@ fn exchange_size(bench: &Bench, does: &ToolAction, exchange: &Exchange) -> usize
         | ToolAction::Do(terms)
         | ToolAction::Acknowledge(terms)
         | ToolAction::Terminate(terms) => total_size(terms.as_slice()),
-        ToolAction::TakeValue(terms, _) => total_size(terms.as_slice())
-            .saturating_add(answer_size(bench.answer(exchange.lane))),
-        ToolAction::TakeEvent(terms, _) => total_size(terms.as_slice())
-            .saturating_add(event_size(bench, exchange.lane, exchange.event)),
+        ToolAction::TakeValue(terms, _) => {
+            total_size(terms.as_slice()).saturating_add(answer_size(bench, exchange.lane))
+        }
+        ToolAction::TakeEvent(terms, _) => total_size(terms.as_slice()).saturating_add(event_size(
+            bench,
+            exchange.lane,
+            exchange.event,
+        )),
+    }
+}
+
+/// How large the values of these binds are together.
+fn values_size(binds: &[Bind]) -> usize
+    ensures { result ≡ min (terms_size (values_in binds.now)) MAX }
+{
+    let mut total: usize = 0;
+    for bind in binds {
+        total = total.saturating_add(size(&bind.value));
+    }
+    total
+}
+
+/// How large the value is with which the tool of a lane has answered; 0 where there is none.
+fn answer_size(bench: &Bench, lane: u8) -> usize
+    requires { IsLane lane }
+    ensures { result ≡ min (terms_size (values_on lane bench.now)) MAX }
+{
+    match bench.answer(lane) {
+        Some(value) => size(value),
+        None => 0,
+    }
+}
+
+/// How large the terms of an event are that waits on a lane.
+fn event_size(bench: &Bench, lane: u8, event: usize) -> usize
+    requires lane { IsLane lane }
+    requires can { IsTrue (can_take_event event lane bench.now) }
+    ensures { result ≡ min (terms_size (event_at event (events_at lane bench.now))) MAX }
+{
+    match bench.events(lane).get(event) {
+        Some(carried) => total_size(carried.as_slice()),
+        None => 0,
     }
 }
 
@@ -218,7 +251,19 @@ pub fn is_declared(kinds: &[Tool], line: &ToolLine) -> bool
     ensures { result ≡ declares kinds.now line.now }
 {
     match line {
-        ToolLine::Connect(name) => kinds.iter().any(|kind| kind.name.is_same(name)),
+        ToolLine::Connect(name) => has_kind(kinds, name),
         ToolLine::Value(_) | ToolLine::Event(_) | ToolLine::Disconnect | ToolLine::Bad => false,
     }
+}
+
+/// Whether one of the kinds has this name.
+fn has_kind(kinds: &[Tool], name: &Name) -> bool
+    ensures { result ≡ list_any (λ (tool : ToolKind). bytes_eq tool.name name.now) kinds.now }
+{
+    for kind in kinds {
+        if kind.name.as_bytes() == name.as_bytes() {
+            return true;
+        }
+    }
+    false
 }

@@ -149,7 +149,7 @@ fn atoms(alloc: Global, all: &[Does]) -> Result<Atoms, NoMemory> {
 }
 
 /// So many atoms, one after another.
-fn in_turn(alloc: Global, count: u32) -> Result<Tree, NoMemory> {
+pub(crate) fn in_turn(alloc: Global, count: u32) -> Result<Tree, NoMemory> {
     let mut tree = Tree::At(count);
     for atom in (1..count).rev() {
         let first = Boxed::new(alloc, Tree::At(atom))?;
@@ -193,7 +193,7 @@ pub(crate) fn log_text(alloc: Global, core: &Core<Rewriter>) -> Result<Vec<u8>, 
 
 /// The log once no step is possible, or the bus is down.
 fn log_of(alloc: Global, program: Program) -> Result<Vec<u8>, Fail> {
-    let mut core: Core<Rewriter> = Core::start(alloc, program, 20)?;
+    let mut core: Core<Rewriter> = Core::start(alloc, program, &Items::new(alloc), 20)?;
     for _step in 0..20 {
         match core.step()? {
             Stepped::Did => {}

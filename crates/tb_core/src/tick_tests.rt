@@ -263,7 +263,7 @@ fn program(alloc: Global, all: &[&[Part]]) -> Result<Option<Program>, NoMemory> 
 
 /// The log of a run once the bus is down.
 fn log_of(alloc: Global, program: Program, ticks: u32) -> Result<Vec<u8>, Fail> {
-    let mut core: Core<Rewriter> = Core::start(alloc, program, 40)?;
+    let mut core: Core<Rewriter> = Core::start(alloc, program, &Items::new(alloc), 40)?;
     let mut left = ticks;
     for _step in 0..40 {
         match core.step()? {
@@ -328,7 +328,7 @@ static HANDED: [(Handed, Reply); 8] = [
 #[test]
 fn inputs_are_taken_or_dropped(rt: HostRuntime) -> Result<(), Fail> {
     let program = program(rt.alloc(), &[&[DELTA]])?.ok_or("a program out of range")?;
-    let mut core: Core<Rewriter> = Core::start(rt.alloc(), program, 9)?;
+    let mut core: Core<Rewriter> = Core::start(rt.alloc(), program, &Items::new(rt.alloc()), 9)?;
     core.reserve(9)?;
     for (at, (handed, reply)) in HANDED.iter().enumerate() {
         if at == 5 {

@@ -31,3 +31,13 @@ make-requires-clause-next g c =
     let next = c.requires.next in
     let few = c.requires.few in
     omega arith
+
+pub make-requires-clause-tools : goal.make-requires-clause-tools
+make-requires-clause-tools g c =
+    let label = label_of (move_in g.W.Walker.view c.args.bus.now c.args.candidate) in
+    let log = c.args.log.now in
+    let room : has_room log.limit log.entries (Did label) ≡ true = sym (c.room_for_size.ensures (Did label) c.shown_size.ensures) ∙ c.if-not-room_for_size.false in
+    let long = room-long log.limit log.entries (Did label) room in
+    let tools = c.requires.tools in
+    let few = c.requires.few in
+    omega arith

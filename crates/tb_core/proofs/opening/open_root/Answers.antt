@@ -4,7 +4,7 @@ use Rattle.std.proofs.lemmas.Result.{IfOk-weaker}
 use Rattle.tb_body.specs.declared.body.Body.{Body}
 use Rattle.tb_body.specs.declared.program.Root.{Root}
 use Rattle.tb_bus.specs.Buses.{opened_one}
-use Rattle.tb_bus.specs.Effects.{fits_formals}
+use Rattle.tb_bus.specs.Slots.{fits_formals}
 use Rattle.tb_core.proofs.OpenLemmas.{few-roots, read-at, root-fits}
 use Rattle.tb_core.proofs.opening.open_root.Goals as goal
 

@@ -1,8 +1,11 @@
-use Rattle.std.proofs.Common.{ap}
+use Rattle.std.proofs.Common.{◌≡◌, ◌∙◌, ◌∷◌, [], List, ap, get_or}
+use Rattle.tb_terms.specs.declared.term.Term.{Term}
 use Rattle.tb_notes.specs.Inboxes.{subscribed, unsubscribed}
-use Rattle.tb_bus.specs.Effects.{changed}
+use Rattle.tb_bus.specs.Effects.{changed, went_down}
 use Rattle.tb_core.specs.LiveBuses.{bus_of}
 use Rattle.tb_core.specs.Makings.{effect_by}
+use Rattle.tb_core.specs.declared.acting.Done.{Done}
+use Rattle.tb_core.proofs.BenchLemmas.{down-changed}
 use Rattle.tb_core.proofs.ReadLemmas.{on-err, on-ok, some-at}
 use Rattle.tb_core.proofs.HoldLemmas.{held-changed, nothing-changed, stands-held}
 use Rattle.tb_core.proofs.bus.LiveBus.act.Goals as goal
@@ -50,3 +53,14 @@ returns-in-Unsubscribe-clause-changed g c =
     let before = some-at bus.living.items c.args.at c.requires.within in
     held-changed g.W.Walker.view bus c.args.at before.0 (effect_by next c.args.own) (unsubscribed c.in-Unsubscribe.patterns) c.unsubscribe_at.new.all c.requires.sound before.1 c.unsubscribe_at.ensures
     (λ number. ap (λ own. changed (effect_by next own).change number (bus_of g.W.Walker.view bus)) c.in-Unsubscribe.is)
+
+pub returns-clause-changed : goal.returns-clause-changed
+returns-clause-changed g c =
+    let bus = c.args.self.now in
+    let next = bus.marks.next_number in
+    let went = c.in_ok-go_down-in-Shutdown.ensures in
+    let read : Term = c.index-as_slice-0.result in
+    let shown : c.as_slice.result.now ≡ c.in-Shutdown.reason ∷ [] = c.as_slice.ensures ∙ ap (λ (done : Done). done.shown) c.in_ok-done-in-Shutdown.ensures in
+    let is : read ≡ c.in-Shutdown.reason = c.index-as_slice-0.is ∙ ap (λ (ts : List Term). get_or ts 0 read) shown in
+    down-changed g.W.Walker.view bus c.go_down.new.self c.args.at c.in-Shutdown.reason (effect_by next c.args.own) went.sound went.origin went.plans went.living went.stale
+    (went.ok ∙ ap (λ (reason : Term). went_down reason (bus_of g.W.Walker.view bus)) is) c.requires.within (ap (λ own. (effect_by next own).change) c.in-Shutdown.is)

@@ -1,6 +1,5 @@
 use Rattle.std.proofs.Common.{◌≡◌, List, IfOk, IfSome, subst, option_map}
 use Rattle.std.proofs.lemmas.Result.{IfOk-weaker}
-use Rattle.tb_body.specs.declared.body.Body.{Body}
 use Rattle.tb_bus.specs.Buses.{Bus}
 use Rattle.tb_bus.specs.Steps.{moves}
 use Rattle.tb_bus.specs.Candidates.{first, rows_of, scene_of}
@@ -13,15 +12,15 @@ use Rattle.tb_core.proofs.bus.LiveBus.first_candidate.Goals as goal
 pub returns-clause-found : goal.returns-clause-found
 returns-clause-found g c =
     let fields = c.args.self.now in
-    let on_rows = subst (λ (all : List (Living _)). IfOk c.first_candidate.result (λ found. (bus : Bus) → IsSearchedFor bus c.as_slice-bodies.result.now (rows_of all) fields.marks → option_map (move_of bus (rows_of all)) found ≡ first (moves bus)))
+    let program = fields.origin.program in
+    let on_bus = subst (λ (all : List (Living _)). IfOk c.first_candidate.result
+    (λ found. (bus : Bus) → IsSearchedFor bus (scene_of program.bodies program.tools fields.bench (rows_of all) fields.marks) fields.marks → option_map (move_of bus (rows_of all)) found ≡ first (moves bus)))
     c.as_slice.ensures.value c.first_candidate.ensures.on_bus in
-    let on_bus = subst (λ (bodies : List Body). IfOk c.first_candidate.result (λ found. (bus : Bus) → IsSearchedFor bus bodies (rows_of fields.living.items) fields.marks → option_map (move_of bus (rows_of fields.living.items)) found ≡ first (moves bus)))
-    c.as_slice-bodies.ensures on_rows in
     IfOk-weaker c.first_candidate.result _ _ (λ found h. h (bus_of g.W.Walker.view fields) (searched-for g.W.Walker.view fields c.requires.sound c.requires.fresh)) on_bus
 
 pub returns-clause-stands : goal.returns-clause-stands
 returns-clause-stands g c =
     let fields = c.args.self.now in
-    let in_rows = subst (λ (all : List (Living _)). IfOk c.first_candidate.result (λ found. IfSome found (IsCandidateIn (scene_of c.as_slice-bodies.result.now (rows_of all) fields.marks))))
-    c.as_slice.ensures.value c.first_candidate.ensures.stands in
-    subst (λ (bodies : List Body). IfOk c.first_candidate.result (λ found. IfSome found (IsCandidateIn (scene_of bodies (rows_of fields.living.items) fields.marks)))) c.as_slice-bodies.ensures in_rows
+    let program = fields.origin.program in
+    subst (λ (all : List (Living _)). IfOk c.first_candidate.result (λ found. IfSome found (IsCandidateIn (scene_of program.bodies program.tools fields.bench (rows_of all) fields.marks))))
+    c.as_slice.ensures.value c.first_candidate.ensures.stands

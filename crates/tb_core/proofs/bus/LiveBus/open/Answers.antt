@@ -11,6 +11,7 @@ returns-clause-sound g c = record {
   planned = c.in_ok-plans.ensures ∙ c.as_slice.ensures;
   live = c.in_ok-living.ensures.live;
   fresh = λ young. all-named c.in_ok-living.living.items c.as_slice-2.result.now c.in_ok-stale.stale.items c.as_slice-2.ensures.value c.in_ok-stale.ensures;
+  lanes = c.show_lanes.ensures;
 }
 
 pub overflow_cast-next_number : goal.overflow_cast-next_number

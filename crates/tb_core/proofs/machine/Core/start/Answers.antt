@@ -14,12 +14,14 @@ invariant_of-result g c =
     let few = few-roots c.args.program.bodies c.args.program.roots c.args.program.tools c.args.program.in_range in
     let ticks : bus.ticks ≡ 0 = ap (λ (b : Bus). b.now) opens.bus in
     let next : bus.marks.next_number ≡ length c.args.program.roots + 1 = ap (λ (b : Bus). b.next_number) opens.bus in
+    let tool : bus.bench.next_tool ≡ 1 = ap (λ (b : Bus). b.bench.next_tool) opens.bus in
     record {
       sound = opens.sound;
       bus_is = opens.bus ∙ ap start (sym opens.origin) ∙ ap (replay (start bus.origin)) (sym c.new.ensures.entries);
       trace = subst (λ (entries : List Entry). IsTrace (start bus.origin) entries) (sym c.new.ensures.entries) tt;
       limit = c.new.ensures.limit ∙ ap (λ (o : Origin). o.limit) (sym opens.origin);
-      few = subst (λ (o : Origin). o.limit ≤ 4000000) (sym opens.origin) c.requires;
+      few = subst (λ (o : Origin). o.limit ≤ 4000000) (sym opens.origin) c.requires.limit;
       ticks = omega arith;
       next = omega arith;
+      tools = omega arith;
     }

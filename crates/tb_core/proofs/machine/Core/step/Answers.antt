@@ -3,12 +3,13 @@ use Rattle.tb_log.specs.declared.entry.Entry.TheVariants.{Did, Quiet}
 use Rattle.tb_log.specs.Limits.{has_room}
 use Rattle.tb_bus.specs.Buses.{Bus}
 use Rattle.tb_bus.specs.Steps.{moves, steps, step_of, label_of}
-use Rattle.tb_bus.specs.Candidates.{first}
+use Rattle.tb_bus.specs.Candidates.{first, rows_of}
 use Rattle.tb_bus.proofs.TraceLemmas.{steps-first, steps-none}
 use Rattle.tb_core.specs.LiveBuses.{bus_of, move_in}
 use Rattle.tb_core.specs.Cores.{CoreState, MakeStep, ends_quiet, entries_of, lacks_room}
 use Rattle.tb_core.proofs.CoreLemmas.{apply-now, bus-seen, full-seen, logs-on, one-next, represents-on, represents-same, room-seen, still-next, still-within, would-on}
 use Rattle.tb_core.proofs.GoLemmas.{did-entry, did-trace, did-replay, down-entry, quiet_if, quiet-entry, quiet-listed, quiet-room, quiet-trace, quiet-replay}
+use Rattle.tb_core.proofs.ToolLemmas.{one-tools, still-tools}
 use Rattle.tb_core.proofs.machine.Core.step.Goals as goal
 
 pub invariant_of-self-in-Some : goal.invariant_of-self-in-Some
@@ -23,6 +24,7 @@ invariant_of-self-in-Some g c =
     c.make.ensures.sound c.make.ensures.origin c.make.ensures.limit c.in_ok-make-in-Some.ensures.log (c.in_ok-make-in-Some.ensures.bus ∙ did-replay bus move found) (did-trace bus move found)
     (still-within bus (bus_of g.W.Walker.view c.make.new.bus) (Did (label_of move) ∷ []) (ap (λ (b : Bus). b.now) c.in_ok-make-in-Some.ensures.bus ∙ apply-now bus move))
     (one-next bus (bus_of g.W.Walker.view c.make.new.bus) move (Did (label_of move)) c.in_ok-make-in-Some.ensures.bus)
+    (one-tools bus (bus_of g.W.Walker.view c.make.new.bus) (rows_of now.living.items) c.in-Some.candidate (Did (label_of move)) c.in_ok-make-in-Some.ensures.bus)
 
 pub invariant_of-self-in-None-2 : goal.invariant_of-self-in-None-2
 invariant_of-self-in-None-2 g c =
@@ -34,7 +36,7 @@ invariant_of-self-in-None-2 g c =
     represents-on g.W.Walker.view now now log c.say_quiet.new.log entries
     (represents-same g.W.Walker.view c.self.inside.bus now log c.self.invariant c.freshen.ensures.same)
     c.freshen.ensures.same.sound refl c.say_quiet.ensures.limit c.in_ok-say_quiet-in-None-2.ensures.ok (quiet-replay bus (ends_quiet log.entries)) (quiet-trace bus (ends_quiet log.entries) (steps-none bus nothing) c.if-self-2.false)
-    (still-within bus bus entries refl) (still-next bus bus entries refl)
+    (still-within bus bus entries refl) (still-next bus bus entries refl) (still-tools bus bus entries refl)
 
 pub returns-in_ok-make-in-Some-clause-found : goal.returns-in_ok-make-in-Some-clause-found
 returns-in_ok-make-in-Some-clause-found g c =
