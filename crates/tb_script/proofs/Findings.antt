@@ -17,9 +17,8 @@ use Rattle.tb_types.specs.Conditions.{Proper, IsFault}
 use Rattle.tb_expand.specs.Cycles.{IsCycle}
 use Rattle.tb_expand.specs.Faults.{HasNoCycle}
 use Rattle.tb_script.specs.Programs.{HasTokens, IsTextOf, IsProgramOf, IsChecked, IsEnding, IsSmall, IsAccepted, first_too_large, most_roots}
-use Rattle.tb_script.specs.Unbuilt.{first_unbuilt}
 use Rattle.tb_script.specs.Making.{HasOnlyTokens, IsOnlyScript}
-use Rattle.tb_script.specs.Findings.{HasNoTokens, Finding, NoTokens, NoScript, Improper, Recursive, Large, ManyRoots, Unbuilt, Program', Holds, IsSame, IsFound}
+use Rattle.tb_script.specs.Findings.{HasNoTokens, Finding, NoTokens, NoScript, Improper, Recursive, Large, ManyRoots, Program', Holds, IsSame, IsFound}
 use Rattle.tb_script.proofs.CheckFaults.{one_fault, no_fault}
 use Rattle.tb_script.proofs.OneProgram.{one_program}
 
@@ -41,7 +40,6 @@ spelt text (Improper f) has h = record { script = h.script; is_text = h.is_text 
 spelt text (Recursive names) has h = record { script = h.script; is_text = h.is_checked.is_text }
 spelt text (Large name) has h = record { script = h.script; is_text = h.is_ending.checked.is_text }
 spelt text (ManyRoots count) has h = record { script = h.script; is_text = h.is_small.ending.checked.is_text }
-spelt text (Unbuilt token) has h = record { script = h.script; is_text = h.is_accepted.is_small.ending.checked.is_text }
 spelt text (Program' program) has h = record { script = h.script; is_text = h.is_accepted.is_small.ending.checked.is_text }
 
 ok-same : {T E : Type 0} (x y : T) → ◌≡◌ {A = Result T E} (Ok x) (Ok y) → y ≡ x
@@ -101,7 +99,6 @@ module _ (text : List ℕ) (r : Result (List Token) LexFault)
     rest (Recursive names) h = absurd (no-text f came told (spelt text (Recursive names) tt h))
     rest (Large name) h = absurd (no-text f came told (spelt text (Large name) tt h))
     rest (ManyRoots count) h = absurd (no-text f came told (spelt text (ManyRoots count) tt h))
-    rest (Unbuilt token) h = absurd (no-text f came told (spelt text (Unbuilt token) tt h))
     rest (Program' program) h = absurd (no-text f came told (spelt text (Program' program) tt h))
 
 -- Scripts.
@@ -156,7 +153,6 @@ module _ (tokens : List Token) (r : Result Script ParseFault)
     rest (Recursive names) h = absurd (no-spelt f came told text lexed (spelt text (Recursive names) tt h))
     rest (Large name) h = absurd (no-spelt f came told text lexed (spelt text (Large name) tt h))
     rest (ManyRoots count) h = absurd (no-spelt f came told text lexed (spelt text (ManyRoots count) tt h))
-    rest (Unbuilt token) h = absurd (no-spelt f came told text lexed (spelt text (Unbuilt token) tt h))
     rest (Program' program) h = absurd (no-spelt f came told text lexed (spelt text (Program' program) tt h))
 
 -- Scripts that are spelt.
@@ -175,7 +171,6 @@ module _ (text : List ℕ) (script : Script) (read : IsOnlyScript text script) w
     rest (Recursive names) h = absurd (no_fault script f told (here Proper h.script h.is_checked.is_text h.is_checked.proper) has)
     rest (Large name) h = let c = h.is_ending.checked in absurd (no_fault script f told (here Proper h.script c.is_text c.proper) has)
     rest (ManyRoots count) h = let c = h.is_small.ending.checked in absurd (no_fault script f told (here Proper h.script c.is_text c.proper) has)
-    rest (Unbuilt token) h = let c = h.is_accepted.is_small.ending.checked in absurd (no_fault script f told (here Proper h.script c.is_text c.proper) has)
     rest (Program' program) h = let c = h.is_accepted.is_small.ending.checked in absurd (no_fault script f told (here Proper h.script c.is_text c.proper) has)
 
   module _ (proper : Proper script) where
@@ -194,7 +189,6 @@ module _ (text : List ℕ) (script : Script) (read : IsOnlyScript text script) w
       rest (Recursive others) h = tt
       rest (Large name) h = let e = h.is_ending in absurd (here HasNoCycle h.script e.checked.is_text e.no_cycle names cycle)
       rest (ManyRoots count) h = let e = h.is_small.ending in absurd (here HasNoCycle h.script e.checked.is_text e.no_cycle names cycle)
-      rest (Unbuilt token) h = let e = h.is_accepted.is_small.ending in absurd (here HasNoCycle h.script e.checked.is_text e.no_cycle names cycle)
       rest (Program' program) h = let e = h.is_accepted.is_small.ending in absurd (here HasNoCycle h.script e.checked.is_text e.no_cycle names cycle)
 
     module _ (no_cycle : HasNoCycle script) where
@@ -222,7 +216,6 @@ module _ (text : List ℕ) (script : Script) (read : IsOnlyScript text script) w
         rest (Recursive names) h = absurd (ends names h)
         rest (Large other) h = ap Large (same-name other (here (λ t. first_too_large t ≡ Some other) h.script h.is_ending.checked.is_text h.first))
         rest (ManyRoots count) h = absurd (some-none name first (small-here h.script h.is_small))
-        rest (Unbuilt token) h = absurd (some-none name first (small-here h.script h.is_accepted.is_small))
         rest (Program' program) h = absurd (some-none name first (small-here h.script h.is_accepted.is_small))
 
       module _ (small : first_too_large script ≡ None) where
@@ -253,7 +246,6 @@ module _ (text : List ℕ) (script : Script) (read : IsOnlyScript text script) w
           rest (Recursive names) h = absurd (ends names h)
           rest (Large name) h = absurd (not-large name h)
           rest (ManyRoots other) h = ap ManyRoots (here (λ t. other ≡ length t.roots) h.script h.is_small.ending.checked.is_text h.are ∙ sym are)
-          rest (Unbuilt token) h = absurd (too-many many-here (few-here h.script h.is_accepted))
           rest (Program' program) h = absurd (too-many many-here (few-here h.script h.is_accepted))
 
         module _ (few : length script.roots ≤ most_roots) where
@@ -264,26 +256,8 @@ module _ (text : List ℕ) (script : Script) (read : IsOnlyScript text script) w
           accepted : IsAccepted text script
           accepted = record { is_small = is_small; few_roots = few }
 
-          no-first : (token : ℕ) → first_unbuilt script ≡ Some token → first_unbuilt script ≡ None → ⊥
-          no-first token e f = absurd cc
-
-          pub unbuilt_found : (token : ℕ) → first_unbuilt script ≡ Some token → IsFound text (Unbuilt token)
-          unbuilt_found token first = record { holds = record { script = script; is_accepted = accepted; first = first }; only = rest } where
-            same-token : (other : ℕ) → first_unbuilt script ≡ Some other → other ≡ token
-            same-token other e = cc
-
-            rest : (other : Finding) → Holds text other → IsSame (Unbuilt token) other
-            rest (NoTokens g) h = absurd (read.has_tokens g h)
-            rest (NoScript g) h = absurd (read.has_script g h)
-            rest (Improper g) h = absurd (is_proper g h)
-            rest (Recursive names) h = absurd (ends names h)
-            rest (Large name) h = absurd (not-large name h)
-            rest (ManyRoots count) h = absurd (not-many count h)
-            rest (Unbuilt other) h = ap Unbuilt (same-token other (here (λ t. first_unbuilt t ≡ Some other) h.script (text-of h.script h.is_accepted) h.first))
-            rest (Program' program) h = absurd (no-first token first (here (λ t. first_unbuilt t ≡ None) h.script (text-of h.script h.is_accepted) h.built))
-
-          pub program_found : (program : Program) → first_unbuilt script ≡ None → IsProgramOf script program → IsFound text (Program' program)
-          program_found program built meaning = record { holds = record { script = script; is_accepted = accepted; built = built; meaning = meaning }; only = rest } where
+          pub program_found : (program : Program) → IsProgramOf script program → IsFound text (Program' program)
+          program_found program meaning = record { holds = record { script = script; is_accepted = accepted; meaning = meaning }; only = rest } where
             rest : (other : Finding) → Holds text other → IsSame (Program' program) other
             rest (NoTokens g) h = absurd (read.has_tokens g h)
             rest (NoScript g) h = absurd (read.has_script g h)
@@ -291,5 +265,4 @@ module _ (text : List ℕ) (script : Script) (read : IsOnlyScript text script) w
             rest (Recursive names) h = absurd (ends names h)
             rest (Large name) h = absurd (not-large name h)
             rest (ManyRoots count) h = absurd (not-many count h)
-            rest (Unbuilt token) h = absurd (no-first token (here (λ t. first_unbuilt t ≡ Some token) h.script (text-of h.script h.is_accepted) h.first) built)
             rest (Program' other) h = ap Program' (one_program script other program (here (λ t. IsProgramOf t other) h.script (text-of h.script h.is_accepted) h.meaning) meaning)

@@ -2,7 +2,6 @@ pub mod CheckFaults
 pub mod OneProgram
 pub mod Findings
 pub mod RootValues
-pub mod UnbuiltProcs
 pub mod Places
 pub mod Bodies
 pub mod ProgramRanges

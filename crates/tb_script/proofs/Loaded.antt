@@ -11,7 +11,7 @@ use Rattle.tb_script.specs.declared.fault.ScriptFault.{ScriptFault}
 use Rattle.tb_script.specs.declared.fault.ScriptFault.TheVariants as fault
 use Rattle.tb_script.specs.Loading.{HasFault}
 use Rattle.tb_script.specs.Making.{IsOnlyScript, HasReadScript, HasBodies, HasJoined, AreExpansions, of_check, of_expand}
-use Rattle.tb_script.proofs.Findings.{improper_found, recursive_found, large_found, many_found, unbuilt_found}
+use Rattle.tb_script.proofs.Findings.{improper_found, recursive_found, large_found, many_found}
 
 pub read_failed : (text : List ℕ) (f : ScriptFault) → HasReadScript text (Err f) → HasFault text f
 read_failed text (fault.Lex f) h = h
@@ -48,5 +48,5 @@ module _ (text : List ℕ) (script : Script) (read : IsOnlyScript text script) (
   joined_failed bodies (fault.Expand f) made h = absurd h
   joined_failed bodies (fault.Roots count) made h = many_found text script read proper made.no_cycle made.small count h.are h.many
   joined_failed bodies (fault.TooLong count) made h = absurd h
-  joined_failed bodies (fault.NotBuilt token) made h = unbuilt_found text script read proper made.no_cycle made.small h.few token h.first
+  joined_failed bodies (fault.NotBuilt token) made h = absurd h
   joined_failed bodies fault.NoMemory made h = tt

@@ -1,5 +1,5 @@
--- What is found of a text: its program, or why it has none. Tokens come first, then the grammar and its limits, the conditions, cycles of calls, sizes of expansions, the number of roots, and last what isn't built.
-use Rattle.std.specs.Prelude.{◌≡◌, ◌≢◌, ℕ, ◌<◌, List, length, Some, None}
+-- What is found of a text: its program, or why it has none. Tokens come first, then the grammar and its limits, the conditions, cycles of calls, sizes of expansions, and last the number of roots.
+use Rattle.std.specs.Prelude.{◌≡◌, ◌≢◌, ℕ, ◌<◌, List, length, Some}
 use Rattle.tb_body.specs.declared.program.Program.{Program}
 use Rattle.tb_lex.specs.declared.fault.LexFault.{LexFault}
 use Rattle.tb_lex.specs.declared.fault.LexFault.TheVariants as lex
@@ -15,7 +15,6 @@ use Rattle.tb_types.specs.declared.fault.CheckFault.TheVariants as check
 use Rattle.tb_types.specs.Conditions.{IsFault}
 use Rattle.tb_expand.specs.Cycles.{IsCycle}
 use Rattle.tb_script.specs.Programs.{HasTokens, IsTextOf, IsChecked, IsEnding, IsSmall, IsAccepted, IsProgramOf, first_too_large, most_roots}
-use Rattle.tb_script.specs.Unbuilt.{first_unbuilt}
 
 -- the text has this fault instead of tokens
 pub record HasNoTokens (text : List ℕ) (fault : LexFault) : Type 0 where
@@ -55,17 +54,10 @@ pub record HasManyRoots (text : List ℕ) (count : ℕ) : Type 0 where
   pub are : count ≡ length script.roots
   pub many : most_roots < count
 
--- it is accepted, and this is the first token of a form that isn't built
-pub record IsUnbuilt (text : List ℕ) (token : ℕ) : Type 0 where
-  pub script : Script
-  pub is_accepted : IsAccepted text script
-  pub first : first_unbuilt script ≡ Some token
-
--- it is accepted and all of it is built, and this is its program
+-- it is accepted, and this is its program
 pub record HasProgram (text : List ℕ) (program : Program) : Type 0 where
   pub script : Script
   pub is_accepted : IsAccepted text script
-  pub built : first_unbuilt script ≡ None
   pub meaning : IsProgramOf script program
 
 pub data Finding : Type 0 where
@@ -75,7 +67,6 @@ pub data Finding : Type 0 where
   Recursive : List (List ℕ) → Finding
   Large : List ℕ → Finding
   ManyRoots : ℕ → Finding
-  Unbuilt : ℕ → Finding
   Program' : Program → Finding
 
 abbrev pub Holds : List ℕ → Finding → Type 0
@@ -85,7 +76,6 @@ Holds text (Improper fault) = IsImproper text fault
 Holds text (Recursive names) = IsRecursive text names
 Holds text (Large name) = IsLarge text name
 Holds text (ManyRoots count) = HasManyRoots text count
-Holds text (Unbuilt token) = IsUnbuilt text token
 Holds text (Program' program) = HasProgram text program
 
 -- a cycle of calls, whichever it is
@@ -101,7 +91,6 @@ IsSame (NoTokens fault) other = other ≡ NoTokens fault
 IsSame (Improper fault) other = other ≡ Improper fault
 IsSame (Large name) other = other ≡ Large name
 IsSame (ManyRoots count) other = other ≡ ManyRoots count
-IsSame (Unbuilt token) other = other ≡ Unbuilt token
 IsSame (Program' program) other = other ≡ Program' program
 
 -- this finding holds of the text, and no other does

@@ -1,5 +1,4 @@
 pub mod Programs
-pub mod Unbuilt
 pub mod Findings
 pub mod Loading
 pub mod Making

@@ -4,9 +4,10 @@ use Rattle.tb_body.specs.declared.program.Program.{Program}
 use Rattle.tb_expand.specs.declared.fault.ExpandFault.TheVariants as expand
 use Rattle.tb_script.specs.declared.fault.ScriptFault.{ScriptFault}
 use Rattle.tb_script.specs.declared.fault.ScriptFault.TheVariants as fault
-use Rattle.tb_script.specs.Findings.{IsFound, NoTokens, NoScript, Improper, Recursive, Large, ManyRoots, Unbuilt, Program'}
+use Rattle.tb_script.specs.Findings.{IsFound, NoTokens, NoScript, Improper, Recursive, Large, ManyRoots, Program'}
 
--- Each fault says what was found of the text, and nothing else was. Want of memory may come at any time.
+-- Each fault says what was found of the text, and nothing else was. Want of memory may come at any time; that a text is
+-- too long, or that something isn't built, never comes.
 abbrev pub HasFault : List ℕ → ScriptFault → Type 0
 HasFault text (fault.Lex f) = IsFound text (NoTokens f)
 HasFault text (fault.Parse f) = IsFound text (NoScript f)
@@ -16,7 +17,7 @@ HasFault text (fault.Expand (expand.TooLarge name)) = IsFound text (Large name)
 HasFault text (fault.Expand expand.NoMemory) = ⊥
 HasFault text (fault.Roots count) = IsFound text (ManyRoots count)
 HasFault text (fault.TooLong count) = ⊥
-HasFault text (fault.NotBuilt token) = IsFound text (Unbuilt token)
+HasFault text (fault.NotBuilt token) = ⊥
 HasFault text fault.NoMemory = Unit {0}
 
 abbrev pub HasLoaded : List ℕ → Result Program ScriptFault → Type 0

@@ -21,7 +21,6 @@ use Rattle.tb_expand.specs.Faults.{HasNoCycle, IsExpansion}
 use Rattle.tb_script.specs.declared.fault.ScriptFault.{ScriptFault}
 use Rattle.tb_script.specs.declared.fault.ScriptFault.TheVariants as fault
 use Rattle.tb_script.specs.Programs.{HasTokens, IsTextOf, IsProgramOf, first_too_large, most_roots}
-use Rattle.tb_script.specs.Unbuilt.{first_unbuilt}
 use Rattle.tb_script.specs.Findings.{HasNoTokens, HasNoScript, IsFound, NoTokens, NoScript}
 
 -- the text has these tokens, no others, and no fault of its tokens
@@ -72,28 +71,22 @@ pub record HasMany (script : Script) (count : ℕ) : Type 0 where
   pub are : count ≡ length script.roots
   pub many : most_roots < count
 
--- the roots aren't too many, and this is the first form that isn't built
-pub record HasUnbuilt (script : Script) (token : ℕ) : Type 0 where
+-- the roots aren't too many, and this is the program
+pub record IsJoined (script : Script) (program : Program) : Type 0 where
   pub few : length script.roots ≤ most_roots
-  pub first : first_unbuilt script ≡ Some token
-
--- the roots aren't too many, all is built, and this is the program
-pub record IsBuilt (script : Script) (program : Program) : Type 0 where
-  pub few : length script.roots ≤ most_roots
-  pub built : first_unbuilt script ≡ None
   pub meaning : IsProgramOf script program
 
 -- the program of a script whose expansions are small, or why it has none
 abbrev pub HasJoined : Script → Result Program ScriptFault → Type 0
-HasJoined script (Ok program) = IsBuilt script program
+HasJoined script (Ok program) = IsJoined script program
 HasJoined script (Err (fault.Roots count)) = HasMany script count
-HasJoined script (Err (fault.NotBuilt token)) = HasUnbuilt script token
 HasJoined script (Err fault.NoMemory) = Unit {0}
 HasJoined script (Err (fault.Lex f)) = ⊥
 HasJoined script (Err (fault.Parse f)) = ⊥
 HasJoined script (Err (fault.Check f)) = ⊥
 HasJoined script (Err (fault.Expand f)) = ⊥
 HasJoined script (Err (fault.TooLong count)) = ⊥
+HasJoined script (Err (fault.NotBuilt token)) = ⊥
 
 -- each actual has a value
 abbrev pub HasValues : Call → Type 0

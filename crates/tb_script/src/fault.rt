@@ -20,7 +20,7 @@ pub enum ScriptFault {
     Roots(usize),
     /// There are this many bytes, more than 1,048,576; `load` never answers so, since it reads any number.
     TooLong(usize),
-    /// The script has a form that isn't built yet, whose first token this is, from 0.
+    /// The script has a form that isn't built, whose first token this is, from 0; `load` never answers so: each is.
     NotBuilt(usize),
     /// There wasn't memory enough; it says nothing of the script.
     NoMemory,

@@ -8,7 +8,6 @@ mod loading;
 mod program;
 mod reading;
 mod roots;
-mod unbuilt;
 
 pub use fault::ScriptFault;
 pub use laws::a_text_has_one_program;

@@ -5,7 +5,6 @@ ghost use Rattle.tb_script.specs.Making.{AreExpansions, HasJoined};
 
 use crate::ScriptFault;
 use crate::roots::roots_of;
-use crate::unbuilt::first_unbuilt;
 use std::alloc::Global;
 use tb_body::{Bodies, Program, Tool, Tools};
 use tb_syntax::{Script, ToolDef};
@@ -25,9 +24,6 @@ pub(crate) fn program_of(
 {
     if script.roots.len() > MOST_ROOTS {
         return Err(ScriptFault::Roots(script.roots.len()));
-    }
-    if let Some(token) = first_unbuilt(script) {
-        return Err(ScriptFault::NotBuilt(token));
     }
     let roots = roots_of(alloc, script)?;
     let tools = tools_of(alloc, script.tools.as_slice())?;

@@ -11,7 +11,6 @@ enum Expected {
     Recursion(&'static [&'static str]),
     TooLarge(&'static str),
     Roots(usize),
-    NotBuilt(usize),
 }
 
 fn are_names(names: &Idents, expected: &[&str]) -> bool {
@@ -34,7 +33,6 @@ fn is_expected(found: &Result<Program, ScriptFault>, expected: &Expected) -> boo
             name.as_bytes() == other.as_bytes()
         }
         (Err(ScriptFault::Roots(count)), Expected::Roots(other)) => count == other,
-        (Err(ScriptFault::NotBuilt(token)), Expected::NotBuilt(other)) => token == other,
         _ => false,
     }
 }
@@ -78,22 +76,22 @@ static TEXTS: [(&str, Expected); 17] = [
         Expected::Accepted,
     ),
     (
-        "process P is snd-msg(a) . tau timeout(1) delay(2) . shutdown(a) toolbus(P)",
-        Expected::NotBuilt(18),
+        "process P is if true then tau else shutdown(a) fi toolbus(P)",
+        Expected::Accepted,
+    ),
+    // each atom that speaks with tools
+    (
+        "tool calc is { command = \"calc\" } process P is let T : calc, E : term, V : term in execute(calc, T?) . (rec-event(T, button(E?)) . snd-eval(T, E) . rec-value(T, V?) . snd-ack-event(T, button(E))) * (snd-do(T, stop) . snd-terminate(T, \"bye\")) endlet toolbus(P)",
+        Expected::Accepted,
     ),
     (
-        "process P is tau process Q is delta . shutdown(a) delay(1) toolbus(P)",
-        Expected::NotBuilt(9),
-    ),
-    (
-        "process P is if true then tau else shutdown(a) fi toolbus()",
-        Expected::NotBuilt(8),
+        "tool ed is { } process P is let T : ed in rec-connect(T?) . (rec-disconnect(T?) + rec-disconnect(T)) endlet toolbus(P)",
+        Expected::Accepted,
     ),
     (
         "process P is (tau || delta) + (let X : int in X := 1 . rec-msg(X) endlet) * tau toolbus(P)",
         Expected::Accepted,
     ),
-    // a cycle comes before what isn't built
     (
         "process P is shutdown(a) . P toolbus(P)",
         Expected::Recursion(&["P"]),

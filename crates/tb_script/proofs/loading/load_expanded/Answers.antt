@@ -5,8 +5,8 @@ use Rattle.tb_script.proofs.loading.load_expanded.Goals as goal
 pub returns-in-Ok : goal.returns-in-Ok
 returns-in-Ok c = λ text read.
     let made = c.requires.expanded in
-    let built = c.in-Ok.ensures in
-    program_found text c.args.script.now read c.requires.proper made.no_cycle made.small built.few c.in-Ok.program built.built built.meaning
+    let joined = c.in-Ok.ensures in
+    program_found text c.args.script.now read c.requires.proper made.no_cycle made.small joined.few c.in-Ok.program joined.meaning
 
 pub returns-in-Err : goal.returns-in-Err
 returns-in-Err c = λ text read. joined_failed text c.args.script.now read c.requires.proper c.args.bodies c.in-Err.fault c.requires.expanded c.in-Err.ensures
