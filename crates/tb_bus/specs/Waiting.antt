@@ -10,7 +10,8 @@ use Rattle.tb_tools.specs.declared.stage.Eval.TheVariants.{Closed, Asked, Answer
 use Rattle.tb_tools.specs.Lanes.{Tool, Lane, BenchState}
 use Rattle.tb_bus.specs.Buses.{Bus, Proc}
 
--- no more levels than a term may have: what is sent is of a limited size by itself, since all of it is measured together
+-- The value of a slot has at most 64 levels. Its size has no limit of its own, since the first value of a tool's variable
+-- may be larger; what is sent is measured then.
 abbrev pub IsShallow : Term → Type 0
 IsShallow term = term_levels term ≤ 64
 
