@@ -232,7 +232,7 @@ a-sent : values_together [] (word (codes "a")) ≡ Some (words (codes "a"))
 unfolding is_within_limits
 a-sent = search (rules, expr_lemmas, term_lemmas)
 
-a-wanted : patterns_of [] (word (codes "a")) ≡ Some (fixed (codes "a"))
+pub a-wanted : patterns_of [] (word (codes "a")) ≡ Some (fixed (codes "a"))
 unfolding is_within_limits
 a-wanted = search (rules, expr_lemmas, term_lemmas, pattern_lemmas)
 

@@ -447,7 +447,7 @@ left-quiet most feed so_far old mid new idle said found logs room stays = left-a
 -- One go: what was next on a lane was handed out, or the log had no room for it.
 hands-by : (most : ℕ) (feed : List Input) (so_far : Progress) (old new : CoreState) (lane : ℕ) (found : Option Out) → IsWithin most feed so_far → first_out (bus_now old).bench ≡ Some lane → next_out lane (bus_now old).bench ≡ found → IsSome found →
     (t : Turned) → HandsOut lane so_far old new t → Goes most feed old so_far new t
-hands-by most feed so_far old new lane None within first next some t h = absurd some
+hands-by most feed so_far old new lane None within first next some t h = absurd (let same : false ≡ true = some in cc)
 hands-by most feed so_far old new lane (Some out) within first next some (turned.On progress) h =
     let would : would_log old (HandOut lane) ≡ Some (Gave lane out) = ap (out_entry lane) next in
     subst (λ (n : Progress). Goes most feed old so_far new (turned.On n)) (sym h.0)

@@ -46,11 +46,7 @@ fn go<W: Walker>(
 }
 
 /// Hands out what is next on a lane.
-fn hand_out<W: Walker>(
-    core: &mut Core<W>,
-    lane: u8,
-    so_far: Progress,
-) -> Result<Turned, NoMemory>
+fn hand_out<W: Walker>(core: &mut Core<W>, lane: u8, so_far: Progress) -> Result<Turned, NoMemory>
     requires lane { IsLane lane }
     requires some { IsSome (next_out lane (bus_now core.old).bench) }
     requires running { core.old.stopped ≡ false }

@@ -9,7 +9,7 @@ use Rattle.tb_sim.proofs.simulation.go_up.Goals as goal
 
 pub returns-then-branch-clause-ok : goal.returns-then-branch-clause-ok
 returns-then-branch-clause-ok g c =
-    goes-limit c.args.steps c.args.feed.now c.args.so_far c.args.core.now c.is_at_limit.new.core c.requires.idle c.in_ok-is_at_limit.field-0 c.in_ok-is_at_limit.ensures.unchanged c.in_ok-is_at_limit.ensures.value c.if-branch.true
+    goes-limit c.args.steps c.args.feed.now c.args.so_far c.args.core.now c.is_at_limit.new.core c.in_ok-is_at_limit.field-0 c.requires.idle c.in_ok-is_at_limit.ensures.unchanged c.in_ok-is_at_limit.ensures.value c.if-branch.true
 
 pub returns-in-Ok-Did-clause-ok : goal.returns-in-Ok-Did-clause-ok
 returns-in-Ok-Did-clause-ok g c =
