@@ -1,5 +1,5 @@
 -- Bytes are one tool line, and the right one.
-use Rattle.std.proofs.Common.{◌≡◌, ◌⊎◌, inl, inr, ℕ, ◌+◌, ◌<◌, ◌≤◌, List, length, refl, ap, sym, subst, ◌∙◌, arith}
+use Rattle.std.proofs.Common.{◌≡◌, inl, inr, ℕ, ◌<◌, ◌≤◌, List, length, refl, ap, sym, subst, ◌∙◌, arith}
 use Rattle.std.proofs.lemmas.Bool.{cases_lt}
 use Rattle.tb_terms.specs.declared.term.Term.{Term}
 use Rattle.tb_terms.specs.Sizes.{term_size, term_levels}
@@ -9,11 +9,11 @@ use Rattle.tb_log.specs.Shapes.{IsToolLineInShape}
 use Rattle.tb_read.specs.declared.fault.TermFault.{TermFault}
 use Rattle.tb_read.specs.declared.fault.TermFault.TheVariants as fault
 use Rattle.tb_read.specs.Spelling.{Reads}
-use Rattle.tb_read.specs.Reading.{HasFaultWithin, HasFault}
+use Rattle.tb_read.specs.Reading.{HasFaultWithin}
 use Rattle.tb_read.proofs.Outcomes.{Passes, Cause, cause, stops_no_term}
 use Rattle.tb_read.proofs.Complete.{reads_one}
 use Rattle.tb_read.proofs.Ended.{OneOf, has_one}
-use Rattle.tb_lane.specs.ToolLines.{line_of, Says, IsToolLine}
+use Rattle.tb_lane.specs.ToolLines.{line_of, IsToolLine}
 use Rattle.tb_lane.proofs.Shaping.{line_of-in_shape, line_of-small}
 
 pub read-line : (bytes : List ℕ) (term : Term) → length bytes ≤ 65536 → Reads bytes term → IsToolLine bytes (line_of term)

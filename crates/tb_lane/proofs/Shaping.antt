@@ -1,5 +1,5 @@
 -- The line of a term is in shape, and the term is hardly larger than its parts may be.
-use Rattle.std.proofs.Common.{◌≡◌, ◌⊎◌, inl, inr, ℕ, zero, suc, ◌+◌, ◌<◌, ◌≤◌, nat_le, max, Bool, true, false, ◌&&◌, if◌then◌else◌, List, [], ◌∷◌, length, get_or, map, sum, fold, Option, Some, None, codes, refl, ap, sym, ◌∙◌, subst, arith}
+use Rattle.std.proofs.Common.{◌≡◌, ◌⊎◌, inl, inr, ℕ, zero, suc, ◌+◌, ◌<◌, ◌≤◌, nat_le, max, Bool, true, false, if◌then◌else◌, List, [], ◌∷◌, length, map, sum, fold, Option, Some, None, codes, refl, ap, sym, ◌∙◌, subst, arith}
 use Rattle.std.specs.List.{list_all, All}
 use Rattle.std.specs.Str.{bytes_eq}
 use Rattle.std.proofs.lemmas.Bool.{leb-true}
@@ -11,7 +11,7 @@ use Rattle.tb_terms.proofs.SameLemmas.{both-true}
 use Rattle.tb_log.specs.declared.entry.ToolLine.{ToolLine}
 use Rattle.tb_log.specs.declared.entry.ToolLine.TheVariants.{Value, Event, Connect, Disconnect, Bad}
 use Rattle.tb_log.specs.Limits.{terms_size}
-use Rattle.tb_log.specs.Shapes.{IsToolLineInShape, AreParts}
+use Rattle.tb_log.specs.Shapes.{IsToolLineInShape}
 use Rattle.tb_lane.specs.ToolLines.{is_within, are_within, only, value_line, event_line, name_line, named_line, connect_line, disconnect_line, line_by_name, line_by_layer, line_of}
 
 pub within-limits : (term : Term) → is_within term ≡ true → IsWithinLimits term
