@@ -1,5 +1,6 @@
 pub mod WordParts
 pub mod WordFaults
+pub mod WordConnects
 pub mod WordLimits
 pub mod WordExamples
 pub mod Lines

@@ -14,7 +14,7 @@ use Rattle.tb_sim.specs.Simulation.{IsSim, limits_of, sim_start}
 use Rattle.tb_sim.specs.declared.ends.SimEnd.{SimEnd}
 use Rattle.tb_sim.specs.declared.ends.SimEnd.TheVariants as sim
 use Rattle.tb_expand.specs.declared.fault.ExpandFault.TheVariants as expand
-use Rattle.tb_script.specs.Findings.{IsFound, NoTokens, NoScript, Improper, Recursive, Large, ManyRoots, Unbuilt, Program'}
+use Rattle.tb_script.specs.Findings.{IsFound, NoTokens, NoScript, Improper, Recursive, Large, ManyRoots, Program'}
 use Rattle.tb_script.specs.declared.fault.ScriptFault.{ScriptFault}
 use Rattle.tb_script.specs.declared.fault.ScriptFault.TheVariants as script
 use Rattle.tb_top.specs.Outcomes.{HasSomeProgram, Run, IsFed, IsLoaded, IsRefused, IsSimOf, SimOutcome, WorkOutcome, FileOutcome, IsCaused, AsksAll, CommandAsks, AsksFor, Reported, script_of, feed_of}
@@ -30,27 +30,27 @@ use Rattle.tb_top.specs.declared.status.Edge.TheVariants as edge
 -- what the work on a program comes to where its log is that of the simulation
 simulated : (steps : ℕ) (origin : Origin) (inputs : List Input) (held : List ℕ → Option (List ℕ)) (name : Option (List ℕ)) (log : List Entry) (last : SimEnd) (bytes : List ℕ) →
     IsSim (limits_of steps origin) (sim_start (start origin) inputs) log last → IsTrace (start origin) log → IsFed held name inputs → IsFound bytes (Program' origin.program) →
-    IsSimOf (record { held = held; feed = name; steps = steps; events = origin.limit }) bytes log last
+    IsSimOf (record { held = held; feed = name; connects = origin.connects; steps = steps; events = origin.limit }) bytes log last
 simulated steps origin inputs held name log last bytes is trace fed found = record { program = origin.program; found = found; inputs = inputs; fed = fed; simulated = is; trace = trace }
 
 -- the log was put whole
 put-whole : (steps : ℕ) (origin : Origin) (inputs : List Input) (log : List Entry) (last : SimEnd) (old new : Option (List ℕ)) (status : Status) → IsSim (limits_of steps origin) (sim_start (start origin) inputs) log last → IsTrace (start origin) log →
     Takes old new (log_text log) → status ≡ status_of_end last → OriginOutcome steps origin inputs old new status
 put-whole steps origin inputs log sim.Down old new status is trace takes e held name fed bytes found =
-    subst (SimOutcome (record { held = held; feed = name; steps = steps; events = origin.limit }) bytes old new) (sym e) (log, simulated steps origin inputs held name log sim.Down bytes is trace fed found, takes)
+    subst (SimOutcome (record { held = held; feed = name; connects = origin.connects; steps = steps; events = origin.limit }) bytes old new) (sym e) (log, simulated steps origin inputs held name log sim.Down bytes is trace fed found, takes)
 put-whole steps origin inputs log sim.Steps old new status is trace takes e held name fed bytes found =
-    subst (SimOutcome (record { held = held; feed = name; steps = steps; events = origin.limit }) bytes old new) (sym e) (log, simulated steps origin inputs held name log sim.Steps bytes is trace fed found, takes)
+    subst (SimOutcome (record { held = held; feed = name; connects = origin.connects; steps = steps; events = origin.limit }) bytes old new) (sym e) (log, simulated steps origin inputs held name log sim.Steps bytes is trace fed found, takes)
 put-whole steps origin inputs log sim.Events old new status is trace takes e held name fed bytes found =
-    subst (SimOutcome (record { held = held; feed = name; steps = steps; events = origin.limit }) bytes old new) (sym e) (log, simulated steps origin inputs held name log sim.Events bytes is trace fed found, takes)
+    subst (SimOutcome (record { held = held; feed = name; connects = origin.connects; steps = steps; events = origin.limit }) bytes old new) (sym e) (log, simulated steps origin inputs held name log sim.Events bytes is trace fed found, takes)
 
 -- or a front of its text was
 pub log-written : (steps : ℕ) (origin : Origin) (inputs : List Input) (log : List Entry) (last : SimEnd) (old new : Option (List ℕ)) (status : Status) → IsSim (limits_of steps origin) (sim_start (start origin) inputs) log last → IsTrace (start origin) log →
     WritesLog log last old new status → OriginOutcome steps origin inputs old new status
 log-written steps origin inputs log last old new status is trace (inl whole) held name fed bytes found = put-whole steps origin inputs log last old new status is trace whole.1 whole.0 held name fed bytes found
 log-written steps origin inputs log last old new status is trace (inr (inl e, front)) held name fed bytes found =
-    subst (SimOutcome (record { held = held; feed = name; steps = steps; events = origin.limit }) bytes old new) (sym e) (log, last, simulated steps origin inputs held name log last bytes is trace fed found, front)
+    subst (SimOutcome (record { held = held; feed = name; connects = origin.connects; steps = steps; events = origin.limit }) bytes old new) (sym e) (log, last, simulated steps origin inputs held name log last bytes is trace fed found, front)
 log-written steps origin inputs log last old new status is trace (inr (inr e, front)) held name fed bytes found =
-    subst (SimOutcome (record { held = held; feed = name; steps = steps; events = origin.limit }) bytes old new) (sym e) (inr (log, last, simulated steps origin inputs held name log last bytes is trace fed found, front))
+    subst (SimOutcome (record { held = held; feed = name; connects = origin.connects; steps = steps; events = origin.limit }) bytes old new) (sym e) (inr (log, last, simulated steps origin inputs held name log last bytes is trace fed found, front))
 
 -- a feed that isn't read ends the work on a program
 pub unread : (run : Run) (bytes : List ℕ) (program : Program) (told : Option (List ℕ)) (status : Status) → IsUnread run.held run.feed status → IsFound bytes (Program' program) → SimOutcome run bytes told told status
@@ -76,7 +76,7 @@ file-read held command old new bytes (Script (script.Roots count)) is o = (bytes
 file-read held command old new bytes (Script (script.NotBuilt token)) is o = (bytes, is, o)
 file-read held command old new bytes (Script script.NoMemory) is o = (bytes, is, o)
 file-read held (Check name) old new bytes (Script (script.TooLong len)) is o = absurd o.0
-file-read held (Simulate name feed steps events) old new bytes (Script (script.TooLong len)) is o = absurd o.0
+file-read held (Simulate name feed connects steps events) old new bytes (Script (script.TooLong len)) is o = absurd o.0
 file-read held command old new bytes (Feed fault) is o = (bytes, is, o)
 file-read held command old new bytes (Outside edge.Out) is o = (bytes, is, o)
 file-read held command old new bytes (Outside edge.File) is o = inr (bytes, is, o)
@@ -105,13 +105,13 @@ not-refused bytes program (script.Expand (expand.Recursion names)) found h = let
 not-refused bytes program (script.Expand (expand.TooLarge name)) found h = let same : Large name ≡ Program' program = found.only (Large name) h.holds in cc
 not-refused bytes program (script.Expand expand.NoMemory) found h = h
 not-refused bytes program (script.Roots count) found h = let same : ManyRoots count ≡ Program' program = found.only (ManyRoots count) h.holds in cc
-not-refused bytes program (script.NotBuilt token) found h = let same : Unbuilt token ≡ Program' program = found.only (Unbuilt token) h.holds in cc
+not-refused bytes program (script.NotBuilt token) found h = h
 not-refused bytes program script.NoMemory found h = h
 not-refused bytes program (script.TooLong len) found h = h
 
 not-script : (held : List ℕ → Option (List ℕ)) (command : Command) (bytes : List ℕ) (program : Program) (old new : Option (List ℕ)) (fault : ScriptFault) → IsFound bytes (Program' program) → WorkOutcome held command bytes old new (Script fault) → ⊥
 not-script held (Check name) bytes program old new fault found o = not-refused bytes program fault found o.0
-not-script held (Simulate name feed steps events) bytes program old new fault found o = not-refused bytes program fault found o.0
+not-script held (Simulate name feed connects steps events) bytes program old new fault found o = not-refused bytes program fault found o.0
 
 -- the work on bytes that have a program comes to the feed
 pub work-asks : (held : List ℕ → Option (List ℕ)) (command : Command) (bytes : List ℕ) (program : Program) (told more : Option (List ℕ)) (old new : List (List ℕ)) (status : Status) → IsFound bytes (Program' program) →

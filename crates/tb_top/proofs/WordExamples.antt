@@ -1,5 +1,5 @@
 -- What some words ask for, and the faults of others, worked out by hand: each rule once at least.
-use Rattle.std.proofs.Common.{◌≡◌, [], ◌∷◌, Some, None, Ok, Err, codes, refl}
+use Rattle.std.proofs.Common.{◌≡◌, ℕ, zero, suc, List, [], ◌∷◌, replicate, Some, None, Ok, Err, codes, refl}
 use Rattle.tb_top.specs.declared.words.Command.TheVariants.{Check, Sim}
 use Rattle.tb_top.specs.declared.words.WordFault.TheVariants.{NoCommand, Unknown, Missing, Extra, Number, Range, NotBuilt}
 use Rattle.tb_top.specs.Words.{asked}
@@ -13,15 +13,15 @@ check_asked : asked (codes "check" ∷ codes "a.tb" ∷ []) ≡ Ok (Check (codes
 check_asked = refl
 
 -- sim a.tb
-sim_asked : asked (codes "sim" ∷ codes "a.tb" ∷ []) ≡ Ok (Sim (codes "a.tb") None 1000000 1000000)
+sim_asked : asked (codes "sim" ∷ codes "a.tb" ∷ []) ≡ Ok (Sim (codes "a.tb") None [] 1000000 1000000)
 sim_asked = refl
 
 -- sim --steps 5 a.tb
-steps_first : asked (codes "sim" ∷ codes "--steps" ∷ codes "5" ∷ codes "a.tb" ∷ []) ≡ Ok (Sim (codes "a.tb") None 5 1000000)
+steps_first : asked (codes "sim" ∷ codes "--steps" ∷ codes "5" ∷ codes "a.tb" ∷ []) ≡ Ok (Sim (codes "a.tb") None [] 5 1000000)
 steps_first = refl
 
 -- sim a.tb --steps 007
-steps_last : asked (codes "sim" ∷ codes "a.tb" ∷ codes "--steps" ∷ codes "007" ∷ []) ≡ Ok (Sim (codes "a.tb") None 7 1000000)
+steps_last : asked (codes "sim" ∷ codes "a.tb" ∷ codes "--steps" ∷ codes "007" ∷ []) ≡ Ok (Sim (codes "a.tb") None [] 7 1000000)
 steps_last = refl
 
 -- an empty word is a script's name
@@ -60,24 +60,22 @@ no_string = refl
 check_steps : asked (codes "check" ∷ codes "--steps" ∷ codes "5" ∷ codes "a.tb" ∷ []) ≡ Err (Unknown 2)
 check_steps = refl
 
--- options that `sim` hasn't, and those that aren't built
+-- an option that isn't built
 sim_ticks : asked (codes "sim" ∷ codes "a.tb" ∷ codes "--ticks" ∷ codes "5" ∷ []) ≡ Err (NotBuilt 3)
 sim_ticks = refl
 
-sim_connect : asked (codes "sim" ∷ codes "--connect" ∷ codes "c" ∷ []) ≡ Err (NotBuilt 2)
-sim_connect = refl
 
 sim_events : asked (codes "sim" ∷ codes "--events" ∷ codes "c" ∷ []) ≡ Err (Number 3)
 sim_events = refl
 
-both_limits : asked (codes "sim" ∷ codes "--events" ∷ codes "6" ∷ codes "a.tb" ∷ codes "--steps" ∷ codes "5" ∷ []) ≡ Ok (Sim (codes "a.tb") None 5 6)
+both_limits : asked (codes "sim" ∷ codes "--events" ∷ codes "6" ∷ codes "a.tb" ∷ codes "--steps" ∷ codes "5" ∷ []) ≡ Ok (Sim (codes "a.tb") None [] 5 6)
 both_limits = refl
 
 check_events : asked (codes "check" ∷ codes "a.tb" ∷ codes "--events" ∷ codes "6" ∷ []) ≡ Err (Unknown 3)
 check_events = refl
 
 -- the feed's name, once, and whatever word comes next, unless it is no string
-fed_asked : asked (codes "sim" ∷ codes "--feed" ∷ codes "--steps" ∷ codes "a.tb" ∷ []) ≡ Ok (Sim (codes "a.tb") (Some (codes "--steps")) 1000000 1000000)
+fed_asked : asked (codes "sim" ∷ codes "--feed" ∷ codes "--steps" ∷ codes "a.tb" ∷ []) ≡ Ok (Sim (codes "a.tb") (Some (codes "--steps")) [] 1000000 1000000)
 fed_asked = refl
 
 feed_bare : asked (codes "sim" ∷ codes "a.tb" ∷ codes "--feed" ∷ []) ≡ Err Missing
@@ -91,6 +89,34 @@ feed_odd = refl
 
 check_feed : asked (codes "check" ∷ codes "a.tb" ∷ codes "--feed" ∷ codes "f" ∷ []) ≡ Err (Unknown 3)
 check_feed = refl
+
+-- commands to connect, in order, each whatever word comes next, unless it is no string
+two_connected : asked (codes "sim" ∷ codes "--connect" ∷ codes "k" ∷ codes "a.tb" ∷ codes "--connect" ∷ codes "--feed" ∷ []) ≡ Ok (Sim (codes "a.tb") None (codes "k" ∷ codes "--feed" ∷ []) 1000000 1000000)
+two_connected = refl
+
+connect_as_value : asked (codes "sim" ∷ codes "--feed" ∷ codes "--connect" ∷ codes "k" ∷ []) ≡ Ok (Sim (codes "k") (Some (codes "--connect")) [] 1000000 1000000)
+connect_as_value = refl
+
+connect_bare : asked (codes "sim" ∷ codes "a.tb" ∷ codes "--connect" ∷ []) ≡ Err Missing
+connect_bare = refl
+
+connect_odd : asked (codes "sim" ∷ codes "--connect" ∷ (11 ∷ []) ∷ []) ≡ Err (Unknown 3)
+connect_odd = refl
+
+check_connect : asked (codes "check" ∷ codes "--connect" ∷ codes "k" ∷ []) ≡ Err (Unknown 2)
+check_connect = refl
+
+-- so many times this option with a value
+abbrev connecting : ℕ → List (List ℕ) → List (List ℕ)
+connecting zero words = words
+connecting (suc n) words = codes "--connect" ∷ codes "k" ∷ connecting n words
+
+-- one past the most, told at the option before its value
+most_connected : asked (codes "sim" ∷ codes "a.tb" ∷ connecting 16 []) ≡ Ok (Sim (codes "a.tb") None (replicate 16 (codes "k")) 1000000 1000000)
+most_connected = refl
+
+one_more_connected : asked (codes "sim" ∷ codes "a.tb" ∷ connecting 16 (codes "--connect" ∷ (11 ∷ []) ∷ [])) ≡ Err (Range 35)
+one_more_connected = refl
 
 -- an option that was given before, whether or not it has a value
 steps_twice : asked (codes "sim" ∷ codes "--steps" ∷ codes "5" ∷ codes "--steps" ∷ []) ≡ Err (Extra 4)
@@ -117,7 +143,7 @@ late_letter = refl
 no_steps : asked (codes "sim" ∷ codes "a.tb" ∷ codes "--steps" ∷ codes "0" ∷ []) ≡ Err (Range 4)
 no_steps = refl
 
-most_asked : asked (codes "sim" ∷ codes "a.tb" ∷ codes "--steps" ∷ codes "4000000" ∷ []) ≡ Ok (Sim (codes "a.tb") None 4000000 1000000)
+most_asked : asked (codes "sim" ∷ codes "a.tb" ∷ codes "--steps" ∷ codes "4000000" ∷ []) ≡ Ok (Sim (codes "a.tb") None [] 4000000 1000000)
 most_asked = refl
 
 past_most : asked (codes "sim" ∷ codes "a.tb" ∷ codes "--steps" ∷ codes "4000001" ∷ []) ≡ Err (Range 4)

@@ -6,7 +6,7 @@ use Rattle.tb_top.specs.declared.words.WordFault.{WordFault}
 use Rattle.tb_top.specs.declared.words.WordFault.TheVariants as fault
 use Rattle.tb_top.specs.declared.words.verb.Verb.{Verb}
 use Rattle.tb_top.specs.declared.words.verb.Verb.TheVariants as verb
-use Rattle.tb_top.specs.Words.{Found, Part, AnOption, AWord, name_in, script_by, feed_by, most_limit, limit_in, limit_by, and_script, and_feed, and_steps, and_events, is_unbuilt, own_option_by, option_by, part_by, read_next, read_parts}
+use Rattle.tb_top.specs.Words.{Found, Part, AnOption, AWord, name_in, script_by, feed_by, most_connects, connect_in, connect_by, is_connect, most_limit, limit_in, limit_by, and_script, and_feed, and_connects, and_steps, and_events, is_unbuilt, own_option_by, option_by, part_by, read_next, read_parts}
 
 abbrev IsTold : {X : Type 0} → Result X WordFault → Type 0
 IsTold answer = answer ≢ Err fault.NoMemory
@@ -27,6 +27,13 @@ feed-told (Some feed) place value = λ e. cc
 feed-told None place None = λ e. cc
 feed-told None place (Some value) = name-told (place + 1) value
 
+connect-told : (count place : ℕ) (value : Option (List ℕ)) → IsTold (connect_in count place value)
+connect-told count place None = λ e. cc
+connect-told count place (Some value) = in-choice (is_text value) (Ok (count + 1)) (Err (fault.Unknown (place + 1))) (λ e. cc) (λ e. cc)
+
+connects-told : (count place : ℕ) (value : Option (List ℕ)) → IsTold (connect_by count place value)
+connects-told count place value = in-choice (nat_le most_connects count) (Err (fault.Range place)) (connect_in count place value) (λ e. cc) (connect-told count place value)
+
 number-told : (place : ℕ) (word : List ℕ) → IsTold (limit_in place word)
 number-told place word =
     in-choice (is_digits word) (if nat_le 1 (digits_value word) && nat_le (digits_value word) most_limit then Ok (digits_value word) else Err (fault.Range place)) (Err (fault.Number place))
@@ -46,6 +53,10 @@ and_feed-told : (found : Found) (feed : Result (List ℕ) WordFault) → IsTold 
 and_feed-told found (Ok feed) told e = cc
 and_feed-told found (Err f) told e = let same : f ≡ fault.NoMemory = cc in told (ap Err same)
 
+and_connects-told : (found : Found) (connects : Result ℕ WordFault) → IsTold connects → IsTold (and_connects found connects)
+and_connects-told found (Ok connects) told e = cc
+and_connects-told found (Err f) told e = let same : f ≡ fault.NoMemory = cc in told (ap Err same)
+
 and_steps-told : (found : Found) (steps : Result ℕ WordFault) → IsTold steps → IsTold (and_steps found steps)
 and_steps-told found (Ok steps) told e = cc
 and_steps-told found (Err f) told e = let same : f ≡ fault.NoMemory = cc in told (ap Err same)
@@ -59,11 +70,14 @@ own_option-told verb.Check found place name value = λ e. cc
 own_option-told verb.Sim found place name value =
     let events = and_events found (limit_by found.events place value) in
     let feed = and_feed found (feed_by found.feed place value) in
-    let last = if bytes_eq name (codes "--feed") then feed else Err (fault.Unknown place) in
-    in-choice (bytes_eq name (codes "--steps")) (and_steps found (limit_by found.steps place value)) (if bytes_eq name (codes "--events") then events else last)
+    let connects = and_connects found (connect_by found.connects place value) in
+    let last = if is_connect name then connects else Err (fault.Unknown place) in
+    let behind = if bytes_eq name (codes "--feed") then feed else last in
+    in-choice (bytes_eq name (codes "--steps")) (and_steps found (limit_by found.steps place value)) (if bytes_eq name (codes "--events") then events else behind)
     (and_steps-told found (limit_by found.steps place value) (steps-told found.steps place value))
-    (in-choice (bytes_eq name (codes "--events")) events last (and_events-told found (limit_by found.events place value) (steps-told found.events place value))
-    (in-choice (bytes_eq name (codes "--feed")) feed (Err (fault.Unknown place)) (and_feed-told found (feed_by found.feed place value) (feed-told found.feed place value)) (λ e. cc)))
+    (in-choice (bytes_eq name (codes "--events")) events behind (and_events-told found (limit_by found.events place value) (steps-told found.events place value))
+    (in-choice (bytes_eq name (codes "--feed")) feed last (and_feed-told found (feed_by found.feed place value) (feed-told found.feed place value))
+    (in-choice (is_connect name) connects (Err (fault.Unknown place)) (and_connects-told found (connect_by found.connects place value) (connects-told found.connects place value)) (λ e. cc))))
 
 option-told : (v : Verb) (found : Found) (place : ℕ) (name : List ℕ) (value : Option (List ℕ)) → IsTold (option_by v found place name value)
 option-told v found place name value =

@@ -1,5 +1,5 @@
 -- What words ask for is within limits.
-use Rattle.std.proofs.Common.{◌≡◌, ◌≤◌, ◌+◌, ◌&&◌, ℕ, Bool, true, false, if◌then◌else◌, List, [], ◌∷◌, Option, Some, None, IfSome, Result, Ok, Err, refl, subst, drop, unwrap_or, bytes_eq, nat_le, codes, lit≤}
+use Rattle.std.proofs.Common.{◌≡◌, ◌≤◌, ◌+◌, ◌&&◌, ℕ, Bool, true, false, if◌then◌else◌, List, [], ◌∷◌, Option, Some, None, IfSome, length, arith, Result, Ok, Err, refl, subst, drop, unwrap_or, bytes_eq, nat_le, codes, lit≤}
 use Rattle.std.specs.Bool.{⊤}
 use Rattle.std.proofs.lemmas.Bool.{and_parts, leb-true}
 use Rattle.tb_read.specs.Spelling.{is_digits, digits_value}
@@ -9,8 +9,9 @@ use Rattle.tb_top.specs.declared.words.WordFault.{WordFault}
 use Rattle.tb_top.specs.declared.words.WordFault.TheVariants as fault
 use Rattle.tb_top.specs.declared.words.verb.Verb.{Verb}
 use Rattle.tb_top.specs.declared.words.verb.Verb.TheVariants as verb
-use Rattle.tb_top.specs.Words.{Found, Part, AnOption, AWord, and_events, and_feed, and_script, and_steps, asked, asked_by, command_by, command_with, feed_by, is_unbuilt, limit_by, limit_in, most_limit, nothing, option_by, own_option_by, part_by, parts_from, read_next, read_parts, script_by, usual_limit, verb_by}
+use Rattle.tb_top.specs.Words.{Found, Part, AnOption, AWord, and_connects, and_events, and_feed, and_script, and_steps, asked, asked_by, command_by, command_with, connect_by, connects_of, feed_by, is_connect, is_unbuilt, limit_by, limit_in, most_connects, most_limit, nothing, option_by, own_option_by, part_by, parts_ask, parts_from, read_next, read_parts, script_by, usual_limit, verb_by}
 use Rattle.tb_top.specs.Requests.{IsWithin}
+use Rattle.tb_top.proofs.WordConnects.{parts-connect}
 
 abbrev IsFew : Found → Type 0
 IsFew found = IfSome found.events (λ events. events ≤ most_limit)
@@ -44,6 +45,10 @@ feed-few : (found after : Found) (r : Result (List ℕ) WordFault) → IsFew fou
 feed-few found after (Ok feed) few e = ok-is IsFew (record found { feed = Some feed }) after e few
 feed-few found after (Err f) few e = cc
 
+connects-few : (found after : Found) (r : Result ℕ WordFault) → IsFew found → and_connects found r ≡ Ok after → IsFew after
+connects-few found after (Ok connects) few e = ok-is IsFew (record found { connects = connects }) after e few
+connects-few found after (Err f) few e = cc
+
 steps-few : (found after : Found) (r : Result ℕ WordFault) → IsFew found → and_steps found r ≡ Ok after → IsFew after
 steps-few found after (Ok steps) few e = ok-is IsFew (record found { steps = Some steps }) after e few
 steps-few found after (Err f) few e = cc
@@ -52,16 +57,17 @@ events-few : (found after : Found) (r : Result ℕ WordFault) → ((limit : ℕ)
 events-few found after (Ok events) h e = ok-is IsFew (record found { events = Some events }) after e (h events refl)
 events-few found after (Err f) h e = cc
 
-named-few : (found after : Found) (place : ℕ) (value : Option (List ℕ)) (steps events feed : Bool) → IsFew found →
-    ◌≡◌ {A = Result Found WordFault} (if steps then and_steps found (limit_by found.steps place value) else (if events then and_events found (limit_by found.events place value) else (if feed then and_feed found (feed_by found.feed place value) else Err (fault.Unknown place)))) (Ok after) → IsFew after
-named-few found after place value true events feed few e = steps-few found after (limit_by found.steps place value) few e
-named-few found after place value false true feed few e = events-few found after (limit_by found.events place value) (limit-few found.events place value) e
-named-few found after place value false false true few e = feed-few found after (feed_by found.feed place value) few e
-named-few found after place value false false false few e = cc
+named-few : (found after : Found) (place : ℕ) (value : Option (List ℕ)) (steps events feed connect : Bool) → IsFew found →
+    ◌≡◌ {A = Result Found WordFault} (if steps then and_steps found (limit_by found.steps place value) else (if events then and_events found (limit_by found.events place value) else (if feed then and_feed found (feed_by found.feed place value) else (if connect then and_connects found (connect_by found.connects place value) else Err (fault.Unknown place))))) (Ok after) → IsFew after
+named-few found after place value true events feed connect few e = steps-few found after (limit_by found.steps place value) few e
+named-few found after place value false true feed connect few e = events-few found after (limit_by found.events place value) (limit-few found.events place value) e
+named-few found after place value false false true connect few e = feed-few found after (feed_by found.feed place value) few e
+named-few found after place value false false false true few e = connects-few found after (connect_by found.connects place value) few e
+named-few found after place value false false false false few e = cc
 
 own-few : (v : Verb) (found after : Found) (place : ℕ) (name : List ℕ) (value : Option (List ℕ)) → IsFew found → own_option_by v found place name value ≡ Ok after → IsFew after
 own-few verb.Check found after place name value few e = cc
-own-few verb.Sim found after place name value few e = named-few found after place value (bytes_eq name (codes "--steps")) (bytes_eq name (codes "--events")) (bytes_eq name (codes "--feed")) few e
+own-few verb.Sim found after place name value few e = named-few found after place value (bytes_eq name (codes "--steps")) (bytes_eq name (codes "--events")) (bytes_eq name (codes "--feed")) (is_connect name) few e
 
 option-few : (v : Verb) (found after : Found) (place : ℕ) (name : List ℕ) (value : Option (List ℕ)) (unbuilt : Bool) → IsFew found →
     ◌≡◌ {A = Result Found WordFault} (if unbuilt then Err (fault.NotBuilt place) else own_option_by v found place name value) (Ok after) → IsFew after
@@ -89,20 +95,30 @@ events-or : (events : Option ℕ) → IfSome events (λ n. n ≤ most_limit) →
 events-or None few = lit≤ tt
 events-or (Some events) few = few
 
-with-few : (v : Verb) (script feed : Option (List ℕ)) (steps events : Option ℕ) (command : Command) → IfSome events (λ n. n ≤ most_limit) → command_with v script feed steps events ≡ Ok command → IsWithin command
-with-few v None feed steps events command few e = cc
-with-few verb.Check (Some script) feed steps events command few e = ok-is IsWithin (Check script) command e tt
-with-few verb.Sim (Some script) feed steps events command few e = ok-is IsWithin (Sim script feed (unwrap_or steps usual_limit) (unwrap_or events usual_limit)) command e (events-or events few)
+with-few : (v : Verb) (script feed : Option (List ℕ)) (connects : List (List ℕ)) (steps events : Option ℕ) (command : Command) → length connects ≤ most_connects → IfSome events (λ n. n ≤ most_limit) →
+    command_with v script feed connects steps events ≡ Ok command → IsWithin command
+with-few v None feed connects steps events command most few e = cc
+with-few verb.Check (Some script) feed connects steps events command most few e = ok-is IsWithin (Check script) command e tt
+with-few verb.Sim (Some script) feed connects steps events command most few e =
+    ok-is IsWithin (Sim script feed connects (unwrap_or steps usual_limit) (unwrap_or events usual_limit)) command e (most, events-or events few)
 
-by-few : (v : Verb) (found : Result Found WordFault) (command : Command) → AreFew found → command_by v found ≡ Ok command → IsWithin command
-by-few v (Ok found) command few e = with-few v found.script found.feed found.steps found.events command (few found refl) e
-by-few v (Err f) command few e = cc
+by-few : (v : Verb) (connects : List (List ℕ)) (found : Result Found WordFault) (command : Command) → ((after : Found) → found ≡ Ok after → length connects ≤ most_connects) → AreFew found → command_by v connects found ≡ Ok command → IsWithin command
+by-few v connects (Ok found) command most few e = with-few v found.script found.feed connects found.steps found.events command (most found refl) (few found refl) e
+by-few v connects (Err f) command most few e = cc
 
 nothing-few : AreFew (Ok nothing)
 nothing-few after e = ok-is IsFew nothing after e tt
 
+-- as many were counted, and no more than may be
+connects-most : (v : Verb) (parts : List Part) (after : Found) → read_parts v (Ok nothing) parts ≡ Ok after → length (connects_of parts) ≤ most_connects
+connects-most v parts after e =
+    let h = parts-connect v nothing after parts e in
+    omega (arith, h.count, h.few (lit≤ tt))
+
 asked-by-few : (v : Result Verb WordFault) (words : List (List ℕ)) (command : Command) → asked_by v words ≡ Ok command → IsWithin command
-asked-by-few (Ok v) words command e = by-few v (read_parts v (Ok nothing) (parts_from 2 words)) command (parts-few v (Ok nothing) (parts_from 2 words) nothing-few) e
+asked-by-few (Ok v) words command e =
+    let parts = parts_from 2 words in
+    by-few v (connects_of parts) (read_parts v (Ok nothing) parts) command (connects-most v parts) (parts-few v (Ok nothing) parts nothing-few) e
 asked-by-few (Err f) words command e = cc
 
 pub asked-within : (words : List (List ℕ)) (command : Command) → asked words ≡ Ok command → IsWithin command

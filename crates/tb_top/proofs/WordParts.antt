@@ -44,7 +44,7 @@ parts-front place word (next ∷ words) = by (is_option word) where
   by false = refl
 
 -- the part that begins at a word, and those behind it
-parts-at : (place : ℕ) (words : List (List ℕ)) (i : ℕ) (word : List ℕ) → i < length words → word ≡ get_or words i [] → parts_from place (drop i words) ≡ part_of place word (slice_get words (i + 1)) ∷ parts_from (place + part_len word) (drop (i + part_len word) words)
+pub parts-at : (place : ℕ) (words : List (List ℕ)) (i : ℕ) (word : List ℕ) → i < length words → word ≡ get_or words i [] → parts_from place (drop i words) ≡ part_of place word (slice_get words (i + 1)) ∷ parts_from (place + part_len word) (drop (i + part_len word) words)
 parts-at place words i word within is =
     let front : drop i words ≡ word ∷ drop (i + 1) words = drop_more words i [] within ∙ ap (λ (w : List ℕ). w ∷ drop (i + 1) words) (sym is) in
     let rest : drop (part_len word) (word ∷ drop (i + 1) words) ≡ drop (i + part_len word) words = ap (drop (part_len word)) (sym front) ∙ drop-drop (part_len word) i words in

@@ -14,7 +14,7 @@ use Rattle.tb_sim.specs.declared.ends.SimEnd.TheVariants as sim
 use Rattle.tb_expand.specs.declared.fault.ExpandFault.TheVariants as expand
 use Rattle.tb_script.specs.declared.fault.ScriptFault.{ScriptFault}
 use Rattle.tb_script.specs.declared.fault.ScriptFault.TheVariants as script
-use Rattle.tb_script.specs.Findings.{IsFound, NoTokens, NoScript, Improper, Recursive, Large, ManyRoots, Unbuilt, Program'}
+use Rattle.tb_script.specs.Findings.{IsFound, NoTokens, NoScript, Improper, Recursive, Large, ManyRoots, Program'}
 use Rattle.tb_feed.specs.Feeds.{IsFeedOf, IsFirstBad}
 use Rattle.tb_feed.specs.declared.fault.FeedFault.{FeedFault}
 use Rattle.tb_feed.specs.declared.fault.FeedFault.TheVariants as feed_fault
@@ -46,9 +46,8 @@ IsRefused bytes (script.Expand (expand.Recursion names)) = IsFound bytes (Recurs
 IsRefused bytes (script.Expand (expand.TooLarge name)) = IsFound bytes (Large name)
 -- there are too many roots
 IsRefused bytes (script.Roots count) = IsFound bytes (ManyRoots count)
--- it has a form that isn't built
-IsRefused bytes (script.NotBuilt token) = IsFound bytes (Unbuilt token)
--- want of memory is no fault of the script, and its length is a matter of the file
+-- each form is built, want of memory is no fault of the script, and its length is a matter of the file
+IsRefused bytes (script.NotBuilt token) = ⊥
 IsRefused bytes (script.Expand expand.NoMemory) = ⊥
 IsRefused bytes script.NoMemory = ⊥
 IsRefused bytes (script.TooLong len) = ⊥
@@ -65,10 +64,11 @@ IsLoaded told bytes = IfSome told (λ held. bytes ≡ held) × (length bytes ≤
 abbrev pub IsTooLong : Option (List ℕ) → ℕ → Type 0
 IsTooLong told len = (most_bytes < len) × IfSome told (λ held. len ≡ length held)
 
--- How a script is simulated: what the files hold, where they tell it, by names; the name of the feed's file, where there is one; and how many steps and entries there may be.
+-- How a script is simulated: what the files hold, where they tell it, by names; the name of the feed's file, where there is one; the commands that are connected; and how many steps and entries there may be.
 pub record Run : Type 0 where
   pub held : List ℕ → Option (List ℕ)
   pub feed : Option (List ℕ)
+  pub connects : List (List ℕ)
   pub steps : ℕ
   pub events : ℕ
 
@@ -87,14 +87,14 @@ IsFeedRefused held (Some name) (feed_fault.TooLong len) = IsTooLong (held name) 
 -- want of memory is no fault of the feed
 IsFeedRefused held (Some name) feed_fault.NoMemory = ⊥
 
--- The bytes have this program, and nothing else is found of them; these inputs are fed; and this log is that of its simulation with at most so many steps and entries, which ends so. It is a trace of the program.
+-- The bytes have this program, and nothing else is found of them; these inputs are fed; and this log is that of its simulation with these commands connected and at most so many steps and entries, which ends so. It is a trace of the program.
 pub record IsSimOf (run : Run) (bytes : List ℕ) (log : List Entry) (last : SimEnd) : Type 0 where
   pub program : Program
   pub found : IsFound bytes (Program' program)
   pub inputs : List Input
   pub fed : IsFed run.held run.feed inputs
-  pub simulated : IsSim (limits_of run.steps (origin_of program run.events)) (sim_start (start (origin_of program run.events)) inputs) log last
-  pub trace : IsTrace (start (origin_of program run.events)) log
+  pub simulated : IsSim (limits_of run.steps (origin_of program run.connects run.events)) (sim_start (start (origin_of program run.connects run.events)) inputs) log last
+  pub trace : IsTrace (start (origin_of program run.connects run.events)) log
 
 -- the whole text of the log of the simulation was put, which ends so
 abbrev pub PutsLog : Run → List ℕ → Option (List ℕ) → Option (List ℕ) → SimEnd → Type 0
@@ -131,7 +131,7 @@ ok_line = codes "ok\n"
 
 -- How the check of a script's bytes may end, and what was put to the sink of the log.
 abbrev pub CheckOutcome : List ℕ → Option (List ℕ) → Option (List ℕ) → Status → Type 0
--- the script is accepted, and all of it is built
+-- the script is accepted
 CheckOutcome bytes old new Ended = HasSomeProgram bytes × Takes old new ok_line
 -- it was refused
 CheckOutcome bytes old new (Script fault) = IsRefused bytes fault × (new ≡ old)
@@ -149,12 +149,12 @@ CheckOutcome bytes old new (Outside edge.Err) = ⊥
 -- How the work on a script's bytes may end, where the files tell perhaps what names hold.
 abbrev pub WorkOutcome : (List ℕ → Option (List ℕ)) → Command → List ℕ → Option (List ℕ) → Option (List ℕ) → Status → Type 0
 WorkOutcome held (Check name) bytes old new status = CheckOutcome bytes old new status
-WorkOutcome held (Sim name feed steps events) bytes old new status = SimOutcome (record { held = held; feed = feed; steps = steps; events = events }) bytes old new status
+WorkOutcome held (Sim name feed connects steps events) bytes old new status = SimOutcome (record { held = held; feed = feed; connects = connects; steps = steps; events = events }) bytes old new status
 
 -- the name of a command's script
 abbrev pub script_of : Command → List ℕ
 script_of (Check name) = name
-script_of (Sim name feed steps events) = name
+script_of (Sim name feed connects steps events) = name
 
 -- the work was done on bytes that were loaded
 abbrev pub LoadedOutcome : (List ℕ → Option (List ℕ)) → Command → Option (List ℕ) → Option (List ℕ) → Status → Type 0
@@ -191,7 +191,7 @@ IsCaused files_old files_new out_old out_new NoMemory = Unit {0}
 -- the name of a command's feed, where it has one
 abbrev pub feed_of : Command → Option (List ℕ)
 feed_of (Check name) = None
-feed_of (Sim name feed steps events) = feed
+feed_of (Sim name feed connects steps events) = feed
 
 -- the script's name was asked for, and nothing else
 abbrev pub AsksScript : Command → List (List ℕ) → List (List ℕ) → Type 0

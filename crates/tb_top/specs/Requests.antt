@@ -1,5 +1,5 @@
 -- What the parts of the top call say to each other.
-use Rattle.std.specs.Prelude.{◌≡◌, ◌≢◌, ◌⊎◌, ℕ, List, ◌++◌, Option, IsSome, option_to_list, Result, Ok, Err, ◌≤◌, ⊤}
+use Rattle.std.specs.Prelude.{◌≡◌, ◌≢◌, ◌⊎◌, ℕ, List, ◌++◌, length, Option, IsSome, option_to_list, Result, Ok, Err, ◌≤◌, ⊤}
 use Rattle.tb_edge.specs.Sinks.{Takes, TakesFront}
 use Rattle.tb_body.specs.declared.program.Program.{Program}
 use Rattle.tb_bus.specs.declared.origin.Origin.{Origin}
@@ -12,7 +12,7 @@ use Rattle.tb_script.specs.Findings.{IsFound, Program'}
 use Rattle.tb_top.specs.declared.status.Bound.TheVariants as bound
 use Rattle.tb_top.specs.Lines.{status_line}
 use Rattle.tb_top.specs.Outcomes.{HasSomeProgram, Run, IsFed, IsFeedRefused, SimOutcome, WorkOutcome, feed_of}
-use Rattle.tb_top.specs.Words.{most_limit}
+use Rattle.tb_top.specs.Words.{most_connects, most_limit}
 use Rattle.tb_top.specs.declared.words.Command.{Command}
 use Rattle.tb_top.specs.declared.words.Command.TheVariants.{Check, Sim}
 use Rattle.tb_top.specs.declared.status.Status.{Status}
@@ -31,10 +31,10 @@ Reports given old new (Words fault) = (given ≡ Words fault) × Takes old new (
 Reports given old new (Limit bound) = (given ≡ Limit bound) × Takes old new (status_line given)
 Reports given old new NoMemory = (given ≡ NoMemory) × Takes old new (status_line given)
 
--- a simulation that was asked for logs so many entries as a core takes
+-- a simulation that was asked for connects no more commands and logs no more entries than a core may
 abbrev pub IsWithin : Command → Type 0
 IsWithin (Check script) = ⊤
-IsWithin (Sim script feed steps events) = events ≤ most_limit
+IsWithin (Sim script feed connects steps events) = (length connects ≤ most_connects) × (events ≤ most_limit)
 
 -- whatever bytes the program is that of, the outcome is that of the work on them
 abbrev pub ProgramOutcome : (List ℕ → Option (List ℕ)) → Command → Program → Option (List ℕ) → Option (List ℕ) → Status → Type 0
@@ -47,7 +47,7 @@ RunOutcome run program old new status = (bytes : List ℕ) → IsFound bytes (Pr
 -- whatever file says these inputs, and whatever bytes the program is that of, the outcome is that of their simulation with so many steps
 abbrev pub OriginOutcome : ℕ → Origin → List Input → Option (List ℕ) → Option (List ℕ) → Status → Type 0
 OriginOutcome steps origin inputs old new status =
-    (held : List ℕ → Option (List ℕ)) (name : Option (List ℕ)) → IsFed held name inputs → RunOutcome (record { held = held; feed = name; steps = steps; events = origin.limit }) origin.program old new status
+    (held : List ℕ → Option (List ℕ)) (name : Option (List ℕ)) → IsFed held name inputs → RunOutcome (record { held = held; feed = name; connects = origin.connects; steps = steps; events = origin.limit }) origin.program old new status
 
 -- Which status a feed gives that isn't read.
 abbrev pub IsUnread : (List ℕ → Option (List ℕ)) → Option (List ℕ) → Status → Type 0

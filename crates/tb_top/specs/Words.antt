@@ -1,6 +1,6 @@
 -- What the words of the command line ask for, or which fault they have. Words are read from the left, and the first fault ends the reading; their places count from 1.
 use Rattle.std.specs.Prelude.{ℕ, ◌+◌, Bool, ◌&&◌, ◌||◌, if◌then◌else◌, List, [], ◌∷◌, Option, Some, None, Result, Ok, Err, unwrap_or, fold, drop, codes, bytes_eq, nat_eq, nat_le}
-use Rattle.std.specs.List.{starts_with}
+use Rattle.std.specs.List.{starts_with, flat_map}
 use Rattle.tb_terms.specs.Names.{is_text}
 use Rattle.tb_read.specs.Spelling.{is_digits, digits_value}
 use Rattle.tb_top.specs.declared.words.Command.{Command}
@@ -34,6 +34,8 @@ parts_from place (word ∷ next ∷ words) =
 pub record Found : Type 0 where
   pub script : Option (List ℕ)
   pub feed : Option (List ℕ)
+  -- how many commands to connect
+  pub connects : ℕ
   pub steps : Option ℕ
   pub events : Option ℕ
 
@@ -51,6 +53,19 @@ abbrev pub feed_by : Option (List ℕ) → ℕ → Option (List ℕ) → Result 
 feed_by (Some feed) place value = Err (fault.Extra place)
 feed_by None place None = Err fault.Missing
 feed_by None place (Some value) = name_in (place + 1) value
+
+-- so many commands may be connected
+abbrev pub most_connects : ℕ
+most_connects = 16
+
+-- one more command to connect, which is a string
+abbrev pub connect_in : ℕ → ℕ → Option (List ℕ) → Result ℕ WordFault
+connect_in count place None = Err fault.Missing
+connect_in count place (Some value) = if is_text value then Ok (count + 1) else Err (fault.Unknown (place + 1))
+
+-- `--connect` at this place behind so many, with a value. One past the most is told before its value is looked at.
+abbrev pub connect_by : ℕ → ℕ → Option (List ℕ) → Result ℕ WordFault
+connect_by count place value = if nat_le most_connects count then Err (fault.Range place) else connect_in count place value
 
 abbrev pub most_limit : ℕ
 most_limit = 4000000
@@ -76,6 +91,10 @@ abbrev pub and_feed : Found → Result (List ℕ) WordFault → Result Found Wor
 and_feed found (Ok feed) = Ok (record found { feed = Some feed })
 and_feed found (Err f) = Err f
 
+abbrev pub and_connects : Found → Result ℕ WordFault → Result Found WordFault
+and_connects found (Ok connects) = Ok (record found { connects = connects })
+and_connects found (Err f) = Err f
+
 abbrev pub and_steps : Found → Result ℕ WordFault → Result Found WordFault
 and_steps found (Ok steps) = Ok (record found { steps = Some steps })
 and_steps found (Err f) = Err f
@@ -84,18 +103,22 @@ abbrev pub and_events : Found → Result ℕ WordFault → Result Found WordFaul
 and_events found (Ok events) = Ok (record found { events = Some events })
 and_events found (Err f) = Err f
 
--- options that aren't built yet, whichever command will have them
+-- an option that isn't built yet, whichever command will have it
 abbrev pub is_unbuilt : List ℕ → Bool
-is_unbuilt name = bytes_eq name (codes "--connect") || bytes_eq name (codes "--ticks")
+is_unbuilt name = bytes_eq name (codes "--ticks")
 
--- `check` has no options of its own, and `sim` has three.
+abbrev pub is_connect : List ℕ → Bool
+is_connect name = bytes_eq name (codes "--connect")
+
+-- `check` has no options of its own, and `sim` has four.
 abbrev pub own_option_by : Verb → Found → ℕ → List ℕ → Option (List ℕ) → Result Found WordFault
 own_option_by verb.Check found place name value = Err (fault.Unknown place)
 own_option_by verb.Sim found place name value =
     if bytes_eq name (codes "--steps") then and_steps found (limit_by found.steps place value)
     else (if bytes_eq name (codes "--events") then and_events found (limit_by found.events place value)
     else (if bytes_eq name (codes "--feed") then and_feed found (feed_by found.feed place value)
-    else Err (fault.Unknown place)))
+    else (if is_connect name then and_connects found (connect_by found.connects place value)
+    else Err (fault.Unknown place))))
 
 abbrev pub option_by : Verb → Found → ℕ → List ℕ → Option (List ℕ) → Result Found WordFault
 option_by v found place name value = if is_unbuilt name then Err (fault.NotBuilt place) else own_option_by v found place name value
@@ -114,21 +137,36 @@ abbrev pub read_parts : Verb → Result Found WordFault → List Part → Result
 read_parts v before parts = fold (read_next v) before parts
 
 abbrev pub nothing : Found
-nothing = record { script = None; feed = None; steps = None; events = None }
+nothing = record { script = None; feed = None; connects = 0; steps = None; events = None }
+
+-- the command to connect that a part names
+abbrev pub connect_of : Part → List (List ℕ)
+connect_of (AWord place word) = []
+connect_of (AnOption place name None) = []
+connect_of (AnOption place name (Some value)) = if is_connect name then value ∷ [] else []
+
+-- the commands to connect, in order
+abbrev pub connects_of : List Part → List (List ℕ)
+connects_of parts = flat_map connect_of parts
 
 -- the number of an option that isn't given
 abbrev pub usual_limit : ℕ
 usual_limit = 1000000
 
 -- At the end of the words the script must be there.
-abbrev pub command_with : Verb → Option (List ℕ) → Option (List ℕ) → Option ℕ → Option ℕ → Result Command WordFault
-command_with v None feed steps events = Err fault.Missing
-command_with verb.Check (Some script) feed steps events = Ok (Check script)
-command_with verb.Sim (Some script) feed steps events = Ok (Sim script feed (unwrap_or steps usual_limit) (unwrap_or events usual_limit))
+abbrev pub command_with : Verb → Option (List ℕ) → Option (List ℕ) → List (List ℕ) → Option ℕ → Option ℕ → Result Command WordFault
+command_with v None feed connects steps events = Err fault.Missing
+command_with verb.Check (Some script) feed connects steps events = Ok (Check script)
+command_with verb.Sim (Some script) feed connects steps events = Ok (Sim script feed connects (unwrap_or steps usual_limit) (unwrap_or events usual_limit))
 
-abbrev pub command_by : Verb → Result Found WordFault → Result Command WordFault
-command_by v (Ok found) = command_with v found.script found.feed found.steps found.events
-command_by v (Err f) = Err f
+-- what was found, with these commands to connect
+abbrev pub command_by : Verb → List (List ℕ) → Result Found WordFault → Result Command WordFault
+command_by v connects (Ok found) = command_with v found.script found.feed connects found.steps found.events
+command_by v connects (Err f) = Err f
+
+-- what parts ask for
+abbrev pub parts_ask : Verb → List Part → Result Command WordFault
+parts_ask v parts = command_by v (connects_of parts) (read_parts v (Ok nothing) parts)
 
 -- The first word is the command; `run` and `ring` aren't built yet.
 abbrev pub verb_of : List ℕ → Result Verb WordFault
@@ -143,7 +181,7 @@ verb_by [] = Err fault.NoCommand
 verb_by (word ∷ words) = verb_of word
 
 abbrev pub asked_by : Result Verb WordFault → List (List ℕ) → Result Command WordFault
-asked_by (Ok v) words = command_by v (read_parts v (Ok nothing) (parts_from 2 words))
+asked_by (Ok v) words = parts_ask v (parts_from 2 words)
 asked_by (Err f) words = Err f
 
 -- what all words ask for, or their fault

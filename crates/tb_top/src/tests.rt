@@ -190,6 +190,27 @@ fn what_is_accepted_is_told_so(rt: HostRuntime) -> Result<(), Fail> {
     Ok(())
 }
 
+/// Scripts that speak with tools.
+static TOOLS: [&str; 4] = [
+    "process P is tau . shutdown(a) delay(1) toolbus(P)",
+    "tool t is { command = \"t\" } process P is let T : t in execute(t, T?) . rec-disconnect(T?) endlet toolbus(P)",
+    "tool ed is { } process P is let T : ed in rec-connect(T?) . snd-do(T, hi) . rec-disconnect(T) endlet toolbus(P)",
+    "tool calc is { command = \"calc\" } \
+     process CALC is let T : calc, E : term, V : term in execute(calc, T?) . \
+     (rec-event(T, button(E?)) . snd-eval(T, E) . rec-value(T, V?) . snd-ack-event(T, button(E))) \
+     * (rec-event(T, quit) . snd-terminate(T, \"bye\")) endlet toolbus(CALC)",
+];
+
+#[test]
+fn scripts_with_tools_are_accepted(rt: HostRuntime) -> Result<(), Fail> {
+    for script in &TOOLS {
+        let called = call(rt.alloc(), "check a.tb", script.as_bytes(), NONE)?;
+        assert_eq!(rt; called.status.number(), 0, "{script}");
+        assert_eq!(rt; called.out.as_slice(), b"ok\n".as_slice(), "{script}");
+    }
+    Ok(())
+}
+
 /// Words with a number of steps, a script, the exit status, the log, and the line of a fault.
 type Limited = (&'static str, &'static str, u8, &'static str, &'static str);
 
@@ -285,7 +306,7 @@ fn steps_have_their_limit(rt: HostRuntime) -> Result<(), Fail> {
 /// Words, what fails, the exit status, and the line.
 type Refusal = (&'static str, Fails, u8, &'static str);
 
-static REFUSALS: [Refusal; 19] = [
+static REFUSALS: [Refusal; 21] = [
     ("", NONE, 2, "toolbus: words: no command\n"),
     ("toolbus a.tb", NONE, 2, "toolbus: words: unknown at 1\n"),
     ("run a.tb", NONE, 2, "toolbus: words: not built at 1\n"),
@@ -318,10 +339,17 @@ static REFUSALS: [Refusal; 19] = [
         "toolbus: words: range at 4\n",
     ),
     (
-        "sim a.tb --connect c",
+        "sim a.tb --ticks 5",
         NONE,
         2,
         "toolbus: words: not built at 3\n",
+    ),
+    ("sim a.tb --connect", NONE, 2, "toolbus: words: missing\n"),
+    (
+        "check a.tb --connect c",
+        NONE,
+        2,
+        "toolbus: words: unknown at 3\n",
     ),
     ("check x.tb", NONE, 3, "toolbus: outside: file\n"),
     ("sim gone.tb", NONE, 3, "toolbus: outside: file\n"),
@@ -352,7 +380,7 @@ const DOUBLED: &str = "process A is tau . tau process B is A . A process C is B 
                        process M is L . L process N is M . M process O is N . N toolbus(A)";
 
 /// Scripts, and the lines with which they are refused.
-static FAULTS: [(&str, &str); 29] = [
+static FAULTS: [(&str, &str); 25] = [
     (
         "process P is snd-msg(3.14) toolbus(P)",
         "toolbus: script: real 21\n",
@@ -428,18 +456,6 @@ static FAULTS: [(&str, &str); 29] = [
         "toolbus: script: recursion Q,Mid-1,Long\n",
     ),
     (DOUBLED, "toolbus: script: too large O\n"),
-    (
-        "process P is tau delay(1) . shutdown(a) toolbus(P)",
-        "toolbus: script: not built at token 9\n",
-    ),
-    (
-        "process P is shutdown(\"a\") toolbus(P)",
-        "toolbus: script: not built at token 3\n",
-    ),
-    (
-        "process P is let N : int in create(P, N?) . shutdown(N) endlet toolbus(P)",
-        "toolbus: script: not built at token 16\n",
-    ),
     // The first fault by kind is told, wherever the others stand.
     (
         "process P is P . f toolbus(Q)",
@@ -456,10 +472,6 @@ static FAULTS: [(&str, &str); 29] = [
     (
         "process P is shutdown(a) . P toolbus(P)",
         "toolbus: script: recursion P\n",
-    ),
-    (
-        "process P is tau . shutdown(a) delay(1) . shutdown(b) toolbus(P)",
-        "toolbus: script: not built at token 5\n",
     ),
 ];
 

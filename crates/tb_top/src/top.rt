@@ -1,8 +1,8 @@
-ghost use Rattle.std.specs.Prelude.{◌≤◌, ◌≡◌, ◌≢◌, ℕ, List, [], false, map, string_bytes, IfOk, IfErr, Err};
+ghost use Rattle.std.specs.Prelude.{◌≤◌, ◌≡◌, ◌≢◌, ℕ, List, [], false, length, map, string_bytes, IfOk, IfErr, Err};
 ghost use Rattle.tb_edge.specs.Faults.{Rose};
 ghost use Rattle.tb_bus.specs.Buses.{origin_of};
 ghost use Rattle.tb_script.specs.Findings.{IsFound, Program'};
-ghost use Rattle.tb_top.specs.Words.{asked, most_limit};
+ghost use Rattle.tb_top.specs.Words.{asked, most_connects, most_limit};
 ghost use Rattle.tb_top.specs.Outcomes.{Comes, CommandOutcome, FileOutcome, WorkOutcome, CheckOutcome, SimOutcome, Reported, AsksFor, CommandAsks, IsFed, script_of, feed_of, ok_line};
 ghost use Rattle.tb_top.specs.Requests.{Reports, ProgramOutcome, OriginOutcome, IsUnread, AsksFeed, AsksFeedBy, WorkAsks, WritesLog, status_of_end, IsWithin};
 
@@ -19,14 +19,15 @@ use tb_feed::{Feed, FeedFault, read_feed};
 use tb_log::Entry;
 use tb_script::{ScriptFault, load};
 use tb_sim::{SimEnd, simulate};
-use tb_terms::{NoMemory, Text};
+use tb_terms::{NoMemory, Text, Texts};
 
 /// A longer script or feed is refused.
 const MOST_BYTES: usize = 1_048_576;
 
 /// Does what the words of the command line ask for. `check SCRIPT` puts `ok` and a newline to `out`
-/// where the script in that file is accepted; `sim SCRIPT [--feed FILE] [--steps N] [--events N]` puts the log of its
-/// simulation, which hands in what the feed in that file says, makes so many steps and logs so many entries at most.
+/// where the script in that file is accepted; `sim SCRIPT [--feed FILE] [--connect COMMAND] [--steps N] [--events N]`
+/// puts the log of its simulation, which begins with each command connected, hands in what the feed in that file says,
+/// makes so many steps and logs so many entries at most.
 /// Each status but `Ended` puts its one line to `err`, and where `err` fails at that, the status is `Outside(Err)`.
 pub fn toolbus<F: Files, O: Sink, E: Sink>(
     alloc: Global,
@@ -160,11 +161,12 @@ fn work_on_program<F: Files, O: Sink>(
         Command::Check { .. } => accept(out),
         Command::Sim {
             feed,
+            connects,
             steps,
             events,
             ..
         } => match load_feed(alloc, feed, files) {
-            Ok(feed) => simulate_program(alloc, program, &feed, *steps, *events, out),
+            Ok(feed) => simulate_program(alloc, program, connects, &feed, *steps, *events, out),
             Err(status) => status,
         },
     }
@@ -207,17 +209,19 @@ fn load_feed<F: Files>(alloc: Global, name: &Option<Text>, files: &mut F) -> Res
 fn simulate_program<O: Sink>(
     alloc: Global,
     program: Program,
+    connects: &Texts,
     feed: &Feed,
     steps: u64,
     events: u32,
     out: &mut O,
 ) -> Status
-    requires { events ≤ most_limit }
-    ensures outcome { OriginOutcome steps (origin_of program events) feed.now (O.taken out.old) (O.taken out.new) result }
+    requires connects { length connects.now ≤ most_connects }
+    requires events { events ≤ most_limit }
+    ensures outcome { OriginOutcome steps (origin_of program connects.now events) feed.now (O.taken out.old) (O.taken out.new) result }
     ensures not_file { result ≢ Status.Outside Edge.File }
     ensures out_rose { result ≡ Status.Outside Edge.Out → Rose (O.faults out.old) (O.faults out.new) }
 {
-    match Core::start(alloc, program, events) {
+    match Core::start(alloc, program, connects, events) {
         Ok(mut core) => simulate_core(alloc, &mut core, feed, steps, out),
         Err(NoMemory) => Status::NoMemory,
     }

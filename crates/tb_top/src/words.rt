@@ -5,7 +5,7 @@ mod reading;
 mod verb;
 
 pub use reading::read_words;
-use tb_terms::Text;
+use tb_terms::{Text, Texts};
 
 /// What the words of the command line ask for.
 #[derive(Debug, Drop)]
@@ -14,11 +14,12 @@ pub enum Command {
     Check {
         script: Text,
     },
-    /// The log of the simulation of that script and of the feed in the file of this name, or of an empty one;
-    /// it makes so many steps at most, and logs so many entries at most.
+    /// The log of the simulation of that script and of the feed in the file of this name, or of an empty one,
+    /// with these commands connected; it makes so many steps at most, and logs so many entries at most.
     Sim {
         script: Text,
         feed: Option<Text>,
+        connects: Texts,
         steps: u64,
         events: u32,
     },
@@ -29,8 +30,8 @@ pub enum Command {
 pub enum WordFault {
     /// There were no words.
     NoCommand,
-    /// The word at this place is no command, no option of its command, or a file's name that is no
-    /// string.
+    /// The word at this place is no command, no option of its command, or a file's name or a command to
+    /// connect that is no string.
     Unknown(usize),
     /// The script lacks, or the value of an option.
     Missing,
@@ -38,7 +39,7 @@ pub enum WordFault {
     Extra(usize),
     /// The word at this place is no number.
     Number(usize),
-    /// The number at this place is out of its range.
+    /// The number at this place is out of its range, or the option there is the seventeenth `--connect`.
     Range(usize),
     /// There wasn't memory enough; it says nothing of the words.
     NoMemory,

@@ -1,20 +1,23 @@
 //! How the words of the command line are read.
 
-ghost use Rattle.std.specs.Prelude.{◌≡◌, ◌≢◌, ◌<◌, ◌≤◌, ◌^◌, length, map, string_bytes, option_map, option_copied, Ok, IsOk, IsTrue, IfOk, IfErr, Err};
+ghost use Rattle.std.specs.Prelude.{◌≡◌, ◌≢◌, ◌<◌, ◌≤◌, ◌^◌, ◌++◌, length, map, string_bytes, option_map, option_copied, option_to_list, Ok, IsOk, IsTrue, IfOk, IfErr, OnOk, Err};
 ghost use Rattle.tb_terms.specs.Names.{is_text, is_text_byte};
 ghost use Rattle.tb_read.specs.Spelling.{is_digits};
-ghost use Rattle.tb_top.specs.Words.{asked, verb_by, verb_of, is_option, is_unbuilt, part_by, option_by, own_option_by, name_in, script_by, feed_by, limit_by, limit_in, and_script, and_feed, and_steps, and_events, read_parts, parts_from, nothing, command_by};
-ghost use Rattle.tb_top.specs.WordReading.{found_of, answer_of, bytes_of, part_of, part_len, HasText, IsText};
+ghost use Rattle.tb_top.specs.Words.{asked, verb_by, verb_of, is_option, is_unbuilt, is_connect, part_by, option_by, own_option_by, name_in, script_by, feed_by, connect_by, connects_of, limit_by, limit_in, and_script, and_feed, and_connects, and_steps, and_events, read_parts, parts_from, nothing, command_by};
+ghost use Rattle.tb_top.specs.WordReading.{found_of, answer_of, bytes_of, part_of, part_len, connect_from, HasText, IsText, AreText};
 
 use super::found::Found;
 use super::verb::Verb;
 use super::{Command, WordFault};
 use std::alloc::Global;
 use tb_read::digits_value;
-use tb_terms::{NoMemory, Text};
+use tb_terms::{Items, NoMemory, Text, Texts};
 
 /// The greatest number of `--steps` and of `--events`.
 const MOST_LIMIT: u64 = 4_000_000;
+
+/// So many commands may be connected.
+const MOST_CONNECTS: usize = 16;
 
 /// So many steps where `--steps` isn't given.
 const USUAL_LIMIT: u64 = 1_000_000;
@@ -32,8 +35,9 @@ pub fn read_words(alloc: Global, words: &Vec<String>) -> Result<Command, WordFau
 {
     let words = words.as_slice();
     let verb = read_verb(words)?;
-    let found = read_parts(verb, &words[1..])?;
-    make_command(alloc, verb, found)
+    let parts = &words[1..];
+    let found = read_parts(verb, parts)?;
+    make_command(alloc, verb, found, parts)
 }
 
 fn read_verb(words: &[String]) -> Result<Verb, WordFault>
@@ -68,6 +72,7 @@ fn read_parts(verb: Verb, words: &[String]) -> Result<Found<'_>, WordFault>
     let mut found = Found {
         script: None,
         feed: None,
+        connects: 0,
         steps: None,
         events: None,
     };
@@ -178,6 +183,7 @@ fn read_option<'w>(
         Verb::Sim if name == "--steps" => read_steps(found, place, value),
         Verb::Sim if name == "--events" => read_events(found, place, value),
         Verb::Sim if name == "--feed" => read_feed(found, place, value),
+        Verb::Sim if is_connect(name) => read_connect(found, place, value),
         Verb::Sim => Err(WordFault::Unknown(place)),
     }
 }
@@ -186,7 +192,13 @@ fn read_option<'w>(
 fn is_unbuilt(name: &str) -> bool
     ensures { result ≡ is_unbuilt name.now }
 {
-    name == "--connect" || name == "--ticks"
+    name == "--ticks"
+}
+
+fn is_connect(name: &str) -> bool
+    ensures { result ≡ is_connect name.now }
+{
+    name == "--connect"
 }
 
 /// `--steps` with its value.
@@ -249,6 +261,39 @@ fn read_feed<'w>(
     })
 }
 
+/// `--connect` with its value, which is only counted here.
+fn read_connect<'w>(
+    found: Found<'w>,
+    place: usize,
+    value: Option<&'w String>,
+) -> Result<Found<'w>, WordFault>
+    requires room { place < 2 ^ 63 }
+    requires text { HasText (found_of found) }
+    ensures found { answer_of result ≡ and_connects (found_of found.entry) (connect_by found.entry.connects place (option_map string_bytes (option_copied value.entry))) }
+    ensures text { IfOk result (λ found. HasText (found_of found)) }
+{
+    let connects = count_connect(found.connects, place, value)?;
+    Ok(Found { connects, ..found })
+}
+
+/// How many commands to connect there are with this one.
+fn count_connect(count: usize, place: usize, value: Option<&String>) -> Result<usize, WordFault>
+    requires { place < 2 ^ 63 }
+    ensures { result ≡ connect_by count place (option_map string_bytes (option_copied value.entry)) }
+{
+    if MOST_CONNECTS <= count {
+        return Err(WordFault::Range(place));
+    }
+    let Some(value) = value else {
+        return Err(WordFault::Missing);
+    };
+    if is_text(value.as_bytes()) {
+        Ok(count + 1)
+    } else {
+        Err(WordFault::Unknown(place + 1))
+    }
+}
+
 /// The value of an option that may be given once.
 fn read_limit(before: Option<u64>, place: usize, value: Option<&String>) -> Result<u64, WordFault>
     requires { place < 2 ^ 63 }
@@ -293,12 +338,18 @@ fn is_digits(bytes: &[u8]) -> bool
     true
 }
 
-/// The command, where the script was found.
-fn make_command(alloc: Global, verb: Verb, found: Found<'_>) -> Result<Command, WordFault>
-    requires { HasText (found_of found) }
-    ensures ok { IfOk result (λ command. command_by verb (Ok (found_of found.entry)) ≡ Ok command) }
-    ensures fault { IfErr result (λ fault. fault ≢ WordFault.NoMemory → command_by verb (Ok (found_of found.entry)) ≡ Err fault) }
-    ensures memory { result ≡ Err WordFault.NoMemory → IsOk (command_by verb (Ok (found_of found.entry))) }
+/// The command, where the script was found. The words are those behind the first.
+fn make_command(
+    alloc: Global,
+    verb: Verb,
+    found: Found<'_>,
+    words: &[String],
+) -> Result<Command, WordFault>
+    requires found { HasText (found_of found) }
+    requires connects { AreText (connects_of (parts_from 2 (map string_bytes words.now))) }
+    ensures ok { IfOk result (λ command. command_by verb (connects_of (parts_from 2 (map string_bytes words.now))) (Ok (found_of found.entry)) ≡ Ok command) }
+    ensures fault { IfErr result (λ fault. fault ≢ WordFault.NoMemory → command_by verb (connects_of (parts_from 2 (map string_bytes words.now))) (Ok (found_of found.entry)) ≡ Err fault) }
+    ensures memory { result ≡ Err WordFault.NoMemory → IsOk (command_by verb (connects_of (parts_from 2 (map string_bytes words.now))) (Ok (found_of found.entry))) }
 {
     let Some(script) = found.script else {
         return Err(WordFault::Missing);
@@ -308,11 +359,13 @@ fn make_command(alloc: Global, verb: Verb, found: Found<'_>) -> Result<Command, 
         Verb::Check => Ok(Command::Check { script }),
         Verb::Sim => {
             let feed = make_name(alloc, found.feed)?;
+            let connects = make_connects(alloc, words)?;
             let steps = found.steps.unwrap_or(USUAL_LIMIT);
             let events = found.events.unwrap_or(USUAL_EVENTS);
             Ok(Command::Sim {
                 script,
                 feed,
+                connects,
                 steps,
                 events,
             })
@@ -328,6 +381,53 @@ fn make_name(alloc: Global, word: Option<&str>) -> Result<Option<Text>, WordFaul
     match word {
         Some(word) => Ok(Some(make_text(alloc, word)?)),
         None => Ok(None),
+    }
+}
+
+/// The commands to connect, in order.
+fn make_connects(alloc: Global, words: &[String]) -> Result<Texts, WordFault>
+    requires { AreText (connects_of (parts_from 2 (map string_bytes words.now))) }
+    ensures ok { IfOk result (λ connects. connects ≡ connects_of (parts_from 2 (map string_bytes words.now))) }
+    ensures fault { IfErr result (λ fault. fault ≡ WordFault.NoMemory) }
+{
+    let mut connects = Items::new(alloc);
+    let mut index = 0;
+    while index < words.len() {
+        let word = words[index].as_str();
+        push_connect(alloc, &mut connects, word, words.get(index + 1))?;
+        index += part_len(word);
+    }
+    Ok(connects)
+}
+
+/// Adds the command to connect that the part names which begins with this word.
+fn push_connect(
+    alloc: Global,
+    connects: &mut Texts,
+    word: &str,
+    next: Option<&String>,
+) -> Result<(), WordFault>
+    requires { AreText (connect_from word.now (option_map string_bytes (option_copied next))) }
+    ensures ok { OnOk result (connects.new ≡ connects.old ++ connect_from word.now (option_map string_bytes (option_copied next.entry))) }
+    ensures fault { IfErr result (λ fault. fault ≡ WordFault.NoMemory) }
+{
+    let Some(value) = connect_of(word, next) else {
+        return Ok(());
+    };
+    let command = make_text(alloc, value)?;
+    match connects.push(command) {
+        Ok(()) => Ok(()),
+        Err(_refused) => Err(WordFault::NoMemory),
+    }
+}
+
+/// The command to connect that the part names which begins with this word.
+fn connect_of<'w>(word: &str, next: Option<&'w String>) -> Option<&'w str>
+    ensures { option_to_list (option_copied result) ≡ connect_from word.now (option_map string_bytes (option_copied next.entry)) }
+{
+    match next {
+        Some(value) if is_connect(word) => Some(value.as_str()),
+        Some(_) | None => None,
     }
 }
 

@@ -11,14 +11,16 @@ enum Answer {
     Sim(u64, u32),
     /// The simulation of `a.tb` and the feed of this name.
     Fed(&'static str),
+    /// The simulation of `a.tb` with these commands connected.
+    Connected(&'static [&'static str]),
     Fault(WordFault),
 }
 
-use Answer::{Check, Fault, Fed, Sim};
+use Answer::{Check, Connected, Fault, Fed, Sim};
 use WordFault::{Extra, Missing, NoCommand, NotBuilt, Number, Range, Unknown};
 
 /// Words that blanks part, and what they ask for.
-static ROWS: [(&str, Answer); 80] = [
+static ROWS: [(&str, Answer); 88] = [
     ("", Fault(NoCommand)),
     // The first word.
     ("check a.tb", Check),
@@ -61,7 +63,18 @@ static ROWS: [(&str, Answer); 80] = [
     ("sim a.tb --feed f g", Fault(Extra(5))),
     ("sim a.tb --feeds f", Fault(Unknown(3))),
     ("sim a.tb --feed=f", Fault(Unknown(3))),
-    ("sim --connect c a.tb", Fault(NotBuilt(2))),
+    ("sim --connect k a.tb", Connected(&["k"])),
+    (
+        "sim --connect k a.tb --connect --feed --connect k",
+        Connected(&["k", "--feed", "k"]),
+    ),
+    ("sim a.tb --connect --connect", Connected(&["--connect"])),
+    ("sim --feed --connect a.tb", Fed("--connect")),
+    ("sim a.tb --connect", Fault(Missing)),
+    ("sim --connect a.tb", Fault(Missing)),
+    ("sim a.tb --connect k l", Fault(Extra(5))),
+    ("sim a.tb --connects k", Fault(Unknown(3))),
+    ("check a.tb --connect k", Fault(Unknown(3))),
     ("sim a.tb --events", Fault(Missing)),
     ("sim --steps 5 --events 5", Fault(Missing)),
     ("check a.tb --events 5", Fault(Unknown(3))),
@@ -112,6 +125,16 @@ static ROWS: [(&str, Answer); 80] = [
     ("check --feed", Fault(Unknown(2))),
 ];
 
+fn are_commands(connects: &Texts, expected: &[&str]) -> bool {
+    for (index, command) in expected.iter().enumerate() {
+        match connects.as_slice().get(index) {
+            Some(connect) if connect.as_str() == *command => {}
+            _ => return false,
+        }
+    }
+    connects.len() == expected.len()
+}
+
 fn is_answer(answer: &Result<Command, WordFault>, expected: Answer, script: &str) -> bool {
     match (answer, expected) {
         (Ok(Command::Check { script: name }), Check) => name.as_str() == script,
@@ -120,23 +143,42 @@ fn is_answer(answer: &Result<Command, WordFault>, expected: Answer, script: &str
                 Command::Sim {
                     script: name,
                     feed: None,
+                    connects,
                     steps,
                     events,
                 },
             ),
             Sim(most, entries),
-        ) => { name.as_str() == script && *steps == most && *events == entries }
+        ) => {
+            name.as_str() == script
+                && connects.len() == 0
+                && *steps == most
+                && *events == entries
+        }
         (
             Ok(
                 Command::Sim {
                     script: name,
                     feed: Some(feed),
+                    connects,
                     steps: 1_000_000,
                     events: 1_000_000,
                 },
             ),
             Fed(file),
-        ) => { name.as_str() == script && feed.as_str() == file }
+        ) => { name.as_str() == script && feed.as_str() == file && connects.len() == 0 }
+        (
+            Ok(
+                Command::Sim {
+                    script: name,
+                    feed: None,
+                    connects,
+                    steps: 1_000_000,
+                    events: 1_000_000,
+                },
+            ),
+            Connected(commands),
+        ) => { name.as_str() == script && are_commands(connects, commands) }
         (Err(fault), Fault(other)) => *fault == other,
         _ => false,
     }
@@ -156,6 +198,48 @@ fn words_ask_for_commands_or_have_faults(rt: HostRuntime) -> Result<(), Fail> {
     Ok(())
 }
 
+/// What `sim a.tb` says with so many commands to connect, and with this one behind them.
+fn of_many(
+    alloc: Global,
+    count: usize,
+    last: &str,
+) -> Result<Result<Command, WordFault>, Fail> {
+    let mut words = Vec::new(alloc);
+    words.push(String::from_str(alloc, "sim")?)?;
+    words.push(String::from_str(alloc, "a.tb")?)?;
+    for _ in 0..count {
+        words.push(String::from_str(alloc, "--connect")?)?;
+        words.push(String::from_str(alloc, "k")?)?;
+    }
+    words.push(String::from_str(alloc, "--connect")?)?;
+    words.push(String::from_str(alloc, last)?)?;
+    Ok(read_words(alloc, &words))
+}
+
+/// The most commands, one more, and one more that is no string.
+static MANY: [(usize, &str, Answer); 3] = [
+    (
+        15,
+        "l",
+        Connected(
+            &[
+                "k", "k", "k", "k", "k", "k", "k", "k", "k", "k", "k", "k", "k", "k", "k", "l",
+            ],
+        ),
+    ),
+    (16, "l", Fault(Range(35))),
+    (16, "a\u{0}", Fault(Range(35))),
+];
+
+#[test]
+fn commands_to_connect_have_a_limit(rt: HostRuntime) -> Result<(), Fail> {
+    for (count, last, expected) in &MANY {
+        let answer = of_many(rt.alloc(), *count, last)?;
+        assert!(rt; is_answer(&answer, *expected, "a.tb"), "{count} {last:?}: {answer:?}");
+    }
+    Ok(())
+}
+
 /// What `sim` says of these two words.
 fn of_two(alloc: Global, first: &str, second: &str) -> Result<Result<Command, WordFault>, Fail> {
     let mut words = Vec::new(alloc);
@@ -166,7 +250,7 @@ fn of_two(alloc: Global, first: &str, second: &str) -> Result<Result<Command, Wo
 }
 
 /// Words that blanks can't part: two behind `sim`, and the script's name where they ask for one.
-static ODD: [(&str, &str, Answer, &str); 14] = [
+static ODD: [(&str, &str, Answer, &str); 16] = [
     ("", "", Fault(Extra(3)), ""),
     ("", "--steps", Fault(Missing), ""),
     ("--steps", "", Fault(Number(3)), ""),
@@ -185,6 +269,8 @@ static ODD: [(&str, &str, Answer, &str); 14] = [
     ),
     ("--feed", "a\u{0}", Fault(Unknown(3)), ""),
     ("--feed", "", Fault(Missing), ""),
+    ("--connect", "a\u{0}", Fault(Unknown(3)), ""),
+    ("--connect", "", Fault(Missing), ""),
     ("\u{b}", "", Fault(Unknown(2)), ""),
 ];
 

@@ -19,4 +19,4 @@ pub returns-in-Err-clause-outcome : goal.returns-in-Err-clause-outcome
 returns-in-Err-clause-outcome g c bytes found =
     let held = g.F.Files.held c.args.files.now in
     subst (λ (command : Command). WorkOutcome held command bytes (g.O.Sink.taken c.args.out.now) (g.O.Sink.taken c.args.out.now) c.in-Err.status)
-    (sym c.in-Sim.is) (unread (record { held = held; feed = c.in-Sim.feed; steps = c.in-Sim.steps; events = c.in-Sim.events }) bytes c.args.program (g.O.Sink.taken c.args.out.now) c.in-Err.status c.in-Err.ensures.err found)
+    (sym c.in-Sim.is) (unread (record { held = held; feed = c.in-Sim.feed; connects = c.in-Sim.connects; steps = c.in-Sim.steps; events = c.in-Sim.events }) bytes c.args.program (g.O.Sink.taken c.args.out.now) c.in-Err.status c.in-Err.ensures.err found)
