@@ -53,14 +53,14 @@ use Rattle.tb_core.specs.Lives.{proc_by, proc_in}
 use Rattle.tb_core.specs.Holdings.{held_at}
 use Rattle.tb_core.specs.Makings.{effect_by, noting, shown_in, IsPlainIn}
 use Rattle.tb_core.specs.LiveBuses.{AreFresh, IsSound, StandsAs, AreAdvanced, Leaves, CanAdvance, IsKept, IsDone, IsChanged, HasGone, bus_of, procs_in, move_in, scene_in}
-use Rattle.tb_core.specs.Spoken.{CanSpeak, CanSpeakBy, around, seen_by}
+use Rattle.tb_core.specs.Spoken.{CanSpeak, around}
 use Rattle.tb_core.specs.declared.acting.Done.{Done}
 use Rattle.tb_core.specs.declared.bus.LiveBus.{LiveBus}
 use Rattle.tb_core.proofs.ReadLemmas.{body-there, live-there, map-there, some-at}
 use Rattle.tb_core.proofs.FreshLemmas.{ActionFits, OwnFits, action-at, fits-at}
 use Rattle.tb_core.proofs.HoldLemmas.{row-held}
 use Rattle.tb_core.proofs.RowsLemmas.{searched-for}
-use Rattle.tb_core.proofs.SpokenLemmas.{seen-around, speaking-around}
+use Rattle.tb_core.proofs.SpokenLemmas.{speaking-around}
 
 -- the offer of one of the actions of a process
 pub record OfferIs {W P T : Type 0} (view : View P W T) (bus : LiveBus W P T) (at index : ℕ) : Type 0 where
@@ -456,23 +456,6 @@ shown-taking view bus at index found sound fresh h =
     ap (λ (held : Held). note_at held found.place) (sym (row-held bus.living.items at))
     ∙ ap (λ o. (label_of (own_move (proc_at (procs_in view bus) at) (offer_of (procs_in view bus) rows at index) o)).terms)
     (sym (take-effect-is (bus_of view bus) (scene_in bus) bus.marks (searched-for view bus sound fresh) at index found h))
-
--- of what is said to a tool, or heard of it
-pub shown-spoken : {W P T : Type 0} (view : View P W T) (bus : LiveBus W P T) (at index : ℕ) (exchange : Exchange) → IsSound view bus → AreFresh bus.living.items → IsCandidateIn (scene_in bus) (candidate.Speak at index exchange) →
-    seen_by [] bus.bench (ready_at (rows_of bus.living.items) at index).action exchange ≡ (label_of (move_in view bus (candidate.Speak at index exchange))).terms
-shown-spoken view bus at index exchange sound fresh found =
-    let rows = rows_of bus.living.items in
-    ap (λ does. seen_by [] bus.bench does exchange) found.1.1
-    ∙ sym (seen-around (setting_in (scene_in bus) (row_at rows at)) found.1.0 exchange)
-    ∙ ap (λ o. (label_of (own_move (proc_at (procs_in view bus) at) (offer_of (procs_in view bus) rows at index) o)).terms)
-    (sym (speak-effect-is (bus_of view bus) (scene_in bus) bus.marks (searched-for view bus sound fresh) at index exchange found found.1.0 found.1.1))
-
--- and such an exchange may happen
-pub spoken-by : {W P T : Type 0} (view : View P W T) (bus : LiveBus W P T) (at index : ℕ) (exchange : Exchange) → IsSound view bus → IsCandidateIn (scene_in bus) (candidate.Speak at index exchange) →
-    CanSpeakBy bus.origin.program.tools bus.bench (ready_at (rows_of bus.living.items) at index).action exchange
-spoken-by view bus at index exchange sound found =
-    subst (λ does. CanSpeakBy bus.origin.program.tools bus.bench does exchange) (sym found.1.1)
-    (record { body = (setting_in (scene_in bus) (row_at (rows_of bus.living.items) at)).body; found = found.1.2; lanes = sound.lanes })
 
 pub shown-sent : {W P T : Type 0} (view : View P W T) (bus : LiveBus W P T) (at index : ℕ) (partner : Partner) → IsCandidateIn (scene_in bus) (candidate.Handshake at index partner) →
     shown_in bus.marks.next_number (ready_at (rows_of bus.living.items) at index).action ≡ (label_of (move_in view bus (candidate.Handshake at index partner))).terms

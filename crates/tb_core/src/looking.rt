@@ -7,7 +7,7 @@ ghost use Rattle.tb_algebra.specs.Binds.{has_slot_sort, takes_binds};
 ghost use Rattle.tb_algebra.specs.Offers.{Offered};
 ghost use Rattle.tb_algebra.specs.Walks.{Walking, fired, is_end, offers_of, seen, seen_offers, sorts_of};
 ghost use Rattle.tb_func.specs.Printing.{printf_of};
-ghost use Rattle.tb_bus.specs.Actions.{action_in, action_of, print_action, set_action, shutdown_action};
+ghost use Rattle.tb_bus.specs.Actions.{action_in, action_of, print_action, set_action, shutdown_action, speak_about};
 ghost use Rattle.tb_bus.specs.Candidates.{ready_one, readies};
 ghost use Rattle.tb_core.specs.Lives.{IsLiveOn, IsTimeless, proc_by};
 
@@ -17,7 +17,7 @@ use tb_body::{Act, Atoms, Body};
 use tb_bus::{Action, Living, OwnAction, Ready, ToolAction};
 use tb_func::printf_text;
 use tb_match::{Bind, Binds};
-use tb_terms::{Items, NoMemory, Sorts, Term, Terms, has_sort};
+use tb_terms::{Items, NoMemory, Patterns, Sorts, Term, Terms, has_sort};
 
 /// Whether there is such a slot, and the value has its sort.
 fn takes(sorts: &Sorts, slot: u32, value: &Term) -> bool
@@ -61,6 +61,20 @@ fn print_action(alloc: Global, values: &Terms) -> Result<Option<Action>, NoMemor
     }
 }
 
+/// The answer of the tool is taken, where the patterns are there.
+fn value_action(terms: Terms, patterns: Option<Patterns>) -> Option<Action>
+    ensures { result ≡ speak_about ToolAction.TakeValue patterns terms }
+{
+    Some(Action::Speak(ToolAction::TakeValue(terms, patterns?)))
+}
+
+/// An event of the tool is received, where the patterns are there.
+fn event_action(terms: Terms, patterns: Option<Patterns>) -> Option<Action>
+    ensures { result ≡ speak_about ToolAction.TakeEvent patterns terms }
+{
+    Some(Action::Speak(ToolAction::TakeEvent(terms, patterns?)))
+}
+
 /// The bus goes down, for the one reason that there is.
 fn shutdown_action(mut reasons: Terms) -> Option<Action>
     ensures { result ≡ shutdown_action reasons }
@@ -90,56 +104,30 @@ fn action_in<W: Walker>(
         act_of body.now.atoms offered.atom ≡ act.now → sorts_of offered.store ≡ body.now.sorts →
         IfOk result (λ action. action ≡ action_in offered.store act.now) }
 {
+    let sent = || walker.sent(alloc, plan, k);
+    let patterns = || walker.patterns(alloc, plan, k);
     match act {
         Act::Delta => Ok(None),
         Act::Tau => Ok(Some(Action::Own(OwnAction::Tau))),
-        Act::Set { slot, .. } => match walker.sent(alloc, plan, k)? {
+        Act::Set { slot, .. } => match sent()? {
             Some(values) => set_action(alloc, &body.sorts, *slot, values),
             None => Ok(None),
         },
-        Act::Printf(_) => match walker.sent(alloc, plan, k)? {
+        Act::Printf(_) => match sent()? {
             Some(values) => print_action(alloc, &values),
             None => Ok(None),
         },
-        &Act::Create { process, slot, .. } => match walker.sent(alloc, plan, k)? {
+        &Act::Create { process, slot, .. } => match sent()? {
             Some(actuals) => Ok(Some(Action::Own(OwnAction::Create(process, actuals, slot)))),
             None => Ok(None),
         },
-        Act::SndMsg(_) => Ok(
-            walker
-                .sent(alloc, plan, k)?
-                .map(|terms| Action::Send(terms)),
-        ),
-        Act::RecMsg(_) => Ok(
-            walker
-                .patterns(alloc, plan, k)?
-                .map(|patterns| Action::Receive(patterns)),
-        ),
-        Act::SndNote(_) => Ok(
-            walker
-                .sent(alloc, plan, k)?
-                .map(|terms| Action::Notify(terms)),
-        ),
-        Act::RecNote(_) => Ok(
-            walker
-                .patterns(alloc, plan, k)?
-                .map(|patterns| Action::TakeNote(patterns)),
-        ),
-        Act::NoNote(_) => Ok(
-            walker
-                .patterns(alloc, plan, k)?
-                .map(|patterns| Action::Own(OwnAction::NoNote(patterns))),
-        ),
-        Act::Subscribe(_) => Ok(
-            walker
-                .patterns(alloc, plan, k)?
-                .map(|patterns| Action::Own(OwnAction::Subscribe(patterns))),
-        ),
-        Act::Unsubscribe(_) => Ok(
-            walker
-                .patterns(alloc, plan, k)?
-                .map(|patterns| Action::Own(OwnAction::Unsubscribe(patterns))),
-        ),
+        Act::SndMsg(_) => Ok(sent()?.map(Action::Send)),
+        Act::RecMsg(_) => Ok(patterns()?.map(Action::Receive)),
+        Act::SndNote(_) => Ok(sent()?.map(Action::Notify)),
+        Act::RecNote(_) => Ok(patterns()?.map(Action::TakeNote)),
+        Act::NoNote(_) => Ok(patterns()?.map(OwnAction::NoNote).map(Action::Own)),
+        Act::Subscribe(_) => Ok(patterns()?.map(OwnAction::Subscribe).map(Action::Own)),
+        Act::Unsubscribe(_) => Ok(patterns()?.map(OwnAction::Unsubscribe).map(Action::Own)),
         &Act::Execute { tool, slot } => Ok(Some(Action::Speak(ToolAction::Execute(tool, slot)))),
         &Act::RecConnect { tool, slot } => {
             Ok(Some(Action::Speak(ToolAction::Connect(tool, slot))))
@@ -147,48 +135,20 @@ fn action_in<W: Walker>(
         &Act::RecDisconnectAny { tool, slot } => {
             Ok(Some(Action::Speak(ToolAction::DisconnectAny(tool, slot))))
         }
-        Act::RecDisconnect(_) => Ok(
-            walker
-                .sent(alloc, plan, k)?
-                .map(|terms| Action::Speak(ToolAction::Disconnect(terms))),
-        ),
-        Act::SndEval(_, _) => Ok(
-            walker
-                .sent(alloc, plan, k)?
-                .map(|terms| Action::Speak(ToolAction::Eval(terms))),
-        ),
-        Act::RecValue(_, _) => match walker.sent(alloc, plan, k)? {
-            Some(terms) => Ok(
-                walker.patterns(alloc, plan, k)?.map(|patterns| Action::Speak(ToolAction::TakeValue(
-                    terms, patterns,
-                ))),
-            ),
+        Act::RecDisconnect(_) => Ok(sent()?.map(ToolAction::Disconnect).map(Action::Speak)),
+        Act::SndEval(_, _) => Ok(sent()?.map(ToolAction::Eval).map(Action::Speak)),
+        Act::RecValue(_, _) => match sent()? {
+            Some(terms) => Ok(value_action(terms, patterns()?)),
             None => Ok(None),
         },
-        Act::SndDo(_, _) => Ok(
-            walker
-                .sent(alloc, plan, k)?
-                .map(|terms| Action::Speak(ToolAction::Do(terms))),
-        ),
-        Act::RecEvent(_, _) => match walker.sent(alloc, plan, k)? {
-            Some(terms) => Ok(
-                walker.patterns(alloc, plan, k)?.map(|patterns| Action::Speak(ToolAction::TakeEvent(
-                    terms, patterns,
-                ))),
-            ),
+        Act::SndDo(_, _) => Ok(sent()?.map(ToolAction::Do).map(Action::Speak)),
+        Act::RecEvent(_, _) => match sent()? {
+            Some(terms) => Ok(event_action(terms, patterns()?)),
             None => Ok(None),
         },
-        Act::SndAckEvent(_, _) => Ok(
-            walker
-                .sent(alloc, plan, k)?
-                .map(|terms| Action::Speak(ToolAction::Acknowledge(terms))),
-        ),
-        Act::SndTerminate(_, _) => Ok(
-            walker
-                .sent(alloc, plan, k)?
-                .map(|terms| Action::Speak(ToolAction::Terminate(terms))),
-        ),
-        Act::Shutdown(_) => match walker.sent(alloc, plan, k)? {
+        Act::SndAckEvent(_, _) => Ok(sent()?.map(ToolAction::Acknowledge).map(Action::Speak)),
+        Act::SndTerminate(_, _) => Ok(sent()?.map(ToolAction::Terminate).map(Action::Speak)),
+        Act::Shutdown(_) => match sent()? {
             Some(reasons) => Ok(shutdown_action(reasons)),
             None => Ok(None),
         },

@@ -1,32 +1,13 @@
-use Rattle.std.proofs.Common.{◌≡◌, ◌∙◌, subst, sym}
+use Rattle.std.proofs.Common.{◌≡◌, ◌∙◌, sym}
 use Rattle.tb_bus.specs.Candidates.{rows_of}
 use Rattle.tb_bus.specs.Effects.{speaking}
 use Rattle.tb_bus.specs.Views.{offer_of, ready_at}
 use Rattle.tb_bus.specs.declared.action.Action.TheVariants as action
 use Rattle.tb_core.specs.LiveBuses.{procs_in}
-use Rattle.tb_core.specs.Spoken.{CanSpeak, around}
+use Rattle.tb_core.specs.Spoken.{around}
 use Rattle.tb_core.proofs.BenchLemmas.{acted-exchange, done-exchange}
-use Rattle.tb_core.proofs.MakeLemmas.{speak-at, acted-within, acted-named, acted-leaves, acted-advance, acted-made, acted-origin, acted-label}
+use Rattle.tb_core.proofs.MakeLemmas.{acted-named, acted-leaves, acted-advance, acted-made, acted-origin, acted-label}
 use Rattle.tb_core.proofs.bus.LiveBus.make_exchange.Goals as goal
-
-pub speak-requires-clause-found : goal.speak-requires-clause-found
-speak-requires-clause-found g c =
-    let old = c.args.self.now in
-    let begun = c.begin.new.self in
-    let does : (ready_at (rows_of old.living.items) c.args.at c.args.index).action ≡ action.Speak c.in-Speak.does = sym c.in_ok-from.ensures.action ∙ c.in-Speak.is in
-    let it = speak-at g.W.Walker.view old begun c.args.at c.args.index c.in_ok-taken.taken c.in-Speak.does c.args.exchange c.requires.sound c.requires.fresh c.requires.found c.in_ok-taken.ensures does c.begin.ensures.same in
-    subst (λ kinds. CanSpeak kinds begun.bench c.in-Speak.does c.args.exchange) (sym c.as_slice.ensures) it.can
-
-pub finish-requires-clause-within : goal.finish-requires-clause-within
-finish-requires-clause-within g c =
-    let old = c.args.self.now in
-    let begun = c.begin.new.self in
-    let does : (ready_at (rows_of old.living.items) c.args.at c.args.index).action ≡ action.Speak c.in-Speak.does = sym c.in_ok-from.ensures.action ∙ c.in-Speak.is in
-    let mid = record begun { bench = c.speak.new.bench } in
-    let effect = speaking (around begun.origin.program.tools begun.bench) c.in-Speak.does c.args.exchange in
-    let acted = acted-exchange g.W.Walker.view old begun c.args.at c.args.index c.in_ok-taken.taken c.in-Speak.does c.args.exchange c.as_slice.result.now c.speak.new.bench
-    c.requires.sound c.requires.fresh c.requires.found c.in_ok-taken.ensures does c.begin.ensures.same c.begin.ensures.kept c.in_ok-from.ensures.named c.as_slice.ensures c.in_ok-done.ensures.ok c.show_lanes.ensures in
-    acted-within g.W.Walker.view old begun mid c.args.at c.args.index effect acted
 
 pub finish-requires-clause-named : goal.finish-requires-clause-named
 finish-requires-clause-named g c =
