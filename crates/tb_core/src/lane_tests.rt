@@ -150,10 +150,7 @@ fn act(alloc: Global, does: Does) -> Result<Act, NoMemory> {
         Does::SndEval(number) => Ok(Act::SndEval(Expr::Var(0), Expr::Int(number))),
         Does::RecValue => Ok(Act::RecValue(Expr::Var(0), Expr::Result(2))),
         Does::RecConnect => Ok(Act::RecConnect { tool: 1, slot: 1 }),
-        Does::RecEvent(number) => Ok(Act::RecEvent(
-            Expr::Var(1),
-            one(alloc, Expr::Int(number))?,
-        )),
+        Does::RecEvent(number) => Ok(Act::RecEvent(Expr::Var(1), one(alloc, Expr::Int(number))?)),
         Does::SndAckEvent(number) => Ok(Act::SndAckEvent(
             Expr::Var(1),
             one(alloc, Expr::Int(number))?,
@@ -334,6 +331,9 @@ fn what_is_handed_out_needs_room(rt: HostRuntime) -> Result<(), Fail> {
     assert!(rt; matches!(core.take_out(2), Err(CoreFault::Full)));
     assert_eq!(rt; core.first_out(), Some(2));
     assert_eq!(rt; taken(&core.take_out(1)?), b"nothing".as_slice());
-    assert_eq!(rt; log_text(rt.alloc(), &core)?.as_slice(), b"1 out 1 start \"a\"\n".as_slice());
+    assert_eq!(rt;
+        log_text(rt.alloc(), &core)?.as_slice(),
+        b"1 out 1 start \"a\"\n".as_slice()
+    );
     Ok(())
 }

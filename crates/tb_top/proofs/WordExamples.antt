@@ -64,7 +64,6 @@ check_steps = refl
 sim_ticks : asked (codes "sim" ∷ codes "a.tb" ∷ codes "--ticks" ∷ codes "5" ∷ []) ≡ Err (NotBuilt 3)
 sim_ticks = refl
 
-
 sim_events : asked (codes "sim" ∷ codes "--events" ∷ codes "c" ∷ []) ≡ Err (Number 3)
 sim_events = refl
 

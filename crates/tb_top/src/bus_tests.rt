@@ -212,7 +212,12 @@ fn runs_so(alloc: Global, run: &Run) -> Result<bool, Fail> {
     if run.entries > 4_000_000 {
         return Ok(false);
     }
-    let mut core: Bus = Core::start(alloc, program(alloc, run.script)?, &Items::new(alloc), run.entries)?;
+    let mut core: Bus = Core::start(
+        alloc,
+        program(alloc, run.script)?,
+        &Items::new(alloc),
+        run.entries,
+    )?;
     let ended = simulate(&mut core, &Feed::empty(alloc), run.limit)?;
     let text = log_text(alloc, &core)?;
     Ok(ended == run.end && text.as_slice() == run.log.as_bytes())
@@ -305,7 +310,12 @@ fn answer(core: &mut Bus, call: Call) -> &'static str {
 #[test]
 fn calls_answer_in_order(rt: HostRuntime) -> Result<(), Fail> {
     let script = "process D is delta toolbus(D)";
-    let mut core: Bus = Core::start(rt.alloc(), program(rt.alloc(), script)?, &Items::new(rt.alloc()), 1_000)?;
+    let mut core: Bus = Core::start(
+        rt.alloc(),
+        program(rt.alloc(), script)?,
+        &Items::new(rt.alloc()),
+        1_000,
+    )?;
     for (place, (call, expected)) in CALLS.iter().enumerate() {
         assert_eq!(rt; answer(&mut core, *call), *expected, "call {place}");
     }

@@ -150,10 +150,7 @@ fn is_answer(answer: &Result<Command, WordFault>, expected: Answer, script: &str
             ),
             Sim(most, entries),
         ) => {
-            name.as_str() == script
-                && connects.len() == 0
-                && *steps == most
-                && *events == entries
+            name.as_str() == script && connects.len() == 0 && *steps == most && *events == entries
         }
         (
             Ok(
@@ -199,11 +196,7 @@ fn words_ask_for_commands_or_have_faults(rt: HostRuntime) -> Result<(), Fail> {
 }
 
 /// What `sim a.tb` says with so many commands to connect, and with this one behind them.
-fn of_many(
-    alloc: Global,
-    count: usize,
-    last: &str,
-) -> Result<Result<Command, WordFault>, Fail> {
+fn of_many(alloc: Global, count: usize, last: &str) -> Result<Result<Command, WordFault>, Fail> {
     let mut words = Vec::new(alloc);
     words.push(String::from_str(alloc, "sim")?)?;
     words.push(String::from_str(alloc, "a.tb")?)?;
@@ -221,11 +214,9 @@ static MANY: [(usize, &str, Answer); 3] = [
     (
         15,
         "l",
-        Connected(
-            &[
-                "k", "k", "k", "k", "k", "k", "k", "k", "k", "k", "k", "k", "k", "k", "k", "l",
-            ],
-        ),
+        Connected(&[
+            "k", "k", "k", "k", "k", "k", "k", "k", "k", "k", "k", "k", "k", "k", "k", "l",
+        ]),
     ),
     (16, "l", Fault(Range(35))),
     (16, "a\u{0}", Fault(Range(35))),
@@ -235,7 +226,10 @@ static MANY: [(usize, &str, Answer); 3] = [
 fn commands_to_connect_have_a_limit(rt: HostRuntime) -> Result<(), Fail> {
     for (count, last, expected) in &MANY {
         let answer = of_many(rt.alloc(), *count, last)?;
-        assert!(rt; is_answer(&answer, *expected, "a.tb"), "{count} {last:?}: {answer:?}");
+        assert!(rt;
+            is_answer(&answer, *expected, "a.tb"),
+            "{count} {last:?}: {answer:?}"
+        );
     }
     Ok(())
 }
