@@ -18,6 +18,7 @@ enum Does {
     /// A calc is started.
     Execute,
     SndEval(i64),
+    SndDo(i64),
     /// Any number, for the variable.
     RecValue,
     /// A ui that waits is taken.
@@ -26,6 +27,8 @@ enum Does {
     SndAckEvent(i64),
     /// The ui leaves.
     RecDisconnect,
+    /// A calc that is leaving leaves.
+    RecDisconnectAny,
     /// The calc is told to end.
     SndTerminate(i64),
     Shutdown(i64),
@@ -61,7 +64,7 @@ struct Run {
     log: &'static str,
 }
 
-static RUNS: [Run; 2] = [
+static RUNS: [Run; 3] = [
     Run {
         does: &[
             Does::Execute,
@@ -128,6 +131,24 @@ static RUNS: [Run; 2] = [
               28 snd-terminate 1.8 calc(1),9\n29 out 2 rec-terminate(9)\n30 out 2 end\n31 tick\n\
               32 finish\n33 drop down gone 2\n34 drop down line 2 snd-value(1)\n35 drop down noticks\n",
     },
+    // A tool that has ended is leaving until a process takes it.
+    Run {
+        does: &[Does::Execute, Does::SndDo(4), Does::RecDisconnectAny],
+        rows: &[
+            Row(2, Call::Step, b"did", LaneState::Live),
+            Row(2, Call::Step, b"did", LaneState::Live),
+            Row(2, Call::Take, b"start", LaneState::Live),
+            Row(2, Call::Take, b"line", LaneState::Live),
+            Row(2, Call::Step, b"quiet", LaneState::Live),
+            Row(2, Call::Gone, b"took", LaneState::Leaving),
+            Row(2, Call::Step, b"did", LaneState::Ending),
+            Row(2, Call::Take, b"end", LaneState::Free),
+            Row(2, Call::Step, b"did", LaneState::Free),
+        ],
+        log: "1 execute 1.1 calc(1)\n2 snd-do 1.2 calc(1),4\n3 out 2 start \"calc\"\n\
+              4 out 2 rec-do(4)\n5 quiet\n6 gone 2\n7 rec-disconnect 1.3 calc(1)\n8 out 2 end\n\
+              9 finish\n",
+    },
     // A lane that is open as the bus goes down is told so, and ends.
     Run {
         does: &[Does::Shutdown(3)],
@@ -148,6 +169,7 @@ fn act(alloc: Global, does: Does) -> Result<Act, NoMemory> {
     match does {
         Does::Execute => Ok(Act::Execute { tool: 0, slot: 0 }),
         Does::SndEval(number) => Ok(Act::SndEval(Expr::Var(0), Expr::Int(number))),
+        Does::SndDo(number) => Ok(Act::SndDo(Expr::Var(0), Expr::Int(number))),
         Does::RecValue => Ok(Act::RecValue(Expr::Var(0), Expr::Result(2))),
         Does::RecConnect => Ok(Act::RecConnect { tool: 1, slot: 1 }),
         Does::RecEvent(number) => Ok(Act::RecEvent(Expr::Var(1), one(alloc, Expr::Int(number))?)),
@@ -156,6 +178,7 @@ fn act(alloc: Global, does: Does) -> Result<Act, NoMemory> {
             one(alloc, Expr::Int(number))?,
         )),
         Does::RecDisconnect => Ok(Act::RecDisconnect(Expr::Var(1))),
+        Does::RecDisconnectAny => Ok(Act::RecDisconnectAny { tool: 0, slot: 0 }),
         Does::SndTerminate(number) => Ok(Act::SndTerminate(Expr::Var(0), Expr::Int(number))),
         Does::Shutdown(number) => Ok(Act::Shutdown(Expr::Int(number))),
     }
