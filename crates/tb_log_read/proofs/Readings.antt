@@ -13,7 +13,7 @@ use Rattle.tb_log_read.specs.Terms.{found_term, term_of}
 
 found_reads : (bytes : List ℕ) (one : OneOf bytes) (t : Term) → Reads bytes t → IsWithinLimits t → found_term bytes one ≡ Some t
 found_reads bytes (inl found) t r w = ap (λ (u : Term). Some u) (reads_one bytes found.0 t found.1 r)
-found_reads bytes (inr fault) t r w = absurd (fault.2 (no_fault bytes t fault.0 r w fault.1))
+found_reads bytes (inr fault) t r w = absurd (fault.2 (no_fault 65536 64 bytes t fault.0 r (w.size, w.levels) fault.1))
 
 -- the term that is read
 pub term_of-reads : (bytes : List ℕ) (t : Term) → Reads bytes t → IsWithinLimits t → term_of bytes ≡ Some t
@@ -21,7 +21,7 @@ unfolding term_of
 term_of-reads bytes t r w = found_reads bytes (has_one bytes) t r w
 
 found_fault : (bytes : List ℕ) (one : OneOf bytes) (f : TermFault) → HasFault bytes f → (f ≡ fault.NoMemory → ⊥) → found_term bytes one ≡ None
-found_fault bytes (inl found) f h n = absurd (n (no_fault bytes found.0 f found.1 found.2 h))
+found_fault bytes (inl found) f h n = absurd (n (no_fault 65536 64 bytes found.0 f found.1 (found.2.size, found.2.levels) h))
 found_fault bytes (inr fault) f h n = refl
 
 -- none where the bytes have a fault

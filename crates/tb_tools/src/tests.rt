@@ -194,7 +194,7 @@ fn ack(bench: &mut Bench, terms: &Terms) -> Result<&'static str, NoMemory> {
 }
 
 fn do_action(bench: &mut Bench, term: Term) -> Result<&'static str, NoMemory> {
-    if !bench.is_live(LANE) {
+    if !bench.can_eval(LANE) {
         return Ok("no");
     }
     bench.do_action(LANE, term)?;
