@@ -26,5 +26,8 @@ pub use laws::{
 };
 pub use offer::Offer;
 pub use plan::Plan;
+pub use ready::is_ready;
 pub use rewriter::Rewriter;
+pub use settings::{set_binds, tested, with_settings};
+pub use values::{accepted_binds, matched_patterns, sent_values};
 pub use walker::Walker;

@@ -18,7 +18,7 @@ const GREATEST_SIZE: usize = 65_536;
 
 /// The values that the act sends or looks at, where each is there and they are together within the
 /// limit of size.
-pub(crate) fn sent_values(
+pub fn sent_values(
     alloc: Global,
     store: &Store,
     atom: Option<&Atom>,
@@ -111,7 +111,7 @@ fn total_size(terms: &[Term]) -> usize
 }
 
 /// The patterns of an act that receives, or that looks at notes.
-pub(crate) fn matched_patterns(
+pub fn matched_patterns(
     alloc: Global,
     store: &Store,
     atom: Option<&Atom>,
@@ -154,7 +154,7 @@ fn patterns_of(alloc: Global, store: &Store, exprs: &[Expr]) -> Result<Option<Pa
 }
 
 /// What the act binds where it is given these terms.
-pub(crate) fn accepted_binds(
+pub fn accepted_binds(
     alloc: Global,
     store: &Store,
     atom: Option<&Atom>,
