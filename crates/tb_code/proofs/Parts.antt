@@ -1,5 +1,5 @@
 -- What stands at each position of a term, and of which parts it is built.
-use Rattle.std.proofs.Common.{◌≡◌, ℕ, zero, suc, ◌+◌, ◌-◌, ◌<◌, ◌≤◌, Bool, true, false, nat_lt, List, [], ◌∷◌, ◌++◌, length, slice_get, Option, Some, None, refl, ap, sym, subst, ◌∙◌, arith, ◌⊎◌, inl, inr}
+use Rattle.std.proofs.Common.{◌≡◌, ℕ, zero, suc, ◌+◌, ◌-◌, ◌<◌, ◌≤◌, Bool, true, false, nat_lt, List, [], ◌∷◌, ◌++◌, length, slice_get, Option, Some, None, IfSome, refl, ap, sym, subst, ◌∙◌, arith, ◌⊎◌, inl, inr}
 use Rattle.std.proofs.lemmas.Bool.{ltb-true, lt-ltb}
 use Rattle.tb_algebra.specs.Processes.{Process, At, Seq, Alt, Star, Par, If, When, Let}
 use Rattle.tb_code.specs.Positions.{size, table, positions, node, part, of_two, IsTwo, IsOne, HasParts}
@@ -113,7 +113,12 @@ stands_whole whole = record {
 pub record PartAt (whole : Process) (at : ℕ) : Type 0 where
   pub x : Process
   pub frame : Option ℕ
+  pub before : IfSome frame (λ f. f < at)
   pub stands : Stands whole at x (table x at frame)
+
+before-later : (frame : Option ℕ) (at later : ℕ) → at ≤ later → IfSome frame (λ f. f < at) → IfSome frame (λ f. f < later)
+before-later None at later h b = tt
+before-later (Some f) at later h b = omega arith
 
 moved : (whole : Process) (at i : ℕ) → suc at + i ≡ at + suc i
 moved whole at i = omega arith
@@ -135,36 +140,36 @@ in_two whole at i x y h one other = by_side (split i (size x))
         let m : suc at + size x + k.0 ≡ at + suc i = omega arith in
         subst (PartAt whole) m (other k.0 (omega arith))
 
-pub part_at : (whole : Process) (at : ℕ) (x : Process) (frame : Option ℕ) (i : ℕ) → Stands whole at x (table x at frame) → i < size x → PartAt whole (at + i)
-part_at whole at x frame zero s h = (let e : at ≡ at + 0 = omega arith in subst (PartAt whole) e (record { x = x; frame = frame; stands = s }))
-part_at whole at (At atom age) frame (suc i) s h = absurd (omega arith)
-part_at whole at (Seq x y) frame (suc i) s h =
+pub part_at : (whole : Process) (at : ℕ) (x : Process) (frame : Option ℕ) (i : ℕ) → IfSome frame (λ f. f < at) → Stands whole at x (table x at frame) → i < size x → PartAt whole (at + i)
+part_at whole at x frame zero b s h = (let e : at ≡ at + 0 = omega arith in subst (PartAt whole) e (record { x = x; frame = frame; before = b; stands = s }))
+part_at whole at (At atom age) frame (suc i) b s h = absurd (omega arith)
+part_at whole at (Seq x y) frame (suc i) b s h =
     in_two whole at i x y (omega arith)
-    (λ j k. part_at whole (suc at) x (Some at) j (stands_first whole at (Seq x y) x y _ (table x (suc at) (Some at)) (table y (suc at + size x) frame) (refl, λ n. refl) (length-table x (suc at) (Some at)) s) k)
-    (λ j k. part_at whole (suc at + size x) y frame j (stands_second whole at (Seq x y) x y _ (table x (suc at) (Some at)) (table y (suc at + size x) frame) (refl, λ n. refl) (length-table x (suc at) (Some at)) s) k)
-part_at whole at (Alt x y) frame (suc i) s h =
+    (λ j k. part_at whole (suc at) x (Some at) j (omega arith) (stands_first whole at (Seq x y) x y _ (table x (suc at) (Some at)) (table y (suc at + size x) frame) (refl, λ n. refl) (length-table x (suc at) (Some at)) s) k)
+    (λ j k. part_at whole (suc at + size x) y frame j (before-later frame at (suc at + size x) (omega arith) b) (stands_second whole at (Seq x y) x y _ (table x (suc at) (Some at)) (table y (suc at + size x) frame) (refl, λ n. refl) (length-table x (suc at) (Some at)) s) k)
+part_at whole at (Alt x y) frame (suc i) b s h =
     in_two whole at i x y (omega arith)
-    (λ j k. part_at whole (suc at) x frame j (stands_first whole at (Alt x y) x y _ (table x (suc at) frame) (table y (suc at + size x) frame) (refl, λ n. refl) (length-table x (suc at) frame) s) k)
-    (λ j k. part_at whole (suc at + size x) y frame j (stands_second whole at (Alt x y) x y _ (table x (suc at) frame) (table y (suc at + size x) frame) (refl, λ n. refl) (length-table x (suc at) frame) s) k)
-part_at whole at (Star x y) frame (suc i) s h =
+    (λ j k. part_at whole (suc at) x frame j (before-later frame at (suc at) (omega arith) b) (stands_first whole at (Alt x y) x y _ (table x (suc at) frame) (table y (suc at + size x) frame) (refl, λ n. refl) (length-table x (suc at) frame) s) k)
+    (λ j k. part_at whole (suc at + size x) y frame j (before-later frame at (suc at + size x) (omega arith) b) (stands_second whole at (Alt x y) x y _ (table x (suc at) frame) (table y (suc at + size x) frame) (refl, λ n. refl) (length-table x (suc at) frame) s) k)
+part_at whole at (Star x y) frame (suc i) b s h =
     in_two whole at i x y (omega arith)
-    (λ j k. part_at whole (suc at) x (Some at) j (stands_first whole at (Star x y) x y _ (table x (suc at) (Some at)) (table y (suc at + size x) frame) (refl, λ n. refl) (length-table x (suc at) (Some at)) s) k)
-    (λ j k. part_at whole (suc at + size x) y frame j (stands_second whole at (Star x y) x y _ (table x (suc at) (Some at)) (table y (suc at + size x) frame) (refl, λ n. refl) (length-table x (suc at) (Some at)) s) k)
-part_at whole at (Par x y) frame (suc i) s h =
+    (λ j k. part_at whole (suc at) x (Some at) j (omega arith) (stands_first whole at (Star x y) x y _ (table x (suc at) (Some at)) (table y (suc at + size x) frame) (refl, λ n. refl) (length-table x (suc at) (Some at)) s) k)
+    (λ j k. part_at whole (suc at + size x) y frame j (before-later frame at (suc at + size x) (omega arith) b) (stands_second whole at (Star x y) x y _ (table x (suc at) (Some at)) (table y (suc at + size x) frame) (refl, λ n. refl) (length-table x (suc at) (Some at)) s) k)
+part_at whole at (Par x y) frame (suc i) b s h =
     in_two whole at i x y (omega arith)
-    (λ j k. part_at whole (suc at) x frame j (stands_first whole at (Par x y) x y _ (table x (suc at) frame) (table y (suc at + size x) frame) (refl, λ n. refl) (length-table x (suc at) frame) s) k)
-    (λ j k. part_at whole (suc at + size x) y frame j (stands_second whole at (Par x y) x y _ (table x (suc at) frame) (table y (suc at + size x) frame) (refl, λ n. refl) (length-table x (suc at) frame) s) k)
-part_at whole at (If test x y) frame (suc i) s h =
+    (λ j k. part_at whole (suc at) x frame j (before-later frame at (suc at) (omega arith) b) (stands_first whole at (Par x y) x y _ (table x (suc at) frame) (table y (suc at + size x) frame) (refl, λ n. refl) (length-table x (suc at) frame) s) k)
+    (λ j k. part_at whole (suc at + size x) y frame j (before-later frame at (suc at + size x) (omega arith) b) (stands_second whole at (Par x y) x y _ (table x (suc at) frame) (table y (suc at + size x) frame) (refl, λ n. refl) (length-table x (suc at) frame) s) k)
+part_at whole at (If test x y) frame (suc i) b s h =
     in_two whole at i x y (omega arith)
-    (λ j k. part_at whole (suc at) x frame j (stands_first whole at (If test x y) x y _ (table x (suc at) frame) (table y (suc at + size x) frame) (refl, λ n. refl) (length-table x (suc at) frame) s) k)
-    (λ j k. part_at whole (suc at + size x) y frame j (stands_second whole at (If test x y) x y _ (table x (suc at) frame) (table y (suc at + size x) frame) (refl, λ n. refl) (length-table x (suc at) frame) s) k)
-part_at whole at (When test x) frame (suc i) s h =
-    subst (PartAt whole) (moved whole at i) (part_at whole (suc at) x frame i (stands_only whole at (When test x) x _ (table x (suc at) frame) refl (λ n. refl) s) (omega arith))
-part_at whole at (Let settings x) frame (suc i) s h =
-    subst (PartAt whole) (moved whole at i) (part_at whole (suc at) x frame i (stands_only whole at (Let settings x) x _ (table x (suc at) frame) refl (λ n. refl) s) (omega arith))
+    (λ j k. part_at whole (suc at) x frame j (before-later frame at (suc at) (omega arith) b) (stands_first whole at (If test x y) x y _ (table x (suc at) frame) (table y (suc at + size x) frame) (refl, λ n. refl) (length-table x (suc at) frame) s) k)
+    (λ j k. part_at whole (suc at + size x) y frame j (before-later frame at (suc at + size x) (omega arith) b) (stands_second whole at (If test x y) x y _ (table x (suc at) frame) (table y (suc at + size x) frame) (refl, λ n. refl) (length-table x (suc at) frame) s) k)
+part_at whole at (When test x) frame (suc i) b s h =
+    subst (PartAt whole) (moved whole at i) (part_at whole (suc at) x frame i (before-later frame at (suc at) (omega arith) b) (stands_only whole at (When test x) x _ (table x (suc at) frame) refl (λ n. refl) s) (omega arith))
+part_at whole at (Let settings x) frame (suc i) b s h =
+    subst (PartAt whole) (moved whole at i) (part_at whole (suc at) x frame i (before-later frame at (suc at) (omega arith) b) (stands_only whole at (Let settings x) x _ (table x (suc at) frame) refl (λ n. refl) s) (omega arith))
 
 pub whole_at : (whole : Process) (at : ℕ) → at < size whole → PartAt whole at
-whole_at whole at h = (let e : 0 + at ≡ at = omega arith in subst (PartAt whole) e (part_at whole 0 whole None at (stands_whole whole) h))
+whole_at whole at h = (let e : 0 + at ≡ at = omega arith in subst (PartAt whole) e (part_at whole 0 whole None at tt (stands_whole whole) h))
 
 -- the parts of what stands at a position
 
@@ -188,7 +193,7 @@ one_part whole at make x xs e s =
     let first = (stands_here whole (suc at) x xs s).1 in
     let h = some_size x in
     let w = s.within in
-    record { here = e ∙ ap make (sym first); first = omega arith; }
+    record { here = e ∙ ap make (sym first); first = omega arith }
 
 abbrev FrameAt : Process → ℕ → Option ℕ → Type 0
 FrameAt whole at frame = (n : Node) → slice_get (positions whole) at ≡ Some n → (n.frame ≡ frame) × HasParts whole at n.op
@@ -244,6 +249,13 @@ pub has_parts : (whole : Process) (nodes : List Node) (at : ℕ) (n : Node) → 
 has_parts whole nodes at n e h k =
     let p = whole_at whole at h in
     (parts_of whole at p.x p.frame p.stands n (ap (λ (l : List Node). slice_get l at) (sym e) ∙ k)).1
+
+-- a frame stands before each position that it has
+pub frame_before : (whole : Process) (nodes : List Node) (at : ℕ) (n : Node) → nodes ≡ positions whole → at < size whole → slice_get nodes at ≡ Some n → IfSome n.frame (λ f. f < at)
+frame_before whole nodes at n e h k =
+    let p = whole_at whole at h in
+    let same = (parts_of whole at p.x p.frame p.stands n (ap (λ (l : List Node). slice_get l at) (sym e) ∙ k)).0 in
+    subst (λ (o : Option ℕ). IfSome o (λ f. f < at)) (sym same) p.before
 
 pub length-positions : (whole : Process) → length (positions whole) ≡ size whole
 unfolding positions

@@ -1,4 +1,4 @@
-ghost use Rattle.std.specs.Prelude.{◌≡◌, ◌++◌, ◌∷◌, [], ◌-◌, ◌<◌, Some, IfOk, OnOk, length, slice_get, slice_set};
+ghost use Rattle.std.specs.Prelude.{◌≡◌, ◌++◌, ◌∷◌, [], ◌-◌, ◌<◌, Some, IfOk, IfSome, OnOk, length, suc, slice_get, slice_set};
 ghost use Rattle.std.specs.Coded.{codes, coded_list};
 ghost use Rattle.std.specs.Option.{option_copied};
 ghost use Rattle.tb_code.specs.contracts.node.Node as node_row;
@@ -34,8 +34,18 @@ impl Code {
         requires { at < size (fresh self.now.body.tree) }
         ensures node { slice_get self.now.nodes at ≡ Some result.now }
         ensures parts { HasParts (fresh self.now.body.tree) at result.now.op }
+        ensures frame { IfSome result.now.frame (λ frame. frame < at) }
     {
         self.node_of(at)
+    }
+
+    /// The position of an operator's first part.
+    pub fn first(&self, at: usize) -> usize
+        requires { at < size (fresh self.now.body.tree) }
+        ensures { result ≡ suc at }
+    {
+        let _positions = self.nodes.len();
+        at + 1
     }
 
     fn node_of(&self, at: usize) -> &Node

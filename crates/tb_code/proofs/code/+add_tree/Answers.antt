@@ -46,9 +46,9 @@ returns-in_ok-add_tree-in-Par-2 t c =
 pub returns-in_ok-add_tree-in-Some-2 : goal.returns-in_ok-add_tree-in-Some-2
 returns-in_ok-add_tree-in-Some-2 t c =
     let is : c.args.tree.now ≡ tree.If c.in_ok-test-in-Some.test c.get-in-Some.result.now (Some c.get-in-Some-2.result.now) =
-        c.in-If.is ∙ ap (tree.If c.in-If.test c.in-If.x) c.in-Some.is ∙ ap (λ (x : Tree). tree.If c.in-If.test x (Some c.in-Some.y)) (sym c.get-in-Some.ensures)
-        ∙ ap (λ (y : Tree). tree.If c.in-If.test c.get-in-Some.result.now (Some y)) (sym c.get-in-Some-2.ensures)
-        ∙ ap (λ (e : Expr). tree.If e c.get-in-Some.result.now (Some c.get-in-Some-2.result.now)) (sym c.in_ok-test-in-Some.ensures) in
+    c.in-If.is ∙ ap (tree.If c.in-If.test c.in-If.x) c.in-Some.is ∙ ap (λ (x : Tree). tree.If c.in-If.test x (Some c.in-Some.y)) (sym c.get-in-Some.ensures)
+    ∙ ap (λ (y : Tree). tree.If c.in-If.test c.get-in-Some.result.now (Some y)) (sym c.get-in-Some-2.ensures)
+    ∙ ap (λ (e : Expr). tree.If e c.get-in-Some.result.now (Some c.get-in-Some-2.result.now)) (sym c.in_ok-test-in-Some.ensures) in
     let term = ap fresh is ∙ fresh-If c.in_ok-test-in-Some.test c.get-in-Some.result.now c.get-in-Some-2.result.now in
     added_two (op.If c.in_ok-test-in-Some.test) c.args.nodes.now c.open_node-in-Some.new.nodes c.add_tree-in-Some.new.nodes c.add_tree-in-Some-2.new.nodes c.set_node-in-Some.new.nodes (node (op.At 0) c.args.frame) (fresh c.get-in-Some.result.now) (fresh c.get-in-Some-2.result.now) c.args.frame c.args.frame c.in_ok-here-in-Some.here c.len-right-in-Some.result
     c.in_ok-here-in-Some.ensures.here c.in_ok-here-in-Some.ensures.opened c.in_ok-add_tree-in-Some.ensures c.len-right-in-Some.ensures c.in_ok-add_tree-in-Some-2.ensures c.set_node-in-Some.ensures
@@ -57,8 +57,8 @@ returns-in_ok-add_tree-in-Some-2 t c =
 pub returns-in_ok-push_node-in-None : goal.returns-in_ok-push_node-in-None
 returns-in_ok-push_node-in-None t c =
     let is : c.args.tree.now ≡ tree.If c.in_ok-test-in-None.test c.get-in-None.result.now None =
-        c.in-If.is ∙ ap (tree.If c.in-If.test c.in-If.x) c.in-None.is ∙ ap (λ (x : Tree). tree.If c.in-If.test x None) (sym c.get-in-None.ensures)
-        ∙ ap (λ (e : Expr). tree.If e c.get-in-None.result.now None) (sym c.in_ok-test-in-None.ensures) in
+    c.in-If.is ∙ ap (tree.If c.in-If.test c.in-If.x) c.in-None.is ∙ ap (λ (x : Tree). tree.If c.in-If.test x None) (sym c.get-in-None.ensures)
+    ∙ ap (λ (e : Expr). tree.If e c.get-in-None.result.now None) (sym c.in_ok-test-in-None.ensures) in
     let term = ap fresh is ∙ fresh-When c.in_ok-test-in-None.test c.get-in-None.result.now in
     on_ok_weaker c.add_tree-in-None.result (λ e. added_one c.args.nodes.now c.push_node-in-None.new.nodes c.add_tree-in-None.new.nodes (node (op.When c.in_ok-test-in-None.test) c.args.frame) (fresh c.get-in-None.result.now) c.args.frame c.in_ok-push_node-in-None.ensures e
     ∙ ap (λ (p : Process). c.args.nodes.now ++ table p (length c.args.nodes.now) c.args.frame) (sym term)) c.add_tree-in-None.ensures
@@ -66,7 +66,7 @@ returns-in_ok-push_node-in-None t c =
 pub returns-in_ok-push_node-in-Let : goal.returns-in_ok-push_node-in-Let
 returns-in_ok-push_node-in-Let t c =
     let is : c.args.tree.now ≡ tree.Let c.in_ok-settings-in-Let.settings c.get-in-Let.result.now =
-        c.in-Let.is ∙ ap (tree.Let c.in-Let.settings) (sym c.get-in-Let.ensures) ∙ ap (λ (s : List Setting). tree.Let s c.get-in-Let.result.now) (sym c.in_ok-settings-in-Let.ensures) in
+    c.in-Let.is ∙ ap (tree.Let c.in-Let.settings) (sym c.get-in-Let.ensures) ∙ ap (λ (s : List Setting). tree.Let s c.get-in-Let.result.now) (sym c.in_ok-settings-in-Let.ensures) in
     let term = ap fresh is ∙ fresh-Let c.in_ok-settings-in-Let.settings c.get-in-Let.result.now in
     on_ok_weaker c.add_tree-in-Let.result (λ e. added_one c.args.nodes.now c.push_node-in-Let.new.nodes c.add_tree-in-Let.new.nodes (node (op.Let c.in_ok-settings-in-Let.settings) c.args.frame) (fresh c.get-in-Let.result.now) c.args.frame c.in_ok-push_node-in-Let.ensures e
     ∙ ap (λ (p : Process). c.args.nodes.now ++ table p (length c.args.nodes.now) c.args.frame) (sym term)) c.add_tree-in-Let.ensures
