@@ -3,6 +3,8 @@
 
 mod code;
 mod node;
+#[cfg(test)]
+mod tests;
 
 pub use code::{Code, compile};
 pub use node::{Node, Op};
