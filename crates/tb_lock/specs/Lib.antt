@@ -1,0 +1,6 @@
+pub mod Rights
+pub mod Histories
+pub mod Seats
+pub mod Calls
+pub mod Rule
+pub mod Plays
