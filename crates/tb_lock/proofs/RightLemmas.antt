@@ -1,11 +1,13 @@
 -- Rights that were handed on, and rights that came together.
-use Rattle.std.proofs.Common.{◌≡◌, ◌⊎◌, ◌≤◌, ◌<◌, ◌+◌, ◌%◌, ◌==◌, ℕ, zero, suc, min, max, Bool, true, false, not, ◌&&◌, ◌||◌, true≢false, refl, sym, ap, ◌∙◌, subst, inl, inr, arith, eqb-true, eq-eqb}
+use Rattle.std.proofs.Common.{◌≡◌, ◌⊎◌, ◌≤◌, ◌<◌, ◌+◌, ◌%◌, ◌^◌, ◌==◌, ℕ, zero, suc, min, max, Bool, true, false, not, ◌&&◌, ◌||◌, true≢false, refl, sym, ap, ◌∙◌, subst, inl, inr, arith, eqb-true, eq-eqb}
 use Rattle.std.specs.Int.{bit_at}
 use Rattle.std.specs.Prelude.{bit_and, bit_or, ◌-◌, ◌↔◌, nat_eq}
-use Rattle.std.proofs.lemmas.Nat.Bits.{bit_at-lt, bit_at_and, bit_at_or, bit_at_xor, bit_at_ones, same_from_bits}
+use Rattle.std.proofs.lemmas.Nat.Bits.{bit_at-lt, bit_at_and, bit_at_or, bit_at_xor, bit_at_ones, bit_at-zero, bit_at_above, same_from_bits}
+use mathlib.Core.Logic.{dite}
+use native.Mathlib.Decide.{dec_lt}
 use Rattle.tb_log.specs.Shapes.{IsLane}
 use Rattle.tb_lock.specs.declared.rights.Rights.{Rights}
-use Rattle.tb_lock.specs.Rights.{Right, Steps, Ticks, In, Out, has, has_lane, lanes_without, without, united, AreAmong}
+use Rattle.tb_lock.specs.Rights.{Right, Steps, Ticks, In, Out, has, has_lane, lanes_without, without, united, AreAmong, no_rights, all_rights}
 
 without_bit : (x y : ℕ) → x < 2 → y < 2 → ((x + min x y) % 2 == 1) ≡ ((x == 1) && not (y == 1))
 without_bit zero zero one other = refl
@@ -136,3 +138,23 @@ covers some rights =
       λ e. let h = all.0 e in among_by some rights h.0.0.0 h.0.0.1 h.0.1 h.1,
       λ h. all.1 (((h Steps, h Ticks), λ lane. h (In lane)), λ lane. h (Out lane)),
     )
+
+-- No rights are among any, and any are among all.
+
+no_lane : (lane : ℕ) → has_lane 0 lane ≡ false
+no_lane lane = ap (λ (n : ℕ). n == 1) (bit_at-zero (lane - 1))
+
+pub none_among : (rights : Rights) → AreAmong no_rights rights
+none_among rights Steps e = absurd (true≢false (sym e))
+none_among rights Ticks e = absurd (true≢false (sym e))
+none_among rights (In lane) e = absurd (true≢false (sym e ∙ no_lane lane))
+none_among rights (Out lane) e = absurd (true≢false (sym e ∙ no_lane lane))
+
+lanes_all : (lanes : ℕ) → lanes < 2 ^ 16 → AreLanesAmong lanes 65535
+lanes_all lanes fits lane e =
+    dite (dec_lt (lane - 1) 16)
+    (λ low. ap (λ (n : ℕ). n == 1) (bit_at_ones 16 (lane - 1) low))
+    (λ high. absurd (true≢false (sym e ∙ ap (λ (n : ℕ). n == 1) (bit_at_above lanes 16 (lane - 1) fits (omega arith)))))
+
+pub all_among : (some : Rights) → some.ins < 2 ^ 16 → some.outs < 2 ^ 16 → AreAmong some all_rights
+all_among some ins outs = among_by some all_rights (λ _. refl) (λ _. refl) (lanes_all some.ins ins) (lanes_all some.outs outs)

@@ -1,0 +1,107 @@
+ghost use Rattle.std.specs.Prelude.{◌≡◌, ◌≤◌, IfOk};
+ghost use Rattle.tb_lock.specs.Seats.{first_seat};
+
+use crate::workers::{Bus, crowd, hand_in_ticks, make_steps};
+use crate::{Rights, Seat, Shared};
+use std::alloc::Global;
+use std::test::Fail;
+use tb_body::{Act, Atom, Body, Program, Root, Tree};
+use tb_core::{Core, CoreFault, Stepped};
+use tb_log::{Entry, Input, Reply};
+use tb_terms::{Boxed, Items};
+
+/// `tau * delta`: steps without end.
+fn taus(alloc: Global) -> Result<Program, Fail> {
+    let mut atoms = Items::new(alloc);
+    for act in [Act::Tau, Act::Delta] {
+        atoms.push(Atom {
+            act,
+            times: Items::new(alloc),
+        })?;
+    }
+    let tree = Tree::Star(
+        Boxed::new(alloc, Tree::At(1))?,
+        Boxed::new(alloc, Tree::At(2))?,
+    );
+    let body = Body::new(alloc, tree, atoms, Items::new(alloc), 0)?.ok_or("a body")?;
+    let mut bodies = Items::new(alloc);
+    bodies.push(body)?;
+    let mut roots = Items::new(alloc);
+    roots.push(Root {
+        process: 0,
+        actuals: Items::new(alloc),
+    })?;
+    Ok(Program::new(bodies, roots, Items::new(alloc)).ok_or("a program")?)
+}
+
+/// A bus of that program, for at most so many entries.
+fn shared(alloc: Global, limit: u32) -> Result<(Bus, Seat), Fail>
+    requires { limit ≤ 4000000 }
+    ensures { IfOk result (λ made. made.1 ≡ first_seat made.0 made.1.origin) }
+{
+    let core = Core::start(alloc, taus(alloc)?, limit)?;
+    match Shared::make(alloc, core) {
+        Ok(made) => Ok(made),
+        Err(_) => Err("no room")?,
+    }
+}
+
+/// How many of the entries say that a step was made.
+fn count_steps(log: &[Entry]) -> usize {
+    log.iter()
+        .filter(|entry| matches!(entry, Entry::Did(_)))
+        .count()
+}
+
+/// The right to hand in ticks alone.
+static TICKS: Rights = Rights {
+    steps: false,
+    ticks: true,
+    ins: 0,
+    outs: 0,
+};
+
+#[test]
+fn two_seats_make_one_history(rt: HostRuntime) -> Result<(), Fail> {
+    let (bus, mut seat) = shared(rt.alloc(), 1_000)?;
+    let other = bus.split(&mut seat, TICKS);
+    let (mut seat, made) = make_steps(&rt, &bus, seat);
+    let (other, handed) = hand_in_ticks(&rt, &bus, other);
+    bus.join(&mut seat, other);
+    let core = bus.close(&rt, seat);
+    let found = (made, handed, core.log().len(), count_steps(core.log()));
+    assert_eq!(rt; found, (true, true, 200, 100));
+    Ok(())
+}
+
+#[test]
+fn thirty_four_seats_of_which_some_stop(rt: HostRuntime) -> Result<(), Fail> {
+    let (bus, seat) = shared(rt.alloc(), 1_000)?;
+    let (mut seat, made) = crowd(&rt, &bus, seat, 33);
+    let step = bus.step(&rt, &mut seat);
+    let core = bus.close(&rt, seat);
+    let found = (made, core.log().len(), core.is_stopped(), step);
+    assert_eq!(rt; found, (200, 200, true, Err(CoreFault::Stopped)));
+    Ok(())
+}
+
+#[test]
+fn a_full_and_a_stopped_bus_refuse(rt: HostRuntime) -> Result<(), Fail> {
+    let (bus, mut seat) = shared(rt.alloc(), 2)?;
+    let step = bus.step(&rt, &mut seat);
+    let tick = bus.hand_in(&rt, &mut seat, Input::Tick);
+    let full = bus.step(&rt, &mut seat);
+    bus.stop(&rt, &mut seat);
+    let stopped = bus.hand_in(&rt, &mut seat, Input::Tick);
+    let core = bus.close(&rt, seat);
+    let found = (step, tick, full, stopped, core.log().len());
+    let wanted = (
+        Ok(Stepped::Did),
+        Ok(Reply::Took),
+        Err(CoreFault::Full),
+        Err(CoreFault::Stopped),
+        2,
+    );
+    assert_eq!(rt; found, wanted);
+    Ok(())
+}
