@@ -1,6 +1,5 @@
 -- What words ask for is within limits.
 use Rattle.std.proofs.Common.{◌≡◌, ◌≤◌, ◌+◌, ◌&&◌, ℕ, Bool, true, false, if◌then◌else◌, List, [], ◌∷◌, Option, Some, None, IfSome, length, arith, Result, Ok, Err, refl, subst, drop, unwrap_or, bytes_eq, nat_le, codes, lit≤}
-use Rattle.std.specs.Bool.{⊤}
 use Rattle.std.proofs.lemmas.Bool.{and_parts, leb-true}
 use Rattle.tb_read.specs.Spelling.{is_digits, digits_value}
 use Rattle.tb_top.specs.declared.words.Command.{Command}
@@ -9,7 +8,7 @@ use Rattle.tb_top.specs.declared.words.WordFault.{WordFault}
 use Rattle.tb_top.specs.declared.words.WordFault.TheVariants as fault
 use Rattle.tb_top.specs.declared.words.verb.Verb.{Verb}
 use Rattle.tb_top.specs.declared.words.verb.Verb.TheVariants as verb
-use Rattle.tb_top.specs.Words.{Found, Part, AnOption, AWord, and_connects, and_events, and_feed, and_script, and_steps, asked, asked_by, command_by, command_with, connect_by, connects_of, feed_by, is_connect, is_unbuilt, limit_by, limit_in, most_connects, most_limit, nothing, option_by, own_option_by, part_by, parts_ask, parts_from, read_next, read_parts, script_by, usual_limit, verb_by}
+use Rattle.tb_top.specs.Words.{Found, Part, AnOption, AWord, and_connects, and_events, and_feed, and_script, and_steps, asked, asked_by, command_by, command_with, connect_by, connects_of, feed_by, is_connect, is_unbuilt, limit_by, most_connects, most_limit, nothing, own_option_by, part_by, parts_from, read_next, read_parts, script_by, usual_limit, verb_by}
 use Rattle.tb_top.specs.Requests.{IsWithin}
 use Rattle.tb_top.proofs.WordConnects.{parts-connect}
 
