@@ -4,7 +4,7 @@ use Rattle.std.specs.List.{list_all}
 use Rattle.tb_terms.specs.declared.term.Term.{Term}
 use Rattle.tb_terms.specs.declared.expr.Expr.{Expr}
 use Rattle.tb_terms.specs.declared.pattern.Pattern.{Pattern}
-use Rattle.tb_terms.specs.Sizes.{term_size}
+use Rattle.tb_terms.specs.Sizes.{term_size, most_term_size}
 use Rattle.tb_func.specs.declared.slot.Slot.{Slot}
 use Rattle.tb_func.specs.Arguments.{int_of}
 use Rattle.tb_func.specs.Values.{value_of, all_of}
@@ -73,7 +73,7 @@ matched_exprs (Shutdown reason) = []
 
 -- the terms, where they are together within the limit of size
 abbrev pub limited_together : List Term → Option (List Term)
-limited_together terms = if nat_le (sum (map term_size terms)) 65536 then Some terms else None
+limited_together terms = if nat_le (sum (map term_size terms)) most_term_size then Some terms else None
 
 -- the values, where each expression has one and they are together within the limit
 abbrev pub values_together : List Slot → List Expr → Option (List Term)

@@ -11,13 +11,10 @@ use std::slice;
 use tb_body::{Act, Atom};
 use tb_func::{Store, eval, pattern};
 use tb_match::{Binds, match_list};
-use tb_terms::{Expr, Items, NoMemory, Patterns, Term, Terms, size};
+use tb_terms::{Expr, Items, MOST_TERM_SIZE, NoMemory, Patterns, Term, Terms, size};
 
-/// How large the terms of one atom may be together.
-const GREATEST_SIZE: usize = 65_536;
-
-/// The values that the act sends or looks at, where each is there and they are together within the
-/// limit of size.
+/// The values that the act sends or looks at, where each is there and they are together no larger
+/// than a term may be.
 pub(crate) fn sent_values(
     alloc: Global,
     store: &Store,
@@ -89,11 +86,11 @@ fn eval_all(alloc: Global, store: &Store, exprs: &[Expr]) -> Result<Option<Terms
     Ok(Some(terms))
 }
 
-/// The terms, where they are together within the limit of size.
+/// The terms, where they are together no larger than a term may be.
 fn limited_together(terms: Terms) -> Option<Terms>
     ensures { result ≡ limited_together terms }
 {
-    if total_size(terms.as_slice()) <= GREATEST_SIZE {
+    if total_size(terms.as_slice()) <= MOST_TERM_SIZE {
         Some(terms)
     } else {
         None

@@ -4,7 +4,7 @@ use Rattle.std.specs.List.{list_all}
 use Rattle.tb_terms.specs.declared.term.Term.{Term}
 use Rattle.tb_terms.specs.declared.sort.Sort.{Sort}
 use Rattle.tb_terms.specs.Sorts.{has_sort}
-use Rattle.tb_terms.specs.Sizes.{term_size, term_levels}
+use Rattle.tb_terms.specs.Sizes.{term_size, term_levels, most_term_size, most_term_levels}
 use Rattle.tb_body.specs.declared.act.Act.{Act}
 use Rattle.tb_body.specs.declared.act.Act.TheVariants.{Delta, Tau, SndMsg, RecMsg, SndNote, RecNote, NoNote, Subscribe, Unsubscribe, Create, Set, Printf, Execute, RecConnect, RecDisconnectAny, RecDisconnect, SndEval, RecValue, SndDo, RecEvent, SndAckEvent, SndTerminate, Shutdown}
 use Rattle.tb_body.specs.declared.atom.Atom.{Atom}
@@ -53,7 +53,7 @@ is_body_in_program bodies tools body = list_all (λ (atom : Atom). is_act_in_pro
 
 -- a term of a root is within the limits
 abbrev pub is_limited : Term → Bool
-is_limited term = nat_le (term_size term) 65536 && nat_le (term_levels term) 64
+is_limited term = nat_le (term_size term) most_term_size && nat_le (term_levels term) most_term_levels
 
 -- each term has the sort at its place
 abbrev pub have_sorts : List Sort → List Term → Bool

@@ -4,13 +4,9 @@ ghost use Rattle.tb_body.specs.Programs.{are_actuals, has_command, have_sorts, i
 
 use crate::{Act, Atom, Body, Root, Tool};
 use sqlite_items::at;
-use tb_terms::{Sort, Term, depth, has_sort, size};
+use tb_terms::{MOST_TERM_LEVELS, MOST_TERM_SIZE, Sort, Term, depth, has_sort, size};
 
 const MOST_ROOTS: usize = 10_000;
-
-const MOST_SIZE: usize = 65_536;
-
-const MOST_DEPTH: usize = 64;
 
 /// Whether each process and each root says only of processes and tools what holds of them.
 #[tactic(auto, unfolding(crate::specs::Programs::is_program_in_range))]
@@ -142,5 +138,5 @@ fn are_limited(terms: &[Term]) -> bool
 fn is_limited(term: &Term) -> bool
     ensures { result ≡ is_limited term.now }
 {
-    size(term) <= MOST_SIZE && depth(term) <= MOST_DEPTH
+    size(term) <= MOST_TERM_SIZE && depth(term) <= MOST_TERM_LEVELS
 }

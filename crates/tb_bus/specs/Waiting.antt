@@ -2,7 +2,7 @@
 use Rattle.std.specs.Prelude.{◌≤◌, List, length, IfSome, ⊤}
 use Rattle.std.specs.List.{All}
 use Rattle.tb_terms.specs.declared.term.Term.{Term}
-use Rattle.tb_terms.specs.Sizes.{term_levels, IsWithinLimits}
+use Rattle.tb_terms.specs.Sizes.{term_levels, most_term_levels, IsWithinLimits}
 use Rattle.tb_func.specs.declared.slot.Slot.{Slot}
 use Rattle.tb_log.specs.Shapes.{AreParts, IsOutInShape}
 use Rattle.tb_tools.specs.declared.stage.Eval.{Eval}
@@ -10,10 +10,10 @@ use Rattle.tb_tools.specs.declared.stage.Eval.TheVariants.{Closed, Asked, Answer
 use Rattle.tb_tools.specs.Lanes.{Tool, Lane, BenchState}
 use Rattle.tb_bus.specs.Buses.{Bus, Proc}
 
--- The value of a slot has at most 64 levels. Its size has no limit of its own, since the first value of a tool's variable
+-- The value of a slot has no more levels than a term may have. Its size has no limit of its own, since the first value of a tool's variable
 -- may be larger; what is sent is measured then.
 abbrev pub IsShallow : Term → Type 0
-IsShallow term = term_levels term ≤ 64
+IsShallow term = term_levels term ≤ most_term_levels
 
 abbrev pub IsShallowStore : List Slot → Type 0
 IsShallowStore store = All (λ (slot : Slot). IsShallow slot.value) store

@@ -16,13 +16,10 @@ use sqlite_items::at;
 use std::alloc::Global;
 use tb_body::Program;
 use tb_match::{Bind, match_list};
-use tb_terms::{Items, Name, NoMemory, Patterns, Term, Terms, depth, size};
+use tb_terms::{
+    Items, MOST_TERM_LEVELS, MOST_TERM_SIZE, Name, NoMemory, Patterns, Term, Terms, depth, size,
+};
 use tb_tools::{Bench, Stage};
-
-/// The most a term may have in size, and the most levels.
-const MOST_SIZE: usize = 65_536;
-
-const MOST_DEPTH: usize = 64;
 
 /// A process that may speak with tools: its body among those of a program, and the lanes on which the tools stand.
 #[derive(Drop)]
@@ -345,7 +342,7 @@ fn takes(speaker: &Speaker, slot: u32, tool: &Term) -> bool
 fn is_limited(term: &Term) -> bool
     ensures { result ≡ is_limited term.now }
 {
-    size(term) <= MOST_SIZE && depth(term) <= MOST_DEPTH
+    size(term) <= MOST_TERM_SIZE && depth(term) <= MOST_TERM_LEVELS
 }
 
 /// On a lane, where a slot takes the tool.

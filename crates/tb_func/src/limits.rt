@@ -1,16 +1,13 @@
 ghost use Rattle.std.specs.Prelude.{◌≡◌, ◌&&◌, nat_le};
+ghost use Rattle.tb_terms.specs.Sizes.{most_term_size, most_term_levels};
 ghost use Rattle.tb_func.specs.Limits.{is_within_limits, limited};
 
-use tb_terms::{Term, depth, size};
-
-const GREATEST_SIZE: usize = 65_536;
-
-const MOST_LEVELS: usize = 64;
+use tb_terms::{MOST_TERM_LEVELS, MOST_TERM_SIZE, Term, depth, size};
 
 pub(crate) fn are_within_limits(size: usize, levels: usize) -> bool
-    ensures { result ≡ (nat_le size 65536 && nat_le levels 64) }
+    ensures { result ≡ (nat_le size most_term_size && nat_le levels most_term_levels) }
 {
-    size <= GREATEST_SIZE && levels <= MOST_LEVELS
+    size <= MOST_TERM_SIZE && levels <= MOST_TERM_LEVELS
 }
 
 #[tactic(auto, unfolding(crate::specs::Limits::is_within_limits))]

@@ -5,7 +5,7 @@ use Rattle.std.specs.Str.{bytes_eq}
 use Rattle.tb_terms.specs.declared.term.Term.{Term, out-Term}
 use Rattle.tb_terms.specs.declared.term.Term.TheOpen.{Term-F}
 use Rattle.tb_terms.specs.declared.term.Term.TheOpen as layer
-use Rattle.tb_terms.specs.Sizes.{term_size, term_levels}
+use Rattle.tb_terms.specs.Sizes.{term_size, term_levels, most_term_size, most_term_levels}
 use Rattle.tb_log.specs.declared.entry.ToolLine.{ToolLine}
 use Rattle.tb_log.specs.declared.entry.ToolLine.TheVariants.{Value, Event, Connect, Disconnect, Bad}
 use Rattle.tb_log.specs.Limits.{terms_size}
@@ -13,11 +13,11 @@ use Rattle.tb_read.specs.Spelling.{Reads}
 
 -- a part of a line is within the limits of a term; the name around the parts isn't counted
 abbrev pub is_within : Term → Bool
-is_within part = nat_le (term_size part) 65536 && nat_le (term_levels part) 64
+is_within part = nat_le (term_size part) most_term_size && nat_le (term_levels part) most_term_levels
 
 -- and all parts of a line are no larger together than a term may be
 abbrev pub are_within : List Term → Bool
-are_within parts = list_all is_within parts && nat_le (terms_size parts) 65536
+are_within parts = list_all is_within parts && nat_le (terms_size parts) most_term_size
 
 -- the part that has no other beside it
 abbrev pub only : List Term → Option Term

@@ -4,12 +4,7 @@ ghost use Rattle.tb_terms.specs.declared.term.Term.{out-Term};
 ghost use Rattle.tb_lane.specs.ToolLines.{is_within, are_within, only, value_line, event_line, connect_line, named_line, name_line, disconnect_line, line_by_name, line_of};
 
 use tb_log::{ToolLine, total_size};
-use tb_terms::{Name, Term, Terms, depth, size};
-
-/// How large a term may be, and how many levels it may have.
-const MOST_SIZE: usize = 65_536;
-
-const MOST_LEVELS: usize = 64;
+use tb_terms::{MOST_TERM_LEVELS, MOST_TERM_SIZE, Name, Term, Terms, depth, size};
 
 /// How many bytes the name of a tool may have.
 const MOST_NAME: usize = 65_534;
@@ -108,13 +103,13 @@ fn only(mut parts: Terms) -> Option<Term>
 fn is_within(part: &Term) -> bool
     ensures { result ≡ is_within part.now }
 {
-    size(part) <= MOST_SIZE && depth(part) <= MOST_LEVELS
+    size(part) <= MOST_TERM_SIZE && depth(part) <= MOST_TERM_LEVELS
 }
 
 fn are_within(parts: &[Term]) -> bool
     ensures { result ≡ are_within parts.now }
 {
-    all_within(parts) && total_size(parts) <= MOST_SIZE
+    all_within(parts) && total_size(parts) <= MOST_TERM_SIZE
 }
 
 fn all_within(parts: &[Term]) -> bool

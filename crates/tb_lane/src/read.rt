@@ -6,7 +6,7 @@ use crate::line::line_of;
 use std::alloc::Global;
 use tb_log::ToolLine;
 use tb_read::{Limits, TermFault, read_within};
-use tb_terms::NoMemory;
+use tb_terms::{MOST_TERM_LEVELS, MOST_TERM_SIZE, NoMemory};
 
 /// How many bytes a line may have.
 const MOST_BYTES: usize = 65_536;
@@ -21,8 +21,8 @@ pub fn read_tool_line(alloc: Global, bytes: &[u8]) -> Result<ToolLine, NoMemory>
     }
     // The name around the parts, which have the limits of terms, is one more node and level.
     let limits = Limits {
-        size: 65_536 + 16,
-        levels: 64 + 1,
+        size: MOST_TERM_SIZE + 16,
+        levels: MOST_TERM_LEVELS + 1,
     };
     match read_within(alloc, bytes, limits) {
         Ok(term) => Ok(line_of(term)),

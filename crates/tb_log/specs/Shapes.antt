@@ -2,7 +2,7 @@
 use Rattle.std.specs.Prelude.{◌≡◌, ℕ, ◌≤◌, Bool, ◌&&◌, ◌||◌, ◌==◌, nat_le, List, [], ◌∷◌, length, IsTrue, codes}
 use Rattle.std.specs.List.{All}
 use Rattle.std.specs.Str.{bytes_eq}
-use Rattle.tb_terms.specs.Sizes.{IsWithinLimits}
+use Rattle.tb_terms.specs.Sizes.{most_term_size, IsWithinLimits}
 use Rattle.tb_terms.specs.declared.term.Term.{Term, out-Term}
 use Rattle.tb_terms.specs.declared.term.Term.TheOpen.{Term-F}
 use Rattle.tb_terms.specs.declared.term.Term.TheOpen as layer
@@ -65,7 +65,7 @@ pub record IsLabelInShape (label : Label) : Type 0 where
 -- a term may be. The name around them isn't counted.
 pub record AreParts (parts : List Term) : Type 0 where
   pub each : All IsWithinLimits parts
-  pub together : terms_size parts ≤ 65536
+  pub together : terms_size parts ≤ most_term_size
 
 -- a line that a tool may put, or a bad one; the term of a tool, which is its name with a number, is 2 larger than the name
 abbrev pub IsToolLineInShape : ToolLine → Type 0

@@ -7,13 +7,7 @@ ghost use Rattle.tb_log.specs.Shapes.{InShape, IsInputInShape, IsToolLineInShape
 
 use crate::entry::{Entry, Input, Label, LabelKind, Out, Place, ToolLine};
 use crate::log::total_size;
-use tb_terms::{Term, depth, size};
-
-/// How large a term may be, and all parts of one line between the bus and a tool.
-const MOST_PARTS: usize = 65_536;
-
-/// How many levels a term may have.
-const MOST_LEVELS: usize = 64;
+use tb_terms::{MOST_TERM_LEVELS, MOST_TERM_SIZE, Term, depth, size};
 
 /// How long a tool's name may be: with its parentheses it is as long as a term may be.
 const LONGEST_NAME: usize = 65_534;
@@ -149,7 +143,7 @@ fn is_word(name: &[u8], word: &[u8]) -> bool
 fn are_parts(terms: &[Term]) -> bool
     ensures { IsTrue result ↔ AreParts terms.now }
 {
-    are_within_limits(terms) && total_size(terms) <= MOST_PARTS
+    are_within_limits(terms) && total_size(terms) <= MOST_TERM_SIZE
 }
 
 fn are_within_limits(terms: &[Term]) -> bool
@@ -166,5 +160,5 @@ fn are_within_limits(terms: &[Term]) -> bool
 fn is_within_limits(term: &Term) -> bool
     ensures { IsTrue result ↔ IsWithinLimits term.now }
 {
-    size(term) <= MOST_PARTS && depth(term) <= MOST_LEVELS
+    size(term) <= MOST_TERM_SIZE && depth(term) <= MOST_TERM_LEVELS
 }

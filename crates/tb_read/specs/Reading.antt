@@ -1,6 +1,6 @@
 -- Which fault bytes have that are no term within limits of size and levels.
 use Rattle.std.specs.Prelude.{ℕ, ◌<◌, ◌≤◌, List, Some}
-use Rattle.tb_terms.specs.Sizes.{term_size, term_levels}
+use Rattle.tb_terms.specs.Sizes.{term_size, term_levels, most_term_size, most_term_levels}
 use Rattle.tb_terms.specs.declared.term.Term.{Term}
 use Rattle.tb_read.specs.Scanning.{Scans}
 use Rattle.tb_read.specs.Spelling.{Reads}
@@ -27,4 +27,4 @@ HasFaultWithin size levels bytes fault.NoMemory = Unit {0}
 
 -- the same for the limits that every term has
 abbrev pub HasFault : List ℕ → TermFault → Type 0
-HasFault bytes fault = HasFaultWithin 65536 64 bytes fault
+HasFault bytes fault = HasFaultWithin most_term_size most_term_levels bytes fault

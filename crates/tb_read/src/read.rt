@@ -12,7 +12,7 @@ use crate::limits::{Limits, tokens_levels, tokens_size};
 use crate::scan::scan;
 use crate::token::Token;
 use std::alloc::Global;
-use tb_terms::Term;
+use tb_terms::{MOST_TERM_LEVELS, MOST_TERM_SIZE, Term};
 
 /// The term that the bytes read as, where it is within the limits of size and levels.
 pub fn read_term(alloc: Global, bytes: &[u8]) -> Result<Term, TermFault>
@@ -28,8 +28,8 @@ pub fn read_term(alloc: Global, bytes: &[u8]) -> Result<Term, TermFault>
         → (result ≡ Err f) ⊎ (result ≡ Err TermFault.NoMemory) }
 {
     let limits = Limits {
-        size: 65_536,
-        levels: 64,
+        size: MOST_TERM_SIZE,
+        levels: MOST_TERM_LEVELS,
     };
     read_within(alloc, bytes, limits)
 }

@@ -27,6 +27,13 @@ levels_step (ListOf parts) = 1 + greatest parts
 abbrev pub term_levels : Term → ℕ
 term_levels = fold-Term ℕ levels_step
 
+-- how large a term may be, and how many levels it may have
+abbrev pub most_term_size : ℕ
+most_term_size = 65536
+
+abbrev pub most_term_levels : ℕ
+most_term_levels = 64
+
 pub record IsWithinLimits (term : Term) : Type 0 where
-  pub size : term_size term ≤ 65536
-  pub levels : term_levels term ≤ 64
+  pub size : term_size term ≤ most_term_size
+  pub levels : term_levels term ≤ most_term_levels

@@ -3,6 +3,12 @@ ghost use Rattle.tb_terms.specs.Sizes.{term_size, term_levels, greatest};
 
 use crate::Term;
 
+/// How large a term may be.
+pub const MOST_TERM_SIZE: usize = 65_536;
+
+/// How many levels a term may have.
+pub const MOST_TERM_LEVELS: usize = 64;
+
 /// One for each node, and the bytes of the names and strings. The greatest `usize` stands for all
 /// greater numbers.
 #[cycle(size)]
