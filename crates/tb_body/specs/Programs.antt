@@ -4,7 +4,7 @@ use Rattle.std.specs.List.{list_all}
 use Rattle.tb_terms.specs.declared.term.Term.{Term}
 use Rattle.tb_terms.specs.declared.sort.Sort.{Sort}
 use Rattle.tb_terms.specs.Sorts.{has_sort}
-use Rattle.tb_terms.specs.Sizes.{term_size, term_levels, most_term_size, most_term_levels}
+use Rattle.tb_terms.specs.Sizes.{is_within_limits}
 use Rattle.tb_body.specs.declared.act.Act.{Act}
 use Rattle.tb_body.specs.declared.act.Act.TheVariants.{Delta, Tau, SndMsg, RecMsg, SndNote, RecNote, NoNote, Subscribe, Unsubscribe, Create, Set, Printf, Execute, RecConnect, RecDisconnectAny, RecDisconnect, SndEval, RecValue, SndDo, RecEvent, SndAckEvent, SndTerminate, Shutdown}
 use Rattle.tb_body.specs.declared.atom.Atom.{Atom}
@@ -51,19 +51,15 @@ is_act_in_program bodies tools (Shutdown expr) = true
 abbrev pub is_body_in_program : List Body → List Tool → Body → Bool
 is_body_in_program bodies tools body = list_all (λ (atom : Atom). is_act_in_program bodies tools atom.act) body.atoms
 
--- a term of a root is within the limits
-abbrev pub is_limited : Term → Bool
-is_limited term = nat_le (term_size term) most_term_size && nat_le (term_levels term) most_term_levels
-
 -- each term has the sort at its place
 abbrev pub have_sorts : List Sort → List Term → Bool
 have_sorts sorts [] = true
 have_sorts [] (term ∷ terms) = false
 have_sorts (sort ∷ sorts) (term ∷ terms) = has_sort term sort && have_sorts sorts terms
 
--- the values of the formals
+-- the values of the formals, each within the limits of a term
 abbrev pub are_actuals : Body → List Term → Bool
-are_actuals body terms = length terms == body.formals && have_sorts body.sorts terms && list_all is_limited terms
+are_actuals body terms = length terms == body.formals && have_sorts body.sorts terms && list_all is_within_limits terms
 
 abbrev pub starts : Option Body → List Term → Bool
 starts None actuals = false

@@ -1,10 +1,11 @@
 ghost use Rattle.std.specs.Prelude.{◌≡◌, slice_get};
 ghost use Rattle.std.specs.List.{list_all};
-ghost use Rattle.tb_body.specs.Programs.{are_actuals, has_command, have_sorts, is_act_in_program, is_body_in_program, is_limited, is_program_in_range, is_root_in_range, takes};
+ghost use Rattle.tb_terms.specs.Sizes.{is_within_limits};
+ghost use Rattle.tb_body.specs.Programs.{are_actuals, has_command, have_sorts, is_act_in_program, is_body_in_program, is_program_in_range, is_root_in_range, takes};
 
 use crate::{Act, Atom, Body, Root, Tool};
 use sqlite_items::at;
-use tb_terms::{MOST_TERM_LEVELS, MOST_TERM_SIZE, Sort, Term, depth, has_sort, size};
+use tb_terms::{Sort, Term, has_sort, is_within_limits};
 
 const MOST_ROOTS: usize = 10_000;
 
@@ -103,7 +104,7 @@ fn are_actuals(body: &Body, actuals: &[Term]) -> bool
 {
     actuals.len() == body.formals as usize
         && have_sorts(body.sorts.as_slice(), actuals)
-        && are_limited(actuals)
+        && are_within_limits(actuals)
 }
 
 /// Whether each term has the sort at its place.
@@ -123,20 +124,13 @@ fn have_sorts(sorts: &[Sort], terms: &[Term]) -> bool
     true
 }
 
-fn are_limited(terms: &[Term]) -> bool
-    ensures { result ≡ list_all is_limited terms.now }
+fn are_within_limits(terms: &[Term]) -> bool
+    ensures { result ≡ list_all is_within_limits terms.now }
 {
     for term in terms {
-        if !is_limited(term) {
+        if !is_within_limits(term) {
             return false;
         }
     }
     true
-}
-
-/// Whether a term of a root is within the limits.
-fn is_limited(term: &Term) -> bool
-    ensures { result ≡ is_limited term.now }
-{
-    size(term) <= MOST_TERM_SIZE && depth(term) <= MOST_TERM_LEVELS
 }

@@ -6,7 +6,8 @@ use Rattle.std.proofs.lemmas.List.Elements.{All-nil, All-cons, All-head, All-tai
 use Rattle.tb_terms.specs.declared.term.Term.{Term}
 use Rattle.tb_terms.specs.declared.sort.Sort.{Sort}
 use Rattle.tb_terms.specs.declared.pattern.Pattern.{Pattern}
-use Rattle.tb_terms.specs.Sizes.{IsWithinLimits}
+use Rattle.tb_terms.specs.Sizes.{is_within_limits, IsWithinLimits}
+use Rattle.tb_terms.proofs.LimitLemmas.{within-limits}
 use Rattle.tb_func.specs.declared.slot.Slot.{Slot}
 use Rattle.tb_func.specs.Stores.{fresh_slot, with_value}
 use Rattle.tb_match.specs.declared.bind.Bind.{Bind}
@@ -14,7 +15,7 @@ use Rattle.tb_match.specs.Matches.{match_list}
 use Rattle.tb_body.specs.declared.body.Body.{Body}
 use Rattle.tb_body.specs.declared.program.Root.{Root}
 use Rattle.tb_body.specs.declared.program.Tool.{Tool as ToolKind}
-use Rattle.tb_body.specs.Programs.{is_limited, have_sorts, starts, is_root_in_range, is_program_in_range}
+use Rattle.tb_body.specs.Programs.{have_sorts, starts, is_root_in_range, is_program_in_range}
 use Rattle.tb_notes.specs.Inboxes.{Held, nothing, subscribed, unsubscribed, wants, with_note, without_note}
 use Rattle.tb_algebra.specs.Processes.{Process, fresh}
 use Rattle.tb_algebra.specs.Binds.{with_binds}
@@ -39,7 +40,7 @@ use Rattle.tb_bus.proofs.LevelLemmas.{AreShallowBinds, initial-shallow, shallow-
 use Rattle.tb_bus.proofs.SentLemmas.{IsActionInShape, action-in-shape}
 use Rattle.tb_bus.proofs.LaneShapes.{all-remove, gone_down-in, handed_out-in, next_out-in, gone-in, cut-in, put_line-in, opening-in}
 use Rattle.tb_bus.proofs.OrderLemmas.{All-flat_map, All-one}
-use Rattle.tb_bus.proofs.EffectShapes.{one-part, finish-within, halt-within, limited-within, all-levels, IsChangeInShape, effect-in-shape}
+use Rattle.tb_bus.proofs.EffectShapes.{one-part, finish-within, halt-within, all-levels, IsChangeInShape, effect-in-shape}
 use Rattle.tb_bus.proofs.ReachedLemmas.{IsReadyFor, IsMoveOf, step-made}
 
 -- processes
@@ -203,11 +204,11 @@ legal-in_shape bus next (Gave lane out) h legal = record {
 
 -- the opening bus
 
-limited-levels : (terms : List Term) → list_all is_limited terms ≡ true → All IsShallow terms
+limited-levels : (terms : List Term) → list_all is_within_limits terms ≡ true → All IsShallow terms
 limited-levels [] h = All-nil IsShallow
 limited-levels (term ∷ terms) h =
-    let parts = and_parts (is_limited term) (list_all is_limited terms) h in
-    let within = limited-within term parts.0 in
+    let parts = and_parts (is_within_limits term) (list_all is_within_limits terms) h in
+    let within = within-limits term parts.0 in
     All-cons IsShallow term terms within.levels (limited-levels terms parts.1)
 
 root-in : (number : ℕ) (root : Root) (body : Option Body) → starts body root.actuals ≡ true → AreInShape (opened_one number root.process root.actuals body)
@@ -215,7 +216,7 @@ root-in number root None h = All-nil IsProcInShape
 root-in number root (Some body) h =
     let actuals = root.actuals in
     opened_one-in number root.process actuals (Some body)
-    (limited-levels actuals (and_parts (length actuals == body.formals && have_sorts body.sorts actuals) (list_all is_limited actuals) h).1)
+    (limited-levels actuals (and_parts (length actuals == body.formals && have_sorts body.sorts actuals) (list_all is_within_limits actuals) h).1)
 
 roots-in : (bodies : List Body) (number : ℕ) (roots : List Root) → list_all (is_root_in_range bodies) roots ≡ true → AreInShape (opened bodies number roots)
 roots-in bodies number [] h = All-nil IsProcInShape

@@ -2,7 +2,7 @@
 use Rattle.std.proofs.Common.{◌≡◌, ℕ, ◌+◌, ◌≤◌, ◌==◌, Bool, true, false, nat_le, List, [], ◌∷◌, ◌++◌, length, slice_get, Option, Some, None, IfSome, MatchOption, is_some, option_map, option_and_then, option_to_list, if◌then◌else◌, refl, ap, sym, ◌∙◌, subst, arith, pos, codes}
 use Rattle.std.specs.Prelude.{⊤}
 use Rattle.std.specs.List.{All, list_all}
-use Rattle.std.proofs.lemmas.Bool.{and_parts, leb-true, le-leb}
+use Rattle.std.proofs.lemmas.Bool.{le-leb}
 use Rattle.std.proofs.lemmas.Bool.Decides.{nat_tests}
 use Rattle.std.proofs.lemmas.List.{length_push, length-append}
 use Rattle.std.proofs.lemmas.Option.{get_or_from_slice_get}
@@ -11,9 +11,9 @@ use Rattle.tb_terms.specs.declared.term.Term.{Term}
 use Rattle.tb_terms.specs.declared.pattern.Pattern.{Pattern}
 use Rattle.tb_terms.specs.Sizes.{term_size, term_levels, size_step, levels_step, IsWithinLimits}
 use Rattle.tb_terms.proofs.Induction.{fold-Int, fold-Appl}
+use Rattle.tb_terms.proofs.LimitLemmas.{within-limits}
 use Rattle.tb_match.specs.declared.bind.Bind.{Bind}
 use Rattle.tb_match.specs.Matches.{match_list}
-use Rattle.tb_body.specs.Programs.{is_limited}
 use Rattle.tb_notes.specs.Inboxes.{Held, oldest_match}
 use Rattle.tb_notes.specs.Oldest.{IsOldest, NoneMatches}
 use Rattle.tb_notes.specs.declared.queue.Found.{Found}
@@ -45,11 +45,6 @@ use Rattle.tb_bus.proofs.OrderLemmas.{All-one}
 
 pub one-part : (term : Term) → IsWithinLimits term → AreParts (term ∷ [])
 one-part term h = record { each = All-one IsWithinLimits term h; together = let e = size-cons term [] in let size = h.size in omega arith }
-
-pub limited-within : (term : Term) → is_limited term ≡ true → IsWithinLimits term
-limited-within term e =
-    let parts = and_parts (nat_le (term_size term) 65536) (nat_le (term_levels term) 64) e in
-    record { size = leb-true (term_size term) 65536 parts.0; levels = leb-true (term_levels term) 64 parts.1 }
 
 number-within : (number : ℕ) → IsWithinLimits (number_term number)
 number-within number =
@@ -164,7 +159,7 @@ taking-in : (setting : Setting) (does : ToolAction) (exchange : Exchange) (slot 
     terms_seen setting does exchange ≡ values_in exchange.binds → IsBenchInShape (bench_after setting does exchange) → IsEffectInShape (speaking setting does exchange)
 taking-in setting does exchange slot term is places count seen bench =
     let shown : terms_seen setting does exchange ≡ term ∷ [] = seen ∙ ap values_in is.binds in
-    let within = limited-within term is.limited in
+    let within = within-limits term is.limited in
     record {
       places = places;
       count = subst (λ (ts : List Term). has_terms (kind_of does) (length ts) ≡ true) (sym shown) count;

@@ -19,7 +19,7 @@ use Rattle.tb_match.specs.declared.bind.Bind.{Bind}
 use Rattle.tb_match.specs.Matches.{match_list}
 use Rattle.tb_body.specs.declared.body.Body.{Body}
 use Rattle.tb_body.specs.declared.program.Tool.{Tool as ToolKind}
-use Rattle.tb_body.specs.Programs.{is_limited}
+use Rattle.tb_terms.specs.Sizes.{is_within_limits}
 use Rattle.tb_algebra.specs.Atoms.{patterns_of}
 use Rattle.tb_algebra.specs.Binds.{has_slot_sort, takes_bind, takes_binds}
 use Rattle.tb_algebra.specs.Walks.{sorts_of}
@@ -70,7 +70,7 @@ next_term setting tool = tool_term (kind_name setting tool) setting.bench.next_t
 
 -- the slot takes the term, which is within the limits, and nothing else is bound
 pub record IsTaking (setting : Setting) (slot : ℕ) (term : Term) (exchange : Exchange) : Type 0 where
-  pub limited : is_limited term ≡ true
+  pub limited : is_within_limits term ≡ true
   pub fits : fits_slot setting.body slot term ≡ true
   pub event : exchange.event ≡ 0
   pub binds : exchange.binds ≡ record { slot = slot; value = term } ∷ []
@@ -169,8 +169,8 @@ command-by setting tool (Some kind) command e h = record { kind = kind; command 
 
 is-taking : (setting : Setting) (slot lane : ℕ) (term : Term) (exchange : Exchange) → binding_on setting slot lane term ≡ Some exchange → (lane ≡ exchange.lane) × IsTaking setting slot term exchange
 is-taking setting slot lane term exchange e =
-    let it = if-some (is_limited term && fits_slot setting.body slot term) (bound_on slot lane term) exchange e in
-    let parts = and_parts (is_limited term) (fits_slot setting.body slot term) it.0 in (
+    let it = if-some (is_within_limits term && fits_slot setting.body slot term) (bound_on slot lane term) exchange e in
+    let parts = and_parts (is_within_limits term) (fits_slot setting.body slot term) it.0 in (
       ap (λ (x : Exchange). x.lane) it.1,
       record { limited = parts.0; fits = parts.1; event = sym (ap (λ (x : Exchange). x.event) it.1); binds = sym (ap (λ (x : Exchange). x.binds) it.1) },
     )

@@ -1,6 +1,5 @@
 -- Values, binds and stores have no more levels than a term may have.
-use Rattle.std.proofs.Common.{◌≡◌, ℕ, zero, suc, ◌+◌, ◌≤◌, max, pos, Bool, true, false, List, [], ◌∷◌, ◌++◌, map, fold, Option, Some, None, IfSome, option_map, option_and_then, if◌then◌else◌, Contains, refl, ap, sym, ◌∙◌, subst, arith, nat_le, codes}
-use Rattle.std.proofs.lemmas.Bool.{and_parts, leb-true}
+use Rattle.std.proofs.Common.{◌≡◌, ℕ, zero, suc, ◌+◌, ◌≤◌, max, pos, Bool, true, false, List, [], ◌∷◌, ◌++◌, map, fold, Option, Some, None, IfSome, option_map, option_and_then, if◌then◌else◌, Contains, refl, ap, sym, ◌∙◌, subst, arith, codes}
 use Rattle.std.proofs.lemmas.Option.{same_Some}
 use Rattle.std.proofs.lemmas.List.Elements.{All-nil, All-cons, All-head, All-tail, All-append, All-map, All-contains, recursion_from_All}
 use Rattle.std.specs.List.{All, AllByRecursion}
@@ -15,13 +14,14 @@ use Rattle.tb_terms.specs.declared.expr.Expr.TheOpen as layer
 use Rattle.tb_terms.specs.declared.pattern.Pattern.{Pattern, Pattern-F, map-Pattern, ind-Pattern, roll-Pattern, fold-roll-Pattern}
 use Rattle.tb_terms.specs.declared.pattern.Pattern.TheOpen as pattern_layer
 use Rattle.tb_terms.specs.Same.{is_same_term}
-use Rattle.tb_terms.specs.Sizes.{term_size, term_levels, greatest, levels_step, IsWithinLimits}
+use Rattle.tb_terms.specs.Sizes.{term_size, term_levels, greatest, levels_step, is_within_limits, IsWithinLimits}
 use Rattle.tb_terms.specs.Sorts.{has_sort, initial_of, initial_value}
 use Rattle.tb_terms.proofs.Induction.{fold-Int, fold-Str, fold-Appl, fold-List}
+use Rattle.tb_terms.proofs.LimitLemmas.{within-limits}
 use Rattle.tb_func.specs.declared.slot.Slot.{Slot}
 use Rattle.tb_func.specs.Apply.{apply_of, given}
 use Rattle.tb_func.specs.Arguments.{of_both}
-use Rattle.tb_func.specs.Limits.{is_within_limits, limited}
+use Rattle.tb_func.specs.Limits.{limited}
 use Rattle.tb_func.specs.Stores.{sort_at, value_at, with_value}
 use Rattle.tb_func.specs.Values.{all_of, value_of, value_step}
 use Rattle.tb_match.specs.declared.bind.Bind.{Bind}
@@ -38,12 +38,6 @@ use Rattle.tb_bus.specs.Waiting.{IsShallow, IsShallowStore}
 
 -- the term that a limit lets through
 
-within-from : (t : Term) → is_within_limits t ≡ true → IsWithinLimits t
-unfolding is_within_limits
-within-from t e =
-    let parts = and_parts (nat_le (term_size t) 65536) (nat_le (term_levels t) 64) e in
-    record { size = leb-true (term_size t) 65536 parts.0; levels = leb-true (term_levels t) 64 parts.1 }
-
 -- a value that is found is within the limits
 abbrev pub GivesWithin : Option Term → Type 0
 GivesWithin found = IfSome found IsWithinLimits
@@ -52,7 +46,7 @@ abbrev pub GivesShallow : Option Term → Type 0
 GivesShallow found = IfSome found IsShallow
 
 limited-by : (t : Term) (b : Bool) → is_within_limits t ≡ b → GivesWithin (if b then Some t else None)
-limited-by t true e = within-from t e
+limited-by t true e = within-limits t e
 limited-by t false e = tt
 
 pub limited-within : (t : Term) → GivesWithin (limited t)

@@ -1,12 +1,12 @@
 -- What an action comes to that speaks with a tool: where it may happen, what is seen of it, and the lanes after it.
 use Rattle.std.specs.Prelude.{ℕ, ◌&&◌, Bool, List, [], ◌∷◌, ◌++◌, map, drop, if◌then◌else◌, Option, Some, None, option_map, option_and_then, option_to_list, slice_get}
 use Rattle.tb_terms.specs.declared.term.Term.{Term}
+use Rattle.tb_terms.specs.Sizes.{is_within_limits}
 use Rattle.tb_terms.specs.declared.pattern.Pattern.{Pattern}
 use Rattle.tb_match.specs.declared.bind.Bind.{Bind}
 use Rattle.tb_match.specs.Matches.{match_list}
 use Rattle.tb_body.specs.declared.body.Body.{Body}
 use Rattle.tb_body.specs.declared.program.Tool.{Tool as ToolKind}
-use Rattle.tb_body.specs.Programs.{is_limited}
 use Rattle.tb_log.specs.declared.entry.LabelKind.{LabelKind}
 use Rattle.tb_log.specs.declared.entry.LabelKind.TheVariants as kind
 use Rattle.tb_tools.specs.declared.stage.Stage.{Stage}
@@ -64,7 +64,7 @@ bound_on slot lane term = record { lane = lane; event = 0; binds = record { slot
 -- the slot takes the term, which is within the limits: only that of a tool that is started may be too large, since a tool
 -- that connects has a shorter name
 abbrev pub binding_on : Setting → ℕ → ℕ → Term → Option Exchange
-binding_on setting slot lane term = if is_limited term && fits_slot setting.body slot term then Some (bound_on slot lane term) else None
+binding_on setting slot lane term = if is_within_limits term && fits_slot setting.body slot term then Some (bound_on slot lane term) else None
 
 -- the first lane that is free, where the slot takes the next tool, of this name
 abbrev pub starting : Setting → ℕ → List ℕ → Option Exchange

@@ -2,7 +2,7 @@
 
 ghost use Rattle.std.specs.Prelude.{◌≡◌, ◌&&◌, true, IfOk, IsSome, option_map, option_and_then, slice_get};
 ghost use Rattle.std.specs.Option.{ForSome};
-ghost use Rattle.tb_body.specs.Programs.{is_limited};
+ghost use Rattle.tb_terms.specs.Sizes.{is_within_limits};
 ghost use Rattle.tb_log.specs.Shapes.{IsLane};
 ghost use Rattle.tb_tools.specs.Lanes.{tool_at, tool_term};
 ghost use Rattle.tb_tools.specs.Acts.{can_leave, can_eval, is_taken_at, is_live_at};
@@ -16,9 +16,7 @@ use sqlite_items::at;
 use std::alloc::Global;
 use tb_body::Program;
 use tb_match::{Bind, match_list};
-use tb_terms::{
-    Items, MOST_TERM_LEVELS, MOST_TERM_SIZE, Name, NoMemory, Patterns, Term, Terms, depth, size,
-};
+use tb_terms::{Items, Name, NoMemory, Patterns, Term, Terms, is_within_limits};
 use tb_tools::{Bench, Stage};
 
 /// A process that may speak with tools: its body among those of a program, and the lanes on which the tools stand.
@@ -333,16 +331,9 @@ fn taking_tool(
 
 /// Whether a slot takes a tool, whose term is within the limits.
 fn takes(speaker: &Speaker, slot: u32, tool: &Term) -> bool
-    ensures { result ≡ is_limited tool.now && fits_slot (slice_get speaker.now.program.now.bodies speaker.now.body) slot tool.now }
+    ensures { result ≡ is_within_limits tool.now && fits_slot (slice_get speaker.now.program.now.bodies speaker.now.body) slot tool.now }
 {
-    is_limited(tool) && fits_slot(speaker.program.bodies.as_slice(), speaker.body, slot, tool)
-}
-
-/// Whether a term is within the limits.
-fn is_limited(term: &Term) -> bool
-    ensures { result ≡ is_limited term.now }
-{
-    size(term) <= MOST_TERM_SIZE && depth(term) <= MOST_TERM_LEVELS
+    is_within_limits(tool) && fits_slot(speaker.program.bodies.as_slice(), speaker.body, slot, tool)
 }
 
 /// On a lane, where a slot takes the tool.

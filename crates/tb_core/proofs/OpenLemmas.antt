@@ -9,13 +9,14 @@ use Rattle.std.proofs.lemmas.List.{drop_more, drop_all, length-map, length_push,
 use Rattle.std.proofs.lemmas.List.Elements.{All-same, All-push}
 use Rattle.tb_terms.specs.declared.term.Term.{Term}
 use Rattle.tb_terms.specs.declared.sort.Sort.{Sort}
+use Rattle.tb_terms.specs.Sizes.{is_within_limits}
 use Rattle.tb_terms.specs.Sorts.{has_sort}
 use Rattle.tb_func.specs.declared.slot.Slot.{Slot}
 use Rattle.tb_func.specs.Stores.{fresh_slot, sort_at, with_value}
 use Rattle.tb_body.specs.declared.body.Body.{Body}
 use Rattle.tb_body.specs.declared.program.Root.{Root}
 use Rattle.tb_body.specs.declared.program.Tool.{Tool}
-use Rattle.tb_body.specs.Programs.{is_limited, have_sorts, is_body_in_program, starts, is_root_in_range, is_program_in_range}
+use Rattle.tb_body.specs.Programs.{have_sorts, is_body_in_program, starts, is_root_in_range, is_program_in_range}
 use Rattle.tb_algebra.specs.Processes.{fresh}
 use Rattle.tb_algebra.specs.Walks.{Walking, entering, sorts_of, is_end}
 use Rattle.tb_algebra.specs.WalkerViews.{View}
@@ -177,7 +178,7 @@ all-at p (first ∷ xs) (suc n) x h e = all-at p xs n x (and_parts (p first) (li
 -- the actuals of a root fit the formals of its body
 starts-fits : (found : Option Body) (actuals : List Term) → starts found actuals ≡ true → fits_formals found actuals ≡ true
 starts-fits None actuals h = absurd (false≢true h)
-starts-fits (Some body) actuals h = (and_parts (length actuals == body.formals && have_sorts body.sorts actuals) (list_all is_limited actuals) h).0
+starts-fits (Some body) actuals h = (and_parts (length actuals == body.formals && have_sorts body.sorts actuals) (list_all is_within_limits actuals) h).0
 
 pub root-fits : (bodies : List Body) (roots : List Root) (tools : List Tool) (at : ℕ) (root : Root) → is_program_in_range bodies roots tools ≡ true → slice_get roots at ≡ Some root → fits_formals (slice_get bodies root.process) root.actuals ≡ true
 unfolding is_program_in_range

@@ -10,6 +10,7 @@ use Rattle.tb_terms.specs.declared.sort.Sort.TheVariants as sort
 use Rattle.tb_terms.specs.declared.expr.Func.{Func}
 use Rattle.tb_terms.specs.declared.expr.Func.TheVariants.{Equal, NotEqual, Not, And, Or, Add, Sub, Mul, Div, Mod, Less, LessEqual, Greater, GreaterEqual, Size, First, Next, Join, Member, Index, Msec, Sec, Min, Hour}
 use Rattle.tb_terms.specs.Same.{is_same_term}
+use Rattle.tb_terms.specs.Sizes.{is_within_limits}
 use Rattle.tb_terms.specs.Sorts.{term_test, sort_step, is_word, is_int, is_list_of}
 use Rattle.tb_func.specs.declared.shape.Shape.{Shape}
 use Rattle.tb_func.specs.declared.shape.Shape.TheVariants as shape
@@ -18,7 +19,7 @@ use Rattle.tb_func.specs.Apply.{apply_of, given, one_given, two_given, negated, 
 use Rattle.tb_func.specs.Arguments.{bool_of, int_of, int_in, list_of, list_in, bool_term, of_both}
 use Rattle.tb_func.specs.Fitting.{fits, AreFit}
 use Rattle.tb_func.specs.Functions.{signature_of, one, two}
-use Rattle.tb_func.specs.Limits.{limited, is_within_limits}
+use Rattle.tb_func.specs.Limits.{limited}
 use Rattle.tb_func.specs.Numbers.{ranged, arithmetic, order, time}
 
 -- what the test of each shape's sort looks at

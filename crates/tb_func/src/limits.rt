@@ -1,20 +1,14 @@
 ghost use Rattle.std.specs.Prelude.{◌≡◌, ◌&&◌, nat_le};
 ghost use Rattle.tb_terms.specs.Sizes.{most_term_size, most_term_levels};
-ghost use Rattle.tb_func.specs.Limits.{is_within_limits, limited};
+ghost use Rattle.tb_func.specs.Limits.{limited};
 
-use tb_terms::{MOST_TERM_LEVELS, MOST_TERM_SIZE, Term, depth, size};
+use tb_terms::{MOST_TERM_LEVELS, MOST_TERM_SIZE, Term, is_within_limits};
 
+/// Whether a term of this size and with these levels is within the limits.
 pub(crate) fn are_within_limits(size: usize, levels: usize) -> bool
     ensures { result ≡ (nat_le size most_term_size && nat_le levels most_term_levels) }
 {
     size <= MOST_TERM_SIZE && levels <= MOST_TERM_LEVELS
-}
-
-#[tactic(auto, unfolding(crate::specs::Limits::is_within_limits))]
-pub(crate) fn is_within_limits(term: &Term) -> bool
-    ensures { result ≡ is_within_limits term.now }
-{
-    are_within_limits(size(term), depth(term))
 }
 
 /// The term, and nothing where it passes a limit.

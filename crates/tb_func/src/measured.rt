@@ -50,7 +50,7 @@ impl Measured {
     }
 
     /// The term, and nothing where it passes a limit.
-    #[tactic(auto, unfolding(crate::specs::Limits::is_within_limits))]
+    #[tactic(auto, unfolding(tb_terms::specs::Sizes::is_within_limits))]
     pub(crate) fn limited(self) -> Option<Measured>
         ensures { option_map (λ m. m.term) result ≡ limited self.term }
     {

@@ -6,32 +6,28 @@ use Rattle.std.proofs.lemmas.Bool.{leb-true}
 use Rattle.std.proofs.lemmas.Slice.Eq.{bytes_eq-Decides}
 use Rattle.tb_terms.specs.declared.term.Term.{Term, Term-F, map-Term, fold_out-Term, out-Term}
 use Rattle.tb_terms.specs.declared.term.Term.TheOpen as layer
-use Rattle.tb_terms.specs.Sizes.{term_size, term_levels, size_step, levels_step, greatest, IsWithinLimits}
+use Rattle.tb_terms.specs.Sizes.{term_size, term_levels, size_step, levels_step, greatest, is_within_limits, IsWithinLimits}
+use Rattle.tb_terms.proofs.LimitLemmas.{within-limits}
 use Rattle.tb_terms.proofs.SameLemmas.{both-true}
 use Rattle.tb_log.specs.declared.entry.ToolLine.{ToolLine}
 use Rattle.tb_log.specs.declared.entry.ToolLine.TheVariants.{Value, Event, Connect, Disconnect, Bad}
 use Rattle.tb_log.specs.Limits.{terms_size}
 use Rattle.tb_log.specs.Shapes.{IsToolLineInShape}
-use Rattle.tb_lane.specs.ToolLines.{is_within, are_within, only, value_line, event_line, name_line, named_line, connect_line, disconnect_line, line_by_name, line_by_layer, line_of}
+use Rattle.tb_lane.specs.ToolLines.{are_within, only, value_line, event_line, name_line, named_line, connect_line, disconnect_line, line_by_name, line_by_layer, line_of}
 
-pub within-limits : (term : Term) → is_within term ≡ true → IsWithinLimits term
-within-limits term h =
-    let both = both-true (nat_le (term_size term) 65536) (nat_le (term_levels term) 64) h in
-    record { size = leb-true (term_size term) 65536 both.0; levels = leb-true (term_levels term) 64 both.1 }
-
-all-within : (terms : List Term) → list_all is_within terms ≡ true → All IsWithinLimits terms
+all-within : (terms : List Term) → list_all is_within_limits terms ≡ true → All IsWithinLimits terms
 all-within [] h k d l = absurd (omega arith)
-all-within (term ∷ terms) h zero d l = within-limits term (both-true (is_within term) (list_all is_within terms) h).0
+all-within (term ∷ terms) h zero d l = within-limits term (both-true (is_within_limits term) (list_all is_within_limits terms) h).0
 all-within (term ∷ terms) h (suc k) d l =
     let m : k < length terms = omega arith in
-    all-within terms (both-true (is_within term) (list_all is_within terms) h).1 k d m
+    all-within terms (both-true (is_within_limits term) (list_all is_within_limits terms) h).1 k d m
 
 -- A line by cases on its tests: what holds of a good line where the tests pass, and of a bad one, holds of it.
-value-cases : (P : ToolLine → Type 0) → P Bad → (part : Option Term) → ((term : Term) → part ≡ Some term → is_within term ≡ true → P (Value term)) → P (value_line part)
+value-cases : (P : ToolLine → Type 0) → P Bad → (part : Option Term) → ((term : Term) → part ≡ Some term → is_within_limits term ≡ true → P (Value term)) → P (value_line part)
 value-cases P bad None good = bad
-value-cases P bad (Some term) good = by (is_within term) refl
+value-cases P bad (Some term) good = by (is_within_limits term) refl
   where
-    by : (b : Bool) → is_within term ≡ b → P (if b then Value term else Bad)
+    by : (b : Bool) → is_within_limits term ≡ b → P (if b then Value term else Bad)
     by true e = good term refl e
     by false e = bad
 
@@ -88,7 +84,7 @@ layer-in_shape (layer.List parts) = tt
 layer-in_shape (layer.Appl name parts) =
     name-cases IsToolLineInShape name parts tt
     (λ e. value-cases IsToolLineInShape tt (only parts) (λ term f h. within-limits term h))
-    (λ e. event-cases IsToolLineInShape tt parts (λ l h. let both = both-true (list_all is_within parts) (nat_le (terms_size parts) 65536) h in (l, record { each = all-within parts both.0; together = leb-true (terms_size parts) 65536 both.1 })))
+    (λ e. event-cases IsToolLineInShape tt parts (λ l h. let both = both-true (list_all is_within_limits parts) (nat_le (terms_size parts) 65536) h in (l, record { each = all-within parts both.0; together = leb-true (terms_size parts) 65536 both.1 })))
     (λ e. connect-cases IsToolLineInShape tt (only parts) (λ term name f g l. l))
     (λ e. disconnect-cases IsToolLineInShape tt parts (λ f. tt))
 
@@ -99,10 +95,10 @@ line_of-in_shape term = layer-in_shape (out-Term term)
 abbrev IsSmall : List ℕ → List Term → Type 0
 IsSmall name parts = (1 + length name + sum (map term_size parts) ≤ 65552) × (1 + greatest (map term_levels parts) ≤ 65)
 
-greatest-within : (terms : List Term) (n : ℕ) → n ≤ 64 → list_all is_within terms ≡ true → fold max n (map term_levels terms) ≤ 64
+greatest-within : (terms : List Term) (n : ℕ) → n ≤ 64 → list_all is_within_limits terms ≡ true → fold max n (map term_levels terms) ≤ 64
 greatest-within [] n l h = l
 greatest-within (term ∷ terms) n l h =
-    let both = both-true (is_within term) (list_all is_within terms) h in
+    let both = both-true (is_within_limits term) (list_all is_within_limits terms) h in
     let within = within-limits term both.0 in
     greatest-within terms (max n (term_levels term)) (omega (arith, within.levels)) both.1
 
@@ -126,7 +122,7 @@ name-small name parts =
     name-cases (λ line. (line ≡ Bad) ⊎ IsSmall name parts) name parts (inl refl)
     (λ e. let n : length name ≡ 9 = ap length e in value-cases (λ line. (line ≡ Bad) ⊎ IsSmall name parts) (inl refl) (only parts) (λ term f h. let w = within-limits term h in inr (small-one name parts term (omega arith) f w.size w.levels)))
     (λ e. let n : length name ≡ 9 = ap length e in event-cases (λ line. (line ≡ Bad) ⊎ IsSmall name parts) (inl refl) parts (λ l h.
-    let both = both-true (list_all is_within parts) (nat_le (terms_size parts) 65536) h in
+    let both = both-true (list_all is_within_limits parts) (nat_le (terms_size parts) 65536) h in
     let size : terms_size parts ≤ 65536 = leb-true (terms_size parts) 65536 both.1 in
     let levels : greatest (map term_levels parts) ≤ 64 = greatest-within parts 0 (omega arith) both.0 in
     inr (omega arith, omega arith)))

@@ -5,19 +5,16 @@ use Rattle.std.specs.Str.{bytes_eq}
 use Rattle.tb_terms.specs.declared.term.Term.{Term, out-Term}
 use Rattle.tb_terms.specs.declared.term.Term.TheOpen.{Term-F}
 use Rattle.tb_terms.specs.declared.term.Term.TheOpen as layer
-use Rattle.tb_terms.specs.Sizes.{term_size, term_levels, most_term_size, most_term_levels}
+use Rattle.tb_terms.specs.Sizes.{most_term_size, is_within_limits}
 use Rattle.tb_log.specs.declared.entry.ToolLine.{ToolLine}
 use Rattle.tb_log.specs.declared.entry.ToolLine.TheVariants.{Value, Event, Connect, Disconnect, Bad}
 use Rattle.tb_log.specs.Limits.{terms_size}
 use Rattle.tb_read.specs.Spelling.{Reads}
 
--- a part of a line is within the limits of a term; the name around the parts isn't counted
-abbrev pub is_within : Term → Bool
-is_within part = nat_le (term_size part) most_term_size && nat_le (term_levels part) most_term_levels
-
--- and all parts of a line are no larger together than a term may be
+-- each part of a line is within the limits of a term, and all together are no larger than a term may be; the name around
+-- the parts isn't counted
 abbrev pub are_within : List Term → Bool
-are_within parts = list_all is_within parts && nat_le (terms_size parts) most_term_size
+are_within parts = list_all is_within_limits parts && nat_le (terms_size parts) most_term_size
 
 -- the part that has no other beside it
 abbrev pub only : List Term → Option Term
@@ -28,7 +25,7 @@ only (part ∷ other ∷ parts) = None
 -- one part
 abbrev pub value_line : Option Term → ToolLine
 value_line None = Bad
-value_line (Some part) = if is_within part then Value part else Bad
+value_line (Some part) = if is_within_limits part then Value part else Bad
 
 -- one part or more
 abbrev pub event_line : List Term → ToolLine

@@ -1,10 +1,11 @@
 ghost use Rattle.std.specs.Prelude.{◌≡◌};
 ghost use Rattle.std.specs.List.{list_all};
 ghost use Rattle.tb_terms.specs.declared.term.Term.{out-Term};
-ghost use Rattle.tb_lane.specs.ToolLines.{is_within, are_within, only, value_line, event_line, connect_line, named_line, name_line, disconnect_line, line_by_name, line_of};
+ghost use Rattle.tb_terms.specs.Sizes.{is_within_limits};
+ghost use Rattle.tb_lane.specs.ToolLines.{are_within, only, value_line, event_line, connect_line, named_line, name_line, disconnect_line, line_by_name, line_of};
 
 use tb_log::{ToolLine, total_size};
-use tb_terms::{MOST_TERM_LEVELS, MOST_TERM_SIZE, Name, Term, Terms, depth, size};
+use tb_terms::{MOST_TERM_SIZE, Name, Term, Terms, is_within_limits};
 
 /// How many bytes the name of a tool may have.
 const MOST_NAME: usize = 65_534;
@@ -40,7 +41,7 @@ fn value_line(part: Option<Term>) -> ToolLine
     ensures { result ≡ value_line part }
 {
     match part {
-        Some(part) if is_within(&part) => ToolLine::Value(part),
+        Some(part) if is_within_limits(&part) => ToolLine::Value(part),
         _ => ToolLine::Bad,
     }
 }
@@ -100,12 +101,6 @@ fn only(mut parts: Terms) -> Option<Term>
     if parts.len() == 1 { parts.pop() } else { None }
 }
 
-fn is_within(part: &Term) -> bool
-    ensures { result ≡ is_within part.now }
-{
-    size(part) <= MOST_TERM_SIZE && depth(part) <= MOST_TERM_LEVELS
-}
-
 fn are_within(parts: &[Term]) -> bool
     ensures { result ≡ are_within parts.now }
 {
@@ -113,10 +108,10 @@ fn are_within(parts: &[Term]) -> bool
 }
 
 fn all_within(parts: &[Term]) -> bool
-    ensures { result ≡ list_all is_within parts.now }
+    ensures { result ≡ list_all is_within_limits parts.now }
 {
     for part in parts {
-        if !is_within(part) {
+        if !is_within_limits(part) {
             return false;
         }
     }

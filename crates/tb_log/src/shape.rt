@@ -7,7 +7,7 @@ ghost use Rattle.tb_log.specs.Shapes.{InShape, IsInputInShape, IsToolLineInShape
 
 use crate::entry::{Entry, Input, Label, LabelKind, Out, Place, ToolLine};
 use crate::log::total_size;
-use tb_terms::{MOST_TERM_LEVELS, MOST_TERM_SIZE, Term, depth, size};
+use tb_terms::{MOST_TERM_SIZE, Term, is_within_limits};
 
 /// How long a tool's name may be: with its parentheses it is as long as a term may be.
 const LONGEST_NAME: usize = 65_534;
@@ -155,10 +155,4 @@ fn are_within_limits(terms: &[Term]) -> bool
         }
     }
     true
-}
-
-fn is_within_limits(term: &Term) -> bool
-    ensures { IsTrue result ↔ IsWithinLimits term.now }
-{
-    size(term) <= MOST_TERM_SIZE && depth(term) <= MOST_TERM_LEVELS
 }

@@ -10,12 +10,13 @@ use Rattle.std.proofs.lemmas.List.{length-map}
 use Rattle.std.proofs.lemmas.Option.{same_Some, none-some}
 use Rattle.tb_terms.specs.declared.term.Term.{Term}
 use Rattle.tb_terms.specs.declared.sort.Sort.{Sort}
+use Rattle.tb_terms.specs.Sizes.{is_within_limits}
 use Rattle.tb_terms.specs.Sorts.{has_sort}
 use Rattle.tb_body.specs.declared.atom.Atom.{Atom}
 use Rattle.tb_body.specs.declared.body.Body.{Body}
 use Rattle.tb_body.specs.declared.program.Root.{Root}
 use Rattle.tb_body.specs.declared.program.Tool.{Tool}
-use Rattle.tb_body.specs.Programs.{takes, has_command, is_act_in_program, is_body_in_program, is_limited, have_sorts, are_actuals, starts, is_root_in_range, is_program_in_range}
+use Rattle.tb_body.specs.Programs.{takes, has_command, is_act_in_program, is_body_in_program, have_sorts, are_actuals, starts, is_root_in_range, is_program_in_range}
 use Rattle.tb_syntax.specs.declared.ast.Ast.{Ast}
 use Rattle.tb_syntax.specs.declared.ast.AstKind.{AstKind, out-AstKind}
 use Rattle.tb_syntax.specs.declared.ast.AstKind.TheOpen as layer
@@ -265,7 +266,7 @@ same_terms t u ts actual actuals e is =
 record AreTaken (formals : List Formal) (more : List Sort) (values : List Term) : Type 0 where
   count : length values ≡ length formals
   sorts : have_sorts (sorts_of formals ++ more) values ≡ true
-  limits : list_all is_limited values ≡ true
+  limits : list_all is_within_limits values ≡ true
 
 are_taken : (formals : List Formal) (more : List Sort) (actuals : List Ast) (values : List Term) → AreValued formals actuals → map there values ≡ map closed_value actuals → AreTaken formals more values
 are_taken [] more [] [] h e = record { count = refl; sorts = refl; limits = refl }
@@ -277,7 +278,7 @@ are_taken (formal ∷ formals) more (actual ∷ actuals) (t ∷ ts) h e =
     let same = same_terms t h.0.value ts actual actuals e h.0.is in
     let rest = are_taken formals more actuals ts h.1 same.1 in
     let sorted : has_sort t formal.sort ≡ true = subst (λ (u : Term). has_sort u formal.sort ≡ true) (sym same.0) h.0.sorted in
-    let limited : is_limited t ≡ true = closed_is_limited (closed actual) t (h.0.is ∙ ap there (sym same.0)) in
+    let limited : is_within_limits t ≡ true = closed_is_limited (closed actual) t (h.0.is ∙ ap there (sym same.0)) in
     record { count = ap suc rest.count; sorts = and_from _ _ sorted rest.sorts; limits = and_from _ _ limited rest.limits }
 
 -- the sorts of the slots behind the formals

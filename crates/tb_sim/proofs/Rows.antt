@@ -11,10 +11,9 @@ use Rattle.tb_terms.specs.declared.pattern.Pattern.TheVariants as pattern
 use Rattle.tb_terms.specs.declared.sort.Sort.{the_lemmas as sort_lemmas}
 use Rattle.tb_terms.specs.declared.sort.Sort.TheVariants as sort
 use Rattle.tb_terms.specs.Same.{is_same_term}
-use Rattle.tb_terms.specs.Sizes.{term_size}
+use Rattle.tb_terms.specs.Sizes.{is_within_limits, term_size}
 use Rattle.tb_terms.specs.Sorts.{has_sort, initial_value}
 use Rattle.tb_func.specs.declared.slot.Slot.{Slot}
-use Rattle.tb_func.specs.Limits.{is_within_limits}
 use Rattle.tb_body.specs.declared.tree.Tree.{the_lemmas as tree_lemmas}
 use Rattle.tb_body.specs.declared.tree.Tree.TheVariants as tree
 use Rattle.tb_body.specs.declared.tree.Setting.{Setting}

@@ -1,4 +1,5 @@
 pub mod Induction
 pub mod Joined
+pub mod LimitLemmas
 pub mod SameLemmas
 pub mod TextBytes

@@ -1,5 +1,5 @@
 -- How large a term is, how many levels it has, and which terms are within the limits.
-use Rattle.std.specs.Prelude.{ℕ, ◌+◌, ◌≤◌, List, length, sum, fold, max}
+use Rattle.std.specs.Prelude.{ℕ, ◌+◌, ◌≤◌, Bool, ◌&&◌, nat_le, List, length, sum, fold, max}
 use Rattle.tb_terms.specs.declared.term.Term.{Term}
 use Rattle.tb_terms.specs.declared.term.Term.TheOpen.{Term-F, Int, Str, Appl, List as ListOf}
 use Rattle.tb_terms.specs.declared.term.Term.TheFolds.{fold-Term}
@@ -37,3 +37,7 @@ most_term_levels = 64
 pub record IsWithinLimits (term : Term) : Type 0 where
   pub size : term_size term ≤ most_term_size
   pub levels : term_levels term ≤ most_term_levels
+
+-- the same as a test
+unfoldable pub is_within_limits : Term → Bool
+is_within_limits term = nat_le (term_size term) most_term_size && nat_le (term_levels term) most_term_levels

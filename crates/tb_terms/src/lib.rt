@@ -19,7 +19,7 @@ mod write;
 
 pub use expr::{Expr, Exprs, Func, copy_exprs};
 pub use ident::{Ident, is_ident_bytes};
-pub use measure::{MOST_TERM_LEVELS, MOST_TERM_SIZE, depth, size};
+pub use measure::{MOST_TERM_LEVELS, MOST_TERM_SIZE, depth, is_within_limits, size};
 pub use memory::NoMemory;
 pub use name::{Name, Names, is_name_bytes};
 pub use pattern::{Pattern, Patterns, copy_patterns, same_pattern_lists};

@@ -1,5 +1,5 @@
-ghost use Rattle.std.specs.Prelude.{◌≡◌, ◌+◌, length, min, map, sum};
-ghost use Rattle.tb_terms.specs.Sizes.{term_size, term_levels, greatest};
+ghost use Rattle.std.specs.Prelude.{◌≡◌, ◌+◌, ◌↔◌, IsTrue, length, min, map, sum};
+ghost use Rattle.tb_terms.specs.Sizes.{term_size, term_levels, greatest, is_within_limits, IsWithinLimits};
 
 use crate::Term;
 
@@ -8,6 +8,15 @@ pub const MOST_TERM_SIZE: usize = 65_536;
 
 /// How many levels a term may have.
 pub const MOST_TERM_LEVELS: usize = 64;
+
+/// Whether a term is within the limits of size and levels.
+#[tactic(auto, unfolding(crate::specs::Sizes::is_within_limits))]
+pub fn is_within_limits(term: &Term) -> bool
+    ensures test { result ≡ is_within_limits term.now }
+    ensures limits { IsTrue result ↔ IsWithinLimits term.now }
+{
+    size(term) <= MOST_TERM_SIZE && depth(term) <= MOST_TERM_LEVELS
+}
 
 /// One for each node, and the bytes of the names and strings. The greatest `usize` stands for all
 /// greater numbers.

@@ -8,7 +8,7 @@ use Rattle.tb_log.proofs.shape.are_within_limits.Goals as goal
 
 pub loop-term-preserved : goal.loop-term-preserved
 loop-term-preserved c =
-    let term : IsWithinLimits c.term-item.result = c.is_within_limits.ensures.0 c.if-not-is_within_limits.false in
+    let term : IsWithinLimits c.term-item.result = c.is_within_limits.ensures.limits.0 c.if-not-is_within_limits.false in
     All-more IsWithinLimits c.args.terms.now c.loop-term.term-index c.term-item.result c.loop-term-test.true c.loop-term.invariant
     (subst IsWithinLimits c.term-item.is term)
 
