@@ -43,11 +43,18 @@ tree_step slots (Let settings x) = list_all (is_setting_in_range slots) settings
 abbrev pub is_tree_in_range : ℕ → Tree → Bool
 is_tree_in_range slots = fold-Tree Bool (tree_step slots)
 
+-- how many atoms a body may have, and how many levels its tree
+abbrev pub most_body_atoms : ℕ
+most_body_atoms = 200000
+
+abbrev pub most_body_levels : ℕ
+most_body_levels = 1000
+
 -- Each atom stands once in the tree, in the order of the atoms' numbers from 1. The formals are the first slots.
 abbrev pub is_in_range : Tree → List Atom → ℕ → ℕ → Bool
 is_in_range tree atoms slots formals =
     ascends_by_one 1 (tree_atoms tree) && length (tree_atoms tree) == length atoms
-    && nat_le (length atoms) 200000 && nat_le (tree_levels tree) 1000
+    && nat_le (length atoms) most_body_atoms && nat_le (tree_levels tree) most_body_levels
     && nat_le formals slots
     && is_tree_in_range slots tree && list_all (is_atom_in_body slots) atoms
 

@@ -68,7 +68,11 @@ starts (Some body) actuals = are_actuals body actuals
 abbrev pub is_root_in_range : List Body → Root → Bool
 is_root_in_range bodies root = starts (slice_get bodies root.process) root.actuals
 
+-- how many roots a program may have
+abbrev pub most_roots : ℕ
+most_roots = 10000
+
 unfoldable pub is_program_in_range : List Body → List Root → List Tool → Bool
 is_program_in_range bodies roots tools =
     list_all (is_body_in_program bodies tools) bodies
-    && nat_le (length roots) 10000 && list_all (is_root_in_range bodies) roots
+    && nat_le (length roots) most_roots && list_all (is_root_in_range bodies) roots

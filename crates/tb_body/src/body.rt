@@ -8,9 +8,11 @@ use crate::{Atoms, Tree, copy_atoms};
 use std::alloc::Global;
 use tb_terms::{Items, NoMemory, Sorts};
 
-const MOST_ATOMS: usize = 200_000;
+/// How many atoms a body may have.
+pub const MOST_BODY_ATOMS: usize = 200_000;
 
-const MOST_LEVELS: usize = 1_000;
+/// How many levels the tree of a body may have.
+pub const MOST_BODY_LEVELS: usize = 1_000;
 
 /// A process without its calls. Its slots have these sorts, and the first of them are its formals.
 /// It has at most 200,000 atoms and 1,000 levels.
@@ -83,8 +85,8 @@ fn is_in_range(
     Ok(
         ascend_from_one(numbers.as_slice())
             && numbers.len() == atoms.len()
-            && atoms.len() <= MOST_ATOMS
-            && has_levels(tree, MOST_LEVELS)
+            && atoms.len() <= MOST_BODY_ATOMS
+            && has_levels(tree, MOST_BODY_LEVELS)
             && formals as usize <= slots
             && is_tree_in_range(slots, tree)
             && are_atoms_in_body(slots, atoms.as_slice()),

@@ -7,7 +7,8 @@ use crate::{Act, Atom, Body, Root, Tool};
 use sqlite_items::at;
 use tb_terms::{Sort, Term, has_sort, is_within_limits};
 
-const MOST_ROOTS: usize = 10_000;
+/// How many roots a program may have.
+pub const MOST_ROOTS: usize = 10_000;
 
 /// Whether each process and each root says only of processes and tools what holds of them.
 #[tactic(auto, unfolding(crate::specs::Programs::is_program_in_range))]

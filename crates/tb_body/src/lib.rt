@@ -13,6 +13,7 @@ mod tree;
 
 pub use act::Act;
 pub use atom::{Atom, Atoms, Time, TimeKind, Times, copy_atoms};
-pub use body::{Bodies, Body};
+pub use body::{Bodies, Body, MOST_BODY_ATOMS, MOST_BODY_LEVELS};
+pub use in_program::MOST_ROOTS;
 pub use program::{Program, Root, Roots, Tool, Tools};
 pub use tree::{Setting, Settings, Tree, copy_settings};

@@ -7,6 +7,7 @@ use Rattle.tb_body.specs.declared.atom.Atom.{Atom}
 use Rattle.tb_body.specs.declared.tree.Tree.{Tree}
 use Rattle.tb_body.specs.declared.tree.Tree.TheVariants as tree
 use Rattle.tb_body.specs.declared.tree.Setting.{Setting}
+use Rattle.tb_body.specs.InRange.{most_body_levels}
 use Rattle.tb_body.specs.Trees.{tree_levels}
 use Rattle.tb_syntax.specs.declared.ast.Ast.{Ast}
 use Rattle.tb_syntax.specs.declared.proc.AtomDef.{AtomDef}
@@ -137,6 +138,10 @@ expansion_of script d = with_formals (expands script (length script.procs) d.bod
   with_formals : Part → Part
   with_formals part = record { tree = part.tree; atoms = part.atoms; sorts = sorts_of d.formals ++ part.sorts }
 
--- over 20,000 atoms or over 1,000 levels
+-- how many atoms an expansion may have
+abbrev pub most_atoms : ℕ
+most_atoms = 20000
+
+-- over so many atoms, or over the levels that a body may have
 abbrev pub is_too_large : Part → Bool
-is_too_large part = nat_lt 20000 (length part.atoms) || nat_lt 1000 (tree_levels part.tree)
+is_too_large part = nat_lt most_atoms (length part.atoms) || nat_lt most_body_levels (tree_levels part.tree)

@@ -1,5 +1,6 @@
 -- Sizes that aren't counted beyond the limits, and the size of a body by those of called processes.
 use Rattle.std.specs.Prelude.{◌≡◌, ℕ, Bool, ◌||◌, nat_lt, List, map, length, min, slice_get, slice_set, Option, Some, None, option_and_then}
+use Rattle.tb_body.specs.InRange.{most_body_levels}
 use Rattle.tb_syntax.specs.declared.proc.Proc.{Proc}
 use Rattle.tb_syntax.specs.declared.proc.Proc.TheOpen.{Proc-F, Atom, Call as CallOf, Seq, Alt, Star, Par, If, Let}
 use Rattle.tb_syntax.specs.declared.proc.Proc.TheFolds.{fold-Proc}
@@ -7,6 +8,7 @@ use Rattle.tb_syntax.specs.declared.script.ProcDef.{ProcDef}
 use Rattle.tb_syntax.specs.declared.script.Script.{Script}
 use Rattle.tb_types.specs.NamePlaces.{place_of, process_name}
 use Rattle.tb_expand.specs.declared.size.Size.{Size}
+use Rattle.tb_expand.specs.Expansion.{most_atoms}
 use Rattle.tb_expand.specs.Sizes.{nothing_size, atom_size, beside, above, tested_size, size_of}
 
 -- one more than an expansion may have stands for all that is more
@@ -15,7 +17,7 @@ capped x = record { atoms = min x.atoms 20001; levels = min x.levels 1001 }
 
 -- a limit is passed
 abbrev pub is_over : Size → Bool
-is_over x = nat_lt 20000 x.atoms || nat_lt 1000 x.levels
+is_over x = nat_lt most_atoms x.atoms || nat_lt most_body_levels x.levels
 
 abbrev pub called_measure : Option Size → Size
 called_measure None = nothing_size

@@ -15,14 +15,13 @@ use crate::sizes::sizes_of;
 use crate::whole::expansion_of;
 use sqlite_items::at;
 use std::alloc::Global;
-use tb_body::Body;
+use tb_body::{Body, MOST_BODY_LEVELS};
 use tb_syntax::{ProcDef, Script};
 use tb_terms::{Items, NoMemory};
 use tb_types::Names;
 
+/// How many atoms an expansion may have.
 const MOST_ATOMS: usize = 20_000;
-
-const MOST_LEVELS: usize = 1_000;
 
 /// The expansions of a script's processes, each of which is built when it is asked for. How large they
 /// are is known beforehand, so none is begun that is too large.
@@ -86,7 +85,7 @@ impl<'a> Expansions<'a> {
 fn is_over(size: Size) -> bool
     ensures { result ≡ is_over size }
 {
-    size.atoms > MOST_ATOMS || size.levels > MOST_LEVELS
+    size.atoms > MOST_ATOMS || size.levels > MOST_BODY_LEVELS
 }
 
 /// The body of a process whose expansion is within the limits.

@@ -1,6 +1,7 @@
 -- What is found of a text, and that nothing else is: by what the parts of the loader answer.
 use Rattle.std.proofs.Common.{◌≡◌, ◌≢◌, ◌⊎◌, ⊎_elim, ℕ, ◌<◌, ◌≤◌, List, length, Some, None, Result, Ok, Err, sym, ap, subst, ◌∙◌, arith}
 use Rattle.tb_body.specs.declared.program.Program.{Program}
+use Rattle.tb_body.specs.Programs.{most_roots}
 use Rattle.tb_lex.specs.declared.fault.LexFault.{LexFault}
 use Rattle.tb_lex.specs.declared.fault.LexFault.TheVariants as lex
 use Rattle.tb_lex.specs.declared.token.Token.{Token}
@@ -16,7 +17,7 @@ use Rattle.tb_types.specs.declared.fault.CheckFault.TheVariants as check
 use Rattle.tb_types.specs.Conditions.{Proper, IsFault}
 use Rattle.tb_expand.specs.Cycles.{IsCycle}
 use Rattle.tb_expand.specs.Faults.{HasNoCycle}
-use Rattle.tb_script.specs.Programs.{HasTokens, IsTextOf, IsProgramOf, IsChecked, IsEnding, IsSmall, IsAccepted, first_too_large, most_roots}
+use Rattle.tb_script.specs.Programs.{HasTokens, IsTextOf, IsProgramOf, IsChecked, IsEnding, IsSmall, IsAccepted, first_too_large}
 use Rattle.tb_script.specs.Making.{HasOnlyTokens, IsOnlyScript}
 use Rattle.tb_script.specs.Findings.{HasNoTokens, Finding, NoTokens, NoScript, Improper, Recursive, Large, ManyRoots, Program', Holds, IsSame, IsFound}
 use Rattle.tb_script.proofs.CheckFaults.{one_fault, no_fault}

@@ -1,6 +1,7 @@
 -- What is found of a text: its program, or why it has none. Tokens come first, then the grammar and its limits, the conditions, cycles of calls, sizes of expansions, and last the number of roots.
 use Rattle.std.specs.Prelude.{◌≡◌, ◌≢◌, ℕ, ◌<◌, List, length, Some}
 use Rattle.tb_body.specs.declared.program.Program.{Program}
+use Rattle.tb_body.specs.Programs.{most_roots}
 use Rattle.tb_lex.specs.declared.fault.LexFault.{LexFault}
 use Rattle.tb_lex.specs.declared.fault.LexFault.TheVariants as lex
 use Rattle.tb_lex.specs.declared.token.Token.{Token}
@@ -14,7 +15,7 @@ use Rattle.tb_types.specs.declared.fault.CheckFault.{CheckFault}
 use Rattle.tb_types.specs.declared.fault.CheckFault.TheVariants as check
 use Rattle.tb_types.specs.Conditions.{IsFault}
 use Rattle.tb_expand.specs.Cycles.{IsCycle}
-use Rattle.tb_script.specs.Programs.{HasTokens, IsTextOf, IsChecked, IsEnding, IsSmall, IsAccepted, IsProgramOf, first_too_large, most_roots}
+use Rattle.tb_script.specs.Programs.{HasTokens, IsTextOf, IsChecked, IsEnding, IsSmall, IsAccepted, IsProgramOf, first_too_large}
 
 -- the text has this fault instead of tokens
 pub record HasNoTokens (text : List ℕ) (fault : LexFault) : Type 0 where

@@ -3,6 +3,7 @@ use Rattle.std.specs.Prelude.{◌≡◌, ◌<◌, ◌≤◌, ℕ, List, length, 
 use Rattle.std.specs.List.{AllZip}
 use Rattle.tb_body.specs.declared.body.Body.{Body}
 use Rattle.tb_body.specs.declared.program.Program.{Program}
+use Rattle.tb_body.specs.Programs.{most_roots}
 use Rattle.tb_lex.specs.declared.fault.LexFault.{LexFault}
 use Rattle.tb_lex.specs.declared.token.Token.{Token}
 use Rattle.tb_parse.specs.declared.fault.ParseFault.{ParseFault}
@@ -20,7 +21,7 @@ use Rattle.tb_expand.specs.Expansion.{expansion_of, is_too_large}
 use Rattle.tb_expand.specs.Faults.{HasNoCycle, IsExpansion}
 use Rattle.tb_script.specs.declared.fault.ScriptFault.{ScriptFault}
 use Rattle.tb_script.specs.declared.fault.ScriptFault.TheVariants as fault
-use Rattle.tb_script.specs.Programs.{HasTokens, IsTextOf, IsProgramOf, first_too_large, most_roots}
+use Rattle.tb_script.specs.Programs.{HasTokens, IsTextOf, IsProgramOf, first_too_large}
 use Rattle.tb_script.specs.Findings.{HasNoTokens, HasNoScript, IsFound, NoTokens, NoScript}
 
 -- the text has these tokens, no others, and no fault of its tokens

@@ -5,6 +5,7 @@ use Rattle.tb_terms.specs.declared.term.Term.{Term}
 use Rattle.tb_body.specs.declared.program.Program.{Program}
 use Rattle.tb_body.specs.declared.program.Root.{Root}
 use Rattle.tb_body.specs.declared.program.Tool.{Tool}
+use Rattle.tb_body.specs.Programs.{most_roots}
 use Rattle.tb_lex.specs.Tokens.{Lexes}
 use Rattle.tb_lex.specs.declared.token.Token.{Token}
 use Rattle.tb_syntax.specs.Spelling.{kinds_of}
@@ -33,10 +34,6 @@ pub record IsTextOf (text : List ℕ) (script : Script) : Type 0 where
 -- the first process, in order of definition, whose expansion has over 20,000 atoms or over 1,000 levels
 abbrev pub first_too_large : Script → Option (List ℕ)
 first_too_large script = option_map (λ (d : ProcDef). d.name) (find (λ (d : ProcDef). is_too_large (expansion_of script d)) script.procs)
-
--- there may be this many roots
-abbrev pub most_roots : ℕ
-most_roots = 10000
 
 -- the nine conditions hold
 pub record IsChecked (text : List ℕ) (script : Script) : Type 0 where

@@ -6,11 +6,9 @@ ghost use Rattle.tb_script.specs.Making.{AreExpansions, HasJoined};
 use crate::ScriptFault;
 use crate::roots::roots_of;
 use std::alloc::Global;
-use tb_body::{Bodies, Program, Tool, Tools};
+use tb_body::{Bodies, MOST_ROOTS, Program, Tool, Tools};
 use tb_syntax::{Script, ToolDef};
 use tb_terms::{Items, NoMemory};
-
-const MOST_ROOTS: usize = 10_000;
 
 /// The program of a proper script, whose bodies these are.
 pub(crate) fn program_of(
