@@ -4,6 +4,7 @@ use Rattle.std.specs.Borrow.{Bor}
 use Rattle.tb_lex.specs.declared.token.Token.{Token}
 use Rattle.tb_lex.specs.declared.fault.LexFault.{LexFault}
 use Rattle.tb_lex.specs.declared.fault.LexFault.TheVariants as fault
+use Rattle.tb_lex.specs.Tokens.{most_tokens}
 use Rattle.tb_lex.specs.Scanning.{Makes, Ends, next_of, Scans}
 
 -- a claim of each fault but want of memory, which is free
@@ -22,9 +23,9 @@ Gives view (Err e) found = Faulted (λ f. found ≡ Err f) e
 
 -- The next token was found with the bytes behind it, or the text has ended, or this is the fault.
 abbrev pub IsNext : ℕ → ℕ → List ℕ → Result (Option (Token × Bor (List ℕ))) LexFault → Type 0
-IsNext count total bytes (Ok None) = next_of 200000 count total bytes ≡ Ends None
-IsNext count total bytes (Ok (Some found)) = next_of 200000 count total bytes ≡ Makes found.0 found.1.now
-IsNext count total bytes (Err e) = Faulted (λ f. next_of 200000 count total bytes ≡ Ends (Some f)) e
+IsNext count total bytes (Ok None) = next_of most_tokens count total bytes ≡ Ends None
+IsNext count total bytes (Ok (Some found)) = next_of most_tokens count total bytes ≡ Makes found.0 found.1.now
+IsNext count total bytes (Err e) = Faulted (λ f. next_of most_tokens count total bytes ≡ Ends (Some f)) e
 
 -- the tokens are those of the whole text, or the fault is that at which the scan ends
 abbrev pub HasScanned : List ℕ → Result (List Token) LexFault → Type 0

@@ -3,7 +3,7 @@ use Rattle.std.specs.Prelude.{◌≡◌, ℕ, ◌+◌, ◌<◌, not, List, [], �
 use Rattle.tb_read.specs.Spelling.{is_blank, SpellsBytes, SpellsString}
 use Rattle.tb_read.specs.Places.{BeginsReal, BeginsTooFar}
 use Rattle.tb_lex.specs.Gaps.{IsGap}
-use Rattle.tb_lex.specs.Tokens.{IsPiece, TokensThen}
+use Rattle.tb_lex.specs.Tokens.{most_tokens, IsPiece, TokensThen}
 use Rattle.tb_lex.specs.declared.token.Token.{Token}
 use Rattle.tb_lex.specs.declared.fault.LexFault.{LexFault}
 use Rattle.tb_lex.specs.declared.fault.LexFault.TheVariants as fault
@@ -58,7 +58,7 @@ Stops f place bytes = (gap : List ℕ) × (rest : List ℕ) × (bytes ≡ gap ++
 
 -- fewer tokens than the limit stand before the fault
 abbrev pub StopsAt : List ℕ → LexFault → Type 0
-StopsAt bytes f = (tokens : List Token) × (length tokens < 200000) × TokensThen (Stops f) 0 bytes tokens
+StopsAt bytes f = (tokens : List Token) × (length tokens < most_tokens) × TokensThen (Stops f) 0 bytes tokens
 
 -- Everything before a fault is tokens. Want of memory may come at any time.
 abbrev pub HasFault : List ℕ → LexFault → Type 0
@@ -66,5 +66,5 @@ HasFault bytes (fault.BadByte at) = StopsAt bytes (fault.BadByte at)
 HasFault bytes (fault.OpenString at) = StopsAt bytes (fault.OpenString at)
 HasFault bytes (fault.Real at) = StopsAt bytes (fault.Real at)
 HasFault bytes (fault.IntRange at) = StopsAt bytes (fault.IntRange at)
-HasFault bytes fault.TooMany = (tokens : List Token) × (length tokens ≡ 200000) × TokensThen (Stops fault.TooMany) 0 bytes tokens
+HasFault bytes fault.TooMany = (tokens : List Token) × (length tokens ≡ most_tokens) × TokensThen (Stops fault.TooMany) 0 bytes tokens
 HasFault bytes fault.NoMemory = Unit {0}

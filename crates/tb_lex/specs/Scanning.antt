@@ -7,7 +7,7 @@ use Rattle.tb_read.specs.Lexing.{string_turn, is_negative, is_real, number_of}
 use Rattle.tb_read.specs.declared.quoted.Within.{Within}
 use Rattle.tb_read.specs.declared.quoted.Within.TheVariants.{Between, Escaped, Going}
 use Rattle.tb_read.specs.declared.quoted.Turn.TheVariants as turn
-use Rattle.tb_lex.specs.Tokens.{symbol_text}
+use Rattle.tb_lex.specs.Tokens.{most_tokens, symbol_text}
 use Rattle.tb_lex.specs.declared.symbol.Symbol.{Symbol}
 use Rattle.tb_lex.specs.declared.symbol.Symbol.TheVariants as symbol
 use Rattle.tb_lex.specs.declared.head.Head.{Head}
@@ -177,4 +177,4 @@ Runs limit count total bytes (token ∷ tokens) end = (rest : List ℕ) × (next
 
 -- what is scanned of a whole text
 abbrev pub Scans : List ℕ → List Token → Option LexFault → Type 0
-Scans bytes tokens end = Runs 200000 0 (length bytes) bytes tokens end
+Scans bytes tokens end = Runs most_tokens 0 (length bytes) bytes tokens end

@@ -10,6 +10,10 @@ use Rattle.tb_lex.specs.declared.token.Token.{Token}
 use Rattle.tb_lex.specs.declared.kind.TokenKind.{TokenKind}
 use Rattle.tb_lex.specs.declared.kind.TokenKind.TheVariants as kind
 
+-- how many tokens a script may have
+abbrev pub most_tokens : ℕ
+most_tokens = 200000
+
 abbrev pub symbol_text : Symbol → List ℕ
 symbol_text symbol.LeftParen = 40 ∷ []
 symbol_text symbol.RightParen = 41 ∷ []

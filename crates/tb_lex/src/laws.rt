@@ -4,7 +4,7 @@ ghost use Rattle.std.specs.Prelude.{◌≡◌, ◌≢◌, ◌≤◌, ◌⊎◌, 
 ghost use Rattle.tb_lex.specs.declared.token.Token.{Token};
 ghost use Rattle.tb_lex.specs.declared.fault.LexFault.{LexFault};
 ghost use Rattle.tb_lex.specs.declared.fault.LexFault.TheVariants.{NoMemory};
-ghost use Rattle.tb_lex.specs.Tokens.{Lexes, AreSlices, Spaced};
+ghost use Rattle.tb_lex.specs.Tokens.{Lexes, most_tokens, AreSlices, Spaced};
 ghost use Rattle.tb_lex.specs.Faults.{HasFault};
 
 /// A text has at most one row of tokens.
@@ -17,12 +17,12 @@ pub fn faults_are_unique()
     ensures one { (bytes : List ℕ) (f g : LexFault) → HasFault bytes f → HasFault bytes g
         → f ≢ NoMemory → g ≢ NoMemory → f ≡ g }
     ensures none { (bytes : List ℕ) (tokens : List Token) (f : LexFault) → Lexes bytes tokens
-        → length tokens ≤ 200000 → HasFault bytes f → f ≡ NoMemory }
+        → length tokens ≤ most_tokens → HasFault bytes f → f ≡ NoMemory }
 {}
 
 /// Each text has tokens within the limit, or a fault other than want of memory.
 pub fn each_text_has_one()
-    ensures { (bytes : List ℕ) → ((tokens : List Token) × Lexes bytes tokens × (length tokens ≤ 200000))
+    ensures { (bytes : List ℕ) → ((tokens : List Token) × Lexes bytes tokens × (length tokens ≤ most_tokens))
         ⊎ ((f : LexFault) × HasFault bytes f × (f ≢ NoMemory)) }
 {}
 

@@ -1,7 +1,7 @@
 ghost use Rattle.std.specs.Prelude.{◌≡◌, ◌≢◌, ◌≤◌, ◌<◌, ◌⊎◌, List, length, IfOk, IfErr, IfSome, Ok, Err};
 ghost use Rattle.tb_lex.specs.declared.token.Token.{Token};
 ghost use Rattle.tb_lex.specs.declared.fault.LexFault.{LexFault};
-ghost use Rattle.tb_lex.specs.Tokens.{Lexes};
+ghost use Rattle.tb_lex.specs.Tokens.{Lexes, most_tokens};
 ghost use Rattle.tb_lex.specs.Faults.{HasFault};
 ghost use Rattle.tb_lex.specs.Answers.{IsNext, HasScanned};
 
@@ -12,14 +12,15 @@ use crate::{LexFault, Token, Tokens};
 use std::alloc::Global;
 use tb_terms::Items;
 
+/// How many tokens a script may have.
 const MOST_TOKENS: usize = 200_000;
 
 /// The tokens of a script's text, of which there are at most 200,000.
 pub fn lex(alloc: Global, bytes: &[u8]) -> Result<Tokens, LexFault>
-    ensures found { IfOk result (λ tokens. Lexes bytes.now tokens × (length tokens ≤ 200000)) }
+    ensures found { IfOk result (λ tokens. Lexes bytes.now tokens × (length tokens ≤ most_tokens)) }
 
     // Nothing else keeps a text from being cut into its tokens.
-    ensures only { (tokens : List Token) → Lexes bytes.now tokens → length tokens ≤ 200000
+    ensures only { (tokens : List Token) → Lexes bytes.now tokens → length tokens ≤ most_tokens
         → (result ≡ Ok tokens) ⊎ (result ≡ Err LexFault.NoMemory) }
     ensures fault { IfErr result (HasFault bytes.now) }
 

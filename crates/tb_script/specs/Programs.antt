@@ -6,7 +6,7 @@ use Rattle.tb_body.specs.declared.program.Program.{Program}
 use Rattle.tb_body.specs.declared.program.Root.{Root}
 use Rattle.tb_body.specs.declared.program.Tool.{Tool}
 use Rattle.tb_body.specs.Programs.{most_roots}
-use Rattle.tb_lex.specs.Tokens.{Lexes}
+use Rattle.tb_lex.specs.Tokens.{Lexes, most_tokens}
 use Rattle.tb_lex.specs.declared.token.Token.{Token}
 use Rattle.tb_syntax.specs.Spelling.{kinds_of}
 use Rattle.tb_syntax.specs.declared.proc.Call.{Call}
@@ -23,7 +23,7 @@ use Rattle.tb_expand.specs.Faults.{HasNoCycle, IsExpansion}
 -- the text has these tokens, no more than a script may have
 pub record HasTokens (text : List ℕ) (tokens : List Token) : Type 0 where
   pub lexes : Lexes text tokens
-  pub few : length tokens ≤ 200000
+  pub few : length tokens ≤ most_tokens
 
 -- the text spells the script, with the limits on tokens, open brackets and heights kept
 pub record IsTextOf (text : List ℕ) (script : Script) : Type 0 where
