@@ -2,14 +2,14 @@
 use Rattle.std.specs.Prelude.{◌≡◌, ℕ, ◌+◌, ◌<◌, ◌≤◌, List, ◌++◌, length, take, Some, None, ◌⊎◌}
 use Rattle.tb_lex.specs.declared.kind.TokenKind.{TokenKind}
 use Rattle.tb_syntax.specs.declared.script.Script.{Script}
-use Rattle.tb_syntax.specs.Limits.{open_brackets, IsTooDeep, first_too_high}
+use Rattle.tb_syntax.specs.Limits.{most_open, open_brackets, IsTooDeep, first_too_high}
 use Rattle.tb_syntax.specs.Spelling.{Spells}
 use Rattle.tb_parse.specs.declared.fault.ParseFault.{ParseFault}
 use Rattle.tb_parse.specs.declared.fault.ParseFault.TheVariants as fault
 
--- at most 128 brackets are open behind each token
+-- no more brackets are open behind each token than may be
 abbrev pub NoneTooDeep : List TokenKind → Type 0
-NoneTooDeep kinds = (place : ℕ) → place < length kinds → open_brackets (take (place + 1) kinds) ≤ 128
+NoneTooDeep kinds = (place : ℕ) → place < length kinds → open_brackets (take (place + 1) kinds) ≤ most_open
 
 -- the tokens spell the script, and no limit is passed
 pub record IsScriptOf (kinds : List TokenKind) (script : Script) : Type 0 where

@@ -1,10 +1,10 @@
--- Processes as they are built: a tree with its height, which is at most 400, or none.
+-- Processes as they are built: a tree with its height, which is within the limit, or none.
 use Rattle.std.specs.Prelude.{ℕ, ◌+◌, ◌||◌, nat_le, nat_lt, max, List, [], ◌∷◌, Option, Some, None, if◌then◌else◌}
 use Rattle.tb_lex.specs.declared.symbol.Symbol.{Symbol}
 use Rattle.tb_lex.specs.declared.symbol.Symbol.TheVariants as sign
 use Rattle.tb_syntax.specs.declared.proc.Proc.{Proc}
 use Rattle.tb_syntax.specs.declared.proc.Proc.TheVariants as tree
-use Rattle.tb_syntax.specs.Limits.{height}
+use Rattle.tb_syntax.specs.Limits.{height, most_height}
 use Rattle.tb_parse.specs.declared.built.Built.{Built}
 use Rattle.tb_parse.specs.declared.built.Built.TheVariants.{Tree, TooHigh}
 use Rattle.tb_parse.specs.declared.built.Sides.{Sides}
@@ -14,7 +14,7 @@ use Rattle.tb_parse.specs.Parsing.{Parser, after, mapped, create, timed, prim, m
 
 -- what is built of a process
 unfoldable pub built : Proc → Built
-built p = if nat_lt 400 (height p) then TooHigh else Tree p (height p)
+built p = if nat_lt most_height (height p) then TooHigh else Tree p (height p)
 
 -- what a parser of processes finds, as it is built
 abbrev pub as_built : Parser Proc → Parser Built
@@ -26,7 +26,7 @@ creation room place at ks = after (create room at ks) (timed room place)
 
 -- two sides with the height of the whole
 abbrev pub fitting : Proc → ℕ → Proc → ℕ → Option Sides
-fitting x first y second = if nat_le 400 first || nat_le 400 second then None else Some (record { x = x; y = y; height = 1 + max first second })
+fitting x first y second = if nat_le most_height first || nat_le most_height second then None else Some (record { x = x; y = y; height = 1 + max first second })
 
 abbrev pub sides_of : Built → Built → Option Sides
 sides_of (Tree x first) (Tree y second) = fitting x first y second
@@ -34,7 +34,7 @@ sides_of (Tree x first) TooHigh = None
 sides_of TooHigh y = None
 
 abbrev pub side_of : Built → Option (Proc × ℕ)
-side_of (Tree x height) = if nat_lt height 400 then Some (x, 1 + height) else None
+side_of (Tree x height) = if nat_lt height most_height then Some (x, 1 + height) else None
 side_of TooHigh = None
 
 abbrev pub both_sides : (Proc → Proc → Proc) → Option Sides → Built

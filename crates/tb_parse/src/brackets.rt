@@ -1,5 +1,5 @@
 ghost use Rattle.std.specs.Prelude.{◌≡◌, ◌≤◌, MatchOption};
-ghost use Rattle.tb_syntax.specs.Limits.{open_step, opens, closes, IsTooDeep};
+ghost use Rattle.tb_syntax.specs.Limits.{most_open, open_step, opens, closes, IsTooDeep};
 ghost use Rattle.tb_syntax.specs.Spelling.{kinds_of};
 ghost use Rattle.tb_parse.specs.Faults.{NoneTooDeep};
 
@@ -24,7 +24,7 @@ pub(crate) fn too_deep(tokens: &[Token]) -> Option<usize>
 
 /// How many are open behind a token.
 fn open_behind(count: usize, kind: &TokenKind) -> usize
-    requires { count ≤ 128 }
+    requires { count ≤ most_open }
     ensures { result ≡ open_step count kind.now }
 {
     if opens(kind) {

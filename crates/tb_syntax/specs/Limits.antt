@@ -28,8 +28,12 @@ height_step (Let vars x) = 1 + x
 abbrev pub height : Proc → ℕ
 height = fold-Proc ℕ height_step
 
+-- how high the body of a process may be
+abbrev pub most_height : ℕ
+most_height = 400
+
 abbrev pub is_too_high : ProcDef → Bool
-is_too_high definition = nat_lt 400 (height definition.body)
+is_too_high definition = nat_lt most_height (height definition.body)
 
 -- the place of the first definition whose body is too high
 abbrev pub first_too_high : List ProcDef → Option ℕ
@@ -65,8 +69,12 @@ open_step count kind = if opens kind then count + 1 else (if closes kind then co
 abbrev pub open_brackets : List TokenKind → ℕ
 open_brackets kinds = fold open_step 0 kinds
 
--- the first token behind which more than 128 are open
+-- how many brackets may be open
+abbrev pub most_open : ℕ
+most_open = 128
+
+-- the first token behind which more are open
 pub record IsTooDeep (kinds : List TokenKind) (place : ℕ) : Type 0 where
   pub is_place : place < length kinds
-  pub is_over : 128 < open_brackets (take (place + 1) kinds)
-  pub none_before : (earlier : ℕ) → earlier < place → open_brackets (take (earlier + 1) kinds) ≤ 128
+  pub is_over : most_open < open_brackets (take (place + 1) kinds)
+  pub none_before : (earlier : ℕ) → earlier < place → open_brackets (take (earlier + 1) kinds) ≤ most_open
