@@ -6,7 +6,7 @@ use Rattle.tb_terms.specs.declared.term.Term.TheVariants.{Int}
 use Rattle.tb_terms.specs.declared.pattern.Pattern.{Pattern}
 use Rattle.tb_match.specs.declared.bind.Bind.{Bind}
 use Rattle.tb_body.specs.declared.body.Body.{Body}
-use Rattle.tb_notes.specs.Inboxes.{Held, subscribed, unsubscribed, wants, with_note, oldest_match, without_note}
+use Rattle.tb_notes.specs.Inboxes.{Held, most_notes, subscribed, unsubscribed, wants, with_note, oldest_match, without_note}
 use Rattle.tb_notes.specs.declared.queue.Found.{Found}
 use Rattle.tb_log.specs.declared.entry.LabelKind.{LabelKind}
 use Rattle.tb_log.specs.declared.entry.LabelKind.TheVariants as kind
@@ -48,7 +48,7 @@ pub record Effect : Type 0 where
 
 -- a queue takes a note where it doesn't want it, or has room
 abbrev pub takes_note : List Term → Held → Bool
-takes_note terms held = not (wants held terms) || nat_lt (length held.notes) 65536
+takes_note terms held = not (wants held terms) || nat_lt (length held.notes) most_notes
 
 -- the note at a place of the queue
 abbrev pub note_at : Held → ℕ → List Term
@@ -57,11 +57,15 @@ note_at held place = slice_index_or held.notes place []
 abbrev pub number_term : ℕ → Term
 number_term number = Int (pos number)
 
--- A process of one body may create one of another with these actuals, whose number goes to the slot: fewer than 10,000
--- are alive, the actuals have the sorts of the formals, and the slot takes a number.
+-- how many processes may be alive
+abbrev pub most_alive : ℕ
+most_alive = 10000
+
+-- A process of one body may create one of another with these actuals, whose number goes to the slot: fewer are alive than
+-- may be, the actuals have the sorts of the formals, and the slot takes a number.
 abbrev pub may_create : List Body → ℕ → ℕ → ℕ → ℕ → List Term → ℕ → Bool
 may_create bodies alive number creator process actuals slot =
-    nat_lt alive 10000 && fits_formals (slice_get bodies process) actuals && fits_slot (slice_get bodies creator) slot (number_term number)
+    nat_lt alive most_alive && fits_formals (slice_get bodies process) actuals && fits_slot (slice_get bodies creator) slot (number_term number)
 
 abbrev pub creation : ℕ → ℕ → List Term → ℕ → Effect
 creation number process actuals slot = record {

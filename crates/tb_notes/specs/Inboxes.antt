@@ -54,8 +54,12 @@ fits note patterns = is_some (match_list patterns note)
 abbrev pub wants : Held → List Term → Bool
 wants held note = list_any (fits note) held.subscriptions
 
+-- how many notes may wait for one process
+abbrev pub most_notes : ℕ
+most_notes = 65536
+
 abbrev pub HasRoom : Held → Type 0
-HasRoom held = length held.notes < 65536
+HasRoom held = length held.notes < most_notes
 
 abbrev pub with_note : List Term → Held → Held
 with_note note held = record held { notes = held.notes ++ note ∷ [] }
@@ -81,4 +85,4 @@ without_note place held = record held { notes = remove held.notes place }
 pub record IsInOrder (held : Held) : Type 0 where
   pub plain : IsTrue (list_all are_plain held.subscriptions)
   pub distinct : IsDistinct is_same_patterns held.subscriptions
-  pub within : length held.notes ≤ 65536
+  pub within : length held.notes ≤ most_notes

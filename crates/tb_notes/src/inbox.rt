@@ -10,6 +10,7 @@ use std::collections::VecDeque;
 use std::marker::Model;
 use tb_terms::{Items, NoMemory, Patterns, Terms};
 
+/// How many notes may wait for one process.
 const MOST_NOTES: usize = 65_536;
 
 /// What a process has subscribed to, and the notes that wait for it. Contracts see the two lists,
