@@ -19,6 +19,10 @@ pub record Walking : Type 0 where
   pub store : List Slot
   pub ticks : ℕ
 
+-- how many ticks a process may see
+abbrev pub most_ticks : ℕ
+most_ticks = 4000000
+
 -- a process that enters its body with this store
 abbrev pub entering : Body → List Slot → Walking
 entering body store = record { term = Some (fresh body.tree); store = store; ticks = 0 }

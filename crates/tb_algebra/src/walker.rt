@@ -3,7 +3,7 @@ ghost use Rattle.std.specs.Option.{ForSome};
 ghost use Rattle.tb_algebra.specs.Binds.{takes_binds};
 ghost use Rattle.tb_algebra.specs.Offers.{Offered};
 ghost use Rattle.tb_algebra.specs.WalkerViews.{View};
-ghost use Rattle.tb_algebra.specs.Walks.{entering, offers_of, seen_offers, sent_by, patterns_by, accepted_by, fired, ticked, sorts_of, is_end};
+ghost use Rattle.tb_algebra.specs.Walks.{most_ticks, entering, offers_of, seen_offers, sent_by, patterns_by, accepted_by, fired, ticked, sorts_of, is_end};
 
 use crate::Offer;
 use std::alloc::Global;
@@ -136,7 +136,7 @@ pub trait Walker: Sized + Drop {
     /// One tick passes: the process ages. This takes no memory. A process sees at most 4,000,000 ticks.
     fn tick(&mut self, plan: &Self::Plan)
         requires on { view.is_on plan.now self.old }
-        requires within { (view.walking plan.now self.old).ticks < 4000000 }
+        requires within { (view.walking plan.now self.old).ticks < most_ticks }
         ensures on { view.is_on plan.now self.new }
         ensures aged { view.walking plan.now self.new ≡ ticked (view.walking plan.now self.old) }
         ensures seen { view.seen self.new ≡ None };

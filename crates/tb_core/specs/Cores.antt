@@ -35,6 +35,10 @@ core_code =
 unfoldable pub bus_now : CoreState → Bus
 bus_now core = replay (start core.origin) core.log
 
+-- how many entries the log of a core may have
+abbrev pub most_entries : ℕ
+most_entries = 4000000
+
 -- a core as it is started
 abbrev pub started : Origin → CoreState
 started origin = record { origin = origin; log = []; stopped = false; spare = 0 }

@@ -15,6 +15,7 @@ use Rattle.tb_bus.specs.Traces.{IsTrace, replay}
 use Rattle.tb_bus.specs.Candidates.{Scene, ascend, row_at, rows_of, scene_of}
 use Rattle.tb_bus.specs.declared.living.Living.{Living}
 use Rattle.tb_bus.specs.declared.candidate.Candidate.{Candidate}
+use Rattle.tb_core.specs.Cores.{most_entries}
 use Rattle.tb_core.specs.Lives.{IsBelow, IsLive, procs_of}
 use Rattle.tb_core.specs.declared.acting.Done.{Done}
 use Rattle.tb_core.specs.declared.bus.LiveBus.{LiveBus}
@@ -146,7 +147,7 @@ pub record Represents {W P T : Type 0} (view : View P W T) (bus : LiveBus W P T)
   pub bus_is : bus_of view bus ≡ replay (start bus.origin) log.entries
   pub trace : IsTrace (start bus.origin) log.entries
   pub limit : log.limit ≡ bus.origin.limit
-  pub few : bus.origin.limit ≤ 4000000
+  pub few : bus.origin.limit ≤ most_entries
   pub ticks : bus.ticks ≤ length log.entries
   pub next : bus.marks.next_number ≤ 10001 + length log.entries
   pub tools : bus.bench.next_tool ≤ 1 + length log.entries

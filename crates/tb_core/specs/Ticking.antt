@@ -1,13 +1,13 @@
 -- What a tick does to the living of the code, whatever their walkers are.
 use Rattle.std.specs.Prelude.{◌≡◌, ◌<◌, ◌&&◌, List, [], ◌∷◌, not, Some, slice_get, ⊤}
-use Rattle.tb_algebra.specs.Walks.{ticked}
+use Rattle.tb_algebra.specs.Walks.{most_ticks, ticked}
 use Rattle.tb_algebra.specs.WalkerViews.{View}
 use Rattle.tb_bus.specs.declared.living.Living.{Living}
 
 -- one that goes by this plan has seen so few ticks that one more may pass
 pub record IsBefore {W P T : Type 0} (view : View P W T) (plan : P) (living : Living W) : Type 0 where
   pub is_on : view.is_on plan living.walker
-  pub few : (view.walking plan living.walker).ticks < 4000000
+  pub few : (view.walking plan living.walker).ticks < most_ticks
 
 -- by the plan of its body
 abbrev pub CanTick : {W P T : Type 0} → View P W T → List P → Living W → Type 0

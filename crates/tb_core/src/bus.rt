@@ -55,6 +55,7 @@ impl<W: Walker> LiveBus<W> {
     ghost use Rattle.tb_log.specs.Limits.{terms_size};
     ghost use Rattle.std.specs.List.{All};
     ghost use Rattle.tb_algebra.specs.Offers.{Offered};
+    ghost use Rattle.tb_algebra.specs.Walks.{most_ticks};
     ghost use Rattle.tb_bus.specs.Buses.{start};
     ghost use Rattle.tb_bus.specs.Effects.{creation, own_effect, went_down};
     ghost use Rattle.tb_bus.specs.Slots.{fits_formals};
@@ -638,7 +639,7 @@ impl<W: Walker> LiveBus<W> {
     /// A tick passes: all processes age. This takes no memory.
     fn tick(&mut self)
         requires sound { IsSound W.view self.old }
-        requires few { self.old.ticks < 4000000 }
+        requires few { self.old.ticks < most_ticks }
         ensures sound { IsSound W.view self.new }
         ensures origin { self.new.origin ≡ self.old.origin }
         ensures bus { bus_of W.view self.new ≡ record (bus_of W.view self.old) { procs = map aged_proc (procs_in W.view self.old); now = self.old.ticks + 1 } }
@@ -651,7 +652,7 @@ impl<W: Walker> LiveBus<W> {
     /// Takes an input, or drops it: what became of it. Only a line takes memory.
     pub fn feed(&mut self, alloc: Global, input: &Input) -> Result<Reply, NoMemory>
         requires sound { IsSound W.view self.old }
-        requires few { self.old.ticks < 4000000 }
+        requires few { self.old.ticks < most_ticks }
         requires tools { self.old.bench.next_tool ≤ most_tools }
         requires shape { IsInputInShape input.now }
         ensures reply { IfOk result (λ reply. reply ≡ (fed (bus_of W.view self.old) input.now).reply) }

@@ -9,7 +9,7 @@ ghost use Rattle.tb_bus.specs.Buses.{origin_of, start};
 ghost use Rattle.tb_bus.specs.Traces.{IsTrace, fed, taken_out};
 ghost use Rattle.tb_bus.specs.Steps.{steps, apply, label_of};
 ghost use Rattle.tb_bus.specs.Views.{IsCandidateIn};
-ghost use Rattle.tb_core.specs.Cores.{HandIn, MakeStep, HandOut, IsTakenOut, started, bus_now, Logs, entries_of, is_full, IsStep, Stays, has_any, ends_quiet, takes_memory};
+ghost use Rattle.tb_core.specs.Cores.{most_entries, HandIn, MakeStep, HandOut, IsTakenOut, started, bus_now, Logs, entries_of, is_full, IsStep, Stays, has_any, ends_quiet, takes_memory};
 ghost use Rattle.tb_core.specs.LiveBuses.{bus_of, move_in, scene_in, AreFresh, IsSound, StandsAs};
 
 use crate::answers::{CoreFault, Stepped, TakeOut};
@@ -56,7 +56,7 @@ impl<W: Walker> Core<W> {
         limit: u32,
     ) -> Result<Core<W>, NoMemory>
         requires connects { length connects.now ≤ 16 }
-        requires limit { limit ≤ 4000000 }
+        requires limit { limit ≤ most_entries }
         ensures { IfOk result (Stays (started (origin_of program connects.now limit))) }
     {
         let origin = Origin {
@@ -231,7 +231,7 @@ fn hand<W: Walker>(
     requires sound { IsSound W.view bus.old }
     requires ticks { bus.old.ticks ≤ length log.old.entries }
     requires tools { bus.old.bench.next_tool ≤ 1 + length log.old.entries }
-    requires few { log.old.limit ≤ 4000000 }
+    requires few { log.old.limit ≤ most_entries }
     requires shape { IsInputInShape input }
     ensures sound { IsSound W.view bus.new }
     ensures origin { bus.new.origin ≡ bus.old.origin }
@@ -310,7 +310,7 @@ fn make<W: Walker>(
     requires fresh { AreFresh bus.old.living.items }
     requires next { bus.old.marks.next_number ≤ 10001 + length log.old.entries }
     requires tools { bus.old.bench.next_tool ≤ 1 + length log.old.entries }
-    requires few { log.old.limit ≤ 4000000 }
+    requires few { log.old.limit ≤ most_entries }
     requires found { IsCandidateIn (scene_in bus.old) candidate }
     ensures sound { IsSound W.view bus.new }
     ensures origin { bus.new.origin ≡ bus.old.origin }

@@ -3,7 +3,7 @@
 ghost use Rattle.std.specs.Prelude.{◌≡◌, ◌≢◌, ◌<◌, ◌≤◌, ◌^◌, ◌++◌, length, map, string_bytes, option_map, option_copied, option_to_list, Ok, IsOk, IsTrue, IfOk, IfErr, OnOk, Err};
 ghost use Rattle.tb_terms.specs.Names.{is_text, is_text_byte};
 ghost use Rattle.tb_read.specs.Spelling.{is_digits};
-ghost use Rattle.tb_top.specs.Words.{asked, verb_by, verb_of, is_option, is_unbuilt, is_connect, part_by, option_by, own_option_by, name_in, script_by, feed_by, connect_by, connects_of, limit_by, limit_in, and_script, and_feed, and_connects, and_steps, and_events, read_parts, parts_from, nothing, command_by};
+ghost use Rattle.tb_top.specs.Words.{asked, verb_by, verb_of, is_option, is_unbuilt, is_connect, part_by, option_by, own_option_by, name_in, script_by, feed_by, connect_by, connects_of, most_limit, limit_by, limit_in, and_script, and_feed, and_connects, and_steps, and_events, read_parts, parts_from, nothing, command_by};
 ghost use Rattle.tb_top.specs.WordReading.{found_of, answer_of, bytes_of, part_of, part_len, connect_from, HasText, IsText, AreText};
 
 use super::found::Found;
@@ -298,7 +298,7 @@ fn count_connect(count: usize, place: usize, value: Option<&String>) -> Result<u
 fn read_limit(before: Option<u64>, place: usize, value: Option<&String>) -> Result<u64, WordFault>
     requires { place < 2 ^ 63 }
     ensures limit { result ≡ limit_by before place (option_map string_bytes (option_copied value.entry)) }
-    ensures within { IfOk result (λ limit. limit ≤ 4000000) }
+    ensures within { IfOk result (λ limit. limit ≤ most_limit) }
 {
     if before.is_some() {
         return Err(WordFault::Extra(place));
@@ -311,7 +311,7 @@ fn read_limit(before: Option<u64>, place: usize, value: Option<&String>) -> Resu
 
 fn limit_in(place: usize, word: &str) -> Result<u64, WordFault>
     ensures limit { result ≡ limit_in place word.now }
-    ensures within { IfOk result (λ limit. limit ≤ 4000000) }
+    ensures within { IfOk result (λ limit. limit ≤ most_limit) }
 {
     if !is_digits(word.as_bytes()) {
         return Err(WordFault::Number(place));
