@@ -9,6 +9,7 @@ use Rattle.tb_terms.specs.Sizes.{most_term_size, is_within_limits}
 use Rattle.tb_log.specs.declared.entry.ToolLine.{ToolLine}
 use Rattle.tb_log.specs.declared.entry.ToolLine.TheVariants.{Value, Event, Connect, Disconnect, Bad}
 use Rattle.tb_log.specs.Limits.{terms_size}
+use Rattle.tb_log.specs.Shapes.{most_tool_name}
 use Rattle.tb_read.specs.Spelling.{Reads}
 
 -- each part of a line is within the limits of a term, and all together are no larger than a term may be; the name around
@@ -34,7 +35,7 @@ event_line (part ∷ parts) = if are_within (part ∷ parts) then Event (part �
 
 -- a name without parts, which is no longer than that of a tool may be
 abbrev pub name_line : List ℕ → List Term → ToolLine
-name_line name [] = if nat_le (length name) 65534 then Connect name else Bad
+name_line name [] = if nat_le (length name) most_tool_name then Connect name else Bad
 name_line name (part ∷ parts) = Bad
 
 abbrev pub named_line : Term-F Term → ToolLine
@@ -71,9 +72,13 @@ line_by_layer (layer.List parts) = Bad
 abbrev pub line_of : Term → ToolLine
 line_of term = line_by_layer (out-Term term)
 
+-- how many bytes a line may have
+abbrev pub most_line_bytes : ℕ
+most_line_bytes = 65536
+
 -- the bytes are no more than a line may have, and read as this term
 abbrev pub Says : List ℕ → Term → Type 0
-Says bytes term = (length bytes ≤ 65536) × Reads bytes term
+Says bytes term = (length bytes ≤ most_line_bytes) × Reads bytes term
 
 -- The bytes say a term, and are the line that it is; or they say none, and are a bad line.
 abbrev pub IsToolLine : List ℕ → ToolLine → Type 0

@@ -4,11 +4,8 @@ ghost use Rattle.tb_terms.specs.declared.term.Term.{out-Term};
 ghost use Rattle.tb_terms.specs.Sizes.{is_within_limits};
 ghost use Rattle.tb_lane.specs.ToolLines.{are_within, only, value_line, event_line, connect_line, named_line, name_line, disconnect_line, line_by_name, line_of};
 
-use tb_log::{ToolLine, total_size};
+use tb_log::{MOST_TOOL_NAME, ToolLine, total_size};
 use tb_terms::{MOST_TERM_SIZE, Name, Term, Terms, is_within_limits};
-
-/// How many bytes the name of a tool may have.
-const MOST_NAME: usize = 65_534;
 
 /// The line that the term is; `Bad` where it is none.
 pub(crate) fn line_of(term: Term) -> ToolLine
@@ -77,7 +74,7 @@ fn named_line(part: Term) -> ToolLine
 fn name_line(name: Name, parts: &Terms) -> ToolLine
     ensures { result ≡ name_line name parts.now }
 {
-    if parts.is_empty() && name.as_bytes().len() <= MOST_NAME {
+    if parts.is_empty() && name.as_bytes().len() <= MOST_TOOL_NAME {
         ToolLine::Connect(name)
     } else {
         ToolLine::Bad

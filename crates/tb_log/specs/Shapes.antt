@@ -67,11 +67,15 @@ pub record AreParts (parts : List Term) : Type 0 where
   pub each : All IsWithinLimits parts
   pub together : terms_size parts ≤ most_term_size
 
--- a line that a tool may put, or a bad one; the term of a tool, which is its name with a number, is 2 larger than the name
+-- how long the name of a tool may be: its term, which is the name with a number, is 2 larger, and no larger than a term may be
+abbrev pub most_tool_name : ℕ
+most_tool_name = 65534
+
+-- a line that a tool may put, or a bad one
 abbrev pub IsToolLineInShape : ToolLine → Type 0
 IsToolLineInShape (tool.Value term) = IsWithinLimits term
 IsToolLineInShape (tool.Event terms) = (1 ≤ length terms) × AreParts terms
-IsToolLineInShape (tool.Connect name) = length name ≤ 65534
+IsToolLineInShape (tool.Connect name) = length name ≤ most_tool_name
 IsToolLineInShape tool.Disconnect = Unit {0}
 IsToolLineInShape tool.Bad = Unit {0}
 

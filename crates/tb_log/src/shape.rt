@@ -9,8 +9,8 @@ use crate::entry::{Entry, Input, Label, LabelKind, Out, Place, ToolLine};
 use crate::log::total_size;
 use tb_terms::{MOST_TERM_SIZE, Term, is_within_limits};
 
-/// How long a tool's name may be: with its parentheses it is as long as a term may be.
-const LONGEST_NAME: usize = 65_534;
+/// How long the name of a tool may be: the term of a tool is 2 larger.
+pub const MOST_TOOL_NAME: usize = 65_534;
 
 /// Whether a log may have this entry.
 pub fn is_in_shape(entry: &Entry) -> bool
@@ -98,7 +98,7 @@ pub fn is_tool_line_in_shape(line: &ToolLine) -> bool
     match line {
         ToolLine::Value(term) => is_within_limits(term),
         ToolLine::Event(terms) => !terms.is_empty() && are_parts(terms.as_slice()),
-        ToolLine::Connect(name) => name.as_bytes().len() <= LONGEST_NAME,
+        ToolLine::Connect(name) => name.as_bytes().len() <= MOST_TOOL_NAME,
         ToolLine::Disconnect | ToolLine::Bad => true,
     }
 }
