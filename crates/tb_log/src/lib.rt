@@ -6,7 +6,6 @@ mod entry;
 mod label_tests;
 mod log;
 mod proper;
-mod quote;
 mod shape;
 #[cfg(test)]
 mod tests;

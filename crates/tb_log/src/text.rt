@@ -3,9 +3,8 @@ ghost use Rattle.tb_terms.specs.Fronts.{KeepsFront};
 ghost use Rattle.tb_log.specs.LogText.{entry_text, entry_words, kind_word, label_words, place_words, term_words, arguments_text, fed_words, input_words, tool_line_words, out_words, why_word};
 
 use crate::entry::{Entry, Input, Label, LabelKind, Out, Place, Reply, ToolLine, Why};
-use crate::quote::push_quoted;
 use itoa::Buffer;
-use tb_terms::{NoMemory, Terms, write_term, write_terms};
+use tb_terms::{NoMemory, Terms, push_quoted, write_term, write_terms};
 
 /// Writes the line of an entry with this number at the end.
 pub fn write_entry(number: u64, entry: &Entry, into: &mut Vec<u8>) -> Result<(), NoMemory>

@@ -29,4 +29,4 @@ pub use sorted::{has_sort, initial};
 pub use sqlite_items::{Boxed, Items};
 pub use term::{Term, Terms, copy_terms, same, same_terms};
 pub use text::{Text, Texts};
-pub use write::{write_term, write_terms};
+pub use write::{push_quoted, write_term, write_terms};

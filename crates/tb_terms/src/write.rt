@@ -108,7 +108,8 @@ fn push_number(number: i64, into: &mut Vec<u8>) -> Result<(), NoMemory>
     Ok(())
 }
 
-fn push_quoted(text: &[u8], into: &mut Vec<u8>) -> Result<(), NoMemory>
+/// Writes a string at the end, in quotes. Where memory runs out, a part of it may stand there.
+pub fn push_quoted(text: &[u8], into: &mut Vec<u8>) -> Result<(), NoMemory>
     ensures ok { OnOk result (into.new.items ≡ into.old.items ++ quoted text.now) }
     ensures err { OnErr result (KeepsFront into.old.items into.new.items) }
 {

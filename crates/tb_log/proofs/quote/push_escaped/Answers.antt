@@ -1,8 +1,0 @@
-use Rattle.std.proofs.lemmas.Result.{err_from_is_err_and}
-use Rattle.tb_terms.proofs.Joined.{kept_through}
-use Rattle.tb_log.proofs.quote.push_escaped.Goals as goal
-
-pub returns-in_err-push_byte-clause-err : goal.returns-in_err-push_byte-clause-err
-returns-in_err-push_byte-clause-err c =
-    let p = err_from_is_err_and c.from_residual.result c.from_residual.ensures.1 in
-    rw p.1 (kept_through _ _ _ _ c.loop-byte.invariant c.in_err-push_byte.ensures.err)
