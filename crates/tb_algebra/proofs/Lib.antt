@@ -1,6 +1,5 @@
 pub mod AgedOffers
 pub mod Ages
-pub mod Arities
 pub mod Ascending
 pub mod Behind
 pub mod Going

@@ -5,11 +5,8 @@ ghost use Rattle.std.specs.Prelude.{◌≡◌, ◌≤◌, ℕ, List, [], Some, I
 ghost use Rattle.std.specs.List.Sorted.{IsStrictlyIncreasing};
 ghost use Rattle.tb_terms.specs.declared.term.Term.{Term};
 ghost use Rattle.tb_terms.specs.declared.expr.Expr.{Expr};
-ghost use Rattle.tb_terms.specs.declared.expr.Func.{Func};
 ghost use Rattle.tb_func.specs.declared.slot.Slot.{Slot};
-ghost use Rattle.tb_func.specs.Functions.{signature_of};
 ghost use Rattle.tb_func.specs.Stores.{are_sorted};
-ghost use Rattle.tb_body.specs.Exprs.{arity};
 ghost use Rattle.tb_body.specs.declared.atom.Atom.{Atom};
 ghost use Rattle.tb_body.specs.declared.body.Body.{Body};
 ghost use Rattle.tb_body.specs.declared.tree.Tree.{Tree};
@@ -93,9 +90,4 @@ pub fn ageing_keeps_terms()
         → accepted_by atoms terms later ≡ accepted_by atoms terms offered }
     ensures ready { (atoms : List Atom) (now next : ℕ) (offered later : Offered) → IsAged offered later → times_of atoms offered.atom ≡ []
         → is_ready later.store later.age next (times_of atoms later.atom) ≡ is_ready offered.store offered.age now (times_of atoms offered.atom) }
-{}
-
-/// A function has as many arguments in a body as its signature says.
-pub fn arities_agree()
-    ensures { (func : Func) → (signature_of func).arity ≡ arity func }
 {}

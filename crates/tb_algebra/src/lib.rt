@@ -22,7 +22,7 @@ mod walker;
 
 pub use laws::{
     accepted_binds_are_taken, ageing_keeps_terms, ages_are_within_the_ticks, ages_behind_are_new,
-    arities_agree, offers_age, offers_ascend, offers_keep_sorts, walks_stay_reached,
+    offers_age, offers_ascend, offers_keep_sorts, walks_stay_reached,
 };
 pub use offer::Offer;
 pub use plan::Plan;

@@ -4,35 +4,7 @@ use Rattle.std.specs.List.{list_all}
 use Rattle.tb_terms.specs.declared.expr.Expr.{Expr}
 use Rattle.tb_terms.specs.declared.expr.Expr.TheOpen.{Expr-F, Int, Str, Var, Result, Hole, Appl, Call, List as ListOf}
 use Rattle.tb_terms.specs.declared.expr.Expr.TheFolds.{fold-Expr}
-use Rattle.tb_terms.specs.declared.expr.Func.{Func}
-use Rattle.tb_terms.specs.declared.expr.Func.TheVariants as func
-
--- how many arguments a function takes
-abbrev pub arity : Func → ℕ
-arity func.Equal = 2
-arity func.NotEqual = 2
-arity func.Not = 1
-arity func.And = 2
-arity func.Or = 2
-arity func.Add = 2
-arity func.Sub = 2
-arity func.Mul = 2
-arity func.Div = 2
-arity func.Mod = 2
-arity func.Less = 2
-arity func.LessEqual = 2
-arity func.Greater = 2
-arity func.GreaterEqual = 2
-arity func.Size = 1
-arity func.First = 1
-arity func.Next = 1
-arity func.Join = 2
-arity func.Member = 2
-arity func.Index = 2
-arity func.Msec = 1
-arity func.Sec = 1
-arity func.Min = 1
-arity func.Hour = 1
+use Rattle.tb_func.specs.Functions.{signature_of}
 
 -- the places at which an expression may stand
 pub record Places : Type 0 where
@@ -66,7 +38,7 @@ places_step slots (Var slot) = everywhere_if (nat_lt slot slots)
 places_step slots (Result slot) = record { value = false; test = false; receiving = nat_lt slot slots }
 places_step slots (Hole sort) = record { value = false; test = true; receiving = true }
 places_step slots (Appl name parts) = all_stand parts
-places_step slots (Call f parts) = everywhere_if (length parts == arity f && list_all (λ part. part.value) parts)
+places_step slots (Call f parts) = everywhere_if (length parts == (signature_of f).arity && list_all (λ part. part.value) parts)
 places_step slots (ListOf parts) = all_stand parts
 
 abbrev pub places_of : ℕ → Expr → Places

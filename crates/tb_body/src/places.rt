@@ -1,19 +1,17 @@
 ghost use Rattle.std.specs.Prelude.{◌≡◌, map};
 ghost use Rattle.std.specs.List.{list_all};
+ghost use Rattle.tb_func.specs.Functions.{signature_of};
 ghost use Rattle.tb_body.specs.Acts.{some_and_all};
-ghost use Rattle.tb_body.specs.Exprs.{arity, is_receiving, is_test, is_value, places_of};
+ghost use Rattle.tb_body.specs.Exprs.{is_receiving, is_test, is_value, places_of};
 
+use tb_func::signature;
 use tb_terms::{Expr, Func};
 
 /// How many arguments the function takes.
 fn arity(func: Func) -> usize
-    ensures { result ≡ arity func }
+    ensures { result ≡ (signature_of func).arity }
 {
-    match func {
-        Func::Not | Func::Size | Func::First | Func::Next => 1,
-        Func::Msec | Func::Sec | Func::Min | Func::Hour => 1,
-        _ => 2,
-    }
+    signature(func).arity as usize
 }
 
 /// Whether the expression may stand as a value over this many slots.

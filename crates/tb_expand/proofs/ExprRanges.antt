@@ -6,10 +6,9 @@ use Rattle.std.proofs.lemmas.Bool.{and_from, cond-false, lt-ltb, eq-eqb, eqb-tru
 use Rattle.std.proofs.lemmas.List.{length-map}
 use Rattle.tb_terms.specs.declared.expr.Expr.{Expr}
 use Rattle.tb_terms.specs.declared.expr.Func.{Func}
-use Rattle.tb_terms.specs.declared.expr.Func.TheVariants as func
 use Rattle.tb_terms.specs.declared.sort.Sort.{Sort}
 use Rattle.tb_func.specs.Functions.{function_named, signature_of}
-use Rattle.tb_body.specs.Exprs.{Places, places_of, all_stand, arity, everywhere_if, is_value, is_test, is_receiving}
+use Rattle.tb_body.specs.Exprs.{Places, places_of, all_stand, everywhere_if, is_value, is_test, is_receiving}
 use Rattle.tb_syntax.specs.declared.ast.Ast.{Ast, roll-Ast}
 use Rattle.tb_syntax.specs.declared.ast.AstKind.{AstKind, out-AstKind, roll-AstKind}
 use Rattle.tb_syntax.specs.declared.ast.AstKind.TheOpen as layer
@@ -75,32 +74,6 @@ hole_stands Received broken token e = refl
 pub some_sort : (o : Option Sort) (broken : Rule) (token : ℕ) → noted_if (is_none o) broken token ≡ [] → (s : Sort) × (o ≡ Some s)
 some_sort None broken token e = absurd (cc)
 some_sort (Some s) broken token e = (s, refl)
-
-same_arity : (f : Func) → (signature_of f).arity ≡ arity f
-same_arity func.Equal = refl
-same_arity func.NotEqual = refl
-same_arity func.Not = refl
-same_arity func.And = refl
-same_arity func.Or = refl
-same_arity func.Add = refl
-same_arity func.Sub = refl
-same_arity func.Mul = refl
-same_arity func.Div = refl
-same_arity func.Mod = refl
-same_arity func.Less = refl
-same_arity func.LessEqual = refl
-same_arity func.Greater = refl
-same_arity func.GreaterEqual = refl
-same_arity func.Size = refl
-same_arity func.First = refl
-same_arity func.Next = refl
-same_arity func.Join = refl
-same_arity func.Member = refl
-same_arity func.Index = refl
-same_arity func.Msec = refl
-same_arity func.Sec = refl
-same_arity func.Min = refl
-same_arity func.Hour = refl
 
 -- an application that has parts applies the function of its name
 applied_more : {A : Type 0} (name : List ℕ) (x : A) (xs : List A) → applied name (length (x ∷ xs)) ≡ function_named name
@@ -177,9 +150,9 @@ module _ (script : Script) (slots : ℕ) (scope : Scope) (known : List Known) (a
   application_stands place token name (Some func) ps wrong faults misplaces =
       let parts = map (places_of slots) (map (made scope) (exprs ps)) in
       let right = not-false (length (map (judge known) (exprs ps)) == (signature_of func).arity) (noted_none _ Arity token wrong) in
-      let count : length parts ≡ arity func
+      let count : length parts ≡ (signature_of func).arity
       = length-map (map (made scope) (exprs ps)) (places_of slots) ∙ length-map (exprs ps) (made scope) ∙ sym (length-map (exprs ps) (judge known))
-      ∙ eqb-true _ _ right ∙ same_arity func in
+      ∙ eqb-true _ _ right in
       stands place _ _ (places_of_call slots func (map (made scope) (exprs ps)))
       (stands_if place _ (and_from _ _ (eq-eqb _ _ count) (parts_stand Sent ps faults misplaces)))
 

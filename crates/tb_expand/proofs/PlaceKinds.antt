@@ -6,7 +6,8 @@ use Rattle.tb_terms.specs.declared.expr.Expr.{Expr, Expr-F, map-Expr, fold_out-E
 use Rattle.tb_terms.specs.declared.expr.Expr.TheVariants as expr
 use Rattle.tb_terms.specs.declared.expr.Expr.TheVariants.{outs-Int, outs-Str, outs-Var, outs-Result, outs-Hole, outs-Appl, outs-Call, outs-List}
 use Rattle.tb_terms.specs.declared.expr.Func.{Func}
-use Rattle.tb_body.specs.Exprs.{Places, places_of, places_step, everywhere, everywhere_if, all_stand, arity}
+use Rattle.tb_func.specs.Functions.{signature_of}
+use Rattle.tb_body.specs.Exprs.{Places, places_of, places_step, everywhere, everywhere_if, all_stand}
 
 abbrev layer_places : ℕ → Expr-F Expr → Places
 layer_places slots layer = places_step slots (map-Expr Expr Places (places_of slots) layer)
@@ -33,7 +34,7 @@ pub places_of_appl : (slots : ℕ) (name : List ℕ) (parts : List Expr) → pla
 places_of_appl slots name parts = opened slots _ _ (outs-Appl name parts)
 
 pub places_of_call : (slots : ℕ) (func : Func) (parts : List Expr)
-    → places_of slots (expr.Call func parts) ≡ everywhere_if (length (map (places_of slots) parts) == arity func && list_all (λ (part : Places). part.value) (map (places_of slots) parts))
+    → places_of slots (expr.Call func parts) ≡ everywhere_if (length (map (places_of slots) parts) == (signature_of func).arity && list_all (λ (part : Places). part.value) (map (places_of slots) parts))
 places_of_call slots func parts = opened slots _ _ (outs-Call func parts)
 
 pub places_of_list : (slots : ℕ) (parts : List Expr) → places_of slots (expr.List parts) ≡ all_stand (map (places_of slots) parts)
