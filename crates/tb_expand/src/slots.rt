@@ -12,7 +12,7 @@ use crate::seen::{Block, Seen};
 use std::alloc::Global;
 use tb_body::{Setting, Settings};
 use tb_syntax::{Ast, Formal, Var};
-use tb_terms::{Items, NoMemory, Sorts};
+use tb_terms::{Ident, Items, NoMemory, Sort, Sorts};
 
 /// The variables of a `let`, each with a slot of its own from this one on.
 pub(crate) fn declared(alloc: Global, slot: u32, vars: &[Var]) -> Result<Block, NoMemory>
@@ -21,17 +21,18 @@ pub(crate) fn declared(alloc: Global, slot: u32, vars: &[Var]) -> Result<Block, 
     let mut block = Items::new(alloc);
     let mut next = slot;
     for var in vars {
-        block.push(seen(alloc, var, next)?)?;
+        block.push(seen(alloc, &var.name, &var.sort, next)?)?;
         next = following(next)?;
     }
     Ok(block)
 }
 
-fn seen(alloc: Global, var: &Var, slot: u32) -> Result<Seen, NoMemory>
-    ensures { IfOk result (λ seen. seen ≡ record { name = var.now.name; slot = slot; sort = var.now.sort }) }
+/// A variable of this name with its slot and its sort.
+fn seen(alloc: Global, name: &Ident, sort: &Sort, slot: u32) -> Result<Seen, NoMemory>
+    ensures { IfOk result (λ seen. seen ≡ record { name = name.now; slot = slot; sort = sort.now }) }
 {
-    let name = var.name.copy(alloc)?;
-    let sort = var.sort.copy(alloc)?;
+    let name = name.copy(alloc)?;
+    let sort = sort.copy(alloc)?;
     Ok(Seen { name, slot, sort })
 }
 
@@ -129,23 +130,15 @@ pub(crate) fn formals_of_call(
         };
         if formal.result {
             let slot = slot_of(blocks, name_of(actual));
-            block.push(formal_seen(alloc, formal, slot)?)?;
+            block.push(seen(alloc, &formal.name, &formal.sort, slot)?)?;
         } else {
-            block.push(formal_seen(alloc, formal, next)?)?;
+            block.push(seen(alloc, &formal.name, &formal.sort, next)?)?;
             next = following(next)?;
         }
         formals_left = others;
         actuals_left = more;
     }
     Ok(block)
-}
-
-fn formal_seen(alloc: Global, formal: &Formal, slot: u32) -> Result<Seen, NoMemory>
-    ensures { IfOk result (λ seen. seen ≡ record { name = formal.now.name; slot = slot; sort = formal.now.sort }) }
-{
-    let name = formal.name.copy(alloc)?;
-    let sort = formal.sort.copy(alloc)?;
-    Ok(Seen { name, slot, sort })
 }
 
 /// The formals of a process that is started by itself.
@@ -155,7 +148,7 @@ pub(crate) fn formals_seen(alloc: Global, slot: u32, formals: &[Formal]) -> Resu
     let mut block = Items::new(alloc);
     let mut next = slot;
     for formal in formals {
-        block.push(formal_seen(alloc, formal, next)?)?;
+        block.push(seen(alloc, &formal.name, &formal.sort, next)?)?;
         next = following(next)?;
     }
     Ok(block)
