@@ -1,5 +1,5 @@
 -- What each effect shows, binds and changes is in shape.
-use Rattle.std.proofs.Common.{◌≡◌, ℕ, ◌+◌, ◌≤◌, ◌==◌, Bool, true, false, nat_le, List, [], ◌∷◌, ◌++◌, length, slice_get, Option, Some, None, IfSome, MatchOption, is_some, option_map, option_and_then, option_to_list, if◌then◌else◌, refl, ap, sym, ◌∙◌, subst, arith, pos, codes}
+use Rattle.std.proofs.Common.{◌≡◌, ℕ, ◌+◌, ◌≤◌, ◌==◌, Bool, true, false, nat_le, List, [], ◌∷◌, ◌++◌, length, slice_get, Option, Some, None, IfSome, MatchOption, is_some, option_map, option_and_then, option_to_list, unwrap_or, if◌then◌else◌, refl, ap, sym, ◌∙◌, subst, arith, pos, codes}
 use Rattle.std.specs.Prelude.{⊤}
 use Rattle.std.specs.List.{All, list_all}
 use Rattle.std.proofs.lemmas.Bool.{le-leb}
@@ -31,7 +31,7 @@ use Rattle.tb_bus.specs.declared.action.ToolAction.{ToolAction}
 use Rattle.tb_bus.specs.declared.action.ToolAction.TheVariants as tool_action
 use Rattle.tb_bus.specs.declared.exchange.Exchange.{Exchange}
 use Rattle.tb_bus.specs.Buses.{Bus, Proc}
-use Rattle.tb_bus.specs.Exchanges.{Setting, kind_name, kind_command, command_or_none, behind, exchange_for, kind_of, values_in, terms_seen, with_told, bench_after}
+use Rattle.tb_bus.specs.Exchanges.{Setting, kind_name, kind_command, behind, exchange_for, kind_of, values_in, terms_seen, with_told, bench_after}
 use Rattle.tb_bus.specs.Effects.{Change, Nothing, PutsNote, TakesNote, Subscribes, Unsubscribes, Creates, SetsBench, GoesDown, Effect, note_at, number_term, may_create, creation, taking, takes_note, own_effect, setting_of, speaking, effect_of}
 use Rattle.tb_bus.specs.Steps.{nowhere, finish_reason, halt_reason}
 use Rattle.tb_bus.specs.Waiting.{IsShallow, IsNote, IsEvent, IsBenchInShape, IsProcInShape, IsBusInShape}
@@ -197,7 +197,7 @@ more-are terms came e l = le-leb 2 (length (terms ++ came)) (let both = length-a
 exchange-in : (setting : Setting) (does : ToolAction) (exchange : Exchange) → IsBenchInShape setting.bench → IsSpeakInShape does → ExchangeIs setting does exchange → IsEffectInShape (speaking setting does exchange)
 exchange-in setting (tool_action.Execute tool slot) exchange h sent is =
     taking-in setting (tool_action.Execute tool slot) exchange slot (next_term setting tool) is.1 (λ from. refl) refl refl
-    (executed-in (kind_name setting tool) (command_or_none (kind_command setting tool)) exchange.lane setting.bench h)
+    (executed-in (kind_name setting tool) (unwrap_or (kind_command setting tool) []) exchange.lane setting.bench h)
 exchange-in setting (tool_action.Connect tool slot) exchange h sent is =
     taking-in setting (tool_action.Connect tool slot) exchange slot (term_of is.tool) is.taking (λ from. refl) refl refl (connected-in exchange.lane setting.bench h)
 exchange-in setting (tool_action.DisconnectAny tool slot) exchange h sent is =

@@ -1,5 +1,5 @@
 -- What an action comes to that speaks with a tool: where it may happen, what is seen of it, and the lanes after it.
-use Rattle.std.specs.Prelude.{ℕ, ◌&&◌, Bool, List, [], ◌∷◌, ◌++◌, map, drop, if◌then◌else◌, Option, Some, None, option_map, option_and_then, option_to_list, slice_get}
+use Rattle.std.specs.Prelude.{ℕ, ◌&&◌, Bool, List, [], ◌∷◌, ◌++◌, map, drop, if◌then◌else◌, Option, Some, None, option_map, option_and_then, option_to_list, unwrap_or, slice_get}
 use Rattle.tb_terms.specs.declared.term.Term.{Term}
 use Rattle.tb_terms.specs.Sizes.{is_within_limits}
 use Rattle.tb_terms.specs.declared.pattern.Pattern.{Pattern}
@@ -38,10 +38,6 @@ name_of (Some tool) = tool.name
 abbrev pub command_of : Option ToolKind → Option (List ℕ)
 command_of None = None
 command_of (Some tool) = tool.command
-
-abbrev pub command_or_none : Option (List ℕ) → List ℕ
-command_or_none None = []
-command_or_none (Some command) = command
 
 abbrev pub kind_name : Setting → ℕ → List ℕ
 kind_name setting tool = name_of (slice_get setting.kinds tool)
@@ -175,7 +171,7 @@ with_told change (term ∷ terms) lane bench = change term lane bench
 abbrev pub bench_after : Setting → ToolAction → Exchange → BenchState
 -- the lane is started with the command of the kind, and the new tool is live there
 bench_after setting (Execute tool slot) exchange =
-    executed (kind_name setting tool) (command_or_none (kind_command setting tool)) exchange.lane setting.bench
+    executed (kind_name setting tool) (unwrap_or (kind_command setting tool) []) exchange.lane setting.bench
 -- the tool is live
 bench_after setting (Connect tool slot) exchange = connected exchange.lane setting.bench
 -- the tool leaves its lane, with its events

@@ -1,4 +1,4 @@
-ghost use Rattle.std.specs.Prelude.{◌≡◌, ◌≤◌, ◌++◌, [], IfOk, OnOk, OnErr, IsSome, IsTrue, List, min, slice_get};
+ghost use Rattle.std.specs.Prelude.{◌≡◌, ◌≤◌, ◌++◌, [], IfOk, OnOk, OnErr, IsSome, IsTrue, List, min, slice_get, unwrap_or};
 ghost use Rattle.std.specs.List.{list_any};
 ghost use Rattle.std.specs.Str.{bytes_eq};
 ghost use Rattle.std.below.core.specs.declared.int.usize.TheConstants.{MAX};
@@ -8,7 +8,7 @@ ghost use Rattle.tb_log.specs.Shapes.{IsLane};
 ghost use Rattle.tb_tools.specs.Lanes.{most_tools};
 ghost use Rattle.tb_tools.specs.Acts.{can_execute, can_take_event, can_take_value, event_at, events_at, executed, value_taken};
 ghost use Rattle.tb_bus.specs.Effects.{speaking};
-ghost use Rattle.tb_bus.specs.Exchanges.{behind, bench_after, command_or_none, kind_command, kind_name, terms_seen, values_in, values_on};
+ghost use Rattle.tb_bus.specs.Exchanges.{behind, bench_after, kind_command, kind_name, terms_seen, values_in, values_on};
 ghost use Rattle.tb_bus.specs.Traces.{declares};
 ghost use Rattle.tb_core.specs.LiveBuses.{IsDone};
 ghost use Rattle.tb_core.specs.Spoken.{CanSpeak, CanSpeakBy, around, seen_by};
@@ -114,7 +114,7 @@ fn execute(kinds: &[Tool], bench: &mut Bench, tool: u32, lane: u8) -> Result<(),
     requires can { IsTrue (can_execute lane bench.old) }
     requires command { IsSome (kind_command (around kinds.now bench.old) tool) }
     requires tools { bench.old.next_tool ≤ most_tools }
-    ensures ok { OnOk result (bench.new ≡ executed (kind_name (around kinds.now bench.old) tool) (command_or_none (kind_command (around kinds.now bench.old) tool)) lane bench.old) }
+    ensures ok { OnOk result (bench.new ≡ executed (kind_name (around kinds.now bench.old) tool) (unwrap_or (kind_command (around kinds.now bench.old) tool) []) lane bench.old) }
     ensures err { OnErr result (bench.new ≡ bench.old) }
 {
     let kind = &kinds[tool as usize];

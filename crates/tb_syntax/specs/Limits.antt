@@ -1,5 +1,5 @@
 -- How high a process body is, and how many brackets are open in front of a place in a list of tokens.
-use Rattle.std.specs.Prelude.{ℕ, ◌+◌, ◌-◌, ◌<◌, ◌≤◌, Bool, true, false, nat_lt, List, [], ◌∷◌, length, take, fold, max, find, option_map, Option, Some, None, codes, if◌then◌else◌}
+use Rattle.std.specs.Prelude.{ℕ, ◌+◌, ◌-◌, ◌<◌, ◌≤◌, Bool, true, false, nat_lt, List, [], ◌∷◌, length, take, fold, max, find, option_map, unwrap_or, Option, codes, if◌then◌else◌}
 use Rattle.tb_lex.specs.declared.kind.TokenKind.{TokenKind}
 use Rattle.tb_lex.specs.declared.kind.TokenKind.TheVariants.{Int, Str, Lower, Upper, Symbol as Sign}
 use Rattle.tb_lex.specs.declared.symbol.Symbol.{Symbol}
@@ -10,10 +10,6 @@ use Rattle.tb_syntax.specs.declared.proc.Proc.TheFolds.{fold-Proc}
 use Rattle.tb_syntax.specs.declared.script.ProcDef.{ProcDef}
 use Rattle.tb_syntax.specs.Words.{is_among}
 
-abbrev pub height_or_0 : Option ℕ → ℕ
-height_or_0 None = 0
-height_or_0 (Some part) = part
-
 -- an atom or a call has height 1, every other construct 1 more than its greatest part
 abbrev pub height_step : Proc-F ℕ → ℕ
 height_step (Atom atom) = 1
@@ -22,7 +18,7 @@ height_step (Seq x y) = 1 + max x y
 height_step (Alt x y) = 1 + max x y
 height_step (Star x y) = 1 + max x y
 height_step (Par x y) = 1 + max x y
-height_step (If test x y) = 1 + max x (height_or_0 y)
+height_step (If test x y) = 1 + max x (unwrap_or y 0)
 height_step (Let vars x) = 1 + x
 
 abbrev pub height : Proc → ℕ
