@@ -5,8 +5,9 @@ use Rattle.tb_syntax.specs.declared.proc.Call.{Call}
 use Rattle.tb_syntax.specs.declared.proc.Proc.{Proc}
 use Rattle.tb_syntax.specs.declared.script.ProcDef.{ProcDef}
 use Rattle.tb_syntax.specs.declared.script.Script.{Script}
+use Rattle.tb_types.specs.Names.{process_named}
 use Rattle.tb_expand.specs.Scopes.{Scope}
-use Rattle.tb_expand.specs.Expansion.{Expands, call_of, declaring, definition_of, formals_of_call, nothing, set_formals, sorts_of, value_formals}
+use Rattle.tb_expand.specs.Expansion.{Expands, call_of, declaring, formals_of_call, nothing, set_formals, sorts_of, value_formals}
 
 -- the body of the called process, which sees its formals alone
 abbrev pub body_of_call : (Proc → Expands) → ProcDef → List Ast → Expands
@@ -17,9 +18,9 @@ part_of_call body d actuals scope atom slot =
     declaring (set_formals scope slot d.formals actuals) (sorts_of (value_formals d.formals)) (body_of_call body d actuals scope atom slot)
 
 pub call_found : (script : Script) (body : Proc → Expands) (call : Call) (d : ProcDef) (scope : Scope) (atom slot : ℕ)
-    → definition_of script call.name ≡ Some d → call_of script body call scope atom slot ≡ part_of_call body d call.actuals scope atom slot
+    → process_named script.procs call.name ≡ Some d → call_of script body call scope atom slot ≡ part_of_call body d call.actuals scope atom slot
 call_found script body call d scope atom slot e = rw e
 
 pub call_missing : (script : Script) (body : Proc → Expands) (call : Call) (scope : Scope) (atom slot : ℕ)
-    → definition_of script call.name ≡ None → call_of script body call scope atom slot ≡ nothing
+    → process_named script.procs call.name ≡ None → call_of script body call scope atom slot ≡ nothing
 call_missing script body call scope atom slot e = rw e

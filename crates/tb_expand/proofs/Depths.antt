@@ -12,10 +12,10 @@ use Rattle.tb_syntax.specs.declared.script.ProcDef.{ProcDef}
 use Rattle.tb_syntax.specs.declared.script.Script.{Script}
 use Rattle.tb_types.specs.NamePlaces.{place_of, process_name}
 use Rattle.tb_types.proofs.Naming.{found_by}
+use Rattle.tb_types.specs.Names.{process_named}
 use Rattle.tb_expand.specs.declared.size.Size.{Size}
 use Rattle.tb_expand.specs.Cycles.{called}
 use Rattle.tb_expand.specs.Descents.{StandsAmong, Descends}
-use Rattle.tb_expand.specs.Expansion.{definition_of}
 use Rattle.tb_expand.specs.Sizes.{beside, above, called_size, size_step, size_with, size_of}
 use Rattle.tb_expand.specs.Wholes.{is_called_whole, whole_step, is_whole_with, is_whole}
 use Rattle.tb_expand.proofs.CalledFolds.{IsKept, related}
@@ -25,7 +25,7 @@ use Rattle.tb_expand.proofs.SeenPlaces.{is_in, seen_below, contained, seen_at_mo
 
 module _ (script : Script) (body other : Proc → Size) where
   abbrev pub IsSame : List ℕ → Type 0
-  IsSame name = called_size body (definition_of script name) ≡ called_size other (definition_of script name)
+  IsSame name = called_size body (process_named script.procs name) ≡ called_size other (process_named script.procs name)
 
   abbrev AreSame : Size → Size → Type 0
   AreSame x y = x ≡ y
@@ -47,7 +47,7 @@ module _ (script : Script) (body other : Proc → Size) where
 
 module _ (script : Script) (body : Proc → Bool) where
   abbrev pub IsWhole : List ℕ → Type 0
-  IsWhole name = is_called_whole body (definition_of script name) ≡ true
+  IsWhole name = is_called_whole body (process_named script.procs name) ≡ true
 
   abbrev AreWhole : Bool → Bool → Type 0
   AreWhole x y = x ≡ true
@@ -98,7 +98,7 @@ place_within (first ∷ others) name place is = step (bytes_eq first name) (plac
       omega (arith, ih other refl)
 
 -- the process that stands at a name's place
-pub definition_at : (script : Script) (name : List ℕ) (place : ℕ) → place_of (map process_name script.procs) name ≡ Some place → slice_get script.procs place ≡ definition_of script name
+pub definition_at : (script : Script) (name : List ℕ) (place : ℕ) → place_of (map process_name script.procs) name ≡ Some place → slice_get script.procs place ≡ process_named script.procs name
 definition_at script name place named = found_by process_name script.procs name (Some place) (sym named)
 
 -- within a list, or behind it
@@ -108,7 +108,7 @@ OneOrNone {X} xs i = ((x : X) × (i < length xs) × (slice_get xs i ≡ Some x) 
 pub record IsDefined (script : Script) (name : List ℕ) (place : ℕ) : Type 0 where
   pub d : ProcDef
   pub at : slice_get script.procs place ≡ Some d
-  pub found : definition_of script name ≡ Some d
+  pub found : process_named script.procs name ≡ Some d
 
 pub defined : (script : Script) (name : List ℕ) (place : ℕ) → place_of (map process_name script.procs) name ≡ Some place → IsDefined script name place
 defined script name place named =
@@ -131,7 +131,7 @@ module _ (script : Script) where
   Calls places d = (name : List ℕ) → Contains (called d.body) name → StandsAmong script places name
 
   module _ (places : List ℕ) (settled : AreSettled places) where
-    called_settled : (name : List ℕ) → StandsAmong script places name → (d : ProcDef) × (definition_of script name ≡ Some d) × IsSettled script (depth_of places) d.body
+    called_settled : (name : List ℕ) → StandsAmong script places name → (d : ProcDef) × (process_named script.procs name ≡ Some d) × IsSettled script (depth_of places) d.body
     called_settled name stands =
         let is : IsDefined script name stands.place = defined script name stands.place stands.named in
         (is.d, is.found, settled stands.place stands.there is.d is.at)

@@ -5,8 +5,8 @@ use Rattle.tb_syntax.specs.declared.script.ProcDef.{ProcDef}
 use Rattle.tb_syntax.specs.declared.script.Script.{Script}
 use Rattle.tb_types.specs.NamePlaces.{place_of as place_named, process_name, tool_name}
 use Rattle.tb_types.proofs.Naming.{found_by}
+use Rattle.tb_types.specs.Names.{process_named}
 use Rattle.tb_expand.specs.Acts.{place_of, process_of, tool_of}
-use Rattle.tb_expand.specs.Expansion.{definition_of}
 
 abbrev next : ℕ → ℕ
 next n = n + 1
@@ -41,8 +41,8 @@ tool_at script name place is = found_at (map tool_name script.tools) name place 
 pub no_tool : (script : Script) (name : List ℕ) → None ≡ place_named (map tool_name script.tools) name → length script.tools ≡ tool_of script name
 no_tool script name is = sym (length-map script.tools tool_name) ∙ not_found (map tool_name script.tools) name is
 
-pub defined_at : (script : Script) (name : List ℕ) (place : ℕ) (found : Option ProcDef) → Some place ≡ place_named (map process_name script.procs) name → found ≡ slice_get script.procs place → found ≡ definition_of script name
+pub defined_at : (script : Script) (name : List ℕ) (place : ℕ) (found : Option ProcDef) → Some place ≡ place_named (map process_name script.procs) name → found ≡ slice_get script.procs place → found ≡ process_named script.procs name
 defined_at script name place found is at = at ∙ found_by process_name script.procs name (Some place) is
 
-pub not_defined : (script : Script) (name : List ℕ) → None ≡ place_named (map process_name script.procs) name → None ≡ definition_of script name
+pub not_defined : (script : Script) (name : List ℕ) → None ≡ place_named (map process_name script.procs) name → None ≡ process_named script.procs name
 not_defined script name is = found_by process_name script.procs name None is

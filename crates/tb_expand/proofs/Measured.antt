@@ -5,9 +5,9 @@ use Rattle.tb_syntax.specs.declared.proc.Proc.{Proc}
 use Rattle.tb_syntax.specs.declared.proc.Proc.TheOpen as layer
 use Rattle.tb_syntax.specs.declared.script.ProcDef.{ProcDef}
 use Rattle.tb_syntax.specs.declared.script.Script.{Script}
+use Rattle.tb_types.specs.Names.{process_named}
 use Rattle.tb_expand.specs.declared.size.Size.{Size}
 use Rattle.tb_expand.specs.Cycles.{called}
-use Rattle.tb_expand.specs.Expansion.{definition_of}
 use Rattle.tb_expand.specs.Sizes.{beside, above, called_size, size_step, size_with}
 use Rattle.tb_expand.specs.Measuring.{capped, called_measure, known_size, measure_step, measure}
 use Rattle.tb_expand.proofs.CalledFolds.{IsKept, related}
@@ -37,7 +37,7 @@ cap_above x = λ i. record { atoms = cap_atoms x.atoms 20001 i; levels = cap_mor
 module _ (script : Script) (sizes : List Size) (size : Proc → Size) where
   -- what is known of a name is the size of its process
   abbrev pub IsKnown : List ℕ → Type 0
-  IsKnown name = known_size script sizes name ≡ option_map (λ (d : ProcDef). capped (size d.body)) (definition_of script name)
+  IsKnown name = known_size script sizes name ≡ option_map (λ (d : ProcDef). capped (size d.body)) (process_named script.procs name)
 
   abbrev IsCapped : Size → Size → Type 0
   IsCapped x y = x ≡ capped y
@@ -54,7 +54,7 @@ module _ (script : Script) (sizes : List Size) (size : Proc → Size) where
 
   kept : IsKept Size Size (measure_step script sizes) (size_step script size) IsCapped IsKnown
   kept (layer.Atom def) is = refl
-  kept (layer.Call call) is = ap called_measure is ∙ called_kept (definition_of script call.name)
+  kept (layer.Call call) is = ap called_measure is ∙ called_kept (process_named script.procs call.name)
   kept (layer.Seq x y) is = beside_kept x.0 y.0 x.1 y.1 x.2 y.2
   kept (layer.Alt x y) is = beside_kept x.0 y.0 x.1 y.1 x.2 y.2
   kept (layer.Star x y) is = beside_kept x.0 y.0 x.1 y.1 x.2 y.2

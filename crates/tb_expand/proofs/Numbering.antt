@@ -9,9 +9,10 @@ use Rattle.tb_syntax.specs.declared.proc.Call.{Call}
 use Rattle.tb_syntax.specs.declared.proc.Proc.{Proc}
 use Rattle.tb_syntax.specs.declared.script.ProcDef.{ProcDef}
 use Rattle.tb_syntax.specs.declared.script.Script.{Script}
+use Rattle.tb_types.specs.Names.{process_named}
 use Rattle.tb_expand.specs.Exprs.{expr_of}
 use Rattle.tb_expand.specs.Scopes.{Scope, declared}
-use Rattle.tb_expand.specs.Expansion.{Part, Expands, both, call_of, definition_of, expands, initial, proc_step, set_formals, tested}
+use Rattle.tb_expand.specs.Expansion.{Part, Expands, both, call_of, expands, initial, proc_step, set_formals, tested}
 use Rattle.tb_expand.specs.Wholes.{is_called_whole, is_whole, whole_step}
 use Rattle.tb_expand.proofs.Calling.{body_of_call, call_found}
 use Rattle.tb_expand.proofs.ProcInduction.{Related, folds_related}
@@ -70,9 +71,9 @@ sides_numbered join atoms_of front back x y f b e scope atom slot =
     joined_numbered join atoms_of x y scope atom slot (f parts.0 scope atom slot) (b parts.1 scope _ _)
 
 module _ (script : Script) (whole : Proc → Bool) (body : Proc → Expands) (known : (p : Proc) → AreNumberedIf (whole p) (body p)) where
-  called_numbered : (call : Call) → AreNumberedIf (is_called_whole whole (definition_of script call.name)) (call_of script body call)
-  called_numbered call e scope atom slot = found (definition_of script call.name) refl e where
-    found : (o : Option ProcDef) → definition_of script call.name ≡ o → is_called_whole whole o ≡ true → IsNumbered atom (call_of script body call scope atom slot)
+  called_numbered : (call : Call) → AreNumberedIf (is_called_whole whole (process_named script.procs call.name)) (call_of script body call)
+  called_numbered call e scope atom slot = found (process_named script.procs call.name) refl e where
+    found : (o : Option ProcDef) → process_named script.procs call.name ≡ o → is_called_whole whole o ≡ true → IsNumbered atom (call_of script body call scope atom slot)
     found None is h = absurd (false≢true h)
     found (Some d) is h =
         let part = body_of_call body d call.actuals scope atom slot in

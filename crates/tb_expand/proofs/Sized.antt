@@ -15,10 +15,11 @@ use Rattle.tb_syntax.specs.declared.proc.Proc.TheOpen as layer
 use Rattle.tb_syntax.specs.declared.proc.Var.{Var}
 use Rattle.tb_syntax.specs.declared.script.ProcDef.{ProcDef}
 use Rattle.tb_syntax.specs.declared.script.Script.{Script}
+use Rattle.tb_types.specs.Names.{process_named}
 use Rattle.tb_expand.specs.declared.size.Size.{Size}
 use Rattle.tb_expand.specs.Scopes.{Scope, declared}
 use Rattle.tb_expand.specs.Exprs.{expr_of}
-use Rattle.tb_expand.specs.Expansion.{Part, Expands, both, under, tested, test_of, declaring, initial, sorts_of_vars, block_of, set_formals, formals_of_call, value_formals, sorts_of, definition_of, nothing, call_of, proc_step, expands_with, expands}
+use Rattle.tb_expand.specs.Expansion.{Part, Expands, both, under, tested, test_of, declaring, initial, sorts_of_vars, block_of, set_formals, formals_of_call, value_formals, sorts_of, nothing, call_of, proc_step, expands_with, expands}
 use Rattle.tb_expand.specs.Sizes.{nothing_size, beside, above, tested_size, called_size, size_step, size_with, size_of}
 
 -- Levels of trees.
@@ -108,8 +109,8 @@ module _ (script : Script) (body : Proc → Expands) (size : Proc → Size) (kno
       declaring (set_formals scope slot d.formals call.actuals) (sorts_of (value_formals d.formals))
       (body d.body (formals_of_call scope slot d.formals call.actuals) atom (slot + length (value_formals d.formals)))
 
-  call_sized : (call : Call) → AreSized (call_of script body call) (called_size size (definition_of script call.name))
-  call_sized call scope atom slot = found (definition_of script call.name) where
+  call_sized : (call : Call) → AreSized (call_of script body call) (called_size size (process_named script.procs call.name))
+  call_sized call scope atom slot = found (process_named script.procs call.name) where
     found : (o : Option ProcDef) → HasSize (stands scope atom slot call o) (called_size size o)
     found None = nothing_sized
     found (Some d) =

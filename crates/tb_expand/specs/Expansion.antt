@@ -1,6 +1,5 @@
 -- The expansion of a process: its body in which each call is replaced by a `let` round the expansion of the called process.
-use Rattle.std.specs.Prelude.{ℕ, zero, suc, ◌+◌, Bool, List, [], ◌∷◌, ◌++◌, map, length, filter, find, nat_lt, ◌||◌, not, Option, Some, None, if◌then◌else◌}
-use Rattle.std.specs.Str.{bytes_eq}
+use Rattle.std.specs.Prelude.{ℕ, zero, suc, ◌+◌, Bool, List, [], ◌∷◌, ◌++◌, map, length, filter, nat_lt, ◌||◌, not, Option, Some, None, if◌then◌else◌}
 use Rattle.tb_terms.specs.declared.expr.Expr.{Expr}
 use Rattle.tb_terms.specs.declared.sort.Sort.{Sort}
 use Rattle.tb_body.specs.declared.atom.Atom.{Atom}
@@ -19,6 +18,7 @@ use Rattle.tb_syntax.specs.declared.proc.Var.{Var}
 use Rattle.tb_syntax.specs.declared.script.Formal.{Formal}
 use Rattle.tb_syntax.specs.declared.script.ProcDef.{ProcDef}
 use Rattle.tb_syntax.specs.declared.script.Script.{Script}
+use Rattle.tb_types.specs.Names.{process_named}
 use Rattle.tb_expand.specs.Scopes.{Scope, slot_of, declared, formals_seen}
 use Rattle.tb_expand.specs.Exprs.{expr_of}
 use Rattle.tb_expand.specs.Acts.{name_of, atom_of}
@@ -92,16 +92,13 @@ value_formals formals = filter (λ (formal : Formal). not formal.result) formals
 abbrev pub sorts_of : List Formal → List Sort
 sorts_of formals = map (λ (formal : Formal). formal.sort) formals
 
-abbrev pub definition_of : Script → List ℕ → Option ProcDef
-definition_of script name = find (λ (d : ProcDef). bytes_eq d.name name) script.procs
-
 -- what stands where no process is named so, or where calls are nested deeper than is gone into; neither can be in a checked script whose calls form no cycle
 abbrev pub nothing : Part
 nothing = record { tree = tree.At 0; atoms = []; sorts = [] }
 
 -- a call, where it is known what bodies become
 abbrev pub call_of : Script → (Proc → Expands) → Call → Expands
-call_of script body call scope atom slot = of (definition_of script call.name) where
+call_of script body call scope atom slot = of (process_named script.procs call.name) where
   of : Option ProcDef → Part
   of None = nothing
   of (Some d) =

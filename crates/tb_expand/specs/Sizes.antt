@@ -5,8 +5,8 @@ use Rattle.tb_syntax.specs.declared.proc.Proc.TheOpen.{Proc-F, Atom, Call as Cal
 use Rattle.tb_syntax.specs.declared.proc.Proc.TheFolds.{fold-Proc}
 use Rattle.tb_syntax.specs.declared.script.ProcDef.{ProcDef}
 use Rattle.tb_syntax.specs.declared.script.Script.{Script}
+use Rattle.tb_types.specs.Names.{process_named}
 use Rattle.tb_expand.specs.declared.size.Size.{Size}
-use Rattle.tb_expand.specs.Expansion.{definition_of}
 
 -- what `nothing` has
 abbrev pub nothing_size : Size
@@ -34,7 +34,7 @@ called_size body (Some d) = above (body d.body)
 
 abbrev pub size_step : Script → (Proc → Size) → Proc-F Size → Size
 size_step script body (Atom def) = atom_size
-size_step script body (CallOf call) = called_size body (definition_of script call.name)
+size_step script body (CallOf call) = called_size body (process_named script.procs call.name)
 size_step script body (Seq x y) = beside x y
 size_step script body (Alt x y) = beside x y
 size_step script body (Star x y) = beside x y

@@ -5,7 +5,7 @@ use Rattle.tb_syntax.specs.declared.proc.Proc.TheOpen.{Proc-F, Atom, Call as Cal
 use Rattle.tb_syntax.specs.declared.proc.Proc.TheFolds.{fold-Proc}
 use Rattle.tb_syntax.specs.declared.script.ProcDef.{ProcDef}
 use Rattle.tb_syntax.specs.declared.script.Script.{Script}
-use Rattle.tb_expand.specs.Expansion.{definition_of}
+use Rattle.tb_types.specs.Names.{process_named}
 
 -- the side that may lack
 abbrev pub or_whole : Option Bool → Bool
@@ -19,7 +19,7 @@ is_called_whole body (Some d) = body d.body
 
 abbrev pub whole_step : Script → (Proc → Bool) → Proc-F Bool → Bool
 whole_step script body (Atom def) = true
-whole_step script body (CallOf call) = is_called_whole body (definition_of script call.name)
+whole_step script body (CallOf call) = is_called_whole body (process_named script.procs call.name)
 whole_step script body (Seq x y) = x && y
 whole_step script body (Alt x y) = x && y
 whole_step script body (Star x y) = x && y

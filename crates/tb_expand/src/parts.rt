@@ -1,7 +1,8 @@
 ghost use Rattle.std.specs.Prelude.{◌≡◌, ◌+◌, IfOk, length, option_map};
 ghost use Rattle.std.specs.Option.{option_copied};
 ghost use Rattle.tb_body.specs.declared.tree.Tree.{Tree};
-ghost use Rattle.tb_expand.specs.Expansion.{atom_only, expands, expands_with, both, block_of, call_of, definition_of, test_of};
+ghost use Rattle.tb_types.specs.Names.{process_named};
+ghost use Rattle.tb_expand.specs.Expansion.{atom_only, expands, expands_with, both, block_of, call_of, test_of};
 ghost use Rattle.tb_expand.specs.Building.{Adds, with_part};
 
 use crate::atoms::atom_of;
@@ -188,7 +189,7 @@ pub(crate) fn body_part(
 /// The definition of the process of this name.
 #[tactic(auto, using(crate::proofs::Lookups::defined_at, crate::proofs::Lookups::not_defined))]
 fn definition_of<'a>(names: &Names<'a>, name: &[u8]) -> Option<&'a ProcDef>
-    ensures { option_copied result ≡ definition_of names.now.script.now name.now }
+    ensures { option_copied result ≡ process_named names.now.script.now.procs name.now }
 {
     match names.process_place(name) {
         None => None,

@@ -1,5 +1,5 @@
 use Rattle.std.proofs.Common.{◌+◌, ◌*◌, ◌-◌, max}
-use Rattle.tb_expand.specs.Expansion.{definition_of}
+use Rattle.tb_types.specs.Names.{process_named}
 use Rattle.tb_expand.specs.Sizes.{called_size, size_of}
 use Rattle.tb_expand.proofs.PartSteps.{levels_with, other_levels}
 use Rattle.tb_expand.proofs.parts.+parts.Given as goal
@@ -19,7 +19,7 @@ abbrev pub decreases-let_part : goal.decreases-let_part
 decreases-let_part l = 4 * levels_with l.names.now.script.now l.depth l.x.now + 2
 
 abbrev pub decreases-call_part : goal.decreases-call_part
-decreases-call_part l = 4 * (called_size (size_of l.names.now.script.now l.depth) (definition_of l.names.now.script.now l.call.now.name)).levels - 1
+decreases-call_part l = 4 * (called_size (size_of l.names.now.script.now l.depth) (process_named l.names.now.script.now.procs l.call.now.name)).levels - 1
 
 abbrev pub decreases-body_part : goal.decreases-body_part
 decreases-body_part l = 4 * (size_of l.names.now.script.now l.depth l.body.now).levels + 1
