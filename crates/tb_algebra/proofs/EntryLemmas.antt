@@ -22,59 +22,59 @@ use Rattle.tb_algebra.proofs.PlanLemmas.{tree_at-node}
 opened : (t : Tree) (w : Tree-F Tree) → out-Tree t ≡ w → fresh t ≡ fresh_step (map-Tree Tree Process fresh w)
 opened t w e = fold_out-Tree Process fresh_step t ∙ ap (λ (v : Tree-F Tree). fresh_step (map-Tree Tree Process fresh v)) e
 
-fresh-At : (atom : ℕ) → fresh (tree.At atom) ≡ process.At atom 0
+pub fresh-At : (atom : ℕ) → fresh (tree.At atom) ≡ process.At atom 0
 fresh-At atom = opened (tree.At atom) (layer.At atom) (outs-At atom)
 
-fresh-Seq : (x y : Tree) → fresh (tree.Seq x y) ≡ process.Seq (fresh x) (fresh y)
+pub fresh-Seq : (x y : Tree) → fresh (tree.Seq x y) ≡ process.Seq (fresh x) (fresh y)
 fresh-Seq x y = opened (tree.Seq x y) (layer.Seq x y) (outs-Seq x y)
 
-fresh-Alt : (x y : Tree) → fresh (tree.Alt x y) ≡ process.Alt (fresh x) (fresh y)
+pub fresh-Alt : (x y : Tree) → fresh (tree.Alt x y) ≡ process.Alt (fresh x) (fresh y)
 fresh-Alt x y = opened (tree.Alt x y) (layer.Alt x y) (outs-Alt x y)
 
-fresh-Star : (x y : Tree) → fresh (tree.Star x y) ≡ process.Star (fresh x) (fresh y)
+pub fresh-Star : (x y : Tree) → fresh (tree.Star x y) ≡ process.Star (fresh x) (fresh y)
 fresh-Star x y = opened (tree.Star x y) (layer.Star x y) (outs-Star x y)
 
-fresh-Par : (x y : Tree) → fresh (tree.Par x y) ≡ process.Par (fresh x) (fresh y)
+pub fresh-Par : (x y : Tree) → fresh (tree.Par x y) ≡ process.Par (fresh x) (fresh y)
 fresh-Par x y = opened (tree.Par x y) (layer.Par x y) (outs-Par x y)
 
-fresh-When : (test : Expr) (x : Tree) → fresh (tree.If test x None) ≡ process.When test (fresh x)
+pub fresh-When : (test : Expr) (x : Tree) → fresh (tree.If test x None) ≡ process.When test (fresh x)
 fresh-When test x = opened (tree.If test x None) (layer.If test x None) (outs-If test x None)
 
-fresh-If : (test : Expr) (x y : Tree) → fresh (tree.If test x (Some y)) ≡ process.If test (fresh x) (fresh y)
+pub fresh-If : (test : Expr) (x y : Tree) → fresh (tree.If test x (Some y)) ≡ process.If test (fresh x) (fresh y)
 fresh-If test x y = opened (tree.If test x (Some y)) (layer.If test x (Some y)) (outs-If test x (Some y))
 
-fresh-Let : (settings : List Setting) (x : Tree) → fresh (tree.Let settings x) ≡ process.Let settings (fresh x)
+pub fresh-Let : (settings : List Setting) (x : Tree) → fresh (tree.Let settings x) ≡ process.Let settings (fresh x)
 fresh-Let settings x = opened (tree.Let settings x) (layer.Let settings x) (outs-Let settings x)
 
 -- a term after some ticks
 
-waited-At : (n : ℕ) (atom : ℕ) → waited n (process.At atom 0) ≡ process.At atom n
+pub waited-At : (n : ℕ) (atom : ℕ) → waited n (process.At atom 0) ≡ process.At atom n
 waited-At zero atom = refl
 waited-At (suc n) atom =
     let e : n + 1 ≡ suc n = omega arith in
     ap aged (waited-At n atom) ∙ ap (process.At atom) e
 
-waited-Seq : (n : ℕ) (x y : Process) → waited n (process.Seq x y) ≡ process.Seq (waited n x) y
+pub waited-Seq : (n : ℕ) (x y : Process) → waited n (process.Seq x y) ≡ process.Seq (waited n x) y
 waited-Seq zero x y = refl
 waited-Seq (suc n) x y = ap aged (waited-Seq n x y)
 
-waited-Alt : (n : ℕ) (x y : Process) → waited n (process.Alt x y) ≡ process.Alt (waited n x) (waited n y)
+pub waited-Alt : (n : ℕ) (x y : Process) → waited n (process.Alt x y) ≡ process.Alt (waited n x) (waited n y)
 waited-Alt zero x y = refl
 waited-Alt (suc n) x y = ap aged (waited-Alt n x y)
 
-waited-Par : (n : ℕ) (x y : Process) → waited n (process.Par x y) ≡ process.Par (waited n x) (waited n y)
+pub waited-Par : (n : ℕ) (x y : Process) → waited n (process.Par x y) ≡ process.Par (waited n x) (waited n y)
 waited-Par zero x y = refl
 waited-Par (suc n) x y = ap aged (waited-Par n x y)
 
-waited-When : (n : ℕ) (test : Expr) (x : Process) → waited n (process.When test x) ≡ process.When test (waited n x)
+pub waited-When : (n : ℕ) (test : Expr) (x : Process) → waited n (process.When test x) ≡ process.When test (waited n x)
 waited-When zero test x = refl
 waited-When (suc n) test x = ap aged (waited-When n test x)
 
-waited-If : (n : ℕ) (test : Expr) (x y : Process) → waited n (process.If test x y) ≡ process.If test (waited n x) (waited n y)
+pub waited-If : (n : ℕ) (test : Expr) (x y : Process) → waited n (process.If test x y) ≡ process.If test (waited n x) (waited n y)
 waited-If zero test x y = refl
 waited-If (suc n) test x y = ap aged (waited-If n test x y)
 
-waited-Let : (n : ℕ) (settings : List Setting) (x : Process) → waited n (process.Let settings x) ≡ process.Let settings (waited n x)
+pub waited-Let : (n : ℕ) (settings : List Setting) (x : Process) → waited n (process.Let settings x) ≡ process.Let settings (waited n x)
 waited-Let zero settings x = refl
 waited-Let (suc n) settings x = ap aged (waited-Let n settings x)
 
@@ -83,7 +83,7 @@ waited-Star : (n : ℕ) (x y : Process) → waited (suc n) (process.Star x y) �
 waited-Star zero x y = refl
 waited-Star (suc n) x y = ap aged (waited-Star n x y)
 
-star-offers : (n : ℕ) (x y : Process) (store : List Slot) → offers (waited n (process.Star x y)) store ≡ map (before (process.Star x y)) (offers (waited n x) store) ++ offers (waited n y) store
+pub star-offers : (n : ℕ) (x y : Process) (store : List Slot) → offers (waited n (process.Star x y)) store ≡ map (before (process.Star x y)) (offers (waited n x) store) ++ offers (waited n y) store
 star-offers zero x y store = refl
 star-offers (suc n) x y store = ap (λ (p : Process). offers p store) (waited-Star n x y)
 

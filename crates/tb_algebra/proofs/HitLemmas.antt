@@ -15,15 +15,15 @@ use Rattle.tb_algebra.specs.declared.node.Node.TheVariants.{At, Seq, Alt, Star, 
 use Rattle.tb_algebra.specs.declared.running.Entry.{Entry}
 use Rattle.tb_algebra.proofs.EntryLemmas.{part, entered-At, entered-Seq, entered-Alt, entered-Star, entered-Par, entered-When, entered-If, entered-Let}
 
-at-append : (k : ℕ) (xs ys : List Offered) → hit_at k (xs ++ ys) ≡ or_past (hit_at k xs) (λ rest. hit_at rest ys)
+pub at-append : (k : ℕ) (xs ys : List Offered) → hit_at k (xs ++ ys) ≡ or_past (hit_at k xs) (λ rest. hit_at rest ys)
 at-append k [] ys = refl
 at-append zero (x ∷ xs) ys = refl
 at-append (suc k) (x ∷ xs) ys = at-append k xs ys
 
-abbrev with_left : (Option Process → Option Process) → Offered → Offered
+abbrev pub with_left : (Option Process → Option Process) → Offered → Offered
 with_left f offered = record offered { residual = f offered.residual }
 
-at-map : (f : Option Process → Option Process) (k : ℕ) (xs : List Offered) → hit_at k (map (with_left f) xs) ≡ hit_with f (hit_at k xs)
+pub at-map : (f : Option Process → Option Process) (k : ℕ) (xs : List Offered) → hit_at k (map (with_left f) xs) ≡ hit_with f (hit_at k xs)
 at-map f k [] = refl
 at-map f zero (x ∷ xs) = refl
 at-map f (suc k) (x ∷ xs) = at-map f k xs

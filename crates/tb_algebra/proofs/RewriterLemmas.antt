@@ -65,15 +65,15 @@ found_seen atoms now base founds os e = seen_less (shown base) (sighted atoms no
 
 -- what is seen
 
-is_fresh : (fresh : Bool) (founds : List Found) → IsTrue (is_some (if fresh then Some (map offer_of founds) else None)) → fresh ≡ true
+pub is_fresh : (fresh : Bool) (founds : List Found) → IsTrue (is_some (if fresh then Some (map offer_of founds) else None)) → fresh ≡ true
 is_fresh true founds h = refl
 is_fresh false founds h = cc
 
-seen_is : (fresh : Bool) (founds : List Found) (seen : List Offer) → (if fresh then Some (map offer_of founds) else None) ≡ Some seen → (fresh ≡ true) × (map offer_of founds ≡ seen)
+pub seen_is : (fresh : Bool) (founds : List Found) (seen : List Offer) → (if fresh then Some (map offer_of founds) else None) ≡ Some seen → (fresh ≡ true) × (map offer_of founds ≡ seen)
 seen_is true founds seen e = (refl, cc)
 seen_is false founds seen e = cc
 
-length-map : {A B : Type 0} (f : A → B) (xs : List A) → length (map f xs) ≡ length xs
+pub length-map : {A B : Type 0} (f : A → B) (xs : List A) → length (map f xs) ≡ length xs
 length-map f [] = refl
 length-map f (x ∷ xs) = ap suc (length-map f xs)
 
@@ -91,10 +91,10 @@ seen_all plan rewriter on seen e =
 
 -- what was found at a place
 
-kept_at : (base : List Slot) (founds : List Found) (os : List Offered) (k : ℕ) → map (kept_found base) founds ≡ map kept os → option_map (kept_found base) (slice_get founds k) ≡ option_map kept (slice_get os k)
+pub kept_at : (base : List Slot) (founds : List Found) (os : List Offered) (k : ℕ) → map (kept_found base) founds ≡ map kept os → option_map (kept_found base) (slice_get founds k) ≡ option_map kept (slice_get os k)
 kept_at base founds os k e = sym (slice_get-map (kept_found base) founds k) ∙ ap (λ (l : List Kept). slice_get l k) e ∙ slice_get-map kept os k
 
-by_kept : {B : Type 0} (g : Kept → Option B) (offered : Option Offered) (found : Kept) → ◌≡◌ {A = Option Kept} (Some found) (option_map kept offered) → option_and_then (λ o. g (kept o)) offered ≡ g found
+pub by_kept : {B : Type 0} (g : Kept → Option B) (offered : Option Offered) (found : Kept) → ◌≡◌ {A = Option Kept} (Some found) (option_map kept offered) → option_and_then (λ o. g (kept o)) offered ≡ g found
 by_kept g None found e = cc
 by_kept g (Some offered) found e =
     let same : found ≡ kept offered = cc in
@@ -113,7 +113,7 @@ hit_inside k [] rest h e = omega arith
 hit_inside zero (o ∷ os) rest h e = cc
 hit_inside (suc k) (o ∷ os) rest h e = hit_inside k os rest (omega arith) e
 
-hit_is : (k : ℕ) (os : List Offered) (o : Offered) → slice_get os k ≡ Some o → hit_at k os ≡ On o.residual o.store
+pub hit_is : (k : ℕ) (os : List Offered) (o : Offered) → slice_get os k ≡ Some o → hit_at k os ≡ On o.residual o.store
 hit_is k [] o e = cc
 hit_is zero (first ∷ os) o e =
     let same : first ≡ o = cc in
@@ -141,7 +141,7 @@ pub hits_none : (plan : Plan) (rewriter : Rewriter) (k : ℕ) → rewriter.term 
 unfolding offers_of
 hits_none plan rewriter k e = rw e
 
-inside : {X : Type 0} (k : ℕ) (xs : List X) → k < length xs → slice_get xs k ≡ None → ⊥
+pub inside : {X : Type 0} (k : ℕ) (xs : List X) → k < length xs → slice_get xs k ≡ None → ⊥
 inside k [] h e = omega arith
 inside zero (x ∷ xs) h e = cc
 inside (suc k) (x ∷ xs) h e = inside k xs (omega arith) e

@@ -29,7 +29,8 @@ impl Found {
         })
     }
 
-    pub(crate) fn offer(&self) -> Offer
+    /// What is seen of it.
+    pub fn offer(&self) -> Offer
         ensures { result ≡ offer_of self.now }
     {
         Offer {
@@ -40,7 +41,8 @@ impl Found {
     }
 }
 
-pub(crate) fn copy_own(alloc: Global, own: &Option<Store>) -> Result<Option<Store>, NoMemory>
+/// A copy of the store, where there is one.
+pub fn copy_own(alloc: Global, own: &Option<Store>) -> Result<Option<Store>, NoMemory>
     ensures { IfOk result (λ copy. copy ≡ own.now) }
 {
     match own {
@@ -50,7 +52,7 @@ pub(crate) fn copy_own(alloc: Global, own: &Option<Store>) -> Result<Option<Stor
 }
 
 /// A copy of all that was found, in its order.
-pub(crate) fn copy_founds(alloc: Global, founds: &Items<Found>) -> Result<Items<Found>, NoMemory>
+pub fn copy_founds(alloc: Global, founds: &Items<Found>) -> Result<Items<Found>, NoMemory>
     ensures { IfOk result (λ copies. copies ≡ founds.now) }
 {
     let mut copies = Items::new(alloc);

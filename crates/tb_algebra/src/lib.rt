@@ -20,11 +20,16 @@ mod time_tests;
 mod values;
 mod walker;
 
+pub use found::{Found, copy_founds, copy_own};
 pub use laws::{
     accepted_binds_are_taken, ageing_keeps_terms, ages_are_within_the_ticks, ages_behind_are_new,
     offers_age, offers_ascend, offers_keep_sorts, walks_stay_reached,
 };
+pub use look::store_of;
 pub use offer::Offer;
 pub use plan::Plan;
+pub use ready::is_ready;
 pub use rewriter::Rewriter;
+pub use settings::{set_binds, tested, with_settings};
+pub use values::{accepted_binds, matched_patterns, sent_values};
 pub use walker::Walker;

@@ -97,7 +97,7 @@ fn look_node(
 }
 
 /// The store that a `let` made, or that of the process.
-pub(crate) fn store_of<'a>(base: &'a Store, own: &'a Option<Store>) -> &'a Store
+pub fn store_of<'a>(base: &'a Store, own: &'a Option<Store>) -> &'a Store
     ensures { result.now ≡ or_own own.now base.now }
 {
     match own {

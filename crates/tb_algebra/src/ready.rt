@@ -9,7 +9,7 @@ use tb_func::{Store, eval, int_of};
 use tb_terms::{Expr, NoMemory};
 
 /// Whether all the times hold for an atom of this age, on a bus that has seen so many ticks.
-pub(crate) fn is_ready(
+pub fn is_ready(
     alloc: Global,
     store: &Store,
     age: u64,

@@ -11,7 +11,7 @@ use tb_match::{Bind, Binds};
 use tb_terms::{Expr, Items, NoMemory, Sort, Term, has_sort, initial};
 
 /// What the test says now.
-pub(crate) fn tested(alloc: Global, store: &Store, test: &Expr) -> Result<Option<bool>, NoMemory>
+pub fn tested(alloc: Global, store: &Store, test: &Expr) -> Result<Option<bool>, NoMemory>
     ensures { IfOk result (λ says. says ≡ tested store.now test.now) }
 {
     match eval(alloc, test, store)? {
@@ -21,7 +21,7 @@ pub(crate) fn tested(alloc: Global, store: &Store, test: &Expr) -> Result<Option
 }
 
 /// The store after the settings, whose values are all of the store before.
-pub(crate) fn with_settings(
+pub fn with_settings(
     alloc: Global,
     store: &Store,
     settings: &Settings,
@@ -91,7 +91,7 @@ fn sorted(slot: u32, sort: &Sort, value: Option<Term>) -> Option<Bind>
 }
 
 /// Sets the binds one after another.
-pub(crate) fn set_binds(store: &mut Store, binds: Binds)
+pub fn set_binds(store: &mut Store, binds: Binds)
     requires { IsTrue (takes_binds store.old binds) }
     ensures { store.new ≡ with_binds store.old binds }
 {

@@ -15,7 +15,7 @@ use tb_terms::{Expr, Items, MOST_TERM_SIZE, NoMemory, Patterns, Term, Terms, siz
 
 /// The values that the act sends or looks at, where each is there and they are together no larger
 /// than a term may be.
-pub(crate) fn sent_values(
+pub fn sent_values(
     alloc: Global,
     store: &Store,
     atom: Option<&Atom>,
@@ -108,7 +108,7 @@ fn total_size(terms: &[Term]) -> usize
 }
 
 /// The patterns of an act that receives, or that looks at notes.
-pub(crate) fn matched_patterns(
+pub fn matched_patterns(
     alloc: Global,
     store: &Store,
     atom: Option<&Atom>,
@@ -151,7 +151,7 @@ fn patterns_of(alloc: Global, store: &Store, exprs: &[Expr]) -> Result<Option<Pa
 }
 
 /// What the act binds where it is given these terms.
-pub(crate) fn accepted_binds(
+pub fn accepted_binds(
     alloc: Global,
     store: &Store,
     atom: Option<&Atom>,
