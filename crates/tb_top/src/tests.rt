@@ -815,6 +815,173 @@ fn feeds_have_their_statuses(rt: HostRuntime) -> Result<(), Fail> {
     Ok(())
 }
 
+/// A calculator: its tool shows buttons, and knows what expressions are worth.
+const CALCULATOR: &str = "tool calc is { command = \"calc\" } process CALC is \
+    let T : calc, E : term, V : term in execute(calc, T?) . \
+    (rec-event(T, button(E?)) . snd-eval(T, E) . rec-value(T, V?) . printf(\"%t = %t\", E, V) . snd-ack-event(T, button(E))) \
+    * (rec-event(T, quit) . snd-terminate(T, \"bye\")) endlet toolbus(CALC)";
+
+/// A value is asked for only once a tick has passed.
+const ASKING: &str = "tool calc is { command = \"calc\" } process P is let T : calc, V : term in \
+    execute(calc, T?) . snd-eval(T, x) delay(1) . rec-value(T, V?) endlet toolbus(P)";
+
+const STARTING_TWICE: &str = "tool calc is { command = \"calc\" } process P is let T : calc in \
+    execute(calc, T?) . rec-disconnect(T?) . execute(calc, T?) . snd-terminate(T, 0) endlet toolbus(P)";
+
+const WAITING: &str = "tool t is { command = \"t\" } process P is let T : t in \
+    execute(t, T?) . rec-disconnect(T?) . delta endlet toolbus(P)";
+
+const CONNECTED: &str = "tool ed is { } process P is let T : ed in \
+    rec-connect(T?) . snd-do(T, hi) . rec-disconnect(T?) endlet toolbus(P)";
+
+const SHUTTING_DOWN: &str = "tool t is { command = \"t\" } process P is let T : t in \
+    execute(t, T?) . shutdown(f(1)) . tau endlet toolbus(P)";
+
+/// A slot of a tool's sort takes its terms of any number, and no tool has the number 0 or less.
+const OF_NO_TOOL: &str = "tool t is { command = \"t\" } process A is snd-msg(t(-1)) . snd-msg(t(0)) \
+    process B is let T : t in rec-msg(T?) . (snd-do(T, x) + rec-msg(T?) . (snd-do(T, x) + tau)) endlet toolbus(A, B)";
+
+/// A tool has the name of a function, whose value is a number and names no tool.
+const NAMED_AS_A_FUNCTION: &str = "tool msec is { command = \"m\" } process P is let T : msec in \
+    execute(msec, T?) . (snd-do(msec(1), a) + snd-do(T, b)) . snd-terminate(T, 0) endlet toolbus(P)";
+
+/// Scripts that speak with tools: words, script and feed, no failing call, the exit status, the log, and the line of a
+/// fault.
+static TOOL_FEEDINGS: [Feeding; 11] = [
+    (
+        "sim a.tb",
+        OF_NO_TOOL,
+        b"",
+        0,
+        0,
+        "1 msg 1.1 2.1 t(-1)\n2 msg 1.2 2.3 t(0)\n3 tau 2.5\n4 finish\n",
+        "",
+    ),
+    (
+        "sim a.tb",
+        NAMED_AS_A_FUNCTION,
+        b"",
+        0,
+        0,
+        "1 execute 1.1 msec(1)\n2 out 1 start \"m\"\n3 snd-do 1.3 msec(1),b\n4 out 1 rec-do(b)\n\
+         5 snd-terminate 1.4 msec(1),0\n6 out 1 rec-terminate(0)\n7 out 1 end\n8 finish\n",
+        "",
+    ),
+    (
+        "sim a.tb --feed f",
+        CALCULATOR,
+        b"line 1 snd-event(button(plus(1, 2)))\nline 1 snd-value(3)\nline 1 snd-event(quit)\n",
+        0,
+        0,
+        "1 execute 1.1 calc(1)\n2 out 1 start \"calc\"\n3 quiet\n\
+         4 line 1 snd-event(button(plus(1,2)))\n5 rec-event 1.2 calc(1),button(plus(1,2))\n\
+         6 snd-eval 1.3 calc(1),plus(1,2)\n7 out 1 rec-eval(plus(1,2))\n8 quiet\n\
+         9 line 1 snd-value(3)\n10 rec-value 1.4 calc(1),3\n11 printf 1.5 \"plus(1,2) = 3\"\n\
+         12 snd-ack-event 1.6 calc(1),button(plus(1,2))\n13 out 1 rec-ack-event(button(plus(1,2)))\n\
+         14 quiet\n15 line 1 snd-event(quit)\n16 rec-event 1.7 calc(1),quit\n\
+         17 snd-terminate 1.8 calc(1),\"bye\"\n18 out 1 rec-terminate(\"bye\")\n19 out 1 end\n20 finish\n",
+        "",
+    ),
+    // A value that nothing asked for changes nothing.
+    (
+        "sim a.tb --feed f",
+        ASKING,
+        b"line 1 snd-value(1)\ntick\nline 1 snd-value(2)",
+        0,
+        0,
+        "1 execute 1.1 calc(1)\n2 out 1 start \"calc\"\n3 quiet\n\
+         4 drop unasked line 1 snd-value(1)\n5 quiet\n6 tick\n7 snd-eval 1.2 calc(1),x\n\
+         8 out 1 rec-eval(x)\n9 quiet\n10 line 1 snd-value(2)\n11 rec-value 1.3 calc(1),2\n\
+         12 finish\n13 out 1 rec-terminate(finish)\n14 out 1 end\n",
+        "",
+    ),
+    (
+        "sim a.tb --feed f",
+        STARTING_TWICE,
+        b"gone 1\n",
+        0,
+        0,
+        "1 execute 1.1 calc(1)\n2 out 1 start \"calc\"\n3 quiet\n4 gone 1\n5 out 1 end\n\
+         6 rec-disconnect 1.2 calc(1)\n7 execute 1.3 calc(2)\n8 out 1 start \"calc\"\n\
+         9 snd-terminate 1.4 calc(2),0\n10 out 1 rec-terminate(0)\n11 out 1 end\n12 finish\n",
+        "",
+    ),
+    // That the lane isn't up comes before that it has no tool.
+    (
+        "sim a.tb --feed f",
+        WAITING,
+        b"gone 1\nline 1 snd-event(x)\n",
+        0,
+        0,
+        "1 execute 1.1 t(1)\n2 out 1 start \"t\"\n3 quiet\n4 gone 1\n5 out 1 end\n\
+         6 rec-disconnect 1.2 t(1)\n7 quiet\n8 drop not-live line 1 snd-event(x)\n9 quiet\n\
+         10 noticks\n11 halt\n",
+        "",
+    ),
+    (
+        "sim a.tb --connect k --feed f",
+        CONNECTED,
+        b"line 1 snd-connect(ed)\nline 1 snd-connect(ed)\nline 1 snd-disconnect\n",
+        0,
+        0,
+        "1 out 1 start \"k\"\n2 quiet\n3 line 1 snd-connect(ed)\n4 rec-connect 1.1 ed(1)\n\
+         5 snd-do 1.2 ed(1),hi\n6 out 1 rec-do(hi)\n7 quiet\n8 drop named line 1 snd-connect(ed)\n\
+         9 quiet\n10 line 1 snd-disconnect\n11 out 1 end\n12 rec-disconnect 1.3 ed(1)\n13 finish\n",
+        "",
+    ),
+    // Commands start lanes in their order, and what they are told when the bus goes down is put too.
+    (
+        "sim --connect k a.tb --connect l",
+        "toolbus()",
+        b"",
+        0,
+        0,
+        "1 out 1 start \"k\"\n2 out 2 start \"l\"\n3 finish\n4 out 1 rec-terminate(finish)\n\
+         5 out 1 end\n6 out 2 rec-terminate(finish)\n7 out 2 end\n",
+        "",
+    ),
+    (
+        "sim a.tb",
+        SHUTTING_DOWN,
+        b"",
+        0,
+        0,
+        "1 execute 1.1 t(1)\n2 out 1 start \"t\"\n3 shutdown 1.2 f(1)\n\
+         4 out 1 rec-terminate(f(1))\n5 out 1 end\n",
+        "",
+    ),
+    // What is to be handed out comes before the limit of steps, and needs room in the log.
+    (
+        "sim a.tb --steps 1",
+        SHUTTING_DOWN,
+        b"",
+        0,
+        4,
+        "1 execute 1.1 t(1)\n2 out 1 start \"t\"\n",
+        LIMIT,
+    ),
+    (
+        "sim a.tb --events 4",
+        SHUTTING_DOWN,
+        b"",
+        0,
+        4,
+        "1 execute 1.1 t(1)\n2 out 1 start \"t\"\n3 shutdown 1.2 f(1)\n4 out 1 rec-terminate(f(1))\n",
+        EVENTS,
+    ),
+];
+
+#[test]
+fn tools_have_their_logs(rt: HostRuntime) -> Result<(), Fail> {
+    for (words, script, feed, _failing, status, out, err) in &TOOL_FEEDINGS {
+        let called = call_fed(rt.alloc(), words, script.as_bytes(), feed, NONE)?;
+        assert_eq!(rt; called.status.number(), *status, "{words}: {feed:?}");
+        assert_eq!(rt; called.out.as_slice(), out.as_bytes(), "{words}: {feed:?}");
+        assert_eq!(rt; called.err.as_slice(), err.as_bytes(), "{words}: {feed:?}");
+    }
+    Ok(())
+}
+
 #[test]
 fn the_longest_feed_is_read(rt: HostRuntime) -> Result<(), Fail> {
     let alloc = rt.alloc();
