@@ -89,7 +89,7 @@ pub offers_of-age : (walking : Walking) → AreAged (offers_of walking) (offers_
 unfolding offers_of
 offers_of-age walking = of_term-age walking.term walking.store
 
--- how many, and by their places
+-- how many, and by their positions
 
 pub length-aged : (os ls : List Offered) → AreAged os ls → length ls ≡ length os
 length-aged [] [] h = refl

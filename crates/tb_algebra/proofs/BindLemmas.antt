@@ -11,7 +11,7 @@ use Rattle.tb_func.specs.Values.{all_of}
 use Rattle.tb_match.specs.declared.bind.Bind.{Bind}
 use Rattle.tb_body.specs.declared.tree.Setting.{Setting}
 use Rattle.tb_algebra.specs.Binds.{takes_bind, takes_binds, with_binds, has_slot_sort}
-use Rattle.tb_algebra.specs.Settings.{given_by, sorted, start_value}
+use Rattle.tb_algebra.specs.Settings.{given_by, well_sorted, start_value}
 
 pub sort_at-with_value : (slots : List Slot) (at : ℕ) (term : Term) (other : ℕ) → ◌≡◌ {A = Option Sort} (sort_at (with_value slots at term) other) (sort_at slots other)
 sort_at-with_value [] at term other = refl
@@ -39,16 +39,16 @@ rest_completes slots (first ∷ rest) bind e =
     let same : first ≡ bind = cc in
     ap (λ (b : Bind). with_binds (with_value slots b.slot b.value) rest) (sym same)
 
-sorted_taken : (slots : List Slot) (slot : ℕ) (sort : Sort) (value : Term) (b : Bool) (bind : Bind) → ◌≡◌ {A = Option Sort} (sort_at slots slot) (Some sort) → has_sort value sort ≡ b → option_map (λ (v : Term). record { slot = slot; value = v }) (if b then Some value else None) ≡ Some bind → takes_bind slots bind ≡ true
-sorted_taken slots slot sort value false bind h k e = cc
-sorted_taken slots slot sort value true bind h k e =
+well_sorted_taken : (slots : List Slot) (slot : ℕ) (sort : Sort) (value : Term) (b : Bool) (bind : Bind) → ◌≡◌ {A = Option Sort} (sort_at slots slot) (Some sort) → has_sort value sort ≡ b → option_map (λ (v : Term). record { slot = slot; value = v }) (if b then Some value else None) ≡ Some bind → takes_bind slots bind ≡ true
+well_sorted_taken slots slot sort value false bind h k e = cc
+well_sorted_taken slots slot sort value true bind h k e =
     let same : record { slot = slot; value = value } ≡ bind = cc in
     subst (λ (b : Bind). takes_bind slots b ≡ true) same (ap (λ (o : Option Sort). has_slot_sort o value) h ∙ k)
 
-given_taken_by : (slots : List Slot) (slot : ℕ) (sort : Option Sort) (value : Option Term) (bind : Bind) → ◌≡◌ {A = Option Sort} (sort_at slots slot) sort → option_map (λ (v : Term). record { slot = slot; value = v }) (sorted sort value) ≡ Some bind → takes_bind slots bind ≡ true
+given_taken_by : (slots : List Slot) (slot : ℕ) (sort : Option Sort) (value : Option Term) (bind : Bind) → ◌≡◌ {A = Option Sort} (sort_at slots slot) sort → option_map (λ (v : Term). record { slot = slot; value = v }) (well_sorted sort value) ≡ Some bind → takes_bind slots bind ≡ true
 given_taken_by slots slot None value bind h e = cc
 given_taken_by slots slot (Some sort) None bind h e = cc
-given_taken_by slots slot (Some sort) (Some value) bind h e = sorted_taken slots slot sort value (has_sort value sort) bind h refl e
+given_taken_by slots slot (Some sort) (Some value) bind h e = well_sorted_taken slots slot sort value (has_sort value sort) bind h refl e
 
 given_taken : (slots : List Slot) (setting : Setting) (bind : Bind) → given_by slots setting ≡ Some bind → takes_bind slots bind ≡ true
 given_taken slots setting bind e =

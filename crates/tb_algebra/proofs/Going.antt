@@ -53,7 +53,7 @@ pub seen-ascend : (body : Body) (now : ℕ) (walking : Walking) → IsReached bo
 unfolding offers_of
 seen-ascend body now walking h = subst IsStrictlyIncreasing (seen-atoms body.atoms now (offers_of_term walking.term walking.store)) (term-ascend body walking.ticks walking.term walking.store h)
 
--- by their places: an atom of the body, which is offered at no other place
+-- by their positions: an atom of the body, which is offered at no other position
 
 term-there : (body : Body) (ticks : ℕ) (term : Option Process) (store : List Slot) (k : ℕ) (offered : Offered) → IfSome term (Reaches body.tree ticks) → slice_get (offers_of_term term store) k ≡ Some offered → (1 ≤ offered.atom) × (offered.atom ≤ length body.atoms)
 term-there body ticks None store k offered h e = absurd (let t : ◌≡◌ {A = Option Offered} None (Some offered) = e in cc)

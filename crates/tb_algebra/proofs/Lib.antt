@@ -9,10 +9,10 @@ pub mod Sorts
 pub mod Taken
 pub mod BindLemmas
 pub mod EntryLemmas
-pub mod HitLemmas
+pub mod SelectedLemmas
 pub mod PlanLemmas
 pub mod RewriterLemmas
-pub mod SightLemmas
+pub mod OfferViewLemmas
 pub mod TermLemmas
 pub mod StartLemmas
 pub mod WalkerLemmas

@@ -5,14 +5,14 @@ use Rattle.std.proofs.lemmas.Option.{slice_get-map}
 use Rattle.tb_func.specs.declared.slot.Slot.{Slot}
 use Rattle.tb_body.specs.declared.atom.Atom.{Atom}
 use Rattle.tb_body.specs.declared.tree.Tree.{Tree}
-use Rattle.tb_algebra.specs.Founds.{offer_of}
-use Rattle.tb_algebra.specs.Hits.{Past, On, hit, hit_at, hit_of, is_fired_on}
+use Rattle.tb_algebra.specs.Candidates.{offer_of}
+use Rattle.tb_algebra.specs.Selections.{Past, On, selected, selected_at, selected_of, is_fired_on}
 use Rattle.tb_algebra.specs.Offers.{Offered}
 use Rattle.tb_algebra.specs.Processes.{Process, fresh}
 use Rattle.tb_algebra.specs.Plans.{tree_at}
 use Rattle.tb_algebra.specs.Rewritings.{walking_of, seen_of, Kept, kept, kept_found, IsOnPlan, IsLeft}
 use Rattle.tb_algebra.specs.Runnings.{term_of}
-use Rattle.tb_algebra.specs.Sights.{Sight, sighted, sights, shown, or_own}
+use Rattle.tb_algebra.specs.OfferViews.{OfferView, offer_view, offer_views, shown, or_own}
 use Rattle.tb_algebra.specs.Walks.{Walking, offers_of, seen}
 use Rattle.tb_algebra.specs.declared.fired.Fired.{Fired}
 use Rattle.tb_algebra.specs.declared.fired.Fired.TheVariants.{Taken}
@@ -35,13 +35,13 @@ starts nodes root whole store e =
 
 -- looking
 
-pub sights_some : (atoms : List Atom) (now : ℕ) (plan : Plan) (rewriter : Rewriter) (term : Running) → rewriter.term ≡ Some term → map (sighted atoms now) (offers_of (walking_of plan rewriter)) ≡ sights atoms now (term_of plan.nodes rewriter.ticks term) rewriter.store
-unfolding offers_of sights
-sights_some atoms now plan rewriter term e = rw e
+pub offer_views_some : (atoms : List Atom) (now : ℕ) (plan : Plan) (rewriter : Rewriter) (term : Running) → rewriter.term ≡ Some term → map (offer_view atoms now) (offers_of (walking_of plan rewriter)) ≡ offer_views atoms now (term_of plan.nodes rewriter.ticks term) rewriter.store
+unfolding offers_of offer_views
+offer_views_some atoms now plan rewriter term e = rw e
 
-pub sights_none : (atoms : List Atom) (now : ℕ) (plan : Plan) (rewriter : Rewriter) → rewriter.term ≡ None → map (sighted atoms now) (offers_of (walking_of plan rewriter)) ≡ []
+pub offer_views_none : (atoms : List Atom) (now : ℕ) (plan : Plan) (rewriter : Rewriter) → rewriter.term ≡ None → map (offer_view atoms now) (offers_of (walking_of plan rewriter)) ≡ []
 unfolding offers_of
-sights_none atoms now plan rewriter e = rw e
+offer_views_none atoms now plan rewriter e = rw e
 
 map_twice : {A B C : Type 0} (f : A → B) (g : B → C) (xs : List A) → map g (map f xs) ≡ map (λ x. g (f x)) xs
 map_twice f g [] = refl
@@ -51,27 +51,27 @@ map_twice f g (x ∷ xs) = ap (λ rest. g (f x) ∷ rest) (map_twice f g xs)
 seen_less : {A B C D : Type 0} (f : A → C) (h : B → C) (g : C → D) (xs : List A) (ys : List B) → map f xs ≡ map h ys → map (λ x. g (f x)) xs ≡ map (λ y. g (h y)) ys
 seen_less f h g xs ys e = sym (map_twice f g xs) ∙ ap (map g) e ∙ map_twice h g ys
 
-abbrev kept_sight : Sight → Kept
+abbrev kept_sight : OfferView → Kept
 kept_sight sight = record { atom = sight.atom; age = sight.age; store = sight.store }
 
-abbrev offer_sight : Sight → Offer
-offer_sight sight = record { atom = sight.atom; age = sight.age; ready = sight.ready }
+abbrev offer_in_view : OfferView → Offer
+offer_in_view sight = record { atom = sight.atom; age = sight.age; ready = sight.ready }
 
-pub found_kept : (atoms : List Atom) (now : ℕ) (base : List Slot) (founds : List Found) (os : List Offered) → map (shown base) founds ≡ map (sighted atoms now) os → map (kept_found base) founds ≡ map kept os
-found_kept atoms now base founds os e = seen_less (shown base) (sighted atoms now) kept_sight founds os e
+pub found_kept : (atoms : List Atom) (now : ℕ) (base : List Slot) (candidates : List Found) (os : List Offered) → map (shown base) candidates ≡ map (offer_view atoms now) os → map (kept_found base) candidates ≡ map kept os
+found_kept atoms now base candidates os e = seen_less (shown base) (offer_view atoms now) kept_sight candidates os e
 
-pub found_seen : (atoms : List Atom) (now : ℕ) (base : List Slot) (founds : List Found) (os : List Offered) → map (shown base) founds ≡ map (sighted atoms now) os → map offer_of founds ≡ map (seen atoms now) os
-found_seen atoms now base founds os e = seen_less (shown base) (sighted atoms now) offer_sight founds os e
+pub found_seen : (atoms : List Atom) (now : ℕ) (base : List Slot) (candidates : List Found) (os : List Offered) → map (shown base) candidates ≡ map (offer_view atoms now) os → map offer_of candidates ≡ map (seen atoms now) os
+found_seen atoms now base candidates os e = seen_less (shown base) (offer_view atoms now) offer_in_view candidates os e
 
 -- what is seen
 
-pub is_fresh : (fresh : Bool) (founds : List Found) → IsTrue (is_some (if fresh then Some (map offer_of founds) else None)) → fresh ≡ true
-is_fresh true founds h = refl
-is_fresh false founds h = cc
+pub is_fresh : (fresh : Bool) (candidates : List Found) → IsTrue (is_some (if fresh then Some (map offer_of candidates) else None)) → fresh ≡ true
+is_fresh true candidates h = refl
+is_fresh false candidates h = cc
 
-pub seen_is : (fresh : Bool) (founds : List Found) (seen : List Offer) → (if fresh then Some (map offer_of founds) else None) ≡ Some seen → (fresh ≡ true) × (map offer_of founds ≡ seen)
-seen_is true founds seen e = (refl, cc)
-seen_is false founds seen e = cc
+pub seen_is : (fresh : Bool) (candidates : List Found) (seen : List Offer) → (if fresh then Some (map offer_of candidates) else None) ≡ Some seen → (fresh ≡ true) × (map offer_of candidates ≡ seen)
+seen_is true candidates seen e = (refl, cc)
+seen_is false candidates seen e = cc
 
 pub length-map : {A B : Type 0} (f : A → B) (xs : List A) → length (map f xs) ≡ length xs
 length-map f [] = refl
@@ -89,10 +89,10 @@ seen_all plan rewriter on seen e =
     let five = ap length is.1 in
     omega arith
 
--- what was found at a place
+-- what was found at a position
 
-pub kept_at : (base : List Slot) (founds : List Found) (os : List Offered) (k : ℕ) → map (kept_found base) founds ≡ map kept os → option_map (kept_found base) (slice_get founds k) ≡ option_map kept (slice_get os k)
-kept_at base founds os k e = sym (slice_get-map (kept_found base) founds k) ∙ ap (λ (l : List Kept). slice_get l k) e ∙ slice_get-map kept os k
+pub kept_at : (base : List Slot) (candidates : List Found) (os : List Offered) (k : ℕ) → map (kept_found base) candidates ≡ map kept os → option_map (kept_found base) (slice_get candidates k) ≡ option_map kept (slice_get os k)
+kept_at base candidates os k e = sym (slice_get-map (kept_found base) candidates k) ∙ ap (λ (l : List Kept). slice_get l k) e ∙ slice_get-map kept os k
 
 pub by_kept : {B : Type 0} (g : Kept → Option B) (offered : Option Offered) (found : Kept) → ◌≡◌ {A = Option Kept} (Some found) (option_map kept offered) → option_and_then (λ o. g (kept o)) offered ≡ g found
 by_kept g None found e = cc
@@ -108,21 +108,21 @@ by_found g plan rewriter k found on fresh h =
 
 -- taking
 
-pub hit_inside : (k : ℕ) (os : List Offered) (rest : ℕ) → k < length os → hit_at k os ≡ Past rest → ⊥
+pub hit_inside : (k : ℕ) (os : List Offered) (rest : ℕ) → k < length os → selected_at k os ≡ Past rest → ⊥
 hit_inside k [] rest h e = omega arith
 hit_inside zero (o ∷ os) rest h e = cc
 hit_inside (suc k) (o ∷ os) rest h e = hit_inside k os rest (omega arith) e
 
-pub hit_is : (k : ℕ) (os : List Offered) (o : Offered) → slice_get os k ≡ Some o → hit_at k os ≡ On o.residual o.store
+pub hit_is : (k : ℕ) (os : List Offered) (o : Offered) → slice_get os k ≡ Some o → selected_at k os ≡ On o.residual o.store
 hit_is k [] o e = cc
 hit_is zero (first ∷ os) o e =
     let same : first ≡ o = cc in
     ap (λ (x : Offered). On x.residual x.store) same
 hit_is (suc k) (first ∷ os) o e = hit_is k os o e
 
-module _ (plan : Plan) (rewriter : Rewriter) (k : ℕ) (fired : Fired) (left : Left) (is : fired ≡ Taken left.term left.own) (hit : hit_of plan.nodes rewriter.ticks rewriter.store fired ≡ hit_at k (offers_of (walking_of plan rewriter))) where
-  hit_left : hit_at k (offers_of (walking_of plan rewriter)) ≡ On (option_map (term_of plan.nodes rewriter.ticks) left.term) (or_own left.own rewriter.store)
-  hit_left = sym hit ∙ ap (hit_of plan.nodes rewriter.ticks rewriter.store) is
+module _ (plan : Plan) (rewriter : Rewriter) (k : ℕ) (fired : Fired) (left : Left) (is : fired ≡ Taken left.term left.own) (selected : selected_of plan.nodes rewriter.ticks rewriter.store fired ≡ selected_at k (offers_of (walking_of plan rewriter))) where
+  hit_left : selected_at k (offers_of (walking_of plan rewriter)) ≡ On (option_map (term_of plan.nodes rewriter.ticks) left.term) (or_own left.own rewriter.store)
+  hit_left = sym selected ∙ ap (selected_of plan.nodes rewriter.ticks rewriter.store) is
 
   pub taken_left : IsTrue (is_fired_on plan.nodes rewriter.ticks fired) → ForSome (slice_get (offers_of (walking_of plan rewriter)) k) (IsLeft plan rewriter left)
   taken_left parts offered here =
@@ -133,11 +133,11 @@ module _ (plan : Plan) (rewriter : Rewriter) (k : ℕ) (fired : Fired) (left : L
         parts = subst (λ (f : Fired). IsTrue (is_fired_on plan.nodes rewriter.ticks f)) is parts;
       }
 
-pub hits_some : (plan : Plan) (rewriter : Rewriter) (term : Running) (k : ℕ) → rewriter.term ≡ Some term → hit_at k (offers_of (walking_of plan rewriter)) ≡ hit (term_of plan.nodes rewriter.ticks term) rewriter.store k
-unfolding offers_of hit
+pub hits_some : (plan : Plan) (rewriter : Rewriter) (term : Running) (k : ℕ) → rewriter.term ≡ Some term → selected_at k (offers_of (walking_of plan rewriter)) ≡ selected (term_of plan.nodes rewriter.ticks term) rewriter.store k
+unfolding offers_of selected
 hits_some plan rewriter term k e = rw e
 
-pub hits_none : (plan : Plan) (rewriter : Rewriter) (k : ℕ) → rewriter.term ≡ None → hit_at k (offers_of (walking_of plan rewriter)) ≡ Past k
+pub hits_none : (plan : Plan) (rewriter : Rewriter) (k : ℕ) → rewriter.term ≡ None → selected_at k (offers_of (walking_of plan rewriter)) ≡ Past k
 unfolding offers_of
 hits_none plan rewriter k e = rw e
 

@@ -13,9 +13,9 @@ turn = Star (At 1 0) (At 2 0)
 pub star_waits : aged (aged turn) ≡ Alt (Seq (At 1 2) turn) (At 2 2)
 star_waits = refl
 
-pub star_goes_on : offers (aged (aged turn)) [] ≡
+pub star_continues : offers (aged (aged turn)) [] ≡
     record { atom = 1; age = 2; store = []; residual = Some turn } ∷ record { atom = 2; age = 2; store = []; residual = None } ∷ []
-star_goes_on = refl
+star_continues = refl
 
 -- the side of a merge that waits keeps its age
 pub merge_waits : offers (aged (Par (At 1 0) (At 2 0))) [] ≡
@@ -35,7 +35,7 @@ pub nested : offers (Par (Alt (At 1 0) (At 2 0)) (Star (Seq (At 3 0) (At 4 0)) (
     ∷ record { atom = 5; age = 0; store = []; residual = Some (Alt (At 1 0) (At 2 0)) } ∷ []
 nested = refl
 
--- what is left where the offer at a place is taken
+-- what is left where the offer at a position is taken
 abbrev pub left_at : ℕ → Process → Option Process
 left_at k term = option_and_then (λ (offered : Offered). offered.residual) (slice_get (offers term []) k)
 
@@ -71,8 +71,8 @@ pub third_turn : option_map (λ left. option_map (λ (last : Process). ages_of (
 third_turn = refl
 
 -- a merge over two ticks, whose first side is taken between them: the other side has waited for both
-pub merge_goes_on : option_map (λ left. aged left) (left_at 0 (aged (Par (At 1 0) (At 2 0)))) ≡ Some (At 2 2)
-merge_goes_on = refl
+pub merge_continues : option_map (λ left. aged left) (left_at 0 (aged (Par (At 1 0) (At 2 0)))) ≡ Some (At 2 2)
+merge_continues = refl
 
 pub merge_ready : map (λ age. holds_for Delay (pos 2) age 9) (0 ∷ 1 ∷ 2 ∷ []) ≡ false ∷ false ∷ true ∷ []
 merge_ready = refl

@@ -8,12 +8,12 @@ use Rattle.tb_terms.specs.declared.sort.Sort.{Sort}
 use Rattle.tb_terms.specs.Sorts.{has_sort}
 use Rattle.tb_func.specs.declared.slot.Slot.{Slot}
 use Rattle.tb_func.specs.Arguments.{of_both}
-use Rattle.tb_func.specs.Stores.{fresh_slot, sort_at, with_value, is_sorted, are_sorted}
+use Rattle.tb_func.specs.Stores.{fresh_slot, sort_at, with_value, is_well_sorted, are_well_sorted}
 use Rattle.tb_func.specs.Values.{all_of}
 use Rattle.tb_match.specs.declared.bind.Bind.{Bind}
 use Rattle.tb_body.specs.declared.tree.Setting.{Setting}
 use Rattle.tb_algebra.specs.Binds.{with_binds, has_slot_sort, takes_bind, takes_binds}
-use Rattle.tb_algebra.specs.Settings.{sorted, start_value, given_by, with_settings, tested}
+use Rattle.tb_algebra.specs.Settings.{well_sorted, start_value, given_by, with_settings, tested}
 use Rattle.tb_algebra.specs.Processes.{Process, At, Seq, Alt, Star, Par, If, When, Let}
 use Rattle.tb_algebra.specs.Offers.{Offered, before, on_the_left, on_the_right, offers}
 use Rattle.tb_algebra.specs.Walks.{Walking, offers_of, offers_of_term, fired, sorts_of}
@@ -33,12 +33,12 @@ sort_at-with_value (slot ∷ slots) zero term (suc n) = refl
 sort_at-with_value (slot ∷ slots) (suc at) term zero = refl
 sort_at-with_value (slot ∷ slots) (suc at) term (suc n) = sort_at-with_value slots at term n
 
-pub sorted-with_value : (slots : List Slot) (at : ℕ) (term : Term) → are_sorted slots ≡ true → has_slot_sort (sort_at slots at) term ≡ true → are_sorted (with_value slots at term) ≡ true
-sorted-with_value [] at term h k = refl
-sorted-with_value (slot ∷ slots) zero term h k = and_from (has_sort term slot.sort) (are_sorted slots) k (and_parts (is_sorted slot) (are_sorted slots) h).1
-sorted-with_value (slot ∷ slots) (suc at) term h k =
-    let parts = and_parts (is_sorted slot) (are_sorted slots) h in
-    and_from (is_sorted slot) (are_sorted (with_value slots at term)) parts.0 (sorted-with_value slots at term parts.1 k)
+pub well_sorted-with_value : (slots : List Slot) (at : ℕ) (term : Term) → are_well_sorted slots ≡ true → has_slot_sort (sort_at slots at) term ≡ true → are_well_sorted (with_value slots at term) ≡ true
+well_sorted-with_value [] at term h k = refl
+well_sorted-with_value (slot ∷ slots) zero term h k = and_from (has_sort term slot.sort) (are_well_sorted slots) k (and_parts (is_well_sorted slot) (are_well_sorted slots) h).1
+well_sorted-with_value (slot ∷ slots) (suc at) term h k =
+    let parts = and_parts (is_well_sorted slot) (are_well_sorted slots) h in
+    and_from (is_well_sorted slot) (are_well_sorted (with_value slots at term)) parts.0 (well_sorted-with_value slots at term parts.1 k)
 
 -- binds
 
@@ -55,13 +55,13 @@ pub sorts-with_binds : (slots : List Slot) (binds : List Bind) → sorts_of (wit
 sorts-with_binds slots [] = refl
 sorts-with_binds slots (bind ∷ binds) = sorts-with_binds (with_value slots bind.slot bind.value) binds ∙ sorts-with_value slots bind.slot bind.value
 
-pub sorted-with_binds : (slots : List Slot) (binds : List Bind) → takes_binds slots binds ≡ true → are_sorted slots ≡ true → are_sorted (with_binds slots binds) ≡ true
-sorted-with_binds slots [] k h = h
-sorted-with_binds slots (bind ∷ binds) k h =
+pub well_sorted-with_binds : (slots : List Slot) (binds : List Bind) → takes_binds slots binds ≡ true → are_well_sorted slots ≡ true → are_well_sorted (with_binds slots binds) ≡ true
+well_sorted-with_binds slots [] k h = h
+well_sorted-with_binds slots (bind ∷ binds) k h =
     let parts = and_parts (takes_bind slots bind) (takes_binds slots binds) k in
-    sorted-with_binds (with_value slots bind.slot bind.value) binds
+    well_sorted-with_binds (with_value slots bind.slot bind.value) binds
     (takes-with_value slots bind.slot bind.value binds ∙ parts.1)
-    (sorted-with_value slots bind.slot bind.value h parts.0)
+    (well_sorted-with_value slots bind.slot bind.value h parts.0)
 
 -- settings: what each gives, the store takes
 
@@ -73,14 +73,14 @@ made-taken : (slots : List Slot) (slot : ℕ) (sort : Sort) (value : Term) (b : 
 made-taken slots slot sort value true e h = ap (λ (o : Option Sort). has_slot_sort o value) e ∙ h
 made-taken slots slot sort value false e h = tt
 
-sorted-taken : (slots : List Slot) (slot : ℕ) (o : Option Sort) (start : Option Term) → sort_at slots slot ≡ o →
-    GivesTaken slots (option_map (λ v. record { slot = slot; value = v }) (sorted o start))
-sorted-taken slots slot None start e = tt
-sorted-taken slots slot (Some sort) None e = tt
-sorted-taken slots slot (Some sort) (Some value) e = made-taken slots slot sort value (has_sort value sort) e refl
+well_sorted-taken : (slots : List Slot) (slot : ℕ) (o : Option Sort) (start : Option Term) → sort_at slots slot ≡ o →
+    GivesTaken slots (option_map (λ v. record { slot = slot; value = v }) (well_sorted o start))
+well_sorted-taken slots slot None start e = tt
+well_sorted-taken slots slot (Some sort) None e = tt
+well_sorted-taken slots slot (Some sort) (Some value) e = made-taken slots slot sort value (has_sort value sort) e refl
 
 given-taken : (slots : List Slot) (setting : Setting) → GivesTaken slots (given_by slots setting)
-given-taken slots setting = sorted-taken slots setting.slot (sort_at slots setting.slot) (start_value slots setting.slot setting.start) refl
+given-taken slots setting = well_sorted-taken slots setting.slot (sort_at slots setting.slot) (start_value slots setting.slot setting.start) refl
 
 abbrev GivesAllTaken : List Slot → Option (List Bind) → Type 0
 GivesAllTaken slots found = IfSome found (λ binds. takes_binds slots binds ≡ true)
@@ -98,7 +98,7 @@ all_given-taken slots (setting ∷ settings) = cons-taken slots (given_by slots 
 
 pub record Keeps (old new : List Slot) : Type 0 where
   pub sorts : sorts_of new ≡ sorts_of old
-  pub values : are_sorted old ≡ true → are_sorted new ≡ true
+  pub values : are_well_sorted old ≡ true → are_well_sorted new ≡ true
 
 pub keeps-all : (store : List Slot) → Keeps store store
 keeps-all store = record { sorts = refl; values = λ h. h }
@@ -107,7 +107,7 @@ pub keeps-both : (old new last : List Slot) → Keeps old new → Keeps new last
 keeps-both old new last h k = record { sorts = k.sorts ∙ h.sorts; values = λ e. k.values (h.values e) }
 
 pub binds-keep : (store : List Slot) (binds : List Bind) → takes_binds store binds ≡ true → Keeps store (with_binds store binds)
-binds-keep store binds k = record { sorts = sorts-with_binds store binds; values = sorted-with_binds store binds k }
+binds-keep store binds k = record { sorts = sorts-with_binds store binds; values = well_sorted-with_binds store binds k }
 
 made-keep : (store : List Slot) (o : Option (List Bind)) → GivesAllTaken store o → IfSome (option_map (with_binds store) o) (Keeps store)
 made-keep store None h = tt
@@ -143,7 +143,7 @@ offers-keep (Let settings x) store = after-all (KeepsIn store) (with_settings st
 pub offer-keeps : (term : Process) (store : List Slot) (offered : Offered) → Contains (offers term store) offered → Keeps store offered.store
 offer-keeps term store offered c = All-contains (KeepsIn store) (offers term store) offered (offers-keep term store) c
 
--- by its place among the offers
+-- by its position among the offers
 
 term-keeps : (term : Option Process) (store : List Slot) (k : ℕ) (offered : Offered) → slice_get (offers_of_term term store) k ≡ Some offered → Keeps store offered.store
 term-keeps None store k offered e = absurd (let t : ◌≡◌ {A = Option Offered} None (Some offered) = e in cc)
@@ -179,7 +179,7 @@ takes-same_sorts one other [] e = refl
 takes-same_sorts one other (bind ∷ binds) e =
     ap (λ (b : Bool). b && takes_binds one binds) (takes_bind-same_sorts one other bind e) ∙ ap (λ (b : Bool). takes_bind other bind && b) (takes-same_sorts one other binds e)
 
--- a store takes a value of the sort that stands at the slot's place
+-- a store takes a value of the sort that stands at the slot's position
 pub takes-value : (store : List Slot) (sorts : List Sort) (slot : ℕ) (sort : Sort) (value : Term) → sorts_of store ≡ sorts → slice_get sorts slot ≡ Some sort → has_sort value sort ≡ true →
     takes_binds store (record { slot = slot; value = value } ∷ []) ≡ true
 takes-value store sorts slot sort value e at h =

@@ -34,37 +34,37 @@ use Rattle.tb_algebra.specs.Binds.{has_slot_sort, takes_bind, takes_binds}
 abbrev Binds : Type 0
 Binds = List Bind
 
-abbrev Takes : List Slot → Binds → Type 0
-Takes store binds = takes_binds store binds ≡ true
+abbrev Writes : List Slot → Binds → Type 0
+Writes store binds = takes_binds store binds ≡ true
 
 -- binds that are found, the store takes
 abbrev TakesFound : List Slot → Option Binds → Type 0
-TakesFound store found = IfSome found (Takes store)
+TakesFound store found = IfSome found (Writes store)
 
 -- joined binds
 
-pub takes-append : (store : List Slot) (a b : Binds) → Takes store a → Takes store b → Takes store (a ++ b)
+pub takes-append : (store : List Slot) (a b : Binds) → Writes store a → Writes store b → Writes store (a ++ b)
 takes-append store a b h k = list_all-append (takes_bind store) a b ∙ and_from (takes_binds store a) (takes_binds store b) h k
 
-takes-one : (store : List Slot) (x : Bind) → takes_bind store x ≡ true → Takes store (x ∷ [])
+takes-one : (store : List Slot) (x : Bind) → takes_bind store x ≡ true → Writes store (x ∷ [])
 takes-one store x h = and_from (takes_bind store x) true h refl
 
-agreed-taken : (store : List Slot) (a : Binds) (y : Bind) (all : Binds) (o : Option Term) → Takes store a → takes_bind store y ≡ true → agreed a y o ≡ Some all → Takes store all
+agreed-taken : (store : List Slot) (a : Binds) (y : Bind) (all : Binds) (o : Option Term) → Writes store a → takes_bind store y ≡ true → agreed a y o ≡ Some all → Writes store all
 agreed-taken store a y all None h k e =
     let is : a ++ y ∷ [] ≡ all = cc in
-    subst (Takes store) is (takes-append store a (y ∷ []) h (takes-one store y k))
-agreed-taken store a y all (Some w) h k e = subst (Takes store) (agreed_same (is_same_term w y.value) a all e).1 h
+    subst (Writes store) is (takes-append store a (y ∷ []) h (takes-one store y k))
+agreed-taken store a y all (Some w) h k e = subst (Writes store) (agreed_same (is_same_term w y.value) a all e).1 h
 
-joined-taken : (store : List Slot) (a b ab : Binds) → Takes store a → Takes store b → joined a b ≡ Some ab → Takes store ab
+joined-taken : (store : List Slot) (a b ab : Binds) → Writes store a → Writes store b → joined a b ≡ Some ab → Writes store ab
 joined-taken store a [] ab h k e =
     let is : a ≡ ab = cc in
-    subst (Takes store) is h
+    subst (Writes store) is h
 joined-taken store a (y ∷ b) ab h k e =
     let p = both_steps (λ (all : Binds). joined all b) (with_bind a y) ab e in
     let parts = and_parts (takes_bind store y) (takes_binds store b) k in
     joined-taken store p.0 b ab (agreed-taken store a y p.0 (bound y.slot a) h parts.0 p.1) parts.1 p.2
 
-taken_if : (store : List Slot) (a b : Binds) (o : Option Binds) → Takes store a → Takes store b → joined a b ≡ o → TakesFound store o
+taken_if : (store : List Slot) (a b : Binds) (o : Option Binds) → Writes store a → Writes store b → joined a b ≡ o → TakesFound store o
 taken_if store a b None h k e = tt
 taken_if store a b (Some ab) h k e = joined-taken store a b ab h k e
 
@@ -224,9 +224,9 @@ patterns-taken store terms (Some ps) h = match_all-good store (map match_term ps
 pub accepted-taken : (store : List Slot) (exprs : List Expr) (terms : List Term) → IfSome (accepted store exprs terms) (λ binds. takes_binds store binds ≡ true)
 accepted-taken store exprs terms = patterns-taken store terms (patterns_of store exprs) (all_of-good store (map (pattern_of store) exprs) (exprs-good store exprs))
 
-found-taken : (store : List Slot) (o : Option Binds) (binds : Binds) → TakesFound store o → o ≡ Some binds → Takes store binds
+found-taken : (store : List Slot) (o : Option Binds) (binds : Binds) → TakesFound store o → o ≡ Some binds → Writes store binds
 found-taken store None binds h e = absurd (let t : ◌≡◌ {A = Option Binds} None (Some binds) = e in cc)
-found-taken store (Some b) binds h e = let is : b ≡ binds = cc in subst (Takes store) is h
+found-taken store (Some b) binds h e = let is : b ≡ binds = cc in subst (Writes store) is h
 
 -- the same, of binds that are known
 pub binds-taken : (store : List Slot) (exprs : List Expr) (terms : List Term) (binds : Binds) → accepted store exprs terms ≡ Some binds → takes_binds store binds ≡ true

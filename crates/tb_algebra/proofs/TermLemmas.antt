@@ -7,15 +7,15 @@ use Rattle.tb_algebra.specs.Processes as process
 use Rattle.tb_algebra.specs.Processes.{Process}
 use Rattle.tb_algebra.specs.Plans.{process_at}
 use Rattle.tb_algebra.specs.Runnings.{term_of, term_step, is_on, on_step, entered_term}
-use Rattle.tb_algebra.specs.Sights.{Sight, sights}
+use Rattle.tb_algebra.specs.OfferViews.{OfferView, offer_views}
 use Rattle.tb_algebra.specs.declared.node.Node.{Node}
 use Rattle.tb_algebra.specs.declared.running.Entry.{Entry}
 use Rattle.tb_algebra.specs.declared.running.Running.{Running, Running-F, map-Running, out-Running, fold_out-Running}
 use Rattle.tb_algebra.specs.declared.running.Running.TheOpen as layer
 use Rattle.tb_algebra.specs.declared.running.Running.TheVariants.{Whole, Seq, Par, outs-Whole, outs-Seq, outs-Par}
-use Rattle.tb_algebra.specs.Hits.{hit, hit_with, or_past}
-use Rattle.tb_algebra.proofs.SightLemmas.{sights-Seq, sights-Par}
-use Rattle.tb_algebra.proofs.HitLemmas.{hit-Seq, hit-Par, then, beside, along}
+use Rattle.tb_algebra.specs.Selections.{selected, selected_with, or_past}
+use Rattle.tb_algebra.proofs.OfferViewLemmas.{offer_views-Seq, offer_views-Par}
+use Rattle.tb_algebra.proofs.SelectedLemmas.{selected-Seq, selected-Par, then, beside, along}
 
 module _ (nodes : List Node) (ticks : ℕ) where
   opened : (r : Running) (w : Running-F Running) → out-Running r ≡ w → term_of nodes ticks r ≡ term_step nodes ticks (map-Running Running Process (term_of nodes ticks) w)
@@ -65,25 +65,25 @@ module _ (nodes : List Node) (ticks : ℕ) where
       and_parts (is_on nodes ticks x) (is_on nodes ticks y) both
 
   module _ (atoms : List Atom) (now : ℕ) (store : List Slot) where
-    abbrev of_term : Running → List Sight
-    of_term r = sights atoms now (term_of nodes ticks r) store
+    abbrev of_term : Running → List OfferView
+    of_term r = offer_views atoms now (term_of nodes ticks r) store
 
-    pub sights_of_seq : (r x : Running) (y : ℕ) → r ≡ Seq x y → of_term r ≡ of_term x
-    sights_of_seq r x y e =
-        ap (λ (p : Process). sights atoms now p store) (ap (term_of nodes ticks) e ∙ term-Seq x y)
-        ∙ sights-Seq atoms now (term_of nodes ticks x) (process_at nodes y) store
+    pub offer_views_of_seq : (r x : Running) (y : ℕ) → r ≡ Seq x y → of_term r ≡ of_term x
+    offer_views_of_seq r x y e =
+        ap (λ (p : Process). offer_views atoms now p store) (ap (term_of nodes ticks) e ∙ term-Seq x y)
+        ∙ offer_views-Seq atoms now (term_of nodes ticks x) (process_at nodes y) store
 
-    pub sights_of_par : (r x y : Running) → r ≡ Par x y → of_term r ≡ of_term x ++ of_term y
-    sights_of_par r x y e =
-        ap (λ (p : Process). sights atoms now p store) (ap (term_of nodes ticks) e ∙ term-Par x y)
-        ∙ sights-Par atoms now (term_of nodes ticks x) (term_of nodes ticks y) store
+    pub offer_views_of_par : (r x y : Running) → r ≡ Par x y → of_term r ≡ of_term x ++ of_term y
+    offer_views_of_par r x y e =
+        ap (λ (p : Process). offer_views atoms now p store) (ap (term_of nodes ticks) e ∙ term-Par x y)
+        ∙ offer_views-Par atoms now (term_of nodes ticks x) (term_of nodes ticks y) store
 
-  pub hits_of_seq : (r x : Running) (y : ℕ) (store : List Slot) (k : ℕ) → r ≡ Seq x y → hit (term_of nodes ticks r) store k ≡ hit_with (then (process_at nodes y)) (hit (term_of nodes ticks x) store k)
+  pub hits_of_seq : (r x : Running) (y : ℕ) (store : List Slot) (k : ℕ) → r ≡ Seq x y → selected (term_of nodes ticks r) store k ≡ selected_with (then (process_at nodes y)) (selected (term_of nodes ticks x) store k)
   hits_of_seq r x y store k e =
-      ap (λ (p : Process). hit p store k) (ap (term_of nodes ticks) e ∙ term-Seq x y)
-      ∙ hit-Seq (term_of nodes ticks x) (process_at nodes y) store k
+      ap (λ (p : Process). selected p store k) (ap (term_of nodes ticks) e ∙ term-Seq x y)
+      ∙ selected-Seq (term_of nodes ticks x) (process_at nodes y) store k
 
-  pub hits_of_par : (r x y : Running) (store : List Slot) (k : ℕ) → r ≡ Par x y → hit (term_of nodes ticks r) store k ≡ or_past (hit_with (beside (term_of nodes ticks y)) (hit (term_of nodes ticks x) store k)) (λ rest. hit_with (along (term_of nodes ticks x)) (hit (term_of nodes ticks y) store rest))
+  pub hits_of_par : (r x y : Running) (store : List Slot) (k : ℕ) → r ≡ Par x y → selected (term_of nodes ticks r) store k ≡ or_past (selected_with (beside (term_of nodes ticks y)) (selected (term_of nodes ticks x) store k)) (λ rest. selected_with (along (term_of nodes ticks x)) (selected (term_of nodes ticks y) store rest))
   hits_of_par r x y store k e =
-      ap (λ (p : Process). hit p store k) (ap (term_of nodes ticks) e ∙ term-Par x y)
-      ∙ hit-Par (term_of nodes ticks x) (term_of nodes ticks y) store k
+      ap (λ (p : Process). selected p store k) (ap (term_of nodes ticks) e ∙ term-Par x y)
+      ∙ selected-Par (term_of nodes ticks x) (term_of nodes ticks y) store k

@@ -1,7 +1,7 @@
 -- What a running term stands for a tick later.
 use Rattle.std.proofs.Common.{◌≡◌, ℕ, suc, ◌+◌, ◌-◌, ◌≤◌, Bool, true, nat_lt, nat_le, List, length, Option, Some, None, option_map, refl, ap, sym, subst, ◌∙◌, arith}
 use Rattle.std.proofs.lemmas.Bool.{and_from, and_parts, leb-true, le-leb}
-use Rattle.tb_algebra.specs.Hits.{is_left_on}
+use Rattle.tb_algebra.specs.Selections.{is_left_on}
 use Rattle.tb_algebra.specs.Plans.{process_at}
 use Rattle.tb_algebra.specs.Processes as process
 use Rattle.tb_algebra.specs.Processes.{Process, aged}

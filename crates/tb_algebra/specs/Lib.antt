@@ -1,8 +1,8 @@
 pub mod Ageing
 pub mod Atoms
 pub mod Binds
-pub mod Founds
-pub mod Hits
+pub mod Candidates
+pub mod Selections
 pub mod Offers
 pub mod Plans
 pub mod Processes
@@ -10,6 +10,6 @@ pub mod Reached
 pub mod Rewritings
 pub mod Runnings
 pub mod Settings
-pub mod Sights
+pub mod OfferViews
 pub mod WalkerViews
 pub mod Walks

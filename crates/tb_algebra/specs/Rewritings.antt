@@ -1,11 +1,11 @@
 -- What a rewriter stands for, and what it keeps.
 use Rattle.std.specs.Prelude.{◌≡◌, ℕ, true, IsTrue, List, map, Option, Some, None, option_map, if◌then◌else◌}
 use Rattle.tb_func.specs.declared.slot.Slot.{Slot}
-use Rattle.tb_algebra.specs.Founds.{offer_of}
-use Rattle.tb_algebra.specs.Hits.{is_left_on}
+use Rattle.tb_algebra.specs.Candidates.{offer_of}
+use Rattle.tb_algebra.specs.Selections.{is_left_on}
 use Rattle.tb_algebra.specs.Offers.{Offered}
 use Rattle.tb_algebra.specs.Runnings.{term_of}
-use Rattle.tb_algebra.specs.Sights.{or_own}
+use Rattle.tb_algebra.specs.OfferViews.{or_own}
 use Rattle.tb_algebra.specs.WalkerViews.{View}
 use Rattle.tb_algebra.specs.Walks.{Walking, offers_of}
 use Rattle.tb_algebra.specs.declared.fired.Left.{Left}

@@ -13,10 +13,10 @@ use Rattle.tb_algebra.specs.Binds.{with_binds}
 use Rattle.tb_body.specs.declared.tree.Setting.{Setting}
 
 -- the value, where it has the slot's sort
-abbrev pub sorted : Option Sort → Option Term → Option Term
-sorted None value = None
-sorted (Some sort) None = None
-sorted (Some sort) (Some value) = if has_sort value sort then Some value else None
+abbrev pub well_sorted : Option Sort → Option Term → Option Term
+well_sorted None value = None
+well_sorted (Some sort) None = None
+well_sorted (Some sort) (Some value) = if has_sort value sort then Some value else None
 
 -- what a setting starts its slot with
 abbrev pub start_value : List Slot → ℕ → Option Expr → Option Term
@@ -24,7 +24,7 @@ start_value slots slot None = option_map initial_value (sort_at slots slot)
 start_value slots slot (Some expr) = value_of slots expr
 
 abbrev pub given_by : List Slot → Setting → Option Bind
-given_by slots setting = option_map (λ value. record { slot = setting.slot; value = value }) (sorted (sort_at slots setting.slot) (start_value slots setting.slot setting.start))
+given_by slots setting = option_map (λ value. record { slot = setting.slot; value = value }) (well_sorted (sort_at slots setting.slot) (start_value slots setting.slot setting.start))
 
 -- The store after the settings. All values are those of the store before; there is none where a setting
 -- has no value of its slot's sort.

@@ -2,13 +2,13 @@ ghost use Rattle.std.specs.Prelude.{◌≡◌, ℕ, ◌<◌, ◌≤◌, List, So
 ghost use Rattle.tb_func.specs.declared.slot.Slot.{Slot};
 ghost use Rattle.tb_algebra.specs.declared.node.Node.{Node as PlanNode};
 ghost use Rattle.tb_algebra.specs.declared.running.Running.TheVariants.{Whole};
-ghost use Rattle.tb_algebra.specs.Hits.{Past, On, chosen, hit, hit_with, hit_of, is_fired_on, is_left_on};
+ghost use Rattle.tb_algebra.specs.Selections.{Past, On, chosen, selected, selected_with, selected_of, is_fired_on, is_left_on};
 ghost use Rattle.tb_algebra.specs.Offers.{followed, left_of, right_of};
 ghost use Rattle.tb_algebra.specs.Plans.{process_at};
 ghost use Rattle.tb_algebra.specs.Processes.{At};
 ghost use Rattle.tb_algebra.specs.Runnings.{entered_term, term_of, is_on};
 ghost use Rattle.tb_algebra.specs.Settings.{tested};
-ghost use Rattle.tb_algebra.specs.Sights.{or_own};
+ghost use Rattle.tb_algebra.specs.OfferViews.{or_own};
 
 use crate::fired::Fired;
 use crate::found::copy_own;
@@ -38,7 +38,7 @@ impl Since {
     }
 }
 
-/// Takes the offer of a running term at this place, from 0 in text order.
+/// Takes the offer of a running term at this position, from 0 in text order.
 #[cycle(fire_term)]
 pub(crate) fn fire_term(
     alloc: Global,
@@ -49,8 +49,8 @@ pub(crate) fn fire_term(
     k: usize,
 ) -> Result<Fired, NoMemory>
     requires { IsTrue (is_on plan.now.nodes ticks term.now) }
-    ensures hit { IfOk result (λ fired. hit_of plan.now.nodes ticks store.now fired
-        ≡ hit (term_of plan.now.nodes ticks term.now) store.now k) }
+    ensures selected { IfOk result (λ fired. selected_of plan.now.nodes ticks store.now fired
+        ≡ selected (term_of plan.now.nodes ticks term.now) store.now k) }
     ensures on { IfOk result (λ fired. IsTrue (is_fired_on plan.now.nodes ticks fired)) }
 {
     match term {
@@ -73,7 +73,7 @@ pub(crate) fn fire_term(
     }
 }
 
-/// Takes the offer of a part of the plan at this place.
+/// Takes the offer of a part of the plan at this position.
 #[cycle(fire_node)]
 fn fire_node(
     alloc: Global,
@@ -86,8 +86,8 @@ fn fire_node(
 ) -> Result<Fired, NoMemory>
     requires there { node < length plan.now.nodes }
     requires entered { since.entered ≤ since.ticks }
-    ensures hit { IfOk result (λ fired. hit_of plan.now.nodes since.ticks base.now fired
-        ≡ hit (entered_term plan.now.nodes since.ticks (record { node = node; entered = since.entered })) (or_own own.now base.now) k) }
+    ensures selected { IfOk result (λ fired. selected_of plan.now.nodes since.ticks base.now fired
+        ≡ selected (entered_term plan.now.nodes since.ticks (record { node = node; entered = since.entered })) (or_own own.now base.now) k) }
     ensures on { IfOk result (λ fired. IsTrue (is_fired_on plan.now.nodes since.ticks fired)) }
 {
     match plan.node(node) {
@@ -143,10 +143,10 @@ fn chosen(
 }
 
 /// An atom has one offer, and then the term has ended.
-#[tactic(auto, unfolding(crate::specs::Hits::hit))]
+#[tactic(auto, unfolding(crate::specs::Selections::selected))]
 fn fire_atom(alloc: Global, own: &Option<Store>, k: usize) -> Result<Fired, NoMemory>
-    ensures hit { IfOk result (λ fired. (nodes : List PlanNode) → (ticks : ℕ) → (base : List Slot) → (atom : ℕ) → (age : ℕ) →
-        hit_of nodes ticks base fired ≡ hit (At atom age) (or_own own.now base) k) }
+    ensures selected { IfOk result (λ fired. (nodes : List PlanNode) → (ticks : ℕ) → (base : List Slot) → (atom : ℕ) → (age : ℕ) →
+        selected_of nodes ticks base fired ≡ selected (At atom age) (or_own own.now base) k) }
     ensures on { IfOk result (λ fired. (nodes : List PlanNode) → (ticks : ℕ) → IsTrue (is_fired_on nodes ticks fired)) }
 {
     if k > 0 {
@@ -158,9 +158,9 @@ fn fire_atom(alloc: Global, own: &Option<Store>, k: usize) -> Result<Fired, NoMe
 
 /// What is left, and then the node of the plan.
 fn followed(alloc: Global, fired: Fired, node: usize, ticks: u64) -> Result<Fired, NoMemory>
-    ensures hit { IfOk result (λ whole. (nodes : List PlanNode) → (base : List Slot) →
-        hit_of nodes ticks base whole
-        ≡ hit_with (λ left. Some (followed left (process_at nodes node))) (hit_of nodes ticks base fired)) }
+    ensures selected { IfOk result (λ whole. (nodes : List PlanNode) → (base : List Slot) →
+        selected_of nodes ticks base whole
+        ≡ selected_with (λ left. Some (followed left (process_at nodes node))) (selected_of nodes ticks base fired)) }
     ensures on { IfOk result (λ whole. (nodes : List PlanNode) → node < length nodes →
         IsTrue (is_fired_on nodes ticks fired) → IsTrue (is_fired_on nodes ticks whole)) }
 {
@@ -178,8 +178,8 @@ fn taken_then(
     node: usize,
     ticks: u64,
 ) -> Result<Fired, NoMemory>
-    ensures hit { IfOk result (λ whole. (nodes : List PlanNode) → (base : List Slot) →
-        hit_of nodes ticks base whole
+    ensures selected { IfOk result (λ whole. (nodes : List PlanNode) → (base : List Slot) →
+        selected_of nodes ticks base whole
         ≡ On (Some (followed (option_map (term_of nodes ticks) left) (process_at nodes node))) (or_own own base)) }
     ensures on { IfOk result (λ whole. (nodes : List PlanNode) → node < length nodes →
         IsTrue (is_left_on nodes ticks left) → IsTrue (is_fired_on nodes ticks whole)) }
@@ -229,8 +229,8 @@ fn taken_beside(
     own: Option<Store>,
     right: &Running,
 ) -> Result<Fired, NoMemory>
-    ensures hit { IfOk result (λ whole. (nodes : List PlanNode) → (ticks : ℕ) → (base : List Slot) →
-        hit_of nodes ticks base whole
+    ensures selected { IfOk result (λ whole. (nodes : List PlanNode) → (ticks : ℕ) → (base : List Slot) →
+        selected_of nodes ticks base whole
         ≡ On (Some (left_of (option_map (term_of nodes ticks) left) (term_of nodes ticks right.now))) (or_own own base)) }
     ensures on { IfOk result (λ whole. (nodes : List PlanNode) → (ticks : ℕ) → IsTrue (is_on nodes ticks right.now) →
         IsTrue (is_left_on nodes ticks left) → IsTrue (is_fired_on nodes ticks whole)) }
@@ -241,9 +241,9 @@ fn taken_beside(
 
 /// The other side, beside what is left.
 fn on_the_right(alloc: Global, left: &Running, fired: Fired) -> Result<Fired, NoMemory>
-    ensures hit { IfOk result (λ whole. (nodes : List PlanNode) → (ticks : ℕ) → (base : List Slot) →
-        hit_of nodes ticks base whole
-        ≡ hit_with (λ right. Some (right_of (term_of nodes ticks left.now) right)) (hit_of nodes ticks base fired)) }
+    ensures selected { IfOk result (λ whole. (nodes : List PlanNode) → (ticks : ℕ) → (base : List Slot) →
+        selected_of nodes ticks base whole
+        ≡ selected_with (λ right. Some (right_of (term_of nodes ticks left.now) right)) (selected_of nodes ticks base fired)) }
     ensures on { IfOk result (λ whole. (nodes : List PlanNode) → (ticks : ℕ) → IsTrue (is_on nodes ticks left.now) →
         IsTrue (is_fired_on nodes ticks fired) → IsTrue (is_fired_on nodes ticks whole)) }
 {

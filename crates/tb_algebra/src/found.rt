@@ -1,5 +1,5 @@
 ghost use Rattle.std.specs.Prelude.{◌≡◌, IfOk};
-ghost use Rattle.tb_algebra.specs.Founds.{offer_of};
+ghost use Rattle.tb_algebra.specs.Candidates.{offer_of};
 
 use crate::Offer;
 use std::alloc::Global;
@@ -52,11 +52,11 @@ pub fn copy_own(alloc: Global, own: &Option<Store>) -> Result<Option<Store>, NoM
 }
 
 /// A copy of all that was found, in its order.
-pub fn copy_founds(alloc: Global, founds: &Items<Found>) -> Result<Items<Found>, NoMemory>
-    ensures { IfOk result (λ copies. copies ≡ founds.now) }
+pub fn copy_candidates(alloc: Global, candidates: &Items<Found>) -> Result<Items<Found>, NoMemory>
+    ensures { IfOk result (λ copies. copies ≡ candidates.now) }
 {
     let mut copies = Items::new(alloc);
-    for found in founds.as_slice() {
+    for found in candidates.as_slice() {
         copies.push(found.copy(alloc)?)?;
     }
     Ok(copies)

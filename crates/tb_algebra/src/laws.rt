@@ -6,7 +6,7 @@ ghost use Rattle.std.specs.List.Sorted.{IsStrictlyIncreasing};
 ghost use Rattle.tb_terms.specs.declared.term.Term.{Term};
 ghost use Rattle.tb_terms.specs.declared.expr.Expr.{Expr};
 ghost use Rattle.tb_func.specs.declared.slot.Slot.{Slot};
-ghost use Rattle.tb_func.specs.Stores.{are_sorted};
+ghost use Rattle.tb_func.specs.Stores.{are_well_sorted};
 ghost use Rattle.tb_body.specs.declared.atom.Atom.{Atom};
 ghost use Rattle.tb_body.specs.declared.body.Body.{Body};
 ghost use Rattle.tb_body.specs.declared.tree.Tree.{Tree};
@@ -32,11 +32,11 @@ pub fn offers_keep_sorts()
     ensures sorts { (term : Process) (store : List Slot) (offered : Offered) → Contains (offers term store) offered
         → sorts_of offered.store ≡ sorts_of store }
     ensures values { (term : Process) (store : List Slot) (offered : Offered) → Contains (offers term store) offered
-        → IsTrue (are_sorted store) → IsTrue (are_sorted offered.store) }
+        → IsTrue (are_well_sorted store) → IsTrue (are_well_sorted offered.store) }
     ensures fired_sorts { (binds : List Bind) (ticks : ℕ) (offered : Offered)
         → sorts_of (fired binds ticks offered).store ≡ sorts_of offered.store }
     ensures fired_values { (binds : List Bind) (ticks : ℕ) (offered : Offered) → IsTrue (takes_binds offered.store binds)
-        → IsTrue (are_sorted offered.store) → IsTrue (are_sorted (fired binds ticks offered).store) }
+        → IsTrue (are_well_sorted offered.store) → IsTrue (are_well_sorted (fired binds ticks offered).store) }
 {}
 
 /// In a term that a body reaches, and so in its offers, no age is greater than the number of ticks.

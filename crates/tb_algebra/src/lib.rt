@@ -20,7 +20,7 @@ mod time_tests;
 mod values;
 mod walker;
 
-pub use found::{Found, copy_founds, copy_own};
+pub use found::{Found, copy_candidates, copy_own};
 pub use laws::{
     accepted_binds_are_taken, ageing_keeps_terms, ages_are_within_the_ticks, ages_behind_are_new,
     offers_age, offers_ascend, offers_keep_sorts, walks_stay_reached,

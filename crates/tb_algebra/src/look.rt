@@ -1,7 +1,7 @@
 ghost use Rattle.std.specs.Prelude.{◌≡◌, ◌∷◌, [], ◌++◌, ◌-◌, ◌<◌, IfOk, OnOk, IsTrue, length, map};
 ghost use Rattle.tb_algebra.specs.Atoms.{is_ready, times_of};
 ghost use Rattle.tb_algebra.specs.Runnings.{entered_term, term_of, is_on};
-ghost use Rattle.tb_algebra.specs.Sights.{sights, shown, or_own};
+ghost use Rattle.tb_algebra.specs.OfferViews.{offer_views, shown, or_own};
 
 use crate::found::{Found, copy_own};
 use crate::node::Node;
@@ -35,7 +35,7 @@ pub(crate) fn look_term(
     requires { IsTrue (is_on plan.now.nodes ticks term.now) }
     ensures { OnOk result (map (shown store.now) found.new
         ≡ map (shown store.now) found.old
-        ++ sights plan.now.body.atoms now (term_of plan.now.nodes ticks term.now) store.now) }
+        ++ offer_views plan.now.body.atoms now (term_of plan.now.nodes ticks term.now) store.now) }
 {
     match term {
         Running::Whole(entry) => {
@@ -69,7 +69,7 @@ fn look_node(
     requires { node < length plan.now.nodes }
     ensures { OnOk result (map (shown base.now) found.new
         ≡ map (shown base.now) found.old
-        ++ sights plan.now.body.atoms clock.now (entered_term plan.now.nodes clock.ticks (record { node = node; entered = clock.entered })) (or_own own.now base.now)) }
+        ++ offer_views plan.now.body.atoms clock.now (entered_term plan.now.nodes clock.ticks (record { node = node; entered = clock.entered })) (or_own own.now base.now)) }
 {
     match plan.node(node) {
         Node::At(atom) => look_atom(alloc, plan, *atom, clock, base, own, found),

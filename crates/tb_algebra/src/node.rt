@@ -1,7 +1,7 @@
 use tb_body::Settings;
 use tb_terms::Expr;
 
-/// One operator of a body. Its parts are the nodes at these places, which stand before it.
+/// One operator of a body. Its parts are the nodes at these positions, which stand before it.
 #[derive(Debug, Drop)]
 pub enum Node {
     At(u32),

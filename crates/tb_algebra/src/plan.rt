@@ -47,7 +47,7 @@ impl Plan {
     }
 }
 
-/// Adds a tree behind the nodes, and gives the place of its node.
+/// Adds a tree behind the nodes, and gives the position of its node.
 #[cycle(add_tree)]
 fn add_tree(alloc: Global, nodes: &mut Items<Node>, tree: &Tree) -> Result<usize, NoMemory>
     requires { AreBehind nodes.old }
@@ -94,7 +94,7 @@ fn add_tree(alloc: Global, nodes: &mut Items<Node>, tree: &Tree) -> Result<usize
     }
 }
 
-/// Adds a node, and gives its place.
+/// Adds a node, and gives its position.
 fn push_node(nodes: &mut Items<Node>, node: Node) -> Result<usize, NoMemory>
     requires all { AreBehind nodes.old }
     requires behind { IsTrue (is_behind (length nodes.old) node) }

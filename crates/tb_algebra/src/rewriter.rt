@@ -1,12 +1,12 @@
 ghost use Rattle.std.specs.Prelude.{◌≡◌, IfOk, IsTrue, map};
-ghost use Rattle.tb_algebra.specs.Hits.{hit_at, hit_of, is_fired_on};
-ghost use Rattle.tb_algebra.specs.Sights.{shown, sighted};
+ghost use Rattle.tb_algebra.specs.Selections.{selected_at, selected_of, is_fired_on};
+ghost use Rattle.tb_algebra.specs.OfferViews.{shown, offer_view};
 ghost use Rattle.tb_algebra.specs.Walks.{offers_of};
 ghost use Rattle.tb_algebra.specs.Rewritings.{walking_of, IsOnPlan, rewriter_view};
 
 use crate::fire::fire_term;
 use crate::fired::{Fired, Left};
-use crate::found::{Found, copy_founds};
+use crate::found::{Found, copy_candidates};
 use crate::look::{look_term, store_of};
 use crate::plan::Plan;
 use crate::running::{Entry, Running};
@@ -37,8 +37,8 @@ impl Rewriter {
     /// What the rewriter may do next.
     fn find(&self, alloc: Global, plan: &Plan, now: u64) -> Result<Items<Found>, NoMemory>
         requires { IsOnPlan plan.now self.now }
-        ensures { IfOk result (λ founds. map (shown self.now.store) founds
-            ≡ map (sighted plan.now.body.atoms now) (offers_of (walking_of plan.now self.now))) }
+        ensures { IfOk result (λ candidates. map (shown self.now.store) candidates
+            ≡ map (offer_view plan.now.body.atoms now) (offers_of (walking_of plan.now self.now))) }
     {
         match &self.term {
             Some(term) => {
@@ -50,11 +50,11 @@ impl Rewriter {
         }
     }
 
-    /// What comes of the offer at this place.
+    /// What comes of the offer at this position.
     fn taken(&self, alloc: Global, plan: &Plan, k: usize) -> Result<Fired, NoMemory>
         requires { IsOnPlan plan.now self.now }
-        ensures hit { IfOk result (λ fired. hit_of plan.now.nodes self.now.ticks self.now.store fired
-            ≡ hit_at k (offers_of (walking_of plan.now self.now))) }
+        ensures selected { IfOk result (λ fired. selected_of plan.now.nodes self.now.ticks self.now.store fired
+            ≡ selected_at k (offers_of (walking_of plan.now self.now))) }
         ensures on { IfOk result (λ fired. IsTrue (is_fired_on plan.now.nodes self.now.ticks fired)) }
     {
         match &self.term {
@@ -190,7 +190,7 @@ impl Walker for Rewriter {
             None => None,
         };
         let store = self.store.copy(alloc)?;
-        let found = copy_founds(alloc, &self.found)?;
+        let found = copy_candidates(alloc, &self.found)?;
         Ok(Rewriter {
             term,
             store,

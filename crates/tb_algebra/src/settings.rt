@@ -1,6 +1,6 @@
 ghost use Rattle.std.specs.Prelude.{◌≡◌, Some, IsTrue, IfOk, map, option_map};
 ghost use Rattle.tb_algebra.specs.Binds.{takes_binds, with_binds};
-ghost use Rattle.tb_algebra.specs.Settings.{given_by, sorted, start_value, tested, with_settings};
+ghost use Rattle.tb_algebra.specs.Settings.{given_by, well_sorted, start_value, tested, with_settings};
 ghost use Rattle.tb_func.specs.Stores.{sort_at};
 ghost use Rattle.tb_func.specs.Values.{all_of};
 
@@ -58,7 +58,7 @@ fn given_by(alloc: Global, store: &Store, setting: &Setting) -> Result<Option<Bi
     match store.get_sort(setting.slot) {
         Some(sort) => {
             let value = start_value(alloc, store, sort, setting)?;
-            Ok(sorted(setting.slot, sort, value))
+            Ok(well_sorted(setting.slot, sort, value))
         }
         None => Ok(None),
     }
@@ -79,8 +79,8 @@ fn start_value(
     }
 }
 
-fn sorted(slot: u32, sort: &Sort, value: Option<Term>) -> Option<Bind>
-    ensures { result ≡ option_map (λ term. record { slot = slot; value = term }) (sorted (Some sort.now) value) }
+fn well_sorted(slot: u32, sort: &Sort, value: Option<Term>) -> Option<Bind>
+    ensures { result ≡ option_map (λ term. record { slot = slot; value = term }) (well_sorted (Some sort.now) value) }
 {
     let value = value?;
     if has_sort(&value, sort) {

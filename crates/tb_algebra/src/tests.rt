@@ -10,7 +10,7 @@ use tb_terms::{Boxed, Expr, Func, Items, NoMemory, Sort, Term, Terms, Text};
 
 /// What an atom does.
 #[derive(Clone, Copy)]
-pub(crate) enum Deed {
+pub(crate) enum AtomKind {
     Delta,
     Tau,
     /// Takes a number for slot 0.
@@ -59,12 +59,12 @@ pub(crate) enum One {
 #[derive(Clone, Copy)]
 pub(crate) enum Step {
     /// An atom, and when it may happen.
-    Leaf(Deed, &'static [Limit]),
+    Leaf(AtomKind, &'static [Limit]),
     Two(Two),
     One(One),
 }
 
-pub(crate) const TAU: Step = Step::Leaf(Deed::Tau, &[]);
+pub(crate) const TAU: Step = Step::Leaf(AtomKind::Tau, &[]);
 
 pub(crate) const SEQ: Step = Step::Two(Two::Seq);
 
@@ -116,11 +116,11 @@ fn settings(alloc: Global, value: Expr) -> Result<Settings, NoMemory> {
     Ok(settings)
 }
 
-fn act_of(alloc: Global, deed: Deed) -> Result<Act, NoMemory> {
-    match deed {
-        Deed::Delta => Ok(Act::Delta),
-        Deed::Tau => Ok(Act::Tau),
-        Deed::Take => Ok(Act::RecMsg(alone(alloc, Expr::Result(0))?)),
+fn act_of(alloc: Global, atom_kind: AtomKind) -> Result<Act, NoMemory> {
+    match atom_kind {
+        AtomKind::Delta => Ok(Act::Delta),
+        AtomKind::Tau => Ok(Act::Tau),
+        AtomKind::Take => Ok(Act::RecMsg(alone(alloc, Expr::Result(0))?)),
     }
 }
 
@@ -148,8 +148,8 @@ fn times_of(alloc: Global, limits: &[Limit]) -> Result<Times, NoMemory> {
     Ok(times)
 }
 
-fn atom_of(alloc: Global, deed: Deed, limits: &[Limit]) -> Result<Atom, NoMemory> {
-    let act = act_of(alloc, deed)?;
+fn atom_of(alloc: Global, atom_kind: AtomKind, limits: &[Limit]) -> Result<Atom, NoMemory> {
+    let act = act_of(alloc, atom_kind)?;
     let times = times_of(alloc, limits)?;
     Ok(Atom { act, times })
 }
@@ -157,8 +157,8 @@ fn atom_of(alloc: Global, deed: Deed, limits: &[Limit]) -> Result<Atom, NoMemory
 fn atoms_of(alloc: Global, steps: &[Step]) -> Result<Atoms, NoMemory> {
     let mut atoms = Items::new(alloc);
     for step in steps {
-        if let Step::Leaf(deed, limits) = step {
-            atoms.push(atom_of(alloc, *deed, limits)?)?;
+        if let Step::Leaf(atom_kind, limits) = step {
+            atoms.push(atom_of(alloc, *atom_kind, limits)?)?;
         }
     }
     Ok(atoms)
@@ -241,7 +241,7 @@ pub(crate) fn bus_ticks(walker: &Rewriter) -> u64 {
     walker.ticks.saturating_add(3)
 }
 
-/// The walker after it has taken the offer at this place.
+/// The walker after it has taken the offer at this position.
 pub(crate) fn taken(
     alloc: Global,
     plan: &Plan,
@@ -276,13 +276,13 @@ fn advanced(alloc: Global, plan: &Plan, walker: Rewriter, k: usize) -> Result<Re
     Ok(walker)
 }
 
-/// The walker after it has taken the offers at these places, one after another.
-fn walked(alloc: Global, plan: &Plan, places: &[usize]) -> Result<Rewriter, NoMemory>
+/// The walker after it has taken the offers at these positions, one after another.
+fn walked(alloc: Global, plan: &Plan, positions: &[usize]) -> Result<Rewriter, NoMemory>
     ensures { IfOk result (λ walker. IsOnPlan plan.now walker) }
 {
     let mut walker = started(alloc, plan)?;
-    for place in places {
-        walker = taken(alloc, plan, walker, *place)?;
+    for position in positions {
+        walker = taken(alloc, plan, walker, *position)?;
     }
     Ok(walker)
 }
@@ -311,7 +311,7 @@ type Row = (&'static [Step], &'static [usize], &'static [u32]);
 /// An atom, its age, and whether it is ready.
 pub(crate) type Seen = (u32, u64, bool);
 
-/// A body, the places of the offers that are taken, and the atoms that may be next.
+/// A body, the positions of the offers that are taken, and the atoms that may be next.
 static PLAIN: [Row; 27] = [
     (&[TAU], &[], &[1]),
     (&[TAU], &[0], &[]),
@@ -409,7 +409,7 @@ fn an_offer_is_taken_and_gone_on_with(rt: HostRuntime) -> Result<(), Fail> {
 
 /// How many variables a receive binds where it is given these terms.
 fn bound(alloc: Global, terms: &Terms) -> Result<Option<usize>, NoMemory> {
-    let plan = Rewriter::plan(alloc, &body(alloc, &[Step::Leaf(Deed::Take, &[])])?)?;
+    let plan = Rewriter::plan(alloc, &body(alloc, &[Step::Leaf(AtomKind::Take, &[])])?)?;
     let mut walker = started(alloc, &plan)?;
     walker.look(alloc, &plan, 3)?;
     let walker = walker.copy(alloc)?;

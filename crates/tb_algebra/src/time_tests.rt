@@ -2,7 +2,7 @@ ghost use Rattle.std.specs.Prelude.{IfOk};
 ghost use Rattle.tb_algebra.specs.Rewritings.{IsOnPlan};
 
 use crate::tests::{
-    ALT, Deed, IF_0, LET_1, LET_2, Limit, PAR, SEQ, STAR, Seen, Step, TAU, WHEN_0, Worth, body,
+    ALT, AtomKind, IF_0, LET_1, LET_2, Limit, PAR, SEQ, STAR, Seen, Step, TAU, WHEN_0, Worth, body,
     bus_ticks, looked, started, taken,
 };
 use crate::{Plan, Rewriter, Walker};
@@ -15,7 +15,7 @@ use tb_terms::{Items, NoMemory};
 #[derive(Clone, Copy)]
 enum Move {
     Tick,
-    /// It takes the offer at this place.
+    /// It takes the offer at this position.
     Take(usize),
 }
 
@@ -45,27 +45,27 @@ const ABS_TIMEOUT_4: Limit = (TimeKind::AbsTimeout, Worth::Number(4));
 
 const ABS_TIMEOUT_5: Limit = (TimeKind::AbsTimeout, Worth::Number(5));
 
-const TAU_FROM_1: Step = Step::Leaf(Deed::Tau, &[DELAY_1]);
+const TAU_FROM_1: Step = Step::Leaf(AtomKind::Tau, &[DELAY_1]);
 
-const TAU_FROM_2: Step = Step::Leaf(Deed::Tau, &[DELAY_2]);
+const TAU_FROM_2: Step = Step::Leaf(AtomKind::Tau, &[DELAY_2]);
 
-const TAU_FROM_3: Step = Step::Leaf(Deed::Tau, &[DELAY_3]);
+const TAU_FROM_3: Step = Step::Leaf(AtomKind::Tau, &[DELAY_3]);
 
-const TAU_AT_2: Step = Step::Leaf(Deed::Tau, &[DELAY_2, TIMEOUT_2]);
+const TAU_AT_2: Step = Step::Leaf(AtomKind::Tau, &[DELAY_2, TIMEOUT_2]);
 
-const TAU_FROM_SLOT: Step = Step::Leaf(Deed::Tau, &[(TimeKind::Delay, Worth::Slot)]);
+const TAU_FROM_SLOT: Step = Step::Leaf(AtomKind::Tau, &[(TimeKind::Delay, Worth::Slot)]);
 
-const TAU_TO_SLOT: Step = Step::Leaf(Deed::Tau, &[(TimeKind::Timeout, Worth::Slot)]);
+const TAU_TO_SLOT: Step = Step::Leaf(AtomKind::Tau, &[(TimeKind::Timeout, Worth::Slot)]);
 
-const DELTA: Step = Step::Leaf(Deed::Delta, &[]);
+const DELTA: Step = Step::Leaf(AtomKind::Delta, &[]);
 
-const RECEIVE_TO_2: Step = Step::Leaf(Deed::Take, &[TIMEOUT_2]);
+const RECEIVE_TO_2: Step = Step::Leaf(AtomKind::Take, &[TIMEOUT_2]);
 
 /// What happens to a process, and its offers then. The bus has seen 3 ticks as it starts.
 type Run = (&'static [Move], &'static [Seen]);
 
 /// A body, and what happens to its process.
-type Row = (&'static [Step], &'static [Move], &'static [Seen]);
+type TimeRow = (&'static [Step], &'static [Move], &'static [Seen]);
 
 /// `tau delay(2) timeout(2) * delta`
 static STAR_AT_2: [Step; 3] = [TAU_AT_2, DELTA, STAR];
@@ -129,7 +129,7 @@ static RIGHT_SIDES: [Run; 4] = [
 ];
 
 /// Operators in each other.
-static NESTED: [Row; 12] = [
+static NESTED: [TimeRow; 12] = [
     (
         &[TAU, TAU, SEQ, TAU_FROM_2, PAR],
         &[TICK, TAKE_0],
@@ -189,7 +189,7 @@ static NESTED: [Row; 12] = [
 ];
 
 /// Tests and settings age by their parts, and a time is evaluated in the offered store.
-static IN_STORES: [Row; 8] = [
+static IN_STORES: [TimeRow; 8] = [
     (&[TAU_FROM_1, TAU, IF_0], &[TICK], &[(1, 1, true)]),
     (&[TAU_FROM_1, WHEN_0], &[TICK], &[(1, 1, true)]),
     (&[TAU_FROM_SLOT], &[], &[(1, 0, true)]),
@@ -450,7 +450,7 @@ fn waited(alloc: Global, plan: &Plan, ticks: u64) -> Result<Rewriter, NoMemory>
 /// What is seen of an atom with these times.
 fn seen_of_one(alloc: Global, row: &Timed) -> Result<Vec<Seen>, NoMemory> {
     let (limits, age, now, _ready) = *row;
-    let plan = Rewriter::plan(alloc, &body(alloc, &[Step::Leaf(Deed::Tau, limits)])?)?;
+    let plan = Rewriter::plan(alloc, &body(alloc, &[Step::Leaf(AtomKind::Tau, limits)])?)?;
     let walker = waited(alloc, &plan, age)?;
     looked(alloc, &plan, walker, now)
 }
@@ -491,7 +491,7 @@ fn times_hold_at_the_ends_of_their_bits(rt: HostRuntime) -> Result<(), Fail> {
     Ok(())
 }
 
-/// The process after a tick, and then the offer at this place, which was seen before the tick.
+/// The process after a tick, and then the offer at this position, which was seen before the tick.
 fn taken_after_a_tick(
     alloc: Global,
     plan: &Plan,

@@ -52,7 +52,7 @@ pub trait Walker: Sized + Drop {
         ensures seen { ForSome (view.seen self.now) (λ offers. result ≡ length offers) }
         ensures all { (plan : Self.Plan) → view.is_on plan self.now → result ≡ length (offers_of (view.walking plan self.now)) };
 
-    /// The offer at this place, from 0 in text order.
+    /// The offer at this position, from 0 in text order.
     fn offer(&self, k: usize) -> Offer
         requires fresh { IsTrue (is_some (view.seen self.now)) }
         requires within { ForSome (view.seen self.now) (λ offers. k < length offers) }
@@ -94,7 +94,7 @@ pub trait Walker: Sized + Drop {
         ensures { IfOk result (λ binds. binds
             ≡ option_and_then (accepted_by (view.body_of plan.now).atoms ts.now) (slice_get (offers_of (view.walking plan.now self.now)) k)) };
 
-    /// Takes the offer at this place, and changes nothing yet. Nothing has to be seen of it.
+    /// Takes the offer at this position, and changes nothing yet. Nothing has to be seen of it.
     fn take(&self, alloc: Global, plan: &Self::Plan, k: usize) -> Result<Self::Taken, NoMemory>
         requires on { view.is_on plan.now self.now }
         requires within { k < length (offers_of (view.walking plan.now self.now)) }
@@ -110,7 +110,7 @@ pub trait Walker: Sized + Drop {
             → view.walking plan.now self.new ≡ fired binds (view.walking plan.now self.old).ticks offered }
         ensures seen { view.seen self.new ≡ None };
 
-    /// Takes the offer at this place: the process goes on with what is left, and the binds are set.
+    /// Takes the offer at this position: the process goes on with what is left, and the binds are set.
     /// Nothing has to be seen of it.
     fn fire(
         &mut self,
@@ -121,7 +121,7 @@ pub trait Walker: Sized + Drop {
     ) -> Result<(), NoMemory>
         requires on { view.is_on plan.now self.old }
         requires within { k < length (offers_of (view.walking plan.now self.old)) }
-        requires sorted { ForSome (slice_get (offers_of (view.walking plan.now self.old)) k) (λ offered. IsTrue (takes_binds offered.store binds)) }
+        requires well_sorted { ForSome (slice_get (offers_of (view.walking plan.now self.old)) k) (λ offered. IsTrue (takes_binds offered.store binds)) }
         ensures on { view.is_on plan.now self.new }
         ensures goes { OnOk result (ForSome (slice_get (offers_of (view.walking plan.now self.old)) k)
             (λ offered. view.walking plan.now self.new ≡ fired binds (view.walking plan.now self.old).ticks offered)) }

@@ -6,8 +6,8 @@ use Rattle.tb_terms.specs.declared.expr.Expr.TheOpen.{Expr-F, Int, Str, Var, Res
 use Rattle.tb_terms.specs.declared.expr.Expr.TheFolds.{fold-Expr}
 use Rattle.tb_func.specs.Functions.{signature_of}
 
--- the places at which an expression may stand
-pub record Places : Type 0 where
+-- the positions at which an expression may stand
+pub record Positions : Type 0 where
   -- it has neither placeholder nor result variable
   pub value : Bool
   -- it has no result variable, and no placeholder within a function
@@ -15,11 +15,11 @@ pub record Places : Type 0 where
   -- it has neither within a function
   pub receiving : Bool
 
-abbrev pub everywhere : Places
+abbrev pub everywhere : Positions
 everywhere = record { value = true; test = true; receiving = true }
 
--- at each of these places where each part may stand there
-abbrev pub all_stand : List Places → Places
+-- at each of these positions where each part may stand there
+abbrev pub all_stand : List Positions → Positions
 all_stand parts = record {
   value = list_all (λ part. part.value) parts;
   test = list_all (λ part. part.test) parts;
@@ -27,28 +27,28 @@ all_stand parts = record {
 }
 
 -- everywhere or nowhere
-abbrev pub everywhere_if : Bool → Places
+abbrev pub everywhere_if : Bool → Positions
 everywhere_if ok = record { value = ok; test = ok; receiving = ok }
 
 -- One expression over this many slots: its slots are among them, and a function has as many arguments as it takes.
-abbrev pub places_step : ℕ → Expr-F Places → Places
-places_step slots (Int number) = everywhere
-places_step slots (Str bytes) = everywhere
-places_step slots (Var slot) = everywhere_if (nat_lt slot slots)
-places_step slots (Result slot) = record { value = false; test = false; receiving = nat_lt slot slots }
-places_step slots (Hole sort) = record { value = false; test = true; receiving = true }
-places_step slots (Appl name parts) = all_stand parts
-places_step slots (Call f parts) = everywhere_if (length parts == (signature_of f).arity && list_all (λ part. part.value) parts)
-places_step slots (ListOf parts) = all_stand parts
+abbrev pub positions_step : ℕ → Expr-F Positions → Positions
+positions_step slots (Int number) = everywhere
+positions_step slots (Str bytes) = everywhere
+positions_step slots (Var slot) = everywhere_if (nat_lt slot slots)
+positions_step slots (Result slot) = record { value = false; test = false; receiving = nat_lt slot slots }
+positions_step slots (Hole sort) = record { value = false; test = true; receiving = true }
+positions_step slots (Appl name parts) = all_stand parts
+positions_step slots (Call f parts) = everywhere_if (length parts == (signature_of f).arity && list_all (λ part. part.value) parts)
+positions_step slots (ListOf parts) = all_stand parts
 
-abbrev pub places_of : ℕ → Expr → Places
-places_of slots = fold-Expr Places (places_step slots)
+abbrev pub positions_of : ℕ → Expr → Positions
+positions_of slots = fold-Expr Positions (positions_step slots)
 
 abbrev pub is_value : ℕ → Expr → Bool
-is_value slots expr = (places_of slots expr).value
+is_value slots expr = (positions_of slots expr).value
 
 abbrev pub is_test : ℕ → Expr → Bool
-is_test slots expr = (places_of slots expr).test
+is_test slots expr = (positions_of slots expr).test
 
 abbrev pub is_receiving : ℕ → Expr → Bool
-is_receiving slots expr = (places_of slots expr).receiving
+is_receiving slots expr = (positions_of slots expr).receiving

@@ -51,7 +51,7 @@ is_act_in_program bodies tools (Shutdown expr) = true
 abbrev pub is_body_in_program : List Body → List Tool → Body → Bool
 is_body_in_program bodies tools body = list_all (λ (atom : Atom). is_act_in_program bodies tools atom.act) body.atoms
 
--- each term has the sort at its place
+-- each term has the sort at its position
 abbrev pub have_sorts : List Sort → List Term → Bool
 have_sorts sorts [] = true
 have_sorts [] (term ∷ terms) = false

@@ -3,7 +3,7 @@ ghost use Rattle.std.specs.Prelude.{◌≡◌, IfOk};
 use std::alloc::Global;
 use tb_terms::{Expr, Exprs, NoMemory, copy_exprs};
 
-/// What an atom does when it happens. Processes and tools go by their places in the program, from 0,
+/// What an atom does when it happens. Processes and tools go by their positions in the program, from 0,
 /// variables by their slots.
 #[derive(Debug, Drop)]
 pub enum Act {

@@ -34,7 +34,7 @@ pub struct Atom {
     pub times: Times,
 }
 
-/// The atoms of a body: the one with number n stands at place n - 1.
+/// The atoms of a body: the one with number n stands at position n - 1.
 pub type Atoms = Items<Atom>;
 
 impl Time {

@@ -108,12 +108,12 @@ fn are_actuals(body: &Body, actuals: &[Term]) -> bool
         && are_within_limits(actuals)
 }
 
-/// Whether each term has the sort at its place.
+/// Whether each term has the sort at its position.
 fn have_sorts(sorts: &[Sort], terms: &[Term]) -> bool
     ensures { result ≡ have_sorts sorts.now terms.now }
 {
-    for (place, term) in terms.iter().enumerate() {
-        match at(sorts, place) {
+    for (position, term) in terms.iter().enumerate() {
+        match at(sorts, position) {
             Some(sort) => {
                 if !has_sort(term, sort) {
                     return false;

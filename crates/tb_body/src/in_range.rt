@@ -5,7 +5,9 @@ ghost use Rattle.tb_body.specs.Exprs.{is_value};
 ghost use Rattle.tb_body.specs.InRange.{ascends_by_one, is_start, is_setting_in_range, is_tree_in_range};
 ghost use Rattle.tb_body.specs.Trees.{tree_atoms, tree_levels};
 
-use crate::places::{all_values, is_receiving, is_value, some_receiving, some_tests, some_values};
+use crate::positions::{
+    all_values, is_receiving, is_value, some_receiving, some_tests, some_values,
+};
 use crate::{Act, Atom, Setting, Time, Tree};
 use tb_terms::{Items, NoMemory};
 
@@ -35,8 +37,8 @@ pub(crate) fn add_atoms(tree: &Tree, into: &mut Items<u32>) -> Result<(), NoMemo
 pub(crate) fn ascend_from_one(numbers: &[u32]) -> bool
     ensures { result ≡ ascends_by_one 1 numbers.now }
 {
-    for (place, number) in numbers.iter().enumerate() {
-        if *number as usize != place + 1 {
+    for (position, number) in numbers.iter().enumerate() {
+        if *number as usize != position + 1 {
             return false;
         }
     }

@@ -7,7 +7,7 @@ mod atom;
 mod body;
 mod in_program;
 mod in_range;
-mod places;
+mod positions;
 mod program;
 mod tree;
 

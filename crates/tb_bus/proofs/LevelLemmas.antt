@@ -31,7 +31,7 @@ use Rattle.tb_match.proofs.Grouping.{both_steps, agreed_same}
 use Rattle.tb_body.specs.declared.tree.Setting.{Setting}
 use Rattle.tb_algebra.specs.Processes.{Process, At, Seq, Alt, Star, Par, If, When, Let}
 use Rattle.tb_algebra.specs.Offers.{Offered, before, on_the_left, on_the_right, offers}
-use Rattle.tb_algebra.specs.Settings.{given_by, sorted, start_value, tested, with_settings}
+use Rattle.tb_algebra.specs.Settings.{given_by, well_sorted, start_value, tested, with_settings}
 use Rattle.tb_algebra.specs.Binds.{with_binds}
 use Rattle.tb_algebra.proofs.Offering.{if-all, after-all}
 use Rattle.tb_bus.specs.Waiting.{IsShallow, IsShallowStore}
@@ -144,14 +144,14 @@ if-shallow : (slot : ℕ) (b : Bool) (t : Term) → IsShallow t → GivesShallow
 if-shallow slot true t h = h
 if-shallow slot false t h = tt
 
-sorted-shallow : (slot : ℕ) (sort : Option Sort) (value : Option Term) → GivesShallow value → GivesShallowBind (option_map (λ value. record { slot = slot; value = value }) (sorted sort value))
-sorted-shallow slot None value h = tt
-sorted-shallow slot (Some sort) None h = tt
-sorted-shallow slot (Some sort) (Some value) h = if-shallow slot (has_sort value sort) value h
+well_sorted-shallow : (slot : ℕ) (sort : Option Sort) (value : Option Term) → GivesShallow value → GivesShallowBind (option_map (λ value. record { slot = slot; value = value }) (well_sorted sort value))
+well_sorted-shallow slot None value h = tt
+well_sorted-shallow slot (Some sort) None h = tt
+well_sorted-shallow slot (Some sort) (Some value) h = if-shallow slot (has_sort value sort) value h
 
 given-shallow : (store : List Slot) (setting : Setting) → IsShallowStore store → GivesShallowBind (given_by store setting)
 given-shallow store setting h =
-    sorted-shallow setting.slot (sort_at store setting.slot) (start_value store setting.slot setting.start) (start-shallow store setting.slot setting.start h)
+    well_sorted-shallow setting.slot (sort_at store setting.slot) (start_value store setting.slot setting.start) (start-shallow store setting.slot setting.start h)
 
 cons-shallow : (o : Option Bind) (os : Option (List Bind)) → GivesShallowBind o → IfSome os AreShallowBinds → IfSome (of_both (λ x xs. Some (x ∷ xs)) o os) AreShallowBinds
 cons-shallow None os h k = tt

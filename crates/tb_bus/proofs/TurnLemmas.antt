@@ -73,9 +73,9 @@ none-from_first (x ∷ xs) e = cc
 pub turn-found : (scene : Scene) (last start : ℕ) (found : Candidate) → start ≡ up_to last scene.rows → Some found ≡ first (candidates_from scene start (drop start scene.rows)) →
     Some found ≡ first (candidates_in_turn scene last)
 unfolding candidates_in_turn
-turn-found scene last start found e hit =
+turn-found scene last start found e selected =
     let at = up_to last scene.rows in
-    first-append_some (candidates_from scene at (drop at scene.rows)) (candidates_from scene 0 (take at scene.rows)) found (rw e at hit)
+    first-append_some (candidates_from scene at (drop at scene.rows)) (candidates_from scene 0 (take at scene.rows)) found (rw e at selected)
 
 -- where nothing is found there, the first of the others is
 pub turn-again : (scene : Scene) (last start : ℕ) → start ≡ up_to last scene.rows → None ≡ first (candidates_from scene start (drop start scene.rows)) →
@@ -108,8 +108,8 @@ while_up-finish scene marks (row ∷ rows) f = let nobody : length (row ∷ rows
 
 while_up-some : (scene : Scene) (marks : Marks) (rows : List Row) (found : Candidate) → (length rows == 0) ≡ false →
     Some found ≡ first (candidates_in_turn scene marks.last_starter) → Some found ≡ first (candidates_while_up scene marks rows)
-while_up-some scene marks [] found f hit = cc
-while_up-some scene marks (row ∷ rows) found f hit = or_halt-some marks.no_ticks (candidates_in_turn scene marks.last_starter) found hit
+while_up-some scene marks [] found f selected = cc
+while_up-some scene marks (row ∷ rows) found f selected = or_halt-some marks.no_ticks (candidates_in_turn scene marks.last_starter) found selected
 
 while_up-none : (scene : Scene) (marks : Marks) (rows : List Row) → (length rows == 0) ≡ false →
     None ≡ first (candidates_in_turn scene marks.last_starter) → first (candidates_or_halt marks.no_ticks []) ≡ first (candidates_while_up scene marks rows)
@@ -132,8 +132,8 @@ module _ (scene : Scene) (marks : Marks) where
   pub first_all-some : (found : Candidate) → marks.down ≡ false → (length scene.rows == 0) ≡ false →
       Some found ≡ first (candidates_in_turn scene marks.last_starter) → Some found ≡ first (all_candidates scene marks)
   unfolding all_candidates
-  first_all-some found e f hit =
-      up-by marks.down (candidates_while_up scene marks scene.rows) (Some found) e (while_up-some scene marks scene.rows found f hit)
+  first_all-some found e f selected =
+      up-by marks.down (candidates_while_up scene marks scene.rows) (Some found) e (while_up-some scene marks scene.rows found f selected)
 
   -- where they can do nothing, only the halt is left
   pub first_all-none : marks.down ≡ false → (length scene.rows == 0) ≡ false →

@@ -27,7 +27,7 @@ pub data Change : Type 0 where
   Nothing : Change
   -- these terms are a note for each process that wants it
   PutsNote : List Term → Change
-  -- the note at this place leaves the own queue
+  -- the note at this position leaves the own queue
   TakesNote : ℕ → Change
   -- from now on the process wants what these match, or no longer does
   Subscribes : List Pattern → Change
@@ -50,7 +50,7 @@ pub record Effect : Type 0 where
 abbrev pub takes_note : List Term → Held → Bool
 takes_note terms held = not (wants held terms) || nat_lt (length held.notes) most_notes
 
--- the note at a place of the queue
+-- the note at a position of the queue
 abbrev pub note_at : Held → ℕ → List Term
 note_at held place = slice_index_or held.notes place []
 

@@ -75,7 +75,7 @@ fn a_full_queue_stops_the_notes_that_it_wants(rt: HostRuntime) -> Result<(), Fai
     Ok(())
 }
 
-/// What a process is ready for and the notes that wait for it; the place of the note that it takes.
+/// What a process is ready for and the notes that wait for it; the position of the note that it takes.
 static TAKING: [(Wish, &[i64], Option<usize>); 6] = [
     (Wish::TakesNote(5), &[5, 4, 5], Some(0)),
     (Wish::TakesNote(5), &[4, 5, 6, 5], Some(1)),
@@ -85,7 +85,7 @@ static TAKING: [(Wish, &[i64], Option<usize>); 6] = [
     (Wish::TakesAnyNote(3), &[], None),
 ];
 
-/// The place of the note that is taken.
+/// The position of the note that is taken.
 fn taken(found: &Option<Candidate>) -> Option<usize> {
     match found {
         Some(Candidate::TakeNote(0, 0, found)) => Some(found.place),

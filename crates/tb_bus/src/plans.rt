@@ -39,7 +39,7 @@ pub(crate) enum Wish {
     Sends(i64),
     Wants(i64),
     /// Any number, for the variable with this slot.
-    Takes(u32),
+    Writes(u32),
     Sets(u32, i64),
     Notes(i64),
     TakesNote(i64),
@@ -110,7 +110,7 @@ pub(crate) fn action(alloc: Global, wish: Wish) -> Result<Action, NoMemory> {
         Wish::Tau => Ok(Action::Own(OwnAction::Tau)),
         Wish::Sends(number) => Ok(Action::Send(one(alloc, number)?)),
         Wish::Wants(number) => Ok(Action::Receive(wanted(alloc, Want::Just(number))?)),
-        Wish::Takes(slot) => Ok(Action::Receive(list(alloc, Pattern::Result(slot, Sort::Int))?)),
+        Wish::Writes(slot) => Ok(Action::Receive(list(alloc, Pattern::Result(slot, Sort::Int))?)),
         Wish::Sets(slot, number) => set(alloc, slot, number),
         Wish::Notes(number) => Ok(Action::Notify(one(alloc, number)?)),
         Wish::TakesNote(number) => Ok(Action::TakeNote(wanted(alloc, Want::Just(number))?)),

@@ -115,7 +115,7 @@ fn a_sender_without_a_partner_is_passed(rt: HostRuntime) -> Result<(), Fail> {
 
 static CHOICE: [(u32, &[Wish]); 2] = [
     (1, &[Wish::Sends(5)]),
-    (2, &[Wish::Wants(7), Wish::Takes(3), Wish::Takes(4)]),
+    (2, &[Wish::Wants(7), Wish::Writes(3), Wish::Writes(4)]),
 ];
 
 #[test]
@@ -128,7 +128,7 @@ fn the_first_action_that_matches_receives(rt: HostRuntime) -> Result<(), Fail> {
     Ok(())
 }
 
-static SETTING: [(u32, &[Wish]); 1] = [(3, &[Wish::Takes(1), Wish::Sets(2, 4)])];
+static SETTING: [(u32, &[Wish]); 1] = [(3, &[Wish::Writes(1), Wish::Sets(2, 4)])];
 
 #[test]
 fn what_is_set_happens_where_nobody_sends(rt: HostRuntime) -> Result<(), Fail> {

@@ -19,7 +19,7 @@ pub(crate) fn fits_formals(bodies: &[Body], process: u32, actuals: &[Term]) -> b
     }
 }
 
-/// Whether each term has the sort at its place.
+/// Whether each term has the sort at its position.
 fn have_sorts(sorts: &[Sort], terms: &[Term]) -> bool
     ensures { result ≡ have_sorts sorts.now terms.now }
 {

@@ -15,12 +15,12 @@ pub(crate) enum Done {
     Started,
     /// A tool that was leaving left its lane.
     Left,
-    On(u8, Deed),
+    On(u8, LaneEvent),
 }
 
 /// What was done on a lane.
 #[derive(Clone, Copy)]
-pub(crate) enum Deed {
+pub(crate) enum LaneEvent {
     /// The tool named itself.
     Named,
     /// It put a value.
@@ -84,21 +84,26 @@ fn empty(bench: &mut Bench, lane: u8)
     }
 }
 
-fn on_lane(alloc: Global, bench: &mut Bench, lane: u8, deed: Deed) -> Result<(), NoMemory>
+fn on_lane(
+    alloc: Global,
+    bench: &mut Bench,
+    lane: u8,
+    lane_event: LaneEvent,
+) -> Result<(), NoMemory>
     requires { IsLane lane }
 {
-    match deed {
-        Deed::Named => put(bench, lane, ToolLine::Connect(Name::new(alloc, b"a")?)),
-        Deed::Value(number) => put(bench, lane, ToolLine::Value(Term::Int(number))),
-        Deed::Event(number) => put(bench, lane, ToolLine::Event(one(alloc, number)?)),
-        Deed::Disconnected => put(bench, lane, ToolLine::Disconnect),
-        Deed::Gone => {
+    match lane_event {
+        LaneEvent::Named => put(bench, lane, ToolLine::Connect(Name::new(alloc, b"a")?)),
+        LaneEvent::Value(number) => put(bench, lane, ToolLine::Value(Term::Int(number))),
+        LaneEvent::Event(number) => put(bench, lane, ToolLine::Event(one(alloc, number)?)),
+        LaneEvent::Disconnected => put(bench, lane, ToolLine::Disconnect),
+        LaneEvent::Gone => {
             let _reply = bench.gone(lane);
             Ok(())
         }
-        Deed::Asked => ask(bench, lane),
-        Deed::Received => receive(alloc, bench, lane),
-        Deed::Emptied => {
+        LaneEvent::Asked => ask(bench, lane),
+        LaneEvent::Received => receive(alloc, bench, lane),
+        LaneEvent::Emptied => {
             empty(bench, lane);
             Ok(())
         }
@@ -129,9 +134,9 @@ pub(crate) fn bench(alloc: Global, all: &[Done]) -> Result<Bench, NoMemory> {
         match done {
             Done::Started => start(alloc, &mut bench)?,
             Done::Left => leave(alloc, &mut bench)?,
-            Done::On(lane, deed) => {
+            Done::On(lane, lane_event) => {
                 if *lane >= 1 && *lane <= 16 {
-                    on_lane(alloc, &mut bench, *lane, *deed)?;
+                    on_lane(alloc, &mut bench, *lane, *lane_event)?;
                 }
             }
         }

@@ -1,6 +1,6 @@
 use crate::candidate::Candidate;
 use crate::plans::{Heard, NoWalker, Speech, Wish, living, marks, program, searched};
-use crate::tool_plans::{Deed, Done, bench, text};
+use crate::tool_plans::{Done, LaneEvent, bench, text};
 use std::alloc::Global;
 use std::test::Fail;
 use tb_body::{Act, Atom, Body, Program, Tool, Tree};
@@ -9,26 +9,26 @@ use tb_terms::{Items, Name, NoMemory, Sort, Text, write_term};
 
 /// What was done on the lanes, what a process is ready for, and the lane on which it happens with the index of the event.
 /// Two lanes are started as the bench opens, so that the first tool that a process starts is on the third.
-type Row = (&'static [Done], Speech, Option<(u8, usize)>);
+type ToolRow = (&'static [Done], Speech, Option<(u8, usize)>);
 
-const GONE: Done = Done::On(3, Deed::Gone);
+const GONE: Done = Done::On(3, LaneEvent::Gone);
 
-const ASKED: Done = Done::On(3, Deed::Asked);
+const ASKED: Done = Done::On(3, LaneEvent::Asked);
 
-const RECEIVED: Done = Done::On(3, Deed::Received);
+const RECEIVED: Done = Done::On(3, LaneEvent::Received);
 
-const FIVE: Done = Done::On(3, Deed::Event(5));
+const FIVE: Done = Done::On(3, LaneEvent::Event(5));
 
-const SIX: Done = Done::On(3, Deed::Event(6));
+const SIX: Done = Done::On(3, LaneEvent::Event(6));
 
-const ANSWERED: Done = Done::On(3, Deed::Value(5));
+const ANSWERED: Done = Done::On(3, LaneEvent::Value(5));
 
-const FIRST_NAMED: Done = Done::On(1, Deed::Named);
+const FIRST_NAMED: Done = Done::On(1, LaneEvent::Named);
 
-const SECOND_NAMED: Done = Done::On(2, Deed::Named);
+const SECOND_NAMED: Done = Done::On(2, LaneEvent::Named);
 
 /// A lane is free where it was never started, or is lost, left and empty. Lanes 3 to 16 hold 14 tools.
-static EXECUTING: [Row; 9] = [
+static EXECUTING: [ToolRow; 9] = [
     (&[], Speech::Execute(0, 0), Some((3, 0))),
     (&[Done::Started; 13], Speech::Execute(0, 0), Some((16, 0))),
     (&[Done::Started; 14], Speech::Execute(0, 0), None),
@@ -39,7 +39,12 @@ static EXECUTING: [Row; 9] = [
         Some((4, 0)),
     ),
     (
-        &[Done::Started, GONE, Done::Left, Done::On(3, Deed::Emptied)],
+        &[
+            Done::Started,
+            GONE,
+            Done::Left,
+            Done::On(3, LaneEvent::Emptied),
+        ],
         Speech::Execute(0, 0),
         Some((3, 0)),
     ),
@@ -49,7 +54,7 @@ static EXECUTING: [Row; 9] = [
 ];
 
 /// The tool with the smallest number of the kind at its stage, whichever lane it is on, where the slot takes it.
-static CONNECTING: [Row; 14] = [
+static CONNECTING: [ToolRow; 14] = [
     (&[], Speech::Connect(0, 0), None),
     (&[FIRST_NAMED], Speech::Connect(0, 0), Some((1, 0))),
     (&[SECOND_NAMED], Speech::Connect(0, 1), Some((2, 0))),
@@ -62,7 +67,7 @@ static CONNECTING: [Row; 14] = [
     (&[FIRST_NAMED], Speech::Connect(0, 2), None),
     (&[Done::Started], Speech::Connect(0, 0), None),
     (
-        &[FIRST_NAMED, Done::On(1, Deed::Disconnected)],
+        &[FIRST_NAMED, Done::On(1, LaneEvent::Disconnected)],
         Speech::Connect(0, 0),
         None,
     ),
@@ -77,7 +82,7 @@ static CONNECTING: [Row; 14] = [
         &[
             Done::Started,
             Done::Started,
-            Done::On(4, Deed::Disconnected),
+            Done::On(4, LaneEvent::Disconnected),
             GONE,
         ],
         Speech::DisconnectAny(0, 0),
@@ -91,7 +96,7 @@ static CONNECTING: [Row; 14] = [
     (&[Done::Started, GONE], Speech::DisconnectAny(0, 2), None),
 ];
 
-static TELLING: [Row; 17] = [
+static TELLING: [ToolRow; 17] = [
     (&[Done::Started], Speech::Disconnect(1), None),
     (&[Done::Started, GONE], Speech::Disconnect(1), Some((3, 0))),
     (&[Done::Started, GONE], Speech::Disconnect(2), None),
@@ -113,7 +118,7 @@ static TELLING: [Row; 17] = [
 
 const ANY: Heard = Heard::Into(2);
 
-static HEARING: [Row; 21] = [
+static HEARING: [ToolRow; 21] = [
     (&[Done::Started, ANSWERED], Speech::TakeValue(1, ANY), None),
     (&[Done::Started, ASKED], Speech::TakeValue(1, ANY), None),
     (
@@ -168,7 +173,7 @@ static HEARING: [Row; 21] = [
         None,
     ),
     (
-        &[FIRST_NAMED, Done::On(1, Deed::Event(5))],
+        &[FIRST_NAMED, Done::On(1, LaneEvent::Event(5))],
         Speech::TakeEvent(1, ANY),
         None,
     ),
@@ -254,7 +259,7 @@ fn spoken(found: &Option<Candidate>) -> Option<(u8, usize)> {
 
 #[test]
 fn tools_are_spoken_with_where_they_may(rt: HostRuntime) -> Result<(), Fail> {
-    let tables: [&[Row]; 4] = [&EXECUTING, &CONNECTING, &TELLING, &HEARING];
+    let tables: [&[ToolRow]; 4] = [&EXECUTING, &CONNECTING, &TELLING, &HEARING];
     for table in tables {
         for (place, (done, speech, wanted)) in table.iter().enumerate() {
             let found = sought(rt.alloc(), done, *speech)?;

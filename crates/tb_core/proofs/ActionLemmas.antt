@@ -19,7 +19,7 @@ use Rattle.tb_bus.specs.Views.{no_offer}
 use Rattle.tb_bus.specs.declared.living.Ready.{Ready}
 use Rattle.tb_core.specs.Lives.{IsTimeless}
 
--- the offer that was seen at a place is that of the process there
+-- the offer that was seen at a position is that of the process there
 offer-seen : (atoms : List Atom) (now : ℕ) (walking : Walking) (looked : Option (List Offer)) (at : ℕ) (offered : Offered) (offer : Offer) →
     looked ≡ Some (seen_offers atoms now walking) → ForSome looked (λ offers. slice_get offers at ≡ Some offer) → slice_get (offers_of walking) at ≡ Some offered →
     offer ≡ seen atoms now offered
@@ -54,7 +54,7 @@ module _ (atoms : List Atom) (now : ℕ) (walking : Walking) (looked : Option (L
       let same = offer-seen atoms now walking looked at offered offer saw there here in
       sym (append-nil before) ∙ ap (λ o. before ++ ready_one at offered o) (sym e ∙ finds same)
 
--- what is ready of the offers up to a place, and of the one there
+-- what is ready of the offers up to a position, and of the one there
 readies-step : (atoms : List Atom) (now at : ℕ) (offers : List Offered) (d : Offered) → at < length offers →
     readies atoms now 0 (take (at + 1) offers) ≡ readies atoms now 0 (take at offers) ++ ready_one at (get_or offers at d) (action_of atoms now (get_or offers at d))
 readies-step atoms now at offers d within =
@@ -69,13 +69,13 @@ pub readies-filled : (atoms : List Atom) (now : ℕ) (walking : Walking) (looked
     before ≡ readies atoms now 0 (take at (offers_of walking)) →
     ((offered : Offered) → slice_get (offers_of walking) at ≡ Some offered → sorts_of offered.store ≡ sorts → after ≡ before ++ ready_one at offered (action_of atoms now offered)) →
     after ≡ readies atoms now 0 (take (at + 1) (offers_of walking))
-readies-filled atoms now walking looked at many sorts before after less saw counted sorted filled goes =
+readies-filled atoms now walking looked at many sorts before after less saw counted well_sorted filled goes =
     let offers : List Offered = offers_of walking in
     let long : many ≡ length offers = counted (seen_offers atoms now walking) saw ∙ length-map offers (seen atoms now) in
     let within : at < length offers = omega arith in
     let offered : Offered = get_or offers at no_offer in
     let here : slice_get offers at ≡ Some offered = slice_get-get_or offers at no_offer within in
-    goes offered here ((offer_at-keeps walking at offered here).sorts ∙ sorted)
+    goes offered here ((offer_at-keeps walking at offered here).sorts ∙ well_sorted)
     ∙ ap (λ rs. rs ++ ready_one at offered (action_of atoms now offered)) filled
     ∙ sym (readies-step atoms now at offers no_offer within)
 

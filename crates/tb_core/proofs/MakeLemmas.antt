@@ -96,7 +96,7 @@ pub can-advance : {W P T : Type 0} (view : View P W T) (old new : LiveBus W P T)
 can-advance view old new at index taken binds is same leaves takes =
     (offer_of (procs_in view old) (rows_of old.living.items) at index, leaves, is.sorts ∙ ap (λ (b : Bus). sorts_of (proc_at b.procs at).store) (sym same), takes)
 
--- the place of an offer
+-- the position of an offer
 pub place-is : {W P T : Type 0} (view : View P W T) (bus : LiveBus W P T) (at index : ℕ) (place : Place) → OfferIs view bus at index →
     place.proc ≡ (row_at (rows_of bus.living.items) at).number → place.atom ≡ (ready_at (rows_of bus.living.items) at index).atom →
     place ≡ place_of (proc_at (procs_in view bus) at) (offer_of (procs_in view bus) (rows_of bus.living.items) at index)

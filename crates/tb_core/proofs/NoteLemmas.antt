@@ -150,8 +150,8 @@ put_each-last : (note : List Term) (indices : List ℕ) (at : ℕ) (helds : List
 put_each-last note [] at helds = refl
 put_each-last note (first ∷ indices) at helds = ap (put note first) (put_each-last note indices at helds)
 
-all-front : {A : Type 0} (P : A → Type 0) (xs : List A) (y : A) → All P (xs ++ y ∷ []) → All P xs
-all-front P xs y h k d l = let long = length_push xs y in subst P (get_or_append_left xs (y ∷ []) d k l) (h k d (omega arith))
+all-prefix : {A : Type 0} (P : A → Type 0) (xs : List A) (y : A) → All P (xs ++ y ∷ []) → All P xs
+all-prefix P xs y h k d l = let long = length_push xs y in subst P (get_or_append_left xs (y ∷ []) d k l) (h k d (omega arith))
 
 all-last : {A : Type 0} (P : A → Type 0) (xs : List A) (y : A) → All P (xs ++ y ∷ []) → P y
 all-last P xs y h = let long = length_push xs y in subst P (get_or-append_seam xs y [] y) (h (length xs) y (omega arith))
@@ -190,7 +190,7 @@ put-more {W = W} old now new indices copies left rest copy at apart h e is given
       few = omega arith;
       bares = given.bares ∙ h.bares;
       can = λ k l. still-can now new at (get_or indices k 0) (with_note copy (held_at now at)) (h.can k (omega arith)) (λ f. let less = apart k (length rest) l within in let g = f ∙ is in omega arith) given others;
-      equal = λ note c. all-front (λ x. x ≡ note) rest copy (subst (All (λ x. x ≡ note)) e (h.equal note c));
+      equal = λ note c. all-prefix (λ x. x ≡ note) rest copy (subst (All (λ x. x ≡ note)) e (h.equal note c));
       helds = λ note c.
           let same : copy ≡ note = all-last (λ x. x ≡ note) rest copy (subst (All (λ x. x ≡ note)) e (h.equal note c)) in
           let indices_left : take (length left) indices ≡ take (length rest) indices ++ at ∷ [] =
@@ -207,27 +207,27 @@ put-all old new indices copies left note h e c = sym (ap (λ n. put_each note (t
 
 -- each that wants it gets it
 
-put-seam : (note : List Term) (front : List Held) (held : Held) (rest : List Held) → put note (length front) (front ++ held ∷ rest) ≡ front ++ with_note note held ∷ rest
+put-seam : (note : List Term) (prefix : List Held) (held : Held) (rest : List Held) → put note (length prefix) (prefix ++ held ∷ rest) ≡ prefix ++ with_note note held ∷ rest
 put-seam note [] held rest = refl
-put-seam note (first ∷ front) held rest = ap (λ hs. first ∷ hs) (put-seam note front held rest)
+put-seam note (first ∷ prefix) held rest = ap (λ hs. first ∷ hs) (put-seam note prefix held rest)
 
-each-by : (note : List Term) (front : List Held) (held : Held) (rest after : List Held) (from : ℕ) (others : List ℕ) (b : Bool) → wants held note ≡ b → from ≡ length front →
-    put_each note others ((front ++ held ∷ []) ++ rest) ≡ (front ++ held ∷ []) ++ after → put_each note (if b then from ∷ others else others) (front ++ held ∷ rest) ≡ front ++ with_given note held ∷ after
-each-by note front held rest after from others false e f h =
-    ap (put_each note others) (sym (append_assoc front (held ∷ []) rest)) ∙ h ∙ append_assoc front (held ∷ []) after
-    ∙ ap (λ b. let x : Held = if b then with_note note held else held in front ++ x ∷ after) (sym e)
-each-by note front held rest after from others true e f h =
-    ap (λ hs. put note from (put_each note others hs)) (sym (append_assoc front (held ∷ []) rest)) ∙ ap (put note from) (h ∙ append_assoc front (held ∷ []) after)
-    ∙ ap (λ n. put note n (front ++ held ∷ after)) f ∙ put-seam note front held after
-    ∙ ap (λ b. let x : Held = if b then with_note note held else held in front ++ x ∷ after) (sym e)
+each-by : (note : List Term) (prefix : List Held) (held : Held) (rest after : List Held) (from : ℕ) (others : List ℕ) (b : Bool) → wants held note ≡ b → from ≡ length prefix →
+    put_each note others ((prefix ++ held ∷ []) ++ rest) ≡ (prefix ++ held ∷ []) ++ after → put_each note (if b then from ∷ others else others) (prefix ++ held ∷ rest) ≡ prefix ++ with_given note held ∷ after
+each-by note prefix held rest after from others false e f h =
+    ap (put_each note others) (sym (append_assoc prefix (held ∷ []) rest)) ∙ h ∙ append_assoc prefix (held ∷ []) after
+    ∙ ap (λ b. let x : Held = if b then with_note note held else held in prefix ++ x ∷ after) (sym e)
+each-by note prefix held rest after from others true e f h =
+    ap (λ hs. put note from (put_each note others hs)) (sym (append_assoc prefix (held ∷ []) rest)) ∙ ap (put note from) (h ∙ append_assoc prefix (held ∷ []) after)
+    ∙ ap (λ n. put note n (prefix ++ held ∷ after)) f ∙ put-seam note prefix held after
+    ∙ ap (λ b. let x : Held = if b then with_note note held else held in prefix ++ x ∷ after) (sym e)
 
-each-wanting : {W : Type 0} (note : List Term) (front : List Held) (all : List (Living W)) (from : ℕ) → from ≡ length front →
-    put_each note (wanting note from (rows_of all)) (front ++ helds_of all) ≡ front ++ map (with_given note) (helds_of all)
-each-wanting note front [] from e = refl
-each-wanting note front (living ∷ all) from e =
-    let next : from + 1 ≡ length (front ++ living.inbox.held ∷ []) = let l = length_push front living.inbox.held in omega arith in
-    each-by note front living.inbox.held (helds_of all) (map (with_given note) (helds_of all)) from (wanting note (from + 1) (rows_of all)) (wants living.inbox.held note) refl e
-    (each-wanting note (front ++ living.inbox.held ∷ []) all (from + 1) next)
+each-wanting : {W : Type 0} (note : List Term) (prefix : List Held) (all : List (Living W)) (from : ℕ) → from ≡ length prefix →
+    put_each note (wanting note from (rows_of all)) (prefix ++ helds_of all) ≡ prefix ++ map (with_given note) (helds_of all)
+each-wanting note prefix [] from e = refl
+each-wanting note prefix (living ∷ all) from e =
+    let next : from + 1 ≡ length (prefix ++ living.inbox.held ∷ []) = let l = length_push prefix living.inbox.held in omega arith in
+    each-by note prefix living.inbox.held (helds_of all) (map (with_given note) (helds_of all)) from (wanting note (from + 1) (rows_of all)) (wants living.inbox.held note) refl e
+    (each-wanting note (prefix ++ living.inbox.held ∷ []) all (from + 1) next)
 
 pub each-given : {W : Type 0} (note : List Term) (all : List (Living W)) (indices : List ℕ) → indices ≡ wanting note 0 (rows_of all) → put_each note indices (helds_of all) ≡ map (with_given note) (helds_of all)
 each-given note all indices e = ap (λ is. put_each note is (helds_of all)) e ∙ each-wanting note [] all 0 refl

@@ -37,7 +37,7 @@ actuals-many body terms h = eqb-true (length terms) body.formals (and_parts (len
 pub actuals-sorts : (body : Body) (terms : List Term) → fits_formals (Some body) terms ≡ true → have_sorts body.sorts terms ≡ true
 actuals-sorts body terms h = (and_parts (length terms == body.formals) (have_sorts body.sorts terms) h).1
 
--- each has the sort at its place
+-- each has the sort at its position
 sort-at : (sorts : List Sort) (terms : List Term) (n : ℕ) (term : Term) → have_sorts sorts terms ≡ true → slice_get terms n ≡ Some term →
     (sort : Sort) × (slice_get sorts n ≡ Some sort) × (has_sort term sort ≡ true)
 sort-at sorts [] n term h e = absurd (none-some term e)
@@ -50,18 +50,18 @@ sort-at (sort ∷ sorts) (x ∷ terms) (suc n) term h e = sort-at sorts terms n 
 found-at : (store : List Slot) (sorts : List Sort) (n : ℕ) → sorts_of store ≡ sorts → sort_at store n ≡ slice_get sorts n
 found-at store sorts n e = sort_at-sorts_of store n ∙ ap (λ (all : List Sort). slice_get all n) e
 
--- the last of them: its slot is there and takes it, and the others have the sorts at their places
+-- the last of them: its slot is there and takes it, and the others have the sorts at their positions
 
-have-front : (sorts : List Sort) (front : List Term) (last : Term) → have_sorts sorts (front ++ last ∷ []) ≡ true → have_sorts sorts front ≡ true
-have-front sorts [] last h = refl
-have-front [] (term ∷ front) last h = absurd (false≢true h)
-have-front (sort ∷ sorts) (term ∷ front) last h =
-    let parts = and_parts (has_sort term sort) (have_sorts sorts (front ++ last ∷ [])) h in
-    and_from (has_sort term sort) (have_sorts sorts front) parts.0 (have-front sorts front last parts.1)
+have-prefix : (sorts : List Sort) (prefix : List Term) (last : Term) → have_sorts sorts (prefix ++ last ∷ []) ≡ true → have_sorts sorts prefix ≡ true
+have-prefix sorts [] last h = refl
+have-prefix [] (term ∷ prefix) last h = absurd (false≢true h)
+have-prefix (sort ∷ sorts) (term ∷ prefix) last h =
+    let parts = and_parts (has_sort term sort) (have_sorts sorts (prefix ++ last ∷ [])) h in
+    and_from (has_sort term sort) (have_sorts sorts prefix) parts.0 (have-prefix sorts prefix last parts.1)
 
-last-there : {A : Type 0} (front : List A) (last : A) → slice_get (front ++ last ∷ []) (length front) ≡ Some last
+last-there : {A : Type 0} (prefix : List A) (last : A) → slice_get (prefix ++ last ∷ []) (length prefix) ≡ Some last
 last-there [] last = refl
-last-there (x ∷ front) last = last-there front last
+last-there (x ∷ prefix) last = last-there prefix last
 
 -- two slots are set in either order
 values-swap : (store : List Slot) (one other : ℕ) (x y : Term) → (one ≡ other → ⊥) → with_value (with_value store one x) other y ≡ with_value (with_value store other y) one x
@@ -72,13 +72,13 @@ values-swap (slot ∷ store) (suc one) zero x y ne = refl
 values-swap (slot ∷ store) (suc one) (suc other) x y ne = ap (λ rest. slot ∷ rest) (values-swap store one other x y (λ e. ne (ap suc e)))
 
 -- the last of some values may be set first
-values-last : (store : List Slot) (from : ℕ) (front : List Term) (last : Term) → with_values store from (front ++ last ∷ []) ≡ with_values (with_value store (from + length front) last) from front
+values-last : (store : List Slot) (from : ℕ) (prefix : List Term) (last : Term) → with_values store from (prefix ++ last ∷ []) ≡ with_values (with_value store (from + length prefix) last) from prefix
 values-last store from [] last = ap (λ n. with_value store n last) (sym (add-zero from))
-values-last store from (first ∷ front) last =
-    let next : from + 1 + length front ≡ from + length (first ∷ front) = omega arith in
-    values-last (with_value store from first) (from + 1) front last
-    ∙ ap (λ n. with_values (with_value (with_value store from first) n last) (from + 1) front) next
-    ∙ ap (λ s. with_values s (from + 1) front) (values-swap store from (from + length (first ∷ front)) first last (λ e. omega arith))
+values-last store from (first ∷ prefix) last =
+    let next : from + 1 + length prefix ≡ from + length (first ∷ prefix) = omega arith in
+    values-last (with_value store from first) (from + 1) prefix last
+    ∙ ap (λ n. with_values (with_value (with_value store from first) n last) (from + 1) prefix) next
+    ∙ ap (λ s. with_values s (from + 1) prefix) (values-swap store from (from + length (first ∷ prefix)) first last (λ e. omega arith))
 
 -- the store takes what is left of the actuals, slot by slot from the last
 pub record IsBeginning (body : Body) (store : List Slot) (slot : ℕ) (actuals : List Term) (left : List Term) : Type 0 where
@@ -129,7 +129,7 @@ module _ (body : Body) (store : List Slot) (slot : ℕ) (actuals left rest : Lis
       record {
         sorts = sorts-with_value store (slot - 1) last ∙ h.sorts;
         many = at;
-        have = have-front body.sorts rest last (ap (have_sorts body.sorts) (sym e) ∙ h.have);
+        have = have-prefix body.sorts rest last (ap (have_sorts body.sorts) (sym e) ∙ h.have);
         values = ap (λ n. with_values (with_value store n last) 0 rest) (at ∙ sym (zero-add (length rest)))
             ∙ sym (values-last store 0 rest last) ∙ ap (with_values store 0) (sym e) ∙ h.values;
       }

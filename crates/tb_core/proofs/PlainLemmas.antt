@@ -20,7 +20,7 @@ use Rattle.tb_func.specs.Patterns.{pattern_of, pattern_step, of_parts, fixed_ter
 use Rattle.tb_func.specs.Stores.{value_at}
 use Rattle.tb_func.specs.Values.{all_of}
 use Rattle.tb_match.specs.Matches.{is_plain, plain_step, are_plain}
-use Rattle.tb_body.specs.Exprs.{Places, places_of, places_step, is_test}
+use Rattle.tb_body.specs.Exprs.{Positions, positions_of, positions_step, is_test}
 use Rattle.tb_body.specs.Acts.{some_and_all}
 use Rattle.tb_algebra.specs.Atoms.{patterns_of}
 
@@ -95,14 +95,14 @@ module _ (slots : ℕ) (store : List Slot) where
   abbrev exprs_of : List Shown → List Expr
   exprs_of ps = map (λ (p : Shown). p.0) ps
 
-  parts-plain : (ps : List Shown) → list_all (λ (part : Places). part.test) (map (places_of slots) (exprs_of ps)) ≡ true → AllByRecursion FoundPlain (map (pattern_of store) (exprs_of ps))
+  parts-plain : (ps : List Shown) → list_all (λ (part : Positions). part.test) (map (positions_of slots) (exprs_of ps)) ≡ true → AllByRecursion FoundPlain (map (pattern_of store) (exprs_of ps))
   parts-plain [] h = tt
   parts-plain (p ∷ ps) h =
-      let parts = and_parts (is_test slots p.0) (list_all (λ (part : Places). part.test) (map (places_of slots) (exprs_of ps))) h in
+      let parts = and_parts (is_test slots p.0) (list_all (λ (part : Positions). part.test) (map (positions_of slots) (exprs_of ps))) h in
       (p.1 parts.0, parts-plain ps parts.1)
 
   abbrev IsPlainLayer : Expr-F Expr → Type 0
-  IsPlainLayer x = (places_step slots (map-Expr Expr Places (places_of slots) x)).test ≡ true → FoundPlain (pattern_step store (map-Expr Expr (Option Pattern) (pattern_of store) x))
+  IsPlainLayer x = (positions_step slots (map-Expr Expr Positions (positions_of slots) x)).test ≡ true → FoundPlain (pattern_step store (map-Expr Expr (Option Pattern) (pattern_of store) x))
 
   layer-plain : (y : Expr-F Shown) → IsPlainLayer (map-Expr Shown Expr (λ s. s.0) y)
   layer-plain (layer.Int n) h = fixed-plain (term.Int n)
@@ -117,7 +117,7 @@ module _ (slots : ℕ) (store : List Slot) where
   rolled : (x : Expr-F Expr) → IsPlainLayer x → IsTestPlain (roll-Expr x)
   rolled x f h =
       subst FoundPlain (sym (fold-roll-Expr (Option Pattern) (pattern_step store) x))
-      (f (ap (λ (p : Places). p.test) (sym (fold-roll-Expr Places (places_step slots) x)) ∙ h))
+      (f (ap (λ (p : Positions). p.test) (sym (fold-roll-Expr Positions (positions_step slots) x)) ∙ h))
 
   test-plain : (e : Expr) → IsTestPlain e
   test-plain = ind-Expr IsTestPlain step where

@@ -109,5 +109,5 @@ stands-then view old bus new first then = record { sound = then.sound; bus = the
 -- what was named from an index on is the number there, or named behind it
 pub named-from : {W : Type 0} (stale : List ℕ) (index number : ℕ) (all : List (Living W)) → index < length stale → number ≡ get_or stale index number → All (IsFreshOr (drop index stale)) all → All (IsFreshOr (number ∷ drop (index + 1) stale)) all
 named-from stale index number all within is h =
-    let front : drop index stale ≡ number ∷ drop (index + 1) stale = rw (add-one, drop-cons stale index number) (ap (λ n. n ∷ drop (suc index) stale) (sym is)) in
-    subst (λ (numbers : List ℕ). All (IsFreshOr numbers) all) front h
+    let prefix : drop index stale ≡ number ∷ drop (index + 1) stale = rw (add-one, drop-cons stale index number) (ap (λ n. n ∷ drop (suc index) stale) (sym is)) in
+    subst (λ (numbers : List ℕ). All (IsFreshOr numbers) all) prefix h

@@ -62,7 +62,7 @@ proc_in view plans living = proc_by view (slice_get plans living.body) living
 abbrev pub procs_of : {W P T : Type 0} → View P W T → List P → List (Living W) → List Proc
 procs_of view plans all = map (proc_in view plans) all
 
--- one of the living as it begins: with this number, of the body at this place, by this plan and with this store
+-- one of the living as it begins: with this number, of the body at this position, by this plan and with this store
 pub record Begins {W P T : Type 0} (view : View P W T) (plan : P) (from process : ℕ) (store : List Slot) (living : Living W) : Type 0 where
   pub number : living.number ≡ from
   pub body : living.body ≡ process

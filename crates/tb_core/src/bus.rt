@@ -436,7 +436,7 @@ impl<W: Walker> LiveBus<W> {
         Ok(self.finish(at, taken, from, done))
     }
 
-    /// Makes the change of what a process does by itself. After want of memory nothing has changed.
+    /// Makes the change of what a process does by itself. Where memory ran out nothing has changed.
     fn act(&mut self, alloc: Global, at: usize, own: OwnAction) -> Result<Done, NoMemory>
         requires sound { IsSound W.view self.old }
         requires within { at < length self.old.living.items }

@@ -42,7 +42,7 @@ pub fn take_note_at<W>(all: &mut Vec<Living<W>>, at: usize, place: usize) -> Ter
     all[at].inbox.take(place)
 }
 
-/// Each process that wants a note gets a copy of it; these are the indices of those. After want of memory none has.
+/// Each process that wants a note gets a copy of it; these are the indices of those. Where memory ran out none has.
 pub fn hand_out<W>(
     alloc: Global,
     all: &mut Vec<Living<W>>,

@@ -14,7 +14,7 @@ use tb_tools::LaneState;
 
 /// What an atom does. A process has three variables: a calc with slot 0, a ui with slot 1, a number with slot 2.
 #[derive(Clone, Copy)]
-enum Does {
+enum LaneDoes {
     /// A calc is started.
     Execute,
     SndEval(i64),
@@ -36,7 +36,7 @@ enum Does {
 
 /// What is done to a core.
 #[derive(Clone, Copy)]
-enum Call {
+enum LaneCall {
     Step,
     /// What is to be handed out next on the lane is taken.
     Take,
@@ -54,69 +54,74 @@ enum Call {
 
 /// A lane, a call, what it answers, and the state of the lane after it.
 #[derive(Clone, Copy)]
-struct Row(u8, Call, &'static [u8], LaneState);
+struct Row(u8, LaneCall, &'static [u8], LaneState);
 
 /// What a process does, one after another, on a bus whose first lane is started with `ui`; the calls; and the log.
 #[derive(Clone, Copy)]
-struct Run {
-    does: &'static [Does],
+struct LaneRun {
+    does: &'static [LaneDoes],
     rows: &'static [Row],
     log: &'static str,
 }
 
-static RUNS: [Run; 3] = [
-    Run {
+static RUNS: [LaneRun; 3] = [
+    LaneRun {
         does: &[
-            Does::Execute,
-            Does::SndEval(7),
-            Does::RecValue,
-            Does::RecConnect,
-            Does::RecEvent(5),
-            Does::SndAckEvent(5),
-            Does::RecDisconnect,
-            Does::SndTerminate(9),
+            LaneDoes::Execute,
+            LaneDoes::SndEval(7),
+            LaneDoes::RecValue,
+            LaneDoes::RecConnect,
+            LaneDoes::RecEvent(5),
+            LaneDoes::SndAckEvent(5),
+            LaneDoes::RecDisconnect,
+            LaneDoes::SndTerminate(9),
         ],
         rows: &[
-            Row(2, Call::Take, b"nothing", LaneState::Free),
-            Row(2, Call::Value(3), b"not-live", LaneState::Free),
-            Row(1, Call::Bad, b"bad", LaneState::Unnamed),
-            Row(1, Call::Connect(b"nobody"), b"stranger", LaneState::Unnamed),
-            Row(1, Call::Value(3), b"not-live", LaneState::Unnamed),
-            Row(2, Call::Step, b"did", LaneState::Live),
-            Row(2, Call::Connect(b"calc"), b"named", LaneState::Live),
-            Row(2, Call::Value(3), b"unasked", LaneState::Live),
-            Row(2, Call::Step, b"did", LaneState::Live),
-            Row(2, Call::Take, b"start", LaneState::Live),
-            Row(2, Call::Take, b"line", LaneState::Live),
-            Row(2, Call::Take, b"nothing", LaneState::Live),
-            Row(2, Call::Value(49), b"took", LaneState::Live),
-            Row(2, Call::Value(50), b"unasked", LaneState::Live),
-            Row(2, Call::Step, b"did", LaneState::Live),
-            Row(1, Call::Step, b"quiet", LaneState::Unnamed),
-            Row(1, Call::Connect(b"ui"), b"took", LaneState::Waiting),
-            Row(1, Call::Step, b"did", LaneState::Live),
-            Row(1, Call::Event(5), b"took", LaneState::Live),
-            Row(1, Call::Step, b"did", LaneState::Live),
-            Row(1, Call::Step, b"did", LaneState::Live),
+            Row(2, LaneCall::Take, b"nothing", LaneState::Free),
+            Row(2, LaneCall::Value(3), b"not-live", LaneState::Free),
+            Row(1, LaneCall::Bad, b"bad", LaneState::Unnamed),
+            Row(
+                1,
+                LaneCall::Connect(b"nobody"),
+                b"stranger",
+                LaneState::Unnamed,
+            ),
+            Row(1, LaneCall::Value(3), b"not-live", LaneState::Unnamed),
+            Row(2, LaneCall::Step, b"did", LaneState::Live),
+            Row(2, LaneCall::Connect(b"calc"), b"named", LaneState::Live),
+            Row(2, LaneCall::Value(3), b"unasked", LaneState::Live),
+            Row(2, LaneCall::Step, b"did", LaneState::Live),
+            Row(2, LaneCall::Take, b"start", LaneState::Live),
+            Row(2, LaneCall::Take, b"line", LaneState::Live),
+            Row(2, LaneCall::Take, b"nothing", LaneState::Live),
+            Row(2, LaneCall::Value(49), b"took", LaneState::Live),
+            Row(2, LaneCall::Value(50), b"unasked", LaneState::Live),
+            Row(2, LaneCall::Step, b"did", LaneState::Live),
+            Row(1, LaneCall::Step, b"quiet", LaneState::Unnamed),
+            Row(1, LaneCall::Connect(b"ui"), b"took", LaneState::Waiting),
+            Row(1, LaneCall::Step, b"did", LaneState::Live),
+            Row(1, LaneCall::Event(5), b"took", LaneState::Live),
+            Row(1, LaneCall::Step, b"did", LaneState::Live),
+            Row(1, LaneCall::Step, b"did", LaneState::Live),
             // What was to be handed out is forgotten with the lane, but for its end.
-            Row(1, Call::Disconnect, b"took", LaneState::Leaving),
-            Row(1, Call::Event(6), b"not-live", LaneState::Leaving),
-            Row(1, Call::Take, b"end", LaneState::Leaving),
-            Row(1, Call::Cut, b"took", LaneState::Leaving),
-            Row(1, Call::Gone, b"took", LaneState::Leaving),
-            Row(1, Call::Gone, b"not-live", LaneState::Leaving),
-            Row(1, Call::Cut, b"not-live", LaneState::Leaving),
-            Row(1, Call::Step, b"did", LaneState::Free),
-            Row(2, Call::Step, b"did", LaneState::Ending),
-            Row(2, Call::Take, b"line", LaneState::Ending),
-            Row(2, Call::Take, b"end", LaneState::Ending),
-            Row(2, Call::Tick, b"took", LaneState::Ending),
-            Row(2, Call::Step, b"did", LaneState::Ending),
-            Row(2, Call::Take, b"closed", LaneState::Ending),
-            Row(2, Call::Gone, b"down", LaneState::Ending),
-            Row(2, Call::Value(1), b"down", LaneState::Ending),
-            Row(1, Call::NoTicks, b"down", LaneState::Free),
-            Row(1, Call::Step, b"down", LaneState::Free),
+            Row(1, LaneCall::Disconnect, b"took", LaneState::Leaving),
+            Row(1, LaneCall::Event(6), b"not-live", LaneState::Leaving),
+            Row(1, LaneCall::Take, b"end", LaneState::Leaving),
+            Row(1, LaneCall::Cut, b"took", LaneState::Leaving),
+            Row(1, LaneCall::Gone, b"took", LaneState::Leaving),
+            Row(1, LaneCall::Gone, b"not-live", LaneState::Leaving),
+            Row(1, LaneCall::Cut, b"not-live", LaneState::Leaving),
+            Row(1, LaneCall::Step, b"did", LaneState::Free),
+            Row(2, LaneCall::Step, b"did", LaneState::Ending),
+            Row(2, LaneCall::Take, b"line", LaneState::Ending),
+            Row(2, LaneCall::Take, b"end", LaneState::Ending),
+            Row(2, LaneCall::Tick, b"took", LaneState::Ending),
+            Row(2, LaneCall::Step, b"did", LaneState::Ending),
+            Row(2, LaneCall::Take, b"closed", LaneState::Ending),
+            Row(2, LaneCall::Gone, b"down", LaneState::Ending),
+            Row(2, LaneCall::Value(1), b"down", LaneState::Ending),
+            Row(1, LaneCall::NoTicks, b"down", LaneState::Free),
+            Row(1, LaneCall::Step, b"down", LaneState::Free),
         ],
         log: "1 drop not-live line 2 snd-value(3)\n2 drop bad line 1 ?\n\
               3 drop stranger line 1 snd-connect(nobody)\n4 drop not-live line 1 snd-value(3)\n\
@@ -132,59 +137,66 @@ static RUNS: [Run; 3] = [
               32 finish\n33 drop down gone 2\n34 drop down line 2 snd-value(1)\n35 drop down noticks\n",
     },
     // A tool that has ended is leaving until a process takes it.
-    Run {
-        does: &[Does::Execute, Does::SndDo(4), Does::RecDisconnectAny],
+    LaneRun {
+        does: &[
+            LaneDoes::Execute,
+            LaneDoes::SndDo(4),
+            LaneDoes::RecDisconnectAny,
+        ],
         rows: &[
-            Row(2, Call::Step, b"did", LaneState::Live),
-            Row(2, Call::Step, b"did", LaneState::Live),
-            Row(2, Call::Take, b"start", LaneState::Live),
-            Row(2, Call::Take, b"line", LaneState::Live),
-            Row(2, Call::Step, b"quiet", LaneState::Live),
-            Row(2, Call::Gone, b"took", LaneState::Leaving),
-            Row(2, Call::Step, b"did", LaneState::Ending),
-            Row(2, Call::Take, b"end", LaneState::Free),
-            Row(2, Call::Step, b"did", LaneState::Free),
+            Row(2, LaneCall::Step, b"did", LaneState::Live),
+            Row(2, LaneCall::Step, b"did", LaneState::Live),
+            Row(2, LaneCall::Take, b"start", LaneState::Live),
+            Row(2, LaneCall::Take, b"line", LaneState::Live),
+            Row(2, LaneCall::Step, b"quiet", LaneState::Live),
+            Row(2, LaneCall::Gone, b"took", LaneState::Leaving),
+            Row(2, LaneCall::Step, b"did", LaneState::Ending),
+            Row(2, LaneCall::Take, b"end", LaneState::Free),
+            Row(2, LaneCall::Step, b"did", LaneState::Free),
         ],
         log: "1 execute 1.1 calc(1)\n2 snd-do 1.2 calc(1),4\n3 out 2 start \"calc\"\n\
               4 out 2 rec-do(4)\n5 quiet\n6 gone 2\n7 rec-disconnect 1.3 calc(1)\n8 out 2 end\n\
               9 finish\n",
     },
     // A lane that is open as the bus goes down is told so, and ends.
-    Run {
-        does: &[Does::Shutdown(3)],
+    LaneRun {
+        does: &[LaneDoes::Shutdown(3)],
         rows: &[
-            Row(1, Call::Take, b"start", LaneState::Unnamed),
-            Row(1, Call::Step, b"did", LaneState::Ending),
-            Row(1, Call::Take, b"line", LaneState::Ending),
-            Row(1, Call::Take, b"end", LaneState::Ending),
-            Row(1, Call::Take, b"closed", LaneState::Ending),
-            Row(1, Call::Cut, b"down", LaneState::Ending),
+            Row(1, LaneCall::Take, b"start", LaneState::Unnamed),
+            Row(1, LaneCall::Step, b"did", LaneState::Ending),
+            Row(1, LaneCall::Take, b"line", LaneState::Ending),
+            Row(1, LaneCall::Take, b"end", LaneState::Ending),
+            Row(1, LaneCall::Take, b"closed", LaneState::Ending),
+            Row(1, LaneCall::Cut, b"down", LaneState::Ending),
         ],
         log: "1 out 1 start \"ui\"\n2 shutdown 1.1 3\n3 out 1 rec-terminate(3)\n4 out 1 end\n\
               5 drop down cut 1\n",
     },
 ];
 
-fn act(alloc: Global, does: Does) -> Result<Act, NoMemory> {
+fn act(alloc: Global, does: LaneDoes) -> Result<Act, NoMemory> {
     match does {
-        Does::Execute => Ok(Act::Execute { tool: 0, slot: 0 }),
-        Does::SndEval(number) => Ok(Act::SndEval(Expr::Var(0), Expr::Int(number))),
-        Does::SndDo(number) => Ok(Act::SndDo(Expr::Var(0), Expr::Int(number))),
-        Does::RecValue => Ok(Act::RecValue(Expr::Var(0), Expr::Result(2))),
-        Does::RecConnect => Ok(Act::RecConnect { tool: 1, slot: 1 }),
-        Does::RecEvent(number) => Ok(Act::RecEvent(Expr::Var(1), one(alloc, Expr::Int(number))?)),
-        Does::SndAckEvent(number) => Ok(Act::SndAckEvent(
+        LaneDoes::Execute => Ok(Act::Execute { tool: 0, slot: 0 }),
+        LaneDoes::SndEval(number) => Ok(Act::SndEval(Expr::Var(0), Expr::Int(number))),
+        LaneDoes::SndDo(number) => Ok(Act::SndDo(Expr::Var(0), Expr::Int(number))),
+        LaneDoes::RecValue => Ok(Act::RecValue(Expr::Var(0), Expr::Result(2))),
+        LaneDoes::RecConnect => Ok(Act::RecConnect { tool: 1, slot: 1 }),
+        LaneDoes::RecEvent(number) => Ok(Act::RecEvent(
             Expr::Var(1),
             one(alloc, Expr::Int(number))?,
         )),
-        Does::RecDisconnect => Ok(Act::RecDisconnect(Expr::Var(1))),
-        Does::RecDisconnectAny => Ok(Act::RecDisconnectAny { tool: 0, slot: 0 }),
-        Does::SndTerminate(number) => Ok(Act::SndTerminate(Expr::Var(0), Expr::Int(number))),
-        Does::Shutdown(number) => Ok(Act::Shutdown(Expr::Int(number))),
+        LaneDoes::SndAckEvent(number) => Ok(Act::SndAckEvent(
+            Expr::Var(1),
+            one(alloc, Expr::Int(number))?,
+        )),
+        LaneDoes::RecDisconnect => Ok(Act::RecDisconnect(Expr::Var(1))),
+        LaneDoes::RecDisconnectAny => Ok(Act::RecDisconnectAny { tool: 0, slot: 0 }),
+        LaneDoes::SndTerminate(number) => Ok(Act::SndTerminate(Expr::Var(0), Expr::Int(number))),
+        LaneDoes::Shutdown(number) => Ok(Act::Shutdown(Expr::Int(number))),
     }
 }
 
-fn atoms(alloc: Global, all: &[Does]) -> Result<Atoms, NoMemory> {
+fn atoms(alloc: Global, all: &[LaneDoes]) -> Result<Atoms, NoMemory> {
     let mut atoms = Items::new(alloc);
     for does in all {
         let act = act(alloc, *does)?;
@@ -216,7 +228,7 @@ fn tools(alloc: Global) -> Result<Tools, NoMemory> {
     Ok(tools)
 }
 
-fn program(alloc: Global, all: &[Does]) -> Result<Option<Program>, NoMemory> {
+fn program(alloc: Global, all: &[LaneDoes]) -> Result<Option<Program>, NoMemory> {
     let tree = in_turn(alloc, all.len().min(9) as u32)?;
     let mut bodies = Items::new(alloc);
     match Body::new(alloc, tree, atoms(alloc, all)?, sorts(alloc)?, 0)? {
@@ -239,7 +251,12 @@ fn commands(alloc: Global, all: &[&str]) -> Result<Texts, NoMemory> {
     Ok(commands)
 }
 
-fn started(alloc: Global, does: &[Does], all: &[&str], limit: u32) -> Result<Core<Rewriter>, Fail> {
+fn started(
+    alloc: Global,
+    does: &[LaneDoes],
+    all: &[&str],
+    limit: u32,
+) -> Result<Core<Rewriter>, Fail> {
     let commands = commands(alloc, all)?;
     let program = program(alloc, does)?.ok_or("a program out of range")?;
     if commands.len() > 16 || limit > 1000 {
@@ -298,22 +315,22 @@ fn called(
     alloc: Global,
     core: &mut Core<Rewriter>,
     lane: u8,
-    call: Call,
+    call: LaneCall,
 ) -> Result<&'static [u8], Fail>
     requires { IsLane lane }
 {
     match call {
-        Call::Step => Ok(stepped(core.step()?)),
-        Call::Take => Ok(taken(&core.take_out(lane)?)),
-        Call::Value(number) => put(core, lane, ToolLine::Value(Term::Int(number))),
-        Call::Event(number) => put(core, lane, ToolLine::Event(event(alloc, number)?)),
-        Call::Connect(word) => put(core, lane, ToolLine::Connect(name(alloc, word)?)),
-        Call::Disconnect => put(core, lane, ToolLine::Disconnect),
-        Call::Bad => put(core, lane, ToolLine::Bad),
-        Call::Gone => handed(core, Input::Gone(lane)),
-        Call::Cut => handed(core, Input::Cut(lane)),
-        Call::Tick => handed(core, Input::Tick),
-        Call::NoTicks => handed(core, Input::NoTicks),
+        LaneCall::Step => Ok(stepped(core.step()?)),
+        LaneCall::Take => Ok(taken(&core.take_out(lane)?)),
+        LaneCall::Value(number) => put(core, lane, ToolLine::Value(Term::Int(number))),
+        LaneCall::Event(number) => put(core, lane, ToolLine::Event(event(alloc, number)?)),
+        LaneCall::Connect(word) => put(core, lane, ToolLine::Connect(name(alloc, word)?)),
+        LaneCall::Disconnect => put(core, lane, ToolLine::Disconnect),
+        LaneCall::Bad => put(core, lane, ToolLine::Bad),
+        LaneCall::Gone => handed(core, Input::Gone(lane)),
+        LaneCall::Cut => handed(core, Input::Cut(lane)),
+        LaneCall::Tick => handed(core, Input::Tick),
+        LaneCall::NoTicks => handed(core, Input::NoTicks),
     }
 }
 
@@ -347,7 +364,7 @@ fn lanes_are_as_worked_by_hand(rt: HostRuntime) -> Result<(), Fail> {
 
 #[test]
 fn what_is_handed_out_needs_room(rt: HostRuntime) -> Result<(), Fail> {
-    let mut core = started(rt.alloc(), &[Does::Execute], &["a", "b"], 1)?;
+    let mut core = started(rt.alloc(), &[LaneDoes::Execute], &["a", "b"], 1)?;
     assert_eq!(rt; core.first_out(), Some(1));
     assert_eq!(rt; taken(&core.take_out(1)?), b"start".as_slice());
     assert_eq!(rt; core.first_out(), Some(2));

@@ -39,7 +39,7 @@ fn begin_store(alloc: Global, body: &Body, mut actuals: Terms) -> Result<Store, 
     Ok(store)
 }
 
-/// A process with this number, of the body at this place.
+/// A process with this number, of the body at this position.
 fn open_one<W: Walker>(
     alloc: Global,
     plan: &W::Plan,

@@ -22,7 +22,7 @@ use tb_match::{Bind, Binds};
 use tb_terms::{Items, Name, NoMemory, Term, Terms, size};
 use tb_tools::Bench;
 
-/// Speaks with a tool, as was found. After want of memory the lanes are as before.
+/// Speaks with a tool, as was found. Where memory ran out the lanes are as before.
 pub fn speak(
     alloc: Global,
     kinds: &[Tool],

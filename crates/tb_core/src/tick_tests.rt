@@ -11,7 +11,7 @@ use tb_terms::{Boxed, Expr, Items, NoMemory};
 
 /// What an atom does.
 #[derive(Clone, Copy)]
-enum Deed {
+enum AtomKind {
     Delta,
     Tau,
     Send(i64),
@@ -33,7 +33,7 @@ enum Two {
 /// A step of writing a body, whose operators stand behind their parts. Atoms are numbered as they come.
 #[derive(Clone, Copy)]
 enum Part {
-    Leaf(Deed, &'static [Limit]),
+    Leaf(AtomKind, &'static [Limit]),
     Two(Two),
 }
 
@@ -45,34 +45,37 @@ const STAR: Part = Part::Two(Two::Star);
 
 const PAR: Part = Part::Two(Two::Par);
 
-const TAU: Part = Part::Leaf(Deed::Tau, &[]);
+const TAU: Part = Part::Leaf(AtomKind::Tau, &[]);
 
-const DELTA: Part = Part::Leaf(Deed::Delta, &[]);
+const DELTA: Part = Part::Leaf(AtomKind::Delta, &[]);
 
 /// Processes, each with a body of its own, so many ticks, and the log where a tick comes whenever nothing can happen, and
 /// then word that no more come.
 #[derive(Clone, Copy)]
-struct Run {
+struct TickRun {
     bodies: &'static [&'static [Part]],
     ticks: u32,
     log: &'static str,
 }
 
-static RUNS: [Run; 9] = [
+static RUNS: [TickRun; 9] = [
     // rec-msg(0) timeout(2) + tau delay(3)
-    Run {
+    TickRun {
         bodies: &[&[
-            Part::Leaf(Deed::Receive(0), &[(TimeKind::Timeout, 2)]),
-            Part::Leaf(Deed::Tau, &[(TimeKind::Delay, 3)]),
+            Part::Leaf(AtomKind::Receive(0), &[(TimeKind::Timeout, 2)]),
+            Part::Leaf(AtomKind::Tau, &[(TimeKind::Delay, 3)]),
             ALT,
         ]],
         ticks: 3,
         log: "1 quiet\n2 tick\n3 quiet\n4 tick\n5 quiet\n6 tick\n7 tau 1.2\n8 finish\n",
     },
     // tau delay(2) timeout(2) * delta
-    Run {
+    TickRun {
         bodies: &[&[
-            Part::Leaf(Deed::Tau, &[(TimeKind::Delay, 2), (TimeKind::Timeout, 2)]),
+            Part::Leaf(
+                AtomKind::Tau,
+                &[(TimeKind::Delay, 2), (TimeKind::Timeout, 2)],
+            ),
             DELTA,
             STAR,
         ]],
@@ -81,35 +84,38 @@ static RUNS: [Run; 9] = [
               10 tau 1.1\n11 quiet\n12 tick\n13 quiet\n14 noticks\n15 halt\n",
     },
     // tau delay(1) || tau delay(2)
-    Run {
+    TickRun {
         bodies: &[&[
-            Part::Leaf(Deed::Tau, &[(TimeKind::Delay, 1)]),
-            Part::Leaf(Deed::Tau, &[(TimeKind::Delay, 2)]),
+            Part::Leaf(AtomKind::Tau, &[(TimeKind::Delay, 1)]),
+            Part::Leaf(AtomKind::Tau, &[(TimeKind::Delay, 2)]),
             PAR,
         ]],
         ticks: 2,
         log: "1 quiet\n2 tick\n3 tau 1.1\n4 quiet\n5 tick\n6 tau 1.2\n7 finish\n",
     },
     // A process without times takes part after a tick as before it.
-    Run {
+    TickRun {
         bodies: &[
             &[
-                Part::Leaf(Deed::Tau, &[(TimeKind::Delay, 1)]),
-                Part::Leaf(Deed::Send(5), &[]),
+                Part::Leaf(AtomKind::Tau, &[(TimeKind::Delay, 1)]),
+                Part::Leaf(AtomKind::Send(5), &[]),
                 SEQ,
             ],
-            &[Part::Leaf(Deed::Receive(5), &[]), TAU, SEQ],
+            &[Part::Leaf(AtomKind::Receive(5), &[]), TAU, SEQ],
         ],
         ticks: 1,
         log: "1 quiet\n2 tick\n3 tau 1.1\n4 msg 1.2 2.1 5\n5 tau 2.2\n6 finish\n",
     },
     // One side of a merge has times and the other has none: both age.
-    Run {
+    TickRun {
         bodies: &[
-            &[Part::Leaf(Deed::Send(1), &[(TimeKind::Delay, 2)])],
+            &[Part::Leaf(AtomKind::Send(1), &[(TimeKind::Delay, 2)])],
             &[
-                Part::Leaf(Deed::Receive(1), &[]),
-                Part::Leaf(Deed::Tau, &[(TimeKind::Delay, 1), (TimeKind::Timeout, 1)]),
+                Part::Leaf(AtomKind::Receive(1), &[]),
+                Part::Leaf(
+                    AtomKind::Tau,
+                    &[(TimeKind::Delay, 1), (TimeKind::Timeout, 1)],
+                ),
                 PAR,
             ],
         ],
@@ -117,28 +123,28 @@ static RUNS: [Run; 9] = [
         log: "1 quiet\n2 tick\n3 tau 2.2\n4 quiet\n5 tick\n6 msg 1.1 2.1 1\n7 finish\n",
     },
     // The sender waits no longer as the receiver begins to.
-    Run {
+    TickRun {
         bodies: &[
-            &[Part::Leaf(Deed::Send(1), &[(TimeKind::Timeout, 1)])],
-            &[Part::Leaf(Deed::Receive(1), &[(TimeKind::Delay, 2)])],
+            &[Part::Leaf(AtomKind::Send(1), &[(TimeKind::Timeout, 1)])],
+            &[Part::Leaf(AtomKind::Receive(1), &[(TimeKind::Delay, 2)])],
         ],
         ticks: 2,
         log: "1 quiet\n2 tick\n3 quiet\n4 tick\n5 quiet\n6 noticks\n7 halt\n",
     },
     // An atom that is entered later hasn't aged, but sees how many ticks there were.
-    Run {
+    TickRun {
         bodies: &[
             &[
                 TAU,
                 Part::Leaf(
-                    Deed::Tau,
+                    AtomKind::Tau,
                     &[(TimeKind::AbsDelay, 2), (TimeKind::AbsTimeout, 2)],
                 ),
                 SEQ,
             ],
             &[
-                Part::Leaf(Deed::Tau, &[(TimeKind::Delay, 1)]),
-                Part::Leaf(Deed::Tau, &[(TimeKind::Delay, 2)]),
+                Part::Leaf(AtomKind::Tau, &[(TimeKind::Delay, 1)]),
+                Part::Leaf(AtomKind::Tau, &[(TimeKind::Delay, 2)]),
                 SEQ,
             ],
         ],
@@ -147,32 +153,32 @@ static RUNS: [Run; 9] = [
               10 tau 2.2\n11 finish\n",
     },
     // What may happen until the first tick, and what may from the second on.
-    Run {
+    TickRun {
         bodies: &[&[
             Part::Leaf(
-                Deed::Tau,
+                AtomKind::Tau,
                 &[(TimeKind::Delay, 1), (TimeKind::AbsTimeout, 0)],
             ),
-            Part::Leaf(Deed::Tau, &[(TimeKind::AbsDelay, 2)]),
+            Part::Leaf(AtomKind::Tau, &[(TimeKind::AbsDelay, 2)]),
             ALT,
         ]],
         ticks: 2,
         log: "1 quiet\n2 tick\n3 quiet\n4 tick\n5 tau 1.2\n6 finish\n",
     },
     // No tick comes to a bus that has finished.
-    Run {
+    TickRun {
         bodies: &[&[TAU]],
         ticks: 3,
         log: "1 tau 1.1\n2 finish\n",
     },
 ];
 
-fn act(alloc: Global, deed: Deed) -> Result<Act, NoMemory> {
-    match deed {
-        Deed::Delta => Ok(Act::Delta),
-        Deed::Tau => Ok(Act::Tau),
-        Deed::Send(number) => Ok(Act::SndMsg(one(alloc, Expr::Int(number))?)),
-        Deed::Receive(number) => Ok(Act::RecMsg(one(alloc, Expr::Int(number))?)),
+fn act(alloc: Global, atom_kind: AtomKind) -> Result<Act, NoMemory> {
+    match atom_kind {
+        AtomKind::Delta => Ok(Act::Delta),
+        AtomKind::Tau => Ok(Act::Tau),
+        AtomKind::Send(number) => Ok(Act::SndMsg(one(alloc, Expr::Int(number))?)),
+        AtomKind::Receive(number) => Ok(Act::RecMsg(one(alloc, Expr::Int(number))?)),
     }
 }
 
@@ -188,8 +194,8 @@ fn times(alloc: Global, limits: &[Limit]) -> Result<Times, NoMemory> {
 fn atoms(alloc: Global, parts: &[Part]) -> Result<Atoms, NoMemory> {
     let mut atoms = Items::new(alloc);
     for part in parts {
-        if let Part::Leaf(deed, limits) = part {
-            let act = act(alloc, *deed)?;
+        if let Part::Leaf(atom_kind, limits) = part {
+            let act = act(alloc, *atom_kind)?;
             let times = times(alloc, limits)?;
             atoms.push(Atom { act, times })?;
         }

@@ -15,7 +15,7 @@ abbrev pub IsOf : Option (List ℕ) → Loaded → Type 0
 IsOf told (Bytes bytes) = IfSome told (λ held. bytes ≡ held)
 IsOf told (TooLong len) = IfSome told (λ held. len ≡ length held)
 
--- every answer but want of memory adds the name
+-- every answer but running out of memory adds the name
 abbrev pub asked_after : Result Loaded FilesFault → List (List ℕ) → List ℕ → List (List ℕ)
 asked_after (Ok loaded) asked name = asked ++ name ∷ []
 asked_after (Err Failed) asked name = asked ++ name ∷ []

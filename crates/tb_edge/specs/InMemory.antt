@@ -22,7 +22,7 @@ loaded_of most bytes = if nat_le (length bytes) most then Bytes bytes else TooLo
 abbrev pub fails_at : List ℕ → ℕ → Bool
 fails_at fails call = list_any (λ fail. fail == call) fails
 
--- the answer is this one, but for want of memory
+-- the answer is this one, unless memory runs out
 abbrev pub IsUnlessNoMemory : Result Loaded FilesFault → Result Loaded FilesFault → Type 0
 IsUnlessNoMemory (Ok loaded) answer = answer ≡ Ok loaded
 IsUnlessNoMemory (Err Failed) answer = answer ≡ Err Failed
@@ -67,16 +67,16 @@ pub record MemSinkView : Type 0 where
   pub faults : ℕ
 
 -- of a piece it takes the front that there is room for, and nothing in a call that is to fail
-abbrev pub front_put : MemSinkView → List ℕ → List ℕ
-front_put sink piece = if fails_at sink.fails (risen sink.calls) then [] else take (sink.room - length sink.taken) piece
+abbrev pub prefix_put : MemSinkView → List ℕ → List ℕ
+prefix_put sink piece = if fails_at sink.fails (risen sink.calls) then [] else take (sink.room - length sink.taken) piece
 
 -- a call fails where it doesn't take all
 abbrev pub is_put : MemSinkView → List ℕ → Bool
-is_put sink piece = length (front_put sink piece) == length piece
+is_put sink piece = length (prefix_put sink piece) == length piece
 
 abbrev pub mem_sink_after : MemSinkView → List ℕ → MemSinkView
 mem_sink_after sink piece = record sink {
-  taken = sink.taken ++ front_put sink piece;
+  taken = sink.taken ++ prefix_put sink piece;
   calls = risen sink.calls;
   faults = if is_put sink piece then sink.faults else risen sink.faults;
 }

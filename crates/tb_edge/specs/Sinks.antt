@@ -7,16 +7,16 @@ and_more None more = None
 and_more (Some taken) more = Some (taken ++ more)
 
 -- the sink took more after what it had taken
-abbrev pub Takes : Option (List ℕ) → Option (List ℕ) → List ℕ → Type 0
-Takes old new more = new ≡ and_more old more
+abbrev pub Writes : Option (List ℕ) → Option (List ℕ) → List ℕ → Type 0
+Writes old new more = new ≡ and_more old more
 
 -- something was put, and with the rest it is all
 pub record Owes (old new : Option (List ℕ)) (all rest : List ℕ) : Type 0 where
   pub put : List ℕ
-  pub takes : Takes old new put
+  pub takes : Writes old new put
   pub is_all : put ++ rest ≡ all
 
 -- a front of the piece was put
-pub record TakesFront (old new : Option (List ℕ)) (piece : List ℕ) : Type 0 where
+pub record WritesPrefix (old new : Option (List ℕ)) (piece : List ℕ) : Type 0 where
   pub rest : List ℕ
   pub owes : Owes old new piece rest

@@ -1,5 +1,5 @@
 ghost use Rattle.std.specs.Prelude.{◌≡◌, ◌≤◌, [], IfOk, OnErr, is_ok, Some};
-ghost use Rattle.tb_edge.specs.Sinks.{TakesFront};
+ghost use Rattle.tb_edge.specs.Sinks.{WritesPrefix};
 ghost use Rattle.tb_edge.specs.InMemory.{is_put, mem_sink_after};
 
 use crate::fail_calls::fails_at;
@@ -76,20 +76,20 @@ impl Sink for MemSink {
     ghost taken = { λ sink. Some sink.taken };
 
     fn put(&mut self, piece: &[u8]) -> Result<(), Failed>
-        ensures front { OnErr result (TakesFront (Some self.old.taken) (Some self.new.taken) piece.now) }
+        ensures prefix { OnErr result (WritesPrefix (Some self.old.taken) (Some self.new.taken) piece.now) }
         ensures never_falls { self.old.faults ≤ self.new.faults }
         ensures answer { is_ok result ≡ is_put self.old piece.now }
         ensures after { self.new ≡ mem_sink_after self.old piece.now }
     {
         self.calls = self.calls.saturating_add(1);
-        let front = if fails_at(&self.fails, self.calls) {
+        let prefix = if fails_at(&self.fails, self.calls) {
             0
         } else {
             piece.len().min(self.room - self.bytes.len())
         };
         // The memory is there, since the bytes stay within the room.
-        let _ = self.bytes.extend_from_slice(&piece[..front]);
-        if front < piece.len() {
+        let _ = self.bytes.extend_from_slice(&piece[..prefix]);
+        if prefix < piece.len() {
             self.faults = self.faults.saturating_add(1);
             return Err(Failed);
         }

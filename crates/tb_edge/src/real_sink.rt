@@ -2,7 +2,7 @@ ghost use Rattle.std.specs.Prelude.{◌≡◌, ◌<◌, ◌≤◌, [], None, IsT
 ghost use Rattle.std.specs.Bool.{OnTrue};
 ghost use Rattle.std.specs.Io.KnownBytes.{Appends};
 ghost use Rattle.tb_edge.specs.Faults.{risen};
-ghost use Rattle.tb_edge.specs.Sinks.{TakesFront};
+ghost use Rattle.tb_edge.specs.Sinks.{WritesPrefix};
 
 use crate::{Failed, Sink};
 use std::io::{ErrorKind, Write};
@@ -53,7 +53,7 @@ impl<W: Write> Sink for RealSink<W> {
     ghost taken = { λ _. None };
 
     fn put(&mut self, piece: &[u8]) -> Result<(), Failed>
-        ensures front { OnErr result (TakesFront None None piece.now) }
+        ensures prefix { OnErr result (WritesPrefix None None piece.now) }
         ensures never_falls { self.old.faults ≤ self.new.faults }
         ensures empty_ok { piece.now ≡ [] → IsOk result }
         ensures counted { self.new.faults
@@ -89,7 +89,7 @@ fn write_whole<W: Write>(writer: &mut W, piece: &[u8]) -> bool
 /// Writes a front of the piece and gives its length, unless nothing was taken.
 fn write_some<W: Write>(writer: &mut W, piece: &[u8]) -> Option<usize>
     ensures some { IfSome result (λ count. (0 < count) × (count ≤ length piece.now)) }
-    ensures front { IfSome result
+    ensures prefix { IfSome result
         (λ count. Appends (W.contents writer.old) (W.contents writer.new) (take count piece.now)) }
 {
     for _ in 0..u64::MAX {

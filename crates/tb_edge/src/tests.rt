@@ -1,7 +1,7 @@
 ghost use Rattle.std.specs.Prelude.{◌++◌, ◌<◌, length, IfSome, OnOk, OnErr, IsErrOf};
 ghost use Rattle.std.specs.List.{flat_map};
 ghost use Rattle.tb_edge.specs.Faults.{Rose};
-ghost use Rattle.tb_edge.specs.Sinks.{Takes, TakesFront};
+ghost use Rattle.tb_edge.specs.Sinks.{Writes, WritesPrefix};
 
 use crate::{
     Bytes, Failed, Files, FilesFault, HeldFile, HeldFiles, Loaded, MemFiles, MemSink, RealFiles,
@@ -129,7 +129,7 @@ fn copy_named<F: Files, O: Sink>(
     ensures long { IsErrOf result CopyFault.Long
         → IfSome (F.held files.old name.now) (λ held. 100 < length held) }
     ensures copied { IfSome (F.held files.old name.now) (λ held. OnOk result
-        (Takes (O.taken out.old) (O.taken out.new) (name.now ++ held))) }
+        (Writes (O.taken out.old) (O.taken out.new) (name.now ++ held))) }
 {
     let bytes = match files.load(alloc, name, 100) {
         Ok(Loaded::Bytes(bytes)) => bytes,
@@ -148,9 +148,9 @@ fn copy_named<F: Files, O: Sink>(
 
 fn put_all<O: Sink>(out: &mut O, pieces: &[Bytes]) -> Result<(), Failed>
     ensures ok { OnOk result
-        (Takes (O.taken out.old) (O.taken out.new) (flat_map (λ piece. piece) pieces.now)) }
-    ensures front { OnErr result
-        (TakesFront (O.taken out.old) (O.taken out.new) (flat_map (λ piece. piece) pieces.now)) }
+        (Writes (O.taken out.old) (O.taken out.new) (flat_map (λ piece. piece) pieces.now)) }
+    ensures prefix { OnErr result
+        (WritesPrefix (O.taken out.old) (O.taken out.new) (flat_map (λ piece. piece) pieces.now)) }
     ensures rose { OnErr result (Rose (O.faults out.old) (O.faults out.new)) }
 {
     for piece in pieces {

@@ -11,7 +11,7 @@ use Rattle.tb_body.specs.declared.act.Act.{Act}
 use Rattle.tb_body.specs.declared.act.Act.TheVariants.{Delta, Tau}
 use Rattle.tb_body.specs.declared.atom.Time.{Time}
 use Rattle.tb_body.specs.Acts.{is_act_in_body, is_atom_in_body, some_and_all}
-use Rattle.tb_body.specs.Exprs.{places_of, is_value}
+use Rattle.tb_body.specs.Exprs.{positions_of, is_value}
 use Rattle.tb_syntax.specs.declared.ast.Ast.{Ast}
 use Rattle.tb_syntax.specs.declared.ast.AstKind.{AstKind, out-AstKind}
 use Rattle.tb_syntax.specs.declared.ast.AstKind.TheOpen as layer
@@ -23,15 +23,15 @@ use Rattle.tb_syntax.specs.declared.proc.Call.{Call}
 use Rattle.tb_syntax.specs.declared.proc.TimeDef.{TimeDef}
 use Rattle.tb_syntax.specs.declared.script.Formal.{Formal}
 use Rattle.tb_syntax.specs.declared.script.Script.{Script}
-use Rattle.tb_types.specs.declared.broken.Rule.TheVariants.{NoProcess, Arity, Undeclared}
+use Rattle.tb_types.specs.declared.violation.Rule.TheVariants.{NoProcess, Arity, Undeclared}
 use Rattle.tb_types.specs.declared.calls.Manner.TheVariants.{Made}
-use Rattle.tb_types.specs.declared.places.Place.{Place}
-use Rattle.tb_types.specs.declared.places.Place.TheVariants.{Sent, Taken, Noted, Received}
+use Rattle.tb_types.specs.declared.positions.Position.{Position}
+use Rattle.tb_types.specs.declared.positions.Position.TheVariants.{Sent, Taken, Noted, Received}
 use Rattle.tb_types.specs.declared.scope.Known.{Known}
-use Rattle.tb_types.specs.Atoms.{word_of, has_wrong_arguments, arguments_faults, named_faults, assigned_duty, act_faults, time_faults, atom_faults}
-use Rattle.tb_types.specs.Broken.{noted_if}
-use Rattle.tb_types.specs.Calls.{actual_place, actual_duty, actuals_faults, formals_of, has_wrong_actuals, call_faults}
-use Rattle.tb_types.specs.Duties.{Duty, plain, of_sort, tested, made, command, started, connected, disconnected, of_tool, name_alone, result_name, is_result, site_faults}
+use Rattle.tb_types.specs.Atoms.{word_of, has_wrong_arguments, arguments_faults, named_faults, assigned_expected_sort, act_faults, time_faults, atom_faults}
+use Rattle.tb_types.specs.Violation.{noted_if}
+use Rattle.tb_types.specs.Calls.{actual_position, actual_expected_sort, actuals_faults, formals_of, has_wrong_actuals, call_faults}
+use Rattle.tb_types.specs.ExpectedSorts.{Expectation, plain, of_sort, tested, made, command, started, connected, disconnected, of_tool, name_alone, result_name, is_result, site_faults}
 use Rattle.tb_types.specs.Names.{process_named}
 use Rattle.tb_types.specs.Scopes.{sort_in}
 use Rattle.tb_expand.specs.Agreeing.{Agrees}
@@ -55,7 +55,7 @@ named_as script known arguments token word name none is =
     (subst (λ (w : List ℕ). named_faults script known (word_of w) arguments token ≡ []) is none)).1
 
 -- the actuals of a `create` are sent
-made_sent : (formal : Option Formal) → actual_place Made formal ≡ Sent
+made_sent : (formal : Option Formal) → actual_position Made formal ≡ Sent
 made_sent None = refl
 made_sent (Some formal) = refl
 
@@ -63,45 +63,45 @@ module _ (script : Script) (slots : ℕ) (scope : Scope) (known : List Known) (a
   abbrev IsInRange : Act → Type 0
   IsInRange act = is_act_in_body slots act ≡ true
 
-  abbrev stands_at : Place → Expr → Bool
-  stands_at place e = may_stand place (places_of slots e)
+  abbrev stands_at : Position → Expr → Bool
+  stands_at position e = may_stand position (positions_of slots e)
 
-  site_stands : (place : Place) (duty : Duty) (e : Ast) → site_faults script known place duty e ≡ [] → stands_at place (expr_of scope e) ≡ true
-  site_stands place duty e none =
-      let kept = kept_site script known place duty e none in
-      expr_in_range script slots scope known agrees place e kept.no_faults kept.in_place
+  site_stands : (position : Position) (expected_sort : Expectation) (e : Ast) → site_faults script known position expected_sort e ≡ [] → stands_at position (expr_of scope e) ≡ true
+  site_stands position expected_sort e none =
+      let kept = kept_site script known position expected_sort e none in
+      expr_in_range script slots scope known agrees position e kept.no_faults kept.in_place
 
-  sites_stand : (place : Place) (duty : Duty) (es : List Ast) → flat_map (site_faults script known place duty) es ≡ [] → list_all (stands_at place) (exprs_of scope es) ≡ true
-  sites_stand place duty [] none = refl
-  sites_stand place duty (e ∷ es) none =
-      let parts = flat_map_none (site_faults script known place duty) e es none in
-      and_from (stands_at place (expr_of scope e)) (list_all (stands_at place) (exprs_of scope es)) (site_stands place duty e parts.0) (sites_stand place duty es parts.1)
+  sites_stand : (position : Position) (expected_sort : Expectation) (es : List Ast) → flat_map (site_faults script known position expected_sort) es ≡ [] → list_all (stands_at position) (exprs_of scope es) ≡ true
+  sites_stand position expected_sort [] none = refl
+  sites_stand position expected_sort (e ∷ es) none =
+      let parts = flat_map_none (site_faults script known position expected_sort) e es none in
+      and_from (stands_at position (expr_of scope e)) (list_all (stands_at position) (exprs_of scope es)) (site_stands position expected_sort e parts.0) (sites_stand position expected_sort es parts.1)
 
-  -- a first argument and others, each at its place
-  both_stand : (place other_place : Place) (duty other_duty : Duty) (e : Ast) (es : List Ast)
-      → site_faults script known place duty e ++ flat_map (site_faults script known other_place other_duty) es ≡ []
-      → (stands_at place (expr_of scope e) && list_all (stands_at other_place) (exprs_of scope es)) ≡ true
-  both_stand place other_place duty other_duty e es none =
-      let parts = append_none (site_faults script known place duty e) (flat_map (site_faults script known other_place other_duty) es) none in
-      and_from (stands_at place (expr_of scope e)) (list_all (stands_at other_place) (exprs_of scope es)) (site_stands place duty e parts.0) (sites_stand other_place other_duty es parts.1)
+  -- a first argument and others, each at its position
+  both_stand : (position other_position : Position) (expected_sort other_expected_sort : Expectation) (e : Ast) (es : List Ast)
+      → site_faults script known position expected_sort e ++ flat_map (site_faults script known other_position other_expected_sort) es ≡ []
+      → (stands_at position (expr_of scope e) && list_all (stands_at other_position) (exprs_of scope es)) ≡ true
+  both_stand position other_position expected_sort other_expected_sort e es none =
+      let parts = append_none (site_faults script known position expected_sort e) (flat_map (site_faults script known other_position other_expected_sort) es) none in
+      and_from (stands_at position (expr_of scope e)) (list_all (stands_at other_position) (exprs_of scope es)) (site_stands position expected_sort e parts.0) (sites_stand other_position other_expected_sort es parts.1)
 
   -- two arguments
-  two_stand : (place other_place : Place) (duty other_duty : Duty) (x y : Ast)
-      → site_faults script known place duty x ++ flat_map (site_faults script known other_place other_duty) (y ∷ []) ≡ []
-      → (stands_at place (expr_of scope x) && stands_at other_place (expr_of scope y)) ≡ true
-  two_stand place other_place duty other_duty x y none =
-      let parts = append_none (site_faults script known place duty x) (flat_map (site_faults script known other_place other_duty) (y ∷ [])) none in
-      and_from (stands_at place (expr_of scope x)) (stands_at other_place (expr_of scope y)) (site_stands place duty x parts.0)
-      (site_stands other_place other_duty y (flat_map_none (site_faults script known other_place other_duty) y [] parts.1).0)
+  two_stand : (position other_position : Position) (expected_sort other_expected_sort : Expectation) (x y : Ast)
+      → site_faults script known position expected_sort x ++ flat_map (site_faults script known other_position other_expected_sort) (y ∷ []) ≡ []
+      → (stands_at position (expr_of scope x) && stands_at other_position (expr_of scope y)) ≡ true
+  two_stand position other_position expected_sort other_expected_sort x y none =
+      let parts = append_none (site_faults script known position expected_sort x) (flat_map (site_faults script known other_position other_expected_sort) (y ∷ [])) none in
+      and_from (stands_at position (expr_of scope x)) (stands_at other_position (expr_of scope y)) (site_stands position expected_sort x parts.0)
+      (site_stands other_position other_expected_sort y (flat_map_none (site_faults script known other_position other_expected_sort) y [] parts.1).0)
 
   -- a first argument and one other at least
-  more_stand : (place other_place : Place) (duty other_duty : Duty) (x y : Ast) (es : List Ast)
-      → site_faults script known place duty x ++ flat_map (site_faults script known other_place other_duty) (y ∷ es) ≡ []
-      → (stands_at place (expr_of scope x) && some_and_all (stands_at other_place) (exprs_of scope (y ∷ es))) ≡ true
-  more_stand place other_place duty other_duty x y es none = both_stand place other_place duty other_duty x (y ∷ es) none
+  more_stand : (position other_position : Position) (expected_sort other_expected_sort : Expectation) (x y : Ast) (es : List Ast)
+      → site_faults script known position expected_sort x ++ flat_map (site_faults script known other_position other_expected_sort) (y ∷ es) ≡ []
+      → (stands_at position (expr_of scope x) && some_and_all (stands_at other_position) (exprs_of scope (y ∷ es))) ≡ true
+  more_stand position other_position expected_sort other_expected_sort x y es none = both_stand position other_position expected_sort other_expected_sort x (y ∷ es) none
 
-  result_in_range : (duty : Duty) (e : Ast) → IsKept script known Taken duty e → not (is_result e) ≡ false → nat_lt (slot_of scope (name_of e)) slots ≡ true
-  result_in_range duty e kept there =
+  result_in_range : (expected_sort : Expectation) (e : Ast) → IsKept script known Taken expected_sort e → not (is_result e) ≡ false → nat_lt (slot_of scope (name_of e)) slots ≡ true
+  result_in_range expected_sort e kept there =
       lt-ltb (slot_of scope (name_of e)) slots (taken_in_range script slots scope known e (name_of e) agrees (is_result_of e there) kept.no_faults)
 
   list_in_range : (word : List ℕ) (e : Ast) (es : List Ast) (token : ℕ) → named_faults script known (word_of word) (e ∷ es) token ≡ [] → IsInRange (act_of_list scope word (e ∷ es))
@@ -143,11 +143,11 @@ module _ (script : Script) (slots : ℕ) (scope : Scope) (known : List Known) (a
       named : (name : List ℕ) → word ≡ name → arguments_faults script known (word_of name) (e ∷ []) ≡ []
       named name is = named_as script known (e ∷ []) token word name none is
 
-      alone : (place : Place) (duty : Duty) → site_faults script known place duty e ++ [] ≡ [] → site_faults script known place duty e ≡ []
-      alone place duty all = (append_none (site_faults script known place duty e) [] all).0
+      alone : (position : Position) (expected_sort : Expectation) → site_faults script known position expected_sort e ++ [] ≡ [] → site_faults script known position expected_sort e ≡ []
+      alone position expected_sort all = (append_none (site_faults script known position expected_sort e) [] all).0
 
-      kept : (duty : Duty) → site_faults script known Taken duty e ++ [] ≡ [] → IsKept script known Taken duty e
-      kept duty all = kept_site script known Taken duty e (alone Taken duty all)
+      kept : (expected_sort : Expectation) → site_faults script known Taken expected_sort e ++ [] ≡ [] → IsKept script known Taken expected_sort e
+      kept expected_sort all = kept_site script known Taken expected_sort e (alone Taken expected_sort all)
 
   more_in_range : (word : List ℕ) (x y : Ast) (es : List Ast) (token : ℕ) → named_faults script known (word_of word) (x ∷ y ∷ es) token ≡ [] → IsInRange (act_of_more scope word x (y ∷ es))
   more_in_range word x y es token none =
@@ -159,10 +159,10 @@ module _ (script : Script) (slots : ℕ) (scope : Scope) (known : List Known) (a
       arguments name is = named_as script known (x ∷ y ∷ es) token word name none is
 
   -- the variable of an `execute`, whatever its tool
-  executed_in_range : (place : Place) (duty : Duty) (tool : Option (List ℕ)) (x y : Ast)
-      → site_faults script known place duty x ++ flat_map (site_faults script known Taken (started tool)) (y ∷ []) ≡ [] → nat_lt (slot_of scope (name_of y)) slots ≡ true
-  executed_in_range place duty tool x y none =
-      let parts = append_none (site_faults script known place duty x) (flat_map (site_faults script known Taken (started tool)) (y ∷ [])) none in
+  executed_in_range : (position : Position) (expected_sort : Expectation) (tool : Option (List ℕ)) (x y : Ast)
+      → site_faults script known position expected_sort x ++ flat_map (site_faults script known Taken (started tool)) (y ∷ []) ≡ [] → nat_lt (slot_of scope (name_of y)) slots ≡ true
+  executed_in_range position expected_sort tool x y none =
+      let parts = append_none (site_faults script known position expected_sort x) (flat_map (site_faults script known Taken (started tool)) (y ∷ [])) none in
       let kept = kept_site script known Taken (started tool) y (flat_map_none (site_faults script known Taken (started tool)) y [] parts.1).0 in
       result_in_range (started tool) y kept kept.has_result
 
@@ -184,14 +184,14 @@ module _ (script : Script) (slots : ℕ) (scope : Scope) (known : List Known) (a
   word_in_range word (x ∷ y ∷ []) token none = two_in_range word x y token none
   word_in_range word (x ∷ y ∷ z ∷ es) token none = more_in_range word x y (z ∷ es) token none
 
-  actuals_in_range : (formals : List Formal) (place : ℕ) (actuals : List Ast) → actuals_faults script known Made formals place actuals ≡ [] → list_all (is_value slots) (exprs_of scope actuals) ≡ true
-  actuals_in_range formals place [] none = refl
-  actuals_in_range formals place (actual ∷ actuals) none =
-      let own = actual_place Made (slice_get formals place) in
-      let duty = actual_duty Made (slice_get formals place) in
-      let parts = append_none (site_faults script known own duty actual) (actuals_faults script known Made formals (place + 1) actuals) none in
-      let sent = subst (λ (p : Place). site_faults script known p duty actual ≡ []) (made_sent (slice_get formals place)) parts.0 in
-      and_from (is_value slots (expr_of scope actual)) (list_all (is_value slots) (exprs_of scope actuals)) (site_stands Sent duty actual sent) (actuals_in_range formals (place + 1) actuals parts.1)
+  actuals_in_range : (formals : List Formal) (position : ℕ) (actuals : List Ast) → actuals_faults script known Made formals position actuals ≡ [] → list_all (is_value slots) (exprs_of scope actuals) ≡ true
+  actuals_in_range formals position [] none = refl
+  actuals_in_range formals position (actual ∷ actuals) none =
+      let own = actual_position Made (slice_get formals position) in
+      let expected_sort = actual_expected_sort Made (slice_get formals position) in
+      let parts = append_none (site_faults script known own expected_sort actual) (actuals_faults script known Made formals (position + 1) actuals) none in
+      let sent = subst (λ (p : Position). site_faults script known p expected_sort actual ≡ []) (made_sent (slice_get formals position)) parts.0 in
+      and_from (is_value slots (expr_of scope actual)) (list_all (is_value slots) (exprs_of scope actuals)) (site_stands Sent expected_sort actual sent) (actuals_in_range formals (position + 1) actuals parts.1)
 
   created_in_range : (call : Call) → call_faults script known Made call ≡ [] → list_all (is_value slots) (exprs_of scope call.actuals) ≡ true
   created_in_range call none =
@@ -202,11 +202,11 @@ module _ (script : Script) (slots : ℕ) (scope : Scope) (known : List Known) (a
 
   act_in_range : (act : ActDef) (token : ℕ) → act_faults script known act token ≡ [] → IsInRange (act_of script scope act)
   act_in_range (def.Set name value) token none =
-      let duty = assigned_duty (sort_in known name) in
-      let parts = append_none (noted_if (is_none (sort_in known name)) Undeclared token) (site_faults script known Sent duty value) none in
+      let expected_sort = assigned_expected_sort (sort_in known name) in
+      let parts = append_none (noted_if (is_none (sort_in known name)) Undeclared token) (site_faults script known Sent expected_sort value) none in
       let own = some_sort (sort_in known name) Undeclared token parts.0 in
       and_from (nat_lt (slot_of scope name) slots) (is_value slots (expr_of scope value))
-      (lt-ltb (slot_of scope name) slots (slot_in_range script slots scope known name own.0 agrees own.1)) (site_stands Sent duty value parts.1)
+      (lt-ltb (slot_of scope name) slots (slot_in_range script slots scope known name own.0 agrees own.1)) (site_stands Sent expected_sort value parts.1)
   act_in_range (def.Create call variable) token none =
       let parts = append_none (call_faults script known Made call) (site_faults script known Taken made variable) none in
       let kept = kept_site script known Taken made variable parts.1 in

@@ -25,19 +25,19 @@ use Rattle.tb_syntax.specs.declared.proc.Call.{Call}
 use Rattle.tb_syntax.specs.declared.script.ProcDef.{ProcDef}
 use Rattle.tb_syntax.specs.declared.script.Script.{Script}
 use Rattle.tb_syntax.specs.declared.script.ToolDef.{ToolDef}
-use Rattle.tb_types.specs.declared.broken.Rule.TheVariants.{NoProcess, Arity}
+use Rattle.tb_types.specs.declared.violation.Rule.TheVariants.{NoProcess, Arity}
 use Rattle.tb_types.specs.declared.calls.Manner.TheVariants.{Made}
-use Rattle.tb_types.specs.declared.places.Place.TheVariants.{Sent, Taken}
+use Rattle.tb_types.specs.declared.positions.Position.TheVariants.{Sent, Taken}
 use Rattle.tb_types.specs.declared.scope.Known.{Known}
 use Rattle.tb_types.specs.Atoms.{word_of, arguments_faults, named_faults, act_faults, time_faults, atom_faults}
-use Rattle.tb_types.specs.Broken.{noted_if}
+use Rattle.tb_types.specs.Violation.{noted_if}
 use Rattle.tb_types.specs.Calls.{actuals_faults, formals_of, has_wrong_actuals, call_faults}
-use Rattle.tb_types.specs.Duties.{Duty, made, command, started, connected, disconnected, name_alone, result_name, taken_sort, is_refused_by, is_sort_of_tool, is_result, fits_some_tool, site_faults}
+use Rattle.tb_types.specs.ExpectedSorts.{Expectation, made, command, started, connected, disconnected, name_alone, result_name, taken_sort, is_refused_by, is_sort_of_tool, is_result, fits_some_tool, site_faults}
 use Rattle.tb_types.specs.Fitting.{is_any_tool}
 use Rattle.tb_types.specs.Names.{process_named, tool_named, is_tool, is_unknown_sort, unknown_step, has_command as is_command}
 use Rattle.tb_types.specs.Scopes.{sort_in}
 use Rattle.tb_expand.specs.Agreeing.{Agrees}
-use Rattle.tb_expand.specs.Acts.{name_in, name_of, place_of, process_of, tool_of, tool_of_open, tool_of_sort, disconnected as leaves, act_of_list, act_of_one, act_of_more, act_of_two, act_of_word, act_of, atom_of}
+use Rattle.tb_expand.specs.Acts.{name_in, name_of, position_of, process_of, tool_of, tool_of_open, tool_of_sort, disconnected as leaves, act_of_list, act_of_one, act_of_more, act_of_two, act_of_word, act_of, atom_of}
 use Rattle.tb_expand.specs.Exprs.{expr_of, exprs_of}
 use Rattle.tb_expand.specs.Scopes.{Scope, sort_of}
 use Rattle.tb_expand.proofs.AtomRanges.{either_act, named_as}
@@ -46,13 +46,13 @@ use Rattle.tb_expand.proofs.KeptSites.{IsKept, kept_site, is_result_of}
 use Rattle.tb_expand.proofs.KnownSlots.{sort_of_known, known_sort}
 use Rattle.tb_expand.proofs.NoFaults.{append_none, noted_none}
 
--- the place of a tool that is defined
-tool_within : (tools : List ToolDef) (name : List ℕ) → is_some (tool_named tools name) ≡ true → place_of name (map (λ (d : ToolDef). d.name) tools) < length tools
+-- the position of a tool that is defined
+tool_within : (tools : List ToolDef) (name : List ℕ) → is_some (tool_named tools name) ≡ true → position_of name (map (λ (d : ToolDef). d.name) tools) < length tools
 tool_within [] name there = absurd (cc)
 tool_within (tool ∷ tools) name there = step (bytes_eq tool.name name) there (tool_within tools name) where
   step : (b : Bool) → is_some (cond b (Some tool) (tool_named tools name)) ≡ true
-      → (is_some (tool_named tools name) ≡ true → place_of name (map (λ (d : ToolDef). d.name) tools) < length tools)
-      → cond b 0 (place_of name (map (λ (d : ToolDef). d.name) tools) + 1) < length (tool ∷ tools)
+      → (is_some (tool_named tools name) ≡ true → position_of name (map (λ (d : ToolDef). d.name) tools) < length tools)
+      → cond b 0 (position_of name (map (λ (d : ToolDef). d.name) tools) + 1) < length (tool ∷ tools)
   step true found further = omega arith
   step false found further = omega (arith, further found)
 
@@ -115,9 +115,9 @@ module _ (script : Script) (slots : ℕ) (scope : Scope) (known : List Known) (a
       lt-ltb (tool_of_sort script (sort_of scope name)) (length tools) (omega (arith, within, same, same_count))
 
   -- the same of a result variable that is taken
-  taken_within : (e : Ast) (duty : Duty) (name : List ℕ) → IsKept script known Taken duty e → out-AstKind e.kind ≡ layer.Result name → is_refused_by is_sort_of_tool (taken_sort known e) ≡ false
+  taken_within : (e : Ast) (expected_sort : Expectation) (name : List ℕ) → IsKept script known Taken expected_sort e → out-AstKind e.kind ≡ layer.Result name → is_refused_by is_sort_of_tool (taken_sort known e) ≡ false
       → nat_lt (tool_of_sort script (sort_of scope name)) (length tools) ≡ true
-  taken_within e duty name kept is accepts =
+  taken_within e expected_sort name kept is accepts =
       let own = result_declared known e name is kept.no_faults in
       let taken : taken_sort known e ≡ Some own.0 = ap (λ (x : AstKind-F AstKind Ast). option_and_then (sort_in known) (result_name x)) is ∙ own.1 in
       variable_within name own.0 own.1 (accepted (taken_sort known e) own.0 accepts taken)
@@ -155,8 +155,8 @@ module _ (script : Script) (slots : ℕ) (scope : Scope) (known : List Known) (a
       named : (name : List ℕ) → word ≡ name → arguments_faults script known (word_of name) (e ∷ []) ≡ []
       named name is = named_as script known (e ∷ []) token word name none is
 
-      kept : (duty : Duty) → site_faults script known Taken duty e ++ [] ≡ [] → IsKept script known Taken duty e
-      kept duty all = kept_site script known Taken duty e (append_none (site_faults script known Taken duty e) [] all).0
+      kept : (expected_sort : Expectation) → site_faults script known Taken expected_sort e ++ [] ≡ [] → IsKept script known Taken expected_sort e
+      kept expected_sort all = kept_site script known Taken expected_sort e (append_none (site_faults script known Taken expected_sort e) [] all).0
 
       joining : IsKept script known Taken connected e → nat_lt (tool_of_sort script (sort_of scope (name_of e))) (length tools) ≡ true
       joining it = taken_within e connected (name_of e) it (is_result_of e it.has_result) it.no_clash
@@ -166,10 +166,10 @@ module _ (script : Script) (slots : ℕ) (scope : Scope) (known : List Known) (a
       either_act IsInProgram word (codes "rec-event") _ _ (λ is. refl)
       (either_act IsInProgram word (codes "snd-ack-event") _ _ (λ is. refl) (list_in_program word (e ∷ es)))
 
-  executed_in_program : (x : Ast) (others : List Ast) (duty : Duty) → site_faults script known Sent command x ++ flat_map (site_faults script known Taken duty) others ≡ []
+  executed_in_program : (x : Ast) (others : List Ast) (expected_sort : Expectation) → site_faults script known Sent command x ++ flat_map (site_faults script known Taken expected_sort) others ≡ []
       → has_command (slice_get tools (tool_of script (name_of x))) ≡ true
-  executed_in_program x others duty none =
-      let kept = kept_site script known Sent command x (append_none (site_faults script known Sent command x) (flat_map (site_faults script known Taken duty) others) none).0 in
+  executed_in_program x others expected_sort none =
+      let kept = kept_site script known Sent command x (append_none (site_faults script known Sent command x) (flat_map (site_faults script known Taken expected_sort) others) none).0 in
       let tool = with_command (tool_named script.tools (name_of x))
       (command_named script.tools (out-AstKind x.kind) (not-false (is_command (option_and_then (tool_named script.tools) (name_alone (out-AstKind x.kind)))) kept.has_tool)) in
       has_commands (name_of x) tool.0 tool.1 tool.2

@@ -25,19 +25,19 @@ IsGoodOf script slots good =
 abbrev HasGoodAtoms : (Atom → Bool) → Part → Type 0
 HasGoodAtoms good part = list_all good part.atoms ≡ true
 
-both_good : (good : Atom → Bool) (front back : List Atom) → list_all good front ≡ true → list_all good back ≡ true → list_all good (front ++ back) ≡ true
-both_good good front back f b = list_all-append good front back ∙ and_from _ _ f b
+both_good : (good : Atom → Bool) (prefix back : List Atom) → list_all good prefix ≡ true → list_all good back ≡ true → list_all good (prefix ++ back) ≡ true
+both_good good prefix back f b = list_all-append good prefix back ∙ and_from _ _ f b
 
 atoms_kept : (script : Script) (slots : ℕ) (good : Atom → Bool) → IsGoodOf script slots good → Keeps script slots (HasGoodAtoms good)
 atoms_kept script slots good is_good = record {
   nothing = refl;
   atom = λ scope known def atom slot agrees free. and_from _ _ (is_good scope known def agrees free) refl;
-  seq = λ front back. both_good good front.atoms back.atoms;
-  alt = λ front back. both_good good front.atoms back.atoms;
-  star = λ front back. both_good good front.atoms back.atoms;
-  par = λ front back. both_good good front.atoms back.atoms;
+  seq = λ prefix back. both_good good prefix.atoms back.atoms;
+  alt = λ prefix back. both_good good prefix.atoms back.atoms;
+  star = λ prefix back. both_good good prefix.atoms back.atoms;
+  par = λ prefix back. both_good good prefix.atoms back.atoms;
   test = λ test part value f. f;
-  test_else = λ test front back value. both_good good front.atoms back.atoms;
+  test_else = λ test prefix back value. both_good good prefix.atoms back.atoms;
   block = λ settings sorts part set f. f;
 }
 

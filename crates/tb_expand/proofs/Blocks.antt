@@ -17,16 +17,16 @@ pub seen_with_inner : (name : List ℕ) (blocks : List Scope) (block : Scope)
 seen_with_inner name blocks block =
     rw (with_inner blocks block) (find-append (λ (seen : Seen). bytes_eq seen.name name) block (of_blocks blocks))
 
--- the blocks up to this place, by the innermost of them
+-- the blocks up to this position, by the innermost of them
 pub seen_at : (name : List ℕ) (blocks : List Scope) (d : Scope) (left : ℕ) → 0 < left → left ≤ length blocks
     → seen_as name (of_blocks (take left blocks))
     ≡ option_or (seen_as name (get_or blocks (left - 1) d)) (seen_as name (of_blocks (take (left - 1) blocks)))
 seen_at name blocks d left some within =
     let below : left - 1 < length blocks = omega arith in
     let is : left ≡ suc (left - 1) = omega arith in
-    let front : take left blocks ≡ take (left - 1) blocks ++ get_or blocks (left - 1) d ∷ []
+    let prefix : take left blocks ≡ take (left - 1) blocks ++ get_or blocks (left - 1) d ∷ []
     = ap (λ (n : ℕ). take n blocks) is ∙ take-suc blocks (left - 1) d below in
-    ap (λ (front : List Scope). seen_as name (of_blocks front)) front ∙ seen_with_inner name (take (left - 1) blocks) (get_or blocks (left - 1) d)
+    ap (λ (prefix : List Scope). seen_as name (of_blocks prefix)) prefix ∙ seen_with_inner name (take (left - 1) blocks) (get_or blocks (left - 1) d)
 
 pub found_at : (name : List ℕ) (blocks : List Scope) (d : Scope) (left : ℕ) (seen : Seen) → 0 < left → left ≤ length blocks
     → Some seen ≡ seen_as name (get_or blocks (left - 1) d) → Some seen ≡ seen_as name (of_blocks (take left blocks))

@@ -41,14 +41,14 @@ over_size script d =
 some_same : {X : Type 0} (x y : X) → ◌≡◌ {A = Option X} (Some x) (Some y) → x ≡ y
 some_same x y e = cc
 
-pub large_by_size : (script : Script) (sizes : List Size) (place : ℕ) (d : ProcDef) (size : Size) → AreSizes script sizes → slice_get script.procs place ≡ Some d → Some size ≡ slice_get sizes place
+pub large_by_size : (script : Script) (sizes : List Size) (position : ℕ) (d : ProcDef) (size : Size) → AreSizes script sizes → slice_get script.procs position ≡ Some d → Some size ≡ slice_get sizes position
     → is_over size ≡ is_too_large (expansion_of script d)
-large_by_size script sizes place d size are there found =
-    ap is_over (some_same size _ (found ∙ are place d there)) ∙ over_capped (size_of script (length script.procs) d.body) ∙ over_size script d
+large_by_size script sizes position d size are there found =
+    ap is_over (some_same size _ (found ∙ are position d there)) ∙ over_capped (size_of script (length script.procs) d.body) ∙ over_size script d
 
-pub size_is_there : (script : Script) (sizes : List Size) (place : ℕ) (d : ProcDef) → AreSizes script sizes → slice_get script.procs place ≡ Some d → None ≡ slice_get sizes place → ⊥
-size_is_there script sizes place d are there none =
-    let both : ◌≡◌ {A = Option Size} None (Some (capped (size_of script (length script.procs) d.body))) = none ∙ are place d there in
+pub size_is_there : (script : Script) (sizes : List Size) (position : ℕ) (d : ProcDef) → AreSizes script sizes → slice_get script.procs position ≡ Some d → None ≡ slice_get sizes position → ⊥
+size_is_there script sizes position d are there none =
+    let both : ◌≡◌ {A = Option Size} None (Some (capped (size_of script (length script.procs) d.body))) = none ∙ are position d there in
     cc
 
 -- the parts of an expansion within the limits are in range of a body

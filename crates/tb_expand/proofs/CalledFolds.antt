@@ -36,8 +36,8 @@ module _ (A B : Type 0) (f : Proc-F A → A) (g : Proc-F B → B) (R : A → B �
   abbrev LayerIsRelated : Proc-F Proc → Type 0
   LayerIsRelated w = AreAll (called_step (map-Proc Proc (List (List ℕ)) called w)) → R (f (map-Proc Proc A (fold-Proc A f) w)) (g (map-Proc Proc B (fold-Proc B g) w))
 
-  front : (xs ys : List (List ℕ)) → AreAll (xs ++ ys) → AreAll xs
-  front xs ys all name is = all name (Contains-append_left xs ys name is)
+  prefix : (xs ys : List (List ℕ)) → AreAll (xs ++ ys) → AreAll xs
+  prefix xs ys all name is = all name (Contains-append_left xs ys name is)
 
   back : (xs ys : List (List ℕ)) → AreAll (xs ++ ys) → AreAll ys
   back xs ys all name is = all name (Contains-append_right xs ys name is)
@@ -46,7 +46,7 @@ module _ (A B : Type 0) (f : Proc-F A → A) (g : Proc-F B → B) (R : A → B �
   alone name all = all name (0, omega arith, refl)
 
   abbrev left : (x y : Shown) → AreAll (called x.0 ++ called y.0) → Related
-  left x y all = (fold-Proc A f x.0, fold-Proc B g x.0, x.1 (front (called x.0) (called y.0) all))
+  left x y all = (fold-Proc A f x.0, fold-Proc B g x.0, x.1 (prefix (called x.0) (called y.0) all))
 
   abbrev right : (x y : Shown) → AreAll (called x.0 ++ called y.0) → Related
   right x y all = (fold-Proc A f y.0, fold-Proc B g y.0, y.1 (back (called x.0) (called y.0) all))
@@ -61,7 +61,7 @@ module _ (A B : Type 0) (f : Proc-F A → A) (g : Proc-F B → B) (R : A → B �
   layer_related kept (layer.Alt x y) all = kept (layer.Alt (left x y all) (right x y all)) (tt {0})
   layer_related kept (layer.Star x y) all = kept (layer.Star (left x y all) (right x y all)) (tt {0})
   layer_related kept (layer.Par x y) all = kept (layer.Par (left x y all) (right x y all)) (tt {0})
-  layer_related kept (layer.If test x None) all = kept (layer.If test (only x (front (called x.0) [] all)) None) (tt {0})
+  layer_related kept (layer.If test x None) all = kept (layer.If test (only x (prefix (called x.0) [] all)) None) (tt {0})
   layer_related kept (layer.If test x (Some y)) all = kept (layer.If test (left x y all) (Some (right x y all))) (tt {0})
   layer_related kept (layer.Let vars x) all = kept (layer.Let vars (only x all)) (tt {0})
 

@@ -8,82 +8,82 @@ use Rattle.tb_terms.specs.declared.expr.Expr.{Expr}
 use Rattle.tb_terms.specs.declared.expr.Func.{Func}
 use Rattle.tb_terms.specs.declared.sort.Sort.{Sort}
 use Rattle.tb_func.specs.Functions.{function_named, signature_of}
-use Rattle.tb_body.specs.Exprs.{Places, places_of, all_stand, everywhere_if, is_value, is_test, is_receiving}
+use Rattle.tb_body.specs.Exprs.{Positions, positions_of, all_stand, everywhere_if, is_value, is_test, is_receiving}
 use Rattle.tb_syntax.specs.declared.ast.Ast.{Ast, roll-Ast}
 use Rattle.tb_syntax.specs.declared.ast.AstKind.{AstKind, out-AstKind, roll-AstKind}
 use Rattle.tb_syntax.specs.declared.ast.AstKind.TheOpen as layer
 use Rattle.tb_syntax.specs.declared.ast.AstKind.TheOpen.{AstKind-F, Ast-F}
 use Rattle.tb_syntax.specs.declared.ast.AstKind.TheFolds.{map-AstKind, map-Ast, fold-Ast, fold_out-AstKind, fold-roll-AstKind, fold-roll-Ast, ind-AstKind}
 use Rattle.tb_syntax.specs.declared.script.Script.{Script}
-use Rattle.tb_types.specs.declared.broken.Broken.{Broken}
-use Rattle.tb_types.specs.declared.broken.Rule.{Rule}
-use Rattle.tb_types.specs.declared.broken.Rule.TheVariants.{Undeclared, Arity}
-use Rattle.tb_types.specs.declared.places.Place.{Place}
-use Rattle.tb_types.specs.declared.places.Place.TheVariants.{Sent, Taken, Noted, Received}
+use Rattle.tb_types.specs.declared.violation.Violation.{Violation}
+use Rattle.tb_types.specs.declared.violation.Rule.{Rule}
+use Rattle.tb_types.specs.declared.violation.Rule.TheVariants.{Undeclared, Arity}
+use Rattle.tb_types.specs.declared.positions.Position.{Position}
+use Rattle.tb_types.specs.declared.positions.Position.TheVariants.{Sent, Taken, Noted, Received}
 use Rattle.tb_types.specs.declared.scope.Known.{Known}
-use Rattle.tb_types.specs.Broken.{noted_if}
-use Rattle.tb_types.specs.Duties.{is_result, result_name}
+use Rattle.tb_types.specs.Violation.{noted_if}
+use Rattle.tb_types.specs.ExpectedSorts.{is_result, result_name}
 use Rattle.tb_types.specs.Exprs.{Judged, JudgedKind, judged_kind, expr_faults, has_wrong_count, applied_faults, parts_faults, kind_step as judge_kind, expr_step as judge_expr}
 use Rattle.tb_types.specs.Names.{applied}
-use Rattle.tb_types.specs.Places.{misplaced, misplaced_kind, misplaced_step, part_place, takes_results, takes_holes, expr_step as misplaced_expr}
+use Rattle.tb_types.specs.Positions.{misplaced, misplaced_kind, misplaced_step, part_position, takes_results, takes_holes, expr_step as misplaced_expr}
 use Rattle.tb_types.specs.Scopes.{sort_in}
 use Rattle.tb_expand.specs.Agreeing.{Agrees}
-use Rattle.tb_expand.specs.Exprs.{expr_of, kind_expr, kind_step, place_step, applied as applying}
+use Rattle.tb_expand.specs.Exprs.{expr_of, kind_expr, kind_step, position_step, applied as applying}
 use Rattle.tb_expand.specs.Scopes.{Scope, slot_of}
 use Rattle.tb_expand.proofs.NoFaults.{append_none, noted_none, flat_map_none}
-use Rattle.tb_expand.proofs.PlaceKinds.{places_of_int, places_of_str, places_of_var, places_of_result, places_of_hole, places_of_appl, places_of_call, places_of_list}
+use Rattle.tb_expand.proofs.PositionKinds.{positions_of_int, positions_of_str, positions_of_var, positions_of_result, positions_of_hole, positions_of_appl, positions_of_call, positions_of_list}
 use Rattle.tb_expand.proofs.KnownSlots.{slot_in_range}
 
 -- what is taken is looked at by itself
-abbrev pub may_stand : Place → Places → Bool
-may_stand Sent places = places.value
-may_stand Taken places = true
-may_stand Noted places = places.test
-may_stand Received places = places.receiving
+abbrev pub may_stand : Position → Positions → Bool
+may_stand Sent positions = positions.value
+may_stand Taken positions = true
+may_stand Noted positions = positions.test
+may_stand Received positions = positions.receiving
 
-stands : (place : Place) (p q : Places) → p ≡ q → may_stand place q ≡ true → may_stand place p ≡ true
-stands place p q e h = ap (may_stand place) e ∙ h
+stands : (position : Position) (p q : Positions) → p ≡ q → may_stand position q ≡ true → may_stand position p ≡ true
+stands position p q e h = ap (may_stand position) e ∙ h
 
 -- what may stand everywhere
-stands_if : (place : Place) (b : Bool) → b ≡ true → may_stand place (everywhere_if b) ≡ true
+stands_if : (position : Position) (b : Bool) → b ≡ true → may_stand position (everywhere_if b) ≡ true
 stands_if Sent b h = h
 stands_if Taken b h = refl
 stands_if Noted b h = h
 stands_if Received b h = h
 
 -- parts that may stand there
-stand_as_whole : (place : Place) (parts : List Places) → list_all (may_stand (part_place place)) parts ≡ true → may_stand place (all_stand parts) ≡ true
+stand_as_whole : (position : Position) (parts : List Positions) → list_all (may_stand (part_position position)) parts ≡ true → may_stand position (all_stand parts) ≡ true
 stand_as_whole Sent parts h = h
 stand_as_whole Taken parts h = refl
 stand_as_whole Noted parts h = h
 stand_as_whole Received parts h = h
 
-result_stands : (place : Place) (b : Bool) (broken : Rule) (token : ℕ) → noted_if (not (takes_results place)) broken token ≡ [] → b ≡ true
-    → may_stand place (record { value = false; test = false; receiving = b }) ≡ true
-result_stands Sent b broken token e h = absurd (cc)
-result_stands Taken b broken token e h = refl
-result_stands Noted b broken token e h = absurd (cc)
-result_stands Received b broken token e h = h
+result_stands : (position : Position) (b : Bool) (violation : Rule) (token : ℕ) → noted_if (not (takes_results position)) violation token ≡ [] → b ≡ true
+    → may_stand position (record { value = false; test = false; receiving = b }) ≡ true
+result_stands Sent b violation token e h = absurd (cc)
+result_stands Taken b violation token e h = refl
+result_stands Noted b violation token e h = absurd (cc)
+result_stands Received b violation token e h = h
 
-hole_stands : (place : Place) (broken : Rule) (token : ℕ) → noted_if (not (takes_holes place)) broken token ≡ [] → may_stand place (record { value = false; test = true; receiving = true }) ≡ true
-hole_stands Sent broken token e = absurd (cc)
-hole_stands Taken broken token e = refl
-hole_stands Noted broken token e = refl
-hole_stands Received broken token e = refl
+hole_stands : (position : Position) (violation : Rule) (token : ℕ) → noted_if (not (takes_holes position)) violation token ≡ [] → may_stand position (record { value = false; test = true; receiving = true }) ≡ true
+hole_stands Sent violation token e = absurd (cc)
+hole_stands Taken violation token e = refl
+hole_stands Noted violation token e = refl
+hole_stands Received violation token e = refl
 
-pub some_sort : (o : Option Sort) (broken : Rule) (token : ℕ) → noted_if (is_none o) broken token ≡ [] → (s : Sort) × (o ≡ Some s)
-some_sort None broken token e = absurd (cc)
-some_sort (Some s) broken token e = (s, refl)
+pub some_sort : (o : Option Sort) (violation : Rule) (token : ℕ) → noted_if (is_none o) violation token ≡ [] → (s : Sort) × (o ≡ Some s)
+some_sort None violation token e = absurd (cc)
+some_sort (Some s) violation token e = (s, refl)
 
 -- an application that has parts applies the function of its name
 applied_more : {A : Type 0} (name : List ℕ) (x : A) (xs : List A) → applied name (length (x ∷ xs)) ≡ function_named name
 applied_more name x xs = cond-false (length (x ∷ xs) == 0) None (function_named name) (ne_eqb (length (x ∷ xs)) 0 (λ e. omega (arith, e)))
 
 abbrev OfKind : Type 0
-OfKind = ℕ → Place → List Broken
+OfKind = ℕ → Position → List Violation
 
 abbrev OfExpr : Type 0
-OfExpr = Place → List Broken
+OfExpr = Position → List Violation
 
 abbrev found : Ast → OfExpr
 found = fold-Ast OfKind OfExpr misplaced_step misplaced_expr
@@ -98,22 +98,22 @@ abbrev layer_judged : List Known → AstKind-F AstKind Ast → JudgedKind
 layer_judged known x = judge_kind known (map-AstKind AstKind Ast JudgedKind Judged (judged_kind known) (judge known) x)
 
 abbrev made : Scope → Ast → Expr
-made scope = fold-Ast Expr Expr (kind_step scope) place_step
+made scope = fold-Ast Expr Expr (kind_step scope) position_step
 
 abbrev layer_made : Scope → AstKind-F AstKind Ast → Expr
 layer_made scope x = kind_step scope (map-AstKind AstKind Ast Expr Expr (kind_expr scope) (made scope) x)
 
 module _ (script : Script) (slots : ℕ) (scope : Scope) (known : List Known) (agrees : Agrees script slots scope known) where
   abbrev IsKindInRange : AstKind → Type 0
-  IsKindInRange k = (token : ℕ) (place : Place) → (judged_kind known k).faults token ≡ [] → misplaced_kind k token place ≡ []
-      → may_stand place (places_of slots (kind_expr scope k)) ≡ true
+  IsKindInRange k = (token : ℕ) (position : Position) → (judged_kind known k).faults token ≡ [] → misplaced_kind k token position ≡ []
+      → may_stand position (positions_of slots (kind_expr scope k)) ≡ true
 
   abbrev IsExprInRange : Ast → Type 0
-  IsExprInRange e = (place : Place) → (judge known e).faults ≡ [] → found e place ≡ [] → may_stand place (places_of slots (made scope e)) ≡ true
+  IsExprInRange e = (position : Position) → (judge known e).faults ≡ [] → found e position ≡ [] → may_stand position (positions_of slots (made scope e)) ≡ true
 
   abbrev IsLayerInRange : AstKind-F AstKind Ast → Type 0
-  IsLayerInRange x = (token : ℕ) (place : Place) → (layer_judged known x).faults token ≡ [] → layer_found x token place ≡ []
-      → may_stand place (places_of slots (layer_made scope x)) ≡ true
+  IsLayerInRange x = (token : ℕ) (position : Position) → (layer_judged known x).faults token ≡ [] → layer_found x token position ≡ []
+      → may_stand position (positions_of slots (layer_made scope x)) ≡ true
 
   abbrev ShownKind : Type 0
   ShownKind = (k : AstKind) × IsKindInRange k
@@ -129,67 +129,67 @@ module _ (script : Script) (slots : ℕ) (scope : Scope) (known : List Known) (a
       let s = some_sort (sort_in known name) Undeclared token e in
       lt-ltb (slot_of scope name) slots (slot_in_range script slots scope known name s.0 agrees s.1)
 
-  parts_stand : (place : Place) (ps : List ShownExpr) → parts_faults (map (judge known) (exprs ps)) ≡ [] → flat_map (λ (part : OfExpr). part place) (map found (exprs ps)) ≡ []
-      → list_all (may_stand place) (map (places_of slots) (map (made scope) (exprs ps))) ≡ true
-  parts_stand place [] faults misplaces = refl
-  parts_stand place (p ∷ ps) faults misplaces =
+  parts_stand : (position : Position) (ps : List ShownExpr) → parts_faults (map (judge known) (exprs ps)) ≡ [] → flat_map (λ (part : OfExpr). part position) (map found (exprs ps)) ≡ []
+      → list_all (may_stand position) (map (positions_of slots) (map (made scope) (exprs ps))) ≡ true
+  parts_stand position [] faults misplaces = refl
+  parts_stand position (p ∷ ps) faults misplaces =
       let no_faults = flat_map_none (λ (part : Judged). part.faults) (judge known p.0) (map (judge known) (exprs ps)) faults in
-      let in_place = flat_map_none (λ (part : OfExpr). part place) (found p.0) (map found (exprs ps)) misplaces in
-      and_from (may_stand place (places_of slots (made scope p.0))) (list_all (may_stand place) (map (places_of slots) (map (made scope) (exprs ps))))
-      (p.1 place no_faults.0 in_place.0) (parts_stand place ps no_faults.1 in_place.1)
+      let in_place = flat_map_none (λ (part : OfExpr). part position) (found p.0) (map found (exprs ps)) misplaces in
+      and_from (may_stand position (positions_of slots (made scope p.0))) (list_all (may_stand position) (map (positions_of slots) (map (made scope) (exprs ps))))
+      (p.1 position no_faults.0 in_place.0) (parts_stand position ps no_faults.1 in_place.1)
 
   -- an application that has arguments, by the function of its name
-  application_stands : (place : Place) (token : ℕ) (name : List ℕ) (func : Option Func) (ps : List ShownExpr)
+  application_stands : (position : Position) (token : ℕ) (name : List ℕ) (func : Option Func) (ps : List ShownExpr)
       → noted_if (has_wrong_count func (length (map (judge known) (exprs ps)))) Arity token ≡ []
       → parts_faults (map (judge known) (exprs ps)) ≡ []
-      → flat_map (λ (part : OfExpr). part (if is_some func then Sent else part_place place)) (map found (exprs ps)) ≡ []
-      → may_stand place (places_of slots (applying name func (map (made scope) (exprs ps)))) ≡ true
-  application_stands place token name None ps wrong faults misplaces =
-      stands place _ _ (places_of_appl slots name (map (made scope) (exprs ps)))
-      (stand_as_whole place (map (places_of slots) (map (made scope) (exprs ps))) (parts_stand (part_place place) ps faults misplaces))
-  application_stands place token name (Some func) ps wrong faults misplaces =
-      let parts = map (places_of slots) (map (made scope) (exprs ps)) in
+      → flat_map (λ (part : OfExpr). part (if is_some func then Sent else part_position position)) (map found (exprs ps)) ≡ []
+      → may_stand position (positions_of slots (applying name func (map (made scope) (exprs ps)))) ≡ true
+  application_stands position token name None ps wrong faults misplaces =
+      stands position _ _ (positions_of_appl slots name (map (made scope) (exprs ps)))
+      (stand_as_whole position (map (positions_of slots) (map (made scope) (exprs ps))) (parts_stand (part_position position) ps faults misplaces))
+  application_stands position token name (Some func) ps wrong faults misplaces =
+      let parts = map (positions_of slots) (map (made scope) (exprs ps)) in
       let right = not-false (length (map (judge known) (exprs ps)) == (signature_of func).arity) (noted_none _ Arity token wrong) in
       let count : length parts ≡ (signature_of func).arity
-      = length-map (map (made scope) (exprs ps)) (places_of slots) ∙ length-map (exprs ps) (made scope) ∙ sym (length-map (exprs ps) (judge known))
+      = length-map (map (made scope) (exprs ps)) (positions_of slots) ∙ length-map (exprs ps) (made scope) ∙ sym (length-map (exprs ps) (judge known))
       ∙ eqb-true _ _ right in
-      stands place _ _ (places_of_call slots func (map (made scope) (exprs ps)))
-      (stands_if place _ (and_from _ _ (eq-eqb _ _ count) (parts_stand Sent ps faults misplaces)))
+      stands position _ _ (positions_of_call slots func (map (made scope) (exprs ps)))
+      (stands_if position _ (and_from _ _ (eq-eqb _ _ count) (parts_stand Sent ps faults misplaces)))
 
   layer_in_range : (y : AstKind-F ShownKind ShownExpr) → IsLayerInRange (map-AstKind ShownKind ShownExpr AstKind Ast (λ k. k.0) (λ e. e.0) y)
-  layer_in_range (layer.Int number) token place faults misplaces = stands place _ _ (places_of_int slots number) (stands_if place true refl)
-  layer_in_range (layer.Str text) token place faults misplaces = stands place _ _ (places_of_str slots text) (stands_if place true refl)
-  layer_in_range (layer.Appl name []) token place faults misplaces = stands place _ _ (places_of_appl slots name []) (stand_as_whole place [] refl)
-  layer_in_range (layer.Appl name (p ∷ ps)) token place faults misplaces =
+  layer_in_range (layer.Int number) token position faults misplaces = stands position _ _ (positions_of_int slots number) (stands_if position true refl)
+  layer_in_range (layer.Str text) token position faults misplaces = stands position _ _ (positions_of_str slots text) (stands_if position true refl)
+  layer_in_range (layer.Appl name []) token position faults misplaces = stands position _ _ (positions_of_appl slots name []) (stand_as_whole position [] refl)
+  layer_in_range (layer.Appl name (p ∷ ps)) token position faults misplaces =
       let parts = map (judge known) (exprs (p ∷ ps)) in
       let wrong = noted_if (has_wrong_count (applied name (length parts)) (length parts)) Arity token in
       let outer = append_none (wrong ++ applied_faults (applied name (length parts)) parts) (parts_faults parts) faults in
       let inner = append_none wrong (applied_faults (applied name (length parts)) parts) outer.0 in
       let right = subst (λ (o : Option Func). noted_if (has_wrong_count o (length parts)) Arity token ≡ []) (applied_more name (judge known p.0) (map (judge known) (exprs ps))) inner.0 in
-      let in_place = subst (λ (o : Option Func). flat_map (λ (part : OfExpr). part (if is_some o then Sent else part_place place)) (map found (exprs (p ∷ ps))) ≡ [])
+      let in_place = subst (λ (o : Option Func). flat_map (λ (part : OfExpr). part (if is_some o then Sent else part_position position)) (map found (exprs (p ∷ ps))) ≡ [])
       (applied_more name (found p.0) (map found (exprs ps))) misplaces in
-      application_stands place token name (function_named name) (p ∷ ps) right outer.1 in_place
-  layer_in_range (layer.Var name) token place faults misplaces = stands place _ _ (places_of_var slots (slot_of scope name)) (stands_if place _ (declared name token faults))
-  layer_in_range (layer.Result name) token place faults misplaces =
-      stands place _ _ (places_of_result slots (slot_of scope name)) (result_stands place _ _ token misplaces (declared name token faults))
-  layer_in_range (layer.Hole s) token place faults misplaces = stands place _ _ (places_of_hole slots s) (hole_stands place _ token misplaces)
-  layer_in_range (layer.List ps) token place faults misplaces =
-      stands place _ _ (places_of_list slots (map (made scope) (exprs ps)))
-      (stand_as_whole place (map (places_of slots) (map (made scope) (exprs ps))) (parts_stand (part_place place) ps faults misplaces))
+      application_stands position token name (function_named name) (p ∷ ps) right outer.1 in_place
+  layer_in_range (layer.Var name) token position faults misplaces = stands position _ _ (positions_of_var slots (slot_of scope name)) (stands_if position _ (declared name token faults))
+  layer_in_range (layer.Result name) token position faults misplaces =
+      stands position _ _ (positions_of_result slots (slot_of scope name)) (result_stands position _ _ token misplaces (declared name token faults))
+  layer_in_range (layer.Hole s) token position faults misplaces = stands position _ _ (positions_of_hole slots s) (hole_stands position _ token misplaces)
+  layer_in_range (layer.List ps) token position faults misplaces =
+      stands position _ _ (positions_of_list slots (map (made scope) (exprs ps)))
+      (stand_as_whole position (map (positions_of slots) (map (made scope) (exprs ps))) (parts_stand (part_position position) ps faults misplaces))
 
   kind_rolled : (x : AstKind-F AstKind Ast) → IsLayerInRange x → IsKindInRange (roll-AstKind x)
-  kind_rolled x h token place faults misplaces =
-      ap (λ (e : Expr). may_stand place (places_of slots e)) (fold-roll-AstKind Expr Expr (kind_step scope) place_step x)
-      ∙ h token place
+  kind_rolled x h token position faults misplaces =
+      ap (λ (e : Expr). may_stand position (positions_of slots e)) (fold-roll-AstKind Expr Expr (kind_step scope) position_step x)
+      ∙ h token position
       (sym (ap (λ (j : JudgedKind). j.faults token) (fold-roll-AstKind JudgedKind Judged (judge_kind known) judge_expr x)) ∙ faults)
-      (sym (ap (λ (f : OfKind). f token place) (fold-roll-AstKind OfKind OfExpr misplaced_step misplaced_expr x)) ∙ misplaces)
+      (sym (ap (λ (f : OfKind). f token position) (fold-roll-AstKind OfKind OfExpr misplaced_step misplaced_expr x)) ∙ misplaces)
 
   expr_rolled : (x : Ast-F AstKind Ast) → IsKindInRange x.kind → IsExprInRange (roll-Ast x)
-  expr_rolled x h place faults misplaces =
-      ap (λ (e : Expr). may_stand place (places_of slots e)) (fold-roll-Ast Expr Expr (kind_step scope) place_step x)
-      ∙ h x.token place
+  expr_rolled x h position faults misplaces =
+      ap (λ (e : Expr). may_stand position (positions_of slots e)) (fold-roll-Ast Expr Expr (kind_step scope) position_step x)
+      ∙ h x.token position
       (sym (ap (λ (j : Judged). j.faults) (fold-roll-Ast JudgedKind Judged (judge_kind known) judge_expr x)) ∙ faults)
-      (sym (ap (λ (f : OfExpr). f place) (fold-roll-Ast OfKind OfExpr misplaced_step misplaced_expr x)) ∙ misplaces)
+      (sym (ap (λ (f : OfExpr). f position) (fold-roll-Ast OfKind OfExpr misplaced_step misplaced_expr x)) ∙ misplaces)
 
   kind_in_range : (k : AstKind) → IsKindInRange k
   kind_in_range = ind-AstKind IsKindInRange IsExprInRange on_kind on_expr where
@@ -199,8 +199,8 @@ module _ (script : Script) (slots : ℕ) (scope : Scope) (known : List Known) (a
     on_expr : (x : Ast-F AstKind Ast) (y : Ast-F ShownKind ShownExpr) → map-Ast ShownKind ShownExpr AstKind Ast (λ k. k.0) (λ e. e.0) y ≡ x → IsExprInRange (roll-Ast x)
     on_expr x y e = expr_rolled x (subst (λ (z : Ast-F AstKind Ast). IsKindInRange z.kind) e y.kind.1)
 
-  pub expr_in_range : (place : Place) (e : Ast) → expr_faults known e ≡ [] → misplaced place e ≡ [] → may_stand place (places_of slots (expr_of scope e)) ≡ true
-  expr_in_range place e faults misplaces = kind_in_range e.kind e.token place faults misplaces
+  pub expr_in_range : (position : Position) (e : Ast) → expr_faults known e ≡ [] → misplaced position e ≡ [] → may_stand position (positions_of slots (expr_of scope e)) ≡ true
+  expr_in_range position e faults misplaces = kind_in_range e.kind e.token position faults misplaces
 
 pub value_in_range : (script : Script) (slots : ℕ) (scope : Scope) (known : List Known) (e : Ast)
     → Agrees script slots scope known → expr_faults known e ≡ [] → misplaced Sent e ≡ [] → is_value slots (expr_of scope e) ≡ true
@@ -236,8 +236,8 @@ layer_taken (layer.Result name) token other = absurd (cc)
 layer_taken (layer.Hole s) token other = refl
 layer_taken (layer.List parts) token other = refl
 
-misplaced_opened : (e : Ast) (place : Place) → misplaced place e ≡ layer_found (out-AstKind e.kind) e.token place
-misplaced_opened e place = ap (λ (f : OfKind). f e.token place) (fold_out-AstKind OfKind OfExpr misplaced_step misplaced_expr e.kind)
+misplaced_opened : (e : Ast) (position : Position) → misplaced position e ≡ layer_found (out-AstKind e.kind) e.token position
+misplaced_opened e position = ap (λ (f : OfKind). f e.token position) (fold_out-AstKind OfKind OfExpr misplaced_step misplaced_expr e.kind)
 
 pub taken_sent : (e : Ast) → is_result e ≡ false → misplaced Taken e ≡ [] → misplaced Sent e ≡ []
 taken_sent e other misplaces =

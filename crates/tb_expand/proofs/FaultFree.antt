@@ -7,30 +7,30 @@ use Rattle.tb_syntax.specs.declared.ast.Ast.{Ast}
 use Rattle.tb_syntax.specs.declared.proc.Call.{Call}
 use Rattle.tb_syntax.specs.declared.script.ProcDef.{ProcDef}
 use Rattle.tb_syntax.specs.declared.script.Script.{Script}
-use Rattle.tb_types.specs.declared.broken.Broken.{Broken}
-use Rattle.tb_types.specs.declared.broken.Rule.TheVariants.{NoProcess, NoTool, NoFunction, Arity, NotResult, TypeClash}
+use Rattle.tb_types.specs.declared.violation.Violation.{Violation}
+use Rattle.tb_types.specs.declared.violation.Rule.TheVariants.{NoProcess, NoTool, NoFunction, Arity, NotResult, TypeClash}
 use Rattle.tb_types.specs.declared.calls.Manner.{Manner}
-use Rattle.tb_types.specs.declared.places.Place.{Place}
+use Rattle.tb_types.specs.declared.positions.Position.{Position}
 use Rattle.tb_types.specs.declared.scope.Known.{Known}
 use Rattle.tb_types.specs.Bodies.{proc_faults, process_faults, root_faults, script_faults}
-use Rattle.tb_types.specs.Broken.{noted_if}
+use Rattle.tb_types.specs.Violation.{noted_if}
 use Rattle.tb_types.specs.Calls.{actuals_faults, call_faults, found_call_faults, has_wrong_actuals}
 use Rattle.tb_types.specs.Conditions.{IsIn, Proper}
 use Rattle.tb_types.specs.Definitions.{formals_faults, none_seen, process_repeats, tools_faults}
-use Rattle.tb_types.specs.Duties.{Duty, clashes, lacks_function, lacks_result, lacks_tool, site_faults}
+use Rattle.tb_types.specs.ExpectedSorts.{Expectation, clashes, lacks_function, lacks_result, lacks_tool, site_faults}
 use Rattle.tb_types.specs.Exprs.{expr_faults}
 use Rattle.tb_types.specs.Names.{process_named}
-use Rattle.tb_types.specs.Places.{misplaced}
+use Rattle.tb_types.specs.Positions.{misplaced}
 use Rattle.tb_types.specs.Scopes.{known_formal}
 use Rattle.tb_expand.proofs.NoFaults.{append_none, flat_map_each, flat_map_found, noted_none}
 
 -- what breaks nothing is empty
-no_member : (faults : List Broken) → ((fault : Broken) → IsIn fault faults → ⊥) → faults ≡ []
+no_member : (faults : List Violation) → ((fault : Violation) → IsIn fault faults → ⊥) → faults ≡ []
 no_member [] none = refl
 no_member (fault ∷ faults) none = absurd (none fault (inl refl))
 
-pub none_broken : (script : Script) → Proper script → script_faults script ≡ []
-none_broken script proper = no_member (script_faults script) (λ fault. proper fault.rule fault.token)
+pub none_violated : (script : Script) → Proper script → script_faults script ≡ []
+none_violated script proper = no_member (script_faults script) (λ fault. proper fault.rule fault.token)
 
 -- a script by its parts
 pub record IsFaultFree (script : Script) : Type 0 where
@@ -45,7 +45,7 @@ fault_free script proper =
     let repeats = process_repeats none_seen script.procs in
     let procs = flat_map (process_faults script) script.procs in
     let roots = flat_map (root_faults script) script.roots in
-    let first = append_none (tools ++ repeats ++ procs) roots (none_broken script proper) in
+    let first = append_none (tools ++ repeats ++ procs) roots (none_violated script proper) in
     let second = append_none (tools ++ repeats) procs first.0 in
     let third = append_none tools repeats second.0 in
     record { tools = third.0; names = third.1; procs = second.1; roots = first.1 }
@@ -70,32 +70,32 @@ free_named script name d proper found =
     by_parts script d (flat_map_found (process_faults script) (λ (other : ProcDef). bytes_eq other.name name) script.procs d found (fault_free script proper).procs)
 
 -- an expression where it stands
-pub record IsFreeSite (script : Script) (known : List Known) (place : Place) (duty : Duty) (e : Ast) : Type 0 where
-  pub tool : lacks_tool script duty e ≡ false
-  pub function : lacks_function duty e ≡ false
+pub record IsFreeSite (script : Script) (known : List Known) (position : Position) (expected_sort : Expectation) (e : Ast) : Type 0 where
+  pub tool : lacks_tool script expected_sort e ≡ false
+  pub function : lacks_function expected_sort e ≡ false
   pub expr : expr_faults known e ≡ []
-  pub placed : misplaced place e ≡ []
-  pub result : lacks_result duty e ≡ false
-  pub fits : clashes script known duty e ≡ false
+  pub positioned : misplaced position e ≡ []
+  pub result : lacks_result expected_sort e ≡ false
+  pub fits : clashes script known expected_sort e ≡ false
 
-pub free_site : (script : Script) (known : List Known) (place : Place) (duty : Duty) (e : Ast) → site_faults script known place duty e ≡ [] → IsFreeSite script known place duty e
-free_site script known place duty e none =
-    let tool = noted_if (lacks_tool script duty e) NoTool e.token in
-    let function = noted_if (lacks_function duty e) NoFunction e.token in
-    let result = noted_if (lacks_result duty e) NotResult e.token in
-    let clash = noted_if (clashes script known duty e) TypeClash e.token in
-    let first = append_none (tool ++ function ++ expr_faults known e ++ misplaced place e ++ result) clash none in
-    let second = append_none (tool ++ function ++ expr_faults known e ++ misplaced place e) result first.0 in
-    let third = append_none (tool ++ function ++ expr_faults known e) (misplaced place e) second.0 in
+pub free_site : (script : Script) (known : List Known) (position : Position) (expected_sort : Expectation) (e : Ast) → site_faults script known position expected_sort e ≡ [] → IsFreeSite script known position expected_sort e
+free_site script known position expected_sort e none =
+    let tool = noted_if (lacks_tool script expected_sort e) NoTool e.token in
+    let function = noted_if (lacks_function expected_sort e) NoFunction e.token in
+    let result = noted_if (lacks_result expected_sort e) NotResult e.token in
+    let clash = noted_if (clashes script known expected_sort e) TypeClash e.token in
+    let first = append_none (tool ++ function ++ expr_faults known e ++ misplaced position e ++ result) clash none in
+    let second = append_none (tool ++ function ++ expr_faults known e ++ misplaced position e) result first.0 in
+    let third = append_none (tool ++ function ++ expr_faults known e) (misplaced position e) second.0 in
     let fourth = append_none (tool ++ function) (expr_faults known e) third.0 in
     let fifth = append_none tool function fourth.0 in
     record {
-      tool = noted_none (lacks_tool script duty e) NoTool e.token fifth.0;
-      function = noted_none (lacks_function duty e) NoFunction e.token fifth.1;
+      tool = noted_none (lacks_tool script expected_sort e) NoTool e.token fifth.0;
+      function = noted_none (lacks_function expected_sort e) NoFunction e.token fifth.1;
       expr = fourth.1;
-      placed = third.1;
-      result = noted_none (lacks_result duty e) NotResult e.token second.1;
-      fits = noted_none (clashes script known duty e) TypeClash e.token first.1;
+      positioned = third.1;
+      result = noted_none (lacks_result expected_sort e) NotResult e.token second.1;
+      fits = noted_none (clashes script known expected_sort e) TypeClash e.token first.1;
     }
 
 -- a call, a `create` or a root: the process is there, and takes as many actuals

@@ -17,9 +17,9 @@ use Rattle.tb_syntax.specs.declared.proc.Proc.{Proc}
 use Rattle.tb_syntax.specs.declared.proc.Var.{Var}
 use Rattle.tb_syntax.specs.declared.script.Formal.{Formal}
 use Rattle.tb_syntax.specs.declared.script.Script.{Script}
-use Rattle.tb_types.specs.declared.broken.Broken.{Broken}
+use Rattle.tb_types.specs.declared.violation.Violation.{Violation}
 use Rattle.tb_types.specs.declared.calls.Manner.TheVariants.{Called}
-use Rattle.tb_types.specs.declared.places.Place.TheVariants.{Sent}
+use Rattle.tb_types.specs.declared.positions.Position.TheVariants.{Sent}
 use Rattle.tb_types.specs.declared.scope.Known.{Known}
 use Rattle.tb_types.specs.Atoms.{atom_faults}
 use Rattle.tb_types.specs.Bodies as faults
@@ -27,7 +27,7 @@ use Rattle.tb_types.specs.Bodies.{proc_faults}
 use Rattle.tb_types.specs.Calls.{call_faults}
 use Rattle.tb_types.specs.Conditions.{Proper}
 use Rattle.tb_types.specs.Definitions.{formal_faults, formal_repeats, none_seen, var_faults, var_repeats, vars_faults}
-use Rattle.tb_types.specs.Duties.{site_faults, tested}
+use Rattle.tb_types.specs.ExpectedSorts.{site_faults, tested}
 use Rattle.tb_types.specs.Scopes.{known_formal, known_var}
 use Rattle.tb_expand.specs.Agreeing.{Agrees}
 use Rattle.tb_expand.specs.Exprs.{expr_of}
@@ -44,58 +44,58 @@ use Rattle.tb_expand.proofs.Settings.{call_in_range, initial_in_range}
 
 -- one part behind the other, under one tree
 abbrev pub beside : (Tree → Tree → Tree) → Part → Part → Part
-beside join front back = record { tree = join front.tree back.tree; atoms = front.atoms ++ back.atoms; sorts = front.sorts ++ back.sorts }
+beside join prefix back = record { tree = join prefix.tree back.tree; atoms = prefix.atoms ++ back.atoms; sorts = prefix.sorts ++ back.sorts }
 
 -- A property of parts that each construct keeps, over this many slots. Tests and settings are in range, and atoms stand where what is seen is what is known.
 pub record Keeps (script : Script) (slots : ℕ) (P : Part → Type 0) : Type 0 where
   pub nothing : P nothing
   pub atom : (scope : Scope) (known : List Known) (def : AtomDef) (atom slot : ℕ) → Agrees script slots scope known → atom_faults script known def ≡ [] → P (atom_only script def scope atom slot)
-  pub seq : (front back : Part) → P front → P back → P (beside tree.Seq front back)
-  pub alt : (front back : Part) → P front → P back → P (beside tree.Alt front back)
-  pub star : (front back : Part) → P front → P back → P (beside tree.Star front back)
-  pub par : (front back : Part) → P front → P back → P (beside tree.Par front back)
+  pub seq : (prefix back : Part) → P prefix → P back → P (beside tree.Seq prefix back)
+  pub alt : (prefix back : Part) → P prefix → P back → P (beside tree.Alt prefix back)
+  pub star : (prefix back : Part) → P prefix → P back → P (beside tree.Star prefix back)
+  pub par : (prefix back : Part) → P prefix → P back → P (beside tree.Par prefix back)
   pub test : (test : Expr) (part : Part) → is_value slots test ≡ true → P part → P (under (λ side. tree.If test side None) part)
-  pub test_else : (test : Expr) (front back : Part) → is_value slots test ≡ true → P front → P back → P (beside (expansion.tested test) front back)
+  pub test_else : (test : Expr) (prefix back : Part) → is_value slots test ≡ true → P prefix → P back → P (beside (expansion.tested test) prefix back)
   pub block : (settings : List Setting) (sorts : List Sort) (part : Part) → list_all (is_setting_in_range slots) settings ≡ true → P part → P (declaring settings sorts part)
 
 -- the property holds wherever a process stands that breaks nothing there, and whose slots are there
-abbrev HoldsOf : Script → ℕ → (Part → Type 0) → (List Known → List Broken) → Expands → Type 0
-HoldsOf script slots P broken x =
-    (scope : Scope) (known : List Known) (atom slot : ℕ) → Agrees script slots scope known → broken known ≡ [] → slot + length (x scope atom slot).sorts ≤ slots → P (x scope atom slot)
+abbrev HoldsOf : Script → ℕ → (Part → Type 0) → (List Known → List Violation) → Expands → Type 0
+HoldsOf script slots P violation x =
+    (scope : Scope) (known : List Known) (atom slot : ℕ) → Agrees script slots scope known → violation known ≡ [] → slot + length (x scope atom slot).sorts ≤ slots → P (x scope atom slot)
 
-front_within : {A : Type 0} (slot slots : ℕ) (front back : List A) → slot + length (front ++ back) ≤ slots → slot + length front ≤ slots
-front_within slot slots front back within = omega (arith, length-append front back)
+prefix_within : {A : Type 0} (slot slots : ℕ) (prefix back : List A) → slot + length (prefix ++ back) ≤ slots → slot + length prefix ≤ slots
+prefix_within slot slots prefix back within = omega (arith, length-append prefix back)
 
-back_within : {A : Type 0} (slot slots : ℕ) (front back : List A) → slot + length (front ++ back) ≤ slots → (slot + length front) + length back ≤ slots
-back_within slot slots front back within = omega (arith, length-append front back)
+back_within : {A : Type 0} (slot slots : ℕ) (prefix back : List A) → slot + length (prefix ++ back) ≤ slots → (slot + length prefix) + length back ≤ slots
+back_within slot slots prefix back within = omega (arith, length-append prefix back)
 
 module _ (script : Script) (slots : ℕ) (P : Part → Type 0) (keeps : Keeps script slots P) where
-  abbrev Holds : (List Known → List Broken) → Expands → Type 0
+  abbrev Holds : (List Known → List Violation) → Expands → Type 0
   Holds = HoldsOf script slots P
 
-  sides_hold : (join : Tree → Tree → Tree) → ((front back : Part) → P front → P back → P (beside join front back))
-      → (one other : List Known → List Broken) (x y : Expands) → Holds one x → Holds other y → Holds (λ known. one known ++ other known) (expansion.both join x y)
+  sides_hold : (join : Tree → Tree → Tree) → ((prefix back : Part) → P prefix → P back → P (beside join prefix back))
+      → (one other : List Known → List Violation) (x y : Expands) → Holds one x → Holds other y → Holds (λ known. one known ++ other known) (expansion.both join x y)
   sides_hold join kept one other x y f g scope known atom slot agrees free within =
       let parts = append_none (one known) (other known) free in
-      let front = x scope atom slot in
-      let back = y scope (atom + length front.atoms) (slot + length front.sorts) in
-      kept front back
-      (f scope known atom slot agrees parts.0 (front_within slot slots front.sorts back.sorts within))
-      (g scope known _ _ agrees parts.1 (back_within slot slots front.sorts back.sorts within))
+      let prefix = x scope atom slot in
+      let back = y scope (atom + length prefix.atoms) (slot + length prefix.sorts) in
+      kept prefix back
+      (f scope known atom slot agrees parts.0 (prefix_within slot slots prefix.sorts back.sorts within))
+      (g scope known _ _ agrees parts.1 (back_within slot slots prefix.sorts back.sorts within))
 
   tested_value : (scope : Scope) (known : List Known) (test : Ast) → Agrees script slots scope known → site_faults script known Sent (tested sorts.Bool) test ≡ [] → is_value slots (expr_of scope test) ≡ true
   tested_value scope known test agrees free =
       let site = free_site script known Sent (tested sorts.Bool) test free in
-      value_in_range script slots scope known test agrees site.expr site.placed
+      value_in_range script slots scope known test agrees site.expr site.positioned
 
-  block_holds : (vars : List Var) (broken : List Known → List Broken) (x : Expands) → Holds broken x
-      → Holds (λ known. vars_faults script.tools vars ++ broken (map known_var vars ++ known)) (expansion.block_of vars x)
-  block_holds vars broken x h scope known atom slot agrees free within =
+  block_holds : (vars : List Var) (violation : List Known → List Violation) (x : Expands) → Holds violation x
+      → Holds (λ known. vars_faults script.tools vars ++ violation (map known_var vars ++ known)) (expansion.block_of vars x)
+  block_holds vars violation x h scope known atom slot agrees free within =
       let part = x (declared slot vars ++ scope) atom (slot + length vars) in
-      let parts = append_none (vars_faults script.tools vars) (broken (map known_var vars ++ known)) free in
+      let parts = append_none (vars_faults script.tools vars) (violation (map known_var vars ++ known)) free in
       let sorts = append_none (var_repeats none_seen vars) (flat_map (var_faults script.tools) vars) parts.0 in
       let count : length (sorts_of_vars vars) ≡ length vars = length-map vars (λ (var : Var). var.sort) in
-      let own : slot + length vars ≤ slots = omega (arith, count, front_within slot slots (sorts_of_vars vars) part.sorts within) in
+      let own : slot + length vars ≤ slots = omega (arith, count, prefix_within slot slots (sorts_of_vars vars) part.sorts within) in
       let rest : (slot + length vars) + length part.sorts ≤ slots = omega (arith, count, back_within slot slots (sorts_of_vars vars) part.sorts within) in
       keeps.block (initial slot vars) (sorts_of_vars vars) part (initial_in_range slots slot vars own)
       (h (declared slot vars ++ scope) (map known_var vars ++ known) atom (slot + length vars) (declared_agree script slots slot vars scope known sorts.1 own agrees) parts.1 rest)
@@ -110,7 +110,7 @@ module _ (script : Script) (slots : ℕ) (P : Part → Type 0) (keeps : Keeps sc
         let is = call_found script body call d scope atom slot found.is in
         let all_within : slot + length (sorts_of own_formals ++ part.sorts) ≤ slots = subst (λ (whole : Part). slot + length whole.sorts ≤ slots) is within in
         let count : length (sorts_of own_formals) ≡ length own_formals = length-map own_formals (λ (formal : Formal). formal.sort) in
-        let own : slot + length own_formals ≤ slots = omega (arith, count, front_within slot slots (sorts_of own_formals) part.sorts all_within) in
+        let own : slot + length own_formals ≤ slots = omega (arith, count, prefix_within slot slots (sorts_of own_formals) part.sorts all_within) in
         let rest : (slot + length own_formals) + length part.sorts ≤ slots = omega (arith, count, back_within slot slots (sorts_of own_formals) part.sorts all_within) in
         let definition = free_named script call.name d proper found.is in
         let sorts = append_none (formal_repeats none_seen d.formals) (flat_map (formal_faults script.tools) d.formals) definition.formals in
@@ -120,7 +120,7 @@ module _ (script : Script) (slots : ℕ) (P : Part → Type 0) (keeps : Keeps sc
         (keeps.block (set_formals scope slot d.formals call.actuals) (sorts_of own_formals) part (call_in_range script slots scope known agrees slot d.formals call.actuals actuals own)
         (bodies d.body (formals_of_call scope slot d.formals call.actuals) (map known_formal d.formals) atom (slot + length own_formals) inner definition.body rest))
 
-    steps : Related (List Known → List Broken) Expands (faults.proc_step script) (expansion.proc_step script body) (HoldsOf script slots P)
+    steps : Related (List Known → List Violation) Expands (faults.proc_step script) (expansion.proc_step script body) (HoldsOf script slots P)
     steps = record {
       atom = λ def scope known atom slot agrees free within. keeps.atom scope known def atom slot agrees free;
       call = call_holds;
@@ -128,17 +128,17 @@ module _ (script : Script) (slots : ℕ) (P : Part → Type 0) (keeps : Keeps sc
       alt = sides_hold tree.Alt keeps.alt;
       star = sides_hold tree.Star keeps.star;
       par = sides_hold tree.Par keeps.par;
-      test = λ test broken x f scope known atom slot agrees free within.
+      test = λ test violation x f scope known atom slot agrees free within.
           let own = site_faults script known Sent (tested sorts.Bool) test in
-          let parts = append_none own (broken known) (append_none (own ++ broken known) [] free).0 in
+          let parts = append_none own (violation known) (append_none (own ++ violation known) [] free).0 in
           keeps.test (expr_of scope test) (x scope atom slot) (tested_value scope known test agrees parts.0) (f scope known atom slot agrees parts.1 within);
       test_else = λ test one other x y f g scope known atom slot agrees free within.
           let own = site_faults script known Sent (tested sorts.Bool) test in
           let outer = append_none (own ++ one known) (other known) free in
           let inner = append_none own (one known) outer.0 in
           let value = tested_value scope known test agrees inner.0 in
-          let sides : one known ++ other known ≡ [] = ap (λ broken. broken ++ other known) inner.1 ∙ outer.1 in
-          sides_hold (expansion.tested (expr_of scope test)) (λ front back. keeps.test_else (expr_of scope test) front back value) one other x y f g scope known atom slot agrees sides within;
+          let sides : one known ++ other known ≡ [] = ap (λ violation. violation ++ other known) inner.1 ∙ outer.1 in
+          sides_hold (expansion.tested (expr_of scope test)) (λ prefix back. keeps.test_else (expr_of scope test) prefix back value) one other x y f g scope known atom slot agrees sides within;
       block = block_holds;
     }
 
@@ -147,5 +147,5 @@ pub expansions_keep : (script : Script) (slots : ℕ) (P : Part → Type 0) → 
     → slot + length (expands script depth p scope atom slot).sorts ≤ slots → P (expands script depth p scope atom slot)
 expansions_keep script slots P keeps proper zero p scope known atom slot agrees free within = keeps.nothing
 expansions_keep script slots P keeps proper (suc depth) p scope known atom slot agrees free within =
-    folds_related (List Known → List Broken) Expands (faults.proc_step script) (expansion.proc_step script (expands script depth)) (HoldsOf script slots P)
+    folds_related (List Known → List Violation) Expands (faults.proc_step script) (expansion.proc_step script (expands script depth)) (HoldsOf script slots P)
     (steps script slots P keeps proper (expands script depth) (expansions_keep script slots P keeps proper depth)) p scope known atom slot agrees free within

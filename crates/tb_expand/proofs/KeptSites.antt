@@ -7,40 +7,40 @@ use Rattle.tb_syntax.specs.declared.ast.AstKind.{AstKind, out-AstKind}
 use Rattle.tb_syntax.specs.declared.ast.AstKind.TheOpen as layer
 use Rattle.tb_syntax.specs.declared.ast.AstKind.TheOpen.{AstKind-F}
 use Rattle.tb_syntax.specs.declared.script.Script.{Script}
-use Rattle.tb_types.specs.declared.broken.Rule.TheVariants.{NoTool, NoFunction, NotResult, TypeClash}
-use Rattle.tb_types.specs.declared.places.Place.{Place}
+use Rattle.tb_types.specs.declared.violation.Rule.TheVariants.{NoTool, NoFunction, NotResult, TypeClash}
+use Rattle.tb_types.specs.declared.positions.Position.{Position}
 use Rattle.tb_types.specs.declared.scope.Known.{Known}
-use Rattle.tb_types.specs.Broken.{noted_if}
-use Rattle.tb_types.specs.Duties.{Duty, lacks_tool, lacks_function, lacks_result, clashes, is_result, result_name, site_faults}
+use Rattle.tb_types.specs.Violation.{noted_if}
+use Rattle.tb_types.specs.ExpectedSorts.{Expectation, lacks_tool, lacks_function, lacks_result, clashes, is_result, result_name, site_faults}
 use Rattle.tb_types.specs.Exprs.{expr_faults}
-use Rattle.tb_types.specs.Places.{misplaced}
+use Rattle.tb_types.specs.Positions.{misplaced}
 use Rattle.tb_expand.specs.Acts.{name_in, name_of}
 use Rattle.tb_expand.proofs.NoFaults.{append_none, noted_none}
 
-pub record IsKept (script : Script) (known : List Known) (place : Place) (duty : Duty) (e : Ast) : Type 0 where
-  pub has_tool : lacks_tool script duty e ≡ false
+pub record IsKept (script : Script) (known : List Known) (position : Position) (expected_sort : Expectation) (e : Ast) : Type 0 where
+  pub has_tool : lacks_tool script expected_sort e ≡ false
   pub no_faults : expr_faults known e ≡ []
-  pub in_place : misplaced place e ≡ []
-  pub has_result : lacks_result duty e ≡ false
-  pub no_clash : clashes script known duty e ≡ false
+  pub in_place : misplaced position e ≡ []
+  pub has_result : lacks_result expected_sort e ≡ false
+  pub no_clash : clashes script known expected_sort e ≡ false
 
-pub kept_site : (script : Script) (known : List Known) (place : Place) (duty : Duty) (e : Ast) → site_faults script known place duty e ≡ [] → IsKept script known place duty e
-kept_site script known place duty e none =
-    let tool = noted_if (lacks_tool script duty e) NoTool e.token in
-    let function = noted_if (lacks_function duty e) NoFunction e.token in
-    let result = noted_if (lacks_result duty e) NotResult e.token in
-    let clash = noted_if (clashes script known duty e) TypeClash e.token in
-    let fifth = append_none (tool ++ function ++ expr_faults known e ++ misplaced place e ++ result) clash none in
-    let fourth = append_none (tool ++ function ++ expr_faults known e ++ misplaced place e) result fifth.0 in
-    let third = append_none (tool ++ function ++ expr_faults known e) (misplaced place e) fourth.0 in
+pub kept_site : (script : Script) (known : List Known) (position : Position) (expected_sort : Expectation) (e : Ast) → site_faults script known position expected_sort e ≡ [] → IsKept script known position expected_sort e
+kept_site script known position expected_sort e none =
+    let tool = noted_if (lacks_tool script expected_sort e) NoTool e.token in
+    let function = noted_if (lacks_function expected_sort e) NoFunction e.token in
+    let result = noted_if (lacks_result expected_sort e) NotResult e.token in
+    let clash = noted_if (clashes script known expected_sort e) TypeClash e.token in
+    let fifth = append_none (tool ++ function ++ expr_faults known e ++ misplaced position e ++ result) clash none in
+    let fourth = append_none (tool ++ function ++ expr_faults known e ++ misplaced position e) result fifth.0 in
+    let third = append_none (tool ++ function ++ expr_faults known e) (misplaced position e) fourth.0 in
     let second = append_none (tool ++ function) (expr_faults known e) third.0 in
     let first = append_none tool function second.0 in
     record {
-      has_tool = noted_none (lacks_tool script duty e) NoTool e.token first.0;
+      has_tool = noted_none (lacks_tool script expected_sort e) NoTool e.token first.0;
       no_faults = second.1;
       in_place = third.1;
-      has_result = noted_none (lacks_result duty e) NotResult e.token fourth.1;
-      no_clash = noted_none (clashes script known duty e) TypeClash e.token fifth.1;
+      has_result = noted_none (lacks_result expected_sort e) NotResult e.token fourth.1;
+      no_clash = noted_none (clashes script known expected_sort e) TypeClash e.token fifth.1;
     }
 
 result_at : (x : AstKind-F AstKind Ast) → is_some (result_name x) ≡ true → x ≡ layer.Result (name_in x)

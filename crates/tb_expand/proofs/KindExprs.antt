@@ -10,18 +10,18 @@ use Rattle.tb_syntax.specs.declared.ast.AstKind.TheVariants.{outs-Int, outs-Str,
 use Rattle.tb_syntax.specs.declared.ast.AstKind.TheOpen.{AstKind-F}
 use Rattle.tb_syntax.specs.declared.ast.AstKind.TheFolds.{fold_out-AstKind, map-AstKind, fold-Ast, fold_out-Ast}
 use Rattle.tb_expand.specs.Scopes.{Scope, slot_of}
-use Rattle.tb_expand.specs.Exprs.{kind_expr, kind_step, place_step, expr_of, exprs_of, named}
+use Rattle.tb_expand.specs.Exprs.{kind_expr, kind_step, position_step, expr_of, exprs_of, named}
 
 abbrev layer_expr : Scope → AstKind-F AstKind Ast → Expr
-layer_expr scope layer = kind_step scope (map-AstKind AstKind Ast Expr Expr (kind_expr scope) (fold-Ast Expr Expr (kind_step scope) place_step) layer)
+layer_expr scope layer = kind_step scope (map-AstKind AstKind Ast Expr Expr (kind_expr scope) (fold-Ast Expr Expr (kind_step scope) position_step) layer)
 
 opened : (scope : Scope) (k : AstKind) (layer : AstKind-F AstKind Ast) → out-AstKind k ≡ layer → kind_expr scope k ≡ layer_expr scope layer
-opened scope k layer e = fold_out-AstKind Expr Expr (kind_step scope) place_step k ∙ ap (layer_expr scope) e
+opened scope k layer e = fold_out-AstKind Expr Expr (kind_step scope) position_step k ∙ ap (layer_expr scope) e
 
-expr_is : (scope : Scope) (e : Ast) → fold-Ast Expr Expr (kind_step scope) place_step e ≡ expr_of scope e
-expr_is scope e = fold_out-Ast Expr Expr (kind_step scope) place_step e
+expr_is : (scope : Scope) (e : Ast) → fold-Ast Expr Expr (kind_step scope) position_step e ≡ expr_of scope e
+expr_is scope e = fold_out-Ast Expr Expr (kind_step scope) position_step e
 
-exprs_are : (scope : Scope) (parts : List Ast) → map (fold-Ast Expr Expr (kind_step scope) place_step) parts ≡ exprs_of scope parts
+exprs_are : (scope : Scope) (parts : List Ast) → map (fold-Ast Expr Expr (kind_step scope) position_step) parts ≡ exprs_of scope parts
 exprs_are scope parts = λ i. map (λ part. expr_is scope part i) parts
 
 pub expr_of_number : (scope : Scope) (n : ℤ) → kind_expr scope (ast.Int n) ≡ expr.Int n

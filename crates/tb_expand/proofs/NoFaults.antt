@@ -2,8 +2,8 @@
 use Rattle.std.proofs.Common.{◌≡◌, ℕ, Bool, true, false, cond, List, [], ◌∷◌, ◌++◌, Some, refl, ap, sym, ◌∙◌}
 use Rattle.std.specs.Prelude.{find}
 use Rattle.std.specs.List.{AllByRecursion, flat_map}
-use Rattle.tb_types.specs.declared.broken.Rule.{Rule}
-use Rattle.tb_types.specs.Broken.{noted_if}
+use Rattle.tb_types.specs.declared.violation.Rule.{Rule}
+use Rattle.tb_types.specs.Violation.{noted_if}
 
 pub append_none : {A : Type 0} (xs ys : List A) → xs ++ ys ≡ [] → (xs ≡ []) × (ys ≡ [])
 append_none [] ys e = (refl, e)
@@ -11,9 +11,9 @@ append_none (x ∷ xs) ys e =
     let more : x ∷ (xs ++ ys) ≡ [] = e in
     absurd (cc)
 
-pub noted_none : (b : Bool) (broken : Rule) (token : ℕ) → noted_if b broken token ≡ [] → b ≡ false
-noted_none true broken token e = absurd (cc)
-noted_none false broken token e = refl
+pub noted_none : (b : Bool) (violation : Rule) (token : ℕ) → noted_if b violation token ≡ [] → b ≡ false
+noted_none true violation token e = absurd (cc)
+noted_none false violation token e = refl
 
 -- the first of some parts, and the others
 pub flat_map_none : {A B : Type 0} (f : A → List B) (x : A) (xs : List A) → flat_map f (x ∷ xs) ≡ [] → (f x ≡ []) × (flat_map f xs ≡ [])

@@ -30,18 +30,18 @@ IsNumbered from part = AreNumbered from (tree_atoms part.tree) (length part.atom
 next : (from count : ℕ) → (from + 1) + count ≡ from + suc count
 next from count = omega arith
 
-ascends_on : (from : ℕ) (front back : List ℕ) → ascends_by_one from front ≡ true → ascends_by_one (from + length front) back ≡ true → ascends_by_one from (front ++ back) ≡ true
+ascends_on : (from : ℕ) (prefix back : List ℕ) → ascends_by_one from prefix ≡ true → ascends_by_one (from + length prefix) back ≡ true → ascends_by_one from (prefix ++ back) ≡ true
 ascends_on from [] back f b =
     let e : from + 0 ≡ from = omega arith in
     subst (λ n. ascends_by_one n back ≡ true) e b
-ascends_on from (number ∷ front) back f b =
-    let parts = and_parts (number == from) (ascends_by_one (from + 1) front) f in
-    and_from _ _ parts.0 (ascends_on (from + 1) front back parts.1 (subst (λ n. ascends_by_one n back ≡ true) (sym (next from (length front))) b))
+ascends_on from (number ∷ prefix) back f b =
+    let parts = and_parts (number == from) (ascends_by_one (from + 1) prefix) f in
+    and_from _ _ parts.0 (ascends_on (from + 1) prefix back parts.1 (subst (λ n. ascends_by_one n back ≡ true) (sym (next from (length prefix))) b))
 
-both_numbered : (from count others : ℕ) (front back : List ℕ) → AreNumbered from front count → AreNumbered (from + count) back others → AreNumbered from (front ++ back) (count + others)
-both_numbered from count others front back f b = record {
-  ascends = ascends_on from front back f.ascends (subst (λ n. ascends_by_one (from + n) back ≡ true) (sym f.counted) b.ascends);
-  counted = length-append front back ∙ (λ i. f.counted i + b.counted i);
+both_numbered : (from count others : ℕ) (prefix back : List ℕ) → AreNumbered from prefix count → AreNumbered (from + count) back others → AreNumbered from (prefix ++ back) (count + others)
+both_numbered from count others prefix back f b = record {
+  ascends = ascends_on from prefix back f.ascends (subst (λ n. ascends_by_one (from + n) back ≡ true) (sym f.counted) b.ascends);
+  counted = length-append prefix back ∙ (λ i. f.counted i + b.counted i);
 }
 
 one_numbered : (atom : ℕ) → AreNumbered atom (atom ∷ []) 1
@@ -54,20 +54,20 @@ joined_numbered : (join : Tree → Tree → Tree) → ((x y : Tree) → tree_ato
     → IsNumbered (atom + length (x scope atom slot).atoms) (y scope (atom + length (x scope atom slot).atoms) (slot + length (x scope atom slot).sorts))
     → IsNumbered atom (both join x y scope atom slot)
 joined_numbered join atoms_of x y scope atom slot f b =
-    let front = x scope atom slot in
-    let back = y scope (atom + length front.atoms) (slot + length front.sorts) in
-    subst (λ numbers. AreNumbered atom numbers (length (front.atoms ++ back.atoms))) (sym (atoms_of front.tree back.tree))
-    (subst (AreNumbered atom (tree_atoms front.tree ++ tree_atoms back.tree)) (sym (length-append front.atoms back.atoms))
-    (both_numbered atom (length front.atoms) (length back.atoms) (tree_atoms front.tree) (tree_atoms back.tree) f b))
+    let prefix = x scope atom slot in
+    let back = y scope (atom + length prefix.atoms) (slot + length prefix.sorts) in
+    subst (λ numbers. AreNumbered atom numbers (length (prefix.atoms ++ back.atoms))) (sym (atoms_of prefix.tree back.tree))
+    (subst (AreNumbered atom (tree_atoms prefix.tree ++ tree_atoms back.tree)) (sym (length-append prefix.atoms back.atoms))
+    (both_numbered atom (length prefix.atoms) (length back.atoms) (tree_atoms prefix.tree) (tree_atoms back.tree) f b))
 
 -- numbered wherever it stands, if its calls end
 abbrev AreNumberedIf : Bool → Expands → Type 0
 AreNumberedIf whole x = whole ≡ true → (scope : Scope) (atom slot : ℕ) → IsNumbered atom (x scope atom slot)
 
 sides_numbered : (join : Tree → Tree → Tree) → ((x y : Tree) → tree_atoms (join x y) ≡ tree_atoms x ++ tree_atoms y)
-    → (front back : Bool) (x y : Expands) → AreNumberedIf front x → AreNumberedIf back y → AreNumberedIf (front && back) (both join x y)
-sides_numbered join atoms_of front back x y f b e scope atom slot =
-    let parts = and_parts front back e in
+    → (prefix back : Bool) (x y : Expands) → AreNumberedIf prefix x → AreNumberedIf back y → AreNumberedIf (prefix && back) (both join x y)
+sides_numbered join atoms_of prefix back x y f b e scope atom slot =
+    let parts = and_parts prefix back e in
     joined_numbered join atoms_of x y scope atom slot (f parts.0 scope atom slot) (b parts.1 scope _ _)
 
 module _ (script : Script) (whole : Proc → Bool) (body : Proc → Expands) (known : (p : Proc) → AreNumberedIf (whole p) (body p)) where
@@ -84,15 +84,15 @@ module _ (script : Script) (whole : Proc → Bool) (body : Proc → Expands) (kn
   steps = record {
     atom = λ def e scope atom slot. subst (λ numbers. AreNumbered atom numbers 1) (sym (at.fold-At (List ℕ) atoms_step atom)) (one_numbered atom);
     call = called_numbered;
-    seq = λ front back x y f b. sides_numbered tree.Seq (at.fold-Seq (List ℕ) atoms_step) front back x y f b;
-    alt = λ front back x y f b. sides_numbered tree.Alt (at.fold-Alt (List ℕ) atoms_step) front back x y f b;
-    star = λ front back x y f b. sides_numbered tree.Star (at.fold-Star (List ℕ) atoms_step) front back x y f b;
-    par = λ front back x y f b. sides_numbered tree.Par (at.fold-Par (List ℕ) atoms_step) front back x y f b;
-    test = λ test front x f e scope atom slot.
+    seq = λ prefix back x y f b. sides_numbered tree.Seq (at.fold-Seq (List ℕ) atoms_step) prefix back x y f b;
+    alt = λ prefix back x y f b. sides_numbered tree.Alt (at.fold-Alt (List ℕ) atoms_step) prefix back x y f b;
+    star = λ prefix back x y f b. sides_numbered tree.Star (at.fold-Star (List ℕ) atoms_step) prefix back x y f b;
+    par = λ prefix back x y f b. sides_numbered tree.Par (at.fold-Par (List ℕ) atoms_step) prefix back x y f b;
+    test = λ test prefix x f e scope atom slot.
         subst (λ numbers. AreNumbered atom numbers (length (x scope atom slot).atoms)) (sym (at.fold-If (List ℕ) atoms_step (expr_of scope test) (x scope atom slot).tree ∙ append-nil (tree_atoms (x scope atom slot).tree)))
-        (f (and_parts front true e).0 scope atom slot);
-    test_else = λ test front back x y f b e scope atom slot.
-        sides_numbered (tested (expr_of scope test)) (at.fold-IfElse (List ℕ) atoms_step (expr_of scope test)) front back x y f b e scope atom slot;
+        (f (and_parts prefix true e).0 scope atom slot);
+    test_else = λ test prefix back x y f b e scope atom slot.
+        sides_numbered (tested (expr_of scope test)) (at.fold-IfElse (List ℕ) atoms_step (expr_of scope test)) prefix back x y f b e scope atom slot;
     block = λ vars whole x f e scope atom slot.
         let part = x (declared slot vars ++ scope) atom (slot + length vars) in
         subst (λ numbers. AreNumbered atom numbers (length part.atoms)) (sym (at.fold-Let (List ℕ) atoms_step (initial slot vars) part.tree)) (f e (declared slot vars ++ scope) atom (slot + length vars));

@@ -9,28 +9,28 @@ use Rattle.tb_syntax.specs.declared.proc.Proc.{Proc}
 use Rattle.tb_syntax.specs.declared.proc.Proc.TheOpen as layer
 use Rattle.tb_syntax.specs.declared.script.ProcDef.{ProcDef}
 use Rattle.tb_syntax.specs.declared.script.Script.{Script}
-use Rattle.tb_types.specs.declared.broken.Broken.{Broken}
-use Rattle.tb_types.specs.declared.broken.Rule.TheVariants.{Twice}
+use Rattle.tb_types.specs.declared.violation.Violation.{Violation}
+use Rattle.tb_types.specs.declared.violation.Rule.TheVariants.{Twice}
 use Rattle.tb_types.specs.declared.calls.Manner.TheVariants.{Called}
-use Rattle.tb_types.specs.declared.places.Place.TheVariants.{Sent}
+use Rattle.tb_types.specs.declared.positions.Position.TheVariants.{Sent}
 use Rattle.tb_types.specs.declared.scope.Known.{Known}
 use Rattle.tb_types.specs.Bodies.{proc_faults, proc_step}
-use Rattle.tb_types.specs.Broken.{noted_if}
+use Rattle.tb_types.specs.Violation.{noted_if}
 use Rattle.tb_types.specs.Calls.{call_faults}
 use Rattle.tb_types.specs.Conditions.{Proper}
 use Rattle.tb_types.specs.Definitions.{none_seen, or_seen, repeats, vars_faults}
-use Rattle.tb_types.specs.Duties.{tested, site_faults}
-use Rattle.tb_types.specs.NamePlaces.{process_name}
+use Rattle.tb_types.specs.ExpectedSorts.{tested, site_faults}
+use Rattle.tb_types.specs.NamePositions.{process_name}
 use Rattle.tb_types.specs.Names.{process_named}
 use Rattle.tb_types.specs.Scopes.{known_formal, known_var}
 use Rattle.tb_expand.specs.Cycles.{called, called_step, Differ}
 use Rattle.tb_expand.specs.Graphs.{IsOrder}
-use Rattle.tb_expand.specs.CallGraphs.{graph_of, names_in, places_of, AllDefined, NamesDiffer}
+use Rattle.tb_expand.specs.CallGraphs.{graph_of, names_in, positions_of, AllDefined, NamesDiffer}
 use Rattle.tb_expand.specs.Descents.{Descends, StandsAmong}
 use Rattle.tb_expand.proofs.CalledFolds.{IsKept, related}
 use Rattle.tb_expand.proofs.FaultFree.{IsFreeCall, fault_free, free_call, free_definition}
 use Rattle.tb_expand.proofs.GraphCycles.{leads_from}
-use Rattle.tb_expand.proofs.NamedPlaces.{place_there}
+use Rattle.tb_expand.proofs.NamedPositions.{position_there}
 use Rattle.tb_expand.proofs.NoFaults.{append_none, noted_none}
 use Rattle.tb_expand.proofs.Readings.{none_in, contains_at, contains_here, contains_there, contains_cases}
 
@@ -83,9 +83,9 @@ named (first ∷ procs) name d found = step (bytes_eq first.name name) refl foun
 
 module _ (script : Script) where
   abbrev Found : Type 0
-  Found = List Known → List Broken
+  Found = List Known → List Violation
 
-  -- where nothing is broken, each of these names is that of a process
+  -- where nothing is violated, each of these names is that of a process
   abbrev AreDefined : Found → List (List ℕ) → Type 0
   AreDefined found names = (known : List Known) → found known ≡ [] → (name : List ℕ) → Contains names name → Contains (names_in script) name
 
@@ -137,10 +137,10 @@ all_defined script proper d name there calls = calls_defined script d.body (map 
 
 pub order_descends : (script : Script) (order : List ℕ) → AllDefined script → IsOrder (graph_of script) order → Descends script order
 order_descends script order defined ordered = record { complete = complete; behind = behind } where
-  complete : (place : ℕ) → place < length script.procs → Contains order place
-  complete place h = ordered.complete place (subst (λ (n : ℕ). place < n) (sym (length-map script.procs (λ (d : ProcDef). places_of script (called d.body)))) h)
+  complete : (position : ℕ) → position < length script.procs → Contains order position
+  complete position h = ordered.complete position (subst (λ (n : ℕ). position < n) (sym (length-map script.procs (λ (d : ProcDef). positions_of script (called d.body)))) h)
 
-  behind : (at place : ℕ) (d : ProcDef) (name : List ℕ) → slice_get order at ≡ Some place → slice_get script.procs place ≡ Some d → Contains (called d.body) name → StandsAmong script (take at order) name
-  behind at place d name got there calls =
-      let found = place_there (names_in script) name (defined d name (contains_at script.procs place d there) calls) in
-      record { place = found.0; named = found.1; there = ordered.behind at place found.0 got (leads_from script place found.0 d name there calls found.1) }
+  behind : (at position : ℕ) (d : ProcDef) (name : List ℕ) → slice_get order at ≡ Some position → slice_get script.procs position ≡ Some d → Contains (called d.body) name → StandsAmong script (take at order) name
+  behind at position d name got there calls =
+      let found = position_there (names_in script) name (defined d name (contains_at script.procs position d there) calls) in
+      record { position = found.0; named = found.1; there = ordered.behind at position found.0 got (leads_from script position found.0 d name there calls found.1) }

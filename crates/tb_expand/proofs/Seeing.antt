@@ -8,14 +8,14 @@ use Rattle.tb_syntax.specs.declared.ast.AstKind.TheOpen as layer
 use Rattle.tb_syntax.specs.declared.proc.Var.{Var}
 use Rattle.tb_syntax.specs.declared.script.Formal.{Formal}
 use Rattle.tb_syntax.specs.declared.script.Script.{Script}
-use Rattle.tb_types.specs.declared.broken.Broken.{Broken}
-use Rattle.tb_types.specs.declared.broken.Rule.TheVariants.{NoTool}
+use Rattle.tb_types.specs.declared.violation.Violation.{Violation}
+use Rattle.tb_types.specs.declared.violation.Rule.TheVariants.{NoTool}
 use Rattle.tb_types.specs.declared.calls.Manner.TheVariants.{Called}
 use Rattle.tb_types.specs.declared.scope.Known.{Known}
-use Rattle.tb_types.specs.Broken.{noted_if}
-use Rattle.tb_types.specs.Calls.{actual_duty, actual_place, actuals_faults, formal_duty, formal_place, value_duty}
+use Rattle.tb_types.specs.Violation.{noted_if}
+use Rattle.tb_types.specs.Calls.{actual_expected_sort, actual_position, actuals_faults, formal_expected_sort, formal_position, value_expected_sort}
 use Rattle.tb_types.specs.Definitions.{formal_faults, var_faults}
-use Rattle.tb_types.specs.Duties.{exact, result_name, site_faults}
+use Rattle.tb_types.specs.ExpectedSorts.{exact, result_name, site_faults}
 use Rattle.tb_types.specs.Names.{is_unknown_sort}
 use Rattle.tb_types.specs.Scopes.{known_formal, known_var}
 use Rattle.tb_expand.specs.Acts.{name_in, name_of}
@@ -59,28 +59,28 @@ ActualsFree script known [] [] = Unit {0}
 ActualsFree script known [] (actual ∷ actuals) = ⊥
 ActualsFree script known (formal ∷ formals) [] = ⊥
 ActualsFree script known (formal ∷ formals) (actual ∷ actuals) =
-    (site_faults script known (formal_place Called formal.result) (formal_duty Called formal) actual ≡ []) × ActualsFree script known formals actuals
+    (site_faults script known (formal_position Called formal.result) (formal_expected_sort Called formal) actual ≡ []) × ActualsFree script known formals actuals
 
-abbrev asked : Script → List Known → Ast → Option Formal → List Broken
-asked script known actual o = site_faults script known (actual_place Called o) (actual_duty Called o) actual
+abbrev asked : Script → List Known → Ast → Option Formal → List Violation
+asked script known actual o = site_faults script known (actual_position Called o) (actual_expected_sort Called o) actual
 
-from_place : (script : Script) (known : List Known) (all formals : List Formal) (place : ℕ) (actuals : List Ast)
-    → ((k : ℕ) → slice_get all (place + k) ≡ slice_get formals k) → length actuals ≡ length formals
-    → actuals_faults script known Called all place actuals ≡ [] → ActualsFree script known formals actuals
-from_place script known all [] place [] same count free = tt
-from_place script known all [] place (actual ∷ actuals) same count free = absurd (omega (arith, count))
-from_place script known all (formal ∷ formals) place [] same count free = absurd (omega (arith, count))
-from_place script known all (formal ∷ formals) place (actual ∷ actuals) same count free =
-    let parts = append_none (asked script known actual (slice_get all place)) (actuals_faults script known Called all (place + 1) actuals) free in
-    let start : place ≡ place + 0 = omega arith in
-    let here : slice_get all place ≡ Some formal = ap (slice_get all) start ∙ same 0 in
-    let behind : (k : ℕ) → slice_get all ((place + 1) + k) ≡ slice_get formals k
-    = λ k. let moved : (place + 1) + k ≡ place + suc k = omega arith in ap (slice_get all) moved ∙ same (suc k) in
-    (subst (λ o. asked script known actual o ≡ []) here parts.0, from_place script known all formals (place + 1) actuals behind (omega (arith, count)) parts.1)
+from_position : (script : Script) (known : List Known) (all formals : List Formal) (position : ℕ) (actuals : List Ast)
+    → ((k : ℕ) → slice_get all (position + k) ≡ slice_get formals k) → length actuals ≡ length formals
+    → actuals_faults script known Called all position actuals ≡ [] → ActualsFree script known formals actuals
+from_position script known all [] position [] same count free = tt
+from_position script known all [] position (actual ∷ actuals) same count free = absurd (omega (arith, count))
+from_position script known all (formal ∷ formals) position [] same count free = absurd (omega (arith, count))
+from_position script known all (formal ∷ formals) position (actual ∷ actuals) same count free =
+    let parts = append_none (asked script known actual (slice_get all position)) (actuals_faults script known Called all (position + 1) actuals) free in
+    let start : position ≡ position + 0 = omega arith in
+    let here : slice_get all position ≡ Some formal = ap (slice_get all) start ∙ same 0 in
+    let behind : (k : ℕ) → slice_get all ((position + 1) + k) ≡ slice_get formals k
+    = λ k. let moved : (position + 1) + k ≡ position + suc k = omega arith in ap (slice_get all) moved ∙ same (suc k) in
+    (subst (λ o. asked script known actual o ≡ []) here parts.0, from_position script known all formals (position + 1) actuals behind (omega (arith, count)) parts.1)
 
 pub actuals_free : (script : Script) (known : List Known) (formals : List Formal) (actuals : List Ast) → length actuals ≡ length formals
     → actuals_faults script known Called formals 0 actuals ≡ [] → ActualsFree script known formals actuals
-actuals_free script known formals actuals count free = from_place script known formals formals 0 actuals (λ k. ap (slice_get formals) (zero_and k)) count free where
+actuals_free script known formals actuals count free = from_position script known formals formals 0 actuals (λ k. ap (slice_get formals) (zero_and k)) count free where
   zero_and : (k : ℕ) → 0 + k ≡ k
   zero_and k = omega arith
 
@@ -96,9 +96,9 @@ is_result_of (layer.Hole s) e = absurd (cc)
 is_result_of (layer.List parts) e = absurd (cc)
 
 module _ (script : Script) (slots : ℕ) (scope : Scope) (known : List Known) (agrees : Agrees script slots scope known) where
-  result_slot : (s : Sort) (actual : Ast) → site_faults script known (formal_place Called true) (exact s) actual ≡ [] → slot_of scope (name_of actual) < slots
+  result_slot : (s : Sort) (actual : Ast) → site_faults script known (formal_position Called true) (exact s) actual ≡ [] → slot_of scope (name_of actual) < slots
   result_slot s actual e =
-      let free = free_site script known (formal_place Called true) (exact s) actual e in
+      let free = free_site script known (formal_position Called true) (exact s) actual e in
       let result = is_result_of (out-AstKind actual.kind) free.result in
       let named : result.0 ≡ name_of actual = ap name_in (sym result.1) in
       subst (λ (name : List ℕ). slot_of scope name < slots) named (taken_in_range script slots scope known actual result.0 agrees result.1 free.expr)
@@ -115,10 +115,10 @@ module _ (script : Script) (slots : ℕ) (scope : Scope) (known : List Known) (a
         parts : (formal_faults script.tools formal ≡ []) × (flat_map (formal_faults script.tools) formals ≡ [])
         parts = append_none (formal_faults script.tools formal) (flat_map (formal_faults script.tools) formals) none
 
-        here : (place : ℕ) → place < slots → AgreesOn script slots (record { name = formal.name; slot = place; sort = formal.sort }) (known_formal formal)
-        here place inside = record { name = refl; sort = refl; slot = inside; is_sort = sort_is script formal.sort formal.sort_token parts.0 }
+        here : (position : ℕ) → position < slots → AgreesOn script slots (record { name = formal.name; slot = position; sort = formal.sort }) (known_formal formal)
+        here position inside = record { name = refl; sort = refl; slot = inside; is_sort = sort_is script formal.sort formal.sort_token parts.0 }
 
-        step : (b : Bool) → site_faults script known (formal_place Called b) (if b then exact formal.sort else value_duty Called formal.sort) actual ≡ []
+        step : (b : Bool) → site_faults script known (formal_position Called b) (if b then exact formal.sort else value_expected_sort Called formal.sort) actual ≡ []
             → slot + length (cond (not b) (formal ∷ value_formals formals) (value_formals formals)) ≤ slots
             → ((next : ℕ) → next + length (value_formals formals) ≤ slots → Agrees script slots (formals_of_call scope next formals actuals) (map known_formal formals))
             → Agrees script slots

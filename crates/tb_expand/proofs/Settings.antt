@@ -11,8 +11,8 @@ use Rattle.tb_syntax.specs.declared.script.Formal.{Formal}
 use Rattle.tb_syntax.specs.declared.script.Script.{Script}
 use Rattle.tb_types.specs.declared.calls.Manner.TheVariants.{Called}
 use Rattle.tb_types.specs.declared.scope.Known.{Known}
-use Rattle.tb_types.specs.Calls.{formal_place, value_duty}
-use Rattle.tb_types.specs.Duties.{exact, site_faults}
+use Rattle.tb_types.specs.Calls.{formal_position, value_expected_sort}
+use Rattle.tb_types.specs.ExpectedSorts.{exact, site_faults}
 use Rattle.tb_expand.specs.Agreeing.{Agrees}
 use Rattle.tb_expand.specs.Expansion.{initial, set_formals, value_formals}
 use Rattle.tb_expand.specs.Exprs.{expr_of}
@@ -36,7 +36,7 @@ module _ (script : Script) (slots : ℕ) (scope : Scope) (known : List Known) (a
   call_in_range slot (formal ∷ formals) [] free within = refl
   call_in_range slot (formal ∷ formals) (actual ∷ actuals) free within =
       step formal.result free.0 within (λ next. call_in_range next formals actuals free.1) where
-        step : (b : Bool) → site_faults script known (formal_place Called b) (if b then exact formal.sort else value_duty Called formal.sort) actual ≡ []
+        step : (b : Bool) → site_faults script known (formal_position Called b) (if b then exact formal.sort else value_expected_sort Called formal.sort) actual ≡ []
             → slot + length (cond (not b) (formal ∷ value_formals formals) (value_formals formals)) ≤ slots
             → ((next : ℕ) → next + length (value_formals formals) ≤ slots → AreInRange slots (set_formals scope next formals actuals))
             → AreInRange slots
@@ -44,7 +44,7 @@ module _ (script : Script) (slots : ℕ) (scope : Scope) (known : List Known) (a
             else record { slot = slot; start = Some (expr_of scope actual) } ∷ set_formals scope (slot + 1) formals actuals)
         step true site inside others = others slot inside
         step false site inside others =
-            let site_free = free_site script known (formal_place Called false) (value_duty Called formal.sort) actual site in
+            let site_free = free_site script known (formal_position Called false) (value_expected_sort Called formal.sort) actual site in
             and_from _ _
-            (and_from (nat_lt slot slots) _ (lt-ltb slot slots (omega arith)) (value_in_range script slots scope known actual agrees site_free.expr site_free.placed))
+            (and_from (nat_lt slot slots) _ (lt-ltb slot slots (omega arith)) (value_in_range script slots scope known actual agrees site_free.expr site_free.positioned))
             (others (slot + 1) (omega arith))

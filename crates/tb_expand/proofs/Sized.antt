@@ -61,12 +61,12 @@ nothing_sized = record { atoms = refl; levels = leveled _ _ (outs-At 0) }
 
 both_sized : (join : Tree → Tree → Tree) → HasLevel join → (x y : Expands) (m n : Size) → AreSized x m → AreSized y n → AreSized (both join x y) (beside m n)
 both_sized join one_more x y m n is_x is_y scope atom slot = joined (x scope atom slot) (is_x scope atom slot) where
-  joined : (front : Part) → HasSize front m → HasSize (both join (λ s a l. front) y scope atom slot) (beside m n)
-  joined front is = behind (y scope (atom + length front.atoms) (slot + length front.sorts)) (is_y scope (atom + length front.atoms) (slot + length front.sorts)) where
-    behind : (back : Part) → HasSize back n → HasSize (both join (λ s a l. front) (λ s a l. back) scope atom slot) (beside m n)
+  joined : (prefix : Part) → HasSize prefix m → HasSize (both join (λ s a l. prefix) y scope atom slot) (beside m n)
+  joined prefix is = behind (y scope (atom + length prefix.atoms) (slot + length prefix.sorts)) (is_y scope (atom + length prefix.atoms) (slot + length prefix.sorts)) where
+    behind : (back : Part) → HasSize back n → HasSize (both join (λ s a l. prefix) (λ s a l. back) scope atom slot) (beside m n)
     behind back others = record {
-      atoms = length-append front.atoms back.atoms ∙ (λ i. is.atoms i + others.atoms i);
-      levels = one_more front.tree back.tree ∙ (λ i. 1 + max (is.levels i) (others.levels i));
+      atoms = length-append prefix.atoms back.atoms ∙ (λ i. is.atoms i + others.atoms i);
+      levels = one_more prefix.tree back.tree ∙ (λ i. 1 + max (is.levels i) (others.levels i));
     }
 
 abbrev AreBothSized : Option Expands → Option Size → Type 0

@@ -20,12 +20,12 @@ trees_kept : (script : Script) (slots : ℕ) → Keeps script slots (HasTreeInRa
 trees_kept script slots = record {
   nothing = at.fold-At Bool (tree_step slots) 0;
   atom = λ scope known def atom slot agrees free. at.fold-At Bool (tree_step slots) atom;
-  seq = λ front back f b. at.fold-Seq Bool (tree_step slots) front.tree back.tree ∙ and_from _ _ f b;
-  alt = λ front back f b. at.fold-Alt Bool (tree_step slots) front.tree back.tree ∙ and_from _ _ f b;
-  star = λ front back f b. at.fold-Star Bool (tree_step slots) front.tree back.tree ∙ and_from _ _ f b;
-  par = λ front back f b. at.fold-Par Bool (tree_step slots) front.tree back.tree ∙ and_from _ _ f b;
+  seq = λ prefix back f b. at.fold-Seq Bool (tree_step slots) prefix.tree back.tree ∙ and_from _ _ f b;
+  alt = λ prefix back f b. at.fold-Alt Bool (tree_step slots) prefix.tree back.tree ∙ and_from _ _ f b;
+  star = λ prefix back f b. at.fold-Star Bool (tree_step slots) prefix.tree back.tree ∙ and_from _ _ f b;
+  par = λ prefix back f b. at.fold-Par Bool (tree_step slots) prefix.tree back.tree ∙ and_from _ _ f b;
   test = λ test part value f. at.fold-If Bool (tree_step slots) test part.tree ∙ and_from _ _ (and_from _ _ value f) refl;
-  test_else = λ test front back value f b. at.fold-IfElse Bool (tree_step slots) test front.tree back.tree ∙ and_from _ _ (and_from _ _ value f) b;
+  test_else = λ test prefix back value f b. at.fold-IfElse Bool (tree_step slots) test prefix.tree back.tree ∙ and_from _ _ (and_from _ _ value f) b;
   block = λ settings sorts part set f. at.fold-Let Bool (tree_step slots) settings part.tree ∙ and_from _ _ set f;
 }
 

@@ -22,16 +22,16 @@ use Rattle.tb_syntax.specs.declared.script.ToolDef.{ToolDef}
 use Rattle.tb_expand.specs.Scopes.{Scope, slot_of, sort_of}
 use Rattle.tb_expand.specs.Exprs.{expr_of, exprs_of}
 
--- the place of the first of these names, or their number
-abbrev pub place_of : List ℕ → List (List ℕ) → ℕ
-place_of name [] = 0
-place_of name (other ∷ others) = if bytes_eq other name then 0 else place_of name others + 1
+-- the position of the first of these names, or their number
+abbrev pub position_of : List ℕ → List (List ℕ) → ℕ
+position_of name [] = 0
+position_of name (other ∷ others) = if bytes_eq other name then 0 else position_of name others + 1
 
 abbrev pub process_of : Script → List ℕ → ℕ
-process_of script name = place_of name (map (λ (d : ProcDef). d.name) script.procs)
+process_of script name = position_of name (map (λ (d : ProcDef). d.name) script.procs)
 
 abbrev pub tool_of : Script → List ℕ → ℕ
-tool_of script name = place_of name (map (λ (d : ToolDef). d.name) script.tools)
+tool_of script name = position_of name (map (λ (d : ToolDef). d.name) script.tools)
 
 -- the tool of a sort; in a checked script it is a tool's where it is asked for
 abbrev pub tool_of_open : Script → sort.Sort-F Sort → ℕ

@@ -30,9 +30,9 @@ abbrev pub Calls : Script → List ℕ → List ℕ → Type 0
 Calls script caller name = (d : ProcDef) × Contains script.procs d × (d.name ≡ caller) × Contains (called d.body) name
 
 -- the caller calls the first of these, each of them the next, and the last calls the one to come back to
-abbrev pub GoRound : Script → List ℕ → List ℕ → List (List ℕ) → Type 0
-GoRound script back caller [] = Calls script caller back
-GoRound script back caller (name ∷ names) = Calls script caller name × GoRound script back name names
+abbrev pub IsCallPath : Script → List ℕ → List ℕ → List (List ℕ) → Type 0
+IsCallPath script back caller [] = Calls script caller back
+IsCallPath script back caller (name ∷ names) = Calls script caller name × IsCallPath script back name names
 
 -- the names differ
 abbrev pub Differ : List (List ℕ) → Type 0
@@ -44,6 +44,6 @@ pub record IsCycle (script : Script) (names : List (List ℕ)) : Type 0 where
   pub first : List ℕ
   pub others : List (List ℕ)
   pub is : names ≡ first ∷ others
-  pub go_round : GoRound script first first others
+  pub call_path : IsCallPath script first first others
   pub differ : Differ names
   pub is_first : (name : List ℕ) → Contains others name → process_of script first < process_of script name

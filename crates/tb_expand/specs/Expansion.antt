@@ -37,9 +37,9 @@ Expands = Scope → ℕ → ℕ → Part
 abbrev pub both : (Tree → Tree → Tree) → Expands → Expands → Expands
 both join x y scope atom slot = joined (x scope atom slot) where
   joined : Part → Part
-  joined front = behind (y scope (atom + length front.atoms) (slot + length front.sorts)) where
+  joined prefix = behind (y scope (atom + length prefix.atoms) (slot + length prefix.sorts)) where
     behind : Part → Part
-    behind back = record { tree = join front.tree back.tree; atoms = front.atoms ++ back.atoms; sorts = front.sorts ++ back.sorts }
+    behind back = record { tree = join prefix.tree back.tree; atoms = prefix.atoms ++ back.atoms; sorts = prefix.sorts ++ back.sorts }
 
 -- the same atoms and slots under another tree
 abbrev pub under : (Tree → Tree) → Part → Part

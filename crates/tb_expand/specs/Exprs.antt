@@ -29,12 +29,12 @@ kind_step scope (open_ast.Result name) = expr.Result (slot_of scope name)
 kind_step scope (open_ast.Hole sort) = expr.Hole sort
 kind_step scope (open_ast.List parts) = expr.List parts
 
--- the token's place is forgotten
-abbrev pub place_step : open_ast.Ast-F Expr Expr → Expr
-place_step ast = ast.kind
+-- the token's position is forgotten
+abbrev pub position_step : open_ast.Ast-F Expr Expr → Expr
+position_step ast = ast.kind
 
 abbrev pub kind_expr : Scope → AstKind → Expr
-kind_expr scope = fold-AstKind Expr Expr (kind_step scope) place_step
+kind_expr scope = fold-AstKind Expr Expr (kind_step scope) position_step
 
 abbrev pub expr_of : Scope → Ast → Expr
 expr_of scope ast = kind_expr scope ast.kind

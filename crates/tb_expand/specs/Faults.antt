@@ -31,7 +31,7 @@ pub record IsTooLarge (script : Script) (d : ProcDef) (name : List ℕ) : Type 0
   pub large : is_too_large (expansion_of script d) ≡ true
   pub named : name ≡ d.name
 
--- Why the process has no body. Want of memory may come at any time.
+-- Why the process has no body. Memory may run out at any time.
 abbrev pub HasFault : Script → ProcDef → ExpandFault → Type 0
 HasFault script d (fault.Recursion names) = IsCycle script names
 HasFault script d (fault.TooLarge name) = IsTooLarge script d name

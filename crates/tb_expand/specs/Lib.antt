@@ -13,6 +13,6 @@ pub mod Graphs
 pub mod Agreeing
 pub mod Walks
 pub mod Ordered
-pub mod Rounds
+pub mod TurnedCycles
 pub mod CallGraphs
 pub mod CallOrders

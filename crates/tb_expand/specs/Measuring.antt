@@ -6,7 +6,7 @@ use Rattle.tb_syntax.specs.declared.proc.Proc.TheOpen.{Proc-F, Atom, Call as Cal
 use Rattle.tb_syntax.specs.declared.proc.Proc.TheFolds.{fold-Proc}
 use Rattle.tb_syntax.specs.declared.script.ProcDef.{ProcDef}
 use Rattle.tb_syntax.specs.declared.script.Script.{Script}
-use Rattle.tb_types.specs.NamePlaces.{place_of, process_name}
+use Rattle.tb_types.specs.NamePositions.{position_of, process_name}
 use Rattle.tb_expand.specs.declared.size.Size.{Size}
 use Rattle.tb_expand.specs.Expansion.{most_atoms}
 use Rattle.tb_expand.specs.Sizes.{nothing_size, atom_size, beside, above, tested_size, size_of}
@@ -25,7 +25,7 @@ called_measure (Some x) = capped (above x)
 
 -- the size that is known of the process of this name
 abbrev pub known_size : Script → List Size → List ℕ → Option Size
-known_size script sizes name = option_and_then (slice_get sizes) (place_of (map process_name script.procs) name)
+known_size script sizes name = option_and_then (slice_get sizes) (position_of (map process_name script.procs) name)
 
 abbrev pub measure_step : Script → List Size → Proc-F Size → Size
 measure_step script sizes (Atom def) = atom_size
@@ -37,19 +37,19 @@ measure_step script sizes (Par x y) = capped (beside x y)
 measure_step script sizes (If test x y) = capped (tested_size x y)
 measure_step script sizes (Let vars x) = capped (above x)
 
--- a body's size, where those of the processes are known by their places
+-- a body's size, where those of the processes are known by their positions
 abbrev pub measure : Script → List Size → Proc → Size
 measure script sizes p = fold-Proc Size (measure_step script sizes) p
 
 abbrev pub with_size_of : Script → List Size → ℕ → Option ProcDef → List Size
-with_size_of script sizes place None = sizes
-with_size_of script sizes place (Some d) = slice_set sizes place (measure script sizes d.body)
+with_size_of script sizes position None = sizes
+with_size_of script sizes position (Some d) = slice_set sizes position (measure script sizes d.body)
 
--- the size of the process at this place is kept
+-- the size of the process at this position is kept
 abbrev pub with_measure : Script → List Size → ℕ → List Size
-with_measure script sizes place = with_size_of script sizes place (slice_get script.procs place)
+with_measure script sizes position = with_size_of script sizes position (slice_get script.procs position)
 
--- each process has this size at its place
+-- each process has this size at its position
 abbrev pub AreSizes : Script → List Size → Type 0
 AreSizes script sizes =
-    (place : ℕ) (d : ProcDef) → slice_get script.procs place ≡ Some d → slice_get sizes place ≡ Some (capped (size_of script (length script.procs) d.body))
+    (position : ℕ) (d : ProcDef) → slice_get script.procs position ≡ Some d → slice_get sizes position ≡ Some (capped (size_of script (length script.procs) d.body))

@@ -1,4 +1,4 @@
--- Which variables are seen at a place of a body: the innermost of a name hides the others.
+-- Which variables are seen at a position of a body: the innermost of a name hides the others.
 use Rattle.std.specs.Prelude.{ℕ, ◌+◌, List, [], ◌∷◌, ◌++◌, find, Option, Some, None}
 use Rattle.std.specs.Str.{bytes_eq}
 use Rattle.std.specs.List.{fold}

@@ -37,4 +37,4 @@ is_whole script (suc depth) p = is_whole_with script (is_whole script depth) p
 
 -- calls end in the body of each process, within as many calls as there are processes
 abbrev pub AllWhole : Script → Type 0
-AllWhole script = (place : ℕ) (d : ProcDef) → slice_get script.procs place ≡ Some d → is_whole script (length script.procs) d.body ≡ true
+AllWhole script = (position : ℕ) (d : ProcDef) → slice_get script.procs position ≡ Some d → is_whole script (length script.procs) d.body ≡ true

@@ -7,7 +7,7 @@ ghost use Rattle.tb_expand.specs.Exprs.{expr_of, exprs_of};
 ghost use Rattle.tb_expand.specs.Acts.{act_of, act_of_word, act_of_list, act_of_one, act_of_two, act_of_more, act_without, connected, disconnected, name_of, process_of, tool_of, tool_of_sort};
 
 use crate::exprs::{expr_of, exprs_of};
-use crate::places::{name_of, process_of, tool_of, tool_of_sort};
+use crate::positions::{name_of, process_of, tool_of, tool_of_sort};
 use crate::scope::{Blocks, slot_of, sort_of};
 use std::alloc::Global;
 use tb_body::Act;
@@ -215,7 +215,7 @@ fn act_of_word(
     act_of_more(alloc, blocks, word, arguments, x, others)
 }
 
-/// What an atom does, with its variables as slots and its processes and tools by their places.
+/// What an atom does, with its variables as slots and its processes and tools by their positions.
 pub(crate) fn act_of(
     alloc: Global,
     names: &Names,

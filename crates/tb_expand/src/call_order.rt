@@ -4,14 +4,14 @@ ghost use Rattle.tb_expand.specs.CallOrders.{IsCallOrder};
 ghost use Rattle.tb_expand.specs.Faults.{IsCallFault};
 
 use crate::fault::ExpandFault;
-use crate::graph::{Places, graph_of, names_at};
+use crate::graph::{Positions, graph_of, names_at};
 use crate::order::{Ordered, topological_order};
 use std::alloc::Global;
 use tb_types::Names;
 
-/// The places of the processes of a script, each behind those that its body calls. A call of a name
+/// The positions of the processes of a script, each behind those that its body calls. A call of a name
 /// that no process has leads nowhere.
-pub(crate) fn order_of(alloc: Global, names: &Names) -> Result<Places, ExpandFault>
+pub(crate) fn order_of(alloc: Global, names: &Names) -> Result<Positions, ExpandFault>
     requires { NamesDiffer names.now.script.now }
     ensures ok { IfOk result (IsCallOrder names.now.script.now) }
     ensures err { IfErr result (IsCallFault names.now.script.now) }
@@ -19,8 +19,8 @@ pub(crate) fn order_of(alloc: Global, names: &Names) -> Result<Places, ExpandFau
     let graph = graph_of(alloc, names)?;
     match topological_order(alloc, &graph)? {
         Ordered::Order(order) => Ok(order),
-        Ordered::Round(places) => {
-            let called = names_at(alloc, names.script, places.as_slice())?;
+        Ordered::Cyclic(positions) => {
+            let called = names_at(alloc, names.script, positions.as_slice())?;
             Err(ExpandFault::Recursion(called))
         }
     }

@@ -56,26 +56,26 @@ impl<'a> Expansions<'a> {
         })
     }
 
-    /// The body of the process at this place among the definitions.
-    pub fn body(&self, alloc: Global, place: usize) -> Result<Body, ExpandFault>
-        requires { place < length self.now.script.now.procs }
-        ensures body { (d : ProcDef) → slice_get self.now.script.now.procs place ≡ Some d → IfOk result (IsBodyOf self.now.script.now d) }
-        ensures fault { (d : ProcDef) → slice_get self.now.script.now.procs place ≡ Some d → IfErr result (IsBodyFault self.now.script.now d) }
+    /// The body of the process at this position among the definitions.
+    pub fn body(&self, alloc: Global, position: usize) -> Result<Body, ExpandFault>
+        requires { position < length self.now.script.now.procs }
+        ensures body { (d : ProcDef) → slice_get self.now.script.now.procs position ≡ Some d → IfOk result (IsBodyOf self.now.script.now d) }
+        ensures fault { (d : ProcDef) → slice_get self.now.script.now.procs position ≡ Some d → IfErr result (IsBodyFault self.now.script.now d) }
     {
-        let def = &self.script.procs.as_slice()[place];
-        if self.is_too_large(place, def) {
+        let def = &self.script.procs.as_slice()[position];
+        if self.is_too_large(position, def) {
             return Err(ExpandFault::TooLarge(def.name.copy(alloc)?));
         }
         Ok(built(alloc, &self.names, def)?)
     }
 
-    /// Whether the expansion of the process at this place passes a limit.
+    /// Whether the expansion of the process at this position passes a limit.
     #[tactic(auto, using(crate::proofs::Bodies::large_by_size, crate::proofs::Bodies::size_is_there))]
-    fn is_too_large(&self, place: usize, def: &ProcDef) -> bool
-        requires { slice_get self.now.script.now.procs place ≡ Some def.now }
+    fn is_too_large(&self, position: usize, def: &ProcDef) -> bool
+        requires { slice_get self.now.script.now.procs position ≡ Some def.now }
         ensures { result ≡ is_too_large (expansion_of self.now.script.now def.now) }
     {
-        match at(self.sizes.as_slice(), place) {
+        match at(self.sizes.as_slice(), position) {
             Some(size) => is_over(*size),
             None => unreachable!(),
         }
@@ -104,7 +104,7 @@ fn built(alloc: Global, names: &Names, def: &ProcDef) -> Result<Body, NoMemory>
     }
 }
 
-/// The body of the process at this place among the definitions of a script.
+/// The body of the process at this position among the definitions of a script.
 pub fn expand(alloc: Global, s: &Script, root: usize) -> Result<Body, ExpandFault>
     requires proper { Proper s.now }
     requires in_range { root < length s.now.procs }

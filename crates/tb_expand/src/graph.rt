@@ -1,6 +1,6 @@
 ghost use Rattle.std.specs.Prelude.{◌≡◌, ◌<◌, [], ◌∷◌, ◌++◌, length, option_map, All, IfOk, OnOk};
 ghost use Rattle.tb_expand.specs.Cycles.{called, or_none};
-ghost use Rattle.tb_expand.specs.CallGraphs.{graph_of, names_of, places_of};
+ghost use Rattle.tb_expand.specs.CallGraphs.{graph_of, names_of, positions_of};
 
 use crate::fault::Idents;
 use std::alloc::Global;
@@ -8,11 +8,11 @@ use tb_syntax::{Call, Proc, Script};
 use tb_terms::{Boxed, Items, NoMemory};
 use tb_types::Names;
 
-/// Places in a row.
-pub(crate) type Places = Items<usize>;
+/// Positions in a row.
+pub(crate) type Positions = Items<usize>;
 
-/// The places to which each place leads.
-pub(crate) type Graph = Items<Places>;
+/// The positions to which each position leads.
+pub(crate) type Graph = Items<Positions>;
 
 /// The graph of the calls of a script: each process leads to those that its body calls.
 pub(crate) fn graph_of(alloc: Global, names: &Names) -> Result<Graph, NoMemory>
@@ -20,23 +20,23 @@ pub(crate) fn graph_of(alloc: Global, names: &Names) -> Result<Graph, NoMemory>
 {
     let mut graph = Items::new(alloc);
     for def in names.script.procs.as_slice() {
-        let mut places = Items::new(alloc);
-        push_called(names, &def.body, &mut places)?;
-        graph.push(places)?;
+        let mut positions = Items::new(alloc);
+        push_called(names, &def.body, &mut positions)?;
+        graph.push(positions)?;
     }
     Ok(graph)
 }
 
-/// The places of the processes that a process calls, in text order.
+/// The positions of the processes that a process calls, in text order.
 #[cycle(calls)]
-#[tactic(auto, using(crate::proofs::CalledPlaces::called_at))]
-fn push_called(names: &Names, proc: &Proc, into: &mut Places) -> Result<(), NoMemory>
-    ensures { OnOk result (into.new ≡ into.old ++ places_of names.now.script.now (called proc.now)) }
+#[tactic(auto, using(crate::proofs::CalledPositions::called_at))]
+fn push_called(names: &Names, proc: &Proc, into: &mut Positions) -> Result<(), NoMemory>
+    ensures { OnOk result (into.new ≡ into.old ++ positions_of names.now.script.now (called proc.now)) }
 {
     match proc {
         Proc::Atom(_) => Ok(()),
         Proc::Call(call) => {
-            push_place(names, call, into)?;
+            push_position(names, call, into)?;
             Ok(())
         }
         Proc::Seq(x, y) => {
@@ -68,9 +68,9 @@ fn push_called(names: &Names, proc: &Proc, into: &mut Places) -> Result<(), NoMe
 }
 
 #[cycle(calls)]
-fn push_both(names: &Names, x: &Proc, y: &Proc, into: &mut Places) -> Result<(), NoMemory>
+fn push_both(names: &Names, x: &Proc, y: &Proc, into: &mut Positions) -> Result<(), NoMemory>
     ensures { OnOk result (into.new ≡ into.old
-        ++ (places_of names.now.script.now (called x.now) ++ places_of names.now.script.now (called y.now))) }
+        ++ (positions_of names.now.script.now (called x.now) ++ positions_of names.now.script.now (called y.now))) }
 {
     push_called(names, x, into)?;
     push_called(names, y, into)?;
@@ -78,8 +78,8 @@ fn push_both(names: &Names, x: &Proc, y: &Proc, into: &mut Places) -> Result<(),
 }
 
 #[cycle(calls)]
-fn push_else(names: &Names, y: &Option<Boxed<Proc>>, into: &mut Places) -> Result<(), NoMemory>
-    ensures { OnOk result (into.new ≡ into.old ++ places_of names.now.script.now (or_none (option_map called y.now))) }
+fn push_else(names: &Names, y: &Option<Boxed<Proc>>, into: &mut Positions) -> Result<(), NoMemory>
+    ensures { OnOk result (into.new ≡ into.old ++ positions_of names.now.script.now (or_none (option_map called y.now))) }
 {
     match y {
         None => Ok(()),
@@ -90,24 +90,28 @@ fn push_else(names: &Names, y: &Option<Boxed<Proc>>, into: &mut Places) -> Resul
     }
 }
 
-/// The place of the process that is called, if one has the name.
-fn push_place(names: &Names, call: &Call, into: &mut Places) -> Result<(), NoMemory>
-    ensures { OnOk result (into.new ≡ into.old ++ places_of names.now.script.now (call.now.name ∷ [])) }
+/// The position of the process that is called, if one has the name.
+fn push_position(names: &Names, call: &Call, into: &mut Positions) -> Result<(), NoMemory>
+    ensures { OnOk result (into.new ≡ into.old ++ positions_of names.now.script.now (call.now.name ∷ [])) }
 {
-    if let Some(place) = names.process_place(call.name.as_bytes()) {
-        into.push(place)?;
+    if let Some(position) = names.process_position(call.name.as_bytes()) {
+        into.push(position)?;
     }
     Ok(())
 }
 
-/// The names of the processes at these places.
-pub(crate) fn names_at(alloc: Global, script: &Script, places: &[usize]) -> Result<Idents, NoMemory>
-    requires { All (λ place. place < length script.now.procs) places.now }
-    ensures { IfOk result (λ names. names ≡ names_of script.now places.now) }
+/// The names of the processes at these positions.
+pub(crate) fn names_at(
+    alloc: Global,
+    script: &Script,
+    positions: &[usize],
+) -> Result<Idents, NoMemory>
+    requires { All (λ position. position < length script.now.procs) positions.now }
+    ensures { IfOk result (λ names. names ≡ names_of script.now positions.now) }
 {
     let mut names = Items::new(alloc);
-    for place in places {
-        names.push(script.procs.as_slice()[*place].name.copy(alloc)?)?;
+    for position in positions {
+        names.push(script.procs.as_slice()[*position].name.copy(alloc)?)?;
     }
     Ok(names)
 }

@@ -4,6 +4,7 @@
 mod acts;
 mod atoms;
 mod built;
+mod call_cycle;
 mod call_order;
 mod expansion;
 mod exprs;
@@ -14,8 +15,7 @@ mod order;
 #[cfg(test)]
 mod order_tests;
 mod parts;
-mod places;
-mod round;
+mod positions;
 mod scope;
 mod seen;
 mod size;

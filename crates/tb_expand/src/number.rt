@@ -2,11 +2,11 @@ ghost use Rattle.std.specs.Prelude.{◌≡◌, ◌+◌, IfOk};
 
 use tb_terms::NoMemory;
 
-/// A place as a body writes it. Bodies have no places from 2^32 on, and memory for no such body.
-pub(crate) fn number(place: usize) -> Result<u32, NoMemory>
-    ensures { IfOk result (λ number. number ≡ place) }
+/// A position as a body writes it. Bodies have no positions from 2^32 on, and memory for no such body.
+pub(crate) fn number(position: usize) -> Result<u32, NoMemory>
+    ensures { IfOk result (λ number. number ≡ position) }
 {
-    match u32::try_from(place) {
+    match u32::try_from(position) {
         Ok(number) => Ok(number),
         Err(_) => Err(NoMemory),
     }

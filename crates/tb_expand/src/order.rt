@@ -1,10 +1,10 @@
 ghost use Rattle.std.specs.Prelude.{◌≡◌, ℕ, ◌<◌, List, [], ◌∷◌, ◌++◌, length, slice_get, Some, IfOk, OnOk, MatchOption};
 ghost use Rattle.tb_expand.specs.Graphs.{Graph, IsClosed};
 ghost use Rattle.tb_expand.specs.Ordered.{IsOrdered};
-ghost use Rattle.tb_expand.specs.Walks.{IsAtRest, HasBegun, HasEnded, ComesRound};
+ghost use Rattle.tb_expand.specs.Walks.{IsAtRest, HasBegun, HasEnded, ClosesCycle};
 
-use crate::graph::{Graph, Places};
-use crate::round::round_of;
+use crate::call_cycle::cycle_of;
+use crate::graph::{Graph, Positions};
 use crate::walk::{Visit, Walk, open, start, step, visit_of};
 use std::alloc::Global;
 use tb_terms::NoMemory;
@@ -12,14 +12,14 @@ use tb_terms::NoMemory;
 /// What is found out of a graph.
 #[derive(Debug, Drop)]
 pub(crate) enum Ordered {
-    /// All places, each behind those to which it leads.
-    Order(Places),
-    /// A way that comes round, from its least place on.
-    Round(Places),
+    /// All positions, each behind those to which it leads.
+    Order(Positions),
+    /// A way that closes a cycle, from its least position on.
+    Cyclic(Positions),
 }
 
-/// Orders the places of a graph, or finds a way that comes round. It takes one step for each place
-/// and two for each place to which one leads.
+/// Orders the positions of a graph, or finds a way that closes a cycle. It takes one step for each position
+/// and two for each position to which one leads.
 pub(crate) fn topological_order(alloc: Global, graph: &Graph) -> Result<Ordered, NoMemory>
     requires { IsClosed graph.now }
     ensures { IfOk result (IsOrdered graph.now) }
@@ -27,30 +27,30 @@ pub(crate) fn topological_order(alloc: Global, graph: &Graph) -> Result<Ordered,
     let mut walk = start(alloc, graph.len())?;
     for root in 0..graph.len() {
         if let Some(again) = walk_from(graph, &mut walk, root)? {
-            return Ok(Ordered::Round(round_of(alloc, walk.way.as_slice(), again)?));
+            return Ok(Ordered::Cyclic(cycle_of(alloc, walk.way.as_slice(), again)?));
         }
     }
     Ok(Ordered::Order(walk.order))
 }
 
-/// Walks all ways from a place, unless it was visited. The answer is the place to which a way comes
+/// Walks all ways from a position, unless it was visited. The answer is the position to which a way comes
 /// back.
 fn walk_from(graph: &Graph, walk: &mut Walk, root: usize) -> Result<Option<usize>, NoMemory>
     requires graph { IsClosed graph.now }
     requires root { root < length graph.now }
     requires walk { IsAtRest graph.now walk.old }
-    ensures { IfOk result (λ found. MatchOption found (HasEnded graph.now walk.old walk.new root) (λ again. ComesRound graph.now walk.new again)) }
+    ensures { IfOk result (λ found. MatchOption found (HasEnded graph.now walk.old walk.new root) (λ again. ClosesCycle graph.now walk.new again)) }
 {
     begin(walk, root)?;
-    while let Some(place) = last(walk.way.as_slice()) {
-        if let Some(again) = step(graph, walk, place)? {
+    while let Some(position) = last(walk.way.as_slice()) {
+        if let Some(again) = step(graph, walk, position)? {
             return Ok(Some(again));
         }
     }
     Ok(None)
 }
 
-/// Puts the place on the way, unless it was visited.
+/// Puts the position on the way, unless it was visited.
 fn begin(walk: &mut Walk, root: usize) -> Result<(), NoMemory>
     requires { root < length walk.old.visits }
     ensures { (graph : Graph) → root < length graph → IsAtRest graph walk.old → OnOk result (HasBegun graph walk.old walk.new root) }
@@ -64,11 +64,11 @@ fn begin(walk: &mut Walk, root: usize) -> Result<(), NoMemory>
     }
 }
 
-fn last(places: &[usize]) -> Option<usize>
-    ensures { MatchOption result (places.now ≡ []) (λ place. (front : List ℕ) × (places.now ≡ front ++ place ∷ [])) }
+fn last(positions: &[usize]) -> Option<usize>
+    ensures { MatchOption result (positions.now ≡ []) (λ position. (prefix : List ℕ) × (positions.now ≡ prefix ++ position ∷ [])) }
 {
-    match places {
+    match positions {
         [] => None,
-        [.., place] => Some(*place),
+        [.., position] => Some(*position),
     }
 }

@@ -1,26 +1,26 @@
 ghost use Rattle.std.specs.Prelude.{◌<◌, All, IfOk};
 ghost use Rattle.tb_expand.specs.Graphs.{IsClosed};
 
-use crate::graph::{Graph, Places};
+use crate::graph::{Graph, Positions};
 use crate::order::{Ordered, topological_order};
 use std::alloc::Global;
 use std::test::Fail;
 use tb_terms::{Items, NoMemory};
 
-/// The places that are in a graph of so many.
-fn inside(alloc: Global, count: usize, places: &[usize]) -> Result<Places, NoMemory>
-    ensures { IfOk result (All (λ place. place < count)) }
+/// The positions that are in a graph of so many.
+fn inside(alloc: Global, count: usize, positions: &[usize]) -> Result<Positions, NoMemory>
+    ensures { IfOk result (All (λ position. position < count)) }
 {
     let mut all = Items::new(alloc);
-    for place in places {
-        if *place < count {
-            all.push(*place)?;
+    for position in positions {
+        if *position < count {
+            all.push(*position)?;
         }
     }
     Ok(all)
 }
 
-/// The graph in which each place leads to those of its row.
+/// The graph in which each position leads to those of its row.
 fn graph_of_rows(alloc: Global, rows: &[&[usize]]) -> Result<Graph, NoMemory>
     ensures { IfOk result IsClosed }
 {
@@ -31,13 +31,13 @@ fn graph_of_rows(alloc: Global, rows: &[&[usize]]) -> Result<Graph, NoMemory>
     Ok(graph)
 }
 
-/// The graph of so many places of which each leads to the next.
+/// The graph of so many positions of which each leads to the next.
 fn chain(alloc: Global, count: usize) -> Result<Graph, NoMemory>
     ensures { IfOk result IsClosed }
 {
     let mut graph = Items::new(alloc);
-    for place in 0..count {
-        graph.push(inside(alloc, count, &[place + 1])?)?;
+    for position in 0..count {
+        graph.push(inside(alloc, count, &[position + 1])?)?;
     }
     Ok(graph)
 }
@@ -49,20 +49,20 @@ fn found(alloc: Global, rows: &[&[usize]]) -> Result<Ordered, NoMemory> {
 
 fn has_order(alloc: Global, rows: &[&[usize]], order: &[usize]) -> Result<bool, NoMemory> {
     match found(alloc, rows)? {
-        Ordered::Order(places) => Ok(places.as_slice() == order),
-        Ordered::Round(_) => Ok(false),
+        Ordered::Order(positions) => Ok(positions.as_slice() == order),
+        Ordered::Cyclic(_) => Ok(false),
     }
 }
 
-fn has_round(alloc: Global, rows: &[&[usize]], round: &[usize]) -> Result<bool, NoMemory> {
+fn has_cycle(alloc: Global, rows: &[&[usize]], call_cycle: &[usize]) -> Result<bool, NoMemory> {
     match found(alloc, rows)? {
         Ordered::Order(_) => Ok(false),
-        Ordered::Round(places) => Ok(places.as_slice() == round),
+        Ordered::Cyclic(positions) => Ok(positions.as_slice() == call_cycle),
     }
 }
 
 #[test]
-fn places_stand_behind_those_to_which_they_lead(rt: HostRuntime) -> Result<(), Fail> {
+fn positions_stand_behind_those_to_which_they_lead(rt: HostRuntime) -> Result<(), Fail> {
     let alloc = rt.alloc();
     assert!(rt; has_order(alloc, &[], &[])?);
     assert!(rt; has_order(alloc, &[&[]], &[0])?);
@@ -83,30 +83,30 @@ fn the_sides_of_a_diamond_stand_between_its_ends(rt: HostRuntime) -> Result<(), 
 }
 
 #[test]
-fn ways_come_round(rt: HostRuntime) -> Result<(), Fail> {
+fn ways_close_cycles(rt: HostRuntime) -> Result<(), Fail> {
     let alloc = rt.alloc();
-    assert!(rt; has_round(alloc, &[&[0]], &[0])?);
-    assert!(rt; has_round(alloc, &[&[1], &[1]], &[1])?);
-    assert!(rt; has_round(alloc, &[&[1], &[2], &[1]], &[1, 2])?);
-    assert!(rt; has_round(alloc, &[&[2], &[2], &[1]], &[1, 2])?);
+    assert!(rt; has_cycle(alloc, &[&[0]], &[0])?);
+    assert!(rt; has_cycle(alloc, &[&[1], &[1]], &[1])?);
+    assert!(rt; has_cycle(alloc, &[&[1], &[2], &[1]], &[1, 2])?);
+    assert!(rt; has_cycle(alloc, &[&[2], &[2], &[1]], &[1, 2])?);
     Ok(())
 }
 
 #[test]
-fn the_least_place_of_a_round_stands_first(rt: HostRuntime) -> Result<(), Fail> {
+fn the_least_position_of_a_cycle_stands_first(rt: HostRuntime) -> Result<(), Fail> {
     let alloc = rt.alloc();
     // 0 leads to 4, and 6 to 0; then 4, 3, 5, 1, 2 and 4 again.
     let rows: [&[usize]; 7] = [&[4], &[2], &[4], &[5], &[3], &[1], &[0]];
-    assert!(rt; has_round(alloc, &rows, &[1, 2, 4, 3, 5])?);
+    assert!(rt; has_cycle(alloc, &rows, &[1, 2, 4, 3, 5])?);
     Ok(())
 }
 
 #[test]
-fn one_of_several_rounds_is_found(rt: HostRuntime) -> Result<(), Fail> {
+fn one_of_several_cycles_is_found(rt: HostRuntime) -> Result<(), Fail> {
     let alloc = rt.alloc();
     let rows: [&[usize]; 4] = [&[2], &[1], &[0, 3], &[1]];
-    let of_two = has_round(alloc, &rows, &[0, 2])?;
-    let of_one = has_round(alloc, &rows, &[1])?;
+    let of_two = has_cycle(alloc, &rows, &[0, 2])?;
+    let of_one = has_cycle(alloc, &rows, &[1])?;
     assert!(rt; of_two || of_one);
     Ok(())
 }
@@ -116,8 +116,8 @@ fn a_long_chain_is_ordered(rt: HostRuntime) -> Result<(), Fail> {
     let alloc = rt.alloc();
     let graph = chain(alloc, 20_000)?;
     let (count, ends) = match topological_order(alloc, &graph)? {
-        Ordered::Order(places) => (places.len(), places.as_slice().ends_with(&[2, 1, 0])),
-        Ordered::Round(_) => (0, false),
+        Ordered::Order(positions) => (positions.len(), positions.as_slice().ends_with(&[2, 1, 0])),
+        Ordered::Cyclic(_) => (0, false),
     };
     assert_eq!(rt; count, 20_000);
     assert!(rt; ends);

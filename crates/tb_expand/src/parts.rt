@@ -191,8 +191,8 @@ pub(crate) fn body_part(
 fn definition_of<'a>(names: &Names<'a>, name: &[u8]) -> Option<&'a ProcDef>
     ensures { option_copied result ≡ process_named names.now.script.now.procs name.now }
 {
-    match names.process_place(name) {
+    match names.process_position(name) {
         None => None,
-        Some(place) => at(names.script.procs.as_slice(), place),
+        Some(position) => at(names.script.procs.as_slice(), position),
     }
 }

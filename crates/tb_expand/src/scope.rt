@@ -7,7 +7,7 @@ use crate::seen::{Block, Seen};
 use std::alloc::Global;
 use tb_terms::{Items, NoMemory, Sort};
 
-/// The variables that are seen at a place, by the blocks round it, of which the outermost stands first.
+/// The variables that are seen at a position, by the blocks round it, of which the outermost stands first.
 pub(crate) type Blocks = Items<Block>;
 
 /// The slot of the innermost variable of this name, or 0 where none is seen.

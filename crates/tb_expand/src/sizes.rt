@@ -27,7 +27,7 @@ const ATOM: Size = Size {
     levels: 1,
 };
 
-/// The sizes of the bodies of all processes, by their places. The order names each place behind those
+/// The sizes of the bodies of all processes, by their positions. The order names each position behind those
 /// that its body calls.
 #[tactic(auto, using(crate::proofs::SizesKept::none_kept))]
 pub(crate) fn sizes_of(
@@ -39,8 +39,8 @@ pub(crate) fn sizes_of(
     ensures { IfOk result (AreSizes names.now.script.now) }
 {
     let mut sizes = nothings(alloc, names.script.procs.len())?;
-    for place in order {
-        keep_size(names, &mut sizes, *place);
+    for position in order {
+        keep_size(names, &mut sizes, *position);
     }
     Ok(sizes)
 }
@@ -53,18 +53,18 @@ fn nothings(alloc: Global, count: usize) -> Result<Items<Size>, NoMemory>
     Ok(Items::from_vec(sizes))
 }
 
-/// Keeps the size of the process at this place.
-fn keep_size(names: &Names, sizes: &mut Items<Size>, place: usize)
+/// Keeps the size of the process at this position.
+fn keep_size(names: &Names, sizes: &mut Items<Size>, position: usize)
     requires { length sizes.old ≡ length names.now.script.now.procs }
-    ensures { sizes.new ≡ with_measure names.now.script.now sizes.old place }
+    ensures { sizes.new ≡ with_measure names.now.script.now sizes.old position }
 {
-    if let Some(def) = at(names.script.procs.as_slice(), place) {
+    if let Some(def) = at(names.script.procs.as_slice(), position) {
         let size = size_of_body(names, sizes.as_slice(), &def.body);
-        sizes.set(place, size);
+        sizes.set(position, size);
     }
 }
 
-/// The size of a body's expansion, where those of the processes that it calls are known by their places.
+/// The size of a body's expansion, where those of the processes that it calls are known by their positions.
 fn size_of_body(names: &Names, sizes: &[Size], body: &Proc) -> Size
     ensures { result ≡ measure names.now.script.now sizes.now body.now }
 {
@@ -72,13 +72,13 @@ fn size_of_body(names: &Names, sizes: &[Size], body: &Proc) -> Size
         Proc::Atom(_) => ATOM,
         Proc::Call(call) => size_of_call(names, sizes, call.name.as_bytes()),
         Proc::Seq(x, y) | Proc::Alt(x, y) | Proc::Star(x, y) | Proc::Par(x, y) => {
-            let front = size_of_body(names, sizes, x.get());
-            beside(front, size_of_body(names, sizes, y.get()))
+            let prefix = size_of_body(names, sizes, x.get());
+            beside(prefix, size_of_body(names, sizes, y.get()))
         }
         Proc::If(_, x, None) | Proc::Let(_, x) => above(size_of_body(names, sizes, x.get())),
         Proc::If(_, x, Some(y)) => {
-            let front = size_of_body(names, sizes, x.get());
-            beside(front, size_of_body(names, sizes, y.get()))
+            let prefix = size_of_body(names, sizes, x.get());
+            beside(prefix, size_of_body(names, sizes, y.get()))
         }
     }
 }
@@ -87,10 +87,10 @@ fn size_of_body(names: &Names, sizes: &[Size], body: &Proc) -> Size
 fn size_of_call(names: &Names, sizes: &[Size], name: &[u8]) -> Size
     ensures { result ≡ called_measure (known_size names.now.script.now sizes.now name.now) }
 {
-    let Some(place) = names.process_place(name) else {
+    let Some(position) = names.process_position(name) else {
         return NOTHING;
     };
-    match at(sizes, place) {
+    match at(sizes, position) {
         Some(size) => above(*size),
         None => NOTHING,
     }

@@ -6,7 +6,7 @@ ghost use Rattle.tb_expand.specs.Expansion.{initial, sorts_of_vars, sorts_of, va
 
 use crate::exprs::expr_of;
 use crate::number::following;
-use crate::places::name_of;
+use crate::positions::name_of;
 use crate::scope::{Blocks, slot_of};
 use crate::seen::{Block, Seen};
 use std::alloc::Global;

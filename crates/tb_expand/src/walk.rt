@@ -1,18 +1,18 @@
 ghost use Rattle.std.specs.Prelude.{◌≡◌, ℕ, ◌<◌, ◌+◌, ◌^◌, List, [], ◌∷◌, ◌++◌, length, slice_get, Some, ⊤, IfOk, IfSome, OnOk, MatchOption};
-ghost use Rattle.tb_expand.specs.Graphs.{IsClosed, next_places};
+ghost use Rattle.tb_expand.specs.Graphs.{IsClosed, next_positions};
 ghost use Rattle.tb_expand.specs.declared.walk.Visit.TheVariants.{Open};
-ghost use Rattle.tb_expand.specs.Walks.{IsWalk, IsKnown, GoesOn, ComesRound, IsAtRest, start_of, opened, advanced, closed};
+ghost use Rattle.tb_expand.specs.Walks.{IsWalk, IsKnown, Continues, ClosesCycle, IsAtRest, start_of, opened, advanced, closed};
 
-use crate::graph::{Graph, Places};
+use crate::graph::{Graph, Positions};
 use sqlite_items::at;
 use std::alloc::Global;
 use tb_terms::{Items, NoMemory};
 
-/// How far a place was visited.
+/// How far a position was visited.
 #[derive(Clone, Copy, Debug)]
 pub(crate) enum Visit {
     New,
-    /// It stands on the way, and so many of the places to which it leads are done.
+    /// It stands on the way, and so many of the positions to which it leads are done.
     Open(usize),
     Done,
 }
@@ -20,15 +20,15 @@ pub(crate) enum Visit {
 /// A walk through a graph, into each way as far as it goes.
 #[derive(Debug, Drop)]
 pub(crate) struct Walk {
-    /// How far each place was visited.
+    /// How far each position was visited.
     pub visits: Items<Visit>,
-    /// The places that are open. Each leads to the next.
-    pub way: Places,
-    /// The places that are done, each behind those to which it leads.
-    pub order: Places,
+    /// The positions that are open. Each leads to the next.
+    pub way: Positions,
+    /// The positions that are done, each behind those to which it leads.
+    pub order: Positions,
 }
 
-/// Before the first step in a graph of so many places.
+/// Before the first step in a graph of so many positions.
 pub(crate) fn start(alloc: Global, count: usize) -> Result<Walk, NoMemory>
     ensures { IfOk result (λ walk. walk ≡ start_of count) }
 {
@@ -41,17 +41,21 @@ pub(crate) fn start(alloc: Global, count: usize) -> Result<Walk, NoMemory>
     })
 }
 
-/// Goes on from the last place of the way by one step. Where that leads to a place of the way, the
-/// answer is this place, and nothing changes.
-pub(crate) fn step(graph: &Graph, walk: &mut Walk, place: usize) -> Result<Option<usize>, NoMemory>
+/// Goes on from the last position of the way by one step. Where that leads to a position of the way, the
+/// answer is this position, and nothing changes.
+pub(crate) fn step(
+    graph: &Graph,
+    walk: &mut Walk,
+    position: usize,
+) -> Result<Option<usize>, NoMemory>
     requires graph { IsClosed graph.now }
     requires walk { IsWalk graph.now walk.old }
-    requires last { (front : List ℕ) × (walk.old.way ≡ front ++ place ∷ []) }
-    ensures { IfOk result (λ found. MatchOption found (GoesOn graph.now walk.old walk.new) (λ again. ComesRound graph.now walk.new again)) }
+    requires last { (prefix : List ℕ) × (walk.old.way ≡ prefix ++ position ∷ []) }
+    ensures { IfOk result (λ found. MatchOption found (Continues graph.now walk.old walk.new) (λ again. ClosesCycle graph.now walk.new again)) }
 {
-    let looked = looked_at(walk, place);
-    let Some(next) = next_of(graph, place, looked) else {
-        close(walk, place)?;
+    let looked = looked_at(walk, position);
+    let Some(next) = next_of(graph, position, looked) else {
+        close(walk, position)?;
         return Ok(None);
     };
     match visit_of(walk, next) {
@@ -61,59 +65,59 @@ pub(crate) fn step(graph: &Graph, walk: &mut Walk, place: usize) -> Result<Optio
         }
         Visit::Open(_) => Ok(Some(next)),
         Visit::Done => {
-            walk.visits.set(place, Visit::Open(looked + 1));
+            walk.visits.set(position, Visit::Open(looked + 1));
             Ok(None)
         }
     }
 }
 
-/// How far a place was visited.
-pub(crate) fn visit_of(walk: &Walk, place: usize) -> Visit
-    requires { place < length walk.now.visits }
-    ensures { slice_get walk.now.visits place ≡ Some result }
+/// How far a position was visited.
+pub(crate) fn visit_of(walk: &Walk, position: usize) -> Visit
+    requires { position < length walk.now.visits }
+    ensures { slice_get walk.now.visits position ≡ Some result }
 {
-    walk.visits.as_slice()[place]
+    walk.visits.as_slice()[position]
 }
 
-/// So many of the places to which an open place leads were looked at, or none of another's.
-fn looked_at(walk: &Walk, place: usize) -> usize
-    requires { place < length walk.now.visits }
-    ensures { (looked : ℕ) → slice_get walk.now.visits place ≡ Some (Open looked) → result ≡ looked }
+/// So many of the positions to which an open position leads were looked at, or none of another's.
+fn looked_at(walk: &Walk, position: usize) -> usize
+    requires { position < length walk.now.visits }
+    ensures { (looked : ℕ) → slice_get walk.now.visits position ≡ Some (Open looked) → result ≡ looked }
 {
-    match visit_of(walk, place) {
+    match visit_of(walk, position) {
         Visit::Open(looked) => looked,
         _ => 0,
     }
 }
 
-/// The place to which this one leads, behind so many others.
-fn next_of(graph: &Graph, place: usize, looked: usize) -> Option<usize>
-    ensures value { result ≡ slice_get (next_places graph.now place) looked }
+/// The position to which this one leads, behind so many others.
+fn next_of(graph: &Graph, position: usize, looked: usize) -> Option<usize>
+    ensures value { result ≡ slice_get (next_positions graph.now position) looked }
     ensures fits { IfSome result (λ next. looked + 1 < 2 ^ 64) }
 {
-    match at(graph.as_slice(), place) {
-        Some(places) if looked < places.len() => Some(places.as_slice()[looked]),
+    match at(graph.as_slice(), position) {
+        Some(positions) if looked < positions.len() => Some(positions.as_slice()[looked]),
         _ => None,
     }
 }
 
-/// Puts a new place behind the way.
-pub(crate) fn open(walk: &mut Walk, place: usize) -> Result<(), NoMemory>
-    requires { place < length walk.old.visits }
-    ensures { OnOk result (walk.new ≡ opened walk.old place) }
+/// Puts a new position behind the way.
+pub(crate) fn open(walk: &mut Walk, position: usize) -> Result<(), NoMemory>
+    requires { position < length walk.old.visits }
+    ensures { OnOk result (walk.new ≡ opened walk.old position) }
 {
-    walk.way.push(place)?;
-    walk.visits.set(place, Visit::Open(0));
+    walk.way.push(position)?;
+    walk.visits.set(position, Visit::Open(0));
     Ok(())
 }
 
-/// Takes the last place from the way: all that it leads to is done.
-fn close(walk: &mut Walk, place: usize) -> Result<(), NoMemory>
-    requires { place < length walk.old.visits }
-    ensures { (front : List ℕ) → walk.old.way ≡ front ++ place ∷ [] → OnOk result (walk.new ≡ closed walk.old place front) }
+/// Takes the last position from the way: all that it leads to is done.
+fn close(walk: &mut Walk, position: usize) -> Result<(), NoMemory>
+    requires { position < length walk.old.visits }
+    ensures { (prefix : List ℕ) → walk.old.way ≡ prefix ++ position ∷ [] → OnOk result (walk.new ≡ closed walk.old position prefix) }
 {
-    walk.order.push(place)?;
-    walk.visits.set(place, Visit::Done);
-    let _place = walk.way.pop();
+    walk.order.push(position)?;
+    walk.visits.set(position, Visit::Done);
+    let _position = walk.way.pop();
     Ok(())
 }

@@ -125,7 +125,7 @@ next-bad text lines line count inputs so_far at counted fine full bad =
       before = before;
       line = line.now;
       after = drop (n + 1) all;
-      are_lines = sym (take-append-drop n all) ∙ ap (λ (front : List (List ℕ)). front ++ drop n all) (sym so_far) ∙ ap (λ (ls : List (List ℕ)). before ++ ls) rest;
+      are_lines = sym (take-append-drop n all) ∙ ap (λ (prefix : List (List ℕ)). prefix ++ drop n all) (sym so_far) ∙ ap (λ (ls : List (List ℕ)). before ++ ls) rest;
       number_is = ap (λ (k : ℕ). k + 1) (counted ∙ sym (length-map {A = Bor (List ℕ)} lines (λ l. l.now)));
       inputs = inputs;
       fine = fine;

@@ -20,8 +20,8 @@ more_digits n ds h d = (λ l. absurd (omega arith), two)
     two l m =
         let tens : 48 + n / 10 ≡ 49 = omega arith in
         let ones : 48 + n % 10 ≡ 38 + n = omega arith in
-        let front : ds ≡ (48 + n / 10) ∷ [] = d.0 (omega arith) in
-        ap (λ (xs : List ℕ). xs ++ ((48 + n % 10) ∷ [])) front ∙ ap (λ (k : ℕ). k ∷ (48 + n % 10) ∷ []) tens ∙ ap (λ (k : ℕ). 49 ∷ k ∷ []) ones
+        let prefix : ds ≡ (48 + n / 10) ∷ [] = d.0 (omega arith) in
+        ap (λ (xs : List ℕ). xs ++ ((48 + n % 10) ∷ [])) prefix ∙ ap (λ (k : ℕ). k ∷ (48 + n % 10) ∷ []) tens ∙ ap (λ (k : ℕ). 49 ∷ k ∷ []) ones
 
 has_digits : (n : ℕ) → n < 20 → HasDigits n (decimal n)
 has_digits n h = decimal_by_steps HasDigits one_digit more_digits n (omega arith)

@@ -15,9 +15,9 @@ use Rattle.tb_feed.specs.OneLine.{IsSaid, IsNumberOf, lacks_blank}
 use Rattle.tb_feed.proofs.LaneNumbers.{lane_digits}
 
 -- what stands before the first blank, and behind it
-front : List ℕ → List ℕ
-front [] = []
-front (byte ∷ bytes) = if byte == 32 then [] else byte ∷ front bytes
+prefix : List ℕ → List ℕ
+prefix [] = []
+prefix (byte ∷ bytes) = if byte == 32 then [] else byte ∷ prefix bytes
 
 behind : List ℕ → List ℕ
 behind [] = []
@@ -27,12 +27,12 @@ apart : (b : Bool) → not b ≡ true → b ≡ false
 apart true e = absurd (false≢true e)
 apart false e = refl
 
-front-cut : (xs rest : List ℕ) → lacks_blank xs ≡ true → front (xs ++ 32 ∷ rest) ≡ xs
-unfolding front
-front-cut [] rest h = refl
-front-cut (x ∷ xs) rest h =
+prefix-cut : (xs rest : List ℕ) → lacks_blank xs ≡ true → prefix (xs ++ 32 ∷ rest) ≡ xs
+unfolding prefix
+prefix-cut [] rest h = refl
+prefix-cut (x ∷ xs) rest h =
     let p = and_parts (not (x == 32)) (lacks_blank xs) h in
-    rw (apart (x == 32) p.0) (ap (λ (l : List ℕ). x ∷ l) (front-cut xs rest p.1))
+    rw (apart (x == 32) p.0) (ap (λ (l : List ℕ). x ∷ l) (prefix-cut xs rest p.1))
 
 behind-cut : (xs rest : List ℕ) → lacks_blank xs ≡ true → behind (xs ++ 32 ∷ rest) ≡ rest
 unfolding behind
@@ -65,8 +65,8 @@ lane-lacks lane is =
 abbrev IsParted : List ℕ → ℕ → List ℕ → Type 0
 IsParted rest lane text = rest ≡ decimal lane ++ 32 ∷ text
 
-parted-front : (rest : List ℕ) (lane : ℕ) (text : List ℕ) → IsLane lane → IsParted rest lane text → front rest ≡ decimal lane
-parted-front rest lane text is e = ap front e ∙ front-cut (decimal lane) text (lane-lacks lane is)
+parted-prefix : (rest : List ℕ) (lane : ℕ) (text : List ℕ) → IsLane lane → IsParted rest lane text → prefix rest ≡ decimal lane
+parted-prefix rest lane text is e = ap prefix e ∙ prefix-cut (decimal lane) text (lane-lacks lane is)
 
 parted-behind : (rest : List ℕ) (lane : ℕ) (text : List ℕ) → IsLane lane → IsParted rest lane text → behind rest ≡ text
 parted-behind rest lane text is e = ap behind e ∙ behind-cut (decimal lane) text (lane-lacks lane is)
@@ -107,7 +107,7 @@ says-one line (input_of.Line lane said) Tick h g = let e : ◌≡◌ {A = ℕ} 1
 says-one line (input_of.Line lane said) (input_of.Line other told) h g =
     let mine : IsParted (drop 5 line) lane h.1.0 = parted-of line lane h.1.0 h.1.1 in
     let its : IsParted (drop 5 line) other g.1.0 = parted-of line other g.1.0 g.1.1 in
-    let same : lane ≡ other = lanes-same lane other h.0 g.0 (sym (parted-front (drop 5 line) lane h.1.0 h.0 mine) ∙ parted-front (drop 5 line) other g.1.0 g.0 its) in
+    let same : lane ≡ other = lanes-same lane other h.0 g.0 (sym (parted-prefix (drop 5 line) lane h.1.0 h.0 mine) ∙ parted-prefix (drop 5 line) other g.1.0 g.0 its) in
     let text : g.1.0 ≡ h.1.0 = sym (parted-behind (drop 5 line) other g.1.0 g.0 its) ∙ parted-behind (drop 5 line) lane h.1.0 h.0 mine in
     let one : said ≡ told = lines-same h.1.0 said told h.1.2 (subst (λ (bytes : List ℕ). IsToolLine bytes told) text g.1.2) in
     ap (λ (n : ℕ). input_of.Line n said) same ∙ ap (λ (l : ToolLine). input_of.Line other l) one
@@ -146,7 +146,7 @@ no-lane rest number text lacks e none Tick h = let e : ◌≡◌ {A = ℕ} 108 1
 no-lane rest number text lacks e none NoTicks h = h
 no-lane rest number text lacks e none (input_of.Line lane said) h =
     let parted : IsParted rest lane h.1.0 = parted-of (codes "line " ++ rest) lane h.1.0 h.1.1 in
-    none lane h.0 (sym (front-cut number text lacks) ∙ ap front (sym e) ∙ parted-front rest lane h.1.0 h.0 parted)
+    none lane h.0 (sym (prefix-cut number text lacks) ∙ ap prefix (sym e) ∙ parted-prefix rest lane h.1.0 h.0 parted)
 no-lane rest number text lacks e none (Gone lane) h = let e : ◌≡◌ {A = ℕ} 108 103 = head-said (codes "line " ++ rest) (Gone lane) h in absurd (omega arith)
 no-lane rest number text lacks e none (Cut lane) h = let e : ◌≡◌ {A = ℕ} 108 99 = head-said (codes "line " ++ rest) (Cut lane) h in absurd (omega arith)
 

@@ -57,5 +57,5 @@ abbrev pub IsFaultOf : List ℕ → FeedFault → Type 0
 IsFaultOf text (Line number) = IsFirstBad text number
 -- how long a text may be is not told here
 IsFaultOf text (TooLong len) = ⊥
--- want of memory is no fault of the text
+-- running out of memory is no fault of the text
 IsFaultOf text NoMemory = ⊤

@@ -75,9 +75,9 @@ fn at_blank(bytes: &[u8]) -> Option<(&[u8], &[u8])>
     ensures { MatchOption result (IsTrue (lacks_blank bytes.now))
         (λ parts. IsTrue (lacks_blank parts.0.now) × (bytes.now ≡ parts.0.now ++ 32 ∷ parts.1.now)) }
 {
-    for (place, byte) in bytes.iter().enumerate() {
+    for (position, byte) in bytes.iter().enumerate() {
         if *byte == b' ' {
-            return Some((&bytes[..place], &bytes[place + 1..]));
+            return Some((&bytes[..position], &bytes[position + 1..]));
         }
     }
     None

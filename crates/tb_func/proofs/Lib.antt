@@ -1,5 +1,5 @@
 pub mod FittingLemmas
-pub mod Fronts
+pub mod Prefixes
 pub mod NumberLemmas
 pub mod OpenLemmas
 pub mod OutputLemmas

@@ -17,7 +17,7 @@ use Rattle.tb_terms.specs.declared.term.Term.{Term, Term-F, map-Term, fold_out-T
 use Rattle.tb_terms.specs.declared.term.Term.TheOpen as layer
 use Rattle.tb_terms.proofs.Induction.{term_induction, fold-Int, fold-Str, fold-Appl, fold-List}
 use Rattle.tb_func.specs.Arguments.{int_in, int_of}
-use Rattle.tb_func.specs.Printing.{printed, shown, in_front, str_in, str_of}
+use Rattle.tb_func.specs.Printing.{printed, shown, prefixed, str_in, str_of}
 use Rattle.tb_func.proofs.OutputLemmas.{behind_nothing}
 
 -- well-formed, and a string may have each byte
@@ -261,32 +261,32 @@ sound-shown letter t a h e = sound-by t a (letter == 100) (letter == 115) (lette
 
 -- the format
 
-sound-front : (o rest : Option (List ℕ)) (out : List ℕ) → ((a : List ℕ) → o ≡ Some a → Sound a) → ((r : List ℕ) → rest ≡ Some r → Sound r) → in_front o rest ≡ Some out → Sound out
-sound-front None rest out f g e = absurd cc
-sound-front (Some a) None out f g e = absurd cc
-sound-front (Some a) (Some r) out f g e =
+sound-prefix : (o rest : Option (List ℕ)) (out : List ℕ) → ((a : List ℕ) → o ≡ Some a → Sound a) → ((r : List ℕ) → rest ≡ Some r → Sound r) → prefixed o rest ≡ Some out → Sound out
+sound-prefix None rest out f g e = absurd cc
+sound-prefix (Some a) None out f g e = absurd cc
+sound-prefix (Some a) (Some r) out f g e =
     let is : a ++ r ≡ out = cc in
     subst Sound is (sound-append a r (f a refl) (g r refl))
 
-sound-front-one : (b : ℕ) (rest : Option (List ℕ)) (out : List ℕ) → Sound (b ∷ []) → ((r : List ℕ) → rest ≡ Some r → Sound r) → in_front (Some (b ∷ [])) rest ≡ Some out → Sound out
-sound-front-one b rest out s g e = sound-front (Some (b ∷ [])) rest out (λ a k. let is : b ∷ [] ≡ a = cc in subst Sound is s) g e
+sound-prefix-one : (b : ℕ) (rest : Option (List ℕ)) (out : List ℕ) → Sound (b ∷ []) → ((r : List ℕ) → rest ≡ Some r → Sound r) → prefixed (Some (b ∷ [])) rest ≡ Some out → Sound out
+sound-prefix-one b rest out s g e = sound-prefix (Some (b ∷ [])) rest out (λ a k. let is : b ∷ [] ≡ a = cc in subst Sound is s) g e
 
 -- what follows is sound, whatever state it begins in
 abbrev SoundAfter : List ℕ → Type 0
 SoundAfter format = (b : Bool) (ts : List Term) (out : List ℕ) → list_all is_proper ts ≡ true → printed b format ts ≡ Some out → Sound out
 
-plain-by : (c : ℕ) (cs : List ℕ) (p : Bool) → Sound (c ∷ []) → SoundAfter cs → (ts : List Term) (out : List ℕ) → list_all is_proper ts ≡ true → cond p (printed true cs ts) (in_front (Some (c ∷ [])) (printed false cs ts)) ≡ Some out → Sound out
+plain-by : (c : ℕ) (cs : List ℕ) (p : Bool) → Sound (c ∷ []) → SoundAfter cs → (ts : List Term) (out : List ℕ) → list_all is_proper ts ≡ true → cond p (printed true cs ts) (prefixed (Some (c ∷ [])) (printed false cs ts)) ≡ Some out → Sound out
 plain-by c cs true s after ts out h e = after true ts out h e
-plain-by c cs false s after ts out h e = sound-front-one c (printed false cs ts) out s (λ r k. after false ts r h k) e
+plain-by c cs false s after ts out h e = sound-prefix-one c (printed false cs ts) out s (λ r k. after false ts r h k) e
 
-letter-by : (c : ℕ) (cs : List ℕ) (p : Bool) → SoundAfter cs → (t : Term) (ts : List Term) (out : List ℕ) → list_all is_proper (t ∷ ts) ≡ true → cond p (in_front (Some (37 ∷ [])) (printed false cs (t ∷ ts))) (in_front (shown c t) (printed false cs ts)) ≡ Some out → Sound out
-letter-by c cs true after t ts out h e = sound-front-one 37 (printed false cs (t ∷ ts)) out (sound-one 37 refl) (λ r k. after false (t ∷ ts) r h k) e
+letter-by : (c : ℕ) (cs : List ℕ) (p : Bool) → SoundAfter cs → (t : Term) (ts : List Term) (out : List ℕ) → list_all is_proper (t ∷ ts) ≡ true → cond p (prefixed (Some (37 ∷ [])) (printed false cs (t ∷ ts))) (prefixed (shown c t) (printed false cs ts)) ≡ Some out → Sound out
+letter-by c cs true after t ts out h e = sound-prefix-one 37 (printed false cs (t ∷ ts)) out (sound-one 37 refl) (λ r k. after false (t ∷ ts) r h k) e
 letter-by c cs false after t ts out h e =
     let p = and_parts (is_proper t) (list_all is_proper ts) h in
-    sound-front (shown c t) (printed false cs ts) out (λ a k. sound-shown c t a p.0 k) (λ r k. after false ts r p.1 k) e
+    sound-prefix (shown c t) (printed false cs ts) out (λ a k. sound-shown c t a p.0 k) (λ r k. after false ts r p.1 k) e
 
-last-by : (c : ℕ) (cs : List ℕ) (p : Bool) → SoundAfter cs → (out : List ℕ) → cond p (in_front (Some (37 ∷ [])) (printed false cs [])) None ≡ Some out → Sound out
-last-by c cs true after out e = sound-front-one 37 (printed false cs []) out (sound-one 37 refl) (λ r k. after false [] r refl k) e
+last-by : (c : ℕ) (cs : List ℕ) (p : Bool) → SoundAfter cs → (out : List ℕ) → cond p (prefixed (Some (37 ∷ [])) (printed false cs [])) None ≡ Some out → Sound out
+last-by c cs true after out e = sound-prefix-one 37 (printed false cs []) out (sound-one 37 refl) (λ r k. after false [] r refl k) e
 last-by c cs false after out e = absurd cc
 
 sound-after-low : (c : ℕ) (cs : List ℕ) → Sound (c ∷ []) → SoundAfter cs → SoundAfter (c ∷ cs)
@@ -295,7 +295,7 @@ sound-after-low c cs s after true [] out h e = last-by c cs (c == 37) after out 
 sound-after-low c cs s after true (t ∷ ts) out h e = letter-by c cs (c == 37) after t ts out h e
 
 -- a character above ASCII is printed as it is, and no `%` stands before it
-put-one : (b : ℕ) (bs : List ℕ) (o : Option (List ℕ)) → ◌≡◌ {A = Option (List ℕ)} (in_front (Some (b ∷ [])) (option_map (λ r. bs ++ r) o)) (option_map (λ r. (b ∷ bs) ++ r) o)
+put-one : (b : ℕ) (bs : List ℕ) (o : Option (List ℕ)) → ◌≡◌ {A = Option (List ℕ)} (prefixed (Some (b ∷ [])) (option_map (λ r. bs ++ r) o)) (option_map (λ r. (b ∷ bs) ++ r) o)
 put-one b bs None = refl
 put-one b bs (Some r) = refl
 

@@ -19,9 +19,9 @@ rest_of [] = None
 rest_of (t ∷ ts) = Some (term.List ts)
 
 abbrev pub joined : List Term → List Term → Term
-joined front back = term.List (front ++ back)
+joined prefix back = term.List (prefix ++ back)
 
--- the member at this place, from 1
+-- the member at this position, from 1
 abbrev pub member_at : List Term → ℤ → Option Term
 member_at terms (pos n) = if n == 0 then None else slice_get terms (n - 1)
 member_at terms (negsuc n) = None

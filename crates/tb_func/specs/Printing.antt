@@ -24,18 +24,18 @@ shown letter t =
     else (if letter == 115 then str_of t
     else (if letter == 116 then Some (term_text t) else None))
 
-abbrev pub in_front : Option (List ℕ) → Option (List ℕ) → Option (List ℕ)
-in_front bytes rest = of_both (λ b r. Some (b ++ r)) bytes rest
+abbrev pub prefixed : Option (List ℕ) → Option (List ℕ) → Option (List ℕ)
+prefixed bytes rest = of_both (λ b r. Some (b ++ r)) bytes rest
 
 -- the rest of a format with the rest of the arguments; the flag says that a `%` stands before it
 abbrev pub printed : Bool → List ℕ → List Term → Option (List ℕ)
 printed false [] [] = Some []
 printed false [] (t ∷ ts) = None
-printed false (c ∷ cs) ts = if c == 37 then printed true cs ts else in_front (Some (c ∷ [])) (printed false cs ts)
+printed false (c ∷ cs) ts = if c == 37 then printed true cs ts else prefixed (Some (c ∷ [])) (printed false cs ts)
 printed true [] ts = None
-printed true (c ∷ cs) [] = if c == 37 then in_front (Some (37 ∷ [])) (printed false cs []) else None
+printed true (c ∷ cs) [] = if c == 37 then prefixed (Some (37 ∷ [])) (printed false cs []) else None
 printed true (c ∷ cs) (t ∷ ts) =
-    if c == 37 then in_front (Some (37 ∷ [])) (printed false cs (t ∷ ts)) else in_front (shown c t) (printed false cs ts)
+    if c == 37 then prefixed (Some (37 ∷ [])) (printed false cs (t ∷ ts)) else prefixed (shown c t) (printed false cs ts)
 
 abbrev pub format_text : List ℕ → List Term → Option Term
 format_text format ts = option_and_then (λ bytes. limited (term.Str bytes)) (printed false format ts)

@@ -7,11 +7,11 @@ use Rattle.tb_terms.specs.Sorts.{has_sort, initial_value}
 use Rattle.tb_func.specs.declared.slot.Slot.{Slot}
 
 -- the value has the slot's sort
-abbrev pub is_sorted : Slot → Bool
-is_sorted slot = has_sort slot.value slot.sort
+abbrev pub is_well_sorted : Slot → Bool
+is_well_sorted slot = has_sort slot.value slot.sort
 
-abbrev pub are_sorted : List Slot → Bool
-are_sorted slots = list_all is_sorted slots
+abbrev pub are_well_sorted : List Slot → Bool
+are_well_sorted slots = list_all is_well_sorted slots
 
 -- a slot with the value with which its sort begins
 abbrev pub fresh_slot : Sort → Slot
@@ -23,7 +23,7 @@ sort_at slots at = option_map (λ (slot : Slot). slot.sort) (slice_get slots at)
 abbrev pub value_at : List Slot → ℕ → Option Term
 value_at slots at = option_map (λ (slot : Slot). slot.value) (slice_get slots at)
 
--- the slots, with another value in the one at this place
+-- the slots, with another value in the one at this position
 abbrev pub with_value : List Slot → ℕ → Term → List Slot
 with_value [] at term = []
 with_value (slot ∷ slots) zero term = record slot { value = term } ∷ slots

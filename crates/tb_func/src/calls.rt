@@ -153,7 +153,7 @@ fn join_given(alloc: Global, a: &Term, b: &Term) -> Result<Option<Term>, NoMemor
         (λ v. v ≡ of_both (λ xs ys. Some (joined xs ys)) (list_of a.now) (list_of b.now)) }
 {
     match (list_of(a), list_of(b)) {
-        (Some(front), Some(back)) => Ok(Some(joined(alloc, front, back)?)),
+        (Some(prefix), Some(back)) => Ok(Some(joined(alloc, prefix, back)?)),
         _ => Ok(None),
     }
 }
@@ -171,7 +171,7 @@ fn index_given(alloc: Global, a: &Term, b: &Term) -> Result<Option<Term>, NoMemo
     ensures { IfOk result (λ v. v ≡ of_both member_at (list_of a.now) (int_of b.now)) }
 {
     match (list_of(a), int_of(b)) {
-        (Some(terms), Some(place)) => member_at(alloc, terms, place),
+        (Some(terms), Some(position)) => member_at(alloc, terms, position),
         _ => Ok(None),
     }
 }

@@ -38,11 +38,11 @@ pub(crate) fn rest_of(alloc: Global, terms: &[Term]) -> Result<Option<Term>, NoM
     }
 }
 
-pub(crate) fn joined(alloc: Global, front: &[Term], back: &[Term]) -> Result<Term, NoMemory>
-    ensures { IfOk result (λ v. v ≡ joined front.now back.now) }
+pub(crate) fn joined(alloc: Global, prefix: &[Term], back: &[Term]) -> Result<Term, NoMemory>
+    ensures { IfOk result (λ v. v ≡ joined prefix.now back.now) }
 {
     let mut copies = Items::new(alloc);
-    copy_onto(alloc, front, &mut copies)?;
+    copy_onto(alloc, prefix, &mut copies)?;
     copy_onto(alloc, back, &mut copies)?;
     Ok(Term::List(copies))
 }
@@ -57,14 +57,18 @@ fn copy_onto(alloc: Global, terms: &[Term], onto: &mut Terms) -> Result<(), NoMe
     Ok(())
 }
 
-/// The member at this place, from 1.
-pub(crate) fn member_at(alloc: Global, terms: &[Term], place: i64) -> Result<Option<Term>, NoMemory>
-    ensures { IfOk result (λ v. v ≡ member_at terms.now place) }
+/// The member at this position, from 1.
+pub(crate) fn member_at(
+    alloc: Global,
+    terms: &[Term],
+    position: i64,
+) -> Result<Option<Term>, NoMemory>
+    ensures { IfOk result (λ v. v ≡ member_at terms.now position) }
 {
-    if place < 1 {
+    if position < 1 {
         return Ok(None);
     }
-    match at(terms, place as usize - 1) {
+    match at(terms, position as usize - 1) {
         Some(term) => Ok(Some(term.copy(alloc)?)),
         None => Ok(None),
     }

@@ -1,4 +1,4 @@
-/// What a function takes at a place, or gives.
+/// What a function takes at a position, or gives.
 #[derive(Clone, Copy, Debug, PartialEq, Eq)]
 pub enum Shape {
     Bool,

@@ -1,7 +1,7 @@
 ghost use Rattle.std.specs.Prelude.{◌≡◌, ◌<◌, Some, IsTrue, IfOk, length, map};
 ghost use Rattle.std.specs.Option.{ForSome, option_copied};
 ghost use Rattle.tb_terms.specs.Sorts.{has_sort};
-ghost use Rattle.tb_func.specs.Stores.{are_sorted, fresh_slot, sort_at, value_at, with_value};
+ghost use Rattle.tb_func.specs.Stores.{are_well_sorted, fresh_slot, sort_at, value_at, with_value};
 
 use crate::Slot;
 use std::alloc::Global;
@@ -17,7 +17,7 @@ pub struct Store {
 impl Model for Store {
     ghost use Rattle.std.specs.Prelude.{List, IsTrue};
     ghost use Rattle.tb_func.specs.declared.slot.Slot.{Slot};
-    ghost use Rattle.tb_func.specs.Stores.{are_sorted};
+    ghost use Rattle.tb_func.specs.Stores.{are_well_sorted};
     ghost use Rattle.std.specs.Coded.{codes};
     ghost use Rattle.tb_terms.specs.contracts.term.Term as term;
     ghost use Rattle.tb_terms.specs.contracts.sort.Sort as sort;
@@ -28,7 +28,7 @@ impl Model for Store {
 
     ghost view = { λ store. store.slots.items };
 
-    ghost invariant = { λ store. IsTrue (are_sorted store.slots.items) };
+    ghost invariant = { λ store. IsTrue (are_well_sorted store.slots.items) };
 }
 
 impl Store {
@@ -48,7 +48,7 @@ impl Store {
     pub fn value(&self, slot: u32) -> &Term
         requires { slot < length self.now }
         ensures value { value_at self.now slot ≡ Some result.now }
-        ensures sorted { IsTrue (are_sorted self.now) }
+        ensures well_sorted { IsTrue (are_well_sorted self.now) }
     {
         &self.slots[slot as usize].value
     }
@@ -57,9 +57,9 @@ impl Store {
     pub fn get(&self, slot: u32) -> Option<&Term>
         ensures { option_copied result ≡ value_at self.now slot }
     {
-        let place = slot as usize;
-        if place < self.slots.len() {
-            Some(&self.slots[place].value)
+        let position = slot as usize;
+        if position < self.slots.len() {
+            Some(&self.slots[position].value)
         } else {
             None
         }
@@ -76,9 +76,9 @@ impl Store {
     pub fn get_sort(&self, slot: u32) -> Option<&Sort>
         ensures { option_copied result ≡ sort_at self.now slot }
     {
-        let place = slot as usize;
-        if place < self.slots.len() {
-            Some(&self.slots[place].sort)
+        let position = slot as usize;
+        if position < self.slots.len() {
+            Some(&self.slots[position].sort)
         } else {
             None
         }
@@ -86,7 +86,7 @@ impl Store {
 
     pub fn set(&mut self, slot: u32, t: Term)
         requires in_range { slot < length self.old }
-        requires sorted { ForSome (sort_at self.old slot) (λ sort. IsTrue (has_sort t sort)) }
+        requires well_sorted { ForSome (sort_at self.old slot) (λ sort. IsTrue (has_sort t sort)) }
         ensures { self.new ≡ with_value self.old slot t }
     {
         self.slots[slot as usize].value = t;

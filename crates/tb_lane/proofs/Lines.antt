@@ -25,9 +25,9 @@ long-line bytes l = inr (λ term says. absurd (omega (arith, says.0)), refl)
 passed-bad : (term : Term) (f : TermFault) → Passes 65552 65 term f → line_of term ≡ Bad
 passed-bad term fault.TooLarge p = elim (line_of-small term) [ inl bad ↦ bad | inr small ↦ let over : 65552 < term_size term = p in absurd (omega (arith, small.0)) ]
 passed-bad term fault.TooDeep p = elim (line_of-small term) [ inl bad ↦ bad | inr small ↦ let over : 65 < term_levels term = p.1 in absurd (omega (arith, small.1)) ]
-passed-bad term (fault.Syntax place) p = absurd p
-passed-bad term (fault.Real place) p = absurd p
-passed-bad term (fault.IntRange place) p = absurd p
+passed-bad term (fault.Syntax position) p = absurd p
+passed-bad term (fault.Real position) p = absurd p
+passed-bad term (fault.IntRange position) p = absurd p
 passed-bad term fault.NoMemory p = absurd p
 
 caused-bad : (bytes : List ℕ) (f : TermFault) → length bytes ≤ 65536 → (f ≡ fault.NoMemory → ⊥) → Cause 65552 65 bytes f → IsToolLine bytes Bad

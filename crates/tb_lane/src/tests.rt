@@ -66,8 +66,8 @@ fn spelt(alloc: Global, bytes: &[u8]) -> Result<Vec<u8>, NoMemory> {
 #[test]
 fn lines_are_read(rt: HostRuntime) -> Result<(), Fail> {
     let alloc = rt.alloc();
-    for (place, Row(bytes, line)) in ROWS.iter().enumerate() {
-        assert_eq!(rt; spelt(alloc, bytes)?.as_slice(), *line, "in row {place}");
+    for (position, Row(bytes, line)) in ROWS.iter().enumerate() {
+        assert_eq!(rt; spelt(alloc, bytes)?.as_slice(), *line, "in row {position}");
     }
     each_line_is_one();
     tool_lines_are_unique();
@@ -77,13 +77,13 @@ fn lines_are_read(rt: HostRuntime) -> Result<(), Fail> {
 /// A line with this in front, so many times the bytes, and this behind.
 fn line_of(
     alloc: Global,
-    front: &[u8],
+    prefix: &[u8],
     count: usize,
     bytes: &[u8],
     behind: &[u8],
 ) -> Result<Vec<u8>, NoMemory> {
     let mut line = Vec::new(alloc);
-    line.extend_from_slice(front)?;
+    line.extend_from_slice(prefix)?;
     for _ in 0..count {
         line.extend_from_slice(bytes)?;
     }

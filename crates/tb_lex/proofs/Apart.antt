@@ -2,7 +2,7 @@
 use Rattle.std.proofs.Common.{◌≡◌, ℕ, suc, ◌+◌, ◌≤◌, Bool, true, false, cond, eqb, List, [], ◌∷◌, ◌++◌, length, Some, refl, ap, sym, ◌∙◌, subst, inl, inr, arith, append_assoc}
 use Rattle.std.specs.List.{prefix_len}
 use Rattle.tb_terms.specs.Names.{is_digit, is_name, is_ident, is_name_byte}
-use Rattle.tb_read.specs.Places.{HasPoint}
+use Rattle.tb_read.specs.Positions.{HasPoint}
 use Rattle.tb_lex.specs.Gaps.{IsGap, IsLast}
 use Rattle.tb_lex.specs.Tokens.{symbol_text, SpellsKind, IsLongest, IsWhole, IsToken, TokensThen, Lexes, Spaced}
 use Rattle.tb_lex.specs.Scanning.{begins_with}
@@ -100,15 +100,15 @@ blank_apart (kind.Symbol s) rest = blank_symbol s rest
 blank_gap : IsGap (32 ∷ [])
 blank_gap = ((32 ∷ []) ∷ [], ([], refl, inl (32, refl, refl), refl))
 
-pub token_apart : (place : ℕ) (token : Token) (text rest : List ℕ) → SpellsKind token.kind text → Apart token.kind rest → token.from ≡ place → token.to ≡ place + length text → IsToken place token text rest
-token_apart place token text rest s a from to = record { spelled = s; longest = kind_longest token.kind text rest s a; whole = kind_whole token.kind rest a; from = from; to = to }
+pub token_apart : (position : ℕ) (token : Token) (text rest : List ℕ) → SpellsKind token.kind text → Apart token.kind rest → token.from ≡ position → token.to ≡ position + length text → IsToken position token text rest
+token_apart position token text rest s a from to = record { spelled = s; longest = kind_longest token.kind text rest s a; whole = kind_whole token.kind rest a; from = from; to = to }
 
-behind_blank : (tokens : List Token) (place : ℕ) (bytes : List ℕ) → Spaced (place + 1) tokens bytes → TokensThen (λ place rest. IsLast rest) place (32 ∷ bytes) tokens
-behind_blank [] place bytes s = inl (subst (λ (l : List ℕ). IsGap (32 ∷ l)) (sym s) blank_gap)
-behind_blank (token ∷ tokens) place bytes s =
+behind_blank : (tokens : List Token) (position : ℕ) (bytes : List ℕ) → Spaced (position + 1) tokens bytes → TokensThen (λ position rest. IsLast rest) position (32 ∷ bytes) tokens
+behind_blank [] position bytes s = inl (subst (λ (l : List ℕ). IsGap (32 ∷ l)) (sym s) blank_gap)
+behind_blank (token ∷ tokens) position bytes s =
     let text = s.0 in
     let rest = s.1 in
-    let is = token_apart (place + 1) token text (32 ∷ rest) s.3 (blank_apart token.kind rest) s.4 s.5 in
+    let is = token_apart (position + 1) token text (32 ∷ rest) s.3 (blank_apart token.kind rest) s.4 s.5 in
     (32 ∷ [], text, 32 ∷ rest, ap (λ (l : List ℕ). 32 ∷ l) s.2, blank_gap, is, behind_blank tokens token.to rest s.6)
 
 -- the tokens' texts with a blank behind each have these tokens

@@ -1,6 +1,6 @@
 pub mod Apart
 pub mod Faulted
-pub mod Fronts
+pub mod Prefixes
 pub mod Gaps
 pub mod Heads
 pub mod Names

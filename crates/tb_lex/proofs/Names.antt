@@ -6,20 +6,20 @@ use Rattle.std.proofs.lemmas.Bool.{false≢true, and_parts, and_from}
 use Rattle.std.proofs.lemmas.List.Folds.{list_all-append}
 use Rattle.std.specs.List.{prefix_len, list_all}
 use Rattle.tb_terms.specs.Names.{is_name, is_ident, is_lower, is_upper, is_digit, is_name_byte}
-use Rattle.tb_read.proofs.Names.{all_of_front}
+use Rattle.tb_read.proofs.Names.{all_of_prefix}
 use Rattle.tb_read.proofs.Complete.{prefix_all}
 use Rattle.tb_lex.specs.Tokens.{IsPiece, IsLongest}
 use Rattle.tb_lex.specs.Scanning.{Read, has_head, lower_at, upper_at}
 use Rattle.tb_lex.specs.declared.head.Head.TheVariants as head
 use Rattle.tb_lex.specs.declared.kind.TokenKind.TheVariants as kind
-use Rattle.tb_lex.proofs.Fronts.{all_behind, none_more, stops_by}
+use Rattle.tb_lex.proofs.Prefixes.{all_behind, none_more, stops_by}
 use Rattle.tb_lex.proofs.Heads.{PieceOf, piece_of, lower_head, upper_head}
 
-pub is_name_front : (bs : List ℕ) → has_head head.Lower bs ≡ true → is_name (take (prefix_len is_name_byte bs) bs) ≡ true
-is_name_front [] h = absurd (false≢true h)
-is_name_front (b ∷ bs) h =
+pub is_name_prefix : (bs : List ℕ) → has_head head.Lower bs ≡ true → is_name (take (prefix_len is_name_byte bs) bs) ≡ true
+is_name_prefix [] h = absurd (false≢true h)
+is_name_prefix (b ∷ bs) h =
     let also : is_name_byte b ≡ true = rw h refl in
-    rw (also, one-add, h) (all_of_front is_name_byte bs)
+    rw (also, one-add, h) (all_of_prefix is_name_byte bs)
 
 upper_also : (b : ℕ) → is_upper b ≡ true → is_name_byte b ≡ true
 upper_also b h = by (is_lower b) where
@@ -27,9 +27,9 @@ upper_also b h = by (is_lower b) where
   by true = refl
   by false = rw h refl
 
-pub is_ident_front : (bs : List ℕ) → has_head head.Upper bs ≡ true → is_ident (take (prefix_len is_name_byte bs) bs) ≡ true
-is_ident_front [] h = absurd (false≢true h)
-is_ident_front (b ∷ bs) h = rw (upper_also b h, one-add, h) (all_of_front is_name_byte bs)
+pub is_ident_prefix : (bs : List ℕ) → has_head head.Upper bs ≡ true → is_ident (take (prefix_len is_name_byte bs) bs) ≡ true
+is_ident_prefix [] h = absurd (false≢true h)
+is_ident_prefix (b ∷ bs) h = rw (upper_also b h, one-add, h) (all_of_prefix is_name_byte bs)
 
 pub name_longest : (text rest : List ℕ) → is_name text ≡ true → prefix_len is_name_byte rest ≡ 0 → IsLongest text rest
 name_longest [] rest h s more tail e p = absurd (false≢true h)

@@ -8,18 +8,18 @@ use Rattle.std.specs.List.{list_all, prefix_len}
 use Rattle.tb_terms.specs.Names.{is_digit}
 use Rattle.tb_read.specs.Spelling.{is_digits, digits_value, SpellsNumber}
 use Rattle.tb_read.specs.Lexing.{is_real, number_of}
-use Rattle.tb_read.specs.Places.{signed, HasPoint, BeginsReal, BeginsTooFar}
-use Rattle.tb_read.proofs.Names.{all_of_front}
+use Rattle.tb_read.specs.Positions.{signed, HasPoint, BeginsReal, BeginsTooFar}
+use Rattle.tb_read.proofs.Names.{all_of_prefix}
 use Rattle.tb_read.proofs.Lexed.{unsigned_spelled, signed_spelled}
 use Rattle.tb_read.proofs.Complete.{prefix_all, digit_unsigned}
-use Rattle.tb_read.proofs.Stops.{front_stops}
+use Rattle.tb_read.proofs.Stops.{prefix_stops}
 use Rattle.tb_read.proofs.Numerals.{point}
 use Rattle.tb_lex.specs.Tokens.{IsNumeral, IsPiece, IsLongest}
 use Rattle.tb_lex.specs.Scanning.{Read, head_of, in_range, number_from, number_at}
 use Rattle.tb_lex.specs.declared.head.Head.TheVariants as head
 use Rattle.tb_lex.specs.declared.kind.TokenKind.TheVariants as kind
 use Rattle.tb_lex.specs.declared.fault.LexFault.TheVariants as fault
-use Rattle.tb_lex.proofs.Fronts.{all_behind, none_more, stops_by}
+use Rattle.tb_lex.proofs.Prefixes.{all_behind, none_more, stops_by}
 use Rattle.tb_lex.proofs.Heads.{PieceOf, digit_head, piece_of}
 
 -- behind the first byte of a numeral stand digits alone
@@ -90,11 +90,11 @@ parted_by : (b : ℕ) (bytes : List ℕ) (v : Bool) → eqb b 45 ≡ v → Parte
 parted_by b bytes true e =
     let len = prefix_len is_digit bytes in
     let at : b ∷ bytes ≡ 45 ∷ (take len bytes ++ drop len bytes) = ap (λ n. n ∷ bytes) (eqb-true b 45 e) ∙ ap (λ (l : List ℕ). 45 ∷ l) (sym (take-append-drop len bytes)) in
-    (true, take len bytes, drop len bytes, at, all_of_front is_digit bytes, front_stops is_digit bytes, e, λ total. ap (λ v. numbered (total - length (b ∷ bytes)) v (drop (cond v 1 0) (b ∷ bytes))) e)
+    (true, take len bytes, drop len bytes, at, all_of_prefix is_digit bytes, prefix_stops is_digit bytes, e, λ total. ap (λ v. numbered (total - length (b ∷ bytes)) v (drop (cond v 1 0) (b ∷ bytes))) e)
 parted_by b bytes false e =
     let l = b ∷ bytes in
     let len = prefix_len is_digit l in
-    (false, take len l, drop len l, sym (take-append-drop len l), all_of_front is_digit l, front_stops is_digit l, e, λ total. ap (λ v. numbered (total - length l) v (drop (cond v 1 0) l)) e)
+    (false, take len l, drop len l, sym (take-append-drop len l), all_of_prefix is_digit l, prefix_stops is_digit l, e, λ total. ap (λ v. numbered (total - length l) v (drop (cond v 1 0) l)) e)
 
 pub parted : (b : ℕ) (bytes : List ℕ) → Parted b bytes
 parted b bytes = parted_by b bytes (eqb b 45) refl
@@ -161,10 +161,10 @@ number_complete total z text rest s stop whole = by s.signed where
   by (inr p) = taken true p.0 (number_of_spelled true s.digits z (inr (refl, p.1, p.2)))
 
 abbrev real_at : ℕ → Read
-real_at place = Err (fault.Real place)
+real_at position = Err (fault.Real position)
 
 abbrev out_of : ℕ → Read
-out_of place = Err (fault.IntRange place)
+out_of position = Err (fault.IntRange position)
 
 pub real_complete : (total : ℕ) (bytes : List ℕ) → BeginsReal bytes → number_at total bytes ≡ Err (fault.Real (total - length bytes))
 real_complete total bytes (negative, digits, rest, n, p) =

@@ -7,8 +7,8 @@ use Rattle.std.specs.List.{list_all, prefix_len}
 use Rattle.tb_terms.specs.Names.{is_digit, is_lower, is_upper, is_name, is_ident, is_name_byte}
 use Rattle.tb_read.specs.Spelling.{is_digits, digits_value, SpellsNumber, SpellsString}
 use Rattle.tb_read.specs.Lexing.{is_real, number_of}
-use Rattle.tb_read.specs.Places.{signed, HasPoint, BeginsReal, BeginsTooFar}
-use Rattle.tb_read.proofs.Stops.{front_stops}
+use Rattle.tb_read.specs.Positions.{signed, HasPoint, BeginsReal, BeginsTooFar}
+use Rattle.tb_read.proofs.Stops.{prefix_stops}
 use Rattle.tb_read.proofs.Numerals.{point, no_point, sign_no_digit, too_far}
 use Rattle.tb_lex.specs.declared.fault.LexFault.{LexFault}
 use Rattle.tb_lex.specs.declared.fault.LexFault.TheVariants as fault
@@ -20,9 +20,9 @@ use Rattle.tb_lex.specs.declared.kind.TokenKind.TheVariants as kind
 use Rattle.tb_lex.specs.Tokens.{symbol_text, SpellsKind, IsNumeral, IsLongest, IsWhole}
 use Rattle.tb_lex.specs.Faults.{BeginsNothing, IsFault}
 use Rattle.tb_lex.specs.Scanning.{Read, has_head, head_of, lower_at, upper_at, in_range, number_from, number_at, string_at, symbol_of, symbol_found, symbol_at, piece_at}
-use Rattle.tb_lex.proofs.Fronts.{none_first}
+use Rattle.tb_lex.proofs.Prefixes.{none_first}
 use Rattle.tb_lex.proofs.Heads.{PieceOf, Begun, lower_head, upper_head, number_numeral, piece_begun}
-use Rattle.tb_lex.proofs.Names.{is_name_front, is_ident_front, name_longest, ident_longest, name_stops, ident_stops, lower_taken, upper_taken}
+use Rattle.tb_lex.proofs.Names.{is_name_prefix, is_ident_prefix, name_longest, ident_longest, name_stops, ident_stops, lower_taken, upper_taken}
 use Rattle.tb_lex.proofs.Numbers.{numeral_head, numeral_longest, numeral_stops, number_spelled, parted, number_complete, real_complete, range_complete}
 use Rattle.tb_lex.proofs.Quotes.{string_longest, string_complete, string_found, StringFault, string_refused, open_complete, bad_complete}
 use Rattle.tb_lex.proofs.Symbols.{symbol_first, symbol_sound, most, symbol_longest, symbol_taken, symbol_head}
@@ -51,16 +51,16 @@ err_same f g e = cc
 lower_sound : (bytes : List ℕ) (x : Piece) → has_head head.Lower bytes ≡ true → lower_at bytes ≡ Ok x → Cut bytes x
 lower_sound bytes x h e =
     let len = prefix_len is_name_byte bytes in
-    let name = is_name_front bytes h in
+    let name = is_name_prefix bytes h in
     subst (λ (y : Piece). Cut bytes y) (ok_same (kind.Lower (take len bytes), drop len bytes) x e)
-    (take len bytes, sym (take-append-drop len bytes), (name, refl), name_longest (take len bytes) (drop len bytes) name (front_stops is_name_byte bytes), tt)
+    (take len bytes, sym (take-append-drop len bytes), (name, refl), name_longest (take len bytes) (drop len bytes) name (prefix_stops is_name_byte bytes), tt)
 
 upper_sound : (bytes : List ℕ) (x : Piece) → has_head head.Upper bytes ≡ true → upper_at bytes ≡ Ok x → Cut bytes x
 upper_sound bytes x h e =
     let len = prefix_len is_name_byte bytes in
-    let name = is_ident_front bytes h in
+    let name = is_ident_prefix bytes h in
     subst (λ (y : Piece). Cut bytes y) (ok_same (kind.Upper (take len bytes), drop len bytes) x e)
-    (take len bytes, sym (take-append-drop len bytes), (name, refl), ident_longest (take len bytes) (drop len bytes) name (front_stops is_name_byte bytes), tt)
+    (take len bytes, sym (take-append-drop len bytes), (name, refl), ident_longest (take len bytes) (drop len bytes) name (prefix_stops is_name_byte bytes), tt)
 
 string_sound : (q total : ℕ) (bytes : List ℕ) (x : Piece) → q ≡ 34 → string_at total (q ∷ bytes) ≡ Ok x → Cut (q ∷ bytes) x
 string_sound q total bytes x h e =

@@ -17,7 +17,7 @@ use Rattle.tb_lex.specs.declared.kind.TokenKind.{TokenKind}
 use Rattle.tb_lex.specs.declared.kind.TokenKind.TheVariants as kind
 use Rattle.tb_lex.specs.Tokens.{IsPiece, IsLongest}
 use Rattle.tb_lex.specs.Faults.{BeginsString, IsInString, IsOpenString, IsUncut, IsBadEscape, HasBadByte}
-use Rattle.tb_lex.specs.Scanning.{Read, bad_place, string_fault, string_rest, string_of, string_at, with_front}
+use Rattle.tb_lex.specs.Scanning.{Read, bad_position, string_fault, string_rest, string_of, string_at, with_prefix}
 use Rattle.tb_lex.proofs.Heads.{PieceOf, piece_of}
 use Rattle.tb_lex.proofs.Strings.{Pair, turned, read, read_in_term, read_here}
 use Rattle.tb_lex.proofs.Walks.{Step, Walks, one_more, goes_facts, puts_facts, next_facts, NextFacts, walk_steady, ten_bad, rest_read, walk_read, text_read, read_text, walk_in_string, in_string, in_string_begins, uncut, inside_of}
@@ -96,11 +96,11 @@ behind_step q t w next b bytes f s (inr (inr o)) = inr (inr (b ∷ o.0, o.1, o.2
 err_same : {X : Type 0} (f g : LexFault) → ◌≡◌ {A = Result X LexFault} (Err f) (Err g) → f ≡ g
 err_same f g e = cc
 
-front_err : (front : List ℕ) (r : Result Pair LexFault) (f : LexFault) → with_front front r ≡ Err f → r ≡ Err f
-front_err front (Ok x) f e = cc
-front_err front (Err g) f e = let same : g ≡ f = cc in ap (λ (h : LexFault). Err h) same
+prefix_err : (prefix : List ℕ) (r : Result Pair LexFault) (f : LexFault) → with_prefix prefix r ≡ Err f → r ≡ Err f
+prefix_err prefix (Ok x) f e = cc
+prefix_err prefix (Err g) f e = let same : g ≡ f = cc in ap (λ (h : LexFault). Err h) same
 
-bad_by : (q t : ℕ) (w : Within) (b : ℕ) (bytes : List ℕ) (f : LexFault) → string_turn w b ≡ Bad → (v : Bool) → eqb b 10 ≡ v → cond v (fault.OpenString q) (fault.BadByte (bad_place w (t - suc (length bytes)))) ≡ f → Outcome q t w (b ∷ bytes) f ⊎ LetterAt t w (b ∷ bytes) f
+bad_by : (q t : ℕ) (w : Within) (b : ℕ) (bytes : List ℕ) (f : LexFault) → string_turn w b ≡ Bad → (v : Bool) → eqb b 10 ≡ v → cond v (fault.OpenString q) (fault.BadByte (bad_position w (t - suc (length bytes)))) ≡ f → Outcome q t w (b ∷ bytes) f ⊎ LetterAt t w (b ∷ bytes) f
 bad_by q t w b bytes f bad true e s = inl (inl ([], w, b ∷ bytes, refl, refl, inr (bytes, ap (λ n. n ∷ bytes) (eqb-true b 10 e)), sym s))
 bad_by q t Between b bytes f bad false e s = inl (inr (inl ([], Between, b, bytes, refl, refl, tt, eqb-false b 10 e, bad, sym s)))
 bad_by q t (Going more low high) b bytes f bad false e s = inl (inr (inl ([], Going more low high, b, bytes, refl, refl, tt, eqb-false b 10 e, bad, sym s)))
@@ -126,7 +126,7 @@ turn_by q t b bytes f ih w s Ends eu e = cc
 turn_by q t b bytes f ih w s (Goes next) eu e =
     let steady : Steady next = subst Steady (sym (goes_facts w b next s eu).2) tt in
     inl (goes_by q t w b bytes f next s eu (ih next steady e))
-turn_by q t b bytes f ih w s (Puts c next) eu e = inl (puts_by q t w b bytes f c next s eu (ih next (puts_facts w b c next s eu).1 (front_err (c ∷ []) (string_rest q t next bytes) f e)))
+turn_by q t b bytes f ih w s (Puts c next) eu e = inl (puts_by q t w b bytes f c next s eu (ih next (puts_facts w b c next s eu).1 (prefix_err (c ∷ []) (string_rest q t next bytes) f e)))
 turn_by q t b bytes f ih w s Bad eu e = bad_by q t w b bytes f eu (eqb b 10) refl (err_same {X = Pair} (string_fault q (t - suc (length bytes)) w b) f e)
 
 ended : (q t : ℕ) (bytes : List ℕ) (f : LexFault) → Ended q t bytes f
@@ -148,17 +148,17 @@ bad_never v b bad tail y e = let no : term_turned 0 Bad tail ≡ Ok y = ap (λ u
 escape_never : (v : Within) (letter : ℕ) → string_turn v 92 ≡ Goes Escaped → string_turn Escaped letter ≡ Bad → (tail : List ℕ) (y : Pair) → term_string 0 v (92 ∷ letter ∷ tail) ≡ Ok y → ⊥
 escape_never v letter goes bad tail y e = bad_never Escaped letter bad tail y (ap (λ u. term_turned 0 u (letter ∷ tail)) (sym goes) ∙ e)
 
--- what is at fault in a string whose quote stands at this place
+-- what is at fault in a string whose quote stands at this position
 abbrev pub StringFault : LexFault → ℕ → List ℕ → Type 0
-StringFault f place bytes = ((f ≡ fault.OpenString place) × IsOpenString bytes) ⊎ ((at : ℕ) × (f ≡ fault.BadByte at) × HasBadByte at place bytes)
+StringFault f position bytes = ((f ≡ fault.OpenString position) × IsOpenString bytes) ⊎ ((at : ℕ) × (f ≡ fault.BadByte at) × HasBadByte at position bytes)
 
-place_bad : (total n : ℕ) (bytes pre rest : List ℕ) (b : ℕ) → suc (length bytes) ≤ total → bytes ≡ pre ++ (b ∷ rest) → total - suc (length rest) ≡ total - suc (length bytes) + 1 + length pre
-place_bad total n bytes pre rest b w e =
+position_bad : (total n : ℕ) (bytes pre rest : List ℕ) (b : ℕ) → suc (length bytes) ≤ total → bytes ≡ pre ++ (b ∷ rest) → total - suc (length rest) ≡ total - suc (length bytes) + 1 + length pre
+position_bad total n bytes pre rest b w e =
     let len : length bytes ≡ length pre + suc (length rest) = ap (λ (l : List ℕ). length l) e ∙ length-append pre (b ∷ rest) in
     omega arith
 
-place_escape : (total : ℕ) (bytes pre rest : List ℕ) (b c : ℕ) → suc (length bytes) ≤ total → bytes ≡ pre ++ (b ∷ c ∷ rest) → total - suc (length rest) - 1 ≡ total - suc (length bytes) + 1 + length pre
-place_escape total bytes pre rest b c w e =
+position_escape : (total : ℕ) (bytes pre rest : List ℕ) (b c : ℕ) → suc (length bytes) ≤ total → bytes ≡ pre ++ (b ∷ c ∷ rest) → total - suc (length rest) - 1 ≡ total - suc (length bytes) + 1 + length pre
+position_escape total bytes pre rest b c w e =
     let len : length bytes ≡ length pre + suc (suc (length rest)) = ap (λ (l : List ℕ). length l) e ∙ length-append pre (b ∷ c ∷ rest) in
     omega arith
 
@@ -172,7 +172,7 @@ outcome_fault total q bytes f h w (inr (inl o)) =
     let rest = o.3 in
     let never : BeginsString (34 ∷ pre ++ b ∷ []) → ⊥ = no_string pre v b [] o.5 (λ tail y e. bad_never v b o.8 tail y e) in
     let at = total - suc (length rest) in
-    inr (at, o.9, (pre, b, rest, ap (λ n. n ∷ bytes) h ∙ ap (λ (l : List ℕ). 34 ∷ l) o.4, place_bad total 0 bytes pre rest b w o.4, in_string pre v o.5, uncut pre v o.5 o.6, o.7, inl never))
+    inr (at, o.9, (pre, b, rest, ap (λ n. n ∷ bytes) h ∙ ap (λ (l : List ℕ). 34 ∷ l) o.4, position_bad total 0 bytes pre rest b w o.4, in_string pre v o.5, uncut pre v o.5 o.6, o.7, inl never))
 outcome_fault total q bytes f h w (inr (inr o)) =
     let pre = o.0 in
     let v = o.1 in
@@ -181,7 +181,7 @@ outcome_fault total q bytes f h w (inr (inr o)) =
     let never : BeginsString (34 ∷ pre ++ 92 ∷ letter ∷ []) → ⊥ = no_string pre v 92 (letter ∷ []) o.5 (λ tail y e. escape_never v letter o.7 o.9 tail y e) in
     let at = total - suc (length rest) - 1 in
     let escape : IsBadEscape pre 92 (letter ∷ rest) = (refl, (letter, rest, refl, o.8, never)) in
-    inr (at, o.10, (pre, 92, letter ∷ rest, ap (λ n. n ∷ bytes) h ∙ ap (λ (l : List ℕ). 34 ∷ l) o.4, place_escape total bytes pre rest 92 letter w o.4, in_string pre v o.5, uncut pre v o.5 o.6, ten_not, inr escape)) where
+    inr (at, o.10, (pre, 92, letter ∷ rest, ap (λ n. n ∷ bytes) h ∙ ap (λ (l : List ℕ). 34 ∷ l) o.4, position_escape total bytes pre rest 92 letter w o.4, in_string pre v o.5, uncut pre v o.5 o.6, ten_not, inr escape)) where
       ten_not : ◌≡◌ {A = ℕ} 92 10 → ⊥
       ten_not e = false≢true (ap (λ n. eqb n 10) e)
 
@@ -203,7 +203,7 @@ walk_err q t [] stop w v f p e = subst (λ u. string_rest q t u stop ≡ Err f) 
 walk_err q t (b ∷ pre) stop w v f p e = by p.1 (walk_err q t pre stop p.0 v f p.2 e) where
   by : Step w b p.0 → string_rest q t p.0 (pre ++ stop) ≡ Err f → string_rest q t w (b ∷ (pre ++ stop)) ≡ Err f
   by (inl s) h = ap (λ u. turned q t w b u (pre ++ stop)) s ∙ h
-  by (inr s) h = ap (λ u. turned q t w b u (pre ++ stop)) s.1 ∙ ap (λ (r : Result Pair LexFault). with_front (s.0 ∷ []) r) h
+  by (inr s) h = ap (λ u. turned q t w b u (pre ++ stop)) s.1 ∙ ap (λ (r : Result Pair LexFault). with_prefix (s.0 ∷ []) r) h
 
 abbrev refused : LexFault → Result Pair LexFault
 refused f = Err f
@@ -234,15 +234,15 @@ abbrev BadTurn : ℕ → ℕ → Within → ℕ → List ℕ → Type 0
 BadTurn q t v b rest = string_rest q t v (b ∷ rest) ≡ Err (fault.BadByte (t - suc (length rest)))
 
 -- a turn that isn't bad goes on to a string
-goes_on : (pre : List ℕ) (v : Within) (b : ℕ) → Walks Between pre v → (t : Turn) → string_turn v b ≡ t → ((BeginsString (34 ∷ pre ++ b ∷ [])) → ⊥) → t ≡ Bad
-goes_on pre v b p Bad et n = refl
-goes_on pre v b p Ends et n =
+may_continue : (pre : List ℕ) (v : Within) (b : ℕ) → Walks Between pre v → (t : Turn) → string_turn v b ≡ t → ((BeginsString (34 ∷ pre ++ b ∷ [])) → ⊥) → t ≡ Bad
+may_continue pre v b p Bad et n = refl
+may_continue pre v b p Ends et n =
     let closed : term_string 0 v (b ∷ []) ≡ Ok ([], []) = ap (λ u. term_turned 0 u []) et in
     let x = walk_read 0 pre (b ∷ []) Between v ([], []) p closed in
     let text = read_text (pre ++ (b ∷ [])) x.0 x.1 x.2 in
     absurd (n ([], x.0.0, subst (λ (l : List ℕ). SpellsString x.0.0 l) (sym (append-nil (34 ∷ (pre ++ (b ∷ []))))) text))
-goes_on pre v b p (Goes next) et n = absurd (n (in_string_begins (pre ++ (b ∷ [])) (in_string (pre ++ (b ∷ [])) next (one_more pre Between v next b p (inl et)))))
-goes_on pre v b p (Puts c next) et n = absurd (n (in_string_begins (pre ++ (b ∷ [])) (in_string (pre ++ (b ∷ [])) next (one_more pre Between v next b p (inr (c, et))))))
+may_continue pre v b p (Goes next) et n = absurd (n (in_string_begins (pre ++ (b ∷ [])) (in_string (pre ++ (b ∷ [])) next (one_more pre Between v next b p (inl et)))))
+may_continue pre v b p (Puts c next) et n = absurd (n (in_string_begins (pre ++ (b ∷ [])) (in_string (pre ++ (b ∷ [])) next (one_more pre Between v next b p (inr (c, et))))))
 
 bad_rest : (q t : ℕ) (v : Within) (b : ℕ) (rest : List ℕ) → IsInside v → string_turn v b ≡ Bad → (b ≡ 10 → ⊥) → BadTurn q t v b rest
 bad_rest q t Between b rest i bad n = ap (λ u. turned q t Between b u rest) bad ∙ ap (λ w. refused (cond w (fault.OpenString q) (fault.BadByte (t - suc (length rest))))) (ne_eqb b 10 n)
@@ -264,20 +264,20 @@ backslash_by q t pre v letter more p i n never (Goes next) eu f =
     let walk : Walks Between (pre ++ (92 ∷ [])) Escaped = one_more pre Between v Escaped 92 p (inl turn) in
     let same : (pre ++ (92 ∷ [])) ++ (letter ∷ []) ≡ pre ++ (92 ∷ letter ∷ []) = append_assoc pre (92 ∷ []) (letter ∷ []) in
     let none : BeginsString (34 ∷ (pre ++ (92 ∷ [])) ++ letter ∷ []) → ⊥ = λ g. never (subst (λ (l : List ℕ). BeginsString (34 ∷ l)) same g) in
-    let bad = goes_on (pre ++ (92 ∷ [])) Escaped letter walk (string_turn Escaped letter) refl none in
-    let place : t - suc (length more) - 1 ≡ t - suc (suc (length more)) = omega arith in
-    ap (λ u. turned q t v 92 u (letter ∷ more)) turn ∙ letter_rest q t letter more bad n ∙ ap (λ m. refused (fault.BadByte m)) place
+    let bad = may_continue (pre ++ (92 ∷ [])) Escaped letter walk (string_turn Escaped letter) refl none in
+    let position : t - suc (length more) - 1 ≡ t - suc (suc (length more)) = omega arith in
+    ap (λ u. turned q t v 92 u (letter ∷ more)) turn ∙ letter_rest q t letter more bad n ∙ ap (λ m. refused (fault.BadByte m)) position
 
 bad_found : (q t : ℕ) (pre : List ℕ) (v : Within) (b : ℕ) (rest : List ℕ) → Walks Between pre v → IsInside v → (b ≡ 10 → ⊥) → (BeginsString (34 ∷ pre ++ b ∷ []) → ⊥) ⊎ IsBadEscape pre b rest → BadTurn q t v b rest
-bad_found q t pre v b rest p i n (inl never) = bad_rest q t v b rest i (goes_on pre v b p (string_turn v b) refl never) n
+bad_found q t pre v b rest p i n (inl never) = bad_rest q t v b rest i (may_continue pre v b p (string_turn v b) refl never) n
 bad_found q t pre v b rest p i n (inr e) =
     let letter = e.1.0 in
     let more = e.1.1 in
     let found = backslash_by q t pre v letter more p i e.1.3 e.1.4 (string_turn v 92) refl (next_facts v 92 (walk_steady pre Between v tt p)) in
     subst (λ (l : List ℕ). BadTurn q t v b l) (sym e.1.2) (subst (λ m. BadTurn q t v m (letter ∷ more)) (sym e.0) found)
 
-bad_in : (total place at : ℕ) (inner : List ℕ) (b : ℕ) (rest : List ℕ) → IsInString inner → IsUncut inner → (b ≡ 10 → ⊥) → (BeginsString (34 ∷ inner ++ b ∷ []) → ⊥) ⊎ IsBadEscape inner b rest → rest_of total (inner ++ (b ∷ rest)) ≡ Err (fault.BadByte (total - suc (length rest)))
-bad_in total place at inner b rest g u n h =
+bad_in : (total position at : ℕ) (inner : List ℕ) (b : ℕ) (rest : List ℕ) → IsInString inner → IsUncut inner → (b ≡ 10 → ⊥) → (BeginsString (34 ∷ inner ++ b ∷ []) → ⊥) ⊎ IsBadEscape inner b rest → rest_of total (inner ++ (b ∷ rest)) ≡ Err (fault.BadByte (total - suc (length rest)))
+bad_in total position at inner b rest g u n h =
     let w = walk_in_string inner g in
     let q = total - suc (length (inner ++ (b ∷ rest))) in
     let i = inside_of u.0 inner Between w.0 tt tt u.1 w.1 in
@@ -289,6 +289,6 @@ bad_complete total q at bytes w o =
     let b = o.1 in
     let rest = o.2 in
     let is : bytes ≡ inner ++ (b ∷ rest) = quote_behind q bytes (inner ++ (b ∷ rest)) o.3 in
-    let place : total - suc (length rest) ≡ at = place_bad total 0 bytes inner rest b w is ∙ sym o.4 in
-    let found : rest_of total bytes ≡ refused (fault.BadByte at) = ap (rest_of total) is ∙ bad_in total 0 at inner b rest o.5 o.6 o.7 o.8 ∙ ap (λ m. refused (fault.BadByte m)) place in
+    let position : total - suc (length rest) ≡ at = position_bad total 0 bytes inner rest b w is ∙ sym o.4 in
+    let found : rest_of total bytes ≡ refused (fault.BadByte at) = ap (rest_of total) is ∙ bad_in total 0 at inner b rest o.5 o.6 o.7 o.8 ∙ ap (λ m. refused (fault.BadByte m)) position in
     ap string_of found

@@ -77,7 +77,7 @@ piece_is_begun text rest p =
 abbrev token_at : ℕ → ℕ → Piece → Token
 token_at total from x = record { kind = x.0; from = from; to = total - length x.1 }
 
--- what stands at a place behind the gap, once it is known whether the limit is reached, and what is read
+-- what stands at a position behind the gap, once it is known whether the limit is reached, and what is read
 abbrev chosen : ℕ → ℕ → Bool → Read → Next
 chosen total from v r = cond v (Ends (Some fault.TooMany)) (made total from r)
 
@@ -239,11 +239,11 @@ makes_complete limit count total bytes gap text rest token w e g t n =
     ∙ ap (made total from) read
     ∙ ap (λ (k : Token). Makes k rest) (token_is total from token rest from_is to_is)
 
-runs_complete : (limit total : ℕ) (end : Option LexFault) (P : ℕ → List ℕ → Type 0) (tokens : List Token) (count place : ℕ) (bytes : List ℕ) → place ≡ total - length bytes → length bytes ≤ total → count + length tokens ≤ limit → ((l : List ℕ) → length l ≤ total → P (total - length l) l → next_of limit (count + length tokens) total l ≡ Ends end) → TokensThen P place bytes tokens → Runs limit count total bytes tokens end
-runs_complete limit total end P [] count place bytes e w c base t =
+runs_complete : (limit total : ℕ) (end : Option LexFault) (P : ℕ → List ℕ → Type 0) (tokens : List Token) (count position : ℕ) (bytes : List ℕ) → position ≡ total - length bytes → length bytes ≤ total → count + length tokens ≤ limit → ((l : List ℕ) → length l ≤ total → P (total - length l) l → next_of limit (count + length tokens) total l ≡ Ends end) → TokensThen P position bytes tokens → Runs limit count total bytes tokens end
+runs_complete limit total end P [] count position bytes e w c base t =
     let counted : count ≡ count + 0 = omega arith in
     ap (λ n. next_of limit n total bytes) counted ∙ base bytes w (subst (λ n. P n bytes) e t)
-runs_complete limit total end P (token ∷ tokens) count place bytes e w c base t =
+runs_complete limit total end P (token ∷ tokens) count position bytes e w c base t =
     let gap = t.0 in
     let text = t.1 in
     let rest = t.2 in
@@ -283,13 +283,13 @@ from_start bytes = omega arith
 
 lexes_runs : (limit : ℕ) (bytes : List ℕ) (tokens : List Token) → Lexes bytes tokens → length tokens ≤ limit → Runs limit 0 (length bytes) bytes tokens None
 lexes_runs limit bytes tokens l c =
-    runs_complete limit (length bytes) None (λ place rest. IsLast rest) tokens 0 0 bytes (sym (from_start bytes)) (omega arith) (omega arith) (λ m w h. last_complete limit (0 + length tokens) (length bytes) m h) l
+    runs_complete limit (length bytes) None (λ position rest. IsLast rest) tokens 0 0 bytes (sym (from_start bytes)) (omega arith) (omega arith) (λ m w h. last_complete limit (0 + length tokens) (length bytes) m h) l
 
 runs_lexes : (bytes : List ℕ) (tokens : List Token) → Scans bytes tokens None → Lexes bytes tokens × (length tokens ≤ 200000)
 runs_lexes bytes tokens r =
     let counted : 0 + length tokens ≤ 200000 = runs_length 200000 (length bytes) None tokens 0 bytes (omega arith) (omega arith) r in
-    let t = runs_sound 200000 (length bytes) None (λ place rest. IsLast rest) tokens 0 bytes (omega arith) (λ m w e. last_sound 200000 (0 + length tokens) (length bytes) m e) r in
-    (subst (λ n. TokensThen (λ place rest. IsLast rest) n bytes tokens) (from_start bytes) t, omega arith)
+    let t = runs_sound 200000 (length bytes) None (λ position rest. IsLast rest) tokens 0 bytes (omega arith) (λ m w e. last_sound 200000 (0 + length tokens) (length bytes) m e) r in
+    (subst (λ n. TokensThen (λ position rest. IsLast rest) n bytes tokens) (from_start bytes) t, omega arith)
 
 pub lexes_one : (bytes : List ℕ) (ts us : List Token) → Lexes bytes ts → Lexes bytes us → ts ≡ us
 lexes_one bytes ts us l m =

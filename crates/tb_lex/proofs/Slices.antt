@@ -1,4 +1,4 @@
--- The tokens of a text are spelled by its bytes between their places.
+-- The tokens of a text are spelled by its bytes between their positions.
 use Rattle.std.proofs.Common.{◌≡◌, ℕ, ◌+◌, ◌-◌, ◌≤◌, ◌<◌, List, [], ◌∷◌, ◌++◌, length, take, drop, refl, ap, sym, ◌∙◌, subst, arith, append_assoc, inr}
 use Rattle.std.proofs.Math.Seq.{take-append_seam, drop-append_seam}
 use Rattle.std.proofs.lemmas.List.{length-append}
@@ -13,25 +13,25 @@ slice_is whole pre text rest from to e f t =
     let behind : drop from whole ≡ text ++ rest = ap (λ n. drop n whole) f ∙ ap (drop (length pre)) e ∙ drop-append_seam pre (text ++ rest) in
     ap (λ n. take n (drop from whole)) len ∙ ap (take (length text)) behind ∙ take-append_seam text rest
 
-slices : (P : ℕ → List ℕ → Type 0) (tokens : List Token) (whole pre bytes : List ℕ) (place : ℕ) → whole ≡ pre ++ bytes → place ≡ length pre → TokensThen P place bytes tokens → AreSlices whole place tokens
-slices P [] whole pre bytes place e p t =
+slices : (P : ℕ → List ℕ → Type 0) (tokens : List Token) (whole pre bytes : List ℕ) (position : ℕ) → whole ≡ pre ++ bytes → position ≡ length pre → TokensThen P position bytes tokens → AreSlices whole position tokens
+slices P [] whole pre bytes position e p t =
     let len : length whole ≡ length pre + length bytes = ap (λ (l : List ℕ). length l) e ∙ length-append pre bytes in
     omega arith
-slices P (token ∷ tokens) whole pre bytes place e p t =
+slices P (token ∷ tokens) whole pre bytes position e p t =
     let gap = t.0 in
     let text = t.1 in
     let rest = t.2 in
-    let front = pre ++ gap in
-    let at : whole ≡ front ++ (text ++ rest) = e ∙ ap (λ (l : List ℕ). pre ++ l) (t.3 ∙ append_assoc gap text rest) ∙ sym (append_assoc pre gap (text ++ rest)) in
-    let front_len : length front ≡ length pre + length gap = length-append pre gap in
-    let from : token.from ≡ length front = t.5.from ∙ omega arith in
+    let prefix = pre ++ gap in
+    let at : whole ≡ prefix ++ (text ++ rest) = e ∙ ap (λ (l : List ℕ). pre ++ l) (t.3 ∙ append_assoc gap text rest) ∙ sym (append_assoc pre gap (text ++ rest)) in
+    let front_len : length prefix ≡ length pre + length gap = length-append pre gap in
+    let from : token.from ≡ length prefix = t.5.from ∙ omega arith in
     let to : token.to ≡ token.from + length text = t.5.to ∙ ap (λ n. n + length text) (sym t.5.from) in
     let some : 1 ≤ length text = piece_some text (inr (token.kind, t.5.spelled)) in
-    let slice = slice_is whole front text rest token.from token.to at from to in
-    let behind_len : length (front ++ text) ≡ length front + length text = length-append front text in
-    let next : token.to ≡ length (front ++ text) = to ∙ omega arith in
-    let more = slices P tokens whole (front ++ text) rest token.to (at ∙ sym (append_assoc front text rest)) next t.6 in
-    let below : place ≤ token.from = omega arith in
+    let slice = slice_is whole prefix text rest token.from token.to at from to in
+    let behind_len : length (prefix ++ text) ≡ length prefix + length text = length-append prefix text in
+    let next : token.to ≡ length (prefix ++ text) = to ∙ omega arith in
+    let more = slices P tokens whole (prefix ++ text) rest token.to (at ∙ sym (append_assoc prefix text rest)) next t.6 in
+    let below : position ≤ token.from = omega arith in
     let filled : token.from < token.to = omega arith in
     (below, filled, subst (SpellsKind token.kind) (sym slice) t.5.spelled, more)
 

@@ -6,11 +6,11 @@ use Rattle.tb_read.specs.declared.quoted.Within.TheVariants.{Between}
 use Rattle.tb_read.specs.declared.quoted.Turn.{Turn}
 use Rattle.tb_read.specs.declared.quoted.Turn.TheVariants.{Ends, Goes, Puts, Bad}
 use Rattle.tb_read.specs.declared.fault.TermFault.{TermFault}
-use Rattle.tb_read.specs.Lexing.{string_turn, string_rest as term_string, with_front as term_front}
-use Rattle.tb_read.proofs.Strings.{front_ok as term_front_ok, turned as term_turned}
+use Rattle.tb_read.specs.Lexing.{string_turn, string_rest as term_string, with_prefix as term_prefix}
+use Rattle.tb_read.proofs.Strings.{prefix_ok as term_prefix_ok, turned as term_turned}
 use Rattle.tb_read.proofs.Scalars.{string_put}
 use Rattle.tb_lex.specs.declared.fault.LexFault.{LexFault}
-use Rattle.tb_lex.specs.Scanning.{string_fault, string_rest, with_front}
+use Rattle.tb_lex.specs.Scanning.{string_fault, string_rest, with_prefix}
 
 abbrev pub Pair : Type 0
 Pair = List ℕ × List ℕ
@@ -20,7 +20,7 @@ abbrev pub turned : ℕ → ℕ → Within → ℕ → Turn → List ℕ → Res
 turned quote total within byte turn bytes = elim turn [
   | Ends ↦ Ok ([], bytes)
   | Goes next ↦ string_rest quote total next bytes
-  | Puts put next ↦ with_front (put ∷ []) (string_rest quote total next bytes)
+  | Puts put next ↦ with_prefix (put ∷ []) (string_rest quote total next bytes)
   | Bad ↦ Err (string_fault quote (total - suc (length bytes)) within byte)
 ]
 
@@ -30,9 +30,9 @@ found x = Ok x
 abbrev pub read : Pair → Result Pair TermFault
 read x = Ok x
 
-pub front_ok : (f : List ℕ) (r : Result Pair LexFault) (x : Pair) → with_front f r ≡ Ok x → (y : Pair) × (r ≡ Ok y) × (x ≡ (f ++ y.0, y.1))
-front_ok f (Ok y) x e = let same : ◌≡◌ {A = Pair} (f ++ y.0, y.1) x = cc in (y, refl, sym same)
-front_ok f (Err g) x e = cc
+pub prefix_ok : (f : List ℕ) (r : Result Pair LexFault) (x : Pair) → with_prefix f r ≡ Ok x → (y : Pair) × (r ≡ Ok y) × (x ≡ (f ++ y.0, y.1))
+prefix_ok f (Ok y) x e = let same : ◌≡◌ {A = Pair} (f ++ y.0, y.1) x = cc in (y, refl, sym same)
+prefix_ok f (Err g) x e = cc
 
 abbrev Same : ℕ → ℕ → ℕ → List ℕ → Type 0
 Same quote total other bytes = (w : Within) (x : Pair) → string_rest quote total w bytes ≡ Ok x → term_string other w bytes ≡ Ok x
@@ -41,8 +41,8 @@ same_by : (quote total other : ℕ) (bytes : List ℕ) → Same quote total othe
 same_by quote total other bytes ih w b Ends x e = let same : ◌≡◌ {A = Pair} ([], bytes) x = cc in ap read same
 same_by quote total other bytes ih w b (Goes next) x e = ih next x e
 same_by quote total other bytes ih w b (Puts put next) x e =
-    let y = front_ok (put ∷ []) (string_rest quote total next bytes) x e in
-    ap (λ (r : Result Pair TermFault). term_front (put ∷ []) r) (ih next y.0 y.1) ∙ ap read (sym y.2)
+    let y = prefix_ok (put ∷ []) (string_rest quote total next bytes) x e in
+    ap (λ (r : Result Pair TermFault). term_prefix (put ∷ []) r) (ih next y.0 y.1) ∙ ap read (sym y.2)
 same_by quote total other bytes ih w b Bad x e = cc
 
 -- a string that is read is read in a term
@@ -57,9 +57,9 @@ back_by : (quote total other : ℕ) (bytes : List ℕ) → Back quote total othe
 back_by quote total other bytes ih w b Ends x e = let same : ◌≡◌ {A = Pair} ([], bytes) x = cc in ap found same
 back_by quote total other bytes ih w b (Goes next) x e = ih next x e
 back_by quote total other bytes ih w b (Puts put next) x e =
-    let y = term_front_ok (put ∷ []) (term_string other next bytes) x e in
+    let y = term_prefix_ok (put ∷ []) (term_string other next bytes) x e in
     let same : ◌≡◌ {A = Pair} ((put ∷ []) ++ y.0.0, y.0.1) x = ap (λ (l : List ℕ). (l, y.0.1)) (sym y.2) ∙ ap (λ (l : List ℕ). (x.0, l)) (sym y.3) in
-    ap (λ (r : Result Pair LexFault). with_front (put ∷ []) r) (ih next y.0 y.1) ∙ ap found same
+    ap (λ (r : Result Pair LexFault). with_prefix (put ∷ []) r) (ih next y.0 y.1) ∙ ap found same
 back_by quote total other bytes ih w b Bad x e = cc
 
 -- a string that is read in a term is read here

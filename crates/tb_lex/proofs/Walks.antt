@@ -11,8 +11,8 @@ use Rattle.tb_read.specs.declared.quoted.Turn.{Turn}
 use Rattle.tb_read.specs.declared.quoted.Turn.TheVariants.{Ends, Goes, Puts, Bad}
 use Rattle.tb_read.specs.declared.fault.TermFault.{TermFault}
 use Rattle.tb_read.specs.Spelling.{is_plain, SpellsByte, SpellsBytes, SpellsString}
-use Rattle.tb_read.specs.Lexing.{string_turn, escaped_turn, unescaped, string_rest as term_string, with_front as term_front}
-use Rattle.tb_read.proofs.Strings.{Steady, IsInside, Facts, between_facts, going_facts, letter_of, string_sound, front_ok as term_front_ok, turned as term_turned}
+use Rattle.tb_read.specs.Lexing.{string_turn, escaped_turn, unescaped, string_rest as term_string, with_prefix as term_prefix}
+use Rattle.tb_read.proofs.Strings.{Steady, IsInside, Facts, between_facts, going_facts, letter_of, string_sound, prefix_ok as term_prefix_ok, turned as term_turned}
 use Rattle.tb_read.proofs.Chars.{string_taken}
 use Rattle.tb_read.proofs.Scalars.{string_put}
 use Rattle.tb_read.proofs.Begins.{Ready, ReadyTurn, turn_ready, close}
@@ -82,28 +82,28 @@ ten_bad (Going more low high) s = rw (lt-leb low 10 (omega arith)) refl
 
 -- Walks and strings that are read.
 
-abbrev Front : ℕ → List ℕ → List ℕ → Within → Type 0
-Front other pre rest w = (v : Within) × Walks w pre v × ((y : Pair) × (term_string other v rest ≡ Ok y))
+abbrev Prefix : ℕ → List ℕ → List ℕ → Within → Type 0
+Prefix other pre rest w = (v : Within) × Walks w pre v × ((y : Pair) × (term_string other v rest ≡ Ok y))
 
 not_nil : (inner : List ℕ) (b : ℕ) (tail : List ℕ) → inner ++ (b ∷ tail) ≡ [] → ⊥
 not_nil [] b tail e = cc
 not_nil (c ∷ inner) b tail e = cc
 
-front_by : (other b : ℕ) (inner : List ℕ) (d : ℕ) (tail : List ℕ) (w : Within) → ((u : Within) (x : Pair) → term_string other u (inner ++ (d ∷ tail)) ≡ Ok x → x.1 ≡ [] → Front other inner (d ∷ tail) u) → (t : Turn) → string_turn w b ≡ t → (x : Pair) → term_turned other t (inner ++ (d ∷ tail)) ≡ Ok x → x.1 ≡ [] → Front other (b ∷ inner) (d ∷ tail) w
-front_by other b inner d tail w ih Ends et x e n =
+prefix_by : (other b : ℕ) (inner : List ℕ) (d : ℕ) (tail : List ℕ) (w : Within) → ((u : Within) (x : Pair) → term_string other u (inner ++ (d ∷ tail)) ≡ Ok x → x.1 ≡ [] → Prefix other inner (d ∷ tail) u) → (t : Turn) → string_turn w b ≡ t → (x : Pair) → term_turned other t (inner ++ (d ∷ tail)) ≡ Ok x → x.1 ≡ [] → Prefix other (b ∷ inner) (d ∷ tail) w
+prefix_by other b inner d tail w ih Ends et x e n =
     let same : ◌≡◌ {A = Pair} ([], inner ++ (d ∷ tail)) x = cc in
     absurd (not_nil inner d tail (ap (λ (p : Pair). p.1) same ∙ n))
-front_by other b inner d tail w ih (Goes next) et x e n = let f = ih next x e n in (f.0, (next, inl et, f.1), f.2)
-front_by other b inner d tail w ih (Puts c next) et x e n =
-    let y = term_front_ok (c ∷ []) (term_string other next (inner ++ (d ∷ tail))) x e in
+prefix_by other b inner d tail w ih (Goes next) et x e n = let f = ih next x e n in (f.0, (next, inl et, f.1), f.2)
+prefix_by other b inner d tail w ih (Puts c next) et x e n =
+    let y = term_prefix_ok (c ∷ []) (term_string other next (inner ++ (d ∷ tail))) x e in
     let f = ih next y.0 y.1 (sym y.3 ∙ n) in
     (f.0, (next, inr (c, et), f.1), f.2)
-front_by other b inner d tail w ih Bad et x e n = cc
+prefix_by other b inner d tail w ih Bad et x e n = cc
 
 -- a front of a string is walked through
-front : (other : ℕ) (inner : List ℕ) (d : ℕ) (tail : List ℕ) (w : Within) (x : Pair) → term_string other w (inner ++ (d ∷ tail)) ≡ Ok x → x.1 ≡ [] → Front other inner (d ∷ tail) w
-front other [] d tail w x e n = (w, refl, (x, e))
-front other (b ∷ inner) d tail w x e n = front_by other b inner d tail w (front other inner d tail) (string_turn w b) refl x e n
+prefix : (other : ℕ) (inner : List ℕ) (d : ℕ) (tail : List ℕ) (w : Within) (x : Pair) → term_string other w (inner ++ (d ∷ tail)) ≡ Ok x → x.1 ≡ [] → Prefix other inner (d ∷ tail) w
+prefix other [] d tail w x e n = (w, refl, (x, e))
+prefix other (b ∷ inner) d tail w x e n = prefix_by other b inner d tail w (prefix other inner d tail) (string_turn w b) refl x e n
 
 -- behind a walk the rest is read
 pub rest_read : (other : ℕ) (pre rest : List ℕ) (w v : Within) (x : Pair) → Walks w pre v → term_string other w (pre ++ rest) ≡ Ok x → (y : Pair) × (term_string other v rest ≡ Ok y)
@@ -112,7 +112,7 @@ rest_read other (b ∷ pre) rest w v x p e = by p.1 (λ z h. rest_read other pre
   by : Step w b p.0 → ((z : Pair) → term_string other p.0 (pre ++ rest) ≡ Ok z → (y : Pair) × (term_string other v rest ≡ Ok y)) → (y : Pair) × (term_string other v rest ≡ Ok y)
   by (inl t) ih = ih x (ap (λ u. term_turned other u (pre ++ rest)) (sym t) ∙ e)
   by (inr t) ih =
-      let y = term_front_ok (t.0 ∷ []) (term_string other p.0 (pre ++ rest)) x (ap (λ u. term_turned other u (pre ++ rest)) (sym t.1) ∙ e) in
+      let y = term_prefix_ok (t.0 ∷ []) (term_string other p.0 (pre ++ rest)) x (ap (λ u. term_turned other u (pre ++ rest)) (sym t.1) ∙ e) in
       ih y.0 y.1
 
 -- a walk and a rest that is read are read together
@@ -122,7 +122,7 @@ walk_read other (b ∷ pre) rest w v y p e = by p.1 (walk_read other pre rest p.
   by : Step w b p.0 → ((x : Pair) × (term_string other p.0 (pre ++ rest) ≡ Ok x) × (x.1 ≡ y.1)) → (x : Pair) × (term_string other w (b ∷ (pre ++ rest)) ≡ Ok x) × (x.1 ≡ y.1)
   by (inl t) q = (q.0, ap (λ u. term_turned other u (pre ++ rest)) t ∙ q.1, q.2)
   by (inr t) q =
-      let more = ap (λ u. term_turned other u (pre ++ rest)) t.1 ∙ ap (λ (r : Result Pair TermFault). term_front (t.0 ∷ []) r) q.1 in
+      let more = ap (λ u. term_turned other u (pre ++ rest)) t.1 ∙ ap (λ (r : Result Pair TermFault). term_prefix (t.0 ∷ []) r) q.1 in
       (((t.0 ∷ []) ++ q.0.0, q.0.1), more, q.2)
 
 -- the whole text of a string is read
@@ -149,7 +149,7 @@ pub walk_in_string : (inner : List ℕ) → IsInString inner → (v : Within) ×
 walk_in_string inner p =
     let l = inner ++ (p.0 ∷ p.1) in
     let all : term_string 0 Between l ≡ Ok (p.2, []) = ap (term_string 0 Between) (sym (append-nil l)) ∙ text_read p.2 l p.3 0 [] in
-    let f = front 0 inner p.0 p.1 Between (p.2, []) all refl in
+    let f = prefix 0 inner p.0 p.1 Between (p.2, []) all refl in
     (f.0, f.1)
 
 in_string_by : (pre tail : List ℕ) (x : Pair) → term_string 0 Between (pre ++ tail) ≡ Ok x → x.1 ≡ [] → (v : Within) (y : Pair) → term_string 0 v tail ≡ Ok y → IsInString pre

@@ -7,13 +7,13 @@ use Rattle.tb_lex.specs.declared.fault.LexFault.TheVariants as fault
 use Rattle.tb_lex.specs.Tokens.{most_tokens}
 use Rattle.tb_lex.specs.Scanning.{Makes, Ends, next_of, Scans}
 
--- a claim of each fault but want of memory, which is free
+-- a claim of each fault but running out of memory, which is free
 abbrev pub Faulted : (LexFault → Type 0) → LexFault → Type 0
 Faulted P fault.NoMemory = Unit {0}
-Faulted P (fault.BadByte place) = P (fault.BadByte place)
-Faulted P (fault.OpenString place) = P (fault.OpenString place)
-Faulted P (fault.Real place) = P (fault.Real place)
-Faulted P (fault.IntRange place) = P (fault.IntRange place)
+Faulted P (fault.BadByte position) = P (fault.BadByte position)
+Faulted P (fault.OpenString position) = P (fault.OpenString position)
+Faulted P (fault.Real position) = P (fault.Real position)
+Faulted P (fault.IntRange position) = P (fault.IntRange position)
 Faulted P fault.TooMany = P fault.TooMany
 
 -- what was returned, seen by view, is what is found

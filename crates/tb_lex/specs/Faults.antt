@@ -1,7 +1,7 @@
 -- Which fault a text has that is no row of tokens within the limit, and where: the first from the left.
 use Rattle.std.specs.Prelude.{◌≡◌, ℕ, ◌+◌, ◌<◌, not, List, [], ◌∷◌, ◌++◌, length, IsTrue, ◌⊎◌}
 use Rattle.tb_read.specs.Spelling.{is_blank, SpellsBytes, SpellsString}
-use Rattle.tb_read.specs.Places.{BeginsReal, BeginsTooFar}
+use Rattle.tb_read.specs.Positions.{BeginsReal, BeginsTooFar}
 use Rattle.tb_lex.specs.Gaps.{IsGap}
 use Rattle.tb_lex.specs.Tokens.{most_tokens, IsPiece, TokensThen}
 use Rattle.tb_lex.specs.declared.token.Token.{Token}
@@ -18,7 +18,7 @@ BeginsNothing bytes = (byte : ℕ) × (rest : List ℕ) × (bytes ≡ byte ∷ r
 
 -- a string begins so
 abbrev pub BeginsString : List ℕ → Type 0
-BeginsString front = (tail : List ℕ) × (bytes : List ℕ) × SpellsString bytes (front ++ tail)
+BeginsString prefix = (tail : List ℕ) × (bytes : List ℕ) × SpellsString bytes (prefix ++ tail)
 
 -- a quote and what stands behind it within the string: the string goes on, and ends later
 abbrev pub IsInString : List ℕ → Type 0
@@ -36,31 +36,31 @@ IsUncut inner = (put : List ℕ) × SpellsBytes put inner
 abbrev pub IsBadEscape : List ℕ → ℕ → List ℕ → Type 0
 IsBadEscape inner byte rest = (byte ≡ 92) × ((letter : ℕ) × (more : List ℕ) × (rest ≡ letter ∷ more) × (letter ≡ 10 → ⊥) × (BeginsString (34 ∷ inner ++ 92 ∷ letter ∷ []) → ⊥))
 
--- Within the string whose quote stands at this place the byte at the other place can't go on: no string begins with the bytes since the quote and with it.
+-- Within the string whose quote stands at this position the byte at the other position can't go on: no string begins with the bytes since the quote and with it.
 abbrev pub HasBadByte : ℕ → ℕ → List ℕ → Type 0
-HasBadByte at place bytes =
-    (inner : List ℕ) × (byte : ℕ) × (rest : List ℕ) × (bytes ≡ 34 ∷ inner ++ byte ∷ rest) × (at ≡ place + 1 + length inner)
+HasBadByte at position bytes =
+    (inner : List ℕ) × (byte : ℕ) × (rest : List ℕ) × (bytes ≡ 34 ∷ inner ++ byte ∷ rest) × (at ≡ position + 1 + length inner)
     × IsInString inner × IsUncut inner × (byte ≡ 10 → ⊥)
     × ((BeginsString (34 ∷ inner ++ byte ∷ []) → ⊥) ⊎ IsBadEscape inner byte rest)
 
--- what stands at this place has this fault
+-- what stands at this position has this fault
 abbrev pub IsFault : LexFault → ℕ → List ℕ → Type 0
-IsFault (fault.BadByte at) place bytes = ((at ≡ place) × BeginsNothing bytes) ⊎ HasBadByte at place bytes
-IsFault (fault.OpenString at) place bytes = (at ≡ place) × IsOpenString bytes
-IsFault (fault.Real at) place bytes = (at ≡ place) × BeginsReal bytes
-IsFault (fault.IntRange at) place bytes = (at ≡ place) × BeginsTooFar bytes
-IsFault fault.TooMany place bytes = Unit {0}
-IsFault fault.NoMemory place bytes = Unit {0}
+IsFault (fault.BadByte at) position bytes = ((at ≡ position) × BeginsNothing bytes) ⊎ HasBadByte at position bytes
+IsFault (fault.OpenString at) position bytes = (at ≡ position) × IsOpenString bytes
+IsFault (fault.Real at) position bytes = (at ≡ position) × BeginsReal bytes
+IsFault (fault.IntRange at) position bytes = (at ≡ position) × BeginsTooFar bytes
+IsFault fault.TooMany position bytes = Unit {0}
+IsFault fault.NoMemory position bytes = Unit {0}
 
 -- behind blanks and comments stands something else, and it has this fault
 abbrev pub Stops : LexFault → ℕ → List ℕ → Type 0
-Stops f place bytes = (gap : List ℕ) × (rest : List ℕ) × (bytes ≡ gap ++ rest) × IsGap gap × IsBegun rest × IsFault f (place + length gap) rest
+Stops f position bytes = (gap : List ℕ) × (rest : List ℕ) × (bytes ≡ gap ++ rest) × IsGap gap × IsBegun rest × IsFault f (position + length gap) rest
 
 -- fewer tokens than the limit stand before the fault
 abbrev pub StopsAt : List ℕ → LexFault → Type 0
 StopsAt bytes f = (tokens : List Token) × (length tokens < most_tokens) × TokensThen (Stops f) 0 bytes tokens
 
--- Everything before a fault is tokens. Want of memory may come at any time.
+-- Everything before a fault is tokens. Memory may run out at any time.
 abbrev pub HasFault : List ℕ → LexFault → Type 0
 HasFault bytes (fault.BadByte at) = StopsAt bytes (fault.BadByte at)
 HasFault bytes (fault.OpenString at) = StopsAt bytes (fault.OpenString at)

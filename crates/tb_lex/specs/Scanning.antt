@@ -80,18 +80,18 @@ number_at total bytes =
     let len = prefix_len is_digit unsigned in
     number_from (total - length bytes) negative (take len unsigned) (drop len unsigned)
 
--- the place of a byte that can't go on, or of the backslash before it
-abbrev pub bad_place : Within → ℕ → ℕ
-bad_place Between place = place
-bad_place Escaped place = place - 1
-bad_place (Going more low high) place = place
+-- the position of a byte that can't go on, or of the backslash before it
+abbrev pub bad_position : Within → ℕ → ℕ
+bad_position Between position = position
+bad_position Escaped position = position - 1
+bad_position (Going more low high) position = position
 
 abbrev pub string_fault : ℕ → ℕ → Within → ℕ → LexFault
-string_fault quote place within byte = if byte == 10 then fault.OpenString quote else fault.BadByte (bad_place within place)
+string_fault quote position within byte = if byte == 10 then fault.OpenString quote else fault.BadByte (bad_position within position)
 
-abbrev pub with_front : List ℕ → Result (List ℕ × List ℕ) LexFault → Result (List ℕ × List ℕ) LexFault
-with_front front (Ok found) = Ok (front ++ found.0, found.1)
-with_front front (Err fault) = Err fault
+abbrev pub with_prefix : List ℕ → Result (List ℕ × List ℕ) LexFault → Result (List ℕ × List ℕ) LexFault
+with_prefix prefix (Ok found) = Ok (prefix ++ found.0, found.1)
+with_prefix prefix (Err fault) = Err fault
 
 -- the bytes of a string up to its closing quote, and what follows it
 abbrev pub string_rest : ℕ → ℕ → Within → List ℕ → Result (List ℕ × List ℕ) LexFault
@@ -99,7 +99,7 @@ string_rest quote total within [] = Err (fault.OpenString quote)
 string_rest quote total within (byte ∷ bytes) = elim (string_turn within byte) [
   | turn.Ends ↦ Ok ([], bytes)
   | turn.Goes next ↦ string_rest quote total next bytes
-  | turn.Puts put next ↦ with_front (put ∷ []) (string_rest quote total next bytes)
+  | turn.Puts put next ↦ with_prefix (put ∷ []) (string_rest quote total next bytes)
   | turn.Bad ↦ Err (string_fault quote (total - suc (length bytes)) within byte)
 ]
 

@@ -2,7 +2,7 @@
 use Rattle.std.specs.Prelude.{◌≡◌, ℕ, ◌+◌, ◌<◌, ◌≤◌, Bool, List, [], ◌∷◌, ◌++◌, length, slice_range, IsTrue, ◌⊎◌}
 use Rattle.tb_terms.specs.Names.{is_name, is_ident}
 use Rattle.tb_read.specs.Spelling.{is_digits, SpellsNumber, SpellsString}
-use Rattle.tb_read.specs.Places.{signed, HasPoint}
+use Rattle.tb_read.specs.Positions.{signed, HasPoint}
 use Rattle.tb_lex.specs.Gaps.{IsGap, IsLast}
 use Rattle.tb_lex.specs.declared.symbol.Symbol.{Symbol}
 use Rattle.tb_lex.specs.declared.symbol.Symbol.TheVariants as symbol
@@ -58,31 +58,31 @@ abbrev pub IsWhole : TokenKind → List ℕ → Type 0
 IsWhole (kind.Int number) rest = HasPoint rest → ⊥
 IsWhole _ rest = Unit {0}
 
--- the token with this text at this place, and with this rest behind it
-pub record IsToken (place : ℕ) (token : Token) (text rest : List ℕ) : Type 0 where
+-- the token with this text at this position, and with this rest behind it
+pub record IsToken (position : ℕ) (token : Token) (text rest : List ℕ) : Type 0 where
   pub spelled : SpellsKind token.kind text
   pub longest : IsLongest text rest
   pub whole : IsWhole token.kind rest
-  pub from : token.from ≡ place
-  pub to : token.to ≡ place + length text
+  pub from : token.from ≡ position
+  pub to : token.to ≡ position + length text
 
--- From this place on the bytes begin with the tokens, each behind blanks and comments or directly; then comes what P says of its place and bytes.
+-- From this position on the bytes begin with the tokens, each behind blanks and comments or directly; then comes what P says of its position and bytes.
 abbrev pub TokensThen : (ℕ → List ℕ → Type 0) → ℕ → List ℕ → List Token → Type 0
-TokensThen P place bytes [] = P place bytes
-TokensThen P place bytes (token ∷ tokens) =
-    (gap : List ℕ) × (text : List ℕ) × (rest : List ℕ) × (bytes ≡ gap ++ text ++ rest) × IsGap gap × IsToken (place + length gap) token text rest × TokensThen P token.to rest tokens
+TokensThen P position bytes [] = P position bytes
+TokensThen P position bytes (token ∷ tokens) =
+    (gap : List ℕ) × (text : List ℕ) × (rest : List ℕ) × (bytes ≡ gap ++ text ++ rest) × IsGap gap × IsToken (position + length gap) token text rest × TokensThen P token.to rest tokens
 
 abbrev pub Lexes : List ℕ → List Token → Type 0
-Lexes bytes tokens = TokensThen (λ place rest. IsLast rest) 0 bytes tokens
+Lexes bytes tokens = TokensThen (λ position rest. IsLast rest) 0 bytes tokens
 
--- From this place on the tokens stand in order, none empty, and each is spelled by the bytes from its one place to before its other.
+-- From this position on the tokens stand in order, none empty, and each is spelled by the bytes from its one position to before its other.
 abbrev pub AreSlices : List ℕ → ℕ → List Token → Type 0
-AreSlices bytes place [] = place ≤ length bytes
-AreSlices bytes place (token ∷ tokens) =
-    (place ≤ token.from) × (token.from < token.to) × SpellsKind token.kind (slice_range bytes token.from token.to) × AreSlices bytes token.to tokens
+AreSlices bytes position [] = position ≤ length bytes
+AreSlices bytes position (token ∷ tokens) =
+    (position ≤ token.from) × (token.from < token.to) × SpellsKind token.kind (slice_range bytes token.from token.to) × AreSlices bytes token.to tokens
 
--- The bytes from this place on are the tokens' texts, each with a blank behind it.
+-- The bytes from this position on are the tokens' texts, each with a blank behind it.
 abbrev pub Spaced : ℕ → List Token → List ℕ → Type 0
-Spaced place [] bytes = bytes ≡ []
-Spaced place (token ∷ tokens) bytes =
-    (text : List ℕ) × (rest : List ℕ) × (bytes ≡ text ++ 32 ∷ rest) × SpellsKind token.kind text × (token.from ≡ place) × (token.to ≡ place + length text) × Spaced (token.to + 1) tokens rest
+Spaced position [] bytes = bytes ≡ []
+Spaced position (token ∷ tokens) bytes =
+    (text : List ℕ) × (rest : List ℕ) × (bytes ≡ text ++ 32 ∷ rest) × SpellsKind token.kind text × (token.from ≡ position) × (token.to ≡ position + length text) × Spaced (token.to + 1) tokens rest

@@ -2,11 +2,11 @@ use std::alloc::{AllocError, AllocFailed};
 use tb_terms::NoMemory;
 use thiserror::Error;
 
-/// Why bytes have no tokens: the first fault from the left. Places count the bytes from 0.
+/// Why bytes have no tokens: the first fault from the left. Positions count the bytes from 0.
 #[derive(Clone, Copy, Debug, Drop, Error, PartialEq, Eq)]
 pub enum LexFault {
     /// A byte that begins no token, or that can't go on in a string; of a backslash that begins no
-    /// escape the backslash's place.
+    /// escape the backslash's position.
     #[error("byte {0}")]
     BadByte(usize),
     /// The quote of a string that meets the end of its line or of the text.

@@ -10,9 +10,9 @@ pub(crate) fn skip_gap(bytes: &[u8]) -> &[u8]
     ensures shorter { length result.now ≤ length bytes.now }
 {
     let mut in_comment = false;
-    for (place, byte) in bytes.iter().enumerate() {
-        match gap_step(in_comment, *byte, &bytes[place + 1..]) {
-            None => return &bytes[place..],
+    for (position, byte) in bytes.iter().enumerate() {
+        match gap_step(in_comment, *byte, &bytes[position + 1..]) {
+            None => return &bytes[position..],
             Some(next) => in_comment = next,
         }
     }

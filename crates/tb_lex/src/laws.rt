@@ -12,7 +12,7 @@ pub fn lexing_is_unique()
     ensures { (bytes : List ℕ) (ts us : List Token) → Lexes bytes ts → Lexes bytes us → ts ≡ us }
 {}
 
-/// But for want of memory, a text has one fault at most, and none where it has tokens within the limit.
+/// Unless memory runs out, a text has one fault at most, and none where it has tokens within the limit.
 pub fn faults_are_unique()
     ensures one { (bytes : List ℕ) (f g : LexFault) → HasFault bytes f → HasFault bytes g
         → f ≢ NoMemory → g ≢ NoMemory → f ≡ g }
@@ -20,13 +20,13 @@ pub fn faults_are_unique()
         → length tokens ≤ most_tokens → HasFault bytes f → f ≡ NoMemory }
 {}
 
-/// Each text has tokens within the limit, or a fault other than want of memory.
+/// Each text has tokens within the limit, or a fault other than running out of memory.
 pub fn each_text_has_one()
     ensures { (bytes : List ℕ) → ((tokens : List Token) × Lexes bytes tokens × (length tokens ≤ most_tokens))
         ⊎ ((f : LexFault) × HasFault bytes f × (f ≢ NoMemory)) }
 {}
 
-/// The tokens of a text stand in it in order, each spelled by its bytes between the token's places.
+/// The tokens of a text stand in it in order, each spelled by its bytes between the token's positions.
 pub fn tokens_are_slices()
     ensures { (bytes : List ℕ) (tokens : List Token) → Lexes bytes tokens → AreSlices bytes 0 tokens }
 {}

@@ -59,9 +59,9 @@ fn name_len(bytes: &[u8]) -> usize
     ensures value { result ≡ prefix_len is_name_byte bytes.now }
     ensures within { result ≤ length bytes.now }
 {
-    for (place, byte) in bytes.iter().enumerate() {
+    for (position, byte) in bytes.iter().enumerate() {
         if !is_name_byte(*byte) {
-            return place;
+            return position;
         }
     }
     bytes.len()

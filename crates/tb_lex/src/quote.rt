@@ -37,32 +37,32 @@ fn string_rest(alloc: Global, total: usize, bytes: &[u8]) -> Result<(Vec<u8>, &[
     let quote = total - (bytes.len() + 1);
     let mut put = Vec::new(alloc);
     let mut within = Within::Between;
-    for (place, byte) in bytes.iter().enumerate() {
+    for (position, byte) in bytes.iter().enumerate() {
         match string_turn(within, *byte) {
-            Turn::Ends => return Ok((put, &bytes[place + 1..])),
+            Turn::Ends => return Ok((put, &bytes[position + 1..])),
             Turn::Goes(next) => within = next,
             Turn::Puts(one, next) => {
                 put.push(one)?;
                 within = next;
             }
             Turn::Bad => {
-                return Err(string_fault(quote, total - (bytes.len() - place), within, *byte));
+                return Err(string_fault(quote, total - (bytes.len() - position), within, *byte));
             }
         }
     }
     Err(LexFault::OpenString(quote))
 }
 
-/// The fault of a string that can't go on with this byte, which stands at this place.
-fn string_fault(quote: usize, place: usize, within: Within, byte: u8) -> LexFault
-    requires { 0 < place }
-    ensures { result ≡ string_fault quote place within byte }
+/// The fault of a string that can't go on with this byte, which stands at this position.
+fn string_fault(quote: usize, position: usize, within: Within, byte: u8) -> LexFault
+    requires { 0 < position }
+    ensures { result ≡ string_fault quote position within byte }
 {
     if byte == b'\n' {
         return LexFault::OpenString(quote);
     }
     match within {
-        Within::Escaped => LexFault::BadByte(place - 1),
-        _ => LexFault::BadByte(place),
+        Within::Escaped => LexFault::BadByte(position - 1),
+        _ => LexFault::BadByte(position),
     }
 }

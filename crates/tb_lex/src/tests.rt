@@ -17,7 +17,7 @@ enum Want {
 
 use Want::{Int, Lower, Sign, Str, Upper};
 
-/// A text, and its tokens with the places at which they begin and end.
+/// A text, and its tokens with the positions at which they begin and end.
 type Row = (&'static [u8], &'static [(Want, usize, usize)]);
 
 static NAMES_AND_SYMBOLS: [Row; 14] = [
@@ -240,7 +240,7 @@ fn fault_of(alloc: Global, text: &[u8]) -> Option<LexFault> {
 /// So many times the name a with a blank, and then this text.
 fn many(alloc: Global, count: usize, end: &[u8]) -> Result<Vec<u8>, AllocError> {
     let mut text = Vec::new(alloc);
-    for _place in 0..count {
+    for _position in 0..count {
         text.extend_from_slice(b"a ")?;
     }
     text.extend_from_slice(end)?;
@@ -259,7 +259,7 @@ fn reads_as(alloc: Global, row: &Row) -> Result<bool, LexFault> {
 }
 
 #[test]
-fn each_token_is_the_longest_at_its_place(rt: HostRuntime) -> Result<(), Fail> {
+fn each_token_is_the_longest_at_its_position(rt: HostRuntime) -> Result<(), Fail> {
     for row in &NAMES_AND_SYMBOLS {
         assert!(rt; reads_as(rt.alloc(), row)?, "at {:?}", row.0);
     }
@@ -292,24 +292,24 @@ fn each_symbol_is_read(rt: HostRuntime) -> Result<(), Fail> {
 }
 
 #[test]
-fn faults_stand_at_their_place(rt: HostRuntime) {
+fn faults_stand_at_their_position(rt: HostRuntime) {
     for (text, want) in &FAULTS_OF_NUMBERS {
         assert_eq!(rt; fault_of(rt.alloc(), text), Some(*want), "at {text:?}");
     }
-    for (text, place) in &FAULTS_OF_BYTES {
-        let want = Some(LexFault::BadByte(*place));
+    for (text, position) in &FAULTS_OF_BYTES {
+        let want = Some(LexFault::BadByte(*position));
         assert_eq!(rt; fault_of(rt.alloc(), text), want, "at {text:?}");
     }
 }
 
 #[test]
-fn faults_of_strings_stand_at_their_place(rt: HostRuntime) {
-    for (text, place) in &BAD_STRINGS {
-        let want = Some(LexFault::BadByte(*place));
+fn faults_of_strings_stand_at_their_position(rt: HostRuntime) {
+    for (text, position) in &BAD_STRINGS {
+        let want = Some(LexFault::BadByte(*position));
         assert_eq!(rt; fault_of(rt.alloc(), text), want, "at {text:?}");
     }
-    for (text, place) in &OPEN_STRINGS {
-        let want = Some(LexFault::OpenString(*place));
+    for (text, position) in &OPEN_STRINGS {
+        let want = Some(LexFault::OpenString(*position));
         assert_eq!(rt; fault_of(rt.alloc(), text), want, "at {text:?}");
     }
 }

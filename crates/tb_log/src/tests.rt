@@ -86,7 +86,7 @@ const LINES: [(u64, &[u8]); 9] = [
     (4, b"4 quiet\n"),
 ];
 
-/// The entry of the line at this place.
+/// The entry of the line at this position.
 fn worked(alloc: Global, place: usize) -> Result<Entry, NoMemory> {
     match place {
         0 => message(alloc),

@@ -1,5 +1,5 @@
 ghost use Rattle.std.specs.Prelude.{◌≡◌, ◌++◌, [], ◌∷◌, OnOk, OnErr, codes, decimal};
-ghost use Rattle.tb_terms.specs.Fronts.{KeepsFront};
+ghost use Rattle.tb_terms.specs.Prefixes.{KeepsPrefix};
 ghost use Rattle.tb_log.specs.LogText.{entry_text, entry_words, kind_word, label_words, place_words, term_words, arguments_text, fed_words, input_words, tool_line_words, out_words, why_word};
 
 use crate::entry::{Entry, Input, Label, LabelKind, Out, Place, Reply, ToolLine, Why};
@@ -23,7 +23,7 @@ pub fn write_entry(number: u64, entry: &Entry, into: &mut Vec<u8>) -> Result<(),
 
 fn push_entry(number: u64, entry: &Entry, into: &mut Vec<u8>) -> Result<(), NoMemory>
     ensures ok { OnOk result (into.new.items ≡ into.old.items ++ entry_text number entry.now) }
-    ensures err { OnErr result (KeepsFront into.old.items into.new.items) }
+    ensures err { OnErr result (KeepsPrefix into.old.items into.new.items) }
 {
     push_number(number, into)?;
     into.push(b' ')?;
@@ -34,7 +34,7 @@ fn push_entry(number: u64, entry: &Entry, into: &mut Vec<u8>) -> Result<(), NoMe
 
 fn push_words(entry: &Entry, into: &mut Vec<u8>) -> Result<(), NoMemory>
     ensures ok { OnOk result (into.new.items ≡ into.old.items ++ entry_words entry.now) }
-    ensures err { OnErr result (KeepsFront into.old.items into.new.items) }
+    ensures err { OnErr result (KeepsPrefix into.old.items into.new.items) }
 {
     match entry {
         Entry::Did(label) => push_label(label, into),
@@ -46,7 +46,7 @@ fn push_words(entry: &Entry, into: &mut Vec<u8>) -> Result<(), NoMemory>
 
 fn push_label(label: &Label, into: &mut Vec<u8>) -> Result<(), NoMemory>
     ensures ok { OnOk result (into.new.items ≡ into.old.items ++ label_words label.now.kind label.now.from label.now.to label.now.terms) }
-    ensures err { OnErr result (KeepsFront into.old.items into.new.items) }
+    ensures err { OnErr result (KeepsPrefix into.old.items into.new.items) }
 {
     match label.kind {
         LabelKind::Msg => {
@@ -64,7 +64,7 @@ fn push_label(label: &Label, into: &mut Vec<u8>) -> Result<(), NoMemory>
 /// A word, the first place of a step, and the terms.
 fn push_one_place(word: &[u8], label: &Label, into: &mut Vec<u8>) -> Result<(), NoMemory>
     ensures ok { OnOk result (into.new.items ≡ into.old.items ++ (word.now ++ place_words label.now.from ++ term_words label.now.terms)) }
-    ensures err { OnErr result (KeepsFront into.old.items into.new.items) }
+    ensures err { OnErr result (KeepsPrefix into.old.items into.new.items) }
 {
     push_text(word, into)?;
     push_place(label.from, into)?;
@@ -103,7 +103,7 @@ pub fn kind_word(kind: LabelKind) -> &'static [u8]
 
 fn push_place(place: Place, into: &mut Vec<u8>) -> Result<(), NoMemory>
     ensures ok { OnOk result (into.new.items ≡ into.old.items ++ place_words place) }
-    ensures err { OnErr result (KeepsFront into.old.items into.new.items) }
+    ensures err { OnErr result (KeepsPrefix into.old.items into.new.items) }
 {
     into.push(b' ')?;
     push_number(u64::from(place.proc), into)?;
@@ -113,7 +113,7 @@ fn push_place(place: Place, into: &mut Vec<u8>) -> Result<(), NoMemory>
 
 fn push_terms(terms: &Terms, into: &mut Vec<u8>) -> Result<(), NoMemory>
     ensures ok { OnOk result (into.new.items ≡ into.old.items ++ term_words terms.now) }
-    ensures err { OnErr result (KeepsFront into.old.items into.new.items) }
+    ensures err { OnErr result (KeepsPrefix into.old.items into.new.items) }
 {
     if terms.is_empty() {
         return Ok(());
@@ -124,7 +124,7 @@ fn push_terms(terms: &Terms, into: &mut Vec<u8>) -> Result<(), NoMemory>
 
 fn push_fed(reply: Reply, input: &Input, into: &mut Vec<u8>) -> Result<(), NoMemory>
     ensures ok { OnOk result (into.new.items ≡ into.old.items ++ fed_words reply input.now) }
-    ensures err { OnErr result (KeepsFront into.old.items into.new.items) }
+    ensures err { OnErr result (KeepsPrefix into.old.items into.new.items) }
 {
     match reply {
         Reply::Took => push_input(input, into),
@@ -137,7 +137,7 @@ fn push_fed(reply: Reply, input: &Input, into: &mut Vec<u8>) -> Result<(), NoMem
 
 fn push_drop(why: Why, into: &mut Vec<u8>) -> Result<(), NoMemory>
     ensures ok { OnOk result (into.new.items ≡ into.old.items ++ (codes "drop " ++ why_word why ++ 32 ∷ [])) }
-    ensures err { OnErr result (KeepsFront into.old.items into.new.items) }
+    ensures err { OnErr result (KeepsPrefix into.old.items into.new.items) }
 {
     push_text(b"drop ", into)?;
     push_why(why, into)?;
@@ -168,7 +168,7 @@ pub fn why_word(why: Why) -> &'static [u8]
 
 fn push_input(input: &Input, into: &mut Vec<u8>) -> Result<(), NoMemory>
     ensures ok { OnOk result (into.new.items ≡ into.old.items ++ input_words input.now) }
-    ensures err { OnErr result (KeepsFront into.old.items into.new.items) }
+    ensures err { OnErr result (KeepsPrefix into.old.items into.new.items) }
 {
     match input {
         Input::Tick => push_text(b"tick", into),
@@ -186,7 +186,7 @@ fn push_input(input: &Input, into: &mut Vec<u8>) -> Result<(), NoMemory>
 /// A word with the blank behind it, and the lane.
 fn push_lane(word: &[u8], lane: u8, into: &mut Vec<u8>) -> Result<(), NoMemory>
     ensures ok { OnOk result (into.new.items ≡ into.old.items ++ (word.now ++ decimal lane)) }
-    ensures err { OnErr result (KeepsFront into.old.items into.new.items) }
+    ensures err { OnErr result (KeepsPrefix into.old.items into.new.items) }
 {
     push_text(word, into)?;
     push_number(u64::from(lane), into)
@@ -194,7 +194,7 @@ fn push_lane(word: &[u8], lane: u8, into: &mut Vec<u8>) -> Result<(), NoMemory>
 
 fn push_tool_line(line: &ToolLine, into: &mut Vec<u8>) -> Result<(), NoMemory>
     ensures ok { OnOk result (into.new.items ≡ into.old.items ++ tool_line_words line.now) }
-    ensures err { OnErr result (KeepsFront into.old.items into.new.items) }
+    ensures err { OnErr result (KeepsPrefix into.old.items into.new.items) }
 {
     match line {
         ToolLine::Value(term) => {
@@ -211,7 +211,7 @@ fn push_tool_line(line: &ToolLine, into: &mut Vec<u8>) -> Result<(), NoMemory>
 
 fn push_event(terms: &Terms, into: &mut Vec<u8>) -> Result<(), NoMemory>
     ensures ok { OnOk result (into.new.items ≡ into.old.items ++ (codes "snd-event" ++ arguments_text terms.now)) }
-    ensures err { OnErr result (KeepsFront into.old.items into.new.items) }
+    ensures err { OnErr result (KeepsPrefix into.old.items into.new.items) }
 {
     push_text(b"snd-event", into)?;
     push_arguments(terms, into)
@@ -220,7 +220,7 @@ fn push_event(terms: &Terms, into: &mut Vec<u8>) -> Result<(), NoMemory>
 /// The arguments of a name in parentheses, where it has any.
 fn push_arguments(terms: &Terms, into: &mut Vec<u8>) -> Result<(), NoMemory>
     ensures ok { OnOk result (into.new.items ≡ into.old.items ++ arguments_text terms.now) }
-    ensures err { OnErr result (KeepsFront into.old.items into.new.items) }
+    ensures err { OnErr result (KeepsPrefix into.old.items into.new.items) }
 {
     if terms.is_empty() {
         return Ok(());
@@ -234,7 +234,7 @@ fn push_arguments(terms: &Terms, into: &mut Vec<u8>) -> Result<(), NoMemory>
 /// A word with this in parentheses behind it.
 fn push_of(word: &[u8], inner: &[u8], into: &mut Vec<u8>) -> Result<(), NoMemory>
     ensures ok { OnOk result (into.new.items ≡ into.old.items ++ (word.now ++ 40 ∷ inner.now ++ 41 ∷ [])) }
-    ensures err { OnErr result (KeepsFront into.old.items into.new.items) }
+    ensures err { OnErr result (KeepsPrefix into.old.items into.new.items) }
 {
     push_text(word, into)?;
     into.push(b'(')?;
@@ -245,7 +245,7 @@ fn push_of(word: &[u8], inner: &[u8], into: &mut Vec<u8>) -> Result<(), NoMemory
 
 fn push_gave(lane: u8, out: &Out, into: &mut Vec<u8>) -> Result<(), NoMemory>
     ensures ok { OnOk result (into.new.items ≡ into.old.items ++ (codes "out " ++ decimal lane ++ 32 ∷ out_words out.now)) }
-    ensures err { OnErr result (KeepsFront into.old.items into.new.items) }
+    ensures err { OnErr result (KeepsPrefix into.old.items into.new.items) }
 {
     push_lane(b"out ", lane, into)?;
     into.push(b' ')?;
@@ -254,7 +254,7 @@ fn push_gave(lane: u8, out: &Out, into: &mut Vec<u8>) -> Result<(), NoMemory>
 
 fn push_out(out: &Out, into: &mut Vec<u8>) -> Result<(), NoMemory>
     ensures ok { OnOk result (into.new.items ≡ into.old.items ++ out_words out.now) }
-    ensures err { OnErr result (KeepsFront into.old.items into.new.items) }
+    ensures err { OnErr result (KeepsPrefix into.old.items into.new.items) }
 {
     match out {
         Out::Start(command) => {

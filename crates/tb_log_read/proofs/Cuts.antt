@@ -4,7 +4,7 @@ use Rattle.std.specs.List.{list_all}
 use Rattle.std.proofs.lemmas.Bool.{false≢true, and_parts, and_from, eq-eqb, eqb-true}
 use Rattle.std.proofs.lemmas.List.{take_at, append-nil}
 use Rattle.std.proofs.lemmas.List.Folds.{list_all-append}
-use Rattle.tb_log_read.specs.Cutting.{front, behind, without_last}
+use Rattle.tb_log_read.specs.Cutting.{prefix, behind, without_last}
 
 -- no byte is this one
 abbrev pub lacks : ℕ → List ℕ → Bool
@@ -14,12 +14,12 @@ apart : (b : Bool) → not b ≡ true → b ≡ false
 apart true e = absurd (false≢true e)
 apart false e = refl
 
-pub front-cut : (s : ℕ) (xs rest : List ℕ) → lacks s xs ≡ true → front s (xs ++ (s ∷ rest)) ≡ xs
-front-cut s [] rest h = let same : eqb s s ≡ true = eq-eqb s s refl in rw same refl
-front-cut s (x ∷ xs) rest h =
+pub prefix-cut : (s : ℕ) (xs rest : List ℕ) → lacks s xs ≡ true → prefix s (xs ++ (s ∷ rest)) ≡ xs
+prefix-cut s [] rest h = let same : eqb s s ≡ true = eq-eqb s s refl in rw same refl
+prefix-cut s (x ∷ xs) rest h =
     let p = and_parts (not (eqb x s)) (lacks s xs) h in
     let other : eqb x s ≡ false = apart (eqb x s) p.0 in
-    rw other (ap (λ (l : List ℕ). x ∷ l) (front-cut s xs rest p.1))
+    rw other (ap (λ (l : List ℕ). x ∷ l) (prefix-cut s xs rest p.1))
 
 pub behind-cut : (s : ℕ) (xs rest : List ℕ) → lacks s xs ≡ true → behind s (xs ++ (s ∷ rest)) ≡ rest
 behind-cut s [] rest h = let same : eqb s s ≡ true = eq-eqb s s refl in rw same refl
@@ -28,12 +28,12 @@ behind-cut s (x ∷ xs) rest h =
     let other : eqb x s ≡ false = apart (eqb x s) p.0 in
     rw other (behind-cut s xs rest p.1)
 
-pub front-none : (s : ℕ) (xs : List ℕ) → lacks s xs ≡ true → front s xs ≡ xs
-front-none s [] h = refl
-front-none s (x ∷ xs) h =
+pub prefix-none : (s : ℕ) (xs : List ℕ) → lacks s xs ≡ true → prefix s xs ≡ xs
+prefix-none s [] h = refl
+prefix-none s (x ∷ xs) h =
     let p = and_parts (not (eqb x s)) (lacks s xs) h in
     let other : eqb x s ≡ false = apart (eqb x s) p.0 in
-    rw other (ap (λ (l : List ℕ). x ∷ l) (front-none s xs p.1))
+    rw other (ap (λ (l : List ℕ). x ∷ l) (prefix-none s xs p.1))
 
 pub behind-none : (s : ℕ) (xs : List ℕ) → lacks s xs ≡ true → behind s xs ≡ []
 behind-none s [] h = refl

@@ -11,7 +11,7 @@ use Rattle.tb_read.specs.Spelling.{digits_value}
 use Rattle.tb_log.specs.declared.entry.Place.{Place}
 use Rattle.tb_log.specs.Proper.{is_proper_place}
 use Rattle.tb_log_read.specs.Numbers.{number64, number32, number8, place_of}
-use Rattle.tb_log_read.proofs.Cuts.{lacks, lacks_by, front-cut, behind-cut}
+use Rattle.tb_log_read.proofs.Cuts.{lacks, lacks_by, prefix-cut, behind-cut}
 
 abbrev IsDecimal : ℕ → List ℕ → Type 0
 IsDecimal n digits = (list_all is_digit digits ≡ true) × (digits_value digits ≡ n)
@@ -30,7 +30,7 @@ more_digits : (n : ℕ) (ds : List ℕ) → 10 ≤ n → IsDecimal (n / 10) ds �
 more_digits n ds h d =
     let below : n % 10 < 10 = omega arith in
     let value : digits_value (ds ++ ((48 + n % 10) ∷ [])) ≡ 10 * digits_value ds + (48 + n % 10 - 48) = fold-push (λ value digit. 10 * value + (digit - 48)) 0 ds (48 + n % 10) in
-    let front : digits_value ds ≡ n / 10 = d.1 in
+    let prefix : digits_value ds ≡ n / 10 = d.1 in
     let last : list_all is_digit ((48 + n % 10) ∷ []) ≡ true = and_from (is_digit (48 + n % 10)) true (digit_glyph (n % 10) below) refl in
     (list_all-append is_digit ds ((48 + n % 10) ∷ []) ∙ and_from (list_all is_digit ds) (list_all is_digit ((48 + n % 10) ∷ [])) d.0 last, omega arith)
 
@@ -64,4 +64,4 @@ place_of-decimal p a hp ha =
     let lack : lacks 46 (decimal p) ≡ true = lacks-decimal 46 refl p (omega arith) in
     let proc : number32 (decimal p) ≡ p = number32-decimal p hp in
     let atom : number32 (decimal a) ≡ a = number32-decimal a ha in
-    rw (front-cut 46 (decimal p) (decimal a) lack, behind-cut 46 (decimal p) (decimal a) lack) cc
+    rw (prefix-cut 46 (decimal p) (decimal a) lack, behind-cut 46 (decimal p) (decimal a) lack) cc

@@ -34,12 +34,12 @@ use Rattle.tb_log.specs.declared.entry.Why.{Why}
 use Rattle.tb_log.specs.declared.entry.Why.TheVariants as why
 use Rattle.tb_log.specs.declared.entry.Entry.{Entry}
 use Rattle.tb_log.specs.declared.entry.Entry.TheVariants.{Did, Quiet, Fed, Gave}
-use Rattle.tb_log_read.specs.Cutting.{front, behind, without_last}
+use Rattle.tb_log_read.specs.Cutting.{prefix, behind, without_last}
 use Rattle.tb_log_read.specs.Numbers.{number8, place_of}
-use Rattle.tb_log_read.specs.Terms.{term_of, terms_of, label_terms, with_front, with_first}
+use Rattle.tb_log_read.specs.Terms.{term_of, terms_of, label_terms, with_prefix, with_first}
 use Rattle.tb_log_read.specs.Unescaping.{unescaped_from}
 use Rattle.tb_log_read.specs.Words.{kind_of, why_of, labelled, step_of, value_line, event_line, named_line, tool_line_of, line_on, input_of, fed_by, dropped_by, drop_of, start_of, line_of, out_of, gave_on, gave_of, other_of, entry_by, words_of}
-use Rattle.tb_log_read.proofs.Cuts.{lacks, lacks-append, front-cut, behind-cut, front-none, behind-none, without_last-push}
+use Rattle.tb_log_read.proofs.Cuts.{lacks, lacks-append, prefix-cut, behind-cut, prefix-none, behind-none, without_last-push}
 use Rattle.tb_log_read.proofs.Decimals.{lacks-decimal, number8-decimal, place_of-decimal}
 use Rattle.tb_log_read.proofs.LabelKinds.{HasOnePlace, kinds}
 use Rattle.tb_log_read.proofs.Readings.{term_of-fault}
@@ -81,13 +81,13 @@ place_read place h =
 
 -- a place, and the terms behind it
 abbrev Behind : Place → List Term → Type 0
-Behind place ts = (front 32 (place_text place ++ term_words ts) ≡ place_text place) × (label_terms (behind 32 (place_text place ++ term_words ts)) ≡ Some ts)
+Behind place ts = (prefix 32 (place_text place ++ term_words ts) ≡ place_text place) × (label_terms (behind 32 (place_text place ++ term_words ts)) ≡ Some ts)
 
 terms_read : (place : Place) (ts : List Term) → PlaceRead place → list_all is_proper ts ≡ true → All IsWithinLimits ts → Behind place ts
 terms_read place [] r h w =
-    rw (append-nil (place_text place)) (front-none 32 (place_text place) r.0, ap label_terms (behind-none 32 (place_text place) r.0))
+    rw (append-nil (place_text place)) (prefix-none 32 (place_text place) r.0, ap label_terms (behind-none 32 (place_text place) r.0))
 terms_read place (t ∷ ts) r h w =
-    (front-cut 32 (place_text place) (terms_text (t ∷ ts)) r.0, ap label_terms (behind-cut 32 (place_text place) (terms_text (t ∷ ts)) r.0) ∙ label_terms-text t ts h w)
+    (prefix-cut 32 (place_text place) (terms_text (t ∷ ts)) r.0, ap label_terms (behind-cut 32 (place_text place) (terms_text (t ∷ ts)) r.0) ∙ label_terms-text t ts h w)
 
 abbrev label : LabelKind → Place → Place → List Term → Entry
 label k from to ts = Did (record { kind = k; from = from; to = to; terms = ts })
@@ -95,14 +95,14 @@ label k from to ts = Did (record { kind = k; from = from; to = to; terms = ts })
 abbrev OfKind : LabelKind → Type 0
 OfKind k = (from to : Place) (ts : List Term) → PlaceRead from → PlaceRead to → list_all is_proper ts ≡ true → All IsWithinLimits ts → HasPlaces k from to → has_terms k (length ts) ≡ true → words_of (label_words k from to ts) ≡ Some (label k from to ts)
 
-words_by : (bytes word rest : List ℕ) → front 32 bytes ≡ word → behind 32 bytes ≡ rest → words_of bytes ≡ entry_by (kind_of word) word rest
+words_by : (bytes word rest : List ℕ) → prefix 32 bytes ≡ word → behind 32 bytes ≡ rest → words_of bytes ≡ entry_by (kind_of word) word rest
 words_by bytes word rest p q = rw (p, q) refl
 
 one_read : (k : LabelKind) → HasOnePlace k → OfKind k
 one_read k o from to ts f t h w places count =
     let more = place_text from ++ term_words ts in
     let parted : label_words k from to ts ≡ kind_word k ++ (32 ∷ more) = o.words from to ts ∙ append_assoc (kind_word k) (place_words from) (term_words ts) in
-    let word : front 32 (label_words k from to ts) ≡ kind_word k = ap (front 32) parted ∙ front-cut 32 (kind_word k) more o.blank in
+    let word : prefix 32 (label_words k from to ts) ≡ kind_word k = ap (prefix 32) parted ∙ prefix-cut 32 (kind_word k) more o.blank in
     let rest : behind 32 (label_words k from to ts) ≡ more = ap (behind 32) parted ∙ behind-cut 32 (kind_word k) more o.blank in
     let b = terms_read from ts f h w in
     words_by (label_words k from to ts) (kind_word k) more word rest ∙ ap (λ found. entry_by found (kind_word k) more) o.known ∙ o.step more
@@ -119,8 +119,8 @@ message_read from to ts f t h w places count =
     let parted : (place_text from ++ (32 ∷ place_text to)) ++ term_words ts ≡ place_text from ++ (32 ∷ last) = append_assoc (place_text from) (32 ∷ place_text to) (term_words ts) in
     let b = terms_read to ts t h w in
     ap (step_of kind.Msg) parted
-    ∙ ap (λ (l : List ℕ). labelled kind.Msg (place_of l) (place_of (front 32 (behind 32 (place_text from ++ (32 ∷ last))))) (label_terms (behind 32 (behind 32 (place_text from ++ (32 ∷ last)))))) (front-cut 32 (place_text from) last f.0)
-    ∙ ap (λ (l : List ℕ). labelled kind.Msg (place_of (place_text from)) (place_of (front 32 l)) (label_terms (behind 32 l))) (behind-cut 32 (place_text from) last f.0)
+    ∙ ap (λ (l : List ℕ). labelled kind.Msg (place_of l) (place_of (prefix 32 (behind 32 (place_text from ++ (32 ∷ last))))) (label_terms (behind 32 (behind 32 (place_text from ++ (32 ∷ last)))))) (prefix-cut 32 (place_text from) last f.0)
+    ∙ ap (λ (l : List ℕ). labelled kind.Msg (place_of (place_text from)) (place_of (prefix 32 l)) (label_terms (behind 32 l))) (behind-cut 32 (place_text from) last f.0)
     ∙ ap (λ (l : List ℕ). labelled kind.Msg (place_of (place_text from)) (place_of l) (label_terms (behind 32 last))) b.0
     ∙ ap (λ found. labelled kind.Msg (place_of (place_text from)) (place_of (place_text to)) found) b.1
     ∙ ap (λ place. Some (label kind.Msg place (place_of (place_text to)) ts)) f.1 ∙ ap (λ place. Some (label kind.Msg from place ts)) t.1
@@ -157,7 +157,7 @@ lane_read lane h =
     (lacks-decimal 32 refl lane (omega arith), number8-decimal lane (omega arith))
 
 abbrev InputRead : Input → Type 0
-InputRead input = input_of (front 32 (input_words input)) (behind 32 (input_words input)) ≡ Some input
+InputRead input = input_of (prefix 32 (input_words input)) (behind 32 (input_words input)) ≡ Some input
 
 input_read : (input : Input) → is_proper_input input ≡ true → IsInputInShape input → InputRead input
 input_read input.Tick h s = refl
@@ -166,20 +166,20 @@ input_read (input.Line lane line) h s =
     let l = lane_read lane s.0 in
     let p = and_parts (ltb lane (2 ^ 8)) (is_proper_tool_line line) h in
     let words = tool_line_words line in
-    ap (λ (l : List ℕ). line_on (number8 l) (tool_line_of (behind 32 (decimal lane ++ (32 ∷ words))))) (front-cut 32 (decimal lane) words l.0)
+    ap (λ (l : List ℕ). line_on (number8 l) (tool_line_of (behind 32 (decimal lane ++ (32 ∷ words))))) (prefix-cut 32 (decimal lane) words l.0)
     ∙ ap (λ (l : List ℕ). line_on (number8 (decimal lane)) (tool_line_of l)) (behind-cut 32 (decimal lane) words l.0)
     ∙ ap (λ found. line_on (number8 (decimal lane)) found) (tool_line_read line p.1 s.1) ∙ ap (λ n. Some (input.Line n line)) l.1
 input_read (input.Gone lane) h s = ap (λ n. Some (input.Gone n)) (lane_read lane s).1
 input_read (input.Cut lane) h s = ap (λ n. Some (input.Cut n)) (lane_read lane s).1
 
-took_words : (input : Input) → words_of (input_words input) ≡ fed_by Took (input_of (front 32 (input_words input)) (behind 32 (input_words input)))
+took_words : (input : Input) → words_of (input_words input) ≡ fed_by Took (input_of (prefix 32 (input_words input)) (behind 32 (input_words input)))
 took_words input.Tick = refl
 took_words input.NoTicks = refl
 took_words (input.Line lane line) = refl
 took_words (input.Gone lane) = refl
 took_words (input.Cut lane) = refl
 
-drop_words : (why : Why) (bytes : List ℕ) → words_of (codes "drop " ++ why_word why ++ (32 ∷ bytes)) ≡ fed_by (Dropped why) (input_of (front 32 bytes) (behind 32 bytes))
+drop_words : (why : Why) (bytes : List ℕ) → words_of (codes "drop " ++ why_word why ++ (32 ∷ bytes)) ≡ fed_by (Dropped why) (input_of (prefix 32 bytes) (behind 32 bytes))
 drop_words why.Unasked bytes = refl
 drop_words why.NotLive bytes = refl
 drop_words why.Named bytes = refl
@@ -261,7 +261,7 @@ out_read out.End h s = refl
 gave_read : (lane : ℕ) (out : Out) → LaneRead lane → out_of (out_words out) ≡ Some out → words_of (codes "out " ++ decimal lane ++ (32 ∷ out_words out)) ≡ Some (Gave lane out)
 gave_read lane out l r =
     let words = out_words out in
-    ap (λ (l : List ℕ). gave_on (number8 l) (out_of (behind 32 (decimal lane ++ (32 ∷ words))))) (front-cut 32 (decimal lane) words l.0)
+    ap (λ (l : List ℕ). gave_on (number8 l) (out_of (behind 32 (decimal lane ++ (32 ∷ words))))) (prefix-cut 32 (decimal lane) words l.0)
     ∙ ap (λ (l : List ℕ). gave_on (number8 (decimal lane)) (out_of l)) (behind-cut 32 (decimal lane) words l.0)
     ∙ ap (gave_on (number8 (decimal lane))) r ∙ ap (λ n. Some (Gave n out)) l.1
 

@@ -6,7 +6,7 @@ use Rattle.tb_log.specs.Shapes.{nowhere, HasPlaces}
 use Rattle.tb_log.specs.declared.entry.Place.{Place}
 use Rattle.tb_log.specs.declared.entry.LabelKind.{LabelKind}
 use Rattle.tb_log.specs.declared.entry.LabelKind.TheVariants as kind
-use Rattle.tb_log_read.specs.Cutting.{front, behind}
+use Rattle.tb_log_read.specs.Cutting.{prefix, behind}
 use Rattle.tb_log_read.specs.Numbers.{place_of}
 use Rattle.tb_log_read.specs.Terms.{label_terms}
 use Rattle.tb_log_read.specs.Words.{kind_of, labelled, step_of}
@@ -14,7 +14,7 @@ use Rattle.tb_log_read.proofs.Cuts.{lacks}
 
 pub record HasOnePlace (k : LabelKind) : Type 0 where
   pub words : (from to : Place) (terms : List Term) → label_words k from to terms ≡ kind_word k ++ place_words from ++ term_words terms
-  pub step : (bytes : List ℕ) → step_of k bytes ≡ labelled k (place_of (front 32 bytes)) nowhere (label_terms (behind 32 bytes))
+  pub step : (bytes : List ℕ) → step_of k bytes ≡ labelled k (place_of (prefix 32 bytes)) nowhere (label_terms (behind 32 bytes))
   pub places : (from to : Place) → HasPlaces k from to → to ≡ nowhere
   pub newline : lacks 10 (kind_word k) ≡ true
   pub blank : lacks 32 (kind_word k) ≡ true

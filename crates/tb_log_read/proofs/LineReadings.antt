@@ -5,13 +5,13 @@ use Rattle.tb_log.specs.LogText.{entry_words, entry_text}
 use Rattle.tb_log.specs.Proper.{is_proper_entry}
 use Rattle.tb_log.specs.Shapes.{InShape}
 use Rattle.tb_log.specs.declared.entry.Entry.{Entry}
-use Rattle.tb_log_read.specs.Cutting.{front, behind}
+use Rattle.tb_log_read.specs.Cutting.{prefix, behind}
 use Rattle.tb_log_read.specs.Numbers.{number64}
 use Rattle.tb_log_read.specs.Words.{words_of}
 use Rattle.tb_log_read.specs.Entries.{numbered_by, numbered_of}
 use Rattle.tb_log_read.specs.Lines.{IsLine}
 use Rattle.tb_log_read.specs.declared.line.Numbered.{Numbered}
-use Rattle.tb_log_read.proofs.Cuts.{lacks, front-cut, behind-cut}
+use Rattle.tb_log_read.proofs.Cuts.{lacks, prefix-cut, behind-cut}
 use Rattle.tb_log_read.proofs.Decimals.{lacks-decimal, number64-decimal}
 use Rattle.tb_log_read.proofs.Entries.{words_read}
 use Rattle.tb_log_read.proofs.Newlines.{text_line}
@@ -28,8 +28,8 @@ text_says n e fits proper shape =
     let words = entry_words e in
     let text = decimal n ++ (32 ∷ words) in
     let first : lacks 32 (decimal n) ≡ true = lacks-decimal 32 refl n fits in
-    ap (λ (l : List ℕ). says (front 32 l) (behind 32 l)) (front-cut 10 text [] (text_line n e fits proper))
-    ∙ ap (λ (l : List ℕ). says l (behind 32 text)) (front-cut 32 (decimal n) words first)
+    ap (λ (l : List ℕ). says (prefix 32 l) (behind 32 l)) (prefix-cut 10 text [] (text_line n e fits proper))
+    ∙ ap (λ (l : List ℕ). says l (behind 32 text)) (prefix-cut 32 (decimal n) words first)
     ∙ ap (λ (l : List ℕ). says (decimal n) l) (behind-cut 32 (decimal n) words first)
     ∙ ap (λ m. numbered_by m (words_of words)) (number64-decimal n fits) ∙ ap (numbered_by n) (words_read e proper shape)
 
@@ -57,8 +57,8 @@ found_by number words (Some entry) x fits e f =
 -- what a line says is its entry, where that has the line
 pub says_line : (line : List ℕ) (x : Numbered) → numbered_of line ≡ Some x → (1 ≤ x.number) × InShape x.entry × (line ≡ entry_text x.number x.entry) → IsLine x.number x.entry line
 says_line line x e h =
-    let text = front 10 line in
-    let p = found_by (number64 (front 32 text)) (behind 32 text) (words_of (behind 32 text)) x (omega arith) refl e in
+    let text = prefix 10 line in
+    let p = found_by (number64 (prefix 32 text)) (behind 32 text) (words_of (behind 32 text)) x (omega arith) refl e in
     record { from_one = h.0; fits = p.0; proper = p.1; shape = h.1; text = h.2 }
 
 -- and where it doesn't have the line, this is no entry's

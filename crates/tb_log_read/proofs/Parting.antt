@@ -18,18 +18,18 @@ pub parted : (s : Standing) (bytes : List ℕ) → parts_from s bytes ≡ take (
 parted s [] = refl
 parted s (b ∷ bytes) = parted_by (is_cut s b) s b bytes refl (parted (after s b) bytes)
 
-pub parted_some : (bytes front behind more : List ℕ) (n comma : ℕ) → n ≡ part_len (Plain 0) bytes → front ≡ take n bytes → behind ≡ drop n bytes → behind ≡ comma ∷ more → parts bytes ≡ front ∷ parts more
-parted_some bytes front behind more n comma en ef eb em =
+pub parted_some : (bytes prefix behind more : List ℕ) (n comma : ℕ) → n ≡ part_len (Plain 0) bytes → prefix ≡ take n bytes → behind ≡ drop n bytes → behind ≡ comma ∷ more → parts bytes ≡ prefix ∷ parts more
+parted_some bytes prefix behind more n comma en ef eb em =
     let cut : drop (part_len (Plain 0) bytes) bytes ≡ comma ∷ more = ap (λ k. drop k bytes) (sym en) ∙ sym eb ∙ em in
-    let first : take (part_len (Plain 0) bytes) bytes ≡ front = ap (λ k. take k bytes) (sym en) ∙ sym ef in
+    let first : take (part_len (Plain 0) bytes) bytes ≡ prefix = ap (λ k. take k bytes) (sym en) ∙ sym ef in
     parted (Plain 0) bytes ∙ ap (λ (l : List ℕ). take (part_len (Plain 0) bytes) bytes ∷ parts_behind l) cut ∙ ap (λ (l : List ℕ). l ∷ parts more) first
 
 empty : (l : List ℕ) → length l ≡ 0 → l ≡ []
 empty [] e = refl
 empty (x ∷ l) e = absurd (omega arith)
 
-pub parted_none : (bytes front behind : List ℕ) (n : ℕ) → n ≡ part_len (Plain 0) bytes → front ≡ take n bytes → behind ≡ drop n bytes → length behind ≡ 0 → parts bytes ≡ front ∷ []
-parted_none bytes front behind n en ef eb em =
+pub parted_none : (bytes prefix behind : List ℕ) (n : ℕ) → n ≡ part_len (Plain 0) bytes → prefix ≡ take n bytes → behind ≡ drop n bytes → length behind ≡ 0 → parts bytes ≡ prefix ∷ []
+parted_none bytes prefix behind n en ef eb em =
     let cut : drop (part_len (Plain 0) bytes) bytes ≡ [] = ap (λ k. drop k bytes) (sym en) ∙ sym eb ∙ empty behind em in
-    let first : take (part_len (Plain 0) bytes) bytes ≡ front = ap (λ k. take k bytes) (sym en) ∙ sym ef in
+    let first : take (part_len (Plain 0) bytes) bytes ≡ prefix = ap (λ k. take k bytes) (sym en) ∙ sym ef in
     parted (Plain 0) bytes ∙ ap (λ (l : List ℕ). take (part_len (Plain 0) bytes) bytes ∷ parts_behind l) cut ∙ ap (λ (l : List ℕ). l ∷ []) first

@@ -28,10 +28,10 @@ use Rattle.tb_log.specs.declared.entry.Reply.TheVariants.{Took, Dropped}
 use Rattle.tb_log.specs.declared.entry.Why.{Why}
 use Rattle.tb_log.specs.declared.entry.Entry.{Entry}
 use Rattle.tb_log.specs.declared.entry.Entry.TheVariants.{Did, Quiet, Fed, Gave}
-use Rattle.tb_log_read.specs.Cutting.{front, behind, without_last}
+use Rattle.tb_log_read.specs.Cutting.{prefix, behind, without_last}
 use Rattle.tb_log_read.specs.Numbers.{number64, number32, number8, place_of}
 use Rattle.tb_log_read.specs.Parts.{parts}
-use Rattle.tb_log_read.specs.Terms.{term_of, with_front, with_first, all_terms, terms_of, label_terms}
+use Rattle.tb_log_read.specs.Terms.{term_of, with_prefix, with_first, all_terms, terms_of, label_terms}
 use Rattle.tb_log_read.specs.Unescaping.{unescaped_from}
 use Rattle.tb_log_read.specs.Words.{kind_of, why_of, labelled, step_of, value_line, event_line, named_line, tool_line_of, line_on, input_of, fed_by, dropped_by, drop_of, start_of, line_of, out_of, gave_on, gave_of, other_of, entry_by, words_of}
 use Rattle.tb_log_read.proofs.LabelKinds.{HasOnePlace, kinds}
@@ -141,7 +141,7 @@ label_terms_give (b ∷ bytes) = terms_give (b ∷ bytes)
 
 place_proper : (word : List ℕ) → is_proper_place (place_of word) ≡ true
 place_proper word =
-    and_from (ltb (number32 (front 46 word)) (2 ^ 32)) (ltb (number32 (behind 46 word)) (2 ^ 32)) (lt-ltb (number32 (front 46 word)) (2 ^ 32) (omega arith)) (lt-ltb (number32 (behind 46 word)) (2 ^ 32) (omega arith))
+    and_from (ltb (number32 (prefix 46 word)) (2 ^ 32)) (ltb (number32 (behind 46 word)) (2 ^ 32)) (lt-ltb (number32 (prefix 46 word)) (2 ^ 32) (omega arith)) (lt-ltb (number32 (behind 46 word)) (2 ^ 32) (omega arith))
 
 labelled_gives : (k : LabelKind) (from to : Place) (o : Option (List Term)) → is_proper_place from ≡ true → is_proper_place to ≡ true → Gives are_proper o → Gives is_proper_entry (labelled k from to o)
 labelled_gives k from to None f t p = tt
@@ -152,11 +152,11 @@ StepGives k = (bytes : List ℕ) → Gives is_proper_entry (step_of k bytes)
 
 one_gives : (k : LabelKind) → HasOnePlace k → StepGives k
 one_gives k o bytes =
-    subst (Gives is_proper_entry) (sym (o.step bytes)) (labelled_gives k (place_of (front 32 bytes)) nowhere (label_terms (behind 32 bytes)) (place_proper (front 32 bytes)) refl (label_terms_give (behind 32 bytes)))
+    subst (Gives is_proper_entry) (sym (o.step bytes)) (labelled_gives k (place_of (prefix 32 bytes)) nowhere (label_terms (behind 32 bytes)) (place_proper (prefix 32 bytes)) refl (label_terms_give (behind 32 bytes)))
 
 step_gives : (k : LabelKind) → StepGives k
 step_gives = kinds StepGives
-    (λ bytes. labelled_gives kind.Msg (place_of (front 32 bytes)) (place_of (front 32 (behind 32 bytes))) (label_terms (behind 32 (behind 32 bytes))) (place_proper (front 32 bytes)) (place_proper (front 32 (behind 32 bytes))) (label_terms_give (behind 32 (behind 32 bytes))))
+    (λ bytes. labelled_gives kind.Msg (place_of (prefix 32 bytes)) (place_of (prefix 32 (behind 32 bytes))) (label_terms (behind 32 (behind 32 bytes))) (place_proper (prefix 32 bytes)) (place_proper (prefix 32 (behind 32 bytes))) (label_terms_give (behind 32 (behind 32 bytes))))
     (λ bytes. labelled_gives kind.Finish nowhere nowhere (Some []) refl refl refl) (λ bytes. labelled_gives kind.Halt nowhere nowhere (Some []) refl refl refl) one_gives
 
 -- Inputs.
@@ -195,11 +195,11 @@ line_gives lane (Some line) p q = and_from (ltb lane (2 ^ 8)) (is_proper_tool_li
 
 input_gives : (word rest : List ℕ) → Gives is_proper_input (input_of word rest)
 input_gives word rest =
-    let lane = front 32 rest in
+    let lane = prefix 32 rest in
     let text = behind 32 rest in
     let cuts = either is_proper_input (bytes_eq word (codes "cut")) (Some (input.Cut (number8 rest))) None (lane_proper rest) tt in
     let gone = either is_proper_input (bytes_eq word (codes "gone")) (Some (input.Gone (number8 rest))) _ (lane_proper rest) cuts in
-    let line = either is_proper_input (bytes_eq word (codes "line")) _ _ (line_gives (number8 lane) (tool_line_of text) (lane_proper lane) (named_gives (front 40 text) (without_last (behind 40 text)))) gone in
+    let line = either is_proper_input (bytes_eq word (codes "line")) _ _ (line_gives (number8 lane) (tool_line_of text) (lane_proper lane) (named_gives (prefix 40 text) (without_last (behind 40 text)))) gone in
     let noticks = either is_proper_input (bytes_eq word (codes "noticks")) (Some input.NoTicks) _ refl line in
     either is_proper_input (bytes_eq word (codes "tick")) (Some input.Tick) _ refl noticks
 
@@ -224,9 +224,9 @@ out_gives : (bytes : List ℕ) → Gives is_proper_out (out_of bytes)
 out_gives bytes =
     let command = unescaped_from false (without_last (behind 34 bytes)) in
     let terms = terms_of (without_last (behind 40 bytes)) in
-    let line = handed_gives (front 40 bytes) terms (terms_give (without_last (behind 40 bytes))) in
+    let line = handed_gives (prefix 40 bytes) terms (terms_give (without_last (behind 40 bytes))) in
     let ended = either is_proper_out (bytes_eq bytes (codes "end")) (Some out.End) _ refl line in
-    either is_proper_out (bytes_eq (front 32 bytes) (codes "start")) (start_of command) _ (tested is_proper_out (is_string command) (out.Start command) (λ e. e)) ended
+    either is_proper_out (bytes_eq (prefix 32 bytes) (codes "start")) (start_of command) _ (tested is_proper_out (is_string command) (out.Start command) (λ e. e)) ended
 
 gave_gives : (lane : ℕ) (o : Option Out) → ltb lane (2 ^ 8) ≡ true → Gives is_proper_out o → Gives is_proper_entry (gave_on lane o)
 gave_gives lane None p q = tt
@@ -238,8 +238,8 @@ other_gives : (word rest : List ℕ) → Gives is_proper_entry (other_of word re
 other_gives word rest =
     let words = behind 32 rest in
     let fed = fed_gives Took (input_of word rest) (input_gives word rest) in
-    let gave = either is_proper_entry (bytes_eq word (codes "out")) (gave_of rest) _ (gave_gives (number8 (front 32 rest)) (out_of words) (lane_proper (front 32 rest)) (out_gives words)) fed in
-    let drop = either is_proper_entry (bytes_eq word (codes "drop")) (drop_of rest) _ (dropped_gives (why_of (front 32 rest)) (input_of (front 32 words) (behind 32 words)) (input_gives (front 32 words) (behind 32 words))) gave in
+    let gave = either is_proper_entry (bytes_eq word (codes "out")) (gave_of rest) _ (gave_gives (number8 (prefix 32 rest)) (out_of words) (lane_proper (prefix 32 rest)) (out_gives words)) fed in
+    let drop = either is_proper_entry (bytes_eq word (codes "drop")) (drop_of rest) _ (dropped_gives (why_of (prefix 32 rest)) (input_of (prefix 32 words) (behind 32 words)) (input_gives (prefix 32 words) (behind 32 words))) gave in
     either is_proper_entry (bytes_eq word (codes "quiet")) (Some Quiet) _ refl drop
 
 entry_gives : (k : Option LabelKind) (word rest : List ℕ) → Gives is_proper_entry (entry_by k word rest)
@@ -247,7 +247,7 @@ entry_gives None word rest = other_gives word rest
 entry_gives (Some k) word rest = step_gives k rest
 
 words_give : (bytes : List ℕ) → Gives is_proper_entry (words_of bytes)
-words_give bytes = let word = front 32 bytes in entry_gives (kind_of word) word (behind 32 bytes)
+words_give bytes = let word = prefix 32 bytes in entry_gives (kind_of word) word (behind 32 bytes)
 
 pub words_proper : (bytes : List ℕ) (entry : Entry) → words_of bytes ≡ Some entry → is_proper_entry entry ≡ true
 words_proper bytes entry e = subst (Gives is_proper_entry) e (words_give bytes)

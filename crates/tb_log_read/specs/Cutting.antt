@@ -2,9 +2,9 @@
 use Rattle.std.specs.Prelude.{ℕ, ◌-◌, ◌==◌, List, [], ◌∷◌, length, take, if◌then◌else◌}
 
 -- the bytes before the first such byte
-abbrev pub front : ℕ → List ℕ → List ℕ
-front separator [] = []
-front separator (byte ∷ bytes) = if byte == separator then [] else byte ∷ front separator bytes
+abbrev pub prefix : ℕ → List ℕ → List ℕ
+prefix separator [] = []
+prefix separator (byte ∷ bytes) = if byte == separator then [] else byte ∷ prefix separator bytes
 
 -- the bytes behind it
 abbrev pub behind : ℕ → List ℕ → List ℕ

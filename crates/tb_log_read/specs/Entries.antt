@@ -2,7 +2,7 @@
 use Rattle.std.specs.Prelude.{ℕ, List, Option, Some, None}
 use Rattle.tb_log.specs.declared.entry.Entry.{Entry}
 use Rattle.tb_log_read.specs.declared.line.Numbered.{Numbered}
-use Rattle.tb_log_read.specs.Cutting.{front, behind}
+use Rattle.tb_log_read.specs.Cutting.{prefix, behind}
 use Rattle.tb_log_read.specs.Numbers.{number64}
 use Rattle.tb_log_read.specs.Words.{words_of}
 
@@ -11,4 +11,4 @@ numbered_by number None = None
 numbered_by number (Some entry) = Some (record { number = number; entry = entry })
 
 abbrev pub numbered_of : List ℕ → Option Numbered
-numbered_of line = let text = front 10 line in numbered_by (number64 (front 32 text)) (words_of (behind 32 text))
+numbered_of line = let text = prefix 10 line in numbered_by (number64 (prefix 32 text)) (words_of (behind 32 text))

@@ -38,7 +38,7 @@ pub record StopsAt (bytes : List ℕ) (number : ℕ) : Type 0 where
   pub is_there : rest ≢ []
   pub is_none : (entry : Entry) → IsLine number entry (first_line rest) → ⊥
 
--- want of memory says nothing of the bytes
+-- running out of memory says nothing of the bytes
 abbrev pub HasFault : List ℕ → LogFault → Type 0
 HasFault bytes (fault.Line number) = StopsAt bytes number
 HasFault bytes fault.NoMemory = Unit {0}

@@ -14,13 +14,13 @@ found_term bytes (inr fault) = None
 unfoldable pub term_of : List ℕ → Option Term
 term_of bytes = found_term bytes (has_one bytes)
 
-abbrev pub with_front : List Term → Option (List Term) → Option (List Term)
-with_front front None = None
-with_front front (Some terms) = Some (front ++ terms)
+abbrev pub with_prefix : List Term → Option (List Term) → Option (List Term)
+with_prefix prefix None = None
+with_prefix prefix (Some terms) = Some (prefix ++ terms)
 
 abbrev pub with_first : Option Term → Option (List Term) → Option (List Term)
 with_first None terms = None
-with_first (Some term) terms = with_front (term ∷ []) terms
+with_first (Some term) terms = with_prefix (term ∷ []) terms
 
 abbrev pub all_terms : List (List ℕ) → Option (List Term)
 all_terms [] = Some []

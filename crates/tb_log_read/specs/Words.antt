@@ -20,7 +20,7 @@ use Rattle.tb_log.specs.declared.entry.Why.{Why}
 use Rattle.tb_log.specs.declared.entry.Why.TheVariants as why
 use Rattle.tb_log.specs.declared.entry.Entry.{Entry}
 use Rattle.tb_log.specs.declared.entry.Entry.TheVariants.{Did, Quiet, Fed, Gave}
-use Rattle.tb_log_read.specs.Cutting.{front, behind, without_last}
+use Rattle.tb_log_read.specs.Cutting.{prefix, behind, without_last}
 use Rattle.tb_log_read.specs.Numbers.{number8, place_of}
 use Rattle.tb_log_read.specs.Terms.{term_of, terms_of, label_terms}
 use Rattle.tb_log_read.specs.Unescaping.{unescaped_from}
@@ -68,10 +68,10 @@ labelled kind from to (Some terms) = Some (Did (record { kind = kind; from = fro
 -- a step of this kind, by what stands behind its word
 abbrev pub step_of : LabelKind → List ℕ → Option Entry
 step_of kind.Msg bytes =
-    labelled kind.Msg (place_of (front 32 bytes)) (place_of (front 32 (behind 32 bytes))) (label_terms (behind 32 (behind 32 bytes)))
+    labelled kind.Msg (place_of (prefix 32 bytes)) (place_of (prefix 32 (behind 32 bytes))) (label_terms (behind 32 (behind 32 bytes)))
 step_of kind.Finish bytes = labelled kind.Finish nowhere nowhere (Some [])
 step_of kind.Halt bytes = labelled kind.Halt nowhere nowhere (Some [])
-step_of kind bytes = labelled kind (place_of (front 32 bytes)) nowhere (label_terms (behind 32 bytes))
+step_of kind bytes = labelled kind (place_of (prefix 32 bytes)) nowhere (label_terms (behind 32 bytes))
 
 abbrev pub value_line : Option Term → Option ToolLine
 value_line None = None
@@ -91,7 +91,7 @@ named_line name inner =
     else (if bytes_eq name (codes "?") then Some tool.Bad else None))))
 
 abbrev pub tool_line_of : List ℕ → Option ToolLine
-tool_line_of bytes = named_line (front 40 bytes) (without_last (behind 40 bytes))
+tool_line_of bytes = named_line (prefix 40 bytes) (without_last (behind 40 bytes))
 
 abbrev pub line_on : ℕ → Option ToolLine → Option Input
 line_on lane None = None
@@ -102,7 +102,7 @@ abbrev pub input_of : List ℕ → List ℕ → Option Input
 input_of word rest =
     if bytes_eq word (codes "tick") then Some input.Tick
     else (if bytes_eq word (codes "noticks") then Some input.NoTicks
-    else (if bytes_eq word (codes "line") then line_on (number8 (front 32 rest)) (tool_line_of (behind 32 rest))
+    else (if bytes_eq word (codes "line") then line_on (number8 (prefix 32 rest)) (tool_line_of (behind 32 rest))
     else (if bytes_eq word (codes "gone") then Some (input.Gone (number8 rest))
     else (if bytes_eq word (codes "cut") then Some (input.Cut (number8 rest)) else None))))
 
@@ -117,7 +117,7 @@ dropped_by (Some why) input = fed_by (Dropped why) input
 -- a dropped input, by what stands behind the first word
 abbrev pub drop_of : List ℕ → Option Entry
 drop_of bytes =
-    let words = behind 32 bytes in dropped_by (why_of (front 32 bytes)) (input_of (front 32 words) (behind 32 words))
+    let words = behind 32 bytes in dropped_by (why_of (prefix 32 bytes)) (input_of (prefix 32 words) (behind 32 words))
 
 abbrev pub start_of : List ℕ → Option Out
 start_of command = if is_string command then Some (out.Start command) else None
@@ -129,16 +129,16 @@ line_of name (Some terms) = if is_name name then Some (out.Line (term.Appl name 
 -- what is handed out
 abbrev pub out_of : List ℕ → Option Out
 out_of bytes =
-    if bytes_eq (front 32 bytes) (codes "start") then start_of (unescaped_from false (without_last (behind 34 bytes)))
+    if bytes_eq (prefix 32 bytes) (codes "start") then start_of (unescaped_from false (without_last (behind 34 bytes)))
     else (if bytes_eq bytes (codes "end") then Some out.End
-    else line_of (front 40 bytes) (terms_of (without_last (behind 40 bytes))))
+    else line_of (prefix 40 bytes) (terms_of (without_last (behind 40 bytes))))
 
 abbrev pub gave_on : ℕ → Option Out → Option Entry
 gave_on lane None = None
 gave_on lane (Some out) = Some (Gave lane out)
 
 abbrev pub gave_of : List ℕ → Option Entry
-gave_of bytes = gave_on (number8 (front 32 bytes)) (out_of (behind 32 bytes))
+gave_of bytes = gave_on (number8 (prefix 32 bytes)) (out_of (behind 32 bytes))
 
 -- what is no step, by its first word and what stands behind it
 abbrev pub other_of : List ℕ → List ℕ → Option Entry
@@ -153,4 +153,4 @@ entry_by (Some kind) word rest = step_of kind rest
 
 -- the entry with these words
 abbrev pub words_of : List ℕ → Option Entry
-words_of bytes = let word = front 32 bytes in entry_by (kind_of word) word (behind 32 bytes)
+words_of bytes = let word = prefix 32 bytes in entry_by (kind_of word) word (behind 32 bytes)

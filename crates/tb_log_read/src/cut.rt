@@ -1,9 +1,9 @@
 ghost use Rattle.std.specs.Prelude.{◌≡◌, ◌≤◌, length};
-ghost use Rattle.tb_log_read.specs.Cutting.{front, behind, without_last};
+ghost use Rattle.tb_log_read.specs.Cutting.{prefix, behind, without_last};
 
 /// The bytes before the first such byte, and the bytes behind it. Where there is none, all and none.
 pub(crate) fn cut(separator: u8, bytes: &[u8]) -> (&[u8], &[u8])
-    ensures front { result.0.now ≡ front separator bytes.now }
+    ensures prefix { result.0.now ≡ prefix separator bytes.now }
     ensures behind { result.1.now ≡ behind separator bytes.now }
 {
     for (place, byte) in bytes.iter().enumerate() {

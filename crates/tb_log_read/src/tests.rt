@@ -142,12 +142,12 @@ fn other_lines_are_no_entries(rt: HostRuntime) -> Result<(), Fail> {
 /// This front, a byte so often, and this end.
 fn filled(
     alloc: Global,
-    front: &[u8],
+    prefix: &[u8],
     byte: u8,
     times: usize,
     end: &[u8],
 ) -> Result<Vec<u8>, NoMemory> {
-    let mut line = Vec::from_slice(alloc, front)?;
+    let mut line = Vec::from_slice(alloc, prefix)?;
     let middle = vec![in alloc; byte; times]?;
     line.extend_from_slice(middle.as_slice())?;
     line.extend_from_slice(end)?;
@@ -155,8 +155,8 @@ fn filled(
 }
 
 /// This front, so many brackets within each other, and this end.
-fn nested(alloc: Global, front: &[u8], levels: usize, end: &[u8]) -> Result<Vec<u8>, NoMemory> {
-    let opened = filled(alloc, front, b'[', levels, b"")?;
+fn nested(alloc: Global, prefix: &[u8], levels: usize, end: &[u8]) -> Result<Vec<u8>, NoMemory> {
+    let opened = filled(alloc, prefix, b'[', levels, b"")?;
     filled(alloc, opened.as_slice(), b']', levels, end)
 }
 
@@ -164,16 +164,16 @@ fn nested(alloc: Global, front: &[u8], levels: usize, end: &[u8]) -> Result<Vec<
 fn a_part_of_a_line_has_limits(rt: HostRuntime) -> Result<(), Fail> {
     let alloc = rt.alloc();
     for (levels, is) in [(64, true), (65, false)] {
-        for (front, end) in [
+        for (prefix, end) in [
             (b"1 set 1.1 ".as_slice(), b"\n".as_slice()),
             (b"1 line 1 snd-value(", b")\n"),
             (b"1 out 1 rec-eval(", b")\n"),
         ] {
-            let line = nested(alloc, front, levels, end)?;
+            let line = nested(alloc, prefix, levels, end)?;
             assert_eq!(rt; reads(alloc, line.as_slice())?, is, "{levels} levels");
         }
     }
-    for (front, most, end) in [
+    for (prefix, most, end) in [
         (b"1 set 1.1 \"".as_slice(), 65_535, b"\"\n".as_slice()),
         (b"1 line 1 snd-event(\"", 65_535, b"\")\n"),
         (b"1 line 1 snd-event(a,\"", 65_533, b"\")\n"),
@@ -181,9 +181,9 @@ fn a_part_of_a_line_has_limits(rt: HostRuntime) -> Result<(), Fail> {
         (b"1 line 1 snd-connect(", 65_534, b")\n"),
         (b"1 out 1 rec-ack-event(0,\"", 65_534, b"\")\n"),
     ] {
-        let line = filled(alloc, front, b'a', most, end)?;
+        let line = filled(alloc, prefix, b'a', most, end)?;
         assert!(rt; reads(alloc, line.as_slice())?, "{most} bytes");
-        let line = filled(alloc, front, b'a', most + 1, end)?;
+        let line = filled(alloc, prefix, b'a', most + 1, end)?;
         assert!(rt; !reads(alloc, line.as_slice())?, "one byte over {most}");
     }
     let start = filled(alloc, b"1 out 1 start \"", b'a', 100_000, b"\"\n")?;

@@ -5,7 +5,7 @@ use Rattle.tb_terms.specs.contracts.term.Term as term
 use Rattle.tb_terms.specs.Same.{is_same_term}
 use Rattle.tb_terms.proofs.SameLemmas.{is_same-sound}
 use Rattle.tb_match.specs.declared.bind.Bind.{Bind}
-use Rattle.tb_match.specs.Joining.{bound, agreed, with_bind, joined, with_front, both}
+use Rattle.tb_match.specs.Joining.{bound, agreed, with_bind, joined, with_prefix, both}
 
 abbrev pub Binds : Type 0
 Binds = List Bind
@@ -45,13 +45,13 @@ joined-append a (y ∷ b) x =
     ∙ sym (chain (λ (all : Binds). joined all b) (λ (u : Binds). with_bind u x) (with_bind a y))
 
 -- what the binds in front are bound to, and what those behind them are
-front_case : (t : Bool) (u w : Term) (o r : Option Term) → (o ≡ Some w → r ≡ Some w) → ◌≡◌ {A = Option Term} (if t then Some u else o) (Some w) → ◌≡◌ {A = Option Term} (if t then Some u else r) (Some w)
-front_case true u w o r h e = e
-front_case false u w o r h e = h e
+prefix_case : (t : Bool) (u w : Term) (o r : Option Term) → (o ≡ Some w → r ≡ Some w) → ◌≡◌ {A = Option Term} (if t then Some u else o) (Some w) → ◌≡◌ {A = Option Term} (if t then Some u else r) (Some w)
+prefix_case true u w o r h e = e
+prefix_case false u w o r h e = h e
 
-pub bound-front : (s : ℕ) (a b : Binds) (w : Term) → bound s a ≡ Some w → bound s (a ++ b) ≡ Some w
-bound-front s [] b w h = cc
-bound-front s (y ∷ a) b w h = front_case (y.slot == s) y.value w (bound s a) (bound s (a ++ b)) (bound-front s a b w) h
+pub bound-prefix : (s : ℕ) (a b : Binds) (w : Term) → bound s a ≡ Some w → bound s (a ++ b) ≡ Some w
+bound-prefix s [] b w h = cc
+bound-prefix s (y ∷ a) b w h = prefix_case (y.slot == s) y.value w (bound s a) (bound s (a ++ b)) (bound-prefix s a b w) h
 
 behind_case : (t : Bool) (u : Term) (o r e : Option Term) → (o ≡ None → r ≡ e) → ◌≡◌ {A = Option Term} (if t then Some u else o) None → ◌≡◌ {A = Option Term} (if t then Some u else r) e
 behind_case true u o r e h q = cc
@@ -83,7 +83,7 @@ agreed-bound a y all (Some w) h e =
 agreed-keeps : (a : Binds) (y : Bind) (all : Binds) (o : Option Term) → agreed a y o ≡ Some all → (s : ℕ) (w : Term) → bound s a ≡ Some w → bound s all ≡ Some w
 agreed-keeps a y all None e s w h =
     let is : a ++ y ∷ [] ≡ all = cc in
-    subst (λ (l : Binds). bound s l ≡ Some w) is (bound-front s a (y ∷ []) w h)
+    subst (λ (l : Binds). bound s l ≡ Some w) is (bound-prefix s a (y ∷ []) w h)
 agreed-keeps a y all (Some v) e s w h = sym (ap (bound s) (agreed_same (is_same_term v y.value) a all e).1) ∙ h
 
 joined-keeps : (a b ab : Binds) → joined a b ≡ Some ab → (s : ℕ) (w : Term) → bound s a ≡ Some w → bound s ab ≡ Some w
@@ -147,7 +147,7 @@ grouped a b (x ∷ c) =
     ∙ chain (λ (ab : Binds). with_bind ab x) (λ (ab : Binds). joined ab c) (joined a b)
 
 -- the first of two parts joins what is in front, and the second joins that
-pub with_front-both : (a : Binds) (m r : Found) → with_front a (both m r) ≡ option_and_then (λ (ab : Binds). with_front ab r) (with_front a m)
-with_front-both a None r = refl
-with_front-both a (Some b) None = no_step (joined a b)
-with_front-both a (Some b) (Some c) = grouped a b c
+pub with_prefix-both : (a : Binds) (m r : Found) → with_prefix a (both m r) ≡ option_and_then (λ (ab : Binds). with_prefix ab r) (with_prefix a m)
+with_prefix-both a None r = refl
+with_prefix-both a (Some b) None = no_step (joined a b)
+with_prefix-both a (Some b) (Some c) = grouped a b c

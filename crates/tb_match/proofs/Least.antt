@@ -23,9 +23,9 @@ among-append : (a b o : Binds) → AreAmong a o → AreAmong b o → AreAmong (a
 among-append [] b o h k = k
 among-append (x ∷ a) b o h k = (h.0, among-append a b o h.1 k)
 
-among-front : (a b o : Binds) → AreAmong (a ++ b) o → AreAmong a o
-among-front [] b o h = tt
-among-front (x ∷ a) b o h = (h.0, among-front a b o h.1)
+among-prefix : (a b o : Binds) → AreAmong (a ++ b) o → AreAmong a o
+among-prefix [] b o h = tt
+among-prefix (x ∷ a) b o h = (h.0, among-prefix a b o h.1)
 
 among-behind : (a b o : Binds) → AreAmong (a ++ b) o → AreAmong b o
 among-behind [] b o h = h
@@ -74,12 +74,12 @@ agreed-from : (a : Binds) (x : Bind) (o all : Binds) (f : Option Term) → bound
 agreed-from a x o all None e is h =
     let whole : a ++ x ∷ [] ≡ all = cc in
     let parts : AreAmong (a ++ x ∷ []) o = subst (λ (l : Binds). AreAmong l o) (sym whole) h in
-    (among-front a (x ∷ []) o parts, (among-behind a (x ∷ []) o parts).0)
+    (among-prefix a (x ∷ []) o parts, (among-behind a (x ∷ []) o parts).0)
 agreed-from a x o all (Some w) e is h =
     let p = agreed_same (is_same_term w x.value) a all is in
-    let front : AreAmong a o = subst (λ (l : Binds). AreAmong l o) (sym p.1) h in
+    let prefix : AreAmong a o = subst (λ (l : Binds). AreAmong l o) (sym p.1) h in
     let equal : w ≡ x.value = is_same-sound row.the_row.coded w x.value p.0 in
-    (front, among-bound a o front x.slot w e ∙ ap (λ (v : Term). Some v) equal)
+    (prefix, among-bound a o prefix x.slot w e ∙ ap (λ (v : Term). Some v) equal)
 
 -- binds that are joined
 then-among : (f : Binds → Option Binds) (m : Option Binds) (o : Binds) → Among m o → ((a : Binds) → AreAmong a o → Among (f a) o) → Among (option_and_then f m) o

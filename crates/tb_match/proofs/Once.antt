@@ -9,7 +9,7 @@ use Rattle.tb_terms.specs.declared.pattern.Pattern.TheOpen as layer
 use Rattle.tb_terms.specs.Same.{is_same_term}
 use Rattle.tb_terms.specs.Sorts.{has_sort}
 use Rattle.tb_match.specs.declared.bind.Bind.{Bind}
-use Rattle.tb_match.specs.Joining.{bound, agreed, with_bind, joined, with_front, both, IsBoundOnce}
+use Rattle.tb_match.specs.Joining.{bound, agreed, with_bind, joined, with_prefix, both, IsBoundOnce}
 use Rattle.tb_match.specs.Matches.{Matching, match_all, match_appl, match_members, binds_if, match_step, match_term, match_list}
 use Rattle.tb_match.proofs.Grouping.{Binds, both_steps, bound-behind, bound-here, agreed_same}
 
@@ -141,12 +141,12 @@ joined-alone a (y ∷ b) h =
     ∙ ap (λ (l : Binds). Some l) whole
 
 -- where nothing is bound in front, a match stands as it is
-front_nothing : (o : Option Binds) → Once o → with_front [] o ≡ o
-front_nothing None h = refl
-front_nothing (Some b) h = joined-alone [] b h
+prefix_nothing : (o : Option Binds) → Once o → with_prefix [] o ≡ o
+prefix_nothing None h = refl
+prefix_nothing (Some b) h = joined-alone [] b h
 
-pub alone-term : (p : Pattern) (t : Term) → with_front [] (match_term p t) ≡ match_term p t
-alone-term p t = front_nothing (match_term p t) (match_term-once p t)
+pub alone-term : (p : Pattern) (t : Term) → with_prefix [] (match_term p t) ≡ match_term p t
+alone-term p t = prefix_nothing (match_term p t) (match_term-once p t)
 
-pub alone-list : (ps : List Pattern) (ts : List Term) → with_front [] (match_list ps ts) ≡ match_list ps ts
-alone-list ps ts = front_nothing (match_list ps ts) (match_list-once ps ts)
+pub alone-list : (ps : List Pattern) (ts : List Term) → with_prefix [] (match_list ps ts) ≡ match_list ps ts
+alone-list ps ts = prefix_nothing (match_list ps ts) (match_list-once ps ts)

@@ -3,10 +3,10 @@ use Rattle.std.proofs.Common.{◌≡◌, ℕ, suc, ◌+◌, ◌<◌, List, [], �
 use Rattle.std.proofs.Math.Seq.{drop-cons}
 use Rattle.tb_terms.specs.declared.term.Term.{Term}
 use Rattle.tb_terms.specs.declared.pattern.Pattern.{Pattern}
-use Rattle.tb_match.specs.Joining.{with_front, both}
+use Rattle.tb_match.specs.Joining.{with_prefix, both}
 use Rattle.tb_match.specs.Matches.{match_term, match_list, is_plain, are_plain}
 use Rattle.tb_terms.proofs.SameLemmas.{both-true}
-use Rattle.tb_match.proofs.Grouping.{Binds, with_front-both}
+use Rattle.tb_match.proofs.Grouping.{Binds, with_prefix-both}
 use Rattle.tb_match.proofs.Once.{alone-list}
 
 both-none : (m : Option Binds) → both m None ≡ None
@@ -28,12 +28,12 @@ turn ps ts i p t below even at_p at_t =
     rw (add-one, first, second) refl
 
 -- the next part joins what is bound so far
-pub front_turn : (a : Binds) (m : Option Binds) (ps : List Pattern) (ts : List Term) (i : ℕ) (p : Pattern) (t : Term) → i < length ps → length ps ≡ length ts → p ≡ get_or ps i p → t ≡ get_or ts i t → m ≡ with_front a (match_term p t) → with_front a (match_list (drop i ps) (drop i ts)) ≡ option_and_then (λ (b : Binds). with_front b (match_list (drop (i + 1) ps) (drop (i + 1) ts))) m
-front_turn a m ps ts i p t below even at_p at_t e =
+pub prefix_turn : (a : Binds) (m : Option Binds) (ps : List Pattern) (ts : List Term) (i : ℕ) (p : Pattern) (t : Term) → i < length ps → length ps ≡ length ts → p ≡ get_or ps i p → t ≡ get_or ts i t → m ≡ with_prefix a (match_term p t) → with_prefix a (match_list (drop i ps) (drop i ts)) ≡ option_and_then (λ (b : Binds). with_prefix b (match_list (drop (i + 1) ps) (drop (i + 1) ts))) m
+prefix_turn a m ps ts i p t below even at_p at_t e =
     let rest = match_list (drop (i + 1) ps) (drop (i + 1) ts) in
-    ap (with_front a) (turn ps ts i p t below even at_p at_t)
-    ∙ with_front-both a (match_term p t) rest
-    ∙ ap (λ (o : Option Binds). option_and_then (λ (b : Binds). with_front b rest) o) (sym e)
+    ap (with_prefix a) (turn ps ts i p t below even at_p at_t)
+    ∙ with_prefix-both a (match_term p t) rest
+    ∙ ap (λ (o : Option Binds). option_and_then (λ (b : Binds). with_prefix b rest) o) (sym e)
 
 -- the next part binds nothing
 pub plain_turn : (ps : List Pattern) (ts : List Term) (i : ℕ) (p : Pattern) (t : Term) → i < length ps → length ps ≡ length ts → p ≡ get_or ps i p → t ≡ get_or ts i t → Some [] ≡ match_term p t → match_list (drop i ps) (drop i ts) ≡ match_list (drop (i + 1) ps) (drop (i + 1) ts)
@@ -47,5 +47,5 @@ plain_turn ps ts i p t below even at_p at_t e =
 pub plain_rest : (ps : List Pattern) (i : ℕ) (p : Pattern) → i < length ps → IsTrue (are_plain (drop i ps)) → IsTrue (are_plain (drop (i + 1) ps))
 plain_rest ps i p below h =
     let first = get_or ps i p in
-    let front : drop i ps ≡ first ∷ drop (suc i) ps = drop-cons ps i p below in
-    rw add-one (both-true (is_plain first) (are_plain (drop (suc i) ps)) (subst (λ (l : List Pattern). IsTrue (are_plain l)) front h)).1
+    let prefix : drop i ps ≡ first ∷ drop (suc i) ps = drop-cons ps i p below in
+    rw add-one (both-true (is_plain first) (are_plain (drop (suc i) ps)) (subst (λ (l : List Pattern). IsTrue (are_plain l)) prefix h)).1

@@ -23,12 +23,12 @@ joined binds [] = Some binds
 joined binds (bind ∷ more) = option_and_then (λ all. joined all more) (with_bind binds bind)
 
 -- what a part binds, joined to the binds in front of it
-abbrev pub with_front : List Bind → Option (List Bind) → Option (List Bind)
-with_front front found = option_and_then (joined front) found
+abbrev pub with_prefix : List Bind → Option (List Bind) → Option (List Bind)
+with_prefix prefix found = option_and_then (joined prefix) found
 
 -- both parts match, and their binds are joined
 abbrev pub both : Option (List Bind) → Option (List Bind) → Option (List Bind)
-both first second = option_and_then (λ front. with_front front second) first
+both first second = option_and_then (λ prefix. with_prefix prefix second) first
 
 -- each slot is bound once
 abbrev pub IsBoundOnce : List Bind → Type 0

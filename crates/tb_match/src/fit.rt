@@ -65,8 +65,8 @@ fn fits_parts(patterns: &[Pattern], terms: &[Term]) -> bool
     if patterns.len() != terms.len() {
         return false;
     }
-    for (place, pattern) in patterns.iter().enumerate() {
-        if !fits(pattern, &terms[place]) {
+    for (position, pattern) in patterns.iter().enumerate() {
+        if !fits(pattern, &terms[position]) {
             return false;
         }
     }

@@ -1,7 +1,7 @@
 ghost use Rattle.std.specs.Prelude.{◌≡◌, [], ◌∷◌, map, IfOk};
 ghost use Rattle.tb_terms.specs.declared.term.Term.{out-Term};
 ghost use Rattle.tb_terms.specs.Sorts.{has_sort};
-ghost use Rattle.tb_match.specs.Joining.{with_front};
+ghost use Rattle.tb_match.specs.Joining.{with_prefix};
 ghost use Rattle.tb_match.specs.Matches.{match_term, match_list, match_all, match_appl, match_members, binds_if};
 
 use crate::bind::{Binds, is_same, with_bind};
@@ -27,23 +27,23 @@ fn match_behind(
     alloc: Global,
     pattern: &Pattern,
     term: &Term,
-    front: Binds,
+    prefix: Binds,
 ) -> Result<Option<Binds>, NoMemory>
-    ensures { IfOk result (λ m. m ≡ with_front front (match_term pattern.now term.now)) }
+    ensures { IfOk result (λ m. m ≡ with_prefix prefix (match_term pattern.now term.now)) }
 {
     match pattern {
-        Pattern::Fixed(fixed) => Ok(kept_if(is_same(fixed, term), front)),
-        Pattern::Hole(sort) => Ok(kept_if(has_sort(term, sort), front)),
-        Pattern::Result(slot, sort) => match_result(alloc, *slot, sort, term, front),
-        Pattern::Appl(name, parts) => match_appl(alloc, name, parts.as_slice(), term, front),
-        Pattern::List(parts) => match_members(alloc, parts.as_slice(), term, front),
+        Pattern::Fixed(fixed) => Ok(kept_if(is_same(fixed, term), prefix)),
+        Pattern::Hole(sort) => Ok(kept_if(has_sort(term, sort), prefix)),
+        Pattern::Result(slot, sort) => match_result(alloc, *slot, sort, term, prefix),
+        Pattern::Appl(name, parts) => match_appl(alloc, name, parts.as_slice(), term, prefix),
+        Pattern::List(parts) => match_members(alloc, parts.as_slice(), term, prefix),
     }
 }
 
-fn kept_if(matches: bool, front: Binds) -> Option<Binds>
-    ensures { result ≡ with_front front (binds_if matches []) }
+fn kept_if(matches: bool, prefix: Binds) -> Option<Binds>
+    ensures { result ≡ with_prefix prefix (binds_if matches []) }
 {
-    if matches { Some(front) } else { None }
+    if matches { Some(prefix) } else { None }
 }
 
 fn match_result(
@@ -51,15 +51,15 @@ fn match_result(
     slot: u32,
     sort: &Sort,
     term: &Term,
-    front: Binds,
+    prefix: Binds,
 ) -> Result<Option<Binds>, NoMemory>
-    ensures { IfOk result (λ m. m ≡ with_front front
+    ensures { IfOk result (λ m. m ≡ with_prefix prefix
         (binds_if (has_sort term.now sort.now) (record { slot = slot; value = term.now } ∷ []))) }
 {
     if !has_sort(term, sort) {
         return Ok(None);
     }
-    with_bind(alloc, front, slot, term)
+    with_bind(alloc, prefix, slot, term)
 }
 
 #[cycle(matching)]
@@ -68,14 +68,14 @@ fn match_appl(
     name: &Name,
     parts: &[Pattern],
     term: &Term,
-    front: Binds,
+    prefix: Binds,
 ) -> Result<Option<Binds>, NoMemory>
-    ensures { IfOk result (λ m. m ≡ with_front front (match_appl name.now (map match_term parts.now) (out-Term term.now))) }
+    ensures { IfOk result (λ m. m ≡ with_prefix prefix (match_appl name.now (map match_term parts.now) (out-Term term.now))) }
 {
     match term {
         Term::Appl(other, terms) => {
             if name.as_bytes() == other.as_bytes() {
-                return match_parts(alloc, parts, terms.as_slice(), front);
+                return match_parts(alloc, parts, terms.as_slice(), prefix);
             }
             Ok(None)
         }
@@ -88,12 +88,12 @@ fn match_members(
     alloc: Global,
     parts: &[Pattern],
     term: &Term,
-    front: Binds,
+    prefix: Binds,
 ) -> Result<Option<Binds>, NoMemory>
-    ensures { IfOk result (λ m. m ≡ with_front front (match_members (map match_term parts.now) (out-Term term.now))) }
+    ensures { IfOk result (λ m. m ≡ with_prefix prefix (match_members (map match_term parts.now) (out-Term term.now))) }
 {
     match term {
-        Term::List(terms) => match_parts(alloc, parts, terms.as_slice(), front),
+        Term::List(terms) => match_parts(alloc, parts, terms.as_slice(), prefix),
         _ => Ok(None),
     }
 }
@@ -103,16 +103,16 @@ fn match_parts(
     alloc: Global,
     patterns: &[Pattern],
     terms: &[Term],
-    front: Binds,
+    prefix: Binds,
 ) -> Result<Option<Binds>, NoMemory>
-    ensures { IfOk result (λ m. m ≡ with_front front (match_all (map match_term patterns.now) terms.now)) }
+    ensures { IfOk result (λ m. m ≡ with_prefix prefix (match_all (map match_term patterns.now) terms.now)) }
 {
     if patterns.len() != terms.len() {
         return Ok(None);
     }
-    let mut binds = front;
-    for (place, pattern) in patterns.iter().enumerate() {
-        match match_behind(alloc, pattern, &terms[place], binds)? {
+    let mut binds = prefix;
+    for (position, pattern) in patterns.iter().enumerate() {
+        match match_behind(alloc, pattern, &terms[position], binds)? {
             Some(more) => binds = more,
             None => return Ok(None),
         }

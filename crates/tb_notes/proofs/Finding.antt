@@ -11,7 +11,7 @@ use Rattle.tb_notes.specs.Oldest.{binds_at, NoneMatches, IsOldest}
 abbrev Notes : Type 0
 Notes = List (List Term)
 
--- it stands at the offset j of a queue whose first note stands at the place p
+-- it stands at the offset j of a queue whose first note stands at the position p
 abbrev IsFound : ℕ → List Pattern → Notes → Found → Type 0
 IsFound p ps notes found = (j : ℕ) × (found.place ≡ p + j) × (binds_at ps notes j ≡ Some found.binds) × ((k : ℕ) → k < j → binds_at ps notes k ≡ None)
 

@@ -68,7 +68,7 @@ abbrev pub found_or : ℕ → Option (List Bind) → Option Found → Option Fou
 found_or place None later = later
 found_or place (Some binds) later = Some (record { place = place; binds = binds })
 
--- the first of these notes that matches, and what it binds; the first of them stands at this place
+-- the first of these notes that matches, and what it binds; the first of them stands at this position
 abbrev pub first_match : ℕ → List Pattern → List (List Term) → Option Found
 first_match place patterns [] = None
 first_match place patterns (note ∷ notes) =

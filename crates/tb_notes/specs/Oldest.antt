@@ -6,7 +6,7 @@ use Rattle.tb_match.specs.declared.bind.Bind.{Bind}
 use Rattle.tb_match.specs.Matches.{match_list}
 use Rattle.tb_notes.specs.declared.queue.Found.{Found}
 
--- what the note at this place binds, none where none stands there or it doesn't match
+-- what the note at this position binds, none where none stands there or it doesn't match
 abbrev pub binds_at : List Pattern → List (List Term) → ℕ → Option (List Bind)
 binds_at patterns notes place = option_and_then (match_list patterns) (slice_get notes place)
 

@@ -127,7 +127,7 @@ impl Inbox {
         first_match(*self.queue.allocator(), ps, &self.queue)
     }
 
-    /// The note at this place; the oldest stands at 0.
+    /// The note at this position; the oldest stands at 0.
     pub fn note(&self, place: usize) -> &Terms
         requires { place < length self.now.held.notes }
         ensures { slice_get self.now.held.notes place ≡ Some result.now }
@@ -135,7 +135,7 @@ impl Inbox {
         &self.queue[place]
     }
 
-    /// The note at this place leaves the queue.
+    /// The note at this position leaves the queue.
     pub fn take(&mut self, place: usize) -> Terms
         requires { place < length self.old.held.notes }
         ensures note { slice_get self.old.held.notes place ≡ Some result }

@@ -7,7 +7,7 @@ use std::collections::VecDeque;
 use tb_match::{Binds, match_list};
 use tb_terms::{NoMemory, Patterns, Terms};
 
-/// The note at this place in the queue matches, and this is what it binds.
+/// The note at this position in the queue matches, and this is what it binds.
 #[derive(Debug, Drop)]
 pub struct Found {
     pub place: usize,

@@ -39,7 +39,7 @@ fn filled(alloc: Global) -> Result<Inbox, NoMemory> {
     Ok(inbox)
 }
 
-/// Whether the oldest notes with these numbers stand at these places.
+/// Whether the oldest notes with these numbers stand at these positions.
 fn stand_at(
     alloc: Global,
     inbox: &Inbox,

@@ -3,17 +3,17 @@ use Rattle.std.proofs.Common.{◌≡◌, ℕ, ◌+◌, ◌≤◌, Bool, true, fa
 use Rattle.tb_lex.specs.declared.kind.TokenKind.{TokenKind}
 use Rattle.tb_parse.specs.Parsing.{Outcome, Found, Stops, Parser, after, mapped, begins, tail, expect, skip}
 
--- the place behind what was found, or that at which the parser stops
+-- the position behind what was found, or that at which the parser stops
 abbrev pub end : {A : Type 0} → Outcome A → ℕ
-end (Found x place rest) = place
-end (Stops place) = place
+end (Found x position rest) = position
+end (Stops position) = position
 
--- Outcomes of two runs that end at this place or later. The first `stop` tokens are the same in both, and behind them stand others:
--- the first run ends behind what is the same, or both find the same and leave the rest of it, or both stop at one place.
+-- Outcomes of two runs that end at this position or later. The first `stop` tokens are the same in both, and behind them stand others:
+-- the first run ends behind what is the same, or both find the same and leave the rest of it, or both stop at one position.
 pub data Alike {A : Type 0} (at stop : ℕ) (vs ws : List TokenKind) : Outcome A → Outcome A → Type 0 where
   beyond : {o other : Outcome A} → at ≤ end o → stop ≤ end o → Alike at stop vs ws o other
-  found : {x : A} {place : ℕ} (us : List TokenKind) → at ≤ place → place + length us ≡ stop → Alike at stop vs ws (Found x place (us ++ vs)) (Found x place (us ++ ws))
-  stops : {place : ℕ} → at ≤ place → Alike at stop vs ws (Stops place) (Stops place)
+  found : {x : A} {position : ℕ} (us : List TokenKind) → at ≤ position → position + length us ≡ stop → Alike at stop vs ws (Found x position (us ++ vs)) (Found x position (us ++ ws))
+  stops : {position : ℕ} → at ≤ position → Alike at stop vs ws (Stops position) (Stops position)
 
 -- two parsers go alike on so many tokens
 pub record Same {A : Type 0} (count : ℕ) (p q : Parser A) : Type 0 where
@@ -39,8 +39,8 @@ moved h e (Alike.found us i f) = Alike.found us (omega arith) (omega arith)
 moved h e (Alike.stops i) = Alike.stops (omega arith)
 
 end_mapped : {A B : Type 0} (f : A → B) (o : Outcome A) → end (mapped f o) ≡ end o
-end_mapped f (Found x place rest) = refl
-end_mapped f (Stops place) = refl
+end_mapped f (Found x position rest) = refl
+end_mapped f (Stops position) = refl
 
 pub mapped_alike : {A B : Type 0} {at stop : ℕ} {vs ws : List TokenKind} {o other : Outcome A} (f : A → B) → Alike at stop vs ws o other → Alike at stop vs ws (mapped f o) (mapped f other)
 mapped_alike f (Alike.beyond {o = o} h i) = let e = end_mapped f o in Alike.beyond (omega arith) (omega arith)
@@ -48,13 +48,13 @@ mapped_alike f (Alike.found us h e) = Alike.found us h e
 mapped_alike f (Alike.stops h) = Alike.stops h
 
 end_after : {A B : Type 0} (next : A → Parser B) → ((x : A) (at : ℕ) (ks : List TokenKind) → at ≤ end (next x at ks)) → (o : Outcome A) → end o ≤ end (after o next)
-end_after next h (Found x place rest) = h x place rest
-end_after next h (Stops place) = omega arith
+end_after next h (Found x position rest) = h x position rest
+end_after next h (Stops position) = omega arith
 
 pub after_alike : {A B : Type 0} {at stop : ℕ} {vs ws : List TokenKind} {o other : Outcome A} (next goes : A → Parser B) (count : ℕ) → stop ≤ at + count → ((x : A) → Same count (next x) (goes x))
     → Alike at stop vs ws o other → Alike at stop vs ws (after o next) (after other goes)
 after_alike next goes count enough h (Alike.beyond {o = o} i j) = let e = end_after next (λ x. forward (h x)) o in Alike.beyond (omega arith) (omega arith)
-after_alike {vs = vs} {ws = ws} next goes count enough h (Alike.found {x = x} {place = place} us i e) = moved i e ((h x).alike place us vs ws (omega arith))
+after_alike {vs = vs} {ws = ws} next goes count enough h (Alike.found {x = x} {position = position} us i e) = moved i e ((h x).alike position us vs ws (omega arith))
 after_alike next goes count enough h (Alike.stops i) = Alike.stops i
 
 pub if_alike : {A : Type 0} {at stop : ℕ} {vs ws : List TokenKind} {o other r rest : Outcome A} (b : Bool) → Alike at stop vs ws o other → Alike at stop vs ws r rest

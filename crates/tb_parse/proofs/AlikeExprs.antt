@@ -27,10 +27,10 @@ hole_alike count = by_token count count (omega arith) (λ at. omega arith) by wh
   by (Sign symbol) at us vs ws h = stops_there at us vs ws
 
 -- an upper name, with its mark or without
-upper_kind : (name : List ℕ) (at : ℕ) (us vs ws : List TokenKind) → (place : ℕ) → at + 1 + 1 ≡ place
-    → Alike at (at + 1 + length us) vs ws (if begins (is_sign Question) (us ++ vs) then Found (ast.Result name) place (tail (us ++ vs)) else Found (ast.Var name) (at + 1) (us ++ vs))
-    (if begins (is_sign Question) (us ++ ws) then Found (ast.Result name) place (tail (us ++ ws)) else Found (ast.Var name) (at + 1) (us ++ ws))
-upper_kind name at us vs ws place e =
+upper_kind : (name : List ℕ) (at : ℕ) (us vs ws : List TokenKind) → (position : ℕ) → at + 1 + 1 ≡ position
+    → Alike at (at + 1 + length us) vs ws (if begins (is_sign Question) (us ++ vs) then Found (ast.Result name) position (tail (us ++ vs)) else Found (ast.Var name) (at + 1) (us ++ vs))
+    (if begins (is_sign Question) (us ++ ws) then Found (ast.Result name) position (tail (us ++ ws)) else Found (ast.Var name) (at + 1) (us ++ ws))
+upper_kind name at us vs ws position e =
     subst (λ n. Alike at (at + 1 + length us) vs ws (if begins (is_sign Question) (us ++ vs) then Found (ast.Result name) n (tail (us ++ vs)) else Found (ast.Var name) (at + 1) (us ++ vs))
     (if begins (is_sign Question) (us ++ ws) then Found (ast.Result name) n (tail (us ++ ws)) else Found (ast.Var name) (at + 1) (us ++ ws))) e
     (next_alike (length us) at us vs ws (omega arith) (branch (is_sign Question) (λ at ks. Found (ast.Result name) at ks) (λ at ks. Found (ast.Result name) at ks) (length us) (length us) (omega arith)
@@ -66,9 +66,9 @@ expr_alike (suc room) (suc more) count h i = record {
       mapped_alike _ ((kind_alike room more (count - 1) (omega arith) (omega arith) (expr_alike room more (count - 1) (omega arith) (omega arith))).alike at us vs ws (omega arith));
 }
 
-pub call_of_alike : (room more count : ℕ) → count ≤ room → room ≤ more → (name : List ℕ) (place : ℕ) → Same count (call_of room name place) (call_of more name place)
+pub call_of_alike : (room more count : ℕ) → count ≤ room → room ≤ more → (name : List ℕ) (position : ℕ) → Same count (call_of room name position) (call_of more name position)
 unfolding call_of
-call_of_alike room more count h i name place = mapping count _ (in_parens_alike room more count h i (expr_alike room more count h i))
+call_of_alike room more count h i name position = mapping count _ (in_parens_alike room more count h i (expr_alike room more count h i))
 
 pub call_alike : (room more count : ℕ) → count ≤ room → room ≤ more → Same count (call room) (call more)
 unfolding call

@@ -97,8 +97,8 @@ sort_alike (suc room) zero count h i = absurd (omega arith)
 sort_alike (suc room) (suc more) count h i = record {
   alike = λ at us vs ws j.
       after_alike _ _ count (omega arith) (λ name. record {
-        alike = λ place us vs ws j.
-            sort_behind (bytes_eq name (codes "list")) (named_sort name (word_sort name), at) (count - 1) count place us vs ws j (omega arith) (sort_alike room more (count - 1) (omega arith) (omega arith));
+        alike = λ position us vs ws j.
+            sort_behind (bytes_eq name (codes "list")) (named_sort name (word_sort name), at) (count - 1) count position us vs ws j (omega arith) (sort_alike room more (count - 1) (omega arith) (omega arith));
       })
       ((free_name_alike count).alike at us vs ws j);
 }

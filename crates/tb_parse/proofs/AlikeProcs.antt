@@ -106,16 +106,16 @@ module _ {item same : Parser Proc} (room more count : ℕ) (h : count ≤ room) 
 -- What stands by itself.
 
 module _ (room more count : ℕ) (h : count ≤ room) (i : room ≤ more) where
-  timed_alike : (place : ℕ) (what : ActDef) → Same count (timed room place what) (timed more place what)
+  timed_alike : (position : ℕ) (what : ActDef) → Same count (timed room position what) (timed more position what)
   unfolding timed
-  timed_alike place what = mapping count _ (times_alike room more room more count h i h i)
+  timed_alike position what = mapping count _ (times_alike room more room more count h i h i)
 
-  upper_proc_alike : (name : List ℕ) (place : ℕ) → Same count (upper_proc room name place) (upper_proc more name place)
+  upper_proc_alike : (name : List ℕ) (position : ℕ) → Same count (upper_proc room name position) (upper_proc more name position)
   unfolding upper_proc
-  upper_proc_alike name place =
-      branch (is_sign Assign) (λ at ks. after (mapped (act.Set name) (expr room at ks)) (timed room place)) (λ at ks. after (mapped (act.Set name) (expr more at ks)) (timed more place)) count count (omega arith)
-      (behind _ _ count (mapping count _ (exprs room more count h i)) (timed_alike place))
-      (mapping count tree.Call (call_of_alike room more count h i name place))
+  upper_proc_alike name position =
+      branch (is_sign Assign) (λ at ks. after (mapped (act.Set name) (expr room at ks)) (timed room position)) (λ at ks. after (mapped (act.Set name) (expr more at ks)) (timed more position)) count count (omega arith)
+      (behind _ _ count (mapping count _ (exprs room more count h i)) (timed_alike position))
+      (mapping count tree.Call (call_of_alike room more count h i name position))
 
 module _ {whole same : Parser Proc} (room more count : ℕ) (h : count ≤ room) (i : room ≤ more) (s : Same count whole same) where
   block_alike : Same count (block whole room) (block same more)

@@ -25,9 +25,9 @@ module _ (room more count : ℕ) (h : count ≤ room) (i : room ≤ more) where
   formal_alike = behind _ _ count (var_alike room more count h i) (λ v.
       branch (is_sign Question) (λ at ks. Found (formal_of v true) at ks) (λ at ks. Found (formal_of v true) at ks) count count (omega arith) (finding count (formal_of v true)) (finding count (formal_of v false)))
 
-  process_alike : (place : ℕ) → Same count (process room place) (process more place)
+  process_alike : (position : ℕ) → Same count (process room position) (process more position)
   unfolding process
-  process_alike place = behind _ _ count (upper_alike count) (λ name.
+  process_alike position = behind _ _ count (upper_alike count) (λ name.
       behind _ _ count (in_parens_alike room more count h i formal_alike) (λ formals. skipped (is_word (codes "is")) _ _ count (mapping count _ (proc_alike room more count h i))))
 
   roots_alike : Same count (roots room) (roots more)
@@ -43,10 +43,10 @@ command_alike count =
     (skipped (is_sign Equals) _ _ count (mapping count Some (text_alike count)))
     (finding count None)
 
-tool_alike : (count place : ℕ) → Same count (tool place) (tool place)
+tool_alike : (count position : ℕ) → Same count (tool position) (tool position)
 unfolding tool
-tool_alike count place = behind _ _ count (free_name_alike count) (λ name. skipped (is_word (codes "is")) _ _ count (skipped (is_sign LeftBrace) _ _ count
-    (behind _ _ count (command_alike count) (λ found. expected (is_sign RightBrace) (record { name = name; command = found; token = place }) count))))
+tool_alike count position = behind _ _ count (free_name_alike count) (λ name. skipped (is_word (codes "is")) _ _ count (skipped (is_sign LeftBrace) _ _ count
+    (behind _ _ count (command_alike count) (λ found. expected (is_sign RightBrace) (record { name = name; command = found; token = position }) count))))
 
 definitions_alike : (inner outer room more count : ℕ) → count ≤ inner → inner ≤ outer → count ≤ room → room ≤ more → Same count (definitions inner room) (definitions outer more)
 unfolding definitions
@@ -80,24 +80,24 @@ script_alike room more count h i = behind _ _ count (definitions_alike room more
     skipped (is_word (codes "toolbus")) _ _ count (skipped (is_sign LeftParen) _ _ count
     (behind _ _ count (roots_alike room more count h i) (λ calls. at_end_alike count _))))
 
-stays : {A : Type 0} {at stop place : ℕ} {vs ws : List TokenKind} {o other : Outcome A} → Alike at stop vs ws o other → o ≡ Stops place → place < stop → other ≡ Stops place
+stays : {A : Type 0} {at stop position : ℕ} {vs ws : List TokenKind} {o other : Outcome A} → Alike at stop vs ws o other → o ≡ Stops position → position < stop → other ≡ Stops position
 stays (Alike.beyond h i) e j = absurd (let f = ap end e in omega arith)
 stays (Alike.found us h i) e j = absurd (cc)
 stays (Alike.stops h) e j = cc
 
 -- A fault stays where it is, whatever stands behind its token.
-pub stopped_so : (room : ℕ) (us vs ws : List TokenKind) (place : ℕ) → length us ≤ room → script room 0 (us ++ vs) ≡ Stops place → place < length us → script (room + length ws) 0 (us ++ ws) ≡ Stops place
-stopped_so room us vs ws place h e i = stays ((script_alike room (room + length ws) (length us) h (omega arith)).alike 0 us vs ws (omega arith)) e (omega arith)
+pub stopped_so : (room : ℕ) (us vs ws : List TokenKind) (position : ℕ) → length us ≤ room → script room 0 (us ++ vs) ≡ Stops position → position < length us → script (room + length ws) 0 (us ++ ws) ≡ Stops position
+stopped_so room us vs ws position h e i = stays ((script_alike room (room + length ws) (length us) h (omega arith)).alike 0 us vs ws (omega arith)) e (omega arith)
 
 -- with the token at which reading stops, no script's spelling begins
-pub wrong : (room : ℕ) (ks : List TokenKind) (place : ℕ) → length ks ≤ room → script room 0 ks ≡ Stops place → place < length ks → Begins (take (place + 1) ks) → ⊥
-wrong room ks place h e i b =
-    let us : List TokenKind = take (place + 1) ks in
-    let long : length us ≡ place + 1 = length-take-le (place + 1) ks (omega arith) in
-    let whole : script room 0 (us ++ drop (place + 1) ks) ≡ Stops place = ap (script room 0) (take-append-drop (place + 1) ks) ∙ e in
-    let stopped = stopped_so room us (drop (place + 1) ks) b.0 place (omega arith) whole (omega arith) in
+pub wrong : (room : ℕ) (ks : List TokenKind) (position : ℕ) → length ks ≤ room → script room 0 ks ≡ Stops position → position < length ks → Begins (take (position + 1) ks) → ⊥
+wrong room ks position h e i b =
+    let us : List TokenKind = take (position + 1) ks in
+    let long : length us ≡ position + 1 = length-take-le (position + 1) ks (omega arith) in
+    let whole : script room 0 (us ++ drop (position + 1) ks) ≡ Stops position = ap (script room 0) (take-append-drop (position + 1) ks) ∙ e in
+    let stopped = stopped_so room us (drop (position + 1) ks) b.0 position (omega arith) whole (omega arith) in
     let sum = length-append us b.0 in
     let read = complete b.1 (us ++ b.0) b.2 (room + length b.0) (omega arith) in
     apart (sym read ∙ stopped) where
-      apart : {s : Script} {at place : ℕ} {rest : List TokenKind} → ◌≡◌ {A = Outcome Script} (Found s at rest) (Stops place) → ⊥
+      apart : {s : Script} {at position : ℕ} {rest : List TokenKind} → ◌≡◌ {A = Outcome Script} (Found s at rest) (Stops position) → ⊥
       apart e = cc

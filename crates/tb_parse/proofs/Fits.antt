@@ -15,14 +15,14 @@ Spelt A = A → List TokenKind → Type 0
 abbrev pub Opens : {A : Type 0} → Spelt A → List TokenKind → Type 0
 Opens {A = A} S xs = (more : List TokenKind) × (x : A) × S x (xs ++ more)
 
--- the place is that of the first token that can't go on, or of the end: some thing's spelling begins with the tokens in front of it
+-- the position is that of the first token that can't go on, or of the end: some thing's spelling begins with the tokens in front of it
 abbrev pub StopsAt : {A : Type 0} → Spelt A → ℕ → List TokenKind → ℕ → Type 0
-StopsAt S at ks place = (xs rest : List TokenKind) × (ks ≡ xs ++ rest) × (place ≡ at + length xs) × Opens S xs
+StopsAt S at ks position = (xs rest : List TokenKind) × (ks ≡ xs ++ rest) × (position ≡ at + length xs) × Opens S xs
 
 -- what was found is spelt by tokens at the front, and the others are left; or the parser stops
 abbrev pub FitsAt : {A : Type 0} → Spelt A → ℕ → List TokenKind → Outcome A → Type 0
 FitsAt S at ks (Found x end rest) = (xs : List TokenKind) × (ks ≡ xs ++ rest) × (end ≡ at + length xs) × S x xs
-FitsAt S at ks (Stops place) = StopsAt S at ks place
+FitsAt S at ks (Stops position) = StopsAt S at ks position
 
 pub record Fits {A : Type 0} (S : Spelt A) (at : ℕ) (ks : List TokenKind) (o : Outcome A) : Type 0 where
   pub fits : FitsAt S at ks o
@@ -41,7 +41,7 @@ no_tokens (x ∷ xs) rest e = absurd (cc)
 
 opens_at : {A : Type 0} (S : Spelt A) (at : ℕ) (o : Outcome A) → FitsAt S at [] o → Opens S []
 opens_at S at (Found x end rest) g = ([], x, subst (λ ks. S x ks) (no_tokens g.0 rest g.1) g.3)
-opens_at S at (Stops place) g = subst (λ ks. Opens S ks) (no_tokens g.0 g.1 g.2) g.4
+opens_at S at (Stops position) g = subst (λ ks. Opens S ks) (no_tokens g.0 g.1 g.2) g.4
 
 pub opens : {A : Type 0} {S : Spelt A} {at : ℕ} {o : Outcome A} → Fits S at [] o → Opens S []
 opens {S = S} {at = at} {o = o} g = opens_at S at o g.fits
@@ -60,7 +60,7 @@ joined_at S at xs ks rest e (Found y end more) g = (
   (let l = length-append xs g.0 in omega arith),
   g.3,
 )
-joined_at S at xs ks rest e (Stops place) g = (
+joined_at S at xs ks rest e (Stops position) g = (
   xs ++ g.0,
   g.1,
   e ∙ ap (λ l. xs ++ l) g.2 ∙ sym (append_assoc xs g.0 g.1),
@@ -77,14 +77,14 @@ token {k = k} {ks = ks} g = joined (k ∷ []) ks refl g
 
 mapped_at : {A B : Type 0} (S : Spelt A) (T : Spelt B) (f : A → B) (at : ℕ) (ks : List TokenKind) → ((x : A) (xs : List TokenKind) → S x xs → T (f x) xs) → (o : Outcome A) → FitsAt S at ks o → FitsAt T at ks (mapped f o)
 mapped_at S T f at ks h (Found x end rest) g = (g.0, g.1, g.2, h x g.0 g.3)
-mapped_at S T f at ks h (Stops place) g = (g.0, g.1, g.2, g.3, (g.4.0, f g.4.1, h g.4.1 (g.0 ++ g.4.0) g.4.2))
+mapped_at S T f at ks h (Stops position) g = (g.0, g.1, g.2, g.3, (g.4.0, f g.4.1, h g.4.1 (g.0 ++ g.4.0) g.4.2))
 
 pub mapping : {A B : Type 0} {S : Spelt A} {T : Spelt B} {at : ℕ} {ks : List TokenKind} {o : Outcome A} (f : A → B) → Fits S at ks o → ((x : A) (xs : List TokenKind) → S x xs → T (f x) xs) → Fits T at ks (mapped f o)
 mapping {S = S} {T = T} {at = at} {ks = ks} {o = o} f g h = record { fits = mapped_at S T f at ks h o g.fits }
 
 weaker_at : {A : Type 0} (S T : Spelt A) (at : ℕ) (ks : List TokenKind) → ((x : A) (xs : List TokenKind) → S x xs → T x xs) → (o : Outcome A) → FitsAt S at ks o → FitsAt T at ks o
 weaker_at S T at ks h (Found x end rest) g = (g.0, g.1, g.2, h x g.0 g.3)
-weaker_at S T at ks h (Stops place) g = (g.0, g.1, g.2, g.3, (g.4.0, g.4.1, h g.4.1 (g.0 ++ g.4.0) g.4.2))
+weaker_at S T at ks h (Stops position) g = (g.0, g.1, g.2, g.3, (g.4.0, g.4.1, h g.4.1 (g.0 ++ g.4.0) g.4.2))
 
 pub weaker : {A : Type 0} {S T : Spelt A} {at : ℕ} {ks : List TokenKind} {o : Outcome A} → Fits S at ks o → ((x : A) (xs : List TokenKind) → S x xs → T x xs) → Fits T at ks o
 weaker {S = S} {T = T} {at = at} {ks = ks} {o = o} g h = record { fits = weaker_at S T at ks h o g.fits }
@@ -100,7 +100,7 @@ opens_after S T next at h xs o =
 after_at : {A B : Type 0} (S : Spelt A) (T : Spelt B) (next : A → Parser B) (at : ℕ) (ks : List TokenKind)
     → ((x : A) (xs rest : List TokenKind) → S x xs → Fits (λ y ys. T y (xs ++ ys)) (at + length xs) rest (next x (at + length xs) rest)) → (o : Outcome A) → FitsAt S at ks o → Fits T at ks (after o next)
 after_at S T next at ks h (Found x end rest) g = subst (λ e. Fits T at ks (next x e rest)) (sym g.2) (joined g.0 rest g.1 (h x g.0 rest g.3))
-after_at S T next at ks h (Stops place) g = record { fits = (g.0, g.1, g.2, g.3, opens_after S T next at h g.0 g.4) }
+after_at S T next at ks h (Stops position) g = record { fits = (g.0, g.1, g.2, g.3, opens_after S T next at h g.0 g.4) }
 
 pub behind : {A B : Type 0} {S : Spelt A} {T : Spelt B} {at : ℕ} {ks : List TokenKind} {o : Outcome A} (next : A → Parser B) → Fits S at ks o
     → ((x : A) (xs rest : List TokenKind) → S x xs → Fits (λ y ys. T y (xs ++ ys)) (at + length xs) rest (next x (at + length xs) rest)) → Fits T at ks (after o next)
@@ -150,6 +150,6 @@ kept {S = S} {at = at} {end = end} {ks = ks} {rest = rest} {x = x} g e =
     let here = f.fits.2 in
     omega arith
 
--- some spelling begins with the tokens in front of the place at which the parser stops
-pub stops_begun : {A : Type 0} {S : Spelt A} {at place : ℕ} {ks : List TokenKind} {o : Outcome A} → Fits S at ks o → o ≡ Stops place → StopsAt S at ks place
-stops_begun {S = S} {at = at} {place = place} {ks = ks} g e = (subst (Fits S at ks) e g).fits
+-- some spelling begins with the tokens in front of the position at which the parser stops
+pub stops_begun : {A : Type 0} {S : Spelt A} {at position : ℕ} {ks : List TokenKind} {o : Outcome A} → Fits S at ks o → o ≡ Stops position → StopsAt S at ks position
+stops_begun {S = S} {at = at} {position = position} {ks = ks} g e = (subst (Fits S at ks) e g).fits

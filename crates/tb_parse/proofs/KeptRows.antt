@@ -16,7 +16,7 @@ use Rattle.tb_parse.specs.declared.kept.Made.{Made}
 use Rattle.tb_parse.specs.declared.kept.Made.TheVariants as made
 use Rattle.tb_parse.specs.Heights.{built}
 use Rattle.tb_parse.specs.Parsing.{Outcome, Found, Stops, Defined, after, mapped, begins, is_word, tail, process, tool, definitions, with_process, with_tool}
-use Rattle.tb_parse.specs.Defining.{made_of, is_low, kept, first_place, with_rest, added, process_made, definitions_kept, Defines}
+use Rattle.tb_parse.specs.Defining.{made_of, is_low, kept, first_position, with_rest, added, process_made, definitions_kept, Defines}
 use Rattle.tb_parse.specs.Reading.{Ahead, runs, next, eaten, StopsWith}
 use Rattle.tb_parse.proofs.Exits.{stops_with}
 use Rattle.tb_parse.proofs.Trees.{seen, unseen}
@@ -35,32 +35,32 @@ is_none : (p : Proc) (over : Bool) → TooHigh ≡ shown p over → over ≡ tru
 is_none p true e = refl
 is_none p false e = absurd cc
 
-pub made_low : (name : List ℕ) (formals : List Formal) (place : ℕ) (p q : Proc) (h : ℕ) → Tree q h ≡ built p
-    → made.Low (record { name = name; formals = formals; body = q; token = place }) ≡ made_of (record { name = name; formals = formals; body = p; token = place })
+pub made_low : (name : List ℕ) (formals : List Formal) (position : ℕ) (p q : Proc) (h : ℕ) → Tree q h ≡ built p
+    → made.Low (record { name = name; formals = formals; body = q; token = position }) ≡ made_of (record { name = name; formals = formals; body = p; token = position })
 unfolding built
-made_low name formals place p q h e =
+made_low name formals position p q h e =
     let known = is_tree p q h (nat_lt 400 (height p)) e in
-    let d : ProcDef = record { name = name; formals = formals; body = p; token = place } in
-    ap (λ body. made.Low (record { name = name; formals = formals; body = body; token = place })) known.0
-    ∙ sym (ap (λ over. if over then made.TooHigh place else made.Low d) known.1)
+    let d : ProcDef = record { name = name; formals = formals; body = p; token = position } in
+    ap (λ body. made.Low (record { name = name; formals = formals; body = body; token = position })) known.0
+    ∙ sym (ap (λ over. if over then made.TooHigh position else made.Low d) known.1)
 
-pub made_high : (name : List ℕ) (formals : List Formal) (place : ℕ) (p : Proc) → TooHigh ≡ built p
-    → made.TooHigh place ≡ made_of (record { name = name; formals = formals; body = p; token = place })
+pub made_high : (name : List ℕ) (formals : List Formal) (position : ℕ) (p : Proc) → TooHigh ≡ built p
+    → made.TooHigh position ≡ made_of (record { name = name; formals = formals; body = p; token = position })
 unfolding built
-made_high name formals place p e =
-    let d : ProcDef = record { name = name; formals = formals; body = p; token = place } in
-    sym (ap (λ over. if over then made.TooHigh place else made.Low d) (is_none p (nat_lt 400 (height p)) e))
+made_high name formals position p e =
+    let d : ProcDef = record { name = name; formals = formals; body = p; token = position } in
+    sym (ap (λ over. if over then made.TooHigh position else made.Low d) (is_none p (nat_lt 400 (height p)) e))
 
 -- ---- definitions in a row
 
-first_again : (so_far : Option ℕ) (place : ℕ) (rest : Option ℕ) → first_place so_far (Some place) ≡ first_place (first_place so_far (Some place)) rest
-first_again None place rest = refl
-first_again (Some first) place rest = refl
+first_again : (so_far : Option ℕ) (position : ℕ) (rest : Option ℕ) → first_position so_far (Some position) ≡ first_position (first_position so_far (Some position)) rest
+first_again None position rest = refl
+first_again (Some first) position rest = refl
 
 module _ (d : ProcDef) (old : Kept) (x : Defined) where
   -- what is kept, with the new definition in front, where it is too high or not
-  abbrev in_front : Bool → Kept
-  in_front over = with_rest old (record {
+  abbrev prefixed : Bool → Kept
+  prefixed over = with_rest old (record {
     procs = if not over then d ∷ filter is_low x.procs else filter is_low x.procs;
     tools = x.tools;
     too_high = option_map (λ (d : ProcDef). d.token) (if over then Some d else find is_too_high x.procs);
@@ -69,27 +69,27 @@ module _ (d : ProcDef) (old : Kept) (x : Defined) where
   abbrev at_end : Bool → Kept
   at_end over = with_rest (added (if over then made.TooHigh d.token else made.Low d) old) (kept x)
 
-  same_when : (over : Bool) → in_front over ≡ at_end over
-  same_when true = ap (λ place. record { procs = old.procs ++ filter is_low x.procs; tools = old.tools ++ x.tools; too_high = place }) (first_again old.too_high d.token (first_too_high x.procs))
-  same_when false = ap (λ procs. record { procs = procs; tools = old.tools ++ x.tools; too_high = first_place old.too_high (first_too_high x.procs) }) (sym (append_assoc old.procs (d ∷ []) (filter is_low x.procs)))
+  same_when : (over : Bool) → prefixed over ≡ at_end over
+  same_when true = ap (λ position. record { procs = old.procs ++ filter is_low x.procs; tools = old.tools ++ x.tools; too_high = position }) (first_again old.too_high d.token (first_too_high x.procs))
+  same_when false = ap (λ procs. record { procs = procs; tools = old.tools ++ x.tools; too_high = first_position old.too_high (first_too_high x.procs) }) (sym (append_assoc old.procs (d ∷ []) (filter is_low x.procs)))
 
   kept_process : with_rest old (kept (with_process d x)) ≡ with_rest (added (made_of d) old) (kept x)
   kept_process = same_when (is_too_high d)
 
 kept_tool : (t : ToolDef) (old : Kept) (x : Defined) → with_rest old (kept (with_tool t x)) ≡ with_rest (record old { tools = old.tools ++ t ∷ [] }) (kept x)
-kept_tool t old x = ap (λ tools. record { procs = old.procs ++ filter is_low x.procs; tools = tools; too_high = first_place old.too_high (first_too_high x.procs) }) (sym (append_assoc old.tools (t ∷ []) x.tools))
+kept_tool t old x = ap (λ tools. record { procs = old.procs ++ filter is_low x.procs; tools = tools; too_high = first_position old.too_high (first_too_high x.procs) }) (sym (append_assoc old.tools (t ∷ []) x.tools))
 
 mapped_process : (d : ProcDef) (old : Kept) (o : Outcome Defined) → mapped (with_rest old) (mapped kept (mapped (with_process d) o)) ≡ mapped (with_rest (added (made_of d) old)) (mapped kept o)
 mapped_process d old (Found x at ks) = ap (λ k. Found k at ks) (kept_process d old x)
-mapped_process d old (Stops place) = refl
+mapped_process d old (Stops position) = refl
 
 mapped_tool : (t : ToolDef) (old : Kept) (o : Outcome Defined) → mapped (with_rest old) (mapped kept (mapped (with_tool t) o)) ≡ mapped (with_rest (record old { tools = old.tools ++ t ∷ [] })) (mapped kept o)
 mapped_tool t old (Found x at ks) = ap (λ k. Found k at ks) (kept_tool t old x)
-mapped_tool t old (Stops place) = refl
+mapped_tool t old (Stops position) = refl
 
-no_later : (so_far : Option ℕ) → first_place so_far None ≡ so_far
+no_later : (so_far : Option ℕ) → first_position so_far None ≡ so_far
 no_later None = refl
-no_later (Some place) = refl
+no_later (Some position) = refl
 
 module _ (inner : ℕ) (start : Ahead) where
   abbrev by_process : ℕ → Outcome ProcDef → Outcome Kept
@@ -107,66 +107,66 @@ module _ (inner : ℕ) (start : Ahead) where
   unfolding definitions
   goes n = refl
 
-  goes_process : (n : ℕ) {is : Bool} {behind : Ahead} {place : ℕ} → place ≡ start.at → is ≡ begins (is_word (codes "process")) start.kinds → behind ≡ eaten (is_word (codes "process")) start → is ≡ true
-      → runs (definitions_kept inner (suc n)) start ≡ by_process n (runs (process inner place) behind)
-  goes_process n {is} {behind} {place} is_place e is_behind present =
+  goes_process : (n : ℕ) {is : Bool} {behind : Ahead} {position : ℕ} → position ≡ start.at → is ≡ begins (is_word (codes "process")) start.kinds → behind ≡ eaten (is_word (codes "process")) start → is ≡ true
+      → runs (definitions_kept inner (suc n)) start ≡ by_process n (runs (process inner position) behind)
+  goes_process n {is} {behind} {position} is_position e is_behind present =
       let some = sym e ∙ present in
       let same : behind ≡ next start = is_behind ∙ ap (λ b. if b then next start else start) some in
       goes n ∙ ap (λ b. step n b (begins (is_word (codes "tool")) start.kinds)) some
       ∙ ap (λ (r : Ahead). by_process n (runs (process inner start.at) r)) (sym same)
-      ∙ ap (λ p. by_process n (runs (process inner p) behind)) (sym is_place)
+      ∙ ap (λ p. by_process n (runs (process inner p) behind)) (sym is_position)
 
-  goes_tool : (n : ℕ) {is is' : Bool} {old behind : Ahead} {place : ℕ} → place ≡ start.at
+  goes_tool : (n : ℕ) {is is' : Bool} {old behind : Ahead} {position : ℕ} → position ≡ start.at
       → is ≡ begins (is_word (codes "process")) start.kinds → old ≡ eaten (is_word (codes "process")) start → is ≡ false
       → is' ≡ begins (is_word (codes "tool")) old.kinds → behind ≡ eaten (is_word (codes "tool")) old → is' ≡ true
-      → runs (definitions_kept inner (suc n)) start ≡ by_tool n (runs (tool place) behind)
-  goes_tool n {is} {is'} {old} {behind} {place} is_place e is_old absent e' is_behind present =
+      → runs (definitions_kept inner (suc n)) start ≡ by_tool n (runs (tool position) behind)
+  goes_tool n {is} {is'} {old} {behind} {position} is_position e is_old absent e' is_behind present =
       let none = sym e ∙ absent in
       let here : old ≡ start = is_old ∙ ap (λ b. if b then next start else start) none in
       let some : begins (is_word (codes "tool")) start.kinds ≡ true = ap (λ (r : Ahead). begins (is_word (codes "tool")) r.kinds) (sym here) ∙ sym e' ∙ present in
       let same : behind ≡ next start = is_behind ∙ ap (λ (r : Ahead). eaten (is_word (codes "tool")) r) here ∙ ap (λ b. if b then next start else start) some in
       goes n ∙ ap (λ b. step n b (begins (is_word (codes "tool")) start.kinds)) none ∙ ap (λ b. step n false b) some
       ∙ ap (λ (r : Ahead). by_tool n (runs (tool start.at) r)) (sym same)
-      ∙ ap (λ p. by_tool n (runs (tool p) behind)) (sym is_place)
+      ∙ ap (λ p. by_tool n (runs (tool p) behind)) (sym is_position)
 
-  pub process_more : (found : Kept) {is : Bool} {behind new : Ahead} {place : ℕ} {m : Made} {found' : Kept} → place ≡ start.at
+  pub process_more : (found : Kept) {is : Bool} {behind new : Ahead} {position : ℕ} {m : Made} {found' : Kept} → position ≡ start.at
       → is ≡ begins (is_word (codes "process")) start.kinds → behind ≡ eaten (is_word (codes "process")) start → is ≡ true
-      → runs (process_made inner place) behind ≡ Found m new.at new.kinds → found' ≡ added m found → Defines inner found start (Ok true) found' new
-  process_more found {is} {behind} {new} {place} {m} {found'} is_place e is_behind present is_made is_found n =
-      let one = seen made_of (runs (process inner place) behind) is_made in
-      ap (mapped (with_rest found)) (goes_process n is_place e is_behind present ∙ ap (by_process n) one.2)
+      → runs (process_made inner position) behind ≡ Found m new.at new.kinds → found' ≡ added m found → Defines inner found start (Ok true) found' new
+  process_more found {is} {behind} {new} {position} {m} {found'} is_position e is_behind present is_made is_found n =
+      let one = seen made_of (runs (process inner position) behind) is_made in
+      ap (mapped (with_rest found)) (goes_process n is_position e is_behind present ∙ ap (by_process n) one.2)
       ∙ mapped_process one.0 found (runs (definitions inner n) new)
       ∙ ap (λ (k : Kept). mapped (with_rest k) (runs (definitions_kept inner n) new)) (ap (λ m. added m found) (sym one.1) ∙ sym is_found)
 
-  pub process_stops : (found found' : Kept) (new : Ahead) {is : Bool} {behind : Ahead} {place : ℕ} (e : ParseFault) → place ≡ start.at
+  pub process_stops : (found found' : Kept) (new : Ahead) {is : Bool} {behind : Ahead} {position : ℕ} (e : ParseFault) → position ≡ start.at
       → is ≡ begins (is_word (codes "process")) start.kinds → behind ≡ eaten (is_word (codes "process")) start → is ≡ true
-      → StopsWith (runs (process_made inner place) behind) e → Defines inner found start (Err e) found' new
-  process_stops found found' new {is} {behind} {place} fault is_place e is_behind present stops n =
-      stops_with (runs (process_made inner place) behind) (runs (definitions_kept inner (suc n)) start) fault
-      (λ p s. goes_process n is_place e is_behind present ∙ ap (by_process n) (unseen made_of (runs (process inner place) behind) s)) stops
+      → StopsWith (runs (process_made inner position) behind) e → Defines inner found start (Err e) found' new
+  process_stops found found' new {is} {behind} {position} fault is_position e is_behind present stops n =
+      stops_with (runs (process_made inner position) behind) (runs (definitions_kept inner (suc n)) start) fault
+      (λ p s. goes_process n is_position e is_behind present ∙ ap (by_process n) (unseen made_of (runs (process inner position) behind) s)) stops
 
-  pub tool_more : (found : Kept) {is is' : Bool} {old behind new : Ahead} {place : ℕ} {t : ToolDef} {found' : Kept} → place ≡ start.at
+  pub tool_more : (found : Kept) {is is' : Bool} {old behind new : Ahead} {position : ℕ} {t : ToolDef} {found' : Kept} → position ≡ start.at
       → is ≡ begins (is_word (codes "process")) start.kinds → old ≡ eaten (is_word (codes "process")) start → is ≡ false
       → is' ≡ begins (is_word (codes "tool")) old.kinds → behind ≡ eaten (is_word (codes "tool")) old → is' ≡ true
-      → runs (tool place) behind ≡ Found t new.at new.kinds → found' ≡ record found { tools = found.tools ++ t ∷ [] } → Defines inner found start (Ok true) found' new
-  tool_more found {is} {is'} {old} {behind} {new} {place} {t} {found'} is_place e is_old absent e' is_behind present is_tool is_found n =
-      ap (mapped (with_rest found)) (goes_tool n is_place e is_old absent e' is_behind present ∙ ap (by_tool n) is_tool)
+      → runs (tool position) behind ≡ Found t new.at new.kinds → found' ≡ record found { tools = found.tools ++ t ∷ [] } → Defines inner found start (Ok true) found' new
+  tool_more found {is} {is'} {old} {behind} {new} {position} {t} {found'} is_position e is_old absent e' is_behind present is_tool is_found n =
+      ap (mapped (with_rest found)) (goes_tool n is_position e is_old absent e' is_behind present ∙ ap (by_tool n) is_tool)
       ∙ mapped_tool t found (runs (definitions inner n) new)
       ∙ ap (λ (k : Kept). mapped (with_rest k) (runs (definitions_kept inner n) new)) (sym is_found)
 
-  pub tool_stops : (found found' : Kept) (new : Ahead) {is is' : Bool} {old behind : Ahead} {place : ℕ} (e : ParseFault) → place ≡ start.at
+  pub tool_stops : (found found' : Kept) (new : Ahead) {is is' : Bool} {old behind : Ahead} {position : ℕ} (e : ParseFault) → position ≡ start.at
       → is ≡ begins (is_word (codes "process")) start.kinds → old ≡ eaten (is_word (codes "process")) start → is ≡ false
       → is' ≡ begins (is_word (codes "tool")) old.kinds → behind ≡ eaten (is_word (codes "tool")) old → is' ≡ true
-      → StopsWith (runs (tool place) behind) e → Defines inner found start (Err e) found' new
-  tool_stops found found' new {is} {is'} {old} {behind} {place} fault is_place e is_old absent e' is_behind present stops n =
-      stops_with (runs (tool place) behind) (runs (definitions_kept inner (suc n)) start) fault
-      (λ p s. goes_tool n is_place e is_old absent e' is_behind present ∙ ap (by_tool n) s) stops
+      → StopsWith (runs (tool position) behind) e → Defines inner found start (Err e) found' new
+  tool_stops found found' new {is} {is'} {old} {behind} {position} fault is_position e is_old absent e' is_behind present stops n =
+      stops_with (runs (tool position) behind) (runs (definitions_kept inner (suc n)) start) fault
+      (λ p s. goes_tool n is_position e is_old absent e' is_behind present ∙ ap (by_tool n) s) stops
 
   ends : (found : Kept) → mapped (with_rest found) (Found (kept (record { procs = []; tools = [] })) start.at start.kinds) ≡ Found found start.at start.kinds
-  ends found = let first : first_place found.too_high None ≡ found.too_high = no_later found.too_high in
-      ap (λ (k : Kept). Found k start.at start.kinds) (ap (λ procs. record { procs = procs; tools = found.tools ++ []; too_high = first_place found.too_high None }) (append-nil found.procs)
-      ∙ ap (λ tools. record { procs = found.procs; tools = tools; too_high = first_place found.too_high None }) (append-nil found.tools)
-      ∙ ap (λ place. record { procs = found.procs; tools = found.tools; too_high = place }) first)
+  ends found = let first : first_position found.too_high None ≡ found.too_high = no_later found.too_high in
+      ap (λ (k : Kept). Found k start.at start.kinds) (ap (λ procs. record { procs = procs; tools = found.tools ++ []; too_high = first_position found.too_high None }) (append-nil found.procs)
+      ∙ ap (λ tools. record { procs = found.procs; tools = tools; too_high = first_position found.too_high None }) (append-nil found.tools)
+      ∙ ap (λ position. record { procs = found.procs; tools = found.tools; too_high = position }) first)
 
   pub none_more : (found : Kept) {is is' : Bool} {old behind : Ahead}
       → is ≡ begins (is_word (codes "process")) start.kinds → old ≡ eaten (is_word (codes "process")) start → is ≡ false
@@ -215,10 +215,10 @@ module _ (inner room : ℕ) (start : Ahead) (found : Kept) (turn : ℕ) (ahead :
       one_more from room turn below so_far ∙ one (room - (turn + 1))
       ∙ ap (λ more. if more then mapped (with_rest found') (runs (definitions_kept inner (room - (turn + 1))) new) else Found found' new.at new.kinds) none
 
-  pub kept_stop : {place : ℕ} → turn < room → KeptSoFar inner room start found turn ahead → runs (definitions_kept inner (suc (room - (turn + 1)))) ahead ≡ Stops place
-      → runs (definitions_kept inner room) start ≡ Stops place
+  pub kept_stop : {position : ℕ} → turn < room → KeptSoFar inner room start found turn ahead → runs (definitions_kept inner (suc (room - (turn + 1)))) ahead ≡ Stops position
+      → runs (definitions_kept inner room) start ≡ Stops position
   kept_stop below so_far e = one_more from room turn below so_far ∙ ap (mapped (with_rest found)) e
 
-  pub kept_end : {place : ℕ} → room ≤ turn → KeptSoFar inner room start found turn ahead → place ≡ ahead.at → runs (definitions_kept inner room) start ≡ Stops place
+  pub kept_end : {position : ℕ} → room ≤ turn → KeptSoFar inner room start found turn ahead → position ≡ ahead.at → runs (definitions_kept inner room) start ≡ Stops position
   unfolding definitions
-  kept_end done so_far is_place = no_more from room turn done so_far ∙ ap (λ p. Stops p) (sym is_place)
+  kept_end done so_far is_position = no_more from room turn done so_far ∙ ap (λ p. Stops p) (sym is_position)

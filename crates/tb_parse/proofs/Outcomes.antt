@@ -18,7 +18,7 @@ use Rattle.tb_parse.proofs.AlikeScripts.{wrong}
 -- Faults and scripts exclude each other.
 
 deep_apart : (kinds : List TokenKind) (p : ℕ) → IsTooDeep kinds p → NoneTooDeep kinds → ⊥
-deep_apart kinds p d shallow = let low = shallow p d.is_place in let over = d.is_over in absurd (omega arith)
+deep_apart kinds p d shallow = let low = shallow p d.is_position in let over = d.is_over in absurd (omega arith)
 
 deep_unique : (kinds : List TokenKind) (p q : ℕ) → IsTooDeep kinds p → IsTooDeep kinds q → p ≡ q
 deep_unique kinds p q d e = by (cases_lt p q) where
@@ -58,7 +58,7 @@ fewer_begin kinds n q h i b =
     (more ++ b.0, b.1, subst (Spells b.1) whole b.2)
 
 not_before : (kinds : List TokenKind) (p q : ℕ) → IsSyntaxFault kinds p → IsSyntaxFault kinds q → p < q → ⊥
-not_before kinds p q f g h = let within = g.is_place in f.stops (omega arith) (fewer_begin kinds (p + 1) q (omega arith) (omega arith) g.begun)
+not_before kinds p q f g h = let within = g.is_position in f.stops (omega arith) (fewer_begin kinds (p + 1) q (omega arith) (omega arith) g.begun)
 
 syntax_unique : (kinds : List TokenKind) (p q : ℕ) → IsSyntaxFault kinds p → IsSyntaxFault kinds q → p ≡ q
 syntax_unique kinds p q f g = by (cases_lt p q) (cases_lt q p) where
@@ -98,7 +98,7 @@ first_deep kinds zero h = inr (λ earlier i. absurd (omega arith))
 first_deep kinds (suc count) h = by (first_deep kinds count (omega arith)) (cases_lt 128 (open_brackets (take (count + 1) kinds))) where
   by : ((p : ℕ) × IsTooDeep kinds p) ⊎ Shallow kinds count → (128 < open_brackets (take (count + 1) kinds)) ⊎ (open_brackets (take (count + 1) kinds) ≤ 128) → ((p : ℕ) × IsTooDeep kinds p) ⊎ Shallow kinds (suc count)
   by (inl d) c = inl d
-  by (inr s) (inl over) = inl (count, record { is_place = omega arith; is_over = over; none_before = s })
+  by (inr s) (inl over) = inl (count, record { is_position = omega arith; is_over = over; none_before = s })
   by (inr s) (inr low) = inr (λ earlier i. behind earlier i (cases_lt earlier count)) where
     behind : (earlier : ℕ) → earlier < suc count → (earlier < count) ⊎ (count ≤ earlier) → open_brackets (take (earlier + 1) kinds) ≤ 128
     behind earlier i (inl j) = s earlier j
@@ -120,9 +120,9 @@ spelt_has_one : (kinds : List TokenKind) → NoneTooDeep kinds → (s : Script) 
 spelt_has_one kinds shallow s d None e = inl (s, record { shallow = shallow; spells = d; low = e })
 spelt_has_one kinds shallow s d (Some p) e = inr (fault.TooDeep p, inr (record { shallow = shallow; script = s; spells = d; first = e }), deep_is_other p)
 
--- with room for all tokens, what can't be read is no script, and this is the place of its fault
+-- with room for all tokens, what can't be read is no script, and this is the position of its fault
 pub stopped : (kinds : List TokenKind) (room p : ℕ) → length kinds ≤ room → NoneTooDeep kinds → script room 0 kinds ≡ Stops p → IsSyntaxFault kinds p
-stopped kinds room p h shallow e = record { shallow = shallow; unspelt = none; is_place = first.0; begun = first.1; stops = wrong room kinds p h e } where
+stopped kinds room p h shallow e = record { shallow = shallow; unspelt = none; is_position = first.0; begun = first.1; stops = wrong room kinds p h e } where
   first : (p ≤ length kinds) × Begins (take p kinds)
   first = begun room kinds p e
 

@@ -28,8 +28,8 @@ module _ {A : Type 0} (item : Parser A) (room : ℕ) (start : Ahead) (found : Li
   abbrev from : ℕ → Outcome (List A)
   from n = mapped (λ xs. found ++ xs) (runs (parted item n) ahead)
 
-  pub parts_stop : {place : ℕ} → turn < room → PartsSoFar item room start found turn ahead → runs item ahead ≡ Stops place
-      → runs (parted item room) start ≡ Stops place
+  pub parts_stop : {position : ℕ} → turn < room → PartsSoFar item room start found turn ahead → runs item ahead ≡ Stops position
+      → runs (parted item room) start ≡ Stops position
   unfolding parted
   parts_stop below so_far e = one_more from room turn below so_far ∙ ap (λ (o : Outcome A). mapped (λ xs. found ++ xs) (after o (λ x behind rest.
       if begins (is_sign Comma) rest then mapped (λ xs. x ∷ xs) (parted item (room - (turn + 1)) (behind + 1) (tail rest)) else Found (x ∷ []) behind rest))) e
@@ -67,6 +67,6 @@ module _ {A : Type 0} (item : Parser A) (room : ℕ) (start : Ahead) (found : Li
       subst (λ (xs : List A). PartsSoFar item room start xs (turn + 1) behind) (sym is_all)
       (subst (λ (r : Ahead). PartsSoFar item room start (found ++ x ∷ []) (turn + 1) r) (sym same) (more_parts below so_far e some))
 
-  pub parts_end : {place : ℕ} → room ≤ turn → PartsSoFar item room start found turn ahead → place ≡ ahead.at → runs (parted item room) start ≡ Stops place
+  pub parts_end : {position : ℕ} → room ≤ turn → PartsSoFar item room start found turn ahead → position ≡ ahead.at → runs (parted item room) start ≡ Stops position
   unfolding parted
-  parts_end done so_far is_place = no_more from room turn done so_far ∙ ap (λ p. Stops p) (sym is_place)
+  parts_end done so_far is_position = no_more from room turn done so_far ∙ ap (λ p. Stops p) (sym is_position)

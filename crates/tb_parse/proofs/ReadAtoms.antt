@@ -27,16 +27,16 @@ use Rattle.tb_parse.proofs.ReadExprs.{on_expr, expr_reads, actuals_read, call_re
 time_by : (t : TimeDef) (at : ℕ) (vs : List TokenKind) → t.token ≡ at → SpellsExpr (at + 2) t.value vs → (room : ℕ) → length vs ≤ room → (more : List TokenKind)
     → time room at (Lower t.name ∷ Sign LeftParen ∷ ((vs ++ Sign RightParen ∷ []) ++ more)) ≡ Found t (at + length (Lower t.name ∷ Sign LeftParen ∷ (vs ++ Sign RightParen ∷ []))) more
 unfolding time
-time_by t at vs place d room h more =
+time_by t at vs position d room h more =
     let sum = length-append vs (Sign RightParen ∷ []) in
-    let same : record { name = t.name; value = t.value; token = at } ≡ t = ap (λ n. record { name = t.name; value = t.value; token = n }) (sym place) in
+    let same : record { name = t.name; value = t.value; token = at } ≡ t = ap (λ n. record { name = t.name; value = t.value; token = n }) (sym position) in
     read (expr room) _ {at = at + 2} vs (Sign RightParen ∷ []) more (omega arith) ((expr_reads d).reads room h (Sign RightParen ∷ more) refl) (arrives (omega arith))
     ∙ ap (λ t'. Found t' (at + length (Lower t.name ∷ Sign LeftParen ∷ (vs ++ Sign RightParen ∷ []))) more) same
 
 time_reads : {at : ℕ} {t : TimeDef} {ks : List TokenKind} → SpellsTime at t ks → (room : ℕ) → length ks ≤ room → (more : List TokenKind) → time room at (ks ++ more) ≡ Found t (at + length ks) more
 time_reads {at = at} {t = t} {ks = ks} d room h more =
     subst (λ ks. time room at (ks ++ more) ≡ Found t (at + length ks) more) (sym d.is)
-    (time_by t at d.value d.place d.is_value room (let sum = length-append d.value (Sign RightParen ∷ []) in let all = ap length d.is in omega arith) more)
+    (time_by t at d.value d.position d.is_value room (let sum = length-append d.value (Sign RightParen ∷ []) in let all = ap length d.is in omega arith) more)
 
 time_begins : {at : ℕ} {t : TimeDef} {ks : List TokenKind} → SpellsTime at t ks → (more : List TokenKind) → begins is_time (ks ++ more) ≡ true
 time_begins d more = rw d.is d.is_word
@@ -67,14 +67,14 @@ times_open (InRow.more {ks = ks} {rest = rest} d ds) more e = rw (append_assoc k
 abbrev ActReads : ℕ → ActDef → List TokenKind → Type 0
 ActReads at a ks = (whole : Parser Proc) (room : ℕ) → length ks ≤ room → (more : List TokenKind) → begins on_expr more ≡ false → prim_of whole room at (ks ++ more) ≡ timed room at a (at + length ks) more
 
-placed_timed : (room at : ℕ) (a : ActDef) (more : List TokenKind) {x y : ℕ} → x ≡ y → timed room at a x more ≡ timed room at a y more
-placed_timed room at a more e = ap (λ n. timed room at a n more) e
+positioned_timed : (room at : ℕ) (a : ActDef) (more : List TokenKind) {x y : ℕ} → x ≡ y → timed room at a x more ≡ timed room at a y more
+positioned_timed room at a more e = ap (λ n. timed room at a n more) e
 
 set_reads : (at : ℕ) (name : List ℕ) (value : Ast) (ks : List TokenKind) → SpellsExpr (at + 2) value ks → ActReads at (act.Set name value) (Upper name ∷ Sign Assign ∷ ks)
 unfolding prim_of upper_proc
 set_reads at name value ks d whole room h more e =
     let p : Parser ActDef = λ at ks. mapped (act.Set name) (expr room at ks) in
-    read_last p (timed room at) {at = at + 2} ks more (omega arith) (ap (λ o. mapped (act.Set name) o) ((expr_reads d).reads room (omega arith) more e)) (placed_timed room at _ more (omega arith))
+    read_last p (timed room at) {at = at + 2} ks more (omega arith) (ap (λ o. mapped (act.Set name) o) ((expr_reads d).reads room (omega arith) more e)) (positioned_timed room at _ more (omega arith))
 
 create_reads : (at : ℕ) (c : Call) (cs : List TokenKind) (variable : Ast) (ks : List TokenKind) → SpellsCall (at + 2) c cs → SpellsExpr (at + length cs + 3) variable ks → (room : ℕ) → length cs ≤ room → length ks ≤ room
     → (more : List TokenKind) → create room (at + 1) (Sign LeftParen ∷ ((cs ++ Sign Comma ∷ (ks ++ Sign RightParen ∷ [])) ++ more)) ≡ Found (act.Create c variable) (at + length cs + 3 + length ks + 1) more
@@ -102,7 +102,7 @@ unfolding prim_of lower_proc
 named_reads at name arguments ks w n d whole room h more e =
     let p : Parser ActDef = λ at ks. mapped (act.Named name) (in_parens (expr room) room at ks) in
     rw (n.0, n.1, n.2, w)
-    (read_last p (timed room at) ks more refl (ap (λ o. mapped (act.Named name) o) (actuals_read d room (omega arith) more (neither (is_sign LeftParen) (is_sign Question) more e).0)) (placed_timed room at _ more (omega arith)))
+    (read_last p (timed room at) ks more refl (ap (λ o. mapped (act.Named name) o) (actuals_read d room (omega arith) more (neither (is_sign LeftParen) (is_sign Question) more e).0)) (positioned_timed room at _ more (omega arith)))
 
 act_reads : {at : ℕ} {a : ActDef} {ks : List TokenKind} → SpellsAct at a ks → ActReads at a ks
 unfolding prim_of lower_proc
@@ -110,7 +110,7 @@ act_reads (SpellsAct.set {at = at} {value = value} {ks = ks} name d) whole room 
 act_reads (SpellsAct.create {at = at} {call = c} {cs = cs} {variable = v} {ks = ks} d f) whole room h more e =
     let sum = length-append cs (Sign Comma ∷ (ks ++ Sign RightParen ∷ [])) in
     let inner = length-append ks (Sign RightParen ∷ []) in
-    ap (λ o. after o (timed room at)) (create_reads at c cs v ks d f room (omega arith) (omega arith) more) ∙ placed_timed room at (act.Create c v) more (omega arith)
+    ap (λ o. after o (timed room at)) (create_reads at c cs v ks d f room (omega arith) (omega arith) more) ∙ positioned_timed room at (act.Create c v) more (omega arith)
 act_reads (SpellsAct.named {at = at} {arguments = arguments} {ks = ks} name w d) whole room h more e = named_reads at name arguments ks w (is_other name w) d whole room h more e
 
 act_some : {at : ℕ} {a : ActDef} {ks : List TokenKind} → SpellsAct at a ks → 1 ≤ length ks
@@ -121,11 +121,11 @@ act_some (SpellsAct.named name w d) = omega arith
 atom_by : (at : ℕ) (a : AtomDef) (bs : List TokenKind) (ts : List TokenKind) → a.token ≡ at → SpellsAct at a.act bs → InRow SpellsTime (at + length bs) a.times ts → (whole : Parser Proc) (room : ℕ) → length bs + length ts ≤ room
     → (more : List TokenKind) → begins on_expr more ≡ false → begins is_time more ≡ false → prim_of whole room at ((bs ++ ts) ++ more) ≡ Found (tree.Atom a) (at + length (bs ++ ts)) more
 unfolding timed
-atom_by at a bs ts place d f whole room h more e g =
+atom_by at a bs ts position d f whole room h more e g =
     let some = act_some d in
     let sum = length-append bs ts in
     let made : List TimeDef → Proc = λ found. tree.Atom (record { act = a.act; times = found; token = at }) in
-    let same : made a.times ≡ tree.Atom a = ap (λ n. tree.Atom (record { act = a.act; times = a.times; token = n })) (sym place) in
+    let same : made a.times ≡ tree.Atom a = ap (λ n. tree.Atom (record { act = a.act; times = a.times; token = n })) (sym position) in
     ap (prim_of whole room at) (append_assoc bs ts more) ∙ act_reads d whole room (omega arith) (ts ++ more) (times_open f more e)
     ∙ read_mapped (times room room) made ts more refl (times_read f room room (omega arith) (omega arith) more g) (omega arith)
     ∙ ap (λ p. Found p (at + length (bs ++ ts)) more) same
@@ -136,7 +136,7 @@ pub atom_reads : {at : ℕ} {a : AtomDef} {ks : List TokenKind} → SpellsAtom a
 atom_reads {at = at} {a = a} {ks = ks} d whole room h more e g =
     let sum = length-append d.act d.times in
     let all = ap length d.is in
-    subst (λ ks. prim_of whole room at (ks ++ more) ≡ Found (tree.Atom a) (at + length ks) more) (sym d.is) (atom_by at a d.act d.times d.place d.is_act d.are_times whole room (omega arith) more e g)
+    subst (λ ks. prim_of whole room at (ks ++ more) ≡ Found (tree.Atom a) (at + length ks) more) (sym d.is) (atom_by at a d.act d.times d.position d.is_act d.are_times whole room (omega arith) more e g)
 
 pub atom_some : {at : ℕ} {a : AtomDef} {ks : List TokenKind} → SpellsAtom at a ks → 1 ≤ length ks
 atom_some d = let some = act_some d.is_act in let sum = length-append d.act d.times in let all = ap length d.is in omega arith
@@ -146,12 +146,12 @@ atom_some d = let some = act_some d.is_act in let sum = length-append d.act d.ti
 var_by : (v : Var) (at : ℕ) (ks : List TokenKind) → v.token ≡ at → ((room : ℕ) → length ks ≤ room → (more : List TokenKind) → begins (is_sign LeftParen) more ≡ false → sort room (at + 2) (ks ++ more) ≡ Found (v.sort, v.sort_token) (at + 2 + length ks) more)
     → ReadsIn var (is_sign LeftParen) at v (Upper v.name ∷ Sign Colon ∷ ks)
 unfolding var
-var_by v at ks place d room h more e =
-    let same : record { name = v.name; sort = v.sort; token = at; sort_token = v.sort_token } ≡ v = ap (λ n. record { name = v.name; sort = v.sort; token = n; sort_token = v.sort_token }) (sym place) in
+var_by v at ks position d room h more e =
+    let same : record { name = v.name; sort = v.sort; token = at; sort_token = v.sort_token } ≡ v = ap (λ n. record { name = v.name; sort = v.sort; token = n; sort_token = v.sort_token }) (sym position) in
     ap (λ n. mapped (λ found. record { name = v.name; sort = found.0; token = at; sort_token = found.1 }) (sort room n (ks ++ more))) (omega arith)
     ∙ ap (λ o. mapped (λ found. record { name = v.name; sort = found.0; token = at; sort_token = found.1 }) o) (d room (omega arith) more e)
     ∙ arrives (omega arith)
     ∙ ap (λ v'. Found v' (at + length (Upper v.name ∷ Sign Colon ∷ ks)) more) same
 
 pub var_reads : {at : ℕ} {v : Var} {ks : List TokenKind} → SpellsVar at v ks → Reads var (is_sign LeftParen) at v ks
-var_reads {at = at} {v = v} d = subst (Reads var (is_sign LeftParen) at v) (sym d.is) (record { some = omega arith; reads = var_by v at d.sort d.place (sort_reads d.is_sort) })
+var_reads {at = at} {v = v} d = subst (Reads var (is_sign LeftParen) at v) (sym d.is) (record { some = omega arith; reads = var_by v at d.sort d.position (sort_reads d.is_sort) })

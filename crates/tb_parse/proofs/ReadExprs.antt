@@ -111,14 +111,14 @@ actuals_read d room h more e = parts_read (arguments_read d) room h more e
 pub call_of_reads : (c : Call) (at : ℕ) (ks : List TokenKind) → c.token ≡ at → SpellsArguments (at + 1) c.actuals ks → (room : ℕ) → length ks ≤ room → (more : List TokenKind) → begins (is_sign LeftParen) more ≡ false
     → call_of room c.name at (at + 1) (ks ++ more) ≡ Found c (at + length (Upper c.name ∷ ks)) more
 unfolding call_of
-call_of_reads c at ks place d room h more e =
+call_of_reads c at ks position d room h more e =
     let made : List Ast → Call = λ actuals. record { name = c.name; actuals = actuals; token = at } in
-    let same : made c.actuals ≡ c = ap (λ n. record { name = c.name; actuals = c.actuals; token = n }) (sym place) in
+    let same : made c.actuals ≡ c = ap (λ n. record { name = c.name; actuals = c.actuals; token = n }) (sym position) in
     read_mapped (in_parens (expr room) room) made ks more refl (actuals_read d room h more e) (omega arith) ∙ ap (λ c'. Found c' (at + length (Upper c.name ∷ ks)) more) same
 
 pub call_reads : {at : ℕ} {c : Call} {ks : List TokenKind} → SpellsCall at c ks → Reads call (is_sign LeftParen) at c ks
 unfolding call
 call_reads {at = at} {c = c} d = subst (Reads call (is_sign LeftParen) at c) (sym d.is) (record {
   some = omega arith;
-  reads = λ room h more e. call_of_reads c at d.actuals d.place d.are_actuals room (omega arith) more e;
+  reads = λ room h more e. call_of_reads c at d.actuals d.position d.are_actuals room (omega arith) more e;
 })

@@ -190,14 +190,14 @@ arguments_open (SpellsArguments.some ds) more e = refl
 
 call_by : (at : ℕ) (c : Call) (ks : List TokenKind) → c.token ≡ at → SpellsArguments (at + 1) c.actuals ks → PrimOf at (tree.Call c) (Upper c.name ∷ ks)
 unfolding prim_of upper_proc
-call_by at c ks place d room h more e =
+call_by at c ks position d room h more e =
     let parts = neither on_expr (either (is_sign Assign) is_time) more e in
     let assign = neither (is_sign Assign) is_time more parts.1 in
     let paren = neither (is_sign LeftParen) (is_sign Question) more parts.0 in
-    rw (arguments_open d more assign.0) (ap (λ o. mapped tree.Call o) (call_of_reads c at ks place d room (omega arith) more paren.0))
+    rw (arguments_open d more assign.0) (ap (λ o. mapped tree.Call o) (call_of_reads c at ks position d room (omega arith) more paren.0))
 
 call_reads : (at : ℕ) (c : Call) (ks : List TokenKind) → SpellsCall at c ks → PrimOf at (tree.Call c) ks
-call_reads at c ks d = subst (PrimOf at (tree.Call c)) (sym d.is) (call_by at c d.actuals d.place d.are_actuals)
+call_reads at c ks d = subst (PrimOf at (tree.Call c)) (sym d.is) (call_by at c d.actuals d.position d.are_actuals)
 
 block_reads : (at : ℕ) (vars : List Var) (vs : List TokenKind) (x : Proc) (xs : List TokenKind) → Parted (Reads var (is_sign LeftParen)) (at + 1) vars vs → At level.Proc (at + length vs + 2) x xs
     → PrimOf at (tree.Let vars x) (block_tokens vs xs)

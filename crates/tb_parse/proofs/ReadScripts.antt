@@ -39,7 +39,7 @@ formal_by f at ks d false room h more e =
 
 formal_reads : {at : ℕ} {f : Formal} {ks : List TokenKind} → SpellsFormal at f ks → Reads formal on_expr at f ks
 formal_reads {at = at} {f = f} d =
-    let v : SpellsVar at (variable f) (Upper f.name ∷ Sign Colon ∷ d.sort) = record { place = d.place; sort = d.sort; is_sort = d.is_sort; is = refl } in
+    let v : SpellsVar at (variable f) (Upper f.name ∷ Sign Colon ∷ d.sort) = record { position = d.position; sort = d.sort; is_sort = d.is_sort; is = refl } in
     subst (Reads formal on_expr at f) (sym d.is) (record { some = omega arith; reads = formal_by f at d.sort (var_reads v) f.result })
 
 -- Definitions of processes.
@@ -50,10 +50,10 @@ process_by : (d : ProcDef) (at : ℕ) (fs bs : List TokenKind) → d.token ≡ a
     → (room : ℕ) → length fs + length bs < room → (more : List TokenKind) → begins on_proc more ≡ false
     → process room at (at + 1) (Upper d.name ∷ ((fs ++ Lower (codes "is") ∷ bs) ++ more)) ≡ Found d (at + 1 + length (Upper d.name ∷ (fs ++ Lower (codes "is") ∷ bs))) more
 unfolding process
-process_by d at fs bs place f b room h more e =
+process_by d at fs bs position f b room h more e =
     let sum = length-append fs (Lower (codes "is") ∷ bs) in
     let made : Proc → ProcDef = λ body. record { name = d.name; formals = d.formals; body = body; token = at } in
-    let same : made d.body ≡ d = ap (λ n. record { name = d.name; formals = d.formals; body = d.body; token = n }) (sym place) in
+    let same : made d.body ≡ d = ap (λ n. record { name = d.name; formals = d.formals; body = d.body; token = n }) (sym position) in
     read (in_parens (formal room) room) _ {at = at + 2} fs (Lower (codes "is") ∷ bs) more (omega arith) (in_parens_reads formal on_expr refl refl f room room (omega arith) (omega arith) (Lower (codes "is") ∷ (bs ++ more)) refl)
     (read_mapped (proc room) made {at = at + length fs + 3} bs more (omega arith) (b room (omega arith) more e) (omega arith))
     ∙ ap (λ d'. Found d' (at + 1 + length (Upper d.name ∷ (fs ++ Lower (codes "is") ∷ bs))) more) same
@@ -71,9 +71,9 @@ tool_by at name (Some c) free more = rw free (arrives (omega arith))
 tool_read : (d : ToolDef) (at : ℕ) → d.token ≡ at → is_free d.name ≡ true → (more : List TokenKind)
     → tool at (at + 1) (Lower d.name ∷ Lower (codes "is") ∷ Sign LeftBrace ∷ ((command_tokens d.command ++ Sign RightBrace ∷ []) ++ more))
     ≡ Found d (at + 1 + length (Lower d.name ∷ Lower (codes "is") ∷ Sign LeftBrace ∷ (command_tokens d.command ++ Sign RightBrace ∷ []))) more
-tool_read d at place free more =
+tool_read d at position free more =
     let end = at + 1 + length (Lower d.name ∷ Lower (codes "is") ∷ Sign LeftBrace ∷ (command_tokens d.command ++ Sign RightBrace ∷ [])) in
-    tool_by at d.name d.command free more ∙ ap (λ n. Found (record { name = d.name; command = d.command; token = n }) end more) (sym place)
+    tool_by at d.name d.command free more ∙ ap (λ n. Found (record { name = d.name; command = d.command; token = n }) end more) (sym position)
 
 -- All definitions, behind which the word of the roots stands.
 
@@ -112,7 +112,7 @@ process_reads : {at : ℕ} {d : ProcDef} {ks : List TokenKind} → SpellsProcDef
 process_reads {at = at} {d = d} {ks = ks} s inner room h procs tools rest more e =
     let sum = length-append s.formals (Lower (codes "is") ∷ s.body) in
     let all = ap length s.is in
-    let one = process_by d at s.formals s.body s.place (in_parens_map (λ at f ks g. formal_reads g) s.are_formals) (proc_reads s.is_body) inner (omega arith) (rest ++ more) e in
+    let one = process_by d at s.formals s.body s.position (in_parens_map (λ at f ks g. formal_reads g) s.are_formals) (proc_reads s.is_body) inner (omega arith) (rest ++ more) e in
     subst (λ ks. Step inner room at (defined procs tools) (defined (d ∷ procs) tools) ks rest more) (sym s.is)
     (process_step inner room at d procs tools (Upper d.name ∷ (s.formals ++ Lower (codes "is") ∷ s.body)) rest more one)
 
@@ -120,7 +120,7 @@ tool_reads : {at : ℕ} {d : ToolDef} {ks : List TokenKind} → SpellsToolDef at
     → Step inner room at (defined procs tools) (defined procs (d ∷ tools)) ks rest more
 tool_reads {at = at} {d = d} s inner room procs tools rest more =
     subst (λ ks. Step inner room at (defined procs tools) (defined procs (d ∷ tools)) ks rest more) (sym s.is)
-    (tool_step inner room at d procs tools (Lower d.name ∷ Lower (codes "is") ∷ Sign LeftBrace ∷ (command_tokens d.command ++ Sign RightBrace ∷ [])) rest more (tool_read d at s.place s.is_name (rest ++ more)))
+    (tool_step inner room at d procs tools (Lower d.name ∷ Lower (codes "is") ∷ Sign LeftBrace ∷ (command_tokens d.command ++ Sign RightBrace ∷ [])) rest more (tool_read d at s.position s.is_name (rest ++ more)))
 
 process_some : {at : ℕ} {d : ProcDef} {ks : List TokenKind} → SpellsProcDef at d ks → 1 ≤ length ks
 process_some s = let all = ap length s.is in omega arith

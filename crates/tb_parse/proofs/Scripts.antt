@@ -68,40 +68,40 @@ module _ (room : ℕ) (start : Ahead) where
 
   pub script_no_word : {k : Kept} {a : Ahead} {p : ℕ} → runs (definitions_kept room room) start ≡ Found k a.at a.kinds → came (is_word (codes "toolbus")) a ≡ Stops p
       → runs (script room) start ≡ Stops p
-  script_no_word {k} {a} e f = let front = begun e in front.same ∙ skip_stops (is_word (codes "toolbus")) (from_paren front.defined) a f
+  script_no_word {k} {a} e f = let prefix = begun e in prefix.same ∙ skip_stops (is_word (codes "toolbus")) (from_paren prefix.defined) a f
 
   pub script_no_paren : {k : Kept} {a b : Ahead} {p : ℕ} → runs (definitions_kept room room) start ≡ Found k a.at a.kinds → came (is_word (codes "toolbus")) a ≡ got b
       → came (is_sign LeftParen) b ≡ Stops p → runs (script room) start ≡ Stops p
   script_no_paren {k} {a} {b} e f g =
-      let front = begun e in
-      front.same ∙ skip_found (is_word (codes "toolbus")) (from_paren front.defined) a f ∙ skip_stops (is_sign LeftParen) (from_roots front.defined) b g
+      let prefix = begun e in
+      prefix.same ∙ skip_found (is_word (codes "toolbus")) (from_paren prefix.defined) a f ∙ skip_stops (is_sign LeftParen) (from_roots prefix.defined) b g
 
-  rooted : {k : Kept} {a b d : Ahead} (front : Begun k a) → came (is_word (codes "toolbus")) a ≡ got b
-      → came (is_sign LeftParen) b ≡ got d → runs (script room) start ≡ runs (from_roots front.defined) d
-  rooted {k} {a} {b} front f g = front.same ∙ skip_found (is_word (codes "toolbus")) (from_paren front.defined) a f ∙ skip_found (is_sign LeftParen) (from_roots front.defined) b g
+  rooted : {k : Kept} {a b d : Ahead} (prefix : Begun k a) → came (is_word (codes "toolbus")) a ≡ got b
+      → came (is_sign LeftParen) b ≡ got d → runs (script room) start ≡ runs (from_roots prefix.defined) d
+  rooted {k} {a} {b} prefix f g = prefix.same ∙ skip_found (is_word (codes "toolbus")) (from_paren prefix.defined) a f ∙ skip_found (is_sign LeftParen) (from_roots prefix.defined) b g
 
   pub script_no_roots : {k : Kept} {a b d : Ahead} {p : ℕ} → runs (definitions_kept room room) start ≡ Found k a.at a.kinds → came (is_word (codes "toolbus")) a ≡ got b
       → came (is_sign LeftParen) b ≡ got d → runs (roots room) d ≡ Stops p → runs (script room) start ≡ Stops p
   script_no_roots e f g h =
-      let front = begun e in
-      rooted front f g ∙ ap (λ (o : Outcome (List Call)). after o (λ calls. at_end (script_of front.defined calls))) h
+      let prefix = begun e in
+      rooted prefix f g ∙ ap (λ (o : Outcome (List Call)). after o (λ calls. at_end (script_of prefix.defined calls))) h
 
   -- with nothing or something behind it
-  ended : {k : Kept} {a b d new : Ahead} {calls : List Call} (front : Begun k a) → came (is_word (codes "toolbus")) a ≡ got b
+  ended : {k : Kept} {a b d new : Ahead} {calls : List Call} (prefix : Begun k a) → came (is_word (codes "toolbus")) a ≡ got b
       → came (is_sign LeftParen) b ≡ got d → runs (roots room) d ≡ Found calls new.at new.kinds
-      → runs (script room) start ≡ at_end (script_of front.defined calls) new.at new.kinds
-  ended front f g h = rooted front f g ∙ ap (λ (o : Outcome (List Call)). after o (λ calls. at_end (script_of front.defined calls))) h
+      → runs (script room) start ≡ at_end (script_of prefix.defined calls) new.at new.kinds
+  ended prefix f g h = rooted prefix f g ∙ ap (λ (o : Outcome (List Call)). after o (λ calls. at_end (script_of prefix.defined calls))) h
 
-  goes_on : {A : Type 0} (x : A) (at : ℕ) (ks : List TokenKind) → (ks ≡ [] → ⊥) → at_end x at ks ≡ Stops at
-  goes_on x at [] more = absurd (more refl)
-  goes_on x at (k ∷ ks) more = refl
+  may_continue : {A : Type 0} (x : A) (at : ℕ) (ks : List TokenKind) → (ks ≡ [] → ⊥) → at_end x at ks ≡ Stops at
+  may_continue x at [] more = absurd (more refl)
+  may_continue x at (k ∷ ks) more = refl
 
-  pub script_not_ended : {k : Kept} {a b d new : Ahead} {calls : List Call} {place : ℕ} → runs (definitions_kept room room) start ≡ Found k a.at a.kinds
+  pub script_not_ended : {k : Kept} {a b d new : Ahead} {calls : List Call} {position : ℕ} → runs (definitions_kept room room) start ≡ Found k a.at a.kinds
       → came (is_word (codes "toolbus")) a ≡ got b → came (is_sign LeftParen) b ≡ got d
-      → runs (roots room) d ≡ Found calls new.at new.kinds → (new.kinds ≡ [] → ⊥) → place ≡ new.at → runs (script room) start ≡ Stops place
-  script_not_ended {k} {a} {b} {d} {new} {calls} e f g h more is_place =
-      let front = begun e in
-      ended front f g h ∙ goes_on (script_of front.defined calls) new.at new.kinds more ∙ ap (λ p. Stops p) (sym is_place)
+      → runs (roots room) d ≡ Found calls new.at new.kinds → (new.kinds ≡ [] → ⊥) → position ≡ new.at → runs (script room) start ≡ Stops position
+  script_not_ended {k} {a} {b} {d} {new} {calls} e f g h more is_position =
+      let prefix = begun e in
+      ended prefix f g h ∙ may_continue (script_of prefix.defined calls) new.at new.kinds more ∙ ap (λ p. Stops p) (sym is_position)
 
   -- what is judged of the definitions where all else is read
   judged : (defined : Defined) (calls : List Call) (at : ℕ) (high : Option ℕ) → first_too_high defined.procs ≡ high → runs (script room) start ≡ Found (script_of defined calls) at []
@@ -109,26 +109,26 @@ module _ (room : ℕ) (start : Ahead) where
   judged defined calls at None none e =
       let same = all_kept defined.procs none in
       ((at, e ∙ ap (λ (procs : List ProcDef). Found (record { procs = procs; tools = defined.tools; roots = calls }) at []) (sym same)), ap first_too_high same ∙ none)
-  judged defined calls at (Some place) some e = (script_of defined calls, (at, e), some)
+  judged defined calls at (Some position) some e = (script_of defined calls, (at, e), some)
 
   pub script_found : {k : Kept} {a b d new : Ahead} {calls : List Call} {r : Result Script ParseFault} → runs (definitions_kept room room) start ≡ Found k a.at a.kinds
       → came (is_word (codes "toolbus")) a ≡ got b → came (is_sign LeftParen) b ≡ got d
       → runs (roots room) d ≡ Found calls new.at new.kinds → new.kinds ≡ [] → r ≡ whole_of k.too_high k calls → Judges (runs (script room) start) r
   script_found {k} {a} {b} {d} {new} {calls} {r} e f g h nothing is_made =
-      let front = begun e in
-      let found : runs (script room) start ≡ Found (script_of front.defined calls) new.at [] = ended front f g h ∙ ap (λ ks. at_end (script_of front.defined calls) new.at ks) nothing in
-      let made : r ≡ whole_of (first_too_high front.defined.procs) (kept front.defined) calls = is_made ∙ ap (λ (k : Kept). whole_of k.too_high k calls) front.is_kept in
+      let prefix = begun e in
+      let found : runs (script room) start ≡ Found (script_of prefix.defined calls) new.at [] = ended prefix f g h ∙ ap (λ ks. at_end (script_of prefix.defined calls) new.at ks) nothing in
+      let made : r ≡ whole_of (first_too_high prefix.defined.procs) (kept prefix.defined) calls = is_made ∙ ap (λ (k : Kept). whole_of k.too_high k calls) prefix.is_kept in
       subst (λ (r : Result Script ParseFault). Judges (runs (script room) start) r) (sym made)
-      (judged front.defined calls new.at (first_too_high front.defined.procs) refl found)
+      (judged prefix.defined calls new.at (first_too_high prefix.defined.procs) refl found)
 
 -- the exit of a `?`
-judge_stop : {A : Type 0} (o : Outcome A) (o' : Outcome Script) (e : ParseFault) → ((place : ℕ) → o ≡ Stops place → o' ≡ Stops place) → StopsWith o e → Judges o' (Err e)
-judge_stop o o' (fault.Syntax place) pass s = pass place s
-judge_stop o o' (fault.TooDeep place) pass s = absurd s
+judge_stop : {A : Type 0} (o : Outcome A) (o' : Outcome Script) (e : ParseFault) → ((position : ℕ) → o ≡ Stops position → o' ≡ Stops position) → StopsWith o e → Judges o' (Err e)
+judge_stop o o' (fault.Syntax position) pass s = pass position s
+judge_stop o o' (fault.TooDeep position) pass s = absurd s
 judge_stop o o' fault.NoMemory pass s = tt
 
 pub judges_err : {A : Type 0} (o : Outcome A) (o' : Outcome Script) (e : ParseFault) (r : Result Script ParseFault)
-    → IsErrAnd r (λ made. made ≡ e) → StopsWith o e → ((place : ℕ) → o ≡ Stops place → o' ≡ Stops place) → Judges o' r
+    → IsErrAnd r (λ made. made ≡ e) → StopsWith o e → ((position : ℕ) → o ≡ Stops position → o' ≡ Stops position) → Judges o' r
 judges_err o o' e r exit s pass =
     let p = err_from_is_err_and r exit in
     subst (λ (r : Result Script ParseFault). Judges o' r) (sym p.1) (subst (λ (e : ParseFault). Judges o' (Err e)) (sym p.2) (judge_stop o o' e pass s))

@@ -23,19 +23,19 @@ at_call : {at to : ℕ} {c : Call} {ks : List TokenKind} → at ≡ to → Spell
 at_call {c = c} {ks = ks} e d = subst (λ n. SpellsCall n c ks) e d
 
 -- behind the word
-pub create_sound : (room place : ℕ) (ks : List TokenKind) → Fits (λ a ns. SpellsAct place a (Lower (codes "create") ∷ ns)) (place + 1) ks (create room (place + 1) ks)
+pub create_sound : (room position : ℕ) (ks : List TokenKind) → Fits (λ a ns. SpellsAct position a (Lower (codes "create") ∷ ns)) (position + 1) ks (create room (position + 1) ks)
 unfolding create
-create_sound room place ks =
+create_sound room position ks =
     skip_sign LeftParen (λ at ks. after (call room at ks) (λ made. skip (is_sign Comma) (λ at ks. after (expr room at ks) (λ variable. expect (is_sign RightParen) (act.Create made variable)))))
-    (λ rest. behind _ (call_sound room (place + 1 + 1) rest) (λ c cs rest d.
-    skip_sign Comma (λ at ks. after (expr room at ks) (λ variable. expect (is_sign RightParen) (act.Create c variable))) (λ rest. behind _ (expr_sound room (place + 1 + 1 + length cs + 1) rest) (λ v vs rest e.
+    (λ rest. behind _ (call_sound room (position + 1 + 1) rest) (λ c cs rest d.
+    skip_sign Comma (λ at ks. after (expr room at ks) (λ variable. expect (is_sign RightParen) (act.Create c variable))) (λ rest. behind _ (expr_sound room (position + 1 + 1 + length cs + 1) rest) (λ v vs rest e.
     expect_sign RightParen _ (SpellsAct.create (at_call (omega arith) d) (at_expr (omega arith) e))))))
 
 time_sound : (room at : ℕ) (name : List ℕ) (ks : List TokenKind) → is_time_word name ≡ true → Fits (SpellsTime at) at (Lower name ∷ ks) (time room at (Lower name ∷ ks))
 unfolding time
 time_sound room at name ks w =
     token (skip_sign LeftParen (λ behind rest. after (expr room behind rest) (λ value. expect (is_sign RightParen) (record { name = name; value = value; token = at }))) (λ rest. behind _ (expr_sound room (at + 1 + 1) rest) (λ v vs rest d.
-    expect_sign RightParen _ (record { place = refl; is_word = w; value = vs; is_value = at_expr (omega arith) d; is = refl }))))
+    expect_sign RightParen _ (record { position = refl; is_word = w; value = vs; is_value = at_expr (omega arith) d; is = refl }))))
 
 times_by : (inner room at : ℕ) (name : List ℕ) (ks : List TokenKind) → Sound (InRow SpellsTime) (times inner room) → (b : Bool) → is_time_word name ≡ b
     → Fits (InRow SpellsTime at) at (Lower name ∷ ks) (if b then after (time inner at (Lower name ∷ ks)) (λ first at ks. mapped (λ rest. first ∷ rest) (times inner room at ks)) else Found [] at (Lower name ∷ ks))
@@ -53,13 +53,13 @@ times_sound inner (suc room) at (Sign symbol ∷ ks) = found (InRow.none at)
 times_sound inner (suc room) at (Lower name ∷ ks) = times_by inner room at name ks (times_sound inner room) (is_time_word name) refl
 
 -- behind what an atom does
-pub timed_sound : (room place : ℕ) (what : ActDef) (bs : List TokenKind) → SpellsAct place what bs → (at : ℕ) → at ≡ place + length bs → (ks : List TokenKind)
-    → Fits (λ p ns. SpellsProc level.Prim place p (bs ++ ns)) at ks (timed room place what at ks)
+pub timed_sound : (room position : ℕ) (what : ActDef) (bs : List TokenKind) → SpellsAct position what bs → (at : ℕ) → at ≡ position + length bs → (ks : List TokenKind)
+    → Fits (λ p ns. SpellsProc level.Prim position p (bs ++ ns)) at ks (timed room position what at ks)
 unfolding timed
-timed_sound room place what bs a at e ks = mapping _ (times_sound room room at ks) (λ ts ns d.
-    SpellsProc.atom (record { place = refl; act = bs; is_act = a; times = ns; are_times = subst (λ n. InRow SpellsTime n ts ns) e d; is = refl }))
+timed_sound room position what bs a at e ks = mapping _ (times_sound room room at ks) (λ ts ns d.
+    SpellsProc.atom (record { position = refl; act = bs; is_act = a; times = ns; are_times = subst (λ n. InRow SpellsTime n ts ns) e d; is = refl }))
 
 pub var_sound : (room : ℕ) → Sound SpellsVar (var room)
 unfolding var
 var_sound room at ks = behind _ (upper_sound at ks) (λ name xs rest f. rw f
-    (skip_sign Colon (λ behind rest. mapped (λ found. record { name = name; sort = found.0; token = at; sort_token = found.1 }) (sort room behind rest)) (λ rest. mapping _ (sort_sound room (at + 1 + 1) rest) (λ s ns d. record { place = refl; sort = ns; is_sort = at_sort (omega arith) d; is = refl }))))
+    (skip_sign Colon (λ behind rest. mapped (λ found. record { name = name; sort = found.0; token = at; sort_token = found.1 }) (sort room behind rest)) (λ rest. mapping _ (sort_sound room (at + 1 + 1) rest) (λ s ns d. record { position = refl; sort = ns; is_sort = at_sort (omega arith) d; is = refl }))))

@@ -99,7 +99,7 @@ arguments_sound room at ks = weaker (in_parens_sound SpellsExpr (expr room) (exp
 -- Calls.
 
 call_made : (at : ℕ) (name : List ℕ) (actuals : List Ast) (ks : List TokenKind) → SpellsArguments (at + 1) actuals ks → SpellsCall at (record { name = name; actuals = actuals; token = at }) (Upper name ∷ ks)
-call_made at name actuals ks d = record { place = refl; actuals = ks; are_actuals = d; is = refl }
+call_made at name actuals ks d = record { position = refl; actuals = ks; are_actuals = d; is = refl }
 
 -- behind the name
 pub call_of_sound : (room at : ℕ) (name : List ℕ) (ks : List TokenKind) → Fits (λ c ns. SpellsCall at c (Upper name ∷ ns)) (at + 1) ks (call_of room name at (at + 1) ks)

@@ -70,28 +70,28 @@ merge_sound item h room =
 
 -- What stands by itself.
 
-upper_proc_sound : (room : ℕ) (name : List ℕ) (place : ℕ) (ks : List TokenKind) → Fits (λ p ns. SpellsProc level.Prim place p (Upper name ∷ ns)) (place + 1) ks (upper_proc room name place (place + 1) ks)
+upper_proc_sound : (room : ℕ) (name : List ℕ) (position : ℕ) (ks : List TokenKind) → Fits (λ p ns. SpellsProc level.Prim position p (Upper name ∷ ns)) (position + 1) ks (upper_proc room name position (position + 1) ks)
 unfolding upper_proc
-upper_proc_sound room name place ks =
-    with_sign Assign (λ at ks. after (mapped (act.Set name) (expr room at ks)) (timed room place))
-    (λ rest. behind _ (mapping {T = λ a ns. SpellsAct place a (Upper name ∷ Sign Assign ∷ ns)} _ (expr_sound room (place + 1 + 1) rest) (λ v ns d. SpellsAct.set name (at_expr (omega arith) d)))
-    (λ a bs rest d. timed_sound room place a (Upper name ∷ Sign Assign ∷ bs) d (place + 1 + 1 + length bs) (omega arith) rest))
-    (mapping _ (call_of_sound room place name ks) (λ c ns d. SpellsProc.call d))
+upper_proc_sound room name position ks =
+    with_sign Assign (λ at ks. after (mapped (act.Set name) (expr room at ks)) (timed room position))
+    (λ rest. behind _ (mapping {T = λ a ns. SpellsAct position a (Upper name ∷ Sign Assign ∷ ns)} _ (expr_sound room (position + 1 + 1) rest) (λ v ns d. SpellsAct.set name (at_expr (omega arith) d)))
+    (λ a bs rest d. timed_sound room position a (Upper name ∷ Sign Assign ∷ bs) d (position + 1 + 1 + length bs) (omega arith) rest))
+    (mapping _ (call_of_sound room position name ks) (λ c ns d. SpellsProc.call d))
 
-block_sound : (whole : Parser Proc) → Sound (SpellsProc level.Proc) whole → (room place : ℕ) (ks : List TokenKind)
-    → Fits (λ p ns. SpellsProc level.Prim place p (Lower (codes "let") ∷ ns)) (place + 1) ks (block whole room (place + 1) ks)
+block_sound : (whole : Parser Proc) → Sound (SpellsProc level.Proc) whole → (room position : ℕ) (ks : List TokenKind)
+    → Fits (λ p ns. SpellsProc level.Prim position p (Lower (codes "let") ∷ ns)) (position + 1) ks (block whole room (position + 1) ks)
 unfolding block
-block_sound whole h room place ks = behind _ (parted_sound SpellsVar (var room) (var_sound room) room (place + 1) ks) (λ vars vs rest d.
-    skip_word (codes "in") (λ at ks. after (whole at ks) (λ x. expect (is_word (codes "endlet")) (tree.Let vars x))) (λ rest. behind _ (h (place + 1 + length vs + 1) rest) (λ x xs rest e.
+block_sound whole h room position ks = behind _ (parted_sound SpellsVar (var room) (var_sound room) room (position + 1) ks) (λ vars vs rest d.
+    skip_word (codes "in") (λ at ks. after (whole at ks) (λ x. expect (is_word (codes "endlet")) (tree.Let vars x))) (λ rest. behind _ (h (position + 1 + length vs + 1) rest) (λ x xs rest e.
     expect_word (codes "endlet") _ (SpellsProc.block d (at_proc (omega arith) e)))))
 
-test_sound : (whole : Parser Proc) → Sound (SpellsProc level.Proc) whole → (room place : ℕ) (ks : List TokenKind)
-    → Fits (λ p ns. SpellsProc level.Prim place p (Lower (codes "if") ∷ ns)) (place + 1) ks (test whole room (place + 1) ks)
+test_sound : (whole : Parser Proc) → Sound (SpellsProc level.Proc) whole → (room position : ℕ) (ks : List TokenKind)
+    → Fits (λ p ns. SpellsProc level.Prim position p (Lower (codes "if") ∷ ns)) (position + 1) ks (test whole room (position + 1) ks)
 unfolding test sides
-test_sound whole h room place ks = behind _ (expr_sound room (place + 1) ks) (λ v vs rest d.
-    skip_word (codes "then") (λ at ks. after (whole at ks) (sides whole v)) (λ rest. behind _ (h (place + 1 + length vs + 1) rest) (λ x xs rest e.
+test_sound whole h room position ks = behind _ (expr_sound room (position + 1) ks) (λ v vs rest d.
+    skip_word (codes "then") (λ at ks. after (whole at ks) (sides whole v)) (λ rest. behind _ (h (position + 1 + length vs + 1) rest) (λ x xs rest e.
     with_word (codes "else") (λ at ks. after (whole at ks) (λ y. expect (is_word (codes "fi")) (tree.If v x (Some y))))
-    (λ rest. behind _ (h (place + 1 + length vs + 1 + length xs + 1) rest) (λ y ys rest f.
+    (λ rest. behind _ (h (position + 1 + length vs + 1 + length xs + 1) rest) (λ y ys rest f.
     expect_word (codes "fi") _ (SpellsProc.test_else d (at_proc (omega arith) e) (at_proc (omega arith) f))))
     (expect_word (codes "fi") _ (SpellsProc.test d (at_proc (omega arith) e))))))
 
@@ -100,36 +100,36 @@ no_prim : (at : ℕ) → Opens (SpellsProc level.Prim at) []
 no_prim at = (
   Upper (codes "A") ∷ [],
   tree.Call (record { name = codes "A"; actuals = []; token = at }),
-  SpellsProc.call (record { place = refl; actuals = []; are_actuals = SpellsArguments.none (at + 1); is = refl }),
+  SpellsProc.call (record { position = refl; actuals = []; are_actuals = SpellsArguments.none (at + 1); is = refl }),
 )
 
 abbrev LowerSound : ℕ → List ℕ → List TokenKind → Outcome Proc → Type 0
-LowerSound place name ks o = Fits (SpellsProc level.Prim place) place (Lower name ∷ ks) o
+LowerSound position name ks o = Fits (SpellsProc level.Prim position) position (Lower name ∷ ks) o
 
-named_sound : (room place : ℕ) (name : List ℕ) (ks : List TokenKind) (b : Bool) → is_atom_word name ≡ b
-    → LowerSound place name ks (if b then after (mapped (act.Named name) (in_parens (expr room) room (place + 1) ks)) (timed room place) else Stops place)
-named_sound room place name ks true e =
-    token (behind _ (mapping {T = λ a ns. SpellsAct place a (Lower name ∷ ns)} _ (arguments_sound room (place + 1) ks) (λ xs ns d. SpellsAct.named name e d))
-    (λ a bs rest d. timed_sound room place a (Lower name ∷ bs) d (place + 1 + length bs) (omega arith) rest))
-named_sound room place name ks false e = stops (no_prim place)
+named_sound : (room position : ℕ) (name : List ℕ) (ks : List TokenKind) (b : Bool) → is_atom_word name ≡ b
+    → LowerSound position name ks (if b then after (mapped (act.Named name) (in_parens (expr room) room (position + 1) ks)) (timed room position) else Stops position)
+named_sound room position name ks true e =
+    token (behind _ (mapping {T = λ a ns. SpellsAct position a (Lower name ∷ ns)} _ (arguments_sound room (position + 1) ks) (λ xs ns d. SpellsAct.named name e d))
+    (λ a bs rest d. timed_sound room position a (Lower name ∷ bs) d (position + 1 + length bs) (omega arith) rest))
+named_sound room position name ks false e = stops (no_prim position)
 
-create_by : (room place : ℕ) (name : List ℕ) (ks : List TokenKind) (other : Outcome Proc) → LowerSound place name ks other → (b : Bool) → bytes_eq name (codes "create") ≡ b
-    → LowerSound place name ks (if b then after (create room (place + 1) ks) (timed room place) else other)
-create_by room place name ks other h true e =
-    rw (same_name name (codes "create") e) (token (behind _ (create_sound room place ks) (λ a bs rest d. timed_sound room place a (Lower (codes "create") ∷ bs) d (place + 1 + length bs) (omega arith) rest)))
-create_by room place name ks other h false e = h
+create_by : (room position : ℕ) (name : List ℕ) (ks : List TokenKind) (other : Outcome Proc) → LowerSound position name ks other → (b : Bool) → bytes_eq name (codes "create") ≡ b
+    → LowerSound position name ks (if b then after (create room (position + 1) ks) (timed room position) else other)
+create_by room position name ks other h true e =
+    rw (same_name name (codes "create") e) (token (behind _ (create_sound room position ks) (λ a bs rest d. timed_sound room position a (Lower (codes "create") ∷ bs) d (position + 1 + length bs) (omega arith) rest)))
+create_by room position name ks other h false e = h
 
-word_by : (place : ℕ) (name word : List ℕ) (ks : List TokenKind) (one other : Outcome Proc) → LowerSound place word ks one → LowerSound place name ks other → (b : Bool) → bytes_eq name word ≡ b
-    → LowerSound place name ks (if b then one else other)
-word_by place name word ks one other g h true e = subst (λ n. LowerSound place n ks one) (sym (same_name name word e)) g
-word_by place name word ks one other g h false e = h
+word_by : (position : ℕ) (name word : List ℕ) (ks : List TokenKind) (one other : Outcome Proc) → LowerSound position word ks one → LowerSound position name ks other → (b : Bool) → bytes_eq name word ≡ b
+    → LowerSound position name ks (if b then one else other)
+word_by position name word ks one other g h true e = subst (λ n. LowerSound position n ks one) (sym (same_name name word e)) g
+word_by position name word ks one other g h false e = h
 
-lower_proc_sound : (whole : Parser Proc) → Sound (SpellsProc level.Proc) whole → (room : ℕ) (name : List ℕ) (place : ℕ) (ks : List TokenKind) → LowerSound place name ks (lower_proc whole room name place (place + 1) ks)
+lower_proc_sound : (whole : Parser Proc) → Sound (SpellsProc level.Proc) whole → (room : ℕ) (name : List ℕ) (position : ℕ) (ks : List TokenKind) → LowerSound position name ks (lower_proc whole room name position (position + 1) ks)
 unfolding lower_proc
-lower_proc_sound whole h room name place ks =
-    word_by place name (codes "let") ks _ _ (token (block_sound whole h room place ks))
-    (word_by place name (codes "if") ks _ _ (token (test_sound whole h room place ks))
-    (create_by room place name ks _ (named_sound room place name ks (is_atom_word name) refl) (bytes_eq name (codes "create")) refl)
+lower_proc_sound whole h room name position ks =
+    word_by position name (codes "let") ks _ _ (token (block_sound whole h room position ks))
+    (word_by position name (codes "if") ks _ _ (token (test_sound whole h room position ks))
+    (create_by room position name ks _ (named_sound room position name ks (is_atom_word name) refl) (bytes_eq name (codes "create")) refl)
     (bytes_eq name (codes "if")) refl)
     (bytes_eq name (codes "let")) refl
 

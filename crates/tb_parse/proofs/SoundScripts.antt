@@ -26,7 +26,7 @@ abbrev formal_of : Var → Bool → Formal
 formal_of v result = record { name = v.name; sort = v.sort; result = result; token = v.token; sort_token = v.sort_token }
 
 formal_made : (at : ℕ) (v : Var) (xs : List TokenKind) (result : Bool) → SpellsVar at v xs → SpellsFormal at (formal_of v result) (xs ++ mark result)
-formal_made at v xs result d = record { place = d.place; sort = d.sort; is_sort = d.is_sort; is = ap (λ l. l ++ mark result) d.is }
+formal_made at v xs result d = record { position = d.position; sort = d.sort; is_sort = d.is_sort; is = ap (λ l. l ++ mark result) d.is }
 
 formal_sound : (room : ℕ) → Sound SpellsFormal (formal room)
 unfolding formal
@@ -34,13 +34,13 @@ formal_sound room at ks = behind _ (var_sound room at ks) (λ v xs rest d.
     with_sign Question (λ at ks. Found (formal_of v true) at ks) (λ rest. found (formal_made at v xs true d)) (found (formal_made at v xs false d)))
 
 -- behind the word
-process_sound : (room place : ℕ) (ks : List TokenKind) → Fits (λ d ns. SpellsProcDef place d (Lower (codes "process") ∷ ns)) (place + 1) ks (process room place (place + 1) ks)
+process_sound : (room position : ℕ) (ks : List TokenKind) → Fits (λ d ns. SpellsProcDef position d (Lower (codes "process") ∷ ns)) (position + 1) ks (process room position (position + 1) ks)
 unfolding process
-process_sound room place ks = behind _ (upper_sound (place + 1) ks) (λ name xs rest f. rw f
-    (behind _ (in_parens_sound SpellsFormal (formal room) (formal_sound room) room (place + 1 + 1) rest) (λ formals fs rest d.
-    skip_word (codes "is") (λ at ks. mapped (λ body. record { name = name; formals = formals; body = body; token = place }) (proc room at ks))
-    (λ rest. mapping _ (proc_sound room (place + 1 + 1 + length fs + 1) rest) (λ b bs e.
-    record { place = refl; formals = fs; are_formals = at_formals (omega arith) d; body = bs; is_body = at_proc (omega arith) e; is = refl }))))) where
+process_sound room position ks = behind _ (upper_sound (position + 1) ks) (λ name xs rest f. rw f
+    (behind _ (in_parens_sound SpellsFormal (formal room) (formal_sound room) room (position + 1 + 1) rest) (λ formals fs rest d.
+    skip_word (codes "is") (λ at ks. mapped (λ body. record { name = name; formals = formals; body = body; token = position }) (proc room at ks))
+    (λ rest. mapping _ (proc_sound room (position + 1 + 1 + length fs + 1) rest) (λ b bs e.
+    record { position = refl; formals = fs; are_formals = at_formals (omega arith) d; body = bs; is_body = at_proc (omega arith) e; is = refl }))))) where
       at_formals : {a b : ℕ} {formals : List Formal} {fs : List TokenKind} → a ≡ b → InParens SpellsFormal a formals fs → InParens SpellsFormal b formals fs
       at_formals {formals = formals} {fs = fs} e d = subst (λ n. InParens SpellsFormal n formals fs) e d
 
@@ -72,14 +72,14 @@ command_sound at ks =
     (found refl)
 
 -- behind the word
-tool_sound : (place : ℕ) (ks : List TokenKind) → Fits (λ d ns. SpellsToolDef place d (Lower (codes "tool") ∷ ns)) (place + 1) ks (tool place (place + 1) ks)
+tool_sound : (position : ℕ) (ks : List TokenKind) → Fits (λ d ns. SpellsToolDef position d (Lower (codes "tool") ∷ ns)) (position + 1) ks (tool position (position + 1) ks)
 unfolding tool
-tool_sound place ks = behind _ (free_name_sound (place + 1) ks) (λ name xs rest f. rw f.1
+tool_sound position ks = behind _ (free_name_sound (position + 1) ks) (λ name xs rest f. rw f.1
     (skip_word (codes "is") (skip (is_sign LeftBrace) (closed name)) (λ rest.
-    skip_sign LeftBrace (closed name) (λ rest. behind _ (command_sound (place + 1 + 1 + 1 + 1) rest) (λ c cs rest e.
-    expect_sign RightBrace _ (record { place = refl; is_name = f.0; is = ap (λ l. Lower (codes "tool") ∷ Lower name ∷ Lower (codes "is") ∷ Sign LeftBrace ∷ (l ++ Sign RightBrace ∷ [])) e })))))) where
+    skip_sign LeftBrace (closed name) (λ rest. behind _ (command_sound (position + 1 + 1 + 1 + 1) rest) (λ c cs rest e.
+    expect_sign RightBrace _ (record { position = refl; is_name = f.0; is = ap (λ l. Lower (codes "tool") ∷ Lower name ∷ Lower (codes "is") ∷ Sign LeftBrace ∷ (l ++ Sign RightBrace ∷ [])) e })))))) where
       closed : List ℕ → Parser ToolDef
-      closed name at ks = after (command at ks) (λ found. expect (is_sign RightBrace) (record { name = name; command = found; token = place }))
+      closed name at ks = after (command at ks) (λ found. expect (is_sign RightBrace) (record { name = name; command = found; token = position }))
 
 -- Scripts.
 
@@ -163,12 +163,12 @@ sound room ks s at rest e =
     let all : ks ≡ f.fits.0 = f.fits.1 ∙ ap (λ l. f.fits.0 ++ l) none ∙ append-nil f.fits.0 in
     subst (Spells s) (sym all) f.fits.3
 
--- the place of a fault is one of the tokens', or their end, and the tokens in front of it begin some script's spelling
-pub begun : (room : ℕ) (ks : List TokenKind) (place : ℕ) → script room 0 ks ≡ Stops place → (place ≤ length ks) × Begins (take place ks)
-begun room ks place e =
+-- the position of a fault is one of the tokens', or their end, and the tokens in front of it begin some script's spelling
+pub begun : (room : ℕ) (ks : List TokenKind) (position : ℕ) → script room 0 ks ≡ Stops position → (position ≤ length ks) × Begins (take position ks)
+begun room ks position e =
     let f = stops_begun (script_fits room ks) e in
-    let here : place ≡ 0 + length f.0 = f.3 in
-    let place_is : place ≡ length f.0 = omega arith in
+    let here : position ≡ 0 + length f.0 = f.3 in
+    let position_is : position ≡ length f.0 = omega arith in
     let all : length ks ≡ length f.0 + length f.1 = ap length f.2 ∙ length-append f.0 f.1 in
-    let prefix : take place ks ≡ f.0 = ap (take place) f.2 ∙ ap (λ n. take n (f.0 ++ f.1)) place_is ∙ take-append_seam f.0 f.1 in
+    let prefix : take position ks ≡ f.0 = ap (take position) f.2 ∙ ap (λ n. take n (f.0 ++ f.1)) position_is ∙ take-append_seam f.0 f.1 in
     (omega arith, subst Begins (sym prefix) f.4)

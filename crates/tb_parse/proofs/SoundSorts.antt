@@ -114,9 +114,9 @@ word_sort_named name = bool_named name (bytes_eq name (codes "bool")) refl
 
 -- Sorts.
 
--- the sort with the place of its innermost name
-abbrev pub SpellsPlaced : ℕ → (Sort × ℕ) → List TokenKind → Type 0
-SpellsPlaced at found ks = SpellsSort at found.0 found.1 ks
+-- the sort with the position of its innermost name
+abbrev pub SpellsPositioned : ℕ → (Sort × ℕ) → List TokenKind → Type 0
+SpellsPositioned at found ks = SpellsSort at found.0 found.1 ks
 
 named_spelt : (at : ℕ) (name : List ℕ) → is_free name ≡ true → (o : Option Sort) → NamedAs name o → SpellsSort at (named_sort name o) at (Lower name ∷ [])
 named_spelt at name free None n = SpellsSort.tool at name free n
@@ -135,26 +135,26 @@ plain at name end rest = Found (named_sort name (word_sort name), at) end rest
 abbrev sort_behind : Parser (Sort × ℕ) → ℕ → List ℕ → Bool → ℕ → List TokenKind → Outcome (Sort × ℕ)
 sort_behind item at name b end rest = if (if b then begins (is_sign LeftParen) rest else false) then inside_of item (end + 1) (tail rest) else plain at name end rest
 
-plain_sound : (at : ℕ) (name : List ℕ) (end : ℕ) (rest : List TokenKind) → is_free name ≡ true → Fits (λ s zs. SpellsPlaced at s (Lower name ∷ zs)) end rest (plain at name end rest)
+plain_sound : (at : ℕ) (name : List ℕ) (end : ℕ) (rest : List TokenKind) → is_free name ≡ true → Fits (λ s zs. SpellsPositioned at s (Lower name ∷ zs)) end rest (plain at name end rest)
 unfolding plain
 plain_sound at name end rest f = found (named_spelt at name f (word_sort name) (word_sort_named name))
 
-inside_sound : (item : Parser (Sort × ℕ)) → ((at : ℕ) (ks : List TokenKind) → Fits (SpellsPlaced at) at ks (item at ks)) → (at : ℕ) (rest : List TokenKind)
-    → Fits (λ s zs. SpellsPlaced at s (Lower (codes "list") ∷ Sign LeftParen ∷ zs)) (at + 2) rest (inside_of item (at + 2) rest)
+inside_sound : (item : Parser (Sort × ℕ)) → ((at : ℕ) (ks : List TokenKind) → Fits (SpellsPositioned at) at ks (item at ks)) → (at : ℕ) (rest : List TokenKind)
+    → Fits (λ s zs. SpellsPositioned at s (Lower (codes "list") ∷ Sign LeftParen ∷ zs)) (at + 2) rest (inside_of item (at + 2) rest)
 unfolding inside_of
 inside_sound item h at rest =
-    behind _ (mapping {T = λ s zs. SpellsPlaced at s (Lower (codes "list") ∷ Sign LeftParen ∷ (zs ++ Sign RightParen ∷ []))} _ (h (at + 2) rest) (λ s zs d. SpellsSort.list_of d)) (λ s zs rest d. expect_sign RightParen s d)
+    behind _ (mapping {T = λ s zs. SpellsPositioned at s (Lower (codes "list") ∷ Sign LeftParen ∷ (zs ++ Sign RightParen ∷ []))} _ (h (at + 2) rest) (λ s zs d. SpellsSort.list_of d)) (λ s zs rest d. expect_sign RightParen s d)
 
-behind_sound : (item : Parser (Sort × ℕ)) → ((at : ℕ) (ks : List TokenKind) → Fits (SpellsPlaced at) at ks (item at ks)) → (at : ℕ) (name : List ℕ) (rest : List TokenKind) → is_free name ≡ true
-    → (b : Bool) → bytes_eq name (codes "list") ≡ b → Fits (λ s zs. SpellsPlaced at s (Lower name ∷ zs)) (at + 1) rest (sort_behind item at name b (at + 1) rest)
+behind_sound : (item : Parser (Sort × ℕ)) → ((at : ℕ) (ks : List TokenKind) → Fits (SpellsPositioned at) at ks (item at ks)) → (at : ℕ) (name : List ℕ) (rest : List TokenKind) → is_free name ≡ true
+    → (b : Bool) → bytes_eq name (codes "list") ≡ b → Fits (λ s zs. SpellsPositioned at s (Lower name ∷ zs)) (at + 1) rest (sort_behind item at name b (at + 1) rest)
 behind_sound item h at name rest f true e =
     with_sign LeftParen (inside_of item) (λ rest. rw (same_name name (codes "list") e) (moved (at + 2) (at + 1 + 1) (omega arith) rest (inside_sound item h at rest))) (plain_sound at name (at + 1) rest f) where
-      moved : (a b : ℕ) → a ≡ b → (rest : List TokenKind) → Fits (λ s zs. SpellsPlaced at s (Lower (codes "list") ∷ Sign LeftParen ∷ zs)) a rest (inside_of item a rest)
-          → Fits (λ s zs. SpellsPlaced at s (Lower (codes "list") ∷ Sign LeftParen ∷ zs)) b rest (inside_of item b rest)
-      moved a b e rest g = subst (λ n. Fits (λ s zs. SpellsPlaced at s (Lower (codes "list") ∷ Sign LeftParen ∷ zs)) n rest (inside_of item n rest)) e g
+      moved : (a b : ℕ) → a ≡ b → (rest : List TokenKind) → Fits (λ s zs. SpellsPositioned at s (Lower (codes "list") ∷ Sign LeftParen ∷ zs)) a rest (inside_of item a rest)
+          → Fits (λ s zs. SpellsPositioned at s (Lower (codes "list") ∷ Sign LeftParen ∷ zs)) b rest (inside_of item b rest)
+      moved a b e rest g = subst (λ n. Fits (λ s zs. SpellsPositioned at s (Lower (codes "list") ∷ Sign LeftParen ∷ zs)) n rest (inside_of item n rest)) e g
 behind_sound item h at name rest f false e = plain_sound at name (at + 1) rest f
 
-pub sort_sound : (room at : ℕ) (ks : List TokenKind) → Fits (SpellsPlaced at) at ks (sort room at ks)
+pub sort_sound : (room at : ℕ) (ks : List TokenKind) → Fits (SpellsPositioned at) at ks (sort room at ks)
 unfolding sort inside_of plain
 sort_sound zero at ks = stops (Lower (codes "int") ∷ [], (sorts.Int, at), SpellsSort.plain at IsSortWord.int)
 sort_sound (suc room) at ks = behind _ (free_name_sound at ks) (λ name xs rest f.

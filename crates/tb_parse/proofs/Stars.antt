@@ -16,7 +16,7 @@ pub record StarsSoFar (room : ℕ) (start : Ahead) (whole : Built) (turn : ℕ) 
   pub is_built : whole ≡ built tree
   pub same : runs (turns (prim room) room) start ≡ runs (leftward (prim room) (room - turn) tree) ahead
 
-pub stars_none : (room : ℕ) (start : Ahead) {place : ℕ} → runs (as_built (prim room)) start ≡ Stops place → runs (as_built (turns (prim room) room)) start ≡ Stops place
+pub stars_none : (room : ℕ) (start : Ahead) {position : ℕ} → runs (as_built (prim room)) start ≡ Stops position → runs (as_built (turns (prim room) room)) start ≡ Stops position
 unfolding turns
 stars_none room start e = ap (λ (o : Outcome Proc). mapped built (after o (leftward (prim room) room))) (unseen built (runs (prim room) start) e)
 
@@ -60,8 +60,8 @@ module _ (room : ℕ) (start : Ahead) (whole : Built) (turn : ℕ) (ahead : Ahea
       let same : behind ≡ next ahead = is_behind ∙ ap (λ b. if b then next ahead else ahead) some in
       goes below ∙ ap step some ∙ ap (λ (r : Ahead). behind_one (runs (prim room) r)) (sym same)
 
-  pub stars_stop : {more : Bool} {behind : Ahead} {place : ℕ} → turn < room → more ≡ begins (is_sign Star) ahead.kinds → behind ≡ eaten (is_sign Star) ahead → more ≡ true
-      → runs (as_built (prim room)) behind ≡ Stops place → runs (as_built (turns (prim room) room)) start ≡ Stops place
+  pub stars_stop : {more : Bool} {behind : Ahead} {position : ℕ} → turn < room → more ≡ begins (is_sign Star) ahead.kinds → behind ≡ eaten (is_sign Star) ahead → more ≡ true
+      → runs (as_built (prim room)) behind ≡ Stops position → runs (as_built (turns (prim room) room)) start ≡ Stops position
   stars_stop {more} {behind} below is_more is_behind present e =
       ap (mapped built) (went below is_more is_behind present ∙ ap behind_one (unseen built (runs (prim room) behind) e))
 
@@ -75,6 +75,6 @@ module _ (room : ℕ) (start : Ahead) (whole : Built) (turn : ℕ) (ahead : Ahea
         same = went below is_more is_behind present ∙ ap behind_one last.2;
       }
 
-  pub stars_end : {place : ℕ} → room ≤ turn → place ≡ ahead.at → runs (as_built (turns (prim room) room)) start ≡ Stops place
+  pub stars_end : {position : ℕ} → room ≤ turn → position ≡ ahead.at → runs (as_built (turns (prim room) room)) start ≡ Stops position
   unfolding leftward
-  stars_end done is_place = ap (mapped built) (no_more from room turn done so_far.same) ∙ ap (λ p. Stops p) (sym is_place)
+  stars_end done is_position = ap (mapped built) (no_more from room turn done so_far.same) ∙ ap (λ p. Stops p) (sym is_position)

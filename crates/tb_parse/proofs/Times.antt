@@ -37,8 +37,8 @@ module _ (inner room : ℕ) (start : Ahead) (found : List TimeDef) (turn : ℕ) 
   unfolding times
   goes below so_far present = one_more from room turn below so_far ∙ ap (λ b. mapped (λ xs. found ++ xs) (if b then step (runs (time inner) ahead) else Found [] ahead.at ahead.kinds)) present
 
-  pub times_stop : {place : ℕ} {is : Bool} → turn < room → TimesSoFar inner room start found turn ahead → is ≡ begins is_time ahead.kinds → is ≡ true
-      → runs (time inner) ahead ≡ Stops place → runs (times inner room) start ≡ Stops place
+  pub times_stop : {position : ℕ} {is : Bool} → turn < room → TimesSoFar inner room start found turn ahead → is ≡ begins is_time ahead.kinds → is ≡ true
+      → runs (time inner) ahead ≡ Stops position → runs (times inner room) start ≡ Stops position
   times_stop below so_far e present stops = goes below so_far (sym e ∙ present) ∙ ap (λ (o : Outcome TimeDef). mapped (λ xs. found ++ xs) (step o)) stops
 
   pub times_more : {x : TimeDef} {new : Ahead} {all : List TimeDef} {is : Bool} → turn < room → TimesSoFar inner room start found turn ahead → is ≡ begins is_time ahead.kinds → is ≡ true
@@ -54,6 +54,6 @@ module _ (inner room : ℕ) (start : Ahead) (found : List TimeDef) (turn : ℕ) 
       ∙ ap (λ b. mapped (λ xs. found ++ xs) (if b then step (runs (time inner) ahead) else Found [] ahead.at ahead.kinds)) (sym e ∙ absent)
       ∙ ap (λ xs. Found xs ahead.at ahead.kinds) (append-nil found)
 
-  pub times_end : {place : ℕ} → room ≤ turn → TimesSoFar inner room start found turn ahead → place ≡ ahead.at → runs (times inner room) start ≡ Stops place
+  pub times_end : {position : ℕ} → room ≤ turn → TimesSoFar inner room start found turn ahead → position ≡ ahead.at → runs (times inner room) start ≡ Stops position
   unfolding times
-  times_end done so_far is_place = no_more from room turn done so_far ∙ ap (λ p. Stops p) (sym is_place)
+  times_end done so_far is_position = no_more from room turn done so_far ∙ ap (λ p. Stops p) (sym is_position)

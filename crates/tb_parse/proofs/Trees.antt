@@ -130,9 +130,9 @@ built_call call = ap (shown (tree.Call call)) (height_of _ _ (outs-Call call))
 -- what was found, and how it is seen
 pub seen : {A B : Type 0} (f : A → B) (o : Outcome A) {b : B} {at : ℕ} {ks : List TokenKind} → mapped f o ≡ Found b at ks → (x : A) × (b ≡ f x) × (o ≡ Found x at ks)
 seen f (Found x a k) e = (x, cc, cc)
-seen f (Stops place) e = absurd cc
+seen f (Stops position) e = absurd cc
 
-pub unseen : {A B : Type 0} (f : A → B) (o : Outcome A) {place : ℕ} → mapped f o ≡ Stops place → o ≡ Stops place
+pub unseen : {A B : Type 0} (f : A → B) (o : Outcome A) {position : ℕ} → mapped f o ≡ Stops position → o ≡ Stops position
 unseen f (Found x a k) e = absurd cc
 unseen f (Stops p) e = cc
 
@@ -143,5 +143,5 @@ after_built o next {b} {at} {ks} e rest =
     let found = seen built o e in
     ap (λ (o : Outcome Proc). mapped built (after o next)) found.2 ∙ rest found.0 found.1
 
-pub after_stops : (o : Outcome Proc) (next : Proc → Parser Proc) {place : ℕ} → mapped built o ≡ Stops place → mapped built (after o next) ≡ Stops place
+pub after_stops : (o : Outcome Proc) (next : Proc → Parser Proc) {position : ℕ} → mapped built o ≡ Stops position → mapped built (after o next) ≡ Stops position
 after_stops o next e = ap (λ (o : Outcome Proc). mapped built (after o next)) (unseen built o e)

@@ -1,4 +1,4 @@
--- Definitions as they are kept: processes that are not too high, tools, and the place of the first process that is too high.
+-- Definitions as they are kept: processes that are not too high, tools, and the position of the first process that is too high.
 use Rattle.std.specs.Prelude.{◌≡◌, ℕ, suc, Bool, not, List, [], ◌∷◌, ◌++◌, filter, Option, Some, None, Result, Ok, Err, if◌then◌else◌}
 use Rattle.tb_syntax.specs.Limits.{is_too_high, first_too_high}
 use Rattle.tb_syntax.specs.declared.proc.Call.{Call}
@@ -12,7 +12,7 @@ use Rattle.tb_parse.specs.declared.kept.Made.TheVariants.{Low, TooHigh}
 use Rattle.tb_parse.specs.Parsing.{Outcome, Found, Stops, Parser, Defined, mapped, process, definitions}
 use Rattle.tb_parse.specs.Reading.{Ahead, runs, StopsWith}
 
--- a definition that is kept, or the place of one that is too high
+-- a definition that is kept, or the position of one that is too high
 abbrev pub made_of : ProcDef → Made
 made_of d = if is_too_high d then TooHigh d.token else Low d
 
@@ -23,22 +23,22 @@ is_low d = not (is_too_high d)
 abbrev pub kept : Defined → Kept
 kept defined = record { procs = filter is_low defined.procs; tools = defined.tools; too_high = first_too_high defined.procs }
 
--- the place so far, or that of a definition which was left out
-abbrev pub first_place : Option ℕ → Option ℕ → Option ℕ
-first_place None later = later
-first_place (Some place) later = Some place
+-- the position so far, or that of a definition which was left out
+abbrev pub first_position : Option ℕ → Option ℕ → Option ℕ
+first_position None later = later
+first_position (Some position) later = Some position
 
 -- what was kept so far, and what is kept of the rest
 abbrev pub with_rest : Kept → Kept → Kept
-with_rest front rest = record { procs = front.procs ++ rest.procs; tools = front.tools ++ rest.tools; too_high = first_place front.too_high rest.too_high }
+with_rest prefix rest = record { procs = prefix.procs ++ rest.procs; tools = prefix.tools ++ rest.tools; too_high = first_position prefix.too_high rest.too_high }
 
 -- what was kept so far, and one definition more
 abbrev pub added : Made → Kept → Kept
 added (Low d) found = record { procs = found.procs ++ d ∷ []; tools = found.tools; too_high = found.too_high }
-added (TooHigh place) found = record { procs = found.procs; tools = found.tools; too_high = first_place found.too_high (Some place) }
+added (TooHigh position) found = record { procs = found.procs; tools = found.tools; too_high = first_position found.too_high (Some position) }
 
 abbrev pub process_made : ℕ → ℕ → Parser Made
-process_made room place at ks = mapped made_of (process room place at ks)
+process_made room position at ks = mapped made_of (process room position at ks)
 
 abbrev pub definitions_kept : ℕ → ℕ → Parser Kept
 definitions_kept inner room at ks = mapped kept (definitions inner room at ks)
@@ -52,11 +52,11 @@ Defines inner old_found old (Err e) found new = (turns : ℕ) → StopsWith (run
 -- the script of these parts, where no body is too high
 abbrev pub whole_of : Option ℕ → Kept → List Call → Result Script ParseFault
 whole_of None found roots = Ok (record { procs = found.procs; tools = found.tools; roots = roots })
-whole_of (Some place) found roots = Err (fault.TooDeep place)
+whole_of (Some position) found roots = Err (fault.TooDeep position)
 
 -- The whole list is a script, none of whose bodies is too high; or this is the first that is; or the parser stops there.
 abbrev pub Judges : Outcome Script → Result Script ParseFault → Type 0
 Judges outcome (Ok script) = ((at : ℕ) × (outcome ≡ Found script at [])) × (first_too_high script.procs ≡ None)
-Judges outcome (Err (fault.Syntax place)) = outcome ≡ Stops place
-Judges outcome (Err (fault.TooDeep place)) = (script : Script) × ((at : ℕ) × (outcome ≡ Found script at [])) × (first_too_high script.procs ≡ Some place)
+Judges outcome (Err (fault.Syntax position)) = outcome ≡ Stops position
+Judges outcome (Err (fault.TooDeep position)) = (script : Script) × ((at : ℕ) × (outcome ≡ Found script at [])) × (first_too_high script.procs ≡ Some position)
 Judges outcome (Err fault.NoMemory) = Unit {0}

@@ -9,7 +9,7 @@ use Rattle.tb_parse.specs.declared.fault.ParseFault.TheVariants as fault
 
 -- no more brackets are open behind each token than may be
 abbrev pub NoneTooDeep : List TokenKind → Type 0
-NoneTooDeep kinds = (place : ℕ) → place < length kinds → open_brackets (take (place + 1) kinds) ≤ most_open
+NoneTooDeep kinds = (position : ℕ) → position < length kinds → open_brackets (take (position + 1) kinds) ≤ most_open
 
 -- the tokens spell the script, and no limit is passed
 pub record IsScriptOf (kinds : List TokenKind) (script : Script) : Type 0 where
@@ -25,23 +25,23 @@ IsUnspelt kinds = (script : Script) → Spells script kinds → ⊥
 abbrev pub Begins : List TokenKind → Type 0
 Begins prefix = (more : List TokenKind) × (script : Script) × Spells script (prefix ++ more)
 
--- the tokens in front of the place begin some script's spelling, and with the one at the place they begin none, unless the place is their end
-pub record IsSyntaxFault (kinds : List TokenKind) (place : ℕ) : Type 0 where
+-- the tokens in front of the position begin some script's spelling, and with the one at the position they begin none, unless the position is their end
+pub record IsSyntaxFault (kinds : List TokenKind) (position : ℕ) : Type 0 where
   pub shallow : NoneTooDeep kinds
   pub unspelt : IsUnspelt kinds
-  pub is_place : place ≤ length kinds
-  pub begun : Begins (take place kinds)
-  pub stops : place < length kinds → Begins (take (place + 1) kinds) → ⊥
+  pub is_position : position ≤ length kinds
+  pub begun : Begins (take position kinds)
+  pub stops : position < length kinds → Begins (take (position + 1) kinds) → ⊥
 
--- a script is spelt, and this is the place of its first definition whose body is too high
-pub record IsTooHigh (kinds : List TokenKind) (place : ℕ) : Type 0 where
+-- a script is spelt, and this is the position of its first definition whose body is too high
+pub record IsTooHigh (kinds : List TokenKind) (position : ℕ) : Type 0 where
   pub shallow : NoneTooDeep kinds
   pub script : Script
   pub spells : Spells script kinds
-  pub first : first_too_high script.procs ≡ Some place
+  pub first : first_too_high script.procs ≡ Some position
 
--- Want of memory may come at any time.
+-- Memory may run out at any time.
 abbrev pub HasFault : List TokenKind → ParseFault → Type 0
-HasFault kinds (fault.TooDeep place) = IsTooDeep kinds place ⊎ IsTooHigh kinds place
-HasFault kinds (fault.Syntax place) = IsSyntaxFault kinds place
+HasFault kinds (fault.TooDeep position) = IsTooDeep kinds position ⊎ IsTooHigh kinds position
+HasFault kinds (fault.Syntax position) = IsSyntaxFault kinds position
 HasFault kinds fault.NoMemory = Unit {0}

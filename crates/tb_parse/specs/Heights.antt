@@ -20,9 +20,9 @@ built p = if nat_lt most_height (height p) then TooHigh else Tree p (height p)
 abbrev pub as_built : Parser Proc → Parser Built
 as_built parser at ks = mapped built (parser at ks)
 
--- what stands behind the word `create`, which stands at the place
+-- what stands behind the word `create`, which stands at the position
 abbrev pub creation : ℕ → ℕ → Parser Proc
-creation room place at ks = after (create room at ks) (timed room place)
+creation room position at ks = after (create room at ks) (timed room position)
 
 -- two sides with the height of the whole
 abbrev pub fitting : Proc → ℕ → Proc → ℕ → Option Sides
@@ -60,7 +60,7 @@ join_of chain.Seq = tree.Seq
 -- members of a chain as one process, from the right
 abbrev pub joined : (Proc → Proc → Proc) → List Built → Built → Built
 joined join [] last = last
-joined join (x ∷ front) last = both join x (joined join front last)
+joined join (x ∷ prefix) last = both join x (joined join prefix last)
 
 abbrev pub sign_of : Chain → Symbol
 sign_of chain.Par = sign.Bars

@@ -23,12 +23,12 @@ use Rattle.tb_syntax.specs.declared.script.Script.{Script}
 use Rattle.tb_syntax.specs.declared.script.ToolDef.{ToolDef}
 use Rattle.tb_syntax.specs.Words.{is_free, is_atom_word, is_time_word}
 
--- what was read, with the place behind it and the tokens that are left; or the place of the token that can't go on
+-- what was read, with the position behind it and the tokens that are left; or the position of the token that can't go on
 pub data Outcome (A : Type 0) : Type 0 where
   Found : A → ℕ → List TokenKind → Outcome A
   Stops : ℕ → Outcome A
 
--- a place and the tokens from there
+-- a position and the tokens from there
 abbrev pub Parser : Type 0 → Type 0
 Parser A = ℕ → List TokenKind → Outcome A
 
@@ -148,7 +148,7 @@ named_sort name (Some s) = s
 abbrev pub is_list : List ℕ → List TokenKind → Bool
 is_list name rest = if bytes_eq name (codes "list") then begins (is_sign LeftParen) rest else false
 
--- a sort, and the place of its innermost name
+-- a sort, and the position of its innermost name
 unfoldable pub sort : ℕ → Parser (Sort × ℕ)
 sort zero at ks = Stops at
 sort (suc room) at ks = after (free_name at ks) (λ name behind rest.
@@ -182,9 +182,9 @@ unfoldable pub expr : ℕ → Parser Ast
 expr zero at ks = Stops at
 expr (suc room) at ks = mapped (λ found. record { kind = found; token = at }) (kind (expr room) room at ks)
 
--- the actuals of a call whose name stands at the place
+-- the actuals of a call whose name stands at the position
 unfoldable pub call_of : ℕ → List ℕ → ℕ → Parser Call
-call_of room name place at ks = mapped (λ actuals. record { name = name; actuals = actuals; token = place }) (in_parens (expr room) room at ks)
+call_of room name position at ks = mapped (λ actuals. record { name = name; actuals = actuals; token = position }) (in_parens (expr room) room at ks)
 
 unfoldable pub call : ℕ → Parser Call
 call room at ks = after (upper at ks) (λ name. call_of room name at)
@@ -210,20 +210,20 @@ times inner zero at ks = Stops at
 times inner (suc room) at ks =
     if begins is_time ks then after (time inner at ks) (λ first at ks. mapped (λ rest. first ∷ rest) (times inner room at ks)) else Found [] at ks
 
--- the times of an atom that begins at the place
+-- the times of an atom that begins at the position
 unfoldable pub timed : ℕ → ℕ → ActDef → Parser Proc
-timed room place what at ks = mapped (λ found. tree.Atom (record { act = what; times = found; token = place })) (times room room at ks)
+timed room position what at ks = mapped (λ found. tree.Atom (record { act = what; times = found; token = position })) (times room room at ks)
 
 unfoldable pub var : ℕ → Parser Var
 var room at ks = after (upper at ks) (λ name. skip (is_sign Colon) (λ behind rest.
     mapped (λ found. record { name = name; sort = found.0; token = at; sort_token = found.1 }) (sort room behind rest)))
 
--- what begins with an upper name at the place: an assignment or a call
+-- what begins with an upper name at the position: an assignment or a call
 unfoldable pub upper_proc : ℕ → List ℕ → ℕ → Parser Proc
-upper_proc room name place at ks =
+upper_proc room name position at ks =
     if begins (is_sign Assign) ks
-    then after (mapped (act.Set name) (expr room (at + 1) (tail ks))) (timed room place)
-    else mapped tree.Call (call_of room name place at ks)
+    then after (mapped (act.Set name) (expr room (at + 1) (tail ks))) (timed room position)
+    else mapped tree.Call (call_of room name position at ks)
 
 unfoldable pub block : Parser Proc → ℕ → Parser Proc
 block whole room at ks = after (parted (var room) room at ks) (λ vars. skip (is_word (codes "in")) (λ at ks.
@@ -239,14 +239,14 @@ sides whole test x at ks =
 unfoldable pub test : Parser Proc → ℕ → Parser Proc
 test whole room at ks = after (expr room at ks) (λ value. skip (is_word (codes "then")) (λ at ks. after (whole at ks) (sides whole value)))
 
--- what begins with a lower name at the place
+-- what begins with a lower name at the position
 unfoldable pub lower_proc : Parser Proc → ℕ → List ℕ → ℕ → Parser Proc
-lower_proc whole room name place at ks =
+lower_proc whole room name position at ks =
     if bytes_eq name (codes "let") then block whole room at ks
     else (if bytes_eq name (codes "if") then test whole room at ks
-    else (if bytes_eq name (codes "create") then after (create room at ks) (timed room place)
-    else (if is_atom_word name then after (mapped (act.Named name) (in_parens (expr room) room at ks)) (timed room place)
-    else Stops place)))
+    else (if bytes_eq name (codes "create") then after (create room at ks) (timed room position)
+    else (if is_atom_word name then after (mapped (act.Named name) (in_parens (expr room) room at ks)) (timed room position)
+    else Stops position)))
 
 unfoldable pub prim_of : Parser Proc → ℕ → Parser Proc
 prim_of whole room at [] = Stops at
@@ -294,10 +294,10 @@ formal room at ks = after (var room at ks) (λ found behind rest.
       marked : Var → Bool → Formal
       marked found result = record { name = found.name; sort = found.sort; result = result; token = found.token; sort_token = found.sort_token }
 
--- what stands behind the word `process` at the place
+-- what stands behind the word `process` at the position
 unfoldable pub process : ℕ → ℕ → Parser ProcDef
-process room place at ks = after (upper at ks) (λ name at ks. after (in_parens (formal room) room at ks) (λ formals.
-    skip (is_word (codes "is")) (λ at ks. mapped (λ body. record { name = name; formals = formals; body = body; token = place }) (proc room at ks))))
+process room position at ks = after (upper at ks) (λ name at ks. after (in_parens (formal room) room at ks) (λ formals.
+    skip (is_word (codes "is")) (λ at ks. mapped (λ body. record { name = name; formals = formals; body = body; token = position }) (proc room at ks))))
 
 unfoldable pub command : Parser (Option (List ℕ))
 command at ks =
@@ -305,10 +305,10 @@ command at ks =
     then skip (is_sign Equals) (λ at ks. mapped Some (text at ks)) (at + 1) (tail ks)
     else Found None at ks
 
--- what stands behind the word `tool` at the place
+-- what stands behind the word `tool` at the position
 unfoldable pub tool : ℕ → Parser ToolDef
-tool place at ks = after (free_name at ks) (λ name. skip (is_word (codes "is")) (skip (is_sign LeftBrace) (λ at ks.
-    after (command at ks) (λ found. expect (is_sign RightBrace) (record { name = name; command = found; token = place })))))
+tool position at ks = after (free_name at ks) (λ name. skip (is_word (codes "is")) (skip (is_sign LeftBrace) (λ at ks.
+    after (command at ks) (λ found. expect (is_sign RightBrace) (record { name = name; command = found; token = position })))))
 
 -- what is defined so far
 pub record Defined : Type 0 where

@@ -5,7 +5,7 @@ use Rattle.tb_parse.specs.declared.fault.ParseFault.{ParseFault}
 use Rattle.tb_parse.specs.declared.fault.ParseFault.TheVariants as fault
 use Rattle.tb_parse.specs.Parsing.{Outcome, Found, Stops, Parser, begins, tail}
 
--- the place of the next token, and the tokens from there
+-- the position of the next token, and the tokens from there
 pub record Ahead : Type 0 where
   pub at : ℕ
   pub kinds : List TokenKind
@@ -21,10 +21,10 @@ next ahead = record { at = ahead.at + 1; kinds = tail ahead.kinds }
 abbrev pub eaten : (TokenKind → Bool) → Ahead → Ahead
 eaten test ahead = if begins test ahead.kinds then next ahead else ahead
 
--- the fault is the place at which the parser stops; want of memory is free
+-- the fault is the position at which the parser stops; running out of memory is free
 abbrev pub StopsWith : {A : Type 0} → Outcome A → ParseFault → Type 0
-StopsWith outcome (fault.Syntax place) = outcome ≡ Stops place
-StopsWith outcome (fault.TooDeep place) = ⊥
+StopsWith outcome (fault.Syntax position) = outcome ≡ Stops position
+StopsWith outcome (fault.TooDeep position) = ⊥
 StopsWith outcome fault.NoMemory = Unit {0}
 
 -- what was returned is what the parser found, and the reader stands behind it; or the parser stops there

@@ -11,7 +11,7 @@ use tb_lex::Symbol;
 use tb_syntax::{ActDef, Call, Calls, TimeDef, TimeDefs, Var, Vars};
 use tb_terms::{Ident, Items};
 
-/// The call whose name stands at this place, and is taken already.
+/// The call whose name stands at this position, and is taken already.
 #[tactic(auto, unfolding(crate::specs::Parsing::call_of))]
 pub(crate) fn call_of(
     alloc: Global,
@@ -34,7 +34,7 @@ pub(crate) fn call_of(
 pub(crate) fn call(alloc: Global, reader: &mut Reader<'_>, room: usize) -> Result<Call, ParseFault>
     ensures { Meets (runs (call room) reader.old) result reader.new }
 {
-    let token = reader.place();
+    let token = reader.position();
     let name = reader.upper(alloc)?;
     call_of(alloc, reader, room, name, token)
 }
@@ -54,7 +54,7 @@ pub(crate) fn calls(
             return Ok(found);
         }
     }
-    Err(ParseFault::Syntax(reader.place()))
+    Err(ParseFault::Syntax(reader.position()))
 }
 
 /// What stands behind the word `create`.
@@ -78,7 +78,7 @@ pub(crate) fn create(
 fn time(alloc: Global, reader: &mut Reader<'_>, room: usize) -> Result<TimeDef, ParseFault>
     ensures { Meets (runs (time room) reader.old) result reader.new }
 {
-    let token = reader.place();
+    let token = reader.position();
     let name = reader.lower(alloc)?;
     reader.skip_sign(Symbol::LeftParen)?;
     let value = expr(alloc, reader, room)?;
@@ -101,7 +101,7 @@ pub(crate) fn times(
         }
         found.push(time(alloc, reader, room)?)?;
     }
-    Err(ParseFault::Syntax(reader.place()))
+    Err(ParseFault::Syntax(reader.position()))
 }
 
 /// A variable with its sort.
@@ -109,7 +109,7 @@ pub(crate) fn times(
 pub(crate) fn var(alloc: Global, reader: &mut Reader<'_>, room: usize) -> Result<Var, ParseFault>
     ensures { Meets (runs (var room) reader.old) result reader.new }
 {
-    let token = reader.place();
+    let token = reader.position();
     let name = reader.upper(alloc)?;
     reader.skip_sign(Symbol::Colon)?;
     let (sort, sort_token) = sort(alloc, reader, room)?;
@@ -132,5 +132,5 @@ pub(crate) fn vars(alloc: Global, reader: &mut Reader<'_>, room: usize) -> Resul
             return Ok(found);
         }
     }
-    Err(ParseFault::Syntax(reader.place()))
+    Err(ParseFault::Syntax(reader.position()))
 }

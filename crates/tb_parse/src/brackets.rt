@@ -8,15 +8,15 @@ use tb_lex::{Symbol, Token, TokenKind};
 /// How many brackets may be open.
 const MOST_OPEN: usize = 128;
 
-/// The place of the first token behind which too many brackets are open.
+/// The position of the first token behind which too many brackets are open.
 pub(crate) fn too_deep(tokens: &[Token]) -> Option<usize>
     ensures { MatchOption result (NoneTooDeep (kinds_of tokens.now)) (IsTooDeep (kinds_of tokens.now)) }
 {
     let mut count = 0;
-    for (place, token) in tokens.iter().enumerate() {
+    for (position, token) in tokens.iter().enumerate() {
         count = open_behind(count, &token.kind);
         if count > MOST_OPEN {
-            return Some(place);
+            return Some(position);
         }
     }
     None

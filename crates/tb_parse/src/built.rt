@@ -102,13 +102,13 @@ fn join(chain: Chain, x: Boxed<Proc>, y: Boxed<Proc>) -> Proc
 pub(crate) fn joined(
     alloc: Global,
     chain: Chain,
-    mut front: Items<Built>,
+    mut prefix: Items<Built>,
     last: Built,
 ) -> Result<Built, NoMemory>
-    ensures { IfOk result (λ made. made ≡ joined (join_of chain) front last) }
+    ensures { IfOk result (λ made. made ≡ joined (join_of chain) prefix last) }
 {
     let mut whole = last;
-    while let Some(x) = front.pop() {
+    while let Some(x) = prefix.pop() {
         whole = link(alloc, chain, x, whole)?;
     }
     Ok(whole)

@@ -25,7 +25,7 @@ pub(crate) fn script(
     reader.skip_sign(Symbol::LeftParen)?;
     let roots = roots(alloc, reader, room)?;
     if !reader.is_done() {
-        return Err(ParseFault::Syntax(reader.place()));
+        return Err(ParseFault::Syntax(reader.position()));
     }
     whole(defined, roots)
 }
@@ -39,7 +39,7 @@ fn definitions(alloc: Global, reader: &mut Reader<'_>, room: usize) -> Result<Ke
             return Ok(found);
         }
     }
-    Err(ParseFault::Syntax(reader.place()))
+    Err(ParseFault::Syntax(reader.position()))
 }
 
 /// Takes one definition more, if one comes next.
@@ -51,7 +51,7 @@ fn define(
 ) -> Result<bool, ParseFault>
     ensures { Defines room found.old reader.old result found.new reader.new }
 {
-    let token = reader.place();
+    let token = reader.position();
     if reader.eat_word(b"process") {
         let made = process(alloc, reader, room, token)?;
         add(found, made)?;
@@ -65,7 +65,7 @@ fn define(
     Ok(false)
 }
 
-/// What stands behind the word `process`, which stands at this place.
+/// What stands behind the word `process`, which stands at this position.
 fn process(
     alloc: Global,
     reader: &mut Reader<'_>,
@@ -108,7 +108,7 @@ fn parted_formals(
             return Ok(found);
         }
     }
-    Err(ParseFault::Syntax(reader.place()))
+    Err(ParseFault::Syntax(reader.position()))
 }
 
 #[tactic(auto, unfolding(crate::specs::Parsing::formal))]
@@ -131,7 +131,7 @@ fn formal(alloc: Global, reader: &mut Reader<'_>, room: usize) -> Result<Formal,
     })
 }
 
-/// What stands behind the word `tool`, which stands at this place.
+/// What stands behind the word `tool`, which stands at this position.
 #[tactic(auto, unfolding(crate::specs::Parsing::tool))]
 fn tool(alloc: Global, reader: &mut Reader<'_>, token: usize) -> Result<ToolDef, ParseFault>
     ensures { Meets (runs (tool token) reader.old) result reader.new }

@@ -17,7 +17,7 @@ use tb_terms::{Ident, Items};
 pub(crate) fn expr(alloc: Global, reader: &mut Reader<'_>, room: usize) -> Result<Ast, ParseFault>
     ensures { Meets (runs (expr room) reader.old) result reader.new }
 {
-    let token = reader.place();
+    let token = reader.position();
     if room == 0 {
         return Err(ParseFault::Syntax(token));
     }
@@ -30,7 +30,7 @@ pub(crate) fn expr(alloc: Global, reader: &mut Reader<'_>, room: usize) -> Resul
 fn kind(alloc: Global, reader: &mut Reader<'_>, room: usize) -> Result<AstKind, ParseFault>
     ensures { Meets (runs (kind (expr room) room) reader.old) result reader.new }
 {
-    let at = reader.place();
+    let at = reader.position();
     match reader.take() {
         Some(TokenKind::Int(number)) => Ok(AstKind::Int(*number)),
         Some(TokenKind::Str(text)) => Ok(AstKind::Str(text.copy(alloc)?)),
@@ -66,7 +66,7 @@ fn variable(name: Ident, takes: bool) -> AstKind
 fn hole(alloc: Global, reader: &mut Reader<'_>) -> Result<AstKind, ParseFault>
     ensures { Meets (runs hole reader.old) result reader.new }
 {
-    let at = reader.place();
+    let at = reader.position();
     let name = reader.lower(alloc)?;
     let Some(sort) = word_sort(alloc, name.as_bytes())? else {
         return Err(ParseFault::Syntax(at));
@@ -119,5 +119,5 @@ fn exprs(alloc: Global, reader: &mut Reader<'_>, room: usize) -> Result<Asts, Pa
             return Ok(parts);
         }
     }
-    Err(ParseFault::Syntax(reader.place()))
+    Err(ParseFault::Syntax(reader.position()))
 }

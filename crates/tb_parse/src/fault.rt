@@ -2,7 +2,7 @@ use std::alloc::{AllocError, AllocFailed};
 use tb_terms::NoMemory;
 use thiserror::Error;
 
-/// Why tokens are no script. Places count the tokens from 0.
+/// Why tokens are no script. Positions count the tokens from 0.
 #[derive(Clone, Copy, Debug, Drop, Error, PartialEq, Eq)]
 pub enum ParseFault {
     /// No script is spelt by the tokens; the first token with which no script goes on, or the number

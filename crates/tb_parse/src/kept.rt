@@ -1,7 +1,7 @@
 ghost use Rattle.std.specs.Prelude.{◌≡◌, [], None, Some, OnOk};
 ghost use Rattle.tb_syntax.specs.declared.proc.Proc.{Proc};
 ghost use Rattle.tb_parse.specs.Heights.{built};
-ghost use Rattle.tb_parse.specs.Defining.{added, first_place, made_of, whole_of};
+ghost use Rattle.tb_parse.specs.Defining.{added, first_position, made_of, whole_of};
 
 use crate::ParseFault;
 use crate::built::Built;
@@ -9,7 +9,7 @@ use std::alloc::Global;
 use tb_syntax::{Calls, Formals, ProcDef, ProcDefs, Script, ToolDefs};
 use tb_terms::{Ident, Items, NoMemory};
 
-/// What is defined so far: the processes that are not too high, and the place of the first that is.
+/// What is defined so far: the processes that are not too high, and the position of the first that is.
 #[derive(Debug, Drop)]
 pub(crate) struct Kept {
     pub(crate) procs: ProcDefs,
@@ -21,11 +21,11 @@ pub(crate) struct Kept {
 #[derive(Debug, Drop)]
 pub(crate) enum Made {
     Low(ProcDef),
-    /// The one at this place has a body that is too high.
+    /// The one at this position has a body that is too high.
     TooHigh(usize),
 }
 
-/// The definition with these parts, at this place.
+/// The definition with these parts, at this position.
 #[tactic(auto, using(crate::proofs::KeptRows::made_low, crate::proofs::KeptRows::made_high))]
 pub(crate) fn definition(name: Ident, formals: Formals, body: Built, token: usize) -> Made
     ensures { (p : Proc) → body ≡ built p → result ≡ made_of (record { name = name; formals = formals; body = p; token = token }) }
@@ -60,19 +60,19 @@ pub(crate) fn add(found: &mut Kept, made: Made) -> Result<(), NoMemory>
             found.procs.push(definition)?;
             Ok(())
         }
-        Made::TooHigh(place) => {
-            found.too_high = first_place(found.too_high, place);
+        Made::TooHigh(position) => {
+            found.too_high = first_position(found.too_high, position);
             Ok(())
         }
     }
 }
 
-fn first_place(so_far: Option<usize>, place: usize) -> Option<usize>
-    ensures { result ≡ first_place so_far (Some place) }
+fn first_position(so_far: Option<usize>, position: usize) -> Option<usize>
+    ensures { result ≡ first_position so_far (Some position) }
 {
     match so_far {
         Some(first) => Some(first),
-        None => Some(place),
+        None => Some(position),
     }
 }
 
@@ -86,7 +86,7 @@ pub(crate) fn whole(found: Kept, roots: Calls) -> Result<Script, ParseFault>
         too_high,
     } = found;
     match too_high {
-        Some(place) => Err(ParseFault::TooDeep(place)),
+        Some(position) => Err(ParseFault::TooDeep(position)),
         None => Ok(Script {
             procs,
             tools,

@@ -13,7 +13,7 @@ pub fn spelling_is_unique()
     ensures { (kinds : List TokenKind) (s t : Script) → Spells s kinds → Spells t kinds → s ≡ t }
 {}
 
-/// But for want of memory, tokens have one fault at most, and none where they are a script within the
+/// Unless memory runs out, tokens have one fault at most, and none where they are a script within the
 /// limits.
 pub fn faults_are_unique()
     ensures one { (kinds : List TokenKind) (f g : ParseFault) → HasFault kinds f → HasFault kinds g
@@ -22,7 +22,7 @@ pub fn faults_are_unique()
         → HasFault kinds f → f ≡ NoMemory }
 {}
 
-/// Each row of tokens is a script within the limits, or has a fault other than want of memory.
+/// Each row of tokens is a script within the limits, or has a fault other than running out of memory.
 pub fn each_row_has_one()
     ensures { (kinds : List TokenKind) → ((script : Script) × IsScriptOf kinds script)
         ⊎ ((f : ParseFault) × HasFault kinds f × (f ≢ NoMemory)) }

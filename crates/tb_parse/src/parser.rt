@@ -32,8 +32,8 @@ fn read(alloc: Global, tokens: &[Token]) -> Result<Script, ParseFault>
     ensures found { IfOk result (IsScriptOf (kinds_of tokens.now)) }
     ensures fault { IfErr result (HasFault (kinds_of tokens.now)) }
 {
-    if let Some(place) = too_deep(tokens) {
-        return Err(ParseFault::TooDeep(place));
+    if let Some(position) = too_deep(tokens) {
+        return Err(ParseFault::TooDeep(position));
     }
     let mut reader = Reader::new(tokens);
     script(alloc, &mut reader, tokens.len())

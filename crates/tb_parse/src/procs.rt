@@ -33,15 +33,15 @@ fn chain(
     ensures { Meets (runs (as_built (chained link room)) reader.old) result reader.new }
 {
     let sign = sign_of(link);
-    let mut front = Items::new(alloc);
+    let mut prefix = Items::new(alloc);
     for _turn in 0..room {
         let x = member(alloc, reader, room, link)?;
         if !reader.eat_sign(sign) {
-            return Ok(joined(alloc, link, front, x)?);
+            return Ok(joined(alloc, link, prefix, x)?);
         }
-        front.push(x)?;
+        prefix.push(x)?;
     }
-    Err(ParseFault::Syntax(reader.place()))
+    Err(ParseFault::Syntax(reader.position()))
 }
 
 fn sign_of(link: Chain) -> Symbol
@@ -84,7 +84,7 @@ fn turns(alloc: Global, reader: &mut Reader<'_>, room: usize) -> Result<Built, P
         let last = prim(alloc, reader, room)?;
         whole = turn(alloc, whole, last)?;
     }
-    Err(ParseFault::Syntax(reader.place()))
+    Err(ParseFault::Syntax(reader.position()))
 }
 
 /// What stands by itself.
@@ -94,7 +94,7 @@ fn prim(alloc: Global, reader: &mut Reader<'_>, room: usize) -> Result<Built, Pa
     ensures { Meets (runs (as_built (prim room)) reader.old) result reader.new }
 {
     if room == 0 {
-        return Err(ParseFault::Syntax(reader.place()));
+        return Err(ParseFault::Syntax(reader.position()));
     }
     prim_of(alloc, reader, room - 1)
 }
@@ -104,7 +104,7 @@ fn prim(alloc: Global, reader: &mut Reader<'_>, room: usize) -> Result<Built, Pa
 fn prim_of(alloc: Global, reader: &mut Reader<'_>, room: usize) -> Result<Built, ParseFault>
     ensures { Meets (runs (as_built (prim_of (merge (prim room) room) room)) reader.old) result reader.new }
 {
-    let token = reader.place();
+    let token = reader.position();
     match reader.take() {
         Some(TokenKind::Lower(name)) => lower_proc(alloc, reader, room, name, token),
         Some(TokenKind::Upper(name)) => {
@@ -120,7 +120,7 @@ fn prim_of(alloc: Global, reader: &mut Reader<'_>, room: usize) -> Result<Built,
     }
 }
 
-/// An assignment or a call whose name stands at this place, and is taken already.
+/// An assignment or a call whose name stands at this position, and is taken already.
 #[tactic(auto, using(crate::proofs::Trees::built_call), unfolding(crate::specs::Parsing::upper_proc))]
 fn upper_proc(
     alloc: Global,
@@ -139,7 +139,7 @@ fn upper_proc(
     timed(alloc, reader, room, token, ActDef::Set(name, value))
 }
 
-/// The times of an atom that begins at this place.
+/// The times of an atom that begins at this position.
 #[tactic(auto, using(crate::proofs::Trees::built_atom), unfolding(crate::specs::Parsing::timed))]
 fn timed(
     alloc: Global,
@@ -155,7 +155,7 @@ fn timed(
     Ok(leaf(alloc, Proc::Atom(atom))?)
 }
 
-/// What stands behind the word `create`, which stands at this place.
+/// What stands behind the word `create`, which stands at this position.
 fn creation(
     alloc: Global,
     reader: &mut Reader<'_>,
@@ -168,7 +168,7 @@ fn creation(
     timed(alloc, reader, room, token, act)
 }
 
-/// What begins with a word that stands at this place, and is taken already.
+/// What begins with a word that stands at this position, and is taken already.
 #[tactic(auto, unfolding(crate::specs::Parsing::lower_proc))]
 #[cycle(procs)]
 fn lower_proc(

@@ -11,7 +11,7 @@ use tb_lex::{Symbol, Token, TokenKind};
 use tb_syntax::{is_reserved, is_time_word};
 use tb_terms::{Ident, Name, Text};
 
-/// Tokens that are read from the left. Contracts see the place of the next token and what the
+/// Tokens that are read from the left. Contracts see the position of the next token and what the
 /// tokens are from there.
 #[derive(Drop)]
 pub(crate) struct Reader<'a> {
@@ -42,8 +42,8 @@ impl<'a> Reader<'a> {
         }
     }
 
-    /// The place of the next token.
-    pub(crate) fn place(&self) -> usize
+    /// The position of the next token.
+    pub(crate) fn position(&self) -> usize
         ensures { result ≡ self.now.at }
     {
         self.at

@@ -8,7 +8,7 @@ use std::alloc::Global;
 use tb_lex::Symbol;
 use tb_terms::{Boxed, Name, NoMemory, Sort};
 
-/// A sort, and the place of its innermost name. The room bounds how deep sorts stand in each other.
+/// A sort, and the position of its innermost name. The room bounds how deep sorts stand in each other.
 #[tactic(auto, unfolding(crate::specs::Parsing::sort))]
 pub(crate) fn sort(
     alloc: Global,
@@ -17,7 +17,7 @@ pub(crate) fn sort(
 ) -> Result<(Sort, usize), ParseFault>
     ensures { Meets (runs (sort room) reader.old) result reader.new }
 {
-    let at = reader.place();
+    let at = reader.position();
     if room == 0 {
         return Err(ParseFault::Syntax(at));
     }

@@ -76,12 +76,12 @@ static SYNTAX_OF_BODIES: [(&[u8], usize); 24] = [
 
 #[test]
 fn syntax_stands_at_the_first_token_that_cannot_go_on(rt: HostRuntime) -> Result<(), Fail> {
-    for (text, place) in &SYNTAX_OF_DEFINITIONS {
-        let want = Some(ParseFault::Syntax(*place));
+    for (text, position) in &SYNTAX_OF_DEFINITIONS {
+        let want = Some(ParseFault::Syntax(*position));
         assert_eq!(rt; fault_of(rt.alloc(), text)?, want, "at {text:?}");
     }
-    for (text, place) in &SYNTAX_OF_BODIES {
-        let want = Some(ParseFault::Syntax(*place));
+    for (text, position) in &SYNTAX_OF_BODIES {
+        let want = Some(ParseFault::Syntax(*position));
         assert_eq!(rt; fault_of(rt.alloc(), text)?, want, "at {text:?}");
     }
     Ok(())
@@ -90,13 +90,13 @@ fn syntax_stands_at_the_first_token_that_cannot_go_on(rt: HostRuntime) -> Result
 /// These bytes, so many times one text, and others behind it.
 fn around(
     alloc: Global,
-    front: &[u8],
+    prefix: &[u8],
     count: usize,
     part: &[u8],
     end: &[u8],
 ) -> Result<Vec<u8>, AllocError> {
     let mut text = Vec::new(alloc);
-    text.extend_from_slice(front)?;
+    text.extend_from_slice(prefix)?;
     for _turn in 0..count {
         text.extend_from_slice(part)?;
     }
@@ -106,8 +106,8 @@ fn around(
 
 /// So many brackets that open, what stands in them, and as many that close.
 fn nested(alloc: Global, open: &[u8], count: usize, close: &[u8]) -> Result<Vec<u8>, AllocError> {
-    let front = around(alloc, b"process P is ", count, open, b"tau ")?;
-    around(alloc, front.as_slice(), count, close, b"toolbus(P)")
+    let prefix = around(alloc, b"process P is ", count, open, b"tau ")?;
+    around(alloc, prefix.as_slice(), count, close, b"toolbus(P)")
 }
 
 #[test]
@@ -218,12 +218,12 @@ static HEIGHTS: [Row; 12] = [
 
 #[test]
 fn bodies_are_at_most_400_high(rt: HostRuntime) -> Result<(), Fail> {
-    for (front, count, part, end, want) in &HEIGHTS {
-        let text = around(rt.alloc(), front, *count, part, end)?;
+    for (prefix, count, part, end, want) in &HEIGHTS {
+        let text = around(rt.alloc(), prefix, *count, part, end)?;
         assert_eq!(rt;
             fault_of(rt.alloc(), text.as_slice())?,
             *want,
-            "{front:?} {count} {part:?}"
+            "{prefix:?} {count} {part:?}"
         );
     }
     Ok(())
@@ -336,8 +336,8 @@ fn what_is_printed_is_read(rt: HostRuntime) -> Result<(), Fail> {
     Ok(())
 }
 
-/// The places of a formal, of the innermost name of its sort, of an atom, its time and the time's value.
-fn places(definition: &ProcDef) -> Option<[usize; 5]> {
+/// The positions of a formal, of the innermost name of its sort, of an atom, its time and the time's value.
+fn positions(definition: &ProcDef) -> Option<[usize; 5]> {
     let formal = definition.formals.as_slice().first()?;
     let Proc::Atom(atom) = &definition.body else {
         return None;
@@ -353,7 +353,7 @@ fn places(definition: &ProcDef) -> Option<[usize; 5]> {
 }
 
 #[test]
-fn constructs_have_the_place_of_their_first_token(rt: HostRuntime) -> Result<(), Fail> {
+fn constructs_have_the_position_of_their_first_token(rt: HostRuntime) -> Result<(), Fail> {
     let text = b"tool t is {} process P(X : list(str)) is snd-msg(f(1)) delay(2) toolbus(P)";
     let script = script_of(rt.alloc(), text)?;
     assert_eq!(rt; script.tools.len(), 1);
@@ -363,7 +363,7 @@ fn constructs_have_the_place_of_their_first_token(rt: HostRuntime) -> Result<(),
     assert_eq!(rt; script.procs.len(), 1);
     for definition in script.procs.as_slice() {
         assert_eq!(rt; definition.token, 5);
-        assert_eq!(rt; places(definition), Some([8, 12, 16, 23, 25]));
+        assert_eq!(rt; positions(definition), Some([8, 12, 16, 23, 25]));
     }
     assert_eq!(rt; script.roots.len(), 1);
     for root in script.roots.as_slice() {

@@ -23,7 +23,7 @@ use Rattle.tb_read.specs.declared.shape.Expect.TheVariants as expect
 use Rattle.tb_read.specs.declared.shape.Bracket.{Bracket}
 use Rattle.tb_read.specs.declared.shape.Bracket.TheVariants.{Paren, Square}
 use Rattle.tb_read.specs.Spelling.{is_blank, SpellsNumber, SpellsToken, Spaced, Reads}
-use Rattle.tb_read.specs.Lexing.{skip_blanks, string_turn, escaped_turn, unescaped, lead, string_rest, with_front, string_of, number_from, number_at, kind_of, token_of}
+use Rattle.tb_read.specs.Lexing.{skip_blanks, string_turn, escaped_turn, unescaped, lead, string_rest, with_prefix, string_of, number_from, number_at, kind_of, token_of}
 use Rattle.tb_read.specs.Answers.{begins_with}
 use Rattle.tb_read.specs.Scanning.{Makes, Ends as Stops, allows, after, may_end, made, next_at, start, Runs}
 use Rattle.tb_read.specs.Reading.{StopsAt}
@@ -31,7 +31,7 @@ use Rattle.tb_read.proofs.Strings.{turned}
 use Rattle.tb_read.proofs.Chars.{puts, goes}
 use Rattle.tb_read.proofs.Grammar.{kind_of_token, accepts, sh, going, closes_paren, closes_square, may_end-going, term-accepts}
 use Rattle.tb_read.proofs.Lexed.{token_sound, kind_begins, blanks, makes_by, not_makes, unsigned_spelled, signed_spelled}
-use Rattle.tb_read.proofs.Stops.{same_place, front_err, string_of_err, digits_stop, front_digit, made_err, end_place, place_of}
+use Rattle.tb_read.proofs.Stops.{same_position, prefix_err, string_of_err, digits_stop, prefix_digit, made_err, end_position, position_of}
 
 -- Each state of a scan can be completed.
 
@@ -61,70 +61,70 @@ ahead expect.First bs = let m = closing bs in (token.Int (pos 0) ∷ m.0, 48 ∷
 ahead expect.Further bs = let m = closing bs in (m.0, m.1, m.2 expect.Further refl, m.3)
 ahead expect.Named bs = let m = closing bs in (m.0, m.1, m.2 expect.Named refl, m.3)
 
-all_blank : (front l : List ℕ) → list_all is_blank front ≡ true → list_all is_blank l ≡ true → list_all is_blank (front ++ l) ≡ true
-all_blank front l h e = list_all-append is_blank front l ∙ ap (λ v. v && list_all is_blank l) h ∙ e
+all_blank : (prefix l : List ℕ) → list_all is_blank prefix ≡ true → list_all is_blank l ≡ true → list_all is_blank (prefix ++ l) ≡ true
+all_blank prefix l h e = list_all-append is_blank prefix l ∙ ap (λ v. v && list_all is_blank l) h ∙ e
 
-spaced_behind : (front : List ℕ) (js : List Token) (l : List ℕ) → list_all is_blank front ≡ true → Spaced js l → Spaced js (front ++ l)
-spaced_behind front [] l h s = all_blank front l h s
-spaced_behind front (k ∷ js) l h s =
-    let at : front ++ l ≡ ((front ++ s.0) ++ s.1) ++ s.2 =
-    ap (λ (m : List ℕ). front ++ m) s.3 ∙ sym (append_assoc front (s.0 ++ s.1) s.2) ∙ ap (λ (m : List ℕ). m ++ s.2) (sym (append_assoc front s.0 s.1)) in
-    (front ++ s.0, s.1, s.2, at, all_blank front s.0 h s.4, s.5, s.6)
+spaced_behind : (prefix : List ℕ) (js : List Token) (l : List ℕ) → list_all is_blank prefix ≡ true → Spaced js l → Spaced js (prefix ++ l)
+spaced_behind prefix [] l h s = all_blank prefix l h s
+spaced_behind prefix (k ∷ js) l h s =
+    let at : prefix ++ l ≡ ((prefix ++ s.0) ++ s.1) ++ s.2 =
+    ap (λ (m : List ℕ). prefix ++ m) s.3 ∙ sym (append_assoc prefix (s.0 ++ s.1) s.2) ∙ ap (λ (m : List ℕ). m ++ s.2) (sym (append_assoc prefix s.0 s.1)) in
+    (prefix ++ s.0, s.1, s.2, at, all_blank prefix s.0 h s.4, s.5, s.6)
 
 -- behind blanks
-behind : (s : Shape) (front : List ℕ) → list_all is_blank front ≡ true → Begins s front
-behind s front h = let b = ahead s.expect s.brackets in (b.0, b.1, b.2, spaced_behind front b.0 b.1 h b.3)
+behind : (s : Shape) (prefix : List ℕ) → list_all is_blank prefix ≡ true → Begins s prefix
+behind s prefix h = let b = ahead s.expect s.brackets in (b.0, b.1, b.2, spaced_behind prefix b.0 b.1 h b.3)
 
 -- behind blanks and a front of a token
-pub within_token : (s : Shape) (front : List ℕ) (k : Token) (pre tail : List ℕ) → list_all is_blank front ≡ true → allows s (kind_of_token k) ≡ true → SpellsToken k (pre ++ tail) → Begins s (front ++ pre)
-within_token s front k pre tail h a sp =
+pub within_token : (s : Shape) (prefix : List ℕ) (k : Token) (pre tail : List ℕ) → list_all is_blank prefix ≡ true → allows s (kind_of_token k) ≡ true → SpellsToken k (pre ++ tail) → Begins s (prefix ++ pre)
+within_token s prefix k pre tail h a sp =
     let b = ahead (after s k).expect (after s k).brackets in
     let r = b.1 in
-    let at : (front ++ pre) ++ (tail ++ r) ≡ (front ++ (pre ++ tail)) ++ r =
-    append_assoc front pre (tail ++ r) ∙ ap (λ (m : List ℕ). front ++ m) (sym (append_assoc pre tail r)) ∙ sym (append_assoc front (pre ++ tail) r) in
-    (k ∷ b.0, tail ++ r, ap (λ v. v && accepts (after s k) b.0) a ∙ b.2, (front, pre ++ tail, r, at, h, sp, b.3))
+    let at : (prefix ++ pre) ++ (tail ++ r) ≡ (prefix ++ (pre ++ tail)) ++ r =
+    append_assoc prefix pre (tail ++ r) ∙ ap (λ (m : List ℕ). prefix ++ m) (sym (append_assoc pre tail r)) ∙ sym (append_assoc prefix (pre ++ tail) r) in
+    (k ∷ b.0, tail ++ r, ap (λ v. v && accepts (after s k) b.0) a ∙ b.2, (prefix, pre ++ tail, r, at, h, sp, b.3))
 
 -- behind a whole token
-behind_token : (s : Shape) (front : List ℕ) (k : Token) (text pre : List ℕ) → list_all is_blank front ≡ true → allows s (kind_of_token k) ≡ true → SpellsToken k text → Begins (after s k) pre → Begins s (front ++ (text ++ pre))
-behind_token s front k text pre h a sp b =
-    let at : (front ++ (text ++ pre)) ++ b.1 ≡ (front ++ text) ++ (pre ++ b.1) =
-    append_assoc front (text ++ pre) b.1 ∙ ap (λ (m : List ℕ). front ++ m) (append_assoc text pre b.1) ∙ sym (append_assoc front text (pre ++ b.1)) in
-    (k ∷ b.0, b.1, ap (λ v. v && accepts (after s k) b.0) a ∙ b.2, (front, text, pre ++ b.1, at, h, sp, b.3))
+behind_token : (s : Shape) (prefix : List ℕ) (k : Token) (text pre : List ℕ) → list_all is_blank prefix ≡ true → allows s (kind_of_token k) ≡ true → SpellsToken k text → Begins (after s k) pre → Begins s (prefix ++ (text ++ pre))
+behind_token s prefix k text pre h a sp b =
+    let at : (prefix ++ (text ++ pre)) ++ b.1 ≡ (prefix ++ text) ++ (pre ++ b.1) =
+    append_assoc prefix (text ++ pre) b.1 ∙ ap (λ (m : List ℕ). prefix ++ m) (append_assoc text pre b.1) ∙ sym (append_assoc prefix text (pre ++ b.1)) in
+    (k ∷ b.0, b.1, ap (λ v. v && accepts (after s k) b.0) a ∙ b.2, (prefix, text, pre ++ b.1, at, h, sp, b.3))
 
--- The place of a fault: what begins there is as Q says, and what stands before it can go on with these bytes.
-abbrev pub Place : (List ℕ → Type 0) → List ℕ → Shape → ℕ → List ℕ → ℕ → Type 0
-Place Q next s total bytes n = (pre : List ℕ) × (l : List ℕ) × (bytes ≡ pre ++ l) × (n ≡ total - length l) × Q l × Begins s (pre ++ next)
+-- The position of a fault: what begins there is as Q says, and what stands before it can go on with these bytes.
+abbrev pub Position : (List ℕ → Type 0) → List ℕ → Shape → ℕ → List ℕ → ℕ → Type 0
+Position Q next s total bytes n = (pre : List ℕ) × (l : List ℕ) × (bytes ≡ pre ++ l) × (n ≡ total - length l) × Q l × Begins s (pre ++ next)
 
-made_place : (Q : List ℕ → Type 0) (next : List ℕ) (s : Shape) (total : ℕ) (front l bytes : List ℕ) (k : Token) (rest : List ℕ) (n : ℕ) → bytes ≡ front ++ l → list_all is_blank front ≡ true → next_at s total l ≡ Makes k rest → Place Q next (after s k) total rest n → Place Q next s total bytes n
-made_place Q next s total front [] bytes k rest n e h r st = absurd (not_makes (may_end s.expect s.brackets) (Syntax total) k rest r)
-made_place Q next s total front (b ∷ l) bytes k rest n e h r st =
+made_position : (Q : List ℕ → Type 0) (next : List ℕ) (s : Shape) (total : ℕ) (prefix l bytes : List ℕ) (k : Token) (rest : List ℕ) (n : ℕ) → bytes ≡ prefix ++ l → list_all is_blank prefix ≡ true → next_at s total l ≡ Makes k rest → Position Q next (after s k) total rest n → Position Q next s total bytes n
+made_position Q next s total prefix [] bytes k rest n e h r st = absurd (not_makes (may_end s.expect s.brackets) (Syntax total) k rest r)
+made_position Q next s total prefix (b ∷ l) bytes k rest n e h r st =
     let p = makes_by (allows s (kind_of b)) (token_of (kind_of b) total (b ∷ l)) (Syntax (total - length (b ∷ l))) k rest r in
     let found = token_sound (kind_of b) total (b ∷ l) (k, rest) (kind_begins b l) p.1 in
     let text = found.0 in
-    let at : bytes ≡ (front ++ (text ++ st.0)) ++ st.1 =
-    e ∙ ap (λ (m : List ℕ). front ++ m) (found.1 ∙ ap (λ (m : List ℕ). text ++ m) st.2 ∙ sym (append_assoc text st.0 st.1)) ∙ sym (append_assoc front (text ++ st.0) st.1) in
-    let regrouped : front ++ (text ++ (st.0 ++ next)) ≡ (front ++ (text ++ st.0)) ++ next =
-    ap (λ (m : List ℕ). front ++ m) (sym (append_assoc text st.0 next)) ∙ sym (append_assoc front (text ++ st.0) next) in
+    let at : bytes ≡ (prefix ++ (text ++ st.0)) ++ st.1 =
+    e ∙ ap (λ (m : List ℕ). prefix ++ m) (found.1 ∙ ap (λ (m : List ℕ). text ++ m) st.2 ∙ sym (append_assoc text st.0 st.1)) ∙ sym (append_assoc prefix (text ++ st.0) st.1) in
+    let regrouped : prefix ++ (text ++ (st.0 ++ next)) ≡ (prefix ++ (text ++ st.0)) ++ next =
+    ap (λ (m : List ℕ). prefix ++ m) (sym (append_assoc text st.0 next)) ∙ sym (append_assoc prefix (text ++ st.0) next) in
     let allowed : allows s (kind_of_token k) ≡ true = ap (allows s) found.3 ∙ p.0 in
-    (front ++ (text ++ st.0), st.1, at, st.3, st.4, subst (λ (m : List ℕ). Begins s m) regrouped (behind_token s front k text (st.0 ++ next) h allowed found.2 st.5))
+    (prefix ++ (text ++ st.0), st.1, at, st.3, st.4, subst (λ (m : List ℕ). Begins s m) regrouped (behind_token s prefix k text (st.0 ++ next) h allowed found.2 st.5))
 
-pub runs_place : (Q : List ℕ → Type 0) (next : List ℕ) (f : TermFault) (n : ℕ) → ((s : Shape) (total : ℕ) (bytes front l : List ℕ) → bytes ≡ front ++ l → list_all is_blank front ≡ true → next_at s total l ≡ Stops (Some f) → Place Q next s total bytes n) → (ks : List Token) (s : Shape) (total : ℕ) (bytes : List ℕ) → Runs s total bytes ks (Some f) → Place Q next s total bytes n
-runs_place Q next f n base [] s total bytes r = let p = blanks bytes in base s total bytes p.0 (skip_blanks bytes) p.1 p.2 r
-runs_place Q next f n base (k ∷ ks) s total bytes r =
+pub runs_position : (Q : List ℕ → Type 0) (next : List ℕ) (f : TermFault) (n : ℕ) → ((s : Shape) (total : ℕ) (bytes prefix l : List ℕ) → bytes ≡ prefix ++ l → list_all is_blank prefix ≡ true → next_at s total l ≡ Stops (Some f) → Position Q next s total bytes n) → (ks : List Token) (s : Shape) (total : ℕ) (bytes : List ℕ) → Runs s total bytes ks (Some f) → Position Q next s total bytes n
+runs_position Q next f n base [] s total bytes r = let p = blanks bytes in base s total bytes p.0 (skip_blanks bytes) p.1 p.2 r
+runs_position Q next f n base (k ∷ ks) s total bytes r =
     let p = blanks bytes in
-    made_place Q next s total p.0 (skip_blanks bytes) bytes k r.0 n p.1 p.2 r.1 (runs_place Q next f n base ks (after s k) total r.0 r.2)
+    made_position Q next s total p.0 (skip_blanks bytes) bytes k r.0 n p.1 p.2 r.1 (runs_position Q next f n base ks (after s k) total r.0 r.2)
 
 -- of a whole text
-pub goes_on_with : (Q : List ℕ → Type 0) (next bytes : List ℕ) (n : ℕ) → Place Q next start (length bytes) bytes n → (n ≤ length bytes) × Q (drop n bytes) × ((rest : List ℕ) × (t : Term) × Reads ((take n bytes ++ next) ++ rest) t)
-goes_on_with Q next bytes n p =
-    let len : n ≡ length p.0 = place_of bytes p.0 p.1 n p.2 p.3 in
+pub continues_with : (Q : List ℕ → Type 0) (next bytes : List ℕ) (n : ℕ) → Position Q next start (length bytes) bytes n → (n ≤ length bytes) × Q (drop n bytes) × ((rest : List ℕ) × (t : Term) × Reads ((take n bytes ++ next) ++ rest) t)
+continues_with Q next bytes n p =
+    let len : n ≡ length p.0 = position_of bytes p.0 p.1 n p.2 p.3 in
     let all : length bytes ≡ length p.0 + length p.1 = ap (λ (m : List ℕ). length m) p.2 ∙ length-append p.0 p.1 in
-    let front : take n bytes ≡ p.0 = ap (λ m. take m bytes) len ∙ ap (λ (m : List ℕ). take (length p.0) m) p.2 ∙ take-append_seam p.0 p.1 in
+    let prefix : take n bytes ≡ p.0 = ap (λ m. take m bytes) len ∙ ap (λ (m : List ℕ). take (length p.0) m) p.2 ∙ take-append_seam p.0 p.1 in
     let b = p.5 in
     let t = term-accepts b.0 b.2 in
     let read : Reads ((p.0 ++ next) ++ b.1) t.0 = subst (λ (js : List Token). Spaced js ((p.0 ++ next) ++ b.1)) t.2 b.3 in
     let behind_it : drop n bytes ≡ p.1 = ap (λ m. drop m bytes) len ∙ ap (λ (m : List ℕ). drop (length p.0) m) p.2 ∙ drop-append_seam p.0 p.1 in
-    (omega arith, subst Q (sym behind_it) p.4, (b.1, t.0, subst (λ (m : List ℕ). Reads ((m ++ next) ++ b.1) t.0) (sym front) read))
+    (omega arith, subst Q (sym behind_it) p.4, (b.1, t.0, subst (λ (m : List ℕ). Reads ((m ++ next) ++ b.1) t.0) (sym prefix) read))
 
 -- A string that has begun can be completed.
 
@@ -183,7 +183,7 @@ Closed w = (tail : List ℕ) × (put : List ℕ) × ((other : ℕ) → string_re
 going_put : (more low high : ℕ) → low ≤ high → (v : Within) → cond (ltb more 2) Between (Going (more - 1) 128 191) ≡ v → Closed v → Closed (Going more low high)
 going_put more low high r v e c =
     let turn : string_turn (Going more low high) low ≡ Puts low v = rw (le-leb low low (omega arith), le-leb low high r) (ap (λ (u : Within). Puts low u) e) in
-    (low ∷ c.0, low ∷ c.1, λ other. puts other (Going more low high) v low low c.0 turn ∙ ap (λ (x : Result Pair TermFault). with_front (low ∷ []) x) (c.2 other))
+    (low ∷ c.0, low ∷ c.1, λ other. puts other (Going more low high) v low low c.0 turn ∙ ap (λ (x : Result Pair TermFault). with_prefix (low ∷ []) x) (c.2 other))
 
 close_between : Closed Between
 close_between = (34 ∷ [], [], λ other. refl)
@@ -204,7 +204,7 @@ abbrev RestBegins : ℕ → Within → List ℕ → ℕ → Type 0
 RestBegins total w bytes n = (pre : List ℕ) × (l : List ℕ) × (bytes ≡ pre ++ l) × (n ≡ total - length l) × (tail : List ℕ) × (put : List ℕ) × ((other : ℕ) → string_rest other w (pre ++ tail) ≡ strung put [])
 
 rest_begins : (total : ℕ) (bytes : List ℕ) (w : Within) (n : ℕ) → Ready w → string_rest total w bytes ≡ Err (Syntax n) → RestBegins total w bytes n
-rest_begins total [] w n r e = let c = close w r in ([], [], refl, sym (same_place total n e) ∙ omega arith, c.0, c.1, c.2)
+rest_begins total [] w n r e = let c = close w r in ([], [], refl, sym (same_position total n e) ∙ omega arith, c.0, c.1, c.2)
 rest_begins total (b ∷ bytes) w n r e = by (string_turn w b) refl (turn_ready w b) e (rest_begins total bytes) where
   by : (t : Turn) → string_turn w b ≡ t → ReadyTurn t → turned total t bytes ≡ Err (Syntax n) → ((v : Within) (m : ℕ) → Ready v → string_rest total v bytes ≡ Err (Syntax m) → RestBegins total v bytes m) → RestBegins total w (b ∷ bytes) n
   by Ends et rt q ih = cc
@@ -212,9 +212,9 @@ rest_begins total (b ∷ bytes) w n r e = by (string_turn w b) refl (turn_ready 
       let s = ih v n rt q in
       (b ∷ s.0, s.1, ap (λ (m : List ℕ). b ∷ m) s.2, s.3, s.4, s.5, λ other. goes other w v b (s.0 ++ s.4) et ∙ s.6 other)
   by (Puts c v) et rt q ih =
-      let s = ih v n rt (front_err (c ∷ []) (string_rest total v bytes) (Syntax n) q) in
-      (b ∷ s.0, s.1, ap (λ (m : List ℕ). b ∷ m) s.2, s.3, s.4, c ∷ s.5, λ other. puts other w v b c (s.0 ++ s.4) et ∙ ap (λ (x : Result Pair TermFault). with_front (c ∷ []) x) (s.6 other))
-  by Bad et rt q ih = let c = close w r in ([], b ∷ bytes, refl, sym (same_place (total - suc (length bytes)) n q), c.0, c.1, c.2)
+      let s = ih v n rt (prefix_err (c ∷ []) (string_rest total v bytes) (Syntax n) q) in
+      (b ∷ s.0, s.1, ap (λ (m : List ℕ). b ∷ m) s.2, s.3, s.4, c ∷ s.5, λ other. puts other w v b c (s.0 ++ s.4) et ∙ ap (λ (x : Result Pair TermFault). with_prefix (c ∷ []) x) (s.6 other))
+  by Bad et rt q ih = let c = close w r in ([], b ∷ bytes, refl, sym (same_position (total - suc (length bytes)) n q), c.0, c.1, c.2)
 
 -- Before a syntax fault.
 
@@ -232,7 +232,7 @@ number_begins total b bytes n h e = by (eqb b 45) refl e where
       (45 ∷ [], bytes, ap (λ m. m ∷ bytes) (eqb-true b 45 ev), s.1 ∙ ap (λ (l : List ℕ). total - length l) all, inr (token.Int (neg_ℤ (pos 0)), 48 ∷ [], spells_minus_zero, refl))
   by false ev g =
       let s = digits_stop total (total - length (b ∷ bytes)) false (take (prefix_len is_digit (b ∷ bytes)) (b ∷ bytes)) (drop (prefix_len is_digit (b ∷ bytes)) (b ∷ bytes)) n g in
-      let none : is_digit b ≡ false = front_digit b bytes s.0 in
+      let none : is_digit b ≡ false = prefix_digit b bytes s.0 in
       absurd (false≢true (sym (ap (λ v. v || eqb b 45) none ∙ ev) ∙ h))
 
 string_begins : (total b : ℕ) (bytes : List ℕ) (n : ℕ) → begins_with kind.Str (b ∷ bytes) ≡ true → string_rest total Between bytes ≡ Err (Syntax n) → TokenBegins kind.Str total (b ∷ bytes) n
@@ -252,31 +252,31 @@ token_begins kind.RightBracket total (b ∷ bytes) n h e = cc
 token_begins kind.Comma total (b ∷ bytes) n h e = cc
 token_begins kind.Name total (b ∷ bytes) n h e = cc
 token_begins kind.Int total (b ∷ bytes) n h e = number_begins total b bytes n h e
-token_begins kind.Other total (b ∷ bytes) n h e = ([], b ∷ bytes, refl, sym (same_place (total - length (b ∷ bytes)) n e), inl refl)
+token_begins kind.Other total (b ∷ bytes) n h e = ([], b ∷ bytes, refl, sym (same_position (total - length (b ∷ bytes)) n e), inl refl)
 token_begins kind.Str total (b ∷ bytes) n h e = string_begins total b bytes n h (string_of_err (string_rest total Between bytes) (Syntax n) e)
 
 abbrev Anything : List ℕ → Type 0
 Anything l = Unit {0}
 
-with_nil : (s : Shape) (front : List ℕ) → Begins s front → Begins s (front ++ [])
-with_nil s front b = subst (λ (m : List ℕ). Begins s m) (sym (append-nil front)) b
+with_nil : (s : Shape) (prefix : List ℕ) → Begins s prefix → Begins s (prefix ++ [])
+with_nil s prefix b = subst (λ (m : List ℕ). Begins s m) (sym (append-nil prefix)) b
 
-ends_begins : (n : ℕ) (s : Shape) (total : ℕ) (bytes front l : List ℕ) → bytes ≡ front ++ l → list_all is_blank front ≡ true → next_at s total l ≡ Stops (Some (Syntax n)) → Place Anything [] s total bytes n
-ends_begins n s total bytes front [] e h r = (front, [], e, end_place (may_end s.expect s.brackets) total n r ∙ omega arith, tt, with_nil s front (behind s front h))
-ends_begins n s total bytes front (b ∷ l) e h r = by (allows s (kind_of b)) refl r where
-  by_token : allows s (kind_of b) ≡ true → (t : TokenBegins (kind_of b) total (b ∷ l) n) → Begins s (front ++ t.0)
+ends_begins : (n : ℕ) (s : Shape) (total : ℕ) (bytes prefix l : List ℕ) → bytes ≡ prefix ++ l → list_all is_blank prefix ≡ true → next_at s total l ≡ Stops (Some (Syntax n)) → Position Anything [] s total bytes n
+ends_begins n s total bytes prefix [] e h r = (prefix, [], e, end_position (may_end s.expect s.brackets) total n r ∙ omega arith, tt, with_nil s prefix (behind s prefix h))
+ends_begins n s total bytes prefix (b ∷ l) e h r = by (allows s (kind_of b)) refl r where
+  by_token : allows s (kind_of b) ≡ true → (t : TokenBegins (kind_of b) total (b ∷ l) n) → Begins s (prefix ++ t.0)
   by_token a t = cases t.4 where
-    cases : ((t.0 ≡ []) ⊎ ((k : Token) × (tail : List ℕ) × SpellsToken k (t.0 ++ tail) × (kind_of_token k ≡ kind_of b))) → Begins s (front ++ t.0)
-    cases (inl none) = subst (λ (m : List ℕ). Begins s (front ++ m)) (sym none) (with_nil s front (behind s front h))
-    cases (inr k) = within_token s front k.0 t.0 k.1 h (ap (allows s) k.3 ∙ a) k.2
+    cases : ((t.0 ≡ []) ⊎ ((k : Token) × (tail : List ℕ) × SpellsToken k (t.0 ++ tail) × (kind_of_token k ≡ kind_of b))) → Begins s (prefix ++ t.0)
+    cases (inl none) = subst (λ (m : List ℕ). Begins s (prefix ++ m)) (sym none) (with_nil s prefix (behind s prefix h))
+    cases (inr k) = within_token s prefix k.0 t.0 k.1 h (ap (allows s) k.3 ∙ a) k.2
 
-  by : (v : Bool) → allows s (kind_of b) ≡ v → cond v (made (token_of (kind_of b) total (b ∷ l))) (Stops (Some (Syntax (total - length (b ∷ l))))) ≡ Stops (Some (Syntax n)) → Place Anything [] s total bytes n
-  by false ev q = (front, b ∷ l, e, end_place false (total - length (b ∷ l)) n q, tt, with_nil s front (behind s front h))
+  by : (v : Bool) → allows s (kind_of b) ≡ v → cond v (made (token_of (kind_of b) total (b ∷ l))) (Stops (Some (Syntax (total - length (b ∷ l))))) ≡ Stops (Some (Syntax n)) → Position Anything [] s total bytes n
+  by false ev q = (prefix, b ∷ l, e, end_position false (total - length (b ∷ l)) n q, tt, with_nil s prefix (behind s prefix h))
   by true ev q =
       let t = token_begins (kind_of b) total (b ∷ l) n (kind_begins b l) (made_err (token_of (kind_of b) total (b ∷ l)) (Syntax n) q) in
-      (front ++ t.0, t.1, e ∙ ap (λ (m : List ℕ). front ++ m) t.2 ∙ sym (append_assoc front t.0 t.1), t.3, tt, with_nil s (front ++ t.0) (by_token ev t))
+      (prefix ++ t.0, t.1, e ∙ ap (λ (m : List ℕ). prefix ++ m) t.2 ∙ sym (append_assoc prefix t.0 t.1), t.3, tt, with_nil s (prefix ++ t.0) (by_token ev t))
 
 pub syntax_begin : (bytes : List ℕ) (n : ℕ) → StopsAt bytes (Syntax n) → (n ≤ length bytes) × ((rest : List ℕ) × (t : Term) × Reads (take n bytes ++ rest) t)
 syntax_begin bytes n f =
-    let g = goes_on_with Anything [] bytes n (runs_place Anything [] (Syntax n) n (ends_begins n) f.0 start (length bytes) bytes f.1) in
+    let g = continues_with Anything [] bytes n (runs_position Anything [] (Syntax n) n (ends_begins n) f.0 start (length bytes) bytes f.1) in
     (g.0, (g.2.0, g.2.1, subst (λ (m : List ℕ). Reads (m ++ g.2.0) g.2.1) (append-nil (take n bytes)) g.2.2))

@@ -10,7 +10,7 @@ use Rattle.tb_read.specs.declared.quoted.Turn.{Turn}
 use Rattle.tb_read.specs.declared.quoted.Turn.TheVariants.{Goes, Puts, Bad}
 use Rattle.tb_read.specs.declared.fault.TermFault.{TermFault}
 use Rattle.tb_read.specs.Spelling.{is_plain, SpellsByte, SpellsBytes}
-use Rattle.tb_read.specs.Lexing.{string_turn, between_turn, going_turn, escaped_turn, unescaped, lead, string_rest, with_front}
+use Rattle.tb_read.specs.Lexing.{string_turn, between_turn, going_turn, escaped_turn, unescaped, lead, string_rest, with_prefix}
 use Rattle.tb_read.proofs.Strings.{turned}
 
 abbrev Pair : Type 0
@@ -38,25 +38,25 @@ no_letter c h =
     rw (a, b, d, f, g) refl
 
 -- a byte above ASCII stands for itself
-raw_by : (b : ℕ) → 128 ≤ b → (s inner front rest : List ℕ) → inner ≡ front ++ rest → SpellsByte b front → SpellsBytes s rest → (more : List ℕ) × (inner ≡ b ∷ more) × SpellsBytes s more
-raw_by b h s inner front rest e (inl p) m = (rest, e ∙ ap (λ l. l ++ rest) p.1, m)
-raw_by b h s inner front rest e (inr p) m = let no : None ≡ Some p.0 = sym (no_letter b h) ∙ p.1 in cc
+raw_by : (b : ℕ) → 128 ≤ b → (s inner prefix rest : List ℕ) → inner ≡ prefix ++ rest → SpellsByte b prefix → SpellsBytes s rest → (more : List ℕ) × (inner ≡ b ∷ more) × SpellsBytes s more
+raw_by b h s inner prefix rest e (inl p) m = (rest, e ∙ ap (λ l. l ++ rest) p.1, m)
+raw_by b h s inner prefix rest e (inr p) m = let no : None ≡ Some p.0 = sym (no_letter b h) ∙ p.1 in cc
 
 raw : (b : ℕ) → 128 ≤ b → (s inner : List ℕ) → SpellsBytes (b ∷ s) inner → (more : List ℕ) × (inner ≡ b ∷ more) × SpellsBytes s more
 raw b h s inner p = raw_by b h s inner p.0 p.1 p.2 p.3 p.4
 
-pub puts : (total : ℕ) (w next : Within) (b c : ℕ) (l : List ℕ) → string_turn w b ≡ Puts c next → string_rest total w (b ∷ l) ≡ with_front (c ∷ []) (string_rest total next l)
+pub puts : (total : ℕ) (w next : Within) (b c : ℕ) (l : List ℕ) → string_turn w b ≡ Puts c next → string_rest total w (b ∷ l) ≡ with_prefix (c ∷ []) (string_rest total next l)
 puts total w next b c l e = ap (λ t. turned total t l) e
 
 pub goes : (total : ℕ) (w next : Within) (b : ℕ) (l : List ℕ) → string_turn w b ≡ Goes next → string_rest total w (b ∷ l) ≡ string_rest total next l
 goes total w next b l e = ap (λ t. turned total t l) e
 
 abbrev paired : List ℕ → List ℕ → Result Pair TermFault
-paired front rest = Ok (front, rest)
+paired prefix rest = Ok (prefix, rest)
 
-fronts : (f g : List ℕ) (r : Result Pair TermFault) → with_front f (with_front g r) ≡ with_front (f ++ g) r
-fronts f g (Ok x) = ap (λ (l : List ℕ). paired l x.1) (sym (append_assoc f g x.0))
-fronts f g (Err e) = refl
+prefixes : (f g : List ℕ) (r : Result Pair TermFault) → with_prefix f (with_prefix g r) ≡ with_prefix (f ++ g) r
+prefixes f g (Ok x) = ap (λ (l : List ℕ). paired l x.1) (sym (append_assoc f g x.0))
+prefixes f g (Err e) = refl
 
 -- the turn of a first byte above ASCII is its lead
 above : (b : ℕ) → 128 ≤ b → between_turn b ≡ lead b
@@ -161,7 +161,7 @@ next_bounds n = (omega arith, omega arith)
 
 -- What is spelled behind this spelled text is taken behind it, with these bytes in front.
 abbrev Taken : List ℕ → List ℕ → List ℕ → Type 0
-Taken bytes s inner = (more : List ℕ) × SpellsBytes s more × ((total : ℕ) (l : List ℕ) → string_rest total Between (inner ++ l) ≡ with_front bytes (string_rest total Between (more ++ l)))
+Taken bytes s inner = (more : List ℕ) × SpellsBytes s more × ((total : ℕ) (l : List ℕ) → string_rest total Between (inner ++ l) ≡ with_prefix bytes (string_rest total Between (more ++ l)))
 
 taken_two : (x y : ℕ) → 194 ≤ x → x < 224 → 128 ≤ y → y < 192 → (s inner : List ℕ) → SpellsBytes (x ∷ y ∷ s) inner → Taken (x ∷ y ∷ []) s inner
 taken_two x y lx ux ly uy s inner p =
@@ -174,8 +174,8 @@ taken_two x y lx ux ly uy s inner p =
       λ total l.
           ap (λ m. string_rest total Between (m ++ l)) is
           ∙ puts total Between (Going 1 128 191) x x (y ∷ b.0 ++ l) (above x h ∙ lead_two x lx ux)
-          ∙ ap (with_front (x ∷ [])) (puts total (Going 1 128 191) Between y y (b.0 ++ l) (further_two y ly uy))
-          ∙ fronts (x ∷ []) (y ∷ []) (string_rest total Between (b.0 ++ l)),
+          ∙ ap (with_prefix (x ∷ [])) (puts total (Going 1 128 191) Between y y (b.0 ++ l) (further_two y ly uy))
+          ∙ prefixes (x ∷ []) (y ∷ []) (string_rest total Between (b.0 ++ l)),
     )
 
 taken_three : (x y z : ℕ) → 224 ≤ x → x < 240 → 128 ≤ y → y < 192 → (x ≡ 224 → 160 ≤ y) → (x ≡ 237 → y < 160) → 128 ≤ z → z < 192 → (s inner : List ℕ) → SpellsBytes (x ∷ y ∷ z ∷ s) inner → Taken (x ∷ y ∷ z ∷ []) s inner
@@ -190,10 +190,10 @@ taken_three x y z lx ux ly uy low high lz uz s inner p =
       λ total l.
           ap (λ m. string_rest total Between (m ++ l)) is
           ∙ puts total Between (second_three x) x x (y ∷ z ∷ c.0 ++ l) (above x h ∙ lead_three x lx ux)
-          ∙ ap (with_front (x ∷ [])) (puts total (second_three x) (Going 1 128 191) y y (z ∷ c.0 ++ l) (three_turn x y ly uy low high)
-          ∙ ap (with_front (y ∷ [])) (puts total (Going 1 128 191) Between z z (c.0 ++ l) (further_two z lz uz))
-          ∙ fronts (y ∷ []) (z ∷ []) (string_rest total Between (c.0 ++ l)))
-          ∙ fronts (x ∷ []) (y ∷ z ∷ []) (string_rest total Between (c.0 ++ l)),
+          ∙ ap (with_prefix (x ∷ [])) (puts total (second_three x) (Going 1 128 191) y y (z ∷ c.0 ++ l) (three_turn x y ly uy low high)
+          ∙ ap (with_prefix (y ∷ [])) (puts total (Going 1 128 191) Between z z (c.0 ++ l) (further_two z lz uz))
+          ∙ prefixes (y ∷ []) (z ∷ []) (string_rest total Between (c.0 ++ l)))
+          ∙ prefixes (x ∷ []) (y ∷ z ∷ []) (string_rest total Between (c.0 ++ l)),
     )
 
 taken_four : (x y z w : ℕ) → 240 ≤ x → x ≤ 244 → 128 ≤ y → y < 192 → (x ≡ 240 → 144 ≤ y) → (244 ≤ x → y < 144) → 128 ≤ z → z < 192 → 128 ≤ w → w < 192 → (s inner : List ℕ) → SpellsBytes (x ∷ y ∷ z ∷ w ∷ s) inner → Taken (x ∷ y ∷ z ∷ w ∷ []) s inner
@@ -209,12 +209,12 @@ taken_four x y z w lx ux ly uy low high lz uz lw uw s inner p =
       λ total l.
           ap (λ m. string_rest total Between (m ++ l)) is
           ∙ puts total Between (second_four x) x x (y ∷ z ∷ w ∷ d.0 ++ l) (above x h ∙ lead_four x lx ux)
-          ∙ ap (with_front (x ∷ [])) (puts total (second_four x) (Going 2 128 191) y y (z ∷ w ∷ d.0 ++ l) (four_turn x y ly uy low high)
-          ∙ ap (with_front (y ∷ [])) (puts total (Going 2 128 191) (Going 1 128 191) z z (w ∷ d.0 ++ l) (further_three z lz uz)
-          ∙ ap (with_front (z ∷ [])) (puts total (Going 1 128 191) Between w w (d.0 ++ l) (further_two w lw uw))
-          ∙ fronts (z ∷ []) (w ∷ []) (string_rest total Between (d.0 ++ l)))
-          ∙ fronts (y ∷ []) (z ∷ w ∷ []) (string_rest total Between (d.0 ++ l)))
-          ∙ fronts (x ∷ []) (y ∷ z ∷ w ∷ []) (string_rest total Between (d.0 ++ l)),
+          ∙ ap (with_prefix (x ∷ [])) (puts total (second_four x) (Going 2 128 191) y y (z ∷ w ∷ d.0 ++ l) (four_turn x y ly uy low high)
+          ∙ ap (with_prefix (y ∷ [])) (puts total (Going 2 128 191) (Going 1 128 191) z z (w ∷ d.0 ++ l) (further_three z lz uz)
+          ∙ ap (with_prefix (z ∷ [])) (puts total (Going 1 128 191) Between w w (d.0 ++ l) (further_two w lw uw))
+          ∙ prefixes (z ∷ []) (w ∷ []) (string_rest total Between (d.0 ++ l)))
+          ∙ prefixes (y ∷ []) (z ∷ w ∷ []) (string_rest total Between (d.0 ++ l)))
+          ∙ prefixes (x ∷ []) (y ∷ z ∷ w ∷ []) (string_rest total Between (d.0 ++ l)),
     )
 
 -- an ASCII byte that stands for itself
@@ -233,8 +233,8 @@ plain_turn c u h =
       control : (c : ℕ) → is_plain c ≡ true → (ltb c 32 && not (eqb c 9)) ≡ false
       control c h = grind (arith, nat_tests)
 
-taken_one : (c : ℕ) → c < 128 → (s inner front rest : List ℕ) → inner ≡ front ++ rest → SpellsByte c front → SpellsBytes s rest → Taken (c ∷ []) s inner
-taken_one c u s inner front rest e (inl p) m =
+taken_one : (c : ℕ) → c < 128 → (s inner prefix rest : List ℕ) → inner ≡ prefix ++ rest → SpellsByte c prefix → SpellsBytes s rest → Taken (c ∷ []) s inner
+taken_one c u s inner prefix rest e (inl p) m =
     let is : inner ≡ c ∷ rest = e ∙ ap (λ l. l ++ rest) p.1 in (
       rest,
       m,
@@ -242,7 +242,7 @@ taken_one c u s inner front rest e (inl p) m =
           ap (λ k. string_rest total Between (k ++ l)) is
           ∙ puts total Between Between c c (rest ++ l) (plain_turn c u p.0),
     )
-taken_one c u s inner front rest e (inr p) m =
+taken_one c u s inner prefix rest e (inr p) m =
     let is : inner ≡ 92 ∷ p.0 ∷ rest = e ∙ ap (λ l. l ++ rest) p.2 in (
       rest,
       m,
@@ -304,4 +304,4 @@ string_taken [] h inner p total rest = ap (λ l. string_rest total Between (l ++
 string_taken (c ∷ cs) h inner p total rest =
     let valid = and_parts (scalar c) (scalars cs) h in
     let t = taken_char c valid.0 (encodes cs) inner p in
-    t.2 total (34 ∷ rest) ∙ ap (with_front (encode c)) (string_taken cs valid.1 t.0 t.1 total rest)
+    t.2 total (34 ∷ rest) ∙ ap (with_prefix (encode c)) (string_taken cs valid.1 t.0 t.1 total rest)

@@ -78,26 +78,26 @@ name_taken (c ∷ cs) rest h a =
     ∙ ap (λ (l : List ℕ). pair (token.Name l) (drop (length (c ∷ cs)) ((c ∷ cs) ++ rest))) (take-append_seam (c ∷ cs) rest)
     ∙ ap (λ (l : List ℕ). pair (token.Name (c ∷ cs)) l) (drop-append_seam (c ∷ cs) rest)
 
-number_found : (total place : ℕ) (negative : Bool) (z : ℤ) (digits rest : List ℕ) → is_digits digits ≡ true → Apart rest → number_of negative (digits_value digits) ≡ Some z → number_from total place negative digits rest ≡ Ok (token.Int z, rest)
-number_found total place negative z [] rest d a e = absurd (false≢true d)
-number_found total place negative z (x ∷ digits) rest d a e =
-    ap (λ v. cond v (Err (Real place)) (in_range place (number_of negative (digits_value (x ∷ digits))) rest)) (real_apart rest a)
-    ∙ ap (λ o. in_range place o rest) e
+number_found : (total position : ℕ) (negative : Bool) (z : ℤ) (digits rest : List ℕ) → is_digits digits ≡ true → Apart rest → number_of negative (digits_value digits) ≡ Some z → number_from total position negative digits rest ≡ Ok (token.Int z, rest)
+number_found total position negative z [] rest d a e = absurd (false≢true d)
+number_found total position negative z (x ∷ digits) rest d a e =
+    ap (λ v. cond v (Err (Real position)) (in_range position (number_of negative (digits_value (x ∷ digits))) rest)) (real_apart rest a)
+    ∙ ap (λ o. in_range position o rest) e
 
 -- the digits are found up to what follows them
-pub digits_taken : (total place : ℕ) (negative : Bool) (digits rest : List ℕ) → is_digits digits ≡ true → prefix_len is_digit rest ≡ 0 → number_from total place negative (take (prefix_len is_digit (digits ++ rest)) (digits ++ rest)) (drop (prefix_len is_digit (digits ++ rest)) (digits ++ rest)) ≡ number_from total place negative digits rest
-digits_taken total place negative [] rest d a = absurd (false≢true d)
-digits_taken total place negative (x ∷ digits) rest d a =
+pub digits_taken : (total position : ℕ) (negative : Bool) (digits rest : List ℕ) → is_digits digits ≡ true → prefix_len is_digit rest ≡ 0 → number_from total position negative (take (prefix_len is_digit (digits ++ rest)) (digits ++ rest)) (drop (prefix_len is_digit (digits ++ rest)) (digits ++ rest)) ≡ number_from total position negative digits rest
+digits_taken total position negative [] rest d a = absurd (false≢true d)
+digits_taken total position negative (x ∷ digits) rest d a =
     let l = (x ∷ digits) ++ rest in
     let len : prefix_len is_digit l ≡ length (x ∷ digits) = prefix_all is_digit (x ∷ digits) rest d a in
-    ap (λ n. number_from total place negative (take n l) (drop n l)) len
-    ∙ ap (λ (m : List ℕ). number_from total place negative m (drop (length (x ∷ digits)) l)) (take-append_seam (x ∷ digits) rest)
-    ∙ ap (λ (m : List ℕ). number_from total place negative (x ∷ digits) m) (drop-append_seam (x ∷ digits) rest)
+    ap (λ n. number_from total position negative (take n l) (drop n l)) len
+    ∙ ap (λ (m : List ℕ). number_from total position negative m (drop (length (x ∷ digits)) l)) (take-append_seam (x ∷ digits) rest)
+    ∙ ap (λ (m : List ℕ). number_from total position negative (x ∷ digits) m) (drop-append_seam (x ∷ digits) rest)
 
-digits_found : (total place : ℕ) (negative : Bool) (z : ℤ) (digits rest : List ℕ) → is_digits digits ≡ true → Apart rest → number_of negative (digits_value digits) ≡ Some z → number_from total place negative (take (prefix_len is_digit (digits ++ rest)) (digits ++ rest)) (drop (prefix_len is_digit (digits ++ rest)) (digits ++ rest)) ≡ Ok (token.Int z, rest)
-digits_found total place negative z digits rest d a e =
-    digits_taken total place negative digits rest d (prefix_none is_digit digit_apart rest a)
-    ∙ number_found total place negative z digits rest d a e
+digits_found : (total position : ℕ) (negative : Bool) (z : ℤ) (digits rest : List ℕ) → is_digits digits ≡ true → Apart rest → number_of negative (digits_value digits) ≡ Some z → number_from total position negative (take (prefix_len is_digit (digits ++ rest)) (digits ++ rest)) (drop (prefix_len is_digit (digits ++ rest)) (digits ++ rest)) ≡ Ok (token.Int z, rest)
+digits_found total position negative z digits rest d a e =
+    digits_taken total position negative digits rest d (prefix_none is_digit digit_apart rest a)
+    ∙ number_found total position negative z digits rest d a e
 
 pub digit_unsigned : (x : ℕ) → is_digit x ≡ true → eqb x 45 ≡ false
 digit_unsigned x h = grind (arith, nat_tests)

@@ -118,7 +118,7 @@ unfolding deepest
 deepest-within [] nested = omega arith
 deepest-within (t ∷ ts) nested =
     let rest : max (nested + 1) (deepest (nested + 1) ts) ≡ nested + (1 + greatest (map term_levels ts)) = deepest-within ts nested in
-    let front : greatest (term_levels t ∷ map term_levels ts) ≡ max (term_levels t) (greatest (map term_levels ts)) = greatest-cons (term_levels t) (map term_levels ts) in
+    let prefix : greatest (term_levels t ∷ map term_levels ts) ≡ max (term_levels t) (greatest (map term_levels ts)) = greatest-cons (term_levels t) (map term_levels ts) in
     omega arith
 
 level-Appl : (n : List ℕ) (ts : List Term) → AllByRecursion Levelled ts → Levelled (term.Appl n ts)

@@ -13,7 +13,7 @@ use Rattle.tb_read.specs.Scanning.{Next, Makes, Ends, allows, after, may_end, ne
 use Rattle.tb_read.specs.Reading.{StopsAt, HasFault}
 use Rattle.tb_read.proofs.Lexed.{token_sound, kind_begins, blanks, makes_by, not_makes}
 use Rattle.tb_read.proofs.Complete.{begun}
-use Rattle.tb_read.proofs.Wholes.{IsPlaced, runs_placed, scanned}
+use Rattle.tb_read.proofs.Wholes.{IsPositioned, runs_positioned, scanned}
 
 taken : (s : Shape) (total : ℕ) (bytes : List ℕ) (k : Token) (rest : List ℕ) → next_at s total bytes ≡ Makes k rest → length rest < length bytes
 taken s total [] k rest n = absurd (not_makes (may_end s.expect s.brackets) (fault.Syntax total) k rest n)
@@ -50,10 +50,10 @@ ran (suc most) s total bytes m = ran_next s total bytes (next_of s total bytes) 
 abbrev pub OneOf : List ℕ → Type 0
 OneOf bytes = ((term : Term) × Reads bytes term × IsWithinLimits term) ⊎ ((f : TermFault) × HasFault bytes f × (f ≡ fault.NoMemory → ⊥))
 
-stopped : (bytes : List ℕ) (f : TermFault) → StopsAt bytes f → IsPlaced f → HasFault bytes f × (f ≡ fault.NoMemory → ⊥)
-stopped bytes (fault.Syntax place) s p = (s, λ e. cc)
-stopped bytes (fault.Real place) s p = (s, λ e. cc)
-stopped bytes (fault.IntRange place) s p = (s, λ e. cc)
+stopped : (bytes : List ℕ) (f : TermFault) → StopsAt bytes f → IsPositioned f → HasFault bytes f × (f ≡ fault.NoMemory → ⊥)
+stopped bytes (fault.Syntax position) s p = (s, λ e. cc)
+stopped bytes (fault.Real position) s p = (s, λ e. cc)
+stopped bytes (fault.IntRange position) s p = (s, λ e. cc)
 stopped bytes fault.TooLarge s p = absurd p
 stopped bytes fault.TooDeep s p = absurd p
 stopped bytes fault.NoMemory s p = absurd p
@@ -68,7 +68,7 @@ one_by bytes tokens None r =
     let w = scanned bytes tokens r in
     term_by bytes w.0 w.3 (cases_lt 65536 (term_size w.0)) (cases_lt 64 (term_levels w.0))
 one_by bytes tokens (Some f) r =
-    let h = stopped bytes f (tokens, r) (runs_placed tokens start (length bytes) bytes f r) in
+    let h = stopped bytes f (tokens, r) (runs_positioned tokens start (length bytes) bytes f r) in
     inr (f, h.0, h.1)
 
 pub has_one : (bytes : List ℕ) → OneOf bytes

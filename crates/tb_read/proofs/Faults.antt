@@ -5,8 +5,8 @@ use Rattle.tb_read.specs.Answers.{Faulted}
 
 pub Faulted-weaker : (P Q : TermFault → Type 0) → ((f : TermFault) → P f → Q f) → (e : TermFault) → Faulted P e → Faulted Q e
 Faulted-weaker P Q h fault.NoMemory p = tt
-Faulted-weaker P Q h (fault.Syntax place) p = h _ p
-Faulted-weaker P Q h (fault.Real place) p = h _ p
-Faulted-weaker P Q h (fault.IntRange place) p = h _ p
+Faulted-weaker P Q h (fault.Syntax position) p = h _ p
+Faulted-weaker P Q h (fault.Real position) p = h _ p
+Faulted-weaker P Q h (fault.IntRange position) p = h _ p
 Faulted-weaker P Q h fault.TooLarge p = h _ p
 Faulted-weaker P Q h fault.TooDeep p = h _ p

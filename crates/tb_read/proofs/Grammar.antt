@@ -267,10 +267,10 @@ consumed-comma before h ts t =
 
 consumed-close : (before : List Token) (h : Option (List ℕ)) (ts : List Term) (t : Term) → before ++ tokens_of (whole h (ts ++ (t ∷ []))) ≡ ((before ++ (head_tokens h ++ flat_map before_comma ts)) ++ tokens_of t) ++ (closer h ∷ [])
 consumed-close before h ts t =
-    let front = head_tokens h ++ flat_map before_comma ts in
+    let prefix = head_tokens h ++ flat_map before_comma ts in
     ap (λ l. before ++ l) (whole-push h ts t)
-    ∙ sym (append_assoc before (front ++ tokens_of t) (closer h ∷ []))
-    ∙ ap (λ l. l ++ (closer h ∷ [])) (sym (append_assoc before front (tokens_of t)))
+    ∙ sym (append_assoc before (prefix ++ tokens_of t) (closer h ∷ []))
+    ∙ ap (λ l. l ++ (closer h ∷ [])) (sym (append_assoc before prefix (tokens_of t)))
 
 consumed-empty : (fs : List Frame) → opened fs ++ tokens_of (term.List []) ≡ ((opened fs ++ (token.LeftBracket ∷ [])) ++ []) ++ (token.RightBracket ∷ [])
 consumed-empty fs =

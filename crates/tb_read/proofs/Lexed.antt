@@ -17,7 +17,7 @@ use Rattle.tb_read.specs.Spelling.{is_blank, is_digits, digits_value, SpellsNumb
 use Rattle.tb_read.specs.Lexing.{skip_blanks, string_rest, string_of, name_at, is_real, number_of, in_range, number_from, number_at, kind_of, token_of}
 use Rattle.tb_read.specs.Answers.{begins_with}
 use Rattle.tb_read.specs.Scanning.{Next, Makes, Ends, allows, after, may_end, made, next_at, Runs}
-use Rattle.tb_read.proofs.Names.{all_of_front, is_name_front}
+use Rattle.tb_read.proofs.Names.{all_of_prefix, is_name_prefix}
 use Rattle.tb_read.proofs.Scalars.{string_put}
 use Rattle.tb_read.proofs.Strings.{string_sound}
 use Rattle.tb_read.proofs.Grammar.{kind_of_token, accepts}
@@ -40,21 +40,21 @@ name_sound : (bytes : List ℕ) (x : Lexed) → begins_with kind.Name bytes ≡ 
 name_sound bytes x h e =
     let len = prefix_len is_name_byte bytes in
     subst (λ (y : Lexed). Found bytes y kind.Name) (ok_same (token.Name (take len bytes), drop len bytes) x e)
-    (take len bytes, sym (take-append-drop len bytes), (is_name_front bytes h, refl), refl)
+    (take len bytes, sym (take-append-drop len bytes), (is_name_prefix bytes h, refl), refl)
 
 abbrev pub NumberFound : Bool → List ℕ → List ℕ → Lexed → Type 0
 NumberFound negative digits rest x =
     (z : ℤ) × (x ≡ (token.Int z, rest)) × (is_digits digits ≡ true) × (number_of negative (digits_value digits) ≡ Some z)
 
-number_by : (place : ℕ) (negative : Bool) (digits rest : List ℕ) (x : Lexed) → is_digits digits ≡ true → (r : Bool) (o : Option ℤ) → number_of negative (digits_value digits) ≡ o → ◌≡◌ {A = Result Lexed TermFault} (cond r (Err (Real place)) (in_range place o rest)) (Ok x) → NumberFound negative digits rest x
-number_by place negative digits rest x d true o eo e = cc
-number_by place negative digits rest x d false None eo e = cc
-number_by place negative digits rest x d false (Some z) eo e = (z, sym (ok_same (token.Int z, rest) x e), d, eo)
+number_by : (position : ℕ) (negative : Bool) (digits rest : List ℕ) (x : Lexed) → is_digits digits ≡ true → (r : Bool) (o : Option ℤ) → number_of negative (digits_value digits) ≡ o → ◌≡◌ {A = Result Lexed TermFault} (cond r (Err (Real position)) (in_range position o rest)) (Ok x) → NumberFound negative digits rest x
+number_by position negative digits rest x d true o eo e = cc
+number_by position negative digits rest x d false None eo e = cc
+number_by position negative digits rest x d false (Some z) eo e = (z, sym (ok_same (token.Int z, rest) x e), d, eo)
 
-pub number_from_sound : (total place : ℕ) (negative : Bool) (digits rest : List ℕ) (x : Lexed) → list_all is_digit digits ≡ true → number_from total place negative digits rest ≡ Ok x → NumberFound negative digits rest x
-number_from_sound total place negative [] rest x d e = cc
-number_from_sound total place negative (digit ∷ digits) rest x d e =
-    number_by place negative (digit ∷ digits) rest x d (is_real rest) (number_of negative (digits_value (digit ∷ digits))) refl e
+pub number_from_sound : (total position : ℕ) (negative : Bool) (digits rest : List ℕ) (x : Lexed) → list_all is_digit digits ≡ true → number_from total position negative digits rest ≡ Ok x → NumberFound negative digits rest x
+number_from_sound total position negative [] rest x d e = cc
+number_from_sound total position negative (digit ∷ digits) rest x d e =
+    number_by position negative (digit ∷ digits) rest x d (is_real rest) (number_of negative (digits_value (digit ∷ digits))) refl e
 
 some_by : (b : Bool) (y z : ℤ) → ◌≡◌ {A = Option ℤ} (cond b (Some y) None) (Some z) → (b ≡ true) × (z ≡ y)
 some_by true y z e = (refl, cc)
@@ -79,19 +79,19 @@ signed_spelled digits z d e =
 number_sound : (total : ℕ) (bytes : List ℕ) (x : Lexed) → number_at total bytes ≡ Ok x → Found bytes x kind.Int
 number_sound total [] x e = cc
 number_sound total (b ∷ bytes) x e = by (eqb b 45) refl e where
-  place : ℕ
-  place = total - length (b ∷ bytes)
+  position : ℕ
+  position = total - length (b ∷ bytes)
 
   unsigned : (l : List ℕ) → number_from total (total - length (b ∷ bytes)) false (take (prefix_len is_digit l) l) (drop (prefix_len is_digit l) l) ≡ Ok x → Found l x kind.Int
   unsigned l h =
       let len = prefix_len is_digit l in
-      let f = number_from_sound total (total - length (b ∷ bytes)) false (take len l) (drop len l) x (all_of_front is_digit l) h in
+      let f = number_from_sound total (total - length (b ∷ bytes)) false (take len l) (drop len l) x (all_of_prefix is_digit l) h in
       subst (λ (y : Lexed). Found l y kind.Int) (sym f.1) (take len l, sym (take-append-drop len l), unsigned_spelled (take len l) f.0 f.2 f.3, refl)
 
   signed : (l : List ℕ) → number_from total (total - length (b ∷ bytes)) true (take (prefix_len is_digit l) l) (drop (prefix_len is_digit l) l) ≡ Ok x → Found (45 ∷ l) x kind.Int
   signed l h =
       let len = prefix_len is_digit l in
-      let f = number_from_sound total (total - length (b ∷ bytes)) true (take len l) (drop len l) x (all_of_front is_digit l) h in
+      let f = number_from_sound total (total - length (b ∷ bytes)) true (take len l) (drop len l) x (all_of_prefix is_digit l) h in
       subst (λ (y : Lexed). Found (45 ∷ l) y kind.Int) (sym f.1) (45 ∷ take len l, ap (λ m. 45 ∷ m) (sym (take-append-drop len l)), signed_spelled (take len l) f.0 f.2 f.3, refl)
 
   by : (v : Bool) → eqb b 45 ≡ v → number_from total (total - length (b ∷ bytes)) v (take (prefix_len is_digit (drop (cond v 1 0) (b ∷ bytes))) (drop (cond v 1 0) (b ∷ bytes))) (drop (prefix_len is_digit (drop (cond v 1 0) (b ∷ bytes))) (drop (cond v 1 0) (b ∷ bytes))) ≡ Ok x → Found (b ∷ bytes) x kind.Int
@@ -138,11 +138,11 @@ pub kind_begins : (b : ℕ) (bytes : List ℕ) → begins_with (kind_of b) (b �
 kind_begins b bytes = kind_begins_by b bytes (eqb b 40) (eqb b 41) (eqb b 91) (eqb b 93) (eqb b 44) (eqb b 34) (leb 97 b && leb b 122) (is_digit b || eqb b 45) refl refl refl refl refl refl refl refl
 
 -- the blanks in front
-blanks_by : (b : ℕ) (bytes blanks : List ℕ) → bytes ≡ blanks ++ skip_blanks bytes → list_all is_blank blanks ≡ true → (v : Bool) → is_blank b ≡ v → (front : List ℕ) × (b ∷ bytes ≡ front ++ cond v (skip_blanks bytes) (b ∷ bytes)) × (list_all is_blank front ≡ true)
+blanks_by : (b : ℕ) (bytes blanks : List ℕ) → bytes ≡ blanks ++ skip_blanks bytes → list_all is_blank blanks ≡ true → (v : Bool) → is_blank b ≡ v → (prefix : List ℕ) × (b ∷ bytes ≡ prefix ++ cond v (skip_blanks bytes) (b ∷ bytes)) × (list_all is_blank prefix ≡ true)
 blanks_by b bytes blanks e h true ev = (b ∷ blanks, ap (λ l. b ∷ l) e, rw ev h)
 blanks_by b bytes blanks e h false ev = ([], refl, refl)
 
-pub blanks : (bytes : List ℕ) → (front : List ℕ) × (bytes ≡ front ++ skip_blanks bytes) × (list_all is_blank front ≡ true)
+pub blanks : (bytes : List ℕ) → (prefix : List ℕ) × (bytes ≡ prefix ++ skip_blanks bytes) × (list_all is_blank prefix ≡ true)
 blanks [] = ([], refl, refl)
 blanks (b ∷ bytes) = let p = blanks bytes in blanks_by b bytes p.0 p.1 p.2 (is_blank b) refl
 
@@ -175,19 +175,19 @@ pub not_makes : (v : Bool) (f : TermFault) (k : Token) (rest : List ℕ) → con
 not_makes true f k rest e = cc
 not_makes false f k rest e = cc
 
-makes_sound : (s : Shape) (total : ℕ) (front l : List ℕ) (k : Token) (rest bytes : List ℕ) (ks : List Token) → bytes ≡ front ++ l → list_all is_blank front ≡ true → next_at s total l ≡ Makes k rest → (accepts (after s k) ks ≡ true) × Spaced ks rest → (accepts s (k ∷ ks) ≡ true) × Spaced (k ∷ ks) bytes
-makes_sound s total front [] k rest bytes ks e h n more = absurd (not_makes (may_end s.expect s.brackets) (Syntax total) k rest n)
-makes_sound s total front (b ∷ l) k rest bytes ks e h n more =
+makes_sound : (s : Shape) (total : ℕ) (prefix l : List ℕ) (k : Token) (rest bytes : List ℕ) (ks : List Token) → bytes ≡ prefix ++ l → list_all is_blank prefix ≡ true → next_at s total l ≡ Makes k rest → (accepts (after s k) ks ≡ true) × Spaced ks rest → (accepts s (k ∷ ks) ≡ true) × Spaced (k ∷ ks) bytes
+makes_sound s total prefix [] k rest bytes ks e h n more = absurd (not_makes (may_end s.expect s.brackets) (Syntax total) k rest n)
+makes_sound s total prefix (b ∷ l) k rest bytes ks e h n more =
     let p = makes_by (allows s (kind_of b)) (token_of (kind_of b) total (b ∷ l)) (Syntax (total - length (b ∷ l))) k rest n in
     let found = token_sound (kind_of b) total (b ∷ l) (k, rest) (kind_begins b l) p.1 in
     let allowed : allows s (kind_of_token k) ≡ true = ap (allows s) found.3 ∙ p.0 in (
       ap (λ v. v && accepts (after s k) ks) allowed ∙ more.0,
-      (front, found.0, rest, e ∙ ap (λ m. front ++ m) found.1 ∙ sym (append_assoc front found.0 rest), h, found.2, more.1),
+      (prefix, found.0, rest, e ∙ ap (λ m. prefix ++ m) found.1 ∙ sym (append_assoc prefix found.0 rest), h, found.2, more.1),
     )
 
-ends_sound : (s : Shape) (total : ℕ) (front l bytes : List ℕ) → bytes ≡ front ++ l → list_all is_blank front ≡ true → next_at s total l ≡ Ends None → (accepts s [] ≡ true) × Spaced [] bytes
-ends_sound s total front [] bytes e h n = (end_by (may_end s.expect s.brackets) (Syntax total) n, ap (list_all is_blank) (e ∙ append-nil front) ∙ h)
-ends_sound s total front (b ∷ l) bytes e h n = absurd (ends_by (allows s (kind_of b)) (token_of (kind_of b) total (b ∷ l)) (Syntax (total - length (b ∷ l))) n)
+ends_sound : (s : Shape) (total : ℕ) (prefix l bytes : List ℕ) → bytes ≡ prefix ++ l → list_all is_blank prefix ≡ true → next_at s total l ≡ Ends None → (accepts s [] ≡ true) × Spaced [] bytes
+ends_sound s total prefix [] bytes e h n = (end_by (may_end s.expect s.brackets) (Syntax total) n, ap (list_all is_blank) (e ∙ append-nil prefix) ∙ h)
+ends_sound s total prefix (b ∷ l) bytes e h n = absurd (ends_by (allows s (kind_of b)) (token_of (kind_of b) total (b ∷ l)) (Syntax (total - length (b ∷ l))) n)
 
 pub runs_sound : (ks : List Token) (s : Shape) (total : ℕ) (bytes : List ℕ) → Runs s total bytes ks None → (accepts s ks ≡ true) × Spaced ks bytes
 runs_sound [] s total bytes r = let p = blanks bytes in ends_sound s total p.0 (skip_blanks bytes) bytes p.1 p.2 r

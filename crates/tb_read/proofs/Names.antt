@@ -8,15 +8,15 @@ use Rattle.tb_read.specs.Answers.{begins_with}
 use Rattle.tb_read.specs.declared.kind.Kind.TheVariants.{Name}
 
 -- a front that passes passes
-pub all_of_front : (p : ℕ → Bool) (bs : List ℕ) → list_all p (take (prefix_len p bs) bs) ≡ true
-all_of_front p [] = refl
-all_of_front p (b ∷ bs) = by (p b) refl (all_of_front p bs) where
+pub all_of_prefix : (p : ℕ → Bool) (bs : List ℕ) → list_all p (take (prefix_len p bs) bs) ≡ true
+all_of_prefix p [] = refl
+all_of_prefix p (b ∷ bs) = by (p b) refl (all_of_prefix p bs) where
   by : (v : Bool) → p b ≡ v → list_all p (take (prefix_len p bs) bs) ≡ true → list_all p (take (cond v (1 + prefix_len p bs) 0) (b ∷ bs)) ≡ true
   by true e rest = rw (one-add, e) rest
   by false e rest = refl
 
-pub is_name_front : (bs : List ℕ) → begins_with Name bs ≡ true → is_name (take (prefix_len is_name_byte bs) bs) ≡ true
-is_name_front [] h = absurd (false≢true h)
-is_name_front (b ∷ bs) h =
+pub is_name_prefix : (bs : List ℕ) → begins_with Name bs ≡ true → is_name (take (prefix_len is_name_byte bs) bs) ≡ true
+is_name_prefix [] h = absurd (false≢true h)
+is_name_prefix (b ∷ bs) h =
     let also : is_name_byte b ≡ true = rw h refl in
-    rw (also, one-add, h) (all_of_front is_name_byte bs)
+    rw (also, one-add, h) (all_of_prefix is_name_byte bs)

@@ -1,4 +1,4 @@
--- At the place of a fault of a number stand a sign or none and digits, and a number might stand there.
+-- At the position of a fault of a number stand a sign or none and digits, and a number might stand there.
 use Rattle.std.proofs.Common.{◌≡◌, ℕ, ℤ, pos, neg_ℤ, suc, ◌-◌, ◌^◌, ◌≤◌, ◌<◌, Bool, true, false, ◌⊎◌, cond, eqb, leb, ltb, List, [], ◌∷◌, ◌++◌, length, take, drop, Option, Some, None, Result, Err, refl, ap, sym, ◌∙◌, subst, inl, inr, append_assoc}
 use Rattle.std.proofs.lemmas.Bool.{false≢true, eqb-true, and_parts, and_from, lt-ltb, le-leb}
 use Rattle.std.proofs.lemmas.List.{take-append-drop}
@@ -26,21 +26,21 @@ use Rattle.tb_read.specs.Spelling.{is_blank, is_digits, digits_value, SpellsNumb
 use Rattle.tb_read.specs.Lexing.{string_turn, string_rest, is_real, number_of, in_range, number_from, number_at, kind_of, token_of}
 use Rattle.tb_read.specs.Scanning.{Ends as Stops, allows, expects, may_end, made, next_at, start}
 use Rattle.tb_read.specs.Reading.{StopsAt}
-use Rattle.tb_read.specs.Places.{Takes, TakesTerm, signed, IsNumeral, HasPoint, BeginsReal, BeginsTooFar}
+use Rattle.tb_read.specs.Positions.{Writes, TakesTerm, signed, IsNumeral, HasPoint, BeginsReal, BeginsTooFar}
 use Rattle.tb_read.proofs.Grammar.{kind_of_token}
-use Rattle.tb_read.proofs.Names.{all_of_front}
+use Rattle.tb_read.proofs.Names.{all_of_prefix}
 use Rattle.tb_read.proofs.Strings.{turned}
 use Rattle.tb_read.proofs.Lexed.{Lexed}
-use Rattle.tb_read.proofs.Stops.{front_err, front_stops, made_err, string_of_err}
-use Rattle.tb_read.proofs.Begins.{Place, runs_place, goes_on_with, within_token, spells_zero}
+use Rattle.tb_read.proofs.Stops.{prefix_err, prefix_stops, made_err, string_of_err}
+use Rattle.tb_read.proofs.Begins.{Position, runs_position, continues_with, within_token, spells_zero}
 
 abbrev Pair : Type 0
 Pair = List ℕ × List ℕ
 
--- a fault of a number at a place
+-- a fault of a number at a position
 abbrev OfNumber : TermFault → Type 0
-OfNumber (fault.Real place) = Unit {0}
-OfNumber (fault.IntRange place) = Unit {0}
+OfNumber (fault.Real position) = Unit {0}
+OfNumber (fault.IntRange position) = Unit {0}
 OfNumber _ = ⊥
 
 same_fault : {X : Type 0} (f g : TermFault) → ◌≡◌ {A = Result X TermFault} (Err f) (Err g) → f ≡ g
@@ -51,7 +51,7 @@ same_fault f g e = cc
 turned_none : (total : ℕ) (bytes : List ℕ) → ((w : Within) (f : TermFault) → string_rest total w bytes ≡ Err f → OfNumber f → ⊥) → (t : Turn) (f : TermFault) → turned total t bytes ≡ Err f → OfNumber f → ⊥
 turned_none total bytes rest Ends f e = cc
 turned_none total bytes rest (Goes next) f e = rest next f e
-turned_none total bytes rest (Puts put next) f e = rest next f (front_err (put ∷ []) (string_rest total next bytes) f e)
+turned_none total bytes rest (Puts put next) f e = rest next f (prefix_err (put ∷ []) (string_rest total next bytes) f e)
 turned_none total bytes rest Bad f e = λ n. subst OfNumber (sym (same_fault {X = Pair} (fault.Syntax (total - suc (length bytes))) f e)) n
 
 rest_none : (total : ℕ) (bytes : List ℕ) (w : Within) (f : TermFault) → string_rest total w bytes ≡ Err f → OfNumber f → ⊥
@@ -60,14 +60,14 @@ rest_none total (b ∷ bytes) w f e = turned_none total bytes (rest_none total b
 
 -- what a fault of a number says
 abbrev Says : TermFault → List ℕ → Type 0
-Says (fault.Real place) bytes = BeginsReal bytes
-Says (fault.IntRange place) bytes = BeginsTooFar bytes
+Says (fault.Real position) bytes = BeginsReal bytes
+Says (fault.IntRange position) bytes = BeginsTooFar bytes
 Says _ bytes = ⊥
 
-abbrev place_in : TermFault → ℕ
-place_in (fault.Real place) = place
-place_in (fault.IntRange place) = place
-place_in _ = 0
+abbrev position_in : TermFault → ℕ
+position_in (fault.Real position) = position
+position_in (fault.IntRange position) = position
+position_in _ = 0
 
 pub point : (rest : List ℕ) → is_real rest ≡ true → HasPoint rest
 point [] e = absurd (false≢true e)
@@ -112,35 +112,35 @@ too_far false digits d o z s = by s.signed where
   by (inr p) = digits_no_sign digits s.digits p.0 d
 
 -- a number whose digits, and what follows them, have been found
-from_says : (total place : ℕ) (negative : Bool) (digits rest bytes : List ℕ) (f : TermFault) → OfNumber f → bytes ≡ signed negative digits ++ rest → list_all is_digit digits ≡ true → prefix_len is_digit rest ≡ 0 → number_from total place negative digits rest ≡ Err f → (place_in f ≡ place) × Says f bytes
-from_says total place negative [] rest bytes f n e d a g = absurd (subst OfNumber (sym (same_fault {X = Lexed} (fault.Syntax (total - length rest)) f g)) n)
-from_says total place negative (y ∷ digits) rest bytes f n e d a g = by (is_real rest) (number_of negative (digits_value (y ∷ digits))) refl refl g where
+from_says : (total position : ℕ) (negative : Bool) (digits rest bytes : List ℕ) (f : TermFault) → OfNumber f → bytes ≡ signed negative digits ++ rest → list_all is_digit digits ≡ true → prefix_len is_digit rest ≡ 0 → number_from total position negative digits rest ≡ Err f → (position_in f ≡ position) × Says f bytes
+from_says total position negative [] rest bytes f n e d a g = absurd (subst OfNumber (sym (same_fault {X = Lexed} (fault.Syntax (total - length rest)) f g)) n)
+from_says total position negative (y ∷ digits) rest bytes f n e d a g = by (is_real rest) (number_of negative (digits_value (y ∷ digits))) refl refl g where
   numeral : IsNumeral negative (y ∷ digits) rest bytes
   numeral = record { parts = e; are_digits = d; are_all = a }
 
-  by : (v : Bool) (o : Option ℤ) → is_real rest ≡ v → number_of negative (digits_value (y ∷ digits)) ≡ o → ◌≡◌ {A = Result Lexed TermFault} (cond v (Err (fault.Real place)) (in_range place o rest)) (Err f) → (place_in f ≡ place) × Says f bytes
+  by : (v : Bool) (o : Option ℤ) → is_real rest ≡ v → number_of negative (digits_value (y ∷ digits)) ≡ o → ◌≡◌ {A = Result Lexed TermFault} (cond v (Err (fault.Real position)) (in_range position o rest)) (Err f) → (position_in f ≡ position) × Says f bytes
   by true o ev eo h =
-      subst (λ (k : TermFault). (place_in k ≡ place) × Says k bytes) (same_fault {X = Lexed} (fault.Real place) f h)
+      subst (λ (k : TermFault). (position_in k ≡ position) × Says k bytes) (same_fault {X = Lexed} (fault.Real position) f h)
       (refl, (negative, y ∷ digits, rest, numeral, point rest ev))
   by false None ev eo h =
-      subst (λ (k : TermFault). (place_in k ≡ place) × Says k bytes) (same_fault {X = Lexed} (fault.IntRange place) f h)
+      subst (λ (k : TermFault). (position_in k ≡ position) × Says k bytes) (same_fault {X = Lexed} (fault.IntRange position) f h)
       (refl, (negative, y ∷ digits, rest, numeral, no_point rest ev, too_far negative (y ∷ digits) d eo))
   by false (Some z) ev eo h = cc
 
-number_says : (total b : ℕ) (bytes : List ℕ) (f : TermFault) → OfNumber f → number_at total (b ∷ bytes) ≡ Err f → (place_in f ≡ total - length (b ∷ bytes)) × Says f (b ∷ bytes)
+number_says : (total b : ℕ) (bytes : List ℕ) (f : TermFault) → OfNumber f → number_at total (b ∷ bytes) ≡ Err f → (position_in f ≡ total - length (b ∷ bytes)) × Says f (b ∷ bytes)
 number_says total b bytes f n e = by (eqb b 45) refl e where
-  by : (v : Bool) → eqb b 45 ≡ v → number_from total (total - length (b ∷ bytes)) v (take (prefix_len is_digit (drop (cond v 1 0) (b ∷ bytes))) (drop (cond v 1 0) (b ∷ bytes))) (drop (prefix_len is_digit (drop (cond v 1 0) (b ∷ bytes))) (drop (cond v 1 0) (b ∷ bytes))) ≡ Err f → (place_in f ≡ total - length (b ∷ bytes)) × Says f (b ∷ bytes)
+  by : (v : Bool) → eqb b 45 ≡ v → number_from total (total - length (b ∷ bytes)) v (take (prefix_len is_digit (drop (cond v 1 0) (b ∷ bytes))) (drop (cond v 1 0) (b ∷ bytes))) (drop (prefix_len is_digit (drop (cond v 1 0) (b ∷ bytes))) (drop (cond v 1 0) (b ∷ bytes))) ≡ Err f → (position_in f ≡ total - length (b ∷ bytes)) × Says f (b ∷ bytes)
   by true ev g =
       let len = prefix_len is_digit bytes in
       let at : b ∷ bytes ≡ signed true (take len bytes) ++ drop len bytes = ap (λ m. m ∷ bytes) (eqb-true b 45 ev) ∙ ap (λ (m : List ℕ). 45 ∷ m) (sym (take-append-drop len bytes)) in
-      from_says total (total - length (b ∷ bytes)) true (take len bytes) (drop len bytes) (b ∷ bytes) f n at (all_of_front is_digit bytes) (front_stops is_digit bytes) g
+      from_says total (total - length (b ∷ bytes)) true (take len bytes) (drop len bytes) (b ∷ bytes) f n at (all_of_prefix is_digit bytes) (prefix_stops is_digit bytes) g
   by false ev g =
       let l = b ∷ bytes in
       let len = prefix_len is_digit l in
-      from_says total (total - length l) false (take len l) (drop len l) l f n (sym (take-append-drop len l)) (all_of_front is_digit l) (front_stops is_digit l) g
+      from_says total (total - length l) false (take len l) (drop len l) l f n (sym (take-append-drop len l)) (all_of_prefix is_digit l) (prefix_stops is_digit l) g
 
 -- a token that has such a fault is a number
-token_says : (next : Kind) (total b : ℕ) (bytes : List ℕ) (f : TermFault) → OfNumber f → token_of next total (b ∷ bytes) ≡ Err f → (next ≡ kind.Int) × (place_in f ≡ total - length (b ∷ bytes)) × Says f (b ∷ bytes)
+token_says : (next : Kind) (total b : ℕ) (bytes : List ℕ) (f : TermFault) → OfNumber f → token_of next total (b ∷ bytes) ≡ Err f → (next ≡ kind.Int) × (position_in f ≡ total - length (b ∷ bytes)) × Says f (b ∷ bytes)
 token_says kind.LeftParen total b bytes f n e = cc
 token_says kind.RightParen total b bytes f n e = cc
 token_says kind.LeftBracket total b bytes f n e = cc
@@ -163,20 +163,20 @@ pub record IsLikeNumber (k : Token) (text : List ℕ) : Type 0 where
   pub allowed : (s : Shape) → allows s kind.Int ≡ true → allows s (kind_of_token k) ≡ true
   pub spelled : SpellsToken k (text ++ [])
 
-number_place : (k : Token) (text : List ℕ) → IsLikeNumber k text → (f : TermFault) → OfNumber f → (s : Shape) (total : ℕ) (bytes front l : List ℕ) → bytes ≡ front ++ l → list_all is_blank front ≡ true → next_at s total l ≡ Stops (Some f) → Place (Says f) text s total bytes (place_in f)
-number_place k text like f n s total bytes front [] e h r = absurd (end_none (may_end s.expect s.brackets) total f n r)
-number_place k text like f n s total bytes front (b ∷ l) e h r = by (allows s (kind_of b)) refl r where
-  by : (v : Bool) → allows s (kind_of b) ≡ v → cond v (made (token_of (kind_of b) total (b ∷ l))) (Stops (Some (fault.Syntax (total - length (b ∷ l))))) ≡ Stops (Some f) → Place (Says f) text s total bytes (place_in f)
+number_position : (k : Token) (text : List ℕ) → IsLikeNumber k text → (f : TermFault) → OfNumber f → (s : Shape) (total : ℕ) (bytes prefix l : List ℕ) → bytes ≡ prefix ++ l → list_all is_blank prefix ≡ true → next_at s total l ≡ Stops (Some f) → Position (Says f) text s total bytes (position_in f)
+number_position k text like f n s total bytes prefix [] e h r = absurd (end_none (may_end s.expect s.brackets) total f n r)
+number_position k text like f n s total bytes prefix (b ∷ l) e h r = by (allows s (kind_of b)) refl r where
+  by : (v : Bool) → allows s (kind_of b) ≡ v → cond v (made (token_of (kind_of b) total (b ∷ l))) (Stops (Some (fault.Syntax (total - length (b ∷ l))))) ≡ Stops (Some f) → Position (Says f) text s total bytes (position_in f)
   by false ev q = absurd (subst OfNumber (sym (stops_fault (fault.Syntax (total - length (b ∷ l))) f q)) n)
   by true ev q =
       let t = token_says (kind_of b) total b l f n (made_err (token_of (kind_of b) total (b ∷ l)) f q) in
       let allowed : allows s kind.Int ≡ true = ap (allows s) (sym t.0) ∙ ev in
-      (front, b ∷ l, e, t.1, t.2, within_token s front k text [] h (like.allowed s allowed) like.spelled)
+      (prefix, b ∷ l, e, t.1, t.2, within_token s prefix k text [] h (like.allowed s allowed) like.spelled)
 
-number_takes : (k : Token) (text : List ℕ) → IsLikeNumber k text → (bytes : List ℕ) (f : TermFault) → OfNumber f → StopsAt bytes f → Takes text bytes (place_in f) × Says f (drop (place_in f) bytes)
+number_takes : (k : Token) (text : List ℕ) → IsLikeNumber k text → (bytes : List ℕ) (f : TermFault) → OfNumber f → StopsAt bytes f → Writes text bytes (position_in f) × Says f (drop (position_in f) bytes)
 number_takes k text like bytes f n r =
-    let p = place_in f in
-    let g = goes_on_with (Says f) text bytes p (runs_place (Says f) text f p (number_place k text like f n) r.0 start (length bytes) bytes r.1) in (
+    let p = position_in f in
+    let g = continues_with (Says f) text bytes p (runs_position (Says f) text f p (number_position k text like f n) r.0 start (length bytes) bytes r.1) in (
       (g.2.0, g.2.1, subst (λ (m : List ℕ). Reads m g.2.1) (append_assoc (take p bytes) text g.2.0) g.2.2),
       g.1,
     )
@@ -198,7 +198,7 @@ like_empty : IsLikeNumber (token.Str []) (34 ∷ 34 ∷ [])
 like_empty =
     record { allowed = λ s a. string_expected s.expect s.brackets a; spelled = record { is = and_from (is_utf8 []) (is_text []) (is_utf8-from_IsUtf8 [] IsUtf8-nil) refl; inner = []; quoted = refl; spelled = refl } }
 
-numeral_fault : (bytes : List ℕ) (f : TermFault) → OfNumber f → StopsAt bytes f → TakesTerm bytes (place_in f) × Says f (drop (place_in f) bytes)
+numeral_fault : (bytes : List ℕ) (f : TermFault) → OfNumber f → StopsAt bytes f → TakesTerm bytes (position_in f) × Says f (drop (position_in f) bytes)
 numeral_fault bytes f n r =
     let number = number_takes (token.Int (pos 0)) (48 ∷ []) like_zero bytes f n r in
     ((number.0, (number_takes (token.Str []) (34 ∷ 34 ∷ []) like_empty bytes f n r).0), number.1)

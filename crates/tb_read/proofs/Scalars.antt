@@ -12,7 +12,7 @@ use Rattle.tb_read.specs.declared.quoted.Turn.{Turn}
 use Rattle.tb_read.specs.declared.quoted.Turn.TheVariants.{Ends, Goes, Puts, Bad}
 use Rattle.tb_read.specs.Lexing.{between_turn, going_turn, escaped_turn, unescaped, lead, string_rest}
 use Rattle.tb_read.specs.Spelling.{is_plain, SpellsByte, SpellsBytes}
-use Rattle.tb_read.proofs.Strings.{turned, front_ok, string_sound}
+use Rattle.tb_read.proofs.Strings.{turned, prefix_ok, string_sound}
 use Rattle.tb_read.proofs.Chars.{encode_two, encode_three, encode_four}
 
 abbrev Pair : Type 0
@@ -68,7 +68,7 @@ TwoMore low high p = (b : ℕ) → low ≤ b → b ≤ high → OneMore 128 191 
 abbrev ThreeMore : ℕ → ℕ → List ℕ → Type 0
 ThreeMore low high p = (b : ℕ) → low ≤ b → b ≤ high → TwoMore 128 191 (p ++ (b ∷ []))
 
--- what stands of a character at this place
+-- what stands of a character at this position
 abbrev Partial : Within → List ℕ → Type 0
 Partial Between p = p ≡ []
 Partial Escaped p = p ≡ []
@@ -147,7 +147,7 @@ between_whole total b bytes ih (Goes next) f x e = ih Escaped [] refl x (subst (
 between_whole total b bytes ih Bad f x e = cc
 between_whole total b bytes ih (Puts c next) f x e = by f.1 where
   y : (z : Pair) × (string_rest total next bytes ≡ Ok z) × (x.0 ≡ (c ∷ []) ++ z.0) × (x.1 ≡ z.1)
-  y = front_ok (c ∷ []) (string_rest total next bytes) x e
+  y = prefix_ok (c ∷ []) (string_rest total next bytes) x e
 
   by : (((next ≡ Between) × (b < 128)) ⊎ ((128 ≤ b) × Partial next (b ∷ []))) → IsUtf8 x.0
   by (inl g) =
@@ -162,7 +162,7 @@ between_whole total b bytes ih (Puts c next) f x e = by f.1 where
 escaped_whole : (total b : ℕ) (bytes : List ℕ) → Whole total bytes → (o : Option ℕ) → unescaped b ≡ o → (x : Pair) → turned total (escaped_turn o) bytes ≡ Ok x → IsUtf8 x.0
 escaped_whole total b bytes ih None u x e = cc
 escaped_whole total b bytes ih (Some c) u x e =
-    let y = front_ok (c ∷ []) (string_rest total Between bytes) x e in
+    let y = prefix_ok (c ∷ []) (string_rest total Between bytes) x e in
     let rest : IsUtf8 ([] ++ y.0.0) = ih Between [] refl y.0 y.1 in
     subst IsUtf8 (sym y.2) (IsUtf8-append (c ∷ []) y.0.0 (ascii_utf8 c (escape_ascii c b u)) rest)
 
@@ -170,7 +170,7 @@ going_by : (total b : ℕ) (bytes : List ℕ) → Whole total bytes → (next : 
 going_by total b bytes ih next p false h x e = cc
 going_by total b bytes ih next p true h x e = by (h refl) where
   y : (z : Pair) × (string_rest total next bytes ≡ Ok z) × (x.0 ≡ (b ∷ []) ++ z.0) × (x.1 ≡ z.1)
-  y = front_ok (b ∷ []) (string_rest total next bytes) x e
+  y = prefix_ok (b ∷ []) (string_rest total next bytes) x e
 
   by : (((next ≡ Between) × IsUtf8 (p ++ (b ∷ []))) ⊎ Partial next (p ++ (b ∷ []))) → IsUtf8 (p ++ x.0)
   by (inl g) =
@@ -207,9 +207,9 @@ text_by b false false false false false ep eq er es et l e = cc
 plain_text : (b : ℕ) → is_plain b ≡ true → is_text_byte b ≡ true
 plain_text b h = grind (arith, nat_tests)
 
-byte_text : (b : ℕ) (front : List ℕ) → SpellsByte b front → is_text_byte b ≡ true
-byte_text b front (inl p) = plain_text b p.0
-byte_text b front (inr p) = text_by b (eqb b 92) (eqb b 34) (eqb b 10) (eqb b 13) (eqb b 9) refl refl refl refl refl p.0 p.1
+byte_text : (b : ℕ) (prefix : List ℕ) → SpellsByte b prefix → is_text_byte b ≡ true
+byte_text b prefix (inl p) = plain_text b p.0
+byte_text b prefix (inr p) = text_by b (eqb b 92) (eqb b 34) (eqb b 10) (eqb b 13) (eqb b 9) refl refl refl refl refl p.0 p.1
 
 bytes_text : (bytes inner : List ℕ) → SpellsBytes bytes inner → is_text bytes ≡ true
 bytes_text [] inner s = refl

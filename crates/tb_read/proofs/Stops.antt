@@ -20,12 +20,12 @@ use Rattle.tb_read.specs.declared.kind.Kind.TheVariants as kind
 use Rattle.tb_read.specs.declared.shape.Shape.{Shape}
 use Rattle.tb_read.specs.Tokens.{tokens_of}
 use Rattle.tb_read.specs.Spelling.{is_blank, is_digits, digits_value, SpellsToken, Reads}
-use Rattle.tb_read.specs.Lexing.{skip_blanks, string_turn, string_rest, with_front, string_of, name_at, is_real, is_negative, number_of, in_range, number_from, number_at, kind_of, token_of}
+use Rattle.tb_read.specs.Lexing.{skip_blanks, string_turn, string_rest, with_prefix, string_of, name_at, is_real, is_negative, number_of, in_range, number_from, number_at, kind_of, token_of}
 use Rattle.tb_read.specs.Answers.{begins_with}
 use Rattle.tb_read.specs.Scanning.{Next, Makes, Ends as Stops, allows, after, may_end, made, next_at, next_of, start, Runs}
 use Rattle.tb_read.specs.Reading.{StopsAt}
-use Rattle.tb_read.proofs.Names.{all_of_front}
-use Rattle.tb_read.proofs.Strings.{turned, front_ok}
+use Rattle.tb_read.proofs.Names.{all_of_prefix}
+use Rattle.tb_read.proofs.Strings.{turned, prefix_ok}
 use Rattle.tb_read.proofs.Grammar.{kind_of_token}
 use Rattle.tb_read.proofs.Lexed.{Lexed, ok_same, number_from_sound, token_sound, kind_begins, blanks, makes_by, ends_by, not_makes}
 use Rattle.tb_read.proofs.Complete.{name_taken, digits_taken, digit_unsigned, token_complete, begun, skipped, Begun, reads_scans}
@@ -38,12 +38,12 @@ abbrev RestStop : ℕ → Within → List ℕ → ℕ → Type 0
 RestStop total w bytes n = (pre : List ℕ) × (l : List ℕ) × (bytes ≡ pre ++ l) × (n ≡ total - length l)
     × ((c : ℕ) (suf : List ℕ) → l ≡ c ∷ suf → (other : ℕ) (more : List ℕ) (x : Pair) → string_rest other w (pre ++ (c ∷ more)) ≡ Ok x → ⊥)
 
-pub same_place : {X : Type 0} (m n : ℕ) → ◌≡◌ {A = Result X TermFault} (Err (Syntax m)) (Err (Syntax n)) → m ≡ n
-same_place m n e = cc
+pub same_position : {X : Type 0} (m n : ℕ) → ◌≡◌ {A = Result X TermFault} (Err (Syntax m)) (Err (Syntax n)) → m ≡ n
+same_position m n e = cc
 
-pub front_err : (front : List ℕ) (r : Result Pair TermFault) (f : TermFault) → with_front front r ≡ Err f → r ≡ Err f
-front_err front (Ok x) f e = cc
-front_err front (Err g) f e = let same : g ≡ f = cc in ap (λ (h : TermFault). Err h) same
+pub prefix_err : (prefix : List ℕ) (r : Result Pair TermFault) (f : TermFault) → with_prefix prefix r ≡ Err f → r ≡ Err f
+prefix_err prefix (Ok x) f e = cc
+prefix_err prefix (Err g) f e = let same : g ≡ f = cc in ap (λ (h : TermFault). Err h) same
 
 -- the fault is this byte's, or a later one's
 abbrev Deeper : ℕ → List ℕ → ℕ → Turn → Type 0
@@ -52,8 +52,8 @@ Deeper total bytes n t = (v : Within) × (string_rest total v bytes ≡ Err (Syn
 turned_stop : (total : ℕ) (bytes : List ℕ) (t : Turn) (n : ℕ) → turned total t bytes ≡ Err (Syntax n) → ((t ≡ Bad) × (total - suc (length bytes) ≡ n)) ⊎ Deeper total bytes n t
 turned_stop total bytes Ends n e = cc
 turned_stop total bytes (Goes v) n e = inr (v, e, λ other ys x h. (x, h))
-turned_stop total bytes (Puts c v) n e = inr (v, front_err (c ∷ []) (string_rest total v bytes) (Syntax n) e, λ other ys x h. let y = front_ok (c ∷ []) (string_rest other v ys) x h in (y.0, y.1))
-turned_stop total bytes Bad n e = inl (refl, same_place (total - suc (length bytes)) n e)
+turned_stop total bytes (Puts c v) n e = inr (v, prefix_err (c ∷ []) (string_rest total v bytes) (Syntax n) e, λ other ys x h. let y = prefix_ok (c ∷ []) (string_rest other v ys) x h in (y.0, y.1))
+turned_stop total bytes Bad n e = inl (refl, same_position (total - suc (length bytes)) n e)
 
 bad_first : (other : ℕ) (w : Within) (b c : ℕ) (more : List ℕ) (x : Pair) → b ≡ c → string_turn w b ≡ Bad → string_rest other w (c ∷ more) ≡ Ok x → ⊥
 bad_first other w b c more x e bad h =
@@ -62,7 +62,7 @@ bad_first other w b c more x e bad h =
     cc
 
 rest_stop : (total : ℕ) (bytes : List ℕ) (w : Within) (n : ℕ) → string_rest total w bytes ≡ Err (Syntax n) → RestStop total w bytes n
-rest_stop total [] w n e = ([], [], refl, sym (same_place total n e) ∙ omega arith, λ c suf h. absurd (nil_cons c suf h)) where
+rest_stop total [] w n e = ([], [], refl, sym (same_position total n e) ∙ omega arith, λ c suf h. absurd (nil_cons c suf h)) where
   nil_cons : (c : ℕ) (suf : List ℕ) → [] ≡ c ∷ suf → ⊥
   nil_cons c suf h = cc
 rest_stop total (b ∷ bytes) w n e = by (turned_stop total bytes (string_turn w b) n e) (rest_stop total bytes) where
@@ -88,24 +88,24 @@ string_of_ok (Err g) x e = cc
 string_of_ok (Ok y) x e = (y, refl)
 
 -- a number lacks its digits
-pub digits_stop : (total place : ℕ) (negative : Bool) (digits rest : List ℕ) (n : ℕ) → number_from total place negative digits rest ≡ Err (Syntax n) → (digits ≡ []) × (n ≡ total - length rest)
-digits_stop total place negative [] rest n e = (refl, sym (same_place (total - length rest) n e))
-digits_stop total place negative (d ∷ digits) rest n e = by (is_real rest) (number_of negative (digits_value (d ∷ digits))) e where
-  by : (v : Bool) (o : Option ℤ) → ◌≡◌ {A = Result Lexed TermFault} (cond v (Err (Real place)) (in_range place o rest)) (Err (Syntax n)) → ((d ∷ digits) ≡ []) × (n ≡ total - length rest)
+pub digits_stop : (total position : ℕ) (negative : Bool) (digits rest : List ℕ) (n : ℕ) → number_from total position negative digits rest ≡ Err (Syntax n) → (digits ≡ []) × (n ≡ total - length rest)
+digits_stop total position negative [] rest n e = (refl, sym (same_position (total - length rest) n e))
+digits_stop total position negative (d ∷ digits) rest n e = by (is_real rest) (number_of negative (digits_value (d ∷ digits))) e where
+  by : (v : Bool) (o : Option ℤ) → ◌≡◌ {A = Result Lexed TermFault} (cond v (Err (Real position)) (in_range position o rest)) (Err (Syntax n)) → ((d ∷ digits) ≡ []) × (n ≡ total - length rest)
   by true o h = cc
   by false None h = cc
   by false (Some z) h = cc
 
 -- no digit in front
-pub front_digit : (c : ℕ) (suf : List ℕ) → take (prefix_len is_digit (c ∷ suf)) (c ∷ suf) ≡ [] → is_digit c ≡ false
-front_digit c suf e = by (is_digit c) refl e where
+pub prefix_digit : (c : ℕ) (suf : List ℕ) → take (prefix_len is_digit (c ∷ suf)) (c ∷ suf) ≡ [] → is_digit c ≡ false
+prefix_digit c suf e = by (is_digit c) refl e where
   by : (v : Bool) → is_digit c ≡ v → take (cond v (1 + prefix_len is_digit suf) 0) (c ∷ suf) ≡ [] → is_digit c ≡ false
   by false ev h = ev
   by true ev h = let no : c ∷ take (prefix_len is_digit suf) suf ≡ [] = rw one-add at h in cc
 
-no_digits : (other place : ℕ) (negative : Bool) (c : ℕ) (more : List ℕ) (x : Lexed) → is_digit c ≡ false → number_from other place negative (take (prefix_len is_digit (c ∷ more)) (c ∷ more)) (drop (prefix_len is_digit (c ∷ more)) (c ∷ more)) ≡ Ok x → ⊥
-no_digits other place negative c more x d h =
-    let none : number_from other place negative [] (c ∷ more) ≡ Ok x = subst (λ v. number_from other place negative (take (cond v (1 + prefix_len is_digit more) 0) (c ∷ more)) (drop (cond v (1 + prefix_len is_digit more) 0) (c ∷ more)) ≡ Ok x) d h in
+no_digits : (other position : ℕ) (negative : Bool) (c : ℕ) (more : List ℕ) (x : Lexed) → is_digit c ≡ false → number_from other position negative (take (prefix_len is_digit (c ∷ more)) (c ∷ more)) (drop (prefix_len is_digit (c ∷ more)) (c ∷ more)) ≡ Ok x → ⊥
+no_digits other position negative c more x d h =
+    let none : number_from other position negative [] (c ∷ more) ≡ Ok x = subst (λ v. number_from other position negative (take (cond v (1 + prefix_len is_digit more) 0) (c ∷ more)) (drop (cond v (1 + prefix_len is_digit more) 0) (c ∷ more)) ≡ Ok x) d h in
     cc
 
 number_stop : (total b : ℕ) (bytes : List ℕ) (n : ℕ) → begins_with kind.Int (b ∷ bytes) ≡ true → number_at total (b ∷ bytes) ≡ Err (Syntax n) → TokenStop kind.Int total (b ∷ bytes) n
@@ -120,11 +120,11 @@ number_stop total b bytes n h e = by (eqb b 45) refl e where
         ap (λ m. m ∷ bytes) (eqb-true b 45 ev),
         s.1 ∙ ap (λ (l : List ℕ). total - length l) all,
         λ c suf same other more x r.
-            no_digits other (other - length (45 ∷ c ∷ more)) true c more x (front_digit c suf (subst (λ (l : List ℕ). take (prefix_len is_digit l) l ≡ []) same s.0)) r,
+            no_digits other (other - length (45 ∷ c ∷ more)) true c more x (prefix_digit c suf (subst (λ (l : List ℕ). take (prefix_len is_digit l) l ≡ []) same s.0)) r,
       )
   by false ev g =
       let s = digits_stop total (total - length (b ∷ bytes)) false (take (prefix_len is_digit (b ∷ bytes)) (b ∷ bytes)) (drop (prefix_len is_digit (b ∷ bytes)) (b ∷ bytes)) n g in
-      let no : is_digit b ≡ false = front_digit b bytes s.0 in
+      let no : is_digit b ≡ false = prefix_digit b bytes s.0 in
       absurd (false≢true (sym (ap (λ v. v || eqb b 45) no ∙ ev) ∙ h))
 
 token_stop : (next : Kind) (total : ℕ) (bytes : List ℕ) (n : ℕ) → begins_with next bytes ≡ true → token_of next total bytes ≡ Err (Syntax n) → TokenStop next total bytes n
@@ -136,7 +136,7 @@ token_stop kind.RightBracket total (b ∷ bytes) n h e = cc
 token_stop kind.Comma total (b ∷ bytes) n h e = cc
 token_stop kind.Name total (b ∷ bytes) n h e = cc
 token_stop kind.Int total (b ∷ bytes) n h e = number_stop total b bytes n h e
-token_stop kind.Other total (b ∷ bytes) n h e = ([], b ∷ bytes, refl, sym (same_place (total - length (b ∷ bytes)) n e), λ c suf same other more x r. other_kind other (c ∷ more) x r) where
+token_stop kind.Other total (b ∷ bytes) n h e = ([], b ∷ bytes, refl, sym (same_position (total - length (b ∷ bytes)) n e), λ c suf same other more x r. other_kind other (c ∷ more) x r) where
   other_kind : (other : ℕ) (l : List ℕ) (x : Lexed) → token_of kind.Other other l ≡ Ok x → ⊥
   other_kind other l x r = cc
 token_stop kind.Str total (b ∷ bytes) n h e =
@@ -151,9 +151,9 @@ Stopped (token.Name name) rest = prefix_len is_name_byte rest ≡ 0
 Stopped (token.Int number) rest = prefix_len is_digit rest ≡ 0
 Stopped _ rest = Unit {0}
 
-pub front_stops : (p : ℕ → Bool) (bs : List ℕ) → prefix_len p (drop (prefix_len p bs) bs) ≡ 0
-front_stops p [] = refl
-front_stops p (b ∷ bs) = by (p b) refl (front_stops p bs) where
+pub prefix_stops : (p : ℕ → Bool) (bs : List ℕ) → prefix_len p (drop (prefix_len p bs) bs) ≡ 0
+prefix_stops p [] = refl
+prefix_stops p (b ∷ bs) = by (p b) refl (prefix_stops p bs) where
   by : (v : Bool) → p b ≡ v → prefix_len p (drop (prefix_len p bs) bs) ≡ 0 → prefix_len p (drop (cond v (1 + prefix_len p bs) 0) (b ∷ bs)) ≡ 0
   by true e rest = rw one-add rest
   by false e rest = rw e refl
@@ -162,8 +162,8 @@ number_stopped : (total : ℕ) (bytes : List ℕ) (x : Lexed) → number_at tota
 number_stopped total bytes x e =
     let unsigned = drop (cond (is_negative bytes) 1 0) bytes in
     let len = prefix_len is_digit unsigned in
-    let f = number_from_sound total (total - length bytes) (is_negative bytes) (take len unsigned) (drop len unsigned) x (all_of_front is_digit unsigned) e in
-    subst (λ (y : Lexed). Stopped y.0 y.1) (sym f.1) (front_stops is_digit unsigned)
+    let f = number_from_sound total (total - length bytes) (is_negative bytes) (take len unsigned) (drop len unsigned) x (all_of_prefix is_digit unsigned) e in
+    subst (λ (y : Lexed). Stopped y.0 y.1) (sym f.1) (prefix_stops is_digit unsigned)
 
 string_stopped : (r : Result Pair TermFault) (x : Lexed) → string_of r ≡ Ok x → Stopped x.0 x.1
 string_stopped (Err f) x e = cc
@@ -180,7 +180,7 @@ token_stopped kind.RightBracket total bytes x e = symbol_stopped token.RightBrac
 token_stopped kind.Comma total bytes x e = symbol_stopped token.Comma (drop 1 bytes) x tt e
 token_stopped kind.Name total bytes x e =
     let len = prefix_len is_name_byte bytes in
-    symbol_stopped (token.Name (take len bytes)) (drop len bytes) x (front_stops is_name_byte bytes) e
+    symbol_stopped (token.Name (take len bytes)) (drop len bytes) x (prefix_stops is_name_byte bytes) e
 token_stopped kind.Int total bytes x e = number_stopped total bytes x e
 token_stopped kind.Other total bytes x e = cc
 token_stopped kind.Str total [] x e = cc
@@ -206,9 +206,9 @@ stopped_same token.LeftBracket pre c suf more s = tt
 stopped_same token.RightBracket pre c suf more s = tt
 stopped_same token.Comma pre c suf more s = tt
 
-from_kept : (total place : ℕ) (negative : Bool) (z : ℤ) (y : ℕ) (digits rest : List ℕ) (x : Lexed) → number_of negative (digits_value (y ∷ digits)) ≡ Some z → number_from total place negative (y ∷ digits) rest ≡ Ok x → ◌≡◌ {A = Lexed} (token.Int z, rest) x
-from_kept total place negative z y digits rest x o e = by (is_real rest) (number_of negative (digits_value (y ∷ digits))) o e where
-  by : (v : Bool) (m : Option ℤ) → m ≡ Some z → ◌≡◌ {A = Result Lexed TermFault} (cond v (Err (Real place)) (in_range place m rest)) (Ok x) → ◌≡◌ {A = Lexed} (token.Int z, rest) x
+from_kept : (total position : ℕ) (negative : Bool) (z : ℤ) (y : ℕ) (digits rest : List ℕ) (x : Lexed) → number_of negative (digits_value (y ∷ digits)) ≡ Some z → number_from total position negative (y ∷ digits) rest ≡ Ok x → ◌≡◌ {A = Lexed} (token.Int z, rest) x
+from_kept total position negative z y digits rest x o e = by (is_real rest) (number_of negative (digits_value (y ∷ digits))) o e where
+  by : (v : Bool) (m : Option ℤ) → m ≡ Some z → ◌≡◌ {A = Result Lexed TermFault} (cond v (Err (Real position)) (in_range position m rest)) (Ok x) → ◌≡◌ {A = Lexed} (token.Int z, rest) x
   by true m em h = cc
   by false None em h = cc
   by false (Some w) em h = let same : z ≡ w = cc in ap (λ (n : ℤ). (token.Int n, rest)) same ∙ ok_same (token.Int w, rest) x h
@@ -255,36 +255,36 @@ not_blank (c ∷ bytes) b l e = by (is_blank c) refl (not_blank bytes b l) e whe
   by false ev ih h = let same : c ≡ b = cc in subst (λ n. is_blank n ≡ false) same ev
 
 -- nothing runs on from a byte that gives no token
-no_run : (s : Shape) (other : ℕ) (front : List ℕ) (b : ℕ) (l : List ℕ) (js : List Token) → list_all is_blank front ≡ true → is_blank b ≡ false → (allows s (kind_of b) ≡ true → (x : Lexed) → token_of (kind_of b) other (b ∷ l) ≡ Ok x → ⊥) → Runs s other (front ++ (b ∷ l)) js None → ⊥
-no_run s other front b l [] h nb never r =
-    let at : next_of s other (front ++ (b ∷ l)) ≡ next_at s other (b ∷ l) = ap (next_at s other) (skipped front b l h nb) in
+no_run : (s : Shape) (other : ℕ) (prefix : List ℕ) (b : ℕ) (l : List ℕ) (js : List Token) → list_all is_blank prefix ≡ true → is_blank b ≡ false → (allows s (kind_of b) ≡ true → (x : Lexed) → token_of (kind_of b) other (b ∷ l) ≡ Ok x → ⊥) → Runs s other (prefix ++ (b ∷ l)) js None → ⊥
+no_run s other prefix b l [] h nb never r =
+    let at : next_of s other (prefix ++ (b ∷ l)) ≡ next_at s other (b ∷ l) = ap (next_at s other) (skipped prefix b l h nb) in
     ends_by (allows s (kind_of b)) (token_of (kind_of b) other (b ∷ l)) (Syntax (other - length (b ∷ l))) (sym at ∙ r)
-no_run s other front b l (j ∷ js) h nb never r =
-    let at : next_of s other (front ++ (b ∷ l)) ≡ next_at s other (b ∷ l) = ap (next_at s other) (skipped front b l h nb) in
+no_run s other prefix b l (j ∷ js) h nb never r =
+    let at : next_of s other (prefix ++ (b ∷ l)) ≡ next_at s other (b ∷ l) = ap (next_at s other) (skipped prefix b l h nb) in
     let q = makes_by (allows s (kind_of b)) (token_of (kind_of b) other (b ∷ l)) (Syntax (other - length (b ∷ l))) j r.0 (sym at ∙ r.1) in
     never q.0 (j, r.0) q.1
 
 -- behind a token the run goes on
-onward : (s : Shape) (other : ℕ) (front : List ℕ) (k : Token) (text rest : List ℕ) (js : List Token) → list_all is_blank front ≡ true → SpellsToken k text → Stopped k rest → Runs s other (front ++ (text ++ rest)) js None → (is : List Token) × Runs (after s k) other rest is None
-onward s other front k text rest js h sp a r = by (begun k text sp) js r where
-  by : Begun k text → (js : List Token) → Runs s other (front ++ (text ++ rest)) js None → (is : List Token) × Runs (after s k) other rest is None
+onward : (s : Shape) (other : ℕ) (prefix : List ℕ) (k : Token) (text rest : List ℕ) (js : List Token) → list_all is_blank prefix ≡ true → SpellsToken k text → Stopped k rest → Runs s other (prefix ++ (text ++ rest)) js None → (is : List Token) × Runs (after s k) other rest is None
+onward s other prefix k text rest js h sp a r = by (begun k text sp) js r where
+  by : Begun k text → (js : List Token) → Runs s other (prefix ++ (text ++ rest)) js None → (is : List Token) × Runs (after s k) other rest is None
   by b [] r =
       let l = b.1 ++ rest in
       let at : text ++ rest ≡ b.0 ∷ l = ap (λ (m : List ℕ). m ++ rest) b.2 in
-      let reached : next_of s other (front ++ (text ++ rest)) ≡ next_at s other (b.0 ∷ l) = ap (λ (m : List ℕ). next_of s other (front ++ m)) at ∙ ap (next_at s other) (skipped front b.0 l h b.4) in
+      let reached : next_of s other (prefix ++ (text ++ rest)) ≡ next_at s other (b.0 ∷ l) = ap (λ (m : List ℕ). next_of s other (prefix ++ m)) at ∙ ap (next_at s other) (skipped prefix b.0 l h b.4) in
       absurd (ends_by (allows s (kind_of b.0)) (token_of (kind_of b.0) other (b.0 ∷ l)) (Syntax (other - length (b.0 ∷ l))) (sym reached ∙ r))
   by b (j ∷ js) r =
       let l = b.1 ++ rest in
       let at : text ++ rest ≡ b.0 ∷ l = ap (λ (m : List ℕ). m ++ rest) b.2 in
-      let reached : next_of s other (front ++ (text ++ rest)) ≡ next_at s other (b.0 ∷ l) = ap (λ (m : List ℕ). next_of s other (front ++ m)) at ∙ ap (next_at s other) (skipped front b.0 l h b.4) in
+      let reached : next_of s other (prefix ++ (text ++ rest)) ≡ next_at s other (b.0 ∷ l) = ap (λ (m : List ℕ). next_of s other (prefix ++ m)) at ∙ ap (next_at s other) (skipped prefix b.0 l h b.4) in
       let q = makes_by (allows s (kind_of b.0)) (token_of (kind_of b.0) other (b.0 ∷ l)) (Syntax (other - length (b.0 ∷ l))) j r.0 (sym reached ∙ r.1) in
       let found : token_of (kind_of_token k) other (text ++ rest) ≡ Ok (j, r.0) =
       ap (λ (m : List ℕ). token_of (kind_of_token k) other m) at ∙ ap (λ (n : Kind). token_of n other (b.0 ∷ l)) (sym b.3) ∙ q.1 in
       (js, subst (λ (y : Lexed). Runs (after s y.0) other y.1 js None) (sym (kept other k text rest (j, r.0) sp a found)) r.2)
 
-pub end_place : (v : Bool) (total n : ℕ) → cond v (Stops None) (Stops (Some (Syntax total))) ≡ Stops (Some (Syntax n)) → n ≡ total
-end_place true total n e = cc
-end_place false total n e = cc
+pub end_position : (v : Bool) (total n : ℕ) → cond v (Stops None) (Stops (Some (Syntax total))) ≡ Stops (Some (Syntax n)) → n ≡ total
+end_position true total n e = cc
+end_position false total n e = cc
 
 pub made_err : (r : Result Lexed TermFault) (f : TermFault) → made r ≡ Stops (Some f) → r ≡ Err f
 made_err (Ok x) f e = cc
@@ -300,58 +300,58 @@ head_kept b l (x ∷ pre) end c suf more e h =
     let same : x ≡ b = cc in
     (pre ++ (c ∷ more), ap (λ n. n ∷ (pre ++ (c ∷ more))) same)
 
-ends_stop : (s : Shape) (total : ℕ) (bytes front l : List ℕ) (n : ℕ) → bytes ≡ front ++ l → list_all is_blank front ≡ true → skip_blanks bytes ≡ l → next_at s total l ≡ Stops (Some (Syntax n)) → Stop s total bytes n
-ends_stop s total bytes front [] n e h same r = (front, [], e, end_place (may_end s.expect s.brackets) total n r ∙ omega arith, λ c suf is. absurd (nil_cons c suf is)) where
+ends_stop : (s : Shape) (total : ℕ) (bytes prefix l : List ℕ) (n : ℕ) → bytes ≡ prefix ++ l → list_all is_blank prefix ≡ true → skip_blanks bytes ≡ l → next_at s total l ≡ Stops (Some (Syntax n)) → Stop s total bytes n
+ends_stop s total bytes prefix [] n e h same r = (prefix, [], e, end_position (may_end s.expect s.brackets) total n r ∙ omega arith, λ c suf is. absurd (nil_cons c suf is)) where
   nil_cons : (c : ℕ) (suf : List ℕ) → [] ≡ c ∷ suf → ⊥
   nil_cons c suf is = cc
-ends_stop s total bytes front (b ∷ l) n e h same r = by (allows s (kind_of b)) refl r where
+ends_stop s total bytes prefix (b ∷ l) n e h same r = by (allows s (kind_of b)) refl r where
   nb : is_blank b ≡ false
   nb = not_blank bytes b l same
 
   by : (v : Bool) → allows s (kind_of b) ≡ v → cond v (made (token_of (kind_of b) total (b ∷ l))) (Stops (Some (Syntax (total - length (b ∷ l))))) ≡ Stops (Some (Syntax n)) → Stop s total bytes n
   by false ev q = (
-    front,
+    prefix,
     b ∷ l,
     e,
-    place q,
+    position q,
     λ c suf first other more js run.
-        no_run s other front b more js h nb (λ ok x found. false≢true (sym ev ∙ ok)) (subst (λ m. Runs s other (front ++ (m ∷ more)) js None) (sym (heads first)) run),
+        no_run s other prefix b more js h nb (λ ok x found. false≢true (sym ev ∙ ok)) (subst (λ m. Runs s other (prefix ++ (m ∷ more)) js None) (sym (heads first)) run),
   ) where
-    place : ◌≡◌ {A = Next} (Stops (Some (Syntax (total - length (b ∷ l))))) (Stops (Some (Syntax n))) → n ≡ total - length (b ∷ l)
-    place g = cc
+    position : ◌≡◌ {A = Next} (Stops (Some (Syntax (total - length (b ∷ l))))) (Stops (Some (Syntax n))) → n ≡ total - length (b ∷ l)
+    position g = cc
 
     heads : {c : ℕ} {suf : List ℕ} → b ∷ l ≡ c ∷ suf → b ≡ c
     heads g = cc
   by true ev q =
       let t = token_stop (kind_of b) total (b ∷ l) n (kind_begins b l) (made_err (token_of (kind_of b) total (b ∷ l)) (Syntax n) q) in (
-        front ++ t.0,
+        prefix ++ t.0,
         t.1,
-        e ∙ ap (λ (m : List ℕ). front ++ m) t.2 ∙ sym (append_assoc front t.0 t.1),
+        e ∙ ap (λ (m : List ℕ). prefix ++ m) t.2 ∙ sym (append_assoc prefix t.0 t.1),
         t.3,
         λ c suf first other more js run.
             let k = head_kept b l t.0 t.1 c suf more t.2 first in
-            let regrouped : (front ++ t.0) ++ (c ∷ more) ≡ front ++ (b ∷ k.0) = append_assoc front t.0 (c ∷ more) ∙ ap (λ (m : List ℕ). front ++ m) k.1 in
-            no_run s other front b k.0 js h nb (λ ok x found. t.4 c suf first other more x (ap (λ (m : List ℕ). token_of (kind_of b) other m) k.1 ∙ found)) (subst (λ (m : List ℕ). Runs s other m js None) regrouped run),
+            let regrouped : (prefix ++ t.0) ++ (c ∷ more) ≡ prefix ++ (b ∷ k.0) = append_assoc prefix t.0 (c ∷ more) ∙ ap (λ (m : List ℕ). prefix ++ m) k.1 in
+            no_run s other prefix b k.0 js h nb (λ ok x found. t.4 c suf first other more x (ap (λ (m : List ℕ). token_of (kind_of b) other m) k.1 ∙ found)) (subst (λ (m : List ℕ). Runs s other m js None) regrouped run),
       )
 
-made_stop : (s : Shape) (total : ℕ) (front l bytes : List ℕ) (k : Token) (rest : List ℕ) (n : ℕ) → bytes ≡ front ++ l → list_all is_blank front ≡ true → next_at s total l ≡ Makes k rest → Stop (after s k) total rest n → Stop s total bytes n
-made_stop s total front [] bytes k rest n e h r st = absurd (not_makes (may_end s.expect s.brackets) (Syntax total) k rest r)
-made_stop s total front (b ∷ l) bytes k rest n e h r st =
+made_stop : (s : Shape) (total : ℕ) (prefix l bytes : List ℕ) (k : Token) (rest : List ℕ) (n : ℕ) → bytes ≡ prefix ++ l → list_all is_blank prefix ≡ true → next_at s total l ≡ Makes k rest → Stop (after s k) total rest n → Stop s total bytes n
+made_stop s total prefix [] bytes k rest n e h r st = absurd (not_makes (may_end s.expect s.brackets) (Syntax total) k rest r)
+made_stop s total prefix (b ∷ l) bytes k rest n e h r st =
     let p = makes_by (allows s (kind_of b)) (token_of (kind_of b) total (b ∷ l)) (Syntax (total - length (b ∷ l))) k rest r in
     let found = token_sound (kind_of b) total (b ∷ l) (k, rest) (kind_begins b l) p.1 in
     let text = found.0 in
     let stopped : Stopped k rest = token_stopped (kind_of b) total (b ∷ l) (k, rest) p.1 in
-    let at : bytes ≡ (front ++ (text ++ st.0)) ++ st.1 =
-    e ∙ ap (λ (m : List ℕ). front ++ m) (found.1 ∙ ap (λ (m : List ℕ). text ++ m) st.2 ∙ sym (append_assoc text st.0 st.1)) ∙ sym (append_assoc front (text ++ st.0) st.1) in (
-      front ++ (text ++ st.0),
+    let at : bytes ≡ (prefix ++ (text ++ st.0)) ++ st.1 =
+    e ∙ ap (λ (m : List ℕ). prefix ++ m) (found.1 ∙ ap (λ (m : List ℕ). text ++ m) st.2 ∙ sym (append_assoc text st.0 st.1)) ∙ sym (append_assoc prefix (text ++ st.0) st.1) in (
+      prefix ++ (text ++ st.0),
       st.1,
       at,
       st.3,
       λ c suf first other more js run.
           let tail = st.0 ++ (c ∷ more) in
-          let regrouped : (front ++ (text ++ st.0)) ++ (c ∷ more) ≡ front ++ (text ++ tail) = append_assoc front (text ++ st.0) (c ∷ more) ∙ ap (λ (m : List ℕ). front ++ m) (append_assoc text st.0 (c ∷ more)) in
+          let regrouped : (prefix ++ (text ++ st.0)) ++ (c ∷ more) ≡ prefix ++ (text ++ tail) = append_assoc prefix (text ++ st.0) (c ∷ more) ∙ ap (λ (m : List ℕ). prefix ++ m) (append_assoc text st.0 (c ∷ more)) in
           let again : Stopped k (st.0 ++ (c ∷ suf)) = subst (λ (m : List ℕ). Stopped k m) (st.2 ∙ ap (λ (m : List ℕ). st.0 ++ m) first) stopped in
-          let o = onward s other front k text tail js h found.2 (stopped_same k st.0 c suf more again) (subst (λ (m : List ℕ). Runs s other m js None) regrouped run) in
+          let o = onward s other prefix k text tail js h found.2 (stopped_same k st.0 c suf more again) (subst (λ (m : List ℕ). Runs s other m js None) regrouped run) in
           st.4 c suf first other more o.0 o.1,
     )
 
@@ -361,8 +361,8 @@ runs_stop (k ∷ ks) s total bytes n r =
     let p = blanks bytes in
     made_stop s total p.0 (skip_blanks bytes) bytes k r.0 n p.1 p.2 r.1 (runs_stop ks (after s k) total r.0 n r.2)
 
-pub place_of : (bytes pre l : List ℕ) (n : ℕ) → bytes ≡ pre ++ l → n ≡ length bytes - length l → n ≡ length pre
-place_of bytes pre l n e h =
+pub position_of : (bytes pre l : List ℕ) (n : ℕ) → bytes ≡ pre ++ l → n ≡ length bytes - length l → n ≡ length pre
+position_of bytes pre l n e h =
     let len : length bytes ≡ length pre + length l = ap (λ (m : List ℕ). length m) e ∙ length-append pre l in
     omega arith
 
@@ -373,9 +373,9 @@ syntax_stop bytes n f lt rest t r =
       by : (pre l : List ℕ) → bytes ≡ pre ++ l → n ≡ length bytes - length l → ((c : ℕ) (suf : List ℕ) → l ≡ c ∷ suf → (other : ℕ) (more : List ℕ) (js : List Token) → Runs start other (pre ++ (c ∷ more)) js None → ⊥) → ⊥
       by pre [] e h never = let all : n ≡ length bytes = h ∙ omega arith in omega arith
       by pre (c ∷ suf) e h never =
-          let len : n ≡ length pre = place_of bytes pre (c ∷ suf) n e h in
-          let front : take (n + 1) bytes ≡ pre ++ (c ∷ []) =
+          let len : n ≡ length pre = position_of bytes pre (c ∷ suf) n e h in
+          let prefix : take (n + 1) bytes ≡ pre ++ (c ∷ []) =
           ap (λ m. take (m + 1) bytes) len ∙ ap (λ (m : List ℕ). take (length pre + 1) m) e ∙ take-append-add pre (c ∷ suf) 1 in
-          let whole : take (n + 1) bytes ++ rest ≡ pre ++ (c ∷ rest) = ap (λ (m : List ℕ). m ++ rest) front ∙ append_assoc pre (c ∷ []) rest in
+          let whole : take (n + 1) bytes ++ rest ≡ pre ++ (c ∷ rest) = ap (λ (m : List ℕ). m ++ rest) prefix ∙ append_assoc pre (c ∷ []) rest in
           let total = length (take (n + 1) bytes ++ rest) in
           never c suf refl total rest (tokens_of t) (subst (λ (m : List ℕ). Runs start total m (tokens_of t) None) whole (reads_scans (take (n + 1) bytes ++ rest) t r))

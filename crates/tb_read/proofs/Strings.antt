@@ -10,7 +10,7 @@ use Rattle.tb_read.specs.declared.quoted.Turn.TheVariants.{Ends, Goes, Puts, Bad
 use Rattle.tb_read.specs.declared.fault.TermFault.{TermFault}
 use Rattle.tb_read.specs.declared.fault.TermFault.TheVariants.{Syntax}
 use Rattle.tb_read.specs.Spelling.{is_plain, SpellsBytes}
-use Rattle.tb_read.specs.Lexing.{between_turn, going_turn, escaped_turn, unescaped, lead, string_rest, with_front}
+use Rattle.tb_read.specs.Lexing.{between_turn, going_turn, escaped_turn, unescaped, lead, string_rest, with_prefix}
 
 -- the ranges of further bytes are above ASCII
 abbrev pub Steady : Within → Type 0
@@ -96,18 +96,18 @@ abbrev pub turned : ℕ → Turn → List ℕ → Result (List ℕ × List ℕ) 
 turned total turn bytes = elim turn [
   | Ends ↦ Ok ([], bytes)
   | Goes next ↦ string_rest total next bytes
-  | Puts put next ↦ with_front (put ∷ []) (string_rest total next bytes)
+  | Puts put next ↦ with_prefix (put ∷ []) (string_rest total next bytes)
   | Bad ↦ Err (Syntax (total - suc (length bytes)))
 ]
 
 abbrev pub Pair : Type 0
 Pair = List ℕ × List ℕ
 
-pub front_ok : (f : List ℕ) (r : Result Pair TermFault) (x : Pair) → with_front f r ≡ Ok x → (y : Pair) × (r ≡ Ok y) × (x.0 ≡ f ++ y.0) × (x.1 ≡ y.1)
-front_ok f (Ok y) x e =
+pub prefix_ok : (f : List ℕ) (r : Result Pair TermFault) (x : Pair) → with_prefix f r ≡ Ok x → (y : Pair) × (r ≡ Ok y) × (x.0 ≡ f ++ y.0) × (x.1 ≡ y.1)
+prefix_ok f (Ok y) x e =
     let same : ◌≡◌ {A = Pair} (f ++ y.0, y.1) x = cc in
     (y, refl, ap (λ (p : Pair). p.0) (sym same), ap (λ (p : Pair). p.1) (sym same))
-front_ok f (Err g) x e = cc
+prefix_ok f (Err g) x e = cc
 
 abbrev Found : Within → List ℕ → Pair → Type 0
 Found w bytes x = (inner : List ℕ) × (bytes ≡ inner ++ (34 ∷ x.1)) × Spelled w x.0 inner
@@ -134,7 +134,7 @@ inside_sound total b bytes ih (Goes next) f x e =
       subst (λ l. SpellsBytes l (b ∷ found.0)) (sym s.4) (92 ∷ s.2 ∷ [], s.3, ap (λ n. n ∷ found.0) f.0 ∙ ap (λ l. 92 ∷ l) s.5, inr (s.2, s.6, refl), s.7),
     )
 inside_sound total b bytes ih (Puts put next) f x e =
-    let y = front_ok (put ∷ []) (string_rest total next bytes) x e in
+    let y = prefix_ok (put ∷ []) (string_rest total next bytes) x e in
     let found = ih next f.2 y.0 y.1 in
     let spelled = as_inside next y.0.0 found.0 f.3 found.2 in
     let same : x.0 ≡ b ∷ y.0.0 = y.2 ∙ ap (λ n. n ∷ y.0.0) f.0 in (
@@ -148,7 +148,7 @@ inside_sound total b bytes ih Bad f x e = cc
 escaped_sound : (total b : ℕ) (bytes : List ℕ) → Sound total bytes → (o : Option ℕ) → unescaped b ≡ o → (x : Pair) → turned total (escaped_turn o) bytes ≡ Ok x → Found Escaped (b ∷ bytes) x
 escaped_sound total b bytes ih None u x e = cc
 escaped_sound total b bytes ih (Some c) u x e =
-    let y = front_ok (c ∷ []) (string_rest total Between bytes) x e in
+    let y = prefix_ok (c ∷ []) (string_rest total Between bytes) x e in
     let found = ih Between tt y.0 y.1 in (
       b ∷ found.0,
       ap (λ l. b ∷ l) (found.1 ∙ ap (λ l. found.0 ++ (34 ∷ l)) (sym y.3)),

@@ -19,7 +19,7 @@ use Rattle.tb_read.specs.Tokens.{tokens_of}
 use Rattle.tb_read.specs.Limits.{tokens_size, tokens_levels, over_limit}
 use Rattle.tb_read.specs.Building.{built_from, nothing}
 use Rattle.tb_read.specs.Spelling.{digits_value, Spaced, Reads}
-use Rattle.tb_read.specs.Lexing.{string_turn, string_rest, with_front, string_of, is_real, is_negative, number_of, in_range, number_from, kind_of, token_of, skip_blanks}
+use Rattle.tb_read.specs.Lexing.{string_turn, string_rest, with_prefix, string_of, is_real, is_negative, number_of, in_range, number_from, kind_of, token_of, skip_blanks}
 use Rattle.tb_read.specs.Scanning.{Ends as Stops, allows, after, may_end, made, next_at, start, Runs, Scans}
 use Rattle.tb_read.specs.Reading.{IsWithin, HasFaultWithin}
 use Rattle.tb_read.specs.Answers.{Faulted}
@@ -28,90 +28,90 @@ use Rattle.tb_read.proofs.Lexed.{Lexed, runs_sound}
 use Rattle.tb_read.proofs.Grammar.{term-accepts}
 use Rattle.tb_read.proofs.Counted.{tokens_size-tokens_of, tokens_levels-tokens_of}
 
--- a fault of a place in the text
-abbrev pub IsPlaced : TermFault → Type 0
-IsPlaced (fault.Syntax place) = Unit {0}
-IsPlaced (fault.Real place) = Unit {0}
-IsPlaced (fault.IntRange place) = Unit {0}
-IsPlaced fault.TooLarge = ⊥
-IsPlaced fault.TooDeep = ⊥
-IsPlaced fault.NoMemory = ⊥
+-- a fault of a position in the text
+abbrev pub IsPositioned : TermFault → Type 0
+IsPositioned (fault.Syntax position) = Unit {0}
+IsPositioned (fault.Real position) = Unit {0}
+IsPositioned (fault.IntRange position) = Unit {0}
+IsPositioned fault.TooLarge = ⊥
+IsPositioned fault.TooDeep = ⊥
+IsPositioned fault.NoMemory = ⊥
 
-same_fault : {X : Type 0} (f g : TermFault) → ◌≡◌ {A = Result X TermFault} (Err f) (Err g) → IsPlaced f → IsPlaced g
-same_fault f g e p = let same : f ≡ g = cc in subst IsPlaced same p
+same_fault : {X : Type 0} (f g : TermFault) → ◌≡◌ {A = Result X TermFault} (Err f) (Err g) → IsPositioned f → IsPositioned g
+same_fault f g e p = let same : f ≡ g = cc in subst IsPositioned same p
 
 abbrev Pair : Type 0
 Pair = List ℕ × List ℕ
 
-front_err : (front : List ℕ) (r : Result Pair TermFault) (f : TermFault) → with_front front r ≡ Err f → r ≡ Err f
-front_err front (Ok x) f e = cc
-front_err front (Err g) f e = let same : g ≡ f = cc in ap (λ (h : TermFault). Err h) same
+prefix_err : (prefix : List ℕ) (r : Result Pair TermFault) (f : TermFault) → with_prefix prefix r ≡ Err f → r ≡ Err f
+prefix_err prefix (Ok x) f e = cc
+prefix_err prefix (Err g) f e = let same : g ≡ f = cc in ap (λ (h : TermFault). Err h) same
 
-turned_placed : (total : ℕ) (bytes : List ℕ) → ((w : Within) (f : TermFault) → string_rest total w bytes ≡ Err f → IsPlaced f) → (t : Turn) (f : TermFault) → turned total t bytes ≡ Err f → IsPlaced f
-turned_placed total bytes rest Ends f e = cc
-turned_placed total bytes rest (Goes next) f e = rest next f e
-turned_placed total bytes rest (Puts put next) f e = rest next f (front_err (put ∷ []) (string_rest total next bytes) f e)
-turned_placed total bytes rest Bad f e = same_fault (fault.Syntax (total - suc (length bytes))) f e tt
+turned_positioned : (total : ℕ) (bytes : List ℕ) → ((w : Within) (f : TermFault) → string_rest total w bytes ≡ Err f → IsPositioned f) → (t : Turn) (f : TermFault) → turned total t bytes ≡ Err f → IsPositioned f
+turned_positioned total bytes rest Ends f e = cc
+turned_positioned total bytes rest (Goes next) f e = rest next f e
+turned_positioned total bytes rest (Puts put next) f e = rest next f (prefix_err (put ∷ []) (string_rest total next bytes) f e)
+turned_positioned total bytes rest Bad f e = same_fault (fault.Syntax (total - suc (length bytes))) f e tt
 
-rest_placed : (total : ℕ) (bytes : List ℕ) (w : Within) (f : TermFault) → string_rest total w bytes ≡ Err f → IsPlaced f
-rest_placed total [] w f e = same_fault (fault.Syntax total) f e tt
-rest_placed total (b ∷ bytes) w f e = turned_placed total bytes (rest_placed total bytes) (string_turn w b) f e
+rest_positioned : (total : ℕ) (bytes : List ℕ) (w : Within) (f : TermFault) → string_rest total w bytes ≡ Err f → IsPositioned f
+rest_positioned total [] w f e = same_fault (fault.Syntax total) f e tt
+rest_positioned total (b ∷ bytes) w f e = turned_positioned total bytes (rest_positioned total bytes) (string_turn w b) f e
 
-string_placed : (total : ℕ) (bytes : List ℕ) (r : Result Pair TermFault) → string_rest total Between bytes ≡ r → (f : TermFault) → string_of r ≡ Err f → IsPlaced f
-string_placed total bytes (Err g) r f e = same_fault g f e (rest_placed total bytes Between g r)
-string_placed total bytes (Ok y) r f e = cc
+string_positioned : (total : ℕ) (bytes : List ℕ) (r : Result Pair TermFault) → string_rest total Between bytes ≡ r → (f : TermFault) → string_of r ≡ Err f → IsPositioned f
+string_positioned total bytes (Err g) r f e = same_fault g f e (rest_positioned total bytes Between g r)
+string_positioned total bytes (Ok y) r f e = cc
 
-number_by : (place : ℕ) (rest : List ℕ) (v : Bool) (o : Option ℤ) (f : TermFault) → ◌≡◌ {A = Result Lexed TermFault} (cond v (Err (fault.Real place)) (in_range place o rest)) (Err f) → IsPlaced f
-number_by place rest true o f e = same_fault (fault.Real place) f e tt
-number_by place rest false None f e = same_fault (fault.IntRange place) f e tt
-number_by place rest false (Some z) f e = cc
+number_by : (position : ℕ) (rest : List ℕ) (v : Bool) (o : Option ℤ) (f : TermFault) → ◌≡◌ {A = Result Lexed TermFault} (cond v (Err (fault.Real position)) (in_range position o rest)) (Err f) → IsPositioned f
+number_by position rest true o f e = same_fault (fault.Real position) f e tt
+number_by position rest false None f e = same_fault (fault.IntRange position) f e tt
+number_by position rest false (Some z) f e = cc
 
-number_placed : (total place : ℕ) (negative : Bool) (digits rest : List ℕ) (f : TermFault) → number_from total place negative digits rest ≡ Err f → IsPlaced f
-number_placed total place negative [] rest f e = same_fault (fault.Syntax (total - length rest)) f e tt
-number_placed total place negative (d ∷ digits) rest f e = number_by place rest (is_real rest) (number_of negative (digits_value (d ∷ digits))) f e
+number_positioned : (total position : ℕ) (negative : Bool) (digits rest : List ℕ) (f : TermFault) → number_from total position negative digits rest ≡ Err f → IsPositioned f
+number_positioned total position negative [] rest f e = same_fault (fault.Syntax (total - length rest)) f e tt
+number_positioned total position negative (d ∷ digits) rest f e = number_by position rest (is_real rest) (number_of negative (digits_value (d ∷ digits))) f e
 
-token_placed : (next : Kind) (total : ℕ) (bytes : List ℕ) (f : TermFault) → token_of next total bytes ≡ Err f → IsPlaced f
-token_placed kind.LeftParen total bytes f e = cc
-token_placed kind.RightParen total bytes f e = cc
-token_placed kind.LeftBracket total bytes f e = cc
-token_placed kind.RightBracket total bytes f e = cc
-token_placed kind.Comma total bytes f e = cc
-token_placed kind.Name total bytes f e = cc
-token_placed kind.Str total [] f e = same_fault (fault.Syntax total) f e tt
-token_placed kind.Str total (b ∷ bytes) f e = string_placed total bytes (string_rest total Between bytes) refl f e
-token_placed kind.Int total bytes f e =
+token_positioned : (next : Kind) (total : ℕ) (bytes : List ℕ) (f : TermFault) → token_of next total bytes ≡ Err f → IsPositioned f
+token_positioned kind.LeftParen total bytes f e = cc
+token_positioned kind.RightParen total bytes f e = cc
+token_positioned kind.LeftBracket total bytes f e = cc
+token_positioned kind.RightBracket total bytes f e = cc
+token_positioned kind.Comma total bytes f e = cc
+token_positioned kind.Name total bytes f e = cc
+token_positioned kind.Str total [] f e = same_fault (fault.Syntax total) f e tt
+token_positioned kind.Str total (b ∷ bytes) f e = string_positioned total bytes (string_rest total Between bytes) refl f e
+token_positioned kind.Int total bytes f e =
     let unsigned = drop (cond (is_negative bytes) 1 0) bytes in
     let len = prefix_len is_digit unsigned in
-    number_placed total (total - length bytes) (is_negative bytes) (take len unsigned) (drop len unsigned) f e
-token_placed kind.Other total bytes f e = same_fault (fault.Syntax (total - length bytes)) f e tt
+    number_positioned total (total - length bytes) (is_negative bytes) (take len unsigned) (drop len unsigned) f e
+token_positioned kind.Other total bytes f e = same_fault (fault.Syntax (total - length bytes)) f e tt
 
-made_placed : (r : Result Lexed TermFault) (f : TermFault) → ((g : TermFault) → r ≡ Err g → IsPlaced g) → made r ≡ Stops (Some f) → IsPlaced f
-made_placed (Ok x) f h e = cc
-made_placed (Err g) f h e = let same : g ≡ f = cc in subst IsPlaced same (h g refl)
+made_positioned : (r : Result Lexed TermFault) (f : TermFault) → ((g : TermFault) → r ≡ Err g → IsPositioned g) → made r ≡ Stops (Some f) → IsPositioned f
+made_positioned (Ok x) f h e = cc
+made_positioned (Err g) f h e = let same : g ≡ f = cc in subst IsPositioned same (h g refl)
 
-next_by : (v : Bool) (r : Result Lexed TermFault) (place : ℕ) (f : TermFault) → ((g : TermFault) → r ≡ Err g → IsPlaced g) → cond v (made r) (Stops (Some (fault.Syntax place))) ≡ Stops (Some f) → IsPlaced f
-next_by true r place f h e = made_placed r f h e
-next_by false r place f h e = let same : fault.Syntax place ≡ f = cc in subst IsPlaced same tt
+next_by : (v : Bool) (r : Result Lexed TermFault) (position : ℕ) (f : TermFault) → ((g : TermFault) → r ≡ Err g → IsPositioned g) → cond v (made r) (Stops (Some (fault.Syntax position))) ≡ Stops (Some f) → IsPositioned f
+next_by true r position f h e = made_positioned r f h e
+next_by false r position f h e = let same : fault.Syntax position ≡ f = cc in subst IsPositioned same tt
 
-end_by : (v : Bool) (total : ℕ) (f : TermFault) → cond v (Stops None) (Stops (Some (fault.Syntax total))) ≡ Stops (Some f) → IsPlaced f
+end_by : (v : Bool) (total : ℕ) (f : TermFault) → cond v (Stops None) (Stops (Some (fault.Syntax total))) ≡ Stops (Some f) → IsPositioned f
 end_by true total f e = cc
-end_by false total f e = let same : fault.Syntax total ≡ f = cc in subst IsPlaced same tt
+end_by false total f e = let same : fault.Syntax total ≡ f = cc in subst IsPositioned same tt
 
-next_placed : (s : Shape) (total : ℕ) (l : List ℕ) (f : TermFault) → next_at s total l ≡ Stops (Some f) → IsPlaced f
-next_placed s total [] f e = end_by (may_end s.expect s.brackets) total f e
-next_placed s total (b ∷ l) f e = next_by (allows s (kind_of b)) (token_of (kind_of b) total (b ∷ l)) (total - length (b ∷ l)) f (λ g h. token_placed (kind_of b) total (b ∷ l) g h) e
+next_positioned : (s : Shape) (total : ℕ) (l : List ℕ) (f : TermFault) → next_at s total l ≡ Stops (Some f) → IsPositioned f
+next_positioned s total [] f e = end_by (may_end s.expect s.brackets) total f e
+next_positioned s total (b ∷ l) f e = next_by (allows s (kind_of b)) (token_of (kind_of b) total (b ∷ l)) (total - length (b ∷ l)) f (λ g h. token_positioned (kind_of b) total (b ∷ l) g h) e
 
-pub runs_placed : (ks : List Token) (s : Shape) (total : ℕ) (bytes : List ℕ) (f : TermFault) → Runs s total bytes ks (Some f) → IsPlaced f
-runs_placed [] s total bytes f r = next_placed s total (skip_blanks bytes) f r
-runs_placed (k ∷ ks) s total bytes f r = runs_placed ks (after s k) total r.0 f r.2
+pub runs_positioned : (ks : List Token) (s : Shape) (total : ℕ) (bytes : List ℕ) (f : TermFault) → Runs s total bytes ks (Some f) → IsPositioned f
+runs_positioned [] s total bytes f r = next_positioned s total (skip_blanks bytes) f r
+runs_positioned (k ∷ ks) s total bytes f r = runs_positioned ks (after s k) total r.0 f r.2
 
 pub fault_of_scan : (size levels : ℕ) (bytes : List ℕ) (e : TermFault) → Faulted (λ f. (ks : List Token) × Scans bytes ks (Some f)) e → HasFaultWithin size levels bytes e
 fault_of_scan most deepest bytes fault.NoMemory h = tt
-fault_of_scan most deepest bytes (fault.Syntax place) h = h
-fault_of_scan most deepest bytes (fault.Real place) h = h
-fault_of_scan most deepest bytes (fault.IntRange place) h = h
-fault_of_scan most deepest bytes fault.TooLarge h = absurd (runs_placed h.0 start (length bytes) bytes fault.TooLarge h.1)
-fault_of_scan most deepest bytes fault.TooDeep h = absurd (runs_placed h.0 start (length bytes) bytes fault.TooDeep h.1)
+fault_of_scan most deepest bytes (fault.Syntax position) h = h
+fault_of_scan most deepest bytes (fault.Real position) h = h
+fault_of_scan most deepest bytes (fault.IntRange position) h = h
+fault_of_scan most deepest bytes fault.TooLarge h = absurd (runs_positioned h.0 start (length bytes) bytes fault.TooLarge h.1)
+fault_of_scan most deepest bytes fault.TooDeep h = absurd (runs_positioned h.0 start (length bytes) bytes fault.TooDeep h.1)
 
 -- what is scanned to the end is one term's text
 abbrev Whole : List ℕ → List Token → Type 0
@@ -152,9 +152,9 @@ found_term most deepest bytes ks t r o b =
     subst (λ (u : Term). Reads bytes u × IsWithin most deepest u) is (w.3, l)
 
 over_fault : (most deepest : ℕ) (bytes : List ℕ) (t : Term) (f : TermFault) → Reads bytes t → Limited most deepest (term_size t) (term_levels t) (Some f) → HasFaultWithin most deepest bytes f
-over_fault most deepest bytes t (fault.Syntax place) r l = absurd l
-over_fault most deepest bytes t (fault.Real place) r l = absurd l
-over_fault most deepest bytes t (fault.IntRange place) r l = absurd l
+over_fault most deepest bytes t (fault.Syntax position) r l = absurd l
+over_fault most deepest bytes t (fault.Real position) r l = absurd l
+over_fault most deepest bytes t (fault.IntRange position) r l = absurd l
 over_fault most deepest bytes t fault.TooLarge r l = (t, r, l)
 over_fault most deepest bytes t fault.TooDeep r l = (t, r, l.0, l.1)
 over_fault most deepest bytes t fault.NoMemory r l = tt

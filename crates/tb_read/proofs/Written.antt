@@ -45,7 +45,7 @@ more_digits : (n : ℕ) (ds : List ℕ) → 10 ≤ n → Decimal (n / 10) ds →
 more_digits n ds h d =
     let below : n % 10 < 10 = omega arith in
     let value : digits_value (ds ++ ((48 + n % 10) ∷ [])) ≡ 10 * digits_value ds + (48 + n % 10 - 48) = fold-push (λ value digit. 10 * value + (digit - 48)) 0 ds (48 + n % 10) in
-    let front : digits_value ds ≡ n / 10 = d.1 in
+    let prefix : digits_value ds ≡ n / 10 = d.1 in
     (digits-push ds (48 + n % 10) d.0 (digit_glyph (n % 10) below), omega arith)
 
 decimal_spelled : (n : ℕ) → n < 2 ^ 64 → Decimal n (decimal n)

@@ -12,12 +12,12 @@ use Rattle.tb_read.specs.declared.kind.Kind.TheVariants as kind
 use Rattle.tb_read.specs.declared.shape.Shape.{Shape}
 use Rattle.tb_read.specs.Scanning.{Makes, Ends, next_of, after, Scans}
 
--- a claim of each fault but want of memory, which is free
+-- a claim of each fault but running out of memory, which is free
 abbrev pub Faulted : (TermFault → Type 0) → TermFault → Type 0
 Faulted P fault.NoMemory = Unit {0}
-Faulted P (fault.Syntax place) = P (fault.Syntax place)
-Faulted P (fault.Real place) = P (fault.Real place)
-Faulted P (fault.IntRange place) = P (fault.IntRange place)
+Faulted P (fault.Syntax position) = P (fault.Syntax position)
+Faulted P (fault.Real position) = P (fault.Real position)
+Faulted P (fault.IntRange position) = P (fault.IntRange position)
 Faulted P fault.TooLarge = P fault.TooLarge
 Faulted P fault.TooDeep = P fault.TooDeep
 

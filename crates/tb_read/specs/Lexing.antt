@@ -1,4 +1,4 @@
--- The token with which bytes begin, or the first fault in it. A place counts from the front of a text of this length.
+-- The token with which bytes begin, or the first fault in it. A position counts from the front of a text of this length.
 use Rattle.std.specs.Prelude.{ℕ, suc, ◌-◌, ◌^◌, ℤ, pos, neg_ℤ, Bool, true, false, not, ◌&&◌, ◌||◌, ◌==◌, nat_lt, nat_le, List, [], ◌∷◌, ◌++◌, length, take, drop, Option, Some, None, Result, Ok, Err, if◌then◌else◌}
 use Rattle.std.specs.List.{prefix_len}
 use Rattle.tb_terms.specs.Names.{is_digit, is_lower, is_name_byte}
@@ -63,9 +63,9 @@ string_turn Between byte = between_turn byte
 string_turn Escaped byte = escaped_turn (unescaped byte)
 string_turn (Going more low high) byte = going_turn more low high byte
 
-abbrev pub with_front : List ℕ → Result (List ℕ × List ℕ) TermFault → Result (List ℕ × List ℕ) TermFault
-with_front front (Ok found) = Ok (front ++ found.0, found.1)
-with_front front (Err fault) = Err fault
+abbrev pub with_prefix : List ℕ → Result (List ℕ × List ℕ) TermFault → Result (List ℕ × List ℕ) TermFault
+with_prefix prefix (Ok found) = Ok (prefix ++ found.0, found.1)
+with_prefix prefix (Err fault) = Err fault
 
 -- the bytes of a string up to its closing quote, and what follows it
 abbrev pub string_rest : ℕ → Within → List ℕ → Result (List ℕ × List ℕ) TermFault
@@ -73,7 +73,7 @@ string_rest total within [] = Err (Syntax total)
 string_rest total within (byte ∷ bytes) = elim (string_turn within byte) [
   | Ends ↦ Ok ([], bytes)
   | Goes next ↦ string_rest total next bytes
-  | Puts put next ↦ with_front (put ∷ []) (string_rest total next bytes)
+  | Puts put next ↦ with_prefix (put ∷ []) (string_rest total next bytes)
   | Bad ↦ Err (Syntax (total - suc (length bytes)))
 ]
 
@@ -103,14 +103,14 @@ number_of true value = if nat_le value (2 ^ 63) then Some (neg_ℤ (pos value)) 
 number_of false value = if nat_lt value (2 ^ 63) then Some (pos value) else None
 
 abbrev pub in_range : ℕ → Option ℤ → List ℕ → Result (Token × List ℕ) TermFault
-in_range place None rest = Err (IntRange place)
-in_range place (Some number) rest = Ok (Int number, rest)
+in_range position None rest = Err (IntRange position)
+in_range position (Some number) rest = Ok (Int number, rest)
 
 -- a number whose digits, and what follows them, have been found
 abbrev pub number_from : ℕ → ℕ → Bool → List ℕ → List ℕ → Result (Token × List ℕ) TermFault
-number_from total place negative [] rest = Err (Syntax (total - length rest))
-number_from total place negative (digit ∷ digits) rest =
-    if is_real rest then Err (Real place) else in_range place (number_of negative (digits_value (digit ∷ digits))) rest
+number_from total position negative [] rest = Err (Syntax (total - length rest))
+number_from total position negative (digit ∷ digits) rest =
+    if is_real rest then Err (Real position) else in_range position (number_of negative (digits_value (digit ∷ digits))) rest
 
 abbrev pub number_at : ℕ → List ℕ → Result (Token × List ℕ) TermFault
 number_at total bytes =

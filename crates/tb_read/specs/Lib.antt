@@ -2,7 +2,7 @@ pub mod Answers
 pub mod Building
 pub mod Lexing
 pub mod Limits
-pub mod Places
+pub mod Positions
 pub mod Reading
 pub mod Scanning
 pub mod Spelling

@@ -16,11 +16,11 @@ StopsAt bytes stop = (tokens : List Token) × Scans bytes tokens (Some stop)
 abbrev pub IsWithin : ℕ → ℕ → Term → Type 0
 IsWithin size levels term = (term_size term ≤ size) × (term_levels term ≤ levels)
 
--- A fault of the text comes first, then the size, then the levels. Want of memory may come at any time.
+-- A fault of the text comes first, then the size, then the levels. Memory may run out at any time.
 abbrev pub HasFaultWithin : ℕ → ℕ → List ℕ → TermFault → Type 0
-HasFaultWithin size levels bytes (fault.Syntax place) = StopsAt bytes (fault.Syntax place)
-HasFaultWithin size levels bytes (fault.Real place) = StopsAt bytes (fault.Real place)
-HasFaultWithin size levels bytes (fault.IntRange place) = StopsAt bytes (fault.IntRange place)
+HasFaultWithin size levels bytes (fault.Syntax position) = StopsAt bytes (fault.Syntax position)
+HasFaultWithin size levels bytes (fault.Real position) = StopsAt bytes (fault.Real position)
+HasFaultWithin size levels bytes (fault.IntRange position) = StopsAt bytes (fault.IntRange position)
 HasFaultWithin size levels bytes fault.TooLarge = (term : Term) × Reads bytes term × (size < term_size term)
 HasFaultWithin size levels bytes fault.TooDeep = (term : Term) × Reads bytes term × (term_size term ≤ size) × (levels < term_levels term)
 HasFaultWithin size levels bytes fault.NoMemory = Unit {0}

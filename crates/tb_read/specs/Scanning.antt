@@ -30,18 +30,18 @@ is_left_paren kind.LeftParen = true
 is_left_paren _ = false
 
 -- what may stand behind a term within these open brackets, the innermost first: a comma, or the closing bracket
-abbrev pub goes_on : List Bracket → Kind → Bool
-goes_on [] next = false
-goes_on (bracket ∷ brackets) kind.Comma = true
-goes_on (Paren ∷ brackets) kind.RightParen = true
-goes_on (Square ∷ brackets) kind.RightBracket = true
-goes_on (bracket ∷ brackets) _ = false
+abbrev pub may_continue : List Bracket → Kind → Bool
+may_continue [] next = false
+may_continue (bracket ∷ brackets) kind.Comma = true
+may_continue (Paren ∷ brackets) kind.RightParen = true
+may_continue (Square ∷ brackets) kind.RightBracket = true
+may_continue (bracket ∷ brackets) _ = false
 
 abbrev pub expects : Expect → List Bracket → Kind → Bool
 expects expect.Term brackets next = is_begin next
 expects expect.First brackets next = is_begin next || is_right_bracket next
-expects expect.Further brackets next = goes_on brackets next
-expects expect.Named brackets next = is_left_paren next || goes_on brackets next
+expects expect.Further brackets next = may_continue brackets next
+expects expect.Named brackets next = is_left_paren next || may_continue brackets next
 
 -- whether the next token may be of this kind
 abbrev pub allows : Shape → Kind → Bool

@@ -35,7 +35,7 @@ SpellsByte byte text =
 
 abbrev pub SpellsBytes : List ℕ → List ℕ → Type 0
 SpellsBytes [] text = text ≡ []
-SpellsBytes (byte ∷ bytes) text = (front : List ℕ) × (rest : List ℕ) × (text ≡ front ++ rest) × SpellsByte byte front × SpellsBytes bytes rest
+SpellsBytes (byte ∷ bytes) text = (prefix : List ℕ) × (rest : List ℕ) × (text ≡ prefix ++ rest) × SpellsByte byte prefix × SpellsBytes bytes rest
 
 pub record SpellsString (bytes text : List ℕ) : Type 0 where
   pub is : IsTrue (is_string bytes)

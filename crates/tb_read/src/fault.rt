@@ -1,7 +1,7 @@
 use std::alloc::{AllocError, AllocFailed};
 use tb_terms::NoMemory;
 
-/// Why bytes are no term that this product takes. Places count the bytes from 0.
+/// Why bytes are no term that this product takes. Positions count the bytes from 0.
 #[derive(Clone, Copy, Debug, PartialEq, Eq)]
 pub enum TermFault {
     /// The first byte that can't go on, or the length where the bytes end too early.

@@ -7,7 +7,7 @@ ghost use Rattle.tb_read.specs.declared.fault.TermFault.{TermFault};
 ghost use Rattle.tb_read.specs.declared.fault.TermFault.TheVariants.{NoMemory, Syntax, Real, IntRange};
 ghost use Rattle.tb_read.specs.Spelling.{Reads};
 ghost use Rattle.tb_read.specs.Reading.{HasFault};
-ghost use Rattle.tb_read.specs.Places.{TakesTerm, BeginsReal, BeginsTooFar};
+ghost use Rattle.tb_read.specs.Positions.{TakesTerm, BeginsReal, BeginsTooFar};
 ghost use Rattle.tb_terms.specs.Texts.{term_text};
 
 use tb_terms::{Term, show_proper};
@@ -17,7 +17,7 @@ pub fn reading_is_unique()
     ensures { (bytes : List ℕ) (t u : Term) → Reads bytes t → Reads bytes u → t ≡ u }
 {}
 
-/// But for want of memory, a text has one fault at most, and none where it is a term within the limits.
+/// Unless memory runs out, a text has one fault at most, and none where it is a term within the limits.
 pub fn faults_are_unique()
     ensures one { (bytes : List ℕ) (f g : TermFault) → HasFault bytes f → HasFault bytes g
         → f ≢ NoMemory → g ≢ NoMemory → f ≡ g }
@@ -25,30 +25,30 @@ pub fn faults_are_unique()
         → HasFault bytes f → f ≡ NoMemory }
 {}
 
-/// Each text reads as a term within the limits, or has a fault other than want of memory.
+/// Each text reads as a term within the limits, or has a fault other than running out of memory.
 pub fn each_text_has_one()
     ensures { (bytes : List ℕ) → ((t : Term) × Reads bytes t × IsWithinLimits t)
         ⊎ ((f : TermFault) × HasFault bytes f × (f ≢ NoMemory)) }
 {}
 
-/// What stands before the place of a syntax fault can go on to a term.
+/// What stands before the position of a syntax fault can go on to a term.
 pub fn syntax_begins()
-    ensures { (bytes : List ℕ) (place : ℕ) → HasFault bytes (Syntax place)
-        → (place ≤ length bytes) × ((rest : List ℕ) × (t : Term) × Reads (take place bytes ++ rest) t) }
+    ensures { (bytes : List ℕ) (position : ℕ) → HasFault bytes (Syntax position)
+        → (position ≤ length bytes) × ((rest : List ℕ) × (t : Term) × Reads (take position bytes ++ rest) t) }
 {}
 
 /// Where a byte can't go on, no text that begins with the bytes up to it, and with it, is a term.
 pub fn syntax_stops()
-    ensures { (bytes : List ℕ) (place : ℕ) → HasFault bytes (Syntax place) → place < length bytes
-        → (rest : List ℕ) (t : Term) → Reads (take (place + 1) bytes ++ rest) t → ⊥ }
+    ensures { (bytes : List ℕ) (position : ℕ) → HasFault bytes (Syntax position) → position < length bytes
+        → (rest : List ℕ) (t : Term) → Reads (take (position + 1) bytes ++ rest) t → ⊥ }
 {}
 
 /// A real, or an integer out of range, stands where a term may begin; and it is one.
 pub fn numeral_faults()
-    ensures real { (bytes : List ℕ) (place : ℕ) → HasFault bytes (Real place)
-        → TakesTerm bytes place × BeginsReal (drop place bytes) }
-    ensures range { (bytes : List ℕ) (place : ℕ) → HasFault bytes (IntRange place)
-        → TakesTerm bytes place × BeginsTooFar (drop place bytes) }
+    ensures real { (bytes : List ℕ) (position : ℕ) → HasFault bytes (Real position)
+        → TakesTerm bytes position × BeginsReal (drop position bytes) }
+    ensures range { (bytes : List ℕ) (position : ℕ) → HasFault bytes (IntRange position)
+        → TakesTerm bytes position × BeginsTooFar (drop position bytes) }
 {}
 
 /// The written text of a term reads as the term. The call walks the term, and changes nothing.

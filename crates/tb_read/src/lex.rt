@@ -17,9 +17,9 @@ pub(crate) fn skip_blanks(bytes: &[u8]) -> &[u8]
     ensures rest { result.now ≡ skip_blanks bytes.now }
     ensures shorter { length result.now ≤ length bytes.now }
 {
-    for (place, byte) in bytes.iter().enumerate() {
+    for (position, byte) in bytes.iter().enumerate() {
         if !is_blank(*byte) {
-            return &bytes[place..];
+            return &bytes[position..];
         }
     }
     &bytes[bytes.len()..]
@@ -73,9 +73,9 @@ fn name_len(bytes: &[u8]) -> usize
     ensures value { result ≡ prefix_len is_name_byte bytes.now }
     ensures within { (0 < result) × (result ≤ length bytes.now) }
 {
-    for (place, byte) in bytes.iter().enumerate() {
+    for (position, byte) in bytes.iter().enumerate() {
         if !is_name_byte(*byte) {
-            return place;
+            return position;
         }
     }
     bytes.len()

@@ -17,9 +17,9 @@ pub(crate) fn number_at(total: usize, bytes: &[u8]) -> Result<(Token, &[u8]), Te
     let negative = is_negative(bytes);
     let unsigned = without_sign(negative, bytes);
     let len = digits_len(unsigned);
-    let place = total - bytes.len();
+    let position = total - bytes.len();
     let (digits, rest) = unsigned.split_at(len);
-    number_from(total, place, negative, digits, rest)
+    number_from(total, position, negative, digits, rest)
 }
 
 fn without_sign(negative: bool, bytes: &[u8]) -> &[u8]
@@ -31,24 +31,24 @@ fn without_sign(negative: bool, bytes: &[u8]) -> &[u8]
 
 fn number_from<'a>(
     total: usize,
-    place: usize,
+    position: usize,
     negative: bool,
     digits: &[u8],
     rest: &'a [u8],
 ) -> Result<(Token, &'a [u8]), TermFault>
     requires { length rest.now ≤ total }
-    ensures number { Gives (λ x. (x.0, x.1.now)) result (number_from total place negative digits.now rest.now) }
+    ensures number { Gives (λ x. (x.0, x.1.now)) result (number_from total position negative digits.now rest.now) }
     ensures some { IfOk result (λ x. (x.1.now ≡ rest.now) × (0 < length digits.now)) }
 {
     if digits.is_empty() {
         return Err(TermFault::Syntax(total - rest.len()));
     }
     if is_real(rest) {
-        return Err(TermFault::Real(place));
+        return Err(TermFault::Real(position));
     }
     match number_of(negative, digits_value(digits)) {
         Some(number) => Ok((Token::Int(number), rest)),
-        None => Err(TermFault::IntRange(place)),
+        None => Err(TermFault::IntRange(position)),
     }
 }
 
@@ -76,9 +76,9 @@ pub fn digits_len(bytes: &[u8]) -> usize
     ensures value { result ≡ prefix_len is_digit bytes.now }
     ensures within { result ≤ length bytes.now }
 {
-    for (place, byte) in bytes.iter().enumerate() {
+    for (position, byte) in bytes.iter().enumerate() {
         if !byte.is_ascii_digit() {
-            return place;
+            return position;
         }
     }
     bytes.len()

@@ -59,15 +59,15 @@ fn string_rest(alloc: Global, total: usize, bytes: &[u8]) -> Result<(Vec<u8>, &[
 {
     let mut put = Vec::new(alloc);
     let mut within = Within::Between;
-    for (place, byte) in bytes.iter().enumerate() {
+    for (position, byte) in bytes.iter().enumerate() {
         match string_turn(within, *byte) {
-            Turn::Ends => return Ok((put, &bytes[place + 1..])),
+            Turn::Ends => return Ok((put, &bytes[position + 1..])),
             Turn::Goes(next) => within = next,
             Turn::Puts(one, next) => {
                 put.push(one)?;
                 within = next;
             }
-            Turn::Bad => return Err(TermFault::Syntax(total - (bytes.len() - place))),
+            Turn::Bad => return Err(TermFault::Syntax(total - (bytes.len() - position))),
         }
     }
     Err(TermFault::Syntax(total))

@@ -1,5 +1,5 @@
 ghost use Rattle.std.specs.Prelude.{◌≡◌, OnOk, OnErr};
-ghost use Rattle.tb_read.specs.Scanning.{start, allows, after, may_end, is_begin, goes_on};
+ghost use Rattle.tb_read.specs.Scanning.{start, allows, after, may_end, is_begin, may_continue};
 
 use crate::kind::Kind;
 use crate::stack::Stack;
@@ -50,13 +50,13 @@ impl Shape {
         match self.expect {
             Expect::Term => is_begin(kind),
             Expect::First => is_begin(kind) || kind == Kind::RightBracket,
-            Expect::Further => self.goes_on(kind),
-            Expect::Named => kind == Kind::LeftParen || self.goes_on(kind),
+            Expect::Further => self.may_continue(kind),
+            Expect::Named => kind == Kind::LeftParen || self.may_continue(kind),
         }
     }
 
-    fn goes_on(&self, kind: Kind) -> bool
-        ensures { result ≡ goes_on self.now.brackets kind }
+    fn may_continue(&self, kind: Kind) -> bool
+        ensures { result ≡ may_continue self.now.brackets kind }
     {
         match self.brackets.top() {
             None => false,

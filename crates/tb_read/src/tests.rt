@@ -33,7 +33,7 @@ fn nested(alloc: Global, levels: usize, inner: &[u8]) -> Result<Vec<u8>, TermFau
 /// A list of so many ones.
 fn flat(alloc: Global, count: usize) -> Result<Vec<u8>, TermFault> {
     let mut text = Vec::from_slice(alloc, b"[1")?;
-    for _place in 1..count {
+    for _position in 1..count {
         text.extend_from_slice(b",1")?;
     }
     text.push(b']')?;
@@ -43,7 +43,7 @@ fn flat(alloc: Global, count: usize) -> Result<Vec<u8>, TermFault> {
 /// A string of so many newlines, each as an escape.
 fn newlines(alloc: Global, count: usize) -> Result<Vec<u8>, TermFault> {
     let mut text = vec![in alloc; b'"'; 1]?;
-    for _place in 0..count {
+    for _position in 0..count {
         text.extend_from_slice(b"\\n")?;
     }
     text.push(b'"')?;
@@ -81,7 +81,7 @@ fn a_text_is_written_again_without_blanks(rt: HostRuntime) -> Result<(), Fail> {
 }
 
 #[test]
-fn faults_of_numbers_stand_at_their_place(rt: HostRuntime) {
+fn faults_of_numbers_stand_at_their_position(rt: HostRuntime) {
     let table: [(&[u8], TermFault); 14] = [
         (b"3.5", TermFault::Real(0)),
         (b"-3.5", TermFault::Real(0)),
@@ -104,7 +104,7 @@ fn faults_of_numbers_stand_at_their_place(rt: HostRuntime) {
 }
 
 #[test]
-fn faults_of_brackets_stand_at_their_place(rt: HostRuntime) {
+fn faults_of_brackets_stand_at_their_position(rt: HostRuntime) {
     let table: [(&[u8], usize); 15] = [
         (b"", 0),
         (b"  ", 2),
@@ -122,14 +122,14 @@ fn faults_of_brackets_stand_at_their_place(rt: HostRuntime) {
         (b"A", 0),
         (b"1,2", 1),
     ];
-    for (text, place) in table {
-        let want = Some(TermFault::Syntax(place));
+    for (text, position) in table {
+        let want = Some(TermFault::Syntax(position));
         assert_eq!(rt; fault_of(rt.alloc(), text), want, "at {text:?}");
     }
 }
 
 #[test]
-fn faults_of_strings_stand_at_their_place(rt: HostRuntime) {
+fn faults_of_strings_stand_at_their_position(rt: HostRuntime) {
     let table: [(&[u8], usize); 16] = [
         (b"\"a", 2),
         (b"\"a\\q\"", 3),
@@ -148,8 +148,8 @@ fn faults_of_strings_stand_at_their_place(rt: HostRuntime) {
         (b"\"\xF0\x80\"", 2),
         (b"\"\xF4\x90\"", 2),
     ];
-    for (text, place) in table {
-        let want = Some(TermFault::Syntax(place));
+    for (text, position) in table {
+        let want = Some(TermFault::Syntax(position));
         assert_eq!(rt; fault_of(rt.alloc(), text), want, "at {text:?}");
     }
 }

@@ -16,7 +16,7 @@ use Rattle.tb_expand.specs.Faults.{HasNoCycle, IsExpansion, IsBodyOf, IsBodyFaul
 use Rattle.tb_script.specs.Programs.{first_too_large}
 use Rattle.tb_script.specs.Making.{first_large_of, HasBodies, AreExpansions}
 
--- what stands at a place that is there
+-- what stands at a position that is there
 pub standing : {A : Type 0} (xs : List A) (n : ℕ) → n < length xs → (x : A) × (slice_get xs n ≡ Some x)
 standing [] n within = absurd (omega (arith, within))
 standing (x ∷ xs) zero within = (x, refl)
@@ -78,42 +78,42 @@ pub record AreFirst (script : Script) (ds : List ProcDef) (bodies : List Body) :
 pub no_bodies : (script : Script) → AreFirst script [] []
 no_bodies script = record { bodies_are = tt; small = refl }
 
-pub more_bodies : (script : Script) (bodies : List Body) (body : Body) (place : ℕ) → place < length script.procs → AreFirst script (take place script.procs) bodies
-    → ((d : ProcDef) → slice_get script.procs place ≡ Some d → IsBodyOf script d body)
-    → AreFirst script (take (place + 1) script.procs) (bodies ++ body ∷ [])
-more_bodies script bodies body place within first is =
-    let at = standing script.procs place within in
+pub more_bodies : (script : Script) (bodies : List Body) (body : Body) (position : ℕ) → position < length script.procs → AreFirst script (take position script.procs) bodies
+    → ((d : ProcDef) → slice_get script.procs position ≡ Some d → IsBodyOf script d body)
+    → AreFirst script (take (position + 1) script.procs) (bodies ++ body ∷ [])
+more_bodies script bodies body position within first is =
+    let at = standing script.procs position within in
     let b = is at.0 at.1 in
-    let front : take (place + 1) script.procs ≡ take place script.procs ++ at.0 ∷ [] = next script.procs place ∙ one_more script.procs place at.0 at.1 in
-    subst (λ ds. AreFirst script ds (bodies ++ body ∷ [])) (sym front)
+    let prefix : take (position + 1) script.procs ≡ take position script.procs ++ at.0 ∷ [] = next script.procs position ∙ one_more script.procs position at.0 at.1 in
+    subst (λ ds. AreFirst script ds (bodies ++ body ∷ [])) (sym prefix)
     (record {
-      bodies_are = zip_more (IsExpansion script) (take place script.procs) bodies at.0 body first.bodies_are b.is;
-      small = small_more script (take place script.procs) at.0 first.small b.small;
+      bodies_are = zip_more (IsExpansion script) (take position script.procs) bodies at.0 body first.bodies_are b.is;
+      small = small_more script (take position script.procs) at.0 first.small b.small;
     })
 
 -- the first that is too large
-pub large_behind : (script : Script) (bodies : List Body) (d : ProcDef) (place : ℕ) → slice_get script.procs place ≡ Some d → AreFirst script (take place script.procs) bodies
+pub large_behind : (script : Script) (bodies : List Body) (d : ProcDef) (position : ℕ) → slice_get script.procs position ≡ Some d → AreFirst script (take position script.procs) bodies
     → is_too_large (expansion_of script d) ≡ true → first_too_large script ≡ Some d.name
-large_behind script bodies d place at first large =
-    let front = take place script.procs in
-    let behind = drop (suc place) script.procs in
-    ap (λ ds. option_map name_of (find (is_large script) ds)) (the_rest script.procs place d at)
+large_behind script bodies d position at first large =
+    let prefix = take position script.procs in
+    let behind = drop (suc position) script.procs in
+    ap (λ ds. option_map name_of (find (is_large script) ds)) (the_rest script.procs position d at)
     ∙ ap (option_map name_of)
-    (find-append (is_large script) front (d ∷ behind)
-    ∙ ap (λ o. option_or o (find (is_large script) (d ∷ behind))) (none_named (find (is_large script) front) first.small)
+    (find-append (is_large script) prefix (d ∷ behind)
+    ∙ ap (λ o. option_or o (find (is_large script) (d ∷ behind))) (none_named (find (is_large script) prefix) first.small)
     ∙ found_first script d behind large)
 
--- the body at this place has a fault
-pub body_failed : (script : Script) (bodies : List Body) (place : ℕ) (f : ExpandFault) → HasNoCycle script → place < length script.procs → AreFirst script (take place script.procs) bodies
-    → ((d : ProcDef) → slice_get script.procs place ≡ Some d → IsBodyFault script d f) → HasBodies script (Err f)
-body_failed script bodies place (expand.Recursion names) no_cycle within first is =
-    let at = standing script.procs place within in
+-- the body at this position has a fault
+pub body_failed : (script : Script) (bodies : List Body) (position : ℕ) (f : ExpandFault) → HasNoCycle script → position < length script.procs → AreFirst script (take position script.procs) bodies
+    → ((d : ProcDef) → slice_get script.procs position ≡ Some d → IsBodyFault script d f) → HasBodies script (Err f)
+body_failed script bodies position (expand.Recursion names) no_cycle within first is =
+    let at = standing script.procs position within in
     absurd (is at.0 at.1)
-body_failed script bodies place (expand.TooLarge name) no_cycle within first is =
-    let at = standing script.procs place within in
+body_failed script bodies position (expand.TooLarge name) no_cycle within first is =
+    let at = standing script.procs position within in
     let large = is at.0 at.1 in
-    record { no_cycle = no_cycle; first = large_behind script bodies at.0 place at.1 first large.large ∙ ap (λ (n : List ℕ). Some n) (sym large.named) }
-body_failed script bodies place expand.NoMemory no_cycle within first is = tt
+    record { no_cycle = no_cycle; first = large_behind script bodies at.0 position at.1 first large.large ∙ ap (λ (n : List ℕ). Some n) (sym large.named) }
+body_failed script bodies position expand.NoMemory no_cycle within first is = tt
 
 all_taken : {A : Type 0} (xs : List A) → take (length xs) xs ≡ xs
 all_taken [] = refl
@@ -123,7 +123,7 @@ whole : {A : Type 0} (xs : List A) (n : ℕ) → n ≡ length xs → take n xs �
 whole xs n e = ap (λ k. take k xs) e ∙ all_taken xs
 
 -- all bodies are there
-pub all_made : (script : Script) (bodies : List Body) (place : ℕ) → HasNoCycle script → place ≡ length script.procs → AreFirst script (take place script.procs) bodies → AreExpansions script bodies
-all_made script bodies place no_cycle e first =
-    let f = subst (λ ds. AreFirst script ds bodies) (whole script.procs place e) first in
+pub all_made : (script : Script) (bodies : List Body) (position : ℕ) → HasNoCycle script → position ≡ length script.procs → AreFirst script (take position script.procs) bodies → AreExpansions script bodies
+all_made script bodies position no_cycle e first =
+    let f = subst (λ ds. AreFirst script ds bodies) (whole script.procs position e) first in
     record { no_cycle = no_cycle; small = f.small; bodies_are = f.bodies_are }

@@ -27,18 +27,18 @@ use Rattle.tb_syntax.specs.declared.script.ProcDef.{ProcDef}
 use Rattle.tb_syntax.specs.declared.script.Script.{Script}
 use Rattle.tb_syntax.specs.declared.script.ToolDef.{ToolDef}
 use Rattle.tb_types.specs.declared.calls.Manner.TheVariants.{Rooted}
-use Rattle.tb_types.specs.declared.broken.Broken.{Broken}
-use Rattle.tb_types.specs.declared.broken.Rule.TheVariants.{ResultInSend}
-use Rattle.tb_types.specs.declared.places.Place.{Place}
-use Rattle.tb_types.specs.declared.places.Place.TheVariants.{Sent}
-use Rattle.tb_types.specs.Places.{misplaced, misplaced_step, misplaced_kind, expr_step}
-use Rattle.tb_types.specs.Calls.{actuals_faults, actual_place, actual_duty}
+use Rattle.tb_types.specs.declared.violation.Violation.{Violation}
+use Rattle.tb_types.specs.declared.violation.Rule.TheVariants.{ResultInSend}
+use Rattle.tb_types.specs.declared.positions.Position.{Position}
+use Rattle.tb_types.specs.declared.positions.Position.TheVariants.{Sent}
+use Rattle.tb_types.specs.Positions.{misplaced, misplaced_step, misplaced_kind, expr_step}
+use Rattle.tb_types.specs.Calls.{actuals_faults, actual_position, actual_expected_sort}
 use Rattle.tb_types.specs.Conditions.{Proper}
-use Rattle.tb_types.specs.Duties.{rooted, exact, site_faults, is_result, result_name}
+use Rattle.tb_types.specs.ExpectedSorts.{rooted, exact, site_faults, is_result, result_name}
 use Rattle.tb_types.specs.Bodies.{root_faults}
 use Rattle.tb_types.specs.Names.{process_named, tool_named}
 use Rattle.tb_types.specs.Values.{closed, closed_value, is_of_sort, has_value_of}
-use Rattle.tb_expand.specs.Acts.{place_of, process_of, tool_of}
+use Rattle.tb_expand.specs.Acts.{position_of, process_of, tool_of}
 use Rattle.tb_expand.specs.Expansion.{expands, expansion_of, sorts_of}
 use Rattle.tb_expand.specs.Scopes.{formals_seen}
 use Rattle.tb_expand.specs.Faults.{IsExpansion}
@@ -56,7 +56,7 @@ zip_long R [] (y ∷ ys) zip = absurd zip
 zip_long R (x ∷ xs) [] zip = absurd zip
 zip_long R (x ∷ xs) (y ∷ ys) zip = ap suc (zip_long R xs ys zip.1)
 
--- The body at the place of a name.
+-- The body at the position of a name.
 
 abbrev name_of : ProcDef → List ℕ
 name_of d = d.name
@@ -64,10 +64,10 @@ name_of d = d.name
 abbrev is_named : List ℕ → ProcDef → Bool
 is_named name d = bytes_eq d.name name
 
--- the body at this place is that of the process
-record HasBodyAt (script : Script) (bodies : List Body) (place : ℕ) (d : ProcDef) : Type 0 where
+-- the body at this position is that of the process
+record HasBodyAt (script : Script) (bodies : List Body) (position : ℕ) (d : ProcDef) : Type 0 where
   body : Body
-  at : slice_get bodies place ≡ Some body
+  at : slice_get bodies position ≡ Some body
   is : IsExpansion script d body
 
 one_further : {A : Type 0} (x : A) (xs : List A) (n : ℕ) → slice_get (x ∷ xs) (n + 1) ≡ slice_get xs n
@@ -75,21 +75,21 @@ one_further x xs n = ap (slice_get (x ∷ xs)) next where
   next : n + 1 ≡ suc n
   next = omega arith
 
-body_behind : (script : Script) (name : List ℕ) (e d : ProcDef) (b : Body) (ds : List ProcDef) (bodies : List Body) (same : Bool) (place : ℕ)
-    → IsExpansion script e b → (find (is_named name) ds ≡ Some d → HasBodyAt script bodies place d)
-    → (if same then Some e else find (is_named name) ds) ≡ Some d → HasBodyAt script (b ∷ bodies) (if same then 0 else place + 1) d
-body_behind script name e d b ds bodies true place first rest found =
+body_behind : (script : Script) (name : List ℕ) (e d : ProcDef) (b : Body) (ds : List ProcDef) (bodies : List Body) (same : Bool) (position : ℕ)
+    → IsExpansion script e b → (find (is_named name) ds ≡ Some d → HasBodyAt script bodies position d)
+    → (if same then Some e else find (is_named name) ds) ≡ Some d → HasBodyAt script (b ∷ bodies) (if same then 0 else position + 1) d
+body_behind script name e d b ds bodies true position first rest found =
     record { body = b; at = refl; is = subst (λ (x : ProcDef). IsExpansion script x b) (same_Some e d found) first }
-body_behind script name e d b ds bodies false place first rest found =
-    let r = rest found in record { body = r.body; at = one_further b bodies place ∙ r.at; is = r.is }
+body_behind script name e d b ds bodies false position first rest found =
+    let r = rest found in record { body = r.body; at = one_further b bodies position ∙ r.at; is = r.is }
 
 body_at : (script : Script) (name : List ℕ) (ds : List ProcDef) (bodies : List Body) (d : ProcDef)
-    → AllZip (IsExpansion script) ds bodies → find (is_named name) ds ≡ Some d → HasBodyAt script bodies (place_of name (map name_of ds)) d
+    → AllZip (IsExpansion script) ds bodies → find (is_named name) ds ≡ Some d → HasBodyAt script bodies (position_of name (map name_of ds)) d
 body_at script name [] [] d zip found = absurd (none-some d found)
 body_at script name [] (b ∷ bodies) d zip found = absurd zip
 body_at script name (e ∷ ds) [] d zip found = absurd zip
 body_at script name (e ∷ ds) (b ∷ bodies) d zip found =
-    body_behind script name e d b ds bodies (bytes_eq e.name name) (place_of name (map name_of ds)) zip.0 (body_at script name ds bodies d zip.1) found
+    body_behind script name e d b ds bodies (bytes_eq e.name name) (position_of name (map name_of ds)) zip.0 (body_at script name ds bodies d zip.1) found
 
 body_takes : (script : Script) (bodies : List Body) → AllZip (IsExpansion script) script.procs bodies
     → (name : List ℕ) (d : ProcDef) → process_named script.procs name ≡ Some d → takes (slice_get bodies (process_of script name)) (length d.formals) ≡ true
@@ -97,7 +97,7 @@ body_takes script bodies zip name d found =
     let b = body_at script name script.procs bodies d zip found in
     ap (λ (o : Option Body). takes o (length d.formals)) b.at ∙ eq-eqb b.body.formals (length d.formals) b.is.formals
 
--- The tool at the place of a name.
+-- The tool at the position of a name.
 
 abbrev tool_name : ToolDef → List ℕ
 tool_name t = t.name
@@ -105,16 +105,16 @@ tool_name t = t.name
 abbrev is_tool_named : List ℕ → ToolDef → Bool
 is_tool_named name t = bytes_eq t.name name
 
-tool_behind : (name : List ℕ) (e t : ToolDef) (ts : List ToolDef) (same : Bool) (place : ℕ)
-    → (find (is_tool_named name) ts ≡ Some t → slice_get (map declared_tool ts) place ≡ Some (declared_tool t))
-    → (if same then Some e else find (is_tool_named name) ts) ≡ Some t → slice_get (declared_tool e ∷ map declared_tool ts) (if same then 0 else place + 1) ≡ Some (declared_tool t)
-tool_behind name e t ts true place rest found = ap (λ (x : ToolDef). Some (declared_tool x)) (same_Some e t found)
-tool_behind name e t ts false place rest found = one_further (declared_tool e) (map declared_tool ts) place ∙ rest found
+tool_behind : (name : List ℕ) (e t : ToolDef) (ts : List ToolDef) (same : Bool) (position : ℕ)
+    → (find (is_tool_named name) ts ≡ Some t → slice_get (map declared_tool ts) position ≡ Some (declared_tool t))
+    → (if same then Some e else find (is_tool_named name) ts) ≡ Some t → slice_get (declared_tool e ∷ map declared_tool ts) (if same then 0 else position + 1) ≡ Some (declared_tool t)
+tool_behind name e t ts true position rest found = ap (λ (x : ToolDef). Some (declared_tool x)) (same_Some e t found)
+tool_behind name e t ts false position rest found = one_further (declared_tool e) (map declared_tool ts) position ∙ rest found
 
 tool_at : (name : List ℕ) (ts : List ToolDef) (t : ToolDef) → find (is_tool_named name) ts ≡ Some t
-    → slice_get (map declared_tool ts) (place_of name (map tool_name ts)) ≡ Some (declared_tool t)
+    → slice_get (map declared_tool ts) (position_of name (map tool_name ts)) ≡ Some (declared_tool t)
 tool_at name [] t found = absurd (none-some t found)
-tool_at name (e ∷ ts) t found = tool_behind name e t ts (bytes_eq e.name name) (place_of name (map tool_name ts)) (tool_at name ts t) found
+tool_at name (e ∷ ts) t found = tool_behind name e t ts (bytes_eq e.name name) (position_of name (map tool_name ts)) (tool_at name ts t) found
 
 tool_has_command : (script : Script) (name : List ℕ) (t : ToolDef) → tool_named script.tools name ≡ Some t → is_some t.command ≡ true
     → has_command (slice_get (map declared_tool script.tools) (tool_of script name)) ≡ true
@@ -148,11 +148,11 @@ module _ (script : Script) (proper : Proper script) (bodies : List Body) (zip : 
 record IsValued (formal : Formal) (actual : Ast) : Type 0 where
   value : Term
   is : closed_value actual ≡ Some value
-  sorted : has_sort value formal.sort ≡ true
+  well_sorted : has_sort value formal.sort ≡ true
 
 valued : (formal : Formal) (actual : Ast) (found : Option Term) → closed_value actual ≡ found → is_of_sort found formal.sort ≡ true → IsValued formal actual
 valued formal actual None is h = absurd cc
-valued formal actual (Some value) is h = record { value = value; is = is; sorted = h }
+valued formal actual (Some value) is h = record { value = value; is = is; well_sorted = h }
 
 not_false : (b : Bool) → not b ≡ false → b ≡ true
 not_false true h = refl
@@ -164,12 +164,12 @@ both_true false b h = absurd cc
 
 -- A result variable may not stand where a value is sent.
 
-abbrev layer_misplaced : layer.AstKind-F AstKind Ast → ℕ → List Broken
+abbrev layer_misplaced : layer.AstKind-F AstKind Ast → ℕ → List Violation
 layer_misplaced x token =
-    misplaced_step (map-AstKind AstKind Ast (ℕ → Place → List Broken) (Place → List Broken) misplaced_kind (fold-Ast (ℕ → Place → List Broken) (Place → List Broken) misplaced_step expr_step) x) token Sent
+    misplaced_step (map-AstKind AstKind Ast (ℕ → Position → List Violation) (Position → List Violation) misplaced_kind (fold-Ast (ℕ → Position → List Violation) (Position → List Violation) misplaced_step expr_step) x) token Sent
 
 misplaced_is : (e : Ast) → misplaced Sent e ≡ layer_misplaced (out-AstKind e.kind) e.token
-misplaced_is e = ap (λ (f : ℕ → Place → List Broken). f e.token Sent) (fold_out-AstKind (ℕ → Place → List Broken) (Place → List Broken) misplaced_step expr_step e.kind)
+misplaced_is e = ap (λ (f : ℕ → Position → List Violation). f e.token Sent) (fold_out-AstKind (ℕ → Position → List Violation) (Position → List Violation) misplaced_step expr_step e.kind)
 
 result_misplaced : (x : layer.AstKind-F AstKind Ast) (token : ℕ) → is_some (result_name x) ≡ true → layer_misplaced x token ≡ [] → ⊥
 result_misplaced (layer.Int number) token is e = absurd cc
@@ -185,7 +185,7 @@ actual_valued : (script : Script) (formal : Formal) (actual : Ast) (result : Boo
     → site_faults script [] Sent (if result then exact formal.sort else rooted formal.sort) actual ≡ [] → IsValued formal actual
 actual_valued script formal actual true free =
     let site = free_site script [] Sent (exact formal.sort) actual free in
-    absurd (result_misplaced (out-AstKind actual.kind) actual.token (not_false (is_result actual) site.result) (sym (misplaced_is actual) ∙ site.placed))
+    absurd (result_misplaced (out-AstKind actual.kind) actual.token (not_false (is_result actual) site.result) (sym (misplaced_is actual) ∙ site.positioned))
 actual_valued script formal actual false free =
     let site = free_site script [] Sent (rooted formal.sort) actual free in
     valued formal actual (closed_value actual) refl (both_true _ (has_value_of actual formal.sort) (not_false _ site.fits))
@@ -197,22 +197,22 @@ AreValued [] (actual ∷ actuals) = ⊥
 AreValued (formal ∷ formals) [] = ⊥
 AreValued (formal ∷ formals) (actual ∷ actuals) = IsValued formal actual × AreValued formals actuals
 
-abbrev asked : Script → Ast → Option Formal → List Broken
-asked script actual o = site_faults script [] (actual_place Rooted o) (actual_duty Rooted o) actual
+abbrev asked : Script → Ast → Option Formal → List Violation
+asked script actual o = site_faults script [] (actual_position Rooted o) (actual_expected_sort Rooted o) actual
 
-actuals_valued : (script : Script) (all formals : List Formal) (place : ℕ) (actuals : List Ast)
-    → ((k : ℕ) → slice_get all (place + k) ≡ slice_get formals k) → length actuals ≡ length formals
-    → actuals_faults script [] Rooted all place actuals ≡ [] → AreValued formals actuals
-actuals_valued script all [] place [] same count free = tt
-actuals_valued script all [] place (actual ∷ actuals) same count free = absurd (omega (arith, count))
-actuals_valued script all (formal ∷ formals) place [] same count free = absurd (omega (arith, count))
-actuals_valued script all (formal ∷ formals) place (actual ∷ actuals) same count free =
-    let parts = append_none (asked script actual (slice_get all place)) (actuals_faults script [] Rooted all (place + 1) actuals) free in
-    let start : place ≡ place + 0 = omega arith in
-    let here : slice_get all place ≡ Some formal = ap (slice_get all) start ∙ same 0 in
-    let behind : (k : ℕ) → slice_get all ((place + 1) + k) ≡ slice_get formals k
-    = λ k. let moved : (place + 1) + k ≡ place + suc k = omega arith in ap (slice_get all) moved ∙ same (suc k) in
-    (actual_valued script formal actual formal.result (subst (λ o. asked script actual o ≡ []) here parts.0), actuals_valued script all formals (place + 1) actuals behind (omega (arith, count)) parts.1)
+actuals_valued : (script : Script) (all formals : List Formal) (position : ℕ) (actuals : List Ast)
+    → ((k : ℕ) → slice_get all (position + k) ≡ slice_get formals k) → length actuals ≡ length formals
+    → actuals_faults script [] Rooted all position actuals ≡ [] → AreValued formals actuals
+actuals_valued script all [] position [] same count free = tt
+actuals_valued script all [] position (actual ∷ actuals) same count free = absurd (omega (arith, count))
+actuals_valued script all (formal ∷ formals) position [] same count free = absurd (omega (arith, count))
+actuals_valued script all (formal ∷ formals) position (actual ∷ actuals) same count free =
+    let parts = append_none (asked script actual (slice_get all position)) (actuals_faults script [] Rooted all (position + 1) actuals) free in
+    let start : position ≡ position + 0 = omega arith in
+    let here : slice_get all position ≡ Some formal = ap (slice_get all) start ∙ same 0 in
+    let behind : (k : ℕ) → slice_get all ((position + 1) + k) ≡ slice_get formals k
+    = λ k. let moved : (position + 1) + k ≡ position + suc k = omega arith in ap (slice_get all) moved ∙ same (suc k) in
+    (actual_valued script formal actual formal.result (subst (λ o. asked script actual o ≡ []) here parts.0), actuals_valued script all formals (position + 1) actuals behind (omega (arith, count)) parts.1)
 
 -- a root: its process is there, and takes the values
 record IsRooted (script : Script) (call : Call) : Type 0 where
@@ -277,9 +277,9 @@ are_taken (formal ∷ formals) more (actual ∷ actuals) [] h e = absurd cc
 are_taken (formal ∷ formals) more (actual ∷ actuals) (t ∷ ts) h e =
     let same = same_terms t h.0.value ts actual actuals e h.0.is in
     let rest = are_taken formals more actuals ts h.1 same.1 in
-    let sorted : has_sort t formal.sort ≡ true = subst (λ (u : Term). has_sort u formal.sort ≡ true) (sym same.0) h.0.sorted in
+    let well_sorted : has_sort t formal.sort ≡ true = subst (λ (u : Term). has_sort u formal.sort ≡ true) (sym same.0) h.0.well_sorted in
     let limited : is_within_limits t ≡ true = closed_is_limited (closed actual) t (h.0.is ∙ ap there (sym same.0)) in
-    record { count = ap suc rest.count; sorts = and_from _ _ sorted rest.sorts; limits = and_from _ _ limited rest.limits }
+    record { count = ap suc rest.count; sorts = and_from _ _ well_sorted rest.sorts; limits = and_from _ _ limited rest.limits }
 
 -- the sorts of the slots behind the formals
 abbrev more_sorts : Script → ProcDef → List Sort

@@ -6,7 +6,7 @@ use Rattle.tb_script.specs.declared.fault.ScriptFault.{ScriptFault}
 use Rattle.tb_script.specs.declared.fault.ScriptFault.TheVariants as fault
 use Rattle.tb_script.specs.Findings.{IsFound, NoTokens, NoScript, Improper, Recursive, Large, ManyRoots, Program'}
 
--- Each fault says what was found of the text, and nothing else was. Want of memory may come at any time; that a text is
+-- Each fault says what was found of the text, and nothing else was. Memory may run out at any time; that a text is
 -- too long, or that something isn't built, never comes.
 abbrev pub HasFault : List ℕ → ScriptFault → Type 0
 HasFault text (fault.Lex f) = IsFound text (NoTokens f)

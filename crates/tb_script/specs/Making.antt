@@ -100,7 +100,7 @@ HaveValues calls = All HasValues calls
 abbrev pub first_large_of : Script → List ProcDef → Option (List ℕ)
 first_large_of script defs = option_map (λ (d : ProcDef). d.name) (find (λ (d : ProcDef). is_too_large (expansion_of script d)) defs)
 
--- a fault of the checks, or of the expansions, as a fault of the script: want of memory is told alike
+-- a fault of the checks, or of the expansions, as a fault of the script: running out of memory is told alike
 abbrev pub of_check : CheckFault → ScriptFault
 of_check check.NoMemory = fault.NoMemory
 of_check (check.Twice token) = fault.Check (check.Twice token)

@@ -55,7 +55,7 @@ pub record IsAccepted (text : List ℕ) (script : Script) : Type 0 where
   pub is_small : IsSmall text script
   pub few_roots : length script.roots ≤ most_roots
 
--- a root stands for the process of its name, by its place from 0, with the values of its actuals
+-- a root stands for the process of its name, by its position from 0, with the values of its actuals
 pub record IsRootOf (script : Script) (call : Call) (root : Root) : Type 0 where
   pub process : root.process ≡ process_of script call.name
   pub actuals : map (λ (value : Term). Some value) root.actuals ≡ map closed_value call.actuals

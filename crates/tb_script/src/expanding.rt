@@ -24,8 +24,8 @@ fn all_bodies(alloc: Global, expansions: &Expansions) -> Result<Bodies, ExpandFa
     ensures { HasBodies expansions.now.script.now result }
 {
     let mut bodies = Items::new(alloc);
-    for place in 0..expansions.script.procs.len() {
-        match expansions.body(alloc, place) {
+    for position in 0..expansions.script.procs.len() {
+        match expansions.body(alloc, position) {
             Ok(body) => bodies.push(body)?,
             Err(fault) => return Err(fault),
         }

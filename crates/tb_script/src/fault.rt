@@ -5,16 +5,16 @@ use tb_parse::ParseFault;
 use tb_terms::NoMemory;
 use tb_types::CheckFault;
 
-/// Why a text has no program. Want of memory is `NoMemory` alone, whichever part it met.
+/// Why a text has no program. Running out of memory is `NoMemory` alone, whichever part it met.
 #[derive(Debug, Drop)]
 pub enum ScriptFault {
-    /// The bytes have no tokens; never for want of memory.
+    /// The bytes have no tokens; never because memory ran out.
     Lex(LexFault),
-    /// The tokens spell no script within the limits; never for want of memory.
+    /// The tokens spell no script within the limits; never because memory ran out.
     Parse(ParseFault),
-    /// The script fails one of the nine conditions; never for want of memory.
+    /// The script fails one of the nine conditions; never because memory ran out.
     Check(CheckFault),
-    /// Calls form a cycle, or an expansion is too large; never for want of memory.
+    /// Calls form a cycle, or an expansion is too large; never because memory ran out.
     Expand(ExpandFault),
     /// There are this many roots, more than 10,000.
     Roots(usize),

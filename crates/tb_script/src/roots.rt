@@ -40,21 +40,21 @@ fn root_of(alloc: Global, names: &Names, call: &Call) -> Result<Root, NoMemory>
     Ok(Root { process, actuals })
 }
 
-/// The place of the process of this name, or the number of processes.
+/// The position of the process of this name, or the number of processes.
 fn process_of(names: &Names, name: &[u8]) -> Result<u32, NoMemory>
-    ensures { IfOk result (λ place. place ≡ process_of names.now.script.now name.now) }
+    ensures { IfOk result (λ position. position ≡ process_of names.now.script.now name.now) }
 {
-    match u32::try_from(process_place(names, name)) {
-        Ok(place) => Ok(place),
+    match u32::try_from(process_position(names, name)) {
+        Ok(position) => Ok(position),
         Err(_) => Err(NoMemory),
     }
 }
 
-fn process_place(names: &Names, name: &[u8]) -> usize
+fn process_position(names: &Names, name: &[u8]) -> usize
     ensures { result ≡ process_of names.now.script.now name.now }
 {
-    match names.process_place(name) {
-        Some(place) => place,
+    match names.process_position(name) {
+        Some(position) => position,
         None => names.script.procs.len(),
     }
 }

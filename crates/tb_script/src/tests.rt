@@ -14,8 +14,8 @@ enum Expected {
 }
 
 fn are_names(names: &Idents, expected: &[&str]) -> bool {
-    for (place, name) in expected.iter().enumerate() {
-        match names.as_slice().get(place) {
+    for (position, name) in expected.iter().enumerate() {
+        match names.as_slice().get(position) {
             Some(found) if found.as_bytes() == name.as_bytes() => {}
             _ => return false,
         }
@@ -118,9 +118,9 @@ fn texts_have_what_they_should(rt: HostRuntime) {
 /// in each process where nothing joins them.
 fn chain(alloc: Global, count: usize, join: &str) -> Result<String, Fail> {
     let mut text = String::new(alloc);
-    for place in 0..count {
-        let next = format!(in alloc; "P{}", place + 1)?;
-        text.push_str(format!(in alloc; "process P{place} is {next}")?.as_str())?;
+    for position in 0..count {
+        let next = format!(in alloc; "P{}", position + 1)?;
+        text.push_str(format!(in alloc; "process P{position} is {next}")?.as_str())?;
         if !join.is_empty() {
             text.push_str(join)?;
             text.push_str(next.as_str())?;

@@ -183,7 +183,7 @@ atom_balanced at atom ks d = subst IsBalanced (sym d.is) (joined d.act d.times (
 var_balanced : (at : ℕ) (var : Var) (ks : List TokenKind) → SpellsVar at var ks → IsBalanced ks
 var_balanced at var ks d = subst IsBalanced (sym d.is) (behind (Upper var.name) _ (refl, refl) (behind (Sign Colon) d.sort (refl, refl) (sort_balanced d.is_sort)))
 
-pub proc_balanced : {at : Level} {place : ℕ} {p : Proc} {kinds : List TokenKind} → SpellsProc at place p kinds → IsBalanced kinds
+pub proc_balanced : {at : Level} {position : ℕ} {p : Proc} {kinds : List TokenKind} → SpellsProc at position p kinds → IsBalanced kinds
 proc_balanced (SpellsProc.one_alt d) = proc_balanced d
 proc_balanced (SpellsProc.par {xs = xs} {ys = ys} d f) = apart xs (Sign Bars) ys (refl, refl) (proc_balanced d) (proc_balanced f)
 proc_balanced (SpellsProc.one_seq d) = proc_balanced d
@@ -242,8 +242,8 @@ roots_balanced : {at : ℕ} {calls : List Call} {ks : List TokenKind} → Spells
 roots_balanced (SpellsRoots.none at) = empty
 roots_balanced (SpellsRoots.some d) = parted_balanced call_balanced d
 
-pub each_proc_balances : (at : Level) (place : ℕ) (p : Proc) (kinds : List TokenKind) → SpellsProc at place p kinds → IsBalanced kinds
-each_proc_balances at place p kinds d = proc_balanced d
+pub each_proc_balances : (at : Level) (position : ℕ) (p : Proc) (kinds : List TokenKind) → SpellsProc at position p kinds → IsBalanced kinds
+each_proc_balances at position p kinds d = proc_balanced d
 
 pub each_script_balances : (script : Script) (kinds : List TokenKind) → Spells script kinds → IsBalanced kinds
 each_script_balances script kinds d =

@@ -1,4 +1,4 @@
--- Each kind of expression without its places.
+-- Each kind of expression without its positions.
 use Rattle.std.proofs.Common.{◌≡◌, ℕ, List, map, ap, ◌∙◌}
 use Rattle.tb_syntax.specs.declared.ast.Ast.{Ast}
 use Rattle.tb_syntax.specs.declared.ast.AstKind.{AstKind, out-AstKind}
@@ -6,7 +6,7 @@ use Rattle.tb_syntax.specs.declared.ast.AstKind.TheVariants as ast
 use Rattle.tb_syntax.specs.declared.ast.AstKind.TheVariants.{outs-Int, outs-Str, outs-Appl, outs-Var, outs-Result, outs-Hole, outs-List}
 use Rattle.tb_syntax.specs.declared.ast.AstKind.TheOpen.{AstKind-F}
 use Rattle.tb_syntax.specs.declared.ast.AstKind.TheFolds.{fold_out-AstKind, map-AstKind, fold-Ast, fold_out-Ast}
-use Rattle.tb_syntax.specs.Places.{bare_kind, bare_expr, bare_kind_step, bare_expr_step}
+use Rattle.tb_syntax.specs.Positions.{bare_kind, bare_expr, bare_kind_step, bare_expr_step}
 
 abbrev bare : AstKind-F AstKind Ast → AstKind
 bare layer = bare_kind_step (map-AstKind AstKind Ast AstKind Ast bare_kind (fold-Ast AstKind Ast bare_kind_step bare_expr_step) layer)

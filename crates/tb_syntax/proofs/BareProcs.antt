@@ -1,4 +1,4 @@
--- Each kind of process without its places.
+-- Each kind of process without its positions.
 use Rattle.std.proofs.Common.{◌≡◌, List, map, Option, Some, None, option_map, ap, ◌∙◌}
 use Rattle.tb_syntax.specs.declared.ast.Ast.{Ast}
 use Rattle.tb_syntax.specs.declared.proc.AtomDef.{AtomDef}
@@ -9,7 +9,7 @@ use Rattle.tb_syntax.specs.declared.proc.Proc.TheVariants as tree
 use Rattle.tb_syntax.specs.declared.proc.Proc.TheVariants.{outs-Atom, outs-Call, outs-Seq, outs-Alt, outs-Star, outs-Par, outs-If, outs-Let}
 use Rattle.tb_syntax.specs.declared.proc.Proc.TheOpen.{Proc-F}
 use Rattle.tb_syntax.specs.declared.proc.Proc.TheFolds.{fold_out-Proc, map-Proc}
-use Rattle.tb_syntax.specs.Places.{bare_proc, bare_proc_step, bare_atom, bare_call, bare_expr, bare_var}
+use Rattle.tb_syntax.specs.Positions.{bare_proc, bare_proc_step, bare_atom, bare_call, bare_expr, bare_var}
 
 abbrev bare : Proc-F Proc → Proc
 bare layer = bare_proc_step (map-Proc Proc Proc bare_proc layer)

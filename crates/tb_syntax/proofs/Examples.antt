@@ -21,12 +21,12 @@ least_spelt procs tools roots p t r = subst IsSpelt (λ i. record { procs = sym 
   none : IsSpelt (record { procs = []; tools = []; roots = [] })
   none = (_, record { definitions = []; are_definitions = SpellsDefinitions.none 0; roots = []; are_roots = SpellsRoots.none _; is = refl })
 
--- an atom of this word, at this place
+-- an atom of this word, at this position
 abbrev plain : List ℕ → ℕ → AtomDef
 plain name at = record { act = act.Named name []; times = []; token = at }
 
 plain_spelt : (name : List ℕ) (at : ℕ) → is_atom_word name ≡ true → SpellsProc level.Prim at (tree.Atom (plain name at)) (Lower name ∷ [])
-plain_spelt name at e = SpellsProc.atom (record { place = refl; act = Lower name ∷ []; is_act = SpellsAct.named name e (SpellsArguments.none (at + 1)); times = []; are_times = InRow.none (at + 1); is = refl })
+plain_spelt name at e = SpellsProc.atom (record { position = refl; act = Lower name ∷ []; is_act = SpellsAct.named name e (SpellsArguments.none (at + 1)); times = []; are_times = InRow.none (at + 1); is = refl })
 
 abbrev tau : List TokenKind
 tau = Lower (codes "tau") ∷ []
@@ -50,9 +50,9 @@ pub process_spelt : Spells (record { procs = record { name = codes "A"; formals 
     (Lower (codes "process") ∷ Upper (codes "A") ∷ Lower (codes "is") ∷ Lower (codes "tau") ∷ Sign Plus ∷ Lower (codes "tau") ∷ Sign Point ∷ Lower (codes "delta") ∷ Lower (codes "toolbus") ∷ Sign LeftParen ∷ Sign RightParen ∷ [])
 process_spelt =
     let definition : SpellsProcDef 0 (record { name = codes "A"; formals = []; body = choice 3; token = 0 }) (Lower (codes "process") ∷ Upper (codes "A") ∷ Lower (codes "is") ∷ (tau ++ Sign Plus ∷ (tau ++ Sign Point ∷ delta))) =
-    record { place = refl; formals = []; are_formals = InParens.none 2; body = tau ++ Sign Plus ∷ (tau ++ Sign Point ∷ delta); is_body = choice_spelt; is = refl } in
+    record { position = refl; formals = []; are_formals = InParens.none 2; body = tau ++ Sign Plus ∷ (tau ++ Sign Point ∷ delta); is_body = choice_spelt; is = refl } in
     record { definitions = _; are_definitions = SpellsDefinitions.process definition (SpellsDefinitions.none 8); roots = []; are_roots = SpellsRoots.none 10; is = refl }
 
--- ( tau ) at the same place is the same process: its place is that of the name
+-- ( tau ) at the same position is the same process: its position is that of the name
 in_parens_spelt : SpellsProc level.Prim 3 (tree.Atom (plain (codes "tau") 4)) (Sign LeftParen ∷ Lower (codes "tau") ∷ Sign RightParen ∷ [])
 in_parens_spelt = SpellsProc.parens (SpellsProc.one_alt (SpellsProc.one_seq (SpellsProc.one_star (SpellsProc.one_prim (plain_spelt (codes "tau") 4 refl)))))

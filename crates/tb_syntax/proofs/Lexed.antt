@@ -3,7 +3,7 @@ use Rattle.std.proofs.Common.{◌≡◌, ℕ, ◌+◌, Bool, true, false, if◌t
 use Rattle.std.proofs.lemmas.Bool.{and_parts}
 use Rattle.std.specs.List.{list_all, prefix_len}
 use Rattle.tb_terms.specs.Names.{is_digit, is_name_byte}
-use Rattle.tb_read.specs.Places.{HasPoint}
+use Rattle.tb_read.specs.Positions.{HasPoint}
 use Rattle.tb_read.proofs.Written.{number_spelled, string_spelled}
 use Rattle.tb_lex.specs.Gaps.{IsGap, IsLast}
 use Rattle.tb_lex.specs.Tokens.{symbol_text, SpellsKind, IsToken, TokensThen, Lexes}
@@ -254,13 +254,13 @@ gap_is Name k = name_gap k
 gap_is Other k = space_gap k
 
 abbrev LexesFrom : ℕ → List ℕ → List Token → Type 0
-LexesFrom = TokensThen (λ place rest. IsLast rest)
+LexesFrom = TokensThen (λ position rest. IsLast rest)
 
-lexed_from : (kinds : List TokenKind) (before : Before) (place : ℕ) → list_all is_proper_kind kinds ≡ true → (tokens : List Token) × (map (λ (t : Token). t.kind) tokens ≡ kinds) × LexesFrom place (text_from before kinds ++ ending) tokens
-lexed_from [] before place e = ([], refl, inl line_gap)
-lexed_from (k ∷ kinds) before place e =
+lexed_from : (kinds : List TokenKind) (before : Before) (position : ℕ) → list_all is_proper_kind kinds ≡ true → (tokens : List Token) × (map (λ (t : Token). t.kind) tokens ≡ kinds) × LexesFrom position (text_from before kinds ++ ending) tokens
+lexed_from [] before position e = ([], refl, inl line_gap)
+lexed_from (k ∷ kinds) before position e =
     let p = and_parts (is_proper_kind k) (list_all is_proper_kind kinds) e in
-    let from = place + length (gap before k) in
+    let from = position + length (gap before k) in
     let to = from + length (token_text k) in
     let token : Token = record { kind = k; from = from; to = to } in
     let r = lexed_from kinds (before_next k) to p.1 in

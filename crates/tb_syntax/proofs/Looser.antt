@@ -44,7 +44,7 @@ not_looser own at e p f g =
     let same : false ≡ true = sym e ∙ ap (λ l. is_looser l at) (sym f) ∙ g in
     cc
 
-pub looser_enclosed : {at : Level} {place : ℕ} {p : Proc} {kinds : List TokenKind} → SpellsProc at place p kinds → is_looser (own_level p) at ≡ true → StandsInParens place p kinds
+pub looser_enclosed : {at : Level} {position : ℕ} {p : Proc} {kinds : List TokenKind} → SpellsProc at position p kinds → is_looser (own_level p) at ≡ true → StandsInParens position p kinds
 looser_enclosed {p = p} (SpellsProc.one_alt d) e = looser_enclosed d (tighter (own_level p) e)
 looser_enclosed {p = p} (SpellsProc.one_seq d) e = looser_enclosed d (alt_seq (own_level p) e)
 looser_enclosed {p = p} (SpellsProc.one_star d) e = looser_enclosed d (seq_star (own_level p) e)
@@ -60,5 +60,5 @@ looser_enclosed (SpellsProc.block {vars = vars} {x = x} d f) e = absurd (not_loo
 looser_enclosed (SpellsProc.test {e = t} {x = x} d f) e = absurd (not_looser level.Prim level.Prim refl _ (ap level_of (outs-If t x None)) e)
 looser_enclosed (SpellsProc.test_else {e = t} {x = x} {y = y} d f g) e = absurd (not_looser level.Prim level.Prim refl _ (ap level_of (outs-If t x (Some y))) e)
 
-pub each_looser_enclosed : (at : Level) (place : ℕ) (p : Proc) (kinds : List TokenKind) → SpellsProc at place p kinds → is_looser (own_level p) at ≡ true → StandsInParens place p kinds
-each_looser_enclosed at place p kinds d e = looser_enclosed d e
+pub each_looser_enclosed : (at : Level) (position : ℕ) (p : Proc) (kinds : List TokenKind) → SpellsProc at position p kinds → is_looser (own_level p) at ≡ true → StandsInParens position p kinds
+each_looser_enclosed at position p kinds d e = looser_enclosed d e

@@ -1,4 +1,4 @@
--- What is printed for a call, an atom or a variable that is spelt somewhere spells it but for places, wherever it stands.
+-- What is printed for a call, an atom or a variable that is spelt somewhere spells it but for positions, wherever it stands.
 use Rattle.std.proofs.Common.{ℕ, ◌+◌, List, length, map, refl}
 use Rattle.std.specs.List.{flat_map}
 use Rattle.tb_lex.specs.declared.kind.TokenKind.{TokenKind}
@@ -10,7 +10,7 @@ use Rattle.tb_syntax.specs.declared.proc.TimeDef.{TimeDef}
 use Rattle.tb_syntax.specs.declared.proc.Var.{Var}
 use Rattle.tb_syntax.specs.Spelling.{SpellsCall, SpellsAct, SpellsTime, SpellsAtom, SpellsVar}
 use Rattle.tb_syntax.specs.Canonical.{call_tokens, act_tokens, time_tokens, atom_tokens, var_tokens, expr_tokens, optional}
-use Rattle.tb_syntax.specs.Places.{bare_call, bare_act, bare_time, bare_atom, bare_var}
+use Rattle.tb_syntax.specs.Positions.{bare_call, bare_act, bare_time, bare_atom, bare_var}
 use Rattle.tb_syntax.proofs.PrintedExprs.{sort_printed, expr_printed, arguments_are_printed}
 use Rattle.tb_syntax.proofs.PrintedLists.{IsPrinted, row_printed}
 
@@ -19,7 +19,7 @@ call_printed at call ks d to =
     let r = arguments_are_printed d.are_actuals (to + 1) in (
       record { name = call.name; actuals = r.0; token = to },
       λ i. record { name = call.name; actuals = r.1 i; token = 0 },
-      record { place = refl; actuals = optional (map expr_tokens call.actuals); are_actuals = r.2; is = refl },
+      record { position = refl; actuals = optional (map expr_tokens call.actuals); are_actuals = r.2; is = refl },
     )
 
 act_printed : {at : ℕ} {a : ActDef} {ks : List TokenKind} → SpellsAct at a ks → IsPrinted bare_act SpellsAct a (act_tokens a)
@@ -35,7 +35,7 @@ time_printed at time ks d to =
     let r = expr_printed d.is_value (to + 2) in (
       record { name = time.name; value = r.0; token = to },
       λ i. record { name = time.name; value = r.1 i; token = 0 },
-      record { place = refl; is_word = d.is_word; value = expr_tokens time.value; is_value = r.2; is = refl },
+      record { position = refl; is_word = d.is_word; value = expr_tokens time.value; is_value = r.2; is = refl },
     )
 
 pub atom_printed : {at : ℕ} {atom : AtomDef} {ks : List TokenKind} → SpellsAtom at atom ks → IsPrinted bare_atom SpellsAtom atom (atom_tokens atom)
@@ -44,7 +44,7 @@ atom_printed {atom = atom} d to =
     let s = row_printed bare_time time_tokens SpellsTime time_printed d.are_times (to + length (act_tokens atom.act)) in (
       record { act = r.0; times = s.0; token = to },
       λ i. record { act = r.1 i; times = s.1 i; token = 0 },
-      record { place = refl; act = act_tokens atom.act; is_act = r.2; times = flat_map time_tokens atom.times; are_times = s.2; is = refl },
+      record { position = refl; act = act_tokens atom.act; is_act = r.2; times = flat_map time_tokens atom.times; are_times = s.2; is = refl },
     )
 
 pub var_printed : (at : ℕ) (var : Var) (ks : List TokenKind) → SpellsVar at var ks → IsPrinted bare_var SpellsVar var (var_tokens var)
@@ -52,5 +52,5 @@ var_printed at var ks d to =
     let r = sort_printed d.is_sort (to + 2) in (
       record { name = var.name; sort = var.sort; token = to; sort_token = r.0 },
       refl,
-      record { place = refl; sort = _; is_sort = r.1; is = refl },
+      record { position = refl; sort = _; is_sort = r.1; is = refl },
     )

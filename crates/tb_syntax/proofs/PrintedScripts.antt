@@ -1,4 +1,4 @@
--- What is printed for a script that is spelt spells it but for places.
+-- What is printed for a script that is spelt spells it but for positions.
 use Rattle.std.proofs.Common.{◌≡◌, ℕ, ◌+◌, List, [], ◌∷◌, ◌++◌, length, map, refl, sym, subst, arith, append_assoc}
 use Rattle.std.proofs.lemmas.List.{length-append}
 use Rattle.std.specs.List.{flat_map}
@@ -11,7 +11,7 @@ use Rattle.tb_syntax.specs.declared.script.Script.{Script}
 use Rattle.tb_syntax.specs.declared.script.ToolDef.{ToolDef}
 use Rattle.tb_syntax.specs.Spelling.{SpellsFormal, SpellsProcDef, SpellsToolDef, SpellsDefinitions, SpellsRoots, SpellsCall, Spells, InRow}
 use Rattle.tb_syntax.specs.Canonical.{formal_tokens, process_tokens, tool_tokens, call_tokens, script_tokens, proc_tokens, sort_tokens, parted, optional}
-use Rattle.tb_syntax.specs.Places.{bare_formal, bare_process, bare_tool, bare_call, without_places}
+use Rattle.tb_syntax.specs.Positions.{bare_formal, bare_process, bare_tool, bare_call, without_positions}
 use Rattle.tb_syntax.proofs.PrintedAtoms.{call_printed}
 use Rattle.tb_syntax.proofs.PrintedExprs.{sort_printed}
 use Rattle.tb_syntax.proofs.PrintedLists.{IsPrinted, parted_printed, optional_printed}
@@ -22,7 +22,7 @@ formal_printed at formal ks d to =
     let r = sort_printed d.is_sort (to + 2) in (
       record { name = formal.name; sort = formal.sort; result = formal.result; token = to; sort_token = r.0 },
       refl,
-      record { place = refl; sort = sort_tokens formal.sort; is_sort = r.1; is = refl },
+      record { position = refl; sort = sort_tokens formal.sort; is_sort = r.1; is = refl },
     )
 
 process_printed : {at : ℕ} {definition : ProcDef} {ks : List TokenKind} → SpellsProcDef at definition ks → IsPrinted bare_process SpellsProcDef definition (process_tokens definition)
@@ -32,14 +32,14 @@ process_printed {definition = definition} d to =
     let s = proc_printed d.is_body level.Proc (to + length formals + 3) in (
       record { name = definition.name; formals = r.0; body = s.0; token = to },
       λ i. record { name = definition.name; formals = r.1 i; body = s.1 i; token = 0 },
-      record { place = refl; formals = formals; are_formals = r.2; body = proc_tokens definition.body level.Proc; is_body = s.2; is = refl },
+      record { position = refl; formals = formals; are_formals = r.2; body = proc_tokens definition.body level.Proc; is_body = s.2; is = refl },
     )
 
 tool_printed : {at : ℕ} {definition : ToolDef} {ks : List TokenKind} → SpellsToolDef at definition ks → IsPrinted bare_tool SpellsToolDef definition (tool_tokens definition)
 tool_printed {definition = definition} d to = (
   record { name = definition.name; command = definition.command; token = to },
   refl,
-  record { place = refl; is_name = d.is_name; is = refl },
+  record { position = refl; is_name = d.is_name; is = refl },
 )
 
 tools_printed : {at : ℕ} {procs : List ProcDef} {tools : List ToolDef} {ks : List TokenKind} → SpellsDefinitions at procs tools ks → (to : ℕ)
@@ -69,17 +69,17 @@ joined : {at : ℕ} {tools : List ToolDef} {ks : List TokenKind} → InRow Spell
     → SpellsDefinitions at procs tools (ks ++ rest)
 joined (InRow.none at) from procs rest e ds =
     let same : from ≡ at = omega arith in
-    subst (λ place. SpellsDefinitions place procs [] rest) same (processes_alone ds)
+    subst (λ position. SpellsDefinitions position procs [] rest) same (processes_alone ds)
 joined (InRow.more {at = at} {x = x} {ks = ks} {xs = xs} {rest = more} d row) from procs rest e ds =
     let long : length (ks ++ more) ≡ length ks + length more = length-append ks more in
-    let place : from ≡ at + length ks + length more = omega arith in
-    subst (SpellsDefinitions at procs (x ∷ xs)) (sym (append_assoc ks more rest)) (SpellsDefinitions.tool d (joined row from procs rest place ds))
+    let position : from ≡ at + length ks + length more = omega arith in
+    subst (SpellsDefinitions at procs (x ∷ xs)) (sym (append_assoc ks more rest)) (SpellsDefinitions.tool d (joined row from procs rest position ds))
 
 roots_printed : {at : ℕ} {roots : List Call} {ks : List TokenKind} → SpellsRoots at roots ks → (to : ℕ) → (others : List Call) × (map bare_call others ≡ map bare_call roots) × SpellsRoots to others (parted (map call_tokens roots))
 roots_printed (SpellsRoots.none at) to = ([], refl, SpellsRoots.none to)
 roots_printed (SpellsRoots.some d) to = let r = parted_printed bare_call call_tokens SpellsCall call_printed d to in (r.0, r.1, SpellsRoots.some r.2)
 
-pub script_printed : (script : Script) (ks : List TokenKind) → Spells script ks → (other : Script) × (without_places other ≡ without_places script) × Spells other (script_tokens script)
+pub script_printed : (script : Script) (ks : List TokenKind) → Spells script ks → (other : Script) × (without_positions other ≡ without_positions script) × Spells other (script_tokens script)
 script_printed script ks d =
     let first = flat_map tool_tokens script.tools in
     let behind = flat_map process_tokens script.procs in

@@ -35,10 +35,10 @@ parted [] = []
 parted (part ∷ []) = part
 parted (part ∷ next ∷ parts) = part ++ Sign Comma ∷ parted (next ∷ parts)
 
--- the comma before what stands at this place
+-- the comma before what stands at this position
 abbrev pub comma_before : ℕ → List TokenKind
 comma_before zero = []
-comma_before (suc place) = Sign Comma ∷ []
+comma_before (suc position) = Sign Comma ∷ []
 
 -- in parentheses, which are left out where there is nothing
 abbrev pub optional : List (List TokenKind) → List TokenKind
@@ -93,7 +93,7 @@ kind_step (ast.Result name) = Upper name ∷ Sign Question ∷ []
 kind_step (ast.Hole s) = hole_tokens s
 kind_step (ast.List parts) = list_expr_tokens parts
 
--- the place of an expression isn't printed
+-- the position of an expression isn't printed
 abbrev pub expr_step : ast.Ast-F (List TokenKind) (List TokenKind) → List TokenKind
 expr_step expr = expr.kind
 

@@ -2,7 +2,7 @@ pub mod Binding
 pub mod Canonical
 pub mod Limits
 pub mod Parens
-pub mod Places
+pub mod Positions
 pub mod Printing
 pub mod ProperKinds
 pub mod Spelling

@@ -1,4 +1,4 @@
--- How high a process body is, and how many brackets are open in front of a place in a list of tokens.
+-- How high a process body is, and how many brackets are open in front of a position in a list of tokens.
 use Rattle.std.specs.Prelude.{ℕ, ◌+◌, ◌-◌, ◌<◌, ◌≤◌, Bool, true, false, nat_lt, List, [], ◌∷◌, length, take, fold, max, find, option_map, unwrap_or, Option, codes, if◌then◌else◌}
 use Rattle.tb_lex.specs.declared.kind.TokenKind.{TokenKind}
 use Rattle.tb_lex.specs.declared.kind.TokenKind.TheVariants.{Int, Str, Lower, Upper, Symbol as Sign}
@@ -31,7 +31,7 @@ most_height = 400
 abbrev pub is_too_high : ProcDef → Bool
 is_too_high definition = nat_lt most_height (height definition.body)
 
--- the place of the first definition whose body is too high
+-- the position of the first definition whose body is too high
 abbrev pub first_too_high : List ProcDef → Option ℕ
 first_too_high definitions = option_map (λ (definition : ProcDef). definition.token) (find is_too_high definitions)
 
@@ -70,7 +70,7 @@ abbrev pub most_open : ℕ
 most_open = 128
 
 -- the first token behind which more are open
-pub record IsTooDeep (kinds : List TokenKind) (place : ℕ) : Type 0 where
-  pub is_place : place < length kinds
-  pub is_over : most_open < open_brackets (take (place + 1) kinds)
-  pub none_before : (earlier : ℕ) → earlier < place → open_brackets (take (earlier + 1) kinds) ≤ most_open
+pub record IsTooDeep (kinds : List TokenKind) (position : ℕ) : Type 0 where
+  pub is_position : position < length kinds
+  pub is_over : most_open < open_brackets (take (position + 1) kinds)
+  pub none_before : (earlier : ℕ) → earlier < position → open_brackets (take (earlier + 1) kinds) ≤ most_open

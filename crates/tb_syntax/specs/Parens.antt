@@ -32,10 +32,10 @@ pub record IsEnclosed (kinds : List TokenKind) : Type 0 where
   pub all_close : right_parens kinds ≡ left_parens kinds
   pub open_between : (count : ℕ) → 0 < count → count < length kinds → right_parens (take count kinds) < left_parens (take count kinds)
 
--- The tokens from this place on are a parenthesis, tokens that spell the process, and the parenthesis that closes the first.
-pub record StandsInParens (place : ℕ) (p : Proc) (kinds : List TokenKind) : Type 0 where
+-- The tokens from this position on are a parenthesis, tokens that spell the process, and the parenthesis that closes the first.
+pub record StandsInParens (position : ℕ) (p : Proc) (kinds : List TokenKind) : Type 0 where
   pub inner : List TokenKind
   pub is : kinds ≡ in_parens inner
-  pub spells : SpellsProc level.Proc (place + 1) p inner
+  pub spells : SpellsProc level.Proc (position + 1) p inner
   pub is_balanced : IsBalanced inner
   pub is_enclosed : IsEnclosed kinds

@@ -1,4 +1,4 @@
--- Which lists of tokens spell a script: the grammar, one case a line. A construct stands at a place, that of its first token, counted from 0 in the script's tokens.
+-- Which lists of tokens spell a script: the grammar, one case a line. A construct stands at a position, that of its first token, counted from 0 in the script's tokens.
 use Rattle.std.specs.Prelude.{◌≡◌, ℕ, ◌+◌, ℤ, Bool, true, false, List, [], ◌∷◌, ◌++◌, length, map, Option, Some, None, codes}
 use Rattle.tb_terms.specs.declared.sort.Sort.{Sort}
 use Rattle.tb_terms.specs.declared.sort.Sort.TheVariants as sort
@@ -56,7 +56,7 @@ pub data IsSortWord : Sort → List ℕ → Type 0 where
   list : IsSortWord (sort.List sort.Any) (codes "list")
   term : IsSortWord sort.Any (codes "term")
 
--- sort = lower [ "(" sort ")" ], the parentheses behind `list` alone, and the place of the innermost name
+-- sort = lower [ "(" sort ")" ], the parentheses behind `list` alone, and the position of the innermost name
 pub data SpellsSort : ℕ → Sort → ℕ → List TokenKind → Type 0 where
   plain : {s : Sort} {name : List ℕ} (at : ℕ) → IsSortWord s name → SpellsSort at s at (word name)
   list_of : {at : ℕ} {s : Sort} {inner : ℕ} {ks : List TokenKind} → SpellsSort (at + 2) s inner ks
@@ -77,7 +77,7 @@ mutual
         → SpellsKind at (ast.List parts) (Sign LeftBracket ∷ (ks ++ Sign RightBracket ∷ []))
     hole : {s : Sort} {name : List ℕ} (at : ℕ) → IsSortWord s name → SpellsKind at (ast.Hole s) (Sign Less ∷ Lower name ∷ Sign Greater ∷ [])
 
-  -- the expression with its place
+  -- the expression with its position
   pub data SpellsExpr : ℕ → Ast → List TokenKind → Type 0 where
     expr : {at : ℕ} {kind : AstKind} {ks : List TokenKind} → SpellsKind at kind ks → SpellsExpr at (record { kind = kind; token = at }) ks
 
@@ -93,7 +93,7 @@ mutual
 
 -- call = Upper [ "(" expr { "," expr } ")" ]
 pub record SpellsCall (at : ℕ) (call : Call) (ks : List TokenKind) : Type 0 where
-  pub place : call.token ≡ at
+  pub position : call.token ≡ at
   pub actuals : List TokenKind
   pub are_actuals : SpellsArguments (at + 1) call.actuals actuals
   pub is : ks ≡ Upper call.name ∷ actuals
@@ -109,7 +109,7 @@ pub data SpellsAct : ℕ → ActDef → List TokenKind → Type 0 where
 
 -- time = ( "delay" | "timeout" | "abs-delay" | "abs-timeout" ) "(" expr ")"
 pub record SpellsTime (at : ℕ) (time : TimeDef) (ks : List TokenKind) : Type 0 where
-  pub place : time.token ≡ at
+  pub position : time.token ≡ at
   pub is_word : is_time_word time.name ≡ true
   pub value : List TokenKind
   pub is_value : SpellsExpr (at + 2) time.value value
@@ -117,7 +117,7 @@ pub record SpellsTime (at : ℕ) (time : TimeDef) (ks : List TokenKind) : Type 0
 
 -- atom { time }
 pub record SpellsAtom (at : ℕ) (atom : AtomDef) (ks : List TokenKind) : Type 0 where
-  pub place : atom.token ≡ at
+  pub position : atom.token ≡ at
   pub act : List TokenKind
   pub is_act : SpellsAct at atom.act act
   pub times : List TokenKind
@@ -126,7 +126,7 @@ pub record SpellsAtom (at : ℕ) (atom : AtomDef) (ks : List TokenKind) : Type 0
 
 -- Upper ":" sort
 pub record SpellsVar (at : ℕ) (var : Var) (ks : List TokenKind) : Type 0 where
-  pub place : var.token ≡ at
+  pub position : var.token ≡ at
   pub sort : List TokenKind
   pub is_sort : SpellsSort (at + 2) var.sort var.sort_token sort
   pub is : ks ≡ Upper var.name ∷ Sign Colon ∷ sort
@@ -175,14 +175,14 @@ mark false = []
 
 -- formal = Upper ":" sort [ "?" ]
 pub record SpellsFormal (at : ℕ) (formal : Formal) (ks : List TokenKind) : Type 0 where
-  pub place : formal.token ≡ at
+  pub position : formal.token ≡ at
   pub sort : List TokenKind
   pub is_sort : SpellsSort (at + 2) formal.sort formal.sort_token sort
   pub is : ks ≡ Upper formal.name ∷ Sign Colon ∷ (sort ++ mark formal.result)
 
 -- procdef = "process" Upper [ "(" formal { "," formal } ")" ] "is" proc
 pub record SpellsProcDef (at : ℕ) (definition : ProcDef) (ks : List TokenKind) : Type 0 where
-  pub place : definition.token ≡ at
+  pub position : definition.token ≡ at
   pub formals : List TokenKind
   pub are_formals : InParens SpellsFormal (at + 2) definition.formals formals
   pub body : List TokenKind
@@ -196,7 +196,7 @@ command_tokens (Some command) = Lower (codes "command") ∷ Sign Equals ∷ Str 
 
 -- tooldef = "tool" lower "is" "{" [ "command" "=" string ] "}"
 pub record SpellsToolDef (at : ℕ) (definition : ToolDef) (ks : List TokenKind) : Type 0 where
-  pub place : definition.token ≡ at
+  pub position : definition.token ≡ at
   pub is_name : is_free definition.name ≡ true
   pub is : ks ≡ Lower (codes "tool") ∷ Lower definition.name ∷ Lower (codes "is") ∷ Sign LeftBrace ∷ (command_tokens definition.command ++ Sign RightBrace ∷ [])
 
@@ -221,6 +221,6 @@ pub record Spells (script : Script) (ks : List TokenKind) : Type 0 where
   pub are_roots : SpellsRoots (length definitions + 2) script.roots roots
   pub is : ks ≡ definitions ++ Lower (codes "toolbus") ∷ in_parens roots
 
--- what the tokens are, without their places in the text
+-- what the tokens are, without their positions in the text
 abbrev pub kinds_of : List Token → List TokenKind
 kinds_of tokens = map (λ (token : Token). token.kind) tokens

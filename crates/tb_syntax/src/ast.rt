@@ -1,6 +1,6 @@
 use tb_terms::{Ident, Items, Name, Sort, Text};
 
-/// An expression as a script writes it, with the place of its first token.
+/// An expression as a script writes it, with the position of its first token.
 #[derive(Debug, Drop)]
 #[cycle(ast)]
 pub struct Ast {

@@ -112,8 +112,8 @@ pub(crate) fn push_vars(
 ) -> Result<(), NoMemory>
     ensures { OnOk result (into.new ≡ into.old ++ parted (map var_tokens vars.now)) }
 {
-    for (place, var) in vars.iter().enumerate() {
-        push_comma(place, into)?;
+    for (position, var) in vars.iter().enumerate() {
+        push_comma(position, into)?;
         push_var(alloc, var, into)?;
     }
     Ok(())

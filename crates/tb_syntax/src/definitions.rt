@@ -114,8 +114,8 @@ fn push_parted_formals(
 ) -> Result<(), NoMemory>
     ensures { OnOk result (into.new ≡ into.old ++ parted (map formal_tokens formals.now)) }
 {
-    for (place, formal) in formals.iter().enumerate() {
-        push_comma(place, into)?;
+    for (position, formal) in formals.iter().enumerate() {
+        push_comma(position, into)?;
         push_formal(alloc, formal, into)?;
     }
     Ok(())
@@ -154,8 +154,8 @@ fn push_roots(alloc: Global, roots: &[Call], into: &mut Items<TokenKind>) -> Res
 fn push_calls(alloc: Global, calls: &[Call], into: &mut Items<TokenKind>) -> Result<(), NoMemory>
     ensures { OnOk result (into.new ≡ into.old ++ parted (map call_tokens calls.now)) }
 {
-    for (place, call) in calls.iter().enumerate() {
-        push_comma(place, into)?;
+    for (position, call) in calls.iter().enumerate() {
+        push_comma(position, into)?;
         push_call(alloc, call, into)?;
     }
     Ok(())

@@ -122,8 +122,8 @@ fn push_list(alloc: Global, parts: &[Ast], into: &mut Items<TokenKind>) -> Resul
 fn push_parted(alloc: Global, parts: &[Ast], into: &mut Items<TokenKind>) -> Result<(), NoMemory>
     ensures { OnOk result (into.new ≡ into.old ++ parted (map expr_tokens parts.now)) }
 {
-    for (place, part) in parts.iter().enumerate() {
-        push_comma(place, into)?;
+    for (position, part) in parts.iter().enumerate() {
+        push_comma(position, into)?;
         push_expr(alloc, part, into)?;
     }
     Ok(())

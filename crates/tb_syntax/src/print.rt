@@ -10,7 +10,7 @@ use tb_terms::NoMemory;
 
 /// The text of a script: its tools, its processes and its roots, each on a line of its own, with
 /// parentheses only where the grammar needs them. Reading it gives the script back but for the
-/// places of its tokens.
+/// positions of its tokens.
 pub fn print_script(alloc: Global, script: &Script) -> Result<Vec<u8>, NoMemory>
     requires { IsSpelt script.now }
     ensures { IfOk result (λ text. IsPrintOf script.now text.items) }

@@ -96,7 +96,7 @@ pub(crate) fn push_proc(
     }
 }
 
-/// Two processes with an operator between them, in parentheses where the place wants them.
+/// Two processes with an operator between them, in parentheses where the position wants them.
 #[cycle(procs)]
 fn push_placed(
     alloc: Global,

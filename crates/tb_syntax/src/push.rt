@@ -51,11 +51,11 @@ pub(crate) fn push_ident(
     Ok(())
 }
 
-/// The comma before what stands at this place of a list.
-pub(crate) fn push_comma(place: usize, into: &mut Items<TokenKind>) -> Result<(), NoMemory>
-    ensures { OnOk result (into.new ≡ into.old ++ comma_before place) }
+/// The comma before what stands at this position of a list.
+pub(crate) fn push_comma(position: usize, into: &mut Items<TokenKind>) -> Result<(), NoMemory>
+    ensures { OnOk result (into.new ≡ into.old ++ comma_before position) }
 {
-    if place > 0 {
+    if position > 0 {
         push_symbol(Symbol::Comma, into)?;
     }
     Ok(())

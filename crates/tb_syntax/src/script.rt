@@ -39,7 +39,7 @@ pub struct ToolDef {
 /// Declarations of tools in their order.
 pub type ToolDefs = Items<ToolDef>;
 
-/// A script: what it defines, and the processes with which it starts. Each `token` is the place of
+/// A script: what it defines, and the processes with which it starts. Each `token` is the position of
 /// the construct's first token in the script's tokens, counted from 0.
 #[derive(Debug, Drop)]
 pub struct Script {

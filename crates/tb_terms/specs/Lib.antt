@@ -1,4 +1,4 @@
-pub mod Fronts
+pub mod Prefixes
 pub mod Names
 pub mod Proper
 pub mod Same

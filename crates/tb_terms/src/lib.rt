@@ -10,11 +10,11 @@ mod name;
 mod pattern;
 mod proper;
 mod sort;
-mod sorted;
 mod term;
 #[cfg(test)]
 mod tests;
 mod text;
+mod well_sorted;
 mod write;
 
 pub use expr::{Expr, Exprs, Func, copy_exprs};
@@ -25,8 +25,8 @@ pub use name::{Name, Names, is_name_bytes};
 pub use pattern::{Pattern, Patterns, copy_patterns, same_pattern_lists};
 pub use proper::show_proper;
 pub use sort::{Sort, Sorts};
-pub use sorted::{has_sort, initial};
 pub use sqlite_items::{Boxed, Items};
 pub use term::{Term, Terms, copy_terms, same, same_terms};
 pub use text::{Text, Texts};
+pub use well_sorted::{has_sort, initial};
 pub use write::{push_quoted, write_term, write_terms};

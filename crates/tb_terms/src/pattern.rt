@@ -101,7 +101,7 @@ fn is_result(slot: u32, sort: &Sort, pattern: &Pattern) -> bool
     ensures { IsTrue result ↔ (Pattern.Result slot sort.now ≡ pattern.now) }
 {
     match pattern {
-        Pattern::Result(place, other) => *place == slot && sort.is_same(other),
+        Pattern::Result(position, other) => *position == slot && sort.is_same(other),
         _ => false,
     }
 }
@@ -135,8 +135,8 @@ fn same_all(a: &[Pattern], b: &[Pattern]) -> bool
     if a.len() != b.len() {
         return false;
     }
-    for (place, pattern) in a.iter().enumerate() {
-        if !pattern.is_same(&b[place]) {
+    for (position, pattern) in a.iter().enumerate() {
+        if !pattern.is_same(&b[position]) {
             return false;
         }
     }

@@ -117,8 +117,8 @@ fn same_all(a: &[Term], b: &[Term]) -> bool
     if a.len() != b.len() {
         return false;
     }
-    for (place, term) in a.iter().enumerate() {
-        if !same(term, &b[place]) {
+    for (position, term) in a.iter().enumerate() {
+        if !same(term, &b[position]) {
             return false;
         }
     }

@@ -2,7 +2,7 @@ ghost use Rattle.std.specs.Prelude.{◌≡◌, ◌++◌, [], ◌∷◌, OnOk, On
 ghost use Rattle.std.specs.List.{flat_map};
 ghost use Rattle.std.specs.Fmt.{signed_decimal};
 ghost use Rattle.tb_terms.specs.Texts.{term_text, terms_text, quoted, escaped, escape_letter, appl_text, list_text, joined};
-ghost use Rattle.tb_terms.specs.Fronts.{KeepsFront, comma_before};
+ghost use Rattle.tb_terms.specs.Prefixes.{KeepsPrefix, comma_before};
 
 use crate::{NoMemory, Term, Terms};
 use itoa::Buffer;
@@ -40,7 +40,7 @@ pub fn write_terms(terms: &Terms, into: &mut Vec<u8>) -> Result<(), NoMemory>
 #[cycle(push)]
 fn push_term(term: &Term, into: &mut Vec<u8>) -> Result<(), NoMemory>
     ensures ok { OnOk result (into.new.items ≡ into.old.items ++ term_text term.now) }
-    ensures err { OnErr result (KeepsFront into.old.items into.new.items) }
+    ensures err { OnErr result (KeepsPrefix into.old.items into.new.items) }
 {
     match term {
         Term::Int(number) => push_number(*number, into),
@@ -53,7 +53,7 @@ fn push_term(term: &Term, into: &mut Vec<u8>) -> Result<(), NoMemory>
 #[cycle(push)]
 fn push_appl(name: &[u8], parts: &[Term], into: &mut Vec<u8>) -> Result<(), NoMemory>
     ensures ok { OnOk result (into.new.items ≡ into.old.items ++ appl_text name.now (map term_text parts.now)) }
-    ensures err { OnErr result (KeepsFront into.old.items into.new.items) }
+    ensures err { OnErr result (KeepsPrefix into.old.items into.new.items) }
 {
     into.extend_from_slice(name)?;
     if parts.is_empty() {
@@ -68,7 +68,7 @@ fn push_appl(name: &[u8], parts: &[Term], into: &mut Vec<u8>) -> Result<(), NoMe
 #[cycle(push)]
 fn push_list(parts: &[Term], into: &mut Vec<u8>) -> Result<(), NoMemory>
     ensures ok { OnOk result (into.new.items ≡ into.old.items ++ list_text (map term_text parts.now)) }
-    ensures err { OnErr result (KeepsFront into.old.items into.new.items) }
+    ensures err { OnErr result (KeepsPrefix into.old.items into.new.items) }
 {
     into.push(b'[')?;
     push_joined(parts, into)?;
@@ -79,21 +79,21 @@ fn push_list(parts: &[Term], into: &mut Vec<u8>) -> Result<(), NoMemory>
 #[cycle(push)]
 fn push_joined(terms: &[Term], into: &mut Vec<u8>) -> Result<(), NoMemory>
     ensures ok { OnOk result (into.new.items ≡ into.old.items ++ joined (map term_text terms.now)) }
-    ensures err { OnErr result (KeepsFront into.old.items into.new.items) }
+    ensures err { OnErr result (KeepsPrefix into.old.items into.new.items) }
 {
-    for (place, term) in terms.iter().enumerate() {
-        push_comma(place, into)?;
+    for (position, term) in terms.iter().enumerate() {
+        push_comma(position, into)?;
         push_term(term, into)?;
     }
     Ok(())
 }
 
-/// The comma before the text at this place of a list.
-fn push_comma(place: usize, into: &mut Vec<u8>) -> Result<(), NoMemory>
-    ensures ok { OnOk result (into.new.items ≡ into.old.items ++ comma_before place) }
+/// The comma before the text at this position of a list.
+fn push_comma(position: usize, into: &mut Vec<u8>) -> Result<(), NoMemory>
+    ensures ok { OnOk result (into.new.items ≡ into.old.items ++ comma_before position) }
     ensures err { OnErr result (into.new.items ≡ into.old.items) }
 {
-    if place > 0 {
+    if position > 0 {
         into.push(b',')?;
     }
     Ok(())
@@ -111,7 +111,7 @@ fn push_number(number: i64, into: &mut Vec<u8>) -> Result<(), NoMemory>
 /// Writes a string at the end, in quotes. Where memory runs out, a part of it may stand there.
 pub fn push_quoted(text: &[u8], into: &mut Vec<u8>) -> Result<(), NoMemory>
     ensures ok { OnOk result (into.new.items ≡ into.old.items ++ quoted text.now) }
-    ensures err { OnErr result (KeepsFront into.old.items into.new.items) }
+    ensures err { OnErr result (KeepsPrefix into.old.items into.new.items) }
 {
     into.push(b'"')?;
     push_escaped(text, into)?;
@@ -121,7 +121,7 @@ pub fn push_quoted(text: &[u8], into: &mut Vec<u8>) -> Result<(), NoMemory>
 
 fn push_escaped(text: &[u8], into: &mut Vec<u8>) -> Result<(), NoMemory>
     ensures ok { OnOk result (into.new.items ≡ into.old.items ++ flat_map escaped text.now) }
-    ensures err { OnErr result (KeepsFront into.old.items into.new.items) }
+    ensures err { OnErr result (KeepsPrefix into.old.items into.new.items) }
 {
     for byte in text {
         push_byte(*byte, into)?;
@@ -131,7 +131,7 @@ fn push_escaped(text: &[u8], into: &mut Vec<u8>) -> Result<(), NoMemory>
 
 fn push_byte(byte: u8, into: &mut Vec<u8>) -> Result<(), NoMemory>
     ensures ok { OnOk result (into.new.items ≡ into.old.items ++ escaped byte) }
-    ensures err { OnErr result (KeepsFront into.old.items into.new.items) }
+    ensures err { OnErr result (KeepsPrefix into.old.items into.new.items) }
 {
     match letter_of(byte) {
         Some(letter) => {

@@ -6,4 +6,4 @@ mod checks;
 #[cfg(test)]
 mod expansions;
 #[cfg(test)]
-mod places;
+mod positions;

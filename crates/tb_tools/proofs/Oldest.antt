@@ -13,7 +13,7 @@ use Rattle.tb_tools.specs.First.{binds_at, NoneMatches, IsOldest}
 abbrev Events : Type 0
 Events = List (List Term)
 
--- it stands at the offset j of a queue whose first event stands at the place p
+-- it stands at the offset j of a queue whose first event stands at the position p
 abbrev IsFound : ℕ → List Pattern → Events → FoundEvent → Type 0
 IsFound p ps events found = (j : ℕ) × (found.place ≡ p + j) × (binds_at ps events j ≡ Some found.binds) × ((k : ℕ) → k < j → binds_at ps events k ≡ None)
 

@@ -13,7 +13,7 @@ with_lane-other lane other new bench l o apart =
 pub on_lane-others : (change : Lane → Lane) → OthersStay (on_lane change)
 on_lane-others change lane other bench l o apart = with_lane-other lane other (change (lane_at lane bench)) bench l o apart
 
--- the element at one place after a write to another or the same
+-- the element at one position after a write to another or the same
 set-or : {A : Type 0} (xs : List A) (i k : ℕ) (new d : A) → (get_or (set xs i new) k d ≡ get_or xs k d) ⊎ ((get_or (set xs i new) k d ≡ new) × (k ≡ i))
 set-or [] i k new d = inl refl
 set-or (x ∷ xs) zero zero new d = inr (refl, refl)

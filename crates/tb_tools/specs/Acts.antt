@@ -44,7 +44,7 @@ received_of (Some tool) = tool.received
 abbrev pub received_at : ℕ → BenchState → List (List Term)
 received_at lane bench = received_of (tool_at lane bench)
 
--- the event at this place
+-- the event at this position
 abbrev pub event_at : ℕ → List (List Term) → List Term
 event_at place events = slice_index_or events place []
 
@@ -118,7 +118,7 @@ can_do = can_eval
 abbrev pub told : Term → ℕ → BenchState → BenchState
 told term = on_lane (with_out (tool_line (codes "rec-do") (term ∷ [])))
 
--- a tool is live or leaving, and an event waits at this place
+-- a tool is live or leaving, and an event waits at this position
 abbrev pub can_take_event : ℕ → ℕ → BenchState → Bool
 can_take_event place lane bench = is_taken_at lane bench && nat_lt place (length (events_at lane bench))
 
@@ -129,11 +129,11 @@ with_received place = on_tool (λ tool. record tool { events = remove tool.event
 abbrev pub event_taken : ℕ → ℕ → BenchState → BenchState
 event_taken place = on_lane (with_received place)
 
--- a tool is live, and an event at this place was received
+-- a tool is live, and an event at this position was received
 abbrev pub can_ack : ℕ → ℕ → BenchState → Bool
 can_ack place lane bench = is_live_at lane bench && nat_lt place (length (received_at lane bench))
 
--- the line that acknowledges the event at this place
+-- the line that acknowledges the event at this position
 abbrev pub acknowledgement : ℕ → Tool → Out
 acknowledgement place tool = tool_line (codes "rec-ack-event") (event_at place tool.received)
 

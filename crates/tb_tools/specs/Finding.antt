@@ -55,7 +55,7 @@ abbrev pub found_or : ℕ → Option (List Bind) → Option FoundEvent → Optio
 found_or place None later = later
 found_or place (Some binds) later = Some (record { place = place; binds = binds })
 
--- the first of these events that matches, and what it binds; the first of them stands at this place
+-- the first of these events that matches, and what it binds; the first of them stands at this position
 abbrev pub first_match : ℕ → List Pattern → List (List Term) → Option FoundEvent
 first_match place patterns [] = None
 first_match place patterns (event ∷ events) = found_or place (match_list patterns event) (first_match (place + 1) patterns events)
@@ -64,7 +64,7 @@ first_match place patterns (event ∷ events) = found_or place (match_list patte
 abbrev pub oldest_event : List Pattern → ℕ → BenchState → Option FoundEvent
 oldest_event patterns lane bench = first_match 0 patterns (events_at lane bench)
 
--- The place of the oldest event that was received on this lane with just these terms.
+-- The position of the oldest event that was received on this lane with just these terms.
 abbrev pub oldest_received : List Term → ℕ → BenchState → Option ℕ
 oldest_received terms lane bench = position_from (is_same_terms terms) 0 (received_at lane bench)
 

@@ -39,7 +39,7 @@ HasSmallest name stage bench lane =
     × IsToolAt name stage bench lane tool
     × ((other : ℕ) (another : Tool) → IsToolAt name stage bench other another → tool.number ≤ another.number)
 
--- what the event at this place binds, none where none stands there or it doesn't match
+-- what the event at this position binds, none where none stands there or it doesn't match
 abbrev pub binds_at : List Pattern → List (List Term) → ℕ → Option (List Bind)
 binds_at patterns events place = option_and_then (match_list patterns) (slice_get events place)
 

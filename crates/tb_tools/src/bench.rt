@@ -242,7 +242,7 @@ impl Bench {
         }
     }
 
-    /// The place of the oldest event that was received on a lane with just these terms.
+    /// The position of the oldest event that was received on a lane with just these terms.
     pub fn find_received(&self, lane: u8, ts: &Terms) -> Option<usize>
         requires { IsLane lane }
         ensures place { result ≡ oldest_received ts.now lane self.now }
@@ -392,7 +392,7 @@ impl Bench {
         self.lanes[index_of(lane)].put(line)
     }
 
-    /// The event at this place is received.
+    /// The event at this position is received.
     pub fn event(&mut self, lane: u8, place: usize) -> Result<(), NoMemory>
         requires lane { IsLane lane }
         requires can { IsTrue (can_take_event place lane self.old) }
@@ -402,7 +402,7 @@ impl Bench {
         self.lanes[index_of(lane)].receive(place)
     }
 
-    /// The received event at this place is forgotten, and the tool is told.
+    /// The received event at this position is forgotten, and the tool is told.
     pub fn ack(&mut self, lane: u8, place: usize) -> Result<(), NoMemory>
         requires lane { IsLane lane }
         requires can { IsTrue (can_ack place lane self.old) }

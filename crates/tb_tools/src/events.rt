@@ -47,14 +47,14 @@ impl Events {
         self.queue.len()
     }
 
-    /// The event at this place, from 0.
+    /// The event at this position, from 0.
     pub fn get(&self, place: usize) -> Option<&Terms>
         ensures { option_copied result ≡ slice_get self.now place }
     {
         self.queue.get(place)
     }
 
-    /// The event at this place in memory of its own.
+    /// The event at this position in memory of its own.
     pub(crate) fn copy_at(&self, alloc: Global, place: usize) -> Result<Terms, NoMemory>
         requires { place < length self.now }
         ensures { IfOk result (λ copy. copy ≡ slice_index_or self.now place []) }
@@ -71,7 +71,7 @@ impl Events {
         Ok(())
     }
 
-    /// The event at this place leaves.
+    /// The event at this position leaves.
     pub(crate) fn remove(&mut self, place: usize) -> Terms
         requires { place < length self.old }
         ensures event { result ≡ slice_index_or self.old place [] }
@@ -83,7 +83,7 @@ impl Events {
         }
     }
 
-    /// The event at this place leaves, and stands last among the others.
+    /// The event at this position leaves, and stands last among the others.
     pub(crate) fn pass_on(&mut self, place: usize, others: &mut Events) -> Result<(), NoMemory>
         requires { place < length self.old }
         ensures left { OnOk result (self.new ≡ remove self.old place) }
@@ -110,7 +110,7 @@ impl Events {
         Ok(None)
     }
 
-    /// The place of the oldest event with just these terms.
+    /// The position of the oldest event with just these terms.
     pub(crate) fn position_of(&self, terms: &Terms) -> Option<usize>
         ensures place { result ≡ position_from (is_same_terms terms.now) 0 self.now }
         ensures within { IfSome result (λ place. place < length self.now) }

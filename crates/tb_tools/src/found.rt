@@ -3,7 +3,7 @@ ghost use Rattle.tb_tools.specs.Finding.{smaller};
 
 use tb_match::Binds;
 
-/// The event at this place matches, and this is what it binds.
+/// The event at this position matches, and this is what it binds.
 #[derive(Debug, Drop)]
 pub struct FoundEvent {
     pub place: usize,

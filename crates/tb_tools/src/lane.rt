@@ -262,7 +262,7 @@ impl LaneRow {
         }
     }
 
-    /// The event at this place is received.
+    /// The event at this position is received.
     pub fn receive(&mut self, place: usize) -> Result<(), NoMemory>
         requires { place < length (events_of self.old.tool) }
         ensures ok { OnOk result (self.new ≡ with_received place self.old) }
@@ -274,7 +274,7 @@ impl LaneRow {
         Ok(())
     }
 
-    /// The received event at this place is forgotten, and its tool is told.
+    /// The received event at this position is forgotten, and its tool is told.
     pub fn ack(&mut self, alloc: Global, place: usize) -> Result<(), NoMemory>
         requires { place < length (received_of self.old.tool) }
         ensures ok { OnOk result (self.new ≡ with_acknowledged place self.old) }

@@ -46,7 +46,7 @@ enum Call {
 
 /// A call, what it answered, what was handed out on the lane then and logged alike, and the state
 /// of the lane after that.
-struct Row(Call, &'static str, &'static [u8], LaneState);
+struct Expected(Call, &'static str, &'static [u8], LaneState);
 
 const PLUS: Spelt = Spelt::Name(b"plus", &[Spelt::Number(1), Spelt::Number(2)]);
 
@@ -267,12 +267,12 @@ fn handed_out(alloc: Global, bench: &mut Bench) -> Result<(Vec<u8>, Vec<u8>), No
 }
 
 /// How many rows hold, from the first on, on a bench that is started with these commands.
-fn rows_that_hold(alloc: Global, commands: &Texts, rows: &[Row]) -> Result<usize, NoMemory> {
+fn rows_that_hold(alloc: Global, commands: &Texts, rows: &[Expected]) -> Result<usize, NoMemory> {
     if commands.len() > 16 {
         return Ok(0);
     }
     let mut bench = Bench::new(alloc, commands)?;
-    for (place, Row(call, answer, outs, state)) in rows.iter().enumerate() {
+    for (place, Expected(call, answer, outs, state)) in rows.iter().enumerate() {
         let answered = make(alloc, &mut bench, call)?;
         let (given, logged) = handed_out(alloc, &mut bench)?;
         let handed = given.as_slice() == *outs && logged.as_slice() == *outs;
@@ -291,38 +291,38 @@ const SECOND: Spelt = Spelt::Name(b"e", &[Spelt::Number(2)]);
 
 const BUTTON: Spelt = Spelt::Name(b"button", &[PLUS]);
 
-static CALCULATOR: [Row; 11] = [
-    Row(
+static CALCULATOR: [Expected; 11] = [
+    Expected(
         Call::Execute(b"calc"),
         "done",
         b"start calc ",
         LaneState::Live,
     ),
-    Row(Call::Event(BUTTON), "took", b"", LaneState::Live),
-    Row(Call::Receive(b"quit", 0), "no event", b"", LaneState::Live),
-    Row(Call::Receive(b"button", 1), "done", b"", LaneState::Live),
-    Row(
+    Expected(Call::Event(BUTTON), "took", b"", LaneState::Live),
+    Expected(Call::Receive(b"quit", 0), "no event", b"", LaneState::Live),
+    Expected(Call::Receive(b"button", 1), "done", b"", LaneState::Live),
+    Expected(
         Call::Eval(PLUS),
         "done",
         b"rec-eval(plus(1,2)) ",
         LaneState::Live,
     ),
-    Row(Call::Value(Spelt::Number(3)), "took", b"", LaneState::Live),
-    Row(Call::Take, "done", b"", LaneState::Live),
-    Row(
+    Expected(Call::Value(Spelt::Number(3)), "took", b"", LaneState::Live),
+    Expected(Call::Take, "done", b"", LaneState::Live),
+    Expected(
         Call::Ack(BUTTON),
         "done",
         b"rec-ack-event(button(plus(1,2))) ",
         LaneState::Live,
     ),
-    Row(
+    Expected(
         Call::Event(Spelt::Name(b"quit", &[])),
         "took",
         b"",
         LaneState::Live,
     ),
-    Row(Call::Receive(b"quit", 0), "done", b"", LaneState::Live),
-    Row(
+    Expected(Call::Receive(b"quit", 0), "done", b"", LaneState::Live),
+    Expected(
         Call::Terminate(X),
         "done",
         b"rec-terminate(x) end ",
@@ -330,133 +330,133 @@ static CALCULATOR: [Row; 11] = [
     ),
 ];
 
-static UNASKED: [Row; 10] = [
-    Row(
+static UNASKED: [Expected; 10] = [
+    Expected(
         Call::Execute(b"calc"),
         "done",
         b"start calc ",
         LaneState::Live,
     ),
-    Row(
+    Expected(
         Call::Value(Spelt::Number(1)),
         "unasked",
         b"",
         LaneState::Live,
     ),
-    Row(Call::Eval(X), "done", b"rec-eval(x) ", LaneState::Live),
-    Row(Call::Eval(X), "no", b"", LaneState::Live),
-    Row(Call::Value(Spelt::Number(2)), "took", b"", LaneState::Live),
-    Row(
+    Expected(Call::Eval(X), "done", b"rec-eval(x) ", LaneState::Live),
+    Expected(Call::Eval(X), "no", b"", LaneState::Live),
+    Expected(Call::Value(Spelt::Number(2)), "took", b"", LaneState::Live),
+    Expected(
         Call::Value(Spelt::Number(3)),
         "unasked",
         b"",
         LaneState::Live,
     ),
-    Row(Call::Take, "done", b"", LaneState::Live),
-    Row(Call::Take, "no value", b"", LaneState::Live),
-    Row(
+    Expected(Call::Take, "done", b"", LaneState::Live),
+    Expected(Call::Take, "no value", b"", LaneState::Live),
+    Expected(
         Call::Down(Spelt::Name(b"finish", &[])),
         "done",
         b"rec-terminate(finish) end ",
         LaneState::Live,
     ),
-    Row(Call::Down(X), "done", b"", LaneState::Live),
+    Expected(Call::Down(X), "done", b"", LaneState::Live),
 ];
 
-static CUT: [Row; 7] = [
-    Row(Call::Execute(b"t"), "done", b"start t ", LaneState::Live),
-    Row(Call::Do(X), "done", b"rec-do(x) ", LaneState::Live),
-    Row(Call::Cut, "took", b"end ", LaneState::Leaving),
-    Row(Call::Disconnect, "not-live", b"", LaneState::Leaving),
-    Row(Call::Leave(b"t"), "done", b"", LaneState::Ending),
-    Row(Call::Gone, "took", b"", LaneState::Free),
-    Row(Call::Cut, "not-live", b"", LaneState::Free),
+static CUT: [Expected; 7] = [
+    Expected(Call::Execute(b"t"), "done", b"start t ", LaneState::Live),
+    Expected(Call::Do(X), "done", b"rec-do(x) ", LaneState::Live),
+    Expected(Call::Cut, "took", b"end ", LaneState::Leaving),
+    Expected(Call::Disconnect, "not-live", b"", LaneState::Leaving),
+    Expected(Call::Leave(b"t"), "done", b"", LaneState::Ending),
+    Expected(Call::Gone, "took", b"", LaneState::Free),
+    Expected(Call::Cut, "not-live", b"", LaneState::Free),
 ];
 
-static GONE: [Row; 12] = [
-    Row(
+static GONE: [Expected; 12] = [
+    Expected(
         Call::Execute(b"calc"),
         "done",
         b"start calc ",
         LaneState::Live,
     ),
-    Row(Call::Gone, "took", b"end ", LaneState::Leaving),
-    Row(Call::Gone, "not-live", b"", LaneState::Leaving),
-    Row(Call::Eval(X), "no", b"", LaneState::Leaving),
-    Row(Call::Leave(b"calc"), "done", b"", LaneState::Free),
-    Row(Call::Event(X), "not-live", b"", LaneState::Free),
-    Row(Call::Bad, "not-live", b"", LaneState::Free),
-    Row(
+    Expected(Call::Gone, "took", b"end ", LaneState::Leaving),
+    Expected(Call::Gone, "not-live", b"", LaneState::Leaving),
+    Expected(Call::Eval(X), "no", b"", LaneState::Leaving),
+    Expected(Call::Leave(b"calc"), "done", b"", LaneState::Free),
+    Expected(Call::Event(X), "not-live", b"", LaneState::Free),
+    Expected(Call::Bad, "not-live", b"", LaneState::Free),
+    Expected(
         Call::Execute(b"calc"),
         "done",
         b"start calc ",
         LaneState::Live,
     ),
-    Row(
+    Expected(
         Call::Terminate(Spelt::Number(0)),
         "done",
         b"rec-terminate(0) end ",
         LaneState::Ending,
     ),
-    Row(Call::Gone, "took", b"", LaneState::Free),
-    Row(
+    Expected(Call::Gone, "took", b"", LaneState::Free),
+    Expected(
         Call::Execute(b"calc"),
         "done",
         b"start calc ",
         LaneState::Live,
     ),
-    Row(Call::Event(X), "took", b"", LaneState::Live),
+    Expected(Call::Event(X), "took", b"", LaneState::Live),
 ];
 
-static CONNECTED: [Row; 12] = [
-    Row(Call::Bad, "bad", b"start k ", LaneState::Unnamed),
-    Row(Call::Value(X), "not-live", b"", LaneState::Unnamed),
-    Row(Call::Event(X), "not-live", b"", LaneState::Unnamed),
-    Row(Call::Disconnect, "not-live", b"", LaneState::Unnamed),
-    Row(
+static CONNECTED: [Expected; 12] = [
+    Expected(Call::Bad, "bad", b"start k ", LaneState::Unnamed),
+    Expected(Call::Value(X), "not-live", b"", LaneState::Unnamed),
+    Expected(Call::Event(X), "not-live", b"", LaneState::Unnamed),
+    Expected(Call::Disconnect, "not-live", b"", LaneState::Unnamed),
+    Expected(
         Call::Name(b"other", false),
         "stranger",
         b"",
         LaneState::Unnamed,
     ),
-    Row(Call::Name(b"ed", true), "took", b"", LaneState::Waiting),
-    Row(Call::Connect(b"ed"), "done", b"", LaneState::Live),
-    Row(Call::Do(X), "done", b"rec-do(x) ", LaneState::Live),
-    Row(Call::Name(b"ed", false), "named", b"", LaneState::Live),
-    Row(Call::Disconnect, "took", b"end ", LaneState::Leaving),
-    Row(Call::Leave(b"ed"), "done", b"", LaneState::Ending),
-    Row(Call::Name(b"ed", true), "not-live", b"", LaneState::Ending),
+    Expected(Call::Name(b"ed", true), "took", b"", LaneState::Waiting),
+    Expected(Call::Connect(b"ed"), "done", b"", LaneState::Live),
+    Expected(Call::Do(X), "done", b"rec-do(x) ", LaneState::Live),
+    Expected(Call::Name(b"ed", false), "named", b"", LaneState::Live),
+    Expected(Call::Disconnect, "took", b"end ", LaneState::Leaving),
+    Expected(Call::Leave(b"ed"), "done", b"", LaneState::Ending),
+    Expected(Call::Name(b"ed", true), "not-live", b"", LaneState::Ending),
 ];
 
-static FORGOTTEN: [Row; 5] = [
-    Row(
+static FORGOTTEN: [Expected; 5] = [
+    Expected(
         Call::Name(b"ed", true),
         "took",
         b"start k ",
         LaneState::Waiting,
     ),
-    Row(Call::Event(FIRST), "took", b"", LaneState::Waiting),
-    Row(Call::Receive(b"e", 1), "no", b"", LaneState::Waiting),
-    Row(Call::Gone, "took", b"end ", LaneState::Free),
-    Row(Call::Leave(b"ed"), "no tool", b"", LaneState::Free),
+    Expected(Call::Event(FIRST), "took", b"", LaneState::Waiting),
+    Expected(Call::Receive(b"e", 1), "no", b"", LaneState::Waiting),
+    Expected(Call::Gone, "took", b"end ", LaneState::Free),
+    Expected(Call::Leave(b"ed"), "no tool", b"", LaneState::Free),
 ];
 
-static OLDEST: [Row; 10] = [
-    Row(Call::Execute(b"t"), "done", b"start t ", LaneState::Live),
-    Row(Call::Event(FIRST), "took", b"", LaneState::Live),
-    Row(Call::Event(SECOND), "took", b"", LaneState::Live),
-    Row(Call::Receive(b"e", 1), "done", b"", LaneState::Live),
-    Row(Call::Ack(SECOND), "no event", b"", LaneState::Live),
-    Row(
+static OLDEST: [Expected; 10] = [
+    Expected(Call::Execute(b"t"), "done", b"start t ", LaneState::Live),
+    Expected(Call::Event(FIRST), "took", b"", LaneState::Live),
+    Expected(Call::Event(SECOND), "took", b"", LaneState::Live),
+    Expected(Call::Receive(b"e", 1), "done", b"", LaneState::Live),
+    Expected(Call::Ack(SECOND), "no event", b"", LaneState::Live),
+    Expected(
         Call::Ack(FIRST),
         "done",
         b"rec-ack-event(e(1)) ",
         LaneState::Live,
     ),
-    Row(Call::Ack(FIRST), "no event", b"", LaneState::Live),
-    Row(Call::Gone, "took", b"end ", LaneState::Leaving),
-    Row(Call::Receive(b"e", 1), "done", b"", LaneState::Leaving),
-    Row(Call::Ack(SECOND), "no", b"", LaneState::Leaving),
+    Expected(Call::Ack(FIRST), "no event", b"", LaneState::Live),
+    Expected(Call::Gone, "took", b"end ", LaneState::Leaving),
+    Expected(Call::Receive(b"e", 1), "done", b"", LaneState::Leaving),
+    Expected(Call::Ack(SECOND), "no", b"", LaneState::Leaving),
 ];
 
 #[test]

@@ -207,7 +207,7 @@ impl LaneTool {
         self.events.push(event)
     }
 
-    /// The event at this place is received.
+    /// The event at this position is received.
     pub fn receive(&mut self, place: usize) -> Result<(), NoMemory>
         requires { place < length self.old.events }
         ensures ok { OnOk result (self.new ≡ record self.old { events = remove self.old.events place; received = self.old.received ++ event_at place self.old.events ∷ [] }) }
@@ -216,7 +216,7 @@ impl LaneTool {
         self.events.pass_on(place, &mut self.received)
     }
 
-    /// The received event at this place is forgotten, and this line acknowledges it.
+    /// The received event at this position is forgotten, and this line acknowledges it.
     pub fn acknowledge(&mut self, alloc: Global, place: usize) -> Result<KeptOut, NoMemory>
         requires { place < length self.old.received }
         ensures line { IfOk result (λ line. line ≡ acknowledgement place self.old) }

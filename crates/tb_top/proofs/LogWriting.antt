@@ -1,8 +1,8 @@
 -- A log that is written line by line through a buffer.
 use Rattle.std.proofs.Common.{◌≡◌, ℕ, ◌+◌, ◌<◌, ◌≤◌, Option, List, [], ◌∷◌, ◌++◌, ap, sym, ◌∙◌, subst, append_assoc, length, get_or, drop}
 use Rattle.std.proofs.lemmas.List.{drop_more, drop_all}
-use Rattle.tb_edge.specs.Sinks.{Takes, TakesFront, Owes}
-use Rattle.tb_edge.proofs.Puts.{Owes-takes, Takes-owes, TakesFront-owes, TakesFront-owes_more, Owes-start}
+use Rattle.tb_edge.specs.Sinks.{Writes, WritesPrefix, Owes}
+use Rattle.tb_edge.proofs.Puts.{Owes-takes, Writes-owes, WritesPrefix-owes, WritesPrefix-owes_more, Owes-start}
 use Rattle.tb_log.specs.LogText.{log_text, log_text_from, entry_text}
 use Rattle.tb_log.specs.declared.entry.Entry.{Entry}
 
@@ -34,15 +34,15 @@ lines-put a b c log buffer rest index owed put =
     Owes-takes a b c (log_text log) put.put (rest ++ left) (subst (λ (bytes : List ℕ). Owes a b (log_text log) bytes) whole owed) put.takes
 
 -- a front of the buffer was put
-pub lines-front : (a b c : Option (List ℕ)) (log : List Entry) (buffer : List ℕ) (index : ℕ) → LinesOwed a b log buffer index → TakesFront b c buffer → TakesFront a c (log_text log)
-lines-front a b c log buffer index owed front = TakesFront-owes_more a b c (log_text log) buffer (log_text_from (index + 1) (drop index log)) owed front
+pub lines-prefix : (a b c : Option (List ℕ)) (log : List Entry) (buffer : List ℕ) (index : ℕ) → LinesOwed a b log buffer index → WritesPrefix b c buffer → WritesPrefix a c (log_text log)
+lines-prefix a b c log buffer index owed prefix = WritesPrefix-owes_more a b c (log_text log) buffer (log_text_from (index + 1) (drop index log)) owed prefix
 
 -- what was put so far is a front
-pub lines-stopped : (a b : Option (List ℕ)) (log : List Entry) (buffer : List ℕ) (index : ℕ) → LinesOwed a b log buffer index → TakesFront a b (log_text log)
-lines-stopped a b log buffer index owed = TakesFront-owes a b (log_text log) (buffer ++ log_text_from (index + 1) (drop index log)) owed
+pub lines-stopped : (a b : Option (List ℕ)) (log : List Entry) (buffer : List ℕ) (index : ℕ) → LinesOwed a b log buffer index → WritesPrefix a b (log_text log)
+lines-stopped a b log buffer index owed = WritesPrefix-owes a b (log_text log) (buffer ++ log_text_from (index + 1) (drop index log)) owed
 
 -- the last of the buffer was put
-pub lines-all : (a b c : Option (List ℕ)) (log : List Entry) (buffer : List ℕ) (index : ℕ) → length log ≤ index → LinesOwed a b log buffer index → Takes b c buffer → Takes a c (log_text log)
+pub lines-all : (a b c : Option (List ℕ)) (log : List Entry) (buffer : List ℕ) (index : ℕ) → length log ≤ index → LinesOwed a b log buffer index → Writes b c buffer → Writes a c (log_text log)
 lines-all a b c log buffer index past owed takes =
     let none : buffer ++ log_text_from (index + 1) (drop index log) ≡ buffer ++ [] = ap (λ (es : List Entry). buffer ++ log_text_from (index + 1) es) (drop_all index log past) in
-    Takes-owes a c (log_text log) (Owes-takes a b c (log_text log) buffer [] (subst (λ (bytes : List ℕ). Owes a b (log_text log) bytes) none owed) takes)
+    Writes-owes a c (log_text log) (Owes-takes a b c (log_text log) buffer [] (subst (λ (bytes : List ℕ). Owes a b (log_text log) bytes) none owed) takes)

@@ -2,7 +2,7 @@
 use Rattle.std.proofs.Common.{◌≡◌, ℕ, Option, List, [], ◌∷◌, ◌++◌, Result, Ok, Err, refl, ap, sym, ◌∙◌, subst, append_assoc, inl, inr}
 use Rattle.std.specs.Prelude.{option_to_list}
 use Rattle.tb_edge.specs.Faults.{Rose}
-use Rattle.tb_edge.specs.Sinks.{Takes, TakesFront}
+use Rattle.tb_edge.specs.Sinks.{Writes, WritesPrefix}
 use Rattle.tb_body.specs.declared.program.Program.{Program}
 use Rattle.tb_bus.specs.Buses.{start}
 use Rattle.tb_bus.specs.declared.origin.Origin.{Origin}
@@ -35,7 +35,7 @@ simulated steps origin inputs held name log last bytes is trace fed found = reco
 
 -- the log was put whole
 put-whole : (steps : ℕ) (origin : Origin) (inputs : List Input) (log : List Entry) (last : SimEnd) (old new : Option (List ℕ)) (status : Status) → IsSim (limits_of steps origin) (sim_start (start origin) inputs) log last → IsTrace (start origin) log →
-    Takes old new (log_text log) → status ≡ status_of_end last → OriginOutcome steps origin inputs old new status
+    Writes old new (log_text log) → status ≡ status_of_end last → OriginOutcome steps origin inputs old new status
 put-whole steps origin inputs log sim.Down old new status is trace takes e held name fed bytes found =
     subst (SimOutcome (record { held = held; feed = name; connects = origin.connects; steps = steps; events = origin.limit }) bytes old new) (sym e) (log, simulated steps origin inputs held name log sim.Down bytes is trace fed found, takes)
 put-whole steps origin inputs log sim.Steps old new status is trace takes e held name fed bytes found =
@@ -47,10 +47,10 @@ put-whole steps origin inputs log sim.Events old new status is trace takes e hel
 pub log-written : (steps : ℕ) (origin : Origin) (inputs : List Input) (log : List Entry) (last : SimEnd) (old new : Option (List ℕ)) (status : Status) → IsSim (limits_of steps origin) (sim_start (start origin) inputs) log last → IsTrace (start origin) log →
     WritesLog log last old new status → OriginOutcome steps origin inputs old new status
 log-written steps origin inputs log last old new status is trace (inl whole) held name fed bytes found = put-whole steps origin inputs log last old new status is trace whole.1 whole.0 held name fed bytes found
-log-written steps origin inputs log last old new status is trace (inr (inl e, front)) held name fed bytes found =
-    subst (SimOutcome (record { held = held; feed = name; connects = origin.connects; steps = steps; events = origin.limit }) bytes old new) (sym e) (log, last, simulated steps origin inputs held name log last bytes is trace fed found, front)
-log-written steps origin inputs log last old new status is trace (inr (inr e, front)) held name fed bytes found =
-    subst (SimOutcome (record { held = held; feed = name; connects = origin.connects; steps = steps; events = origin.limit }) bytes old new) (sym e) (inr (log, last, simulated steps origin inputs held name log last bytes is trace fed found, front))
+log-written steps origin inputs log last old new status is trace (inr (inl e, prefix)) held name fed bytes found =
+    subst (SimOutcome (record { held = held; feed = name; connects = origin.connects; steps = steps; events = origin.limit }) bytes old new) (sym e) (log, last, simulated steps origin inputs held name log last bytes is trace fed found, prefix)
+log-written steps origin inputs log last old new status is trace (inr (inr e, prefix)) held name fed bytes found =
+    subst (SimOutcome (record { held = held; feed = name; connects = origin.connects; steps = steps; events = origin.limit }) bytes old new) (sym e) (inr (log, last, simulated steps origin inputs held name log last bytes is trace fed found, prefix))
 
 -- a feed that isn't read ends the work on a program
 pub unread : (run : Run) (bytes : List ℕ) (program : Program) (told : Option (List ℕ)) (status : Status) → IsUnread run.held run.feed status → IsFound bytes (Program' program) → SimOutcome run bytes told told status
@@ -176,13 +176,13 @@ asks-reported asked held old new given told more NoMemory h r = subst (AsksFor a
 pub reported : (comes : Status → Type 0) (given : Status) (old new : Option (List ℕ)) (status : Status) → comes given → Reports given old new status → Reported comes old new status
 reported comes given old new Ended p r = (subst comes r.0 p, r.1)
 reported comes given old new (Outside edge.Err) p r = (given, p, r.0, r.1)
-reported comes given old new (Outside edge.File) p r = (subst comes r.0 p, subst (λ (s : Status). Takes old new (status_line s)) r.0 r.1)
-reported comes given old new (Outside edge.Out) p r = (subst comes r.0 p, subst (λ (s : Status). Takes old new (status_line s)) r.0 r.1)
-reported comes given old new (Script fault) p r = (subst comes r.0 p, subst (λ (s : Status). Takes old new (status_line s)) r.0 r.1)
-reported comes given old new (Feed fault) p r = (subst comes r.0 p, subst (λ (s : Status). Takes old new (status_line s)) r.0 r.1)
-reported comes given old new (Words fault) p r = (subst comes r.0 p, subst (λ (s : Status). Takes old new (status_line s)) r.0 r.1)
-reported comes given old new (Limit bound) p r = (subst comes r.0 p, subst (λ (s : Status). Takes old new (status_line s)) r.0 r.1)
-reported comes given old new NoMemory p r = (subst comes r.0 p, subst (λ (s : Status). Takes old new (status_line s)) r.0 r.1)
+reported comes given old new (Outside edge.File) p r = (subst comes r.0 p, subst (λ (s : Status). Writes old new (status_line s)) r.0 r.1)
+reported comes given old new (Outside edge.Out) p r = (subst comes r.0 p, subst (λ (s : Status). Writes old new (status_line s)) r.0 r.1)
+reported comes given old new (Script fault) p r = (subst comes r.0 p, subst (λ (s : Status). Writes old new (status_line s)) r.0 r.1)
+reported comes given old new (Feed fault) p r = (subst comes r.0 p, subst (λ (s : Status). Writes old new (status_line s)) r.0 r.1)
+reported comes given old new (Words fault) p r = (subst comes r.0 p, subst (λ (s : Status). Writes old new (status_line s)) r.0 r.1)
+reported comes given old new (Limit bound) p r = (subst comes r.0 p, subst (λ (s : Status). Writes old new (status_line s)) r.0 r.1)
+reported comes given old new NoMemory p r = (subst comes r.0 p, subst (λ (s : Status). Writes old new (status_line s)) r.0 r.1)
 
 -- the counts of faults that a status names rose
 pub caused : (files_old files_new out_old out_new : ℕ) (status : Status) → (status ≡ Outside edge.File → Rose files_old files_new) → (status ≡ Outside edge.Out → Rose out_old out_new) → IsCaused files_old files_new out_old out_new status

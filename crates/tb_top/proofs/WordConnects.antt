@@ -50,60 +50,60 @@ events-kept found after (Ok events) e = same-count (record found { events = Some
 events-kept found after (Err f) e = cc
 
 -- an option of `sim` that isn't this one
-named-kept : (found after : Found) (place : ℕ) (value : Option (List ℕ)) (steps events feed connect : Bool) → connect ≡ false →
-    ◌≡◌ {A = Result Found WordFault} (if steps then and_steps found (limit_by found.steps place value) else (if events then and_events found (limit_by found.events place value) else (if feed then and_feed found (feed_by found.feed place value) else (if connect then and_connects found (connect_by found.connects place value) else Err (fault.Unknown place))))) (Ok after) → after.connects ≡ found.connects
-named-kept found after place value true events feed connect other e = steps-kept found after (limit_by found.steps place value) e
-named-kept found after place value false true feed connect other e = events-kept found after (limit_by found.events place value) e
-named-kept found after place value false false true connect other e = feed-kept found after (feed_by found.feed place value) e
-named-kept found after place value false false false true other e = cc
-named-kept found after place value false false false false other e = cc
+named-kept : (found after : Found) (position : ℕ) (value : Option (List ℕ)) (steps events feed connect : Bool) → connect ≡ false →
+    ◌≡◌ {A = Result Found WordFault} (if steps then and_steps found (limit_by found.steps position value) else (if events then and_events found (limit_by found.events position value) else (if feed then and_feed found (feed_by found.feed position value) else (if connect then and_connects found (connect_by found.connects position value) else Err (fault.Unknown position))))) (Ok after) → after.connects ≡ found.connects
+named-kept found after position value true events feed connect other e = steps-kept found after (limit_by found.steps position value) e
+named-kept found after position value false true feed connect other e = events-kept found after (limit_by found.events position value) e
+named-kept found after position value false false true connect other e = feed-kept found after (feed_by found.feed position value) e
+named-kept found after position value false false false true other e = cc
+named-kept found after position value false false false false other e = cc
 
-own-kept : (v : Verb) (found after : Found) (place : ℕ) (name : List ℕ) (value : Option (List ℕ)) → is_connect name ≡ false → own_option_by v found place name value ≡ Ok after → after.connects ≡ found.connects
-own-kept verb.Check found after place name value other e = cc
-own-kept verb.Sim found after place name value other e = named-kept found after place value (bytes_eq name (codes "--steps")) (bytes_eq name (codes "--events")) (bytes_eq name (codes "--feed")) (is_connect name) other e
+own-kept : (v : Verb) (found after : Found) (position : ℕ) (name : List ℕ) (value : Option (List ℕ)) → is_connect name ≡ false → own_option_by v found position name value ≡ Ok after → after.connects ≡ found.connects
+own-kept verb.Check found after position name value other e = cc
+own-kept verb.Sim found after position name value other e = named-kept found after position value (bytes_eq name (codes "--steps")) (bytes_eq name (codes "--events")) (bytes_eq name (codes "--feed")) (is_connect name) other e
 
-option-kept : (v : Verb) (found after : Found) (place : ℕ) (name : List ℕ) (value : Option (List ℕ)) (unbuilt : Bool) → is_connect name ≡ false →
-    ◌≡◌ {A = Result Found WordFault} (if unbuilt then Err (fault.NotBuilt place) else own_option_by v found place name value) (Ok after) → after.connects ≡ found.connects
-option-kept v found after place name value true other e = cc
-option-kept v found after place name value false other e = own-kept v found after place name value other e
+option-kept : (v : Verb) (found after : Found) (position : ℕ) (name : List ℕ) (value : Option (List ℕ)) (unbuilt : Bool) → is_connect name ≡ false →
+    ◌≡◌ {A = Result Found WordFault} (if unbuilt then Err (fault.NotBuilt position) else own_option_by v found position name value) (Ok after) → after.connects ≡ found.connects
+option-kept v found after position name value true other e = cc
+option-kept v found after position name value false other e = own-kept v found after position name value other e
 
 -- this option, by whether there are too many already
-counted-text : (found after : Found) (place : ℕ) (value : List ℕ) (full text : Bool) → nat_le most_connects found.connects ≡ full → is_text value ≡ text →
-    and_connects found (if full then Err (fault.Range place) else (if text then Ok (found.connects + 1) else Err (fault.Unknown (place + 1)))) ≡ Ok after → Connects found after (value ∷ [])
-counted-text found after place value true text fills is e = cc
-counted-text found after place value false true fills is e =
+counted-text : (found after : Found) (position : ℕ) (value : List ℕ) (full text : Bool) → nat_le most_connects found.connects ≡ full → is_text value ≡ text →
+    and_connects found (if full then Err (fault.Range position) else (if text then Ok (found.connects + 1) else Err (fault.Unknown (position + 1)))) ≡ Ok after → Connects found after (value ∷ [])
+counted-text found after position value true text fills is e = cc
+counted-text found after position value false true fills is e =
     let same = same-count (record found { connects = found.connects + 1 }) after e in
     let few : found.connects + 1 ≤ most_connects = omega (arith, leb-false most_connects found.connects fills) in
     record { text = ap (λ (b : Bool). b && true) is; count = same; few = λ before. omega (arith, same, few) }
-counted-text found after place value false false fills is e = cc
+counted-text found after position value false false fills is e = cc
 
-counted-none : (found after : Found) (place : ℕ) (full : Bool) → ◌≡◌ {A = Result Found WordFault} (and_connects found (if full then Err (fault.Range place) else Err fault.Missing)) (Ok after) → ⊥
-counted-none found after place true e = absurd cc
-counted-none found after place false e = absurd cc
+counted-none : (found after : Found) (position : ℕ) (full : Bool) → ◌≡◌ {A = Result Found WordFault} (and_connects found (if full then Err (fault.Range position) else Err fault.Missing)) (Ok after) → ⊥
+counted-none found after position true e = absurd cc
+counted-none found after position false e = absurd cc
 
-connected : (v : Verb) (found after : Found) (place : ℕ) (value : List ℕ) → option_by v found place (codes "--connect") (Some value) ≡ Ok after → Connects found after (value ∷ [])
-connected verb.Check found after place value e = cc
-connected verb.Sim found after place value e = counted-text found after place value (nat_le most_connects found.connects) (is_text value) refl refl e
+connected : (v : Verb) (found after : Found) (position : ℕ) (value : List ℕ) → option_by v found position (codes "--connect") (Some value) ≡ Ok after → Connects found after (value ∷ [])
+connected verb.Check found after position value e = cc
+connected verb.Sim found after position value e = counted-text found after position value (nat_le most_connects found.connects) (is_text value) refl refl e
 
-unconnected : (v : Verb) (found after : Found) (place : ℕ) → option_by v found place (codes "--connect") None ≡ Ok after → ⊥
-unconnected verb.Check found after place e = absurd cc
-unconnected verb.Sim found after place e = counted-none found after place (nat_le most_connects found.connects) e
+unconnected : (v : Verb) (found after : Found) (position : ℕ) → option_by v found position (codes "--connect") None ≡ Ok after → ⊥
+unconnected verb.Check found after position e = absurd cc
+unconnected verb.Sim found after position e = counted-none found after position (nat_le most_connects found.connects) e
 
-option-connects : (v : Verb) (found after : Found) (place : ℕ) (name value : List ℕ) (connect : Bool) → is_connect name ≡ connect → option_by v found place name (Some value) ≡ Ok after →
+option-connects : (v : Verb) (found after : Found) (position : ℕ) (name value : List ℕ) (connect : Bool) → is_connect name ≡ connect → option_by v found position name (Some value) ≡ Ok after →
     Connects found after (if connect then value ∷ [] else [])
-option-connects v found after place name value true is e =
-    connected v found after place value (subst (λ (n : List ℕ). option_by v found place n (Some value) ≡ Ok after) (connect-is name is) e)
-option-connects v found after place name value false is e = none found after (option-kept v found after place name (Some value) (is_unbuilt name) is e)
+option-connects v found after position name value true is e =
+    connected v found after position value (subst (λ (n : List ℕ). option_by v found position n (Some value) ≡ Ok after) (connect-is name is) e)
+option-connects v found after position name value false is e = none found after (option-kept v found after position name (Some value) (is_unbuilt name) is e)
 
-bare-connects : (v : Verb) (found after : Found) (place : ℕ) (name : List ℕ) (connect : Bool) → is_connect name ≡ connect → option_by v found place name None ≡ Ok after → Connects found after []
-bare-connects v found after place name true is e =
-    absurd (unconnected v found after place (subst (λ (n : List ℕ). option_by v found place n None ≡ Ok after) (connect-is name is) e))
-bare-connects v found after place name false is e = none found after (option-kept v found after place name None (is_unbuilt name) is e)
+bare-connects : (v : Verb) (found after : Found) (position : ℕ) (name : List ℕ) (connect : Bool) → is_connect name ≡ connect → option_by v found position name None ≡ Ok after → Connects found after []
+bare-connects v found after position name true is e =
+    absurd (unconnected v found after position (subst (λ (n : List ℕ). option_by v found position n None ≡ Ok after) (connect-is name is) e))
+bare-connects v found after position name false is e = none found after (option-kept v found after position name None (is_unbuilt name) is e)
 
 part-connects : (v : Verb) (found after : Found) (part : Part) → part_by v found part ≡ Ok after → Connects found after (connect_of part)
-part-connects v found after (AWord place word) e = none found after (script-kept found after (script_by found.script place word) e)
-part-connects v found after (AnOption place name None) e = bare-connects v found after place name (is_connect name) refl e
-part-connects v found after (AnOption place name (Some value)) e = option-connects v found after place name value (is_connect name) refl e
+part-connects v found after (AWord position word) e = none found after (script-kept found after (script_by found.script position word) e)
+part-connects v found after (AnOption position name None) e = bare-connects v found after position name (is_connect name) refl e
+part-connects v found after (AnOption position name (Some value)) e = option-connects v found after position name value (is_connect name) refl e
 
 -- after a fault nothing is found
 stopped : (v : Verb) (f : WordFault) (parts : List Part) (after : Found) → read_parts v (Err f) parts ≡ Ok after → ⊥
@@ -111,17 +111,17 @@ stopped v f [] after e = absurd cc
 stopped v f (part ∷ parts) after e = stopped v f parts after e
 
 text-joined : (xs ys : List (List ℕ)) → AreText xs → AreText ys → AreText (xs ++ ys)
-text-joined xs ys front behind = list_all-append is_text xs ys ∙ ap (λ (b : Bool). b && list_all is_text ys) front ∙ behind
+text-joined xs ys prefix behind = list_all-append is_text xs ys ∙ ap (λ (b : Bool). b && list_all is_text ys) prefix ∙ behind
 
 -- of commands that are strings, those in front and those behind
 pub text-parted : (xs ys : List (List ℕ)) → AreText (xs ++ ys) → AreText xs × AreText ys
 text-parted xs ys all = and_parts (list_all is_text xs) (list_all is_text ys) (sym (list_all-append is_text xs ys) ∙ all)
 
 joined : (before mid after : Found) (xs ys : List (List ℕ)) → Connects before mid xs → Connects mid after ys → Connects before after (xs ++ ys)
-joined before mid after xs ys front behind = record {
-  text = text-joined xs ys front.text behind.text;
-  count = omega (arith, front.count, behind.count, length-append xs ys);
-  few = λ few. behind.few (front.few few);
+joined before mid after xs ys prefix behind = record {
+  text = text-joined xs ys prefix.text behind.text;
+  count = omega (arith, prefix.count, behind.count, length-append xs ys);
+  few = λ few. behind.few (prefix.few few);
 }
 
 pub parts-connect : (v : Verb) (found after : Found) (parts : List Part) → read_parts v (Ok found) parts ≡ Ok after → Connects found after (connects_of parts)
@@ -139,9 +139,9 @@ pub parts-text : (v : Verb) (parts : List Part) (answer : Result Found WordFault
 parts-text v parts answer after is e = (parts-connect v nothing after parts (sym e ∙ is)).text
 
 -- It doesn't matter where a part stands.
-anywhere : (place : ℕ) (word : List ℕ) (next : Option (List ℕ)) → connect_of (part_of place word next) ≡ connect_from word next
-anywhere place word next = by (is_option word) next where
-  by : (b : Bool) (n : Option (List ℕ)) → connect_of (if b then AnOption place word n else AWord place word) ≡ connect_of (if b then AnOption 0 word n else AWord 0 word)
+anywhere : (position : ℕ) (word : List ℕ) (next : Option (List ℕ)) → connect_of (part_of position word next) ≡ connect_from word next
+anywhere position word next = by (is_option word) next where
+  by : (b : Bool) (n : Option (List ℕ)) → connect_of (if b then AnOption position word n else AWord position word) ≡ connect_of (if b then AnOption 0 word n else AWord 0 word)
   by true None = refl
   by true (Some value) = refl
   by false n = refl
@@ -150,9 +150,9 @@ anywhere place word next = by (is_option word) next where
 pub connects-at : (words : List (List ℕ)) (i len : ℕ) (word : List ℕ) (next : Option (List ℕ)) → i < length words → word ≡ get_or words i [] → len ≡ part_len word → next ≡ slice_get words (i + 1) →
     connects_of (parts_from (i + 2) (drop i words)) ≡ connect_from word next ++ connects_of (parts_from (i + len + 2) (drop (i + len) words))
 connects-at words i len word next within is size comes =
-    let place : i + 2 + part_len word ≡ i + len + 2 = omega (arith, size) in
+    let position : i + 2 + part_len word ≡ i + len + 2 = omega (arith, size) in
     let rest = connects_of (parts_from (i + 2 + part_len word) (drop (i + part_len word) words)) in
     ap connects_of (parts-at (i + 2) words i word within is)
-    ∙ ap (λ (front : List (List ℕ)). front ++ rest) (anywhere (i + 2) word (slice_get words (i + 1)) ∙ ap (connect_from word) (sym comes))
-    ∙ ap (λ (p : ℕ). connect_from word next ++ connects_of (parts_from p (drop (i + part_len word) words))) place
+    ∙ ap (λ (prefix : List (List ℕ)). prefix ++ rest) (anywhere (i + 2) word (slice_get words (i + 1)) ∙ ap (connect_from word) (sym comes))
+    ∙ ap (λ (p : ℕ). connect_from word next ++ connects_of (parts_from p (drop (i + part_len word) words))) position
     ∙ ap (λ (n : ℕ). connect_from word next ++ connects_of (parts_from (i + len + 2) (drop (i + n) words))) (sym size)

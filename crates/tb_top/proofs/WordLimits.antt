@@ -21,19 +21,19 @@ ok-is : {A : Type 0} (P : A → Type 0) (x y : A) → ◌≡◌ {A = Result A Wo
 ok-is P x y e h = let same : x ≡ y = cc in subst P same h
 
 -- a number that was read
-range-by : (place n : ℕ) (b : Bool) → (nat_le 1 n && nat_le n most_limit) ≡ b → (limit : ℕ) → ◌≡◌ {A = Result ℕ WordFault} (if b then Ok n else Err (fault.Range place)) (Ok limit) → limit ≤ most_limit
-range-by place n true h limit e = ok-is (λ k. k ≤ most_limit) n limit e (leb-true n most_limit (and_parts (nat_le 1 n) (nat_le n most_limit) h).1)
-range-by place n false h limit e = cc
+range-by : (position n : ℕ) (b : Bool) → (nat_le 1 n && nat_le n most_limit) ≡ b → (limit : ℕ) → ◌≡◌ {A = Result ℕ WordFault} (if b then Ok n else Err (fault.Range position)) (Ok limit) → limit ≤ most_limit
+range-by position n true h limit e = ok-is (λ k. k ≤ most_limit) n limit e (leb-true n most_limit (and_parts (nat_le 1 n) (nat_le n most_limit) h).1)
+range-by position n false h limit e = cc
 
-digits-by : (place : ℕ) (word : List ℕ) (b : Bool) (limit : ℕ) →
-    ◌≡◌ {A = Result ℕ WordFault} (if b then (if nat_le 1 (digits_value word) && nat_le (digits_value word) most_limit then Ok (digits_value word) else Err (fault.Range place)) else Err (fault.Number place)) (Ok limit) → limit ≤ most_limit
-digits-by place word true limit e = range-by place (digits_value word) (nat_le 1 (digits_value word) && nat_le (digits_value word) most_limit) refl limit e
-digits-by place word false limit e = cc
+digits-by : (position : ℕ) (word : List ℕ) (b : Bool) (limit : ℕ) →
+    ◌≡◌ {A = Result ℕ WordFault} (if b then (if nat_le 1 (digits_value word) && nat_le (digits_value word) most_limit then Ok (digits_value word) else Err (fault.Range position)) else Err (fault.Number position)) (Ok limit) → limit ≤ most_limit
+digits-by position word true limit e = range-by position (digits_value word) (nat_le 1 (digits_value word) && nat_le (digits_value word) most_limit) refl limit e
+digits-by position word false limit e = cc
 
-limit-few : (before : Option ℕ) (place : ℕ) (value : Option (List ℕ)) (limit : ℕ) → limit_by before place value ≡ Ok limit → limit ≤ most_limit
-limit-few (Some other) place value limit e = cc
-limit-few None place None limit e = cc
-limit-few None place (Some word) limit e = digits-by (place + 1) word (is_digits word) limit e
+limit-few : (before : Option ℕ) (position : ℕ) (value : Option (List ℕ)) (limit : ℕ) → limit_by before position value ≡ Ok limit → limit ≤ most_limit
+limit-few (Some other) position value limit e = cc
+limit-few None position None limit e = cc
+limit-few None position (Some word) limit e = digits-by (position + 1) word (is_digits word) limit e
 
 -- what a part gives
 
@@ -57,26 +57,26 @@ events-few : (found after : Found) (r : Result ℕ WordFault) → ((limit : ℕ)
 events-few found after (Ok events) h e = ok-is IsFew (record found { events = Some events }) after e (h events refl)
 events-few found after (Err f) h e = cc
 
-named-few : (found after : Found) (place : ℕ) (value : Option (List ℕ)) (steps events feed connect : Bool) → IsFew found →
-    ◌≡◌ {A = Result Found WordFault} (if steps then and_steps found (limit_by found.steps place value) else (if events then and_events found (limit_by found.events place value) else (if feed then and_feed found (feed_by found.feed place value) else (if connect then and_connects found (connect_by found.connects place value) else Err (fault.Unknown place))))) (Ok after) → IsFew after
-named-few found after place value true events feed connect few e = steps-few found after (limit_by found.steps place value) few e
-named-few found after place value false true feed connect few e = events-few found after (limit_by found.events place value) (limit-few found.events place value) e
-named-few found after place value false false true connect few e = feed-few found after (feed_by found.feed place value) few e
-named-few found after place value false false false true few e = connects-few found after (connect_by found.connects place value) few e
-named-few found after place value false false false false few e = cc
+named-few : (found after : Found) (position : ℕ) (value : Option (List ℕ)) (steps events feed connect : Bool) → IsFew found →
+    ◌≡◌ {A = Result Found WordFault} (if steps then and_steps found (limit_by found.steps position value) else (if events then and_events found (limit_by found.events position value) else (if feed then and_feed found (feed_by found.feed position value) else (if connect then and_connects found (connect_by found.connects position value) else Err (fault.Unknown position))))) (Ok after) → IsFew after
+named-few found after position value true events feed connect few e = steps-few found after (limit_by found.steps position value) few e
+named-few found after position value false true feed connect few e = events-few found after (limit_by found.events position value) (limit-few found.events position value) e
+named-few found after position value false false true connect few e = feed-few found after (feed_by found.feed position value) few e
+named-few found after position value false false false true few e = connects-few found after (connect_by found.connects position value) few e
+named-few found after position value false false false false few e = cc
 
-own-few : (v : Verb) (found after : Found) (place : ℕ) (name : List ℕ) (value : Option (List ℕ)) → IsFew found → own_option_by v found place name value ≡ Ok after → IsFew after
-own-few verb.Check found after place name value few e = cc
-own-few verb.Sim found after place name value few e = named-few found after place value (bytes_eq name (codes "--steps")) (bytes_eq name (codes "--events")) (bytes_eq name (codes "--feed")) (is_connect name) few e
+own-few : (v : Verb) (found after : Found) (position : ℕ) (name : List ℕ) (value : Option (List ℕ)) → IsFew found → own_option_by v found position name value ≡ Ok after → IsFew after
+own-few verb.Check found after position name value few e = cc
+own-few verb.Sim found after position name value few e = named-few found after position value (bytes_eq name (codes "--steps")) (bytes_eq name (codes "--events")) (bytes_eq name (codes "--feed")) (is_connect name) few e
 
-option-few : (v : Verb) (found after : Found) (place : ℕ) (name : List ℕ) (value : Option (List ℕ)) (unbuilt : Bool) → IsFew found →
-    ◌≡◌ {A = Result Found WordFault} (if unbuilt then Err (fault.NotBuilt place) else own_option_by v found place name value) (Ok after) → IsFew after
-option-few v found after place name value true few e = cc
-option-few v found after place name value false few e = own-few v found after place name value few e
+option-few : (v : Verb) (found after : Found) (position : ℕ) (name : List ℕ) (value : Option (List ℕ)) (unbuilt : Bool) → IsFew found →
+    ◌≡◌ {A = Result Found WordFault} (if unbuilt then Err (fault.NotBuilt position) else own_option_by v found position name value) (Ok after) → IsFew after
+option-few v found after position name value true few e = cc
+option-few v found after position name value false few e = own-few v found after position name value few e
 
 part-few : (v : Verb) (found after : Found) (part : Part) → IsFew found → part_by v found part ≡ Ok after → IsFew after
-part-few v found after (AnOption place name value) few e = option-few v found after place name value (is_unbuilt name) few e
-part-few v found after (AWord place word) few e = script-few found after (script_by found.script place word) few e
+part-few v found after (AnOption position name value) few e = option-few v found after position name value (is_unbuilt name) few e
+part-few v found after (AWord position word) few e = script-few found after (script_by found.script position word) few e
 
 abbrev AreFew : Result Found WordFault → Type 0
 AreFew found = (after : Found) → found ≡ Ok after → IsFew after

@@ -33,25 +33,25 @@ pub bytes-read : (words : List (String Global)) (i : ℕ) (word : String Global)
 bytes-read words i word bytes within read same = same ∙ ap string_bytes read ∙ sym (get_or-map string_bytes words i word [] within)
 
 -- the first part of some words, and those behind it
-parts-front : (place : ℕ) (word : List ℕ) (words : List (List ℕ)) → parts_from place (word ∷ words) ≡ part_of place word (first_of words) ∷ parts_from (place + part_len word) (drop (part_len word) (word ∷ words))
-parts-front place word [] = by (is_option word) where
-  by : (b : Bool) → (if b then AnOption place word None ∷ [] else AWord place word ∷ []) ≡ (if b then AnOption place word None else AWord place word) ∷ parts_from (place + (if b then 2 else 1)) (drop (if b then 2 else 1) (word ∷ []))
+parts-prefix : (position : ℕ) (word : List ℕ) (words : List (List ℕ)) → parts_from position (word ∷ words) ≡ part_of position word (first_of words) ∷ parts_from (position + part_len word) (drop (part_len word) (word ∷ words))
+parts-prefix position word [] = by (is_option word) where
+  by : (b : Bool) → (if b then AnOption position word None ∷ [] else AWord position word ∷ []) ≡ (if b then AnOption position word None else AWord position word) ∷ parts_from (position + (if b then 2 else 1)) (drop (if b then 2 else 1) (word ∷ []))
   by true = refl
   by false = refl
-parts-front place word (next ∷ words) = by (is_option word) where
-  by : (b : Bool) → (if b then AnOption place word (Some next) ∷ parts_from (place + 2) words else AWord place word ∷ parts_from (place + 1) (next ∷ words)) ≡ (if b then AnOption place word (Some next) else AWord place word) ∷ parts_from (place + (if b then 2 else 1)) (drop (if b then 2 else 1) (word ∷ next ∷ words))
+parts-prefix position word (next ∷ words) = by (is_option word) where
+  by : (b : Bool) → (if b then AnOption position word (Some next) ∷ parts_from (position + 2) words else AWord position word ∷ parts_from (position + 1) (next ∷ words)) ≡ (if b then AnOption position word (Some next) else AWord position word) ∷ parts_from (position + (if b then 2 else 1)) (drop (if b then 2 else 1) (word ∷ next ∷ words))
   by true = refl
   by false = refl
 
 -- the part that begins at a word, and those behind it
-pub parts-at : (place : ℕ) (words : List (List ℕ)) (i : ℕ) (word : List ℕ) → i < length words → word ≡ get_or words i [] → parts_from place (drop i words) ≡ part_of place word (slice_get words (i + 1)) ∷ parts_from (place + part_len word) (drop (i + part_len word) words)
-parts-at place words i word within is =
-    let front : drop i words ≡ word ∷ drop (i + 1) words = drop_more words i [] within ∙ ap (λ (w : List ℕ). w ∷ drop (i + 1) words) (sym is) in
-    let rest : drop (part_len word) (word ∷ drop (i + 1) words) ≡ drop (i + part_len word) words = ap (drop (part_len word)) (sym front) ∙ drop-drop (part_len word) i words in
-    ap (parts_from place) front
-    ∙ parts-front place word (drop (i + 1) words)
-    ∙ ap (λ (next : Option (List ℕ)). part_of place word next ∷ parts_from (place + part_len word) (drop (part_len word) (word ∷ drop (i + 1) words))) (sym (first-drop words (i + 1)))
-    ∙ ap (λ (others : List (List ℕ)). part_of place word (slice_get words (i + 1)) ∷ parts_from (place + part_len word) others) rest
+pub parts-at : (position : ℕ) (words : List (List ℕ)) (i : ℕ) (word : List ℕ) → i < length words → word ≡ get_or words i [] → parts_from position (drop i words) ≡ part_of position word (slice_get words (i + 1)) ∷ parts_from (position + part_len word) (drop (i + part_len word) words)
+parts-at position words i word within is =
+    let prefix : drop i words ≡ word ∷ drop (i + 1) words = drop_more words i [] within ∙ ap (λ (w : List ℕ). w ∷ drop (i + 1) words) (sym is) in
+    let rest : drop (part_len word) (word ∷ drop (i + 1) words) ≡ drop (i + part_len word) words = ap (drop (part_len word)) (sym prefix) ∙ drop-drop (part_len word) i words in
+    ap (parts_from position) prefix
+    ∙ parts-prefix position word (drop (i + 1) words)
+    ∙ ap (λ (next : Option (List ℕ)). part_of position word next ∷ parts_from (position + part_len word) (drop (part_len word) (word ∷ drop (i + 1) words))) (sym (first-drop words (i + 1)))
+    ∙ ap (λ (others : List (List ℕ)). part_of position word (slice_get words (i + 1)) ∷ parts_from (position + part_len word) others) rest
 
 -- after a fault no part is read
 stopped : (v : Verb) (fault : WordFault) (parts : List Part) → read_parts v (Err fault) parts ≡ Err fault
@@ -62,8 +62,8 @@ stopped v fault (part ∷ parts) = stopped v fault parts
 pub part-read : (v : Verb) (found : Found) (words : List (List ℕ)) (i len : ℕ) (word : List ℕ) (after whole : Result Found WordFault) → i < length words → word ≡ get_or words i [] → len ≡ part_len word →
     after ≡ part_by v found (part_of (i + 2) word (slice_get words (i + 1))) → read_parts v (Ok found) (parts_from (i + 2) (drop i words)) ≡ whole → read_parts v after (parts_from (i + len + 2) (drop (i + len) words)) ≡ whole
 part-read v found words i len word after whole within is size gives all =
-    let place : i + len + 2 ≡ i + 2 + part_len word = omega (arith, size) in
-    ap (λ (p : ℕ). read_parts v after (parts_from p (drop (i + len) words))) place
+    let position : i + len + 2 ≡ i + 2 + part_len word = omega (arith, size) in
+    ap (λ (p : ℕ). read_parts v after (parts_from p (drop (i + len) words))) position
     ∙ ap (λ (n : ℕ). read_parts v after (parts_from (i + 2 + part_len word) (drop (i + n) words))) size
     ∙ ap (λ (r : Result Found WordFault). read_parts v r (parts_from (i + 2 + part_len word) (drop (i + part_len word) words))) gives
     ∙ sym (ap (read_parts v (Ok found)) (parts-at (i + 2) words i word within is))

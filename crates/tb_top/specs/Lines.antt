@@ -82,15 +82,15 @@ feed_words (feed_fault.Line number) = codes "feed: line " ++ decimal number
 feed_words (feed_fault.TooLong bytes) = codes "feed: too long " ++ decimal bytes
 feed_words feed_fault.NoMemory = codes "no memory"
 
--- a fault of the words, most of them at a place
+-- a fault of the words, most of them at a position
 abbrev pub word_words : WordFault → List ℕ
 word_words word.NoCommand = codes "words: no command"
-word_words (word.Unknown place) = codes "words: unknown at " ++ decimal place
+word_words (word.Unknown position) = codes "words: unknown at " ++ decimal position
 word_words word.Missing = codes "words: missing"
-word_words (word.Extra place) = codes "words: extra at " ++ decimal place
-word_words (word.Number place) = codes "words: number at " ++ decimal place
-word_words (word.Range place) = codes "words: range at " ++ decimal place
-word_words (word.NotBuilt place) = codes "words: not built at " ++ decimal place
+word_words (word.Extra position) = codes "words: extra at " ++ decimal position
+word_words (word.Number position) = codes "words: number at " ++ decimal position
+word_words (word.Range position) = codes "words: range at " ++ decimal position
+word_words (word.NotBuilt position) = codes "words: not built at " ++ decimal position
 word_words word.NoMemory = codes "no memory"
 
 abbrev pub edge_words : Edge → List ℕ

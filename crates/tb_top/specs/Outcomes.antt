@@ -1,7 +1,7 @@
 -- When the program ends with which status, what was put then, and what was asked for.
 use Rattle.std.specs.Prelude.{◌≡◌, ◌≢◌, ◌<◌, ◌≤◌, ◌⊎◌, ℕ, List, [], ◌∷◌, ◌++◌, Option, Some, None, IsSome, IfSome, option_to_list, Result, Ok, Err, length, codes}
 use Rattle.tb_edge.specs.Faults.{Rose}
-use Rattle.tb_edge.specs.Sinks.{Takes, TakesFront}
+use Rattle.tb_edge.specs.Sinks.{Writes, WritesPrefix}
 use Rattle.tb_bus.specs.Buses.{origin_of, start}
 use Rattle.tb_bus.specs.Traces.{IsTrace}
 use Rattle.tb_sim.specs.Simulation.{IsSim, limits_of, sim_start}
@@ -46,7 +46,7 @@ IsRefused bytes (script.Expand (expand.Recursion names)) = IsFound bytes (Recurs
 IsRefused bytes (script.Expand (expand.TooLarge name)) = IsFound bytes (Large name)
 -- there are too many roots
 IsRefused bytes (script.Roots count) = IsFound bytes (ManyRoots count)
--- each form is built, want of memory is no fault of the script, and its length is a matter of the file
+-- each form is built, running out of memory is no fault of the script, and its length is a matter of the file
 IsRefused bytes (script.NotBuilt token) = ⊥
 IsRefused bytes (script.Expand expand.NoMemory) = ⊥
 IsRefused bytes script.NoMemory = ⊥
@@ -84,7 +84,7 @@ IsFeedRefused held None fault = ⊥
 IsFeedRefused held (Some name) (feed_fault.Line number) = (bytes : List ℕ) × IsLoaded (held name) bytes × IsFirstBad bytes number
 -- it has so many bytes, too many
 IsFeedRefused held (Some name) (feed_fault.TooLong len) = IsTooLong (held name) len
--- want of memory is no fault of the feed
+-- running out of memory is no fault of the feed
 IsFeedRefused held (Some name) feed_fault.NoMemory = ⊥
 
 -- The bytes have this program, and nothing else is found of them; these inputs are fed; and this log is that of its simulation with these commands connected and at most so many steps and entries, which ends so. It is a trace of the program.
@@ -98,11 +98,11 @@ pub record IsSimOf (run : Run) (bytes : List ℕ) (log : List Entry) (last : Sim
 
 -- the whole text of the log of the simulation was put, which ends so
 abbrev pub PutsLog : Run → List ℕ → Option (List ℕ) → Option (List ℕ) → SimEnd → Type 0
-PutsLog run bytes old new last = (log : List Entry) × IsSimOf run bytes log last × Takes old new (log_text log)
+PutsLog run bytes old new last = (log : List Entry) × IsSimOf run bytes log last × Writes old new (log_text log)
 
 -- a front of that text was put
-abbrev pub PutsFront : Run → List ℕ → Option (List ℕ) → Option (List ℕ) → Type 0
-PutsFront run bytes old new = (log : List Entry) × (last : SimEnd) × IsSimOf run bytes log last × TakesFront old new (log_text log)
+abbrev pub PutsPrefix : Run → List ℕ → Option (List ℕ) → Option (List ℕ) → Type 0
+PutsPrefix run bytes old new = (log : List Entry) × (last : SimEnd) × IsSimOf run bytes log last × WritesPrefix old new (log_text log)
 
 -- How such a simulation of a script's bytes may end, and what was put to the sink of the log.
 abbrev pub SimOutcome : Run → List ℕ → Option (List ℕ) → Option (List ℕ) → Status → Type 0
@@ -119,9 +119,9 @@ SimOutcome run bytes old new (Feed fault) = HasSomeProgram bytes × IsFeedRefuse
 -- it has a program, and the feed's file could not be read
 SimOutcome run bytes old new (Outside edge.File) = HasSomeProgram bytes × IsSome run.feed × (new ≡ old)
 -- the sink failed
-SimOutcome run bytes old new (Outside edge.Out) = PutsFront run bytes old new
+SimOutcome run bytes old new (Outside edge.Out) = PutsPrefix run bytes old new
 -- memory ran out, before the log was written or within it
-SimOutcome run bytes old new NoMemory = (new ≡ old) ⊎ PutsFront run bytes old new
+SimOutcome run bytes old new NoMemory = (new ≡ old) ⊎ PutsPrefix run bytes old new
 -- no other status comes
 SimOutcome run bytes old new (Words fault) = ⊥
 SimOutcome run bytes old new (Outside edge.Err) = ⊥
@@ -132,11 +132,11 @@ ok_line = codes "ok\n"
 -- How the check of a script's bytes may end, and what was put to the sink of the log.
 abbrev pub CheckOutcome : List ℕ → Option (List ℕ) → Option (List ℕ) → Status → Type 0
 -- the script is accepted
-CheckOutcome bytes old new Ended = HasSomeProgram bytes × Takes old new ok_line
+CheckOutcome bytes old new Ended = HasSomeProgram bytes × Writes old new ok_line
 -- it was refused
 CheckOutcome bytes old new (Script fault) = IsRefused bytes fault × (new ≡ old)
 -- it is so, and the sink failed
-CheckOutcome bytes old new (Outside edge.Out) = HasSomeProgram bytes × TakesFront old new ok_line
+CheckOutcome bytes old new (Outside edge.Out) = HasSomeProgram bytes × WritesPrefix old new ok_line
 -- memory ran out
 CheckOutcome bytes old new NoMemory = new ≡ old
 -- no other status comes
@@ -231,11 +231,11 @@ Comes asked held old new files_old files_new out_old out_new names_old names_new
 -- error failed, a front of the line of the status that it hides.
 abbrev pub Reported : (Status → Type 0) → Option (List ℕ) → Option (List ℕ) → Status → Type 0
 Reported comes old new Ended = comes Ended × (new ≡ old)
-Reported comes old new (Outside edge.Err) = (hidden : Status) × comes hidden × (hidden ≢ Ended) × TakesFront old new (status_line hidden)
-Reported comes old new (Outside edge.File) = comes (Outside edge.File) × Takes old new (status_line (Outside edge.File))
-Reported comes old new (Outside edge.Out) = comes (Outside edge.Out) × Takes old new (status_line (Outside edge.Out))
-Reported comes old new (Script fault) = comes (Script fault) × Takes old new (status_line (Script fault))
-Reported comes old new (Feed fault) = comes (Feed fault) × Takes old new (status_line (Feed fault))
-Reported comes old new (Words fault) = comes (Words fault) × Takes old new (status_line (Words fault))
-Reported comes old new (Limit bound) = comes (Limit bound) × Takes old new (status_line (Limit bound))
-Reported comes old new NoMemory = comes NoMemory × Takes old new (status_line NoMemory)
+Reported comes old new (Outside edge.Err) = (hidden : Status) × comes hidden × (hidden ≢ Ended) × WritesPrefix old new (status_line hidden)
+Reported comes old new (Outside edge.File) = comes (Outside edge.File) × Writes old new (status_line (Outside edge.File))
+Reported comes old new (Outside edge.Out) = comes (Outside edge.Out) × Writes old new (status_line (Outside edge.Out))
+Reported comes old new (Script fault) = comes (Script fault) × Writes old new (status_line (Script fault))
+Reported comes old new (Feed fault) = comes (Feed fault) × Writes old new (status_line (Feed fault))
+Reported comes old new (Words fault) = comes (Words fault) × Writes old new (status_line (Words fault))
+Reported comes old new (Limit bound) = comes (Limit bound) × Writes old new (status_line (Limit bound))
+Reported comes old new NoMemory = comes NoMemory × Writes old new (status_line NoMemory)

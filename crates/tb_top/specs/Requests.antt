@@ -1,6 +1,6 @@
 -- What the parts of the top call say to each other.
 use Rattle.std.specs.Prelude.{◌≡◌, ◌≢◌, ◌⊎◌, ℕ, List, ◌++◌, length, Option, IsSome, option_to_list, Result, Ok, Err, ◌≤◌, ⊤}
-use Rattle.tb_edge.specs.Sinks.{Takes, TakesFront}
+use Rattle.tb_edge.specs.Sinks.{Writes, WritesPrefix}
 use Rattle.tb_body.specs.declared.program.Program.{Program}
 use Rattle.tb_bus.specs.declared.origin.Origin.{Origin}
 use Rattle.tb_log.specs.LogText.{log_text}
@@ -22,14 +22,14 @@ use Rattle.tb_top.specs.declared.status.Edge.TheVariants as edge
 -- What was put of a status, and which status is reported for it.
 abbrev pub Reports : Status → Option (List ℕ) → Option (List ℕ) → Status → Type 0
 Reports given old new Ended = (given ≡ Ended) × (new ≡ old)
-Reports given old new (Outside edge.Err) = (given ≢ Ended) × TakesFront old new (status_line given)
-Reports given old new (Outside edge.File) = (given ≡ Outside edge.File) × Takes old new (status_line given)
-Reports given old new (Outside edge.Out) = (given ≡ Outside edge.Out) × Takes old new (status_line given)
-Reports given old new (Script fault) = (given ≡ Script fault) × Takes old new (status_line given)
-Reports given old new (Feed fault) = (given ≡ Feed fault) × Takes old new (status_line given)
-Reports given old new (Words fault) = (given ≡ Words fault) × Takes old new (status_line given)
-Reports given old new (Limit bound) = (given ≡ Limit bound) × Takes old new (status_line given)
-Reports given old new NoMemory = (given ≡ NoMemory) × Takes old new (status_line given)
+Reports given old new (Outside edge.Err) = (given ≢ Ended) × WritesPrefix old new (status_line given)
+Reports given old new (Outside edge.File) = (given ≡ Outside edge.File) × Writes old new (status_line given)
+Reports given old new (Outside edge.Out) = (given ≡ Outside edge.Out) × Writes old new (status_line given)
+Reports given old new (Script fault) = (given ≡ Script fault) × Writes old new (status_line given)
+Reports given old new (Feed fault) = (given ≡ Feed fault) × Writes old new (status_line given)
+Reports given old new (Words fault) = (given ≡ Words fault) × Writes old new (status_line given)
+Reports given old new (Limit bound) = (given ≡ Limit bound) × Writes old new (status_line given)
+Reports given old new NoMemory = (given ≡ NoMemory) × Writes old new (status_line given)
 
 -- a simulation that was asked for connects no more commands and logs no more entries than a core may
 abbrev pub IsWithin : Command → Type 0
@@ -90,5 +90,5 @@ status_of_end sim.Events = Limit bound.Events
 -- What came of a log behind a simulation that ended so: it was put whole, or its sink failed, or memory ran out.
 abbrev pub WritesLog : List Entry → SimEnd → Option (List ℕ) → Option (List ℕ) → Status → Type 0
 WritesLog log last old new status =
-    ((status ≡ status_of_end last) × Takes old new (log_text log))
-    ⊎ (((status ≡ Outside edge.Out) ⊎ (status ≡ NoMemory)) × TakesFront old new (log_text log))
+    ((status ≡ status_of_end last) × Writes old new (log_text log))
+    ⊎ (((status ≡ Outside edge.Out) ⊎ (status ≡ NoMemory)) × WritesPrefix old new (log_text log))

@@ -32,7 +32,7 @@ AreText connects = IsTrue (list_all is_text connects)
 
 -- the part that begins with this word, where the next one is this
 abbrev pub part_of : ℕ → List ℕ → Option (List ℕ) → Part
-part_of place word next = if is_option word then AnOption place word next else AWord place word
+part_of position word next = if is_option word then AnOption position word next else AWord position word
 
 -- the command to connect of the part that begins with this word, wherever it stands
 abbrev pub connect_from : List ℕ → Option (List ℕ) → List (List ℕ)

@@ -1,4 +1,4 @@
--- What the words of the command line ask for, or which fault they have. Words are read from the left, and the first fault ends the reading; their places count from 1.
+-- What the words of the command line ask for, or which fault they have. Words are read from the left, and the first fault ends the reading; their positions count from 1.
 use Rattle.std.specs.Prelude.{ℕ, ◌+◌, Bool, ◌&&◌, ◌||◌, if◌then◌else◌, List, [], ◌∷◌, Option, Some, None, Result, Ok, Err, unwrap_or, fold, drop, codes, bytes_eq, nat_eq, nat_le}
 use Rattle.std.specs.List.{starts_with, flat_map}
 use Rattle.tb_terms.specs.Names.{is_text}
@@ -10,7 +10,7 @@ use Rattle.tb_top.specs.declared.words.WordFault.TheVariants as fault
 use Rattle.tb_top.specs.declared.words.verb.Verb.{Verb}
 use Rattle.tb_top.specs.declared.words.verb.Verb.TheVariants as verb
 
--- A part of what stands behind the first word, with its place.
+-- A part of what stands behind the first word, with its position.
 pub data Part : Type 0 where
   -- an option with its value, the word that comes next, where there is one
   AnOption : ℕ → List ℕ → Option (List ℕ) → Part
@@ -20,15 +20,15 @@ pub data Part : Type 0 where
 abbrev pub is_option : List ℕ → Bool
 is_option word = starts_with nat_eq word (codes "--")
 
--- the parts of these words, of which the first stands at this place
+-- the parts of these words, of which the first stands at this position
 abbrev pub parts_from : ℕ → List (List ℕ) → List Part
-parts_from place [] = []
-parts_from place (word ∷ []) =
-    if is_option word then AnOption place word None ∷ []
-    else AWord place word ∷ []
-parts_from place (word ∷ next ∷ words) =
-    if is_option word then AnOption place word (Some next) ∷ parts_from (place + 2) words
-    else AWord place word ∷ parts_from (place + 1) (next ∷ words)
+parts_from position [] = []
+parts_from position (word ∷ []) =
+    if is_option word then AnOption position word None ∷ []
+    else AWord position word ∷ []
+parts_from position (word ∷ next ∷ words) =
+    if is_option word then AnOption position word (Some next) ∷ parts_from (position + 2) words
+    else AWord position word ∷ parts_from (position + 1) (next ∷ words)
 
 -- what parts have given
 pub record Found : Type 0 where
@@ -41,18 +41,18 @@ pub record Found : Type 0 where
 
 -- A file's name is a string: each of its bytes is one that a string may have, and words are well-formed already.
 abbrev pub name_in : ℕ → List ℕ → Result (List ℕ) WordFault
-name_in place word = if is_text word then Ok word else Err (fault.Unknown place)
+name_in position word = if is_text word then Ok word else Err (fault.Unknown position)
 
 -- A word that is no option is the name of the script's file. One more is too many.
 abbrev pub script_by : Option (List ℕ) → ℕ → List ℕ → Result (List ℕ) WordFault
-script_by (Some script) place word = Err (fault.Extra place)
-script_by None place word = name_in place word
+script_by (Some script) position word = Err (fault.Extra position)
+script_by None position word = name_in position word
 
--- `--feed` at this place, which may be given once, with a value, the name of the feed's file
+-- `--feed` at this position, which may be given once, with a value, the name of the feed's file
 abbrev pub feed_by : Option (List ℕ) → ℕ → Option (List ℕ) → Result (List ℕ) WordFault
-feed_by (Some feed) place value = Err (fault.Extra place)
-feed_by None place None = Err fault.Missing
-feed_by None place (Some value) = name_in (place + 1) value
+feed_by (Some feed) position value = Err (fault.Extra position)
+feed_by None position None = Err fault.Missing
+feed_by None position (Some value) = name_in (position + 1) value
 
 -- so many commands may be connected
 abbrev pub most_connects : ℕ
@@ -60,28 +60,28 @@ most_connects = 16
 
 -- one more command to connect, which is a string
 abbrev pub connect_in : ℕ → ℕ → Option (List ℕ) → Result ℕ WordFault
-connect_in count place None = Err fault.Missing
-connect_in count place (Some value) = if is_text value then Ok (count + 1) else Err (fault.Unknown (place + 1))
+connect_in count position None = Err fault.Missing
+connect_in count position (Some value) = if is_text value then Ok (count + 1) else Err (fault.Unknown (position + 1))
 
--- `--connect` at this place behind so many, with a value. One past the most is told before its value is looked at.
+-- `--connect` at this position behind so many, with a value. One past the most is told before its value is looked at.
 abbrev pub connect_by : ℕ → ℕ → Option (List ℕ) → Result ℕ WordFault
-connect_by count place value = if nat_le most_connects count then Err (fault.Range place) else connect_in count place value
+connect_by count position value = if nat_le most_connects count then Err (fault.Range position) else connect_in count position value
 
 abbrev pub most_limit : ℕ
 most_limit = 4000000
 
 -- A number is one or more decimal digits and nothing else, and it has a range.
 abbrev pub limit_in : ℕ → List ℕ → Result ℕ WordFault
-limit_in place word =
+limit_in position word =
     if is_digits word
-    then (if nat_le 1 (digits_value word) && nat_le (digits_value word) most_limit then Ok (digits_value word) else Err (fault.Range place))
-    else Err (fault.Number place)
+    then (if nat_le 1 (digits_value word) && nat_le (digits_value word) most_limit then Ok (digits_value word) else Err (fault.Range position))
+    else Err (fault.Number position)
 
--- `--steps` or `--events` at this place, which may be given once, with a value
+-- `--steps` or `--events` at this position, which may be given once, with a value
 abbrev pub limit_by : Option ℕ → ℕ → Option (List ℕ) → Result ℕ WordFault
-limit_by (Some limit) place value = Err (fault.Extra place)
-limit_by None place None = Err fault.Missing
-limit_by None place (Some value) = limit_in (place + 1) value
+limit_by (Some limit) position value = Err (fault.Extra position)
+limit_by None position None = Err fault.Missing
+limit_by None position (Some value) = limit_in (position + 1) value
 
 abbrev pub and_script : Found → Result (List ℕ) WordFault → Result Found WordFault
 and_script found (Ok script) = Ok (record found { script = Some script })
@@ -112,20 +112,20 @@ is_connect name = bytes_eq name (codes "--connect")
 
 -- `check` has no options of its own, and `sim` has four.
 abbrev pub own_option_by : Verb → Found → ℕ → List ℕ → Option (List ℕ) → Result Found WordFault
-own_option_by verb.Check found place name value = Err (fault.Unknown place)
-own_option_by verb.Sim found place name value =
-    if bytes_eq name (codes "--steps") then and_steps found (limit_by found.steps place value)
-    else (if bytes_eq name (codes "--events") then and_events found (limit_by found.events place value)
-    else (if bytes_eq name (codes "--feed") then and_feed found (feed_by found.feed place value)
-    else (if is_connect name then and_connects found (connect_by found.connects place value)
-    else Err (fault.Unknown place))))
+own_option_by verb.Check found position name value = Err (fault.Unknown position)
+own_option_by verb.Sim found position name value =
+    if bytes_eq name (codes "--steps") then and_steps found (limit_by found.steps position value)
+    else (if bytes_eq name (codes "--events") then and_events found (limit_by found.events position value)
+    else (if bytes_eq name (codes "--feed") then and_feed found (feed_by found.feed position value)
+    else (if is_connect name then and_connects found (connect_by found.connects position value)
+    else Err (fault.Unknown position))))
 
 abbrev pub option_by : Verb → Found → ℕ → List ℕ → Option (List ℕ) → Result Found WordFault
-option_by v found place name value = if is_unbuilt name then Err (fault.NotBuilt place) else own_option_by v found place name value
+option_by v found position name value = if is_unbuilt name then Err (fault.NotBuilt position) else own_option_by v found position name value
 
 abbrev pub part_by : Verb → Found → Part → Result Found WordFault
-part_by v found (AnOption place name value) = option_by v found place name value
-part_by v found (AWord place word) = and_script found (script_by found.script place word)
+part_by v found (AnOption position name value) = option_by v found position name value
+part_by v found (AWord position word) = and_script found (script_by found.script position word)
 
 -- each part after those before it
 abbrev pub read_next : Verb → Result Found WordFault → Part → Result Found WordFault
@@ -141,9 +141,9 @@ nothing = record { script = None; feed = None; connects = 0; steps = None; event
 
 -- the command to connect that a part names
 abbrev pub connect_of : Part → List (List ℕ)
-connect_of (AWord place word) = []
-connect_of (AnOption place name None) = []
-connect_of (AnOption place name (Some value)) = if is_connect name then value ∷ [] else []
+connect_of (AWord position word) = []
+connect_of (AnOption position name None) = []
+connect_of (AnOption position name (Some value)) = if is_connect name then value ∷ [] else []
 
 -- the commands to connect, in order
 abbrev pub connects_of : List Part → List (List ℕ)

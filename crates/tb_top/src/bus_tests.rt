@@ -18,15 +18,15 @@ fn program(alloc: Global, script: &str) -> Result<Program, Fail> {
 
 fn log_text(alloc: Global, core: &Bus) -> Result<Vec<u8>, Fail> {
     let mut text = Vec::new(alloc);
-    for (place, entry) in core.log().iter().enumerate() {
-        write_entry(place as u64 + 1, entry, &mut text)?;
+    for (position, entry) in core.log().iter().enumerate() {
+        write_entry(position as u64 + 1, entry, &mut text)?;
     }
     Ok(text)
 }
 
 /// A simulation: its script, its limit of steps, and how it is to end with which log.
 #[derive(Clone, Copy)]
-struct Run {
+struct BusRun {
     script: &'static str,
     limit: u64,
     entries: u32,
@@ -34,8 +34,8 @@ struct Run {
     log: &'static str,
 }
 
-static RUNS: [Run; 21] = [
-    Run {
+static RUNS: [BusRun; 21] = [
+    BusRun {
         script: "process A is snd-msg(m) . tau process B is tau . rec-msg(m) process C is delta \
                  toolbus(A, B, C, C)",
         limit: 7,
@@ -43,7 +43,7 @@ static RUNS: [Run; 21] = [
         end: SimEnd::Down,
         log: "1 tau 2.1\n2 msg 1.1 2.2 m\n3 tau 1.2\n4 quiet\n5 noticks\n6 halt\n",
     },
-    Run {
+    BusRun {
         script: "process A is snd-msg(m) . tau process B is tau . rec-msg(m) process C is delta \
                  toolbus(C, B, A, C)",
         limit: 7,
@@ -52,28 +52,28 @@ static RUNS: [Run; 21] = [
         log: "1 tau 2.1\n2 msg 3.1 2.2 m\n3 tau 3.2\n4 quiet\n5 noticks\n6 halt\n",
     },
     // The second sender is asked before the first, and each takes the first that receives.
-    Run {
+    BusRun {
         script: "process A is snd-msg(m) . tau process B is tau . rec-msg(m) toolbus(A, B, A, B)",
         limit: 7,
         entries: 1_000,
         end: SimEnd::Down,
         log: "1 tau 2.1\n2 msg 3.1 2.2 m\n3 tau 4.1\n4 msg 1.1 4.2 m\n5 tau 3.2\n6 tau 1.2\n7 finish\n",
     },
-    Run {
+    BusRun {
         script: "process T is tau . tau . tau toolbus(T)",
         limit: 3,
         entries: 1_000,
         end: SimEnd::Steps,
         log: "1 tau 1.1\n2 tau 1.2\n3 tau 1.3\n",
     },
-    Run {
+    BusRun {
         script: "process T is tau . tau . tau toolbus(T)",
         limit: 4,
         entries: 1_000,
         end: SimEnd::Down,
         log: "1 tau 1.1\n2 tau 1.2\n3 tau 1.3\n4 finish\n",
     },
-    Run {
+    BusRun {
         script: "process D is delta toolbus(D)",
         limit: 0,
         entries: 1_000,
@@ -81,7 +81,7 @@ static RUNS: [Run; 21] = [
         log: "1 quiet\n2 noticks\n",
     },
     // A choice drops its other side.
-    Run {
+    BusRun {
         script: "process P is let X : int in (X := 1 + X := 3) . tau endlet toolbus(P)",
         limit: 9,
         entries: 1_000,
@@ -89,7 +89,7 @@ static RUNS: [Run; 21] = [
         log: "1 set 1.1 1\n2 tau 1.3\n3 finish\n",
     },
     // A star takes its first part anew until that offers nothing.
-    Run {
+    BusRun {
         script: "process P is let X : int in (if equal(X, 0) then X := 1 fi) * tau endlet \
                  toolbus(P)",
         limit: 9,
@@ -97,7 +97,7 @@ static RUNS: [Run; 21] = [
         end: SimEnd::Down,
         log: "1 set 1.1 1\n2 tau 1.2\n3 finish\n",
     },
-    Run {
+    BusRun {
         script: "process P is let X : int in (if equal(X, 0) then X := add(X, 1) fi + if \
                  equal(X, 1) then X := 9 fi) * tau endlet toolbus(P)",
         limit: 9,
@@ -106,7 +106,7 @@ static RUNS: [Run; 21] = [
         log: "1 set 1.1 1\n2 set 1.2 9\n3 tau 1.3\n4 finish\n",
     },
     // A merge waits for both of its sides, and another process is asked in between.
-    Run {
+    BusRun {
         script: "process P is let X : int in (tau || X := 3) . snd-msg(X) endlet process Q is \
                  let X : int in tau . rec-msg(X?) endlet toolbus(P, Q)",
         limit: 9,
@@ -114,7 +114,7 @@ static RUNS: [Run; 21] = [
         end: SimEnd::Down,
         log: "1 tau 1.1\n2 tau 2.1\n3 set 1.2 3\n4 msg 1.3 2.2 3\n5 finish\n",
     },
-    Run {
+    BusRun {
         script: "process P is let X : int in X := 1 . if equal(X, 1) then tau else X := 9 fi \
                  endlet toolbus(P)",
         limit: 9,
@@ -122,7 +122,7 @@ static RUNS: [Run; 21] = [
         end: SimEnd::Down,
         log: "1 set 1.1 1\n2 tau 1.2\n3 finish\n",
     },
-    Run {
+    BusRun {
         script: "process P is let X : int in X := 1 . if equal(X, 0) then tau else X := 9 fi \
                  endlet toolbus(P)",
         limit: 9,
@@ -131,7 +131,7 @@ static RUNS: [Run; 21] = [
         log: "1 set 1.1 1\n2 set 1.3 9\n3 finish\n",
     },
     // A test is evaluated at the step, and not where the process enters it.
-    Run {
+    BusRun {
         script: "process P is let X : int in X := 1 || if equal(X, 1) then tau fi endlet \
                  toolbus(P)",
         limit: 9,
@@ -139,7 +139,7 @@ static RUNS: [Run; 21] = [
         end: SimEnd::Down,
         log: "1 set 1.1 1\n2 tau 1.2\n3 finish\n",
     },
-    Run {
+    BusRun {
         script: "process P is let X : int in if equal(X, 1) then tau fi endlet toolbus(P)",
         limit: 9,
         entries: 1_000,
@@ -147,7 +147,7 @@ static RUNS: [Run; 21] = [
         log: "1 quiet\n2 noticks\n3 halt\n",
     },
     // What is sent has the value that the call gives.
-    Run {
+    BusRun {
         script: "process S(X : int) is snd-msg(X) process P is S(3) process Q is let X : int in \
                  rec-msg(X?) . X := add(X, 1) endlet toolbus(P, Q)",
         limit: 9,
@@ -155,7 +155,7 @@ static RUNS: [Run; 21] = [
         end: SimEnd::Down,
         log: "1 msg 1.1 2.1 3\n2 set 2.2 4\n3 finish\n",
     },
-    Run {
+    BusRun {
         script: "process P is let X : int in X := 3 . (snd-msg(X) + tau) endlet process Q is let \
                  X : int in rec-msg(X?) . X := add(X, 1) endlet toolbus(P, Q)",
         limit: 9,
@@ -164,14 +164,14 @@ static RUNS: [Run; 21] = [
         log: "1 set 1.1 3\n2 msg 1.2 2.1 3\n3 set 2.2 4\n4 finish\n",
     },
     // The first atom that matches receives.
-    Run {
+    BusRun {
         script: "process S is snd-msg(5) process R is rec-msg(6) + rec-msg(5) toolbus(S, R)",
         limit: 9,
         entries: 1_000,
         end: SimEnd::Down,
         log: "1 msg 1.1 2.2 5\n2 finish\n",
     },
-    Run {
+    BusRun {
         script: "process S is snd-msg(5) process R is rec-msg(6) toolbus(S, R)",
         limit: 9,
         entries: 1_000,
@@ -179,7 +179,7 @@ static RUNS: [Run; 21] = [
         log: "1 quiet\n2 noticks\n3 halt\n",
     },
     // X takes numbers only, and Y any term.
-    Run {
+    BusRun {
         script: "process S is snd-msg(f(3, 3)) process N is let X : int in rec-msg(X?) endlet \
                  process T is let Y : term in rec-msg(Y?) endlet toolbus(S, N, T)",
         limit: 9,
@@ -188,7 +188,7 @@ static RUNS: [Run; 21] = [
         log: "1 msg 1.1 3.1 f(3,3)\n2 quiet\n3 noticks\n4 halt\n",
     },
     // f(1,2) doesn't match f(X?,X?), and of that match no bind is left: f(3,3) does, and X is 3.
-    Run {
+    BusRun {
         script: "process S is snd-msg(f(1, 2)) + snd-msg(f(3, 3)) process R is let X : int in \
                  rec-msg(f(X?, X?)) . X := add(X, 1) endlet toolbus(S, R)",
         limit: 9,
@@ -197,7 +197,7 @@ static RUNS: [Run; 21] = [
         log: "1 msg 1.2 2.1 f(3,3)\n2 set 2.2 4\n3 finish\n",
     },
     // Where nothing matches X stays 0.
-    Run {
+    BusRun {
         script: "process S is snd-msg(f(1, 2)) process R is let X : int in rec-msg(f(X?, X?)) + \
                  X := add(X, 1) endlet toolbus(S, R)",
         limit: 9,
@@ -208,7 +208,7 @@ static RUNS: [Run; 21] = [
 ];
 
 /// Whether the simulation ends so, with this log. No core has a longer one than it may.
-fn runs_so(alloc: Global, run: &Run) -> Result<bool, Fail> {
+fn runs_so(alloc: Global, run: &BusRun) -> Result<bool, Fail> {
     if run.entries > 4_000_000 {
         return Ok(false);
     }
@@ -316,8 +316,8 @@ fn calls_answer_in_order(rt: HostRuntime) -> Result<(), Fail> {
         &Items::new(rt.alloc()),
         1_000,
     )?;
-    for (place, (call, expected)) in CALLS.iter().enumerate() {
-        assert_eq!(rt; answer(&mut core, *call), *expected, "call {place}");
+    for (position, (call, expected)) in CALLS.iter().enumerate() {
+        assert_eq!(rt; answer(&mut core, *call), *expected, "call {position}");
     }
     let expected = "1 quiet\n2 noticks\n3 halt\n4 drop down noticks\n";
     assert_eq!(rt;

@@ -2,7 +2,7 @@
 ghost use Rattle.std.specs.Prelude.{◌≡◌, ◌++◌, ◌∷◌, [], ◌≤◌, OnOk, OnErr, codes, decimal};
 ghost use Rattle.std.specs.List.{flat_map, join_with_byte};
 ghost use Rattle.tb_edge.specs.Faults.{Rose};
-ghost use Rattle.tb_edge.specs.Sinks.{Takes, TakesFront};
+ghost use Rattle.tb_edge.specs.Sinks.{Writes, WritesPrefix};
 ghost use Rattle.tb_top.specs.Lines.{status_line, status_words, script_words, lex_words, parse_words, check_words, expand_words, feed_words, word_words, edge_words, bound_words};
 
 use crate::status::{Bound, Edge, Status};
@@ -19,8 +19,8 @@ use tb_types::CheckFault;
 
 /// Puts the line of a status.
 pub fn put_line<E: Sink>(status: &Status, err: &mut E) -> Result<(), Failed>
-    ensures ok { OnOk result (Takes (E.taken err.old) (E.taken err.new) (status_line status.now)) }
-    ensures front { OnErr result (TakesFront (E.taken err.old) (E.taken err.new) (status_line status.now)) }
+    ensures ok { OnOk result (Writes (E.taken err.old) (E.taken err.new) (status_line status.now)) }
+    ensures prefix { OnErr result (WritesPrefix (E.taken err.old) (E.taken err.new) (status_line status.now)) }
     ensures rose { OnErr result (Rose (E.faults err.old) (E.faults err.new)) }
 {
     match err.put(b"toolbus: ") {
@@ -30,8 +30,8 @@ pub fn put_line<E: Sink>(status: &Status, err: &mut E) -> Result<(), Failed>
 }
 
 fn put_rest<E: Sink>(status: &Status, err: &mut E) -> Result<(), Failed>
-    ensures ok { OnOk result (Takes (E.taken err.old) (E.taken err.new) (status_words status.now ++ 10 ∷ [])) }
-    ensures front { OnErr result (TakesFront (E.taken err.old) (E.taken err.new) (status_words status.now ++ 10 ∷ [])) }
+    ensures ok { OnOk result (Writes (E.taken err.old) (E.taken err.new) (status_words status.now ++ 10 ∷ [])) }
+    ensures prefix { OnErr result (WritesPrefix (E.taken err.old) (E.taken err.new) (status_words status.now ++ 10 ∷ [])) }
     ensures rose { OnErr result (Rose (E.faults err.old) (E.faults err.new)) }
 {
     match put_words(status, err) {
@@ -41,8 +41,8 @@ fn put_rest<E: Sink>(status: &Status, err: &mut E) -> Result<(), Failed>
 }
 
 fn put_words<E: Sink>(status: &Status, err: &mut E) -> Result<(), Failed>
-    ensures ok { OnOk result (Takes (E.taken err.old) (E.taken err.new) (status_words status.now)) }
-    ensures front { OnErr result (TakesFront (E.taken err.old) (E.taken err.new) (status_words status.now)) }
+    ensures ok { OnOk result (Writes (E.taken err.old) (E.taken err.new) (status_words status.now)) }
+    ensures prefix { OnErr result (WritesPrefix (E.taken err.old) (E.taken err.new) (status_words status.now)) }
     ensures rose { OnErr result (Rose (E.faults err.old) (E.faults err.new)) }
     ensures never_falls { E.faults err.old ≤ E.faults err.new }
 {
@@ -61,8 +61,8 @@ fn put_words<E: Sink>(status: &Status, err: &mut E) -> Result<(), Failed>
 }
 
 fn put_feed_words<E: Sink>(fault: FeedFault, err: &mut E) -> Result<(), Failed>
-    ensures ok { OnOk result (Takes (E.taken err.old) (E.taken err.new) (feed_words fault)) }
-    ensures front { OnErr result (TakesFront (E.taken err.old) (E.taken err.new) (feed_words fault)) }
+    ensures ok { OnOk result (Writes (E.taken err.old) (E.taken err.new) (feed_words fault)) }
+    ensures prefix { OnErr result (WritesPrefix (E.taken err.old) (E.taken err.new) (feed_words fault)) }
     ensures rose { OnErr result (Rose (E.faults err.old) (E.faults err.new)) }
     ensures never_falls { E.faults err.old ≤ E.faults err.new }
 {
@@ -74,26 +74,26 @@ fn put_feed_words<E: Sink>(fault: FeedFault, err: &mut E) -> Result<(), Failed>
 }
 
 fn put_word_words<E: Sink>(fault: WordFault, err: &mut E) -> Result<(), Failed>
-    ensures ok { OnOk result (Takes (E.taken err.old) (E.taken err.new) (word_words fault)) }
-    ensures front { OnErr result (TakesFront (E.taken err.old) (E.taken err.new) (word_words fault)) }
+    ensures ok { OnOk result (Writes (E.taken err.old) (E.taken err.new) (word_words fault)) }
+    ensures prefix { OnErr result (WritesPrefix (E.taken err.old) (E.taken err.new) (word_words fault)) }
     ensures rose { OnErr result (Rose (E.faults err.old) (E.faults err.new)) }
     ensures never_falls { E.faults err.old ≤ E.faults err.new }
 {
     match fault {
         WordFault::NoCommand => err.put(b"words: no command"),
-        WordFault::Unknown(place) => put_numbered(b"words: unknown at ", place, err),
+        WordFault::Unknown(position) => put_numbered(b"words: unknown at ", position, err),
         WordFault::Missing => err.put(b"words: missing"),
-        WordFault::Extra(place) => put_numbered(b"words: extra at ", place, err),
-        WordFault::Number(place) => put_numbered(b"words: number at ", place, err),
-        WordFault::Range(place) => put_numbered(b"words: range at ", place, err),
+        WordFault::Extra(position) => put_numbered(b"words: extra at ", position, err),
+        WordFault::Number(position) => put_numbered(b"words: number at ", position, err),
+        WordFault::Range(position) => put_numbered(b"words: range at ", position, err),
         WordFault::NoMemory => err.put(b"no memory"),
-        WordFault::NotBuilt(place) => put_numbered(b"words: not built at ", place, err),
+        WordFault::NotBuilt(position) => put_numbered(b"words: not built at ", position, err),
     }
 }
 
 fn put_script_words<E: Sink>(fault: &ScriptFault, err: &mut E) -> Result<(), Failed>
-    ensures ok { OnOk result (Takes (E.taken err.old) (E.taken err.new) (script_words fault.now)) }
-    ensures front { OnErr result (TakesFront (E.taken err.old) (E.taken err.new) (script_words fault.now)) }
+    ensures ok { OnOk result (Writes (E.taken err.old) (E.taken err.new) (script_words fault.now)) }
+    ensures prefix { OnErr result (WritesPrefix (E.taken err.old) (E.taken err.new) (script_words fault.now)) }
     ensures rose { OnErr result (Rose (E.faults err.old) (E.faults err.new)) }
     ensures never_falls { E.faults err.old ≤ E.faults err.new }
 {
@@ -110,8 +110,8 @@ fn put_script_words<E: Sink>(fault: &ScriptFault, err: &mut E) -> Result<(), Fai
 }
 
 fn put_lex_words<E: Sink>(fault: LexFault, err: &mut E) -> Result<(), Failed>
-    ensures ok { OnOk result (Takes (E.taken err.old) (E.taken err.new) (lex_words fault)) }
-    ensures front { OnErr result (TakesFront (E.taken err.old) (E.taken err.new) (lex_words fault)) }
+    ensures ok { OnOk result (Writes (E.taken err.old) (E.taken err.new) (lex_words fault)) }
+    ensures prefix { OnErr result (WritesPrefix (E.taken err.old) (E.taken err.new) (lex_words fault)) }
     ensures rose { OnErr result (Rose (E.faults err.old) (E.faults err.new)) }
     ensures never_falls { E.faults err.old ≤ E.faults err.new }
 {
@@ -126,8 +126,8 @@ fn put_lex_words<E: Sink>(fault: LexFault, err: &mut E) -> Result<(), Failed>
 }
 
 fn put_parse_words<E: Sink>(fault: ParseFault, err: &mut E) -> Result<(), Failed>
-    ensures ok { OnOk result (Takes (E.taken err.old) (E.taken err.new) (parse_words fault)) }
-    ensures front { OnErr result (TakesFront (E.taken err.old) (E.taken err.new) (parse_words fault)) }
+    ensures ok { OnOk result (Writes (E.taken err.old) (E.taken err.new) (parse_words fault)) }
+    ensures prefix { OnErr result (WritesPrefix (E.taken err.old) (E.taken err.new) (parse_words fault)) }
     ensures rose { OnErr result (Rose (E.faults err.old) (E.faults err.new)) }
     ensures never_falls { E.faults err.old ≤ E.faults err.new }
 {
@@ -139,8 +139,8 @@ fn put_parse_words<E: Sink>(fault: ParseFault, err: &mut E) -> Result<(), Failed
 }
 
 fn put_check_words<E: Sink>(fault: CheckFault, err: &mut E) -> Result<(), Failed>
-    ensures ok { OnOk result (Takes (E.taken err.old) (E.taken err.new) (check_words fault)) }
-    ensures front { OnErr result (TakesFront (E.taken err.old) (E.taken err.new) (check_words fault)) }
+    ensures ok { OnOk result (Writes (E.taken err.old) (E.taken err.new) (check_words fault)) }
+    ensures prefix { OnErr result (WritesPrefix (E.taken err.old) (E.taken err.new) (check_words fault)) }
     ensures rose { OnErr result (Rose (E.faults err.old) (E.faults err.new)) }
     ensures never_falls { E.faults err.old ≤ E.faults err.new }
 {
@@ -161,8 +161,8 @@ fn put_check_words<E: Sink>(fault: CheckFault, err: &mut E) -> Result<(), Failed
 }
 
 fn put_expand_words<E: Sink>(fault: &ExpandFault, err: &mut E) -> Result<(), Failed>
-    ensures ok { OnOk result (Takes (E.taken err.old) (E.taken err.new) (expand_words fault.now)) }
-    ensures front { OnErr result (TakesFront (E.taken err.old) (E.taken err.new) (expand_words fault.now)) }
+    ensures ok { OnOk result (Writes (E.taken err.old) (E.taken err.new) (expand_words fault.now)) }
+    ensures prefix { OnErr result (WritesPrefix (E.taken err.old) (E.taken err.new) (expand_words fault.now)) }
     ensures rose { OnErr result (Rose (E.faults err.old) (E.faults err.new)) }
     ensures never_falls { E.faults err.old ≤ E.faults err.new }
 {
@@ -174,8 +174,8 @@ fn put_expand_words<E: Sink>(fault: &ExpandFault, err: &mut E) -> Result<(), Fai
 }
 
 fn put_recursion<E: Sink>(names: &[Ident], err: &mut E) -> Result<(), Failed>
-    ensures ok { OnOk result (Takes (E.taken err.old) (E.taken err.new) (codes "script: recursion " ++ join_with_byte 44 names.now)) }
-    ensures front { OnErr result (TakesFront (E.taken err.old) (E.taken err.new) (codes "script: recursion " ++ join_with_byte 44 names.now)) }
+    ensures ok { OnOk result (Writes (E.taken err.old) (E.taken err.new) (codes "script: recursion " ++ join_with_byte 44 names.now)) }
+    ensures prefix { OnErr result (WritesPrefix (E.taken err.old) (E.taken err.new) (codes "script: recursion " ++ join_with_byte 44 names.now)) }
     ensures rose { OnErr result (Rose (E.faults err.old) (E.faults err.new)) }
     ensures never_falls { E.faults err.old ≤ E.faults err.new }
 {
@@ -187,8 +187,8 @@ fn put_recursion<E: Sink>(names: &[Ident], err: &mut E) -> Result<(), Failed>
 
 /// Puts names with a comma between each two.
 fn put_names<E: Sink>(names: &[Ident], err: &mut E) -> Result<(), Failed>
-    ensures ok { OnOk result (Takes (E.taken err.old) (E.taken err.new) (join_with_byte 44 names.now)) }
-    ensures front { OnErr result (TakesFront (E.taken err.old) (E.taken err.new) (join_with_byte 44 names.now)) }
+    ensures ok { OnOk result (Writes (E.taken err.old) (E.taken err.new) (join_with_byte 44 names.now)) }
+    ensures prefix { OnErr result (WritesPrefix (E.taken err.old) (E.taken err.new) (join_with_byte 44 names.now)) }
     ensures rose { OnErr result (Rose (E.faults err.old) (E.faults err.new)) }
     ensures never_falls { E.faults err.old ≤ E.faults err.new }
 {
@@ -203,8 +203,8 @@ fn put_names<E: Sink>(names: &[Ident], err: &mut E) -> Result<(), Failed>
 
 /// Puts each name behind a comma.
 fn put_more_names<E: Sink>(names: &[Ident], err: &mut E) -> Result<(), Failed>
-    ensures ok { OnOk result (Takes (E.taken err.old) (E.taken err.new) (flat_map (λ name. 44 ∷ name) names.now)) }
-    ensures front { OnErr result (TakesFront (E.taken err.old) (E.taken err.new) (flat_map (λ name. 44 ∷ name) names.now)) }
+    ensures ok { OnOk result (Writes (E.taken err.old) (E.taken err.new) (flat_map (λ name. 44 ∷ name) names.now)) }
+    ensures prefix { OnErr result (WritesPrefix (E.taken err.old) (E.taken err.new) (flat_map (λ name. 44 ∷ name) names.now)) }
     ensures rose { OnErr result (Rose (E.faults err.old) (E.faults err.new)) }
     ensures never_falls { E.faults err.old ≤ E.faults err.new }
 {
@@ -219,8 +219,8 @@ fn put_more_names<E: Sink>(names: &[Ident], err: &mut E) -> Result<(), Failed>
 
 /// Puts one piece after another.
 fn put_after<E: Sink>(text: &[u8], piece: &[u8], err: &mut E) -> Result<(), Failed>
-    ensures ok { OnOk result (Takes (E.taken err.old) (E.taken err.new) (text.now ++ piece.now)) }
-    ensures front { OnErr result (TakesFront (E.taken err.old) (E.taken err.new) (text.now ++ piece.now)) }
+    ensures ok { OnOk result (Writes (E.taken err.old) (E.taken err.new) (text.now ++ piece.now)) }
+    ensures prefix { OnErr result (WritesPrefix (E.taken err.old) (E.taken err.new) (text.now ++ piece.now)) }
     ensures rose { OnErr result (Rose (E.faults err.old) (E.faults err.new)) }
     ensures never_falls { E.faults err.old ≤ E.faults err.new }
 {
@@ -231,8 +231,8 @@ fn put_after<E: Sink>(text: &[u8], piece: &[u8], err: &mut E) -> Result<(), Fail
 }
 
 fn put_numbered<E: Sink>(text: &[u8], number: usize, err: &mut E) -> Result<(), Failed>
-    ensures ok { OnOk result (Takes (E.taken err.old) (E.taken err.new) (text.now ++ decimal number)) }
-    ensures front { OnErr result (TakesFront (E.taken err.old) (E.taken err.new) (text.now ++ decimal number)) }
+    ensures ok { OnOk result (Writes (E.taken err.old) (E.taken err.new) (text.now ++ decimal number)) }
+    ensures prefix { OnErr result (WritesPrefix (E.taken err.old) (E.taken err.new) (text.now ++ decimal number)) }
     ensures rose { OnErr result (Rose (E.faults err.old) (E.faults err.new)) }
     ensures never_falls { E.faults err.old ≤ E.faults err.new }
 {

@@ -1,7 +1,7 @@
 //! The text of a log, put piece by piece.
 ghost use Rattle.std.specs.Prelude.{◌≡◌, ◌≤◌, [], OnOk, OnErr, IsErrOf};
 ghost use Rattle.tb_edge.specs.Faults.{Rose};
-ghost use Rattle.tb_edge.specs.Sinks.{Takes, TakesFront, Owes};
+ghost use Rattle.tb_edge.specs.Sinks.{Writes, WritesPrefix, Owes};
 ghost use Rattle.tb_log.specs.LogText.{log_text};
 
 use std::alloc::Global;
@@ -21,8 +21,8 @@ pub enum LogFault {
 
 /// Puts the text of a log.
 pub fn put_log<O: Sink>(alloc: Global, log: &[Entry], out: &mut O) -> Result<(), LogFault>
-    ensures ok { OnOk result (Takes (O.taken out.old) (O.taken out.new) (log_text log.now)) }
-    ensures front { OnErr result (TakesFront (O.taken out.old) (O.taken out.new) (log_text log.now)) }
+    ensures ok { OnOk result (Writes (O.taken out.old) (O.taken out.new) (log_text log.now)) }
+    ensures prefix { OnErr result (WritesPrefix (O.taken out.old) (O.taken out.new) (log_text log.now)) }
     ensures rose { IsErrOf result LogFault.Out → Rose (O.faults out.old) (O.faults out.new) }
 {
     let mut buffer = Vec::new(alloc);
@@ -45,7 +45,7 @@ pub fn put_log<O: Sink>(alloc: Global, log: &[Entry], out: &mut O) -> Result<(),
 /// Puts the buffer and empties it, where it is full.
 fn put_full<O: Sink>(buffer: &mut Vec<u8>, out: &mut O) -> Result<(), Failed>
     ensures ok { OnOk result (Owes (O.taken out.old) (O.taken out.new) buffer.old.items buffer.new.items) }
-    ensures front { OnErr result (TakesFront (O.taken out.old) (O.taken out.new) buffer.old.items) }
+    ensures prefix { OnErr result (WritesPrefix (O.taken out.old) (O.taken out.new) buffer.old.items) }
     ensures rose { OnErr result (Rose (O.faults out.old) (O.faults out.new)) }
     ensures never_falls { O.faults out.old ≤ O.faults out.new }
 {

@@ -18,15 +18,15 @@ pub enum Bound {
     Events,
 }
 
-/// How a call of the program ended. Want of memory is `NoMemory` alone, whichever part met it.
+/// How a call of the program ended. Running out of memory is `NoMemory` alone, whichever part met it.
 #[derive(Debug, Drop)]
 pub enum Status {
     Ended,
-    /// The script was refused; never for want of memory.
+    /// The script was refused; never because memory ran out.
     Script(ScriptFault),
-    /// The feed was refused; never for want of memory.
+    /// The feed was refused; never because memory ran out.
     Feed(FeedFault),
-    /// The words were refused; never for want of memory.
+    /// The words were refused; never because memory ran out.
     Words(WordFault),
     Outside(Edge),
     Limit(Bound),

@@ -838,7 +838,8 @@ const SHUTTING_DOWN: &str = "tool t is { command = \"t\" } process P is let T : 
     execute(t, T?) . shutdown(f(1)) . tau endlet toolbus(P)";
 
 /// A slot of a tool's sort takes its terms of any number, and no tool has the number 0 or less.
-const OF_NO_TOOL: &str = "tool t is { command = \"t\" } process A is snd-msg(t(-1)) . snd-msg(t(0)) \
+const OF_NO_TOOL: &str =
+    "tool t is { command = \"t\" } process A is snd-msg(t(-1)) . snd-msg(t(0)) \
     process B is let T : t in rec-msg(T?) . (snd-do(T, x) + rec-msg(T?) . (snd-do(T, x) + tau)) endlet toolbus(A, B)";
 
 /// A tool has the name of a function, whose value is a number and names no tool.

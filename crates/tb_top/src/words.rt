@@ -25,25 +25,25 @@ pub enum Command {
     },
 }
 
-/// Why the words of the command line were refused. Places count from 1.
+/// Why the words of the command line were refused. Positions count from 1.
 #[derive(Clone, Copy, Debug, PartialEq, Eq)]
 pub enum WordFault {
     /// There were no words.
     NoCommand,
-    /// The word at this place is no command, no option of its command, or a file's name or a command to
+    /// The word at this position is no command, no option of its command, or a file's name or a command to
     /// connect that is no string.
     Unknown(usize),
     /// The script lacks, or the value of an option.
     Missing,
-    /// The option at this place was given before, or the word there is one more than the script.
+    /// The option at this position was given before, or the word there is one more than the script.
     Extra(usize),
-    /// The word at this place is no number.
+    /// The word at this position is no number.
     Number(usize),
-    /// The number at this place is out of its range, or the option there is the seventeenth `--connect`.
+    /// The number at this position is out of its range, or the option there is the seventeenth `--connect`.
     Range(usize),
     /// There wasn't memory enough; it says nothing of the words.
     NoMemory,
-    /// The word at this place asks for what isn't built yet.
+    /// The word at this position asks for what isn't built yet.
     NotBuilt(usize),
 }
 

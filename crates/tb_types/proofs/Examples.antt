@@ -10,7 +10,7 @@ use Rattle.tb_syntax.specs.declared.proc.Proc.TheVariants as tree
 use Rattle.tb_syntax.specs.declared.script.Formal.{Formal}
 use Rattle.tb_syntax.specs.declared.script.ProcDef.{ProcDef}
 use Rattle.tb_syntax.specs.declared.script.Script.{Script}
-use Rattle.tb_types.specs.declared.broken.Rule.TheVariants as rule
+use Rattle.tb_types.specs.declared.violation.Rule.TheVariants as rule
 use Rattle.tb_types.specs.Atoms.{atom_faults}
 use Rattle.tb_types.specs.Bodies.{proc_faults, script_faults}
 use Rattle.tb_types.proofs.JudgedKinds.{faults_of_var}

@@ -2,8 +2,8 @@
 use Rattle.std.proofs.Common.{◌≡◌, ℕ, ◌==◌, ◌<◌, ◌≤◌, refl, ap, sym, ◌∙◌, subst, arith}
 use Rattle.std.specs.Prelude.{if◌then◌else◌}
 use Rattle.tb_syntax.specs.declared.script.Script.{Script}
-use Rattle.tb_types.specs.declared.broken.Rule.{Rule}
-use Rattle.tb_types.specs.declared.broken.Rule.TheVariants as rule
+use Rattle.tb_types.specs.declared.violation.Rule.{Rule}
+use Rattle.tb_types.specs.declared.violation.Rule.TheVariants as rule
 use Rattle.tb_types.specs.Conditions.{IsFirst, Proper, Fails}
 use Rattle.tb_types.specs.Numbers.{number_of}
 

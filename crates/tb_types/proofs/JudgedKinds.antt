@@ -9,9 +9,9 @@ use Rattle.tb_syntax.specs.declared.ast.AstKind.TheVariants.{outs-Appl, outs-Var
 use Rattle.tb_syntax.specs.declared.ast.AstKind.TheOpen as layer
 use Rattle.tb_syntax.specs.declared.ast.AstKind.TheOpen.{AstKind-F}
 use Rattle.tb_syntax.specs.declared.ast.AstKind.TheFolds.{fold_out-AstKind, map-AstKind, fold-Ast, fold_out-Ast}
-use Rattle.tb_types.specs.declared.broken.Rule.TheVariants.{Undeclared}
+use Rattle.tb_types.specs.declared.violation.Rule.TheVariants.{Undeclared}
 use Rattle.tb_types.specs.declared.scope.Known.{Known}
-use Rattle.tb_types.specs.Broken.{noted_if}
+use Rattle.tb_types.specs.Violation.{noted_if}
 use Rattle.tb_types.specs.Exprs.{Judged, JudgedKind, judged, judged_kind, kind_step, expr_step, appl_fits, all_fit, application_faults, parts_faults}
 use Rattle.tb_types.specs.Fitting.{is_any, is_list_of}
 use Rattle.tb_types.specs.Scopes.{sort_in}

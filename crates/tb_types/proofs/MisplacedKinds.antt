@@ -8,15 +8,15 @@ use Rattle.tb_syntax.specs.declared.ast.AstKind.TheVariants as ast
 use Rattle.tb_syntax.specs.declared.ast.AstKind.TheVariants.{outs-Appl, outs-Var, outs-List}
 use Rattle.tb_syntax.specs.declared.ast.AstKind.TheOpen.{AstKind-F}
 use Rattle.tb_syntax.specs.declared.ast.AstKind.TheFolds.{fold_out-AstKind, map-AstKind, fold-Ast, fold_out-Ast}
-use Rattle.tb_types.specs.declared.broken.Broken.{Broken}
-use Rattle.tb_types.specs.declared.places.Place.{Place}
-use Rattle.tb_types.specs.Places.{misplaced_step, expr_step, misplaced, misplaced_kind, part_place, argument_place}
+use Rattle.tb_types.specs.declared.violation.Violation.{Violation}
+use Rattle.tb_types.specs.declared.positions.Position.{Position}
+use Rattle.tb_types.specs.Positions.{misplaced_step, expr_step, misplaced, misplaced_kind, part_position, argument_position}
 
 abbrev OfKind : Type 0
-OfKind = ℕ → Place → List Broken
+OfKind = ℕ → Position → List Violation
 
 abbrev OfExpr : Type 0
-OfExpr = Place → List Broken
+OfExpr = Position → List Violation
 
 abbrev found : Ast → OfExpr
 found = fold-Ast OfKind OfExpr misplaced_step expr_step
@@ -24,25 +24,25 @@ found = fold-Ast OfKind OfExpr misplaced_step expr_step
 abbrev layer_found : AstKind-F AstKind Ast → OfKind
 layer_found x = misplaced_step (map-AstKind AstKind Ast OfKind OfExpr misplaced_kind found x)
 
-opened : (k : AstKind) (x : AstKind-F AstKind Ast) (token : ℕ) (place : Place) → out-AstKind k ≡ x → misplaced_kind k token place ≡ layer_found x token place
-opened k x token place e = ap (λ (f : OfKind). f token place) (fold_out-AstKind OfKind OfExpr misplaced_step expr_step k ∙ ap layer_found e)
+opened : (k : AstKind) (x : AstKind-F AstKind Ast) (token : ℕ) (position : Position) → out-AstKind k ≡ x → misplaced_kind k token position ≡ layer_found x token position
+opened k x token position e = ap (λ (f : OfKind). f token position) (fold_out-AstKind OfKind OfExpr misplaced_step expr_step k ∙ ap layer_found e)
 
-expr_is : (expr : Ast) (place : Place) → found expr place ≡ misplaced place expr
-expr_is expr place = ap (λ (f : OfExpr). f place) (fold_out-Ast OfKind OfExpr misplaced_step expr_step expr)
+expr_is : (expr : Ast) (position : Position) → found expr position ≡ misplaced position expr
+expr_is expr position = ap (λ (f : OfExpr). f position) (fold_out-Ast OfKind OfExpr misplaced_step expr_step expr)
 
-parts_are : (place : Place) (parts : List Ast) → flat_map (λ (f : OfExpr). f place) (map found parts) ≡ flat_map (misplaced place) parts
-parts_are place [] = refl
-parts_are place (part ∷ parts) = λ i. expr_is part place i ++ parts_are place parts i
+parts_are : (position : Position) (parts : List Ast) → flat_map (λ (f : OfExpr). f position) (map found parts) ≡ flat_map (misplaced position) parts
+parts_are position [] = refl
+parts_are position (part ∷ parts) = λ i. expr_is part position i ++ parts_are position parts i
 
-pub misplaced_of_appl : (name : List ℕ) (parts : List Ast) (token : ℕ) (place : Place)
-    → misplaced_kind (ast.Appl name parts) token place ≡ flat_map (misplaced (argument_place name (length parts) place)) parts
-misplaced_of_appl name parts token place =
-    opened _ _ token place (outs-Appl name parts)
-    ∙ ap (λ n. flat_map (λ (f : OfExpr). f (argument_place name n place)) (map found parts)) (length-map parts found)
-    ∙ parts_are (argument_place name (length parts) place) parts
+pub misplaced_of_appl : (name : List ℕ) (parts : List Ast) (token : ℕ) (position : Position)
+    → misplaced_kind (ast.Appl name parts) token position ≡ flat_map (misplaced (argument_position name (length parts) position)) parts
+misplaced_of_appl name parts token position =
+    opened _ _ token position (outs-Appl name parts)
+    ∙ ap (λ n. flat_map (λ (f : OfExpr). f (argument_position name n position)) (map found parts)) (length-map parts found)
+    ∙ parts_are (argument_position name (length parts) position) parts
 
-pub misplaced_of_var : (name : List ℕ) (token : ℕ) (place : Place) → misplaced_kind (ast.Var name) token place ≡ []
-misplaced_of_var name token place = opened _ _ token place (outs-Var name)
+pub misplaced_of_var : (name : List ℕ) (token : ℕ) (position : Position) → misplaced_kind (ast.Var name) token position ≡ []
+misplaced_of_var name token position = opened _ _ token position (outs-Var name)
 
-pub misplaced_of_list : (parts : List Ast) (token : ℕ) (place : Place) → misplaced_kind (ast.List parts) token place ≡ flat_map (misplaced (part_place place)) parts
-misplaced_of_list parts token place = opened _ _ token place (outs-List parts) ∙ parts_are (part_place place) parts
+pub misplaced_of_list : (parts : List Ast) (token : ℕ) (position : Position) → misplaced_kind (ast.List parts) token position ≡ flat_map (misplaced (part_position position)) parts
+misplaced_of_list parts token position = opened _ _ token position (outs-List parts) ∙ parts_are (part_position position) parts

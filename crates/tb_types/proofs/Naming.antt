@@ -1,4 +1,4 @@
--- The places of names among definitions, and what stands there.
+-- The positions of names among definitions, and what stands there.
 use Rattle.std.proofs.Common.{◌≡◌, ℕ, suc, ◌+◌, ◌<◌, Bool, true, false, cond, List, [], ◌∷◌, ◌++◌, map, length, get_or, take, slice_get, Option, Some, None, refl, ap, sym, ◌∙◌, arith, add-one}
 use Rattle.std.specs.Prelude.{option_map, option_and_then, is_some, find}
 use Rattle.std.specs.Str.{bytes_eq}
@@ -8,92 +8,92 @@ use Rattle.std.proofs.Math.Seq.{take-suc}
 use Rattle.std.proofs.lemmas.List.{map-append, length-map, length-take-le}
 use Rattle.std.proofs.lemmas.Slice.Eq.{bytes_eq-Decides}
 use Rattle.std.proofs.lemmas.Map.Text.{hash_map_updates_str}
-use Rattle.tb_types.specs.NamePlaces.{place_in, place_of, kept}
+use Rattle.tb_types.specs.NamePositions.{position_in, position_of, kept}
 
 abbrev next : ℕ → ℕ
-next place = place + 1
+next position = position + 1
 
--- what stands at the first place of a name is what is found by it
+-- what stands at the first position of a name is what is found by it
 get_next : {A : Type 0} (x : A) (xs : List A) (o : Option ℕ) → option_and_then (slice_get (x ∷ xs)) (option_map next o) ≡ option_and_then (slice_get xs) o
 get_next x xs None = refl
-get_next x xs (Some place) = ap (λ n. slice_get (x ∷ xs) n) (add-one place)
+get_next x xs (Some position) = ap (λ n. slice_get (x ∷ xs) n) (add-one position)
 
 pub found_at : {A : Type 0} (name_of : A → List ℕ) (xs : List A) (name : List ℕ)
-    → option_and_then (slice_get xs) (place_of (map name_of xs) name) ≡ find (λ x. bytes_eq (name_of x) name) xs
+    → option_and_then (slice_get xs) (position_of (map name_of xs) name) ≡ find (λ x. bytes_eq (name_of x) name) xs
 found_at name_of [] name = refl
 found_at name_of (x ∷ xs) name = step (bytes_eq (name_of x) name) (found_at name_of xs name) where
-  step : (b : Bool) → option_and_then (slice_get xs) (place_of (map name_of xs) name) ≡ find (λ y. bytes_eq (name_of y) name) xs
-      → option_and_then (slice_get (x ∷ xs)) (cond b (Some 0) (option_map next (place_of (map name_of xs) name))) ≡ cond b (Some x) (find (λ y. bytes_eq (name_of y) name) xs)
+  step : (b : Bool) → option_and_then (slice_get xs) (position_of (map name_of xs) name) ≡ find (λ y. bytes_eq (name_of y) name) xs
+      → option_and_then (slice_get (x ∷ xs)) (cond b (Some 0) (option_map next (position_of (map name_of xs) name))) ≡ cond b (Some x) (find (λ y. bytes_eq (name_of y) name) xs)
   step true ih = refl
-  step false ih = get_next x xs (place_of (map name_of xs) name) ∙ ih
+  step false ih = get_next x xs (position_of (map name_of xs) name) ∙ ih
 
-kept_next : (o : Option ℕ) (b : Bool) (place : ℕ) → option_map next (kept o b place) ≡ kept (option_map next o) b (place + 1)
-kept_next (Some old) b place = refl
-kept_next None true place = refl
-kept_next None false place = refl
+kept_next : (o : Option ℕ) (b : Bool) (position : ℕ) → option_map next (kept o b position) ≡ kept (option_map next o) b (position + 1)
+kept_next (Some old) b position = refl
+kept_next None true position = refl
+kept_next None false position = refl
 
 -- one more name at the end
-place_behind : (names : List (List ℕ)) (more name : List ℕ) → place_of (names ++ more ∷ []) name ≡ kept (place_of names name) (bytes_eq more name) (length names)
-place_behind [] more name = step (bytes_eq more name) where
+position_behind : (names : List (List ℕ)) (more name : List ℕ) → position_of (names ++ more ∷ []) name ≡ kept (position_of names name) (bytes_eq more name) (length names)
+position_behind [] more name = step (bytes_eq more name) where
   step : (b : Bool) → cond b (Some 0) (option_map next None) ≡ cond b (Some 0) None
   step true = refl
   step false = refl
-place_behind (first ∷ names) more name = step (bytes_eq first name) (place_behind names more name) where
-  step : (b : Bool) → place_of (names ++ more ∷ []) name ≡ kept (place_of names name) (bytes_eq more name) (length names)
-      → cond b (Some 0) (option_map next (place_of (names ++ more ∷ []) name)) ≡ kept (cond b (Some 0) (option_map next (place_of names name))) (bytes_eq more name) (suc (length names))
+position_behind (first ∷ names) more name = step (bytes_eq first name) (position_behind names more name) where
+  step : (b : Bool) → position_of (names ++ more ∷ []) name ≡ kept (position_of names name) (bytes_eq more name) (length names)
+      → cond b (Some 0) (option_map next (position_of (names ++ more ∷ []) name)) ≡ kept (cond b (Some 0) (option_map next (position_of names name))) (bytes_eq more name) (suc (length names))
   step true ih = refl
   step false ih =
-      ap (option_map next) ih ∙ kept_next (place_of names name) (bytes_eq more name) (length names)
-      ∙ ap (kept (option_map next (place_of names name)) (bytes_eq more name)) (add-one (length names))
+      ap (option_map next) ih ∙ kept_next (position_of names name) (bytes_eq more name) (length names)
+      ∙ ap (kept (option_map next (position_of names name)) (bytes_eq more name)) (add-one (length names))
 
 -- one more definition
-pub place_more : {A : Type 0} (name_of : A → List ℕ) (xs : List A) (at : ℕ) (x : A) (name : List ℕ) (before : Option ℕ) → at < length xs → x ≡ get_or xs at x
-    → before ≡ place_of (map name_of (take at xs)) name → kept before (bytes_eq (name_of x) name) at ≡ place_of (map name_of (take (at + 1) xs)) name
-place_more name_of xs at x name before within here e =
+pub position_more : {A : Type 0} (name_of : A → List ℕ) (xs : List A) (at : ℕ) (x : A) (name : List ℕ) (before : Option ℕ) → at < length xs → x ≡ get_or xs at x
+    → before ≡ position_of (map name_of (take at xs)) name → kept before (bytes_eq (name_of x) name) at ≡ position_of (map name_of (take (at + 1) xs)) name
+position_more name_of xs at x name before within here e =
     let more : take (at + 1) xs ≡ take at xs ++ (x ∷ []) = ap (λ n. take n xs) (add-one at) ∙ take-suc xs at x within ∙ ap (λ y. take at xs ++ (y ∷ [])) (sym here) in
     let long : length (map name_of (take at xs)) ≡ at = length-map (take at xs) name_of ∙ length-take-le at xs (omega arith) in
     ap (λ o. kept o (bytes_eq (name_of x) name) at) e
-    ∙ ap (kept (place_of (map name_of (take at xs)) name) (bytes_eq (name_of x) name)) (sym long)
-    ∙ sym (place_behind (map name_of (take at xs)) (name_of x) name)
-    ∙ ap (λ ys. place_of ys name) (sym (map-append name_of (take at xs) (x ∷ [])))
-    ∙ ap (λ ys. place_of (map name_of ys) name) (sym more)
+    ∙ ap (kept (position_of (map name_of (take at xs)) name) (bytes_eq (name_of x) name)) (sym long)
+    ∙ sym (position_behind (map name_of (take at xs)) (name_of x) name)
+    ∙ ap (λ ys. position_of ys name) (sym (map-append name_of (take at xs) (x ∷ [])))
+    ∙ ap (λ ys. position_of (map name_of ys) name) (sym more)
 
 same_name : (name other : List ℕ) → bytes_eq name other ≡ true → name ≡ other
 same_name name other h = (bytes_eq-Decides name other).0 h
 
 none_there : (o : Option ℕ) → is_some o ≡ false → o ≡ None
 none_there None h = refl
-none_there (Some place) h = cc
+none_there (Some position) h = cc
 
-kept_other : (o : Option ℕ) (place : ℕ) → o ≡ kept o false place
-kept_other None place = refl
-kept_other (Some old) place = refl
+kept_other : (o : Option ℕ) (position : ℕ) → o ≡ kept o false position
+kept_other None position = refl
+kept_other (Some old) position = refl
 
--- a name that had no place has this one
-kept_after : (old : List ℕ → Option ℕ) (name other : List ℕ) (place : ℕ) → is_some (old name) ≡ false
-    → cond (bytes_eq name other) (Some place) (old other) ≡ kept (old other) (bytes_eq name other) place
-kept_after old name other place h = step (bytes_eq name other) refl where
-  step : (b : Bool) → bytes_eq name other ≡ b → cond b (Some place) (old other) ≡ kept (old other) b place
-  step true e = ap (λ o. kept o true place) (sym (none_there (old name) h) ∙ ap old (same_name name other e))
-  step false e = kept_other (old other) place
+-- a name that had no position has this one
+kept_after : (old : List ℕ → Option ℕ) (name other : List ℕ) (position : ℕ) → is_some (old name) ≡ false
+    → cond (bytes_eq name other) (Some position) (old other) ≡ kept (old other) (bytes_eq name other) position
+kept_after old name other position h = step (bytes_eq name other) refl where
+  step : (b : Bool) → bytes_eq name other ≡ b → cond b (Some position) (old other) ≡ kept (old other) b position
+  step true e = ap (λ o. kept o true position) (sym (none_there (old name) h) ∙ ap old (same_name name other e))
+  step false e = kept_other (old other) position
 
--- a name that has a place keeps it
-pub kept_there : (old : List ℕ → Option ℕ) (name other : List ℕ) (place : ℕ) → is_some (old name) ≡ true → old other ≡ kept (old other) (bytes_eq name other) place
-kept_there old name other place h = step (bytes_eq name other) refl where
-  known : (o : Option ℕ) → is_some o ≡ true → o ≡ kept o true place
-  known (Some old_place) e = refl
+-- a name that has a position keeps it
+pub kept_there : (old : List ℕ → Option ℕ) (name other : List ℕ) (position : ℕ) → is_some (old name) ≡ true → old other ≡ kept (old other) (bytes_eq name other) position
+kept_there old name other position h = step (bytes_eq name other) refl where
+  known : (o : Option ℕ) → is_some o ≡ true → o ≡ kept o true position
+  known (Some old_position) e = refl
   known None e = cc
 
-  step : (b : Bool) → bytes_eq name other ≡ b → old other ≡ kept (old other) b place
+  step : (b : Bool) → bytes_eq name other ≡ b → old other ≡ kept (old other) b position
   step true e = known (old other) (sym (ap (λ n. is_some (old n)) (same_name name other e)) ∙ h)
-  step false e = kept_other (old other) place
+  step false e = kept_other (old other) position
 
-pub kept_new : {S : Type 0} (name : List ℕ) (old new : HashMap (Bor (List ℕ)) ℕ S) (place : ℕ)
-    → UpdatesBy (λ x y. bytes_eq x.now y.now) (λ key. bytes_eq name key.now) old new (Some place) → is_some (place_in old name) ≡ false
-    → (other : List ℕ) → place_in new other ≡ kept (place_in old other) (bytes_eq name other) place
-kept_new name old new place updates h other = hash_map_updates_str name old new (Some place) updates other ∙ kept_after (place_in old) name other place h
+pub kept_new : {S : Type 0} (name : List ℕ) (old new : HashMap (Bor (List ℕ)) ℕ S) (position : ℕ)
+    → UpdatesBy (λ x y. bytes_eq x.now y.now) (λ key. bytes_eq name key.now) old new (Some position) → is_some (position_in old name) ≡ false
+    → (other : List ℕ) → position_in new other ≡ kept (position_in old other) (bytes_eq name other) position
+kept_new name old new position updates h other = hash_map_updates_str name old new (Some position) updates other ∙ kept_after (position_in old) name other position h
 
--- what is found by its place
-pub found_by : {A : Type 0} (name_of : A → List ℕ) (xs : List A) (name : List ℕ) (o : Option ℕ) → o ≡ place_of (map name_of xs) name
+-- what is found by its position
+pub found_by : {A : Type 0} (name_of : A → List ℕ) (xs : List A) (name : List ℕ) (o : Option ℕ) → o ≡ position_of (map name_of xs) name
     → option_and_then (slice_get xs) o ≡ find (λ x. bytes_eq (name_of x) name) xs
 found_by name_of xs name o e = ap (option_and_then (slice_get xs)) e ∙ found_at name_of xs name

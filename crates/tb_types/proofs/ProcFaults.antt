@@ -1,4 +1,4 @@
--- What is broken in each kind of process.
+-- What is violated in each kind of process.
 use Rattle.std.proofs.Common.{◌≡◌, List, ◌++◌, map, Option, Some, None, option_map, ap, ◌∙◌}
 use Rattle.tb_terms.specs.declared.sort.Sort.TheVariants as sorts
 use Rattle.tb_syntax.specs.declared.ast.Ast.{Ast}
@@ -10,19 +10,19 @@ use Rattle.tb_syntax.specs.declared.proc.Proc.TheVariants.{outs-Atom, outs-Seq, 
 use Rattle.tb_syntax.specs.declared.proc.Proc.TheOpen.{Proc-F}
 use Rattle.tb_syntax.specs.declared.proc.Proc.TheFolds.{fold_out-Proc, map-Proc}
 use Rattle.tb_syntax.specs.declared.script.Script.{Script}
-use Rattle.tb_types.specs.declared.broken.Broken.{Broken}
-use Rattle.tb_types.specs.declared.places.Place.TheVariants.{Sent}
+use Rattle.tb_types.specs.declared.violation.Violation.{Violation}
+use Rattle.tb_types.specs.declared.positions.Position.TheVariants.{Sent}
 use Rattle.tb_types.specs.declared.scope.Known.{Known}
 use Rattle.tb_types.specs.Atoms.{atom_faults}
 use Rattle.tb_types.specs.Bodies.{proc_faults, proc_step, else_faults}
 use Rattle.tb_types.specs.Definitions.{vars_faults}
-use Rattle.tb_types.specs.Duties.{tested, site_faults}
+use Rattle.tb_types.specs.ExpectedSorts.{tested, site_faults}
 use Rattle.tb_types.specs.Scopes.{known_var}
 
 abbrev Found : Type 0
-Found = List Known → List Broken
+Found = List Known → List Violation
 
-abbrev layer_found : Script → List Known → Proc-F Proc → List Broken
+abbrev layer_found : Script → List Known → Proc-F Proc → List Violation
 layer_found script known x = proc_step script (map-Proc Proc Found (proc_faults script) x) known
 
 opened : (script : Script) (known : List Known) (p : Proc) (x : Proc-F Proc) → out-Proc p ≡ x → proc_faults script p known ≡ layer_found script known x

@@ -8,7 +8,7 @@ use Rattle.std.specs.Str.{bytes_eq}
 use Rattle.tb_terms.specs.declared.sort.Sort.{Sort}
 use Rattle.tb_terms.specs.declared.sort.Sort.TheVariants as sorts
 use Rattle.tb_syntax.specs.declared.script.ToolDef.{ToolDef}
-use Rattle.tb_types.specs.Duties.{tool_sort}
+use Rattle.tb_types.specs.ExpectedSorts.{tool_sort}
 use Rattle.tb_types.specs.Names.{is_tool}
 
 -- a test of sorts asks no more of a tool's than its name

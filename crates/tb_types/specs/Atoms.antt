@@ -13,15 +13,15 @@ use Rattle.tb_syntax.specs.declared.script.Script.{Script}
 use Rattle.tb_syntax.specs.Words.{is_among}
 use Rattle.tb_types.specs.declared.atoms.Word.{Word}
 use Rattle.tb_types.specs.declared.atoms.Word.TheVariants as word
-use Rattle.tb_types.specs.declared.broken.Broken.{Broken}
-use Rattle.tb_types.specs.declared.broken.Rule.TheVariants.{Arity, Undeclared}
+use Rattle.tb_types.specs.declared.violation.Violation.{Violation}
+use Rattle.tb_types.specs.declared.violation.Rule.TheVariants.{Arity, Undeclared}
 use Rattle.tb_types.specs.declared.calls.Manner.TheVariants.{Made}
-use Rattle.tb_types.specs.declared.places.Place.{Place}
-use Rattle.tb_types.specs.declared.places.Place.TheVariants.{Sent, Taken, Noted, Received}
+use Rattle.tb_types.specs.declared.positions.Position.{Position}
+use Rattle.tb_types.specs.declared.positions.Position.TheVariants.{Sent, Taken, Noted, Received}
 use Rattle.tb_types.specs.declared.scope.Known.{Known}
-use Rattle.tb_types.specs.Broken.{noted_if}
+use Rattle.tb_types.specs.Violation.{noted_if}
 use Rattle.tb_types.specs.Calls.{call_faults}
-use Rattle.tb_types.specs.Duties.{Duty, plain, of_sort, tested, made, command, started, connected, disconnected, of_tool, name_alone, site_faults}
+use Rattle.tb_types.specs.ExpectedSorts.{Expectation, plain, of_sort, tested, made, command, started, connected, disconnected, of_tool, name_alone, site_faults}
 use Rattle.tb_types.specs.Scopes.{sort_in}
 
 abbrev pub one_word : List ℕ → List (List ℕ)
@@ -86,63 +86,63 @@ abbrev pub has_wrong_arguments : Word → ℕ → Bool
 has_wrong_arguments kind count = is_wrong_count (fewest kind) (takes_more kind) count
 
 -- where the first argument stands
-abbrev pub first_place : Word → Place
-first_place word.Receive = Received
-first_place word.Note = Noted
-first_place word.Connect = Taken
-first_place word.Disconnect = Taken
-first_place _ = Sent
+abbrev pub first_position : Word → Position
+first_position word.Receive = Received
+first_position word.Note = Noted
+first_position word.Connect = Taken
+first_position word.Disconnect = Taken
+first_position _ = Sent
 
 -- where the others stand
-abbrev pub other_place : Word → Place
-other_place word.Receive = Received
-other_place word.Note = Noted
-other_place word.Execute = Taken
-other_place word.Value = Received
-other_place word.Event = Received
-other_place _ = Sent
+abbrev pub other_position : Word → Position
+other_position word.Receive = Received
+other_position word.Note = Noted
+other_position word.Execute = Taken
+other_position word.Value = Received
+other_position word.Event = Received
+other_position _ = Sent
 
 -- what the first argument is asked for
-abbrev pub first_duty : Word → Duty
-first_duty word.Print = of_sort sorts.Str
-first_duty word.Execute = command
-first_duty word.Connect = connected
-first_duty word.Disconnect = disconnected
-first_duty word.Order = of_tool
-first_duty word.Value = of_tool
-first_duty word.Event = of_tool
-first_duty word.Answer = of_tool
-first_duty _ = plain
+abbrev pub first_expected_sort : Word → Expectation
+first_expected_sort word.Print = of_sort sorts.Str
+first_expected_sort word.Execute = command
+first_expected_sort word.Connect = connected
+first_expected_sort word.Disconnect = disconnected
+first_expected_sort word.Order = of_tool
+first_expected_sort word.Value = of_tool
+first_expected_sort word.Event = of_tool
+first_expected_sort word.Answer = of_tool
+first_expected_sort _ = plain
 
 -- what the others are asked for
-abbrev pub other_duty : Word → Ast → Duty
-other_duty word.Execute first = started (name_alone (out-AstKind first.kind))
-other_duty _ first = plain
+abbrev pub other_expected_sort : Word → Ast → Expectation
+other_expected_sort word.Execute first = started (name_alone (out-AstKind first.kind))
+other_expected_sort _ first = plain
 
-abbrev pub arguments_faults : Script → List Known → Word → List Ast → List Broken
+abbrev pub arguments_faults : Script → List Known → Word → List Ast → List Violation
 arguments_faults script known kind [] = []
 arguments_faults script known kind (first ∷ others) =
-    site_faults script known (first_place kind) (first_duty kind) first
-    ++ flat_map (site_faults script known (other_place kind) (other_duty kind first)) others
+    site_faults script known (first_position kind) (first_expected_sort kind) first
+    ++ flat_map (site_faults script known (other_position kind) (other_expected_sort kind first)) others
 
-abbrev pub named_faults : Script → List Known → Word → List Ast → ℕ → List Broken
+abbrev pub named_faults : Script → List Known → Word → List Ast → ℕ → List Violation
 named_faults script known kind arguments token =
     noted_if (has_wrong_arguments kind (length arguments)) Arity token ++ arguments_faults script known kind arguments
 
-abbrev pub assigned_duty : Option Sort → Duty
-assigned_duty None = plain
-assigned_duty (Some s) = of_sort s
+abbrev pub assigned_expected_sort : Option Sort → Expectation
+assigned_expected_sort None = plain
+assigned_expected_sort (Some s) = of_sort s
 
-abbrev pub set_faults : Script → List Known → Option Sort → Ast → ℕ → List Broken
-set_faults script known own value token = noted_if (is_none own) Undeclared token ++ site_faults script known Sent (assigned_duty own) value
+abbrev pub set_faults : Script → List Known → Option Sort → Ast → ℕ → List Violation
+set_faults script known own value token = noted_if (is_none own) Undeclared token ++ site_faults script known Sent (assigned_expected_sort own) value
 
-abbrev pub act_faults : Script → List Known → ActDef → ℕ → List Broken
+abbrev pub act_faults : Script → List Known → ActDef → ℕ → List Violation
 act_faults script known (act.Set name value) token = set_faults script known (sort_in known name) value token
 act_faults script known (act.Create call variable) token = call_faults script known Made call ++ site_faults script known Taken made variable
 act_faults script known (act.Named name arguments) token = named_faults script known (word_of name) arguments token
 
-abbrev pub time_faults : Script → List Known → TimeDef → List Broken
+abbrev pub time_faults : Script → List Known → TimeDef → List Violation
 time_faults script known time = site_faults script known Sent (tested sorts.Int) time.value
 
-abbrev pub atom_faults : Script → List Known → AtomDef → List Broken
+abbrev pub atom_faults : Script → List Known → AtomDef → List Violation
 atom_faults script known atom = act_faults script known atom.act atom.token ++ flat_map (time_faults script known) atom.times

@@ -1,15 +1,15 @@
 -- The nine conditions of a script, each by the tokens at which it fails; where all hold, and which fault comes first.
 use Rattle.std.specs.Prelude.{◌≡◌, ℕ, ◌<◌, ◌≤◌, ◌⊎◌, List, [], ◌∷◌}
 use Rattle.tb_syntax.specs.declared.script.Script.{Script}
-use Rattle.tb_types.specs.declared.broken.Broken.{Broken}
-use Rattle.tb_types.specs.declared.broken.Rule.{Rule}
-use Rattle.tb_types.specs.declared.broken.Rule.TheVariants as rule
+use Rattle.tb_types.specs.declared.violation.Violation.{Violation}
+use Rattle.tb_types.specs.declared.violation.Rule.{Rule}
+use Rattle.tb_types.specs.declared.violation.Rule.TheVariants as rule
 use Rattle.tb_types.specs.declared.fault.CheckFault.{CheckFault}
 use Rattle.tb_types.specs.declared.fault.CheckFault.TheVariants as fault
 use Rattle.tb_types.specs.Bodies.{script_faults}
 use Rattle.tb_types.specs.Numbers.{number_of}
 
-abbrev pub IsIn : Broken → List Broken → Type 0
+abbrev pub IsIn : Violation → List Violation → Type 0
 IsIn it [] = ⊥
 IsIn it (first ∷ others) = (it ≡ first) ⊎ IsIn it others
 
@@ -31,7 +31,7 @@ pub record IsFirst (script : Script) (condition : Rule) (token : ℕ) : Type 0 w
   pub first_token : (other : ℕ) → Fails script condition other → token ≤ other
   pub first_condition : (earlier : Rule) → number_of earlier < number_of condition → Holds script earlier
 
--- what is answered of a script that isn't proper; want of memory says nothing of it
+-- what is answered of a script that isn't proper; running out of memory says nothing of it
 abbrev pub IsFault : Script → CheckFault → Type 0
 IsFault script (fault.Twice token) = IsFirst script rule.Twice token
 IsFault script (fault.NoProcess token) = IsFirst script rule.NoProcess token

@@ -12,10 +12,10 @@ use Rattle.tb_syntax.specs.declared.ast.Ast.{Ast}
 use Rattle.tb_syntax.specs.declared.ast.AstKind.{AstKind}
 use Rattle.tb_syntax.specs.declared.ast.AstKind.TheOpen as ast
 use Rattle.tb_syntax.specs.declared.ast.AstKind.TheFolds.{fold-AstKind}
-use Rattle.tb_types.specs.declared.broken.Broken.{Broken}
-use Rattle.tb_types.specs.declared.broken.Rule.TheVariants.{Arity, Undeclared, TypeClash}
+use Rattle.tb_types.specs.declared.violation.Violation.{Violation}
+use Rattle.tb_types.specs.declared.violation.Rule.TheVariants.{Arity, Undeclared, TypeClash}
 use Rattle.tb_types.specs.declared.scope.Known.{Known}
-use Rattle.tb_types.specs.Broken.{noted_if}
+use Rattle.tb_types.specs.Violation.{noted_if}
 use Rattle.tb_types.specs.Fitting.{is_any, is_bool, is_int, is_str, is_list_of, is_tool_sort, is_truth_word, goes_with, result_goes_with}
 use Rattle.tb_types.specs.Names.{applied}
 use Rattle.tb_types.specs.Scopes.{sort_in}
@@ -24,12 +24,12 @@ use Rattle.tb_types.specs.Scopes.{sort_in}
 pub record Judged : Type 0 where
   pub token : ℕ
   pub fits : Sort → Bool
-  pub faults : List Broken
+  pub faults : List Violation
 
 -- the same for an expression whose first token isn't known yet
 pub record JudgedKind : Type 0 where
   pub fits : Sort → Bool
-  pub faults : ℕ → List Broken
+  pub faults : ℕ → List Violation
 
 -- a name alone is a term of `bool`, or fits `term` alone
 abbrev pub word_fits : List ℕ → ℕ → Sort → Bool
@@ -67,31 +67,31 @@ abbrev pub has_wrong_count : Option Func → ℕ → Bool
 has_wrong_count None count = false
 has_wrong_count (Some func) count = not (count == (signature_of func).arity)
 
--- an argument that doesn't fit the sort of its place
-abbrev pub argument_faults : Shape → Judged → List Broken
+-- an argument that doesn't fit the sort of its position
+abbrev pub argument_faults : Shape → Judged → List Violation
 argument_faults shape part = noted_if (not (part.fits (sort_of shape))) TypeClash part.token
 
--- each argument at its place, as far as the function has places
-abbrev pub arguments_faults : Signature → List Judged → List Broken
+-- each argument at its position, as far as the function has positions
+abbrev pub arguments_faults : Signature → List Judged → List Violation
 arguments_faults signature [] = []
 arguments_faults signature (first ∷ []) = argument_faults signature.first first
 arguments_faults signature (first ∷ second ∷ others) = argument_faults signature.first first ++ argument_faults signature.second second
 
-abbrev pub applied_faults : Option Func → List Judged → List Broken
+abbrev pub applied_faults : Option Func → List Judged → List Violation
 applied_faults None parts = []
 applied_faults (Some func) parts = arguments_faults (signature_of func) parts
 
-abbrev pub parts_faults : List Judged → List Broken
+abbrev pub parts_faults : List Judged → List Violation
 parts_faults parts = flat_map (λ (part : Judged). part.faults) parts
 
 -- the name of a function goes with its arguments
-abbrev pub application_faults : List ℕ → List Judged → ℕ → List Broken
+abbrev pub application_faults : List ℕ → List Judged → ℕ → List Violation
 application_faults name parts token =
     noted_if (has_wrong_count (applied name (length parts)) (length parts)) Arity token
     ++ applied_faults (applied name (length parts)) parts
     ++ parts_faults parts
 
-abbrev pub faults_step : List Known → ast.AstKind-F JudgedKind Judged → ℕ → List Broken
+abbrev pub faults_step : List Known → ast.AstKind-F JudgedKind Judged → ℕ → List Violation
 faults_step known (ast.Int number) token = []
 faults_step known (ast.Str text) token = []
 faults_step known (ast.Appl name parts) token = application_faults name parts token
@@ -115,5 +115,5 @@ judged known expr = record { token = expr.token; fits = (judged_kind known expr.
 abbrev pub fits : List Known → Ast → Sort → Bool
 fits known expr s = (judged_kind known expr.kind).fits s
 
-abbrev pub expr_faults : List Known → Ast → List Broken
+abbrev pub expr_faults : List Known → Ast → List Violation
 expr_faults known expr = (judged_kind known expr.kind).faults expr.token

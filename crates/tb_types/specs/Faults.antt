@@ -1,8 +1,8 @@
 -- The fault that is answered for what was noted.
 use Rattle.std.specs.Prelude.{ℕ}
-use Rattle.tb_types.specs.declared.broken.Broken.{Broken}
-use Rattle.tb_types.specs.declared.broken.Rule.{Rule}
-use Rattle.tb_types.specs.declared.broken.Rule.TheVariants as rule
+use Rattle.tb_types.specs.declared.violation.Violation.{Violation}
+use Rattle.tb_types.specs.declared.violation.Rule.{Rule}
+use Rattle.tb_types.specs.declared.violation.Rule.TheVariants as rule
 use Rattle.tb_types.specs.declared.fault.CheckFault.{CheckFault}
 use Rattle.tb_types.specs.declared.fault.CheckFault.TheVariants as fault
 
@@ -17,5 +17,5 @@ fault_at rule.ResultInSend token = fault.ResultInSend token
 fault_at rule.NotResult token = fault.NotResult token
 fault_at rule.TypeClash token = fault.TypeClash token
 
-abbrev pub fault_of : Broken → CheckFault
-fault_of broken = fault_at broken.rule broken.token
+abbrev pub fault_of : Violation → CheckFault
+fault_of violation = fault_at violation.rule violation.token

@@ -1,7 +1,7 @@
 -- The numbers of the nine conditions, in which they come.
 use Rattle.std.specs.Prelude.{ℕ}
-use Rattle.tb_types.specs.declared.broken.Rule.{Rule}
-use Rattle.tb_types.specs.declared.broken.Rule.TheVariants as rule
+use Rattle.tb_types.specs.declared.violation.Rule.{Rule}
+use Rattle.tb_types.specs.declared.violation.Rule.TheVariants as rule
 
 abbrev pub number_of : Rule → ℕ
 number_of rule.Twice = 1

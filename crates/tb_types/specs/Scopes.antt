@@ -1,4 +1,4 @@
--- The variables that are known at a place, those of the innermost `let` first, and the sort of each.
+-- The variables that are known at a position, those of the innermost `let` first, and the sort of each.
 use Rattle.std.specs.Prelude.{ℕ, List, [], ◌∷◌, ◌++◌, map, Option, Some, None, if◌then◌else◌}
 use Rattle.std.specs.Str.{bytes_eq}
 use Rattle.tb_terms.specs.declared.sort.Sort.{Sort}

@@ -1,18 +1,18 @@
 ghost use Rattle.std.specs.Prelude.{◌≡◌, ◌++◌, OnOk, map};
 ghost use Rattle.std.specs.List.{flat_map};
-ghost use Rattle.tb_types.specs.Atoms.{word_of, tool_word, event_word, fewest, takes_more, is_wrong_count, first_place, other_place, first_duty, other_duty, arguments_faults, named_faults, set_faults, act_faults, time_faults, atom_faults};
+ghost use Rattle.tb_types.specs.Atoms.{word_of, tool_word, event_word, fewest, takes_more, is_wrong_count, first_position, other_position, first_expected_sort, other_expected_sort, arguments_faults, named_faults, set_faults, act_faults, time_faults, atom_faults};
 ghost use Rattle.tb_terms.specs.declared.sort.Sort.TheVariants as sorts;
 ghost use Rattle.tb_syntax.specs.Words.{is_among};
 ghost use Rattle.tb_types.specs.Calls.{call_faults};
-ghost use Rattle.tb_types.specs.Duties.{duty_of, site_faults, made, tested};
+ghost use Rattle.tb_types.specs.ExpectedSorts.{expected_sort_of, site_faults, made, tested};
 ghost use Rattle.tb_types.specs.Scopes.{visible, sort_in};
 
-use crate::broken::{Broken, Rule, note_if};
 use crate::calls::{Manner, push_call};
-use crate::duties::{Duty, Site, name_alone, push_site};
+use crate::expected_sorts::{ExpectedSort, Site, name_alone, push_site};
 use crate::names::Names;
-use crate::places::Place;
+use crate::positions::Position;
 use crate::scope::{Scope, sort_of};
+use crate::violation::{Rule, Violation, note_if};
 use std::alloc::Global;
 use tb_syntax::{ActDef, Ast, AtomDef, Call, TimeDef};
 use tb_terms::{Ident, Items, NoMemory, Sort};
@@ -127,35 +127,35 @@ fn is_wrong_count(fewest: usize, takes_more: bool, count: usize) -> bool
     count < fewest || (!takes_more && fewest < count)
 }
 
-fn first_place(word: Word) -> Place
-    ensures { result ≡ first_place word }
+fn first_position(word: Word) -> Position
+    ensures { result ≡ first_position word }
 {
     match word {
-        Word::Receive => Place::Received,
-        Word::Note => Place::Noted,
-        Word::Connect | Word::Disconnect => Place::Taken,
-        _ => Place::Sent,
+        Word::Receive => Position::Received,
+        Word::Note => Position::Noted,
+        Word::Connect | Word::Disconnect => Position::Taken,
+        _ => Position::Sent,
     }
 }
 
-fn other_place(word: Word) -> Place
-    ensures { result ≡ other_place word }
+fn other_position(word: Word) -> Position
+    ensures { result ≡ other_position word }
 {
     match word {
-        Word::Receive | Word::Value | Word::Event => Place::Received,
-        Word::Note => Place::Noted,
-        Word::Execute => Place::Taken,
-        _ => Place::Sent,
+        Word::Receive | Word::Value | Word::Event => Position::Received,
+        Word::Note => Position::Noted,
+        Word::Execute => Position::Taken,
+        _ => Position::Sent,
     }
 }
 
 /// What an atom with such a first argument asks of the others.
-fn other_duty(word: Word, first: &Ast) -> Duty<'_>
-    ensures { duty_of result ≡ other_duty word first.now }
+fn other_expected_sort(word: Word, first: &Ast) -> ExpectedSort<'_>
+    ensures { expected_sort_of result ≡ other_expected_sort word first.now }
 {
     match word {
-        Word::Execute => Duty::Started(name_alone(&first.kind)),
-        _ => Duty::Plain,
+        Word::Execute => ExpectedSort::Started(name_alone(&first.kind)),
+        _ => ExpectedSort::Plain,
     }
 }
 
@@ -165,7 +165,7 @@ pub(crate) fn push_atom(
     names: &Names,
     scope: &Scope,
     atom: &AtomDef,
-    into: &mut Items<Broken>,
+    into: &mut Items<Violation>,
 ) -> Result<(), NoMemory>
     ensures { OnOk result (into.new ≡ into.old ++ atom_faults names.now.script.now (visible scope.now) atom.now) }
 {
@@ -180,7 +180,7 @@ fn push_act(
     scope: &Scope,
     act: &ActDef,
     token: usize,
-    into: &mut Items<Broken>,
+    into: &mut Items<Violation>,
 ) -> Result<(), NoMemory>
     ensures { OnOk result (into.new ≡ into.old ++ act_faults names.now.script.now (visible scope.now) act.now token) }
 {
@@ -210,22 +210,42 @@ fn push_set(
     name: &Ident,
     value: &Ast,
     token: usize,
-    into: &mut Items<Broken>,
+    into: &mut Items<Violation>,
 ) -> Result<(), NoMemory>
     ensures { OnOk result (into.new ≡ into.old
         ++ set_faults names.now.script.now (visible scope.now) (sort_in (visible scope.now) name.now) value.now token) }
 {
-    let place = Place::Sent;
+    let position = Position::Sent;
     match sort_of(scope, name) {
         None => {
             note_if(true, Rule::Undeclared, token, into)?;
-            let duty = Duty::Plain;
-            push_site(alloc, names, scope, &Site { place, duty }, value, into)?;
+            let expected_sort = ExpectedSort::Plain;
+            push_site(
+                alloc,
+                names,
+                scope,
+                &Site {
+                    position,
+                    expected_sort,
+                },
+                value,
+                into,
+            )?;
             Ok(())
         }
         Some(sort) => {
-            let duty = Duty::OfSort(sort);
-            push_site(alloc, names, scope, &Site { place, duty }, value, into)?;
+            let expected_sort = ExpectedSort::OfSort(sort);
+            push_site(
+                alloc,
+                names,
+                scope,
+                &Site {
+                    position,
+                    expected_sort,
+                },
+                value,
+                into,
+            )?;
             Ok(())
         }
     }
@@ -237,16 +257,16 @@ fn push_create(
     scope: &Scope,
     call: &Call,
     variable: &Ast,
-    into: &mut Items<Broken>,
+    into: &mut Items<Violation>,
 ) -> Result<(), NoMemory>
     ensures { OnOk result (into.new ≡ into.old
         ++ (call_faults names.now.script.now (visible scope.now) Manner.Made call.now
-        ++ site_faults names.now.script.now (visible scope.now) Place.Taken made variable.now)) }
+        ++ site_faults names.now.script.now (visible scope.now) Position.Taken made variable.now)) }
 {
     push_call(alloc, names, scope, Manner::Made, call, into)?;
     let site = Site {
-        place: Place::Taken,
-        duty: Duty::Made,
+        position: Position::Taken,
+        expected_sort: ExpectedSort::Made,
     };
     push_site(alloc, names, scope, &site, variable, into)?;
     Ok(())
@@ -258,7 +278,7 @@ fn push_arguments(
     scope: &Scope,
     word: Word,
     arguments: &[Ast],
-    into: &mut Items<Broken>,
+    into: &mut Items<Violation>,
 ) -> Result<(), NoMemory>
     ensures { OnOk result (into.new ≡ into.old
         ++ arguments_faults names.now.script.now (visible scope.now) word arguments.now) }
@@ -268,8 +288,8 @@ fn push_arguments(
         [first, others @ ..] => {
             push_first(alloc, names, scope, word, first, into)?;
             let site = Site {
-                place: other_place(word),
-                duty: other_duty(word, first),
+                position: other_position(word),
+                expected_sort: other_expected_sort(word, first),
             };
             push_others(alloc, names, scope, &site, others, into)?;
             Ok(())
@@ -284,32 +304,32 @@ fn push_first(
     scope: &Scope,
     word: Word,
     first: &Ast,
-    into: &mut Items<Broken>,
+    into: &mut Items<Violation>,
 ) -> Result<(), NoMemory>
     ensures { OnOk result (into.new ≡ into.old
-        ++ site_faults names.now.script.now (visible scope.now) (first_place word) (first_duty word) first.now) }
+        ++ site_faults names.now.script.now (visible scope.now) (first_position word) (first_expected_sort word) first.now) }
 {
     let text = Sort::Str;
     let site = Site {
-        place: first_place(word),
-        duty: first_duty(word, &text),
+        position: first_position(word),
+        expected_sort: first_expected_sort(word, &text),
     };
     push_site(alloc, names, scope, &site, first, into)?;
     Ok(())
 }
 
 /// What the first argument is asked for. `text` is the sort of strings.
-fn first_duty(word: Word, text: &Sort) -> Duty<'_>
+fn first_expected_sort(word: Word, text: &Sort) -> ExpectedSort<'_>
     requires { text.now ≡ sorts.Str }
-    ensures { duty_of result ≡ first_duty word }
+    ensures { expected_sort_of result ≡ first_expected_sort word }
 {
     match word {
-        Word::Print => Duty::OfSort(text),
-        Word::Execute => Duty::Command,
-        Word::Connect => Duty::Connected,
-        Word::Disconnect => Duty::Disconnected,
-        Word::Order | Word::Value | Word::Event | Word::Answer => Duty::OfTool,
-        _ => Duty::Plain,
+        Word::Print => ExpectedSort::OfSort(text),
+        Word::Execute => ExpectedSort::Command,
+        Word::Connect => ExpectedSort::Connected,
+        Word::Disconnect => ExpectedSort::Disconnected,
+        Word::Order | Word::Value | Word::Event | Word::Answer => ExpectedSort::OfTool,
+        _ => ExpectedSort::Plain,
     }
 }
 
@@ -319,10 +339,10 @@ fn push_others(
     scope: &Scope,
     site: &Site,
     others: &[Ast],
-    into: &mut Items<Broken>,
+    into: &mut Items<Violation>,
 ) -> Result<(), NoMemory>
     ensures { OnOk result (into.new ≡ into.old
-        ++ flat_map (site_faults names.now.script.now (visible scope.now) site.now.place (duty_of site.now.duty)) others.now) }
+        ++ flat_map (site_faults names.now.script.now (visible scope.now) site.now.position (expected_sort_of site.now.expected_sort)) others.now) }
 {
     for other in others {
         push_site(alloc, names, scope, site, other, into)?;
@@ -335,7 +355,7 @@ fn push_times(
     names: &Names,
     scope: &Scope,
     times: &[TimeDef],
-    into: &mut Items<Broken>,
+    into: &mut Items<Violation>,
 ) -> Result<(), NoMemory>
     ensures { OnOk result (into.new ≡ into.old
         ++ flat_map (time_faults names.now.script.now (visible scope.now)) times.now) }
@@ -353,14 +373,14 @@ pub(crate) fn push_tested(
     scope: &Scope,
     sort: &Sort,
     expr: &Ast,
-    into: &mut Items<Broken>,
+    into: &mut Items<Violation>,
 ) -> Result<(), NoMemory>
     ensures { OnOk result (into.new ≡ into.old
-        ++ site_faults names.now.script.now (visible scope.now) Place.Sent (tested sort.now) expr.now) }
+        ++ site_faults names.now.script.now (visible scope.now) Position.Sent (tested sort.now) expr.now) }
 {
     let site = Site {
-        place: Place::Sent,
-        duty: Duty::Tested(sort),
+        position: Position::Sent,
+        expected_sort: ExpectedSort::Tested(sort),
     };
     push_site(alloc, names, scope, &site, expr, into)?;
     Ok(())

@@ -5,11 +5,11 @@ ghost use Rattle.tb_types.specs.Definitions.{none_seen, process_repeats, vars_fa
 ghost use Rattle.tb_types.specs.Scopes.{visible, known_formal, known_var};
 
 use crate::atoms::{push_atom, push_tested};
-use crate::broken::Broken;
 use crate::calls::{Manner, push_call};
 use crate::definitions::{push_formals, push_process_repeats, push_tools, push_vars};
 use crate::names::Names;
 use crate::scope::Scope;
+use crate::violation::Violation;
 use std::alloc::Global;
 use tb_syntax::{Call, Proc, ProcDef, Script, Var};
 use tb_terms::{Boxed, Items, NoMemory, Sort};
@@ -18,7 +18,7 @@ use tb_terms::{Boxed, Items, NoMemory, Sort};
 pub(crate) fn push_script(
     alloc: Global,
     names: &Names,
-    into: &mut Items<Broken>,
+    into: &mut Items<Violation>,
 ) -> Result<(), NoMemory>
     ensures { OnOk result (into.new ≡ into.old ++ script_faults names.now.script.now) }
 {
@@ -34,7 +34,7 @@ fn push_processes(
     alloc: Global,
     names: &Names,
     processes: &[ProcDef],
-    into: &mut Items<Broken>,
+    into: &mut Items<Violation>,
 ) -> Result<(), NoMemory>
     ensures { OnOk result (into.new ≡ into.old ++ flat_map (process_faults names.now.script.now) processes.now) }
 {
@@ -48,7 +48,7 @@ fn push_process(
     alloc: Global,
     names: &Names,
     process: &ProcDef,
-    into: &mut Items<Broken>,
+    into: &mut Items<Violation>,
 ) -> Result<(), NoMemory>
     ensures { OnOk result (into.new ≡ into.old ++ process_faults names.now.script.now process.now) }
 {
@@ -62,7 +62,7 @@ fn push_roots(
     alloc: Global,
     names: &Names,
     roots: &[Call],
-    into: &mut Items<Broken>,
+    into: &mut Items<Violation>,
 ) -> Result<(), NoMemory>
     ensures { OnOk result (into.new ≡ into.old ++ flat_map (root_faults names.now.script.now) roots.now) }
 {
@@ -77,7 +77,7 @@ fn push_root(
     alloc: Global,
     names: &Names,
     root: &Call,
-    into: &mut Items<Broken>,
+    into: &mut Items<Violation>,
 ) -> Result<(), NoMemory>
     ensures { OnOk result (into.new ≡ into.old ++ root_faults names.now.script.now root.now) }
 {
@@ -94,7 +94,7 @@ fn push_proc(
     names: &Names,
     scope: &Scope,
     proc: &Proc,
-    into: &mut Items<Broken>,
+    into: &mut Items<Violation>,
 ) -> Result<(), NoMemory>
     ensures { OnOk result (into.new ≡ into.old ++ proc_faults names.now.script.now proc.now (visible scope.now)) }
 {
@@ -143,7 +143,7 @@ fn push_both(
     scope: &Scope,
     x: &Proc,
     y: &Proc,
-    into: &mut Items<Broken>,
+    into: &mut Items<Violation>,
 ) -> Result<(), NoMemory>
     ensures { OnOk result (into.new ≡ into.old
         ++ (proc_faults names.now.script.now x.now (visible scope.now) ++ proc_faults names.now.script.now y.now (visible scope.now))) }
@@ -159,7 +159,7 @@ fn push_else(
     names: &Names,
     scope: &Scope,
     y: &Option<Boxed<Proc>>,
-    into: &mut Items<Broken>,
+    into: &mut Items<Violation>,
 ) -> Result<(), NoMemory>
     ensures { OnOk result (into.new ≡ into.old
         ++ else_faults (option_map (proc_faults names.now.script.now) y.now) (visible scope.now)) }
@@ -181,7 +181,7 @@ fn push_let(
     scope: &Scope,
     vars: &[Var],
     x: &Proc,
-    into: &mut Items<Broken>,
+    into: &mut Items<Violation>,
 ) -> Result<(), NoMemory>
     ensures { OnOk result (into.new ≡ into.old
         ++ (vars_faults names.now.script.now.tools vars.now

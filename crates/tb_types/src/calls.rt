@@ -1,14 +1,14 @@
 ghost use Rattle.std.specs.Prelude.{◌≡◌, ◌++◌, OnOk, Some};
 ghost use Rattle.std.specs.Option.{option_copied};
-ghost use Rattle.tb_types.specs.Calls.{formal_duty, formal_place, actual_place, actual_duty, actuals_faults, found_call_faults, call_faults};
-ghost use Rattle.tb_types.specs.Duties.{duty_of};
+ghost use Rattle.tb_types.specs.Calls.{formal_expected_sort, formal_position, actual_position, actual_expected_sort, actuals_faults, found_call_faults, call_faults};
+ghost use Rattle.tb_types.specs.ExpectedSorts.{expected_sort_of};
 ghost use Rattle.tb_types.specs.Scopes.{visible};
 
-use crate::broken::{Broken, Rule, note_if};
-use crate::duties::{Duty, Site, push_site};
+use crate::expected_sorts::{ExpectedSort, Site, push_site};
 use crate::names::{Names, process};
-use crate::places::Place;
+use crate::positions::Position;
 use crate::scope::Scope;
+use crate::violation::{Rule, Violation, note_if};
 use sqlite_items::at;
 use std::alloc::Global;
 use tb_syntax::{Ast, Call, Formal, ProcDef};
@@ -31,7 +31,7 @@ pub(crate) fn push_call(
     scope: &Scope,
     manner: Manner,
     call: &Call,
-    into: &mut Items<Broken>,
+    into: &mut Items<Violation>,
 ) -> Result<(), NoMemory>
     ensures { OnOk result (into.new ≡ into.old
         ++ call_faults names.now.script.now (visible scope.now) manner call.now) }
@@ -67,7 +67,7 @@ fn push_known_call(
     manner: Manner,
     definition: &ProcDef,
     call: &Call,
-    into: &mut Items<Broken>,
+    into: &mut Items<Violation>,
 ) -> Result<(), NoMemory>
     ensures { OnOk result (into.new ≡ into.old
         ++ found_call_faults names.now.script.now (visible scope.now) manner (Some definition.now) call.now) }
@@ -80,7 +80,7 @@ fn push_known_call(
     Ok(())
 }
 
-/// What the actuals break, each with the formal at its place.
+/// What the actuals break, each with the formal at its position.
 fn push_actuals(
     alloc: Global,
     names: &Names,
@@ -88,51 +88,51 @@ fn push_actuals(
     manner: Manner,
     formals: &[Formal],
     actuals: &[Ast],
-    into: &mut Items<Broken>,
+    into: &mut Items<Violation>,
 ) -> Result<(), NoMemory>
     ensures { OnOk result (into.new ≡ into.old
         ++ actuals_faults names.now.script.now (visible scope.now) manner formals.now 0 actuals.now) }
 {
-    for (place, actual) in actuals.iter().enumerate() {
-        let site = actual_site(manner, at(formals, place));
+    for (position, actual) in actuals.iter().enumerate() {
+        let site = actual_site(manner, at(formals, position));
         push_site(alloc, names, scope, &site, actual, into)?;
     }
     Ok(())
 }
 
 fn actual_site(manner: Manner, formal: Option<&Formal>) -> Site<'_>
-    ensures place { result.place ≡ actual_place manner (option_copied formal.entry) }
-    ensures duty { duty_of result.duty ≡ actual_duty manner (option_copied formal.entry) }
+    ensures position { result.position ≡ actual_position manner (option_copied formal.entry) }
+    ensures expected_sort { expected_sort_of result.expected_sort ≡ actual_expected_sort manner (option_copied formal.entry) }
 {
     match formal {
         None => Site {
-            place: Place::Sent,
-            duty: Duty::Plain,
+            position: Position::Sent,
+            expected_sort: ExpectedSort::Plain,
         },
         Some(formal) => Site {
-            place: formal_place(manner, formal.result),
-            duty: formal_duty(manner, formal),
+            position: formal_position(manner, formal.result),
+            expected_sort: formal_expected_sort(manner, formal),
         },
     }
 }
 
-fn formal_place(manner: Manner, is_result: bool) -> Place
-    ensures { result ≡ formal_place manner is_result }
+fn formal_position(manner: Manner, is_result: bool) -> Position
+    ensures { result ≡ formal_position manner is_result }
 {
     match manner {
-        Manner::Called if is_result => Place::Taken,
-        _ => Place::Sent,
+        Manner::Called if is_result => Position::Taken,
+        _ => Position::Sent,
     }
 }
 
-fn formal_duty(manner: Manner, formal: &Formal) -> Duty<'_>
-    ensures { duty_of result ≡ formal_duty manner formal.now }
+fn formal_expected_sort(manner: Manner, formal: &Formal) -> ExpectedSort<'_>
+    ensures { expected_sort_of result ≡ formal_expected_sort manner formal.now }
 {
     if formal.result {
-        return Duty::Exact(&formal.sort);
+        return ExpectedSort::Exact(&formal.sort);
     }
     match manner {
-        Manner::Called | Manner::Made => Duty::OfSort(&formal.sort),
-        Manner::Rooted => Duty::Rooted(&formal.sort),
+        Manner::Called | Manner::Made => ExpectedSort::OfSort(&formal.sort),
+        Manner::Rooted => ExpectedSort::Rooted(&formal.sort),
     }
 }

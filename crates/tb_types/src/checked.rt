@@ -5,9 +5,9 @@ ghost use Rattle.tb_types.specs.Faults.{fault_of};
 
 use crate::CheckFault;
 use crate::bodies::push_script;
-use crate::broken::{Broken, Rule};
 use crate::first::first;
 use crate::names::Names;
+use crate::violation::{Rule, Violation};
 use std::alloc::Global;
 use tb_syntax::Script;
 use tb_terms::{Items, NoMemory};
@@ -19,29 +19,29 @@ pub fn check(alloc: Global, s: &Script) -> Result<(), CheckFault>
     ensures proper { OnOk result (Proper s.now) }
     ensures fault { IfErr result (λ fault. IsFault s.now fault) }
 {
-    let Ok(broken) = broken_in(alloc, s) else {
+    let Ok(violation) = violations_in(alloc, s) else {
         return Err(CheckFault::NoMemory);
     };
-    match first(broken.as_slice()) {
+    match first(violation.as_slice()) {
         None => Ok(()),
         Some(first) => Err(fault_of(first)),
     }
 }
 
-fn broken_in(alloc: Global, script: &Script) -> Result<Items<Broken>, NoMemory>
-    ensures { IfOk result (λ broken. broken ≡ script_faults script.now) }
+fn violations_in(alloc: Global, script: &Script) -> Result<Items<Violation>, NoMemory>
+    ensures { IfOk result (λ violation. violation ≡ script_faults script.now) }
 {
     let names = Names::of(alloc, script)?;
-    let mut broken = Items::new(alloc);
-    push_script(alloc, &names, &mut broken)?;
-    Ok(broken)
+    let mut violation = Items::new(alloc);
+    push_script(alloc, &names, &mut violation)?;
+    Ok(violation)
 }
 
-fn fault_of(broken: Broken) -> CheckFault
-    ensures { result ≡ fault_of broken }
+fn fault_of(violation: Violation) -> CheckFault
+    ensures { result ≡ fault_of violation }
 {
-    let token = broken.token;
-    match broken.rule {
+    let token = violation.token;
+    match violation.rule {
         Rule::Twice => CheckFault::Twice(token),
         Rule::NoProcess => CheckFault::NoProcess(token),
         Rule::NoTool => CheckFault::NoTool(token),

@@ -1,11 +1,11 @@
 ghost use Rattle.std.specs.Prelude.{◌≡◌, ◌++◌, OnOk};
 ghost use Rattle.std.specs.List.{flat_map};
-ghost use Rattle.tb_types.specs.Broken.{noted_if};
+ghost use Rattle.tb_types.specs.Violation.{noted_if};
 ghost use Rattle.tb_types.specs.Definitions.{none_seen, or_seen, formal_repeats, var_repeats, process_repeats, tool_repeats, tool_faults, tools_faults, sort_faults, formal_faults, formals_faults, var_faults, vars_faults};
 
-use crate::broken::{Broken, Rule, note_if};
 use crate::names::{Names, is_unknown_sort};
 use crate::seen::{Seen, push_repeat};
+use crate::violation::{Rule, Violation, note_if};
 use std::alloc::Global;
 use tb_syntax::{Formal, ProcDef, ToolDef, Var, is_sort_word};
 use tb_terms::{Items, NoMemory, Sort};
@@ -14,7 +14,7 @@ use tb_terms::{Items, NoMemory, Sort};
 pub(crate) fn push_tools(
     alloc: Global,
     tools: &[ToolDef],
-    into: &mut Items<Broken>,
+    into: &mut Items<Violation>,
 ) -> Result<(), NoMemory>
     ensures { OnOk result (into.new ≡ into.old ++ tools_faults tools.now) }
 {
@@ -26,7 +26,7 @@ pub(crate) fn push_tools(
 fn push_tool_repeats(
     alloc: Global,
     tools: &[ToolDef],
-    into: &mut Items<Broken>,
+    into: &mut Items<Violation>,
 ) -> Result<(), NoMemory>
     ensures { OnOk result (into.new ≡ into.old ++ tool_repeats none_seen tools.now) }
 {
@@ -37,7 +37,7 @@ fn push_tool_repeats(
     Ok(())
 }
 
-fn push_sort_words(tools: &[ToolDef], into: &mut Items<Broken>) -> Result<(), NoMemory>
+fn push_sort_words(tools: &[ToolDef], into: &mut Items<Violation>) -> Result<(), NoMemory>
     ensures { OnOk result (into.new ≡ into.old ++ flat_map tool_faults tools.now) }
 {
     for tool in tools {
@@ -51,7 +51,7 @@ fn push_sort_words(tools: &[ToolDef], into: &mut Items<Broken>) -> Result<(), No
 pub(crate) fn push_process_repeats(
     alloc: Global,
     processes: &[ProcDef],
-    into: &mut Items<Broken>,
+    into: &mut Items<Violation>,
 ) -> Result<(), NoMemory>
     ensures { OnOk result (into.new ≡ into.old ++ process_repeats none_seen processes.now) }
 {
@@ -67,7 +67,7 @@ pub(crate) fn push_formals(
     alloc: Global,
     names: &Names,
     formals: &[Formal],
-    into: &mut Items<Broken>,
+    into: &mut Items<Violation>,
 ) -> Result<(), NoMemory>
     ensures { OnOk result (into.new ≡ into.old ++ formals_faults names.now.script.now.tools formals.now) }
 {
@@ -79,7 +79,7 @@ pub(crate) fn push_formals(
 fn push_formal_repeats(
     alloc: Global,
     formals: &[Formal],
-    into: &mut Items<Broken>,
+    into: &mut Items<Violation>,
 ) -> Result<(), NoMemory>
     ensures { OnOk result (into.new ≡ into.old ++ formal_repeats none_seen formals.now) }
 {
@@ -93,7 +93,7 @@ fn push_formal_repeats(
 fn push_formal_sorts(
     names: &Names,
     formals: &[Formal],
-    into: &mut Items<Broken>,
+    into: &mut Items<Violation>,
 ) -> Result<(), NoMemory>
     ensures { OnOk result (into.new ≡ into.old ++ flat_map (formal_faults names.now.script.now.tools) formals.now) }
 {
@@ -108,7 +108,7 @@ pub(crate) fn push_vars(
     alloc: Global,
     names: &Names,
     vars: &[Var],
-    into: &mut Items<Broken>,
+    into: &mut Items<Violation>,
 ) -> Result<(), NoMemory>
     ensures { OnOk result (into.new ≡ into.old ++ vars_faults names.now.script.now.tools vars.now) }
 {
@@ -117,7 +117,11 @@ pub(crate) fn push_vars(
     Ok(())
 }
 
-fn push_var_repeats(alloc: Global, vars: &[Var], into: &mut Items<Broken>) -> Result<(), NoMemory>
+fn push_var_repeats(
+    alloc: Global,
+    vars: &[Var],
+    into: &mut Items<Violation>,
+) -> Result<(), NoMemory>
     ensures { OnOk result (into.new ≡ into.old ++ var_repeats none_seen vars.now) }
 {
     let mut seen = Seen::new(alloc);
@@ -127,7 +131,7 @@ fn push_var_repeats(alloc: Global, vars: &[Var], into: &mut Items<Broken>) -> Re
     Ok(())
 }
 
-fn push_var_sorts(names: &Names, vars: &[Var], into: &mut Items<Broken>) -> Result<(), NoMemory>
+fn push_var_sorts(names: &Names, vars: &[Var], into: &mut Items<Violation>) -> Result<(), NoMemory>
     ensures { OnOk result (into.new ≡ into.old ++ flat_map (var_faults names.now.script.now.tools) vars.now) }
 {
     for var in vars {
@@ -140,7 +144,7 @@ fn push_sort(
     names: &Names,
     sort: &Sort,
     token: usize,
-    into: &mut Items<Broken>,
+    into: &mut Items<Violation>,
 ) -> Result<(), NoMemory>
     ensures { OnOk result (into.new ≡ into.old ++ sort_faults names.now.script.now.tools sort.now token) }
 {

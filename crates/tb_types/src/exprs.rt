@@ -5,12 +5,12 @@ ghost use Rattle.tb_types.specs.Exprs.{judged, judged_kind, fits, expr_faults, a
 ghost use Rattle.tb_types.specs.Fitting.{is_list_of};
 ghost use Rattle.tb_types.specs.Scopes.{visible, sort_in};
 
-use crate::broken::{Broken, Rule, note_if};
 use crate::fitting::{
     goes_with, is_any, is_bool, is_int, is_str, is_tool_sort, is_truth_word, result_goes_with,
 };
 use crate::names::applied;
 use crate::scope::{Scope, sort_of};
+use crate::violation::{Rule, Violation, note_if};
 use std::alloc::Global;
 use tb_func::{Shape, Signature, signature};
 use tb_syntax::{Ast, AstKind};
@@ -105,7 +105,7 @@ pub(crate) fn push_expr(
     alloc: Global,
     scope: &Scope,
     expr: &Ast,
-    into: &mut Items<Broken>,
+    into: &mut Items<Violation>,
 ) -> Result<(), NoMemory>
     ensures { OnOk result (into.new ≡ into.old ++ expr_faults (visible scope.now) expr.now) }
 {
@@ -120,7 +120,7 @@ fn push_kind(
     scope: &Scope,
     kind: &AstKind,
     token: usize,
-    into: &mut Items<Broken>,
+    into: &mut Items<Violation>,
 ) -> Result<(), NoMemory>
     ensures { OnOk result (into.new ≡ into.old ++ (judged_kind (visible scope.now) kind.now).faults token) }
 {
@@ -164,7 +164,7 @@ fn push_application(
     name: &Name,
     parts: &[Ast],
     token: usize,
-    into: &mut Items<Broken>,
+    into: &mut Items<Violation>,
 ) -> Result<(), NoMemory>
     ensures { OnOk result (into.new ≡ into.old ++ application_faults name.now (map (judged (visible scope.now)) parts.now) token) }
 {
@@ -180,7 +180,7 @@ fn push_parts(
     alloc: Global,
     scope: &Scope,
     parts: &[Ast],
-    into: &mut Items<Broken>,
+    into: &mut Items<Violation>,
 ) -> Result<(), NoMemory>
     ensures { OnOk result (into.new ≡ into.old ++ parts_faults (map (judged (visible scope.now)) parts.now)) }
 {
@@ -199,13 +199,13 @@ fn has_wrong_count(func: Option<Func>, count: usize) -> bool
     }
 }
 
-/// The arguments that don't fit the sorts of their places.
+/// The arguments that don't fit the sorts of their positions.
 fn push_applied(
     alloc: Global,
     scope: &Scope,
     func: Option<Func>,
     parts: &[Ast],
-    into: &mut Items<Broken>,
+    into: &mut Items<Violation>,
 ) -> Result<(), NoMemory>
     ensures { OnOk result (into.new ≡ into.old ++ applied_faults func (map (judged (visible scope.now)) parts.now)) }
 {
@@ -223,7 +223,7 @@ fn push_arguments(
     scope: &Scope,
     signature: Signature,
     parts: &[Ast],
-    into: &mut Items<Broken>,
+    into: &mut Items<Violation>,
 ) -> Result<(), NoMemory>
     ensures { OnOk result (into.new ≡ into.old ++ arguments_faults signature (map (judged (visible scope.now)) parts.now)) }
 {
@@ -246,7 +246,7 @@ fn push_argument(
     scope: &Scope,
     shape: Shape,
     part: &Ast,
-    into: &mut Items<Broken>,
+    into: &mut Items<Violation>,
 ) -> Result<(), NoMemory>
     ensures { OnOk result (into.new ≡ into.old ++ argument_faults shape (judged (visible scope.now) part.now)) }
 {

@@ -2,21 +2,21 @@ ghost use Rattle.std.specs.Prelude.{◌≡◌};
 ghost use Rattle.tb_types.specs.Numbers.{number_of};
 ghost use Rattle.tb_types.specs.First.{is_before, earlier, first_of};
 
-use crate::broken::{Broken, Rule};
+use crate::violation::{Rule, Violation};
 
 /// The first of what was noted: that of the least condition, and among these that at the least
 /// token.
-pub(crate) fn first(broken: &[Broken]) -> Option<Broken>
-    ensures { result ≡ first_of broken.now }
+pub(crate) fn first(violation: &[Violation]) -> Option<Violation>
+    ensures { result ≡ first_of violation.now }
 {
     let mut first = None;
-    for next in broken {
+    for next in violation {
         first = earlier(first, *next);
     }
     first
 }
 
-fn earlier(so_far: Option<Broken>, next: Broken) -> Option<Broken>
+fn earlier(so_far: Option<Violation>, next: Violation) -> Option<Violation>
     ensures { result ≡ earlier so_far next }
 {
     match so_far {
@@ -25,7 +25,7 @@ fn earlier(so_far: Option<Broken>, next: Broken) -> Option<Broken>
     }
 }
 
-fn is_before(one: Broken, other: Broken) -> bool
+fn is_before(one: Violation, other: Violation) -> bool
     ensures { result ≡ is_before one other }
 {
     let (number, other_number) = (number_of(one.rule), number_of(other.rule));

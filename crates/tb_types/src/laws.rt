@@ -2,7 +2,7 @@
 
 ghost use Rattle.std.specs.Prelude.{◌≡◌, ℕ};
 ghost use Rattle.tb_syntax.specs.declared.script.Script.{Script};
-ghost use Rattle.tb_types.specs.declared.broken.Rule.{Rule};
+ghost use Rattle.tb_types.specs.declared.violation.Rule.{Rule};
 ghost use Rattle.tb_types.specs.Conditions.{IsFirst, Proper};
 
 /// A script has one first fault at most, and none where it is proper.

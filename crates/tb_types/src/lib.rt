@@ -3,22 +3,22 @@
 
 mod atoms;
 mod bodies;
-mod broken;
 mod calls;
 mod checked;
 mod definitions;
-mod duties;
+mod expected_sorts;
 mod exprs;
 mod fault;
 mod first;
 mod fitting;
 mod laws;
 mod names;
-mod places;
+mod positions;
 mod scope;
 mod seen;
 mod tools;
 mod values;
+mod violation;
 
 pub use checked::check;
 pub use fault::CheckFault;

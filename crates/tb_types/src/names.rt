@@ -3,7 +3,7 @@ ghost use Rattle.std.specs.Option.{option_copied};
 ghost use Rattle.std.specs.Str.{bytes_eq};
 ghost use Rattle.std.proofs.Props.{props};
 ghost use Rattle.tb_types.specs.Names.{process_named, tool_named, is_unknown_sort, applied};
-ghost use Rattle.tb_types.specs.NamePlaces.{place_in, place_of, kept, process_name, tool_name};
+ghost use Rattle.tb_types.specs.NamePositions.{position_in, position_of, kept, process_name, tool_name};
 
 use indexmap::IndexMap;
 use sqlite_items::at;
@@ -12,15 +12,15 @@ use tb_func::function;
 use tb_syntax::{ProcDef, Script, ToolDef};
 use tb_terms::{Func, Ident, Name, NoMemory, Sort};
 
-/// What the names of a script stand for: the processes and the tools by their places among the
+/// What the names of a script stand for: the processes and the tools by their positions among the
 /// definitions. Where one is defined twice, the first is known.
 #[derive(Drop)]
 pub struct Names<'a> {
     pub script: &'a Script,
     processes: IndexMap<&'a [u8], usize>,
     tools: IndexMap<&'a [u8], usize>,
-    pub ghost knows_processes: { (name : List ℕ) → place_in processes name ≡ place_of (map process_name script.now.procs) name } by { Prim.hlevel props },
-    pub ghost knows_tools: { (name : List ℕ) → place_in tools name ≡ place_of (map tool_name script.now.tools) name } by { Prim.hlevel props },
+    pub ghost knows_processes: { (name : List ℕ) → position_in processes name ≡ position_of (map process_name script.now.procs) name } by { Prim.hlevel props },
+    pub ghost knows_tools: { (name : List ℕ) → position_in tools name ≡ position_of (map tool_name script.now.tools) name } by { Prim.hlevel props },
 }
 
 impl<'a> Names<'a> {
@@ -28,8 +28,8 @@ impl<'a> Names<'a> {
     pub fn of(alloc: Global, script: &'a Script) -> Result<Names<'a>, NoMemory>
         ensures { IfOk result (λ names. names.script.now ≡ script.now) }
     {
-        let processes = process_places(alloc, script.procs.as_slice())?;
-        let tools = tool_places(alloc, script.tools.as_slice())?;
+        let processes = process_positions(alloc, script.procs.as_slice())?;
+        let tools = tool_positions(alloc, script.tools.as_slice())?;
         Ok(Names {
             script,
             processes,
@@ -37,65 +37,65 @@ impl<'a> Names<'a> {
         })
     }
 
-    /// The place, from 0, of the process of this name among the definitions; none where none has it.
-    pub fn process_place(&self, name: &[u8]) -> Option<usize>
-        ensures { result ≡ place_of (map process_name self.now.script.now.procs) name.now }
+    /// The position, from 0, of the process of this name among the definitions; none where none has it.
+    pub fn process_position(&self, name: &[u8]) -> Option<usize>
+        ensures { result ≡ position_of (map process_name self.now.script.now.procs) name.now }
     {
         match self.processes.get(name) {
             None => None,
-            Some(place) => Some(*place),
+            Some(position) => Some(*position),
         }
     }
 
-    /// The place, from 0, of the tool of this name among the definitions; none where none has it.
-    pub fn tool_place(&self, name: &[u8]) -> Option<usize>
-        ensures { result ≡ place_of (map tool_name self.now.script.now.tools) name.now }
+    /// The position, from 0, of the tool of this name among the definitions; none where none has it.
+    pub fn tool_position(&self, name: &[u8]) -> Option<usize>
+        ensures { result ≡ position_of (map tool_name self.now.script.now.tools) name.now }
     {
         match self.tools.get(name) {
             None => None,
-            Some(place) => Some(*place),
+            Some(position) => Some(*position),
         }
     }
 }
 
-fn process_places<'a>(
+fn process_positions<'a>(
     alloc: Global,
     processes: &'a [ProcDef],
 ) -> Result<IndexMap<&'a [u8], usize>, NoMemory>
-    ensures { IfOk result (λ places. (name : List ℕ) → place_in places name ≡ place_of (map process_name processes.now) name) }
+    ensures { IfOk result (λ positions. (name : List ℕ) → position_in positions name ≡ position_of (map process_name processes.now) name) }
 {
-    let mut places = IndexMap::new(alloc);
-    for (place, process) in processes.iter().enumerate() {
-        keep_place(&mut places, process.name.as_bytes(), place)?;
+    let mut positions = IndexMap::new(alloc);
+    for (position, process) in processes.iter().enumerate() {
+        keep_position(&mut positions, process.name.as_bytes(), position)?;
     }
-    Ok(places)
+    Ok(positions)
 }
 
-fn tool_places<'a>(
+fn tool_positions<'a>(
     alloc: Global,
     tools: &'a [ToolDef],
 ) -> Result<IndexMap<&'a [u8], usize>, NoMemory>
-    ensures { IfOk result (λ places. (name : List ℕ) → place_in places name ≡ place_of (map tool_name tools.now) name) }
+    ensures { IfOk result (λ positions. (name : List ℕ) → position_in positions name ≡ position_of (map tool_name tools.now) name) }
 {
-    let mut places = IndexMap::new(alloc);
-    for (place, tool) in tools.iter().enumerate() {
-        keep_place(&mut places, tool.name.as_bytes(), place)?;
+    let mut positions = IndexMap::new(alloc);
+    for (position, tool) in tools.iter().enumerate() {
+        keep_position(&mut positions, tool.name.as_bytes(), position)?;
     }
-    Ok(places)
+    Ok(positions)
 }
 
-/// Keeps the place of a name that has none so far.
-fn keep_place<'a>(
-    places: &mut IndexMap<&'a [u8], usize>,
+/// Keeps the position of a name that has none so far.
+fn keep_position<'a>(
+    positions: &mut IndexMap<&'a [u8], usize>,
     name: &'a [u8],
-    place: usize,
+    position: usize,
 ) -> Result<(), NoMemory>
-    ensures { OnOk result ((other : List ℕ) → place_in places.new other ≡ kept (place_in places.old other) (bytes_eq name.now other) place) }
+    ensures { OnOk result ((other : List ℕ) → position_in positions.new other ≡ kept (position_in positions.old other) (bytes_eq name.now other) position) }
 {
-    if places.contains_key(name) {
+    if positions.contains_key(name) {
         return Ok(());
     }
-    places.insert(name, place)?;
+    positions.insert(name, position)?;
     Ok(())
 }
 
@@ -105,7 +105,7 @@ pub(crate) fn process<'a>(names: &Names<'a>, name: &Ident) -> Option<&'a ProcDef
 {
     match names.processes.get(name.as_bytes()) {
         None => None,
-        Some(place) => at(names.script.procs.as_slice(), *place),
+        Some(position) => at(names.script.procs.as_slice(), *position),
     }
 }
 
@@ -115,7 +115,7 @@ pub(crate) fn tool<'a>(names: &Names<'a>, name: &Name) -> Option<&'a ToolDef>
 {
     match names.tools.get(name.as_bytes()) {
         None => None,
-        Some(place) => at(names.script.tools.as_slice(), *place),
+        Some(position) => at(names.script.tools.as_slice(), *position),
     }
 }
 

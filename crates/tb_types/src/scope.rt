@@ -11,7 +11,7 @@ pub struct Known {
     pub sort: Sort,
 }
 
-/// The variables that are known at a place: the formals, and those of each `let` around it.
+/// The variables that are known at a position: the formals, and those of each `let` around it.
 #[derive(Clone, Copy)]
 pub enum Scope<'a> {
     Formals(&'a [Formal]),

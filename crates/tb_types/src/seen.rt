@@ -1,9 +1,9 @@
 ghost use Rattle.std.specs.Prelude.{◌≡◌, ◌++◌, OnOk};
-ghost use Rattle.tb_types.specs.Broken.{noted_if};
+ghost use Rattle.tb_types.specs.Violation.{noted_if};
 ghost use Rattle.tb_types.specs.Definitions.{none_seen, or_seen};
 ghost use Rattle.tb_types.specs.Seen.{was_seen};
 
-use crate::broken::{Broken, Rule, note_if};
+use crate::violation::{Rule, Violation, note_if};
 use indexmap::IndexMap;
 use std::alloc::Global;
 use tb_terms::{Items, NoMemory};
@@ -29,7 +29,7 @@ pub(crate) fn push_repeat<'a>(
     seen: &mut Seen<'a>,
     name: &'a [u8],
     token: usize,
-    into: &mut Items<Broken>,
+    into: &mut Items<Violation>,
 ) -> Result<(), NoMemory>
     ensures noted { OnOk result (into.new ≡ into.old ++ noted_if (was_seen seen.old.names name.now) Rule.Twice token) }
     ensures seen { OnOk result (was_seen seen.new.names ≡ or_seen name.now (was_seen seen.old.names)) }

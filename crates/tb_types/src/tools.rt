@@ -1,6 +1,6 @@
 ghost use Rattle.std.specs.Prelude.{◌≡◌, ℕ, List, map};
 ghost use Rattle.tb_terms.specs.declared.sort.Sort.TheVariants as sorts;
-ghost use Rattle.tb_types.specs.Duties.{fits_some_tool};
+ghost use Rattle.tb_types.specs.ExpectedSorts.{fits_some_tool};
 ghost use Rattle.tb_types.specs.Exprs.{judged, judged_kind, appl_fits, variable_fits};
 ghost use Rattle.tb_types.specs.Fitting.{goes_with, result_goes_with};
 ghost use Rattle.tb_types.specs.Scopes.{visible, sort_in};

@@ -102,32 +102,32 @@ fn is_option(word: &str) -> bool
 fn read_part<'w>(
     verb: Verb,
     found: Found<'w>,
-    place: usize,
+    position: usize,
     word: &'w str,
     next: Option<&'w String>,
 ) -> Result<Found<'w>, WordFault>
-    requires room { place < 2 ^ 63 }
+    requires room { position < 2 ^ 63 }
     requires text { HasText (found_of found) }
-    ensures found { answer_of result ≡ part_by verb (found_of found.entry) (part_of place word.now (option_map string_bytes (option_copied next.entry))) }
+    ensures found { answer_of result ≡ part_by verb (found_of found.entry) (part_of position word.now (option_map string_bytes (option_copied next.entry))) }
     ensures text { IfOk result (λ found. HasText (found_of found)) }
 {
     if is_option(word) {
-        read_option(verb, found, place, word, next)
+        read_option(verb, found, position, word, next)
     } else {
-        read_script(found, place, word)
+        read_script(found, position, word)
     }
 }
 
 /// A word that is no option.
-fn read_script<'w>(found: Found<'w>, place: usize, word: &'w str) -> Result<Found<'w>, WordFault>
+fn read_script<'w>(found: Found<'w>, position: usize, word: &'w str) -> Result<Found<'w>, WordFault>
     requires { HasText (found_of found) }
-    ensures found { answer_of result ≡ and_script (found_of found.entry) (script_by (option_copied found.entry.script) place word.now) }
+    ensures found { answer_of result ≡ and_script (found_of found.entry) (script_by (option_copied found.entry.script) position word.now) }
     ensures text { IfOk result (λ found. HasText (found_of found)) }
 {
     if found.script.is_some() {
-        return Err(WordFault::Extra(place));
+        return Err(WordFault::Extra(position));
     }
-    let script = name_in(place, word)?;
+    let script = name_in(position, word)?;
     Ok(Found {
         script: Some(script),
         ..found
@@ -135,14 +135,14 @@ fn read_script<'w>(found: Found<'w>, place: usize, word: &'w str) -> Result<Foun
 }
 
 /// The name of a file.
-fn name_in(place: usize, word: &str) -> Result<&str, WordFault>
-    ensures name { bytes_of result ≡ name_in place word.now }
+fn name_in(position: usize, word: &str) -> Result<&str, WordFault>
+    ensures name { bytes_of result ≡ name_in position word.now }
     ensures text { IfOk result (λ name. IsTrue (is_text name.now)) }
 {
     if is_text(word.as_bytes()) {
         Ok(word)
     } else {
-        Err(WordFault::Unknown(place))
+        Err(WordFault::Unknown(position))
     }
 }
 
@@ -166,25 +166,25 @@ fn is_text_byte(byte: u8) -> bool
 fn read_option<'w>(
     verb: Verb,
     found: Found<'w>,
-    place: usize,
+    position: usize,
     name: &str,
     value: Option<&'w String>,
 ) -> Result<Found<'w>, WordFault>
-    requires room { place < 2 ^ 63 }
+    requires room { position < 2 ^ 63 }
     requires text { HasText (found_of found) }
-    ensures found { answer_of result ≡ option_by verb (found_of found.entry) place name.now (option_map string_bytes (option_copied value.entry)) }
+    ensures found { answer_of result ≡ option_by verb (found_of found.entry) position name.now (option_map string_bytes (option_copied value.entry)) }
     ensures text { IfOk result (λ found. HasText (found_of found)) }
 {
     if is_unbuilt(name) {
-        return Err(WordFault::NotBuilt(place));
+        return Err(WordFault::NotBuilt(position));
     }
     match verb {
-        Verb::Check => Err(WordFault::Unknown(place)),
-        Verb::Sim if name == "--steps" => read_steps(found, place, value),
-        Verb::Sim if name == "--events" => read_events(found, place, value),
-        Verb::Sim if name == "--feed" => read_feed(found, place, value),
-        Verb::Sim if is_connect(name) => read_connect(found, place, value),
-        Verb::Sim => Err(WordFault::Unknown(place)),
+        Verb::Check => Err(WordFault::Unknown(position)),
+        Verb::Sim if name == "--steps" => read_steps(found, position, value),
+        Verb::Sim if name == "--events" => read_events(found, position, value),
+        Verb::Sim if name == "--feed" => read_feed(found, position, value),
+        Verb::Sim if is_connect(name) => read_connect(found, position, value),
+        Verb::Sim => Err(WordFault::Unknown(position)),
     }
 }
 
@@ -204,15 +204,15 @@ fn is_connect(name: &str) -> bool
 /// `--steps` with its value.
 fn read_steps<'w>(
     found: Found<'w>,
-    place: usize,
+    position: usize,
     value: Option<&String>,
 ) -> Result<Found<'w>, WordFault>
-    requires room { place < 2 ^ 63 }
+    requires room { position < 2 ^ 63 }
     requires text { HasText (found_of found) }
-    ensures found { answer_of result ≡ and_steps (found_of found.entry) (limit_by found.entry.steps place (option_map string_bytes (option_copied value.entry))) }
+    ensures found { answer_of result ≡ and_steps (found_of found.entry) (limit_by found.entry.steps position (option_map string_bytes (option_copied value.entry))) }
     ensures text { IfOk result (λ found. HasText (found_of found)) }
 {
-    let steps = read_limit(found.steps, place, value)?;
+    let steps = read_limit(found.steps, position, value)?;
     Ok(Found {
         steps: Some(steps),
         ..found
@@ -222,15 +222,15 @@ fn read_steps<'w>(
 /// `--events` with its value.
 fn read_events<'w>(
     found: Found<'w>,
-    place: usize,
+    position: usize,
     value: Option<&String>,
 ) -> Result<Found<'w>, WordFault>
-    requires room { place < 2 ^ 63 }
+    requires room { position < 2 ^ 63 }
     requires text { HasText (found_of found) }
-    ensures found { answer_of result ≡ and_events (found_of found.entry) (limit_by found.entry.events place (option_map string_bytes (option_copied value.entry))) }
+    ensures found { answer_of result ≡ and_events (found_of found.entry) (limit_by found.entry.events position (option_map string_bytes (option_copied value.entry))) }
     ensures text { IfOk result (λ found. HasText (found_of found)) }
 {
-    let events = read_limit(found.events.map(u64::from), place, value)?;
+    let events = read_limit(found.events.map(u64::from), position, value)?;
     Ok(Found {
         events: Some(events as u32),
         ..found
@@ -240,21 +240,21 @@ fn read_events<'w>(
 /// `--feed` with its value.
 fn read_feed<'w>(
     found: Found<'w>,
-    place: usize,
+    position: usize,
     value: Option<&'w String>,
 ) -> Result<Found<'w>, WordFault>
-    requires room { place < 2 ^ 63 }
+    requires room { position < 2 ^ 63 }
     requires text { HasText (found_of found) }
-    ensures found { answer_of result ≡ and_feed (found_of found.entry) (feed_by (option_copied found.entry.feed) place (option_map string_bytes (option_copied value.entry))) }
+    ensures found { answer_of result ≡ and_feed (found_of found.entry) (feed_by (option_copied found.entry.feed) position (option_map string_bytes (option_copied value.entry))) }
     ensures text { IfOk result (λ found. HasText (found_of found)) }
 {
     if found.feed.is_some() {
-        return Err(WordFault::Extra(place));
+        return Err(WordFault::Extra(position));
     }
     let Some(value) = value else {
         return Err(WordFault::Missing);
     };
-    let feed = name_in(place + 1, value.as_str())?;
+    let feed = name_in(position + 1, value.as_str())?;
     Ok(Found {
         feed: Some(feed),
         ..found
@@ -264,25 +264,25 @@ fn read_feed<'w>(
 /// `--connect` with its value, which is only counted here.
 fn read_connect<'w>(
     found: Found<'w>,
-    place: usize,
+    position: usize,
     value: Option<&'w String>,
 ) -> Result<Found<'w>, WordFault>
-    requires room { place < 2 ^ 63 }
+    requires room { position < 2 ^ 63 }
     requires text { HasText (found_of found) }
-    ensures found { answer_of result ≡ and_connects (found_of found.entry) (connect_by found.entry.connects place (option_map string_bytes (option_copied value.entry))) }
+    ensures found { answer_of result ≡ and_connects (found_of found.entry) (connect_by found.entry.connects position (option_map string_bytes (option_copied value.entry))) }
     ensures text { IfOk result (λ found. HasText (found_of found)) }
 {
-    let connects = count_connect(found.connects, place, value)?;
+    let connects = count_connect(found.connects, position, value)?;
     Ok(Found { connects, ..found })
 }
 
 /// How many commands to connect there are with this one.
-fn count_connect(count: usize, place: usize, value: Option<&String>) -> Result<usize, WordFault>
-    requires { place < 2 ^ 63 }
-    ensures { result ≡ connect_by count place (option_map string_bytes (option_copied value.entry)) }
+fn count_connect(count: usize, position: usize, value: Option<&String>) -> Result<usize, WordFault>
+    requires { position < 2 ^ 63 }
+    ensures { result ≡ connect_by count position (option_map string_bytes (option_copied value.entry)) }
 {
     if MOST_CONNECTS <= count {
-        return Err(WordFault::Range(place));
+        return Err(WordFault::Range(position));
     }
     let Some(value) = value else {
         return Err(WordFault::Missing);
@@ -290,37 +290,41 @@ fn count_connect(count: usize, place: usize, value: Option<&String>) -> Result<u
     if is_text(value.as_bytes()) {
         Ok(count + 1)
     } else {
-        Err(WordFault::Unknown(place + 1))
+        Err(WordFault::Unknown(position + 1))
     }
 }
 
 /// The value of an option that may be given once.
-fn read_limit(before: Option<u64>, place: usize, value: Option<&String>) -> Result<u64, WordFault>
-    requires { place < 2 ^ 63 }
-    ensures limit { result ≡ limit_by before place (option_map string_bytes (option_copied value.entry)) }
+fn read_limit(
+    before: Option<u64>,
+    position: usize,
+    value: Option<&String>,
+) -> Result<u64, WordFault>
+    requires { position < 2 ^ 63 }
+    ensures limit { result ≡ limit_by before position (option_map string_bytes (option_copied value.entry)) }
     ensures within { IfOk result (λ limit. limit ≤ most_limit) }
 {
     if before.is_some() {
-        return Err(WordFault::Extra(place));
+        return Err(WordFault::Extra(position));
     }
     let Some(value) = value else {
         return Err(WordFault::Missing);
     };
-    limit_in(place + 1, value.as_str())
+    limit_in(position + 1, value.as_str())
 }
 
-fn limit_in(place: usize, word: &str) -> Result<u64, WordFault>
-    ensures limit { result ≡ limit_in place word.now }
+fn limit_in(position: usize, word: &str) -> Result<u64, WordFault>
+    ensures limit { result ≡ limit_in position word.now }
     ensures within { IfOk result (λ limit. limit ≤ most_limit) }
 {
     if !is_digits(word.as_bytes()) {
-        return Err(WordFault::Number(place));
+        return Err(WordFault::Number(position));
     }
     let limit = digits_value(word.as_bytes());
     if 1 <= limit && limit <= MOST_LIMIT {
         Ok(limit)
     } else {
-        Err(WordFault::Range(place))
+        Err(WordFault::Range(position))
     }
 }
 

@@ -1,4 +1,4 @@
-use Rattle.tb_algebra.proofs.Sorts.{offer-keeps, sorts-with_binds, sorted-with_binds}
+use Rattle.tb_algebra.proofs.Sorts.{offer-keeps, sorts-with_binds, well_sorted-with_binds}
 use Rattle.tb_algebra.proofs.laws.offers_keep_sorts.Goals as goal
 
 pub returns-clause-sorts : goal.returns-clause-sorts
@@ -11,4 +11,4 @@ pub returns-clause-fired_sorts : goal.returns-clause-fired_sorts
 returns-clause-fired_sorts c = λ binds ticks offered. sorts-with_binds offered.store binds
 
 pub returns-clause-fired_values : goal.returns-clause-fired_values
-returns-clause-fired_values c = λ binds ticks offered h k. sorted-with_binds offered.store binds h k
+returns-clause-fired_values c = λ binds ticks offered h k. well_sorted-with_binds offered.store binds h k

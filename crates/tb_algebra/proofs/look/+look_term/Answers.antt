@@ -1,28 +1,28 @@
 use Rattle.std.proofs.Common.{◌≡◌, List, ◌++◌, map, ap, sym, ◌∙◌, subst, OnOk}
 use Rattle.tb_algebra.specs.Runnings.{term_of}
-use Rattle.tb_algebra.specs.Sights.{Sight, shown, sights}
+use Rattle.tb_algebra.specs.OfferViews.{OfferView, shown, offer_views}
 use Rattle.tb_algebra.specs.declared.running.Running.{Running}
-use Rattle.tb_algebra.proofs.SightLemmas.{both_more}
-use Rattle.tb_algebra.proofs.TermLemmas.{sights_of_seq, sights_of_par}
+use Rattle.tb_algebra.proofs.OfferViewLemmas.{both_more}
+use Rattle.tb_algebra.proofs.TermLemmas.{offer_views_of_seq, offer_views_of_par}
 use Rattle.tb_algebra.proofs.look.+look_term.Goals as goal
 
 pub returns-in-Seq : goal.returns-in-Seq
 returns-in-Seq t c =
     let store = c.args.store.now in
-    let whole = sights_of_seq c.args.plan.now.nodes c.args.ticks c.args.plan.now.body.atoms c.args.now store c.args.term.now c.in-Seq.x c.in-Seq.field-1 c.in-Seq.is in
-    let part = ap (λ (r : Running). sights c.args.plan.now.body.atoms c.args.now (term_of c.args.plan.now.nodes c.args.ticks r) store) c.get.ensures in
-    subst (λ (l : List Sight). OnOk c.look_term.result (map (shown store) c.look_term.new.found ≡ map (shown store) c.args.found.now ++ l)) (part ∙ sym whole) c.look_term.ensures
+    let whole = offer_views_of_seq c.args.plan.now.nodes c.args.ticks c.args.plan.now.body.atoms c.args.now store c.args.term.now c.in-Seq.x c.in-Seq.field-1 c.in-Seq.is in
+    let part = ap (λ (r : Running). offer_views c.args.plan.now.body.atoms c.args.now (term_of c.args.plan.now.nodes c.args.ticks r) store) c.get.ensures in
+    subst (λ (l : List OfferView). OnOk c.look_term.result (map (shown store) c.look_term.new.found ≡ map (shown store) c.args.found.now ++ l)) (part ∙ sym whole) c.look_term.ensures
 
 pub returns-in_ok-look_term-in-Par : goal.returns-in_ok-look_term-in-Par
 returns-in_ok-look_term-in-Par t c =
     let store = c.args.store.now in
-    let of_term = λ (r : Running). sights c.args.plan.now.body.atoms c.args.now (term_of c.args.plan.now.nodes c.args.ticks r) store in
+    let of_term = λ (r : Running). offer_views c.args.plan.now.body.atoms c.args.now (term_of c.args.plan.now.nodes c.args.ticks r) store in
     let x = c.get-in-Par.result.now in
     let y = c.get-in-Par-2.result.now in
-    let whole = sights_of_par c.args.plan.now.nodes c.args.ticks c.args.plan.now.body.atoms c.args.now store c.args.term.now c.in-Par.x c.in-Par.y c.in-Par.is in
+    let whole = offer_views_of_par c.args.plan.now.nodes c.args.ticks c.args.plan.now.body.atoms c.args.now store c.args.term.now c.in-Par.x c.in-Par.y c.in-Par.is in
     let sides : of_term c.args.term.now ≡ of_term x ++ of_term y = whole ∙ ap (λ (r : Running). of_term r ++ of_term c.in-Par.y) (sym c.get-in-Par.ensures) ∙ ap (λ (r : Running). of_term x ++ of_term r) (sym c.get-in-Par-2.ensures) in
     let old = map (shown store) c.args.found.now in
     let middle = map (shown store) c.look_term-in-Par.new.found in
     let one : middle ≡ old ++ of_term x = c.in_ok-look_term-in-Par.ensures in
     let both = both_more old middle (of_term x) (of_term c.args.term.now) (of_term y) one sides in
-    subst (λ (l : List Sight). OnOk c.look_term-in-Par-2.result (map (shown store) c.look_term-in-Par-2.new.found ≡ l)) both c.look_term-in-Par-2.ensures
+    subst (λ (l : List OfferView). OnOk c.look_term-in-Par-2.result (map (shown store) c.look_term-in-Par-2.new.found ≡ l)) both c.look_term-in-Par-2.ensures

@@ -5,19 +5,19 @@ use Rattle.tb_body.proofs.in_program.have_sorts.Goals as goal
 
 pub returns-then-not-has_sort : goal.returns-then-not-has_sort
 returns-then-not-has_sort c =
-    let within : c.loop-place.place < length c.args.terms.now = let t = c.loop-place-test.true in omega arith in
-    let step = have_sorts_from c.args.sorts.now c.args.terms.now c.loop-place.place c.index-terms-place.result within c.index-terms-place.is c.in-Some.sort.now (sym c.in-Some.ensures) in
-    ap (λ (has : Bool). has && have_sorts (drop (suc c.loop-place.place) c.args.sorts.now) (drop (suc c.loop-place.place) c.args.terms.now)) c.if-not-has_sort.ensures ∙ sym step ∙ c.loop-place.invariant
+    let within : c.loop-position.position < length c.args.terms.now = let t = c.loop-position-test.true in omega arith in
+    let step = have_sorts_from c.args.sorts.now c.args.terms.now c.loop-position.position c.index-terms-position.result within c.index-terms-position.is c.in-Some.sort.now (sym c.in-Some.ensures) in
+    ap (λ (has : Bool). has && have_sorts (drop (suc c.loop-position.position) c.args.sorts.now) (drop (suc c.loop-position.position) c.args.terms.now)) c.if-not-has_sort.ensures ∙ sym step ∙ c.loop-position.invariant
 
 pub returns-in-None : goal.returns-in-None
 returns-in-None c =
-    let within : c.loop-place.place < length c.args.terms.now = let t = c.loop-place-test.true in omega arith in
-    let none = have_no_sort c.args.sorts.now c.args.terms.now c.loop-place.place c.index-terms-place.result within c.index-terms-place.is (sym c.in-None.ensures) in
-    sym none ∙ c.loop-place.invariant
+    let within : c.loop-position.position < length c.args.terms.now = let t = c.loop-position-test.true in omega arith in
+    let none = have_no_sort c.args.sorts.now c.args.terms.now c.loop-position.position c.index-terms-position.result within c.index-terms-position.is (sym c.in-None.ensures) in
+    sym none ∙ c.loop-position.invariant
 
-pub loop-place-preserved : goal.loop-place-preserved
-loop-place-preserved c =
-    let within : c.loop-place.place < length c.args.terms.now = let t = c.loop-place-test.true in omega arith in
-    let step = have_sorts_from c.args.sorts.now c.args.terms.now c.loop-place.place c.index-terms-place.result within c.index-terms-place.is c.in-Some.sort.now (sym c.in-Some.ensures) in
-    ap (λ (n : ℕ). have_sorts (drop n c.args.sorts.now) (drop n c.args.terms.now)) (add-one c.loop-place.place)
-    ∙ ap (λ (has : Bool). has && have_sorts (drop (suc c.loop-place.place) c.args.sorts.now) (drop (suc c.loop-place.place) c.args.terms.now)) c.if-not-has_sort.ensures ∙ sym step ∙ c.loop-place.invariant
+pub loop-position-preserved : goal.loop-position-preserved
+loop-position-preserved c =
+    let within : c.loop-position.position < length c.args.terms.now = let t = c.loop-position-test.true in omega arith in
+    let step = have_sorts_from c.args.sorts.now c.args.terms.now c.loop-position.position c.index-terms-position.result within c.index-terms-position.is c.in-Some.sort.now (sym c.in-Some.ensures) in
+    ap (λ (n : ℕ). have_sorts (drop n c.args.sorts.now) (drop n c.args.terms.now)) (add-one c.loop-position.position)
+    ∙ ap (λ (has : Bool). has && have_sorts (drop (suc c.loop-position.position) c.args.sorts.now) (drop (suc c.loop-position.position) c.args.terms.now)) c.if-not-has_sort.ensures ∙ sym step ∙ c.loop-position.invariant

@@ -9,8 +9,8 @@ pub set-requires-clause-in_range : goal.set-requires-clause-in_range
 set-requires-clause-in_range c =
     last-within c.args.body.now c.loop-actual.store c.loop-actual.slot c.args.actuals c.loop-actual.actuals c.pop.new.self c.in-Some.actual c.loop-actual.invariant c.in-Some.ensures
 
-pub set-requires-clause-sorted : goal.set-requires-clause-sorted
-set-requires-clause-sorted c =
+pub set-requires-clause-well_sorted : goal.set-requires-clause-well_sorted
+set-requires-clause-well_sorted c =
     last-fits c.args.body.now c.loop-actual.store c.loop-actual.slot c.args.actuals c.loop-actual.actuals c.pop.new.self c.in-Some.actual c.loop-actual.invariant c.in-Some.ensures
 
 pub loop-actual-preserved : goal.loop-actual-preserved

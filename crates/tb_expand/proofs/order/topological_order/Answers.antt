@@ -1,9 +1,9 @@
 use Rattle.std.proofs.Common.{ℕ, List, subst, arith}
 use Rattle.std.proofs.lemmas.Option.{MatchOption-at_some}
-use Rattle.tb_expand.specs.Walks.{ComesRound, HasEnded}
-use Rattle.tb_expand.specs.Rounds.{onward, IsTurned}
+use Rattle.tb_expand.specs.Walks.{ClosesCycle, HasEnded}
+use Rattle.tb_expand.specs.TurnedCycles.{onward, IsTurned}
 use Rattle.tb_expand.proofs.Walking.{rest_is_order}
-use Rattle.tb_expand.proofs.Turning.{turned_is_round}
+use Rattle.tb_expand.proofs.Turning.{turned_is_cycle}
 use Rattle.tb_expand.proofs.order.topological_order.Goals as goal
 
 pub returns-in-Some : goal.returns-in-Some
@@ -11,12 +11,12 @@ returns-in-Some c =
     let graph = c.args.graph.now in
     let walk = c.walk_from.new.walk in
     let again = c.in-Some.again in
-    let comes_round : ComesRound graph walk again
-    = MatchOption-at_some (HasEnded graph c.loop-root.walk walk c.loop-root.root) (ComesRound graph walk) again c.in-Some.is c.in_ok-again.ensures in
-    turned_is_round graph walk again comes_round c.in_ok-round_of.field-0
-    (subst (λ (way : List ℕ). IsTurned (onward again way) c.in_ok-round_of.field-0) c.as_slice.ensures c.in_ok-round_of.ensures)
+    let closes_cycle : ClosesCycle graph walk again
+    = MatchOption-at_some (HasEnded graph c.loop-root.walk walk c.loop-root.root) (ClosesCycle graph walk) again c.in-Some.is c.in_ok-again.ensures in
+    turned_is_cycle graph walk again closes_cycle c.in_ok-cycle_of.field-0
+    (subst (λ (way : List ℕ). IsTurned (onward again way) c.in_ok-cycle_of.field-0) c.as_slice.ensures c.in_ok-cycle_of.ensures)
 
 pub returns : goal.returns
 returns c =
     rest_is_order c.args.graph.now c.loop-root.walk c.loop-root.invariant.at_rest
-    (λ place within new. c.loop-root.invariant.visited place (omega arith) new)
+    (λ position within new. c.loop-root.invariant.visited position (omega arith) new)

@@ -3,9 +3,9 @@ use Rattle.tb_expand.specs.declared.walk.Visit.TheVariants.{New}
 use Rattle.tb_expand.specs.Walks.{IsAtRest}
 use Rattle.tb_expand.proofs.order.topological_order.Given as goal
 
--- no place so far is new, and nothing stands on the way
+-- no position so far is new, and nothing stands on the way
 abbrev pub invariant-loop-root : goal.invariant-loop-root
 invariant-loop-root l = record {
   at_rest : IsAtRest l.graph l.walk;
-  visited : (place : ℕ) → place < l.root → slice_get l.walk.visits place ≡ Some New → ⊥;
+  visited : (position : ℕ) → position < l.root → slice_get l.walk.visits position ≡ Some New → ⊥;
 }

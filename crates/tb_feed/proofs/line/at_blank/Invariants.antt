@@ -3,5 +3,5 @@ use Rattle.tb_feed.specs.OneLine.{lacks_blank}
 use Rattle.tb_feed.proofs.line.at_blank.Given as goal
 
 -- no blank so far
-abbrev pub invariant-loop-place : goal.invariant-loop-place
-invariant-loop-place l = lacks_blank (take l.place l.bytes) ≡ true
+abbrev pub invariant-loop-position : goal.invariant-loop-position
+invariant-loop-position l = lacks_blank (take l.position l.bytes) ≡ true

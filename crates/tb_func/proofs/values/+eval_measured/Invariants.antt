@@ -1,9 +1,9 @@
 use Rattle.std.proofs.Common.{◌≡◌, map, drop}
 use Rattle.tb_func.specs.Values.{value_of, all_of}
-use Rattle.tb_func.proofs.Fronts.{with_front}
+use Rattle.tb_func.proofs.Prefixes.{with_prefix}
 use Rattle.tb_func.proofs.values.+eval_measured.Given as goal
 
 -- the expressions that are left, behind the values found
 abbrev pub invariant-eval_all-loop-expr : goal.invariant-eval_all-loop-expr
 invariant-eval_all-loop-expr l =
-    with_front l.values.terms.items (all_of (map (value_of l.s) (drop l.expr-index l.exprs))) ≡ all_of (map (value_of l.s) l.exprs)
+    with_prefix l.values.terms.items (all_of (map (value_of l.s) (drop l.expr-index l.exprs))) ≡ all_of (map (value_of l.s) l.exprs)

@@ -3,6 +3,6 @@ use Rattle.std.specs.List.{prefix_len}
 use Rattle.tb_terms.specs.Names.{is_name_byte}
 use Rattle.tb_lex.proofs.piece.name_len.Given as goal
 
-abbrev pub invariant-loop-place : goal.invariant-loop-place
-invariant-loop-place l =
-    l.place + prefix_len is_name_byte (drop l.place l.bytes) ≡ prefix_len is_name_byte l.bytes
+abbrev pub invariant-loop-position : goal.invariant-loop-position
+invariant-loop-position l =
+    l.position + prefix_len is_name_byte (drop l.position l.bytes) ≡ prefix_len is_name_byte l.bytes

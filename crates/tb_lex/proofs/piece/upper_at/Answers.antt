@@ -1,5 +1,5 @@
-use Rattle.tb_lex.proofs.Names.{is_ident_front}
+use Rattle.tb_lex.proofs.Names.{is_ident_prefix}
 use Rattle.tb_lex.proofs.piece.upper_at.Goals as goal
 
 pub new-requires : goal.new-requires
-new-requires c = rw (c.split_at.ensures.front, c.name_len.ensures.value) (is_ident_front c.args.bytes.now c.requires)
+new-requires c = rw (c.split_at.ensures.front, c.name_len.ensures.value) (is_ident_prefix c.args.bytes.now c.requires)

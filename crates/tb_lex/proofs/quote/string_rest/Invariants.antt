@@ -1,9 +1,9 @@
 use Rattle.std.proofs.Common.{◌≡◌, drop}
 use Rattle.tb_read.specs.declared.quoted.Within.TheVariants.{Between}
-use Rattle.tb_lex.specs.Scanning.{string_rest, with_front}
+use Rattle.tb_lex.specs.Scanning.{string_rest, with_prefix}
 use Rattle.tb_lex.proofs.quote.string_rest.Given as goal
 
 -- what is put, and what the bytes that are left put, is the whole string
-abbrev pub invariant-loop-place : goal.invariant-loop-place
-invariant-loop-place l =
-    with_front l.put.items (string_rest l.quote l.total l.within (drop l.place l.bytes)) ≡ string_rest l.quote l.total Between l.bytes
+abbrev pub invariant-loop-position : goal.invariant-loop-position
+invariant-loop-position l =
+    with_prefix l.put.items (string_rest l.quote l.total l.within (drop l.position l.bytes)) ≡ string_rest l.quote l.total Between l.bytes

@@ -1,10 +1,10 @@
 use Rattle.std.proofs.Common.{◌≡◌, ◌++◌, drop, take}
-use Rattle.tb_log_read.specs.Cutting.{front, behind}
+use Rattle.tb_log_read.specs.Cutting.{prefix, behind}
 use Rattle.tb_log_read.proofs.cut.cut.Given as goal
 
 -- the bytes that are left decide
 abbrev pub invariant-loop-place : goal.invariant-loop-place
 invariant-loop-place l = record {
-  before : take l.place l.bytes ++ front l.separator (drop l.place l.bytes) ≡ front l.separator l.bytes;
+  before : take l.place l.bytes ++ prefix l.separator (drop l.place l.bytes) ≡ prefix l.separator l.bytes;
   after : behind l.separator (drop l.place l.bytes) ≡ behind l.separator l.bytes;
 }

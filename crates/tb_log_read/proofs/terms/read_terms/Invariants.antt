@@ -1,10 +1,10 @@
 use Rattle.std.proofs.Common.{◌≡◌, length}
-use Rattle.tb_log_read.specs.Terms.{terms_of, with_front}
+use Rattle.tb_log_read.specs.Terms.{terms_of, with_prefix}
 use Rattle.tb_log_read.proofs.terms.read_terms.Given as goal
 
 -- the terms so far, and those that are left
 abbrev pub invariant-parts : goal.invariant-parts
-invariant-parts l = with_front l.terms (terms_of l.rest) ≡ terms_of l.bytes
+invariant-parts l = with_prefix l.terms (terms_of l.rest) ≡ terms_of l.bytes
 
 abbrev pub decreases-parts : goal.decreases-parts
 decreases-parts l = length l.rest

@@ -5,8 +5,8 @@ use Rattle.tb_match.proofs.fit.+fitting.Goals as goal
 pub fits_parts-returns-then-patterns-terms : goal.fits_parts-returns-then-patterns-terms
 fits_parts-returns-then-patterns-terms t c = sym (uneven c.args.patterns.now c.args.terms.now c.if-patterns-terms.true)
 
-pub fits_parts-loop-place-preserved : goal.fits_parts-loop-place-preserved
-fits_parts-loop-place-preserved t c =
+pub fits_parts-loop-position-preserved : goal.fits_parts-loop-position-preserved
+fits_parts-loop-position-preserved t c =
     let fits = rw c.if-not-fits.false at c.fits.ensures in
-    let turn = plain_turn c.args.patterns.now c.args.terms.now c.loop-place.place c.index-patterns-place.result c.index-terms-place.result c.loop-place-test.true c.if-patterns-terms.false c.index-patterns-place.is c.index-terms-place.is fits in
-    (sym turn ∙ c.loop-place.invariant.0, plain_rest c.args.patterns.now c.loop-place.place c.index-patterns-place.result c.loop-place-test.true c.loop-place.invariant.1)
+    let turn = plain_turn c.args.patterns.now c.args.terms.now c.loop-position.position c.index-patterns-position.result c.index-terms-position.result c.loop-position-test.true c.if-patterns-terms.false c.index-patterns-position.is c.index-terms-position.is fits in
+    (sym turn ∙ c.loop-position.invariant.0, plain_rest c.args.patterns.now c.loop-position.position c.index-patterns-position.result c.loop-position-test.true c.loop-position.invariant.1)

@@ -1,18 +1,18 @@
 use Rattle.std.proofs.Common.{ap, sym, ◌∙◌}
-use Rattle.tb_match.specs.Joining.{with_front}
-use Rattle.tb_match.proofs.Parts.{uneven, front_turn}
+use Rattle.tb_match.specs.Joining.{with_prefix}
+use Rattle.tb_match.proofs.Parts.{uneven, prefix_turn}
 use Rattle.tb_match.proofs.matching.+matching.Goals as goal
 
 pub match_parts-returns-then-patterns-terms : goal.match_parts-returns-then-patterns-terms
 match_parts-returns-then-patterns-terms t c =
-    sym (ap (with_front c.args.front) (uneven c.args.patterns.now c.args.terms.now c.if-patterns-terms.true))
+    sym (ap (with_prefix c.args.prefix) (uneven c.args.patterns.now c.args.terms.now c.if-patterns-terms.true))
 
 pub match_parts-returns-in-None : goal.match_parts-returns-in-None
 match_parts-returns-in-None t c =
-    let turn = front_turn c.loop-place.binds c.in_ok-more.field-0 c.args.patterns.now c.args.terms.now c.loop-place.place c.index-patterns-place.result c.index-terms-place.result c.loop-place-test.true c.if-patterns-terms.false c.index-patterns-place.is c.index-terms-place.is c.in_ok-more.ensures in
-    sym (rw c.in-None.is at turn) ∙ c.loop-place.invariant
+    let turn = prefix_turn c.loop-position.binds c.in_ok-more.field-0 c.args.patterns.now c.args.terms.now c.loop-position.position c.index-patterns-position.result c.index-terms-position.result c.loop-position-test.true c.if-patterns-terms.false c.index-patterns-position.is c.index-terms-position.is c.in_ok-more.ensures in
+    sym (rw c.in-None.is at turn) ∙ c.loop-position.invariant
 
-pub match_parts-loop-place-preserved : goal.match_parts-loop-place-preserved
-match_parts-loop-place-preserved t c =
-    let turn = front_turn c.loop-place.binds c.in_ok-more.field-0 c.args.patterns.now c.args.terms.now c.loop-place.place c.index-patterns-place.result c.index-terms-place.result c.loop-place-test.true c.if-patterns-terms.false c.index-patterns-place.is c.index-terms-place.is c.in_ok-more.ensures in
-    sym (rw c.in-Some.is at turn) ∙ c.loop-place.invariant
+pub match_parts-loop-position-preserved : goal.match_parts-loop-position-preserved
+match_parts-loop-position-preserved t c =
+    let turn = prefix_turn c.loop-position.binds c.in_ok-more.field-0 c.args.patterns.now c.args.terms.now c.loop-position.position c.index-patterns-position.result c.index-terms-position.result c.loop-position-test.true c.if-patterns-terms.false c.index-patterns-position.is c.index-terms-position.is c.in_ok-more.ensures in
+    sym (rw c.in-Some.is at turn) ∙ c.loop-position.invariant

@@ -13,11 +13,11 @@ loop-turn-preserved c =
 pub returns-in_err-time : goal.returns-in_err-time
 returns-in_err-time c =
     meets_err _ _ _ _ _ c.from_residual.ensures.1 c.in_err-time.ensures
-    (λ place e. times_stop c.args.room c.args.room c.args.reader.now c.loop-turn.found c.loop-turn._turn c.loop-turn.reader c.loop-turn-test.true c.loop-turn.invariant c.is_time.ensures c.if-not-is_time.false e)
+    (λ position e. times_stop c.args.room c.args.room c.args.reader.now c.loop-turn.found c.loop-turn._turn c.loop-turn.reader c.loop-turn-test.true c.loop-turn.invariant c.is_time.ensures c.if-not-is_time.false e)
 
 pub returns-then-not-is_time : goal.returns-then-not-is_time
 returns-then-not-is_time c =
     times_last c.args.room c.args.room c.args.reader.now c.loop-turn.found c.loop-turn._turn c.loop-turn.reader c.loop-turn-test.true c.loop-turn.invariant c.is_time.ensures c.if-not-is_time.true
 
 pub returns : goal.returns
-returns c = times_end c.args.room c.args.room c.args.reader.now c.loop-turn.found c.loop-turn._turn c.loop-turn.reader c.loop-turn-test.false c.loop-turn.invariant c.place.ensures
+returns c = times_end c.args.room c.args.room c.args.reader.now c.loop-turn.found c.loop-turn._turn c.loop-turn.reader c.loop-turn-test.false c.loop-turn.invariant c.position.ensures

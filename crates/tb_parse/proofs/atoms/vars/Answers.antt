@@ -14,7 +14,7 @@ loop-turn-preserved c =
 pub returns-in_err-var : goal.returns-in_err-var
 returns-in_err-var c =
     meets_err _ _ _ _ _ c.from_residual.ensures.1 c.in_err-var.ensures
-    (λ place e. parts_stop (var c.args.room) c.args.room c.args.reader.now c.loop-turn.found c.loop-turn._turn c.loop-turn.reader c.loop-turn-test.true c.loop-turn.invariant e)
+    (λ position e. parts_stop (var c.args.room) c.args.room c.args.reader.now c.loop-turn.found c.loop-turn._turn c.loop-turn.reader c.loop-turn-test.true c.loop-turn.invariant e)
 
 pub returns-then-not-eat_sign : goal.returns-then-not-eat_sign
 returns-then-not-eat_sign c =
@@ -22,4 +22,4 @@ returns-then-not-eat_sign c =
     c.loop-turn-test.true c.loop-turn.invariant c.in_ok-var.ensures c.in_ok-push.ensures.ok c.eat_sign.ensures.found c.eat_sign.ensures.behind c.if-not-eat_sign.true
 
 pub returns : goal.returns
-returns c = parts_end (var c.args.room) c.args.room c.args.reader.now c.loop-turn.found c.loop-turn._turn c.loop-turn.reader c.loop-turn-test.false c.loop-turn.invariant c.place.ensures
+returns c = parts_end (var c.args.room) c.args.room c.args.reader.now c.loop-turn.found c.loop-turn._turn c.loop-turn.reader c.loop-turn-test.false c.loop-turn.invariant c.position.ensures

@@ -14,7 +14,7 @@ loop-turn-preserved c =
 pub returns-in_err-formal : goal.returns-in_err-formal
 returns-in_err-formal c =
     meets_err _ _ _ _ _ c.from_residual.ensures.1 c.in_err-formal.ensures
-    (λ place e. parts_stop (formal c.args.room) c.args.room c.args.reader.now c.loop-turn.found c.loop-turn._turn c.loop-turn.reader c.loop-turn-test.true c.loop-turn.invariant e)
+    (λ position e. parts_stop (formal c.args.room) c.args.room c.args.reader.now c.loop-turn.found c.loop-turn._turn c.loop-turn.reader c.loop-turn-test.true c.loop-turn.invariant e)
 
 pub returns-then-not-eat_sign : goal.returns-then-not-eat_sign
 returns-then-not-eat_sign c =
@@ -22,4 +22,4 @@ returns-then-not-eat_sign c =
     c.loop-turn-test.true c.loop-turn.invariant c.in_ok-formal.ensures c.in_ok-push.ensures.ok c.eat_sign.ensures.found c.eat_sign.ensures.behind c.if-not-eat_sign.true
 
 pub returns : goal.returns
-returns c = parts_end (formal c.args.room) c.args.room c.args.reader.now c.loop-turn.found c.loop-turn._turn c.loop-turn.reader c.loop-turn-test.false c.loop-turn.invariant c.place.ensures
+returns c = parts_end (formal c.args.room) c.args.room c.args.reader.now c.loop-turn.found c.loop-turn._turn c.loop-turn.reader c.loop-turn-test.false c.loop-turn.invariant c.position.ensures

@@ -23,7 +23,7 @@ returns-in_err-roots c =
 pub returns-then-not-is_done : goal.returns-then-not-is_done
 returns-then-not-is_done c =
     script_not_ended c.args.room c.args.reader.now
-    c.in_ok-defined.ensures c.in_ok-skip_word.ensures c.in_ok-skip_sign.ensures c.in_ok-roots.ensures c.if-not-is_done.ensures c.place.ensures
+    c.in_ok-defined.ensures c.in_ok-skip_word.ensures c.in_ok-skip_sign.ensures c.in_ok-roots.ensures c.if-not-is_done.ensures c.position.ensures
 
 pub returns : goal.returns
 returns c =

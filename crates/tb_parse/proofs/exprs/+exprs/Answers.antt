@@ -14,7 +14,7 @@ exprs-loop-turn-preserved t c =
 pub exprs-returns-in_err-expr : goal.exprs-returns-in_err-expr
 exprs-returns-in_err-expr t c =
     meets_err _ _ _ _ _ c.from_residual.ensures.1 c.in_err-expr.ensures
-    (λ place e. parts_stop (expr c.args.room) c.args.room c.args.reader.now c.loop-turn.parts c.loop-turn._turn c.loop-turn.reader c.loop-turn-test.true c.loop-turn.invariant e)
+    (λ position e. parts_stop (expr c.args.room) c.args.room c.args.reader.now c.loop-turn.parts c.loop-turn._turn c.loop-turn.reader c.loop-turn-test.true c.loop-turn.invariant e)
 
 pub exprs-returns-then-not-eat_sign : goal.exprs-returns-then-not-eat_sign
 exprs-returns-then-not-eat_sign t c =
@@ -23,4 +23,4 @@ exprs-returns-then-not-eat_sign t c =
 
 pub exprs-returns : goal.exprs-returns
 exprs-returns t c =
-    parts_end (expr c.args.room) c.args.room c.args.reader.now c.loop-turn.parts c.loop-turn._turn c.loop-turn.reader c.loop-turn-test.false c.loop-turn.invariant c.place.ensures
+    parts_end (expr c.args.room) c.args.room c.args.reader.now c.loop-turn.parts c.loop-turn._turn c.loop-turn.reader c.loop-turn-test.false c.loop-turn.invariant c.position.ensures

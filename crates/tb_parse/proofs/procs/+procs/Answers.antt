@@ -18,34 +18,34 @@ prim-returns t c =
     subst (λ (o : Outcome Built). Meets o c.prim_of.result c.prim_of.new.reader) (sym e) c.prim_of.ensures
 
 pub chain-loop-turn-init : goal.chain-loop-turn-init
-chain-loop-turn-init t c = chain_begin c.args.link c.args.room c.args.reader.now c.new-front.ensures
+chain-loop-turn-init t c = chain_begin c.args.link c.args.room c.args.reader.now c.new-prefix.ensures
 
 pub chain-returns-in_err-x : goal.chain-returns-in_err-x
 chain-returns-in_err-x t c =
     meets_err _ _ _ _ _ c.from_residual.ensures.1 c.in_err-x.ensures
-    (λ place e. chain_stop c.args.link c.args.room c.args.reader.now c.loop-turn.front c.loop-turn._turn c.loop-turn.reader c.loop-turn-test.true c.loop-turn.invariant e)
+    (λ position e. chain_stop c.args.link c.args.room c.args.reader.now c.loop-turn.prefix c.loop-turn._turn c.loop-turn.reader c.loop-turn-test.true c.loop-turn.invariant e)
 
 pub chain-returns-then-not-eat_sign : goal.chain-returns-then-not-eat_sign
 chain-returns-then-not-eat_sign t c =
     let found = rw c.sign_of-sign.ensures at c.eat_sign.ensures.found in
     let behind = rw c.sign_of-sign.ensures at c.eat_sign.ensures.behind in
-    chain_last c.args.link c.args.room c.args.reader.now c.loop-turn.front c.loop-turn._turn c.loop-turn.reader
+    chain_last c.args.link c.args.room c.args.reader.now c.loop-turn.prefix c.loop-turn._turn c.loop-turn.reader
     c.loop-turn-test.true c.loop-turn.invariant c.in_ok-x.ensures c.in_ok-joined.ensures found behind c.if-not-eat_sign.true
 
 pub chain-loop-turn-preserved : goal.chain-loop-turn-preserved
 chain-loop-turn-preserved t c =
     let found = rw c.sign_of-sign.ensures at c.eat_sign.ensures.found in
     let behind = rw c.sign_of-sign.ensures at c.eat_sign.ensures.behind in
-    chain_more c.args.link c.args.room c.args.reader.now c.loop-turn.front c.loop-turn._turn c.loop-turn.reader
+    chain_more c.args.link c.args.room c.args.reader.now c.loop-turn.prefix c.loop-turn._turn c.loop-turn.reader
     c.loop-turn-test.true c.loop-turn.invariant c.in_ok-x.ensures c.in_ok-push.ensures.ok found behind c.if-not-eat_sign.false
 
 pub chain-returns : goal.chain-returns
 chain-returns t c =
-    chain_end c.args.link c.args.room c.args.reader.now c.loop-turn.front c.loop-turn._turn c.loop-turn.reader c.loop-turn-test.false c.loop-turn.invariant c.place.ensures
+    chain_end c.args.link c.args.room c.args.reader.now c.loop-turn.prefix c.loop-turn._turn c.loop-turn.reader c.loop-turn-test.false c.loop-turn.invariant c.position.ensures
 
 pub turns-returns-in_err-whole : goal.turns-returns-in_err-whole
 turns-returns-in_err-whole t c =
-    meets_err _ _ _ _ _ c.from_residual.ensures.1 c.in_err-whole.ensures (λ place e. stars_none c.args.room c.args.reader.now e)
+    meets_err _ _ _ _ _ c.from_residual.ensures.1 c.in_err-whole.ensures (λ position e. stars_none c.args.room c.args.reader.now e)
 
 pub turns-loop-turn-init : goal.turns-loop-turn-init
 turns-loop-turn-init t c = stars_begin c.args.room c.args.reader.now c.in_ok-whole.ensures
@@ -58,7 +58,7 @@ turns-returns-then-not-eat_sign t c =
 pub turns-returns-in_err-last : goal.turns-returns-in_err-last
 turns-returns-in_err-last t c =
     meets_err _ _ _ _ _ c.from_residual-in_err-last.ensures.1 c.in_err-last.ensures
-    (λ place e. stars_stop c.args.room c.args.reader.now c.loop-turn.whole c.loop-turn._turn c.loop-turn.reader c.loop-turn.invariant
+    (λ position e. stars_stop c.args.room c.args.reader.now c.loop-turn.whole c.loop-turn._turn c.loop-turn.reader c.loop-turn.invariant
     c.loop-turn-test.true c.eat_sign.ensures.found c.eat_sign.ensures.behind c.if-not-eat_sign.false e)
 
 pub turns-loop-turn-preserved : goal.turns-loop-turn-preserved
@@ -68,7 +68,7 @@ turns-loop-turn-preserved t c =
 
 pub turns-returns : goal.turns-returns
 turns-returns t c =
-    stars_end c.args.room c.args.reader.now c.loop-turn.whole c.loop-turn._turn c.loop-turn.reader c.loop-turn.invariant c.loop-turn-test.false c.place.ensures
+    stars_end c.args.room c.args.reader.now c.loop-turn.whole c.loop-turn._turn c.loop-turn.reader c.loop-turn.invariant c.loop-turn-test.false c.position.ensures
 
 pub block-returns : goal.block-returns
 block-returns t c =

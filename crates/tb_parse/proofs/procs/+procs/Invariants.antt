@@ -32,7 +32,7 @@ abbrev pub decreases-prim_of : goal.decreases-prim_of
 decreases-prim_of l = 16 * l.room + 11
 
 abbrev pub invariant-chain-loop-turn : goal.invariant-chain-loop-turn
-invariant-chain-loop-turn l = ChainSoFar l.link l.room l.fn.reader l.front l._turn l.reader
+invariant-chain-loop-turn l = ChainSoFar l.link l.room l.fn.reader l.prefix l._turn l.reader
 
 abbrev pub invariant-turns-loop-turn : goal.invariant-turns-loop-turn
 invariant-turns-loop-turn l = StarsSoFar l.room l.fn.reader l.whole l._turn l.reader

@@ -4,7 +4,7 @@ use Rattle.tb_lex.specs.Tokens.{Lexes}
 use Rattle.tb_syntax.specs.TokenText.{tokens_text}
 use Rattle.tb_syntax.specs.Canonical.{script_tokens}
 use Rattle.tb_syntax.specs.ProperKinds.{is_proper_kind}
-use Rattle.tb_syntax.specs.Printing.{SpellsButPlaces}
+use Rattle.tb_syntax.specs.Printing.{SpellsButPositions}
 use Rattle.tb_syntax.proofs.Lexed.{lexed}
 use Rattle.tb_syntax.proofs.PrintedScripts.{script_printed}
 use Rattle.tb_syntax.proofs.print.print_script.Goals as goal
@@ -21,5 +21,5 @@ returns c =
     record {
       tokens = found.0;
       lexes = subst (λ l. Lexes l found.0) (sym text) found.2;
-      spells = subst (SpellsButPlaces script) (sym found.1) (record { other = law.0; is_same = law.1; spells = law.2 });
+      spells = subst (SpellsButPositions script) (sym found.1) (record { other = law.0; is_same = law.1; spells = law.2 });
     }

@@ -1,5 +1,5 @@
 use Rattle.std.proofs.Common.{◌≡◌, take}
 use Rattle.tb_terms.proofs.term.+same.Given as goal
 
-abbrev pub invariant-same_all-loop-place : goal.invariant-same_all-loop-place
-invariant-same_all-loop-place l = take l.place l.a ≡ take l.place l.b
+abbrev pub invariant-same_all-loop-position : goal.invariant-same_all-loop-position
+invariant-same_all-loop-position l = take l.position l.a ≡ take l.position l.b

@@ -5,9 +5,9 @@ use Rattle.tb_terms.proofs.write.+push.Goals as goal
 pub push_joined-returns-in_err-push_term-clause-err : goal.push_joined-returns-in_err-push_term-clause-err
 push_joined-returns-in_err-push_term-clause-err t c =
     let p = err_from_is_err_and c.from_residual-in_err-push_term.result c.from_residual-in_err-push_term.ensures.1 in
-    rw p.1 (kept_through _ _ _ _ c.loop-place.invariant
+    rw p.1 (kept_through _ _ _ _ c.loop-position.invariant
     (kept_through _ _ _ _ c.in_ok-push_comma.ensures.ok c.in_err-push_term.ensures.err))
 
-pub push_joined-loop-place-preserved : goal.push_joined-loop-place-preserved
-push_joined-loop-place-preserved t c =
-    joined-more _ _ _ _ c.args.terms.now c.loop-place.place _ c.loop-place.invariant c.in_ok-push_comma.ensures.ok c.in_ok-push_term.ensures.ok c.loop-place-test.true c.index-terms-place.is
+pub push_joined-loop-position-preserved : goal.push_joined-loop-position-preserved
+push_joined-loop-position-preserved t c =
+    joined-more _ _ _ _ c.args.terms.now c.loop-position.position _ c.loop-position.invariant c.in_ok-push_comma.ensures.ok c.in_ok-push_term.ensures.ok c.loop-position-test.true c.index-terms-position.is

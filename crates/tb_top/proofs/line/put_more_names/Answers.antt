@@ -1,13 +1,13 @@
 use Rattle.std.proofs.Common.{ℕ, List, ◌∷◌, ◌∙◌, ap, arith}
 use Rattle.std.specs.List.{flat_map}
-use Rattle.tb_edge.proofs.Puts.{Owes-piece, TakesFront-piece}
+use Rattle.tb_edge.proofs.Puts.{Owes-piece, WritesPrefix-piece}
 use Rattle.tb_top.proofs.line.put_more_names.Goals as goal
 
-pub returns-in-Err-clause-front : goal.returns-in-Err-clause-front
-returns-in-Err-clause-front g c =
+pub returns-in-Err-clause-prefix : goal.returns-in-Err-clause-prefix
+returns-in-Err-clause-prefix g c =
     let piece : List ℕ → List ℕ = λ name. 44 ∷ name in
-    TakesFront-piece piece (g.E.Sink.taken c.args.err.now) (g.E.Sink.taken c.loop-name.err) (g.E.Sink.taken c.put_after.new.err) (flat_map piece c.args.names.now) c.args.names.now c.loop-name.name-index
-    c.name-item.result (44 ∷ c.as_bytes.result.now) c.loop-name-test.true (ap piece (c.as_bytes.ensures.value ∙ c.name-item.is)) c.loop-name.invariant.owed c.in-Err.ensures.front
+    WritesPrefix-piece piece (g.E.Sink.taken c.args.err.now) (g.E.Sink.taken c.loop-name.err) (g.E.Sink.taken c.put_after.new.err) (flat_map piece c.args.names.now) c.args.names.now c.loop-name.name-index
+    c.name-item.result (44 ∷ c.as_bytes.result.now) c.loop-name-test.true (ap piece (c.as_bytes.ensures.value ∙ c.name-item.is)) c.loop-name.invariant.owed c.in-Err.ensures.prefix
 
 pub loop-name-preserved : goal.loop-name-preserved
 loop-name-preserved g c =

@@ -1,8 +1,8 @@
 use Rattle.std.proofs.Common.{◌≡◌, ℕ, List, ◌∷◌, ◌++◌, ◌∙◌, OnOk, OnErr, ap, sym, subst}
 use Rattle.std.specs.List.{flat_map, join_with_byte}
 use Rattle.std.proofs.lemmas.Result.{on_ok_weaker, on_err_weaker}
-use Rattle.tb_edge.specs.Sinks.{Takes, TakesFront}
-use Rattle.tb_edge.proofs.Puts.{Takes-append, TakesFront-append, TakesFront-more}
+use Rattle.tb_edge.specs.Sinks.{Writes, WritesPrefix}
+use Rattle.tb_edge.proofs.Puts.{Writes-append, WritesPrefix-append, WritesPrefix-more}
 use Rattle.tb_top.proofs.Lines.{joined-more}
 use Rattle.tb_top.proofs.line.put_names.Goals as goal
 
@@ -14,19 +14,19 @@ pub returns-in-Ok-clause-ok : goal.returns-in-Ok-clause-ok
 returns-in-Ok-clause-ok g c =
     let old = g.E.Sink.taken c.args.err.now in
     let new = g.E.Sink.taken c.put_more_names.new.err in
-    subst (λ (bytes : List ℕ). OnOk c.put_more_names.result (Takes old new bytes)) (whole c.args.names.now c.in-Some.first.now c.as_bytes.result.now c.in-Some.others.now c.in-Some.ensures.cases.0 c.as_bytes.ensures.value)
-    (on_ok_weaker c.put_more_names.result (Takes-append old (g.E.Sink.taken c.put.new.self) new c.as_bytes.result.now (flat_map (λ (name : List ℕ). 44 ∷ name) c.in-Some.others.now) c.in-Ok.ensures.ok) c.put_more_names.ensures.ok)
+    subst (λ (bytes : List ℕ). OnOk c.put_more_names.result (Writes old new bytes)) (whole c.args.names.now c.in-Some.first.now c.as_bytes.result.now c.in-Some.others.now c.in-Some.ensures.cases.0 c.as_bytes.ensures.value)
+    (on_ok_weaker c.put_more_names.result (Writes-append old (g.E.Sink.taken c.put.new.self) new c.as_bytes.result.now (flat_map (λ (name : List ℕ). 44 ∷ name) c.in-Some.others.now) c.in-Ok.ensures.ok) c.put_more_names.ensures.ok)
 
-pub returns-in-Ok-clause-front : goal.returns-in-Ok-clause-front
-returns-in-Ok-clause-front g c =
+pub returns-in-Ok-clause-prefix : goal.returns-in-Ok-clause-prefix
+returns-in-Ok-clause-prefix g c =
     let old = g.E.Sink.taken c.args.err.now in
     let new = g.E.Sink.taken c.put_more_names.new.err in
-    subst (λ (bytes : List ℕ). OnErr c.put_more_names.result (TakesFront old new bytes)) (whole c.args.names.now c.in-Some.first.now c.as_bytes.result.now c.in-Some.others.now c.in-Some.ensures.cases.0 c.as_bytes.ensures.value)
-    (on_err_weaker c.put_more_names.result (TakesFront-append old (g.E.Sink.taken c.put.new.self) new c.as_bytes.result.now (flat_map (λ (name : List ℕ). 44 ∷ name) c.in-Some.others.now) c.in-Ok.ensures.ok) c.put_more_names.ensures.front)
+    subst (λ (bytes : List ℕ). OnErr c.put_more_names.result (WritesPrefix old new bytes)) (whole c.args.names.now c.in-Some.first.now c.as_bytes.result.now c.in-Some.others.now c.in-Some.ensures.cases.0 c.as_bytes.ensures.value)
+    (on_err_weaker c.put_more_names.result (WritesPrefix-append old (g.E.Sink.taken c.put.new.self) new c.as_bytes.result.now (flat_map (λ (name : List ℕ). 44 ∷ name) c.in-Some.others.now) c.in-Ok.ensures.ok) c.put_more_names.ensures.prefix)
 
-pub returns-in-Err-clause-front : goal.returns-in-Err-clause-front
-returns-in-Err-clause-front g c =
+pub returns-in-Err-clause-prefix : goal.returns-in-Err-clause-prefix
+returns-in-Err-clause-prefix g c =
     let old = g.E.Sink.taken c.args.err.now in
     let new = g.E.Sink.taken c.put.new.self in
-    subst (λ (bytes : List ℕ). TakesFront old new bytes) (whole c.args.names.now c.in-Some.first.now c.as_bytes.result.now c.in-Some.others.now c.in-Some.ensures.cases.0 c.as_bytes.ensures.value)
-    (TakesFront-more old new c.as_bytes.result.now (flat_map (λ (name : List ℕ). 44 ∷ name) c.in-Some.others.now) c.in-Err.ensures.front)
+    subst (λ (bytes : List ℕ). WritesPrefix old new bytes) (whole c.args.names.now c.in-Some.first.now c.as_bytes.result.now c.in-Some.others.now c.in-Some.ensures.cases.0 c.as_bytes.ensures.value)
+    (WritesPrefix-more old new c.as_bytes.result.now (flat_map (λ (name : List ℕ). 44 ∷ name) c.in-Some.others.now) c.in-Err.ensures.prefix)

@@ -1,12 +1,12 @@
 use Rattle.std.proofs.Common.{[], ◌∷◌}
 use Rattle.std.proofs.lemmas.Result.{on_err_weaker}
-use Rattle.tb_edge.proofs.Puts.{TakesFront-append, TakesFront-more}
+use Rattle.tb_edge.proofs.Puts.{WritesPrefix-append, WritesPrefix-more}
 use Rattle.tb_top.specs.Lines.{status_words}
 use Rattle.tb_top.proofs.line.put_rest.Goals as goal
 
-pub returns-in-Ok-clause-front : goal.returns-in-Ok-clause-front
-returns-in-Ok-clause-front g c =
-    on_err_weaker c.put.result (TakesFront-append (g.E.Sink.taken c.args.err.now) (g.E.Sink.taken c.put_words.new.err) (g.E.Sink.taken c.put.new.self) (status_words c.args.status.now) (10 ∷ []) c.in-Ok.ensures.ok) c.put.ensures.front
+pub returns-in-Ok-clause-prefix : goal.returns-in-Ok-clause-prefix
+returns-in-Ok-clause-prefix g c =
+    on_err_weaker c.put.result (WritesPrefix-append (g.E.Sink.taken c.args.err.now) (g.E.Sink.taken c.put_words.new.err) (g.E.Sink.taken c.put.new.self) (status_words c.args.status.now) (10 ∷ []) c.in-Ok.ensures.ok) c.put.ensures.prefix
 
-pub returns-in-Err-clause-front : goal.returns-in-Err-clause-front
-returns-in-Err-clause-front g c = TakesFront-more (g.E.Sink.taken c.args.err.now) (g.E.Sink.taken c.put_words.new.err) (status_words c.args.status.now) (10 ∷ []) c.in-Err.ensures.front
+pub returns-in-Err-clause-prefix : goal.returns-in-Err-clause-prefix
+returns-in-Err-clause-prefix g c = WritesPrefix-more (g.E.Sink.taken c.args.err.now) (g.E.Sink.taken c.put_words.new.err) (status_words c.args.status.now) (10 ∷ []) c.in-Err.ensures.prefix

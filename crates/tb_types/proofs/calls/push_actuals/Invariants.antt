@@ -4,7 +4,7 @@ use Rattle.tb_types.specs.Scopes.{visible}
 use Rattle.tb_types.proofs.calls.push_actuals.Given as goal
 
 -- what the actuals that are left break stands behind what was noted
-abbrev pub invariant-loop-place : goal.invariant-loop-place
-invariant-loop-place l =
-    l.into ++ actuals_faults l.names.script.now (visible l.scope) l.manner l.formals l.place (drop l.place l.actuals)
+abbrev pub invariant-loop-position : goal.invariant-loop-position
+invariant-loop-position l =
+    l.into ++ actuals_faults l.names.script.now (visible l.scope) l.manner l.formals l.position (drop l.position l.actuals)
     ≡ l.initial.into ++ actuals_faults l.names.script.now (visible l.scope) l.manner l.formals 0 l.actuals

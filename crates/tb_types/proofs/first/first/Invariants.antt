@@ -3,4 +3,4 @@ use Rattle.tb_types.specs.First.{first_of}
 use Rattle.tb_types.proofs.first.first.Given as goal
 
 abbrev pub invariant-loop-next : goal.invariant-loop-next
-invariant-loop-next l = l.first ≡ first_of (take l.next-index l.broken)
+invariant-loop-next l = l.first ≡ first_of (take l.next-index l.violation)

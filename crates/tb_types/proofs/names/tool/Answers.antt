@@ -1,15 +1,15 @@
 use Rattle.std.proofs.Common.{slice_get, Some, None, ap, ◌∙◌}
-use Rattle.tb_types.specs.NamePlaces.{place_in, tool_name}
+use Rattle.tb_types.specs.NamePositions.{position_in, tool_name}
 use Rattle.tb_types.proofs.Naming.{found_by}
 use Rattle.tb_types.proofs.names.tool.Goals as goal
 
 pub returns-in-None : goal.returns-in-None
 returns-in-None c =
     found_by tool_name c.args.names.now.script.now.tools c.args.name.now None
-    (c.in-None.ensures.value ∙ ap (place_in c.args.names.now.tools) c.as_bytes.ensures.value ∙ c.args.names.now.knows_tools c.args.name.now)
+    (c.in-None.ensures.value ∙ ap (position_in c.args.names.now.tools) c.as_bytes.ensures.value ∙ c.args.names.now.knows_tools c.args.name.now)
 
 pub returns-in-Some : goal.returns-in-Some
 returns-in-Some c =
-    c.at.ensures ∙ ap (λ xs. slice_get xs c.in-Some.place.now) c.as_slice.ensures
-    ∙ found_by tool_name c.args.names.now.script.now.tools c.args.name.now (Some c.in-Some.place.now)
-    (c.in-Some.ensures.value ∙ ap (place_in c.args.names.now.tools) c.as_bytes.ensures.value ∙ c.args.names.now.knows_tools c.args.name.now)
+    c.at.ensures ∙ ap (λ xs. slice_get xs c.in-Some.position.now) c.as_slice.ensures
+    ∙ found_by tool_name c.args.names.now.script.now.tools c.args.name.now (Some c.in-Some.position.now)
+    (c.in-Some.ensures.value ∙ ap (position_in c.args.names.now.tools) c.as_bytes.ensures.value ∙ c.args.names.now.knows_tools c.args.name.now)

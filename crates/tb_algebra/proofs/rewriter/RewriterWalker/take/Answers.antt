@@ -1,5 +1,5 @@
 use Rattle.std.proofs.Common.{sym, ap, ◌∙◌}
-use Rattle.tb_algebra.specs.Hits.{hit_of}
+use Rattle.tb_algebra.specs.Selections.{selected_of}
 use Rattle.tb_algebra.specs.Rewritings.{walking_of}
 use Rattle.tb_algebra.specs.Walks.{offers_of}
 use Rattle.tb_algebra.proofs.RewriterLemmas.{hit_inside, taken_left}
@@ -8,10 +8,10 @@ use Rattle.tb_algebra.proofs.rewriter.RewriterWalker.take.Goals as goal
 pub returns-in-Taken : goal.returns-in-Taken
 returns-in-Taken c =
     record {
-      taken = taken_left c.args.plan.now c.args.self.now c.args.k c.in_ok-term.field-0 (record { term = c.in-Taken.term; own = c.in-Taken.own }) c.in-Taken.is c.in_ok-term.ensures.hit c.in_ok-term.ensures.on;
+      taken = taken_left c.args.plan.now c.args.self.now c.args.k c.in_ok-term.field-0 (record { term = c.in-Taken.term; own = c.in-Taken.own }) c.in-Taken.is c.in_ok-term.ensures.selected c.in_ok-term.ensures.on;
     }
 
 pub returns-in-Past : goal.returns-in-Past
 returns-in-Past c =
-    let over = sym c.in_ok-term.ensures.hit ∙ ap (hit_of c.args.plan.now.nodes c.args.self.now.ticks c.args.self.now.store) c.in-Past.is in
+    let over = sym c.in_ok-term.ensures.selected ∙ ap (selected_of c.args.plan.now.nodes c.args.self.now.ticks c.args.self.now.store) c.in-Past.is in
     absurd (hit_inside c.args.k (offers_of (walking_of c.args.plan.now c.args.self.now)) c.in-Past.field-0 c.requires.within over)

@@ -1,11 +1,11 @@
 use Rattle.std.proofs.Common.{◌≡◌, ◌++◌, take, arith}
 use Rattle.std.proofs.lemmas.Grind.{common_steps}
-use Rattle.tb_edge.proofs.Puts.{TakesFront-take}
+use Rattle.tb_edge.proofs.Puts.{WritesPrefix-take}
 use Rattle.tb_edge.proofs.mem_sink.MemSinkSink.put.Goals as goal
 
-pub returns-then-front-piece-clause-front : goal.returns-then-front-piece-clause-front
-returns-then-front-piece-clause-front c =
+pub returns-then-prefix-piece-clause-prefix : goal.returns-then-prefix-piece-clause-prefix
+returns-then-prefix-piece-clause-prefix c =
     let piece = c.args.piece.now in
-    let front = c.if-fails_at.front in
-    let takes : c.extend_from_slice.new.self.items ≡ c.args.self.now.taken ++ take front piece = grind (arith, common_steps) in
-    TakesFront-take c.args.self.now.taken piece c.extend_from_slice.new.self.items front takes
+    let prefix = c.if-fails_at.prefix in
+    let takes : c.extend_from_slice.new.self.items ≡ c.args.self.now.taken ++ take prefix piece = grind (arith, common_steps) in
+    WritesPrefix-take c.args.self.now.taken piece c.extend_from_slice.new.self.items prefix takes

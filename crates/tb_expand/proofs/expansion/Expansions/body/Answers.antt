@@ -10,13 +10,13 @@ use Rattle.tb_expand.specs.Wholes.{is_whole}
 use Rattle.tb_expand.proofs.expansion.Expansions.body.Goals as goal
 
 -- the definition that was read stands there
-there : (procs seen : List ProcDef) (place : ℕ) (d : ProcDef) → place < length procs → d ≡ get_or seen place d → seen ≡ procs → slice_get procs place ≡ Some d
-there procs seen place d within read same = slice_get_read procs (length procs) place d refl within (read ∙ ap (λ (xs : List ProcDef). get_or xs place d) same)
+there : (procs seen : List ProcDef) (position : ℕ) (d : ProcDef) → position < length procs → d ≡ get_or seen position d → seen ≡ procs → slice_get procs position ≡ Some d
+there procs seen position d within read same = slice_get_read procs (length procs) position d refl within (read ∙ ap (λ (xs : List ProcDef). get_or xs position d) same)
 
-body_of : (script named : Script) (place : ℕ) (read d : ProcDef) (body : Body) → named ≡ script → HasNoCycle script → slice_get script.procs place ≡ Some read
-    → is_too_large (expansion_of script read) ≡ false → IsExpansion named read body → slice_get script.procs place ≡ Some d → IsBodyOf script d body
-body_of script named place read d body same no_cycle at small is at_place =
-    subst (λ (e : ProcDef). IsBodyOf script e body) (same_Some read d (sym at ∙ at_place))
+body_of : (script named : Script) (position : ℕ) (read d : ProcDef) (body : Body) → named ≡ script → HasNoCycle script → slice_get script.procs position ≡ Some read
+    → is_too_large (expansion_of script read) ≡ false → IsExpansion named read body → slice_get script.procs position ≡ Some d → IsBodyOf script d body
+body_of script named position read d body same no_cycle at small is at_position =
+    subst (λ (e : ProcDef). IsBodyOf script e body) (same_Some read d (sym at ∙ at_position))
     (record { no_cycle = no_cycle; small = small; is = subst (λ (s : Script). IsExpansion s read body) same is })
 
 pub built-requires-clause-proper : goal.built-requires-clause-proper
@@ -25,14 +25,14 @@ built-requires-clause-proper c = subst Proper (sym c.args.self.now.same) c.args.
 pub built-requires-clause-whole : goal.built-requires-clause-whole
 built-requires-clause-whole c =
     let script = c.args.self.now.script.now in
-    let d = c.index-as_slice-place.result in
-    let at = there script.procs c.as_slice.result.now c.args.place d c.requires c.index-as_slice-place.is c.as_slice.ensures in
-    subst (λ (s : Script). is_whole s (length s.procs) d.body ≡ true) (sym c.args.self.now.same) (c.args.self.now.whole c.args.place d at)
+    let d = c.index-as_slice-position.result in
+    let at = there script.procs c.as_slice.result.now c.args.position d c.requires c.index-as_slice-position.is c.as_slice.ensures in
+    subst (λ (s : Script). is_whole s (length s.procs) d.body ≡ true) (sym c.args.self.now.same) (c.args.self.now.whole c.args.position d at)
 
 pub returns-clause-body : goal.returns-clause-body
-returns-clause-body c = λ d at_place.
+returns-clause-body c = λ d at_position.
     let script = c.args.self.now.script.now in
-    let read = c.index-as_slice-place.result in
-    let at = there script.procs c.as_slice.result.now c.args.place read c.requires c.index-as_slice-place.is c.as_slice.ensures in
-    body_of script c.args.self.now.names.script.now c.args.place read d c.in_ok-built.field-0 c.args.self.now.same c.args.self.now.no_cycle at
-    (sym c.is_too_large.ensures ∙ c.if-is_too_large.false) c.in_ok-built.ensures at_place
+    let read = c.index-as_slice-position.result in
+    let at = there script.procs c.as_slice.result.now c.args.position read c.requires c.index-as_slice-position.is c.as_slice.ensures in
+    body_of script c.args.self.now.names.script.now c.args.position read d c.in_ok-built.field-0 c.args.self.now.same c.args.self.now.no_cycle at
+    (sym c.is_too_large.ensures ∙ c.if-is_too_large.false) c.in_ok-built.ensures at_position

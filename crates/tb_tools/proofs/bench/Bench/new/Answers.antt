@@ -4,16 +4,16 @@ use Rattle.tb_tools.specs.Lanes.{Lane, started, unused}
 use Rattle.tb_tools.proofs.bench.Bench.new.Goals as goal
 
 -- one unused lane more
-padded-more : (front now pushed : List Lane) (lane : Lane) (count len : ℕ) → len ≤ count → now ≡ front ++ replicate (count - len) unused → lane ≡ unused
-    → pushed ≡ now ++ lane ∷ [] → pushed ≡ front ++ replicate (count + 1 - len) unused
-padded-more front now pushed lane count len l e f g =
+padded-more : (prefix now pushed : List Lane) (lane : Lane) (count len : ℕ) → len ≤ count → now ≡ prefix ++ replicate (count - len) unused → lane ≡ unused
+    → pushed ≡ now ++ lane ∷ [] → pushed ≡ prefix ++ replicate (count + 1 - len) unused
+padded-more prefix now pushed lane count len l e f g =
     let next : count - len + 1 ≡ count + 1 - len = omega arith in
     g
     ∙ ap (λ (xs : List Lane). xs ++ lane ∷ []) e
-    ∙ ap (λ (x : Lane). (front ++ replicate (count - len) unused) ++ x ∷ []) f
-    ∙ append_assoc front (replicate (count - len) unused) (unused ∷ [])
-    ∙ ap (λ (xs : List Lane). front ++ xs) (replicate_more (count - len) unused)
-    ∙ ap (λ (n : ℕ). front ++ replicate n unused) next
+    ∙ ap (λ (x : Lane). (prefix ++ replicate (count - len) unused) ++ x ∷ []) f
+    ∙ append_assoc prefix (replicate (count - len) unused) (unused ∷ [])
+    ∙ ap (λ (xs : List Lane). prefix ++ xs) (replicate_more (count - len) unused)
+    ∙ ap (λ (n : ℕ). prefix ++ replicate n unused) next
 
 pub loop-preserved : goal.loop-preserved
 loop-preserved c =

@@ -1,7 +1,0 @@
-use Rattle.std.proofs.Common.{◌≡◌, map, drop}
-use Rattle.std.specs.List.{list_all}
-use Rattle.tb_body.specs.Exprs.{places_of}
-use Rattle.tb_body.proofs.places.+is_receiving.Given as goal
-
-abbrev pub invariant-are_receiving-loop-part : goal.invariant-are_receiving-loop-part
-invariant-are_receiving-loop-part l = list_all (λ part. part.receiving) (map (places_of l.slots) (drop l.part-index l.parts)) ≡ list_all (λ part. part.receiving) (map (places_of l.slots) l.parts)

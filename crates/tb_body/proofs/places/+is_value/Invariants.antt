@@ -1,7 +1,0 @@
-use Rattle.std.proofs.Common.{◌≡◌, map, drop}
-use Rattle.std.specs.List.{list_all}
-use Rattle.tb_body.specs.Exprs.{places_of}
-use Rattle.tb_body.proofs.places.+is_value.Given as goal
-
-abbrev pub invariant-are_values-loop-part : goal.invariant-are_values-loop-part
-invariant-are_values-loop-part l = list_all (λ part. part.value) (map (places_of l.slots) (drop l.part-index l.parts)) ≡ list_all (λ part. part.value) (map (places_of l.slots) l.parts)

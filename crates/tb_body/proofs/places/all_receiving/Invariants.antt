@@ -1,7 +1,0 @@
-use Rattle.std.proofs.Common.{◌≡◌, drop}
-use Rattle.std.specs.List.{list_all}
-use Rattle.tb_body.specs.Exprs.{is_receiving}
-use Rattle.tb_body.proofs.places.all_receiving.Given as goal
-
-abbrev pub invariant-loop-expr : goal.invariant-loop-expr
-invariant-loop-expr l = list_all (is_receiving l.slots) (drop l.expr-index l.exprs) ≡ list_all (is_receiving l.slots) l.exprs
