@@ -10,8 +10,8 @@ use Rattle.tb_body.specs.declared.tree.Tree.TheVariants.{outs-At, outs-Seq, outs
 use Rattle.tb_algebra.specs.Processes as process
 use Rattle.tb_algebra.specs.Processes.{Process, fresh, fresh_step, aged}
 use Rattle.tb_algebra.specs.Offers.{offers, before}
-use Rattle.tb_algebra.specs.Plans.{built, trees, tree_at, process_at, AreBehind}
-use Rattle.tb_algebra.specs.Runnings.{waited, entered_term}
+use Rattle.tb_algebra.specs.Helpers.Plans.{built, trees, tree_at, process_at, AreBehind}
+use Rattle.tb_algebra.specs.Helpers.Runnings.{waited, entered_term}
 use Rattle.tb_algebra.specs.declared.node.Node.{Node}
 use Rattle.tb_algebra.specs.declared.node.Node.TheVariants.{At, Seq, Alt, Star, Par, If, Let}
 use Rattle.tb_algebra.specs.declared.running.Entry.{Entry}

@@ -9,10 +9,10 @@ use Rattle.tb_algebra.specs.Atoms.{is_ready, times_of}
 use Rattle.tb_algebra.specs.Processes as process
 use Rattle.tb_algebra.specs.Processes.{Process}
 use Rattle.tb_algebra.specs.Offers.{Offered, offers, before, on_the_left, on_the_right, offers_if, offers_after}
-use Rattle.tb_algebra.specs.Plans.{process_at, AreBehind}
-use Rattle.tb_algebra.specs.Runnings.{entered_term}
+use Rattle.tb_algebra.specs.Helpers.Plans.{process_at, AreBehind}
+use Rattle.tb_algebra.specs.Helpers.Runnings.{entered_term}
 use Rattle.tb_algebra.specs.Settings.{tested, with_settings}
-use Rattle.tb_algebra.specs.OfferViews.{OfferView, offer_view, offer_views}
+use Rattle.tb_algebra.specs.Helpers.OfferViews.{OfferView, offer_view, offer_views}
 use Rattle.tb_algebra.specs.declared.node.Node.{Node}
 use Rattle.tb_algebra.specs.declared.node.Node.TheVariants.{At, Seq, Alt, Star, Par, If, Let}
 use Rattle.tb_algebra.specs.declared.running.Entry.{Entry}

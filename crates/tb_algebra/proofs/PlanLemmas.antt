@@ -10,8 +10,8 @@ use Rattle.tb_body.specs.declared.tree.Tree.{Tree}
 use Rattle.tb_body.specs.declared.tree.Tree.TheVariants as tree
 use Rattle.tb_algebra.specs.declared.node.Node.{Node}
 use Rattle.tb_algebra.specs.declared.node.Node.TheVariants.{At, Seq, Alt, Star, Par, If, Let}
-use Rattle.tb_algebra.specs.Selections.{chosen}
-use Rattle.tb_algebra.specs.Plans.{made_at, built, with_node, trees, tree_at, is_behind, AreBehind, HasAdded}
+use Rattle.tb_algebra.specs.Helpers.Selections.{chosen}
+use Rattle.tb_algebra.specs.Helpers.Plans.{made_at, built, with_node, trees, tree_at, is_behind, AreBehind, HasAdded}
 
 length-fold : (made : List Tree) (nodes : List Node) → length (fold with_node made nodes) ≡ length made + length nodes
 length-fold made [] = omega arith

@@ -5,14 +5,14 @@ use Rattle.std.proofs.lemmas.Option.{slice_get-map}
 use Rattle.tb_func.specs.declared.slot.Slot.{Slot}
 use Rattle.tb_body.specs.declared.atom.Atom.{Atom}
 use Rattle.tb_body.specs.declared.tree.Tree.{Tree}
-use Rattle.tb_algebra.specs.Candidates.{offer_of}
-use Rattle.tb_algebra.specs.Selections.{Past, On, selected, selected_at, selected_of, is_fired_on}
+use Rattle.tb_algebra.specs.Helpers.Candidates.{offer_of}
+use Rattle.tb_algebra.specs.Helpers.Selections.{Past, On, selected, selected_at, selected_of, is_fired_on}
 use Rattle.tb_algebra.specs.Offers.{Offered}
 use Rattle.tb_algebra.specs.Processes.{Process, fresh}
-use Rattle.tb_algebra.specs.Plans.{tree_at}
-use Rattle.tb_algebra.specs.Rewritings.{walking_of, seen_of, Kept, kept, kept_found, IsOnPlan, IsLeft}
-use Rattle.tb_algebra.specs.Runnings.{term_of}
-use Rattle.tb_algebra.specs.OfferViews.{OfferView, offer_view, offer_views, shown, or_own}
+use Rattle.tb_algebra.specs.Helpers.Plans.{tree_at}
+use Rattle.tb_algebra.specs.Helpers.Rewritings.{walking_of, seen_of, Kept, kept, kept_found, IsOnPlan, IsLeft}
+use Rattle.tb_algebra.specs.Helpers.Runnings.{term_of}
+use Rattle.tb_algebra.specs.Helpers.OfferViews.{OfferView, offer_view, offer_views, shown, or_own}
 use Rattle.tb_algebra.specs.Walks.{Walking, offers_of, seen}
 use Rattle.tb_algebra.specs.declared.fired.Fired.{Fired}
 use Rattle.tb_algebra.specs.declared.fired.Fired.TheVariants.{Taken}

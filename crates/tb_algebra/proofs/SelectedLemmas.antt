@@ -3,12 +3,12 @@ use Rattle.std.proofs.Common.{◌≡◌, ℕ, zero, suc, ◌-◌, Bool, true, fa
 use Rattle.tb_terms.specs.declared.expr.Expr.{Expr}
 use Rattle.tb_func.specs.declared.slot.Slot.{Slot}
 use Rattle.tb_body.specs.declared.tree.Setting.{Setting}
-use Rattle.tb_algebra.specs.Selections.{Selected, Past, On, chosen, selected, selected_at, selected_with, or_past}
+use Rattle.tb_algebra.specs.Helpers.Selections.{Selected, Past, On, chosen, selected, selected_at, selected_with, or_past}
 use Rattle.tb_algebra.specs.Processes as process
 use Rattle.tb_algebra.specs.Processes.{Process}
 use Rattle.tb_algebra.specs.Offers.{Offered, offers, before, on_the_left, on_the_right, offers_if, offers_after, followed, left_of, right_of}
-use Rattle.tb_algebra.specs.Plans.{process_at, AreBehind}
-use Rattle.tb_algebra.specs.Runnings.{entered_term}
+use Rattle.tb_algebra.specs.Helpers.Plans.{process_at, AreBehind}
+use Rattle.tb_algebra.specs.Helpers.Runnings.{entered_term}
 use Rattle.tb_algebra.specs.Settings.{tested, with_settings}
 use Rattle.tb_algebra.specs.declared.node.Node.{Node}
 use Rattle.tb_algebra.specs.declared.node.Node.TheVariants.{At, Seq, Alt, Star, Par, If, Let}

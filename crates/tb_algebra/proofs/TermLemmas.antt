@@ -5,15 +5,15 @@ use Rattle.tb_func.specs.declared.slot.Slot.{Slot}
 use Rattle.tb_body.specs.declared.atom.Atom.{Atom}
 use Rattle.tb_algebra.specs.Processes as process
 use Rattle.tb_algebra.specs.Processes.{Process}
-use Rattle.tb_algebra.specs.Plans.{process_at}
-use Rattle.tb_algebra.specs.Runnings.{term_of, term_step, is_on, on_step, entered_term}
-use Rattle.tb_algebra.specs.OfferViews.{OfferView, offer_views}
+use Rattle.tb_algebra.specs.Helpers.Plans.{process_at}
+use Rattle.tb_algebra.specs.Helpers.Runnings.{term_of, term_step, is_on, on_step, entered_term}
+use Rattle.tb_algebra.specs.Helpers.OfferViews.{OfferView, offer_views}
 use Rattle.tb_algebra.specs.declared.node.Node.{Node}
 use Rattle.tb_algebra.specs.declared.running.Entry.{Entry}
 use Rattle.tb_algebra.specs.declared.running.Running.{Running, Running-F, map-Running, out-Running, fold_out-Running}
 use Rattle.tb_algebra.specs.declared.running.Running.TheOpen as layer
 use Rattle.tb_algebra.specs.declared.running.Running.TheVariants.{Whole, Seq, Par, outs-Whole, outs-Seq, outs-Par}
-use Rattle.tb_algebra.specs.Selections.{selected, selected_with, or_past}
+use Rattle.tb_algebra.specs.Helpers.Selections.{selected, selected_with, or_past}
 use Rattle.tb_algebra.proofs.OfferViewLemmas.{offer_views-Seq, offer_views-Par}
 use Rattle.tb_algebra.proofs.SelectedLemmas.{selected-Seq, selected-Par, then, beside, along}
 

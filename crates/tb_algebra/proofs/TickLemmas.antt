@@ -1,12 +1,12 @@
 -- What a running term stands for a tick later.
 use Rattle.std.proofs.Common.{◌≡◌, ℕ, suc, ◌+◌, ◌-◌, ◌≤◌, Bool, true, nat_lt, nat_le, List, length, Option, Some, None, option_map, refl, ap, sym, subst, ◌∙◌, arith}
 use Rattle.std.proofs.lemmas.Bool.{and_from, and_parts, leb-true, le-leb}
-use Rattle.tb_algebra.specs.Selections.{is_left_on}
-use Rattle.tb_algebra.specs.Plans.{process_at}
+use Rattle.tb_algebra.specs.Helpers.Selections.{is_left_on}
+use Rattle.tb_algebra.specs.Helpers.Plans.{process_at}
 use Rattle.tb_algebra.specs.Processes as process
 use Rattle.tb_algebra.specs.Processes.{Process, aged}
-use Rattle.tb_algebra.specs.Rewritings.{walking_of}
-use Rattle.tb_algebra.specs.Runnings.{waited, entered_term, term_of, term_step, is_entry, is_on, on_step}
+use Rattle.tb_algebra.specs.Helpers.Rewritings.{walking_of}
+use Rattle.tb_algebra.specs.Helpers.Runnings.{waited, entered_term, term_of, term_step, is_entry, is_on, on_step}
 use Rattle.tb_algebra.specs.Walks.{Walking, ticked}
 use Rattle.tb_algebra.specs.declared.node.Node.{Node}
 use Rattle.tb_algebra.specs.declared.plan.Plan.{Plan}

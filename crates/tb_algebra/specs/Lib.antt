@@ -1,15 +1,10 @@
 pub mod Ageing
 pub mod Atoms
 pub mod Binds
-pub mod Candidates
-pub mod Selections
 pub mod Offers
-pub mod Plans
 pub mod Processes
 pub mod Reached
-pub mod Rewritings
-pub mod Runnings
 pub mod Settings
-pub mod OfferViews
 pub mod WalkerViews
 pub mod Walks
+pub mod Helpers

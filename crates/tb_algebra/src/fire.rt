@@ -2,13 +2,13 @@ ghost use Rattle.std.specs.Prelude.{◌≡◌, ℕ, ◌<◌, ◌≤◌, List, So
 ghost use Rattle.tb_func.specs.declared.slot.Slot.{Slot};
 ghost use Rattle.tb_algebra.specs.declared.node.Node.{Node as PlanNode};
 ghost use Rattle.tb_algebra.specs.declared.running.Running.TheVariants.{Whole};
-ghost use Rattle.tb_algebra.specs.Selections.{Past, On, chosen, selected, selected_with, selected_of, is_fired_on, is_left_on};
+ghost use Rattle.tb_algebra.specs.Helpers.Selections.{Past, On, chosen, selected, selected_with, selected_of, is_fired_on, is_left_on};
 ghost use Rattle.tb_algebra.specs.Offers.{followed, left_of, right_of};
-ghost use Rattle.tb_algebra.specs.Plans.{process_at};
+ghost use Rattle.tb_algebra.specs.Helpers.Plans.{process_at};
 ghost use Rattle.tb_algebra.specs.Processes.{At};
-ghost use Rattle.tb_algebra.specs.Runnings.{entered_term, term_of, is_on};
+ghost use Rattle.tb_algebra.specs.Helpers.Runnings.{entered_term, term_of, is_on};
 ghost use Rattle.tb_algebra.specs.Settings.{tested};
-ghost use Rattle.tb_algebra.specs.OfferViews.{or_own};
+ghost use Rattle.tb_algebra.specs.Helpers.OfferViews.{or_own};
 
 use crate::fired::Fired;
 use crate::found::copy_own;
@@ -143,7 +143,7 @@ fn chosen(
 }
 
 /// An atom has one offer, and then the term has ended.
-#[tactic(auto, unfolding(crate::specs::Selections::selected))]
+#[tactic(auto, unfolding(crate::specs::Helpers::Selections::selected))]
 fn fire_atom(alloc: Global, own: &Option<Store>, k: usize) -> Result<Fired, NoMemory>
     ensures selected { IfOk result (λ fired. (nodes : List PlanNode) → (ticks : ℕ) → (base : List Slot) → (atom : ℕ) → (age : ℕ) →
         selected_of nodes ticks base fired ≡ selected (At atom age) (or_own own.now base) k) }

@@ -1,5 +1,5 @@
 ghost use Rattle.std.specs.Prelude.{◌≡◌, IfOk};
-ghost use Rattle.tb_algebra.specs.Candidates.{offer_of};
+ghost use Rattle.tb_algebra.specs.Helpers.Candidates.{offer_of};
 
 use crate::Offer;
 use std::alloc::Global;

@@ -1,7 +1,7 @@
 ghost use Rattle.std.specs.Prelude.{◌≡◌, ◌∷◌, [], ◌++◌, ◌-◌, ◌<◌, IfOk, OnOk, IsTrue, length, map};
 ghost use Rattle.tb_algebra.specs.Atoms.{is_ready, times_of};
-ghost use Rattle.tb_algebra.specs.Runnings.{entered_term, term_of, is_on};
-ghost use Rattle.tb_algebra.specs.OfferViews.{offer_views, shown, or_own};
+ghost use Rattle.tb_algebra.specs.Helpers.Runnings.{entered_term, term_of, is_on};
+ghost use Rattle.tb_algebra.specs.Helpers.OfferViews.{offer_views, shown, or_own};
 
 use crate::found::{Found, copy_own};
 use crate::node::Node;

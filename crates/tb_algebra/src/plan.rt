@@ -2,7 +2,7 @@ ghost use Rattle.std.specs.Prelude.{◌≡◌, ◌-◌, ◌<◌, Some, IsTrue, I
 ghost use Rattle.std.specs.Coded.{codes};
 ghost use Rattle.std.specs.Option.{option_copied};
 ghost use Rattle.tb_body.specs.contracts.tree.Tree as tree;
-ghost use Rattle.tb_algebra.specs.Plans.{AreBehind, is_behind, HasAdded, trees, tree_at, built};
+ghost use Rattle.tb_algebra.specs.Helpers.Plans.{AreBehind, is_behind, HasAdded, trees, tree_at, built};
 
 use crate::node::Node;
 use std::alloc::Global;

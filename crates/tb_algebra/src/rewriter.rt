@@ -1,8 +1,8 @@
 ghost use Rattle.std.specs.Prelude.{◌≡◌, IfOk, IsTrue, map};
-ghost use Rattle.tb_algebra.specs.Selections.{selected_at, selected_of, is_fired_on};
-ghost use Rattle.tb_algebra.specs.OfferViews.{shown, offer_view};
+ghost use Rattle.tb_algebra.specs.Helpers.Selections.{selected_at, selected_of, is_fired_on};
+ghost use Rattle.tb_algebra.specs.Helpers.OfferViews.{shown, offer_view};
 ghost use Rattle.tb_algebra.specs.Walks.{offers_of};
-ghost use Rattle.tb_algebra.specs.Rewritings.{walking_of, IsOnPlan, rewriter_view};
+ghost use Rattle.tb_algebra.specs.Helpers.Rewritings.{walking_of, IsOnPlan, rewriter_view};
 
 use crate::fire::fire_term;
 use crate::fired::{Fired, Left};

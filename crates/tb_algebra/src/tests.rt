@@ -1,5 +1,5 @@
 ghost use Rattle.std.specs.Prelude.{IfOk};
-ghost use Rattle.tb_algebra.specs.Rewritings.{IsOnPlan};
+ghost use Rattle.tb_algebra.specs.Helpers.Rewritings.{IsOnPlan};
 
 use crate::{Plan, Rewriter, Walker};
 use std::alloc::Global;

@@ -1,5 +1,5 @@
 ghost use Rattle.std.specs.Prelude.{IfOk};
-ghost use Rattle.tb_algebra.specs.Rewritings.{IsOnPlan};
+ghost use Rattle.tb_algebra.specs.Helpers.Rewritings.{IsOnPlan};
 
 use crate::tests::{
     ALT, AtomKind, IF_0, LET_1, LET_2, Limit, PAR, SEQ, STAR, Seen, Step, TAU, WHEN_0, Worth, body,

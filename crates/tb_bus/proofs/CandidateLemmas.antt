@@ -7,11 +7,11 @@ use Rattle.tb_terms.specs.declared.term.Term.{Term}
 use Rattle.tb_match.specs.declared.bind.Bind.{Bind}
 use Rattle.tb_match.specs.Matches.{match_list}
 use Rattle.tb_notes.specs.Inboxes.{oldest_match}
-use Rattle.tb_bus.specs.Candidates.{Row, Scene, first, row_at, no_row, received_if, reception, receptions, partner_in, partners, all_take, wanting, may_happen, candidates_by, candidates_among, candidates_of, candidates_from, up_to, candidates_in_turn, candidates_or_halt, candidates_while_up, all_candidates, setting_in, ascend}
+use Rattle.tb_bus.specs.Helpers.Candidates.{Row, Scene, first, row_at, no_row, received_if, reception, receptions, partner_in, partners, all_take, wanting, may_happen, candidates_by, candidates_among, candidates_of, candidates_from, up_to, candidates_in_turn, candidates_or_halt, candidates_while_up, all_candidates, setting_in, ascend}
 use Rattle.tb_bus.specs.declared.marks.Marks.{Marks}
 use Rattle.tb_bus.specs.Buses.{Bus}
 use Rattle.tb_bus.specs.Steps.{moves}
-use Rattle.tb_bus.specs.Views.{sent_in, ready_at, move_of, Receives, IsThere, IsCandidateIn, IsSearchedFor}
+use Rattle.tb_bus.specs.Helpers.Views.{sent_in, ready_at, move_of, Receives, IsThere, IsCandidateIn, IsSearchedFor}
 use Rattle.tb_bus.specs.declared.action.Action.{Action}
 use Rattle.tb_bus.specs.declared.action.Action.TheVariants as action
 use Rattle.tb_bus.specs.Exchanges.{exchange_for}

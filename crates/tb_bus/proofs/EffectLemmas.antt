@@ -11,8 +11,8 @@ use Rattle.tb_log.specs.declared.entry.LabelKind.TheVariants as kind
 use Rattle.tb_bus.specs.Buses.{Bus, Proc}
 use Rattle.tb_bus.specs.Exchanges.{Setting, setting_by, exchange_for, kind_of}
 use Rattle.tb_bus.specs.Effects.{Nothing, PutsNote, Subscribes, Unsubscribes, GoesDown, Effect, takes_note, may_create, creation, taking, own_effect, setting_of, speaking, effect_of}
-use Rattle.tb_bus.specs.Candidates.{Row, Scene, row_at, all_take, may_happen, setting_in}
-use Rattle.tb_bus.specs.Views.{IsRowOf, AreRowsOf, proc_at, ready_at, sent_in, IsCandidateIn, IsSearchedFor}
+use Rattle.tb_bus.specs.Helpers.Candidates.{Row, Scene, row_at, all_take, may_happen, setting_in}
+use Rattle.tb_bus.specs.Helpers.Views.{IsRowOf, AreRowsOf, proc_at, ready_at, sent_in, IsCandidateIn, IsSearchedFor}
 use Rattle.tb_bus.specs.declared.marks.Marks.{Marks}
 use Rattle.tb_bus.specs.declared.action.Action.{Action}
 use Rattle.tb_bus.specs.declared.action.Action.TheVariants as action

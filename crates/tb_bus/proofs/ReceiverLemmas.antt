@@ -5,12 +5,12 @@ use Rattle.std.proofs.lemmas.List.Elements.{All-nil, All-cons, All-get_or}
 use Rattle.std.proofs.lemmas.Option.{get_or_from_slice_get, slice_get_within}
 use Rattle.std.specs.List.{All}
 use Rattle.tb_terms.specs.declared.term.Term.{Term}
-use Rattle.tb_bus.specs.Candidates.{first, no_row, row_at, row_of, rows_of, reception, receptions, partner_in, partners, is_receive, has_receive, receivers, partners_among}
+use Rattle.tb_bus.specs.Helpers.Candidates.{first, no_row, row_at, row_of, rows_of, reception, receptions, partner_in, partners, is_receive, has_receive, receivers, partners_among}
 use Rattle.tb_bus.specs.declared.action.Action.{Action}
 use Rattle.tb_bus.specs.declared.action.Action.TheVariants as action
 use Rattle.tb_bus.specs.declared.living.Ready.{Ready}
 use Rattle.tb_bus.specs.declared.living.Living.{Living}
-use Rattle.tb_bus.specs.Candidates.{Row}
+use Rattle.tb_bus.specs.Helpers.Candidates.{Row}
 use Rattle.tb_bus.specs.declared.candidate.Received.{Received}
 use Rattle.tb_bus.proofs.PartLemmas.{StandAt, stand-whole, both-append}
 use Rattle.tb_bus.proofs.RowLemmas.{partner_at}

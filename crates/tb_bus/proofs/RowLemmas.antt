@@ -18,8 +18,8 @@ use Rattle.tb_bus.specs.Actions.{action_of}
 use Rattle.tb_bus.specs.Steps.{Move, Handshake, Halt, handshake_if, handshake_of, handshakes_with, handshakes, own_if, moves_by, moves_of, moves_of_all, moves, moves_while_up, moves_or_halt}
 use Rattle.tb_bus.specs.Effects.{Effect, taking, own_effect, setting_of, speaking, effect_of}
 use Rattle.tb_bus.specs.Exchanges.{Setting, exchange_for}
-use Rattle.tb_bus.specs.Candidates.{Row, Scene, first, ready_one, readies, received_if, reception, receptions, partner_in, partners, all_take, wanting, may_happen, candidates_by, candidates_among, candidates_of, candidates_from, up_to, candidates_in_turn, candidates_or_halt, candidates_while_up, all_candidates, ascend}
-use Rattle.tb_bus.specs.Views.{IsRowOf, AreRowsOf, no_proc, no_offer, no_ready, proc_at, ready_at, offer_at, offer_of, own_move, move_by, move_of, sent_in, IsSearchedFor}
+use Rattle.tb_bus.specs.Helpers.Candidates.{Row, Scene, first, ready_one, readies, received_if, reception, receptions, partner_in, partners, all_take, wanting, may_happen, candidates_by, candidates_among, candidates_of, candidates_from, up_to, candidates_in_turn, candidates_or_halt, candidates_while_up, all_candidates, ascend}
+use Rattle.tb_bus.specs.Helpers.Views.{IsRowOf, AreRowsOf, no_proc, no_offer, no_ready, proc_at, ready_at, offer_at, offer_of, own_move, move_by, move_of, sent_in, IsSearchedFor}
 use Rattle.tb_bus.specs.declared.marks.Marks.{Marks}
 use Rattle.tb_bus.specs.declared.action.Action.{Action}
 use Rattle.tb_bus.specs.declared.action.Action.TheVariants as action

@@ -7,7 +7,7 @@ use Rattle.tb_log.specs.Shapes.{IsInputInShape, IsLane}
 use Rattle.tb_log.specs.declared.entry.Out.{Out}
 use Rattle.tb_tools.specs.Finding.{next_out}
 use Rattle.tb_bus.specs.Traces.{IsTrace, after, after_step, replay, fed, took, taken_out, Answer}
-use Rattle.tb_bus.specs.Candidates.{first}
+use Rattle.tb_bus.specs.Helpers.Candidates.{first}
 use Rattle.tb_log.specs.contracts.entry.Label as label_row
 use Rattle.tb_log.specs.declared.entry.Input.{Input}
 use Rattle.tb_log.specs.declared.entry.Input.TheVariants.{Tick, NoTicks, Line, Gone, Cut}

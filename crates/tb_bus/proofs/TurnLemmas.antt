@@ -4,7 +4,7 @@ use Rattle.std.proofs.lemmas.Bool.{leb-true, le-leb, eqb-true}
 use Rattle.std.proofs.lemmas.List.{length-map, get_or-map}
 use Rattle.std.specs.List.{AllWithin}
 use Rattle.std.specs.List.Sorted.{IsPartitionedBy, IsPartitionPoint}
-use Rattle.tb_bus.specs.Candidates.{Row, Scene, first, candidates_from, candidates_in_turn, candidates_or_halt, candidates_while_up, all_candidates, up_to, ascend, row_of, rows_of}
+use Rattle.tb_bus.specs.Helpers.Candidates.{Row, Scene, first, candidates_from, candidates_in_turn, candidates_or_halt, candidates_while_up, all_candidates, up_to, ascend, row_of, rows_of}
 use Rattle.tb_bus.specs.declared.marks.Marks.{Marks}
 use Rattle.tb_bus.specs.declared.living.Living.{Living}
 use Rattle.tb_bus.specs.declared.candidate.Candidate.{Candidate}

@@ -7,6 +7,5 @@ pub mod Steps
 pub mod Traces
 pub mod Ends
 pub mod Reached
-pub mod Candidates
-pub mod Views
 pub mod Waiting
+pub mod Helpers

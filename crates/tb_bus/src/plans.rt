@@ -2,7 +2,7 @@
 
 ghost use Rattle.std.specs.Prelude.{◌≡◌, [], ◌∷◌, IsTrue, IfOk};
 ghost use Rattle.tb_match.specs.Matches.{are_plain};
-ghost use Rattle.tb_bus.specs.Candidates.{ascend, rows_of};
+ghost use Rattle.tb_bus.specs.Helpers.Candidates.{ascend, rows_of};
 
 use crate::action::{Action, OwnAction, ToolAction};
 use crate::candidate::Candidate;

@@ -1,5 +1,5 @@
 ghost use Rattle.std.specs.Prelude.{◌≡◌, Some, IfOk};
-ghost use Rattle.tb_bus.specs.Candidates.{first, reception, receptions, partner_in, partners, has_receive, receivers, AreKnown, row_of, rows_of};
+ghost use Rattle.tb_bus.specs.Helpers.Candidates.{first, reception, receptions, partner_in, partners, has_receive, receivers, AreKnown, row_of, rows_of};
 
 use crate::action::Action;
 use crate::candidate::{Partner, Received};

@@ -1,9 +1,9 @@
 ghost use Rattle.std.specs.Prelude.{◌≡◌, ◌+◌, ◌≤◌, [], length, option_map, IfOk, IfSome, IsTrue};
 ghost use Rattle.tb_bus.specs.Buses.{Bus};
 ghost use Rattle.tb_bus.specs.Steps.{moves};
-ghost use Rattle.tb_bus.specs.Views.{IsSearchedFor, IsCandidateIn, move_of};
+ghost use Rattle.tb_bus.specs.Helpers.Views.{IsSearchedFor, IsCandidateIn, move_of};
 ghost use Rattle.tb_bus.specs.Exchanges.{exchange_for};
-ghost use Rattle.tb_bus.specs.Candidates.{first, AreKnown, may_happen, setting_in, candidates_by, candidates_of, candidates_from, candidates_in_turn, all_candidates, candidates_or_halt, up_to, ascend, row_of, rows_of, scene_of};
+ghost use Rattle.tb_bus.specs.Helpers.Candidates.{first, AreKnown, may_happen, setting_in, candidates_by, candidates_of, candidates_from, candidates_in_turn, all_candidates, candidates_or_halt, up_to, ascend, row_of, rows_of, scene_of};
 
 use crate::action::{Action, OwnAction, ToolAction};
 use crate::candidate::Candidate;

@@ -1,5 +1,5 @@
 ghost use Rattle.std.specs.Prelude.{◌≡◌, IfOk};
-ghost use Rattle.tb_bus.specs.Candidates.{wanting_if_room, rows_of};
+ghost use Rattle.tb_bus.specs.Helpers.Candidates.{wanting_if_room, rows_of};
 
 use crate::living::Living;
 use std::alloc::Global;

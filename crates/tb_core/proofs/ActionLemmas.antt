@@ -14,10 +14,10 @@ use Rattle.tb_algebra.specs.Walks.{Walking, offers_of, seen, seen_offers, sorts_
 use Rattle.tb_algebra.proofs.Sorts.{offer_at-keeps}
 use Rattle.tb_bus.specs.declared.action.Action.{Action}
 use Rattle.tb_bus.specs.Actions.{action_of}
-use Rattle.tb_bus.specs.Candidates.{ready_one, readies}
-use Rattle.tb_bus.specs.Views.{no_offer}
+use Rattle.tb_bus.specs.Helpers.Candidates.{ready_one, readies}
+use Rattle.tb_bus.specs.Helpers.Views.{no_offer}
 use Rattle.tb_bus.specs.declared.living.Ready.{Ready}
-use Rattle.tb_core.specs.Lives.{IsTimeless}
+use Rattle.tb_core.specs.Helpers.Lives.{IsTimeless}
 
 -- the offer that was seen at a position is that of the process there
 offer-seen : (atoms : List Atom) (now : ℕ) (walking : Walking) (looked : Option (List Offer)) (at : ℕ) (offered : Offered) (offer : Offer) →

@@ -16,12 +16,12 @@ use Rattle.tb_algebra.proofs.Sorts.{sorts-with_binds}
 use Rattle.tb_notes.specs.Inboxes.{Contents}
 use Rattle.tb_bus.specs.Buses.{Bus, Proc, proc_left}
 use Rattle.tb_bus.specs.Steps.{advance}
-use Rattle.tb_bus.specs.Candidates.{row_at, row_of, rows_of, no_row, ascend, Row}
-use Rattle.tb_bus.specs.Views.{proc_at, no_proc}
+use Rattle.tb_bus.specs.Helpers.Candidates.{row_at, row_of, rows_of, no_row, ascend, Row}
+use Rattle.tb_bus.specs.Helpers.Views.{proc_at, no_proc}
 use Rattle.tb_bus.specs.declared.living.Living.{Living}
 use Rattle.tb_bus.proofs.TurnLemmas.{ascend-first}
-use Rattle.tb_core.specs.Lives.{IsBelow, IsLive, term_in, proc_by, proc_in, procs_of}
-use Rattle.tb_core.specs.LiveBuses.{IsSound, IsFreshOr, IsAdvanced, AreAdvanced, Leaves, CanAdvance, bus_of, procs_in}
+use Rattle.tb_core.specs.Helpers.Lives.{IsBelow, IsLive, term_in, proc_by, proc_in, procs_of}
+use Rattle.tb_core.specs.Helpers.LiveBuses.{IsSound, IsFreshOr, IsAdvanced, AreAdvanced, Leaves, CanAdvance, bus_of, procs_in}
 use Rattle.tb_core.specs.declared.bus.LiveBus.{LiveBus}
 use Rattle.tb_core.proofs.ReadLemmas.{LiveAt, above-there, all-there, live-at, proc-number, read-is}
 use Rattle.tb_core.proofs.SetLemmas.{ascend-set, set-other}

@@ -8,14 +8,14 @@ use Rattle.tb_tools.specs.Acts.{gone_down}
 use Rattle.tb_bus.specs.Buses.{Bus}
 use Rattle.tb_bus.specs.Effects.{Change, Effect, SetsBench, GoesDown, changed, speaking, went_down}
 use Rattle.tb_bus.specs.Exchanges.{bench_after}
-use Rattle.tb_bus.specs.Views.{offer_of, ready_at, IsCandidateIn}
+use Rattle.tb_bus.specs.Helpers.Views.{offer_of, ready_at, IsCandidateIn}
 use Rattle.tb_bus.specs.declared.action.Action.TheVariants as action
 use Rattle.tb_bus.specs.declared.action.ToolAction.{ToolAction}
 use Rattle.tb_bus.specs.declared.exchange.Exchange.{Exchange}
 use Rattle.tb_bus.specs.declared.candidate.Candidate.TheVariants as candidate
-use Rattle.tb_bus.specs.Candidates.{row_at, rows_of}
-use Rattle.tb_core.specs.Spoken.{around}
-use Rattle.tb_core.specs.LiveBuses.{AreFresh, IsChanged, IsDone, IsKept, IsSound, Leaves, StandsAs, bus_of, procs_in, scene_in}
+use Rattle.tb_bus.specs.Helpers.Candidates.{row_at, rows_of}
+use Rattle.tb_core.specs.Helpers.Spoken.{around}
+use Rattle.tb_core.specs.Helpers.LiveBuses.{AreFresh, IsChanged, IsDone, IsKept, IsSound, Leaves, StandsAs, bus_of, procs_in, scene_in}
 use Rattle.tb_core.specs.declared.acting.Done.{Done}
 use Rattle.tb_core.specs.declared.bus.LiveBus.{LiveBus}
 use Rattle.tb_core.proofs.MakeLemmas.{IsActed, acted-speak, kept-same, kept-within, speak-at}

@@ -17,7 +17,7 @@ use Rattle.tb_bus.specs.Steps.{Move, Own, Handshake, Finish, Halt, apply, steps}
 use Rattle.tb_bus.specs.Traces.{IsTrace, Answer, fed, replay, took}
 use Rattle.tb_bus.proofs.TraceLemmas.{replay-append, trace-append}
 use Rattle.tb_core.specs.declared.bus.LiveBus.{LiveBus}
-use Rattle.tb_core.specs.LiveBuses.{bus_of, IsSound, StandsAs, Represents}
+use Rattle.tb_core.specs.Helpers.LiveBuses.{bus_of, IsSound, StandsAs, Represents}
 use Rattle.tb_core.specs.Cores.{CoreState, Call, HandIn, MakeStep, bus_now, ends_quiet, is_full, lacks_room, step_entry, would_log, Logs, Stays}
 
 -- what contracts see of a core with these fields

@@ -9,11 +9,11 @@ use Rattle.tb_terms.specs.declared.term.Term.{Term}
 use Rattle.tb_algebra.specs.WalkerViews.{View}
 use Rattle.tb_bus.specs.Buses.{Bus, Proc, opened_one}
 use Rattle.tb_bus.specs.Effects.{creation}
-use Rattle.tb_bus.specs.Candidates.{ascend, row_of, rows_of}
+use Rattle.tb_bus.specs.Helpers.Candidates.{ascend, row_of, rows_of}
 use Rattle.tb_bus.specs.declared.living.Living.{Living}
 use Rattle.tb_bus.proofs.TurnLemmas.{ascend-first}
-use Rattle.tb_core.specs.Lives.{IsBelow, IsLive, proc_in, procs_of}
-use Rattle.tb_core.specs.LiveBuses.{IsChanged, IsFreshOr, IsSound, bus_of, procs_in}
+use Rattle.tb_core.specs.Helpers.Lives.{IsBelow, IsLive, proc_in, procs_of}
+use Rattle.tb_core.specs.Helpers.LiveBuses.{IsChanged, IsFreshOr, IsSound, bus_of, procs_in}
 use Rattle.tb_core.specs.declared.bus.LiveBus.{LiveBus}
 use Rattle.tb_core.proofs.ReadLemmas.{above-there, all-there, some-at}
 

@@ -29,8 +29,8 @@ use Rattle.tb_algebra.specs.Walks.{Walking, offers_of, is_end}
 use Rattle.tb_algebra.specs.WalkerViews.{View}
 use Rattle.tb_algebra.proofs.Taken.{binds-taken}
 use Rattle.tb_bus.specs.Actions.{set_action, print_action, no_note_action, subscribe_action, unsubscribe_action, create_action, speak_by, shutdown_action, action_in, action_if, action_of}
-use Rattle.tb_bus.specs.Candidates.{row_of, rows_of, row_at, ready_one, readies}
-use Rattle.tb_bus.specs.Views.{ready_at, offer_at, offer_of, no_ready, no_offer, Receives}
+use Rattle.tb_bus.specs.Helpers.Candidates.{row_of, rows_of, row_at, ready_one, readies}
+use Rattle.tb_bus.specs.Helpers.Views.{ready_at, offer_at, offer_of, no_ready, no_offer, Receives}
 use Rattle.tb_bus.specs.declared.action.Action.{Action}
 use Rattle.tb_bus.specs.declared.action.Action.TheVariants as action
 use Rattle.tb_bus.specs.declared.action.OwnAction.{OwnAction}
@@ -39,8 +39,8 @@ use Rattle.tb_bus.specs.declared.action.OwnAction.TheVariants as own
 use Rattle.tb_bus.specs.declared.living.Ready.{Ready}
 use Rattle.tb_bus.specs.declared.living.Living.{Living}
 use Rattle.tb_bus.proofs.ExchangeLemmas.{PatternsTake, SpeakTakes, patterns-take, about-some}
-use Rattle.tb_core.specs.Lives.{term_in, proc_of}
-use Rattle.tb_core.specs.LiveBuses.{AreFresh, procs_in}
+use Rattle.tb_core.specs.Helpers.Lives.{term_in, proc_of}
+use Rattle.tb_core.specs.Helpers.LiveBuses.{AreFresh, procs_in}
 use Rattle.tb_core.specs.declared.bus.LiveBus.{LiveBus}
 use Rattle.tb_core.proofs.PlainLemmas.{patterns-plain}
 use Rattle.tb_core.proofs.ReadLemmas.{LiveAt, fresh-there, read-there}

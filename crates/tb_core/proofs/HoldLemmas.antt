@@ -12,13 +12,13 @@ use Rattle.tb_algebra.specs.WalkerViews.{View}
 use Rattle.tb_notes.specs.Inboxes.{Contents, Held, nothing, wants, with_note}
 use Rattle.tb_bus.specs.Buses.{Bus, Proc}
 use Rattle.tb_bus.specs.Effects.{Change, Effect, Nothing, changed, given, with_inbox}
-use Rattle.tb_bus.specs.Candidates.{Row, ascend, row_at, row_of, rows_of, no_row}
+use Rattle.tb_bus.specs.Helpers.Candidates.{Row, ascend, row_at, row_of, rows_of, no_row}
 use Rattle.tb_bus.specs.declared.living.Living.{Living}
 use Rattle.tb_bus.proofs.TurnLemmas.{ascend-first}
-use Rattle.tb_core.specs.Lives.{IsBelow, IsLive, proc_by, proc_in, procs_of}
-use Rattle.tb_core.specs.Holdings.{helds_of, held_at, spares_of, spare_at, bare, bares_of, IsHeldAt, HoldTheSame, with_given}
-use Rattle.tb_core.specs.Makings.{noting}
-use Rattle.tb_core.specs.LiveBuses.{IsChanged, IsFreshOr, IsKept, IsSound, StandsAs, bus_of, procs_in}
+use Rattle.tb_core.specs.Helpers.Lives.{IsBelow, IsLive, proc_by, proc_in, procs_of}
+use Rattle.tb_core.specs.Helpers.Holdings.{helds_of, held_at, spares_of, spare_at, bare, bares_of, IsHeldAt, HoldTheSame, with_given}
+use Rattle.tb_core.specs.Helpers.Makings.{noting}
+use Rattle.tb_core.specs.Helpers.LiveBuses.{IsChanged, IsFreshOr, IsKept, IsSound, StandsAs, bus_of, procs_in}
 use Rattle.tb_core.specs.declared.bus.LiveBus.{LiveBus}
 use Rattle.tb_core.proofs.ReadLemmas.{above-there, map-there, proc-number}
 

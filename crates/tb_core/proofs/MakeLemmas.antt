@@ -28,8 +28,8 @@ use Rattle.tb_bus.specs.Exchanges.{Setting, exchange_for}
 use Rattle.tb_bus.specs.Slots.{fits_formals, fits_slot}
 use Rattle.tb_bus.specs.Steps.{advance, apply, label_of, nowhere, place_of}
 use Rattle.tb_bus.specs.Steps as move
-use Rattle.tb_bus.specs.Candidates.{Row, no_row, row_at, row_of, rows_of, setting_in}
-use Rattle.tb_bus.specs.Views.{no_proc, proc_at, ready_at, offer_of, own_move, move_by, sent_in, IsCandidateIn}
+use Rattle.tb_bus.specs.Helpers.Candidates.{Row, no_row, row_at, row_of, rows_of, setting_in}
+use Rattle.tb_bus.specs.Helpers.Views.{no_proc, proc_at, ready_at, offer_of, own_move, move_by, sent_in, IsCandidateIn}
 use Rattle.tb_bus.specs.declared.action.Action.TheVariants as action
 use Rattle.tb_bus.specs.declared.action.OwnAction.{OwnAction}
 use Rattle.tb_bus.specs.declared.action.ToolAction.{ToolAction}
@@ -49,11 +49,11 @@ use Rattle.tb_log.specs.declared.entry.Label.{Label}
 use Rattle.tb_log.specs.declared.entry.LabelKind.{LabelKind}
 use Rattle.tb_log.specs.declared.entry.LabelKind.TheVariants as kind
 use Rattle.tb_log.specs.declared.entry.Place.{Place}
-use Rattle.tb_core.specs.Lives.{proc_by, proc_in}
-use Rattle.tb_core.specs.Holdings.{held_at}
-use Rattle.tb_core.specs.Makings.{effect_by, noting, shown_in, IsPlainIn}
-use Rattle.tb_core.specs.LiveBuses.{AreFresh, IsSound, StandsAs, AreAdvanced, Leaves, CanAdvance, IsKept, IsDone, IsChanged, HasGone, bus_of, procs_in, move_in, scene_in}
-use Rattle.tb_core.specs.Spoken.{CanSpeak, around}
+use Rattle.tb_core.specs.Helpers.Lives.{proc_by, proc_in}
+use Rattle.tb_core.specs.Helpers.Holdings.{held_at}
+use Rattle.tb_core.specs.Helpers.Makings.{effect_by, noting, shown_in, IsPlainIn}
+use Rattle.tb_core.specs.Helpers.LiveBuses.{AreFresh, IsSound, StandsAs, AreAdvanced, Leaves, CanAdvance, IsKept, IsDone, IsChanged, HasGone, bus_of, procs_in, move_in, scene_in}
+use Rattle.tb_core.specs.Helpers.Spoken.{CanSpeak, around}
 use Rattle.tb_core.specs.declared.acting.Done.{Done}
 use Rattle.tb_core.specs.declared.bus.LiveBus.{LiveBus}
 use Rattle.tb_core.proofs.ReadLemmas.{body-there, live-there, map-there, some-at}

@@ -5,10 +5,10 @@ use Rattle.std.proofs.lemmas.List.{get_or-set_same, get_or-set_other, length-set
 use Rattle.std.specs.List.{All}
 use Rattle.std.specs.List.Sorted.{IsNonDecreasingBy, IsPartitionPoint, IsPartitionedBy}
 use Rattle.std.proofs.lemmas.List.Sorted.{IsPartitionedBy-ltb}
-use Rattle.tb_bus.specs.Candidates.{ascend, row_of, rows_of}
+use Rattle.tb_bus.specs.Helpers.Candidates.{ascend, row_of, rows_of}
 use Rattle.tb_bus.specs.declared.living.Living.{Living}
 use Rattle.tb_bus.proofs.TurnLemmas.{ascend-first}
-use Rattle.tb_core.specs.LiveBuses.{IsFreshOr}
+use Rattle.tb_core.specs.Helpers.LiveBuses.{IsFreshOr}
 
 -- each number is above the bound
 numbers-above : {W : Type 0} (below : ℕ) (all : List (Living W)) (k : ℕ) (d : Living W) → ascend below (rows_of all) ≡ true → k < length all → below < (get_or all k d).number

@@ -7,10 +7,10 @@ use Rattle.std.proofs.lemmas.Option.{get_or_from_slice_get, same_Some}
 use Rattle.std.proofs.lemmas.List.Elements.{All-set}
 use Rattle.tb_algebra.specs.WalkerViews.{View}
 use Rattle.tb_bus.specs.Buses.{Bus, Proc}
-use Rattle.tb_bus.specs.Candidates.{ascend, rows_of}
+use Rattle.tb_bus.specs.Helpers.Candidates.{ascend, rows_of}
 use Rattle.tb_bus.specs.declared.living.Living.{Living}
-use Rattle.tb_core.specs.Lives.{IsBelow, IsLive, IsLiveOn, proc_by, proc_in}
-use Rattle.tb_core.specs.LiveBuses.{IsFreshOr, IsSound, StandsAs, bus_of, procs_in}
+use Rattle.tb_core.specs.Helpers.Lives.{IsBelow, IsLive, IsLiveOn, proc_by, proc_in}
+use Rattle.tb_core.specs.Helpers.LiveBuses.{IsFreshOr, IsSound, StandsAs, bus_of, procs_in}
 use Rattle.tb_core.specs.declared.bus.LiveBus.{LiveBus}
 use Rattle.tb_core.proofs.ReadLemmas.{LiveAt, all-there}
 

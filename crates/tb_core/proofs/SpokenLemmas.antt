@@ -9,7 +9,7 @@ use Rattle.tb_bus.specs.declared.action.ToolAction.{ToolAction}
 use Rattle.tb_bus.specs.declared.action.ToolAction.TheVariants.{Execute, Connect, DisconnectAny, Disconnect, Eval, TakeValue, Do, TakeEvent, Acknowledge, Terminate}
 use Rattle.tb_bus.specs.declared.exchange.Exchange.{Exchange}
 use Rattle.tb_bus.proofs.ExchangeLemmas.{CanExchange, can-exchange}
-use Rattle.tb_core.specs.Spoken.{CanSpeak, around}
+use Rattle.tb_core.specs.Helpers.Spoken.{CanSpeak, around}
 
 module _ (kinds : List ToolKind) (bench : BenchState) (does : ToolAction) (exchange : Exchange) (h : CanSpeak kinds bench does exchange) where
   -- its lane is there

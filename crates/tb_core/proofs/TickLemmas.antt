@@ -20,14 +20,14 @@ use Rattle.tb_algebra.specs.WalkerViews.{View}
 use Rattle.tb_algebra.proofs.AgedOffers.{is_end-ticked, offers_of-age, ready-aged}
 use Rattle.tb_bus.specs.Buses.{Bus, Proc}
 use Rattle.tb_bus.specs.Actions.{action_if, action_of}
-use Rattle.tb_bus.specs.Candidates.{ascend, readies, ready_one, rows_of}
+use Rattle.tb_bus.specs.Helpers.Candidates.{ascend, readies, ready_one, rows_of}
 use Rattle.tb_bus.specs.Traces.{aged_proc}
 use Rattle.tb_bus.specs.declared.action.Action.{Action}
 use Rattle.tb_bus.specs.declared.living.Living.{Living}
 use Rattle.tb_bus.specs.declared.living.Ready.{Ready}
-use Rattle.tb_core.specs.Lives.{IsBelow, IsFreshFor, IsLive, IsLiveOn, IsTimeless, proc_by, proc_in, proc_of, procs_of, term_in}
-use Rattle.tb_core.specs.LiveBuses.{AreFresh, IsFreshOr, IsSound, StandsAs, bus_of, procs_in}
-use Rattle.tb_core.specs.Ticking.{AreTicked, CanTick, HasTicked, IsTicked}
+use Rattle.tb_core.specs.Helpers.Lives.{IsBelow, IsFreshFor, IsLive, IsLiveOn, IsTimeless, proc_by, proc_in, proc_of, procs_of, term_in}
+use Rattle.tb_core.specs.Helpers.LiveBuses.{AreFresh, IsFreshOr, IsSound, StandsAs, bus_of, procs_in}
+use Rattle.tb_core.specs.Helpers.Ticking.{AreTicked, CanTick, HasTicked, IsTicked}
 use Rattle.tb_core.specs.declared.bus.LiveBus.{LiveBus}
 use Rattle.tb_core.proofs.ReadLemmas.{all-there}
 use Rattle.tb_core.proofs.SetLemmas.{set-other, set-there}

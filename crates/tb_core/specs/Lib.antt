@@ -1,7 +1,2 @@
 pub mod Cores
-pub mod Lives
-pub mod Makings
-pub mod Holdings
-pub mod LiveBuses
-pub mod Ticking
-pub mod Spoken
+pub mod Helpers

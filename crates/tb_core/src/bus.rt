@@ -1,7 +1,7 @@
 ghost use Rattle.std.specs.Prelude.{◌≡◌, ℕ, min};
 ghost use Rattle.std.below.core.specs.declared.int.usize.TheConstants.{MAX};
 ghost use Rattle.tb_log.specs.Limits.{terms_size};
-ghost use Rattle.tb_core.specs.Makings.{effect_by, shown_in};
+ghost use Rattle.tb_core.specs.Helpers.Makings.{effect_by, shown_in};
 
 use crate::acting::{
     Done, NOWHERE, created, end_label, finish_reason, halt_reason, kind_alone, printed, shut_down,
@@ -64,11 +64,11 @@ impl<W: Walker> LiveBus<W> {
     ghost use Rattle.tb_tools.specs.Finding.{next_out};
     ghost use Rattle.tb_bus.specs.Steps.{moves, apply, label_of, nowhere, finish_reason, halt_reason};
     ghost use Rattle.tb_bus.specs.Traces.{aged_proc, fed, took, taken_out};
-    ghost use Rattle.tb_bus.specs.Candidates.{first, row_at, rows_of};
-    ghost use Rattle.tb_bus.specs.Views.{ready_at, offer_of, proc_at, IsCandidateIn};
+    ghost use Rattle.tb_bus.specs.Helpers.Candidates.{first, row_at, rows_of};
+    ghost use Rattle.tb_bus.specs.Helpers.Views.{ready_at, offer_of, proc_at, IsCandidateIn};
     ghost use Rattle.tb_core.specs.Cores.{takes_memory};
-    ghost use Rattle.tb_core.specs.Makings.{effect_by, IsPlainIn};
-    ghost use Rattle.tb_core.specs.LiveBuses.{bus_of, procs_in, scene_in, move_in, AreFresh, IsFreshOr, IsSound, IsSetAt, StandsAs, Leaves, CanAdvance, IsAdvanced, AreAdvanced, IsKept, IsDone, IsChanged, HasGone, IsMade};
+    ghost use Rattle.tb_core.specs.Helpers.Makings.{effect_by, IsPlainIn};
+    ghost use Rattle.tb_core.specs.Helpers.LiveBuses.{bus_of, procs_in, scene_in, move_in, AreFresh, IsFreshOr, IsSound, IsSetAt, StandsAs, Leaves, CanAdvance, IsAdvanced, AreAdvanced, IsKept, IsDone, IsChanged, HasGone, IsMade};
 
     /// The bus that a program opens with. Its processes are looked at later.
     pub fn open(alloc: Global, origin: Origin) -> Result<LiveBus<W>, NoMemory>

@@ -8,8 +8,8 @@ ghost use Rattle.tb_algebra.specs.Offers.{Offered};
 ghost use Rattle.tb_algebra.specs.Walks.{Walking, fired, is_end, offers_of, seen, seen_offers, sorts_of};
 ghost use Rattle.tb_func.specs.Printing.{printf_of};
 ghost use Rattle.tb_bus.specs.Actions.{action_in, action_of, print_action, set_action, shutdown_action, speak_about};
-ghost use Rattle.tb_bus.specs.Candidates.{ready_one, readies};
-ghost use Rattle.tb_core.specs.Lives.{IsLiveOn, IsTimeless, proc_by};
+ghost use Rattle.tb_bus.specs.Helpers.Candidates.{ready_one, readies};
+ghost use Rattle.tb_core.specs.Helpers.Lives.{IsLiveOn, IsTimeless, proc_by};
 
 use std::alloc::Global;
 use tb_algebra::{Offer, Walker};

@@ -8,9 +8,9 @@ ghost use Rattle.tb_tools.specs.Finding.{first_out, next_out};
 ghost use Rattle.tb_bus.specs.Buses.{origin_of, start};
 ghost use Rattle.tb_bus.specs.Traces.{IsTrace, fed, taken_out};
 ghost use Rattle.tb_bus.specs.Steps.{steps, apply, label_of};
-ghost use Rattle.tb_bus.specs.Views.{IsCandidateIn};
+ghost use Rattle.tb_bus.specs.Helpers.Views.{IsCandidateIn};
 ghost use Rattle.tb_core.specs.Cores.{most_entries, HandIn, MakeStep, HandOut, IsTakenOut, started, bus_now, Logs, entries_of, is_full, IsStep, Stays, has_any, ends_quiet, takes_memory};
-ghost use Rattle.tb_core.specs.LiveBuses.{bus_of, move_in, scene_in, AreFresh, IsSound, StandsAs};
+ghost use Rattle.tb_core.specs.Helpers.LiveBuses.{bus_of, move_in, scene_in, AreFresh, IsSound, StandsAs};
 
 use crate::answers::{CoreFault, Stepped, TakeOut};
 use crate::bus::LiveBus;
@@ -35,7 +35,7 @@ pub struct Core<W: Walker> {
 
 impl<W: Walker> Model for Core<W> {
     ghost use Rattle.tb_core.specs.Cores.{CoreState, core_code};
-    ghost use Rattle.tb_core.specs.LiveBuses.{Represents};
+    ghost use Rattle.tb_core.specs.Helpers.LiveBuses.{Represents};
 
     ghost Value = { CoreState };
 

@@ -3,8 +3,8 @@ ghost use Rattle.std.specs.Option.{ForSome};
 ghost use Rattle.std.specs.List.{All};
 ghost use Rattle.tb_bus.specs.Buses.{opening_store, opened, opened_one};
 ghost use Rattle.tb_bus.specs.Slots.{fits_formals};
-ghost use Rattle.tb_bus.specs.Candidates.{ascend, rows_of};
-ghost use Rattle.tb_core.specs.Lives.{Begins, IsBelow, IsLive, procs_of};
+ghost use Rattle.tb_bus.specs.Helpers.Candidates.{ascend, rows_of};
+ghost use Rattle.tb_core.specs.Helpers.Lives.{Begins, IsBelow, IsLive, procs_of};
 
 use std::alloc::Global;
 use tb_algebra::Walker;

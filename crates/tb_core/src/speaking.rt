@@ -10,8 +10,8 @@ ghost use Rattle.tb_tools.specs.Acts.{can_execute, can_take_event, can_take_valu
 ghost use Rattle.tb_bus.specs.Effects.{speaking};
 ghost use Rattle.tb_bus.specs.Exchanges.{behind, bench_after, kind_command, kind_name, terms_seen, values_in, values_on};
 ghost use Rattle.tb_bus.specs.Traces.{declares};
-ghost use Rattle.tb_core.specs.LiveBuses.{IsDone};
-ghost use Rattle.tb_core.specs.Spoken.{CanSpeak, CanSpeakBy, around, seen_by};
+ghost use Rattle.tb_core.specs.Helpers.LiveBuses.{IsDone};
+ghost use Rattle.tb_core.specs.Helpers.Spoken.{CanSpeak, CanSpeakBy, around, seen_by};
 
 use crate::acting::Done;
 use std::alloc::Global;

@@ -1,5 +1,5 @@
 ghost use Rattle.std.specs.List.{All};
-ghost use Rattle.tb_core.specs.Ticking.{AreTicked, CanTick, HasTicked, IsBefore};
+ghost use Rattle.tb_core.specs.Helpers.Ticking.{AreTicked, CanTick, HasTicked, IsBefore};
 
 use tb_algebra::Walker;
 use tb_bus::Living;

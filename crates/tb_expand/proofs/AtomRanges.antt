@@ -34,7 +34,7 @@ use Rattle.tb_types.specs.Calls.{actual_position, actual_expected_sort, actuals_
 use Rattle.tb_types.specs.ExpectedSorts.{Expectation, plain, of_sort, tested, made, command, started, connected, disconnected, of_tool, name_alone, result_name, is_result, site_faults}
 use Rattle.tb_types.specs.Names.{process_named}
 use Rattle.tb_types.specs.Scopes.{sort_in}
-use Rattle.tb_expand.specs.Agreeing.{Agrees}
+use Rattle.tb_expand.specs.Helpers.Agreeing.{Agrees}
 use Rattle.tb_expand.specs.Acts.{name_of, disconnected as leaves, or_act, act_of_list, act_of_one, act_of_more, act_of_two, act_of_word, act_of, time_of, atom_of}
 use Rattle.tb_expand.specs.Exprs.{expr_of, exprs_of}
 use Rattle.tb_expand.specs.Scopes.{Scope, slot_of}

@@ -36,7 +36,7 @@ use Rattle.tb_types.specs.ExpectedSorts.{Expectation, made, command, started, co
 use Rattle.tb_types.specs.Fitting.{is_any_tool}
 use Rattle.tb_types.specs.Names.{process_named, tool_named, is_tool, is_unknown_sort, unknown_step, has_command as is_command}
 use Rattle.tb_types.specs.Scopes.{sort_in}
-use Rattle.tb_expand.specs.Agreeing.{Agrees}
+use Rattle.tb_expand.specs.Helpers.Agreeing.{Agrees}
 use Rattle.tb_expand.specs.Acts.{name_in, name_of, position_of, process_of, tool_of, tool_of_open, tool_of_sort, disconnected as leaves, act_of_list, act_of_one, act_of_more, act_of_two, act_of_word, act_of, atom_of}
 use Rattle.tb_expand.specs.Exprs.{expr_of, exprs_of}
 use Rattle.tb_expand.specs.Scopes.{Scope, sort_of}

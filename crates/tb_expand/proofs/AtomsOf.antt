@@ -12,7 +12,7 @@ use Rattle.tb_types.specs.Atoms.{atom_faults}
 use Rattle.tb_types.specs.Bodies.{proc_faults}
 use Rattle.tb_types.specs.Conditions.{Proper}
 use Rattle.tb_expand.specs.Acts.{atom_of}
-use Rattle.tb_expand.specs.Agreeing.{Agrees}
+use Rattle.tb_expand.specs.Helpers.Agreeing.{Agrees}
 use Rattle.tb_expand.specs.Expansion.{Part, expands}
 use Rattle.tb_expand.specs.Scopes.{Scope}
 use Rattle.tb_expand.proofs.Keeping.{Keeps, expansions_keep}

@@ -11,9 +11,9 @@ use Rattle.tb_types.specs.Conditions.{Proper}
 use Rattle.tb_expand.specs.declared.size.Size.{Size}
 use Rattle.tb_expand.specs.Scopes.{formals_seen}
 use Rattle.tb_expand.specs.Expansion.{expansion_of, is_too_large}
-use Rattle.tb_expand.specs.Measuring.{capped, is_over, AreSizes}
-use Rattle.tb_expand.specs.Sizes.{size_of}
-use Rattle.tb_expand.specs.Wholes.{is_whole}
+use Rattle.tb_expand.specs.Helpers.Measuring.{capped, is_over, AreSizes}
+use Rattle.tb_expand.specs.Helpers.Sizes.{size_of}
+use Rattle.tb_expand.specs.Helpers.Wholes.{is_whole}
 use Rattle.tb_expand.proofs.Ranges.{expansions_in_range}
 use Rattle.tb_expand.proofs.Sized.{sizes_are}
 

@@ -12,7 +12,7 @@ use Rattle.tb_syntax.specs.declared.proc.Proc.TheFolds.{fold_out-Proc, map-Proc}
 use Rattle.tb_syntax.specs.declared.script.Script.{Script}
 use Rattle.tb_types.specs.NamePositions.{position_of}
 use Rattle.tb_expand.specs.Cycles.{called, called_step, or_none}
-use Rattle.tb_expand.specs.CallGraphs.{positions_of, names_in}
+use Rattle.tb_expand.specs.Helpers.CallGraphs.{positions_of, names_in}
 
 pub positions_joined : (script : Script) (xs ys : List (List ℕ)) → positions_of script (xs ++ ys) ≡ positions_of script xs ++ positions_of script ys
 positions_joined script [] ys = refl

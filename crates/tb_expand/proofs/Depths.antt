@@ -15,9 +15,9 @@ use Rattle.tb_types.proofs.Naming.{found_by}
 use Rattle.tb_types.specs.Names.{process_named}
 use Rattle.tb_expand.specs.declared.size.Size.{Size}
 use Rattle.tb_expand.specs.Cycles.{called}
-use Rattle.tb_expand.specs.Descents.{StandsAmong, Descends}
-use Rattle.tb_expand.specs.Sizes.{beside, above, called_size, size_step, size_with, size_of}
-use Rattle.tb_expand.specs.Wholes.{is_called_whole, whole_step, is_whole_with, is_whole}
+use Rattle.tb_expand.specs.Helpers.Descents.{StandsAmong, Descends}
+use Rattle.tb_expand.specs.Helpers.Sizes.{beside, above, called_size, size_step, size_with, size_of}
+use Rattle.tb_expand.specs.Helpers.Wholes.{is_called_whole, whole_step, is_whole_with, is_whole}
 use Rattle.tb_expand.proofs.CalledFolds.{IsKept, related}
 use Rattle.tb_expand.proofs.SeenPositions.{is_in, seen_below, contained, seen_at_most, seen_more, seen_new}
 

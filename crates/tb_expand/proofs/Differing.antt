@@ -1,8 +1,8 @@
 -- Positions that differ, and ways on which each leads to the next.
 use Rattle.std.proofs.Common.{◌≡◌, ℕ, ◌⊎◌, inl, inr, List, [], ◌∷◌, ◌++◌, Contains, sym, subst}
 use Rattle.std.proofs.lemmas.List.Elements.{Contains-push, Contains-push_cases, Contains-append_left, Contains-append_right, Contains-append_cases}
-use Rattle.tb_expand.specs.Graphs.{Graph, next_positions, AllDiffer, IsGraphPath}
-use Rattle.tb_expand.specs.Walks.{LeadsOn, IsWay}
+use Rattle.tb_expand.specs.Helpers.Graphs.{Graph, next_positions, AllDiffer, IsGraphPath}
+use Rattle.tb_expand.specs.Helpers.Walks.{LeadsOn, IsWay}
 use Rattle.tb_expand.proofs.Readings.{none_in, contains_here, contains_there, contains_cases}
 
 pub differ_prefix : (positions : List ℕ) (position : ℕ) → AllDiffer (positions ++ position ∷ []) → AllDiffer positions × (Contains positions position → ⊥)

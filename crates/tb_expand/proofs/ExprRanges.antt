@@ -27,7 +27,7 @@ use Rattle.tb_types.specs.Exprs.{Judged, JudgedKind, judged_kind, expr_faults, h
 use Rattle.tb_types.specs.Names.{applied}
 use Rattle.tb_types.specs.Positions.{misplaced, misplaced_kind, misplaced_step, part_position, takes_results, takes_holes, expr_step as misplaced_expr}
 use Rattle.tb_types.specs.Scopes.{sort_in}
-use Rattle.tb_expand.specs.Agreeing.{Agrees}
+use Rattle.tb_expand.specs.Helpers.Agreeing.{Agrees}
 use Rattle.tb_expand.specs.Exprs.{expr_of, kind_expr, kind_step, position_step, applied as applying}
 use Rattle.tb_expand.specs.Scopes.{Scope, slot_of}
 use Rattle.tb_expand.proofs.NoFaults.{append_none, noted_none, flat_map_none}

@@ -9,8 +9,8 @@ use Rattle.tb_types.specs.NamePositions.{position_of, process_name}
 use Rattle.tb_expand.specs.Acts.{process_of}
 use Rattle.tb_expand.specs.Cycles.{called, Calls, IsCallPath, Differ, IsCycle}
 use Rattle.tb_expand.specs.Faults.{HasNoCycle}
-use Rattle.tb_expand.specs.Graphs.{next_positions, or_nowhere, IsClosed, IsOrder, IsGraphCycle, IsGraphPath, AllDiffer}
-use Rattle.tb_expand.specs.CallGraphs.{names_in, positions_of, graph_of, name_at, names_of, NamesDiffer, AllDefined}
+use Rattle.tb_expand.specs.Helpers.Graphs.{next_positions, or_nowhere, IsClosed, IsOrder, IsGraphCycle, IsGraphPath, AllDiffer}
+use Rattle.tb_expand.specs.Helpers.CallGraphs.{names_in, positions_of, graph_of, name_at, names_of, NamesDiffer, AllDefined}
 use Rattle.tb_expand.proofs.Readings.{none_in, contains_at, contains_here, contains_there, contains_cases, at_contains}
 use Rattle.tb_expand.proofs.NamedPositions.{found_there, position_there, position_is, position_in_both}
 

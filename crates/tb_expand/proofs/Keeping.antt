@@ -29,7 +29,7 @@ use Rattle.tb_types.specs.Conditions.{Proper}
 use Rattle.tb_types.specs.Definitions.{formal_faults, formal_repeats, none_seen, var_faults, var_repeats, vars_faults}
 use Rattle.tb_types.specs.ExpectedSorts.{site_faults, tested}
 use Rattle.tb_types.specs.Scopes.{known_formal, known_var}
-use Rattle.tb_expand.specs.Agreeing.{Agrees}
+use Rattle.tb_expand.specs.Helpers.Agreeing.{Agrees}
 use Rattle.tb_expand.specs.Exprs.{expr_of}
 use Rattle.tb_expand.specs.Expansion.{Expands, Part, atom_only, declaring, expands, formals_of_call, initial, nothing, set_formals, sorts_of, sorts_of_vars, under, value_formals}
 use Rattle.tb_expand.specs.Expansion as expansion

@@ -7,7 +7,7 @@ use Rattle.tb_types.specs.declared.scope.Known.{Known}
 use Rattle.tb_types.specs.Names.{is_unknown_sort}
 use Rattle.tb_types.specs.Scopes.{sort_in}
 use Rattle.tb_expand.specs.declared.seen.Seen.{Seen}
-use Rattle.tb_expand.specs.Agreeing.{Agrees, AgreesOn}
+use Rattle.tb_expand.specs.Helpers.Agreeing.{Agrees, AgreesOn}
 use Rattle.tb_expand.specs.Scopes.{Scope, seen_as, slot_of, slot_or_0, sort_of, sort_or_term}
 
 abbrev IsPositioned : Script → ℕ → Sort → Option Seen → Type 0

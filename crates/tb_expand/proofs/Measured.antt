@@ -8,8 +8,8 @@ use Rattle.tb_syntax.specs.declared.script.Script.{Script}
 use Rattle.tb_types.specs.Names.{process_named}
 use Rattle.tb_expand.specs.declared.size.Size.{Size}
 use Rattle.tb_expand.specs.Cycles.{called}
-use Rattle.tb_expand.specs.Sizes.{beside, above, called_size, size_step, size_with}
-use Rattle.tb_expand.specs.Measuring.{capped, called_measure, known_size, measure_step, measure}
+use Rattle.tb_expand.specs.Helpers.Sizes.{beside, above, called_size, size_step, size_with}
+use Rattle.tb_expand.specs.Helpers.Measuring.{capped, called_measure, known_size, measure_step, measure}
 use Rattle.tb_expand.proofs.CalledFolds.{IsKept, related}
 
 -- Caps.

@@ -13,7 +13,7 @@ use Rattle.tb_types.specs.Names.{process_named}
 use Rattle.tb_expand.specs.Exprs.{expr_of}
 use Rattle.tb_expand.specs.Scopes.{Scope, declared}
 use Rattle.tb_expand.specs.Expansion.{Part, Expands, both, call_of, expands, initial, proc_step, set_formals, tested}
-use Rattle.tb_expand.specs.Wholes.{is_called_whole, is_whole, whole_step}
+use Rattle.tb_expand.specs.Helpers.Wholes.{is_called_whole, is_whole, whole_step}
 use Rattle.tb_expand.proofs.Calling.{body_of_call, call_found}
 use Rattle.tb_expand.proofs.ProcInduction.{Related, folds_related}
 use Rattle.tb_expand.proofs.TreeFolds as at

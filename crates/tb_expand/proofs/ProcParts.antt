@@ -14,7 +14,7 @@ use Rattle.tb_expand.specs.declared.built.Built.{Built}
 use Rattle.tb_expand.specs.Scopes.{Scope, of_blocks}
 use Rattle.tb_expand.specs.Exprs.{expr_of}
 use Rattle.tb_expand.specs.Expansion.{Expands, expands_with, proc_step, both, test_of, tested}
-use Rattle.tb_expand.specs.Building.{Adds}
+use Rattle.tb_expand.specs.Helpers.Building.{Adds}
 
 abbrev layer_part : Script → (Proc → Expands) → Proc-F Proc → Expands
 layer_part script body layer = proc_step script body (map-Proc Proc Expands (expands_with script body) layer)

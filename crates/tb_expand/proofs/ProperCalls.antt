@@ -24,9 +24,9 @@ use Rattle.tb_types.specs.NamePositions.{process_name}
 use Rattle.tb_types.specs.Names.{process_named}
 use Rattle.tb_types.specs.Scopes.{known_formal, known_var}
 use Rattle.tb_expand.specs.Cycles.{called, called_step, Differ}
-use Rattle.tb_expand.specs.Graphs.{IsOrder}
-use Rattle.tb_expand.specs.CallGraphs.{graph_of, names_in, positions_of, AllDefined, NamesDiffer}
-use Rattle.tb_expand.specs.Descents.{Descends, StandsAmong}
+use Rattle.tb_expand.specs.Helpers.Graphs.{IsOrder}
+use Rattle.tb_expand.specs.Helpers.CallGraphs.{graph_of, names_in, positions_of, AllDefined, NamesDiffer}
+use Rattle.tb_expand.specs.Helpers.Descents.{Descends, StandsAmong}
 use Rattle.tb_expand.proofs.CalledFolds.{IsKept, related}
 use Rattle.tb_expand.proofs.FaultFree.{IsFreeCall, fault_free, free_call, free_definition}
 use Rattle.tb_expand.proofs.GraphCycles.{leads_from}

@@ -13,10 +13,10 @@ use Rattle.tb_syntax.specs.declared.script.Script.{Script}
 use Rattle.tb_types.specs.Conditions.{Proper}
 use Rattle.tb_types.specs.Definitions.{formal_faults, formal_repeats, none_seen}
 use Rattle.tb_types.specs.Scopes.{known_formal}
-use Rattle.tb_expand.specs.Agreeing.{Agrees}
+use Rattle.tb_expand.specs.Helpers.Agreeing.{Agrees}
 use Rattle.tb_expand.specs.Expansion.{Part, expands, expansion_of, is_too_large, sorts_of}
 use Rattle.tb_expand.specs.Scopes.{formals_seen}
-use Rattle.tb_expand.specs.Wholes.{is_whole}
+use Rattle.tb_expand.specs.Helpers.Wholes.{is_whole}
 use Rattle.tb_expand.proofs.AtomsOf.{IsGoodOf, atoms_of_expansion}
 use Rattle.tb_expand.proofs.FaultFree.{free_definition}
 use Rattle.tb_expand.proofs.AtomRanges.{atom_in_range}

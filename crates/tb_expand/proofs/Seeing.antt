@@ -19,7 +19,7 @@ use Rattle.tb_types.specs.ExpectedSorts.{exact, result_name, site_faults}
 use Rattle.tb_types.specs.Names.{is_unknown_sort}
 use Rattle.tb_types.specs.Scopes.{known_formal, known_var}
 use Rattle.tb_expand.specs.Acts.{name_in, name_of}
-use Rattle.tb_expand.specs.Agreeing.{Agrees, AgreesOn}
+use Rattle.tb_expand.specs.Helpers.Agreeing.{Agrees, AgreesOn}
 use Rattle.tb_expand.specs.Expansion.{formals_of_call, value_formals}
 use Rattle.tb_expand.specs.Scopes.{Scope, declared, formals_seen, slot_of}
 use Rattle.tb_expand.proofs.ExprRanges.{taken_in_range}

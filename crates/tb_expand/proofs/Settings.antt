@@ -13,7 +13,7 @@ use Rattle.tb_types.specs.declared.calls.Manner.TheVariants.{Called}
 use Rattle.tb_types.specs.declared.scope.Known.{Known}
 use Rattle.tb_types.specs.Calls.{formal_position, value_expected_sort}
 use Rattle.tb_types.specs.ExpectedSorts.{exact, site_faults}
-use Rattle.tb_expand.specs.Agreeing.{Agrees}
+use Rattle.tb_expand.specs.Helpers.Agreeing.{Agrees}
 use Rattle.tb_expand.specs.Expansion.{initial, set_formals, value_formals}
 use Rattle.tb_expand.specs.Exprs.{expr_of}
 use Rattle.tb_expand.specs.Scopes.{Scope}

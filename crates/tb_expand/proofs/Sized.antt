@@ -20,7 +20,7 @@ use Rattle.tb_expand.specs.declared.size.Size.{Size}
 use Rattle.tb_expand.specs.Scopes.{Scope, declared}
 use Rattle.tb_expand.specs.Exprs.{expr_of}
 use Rattle.tb_expand.specs.Expansion.{Part, Expands, both, under, tested, test_of, declaring, initial, sorts_of_vars, block_of, set_formals, formals_of_call, value_formals, sorts_of, nothing, call_of, proc_step, expands_with, expands}
-use Rattle.tb_expand.specs.Sizes.{nothing_size, beside, above, tested_size, called_size, size_step, size_with, size_of}
+use Rattle.tb_expand.specs.Helpers.Sizes.{nothing_size, beside, above, tested_size, called_size, size_step, size_with, size_of}
 
 -- Levels of trees.
 

@@ -11,9 +11,9 @@ use Rattle.tb_syntax.specs.declared.script.ProcDef.{ProcDef}
 use Rattle.tb_syntax.specs.declared.script.Script.{Script}
 use Rattle.tb_expand.specs.declared.size.Size.{Size}
 use Rattle.tb_expand.specs.Cycles.{called}
-use Rattle.tb_expand.specs.Descents.{StandsAmong, Descends}
-use Rattle.tb_expand.specs.Sizes.{size_of}
-use Rattle.tb_expand.specs.Measuring.{capped, measure, with_size_of, with_measure, AreSizes}
+use Rattle.tb_expand.specs.Helpers.Descents.{StandsAmong, Descends}
+use Rattle.tb_expand.specs.Helpers.Sizes.{size_of}
+use Rattle.tb_expand.specs.Helpers.Measuring.{capped, measure, with_size_of, with_measure, AreSizes}
 use Rattle.tb_expand.proofs.Depths.{OneOrNone, IsDefined, defined, depth_is_enough}
 use Rattle.tb_expand.proofs.Measured.{IsKnown, measured}
 

@@ -7,7 +7,7 @@ use Rattle.tb_syntax.specs.declared.script.Script.{Script}
 use Rattle.tb_types.specs.declared.scope.Known.{Known}
 use Rattle.tb_types.specs.Bodies.{proc_faults}
 use Rattle.tb_types.specs.Conditions.{Proper}
-use Rattle.tb_expand.specs.Agreeing.{Agrees}
+use Rattle.tb_expand.specs.Helpers.Agreeing.{Agrees}
 use Rattle.tb_expand.specs.Expansion.{Part, expands}
 use Rattle.tb_expand.specs.Scopes.{Scope}
 use Rattle.tb_expand.proofs.Keeping.{Keeps, expansions_keep}

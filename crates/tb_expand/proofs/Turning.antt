@@ -7,9 +7,9 @@ use Rattle.std.proofs.lemmas.List.{get_or_at}
 use Rattle.std.proofs.lemmas.List.Elements.{Contains-append_left, Contains-append_right, Contains-append_cases}
 use Rattle.tb_expand.specs.declared.walk.Visit.TheVariants.{Open}
 use Rattle.tb_expand.specs.declared.walk.Walk.{Walk}
-use Rattle.tb_expand.specs.Graphs.{Graph, AllDiffer, IsGraphPath, IsGraphCycle}
-use Rattle.tb_expand.specs.Walks.{IsWay, ClosesCycle}
-use Rattle.tb_expand.specs.TurnedCycles.{onward, IsTurned}
+use Rattle.tb_expand.specs.Helpers.Graphs.{Graph, AllDiffer, IsGraphPath, IsGraphCycle}
+use Rattle.tb_expand.specs.Helpers.Walks.{IsWay, ClosesCycle}
+use Rattle.tb_expand.specs.Helpers.TurnedCycles.{onward, IsTurned}
 use Rattle.tb_expand.proofs.Readings.{none_in, contains_there, contains_cases}
 use Rattle.tb_expand.proofs.Differing.{differ_behind, differ_turned, way_behind, leads_back, path_turned}
 

@@ -7,8 +7,8 @@ use Rattle.std.proofs.lemmas.List.Elements.{Contains-push, Contains-push_cases, 
 use Rattle.tb_expand.specs.declared.walk.Visit.{Visit}
 use Rattle.tb_expand.specs.declared.walk.Visit.TheVariants.{New, Open, Done}
 use Rattle.tb_expand.specs.declared.walk.Walk.{Walk}
-use Rattle.tb_expand.specs.Graphs.{Graph, next_positions, IsClosed, AllDiffer, IsOrder}
-use Rattle.tb_expand.specs.Walks.{IsWay, IsWalk, Continues, ClosesCycle, HasBegun, IsAtRest, start_of, opened, advanced, closed, left_at, left_in}
+use Rattle.tb_expand.specs.Helpers.Graphs.{Graph, next_positions, IsClosed, AllDiffer, IsOrder}
+use Rattle.tb_expand.specs.Helpers.Walks.{IsWay, IsWalk, Continues, ClosesCycle, HasBegun, IsAtRest, start_of, opened, advanced, closed, left_at, left_in}
 use Rattle.tb_expand.proofs.Readings.{none_in, contains_at, read_set, read_set_same, read_set_other, read_push, read_replicate, in_more, in_whole}
 use Rattle.tb_expand.proofs.Differing.{differ_prefix, differ_push, way_prefix, way_push}
 

@@ -1,6 +1,6 @@
 ghost use Rattle.std.specs.Prelude.{◌≡◌, ℕ, ◌<◌, List, length, nat_lt, Contains, IfOk};
 ghost use Rattle.std.specs.List.{IsFirstBest};
-ghost use Rattle.tb_expand.specs.TurnedCycles.{onward, IsTurned};
+ghost use Rattle.tb_expand.specs.Helpers.TurnedCycles.{onward, IsTurned};
 
 use crate::graph::Positions;
 use std::alloc::Global;

@@ -1,6 +1,6 @@
 ghost use Rattle.std.specs.Prelude.{IfOk, IfErr};
-ghost use Rattle.tb_expand.specs.CallGraphs.{NamesDiffer};
-ghost use Rattle.tb_expand.specs.CallOrders.{IsCallOrder};
+ghost use Rattle.tb_expand.specs.Helpers.CallGraphs.{NamesDiffer};
+ghost use Rattle.tb_expand.specs.Helpers.CallOrders.{IsCallOrder};
 ghost use Rattle.tb_expand.specs.Faults.{IsCallFault};
 
 use crate::fault::ExpandFault;

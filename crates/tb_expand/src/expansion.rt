@@ -3,9 +3,9 @@ ghost use Rattle.std.proofs.Props.{props};
 ghost use Rattle.tb_syntax.specs.declared.script.ProcDef.{ProcDef};
 ghost use Rattle.tb_types.specs.Conditions.{Proper};
 ghost use Rattle.tb_expand.specs.Expansion.{expansion_of, is_too_large};
-ghost use Rattle.tb_expand.specs.Wholes.{AllWhole, is_whole};
+ghost use Rattle.tb_expand.specs.Helpers.Wholes.{AllWhole, is_whole};
 ghost use Rattle.tb_expand.specs.Faults.{HasFault, HasNoCycle, IsBodyFault, IsBodyOf, IsCallFault, IsExpansion};
-ghost use Rattle.tb_expand.specs.Measuring.{AreSizes, is_over};
+ghost use Rattle.tb_expand.specs.Helpers.Measuring.{AreSizes, is_over};
 
 use crate::call_order::order_of;
 use crate::fault::ExpandFault;

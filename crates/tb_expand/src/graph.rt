@@ -1,6 +1,6 @@
 ghost use Rattle.std.specs.Prelude.{◌≡◌, ◌<◌, [], ◌∷◌, ◌++◌, length, option_map, All, IfOk, OnOk};
 ghost use Rattle.tb_expand.specs.Cycles.{called, or_none};
-ghost use Rattle.tb_expand.specs.CallGraphs.{graph_of, names_of, positions_of};
+ghost use Rattle.tb_expand.specs.Helpers.CallGraphs.{graph_of, names_of, positions_of};
 
 use crate::fault::Idents;
 use std::alloc::Global;

@@ -1,7 +1,7 @@
 ghost use Rattle.std.specs.Prelude.{◌≡◌, ℕ, ◌<◌, List, [], ◌∷◌, ◌++◌, length, slice_get, Some, IfOk, OnOk, MatchOption};
-ghost use Rattle.tb_expand.specs.Graphs.{Graph, IsClosed};
-ghost use Rattle.tb_expand.specs.Ordered.{IsOrdered};
-ghost use Rattle.tb_expand.specs.Walks.{IsAtRest, HasBegun, HasEnded, ClosesCycle};
+ghost use Rattle.tb_expand.specs.Helpers.Graphs.{Graph, IsClosed};
+ghost use Rattle.tb_expand.specs.Helpers.Ordered.{IsOrdered};
+ghost use Rattle.tb_expand.specs.Helpers.Walks.{IsAtRest, HasBegun, HasEnded, ClosesCycle};
 
 use crate::call_cycle::cycle_of;
 use crate::graph::{Graph, Positions};

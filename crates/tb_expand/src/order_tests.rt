@@ -1,5 +1,5 @@
 ghost use Rattle.std.specs.Prelude.{◌<◌, All, IfOk};
-ghost use Rattle.tb_expand.specs.Graphs.{IsClosed};
+ghost use Rattle.tb_expand.specs.Helpers.Graphs.{IsClosed};
 
 use crate::graph::{Graph, Positions};
 use crate::order::{Ordered, topological_order};

@@ -3,7 +3,7 @@ ghost use Rattle.std.specs.Option.{option_copied};
 ghost use Rattle.tb_body.specs.declared.tree.Tree.{Tree};
 ghost use Rattle.tb_types.specs.Names.{process_named};
 ghost use Rattle.tb_expand.specs.Expansion.{atom_only, expands, expands_with, both, block_of, call_of, test_of};
-ghost use Rattle.tb_expand.specs.Building.{Adds, with_part};
+ghost use Rattle.tb_expand.specs.Helpers.Building.{Adds, with_part};
 
 use crate::atoms::atom_of;
 use crate::built::Built;

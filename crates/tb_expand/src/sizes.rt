@@ -1,7 +1,7 @@
 ghost use Rattle.std.specs.Prelude.{◌≡◌, IfOk, length};
-ghost use Rattle.tb_expand.specs.Sizes.{beside, above};
-ghost use Rattle.tb_expand.specs.Measuring.{AreSizes, capped, called_measure, known_size, measure, with_measure};
-ghost use Rattle.tb_expand.specs.Descents.{Descends};
+ghost use Rattle.tb_expand.specs.Helpers.Sizes.{beside, above};
+ghost use Rattle.tb_expand.specs.Helpers.Measuring.{AreSizes, capped, called_measure, known_size, measure, with_measure};
+ghost use Rattle.tb_expand.specs.Helpers.Descents.{Descends};
 
 use crate::size::Size;
 use sqlite_items::at;

@@ -1,7 +1,7 @@
 ghost use Rattle.std.specs.Prelude.{◌≡◌, ℕ, ◌<◌, ◌+◌, ◌^◌, List, [], ◌∷◌, ◌++◌, length, slice_get, Some, ⊤, IfOk, IfSome, OnOk, MatchOption};
-ghost use Rattle.tb_expand.specs.Graphs.{IsClosed, next_positions};
+ghost use Rattle.tb_expand.specs.Helpers.Graphs.{IsClosed, next_positions};
 ghost use Rattle.tb_expand.specs.declared.walk.Visit.TheVariants.{Open};
-ghost use Rattle.tb_expand.specs.Walks.{IsWalk, IsKnown, Continues, ClosesCycle, IsAtRest, start_of, opened, advanced, closed};
+ghost use Rattle.tb_expand.specs.Helpers.Walks.{IsWalk, IsKnown, Continues, ClosesCycle, IsAtRest, start_of, opened, advanced, closed};
 
 use crate::graph::{Graph, Positions};
 use sqlite_items::at;

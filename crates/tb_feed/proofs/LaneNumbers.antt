@@ -4,7 +4,7 @@ use Rattle.std.specs.Fmt.{decimal}
 use Rattle.std.proofs.lemmas.Fmt.{decimal_by_steps}
 use Rattle.std.proofs.lemmas.Bool.{cases_lt}
 use Rattle.tb_log.specs.Shapes.{IsLane}
-use Rattle.tb_feed.specs.OneLine.{IsNumberOf}
+use Rattle.tb_feed.specs.Helpers.OneLine.{IsNumberOf}
 
 -- the digits of a number below 20
 abbrev HasDigits : ℕ → List ℕ → Type 0

@@ -11,7 +11,7 @@ use Rattle.tb_log.specs.declared.entry.Input.TheVariants as input_of
 use Rattle.tb_lane.specs.ToolLines.{IsToolLine}
 use Rattle.tb_lane.proofs.Lines.{lines-same, line-in_shape}
 use Rattle.tb_feed.specs.Feeds.{MayBeFed, Says}
-use Rattle.tb_feed.specs.OneLine.{IsSaid, IsNumberOf, lacks_blank}
+use Rattle.tb_feed.specs.Helpers.OneLine.{IsSaid, IsNumberOf, lacks_blank}
 use Rattle.tb_feed.proofs.LaneNumbers.{lane_digits}
 
 -- what stands before the first blank, and behind it

@@ -13,7 +13,7 @@ use Rattle.tb_read.proofs.Written.{written_reads}
 use Rattle.tb_lane.specs.ToolLines.{line_of, IsToolLine}
 use Rattle.tb_lane.proofs.Lines.{read-line, faulty-line}
 use Rattle.tb_feed.specs.Feeds.{lines_of, IsFeedOf, IsFirstBad}
-use Rattle.tb_feed.specs.OneLine.{IsSaid, IsNumberOf}
+use Rattle.tb_feed.specs.Helpers.OneLine.{IsSaid, IsNumberOf}
 use Rattle.tb_feed.proofs.LaneNumbers.{no-one, no-two, no-number}
 use Rattle.tb_feed.proofs.LineLemmas.{head-said, no-blank, no-lane, no-gone}
 

@@ -1,2 +1,2 @@
 pub mod Feeds
-pub mod OneLine
+pub mod Helpers

@@ -2,7 +2,7 @@
 
 ghost use Rattle.std.specs.Prelude.{◌≡◌, [], ◌∷◌, ◌++◌, IsTrue, IfOk, codes};
 ghost use Rattle.std.specs.Option.{MatchOption};
-ghost use Rattle.tb_feed.specs.OneLine.{IsSaid, IsNumberOf, lacks_blank};
+ghost use Rattle.tb_feed.specs.Helpers.OneLine.{IsSaid, IsNumberOf, lacks_blank};
 
 use std::alloc::Global;
 use tb_lane::read_tool_line;

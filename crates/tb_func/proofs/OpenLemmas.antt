@@ -5,7 +5,7 @@ use Rattle.tb_terms.specs.declared.term.Term.{Term}
 use Rattle.tb_terms.specs.declared.pattern.Pattern.{Pattern}
 use Rattle.tb_terms.specs.declared.pattern.Pattern.TheVariants as pattern
 use Rattle.tb_func.specs.Arguments.{of_both}
-use Rattle.tb_func.specs.Opens.{has_open}
+use Rattle.tb_func.specs.Helpers.Opens.{has_open}
 use Rattle.tb_func.specs.Patterns.{fixed_in, fixed_term, fixed_terms}
 
 term_of_fixed : (t : Term) → ◌≡◌ {A = Option Term} (fixed_term (pattern.Fixed t)) (Some t)

@@ -2,7 +2,7 @@
 use Rattle.std.proofs.Common.{◌≡◌, ℕ, zero, suc, ◌+◌, ◌<◌, ◌==◌, Bool, cond, true, false, List, [], ◌∷◌, ◌++◌, length, get_or, drop, Option, Some, None, option_map, refl, sym, ap, ◌∙◌, arith, drop-cons, append_assoc, add-one}
 use Rattle.tb_terms.specs.declared.term.Term.{Term}
 use Rattle.tb_func.specs.declared.printer.Printer.{Printer}
-use Rattle.tb_func.specs.Outputs.{in_all}
+use Rattle.tb_func.specs.Helpers.Outputs.{in_all}
 use Rattle.tb_func.specs.Printing.{printed, shown, prefixed}
 
 pub behind_nothing : (o : Option (List ℕ)) → option_map (λ rest. [] ++ rest) o ≡ o

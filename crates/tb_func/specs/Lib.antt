@@ -4,10 +4,8 @@ pub mod Fitting
 pub mod Functions
 pub mod Limits
 pub mod Numbers
-pub mod Opens
-pub mod Outputs
-pub mod Parts
 pub mod Patterns
 pub mod Printing
 pub mod Stores
 pub mod Values
+pub mod Helpers

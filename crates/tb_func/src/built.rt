@@ -1,6 +1,6 @@
 ghost use Rattle.std.specs.Prelude.{◌≡◌, ◌++◌, ◌∷◌, [], IfOk, map};
 ghost use Rattle.tb_terms.specs.declared.pattern.Pattern.TheVariants as pattern;
-ghost use Rattle.tb_func.specs.Parts.{as_pattern, as_patterns};
+ghost use Rattle.tb_func.specs.Helpers.Parts.{as_pattern, as_patterns};
 
 use crate::measured::{Measured, MeasuredParts};
 use crate::open::{OpenPattern, OpenPatterns};

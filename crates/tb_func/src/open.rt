@@ -1,5 +1,5 @@
 ghost use Rattle.std.specs.Prelude.{◌≡◌, IsTrue};
-ghost use Rattle.tb_func.specs.Opens.{is_open, has_open};
+ghost use Rattle.tb_func.specs.Helpers.Opens.{is_open, has_open};
 
 use tb_terms::{Pattern, Patterns};
 

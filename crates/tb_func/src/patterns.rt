@@ -1,6 +1,6 @@
 ghost use Rattle.std.specs.Prelude.{◌≡◌, IfOk, map, option_and_then, option_map};
 ghost use Rattle.tb_terms.specs.declared.pattern.Pattern.TheVariants as pattern;
-ghost use Rattle.tb_func.specs.Parts.{as_pattern, as_patterns};
+ghost use Rattle.tb_func.specs.Helpers.Parts.{as_pattern, as_patterns};
 ghost use Rattle.tb_func.specs.Patterns.{pattern_of, appl_pattern, call_pattern, list_pattern};
 ghost use Rattle.tb_func.specs.Stores.{sort_at};
 ghost use Rattle.tb_func.specs.Values.{all_of};

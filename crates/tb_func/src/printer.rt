@@ -17,7 +17,7 @@ pub(crate) struct Printer {
 impl Printer {
     ghost use Rattle.std.specs.Prelude.{◌≡◌, ◌∷◌, [], ℕ, true, false, List, None, IfOk, option_map, if◌then◌else◌};
     ghost use Rattle.std.specs.Vec.{vec_items};
-    ghost use Rattle.tb_func.specs.Outputs.{in_all};
+    ghost use Rattle.tb_func.specs.Helpers.Outputs.{in_all};
 
     pub(crate) fn new(alloc: Global) -> Printer
         ensures text { result.text.items ≡ [] }

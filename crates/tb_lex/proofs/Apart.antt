@@ -5,7 +5,7 @@ use Rattle.tb_terms.specs.Names.{is_digit, is_name, is_ident, is_name_byte}
 use Rattle.tb_read.specs.Positions.{HasPoint}
 use Rattle.tb_lex.specs.Gaps.{IsGap, IsLast}
 use Rattle.tb_lex.specs.Tokens.{symbol_text, SpellsKind, IsLongest, IsWhole, IsToken, TokensThen, Lexes, Spaced}
-use Rattle.tb_lex.specs.Scanning.{begins_with}
+use Rattle.tb_lex.specs.Helpers.Scanning.{begins_with}
 use Rattle.tb_lex.specs.declared.symbol.Symbol.{Symbol}
 use Rattle.tb_lex.specs.declared.symbol.Symbol.TheVariants as symbol
 use Rattle.tb_lex.specs.declared.token.Token.{Token}

@@ -1,7 +1,7 @@
 -- Claims of faults.
 use Rattle.tb_lex.specs.declared.fault.LexFault.{LexFault}
 use Rattle.tb_lex.specs.declared.fault.LexFault.TheVariants as fault
-use Rattle.tb_lex.specs.Answers.{Faulted}
+use Rattle.tb_lex.specs.Helpers.Answers.{Faulted}
 
 pub Faulted-weaker : (P Q : LexFault → Type 0) → ((f : LexFault) → P f → Q f) → (e : LexFault) → Faulted P e → Faulted Q e
 Faulted-weaker P Q h fault.NoMemory p = tt

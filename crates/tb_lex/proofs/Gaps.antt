@@ -6,7 +6,7 @@ use Rattle.std.specs.List.{list_all}
 use Rattle.tb_read.specs.Spelling.{is_blank}
 use Rattle.tb_lex.specs.Gaps.{is_within_line, IsComment, IsGapPart, InParts, IsGap, IsLast}
 use Rattle.tb_lex.specs.Faults.{IsBegun}
-use Rattle.tb_lex.specs.Scanning.{begins_with, gap_step, skip_gap}
+use Rattle.tb_lex.specs.Helpers.Scanning.{begins_with, gap_step, skip_gap}
 
 -- what is left, once the step of the first byte is known
 abbrev stepped : Option Bool → ℕ → List ℕ → List ℕ

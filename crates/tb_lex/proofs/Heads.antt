@@ -6,7 +6,7 @@ use Rattle.std.specs.List.{list_all}
 use Rattle.tb_terms.specs.Names.{is_digit, is_lower, is_upper, is_name, is_ident, is_name_byte}
 use Rattle.tb_read.specs.Spelling.{is_digits, digits_value, SpellsNumber, SpellsString}
 use Rattle.tb_lex.specs.Tokens.{symbol_text, SpellsKind, IsNumeral, IsPiece}
-use Rattle.tb_lex.specs.Scanning.{head_of}
+use Rattle.tb_lex.specs.Helpers.Scanning.{head_of}
 use Rattle.tb_lex.specs.declared.head.Head.{Head}
 use Rattle.tb_lex.specs.declared.head.Head.TheVariants as head
 use Rattle.tb_lex.specs.declared.symbol.Symbol.{Symbol}

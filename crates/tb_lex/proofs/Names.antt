@@ -9,7 +9,7 @@ use Rattle.tb_terms.specs.Names.{is_name, is_ident, is_lower, is_upper, is_digit
 use Rattle.tb_read.proofs.Names.{all_of_prefix}
 use Rattle.tb_read.proofs.Complete.{prefix_all}
 use Rattle.tb_lex.specs.Tokens.{IsPiece, IsLongest}
-use Rattle.tb_lex.specs.Scanning.{Read, has_head, lower_at, upper_at}
+use Rattle.tb_lex.specs.Helpers.Scanning.{Read, has_head, lower_at, upper_at}
 use Rattle.tb_lex.specs.declared.head.Head.TheVariants as head
 use Rattle.tb_lex.specs.declared.kind.TokenKind.TheVariants as kind
 use Rattle.tb_lex.proofs.Prefixes.{all_behind, none_more, stops_by}

@@ -4,7 +4,7 @@ use Rattle.std.proofs.lemmas.Bool.{ne_eqb}
 use Rattle.std.specs.List.{slice_get}
 use Rattle.tb_lex.specs.declared.fault.LexFault.{LexFault}
 use Rattle.tb_lex.specs.declared.fault.LexFault.TheVariants as fault
-use Rattle.tb_lex.specs.Scanning.{skip_gap, head_of, piece_at, Ends, made, next_at, next_of}
+use Rattle.tb_lex.specs.Helpers.Scanning.{skip_gap, head_of, piece_at, Ends, made, next_at, next_of}
 
 pub next_err : (count total : ℕ) (bytes skipped : List ℕ) (byte : ℕ) (f : LexFault) → skipped ≡ skip_gap false bytes → Some byte ≡ slice_get skipped 0 → (count ≡ 200000 → ⊥) → piece_at (head_of byte) total skipped ≡ Err f → next_of 200000 count total bytes ≡ Ends (Some f)
 next_err count total bytes [] byte f e s n h = cc

@@ -15,7 +15,7 @@ use Rattle.tb_read.proofs.Complete.{prefix_all, digit_unsigned}
 use Rattle.tb_read.proofs.Stops.{prefix_stops}
 use Rattle.tb_read.proofs.Numerals.{point}
 use Rattle.tb_lex.specs.Tokens.{IsNumeral, IsPiece, IsLongest}
-use Rattle.tb_lex.specs.Scanning.{Read, head_of, in_range, number_from, number_at}
+use Rattle.tb_lex.specs.Helpers.Scanning.{Read, head_of, in_range, number_from, number_at}
 use Rattle.tb_lex.specs.declared.head.Head.TheVariants as head
 use Rattle.tb_lex.specs.declared.kind.TokenKind.TheVariants as kind
 use Rattle.tb_lex.specs.declared.fault.LexFault.TheVariants as fault

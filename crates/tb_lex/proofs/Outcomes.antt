@@ -6,7 +6,7 @@ use Rattle.tb_lex.specs.declared.fault.LexFault.{LexFault}
 use Rattle.tb_lex.specs.declared.fault.LexFault.TheVariants as fault
 use Rattle.tb_lex.specs.Tokens.{Lexes}
 use Rattle.tb_lex.specs.Faults.{HasFault}
-use Rattle.tb_lex.specs.Answers.{HasScanned}
+use Rattle.tb_lex.specs.Helpers.Answers.{HasScanned}
 use Rattle.tb_lex.proofs.Runs.{lexes_one, scan_tokens, scan_fault, fault_one, no_fault}
 
 abbrev Answer : Type 0

@@ -19,7 +19,7 @@ use Rattle.tb_lex.specs.declared.kind.TokenKind.{TokenKind}
 use Rattle.tb_lex.specs.declared.kind.TokenKind.TheVariants as kind
 use Rattle.tb_lex.specs.Tokens.{symbol_text, SpellsKind, IsNumeral, IsLongest, IsWhole}
 use Rattle.tb_lex.specs.Faults.{BeginsNothing, IsFault}
-use Rattle.tb_lex.specs.Scanning.{Read, has_head, head_of, lower_at, upper_at, in_range, number_from, number_at, string_at, symbol_of, symbol_found, symbol_at, piece_at}
+use Rattle.tb_lex.specs.Helpers.Scanning.{Read, has_head, head_of, lower_at, upper_at, in_range, number_from, number_at, string_at, symbol_of, symbol_found, symbol_at, piece_at}
 use Rattle.tb_lex.proofs.Prefixes.{none_first}
 use Rattle.tb_lex.proofs.Heads.{PieceOf, Begun, lower_head, upper_head, number_numeral, piece_begun}
 use Rattle.tb_lex.proofs.Names.{is_name_prefix, is_ident_prefix, name_longest, ident_longest, name_stops, ident_stops, lower_taken, upper_taken}

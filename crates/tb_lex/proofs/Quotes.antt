@@ -17,7 +17,7 @@ use Rattle.tb_lex.specs.declared.kind.TokenKind.{TokenKind}
 use Rattle.tb_lex.specs.declared.kind.TokenKind.TheVariants as kind
 use Rattle.tb_lex.specs.Tokens.{IsPiece, IsLongest}
 use Rattle.tb_lex.specs.Faults.{BeginsString, IsInString, IsOpenString, IsUncut, IsBadEscape, HasBadByte}
-use Rattle.tb_lex.specs.Scanning.{Read, bad_position, string_fault, string_rest, string_of, string_at, with_prefix}
+use Rattle.tb_lex.specs.Helpers.Scanning.{Read, bad_position, string_fault, string_rest, string_of, string_at, with_prefix}
 use Rattle.tb_lex.proofs.Heads.{PieceOf, piece_of}
 use Rattle.tb_lex.proofs.Strings.{Pair, turned, read, read_in_term, read_here}
 use Rattle.tb_lex.proofs.Walks.{Step, Walks, one_more, goes_facts, puts_facts, next_facts, NextFacts, walk_steady, ten_bad, rest_read, walk_read, text_read, read_text, walk_in_string, in_string, in_string_begins, uncut, inside_of}

@@ -14,7 +14,7 @@ use Rattle.tb_lex.specs.declared.kind.TokenKind.{TokenKind}
 use Rattle.tb_lex.specs.Gaps.{IsGap, IsLast}
 use Rattle.tb_lex.specs.Tokens.{IsPiece, IsToken, TokensThen, Lexes}
 use Rattle.tb_lex.specs.Faults.{IsBegun, IsFault, Stops, StopsAt, HasFault}
-use Rattle.tb_lex.specs.Scanning.{Read, has_head, head_of, piece_at, skip_gap, Next, Makes, Ends, made, next_at, next_of, Runs, Scans}
+use Rattle.tb_lex.specs.Helpers.Scanning.{Read, has_head, head_of, piece_at, skip_gap, Next, Makes, Ends, made, next_at, next_of, Runs, Scans}
 use Rattle.tb_lex.proofs.Gaps.{Skipped, skipped, gap_skipped, last_skipped}
 use Rattle.tb_lex.proofs.Heads.{PieceOf, piece_begun}
 use Rattle.tb_lex.proofs.Symbols.{symbol_head}

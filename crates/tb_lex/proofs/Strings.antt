@@ -10,7 +10,7 @@ use Rattle.tb_read.specs.Lexing.{string_turn, string_rest as term_string, with_p
 use Rattle.tb_read.proofs.Strings.{prefix_ok as term_prefix_ok, turned as term_turned}
 use Rattle.tb_read.proofs.Scalars.{string_put}
 use Rattle.tb_lex.specs.declared.fault.LexFault.{LexFault}
-use Rattle.tb_lex.specs.Scanning.{string_fault, string_rest, with_prefix}
+use Rattle.tb_lex.specs.Helpers.Scanning.{string_fault, string_rest, with_prefix}
 
 abbrev pub Pair : Type 0
 Pair = List ℕ × List ℕ

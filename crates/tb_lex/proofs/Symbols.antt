@@ -4,7 +4,7 @@ use Rattle.std.proofs.lemmas.Bool.{false≢true, eqb-true}
 use Rattle.std.proofs.lemmas.List.{length-append}
 use Rattle.tb_read.specs.Spelling.{is_blank}
 use Rattle.tb_lex.specs.Tokens.{symbol_text, IsPiece, IsLongest}
-use Rattle.tb_lex.specs.Scanning.{begins_with, head_of, colon_of, bars_of, symbol_of}
+use Rattle.tb_lex.specs.Helpers.Scanning.{begins_with, head_of, colon_of, bars_of, symbol_of}
 use Rattle.tb_lex.specs.declared.head.Head.TheVariants as head
 use Rattle.tb_lex.specs.declared.symbol.Symbol.{Symbol}
 use Rattle.tb_lex.specs.declared.symbol.Symbol.TheVariants as symbol

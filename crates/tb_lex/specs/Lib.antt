@@ -1,5 +1,4 @@
-pub mod Answers
 pub mod Faults
 pub mod Gaps
-pub mod Scanning
 pub mod Tokens
+pub mod Helpers

@@ -1,5 +1,5 @@
 ghost use Rattle.std.specs.Prelude.{◌≡◌, ◌≤◌, length, false};
-ghost use Rattle.tb_lex.specs.Scanning.{gap_step, skip_gap};
+ghost use Rattle.tb_lex.specs.Helpers.Scanning.{gap_step, skip_gap};
 
 use crate::symbol::begins_with;
 use tb_read::is_blank;

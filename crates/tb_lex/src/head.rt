@@ -1,5 +1,5 @@
 ghost use Rattle.std.specs.Prelude.{◌≡◌};
-ghost use Rattle.tb_lex.specs.Scanning.{head_of};
+ghost use Rattle.tb_lex.specs.Helpers.Scanning.{head_of};
 
 /// What begins with a byte.
 #[derive(Clone, Copy, Debug, PartialEq, Eq)]

@@ -3,7 +3,7 @@ ghost use Rattle.tb_lex.specs.declared.token.Token.{Token};
 ghost use Rattle.tb_lex.specs.declared.fault.LexFault.{LexFault};
 ghost use Rattle.tb_lex.specs.Tokens.{Lexes, most_tokens};
 ghost use Rattle.tb_lex.specs.Faults.{HasFault};
-ghost use Rattle.tb_lex.specs.Answers.{IsNext, HasScanned};
+ghost use Rattle.tb_lex.specs.Helpers.Answers.{IsNext, HasScanned};
 
 use crate::gap::skip_gap;
 use crate::head::head_of;

@@ -1,7 +1,7 @@
 ghost use Rattle.std.specs.Prelude.{◌≡◌, ◌≤◌, ◌<◌, ◌-◌, length, drop, IfOk, IsTrue, if◌then◌else◌};
 ghost use Rattle.tb_read.specs.Lexing.{is_negative};
-ghost use Rattle.tb_lex.specs.Scanning.{number_from, number_at};
-ghost use Rattle.tb_lex.specs.Answers.{Gives};
+ghost use Rattle.tb_lex.specs.Helpers.Scanning.{number_from, number_at};
+ghost use Rattle.tb_lex.specs.Helpers.Answers.{Gives};
 
 use crate::{LexFault, TokenKind};
 use tb_read::{digits_len, digits_value, is_real, number_of};

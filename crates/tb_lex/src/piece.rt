@@ -1,8 +1,8 @@
 ghost use Rattle.std.specs.Prelude.{◌≡◌, ◌≤◌, ◌<◌, length, drop, IsTrue, IfOk};
 ghost use Rattle.std.specs.List.{prefix_len};
 ghost use Rattle.tb_terms.specs.Names.{is_name_byte};
-ghost use Rattle.tb_lex.specs.Scanning.{has_head, lower_at, upper_at, symbol_at, piece_at};
-ghost use Rattle.tb_lex.specs.Answers.{Gives};
+ghost use Rattle.tb_lex.specs.Helpers.Scanning.{has_head, lower_at, upper_at, symbol_at, piece_at};
+ghost use Rattle.tb_lex.specs.Helpers.Answers.{Gives};
 
 use crate::head::Head;
 use crate::numeral::number_at;

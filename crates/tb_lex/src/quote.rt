@@ -1,7 +1,7 @@
 ghost use Rattle.std.specs.Prelude.{◌≡◌, ◌≤◌, ◌<◌, ◌+◌, ◌-◌, length, IfOk};
 ghost use Rattle.tb_read.specs.declared.quoted.Within.TheVariants as within;
-ghost use Rattle.tb_lex.specs.Scanning.{string_fault, string_rest, string_at};
-ghost use Rattle.tb_lex.specs.Answers.{Gives};
+ghost use Rattle.tb_lex.specs.Helpers.Scanning.{string_fault, string_rest, string_at};
+ghost use Rattle.tb_lex.specs.Helpers.Answers.{Gives};
 
 use crate::{LexFault, TokenKind};
 use std::alloc::Global;

@@ -1,6 +1,6 @@
 ghost use Rattle.std.specs.Prelude.{◌≡◌, ◌≤◌, ℕ, length, Option, Some, None};
 ghost use Rattle.tb_lex.specs.Tokens.{symbol_text};
-ghost use Rattle.tb_lex.specs.Scanning.{begins_with, colon_of, bars_of, symbol_of};
+ghost use Rattle.tb_lex.specs.Helpers.Scanning.{begins_with, colon_of, bars_of, symbol_of};
 
 /// A symbol of a script.
 #[derive(Clone, Copy, Debug, PartialEq, Eq)]

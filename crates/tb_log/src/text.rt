@@ -1,5 +1,5 @@
 ghost use Rattle.std.specs.Prelude.{◌≡◌, ◌++◌, [], ◌∷◌, OnOk, OnErr, codes, decimal};
-ghost use Rattle.tb_terms.specs.Prefixes.{KeepsPrefix};
+ghost use Rattle.tb_terms.specs.Helpers.Prefixes.{KeepsPrefix};
 ghost use Rattle.tb_log.specs.LogText.{entry_text, entry_words, kind_word, label_words, place_words, term_words, arguments_text, fed_words, input_words, tool_line_words, out_words, why_word};
 
 use crate::entry::{Entry, Input, Label, LabelKind, Out, Place, Reply, ToolLine, Why};

@@ -4,7 +4,7 @@ use Rattle.std.specs.List.{list_all}
 use Rattle.std.proofs.lemmas.Bool.{false≢true, and_parts, and_from, eq-eqb, eqb-true}
 use Rattle.std.proofs.lemmas.List.{take_at, append-nil}
 use Rattle.std.proofs.lemmas.List.Folds.{list_all-append}
-use Rattle.tb_log_read.specs.Cutting.{prefix, behind, without_last}
+use Rattle.tb_log_read.specs.Helpers.Cutting.{prefix, behind, without_last}
 
 -- no byte is this one
 abbrev pub lacks : ℕ → List ℕ → Bool

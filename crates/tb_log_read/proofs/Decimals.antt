@@ -10,7 +10,7 @@ use Rattle.tb_terms.specs.Names.{is_digit, is_name_byte}
 use Rattle.tb_read.specs.Spelling.{digits_value}
 use Rattle.tb_log.specs.declared.entry.Place.{Place}
 use Rattle.tb_log.specs.Proper.{is_proper_place}
-use Rattle.tb_log_read.specs.Numbers.{number64, number32, number8, place_of}
+use Rattle.tb_log_read.specs.Helpers.Numbers.{number64, number32, number8, place_of}
 use Rattle.tb_log_read.proofs.Cuts.{lacks, lacks_by, prefix-cut, behind-cut}
 
 abbrev IsDecimal : ℕ → List ℕ → Type 0

@@ -34,11 +34,11 @@ use Rattle.tb_log.specs.declared.entry.Why.{Why}
 use Rattle.tb_log.specs.declared.entry.Why.TheVariants as why
 use Rattle.tb_log.specs.declared.entry.Entry.{Entry}
 use Rattle.tb_log.specs.declared.entry.Entry.TheVariants.{Did, Quiet, Fed, Gave}
-use Rattle.tb_log_read.specs.Cutting.{prefix, behind, without_last}
-use Rattle.tb_log_read.specs.Numbers.{number8, place_of}
-use Rattle.tb_log_read.specs.Terms.{term_of, terms_of, label_terms, with_prefix, with_first}
-use Rattle.tb_log_read.specs.Unescaping.{unescaped_from}
-use Rattle.tb_log_read.specs.Words.{kind_of, why_of, labelled, step_of, value_line, event_line, named_line, tool_line_of, line_on, input_of, fed_by, dropped_by, drop_of, start_of, line_of, out_of, gave_on, gave_of, other_of, entry_by, words_of}
+use Rattle.tb_log_read.specs.Helpers.Cutting.{prefix, behind, without_last}
+use Rattle.tb_log_read.specs.Helpers.Numbers.{number8, place_of}
+use Rattle.tb_log_read.specs.Helpers.Terms.{term_of, terms_of, label_terms, with_prefix, with_first}
+use Rattle.tb_log_read.specs.Helpers.Unescaping.{unescaped_from}
+use Rattle.tb_log_read.specs.Helpers.Words.{kind_of, why_of, labelled, step_of, value_line, event_line, named_line, tool_line_of, line_on, input_of, fed_by, dropped_by, drop_of, start_of, line_of, out_of, gave_on, gave_of, other_of, entry_by, words_of}
 use Rattle.tb_log_read.proofs.Cuts.{lacks, lacks-append, prefix-cut, behind-cut, prefix-none, behind-none, without_last-push}
 use Rattle.tb_log_read.proofs.Decimals.{lacks-decimal, number8-decimal, place_of-decimal}
 use Rattle.tb_log_read.proofs.LabelKinds.{HasOnePlace, kinds}

@@ -6,10 +6,10 @@ use Rattle.tb_log.specs.Shapes.{nowhere, HasPlaces}
 use Rattle.tb_log.specs.declared.entry.Place.{Place}
 use Rattle.tb_log.specs.declared.entry.LabelKind.{LabelKind}
 use Rattle.tb_log.specs.declared.entry.LabelKind.TheVariants as kind
-use Rattle.tb_log_read.specs.Cutting.{prefix, behind}
-use Rattle.tb_log_read.specs.Numbers.{place_of}
-use Rattle.tb_log_read.specs.Terms.{label_terms}
-use Rattle.tb_log_read.specs.Words.{kind_of, labelled, step_of}
+use Rattle.tb_log_read.specs.Helpers.Cutting.{prefix, behind}
+use Rattle.tb_log_read.specs.Helpers.Numbers.{place_of}
+use Rattle.tb_log_read.specs.Helpers.Terms.{label_terms}
+use Rattle.tb_log_read.specs.Helpers.Words.{kind_of, labelled, step_of}
 use Rattle.tb_log_read.proofs.Cuts.{lacks}
 
 pub record HasOnePlace (k : LabelKind) : Type 0 where

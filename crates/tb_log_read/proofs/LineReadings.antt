@@ -5,10 +5,10 @@ use Rattle.tb_log.specs.LogText.{entry_words, entry_text}
 use Rattle.tb_log.specs.Proper.{is_proper_entry}
 use Rattle.tb_log.specs.Shapes.{InShape}
 use Rattle.tb_log.specs.declared.entry.Entry.{Entry}
-use Rattle.tb_log_read.specs.Cutting.{prefix, behind}
-use Rattle.tb_log_read.specs.Numbers.{number64}
-use Rattle.tb_log_read.specs.Words.{words_of}
-use Rattle.tb_log_read.specs.Entries.{numbered_by, numbered_of}
+use Rattle.tb_log_read.specs.Helpers.Cutting.{prefix, behind}
+use Rattle.tb_log_read.specs.Helpers.Numbers.{number64}
+use Rattle.tb_log_read.specs.Helpers.Words.{words_of}
+use Rattle.tb_log_read.specs.Helpers.Entries.{numbered_by, numbered_of}
 use Rattle.tb_log_read.specs.Lines.{IsLine}
 use Rattle.tb_log_read.specs.declared.line.Numbered.{Numbered}
 use Rattle.tb_log_read.proofs.Cuts.{lacks, prefix-cut, behind-cut}

@@ -28,12 +28,12 @@ use Rattle.tb_log.specs.declared.entry.Reply.TheVariants.{Took, Dropped}
 use Rattle.tb_log.specs.declared.entry.Why.{Why}
 use Rattle.tb_log.specs.declared.entry.Entry.{Entry}
 use Rattle.tb_log.specs.declared.entry.Entry.TheVariants.{Did, Quiet, Fed, Gave}
-use Rattle.tb_log_read.specs.Cutting.{prefix, behind, without_last}
-use Rattle.tb_log_read.specs.Numbers.{number64, number32, number8, place_of}
-use Rattle.tb_log_read.specs.Parts.{parts}
-use Rattle.tb_log_read.specs.Terms.{term_of, with_prefix, with_first, all_terms, terms_of, label_terms}
-use Rattle.tb_log_read.specs.Unescaping.{unescaped_from}
-use Rattle.tb_log_read.specs.Words.{kind_of, why_of, labelled, step_of, value_line, event_line, named_line, tool_line_of, line_on, input_of, fed_by, dropped_by, drop_of, start_of, line_of, out_of, gave_on, gave_of, other_of, entry_by, words_of}
+use Rattle.tb_log_read.specs.Helpers.Cutting.{prefix, behind, without_last}
+use Rattle.tb_log_read.specs.Helpers.Numbers.{number64, number32, number8, place_of}
+use Rattle.tb_log_read.specs.Helpers.Parts.{parts}
+use Rattle.tb_log_read.specs.Helpers.Terms.{term_of, with_prefix, with_first, all_terms, terms_of, label_terms}
+use Rattle.tb_log_read.specs.Helpers.Unescaping.{unescaped_from}
+use Rattle.tb_log_read.specs.Helpers.Words.{kind_of, why_of, labelled, step_of, value_line, event_line, named_line, tool_line_of, line_on, input_of, fed_by, dropped_by, drop_of, start_of, line_of, out_of, gave_on, gave_of, other_of, entry_by, words_of}
 use Rattle.tb_log_read.proofs.LabelKinds.{HasOnePlace, kinds}
 use Rattle.tb_log_read.proofs.Readings.{term_of-is}
 

@@ -9,7 +9,7 @@ use Rattle.tb_read.specs.Reading.{HasFault}
 use Rattle.tb_read.proofs.Complete.{reads_one}
 use Rattle.tb_read.proofs.Outcomes.{no_fault}
 use Rattle.tb_read.proofs.Ended.{OneOf, has_one}
-use Rattle.tb_log_read.specs.Terms.{found_term, term_of}
+use Rattle.tb_log_read.specs.Helpers.Terms.{found_term, term_of}
 
 found_reads : (bytes : List ℕ) (one : OneOf bytes) (t : Term) → Reads bytes t → IsWithinLimits t → found_term bytes one ≡ Some t
 found_reads bytes (inl found) t r w = ap (λ (u : Term). Some u) (reads_one bytes found.0 t found.1 r)

@@ -9,8 +9,8 @@ use Rattle.tb_terms.specs.Sizes.{IsWithinLimits}
 use Rattle.tb_terms.specs.Texts.{term_text, terms_text, joined, quoted, escaped, escape_letter, with_letter}
 use Rattle.tb_terms.specs.declared.term.Term.{Term}
 use Rattle.tb_read.proofs.Written.{written_reads}
-use Rattle.tb_log_read.specs.Parts.{plain_after, after, is_cut, onto, parts_from, parts}
-use Rattle.tb_log_read.specs.Terms.{term_of, with_prefix, with_first, all_terms, terms_of, label_terms}
+use Rattle.tb_log_read.specs.Helpers.Parts.{plain_after, after, is_cut, onto, parts_from, parts}
+use Rattle.tb_log_read.specs.Helpers.Terms.{term_of, with_prefix, with_first, all_terms, terms_of, label_terms}
 use Rattle.tb_log_read.specs.declared.part.Standing.{Standing}
 use Rattle.tb_log_read.specs.declared.part.Standing.TheVariants.{Plain, Quoted, Escaped}
 use Rattle.tb_log_read.proofs.Readings.{term_of-reads}

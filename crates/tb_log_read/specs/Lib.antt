@@ -1,9 +1,2 @@
-pub mod Answers
-pub mod Cutting
-pub mod Entries
 pub mod Lines
-pub mod Numbers
-pub mod Parts
-pub mod Terms
-pub mod Unescaping
-pub mod Words
+pub mod Helpers

@@ -1,5 +1,5 @@
 ghost use Rattle.std.specs.Prelude.{◌≡◌, ◌≤◌, length};
-ghost use Rattle.tb_log_read.specs.Cutting.{prefix, behind, without_last};
+ghost use Rattle.tb_log_read.specs.Helpers.Cutting.{prefix, behind, without_last};
 
 /// The bytes before the first such byte, and the bytes behind it. Where there is none, all and none.
 pub(crate) fn cut(separator: u8, bytes: &[u8]) -> (&[u8], &[u8])

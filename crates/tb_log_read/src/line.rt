@@ -3,7 +3,7 @@ ghost use Rattle.tb_log.specs.LogText.{entry_text};
 ghost use Rattle.tb_log.specs.Shapes.{InShape};
 ghost use Rattle.tb_log.specs.declared.entry.Entry.{Entry};
 ghost use Rattle.tb_log_read.specs.Lines.{IsLine};
-ghost use Rattle.tb_log_read.specs.Entries.{numbered_of};
+ghost use Rattle.tb_log_read.specs.Helpers.Entries.{numbered_of};
 
 use crate::cut::cut;
 use crate::number::number64;

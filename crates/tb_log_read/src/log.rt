@@ -2,7 +2,7 @@ ghost use Rattle.std.specs.Prelude.{◌≡◌, ◌<◌, ◌≤◌, ◌⊎◌, �
 ghost use Rattle.tb_log.specs.LogText.{log_text};
 ghost use Rattle.tb_log.specs.declared.entry.Entry.{Entry};
 ghost use Rattle.tb_log_read.specs.Lines.{IsLine, IsLog, StopsAt, HasFault, first_line};
-ghost use Rattle.tb_log_read.specs.Answers.{IsNoLine};
+ghost use Rattle.tb_log_read.specs.Helpers.Answers.{IsNoLine};
 
 use crate::fault::LogFault;
 use crate::line::read_entry;

@@ -1,5 +1,5 @@
 ghost use Rattle.std.specs.Prelude.{◌≡◌};
-ghost use Rattle.tb_log_read.specs.Numbers.{number64, number32, number8, place_of};
+ghost use Rattle.tb_log_read.specs.Helpers.Numbers.{number64, number32, number8, place_of};
 
 use crate::cut::cut;
 use tb_log::Place;

@@ -1,6 +1,6 @@
 ghost use Rattle.std.specs.Prelude.{◌≡◌, ◌↔◌, IsTrue, IfOk};
 ghost use Rattle.tb_read.specs.declared.fault.TermFault.{TermFault};
-ghost use Rattle.tb_log_read.specs.Terms.{term_of, terms_of, label_terms};
+ghost use Rattle.tb_log_read.specs.Helpers.Terms.{term_of, terms_of, label_terms};
 
 use crate::part::next_part;
 use std::alloc::Global;

@@ -1,5 +1,5 @@
 ghost use Rattle.std.specs.Prelude.{◌≡◌, false, IfOk};
-ghost use Rattle.tb_log_read.specs.Unescaping.{unescaped_from, letter_byte};
+ghost use Rattle.tb_log_read.specs.Helpers.Unescaping.{unescaped_from, letter_byte};
 
 use std::alloc::Global;
 use tb_terms::NoMemory;

@@ -1,6 +1,6 @@
 ghost use Rattle.std.specs.Prelude.{◌≡◌};
 ghost use Rattle.std.specs.Str.{bytes_eq};
-ghost use Rattle.tb_log_read.specs.Words.{kind_of, why_of};
+ghost use Rattle.tb_log_read.specs.Helpers.Words.{kind_of, why_of};
 
 use tb_log::{LabelKind, Why};
 

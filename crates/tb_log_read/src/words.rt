@@ -1,7 +1,7 @@
 ghost use Rattle.std.specs.Prelude.{◌≡◌, false, IfOk};
-ghost use Rattle.tb_log_read.specs.Cutting.{behind, without_last};
-ghost use Rattle.tb_log_read.specs.Unescaping.{unescaped_from};
-ghost use Rattle.tb_log_read.specs.Words.{words_of, other_of, step_of, labelled, drop_of, gave_of, input_of, tool_line_of, named_line, out_of, line_of, start_of};
+ghost use Rattle.tb_log_read.specs.Helpers.Cutting.{behind, without_last};
+ghost use Rattle.tb_log_read.specs.Helpers.Unescaping.{unescaped_from};
+ghost use Rattle.tb_log_read.specs.Helpers.Words.{words_of, other_of, step_of, labelled, drop_of, gave_of, input_of, tool_line_of, named_line, out_of, line_of, start_of};
 
 use crate::cut::{cut, without_last};
 use crate::number::{number8, place_of};

@@ -7,7 +7,7 @@ use Rattle.tb_lex.specs.declared.symbol.Symbol.TheVariants.{LeftBracket, RightBr
 use Rattle.tb_syntax.specs.declared.ast.Ast.{Ast}
 use Rattle.tb_syntax.specs.declared.ast.AstKind.TheVariants as ast
 use Rattle.tb_syntax.specs.Words.{is_free}
-use Rattle.tb_parse.specs.Parsing.{Parser, Found, begins, tail, is_sign, word_sort, hole, list, kind, expr, call_of, call}
+use Rattle.tb_parse.specs.Helpers.Parsing.{Parser, Found, begins, tail, is_sign, word_sort, hole, list, kind, expr, call_of, call}
 use Rattle.tb_parse.proofs.Alike.{Alike, Same, if_alike, mapped_alike, after_alike, finding, branch, expected, roomless, by_token, next_alike, mapping, behind}
 use Rattle.tb_parse.proofs.AlikeParts.{stops_there, found_there, upper_alike, parted_alike, in_parens_alike}
 

@@ -7,7 +7,7 @@ use Rattle.tb_lex.specs.declared.kind.TokenKind.{TokenKind}
 use Rattle.tb_lex.specs.declared.kind.TokenKind.TheVariants.{Int, Str, Lower, Upper, Symbol as Sign}
 use Rattle.tb_lex.specs.declared.symbol.Symbol.TheVariants.{LeftParen, RightParen, Comma}
 use Rattle.tb_syntax.specs.Words.{is_free}
-use Rattle.tb_parse.specs.Parsing.{Parser, Found, Stops, after, mapped, begins, tail, is_sign, expect, upper, lower, text, free_name, parted, in_parens, word_sort, named_sort, sort}
+use Rattle.tb_parse.specs.Helpers.Parsing.{Parser, Found, Stops, after, mapped, begins, tail, is_sign, expect, upper, lower, text, free_name, parted, in_parens, word_sort, named_sort, sort}
 use Rattle.tb_parse.proofs.Alike.{Alike, Same, fewer, if_alike, branch_alike, after_alike, finding, branch, expected, roomless, by_token, mapping, behind}
 
 -- One token.

@@ -7,7 +7,7 @@ use Rattle.tb_syntax.specs.declared.proc.Var.{Var}
 use Rattle.tb_syntax.specs.declared.script.Formal.{Formal}
 use Rattle.tb_syntax.specs.declared.script.Script.{Script}
 use Rattle.tb_parse.specs.Faults.{Begins}
-use Rattle.tb_parse.specs.Parsing.{Outcome, Found, Stops, after, mapped, is_sign, is_word, skip, text, formal, process, command, tool, with_process, with_tool, definitions, roots, at_end, script}
+use Rattle.tb_parse.specs.Helpers.Parsing.{Outcome, Found, Stops, after, mapped, is_sign, is_word, skip, text, formal, process, command, tool, with_process, with_tool, definitions, roots, at_end, script}
 use Rattle.tb_parse.proofs.ReadScripts.{complete}
 use Rattle.tb_parse.proofs.Alike.{Alike, Same, end, branch_alike, finding, branch, skipped, expected, roomless, mapping, behind}
 use Rattle.tb_parse.proofs.AlikeParts.{upper_alike, text_alike, free_name_alike, parted_alike, in_parens_alike}

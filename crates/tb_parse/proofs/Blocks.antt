@@ -5,9 +5,9 @@ use Rattle.tb_syntax.specs.declared.proc.Proc.{Proc}
 use Rattle.tb_syntax.specs.declared.proc.Proc.TheVariants as tree
 use Rattle.tb_syntax.specs.declared.proc.Var.{Var}
 use Rattle.tb_parse.specs.declared.built.Built.{Built}
-use Rattle.tb_parse.specs.Parsing.{Outcome, Found, Parser, after, mapped, begins, tail, skip, expect, is_word, parted, var, block, sides}
-use Rattle.tb_parse.specs.Heights.{built, as_built, both, one}
-use Rattle.tb_parse.specs.Reading.{Ahead, runs, next, eaten}
+use Rattle.tb_parse.specs.Helpers.Parsing.{Outcome, Found, Parser, after, mapped, begins, tail, skip, expect, is_word, parted, var, block, sides}
+use Rattle.tb_parse.specs.Helpers.Heights.{built, as_built, both, one}
+use Rattle.tb_parse.specs.Helpers.Reading.{Ahead, runs, next, eaten}
 use Rattle.tb_parse.proofs.Skips.{came, got, skip_found, expect_found}
 use Rattle.tb_parse.proofs.Trees.{seen, built_within, built_only, built_either}
 

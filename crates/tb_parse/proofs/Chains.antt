@@ -4,9 +4,9 @@ use Rattle.tb_syntax.specs.declared.proc.Proc.{Proc}
 use Rattle.tb_parse.specs.declared.built.Built.{Built}
 use Rattle.tb_parse.specs.declared.built.Chain.{Chain}
 use Rattle.tb_parse.specs.declared.built.Chain.TheVariants as chain
-use Rattle.tb_parse.specs.Parsing.{Outcome, Found, Stops, Parser, after, mapped, begins, is_sign, tail, rightward, merge, choice, sequence}
-use Rattle.tb_parse.specs.Heights.{built, as_built, both, joined, join_of, sign_of, chained, member}
-use Rattle.tb_parse.specs.Reading.{Ahead, runs, next, eaten}
+use Rattle.tb_parse.specs.Helpers.Parsing.{Outcome, Found, Stops, Parser, after, mapped, begins, is_sign, tail, rightward, merge, choice, sequence}
+use Rattle.tb_parse.specs.Helpers.Heights.{built, as_built, both, joined, join_of, sign_of, chained, member}
+use Rattle.tb_parse.specs.Helpers.Reading.{Ahead, runs, next, eaten}
 use Rattle.tb_parse.proofs.Trees.{built_link, seen, unseen}
 use Rattle.tb_parse.proofs.Turns.{one_more, no_more}
 

@@ -4,8 +4,8 @@ use Rattle.std.specs.Result.{IsErrAnd}
 use Rattle.std.proofs.lemmas.Result.{err_from_is_err_and}
 use Rattle.tb_parse.specs.declared.fault.ParseFault.{ParseFault}
 use Rattle.tb_parse.specs.declared.fault.ParseFault.TheVariants as fault
-use Rattle.tb_parse.specs.Parsing.{Outcome, Stops}
-use Rattle.tb_parse.specs.Reading.{Ahead, StopsWith, Meets}
+use Rattle.tb_parse.specs.Helpers.Parsing.{Outcome, Stops}
+use Rattle.tb_parse.specs.Helpers.Reading.{Ahead, StopsWith, Meets}
 
 pub stops_with : {A B : Type 0} (o : Outcome A) (o' : Outcome B) (e : ParseFault) → ((position : ℕ) → o ≡ Stops position → o' ≡ Stops position) → StopsWith o e → StopsWith o' e
 stops_with o o' (fault.Syntax position) pass s = pass position s

@@ -14,10 +14,10 @@ use Rattle.tb_parse.specs.declared.fault.ParseFault.{ParseFault}
 use Rattle.tb_parse.specs.declared.kept.Kept.{Kept}
 use Rattle.tb_parse.specs.declared.kept.Made.{Made}
 use Rattle.tb_parse.specs.declared.kept.Made.TheVariants as made
-use Rattle.tb_parse.specs.Heights.{built}
-use Rattle.tb_parse.specs.Parsing.{Outcome, Found, Stops, Defined, after, mapped, begins, is_word, tail, process, tool, definitions, with_process, with_tool}
-use Rattle.tb_parse.specs.Defining.{made_of, is_low, kept, first_position, with_rest, added, process_made, definitions_kept, Defines}
-use Rattle.tb_parse.specs.Reading.{Ahead, runs, next, eaten, StopsWith}
+use Rattle.tb_parse.specs.Helpers.Heights.{built}
+use Rattle.tb_parse.specs.Helpers.Parsing.{Outcome, Found, Stops, Defined, after, mapped, begins, is_word, tail, process, tool, definitions, with_process, with_tool}
+use Rattle.tb_parse.specs.Helpers.Defining.{made_of, is_low, kept, first_position, with_rest, added, process_made, definitions_kept, Defines}
+use Rattle.tb_parse.specs.Helpers.Reading.{Ahead, runs, next, eaten, StopsWith}
 use Rattle.tb_parse.proofs.Exits.{stops_with}
 use Rattle.tb_parse.proofs.Trees.{seen, unseen}
 use Rattle.tb_parse.proofs.Turns.{one_more, no_more}

@@ -10,7 +10,7 @@ use Rattle.tb_syntax.specs.Spelling.{Spells}
 use Rattle.tb_parse.specs.declared.fault.ParseFault.{ParseFault}
 use Rattle.tb_parse.specs.declared.fault.ParseFault.TheVariants as fault
 use Rattle.tb_parse.specs.Faults.{NoneTooDeep, IsScriptOf, IsUnspelt, Begins, IsSyntaxFault, IsTooHigh, HasFault}
-use Rattle.tb_parse.specs.Parsing.{Outcome, Found, Stops, script}
+use Rattle.tb_parse.specs.Helpers.Parsing.{Outcome, Found, Stops, script}
 use Rattle.tb_parse.proofs.ReadScripts.{complete, unique}
 use Rattle.tb_parse.proofs.SoundScripts.{sound, begun}
 use Rattle.tb_parse.proofs.AlikeScripts.{wrong}

@@ -5,9 +5,9 @@ use Rattle.tb_lex.specs.declared.kind.TokenKind.{TokenKind}
 use Rattle.tb_syntax.specs.declared.script.Script.{Script}
 use Rattle.tb_parse.specs.declared.fault.ParseFault.{ParseFault}
 use Rattle.tb_parse.specs.declared.fault.ParseFault.TheVariants as fault
-use Rattle.tb_parse.specs.Defining.{Judges}
+use Rattle.tb_parse.specs.Helpers.Defining.{Judges}
 use Rattle.tb_parse.specs.Faults.{NoneTooDeep, IsScriptOf, HasFault}
-use Rattle.tb_parse.specs.Parsing.{script}
+use Rattle.tb_parse.specs.Helpers.Parsing.{script}
 use Rattle.tb_parse.proofs.Outcomes.{stopped, fault_one, script_has_none, deep_is_other, syntax_is_other}
 use Rattle.tb_parse.proofs.ReadScripts.{unique}
 use Rattle.tb_parse.proofs.SoundScripts.{sound}

@@ -1,8 +1,8 @@
 -- A loop that collects parts between commas, beside the recursion that says what they are.
 use Rattle.std.proofs.Common.{◌≡◌, ℕ, ◌+◌, ◌-◌, ◌<◌, ◌≤◌, Bool, true, false, List, [], ◌∷◌, ◌++◌, refl, sym, ap, subst, ◌∙◌, arith, append_assoc, if◌then◌else◌}
 use Rattle.tb_lex.specs.declared.symbol.Symbol.TheVariants.{Comma}
-use Rattle.tb_parse.specs.Parsing.{Outcome, Found, Stops, Parser, after, mapped, begins, is_sign, tail, parted}
-use Rattle.tb_parse.specs.Reading.{Ahead, runs, next, eaten}
+use Rattle.tb_parse.specs.Helpers.Parsing.{Outcome, Found, Stops, Parser, after, mapped, begins, is_sign, tail, parted}
+use Rattle.tb_parse.specs.Helpers.Reading.{Ahead, runs, next, eaten}
 use Rattle.tb_parse.proofs.Turns.{one_more, no_more}
 
 -- the parts so far, in front of what comes in the turns that are left

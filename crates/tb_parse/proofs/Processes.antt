@@ -5,10 +5,10 @@ use Rattle.tb_syntax.specs.declared.script.Formal.{Formal}
 use Rattle.tb_syntax.specs.declared.script.ProcDef.{ProcDef}
 use Rattle.tb_parse.specs.declared.built.Built.{Built}
 use Rattle.tb_parse.specs.declared.kept.Made.{Made}
-use Rattle.tb_parse.specs.Heights.{built, as_built}
-use Rattle.tb_parse.specs.Parsing.{Outcome, Found, Stops, Parser, after, mapped, skip, is_word, upper, in_parens, formal, proc, process}
-use Rattle.tb_parse.specs.Defining.{made_of, process_made}
-use Rattle.tb_parse.specs.Reading.{Ahead, runs}
+use Rattle.tb_parse.specs.Helpers.Heights.{built, as_built}
+use Rattle.tb_parse.specs.Helpers.Parsing.{Outcome, Found, Stops, Parser, after, mapped, skip, is_word, upper, in_parens, formal, proc, process}
+use Rattle.tb_parse.specs.Helpers.Defining.{made_of, process_made}
+use Rattle.tb_parse.specs.Helpers.Reading.{Ahead, runs}
 use Rattle.tb_parse.proofs.Skips.{came, got, skip_found, skip_stops}
 use Rattle.tb_parse.proofs.Trees.{seen, unseen}
 

@@ -10,7 +10,7 @@ use Rattle.tb_syntax.specs.declared.ast.AstKind.TheVariants as ast
 use Rattle.tb_syntax.specs.declared.proc.Call.{Call}
 use Rattle.tb_syntax.specs.Spelling.{Parted, InParens, SpellsKind, SpellsExpr, SpellsArguments, SpellsExprs, SpellsCall}
 use Rattle.tb_syntax.specs.Words.{is_free}
-use Rattle.tb_parse.specs.Parsing.{Parser, Found, mapped, begins, is_sign, expect, in_parens, parted, list, kind, expr, call_of, call}
+use Rattle.tb_parse.specs.Helpers.Parsing.{Parser, Found, mapped, begins, is_sign, expect, in_parens, parted, list, kind, expr, call_of, call}
 use Rattle.tb_parse.proofs.ReadParts.{either, neither, arrives, read, read_mapped, ReadsIn, Reads, parted_reads, in_parens_reads}
 use Rattle.tb_parse.proofs.ReadSorts.{hole_reads}
 

@@ -6,7 +6,7 @@ use Rattle.tb_lex.specs.declared.kind.TokenKind.{TokenKind}
 use Rattle.tb_lex.specs.declared.kind.TokenKind.TheVariants.{Symbol as Sign}
 use Rattle.tb_lex.specs.declared.symbol.Symbol.TheVariants.{LeftParen, RightParen, Comma}
 use Rattle.tb_syntax.specs.Spelling.{Parted, InParens}
-use Rattle.tb_parse.specs.Parsing.{Parser, Outcome, Found, after, mapped, begins, is_sign, parted, in_parens}
+use Rattle.tb_parse.specs.Helpers.Parsing.{Parser, Outcome, Found, after, mapped, begins, is_sign, parted, in_parens}
 
 -- The first token behind a construct may be one that goes on with it.
 

@@ -14,7 +14,7 @@ use Rattle.tb_syntax.specs.declared.proc.Proc.{Proc}
 use Rattle.tb_syntax.specs.declared.proc.Proc.TheVariants as tree
 use Rattle.tb_syntax.specs.declared.proc.Var.{Var}
 use Rattle.tb_syntax.specs.Spelling.{Parted, SpellsExpr, SpellsArguments, SpellsCall, SpellsAtom, SpellsProc}
-use Rattle.tb_parse.specs.Parsing.{Parser, Found, after, mapped, begins, is_sign, parted, expr, is_time, var, upper_proc, block, sides, test, lower_proc, prim_of, rightward, leftward, turns, sequence, choice, merge, prim, proc}
+use Rattle.tb_parse.specs.Helpers.Parsing.{Parser, Found, after, mapped, begins, is_sign, parted, expr, is_time, var, upper_proc, block, sides, test, lower_proc, prim_of, rightward, leftward, turns, sequence, choice, merge, prim, proc}
 use Rattle.tb_parse.proofs.Signs.{its_own}
 use Rattle.tb_parse.proofs.ReadParts.{either, neither, arrives, read, read_last, Reads, parted_map, parted_reads}
 use Rattle.tb_parse.proofs.ReadExprs.{on_expr, expr_reads, call_of_reads}

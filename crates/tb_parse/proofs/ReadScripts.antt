@@ -13,7 +13,7 @@ use Rattle.tb_syntax.specs.declared.script.Script.{Script}
 use Rattle.tb_syntax.specs.declared.script.ToolDef.{ToolDef}
 use Rattle.tb_syntax.specs.Spelling.{Parted, InParens, SpellsCall, SpellsVar, SpellsFormal, SpellsProcDef, SpellsToolDef, SpellsDefinitions, SpellsRoots, Spells, mark, command_tokens, in_parens as in_parens_tokens}
 use Rattle.tb_syntax.specs.Words.{is_free}
-use Rattle.tb_parse.specs.Parsing.{Parser, Outcome, Found, Stops, after, begins, is_sign, free_name, parted, in_parens, call, var, proc, formal, process, command, tool, Defined, with_process, with_tool, definitions, roots, at_end, script}
+use Rattle.tb_parse.specs.Helpers.Parsing.{Parser, Outcome, Found, Stops, after, begins, is_sign, free_name, parted, in_parens, call, var, proc, formal, process, command, tool, Defined, with_process, with_tool, definitions, roots, at_end, script}
 use Rattle.tb_parse.proofs.ReadParts.{neither, arrives, read, read_last, read_mapped, ReadsIn, Reads, parted_map, in_parens_map, parted_reads, in_parens_reads}
 use Rattle.tb_parse.proofs.ReadExprs.{on_expr, call_reads}
 use Rattle.tb_parse.proofs.ReadAtoms.{var_reads}

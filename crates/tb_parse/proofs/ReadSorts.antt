@@ -11,7 +11,7 @@ use Rattle.tb_lex.specs.declared.symbol.Symbol.TheVariants.{LeftParen, RightPare
 use Rattle.tb_syntax.specs.declared.ast.AstKind.TheVariants as ast
 use Rattle.tb_syntax.specs.Spelling.{IsSortWord, SpellsSort}
 use Rattle.tb_syntax.specs.Words.{is_free, is_among, is_sort_word}
-use Rattle.tb_parse.specs.Parsing.{Parser, Found, mapped, begins, is_sign, expect, free_name, word_sort, sort, hole}
+use Rattle.tb_parse.specs.Helpers.Parsing.{Parser, Found, mapped, begins, is_sign, expect, free_name, word_sort, sort, hole}
 use Rattle.tb_parse.proofs.ReadParts.{arrives, read}
 
 pub sort_some : {at inner : ℕ} {s : Sort} {ks : List TokenKind} → SpellsSort at s inner ks → 1 ≤ length ks

@@ -6,7 +6,7 @@ use Rattle.tb_lex.specs.declared.symbol.Symbol.TheVariants.{LeftParen, RightPare
 use Rattle.tb_syntax.specs.declared.proc.ActDef.TheVariants as act
 use Rattle.tb_syntax.specs.declared.proc.Proc.{Proc}
 use Rattle.tb_syntax.specs.declared.proc.Proc.TheVariants as tree
-use Rattle.tb_parse.specs.Parsing.{
+use Rattle.tb_parse.specs.Helpers.Parsing.{
   Found,
   Stops,
   free_name,

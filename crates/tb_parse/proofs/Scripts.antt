@@ -12,9 +12,9 @@ use Rattle.tb_syntax.specs.declared.script.Script.{Script}
 use Rattle.tb_parse.specs.declared.fault.ParseFault.{ParseFault}
 use Rattle.tb_parse.specs.declared.fault.ParseFault.TheVariants as fault
 use Rattle.tb_parse.specs.declared.kept.Kept.{Kept}
-use Rattle.tb_parse.specs.Parsing.{Outcome, Found, Stops, Parser, Defined, after, skip, is_word, is_sign, definitions, roots, at_end, script}
-use Rattle.tb_parse.specs.Defining.{is_low, kept, definitions_kept, whole_of, Judges}
-use Rattle.tb_parse.specs.Reading.{Ahead, runs, StopsWith}
+use Rattle.tb_parse.specs.Helpers.Parsing.{Outcome, Found, Stops, Parser, Defined, after, skip, is_word, is_sign, definitions, roots, at_end, script}
+use Rattle.tb_parse.specs.Helpers.Defining.{is_low, kept, definitions_kept, whole_of, Judges}
+use Rattle.tb_parse.specs.Helpers.Reading.{Ahead, runs, StopsWith}
 use Rattle.tb_parse.proofs.Skips.{came, got, skip_found, skip_stops}
 use Rattle.tb_parse.proofs.Trees.{seen, unseen}
 

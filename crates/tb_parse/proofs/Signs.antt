@@ -7,7 +7,7 @@ use Rattle.tb_lex.specs.declared.kind.TokenKind.{TokenKind}
 use Rattle.tb_lex.specs.declared.kind.TokenKind.TheVariants.{Int, Str, Lower, Upper, Symbol as Sign}
 use Rattle.tb_lex.specs.declared.symbol.Symbol.{Symbol}
 use Rattle.tb_lex.specs.declared.symbol.Symbol.TheVariants.{LeftParen, RightParen, LeftBracket, RightBracket, LeftBrace, RightBrace, Comma, Point, Colon, Assign, Equals, Question, Plus, Star, Bars, Less, Greater}
-use Rattle.tb_parse.specs.Parsing.{sign_code, is_sign, is_word}
+use Rattle.tb_parse.specs.Helpers.Parsing.{sign_code, is_sign, is_word}
 
 signs : List Symbol
 signs =

@@ -1,8 +1,8 @@
 -- One token that has to come, by itself and in front of the rest.
 use Rattle.std.proofs.Common.{◌≡◌, ℕ, ◌+◌, Bool, true, false, List, if◌then◌else◌}
 use Rattle.tb_lex.specs.declared.kind.TokenKind.{TokenKind}
-use Rattle.tb_parse.specs.Parsing.{Outcome, Found, Stops, Parser, begins, tail, expect, skip}
-use Rattle.tb_parse.specs.Reading.{Ahead, runs}
+use Rattle.tb_parse.specs.Helpers.Parsing.{Outcome, Found, Stops, Parser, begins, tail, expect, skip}
+use Rattle.tb_parse.specs.Helpers.Reading.{Ahead, runs}
 
 -- the token came, and this is behind it
 abbrev pub here : ℕ → List TokenKind → Outcome (Unit {0})

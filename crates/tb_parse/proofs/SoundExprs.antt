@@ -11,7 +11,7 @@ use Rattle.tb_syntax.specs.declared.ast.AstKind.{AstKind}
 use Rattle.tb_syntax.specs.declared.ast.AstKind.TheVariants as ast
 use Rattle.tb_syntax.specs.Spelling.{Parted, InParens, IsSortWord, SpellsKind, SpellsExpr, SpellsArguments, SpellsExprs, SpellsCall}
 use Rattle.tb_syntax.specs.Words.{is_free}
-use Rattle.tb_parse.specs.Parsing.{Parser, Found, Stops, mapped, begins, tail, is_sign, in_parens, word_sort, hole, list, kind, expr, call_of, call}
+use Rattle.tb_parse.specs.Helpers.Parsing.{Parser, Found, Stops, mapped, begins, tail, is_sign, in_parens, word_sort, hole, list, kind, expr, call_of, call}
 use Rattle.tb_parse.proofs.Signs.{is_that_sign}
 use Rattle.tb_parse.proofs.Fits.{Fits, Opens, found, stops, token, behind, mapping, weaker, with_sign, expect_sign}
 use Rattle.tb_parse.proofs.SoundLists.{Sound, parted_sound, in_parens_sound}

@@ -3,7 +3,7 @@ use Rattle.std.proofs.Common.{ℕ, zero, suc, ◌+◌, List, [], ◌∷◌, ◌+
 use Rattle.tb_lex.specs.declared.kind.TokenKind.{TokenKind}
 use Rattle.tb_lex.specs.declared.symbol.Symbol.TheVariants.{LeftParen, RightParen, Comma}
 use Rattle.tb_syntax.specs.Spelling.{Parted, InParens}
-use Rattle.tb_parse.specs.Parsing.{Parser, parted, in_parens, expect, is_sign, after, mapped}
+use Rattle.tb_parse.specs.Helpers.Parsing.{Parser, parted, in_parens, expect, is_sign, after, mapped}
 use Rattle.tb_parse.proofs.Fits.{Fits, found, stops, opens, behind, mapping, with_sign, expect_sign}
 
 -- a parser of things that are spelt so

@@ -12,7 +12,7 @@ use Rattle.tb_syntax.specs.declared.script.Script.{Script}
 use Rattle.tb_syntax.specs.declared.script.ToolDef.{ToolDef}
 use Rattle.tb_syntax.specs.Spelling.{InParens, SpellsCall, SpellsFormal, SpellsProcDef, SpellsToolDef, SpellsDefinitions, SpellsRoots, Spells, SpellsVar, mark, command_tokens}
 use Rattle.tb_parse.specs.Faults.{Begins}
-use Rattle.tb_parse.specs.Parsing.{Parser, Outcome, Found, Stops, after, mapped, begins, tail, is_sign, is_word, expect, skip, text, call, proc, formal, process, command, tool, Defined, with_process, with_tool, definitions, roots, at_end, script}
+use Rattle.tb_parse.specs.Helpers.Parsing.{Parser, Outcome, Found, Stops, after, mapped, begins, tail, is_sign, is_word, expect, skip, text, call, proc, formal, process, command, tool, Defined, with_process, with_tool, definitions, roots, at_end, script}
 use Rattle.tb_parse.proofs.Fits.{Fits, Opens, found, stops, token, behind, mapping, with_sign, with_word, skip_sign, skip_word, expect_sign, stops_begun}
 use Rattle.tb_parse.proofs.SoundLists.{Sound, parted_sound, in_parens_sound}
 use Rattle.tb_parse.proofs.SoundSorts.{upper_sound, free_name_sound}

@@ -8,7 +8,7 @@ use Rattle.tb_lex.specs.declared.kind.TokenKind.TheVariants.{Int, Str, Lower, Up
 use Rattle.tb_lex.specs.declared.symbol.Symbol.TheVariants.{LeftParen, RightParen}
 use Rattle.tb_syntax.specs.Spelling.{IsSortWord, SpellsSort}
 use Rattle.tb_syntax.specs.Words.{is_free, is_sort_word}
-use Rattle.tb_parse.specs.Parsing.{Parser, Outcome, Found, Stops, after, mapped, begins, tail, is_sign, expect, lower, upper, free_name, word_sort, named_sort, sort}
+use Rattle.tb_parse.specs.Helpers.Parsing.{Parser, Outcome, Found, Stops, after, mapped, begins, tail, is_sign, expect, lower, upper, free_name, word_sort, named_sort, sort}
 use Rattle.tb_parse.proofs.Signs.{same_name}
 use Rattle.tb_parse.proofs.Fits.{Fits, Opens, found, stops, token, behind, mapping, with_sign, expect_sign}
 

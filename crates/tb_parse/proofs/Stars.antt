@@ -4,9 +4,9 @@ use Rattle.tb_lex.specs.declared.symbol.Symbol.TheVariants.{Star}
 use Rattle.tb_syntax.specs.declared.proc.Proc.{Proc}
 use Rattle.tb_syntax.specs.declared.proc.Proc.TheVariants as tree
 use Rattle.tb_parse.specs.declared.built.Built.{Built}
-use Rattle.tb_parse.specs.Parsing.{Outcome, Found, Stops, after, mapped, begins, is_sign, prim, turns, leftward}
-use Rattle.tb_parse.specs.Heights.{built, as_built, both}
-use Rattle.tb_parse.specs.Reading.{Ahead, runs, next, eaten}
+use Rattle.tb_parse.specs.Helpers.Parsing.{Outcome, Found, Stops, after, mapped, begins, is_sign, prim, turns, leftward}
+use Rattle.tb_parse.specs.Helpers.Heights.{built, as_built, both}
+use Rattle.tb_parse.specs.Helpers.Reading.{Ahead, runs, next, eaten}
 use Rattle.tb_parse.proofs.Trees.{built_turn, seen, unseen}
 use Rattle.tb_parse.proofs.Turns.{one_more, no_more}
 

@@ -1,8 +1,8 @@
 -- A loop that collects times, beside the recursion that says what they are.
 use Rattle.std.proofs.Common.{◌≡◌, ℕ, ◌+◌, ◌-◌, ◌<◌, ◌≤◌, Bool, true, false, List, [], ◌∷◌, ◌++◌, refl, sym, ap, subst, ◌∙◌, arith, append_assoc, append-nil, if◌then◌else◌}
 use Rattle.tb_syntax.specs.declared.proc.TimeDef.{TimeDef}
-use Rattle.tb_parse.specs.Parsing.{Outcome, Found, Stops, after, mapped, begins, is_time, time, times}
-use Rattle.tb_parse.specs.Reading.{Ahead, runs}
+use Rattle.tb_parse.specs.Helpers.Parsing.{Outcome, Found, Stops, after, mapped, begins, is_time, time, times}
+use Rattle.tb_parse.specs.Helpers.Reading.{Ahead, runs}
 use Rattle.tb_parse.proofs.Turns.{one_more, no_more}
 
 -- the times so far, in front of what comes in the turns that are left

@@ -16,8 +16,8 @@ use Rattle.tb_parse.specs.declared.built.Built.{Built}
 use Rattle.tb_parse.specs.declared.built.Built.TheVariants.{Tree, TooHigh}
 use Rattle.tb_parse.specs.declared.built.Chain.{Chain}
 use Rattle.tb_parse.specs.declared.built.Chain.TheVariants as chain
-use Rattle.tb_parse.specs.Parsing.{Outcome, Found, Stops, Parser, after, mapped}
-use Rattle.tb_parse.specs.Heights.{built, both, both_sides, one, one_side, join_of}
+use Rattle.tb_parse.specs.Helpers.Parsing.{Outcome, Found, Stops, Parser, after, mapped}
+use Rattle.tb_parse.specs.Helpers.Heights.{built, both, both_sides, one, one_side, join_of}
 
 abbrev heights : Proc-F Proc → ℕ
 heights layer = height_step (map-Proc Proc ℕ height layer)

@@ -1,5 +1,2 @@
-pub mod Defining
 pub mod Faults
-pub mod Heights
-pub mod Parsing
-pub mod Reading
+pub mod Helpers

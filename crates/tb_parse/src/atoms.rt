@@ -1,6 +1,6 @@
 ghost use Rattle.std.specs.Prelude.{◌≡◌};
-ghost use Rattle.tb_parse.specs.Parsing.{call_of, call, create, time, times, var, parted};
-ghost use Rattle.tb_parse.specs.Reading.{Meets, runs};
+ghost use Rattle.tb_parse.specs.Helpers.Parsing.{call_of, call, create, time, times, var, parted};
+ghost use Rattle.tb_parse.specs.Helpers.Reading.{Meets, runs};
 
 use crate::ParseFault;
 use crate::exprs::{arguments, expr};
@@ -12,7 +12,7 @@ use tb_syntax::{ActDef, Call, Calls, TimeDef, TimeDefs, Var, Vars};
 use tb_terms::{Ident, Items};
 
 /// The call whose name stands at this position, and is taken already.
-#[tactic(auto, unfolding(crate::specs::Parsing::call_of))]
+#[tactic(auto, unfolding(crate::specs::Helpers::Parsing::call_of))]
 pub(crate) fn call_of(
     alloc: Global,
     reader: &mut Reader<'_>,
@@ -30,7 +30,7 @@ pub(crate) fn call_of(
     })
 }
 
-#[tactic(auto, unfolding(crate::specs::Parsing::call))]
+#[tactic(auto, unfolding(crate::specs::Helpers::Parsing::call))]
 pub(crate) fn call(alloc: Global, reader: &mut Reader<'_>, room: usize) -> Result<Call, ParseFault>
     ensures { Meets (runs (call room) reader.old) result reader.new }
 {
@@ -58,7 +58,7 @@ pub(crate) fn calls(
 }
 
 /// What stands behind the word `create`.
-#[tactic(auto, unfolding(crate::specs::Parsing::create))]
+#[tactic(auto, unfolding(crate::specs::Helpers::Parsing::create))]
 pub(crate) fn create(
     alloc: Global,
     reader: &mut Reader<'_>,
@@ -74,7 +74,7 @@ pub(crate) fn create(
     Ok(ActDef::Create(made, variable))
 }
 
-#[tactic(auto, unfolding(crate::specs::Parsing::time))]
+#[tactic(auto, unfolding(crate::specs::Helpers::Parsing::time))]
 fn time(alloc: Global, reader: &mut Reader<'_>, room: usize) -> Result<TimeDef, ParseFault>
     ensures { Meets (runs (time room) reader.old) result reader.new }
 {
@@ -105,7 +105,7 @@ pub(crate) fn times(
 }
 
 /// A variable with its sort.
-#[tactic(auto, unfolding(crate::specs::Parsing::var))]
+#[tactic(auto, unfolding(crate::specs::Helpers::Parsing::var))]
 pub(crate) fn var(alloc: Global, reader: &mut Reader<'_>, room: usize) -> Result<Var, ParseFault>
     ensures { Meets (runs (var room) reader.old) result reader.new }
 {

@@ -1,7 +1,7 @@
 ghost use Rattle.std.specs.Prelude.{◌≡◌, ◌++◌, Some, None, IfOk};
 ghost use Rattle.tb_syntax.specs.declared.proc.Proc.TheVariants as tree;
 ghost use Rattle.tb_parse.specs.declared.built.Built.{Built};
-ghost use Rattle.tb_parse.specs.Heights.{both, one, sides_of, fitting, side_of, join_of, joined};
+ghost use Rattle.tb_parse.specs.Helpers.Heights.{both, one, sides_of, fitting, side_of, join_of, joined};
 
 use std::alloc::Global;
 use tb_syntax::{Ast, Proc, Vars};

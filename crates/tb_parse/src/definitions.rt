@@ -1,6 +1,6 @@
-ghost use Rattle.tb_parse.specs.Parsing.{script, definitions, formal, in_parens, parted, tool, command, roots};
-ghost use Rattle.tb_parse.specs.Defining.{Defines, Judges, process_made, definitions_kept};
-ghost use Rattle.tb_parse.specs.Reading.{Meets, runs};
+ghost use Rattle.tb_parse.specs.Helpers.Parsing.{script, definitions, formal, in_parens, parted, tool, command, roots};
+ghost use Rattle.tb_parse.specs.Helpers.Defining.{Defines, Judges, process_made, definitions_kept};
+ghost use Rattle.tb_parse.specs.Helpers.Reading.{Meets, runs};
 
 use crate::ParseFault;
 use crate::atoms::{calls, var};
@@ -82,7 +82,7 @@ fn process(
 }
 
 /// Formals in parentheses, which are left out where there are none.
-#[tactic(auto, unfolding(crate::specs::Parsing::in_parens))]
+#[tactic(auto, unfolding(crate::specs::Helpers::Parsing::in_parens))]
 fn formals(alloc: Global, reader: &mut Reader<'_>, room: usize) -> Result<Formals, ParseFault>
     ensures { Meets (runs (in_parens (formal room) room) reader.old) result reader.new }
 {
@@ -111,7 +111,7 @@ fn parted_formals(
     Err(ParseFault::Syntax(reader.position()))
 }
 
-#[tactic(auto, unfolding(crate::specs::Parsing::formal))]
+#[tactic(auto, unfolding(crate::specs::Helpers::Parsing::formal))]
 fn formal(alloc: Global, reader: &mut Reader<'_>, room: usize) -> Result<Formal, ParseFault>
     ensures { Meets (runs (formal room) reader.old) result reader.new }
 {
@@ -132,7 +132,7 @@ fn formal(alloc: Global, reader: &mut Reader<'_>, room: usize) -> Result<Formal,
 }
 
 /// What stands behind the word `tool`, which stands at this position.
-#[tactic(auto, unfolding(crate::specs::Parsing::tool))]
+#[tactic(auto, unfolding(crate::specs::Helpers::Parsing::tool))]
 fn tool(alloc: Global, reader: &mut Reader<'_>, token: usize) -> Result<ToolDef, ParseFault>
     ensures { Meets (runs (tool token) reader.old) result reader.new }
 {
@@ -148,7 +148,7 @@ fn tool(alloc: Global, reader: &mut Reader<'_>, token: usize) -> Result<ToolDef,
     })
 }
 
-#[tactic(auto, unfolding(crate::specs::Parsing::command))]
+#[tactic(auto, unfolding(crate::specs::Helpers::Parsing::command))]
 fn command(alloc: Global, reader: &mut Reader<'_>) -> Result<Option<Text>, ParseFault>
     ensures { Meets (runs command reader.old) result reader.new }
 {
@@ -160,7 +160,7 @@ fn command(alloc: Global, reader: &mut Reader<'_>) -> Result<Option<Text>, Parse
 }
 
 /// The processes with which a script starts, behind the parenthesis.
-#[tactic(auto, unfolding(crate::specs::Parsing::roots))]
+#[tactic(auto, unfolding(crate::specs::Helpers::Parsing::roots))]
 fn roots(alloc: Global, reader: &mut Reader<'_>, room: usize) -> Result<Calls, ParseFault>
     ensures { Meets (runs (roots room) reader.old) result reader.new }
 {

@@ -1,7 +1,7 @@
 ghost use Rattle.std.specs.Prelude.{◌≡◌, if◌then◌else◌};
 ghost use Rattle.tb_syntax.specs.declared.ast.AstKind.{AstKind};
-ghost use Rattle.tb_parse.specs.Parsing.{expr, kind, in_parens, parted, list, hole};
-ghost use Rattle.tb_parse.specs.Reading.{Meets, runs};
+ghost use Rattle.tb_parse.specs.Helpers.Parsing.{expr, kind, in_parens, parted, list, hole};
+ghost use Rattle.tb_parse.specs.Helpers.Reading.{Meets, runs};
 
 use crate::ParseFault;
 use crate::reader::Reader;
@@ -13,7 +13,7 @@ use tb_terms::{Ident, Items};
 
 /// An expression. The room bounds how deep expressions stand in each other.
 #[cycle(exprs)]
-#[tactic(auto, unfolding(crate::specs::Parsing::expr))]
+#[tactic(auto, unfolding(crate::specs::Helpers::Parsing::expr))]
 pub(crate) fn expr(alloc: Global, reader: &mut Reader<'_>, room: usize) -> Result<Ast, ParseFault>
     ensures { Meets (runs (expr room) reader.old) result reader.new }
 {
@@ -26,7 +26,7 @@ pub(crate) fn expr(alloc: Global, reader: &mut Reader<'_>, room: usize) -> Resul
 }
 
 #[cycle(exprs)]
-#[tactic(auto, unfolding(crate::specs::Parsing::kind))]
+#[tactic(auto, unfolding(crate::specs::Helpers::Parsing::kind))]
 fn kind(alloc: Global, reader: &mut Reader<'_>, room: usize) -> Result<AstKind, ParseFault>
     ensures { Meets (runs (kind (expr room) room) reader.old) result reader.new }
 {
@@ -62,7 +62,7 @@ fn variable(name: Ident, takes: bool) -> AstKind
 }
 
 /// A placeholder behind its `<`.
-#[tactic(auto, unfolding(crate::specs::Parsing::hole))]
+#[tactic(auto, unfolding(crate::specs::Helpers::Parsing::hole))]
 fn hole(alloc: Global, reader: &mut Reader<'_>) -> Result<AstKind, ParseFault>
     ensures { Meets (runs hole reader.old) result reader.new }
 {
@@ -77,7 +77,7 @@ fn hole(alloc: Global, reader: &mut Reader<'_>) -> Result<AstKind, ParseFault>
 
 /// A list behind its `[`.
 #[cycle(exprs)]
-#[tactic(auto, unfolding(crate::specs::Parsing::list))]
+#[tactic(auto, unfolding(crate::specs::Helpers::Parsing::list))]
 fn list(alloc: Global, reader: &mut Reader<'_>, room: usize) -> Result<AstKind, ParseFault>
     ensures { Meets (runs (list (expr room) room) reader.old) result reader.new }
 {
@@ -91,7 +91,7 @@ fn list(alloc: Global, reader: &mut Reader<'_>, room: usize) -> Result<AstKind, 
 
 /// Expressions in parentheses, which are left out where there are none.
 #[cycle(exprs)]
-#[tactic(auto, unfolding(crate::specs::Parsing::in_parens))]
+#[tactic(auto, unfolding(crate::specs::Helpers::Parsing::in_parens))]
 pub(crate) fn arguments(
     alloc: Global,
     reader: &mut Reader<'_>,

@@ -1,7 +1,7 @@
 ghost use Rattle.std.specs.Prelude.{◌≡◌, [], None, Some, OnOk};
 ghost use Rattle.tb_syntax.specs.declared.proc.Proc.{Proc};
-ghost use Rattle.tb_parse.specs.Heights.{built};
-ghost use Rattle.tb_parse.specs.Defining.{added, first_position, made_of, whole_of};
+ghost use Rattle.tb_parse.specs.Helpers.Heights.{built};
+ghost use Rattle.tb_parse.specs.Helpers.Defining.{added, first_position, made_of, whole_of};
 
 use crate::ParseFault;
 use crate::built::Built;

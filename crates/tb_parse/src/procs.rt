@@ -1,8 +1,8 @@
 ghost use Rattle.std.specs.Prelude.{◌≡◌};
 ghost use Rattle.tb_syntax.specs.declared.proc.Proc.{Proc};
-ghost use Rattle.tb_parse.specs.Parsing.{proc, prim, merge, turns, prim_of, lower_proc, upper_proc, timed, block, test, sides};
-ghost use Rattle.tb_parse.specs.Heights.{built, as_built, creation, chained, member, sign_of};
-ghost use Rattle.tb_parse.specs.Reading.{Meets, runs};
+ghost use Rattle.tb_parse.specs.Helpers.Parsing.{proc, prim, merge, turns, prim_of, lower_proc, upper_proc, timed, block, test, sides};
+ghost use Rattle.tb_parse.specs.Helpers.Heights.{built, as_built, creation, chained, member, sign_of};
+ghost use Rattle.tb_parse.specs.Helpers.Reading.{Meets, runs};
 
 use crate::ParseFault;
 use crate::atoms::{call_of, create, times, vars};
@@ -15,7 +15,7 @@ use tb_syntax::{ActDef, Ast, AtomDef, Proc, is_atom_word};
 use tb_terms::{Ident, Items, Name};
 
 /// A whole process. The room bounds how deep processes stand in each other.
-#[tactic(auto, unfolding(crate::specs::Parsing::proc))]
+#[tactic(auto, unfolding(crate::specs::Helpers::Parsing::proc))]
 pub(crate) fn proc(alloc: Global, reader: &mut Reader<'_>, room: usize) -> Result<Built, ParseFault>
     ensures { Meets (runs (as_built (proc room)) reader.old) result reader.new }
 {
@@ -88,7 +88,7 @@ fn turns(alloc: Global, reader: &mut Reader<'_>, room: usize) -> Result<Built, P
 }
 
 /// What stands by itself.
-#[tactic(auto, unfolding(crate::specs::Parsing::prim))]
+#[tactic(auto, unfolding(crate::specs::Helpers::Parsing::prim))]
 #[cycle(procs)]
 fn prim(alloc: Global, reader: &mut Reader<'_>, room: usize) -> Result<Built, ParseFault>
     ensures { Meets (runs (as_built (prim room)) reader.old) result reader.new }
@@ -99,7 +99,7 @@ fn prim(alloc: Global, reader: &mut Reader<'_>, room: usize) -> Result<Built, Pa
     prim_of(alloc, reader, room - 1)
 }
 
-#[tactic(auto, unfolding(crate::specs::Parsing::prim_of))]
+#[tactic(auto, unfolding(crate::specs::Helpers::Parsing::prim_of))]
 #[cycle(procs)]
 fn prim_of(alloc: Global, reader: &mut Reader<'_>, room: usize) -> Result<Built, ParseFault>
     ensures { Meets (runs (as_built (prim_of (merge (prim room) room) room)) reader.old) result reader.new }
@@ -121,7 +121,7 @@ fn prim_of(alloc: Global, reader: &mut Reader<'_>, room: usize) -> Result<Built,
 }
 
 /// An assignment or a call whose name stands at this position, and is taken already.
-#[tactic(auto, using(crate::proofs::Trees::built_call), unfolding(crate::specs::Parsing::upper_proc))]
+#[tactic(auto, using(crate::proofs::Trees::built_call), unfolding(crate::specs::Helpers::Parsing::upper_proc))]
 fn upper_proc(
     alloc: Global,
     reader: &mut Reader<'_>,
@@ -140,7 +140,7 @@ fn upper_proc(
 }
 
 /// The times of an atom that begins at this position.
-#[tactic(auto, using(crate::proofs::Trees::built_atom), unfolding(crate::specs::Parsing::timed))]
+#[tactic(auto, using(crate::proofs::Trees::built_atom), unfolding(crate::specs::Helpers::Parsing::timed))]
 fn timed(
     alloc: Global,
     reader: &mut Reader<'_>,
@@ -169,7 +169,7 @@ fn creation(
 }
 
 /// What begins with a word that stands at this position, and is taken already.
-#[tactic(auto, unfolding(crate::specs::Parsing::lower_proc))]
+#[tactic(auto, unfolding(crate::specs::Helpers::Parsing::lower_proc))]
 #[cycle(procs)]
 fn lower_proc(
     alloc: Global,
@@ -199,7 +199,7 @@ fn lower_proc(
 }
 
 /// What stands behind the word `let`.
-#[tactic(auto, unfolding(crate::specs::Parsing::block))]
+#[tactic(auto, unfolding(crate::specs::Helpers::Parsing::block))]
 #[cycle(procs)]
 fn block(alloc: Global, reader: &mut Reader<'_>, room: usize) -> Result<Built, ParseFault>
     ensures { Meets (runs (as_built (block (merge (prim room) room) room)) reader.old) result reader.new }
@@ -212,7 +212,7 @@ fn block(alloc: Global, reader: &mut Reader<'_>, room: usize) -> Result<Built, P
 }
 
 /// What stands behind the word `if`.
-#[tactic(auto, unfolding(crate::specs::Parsing::test))]
+#[tactic(auto, unfolding(crate::specs::Helpers::Parsing::test))]
 #[cycle(procs)]
 fn test(alloc: Global, reader: &mut Reader<'_>, room: usize) -> Result<Built, ParseFault>
     ensures { Meets (runs (as_built (test (merge (prim room) room) room)) reader.old) result reader.new }
@@ -224,7 +224,7 @@ fn test(alloc: Global, reader: &mut Reader<'_>, room: usize) -> Result<Built, Pa
 }
 
 /// What stands behind the first side of a test.
-#[tactic(auto, unfolding(crate::specs::Parsing::sides))]
+#[tactic(auto, unfolding(crate::specs::Helpers::Parsing::sides))]
 #[cycle(procs)]
 fn sides(
     alloc: Global,

@@ -1,8 +1,8 @@
 ghost use Rattle.std.specs.Prelude.{◌≡◌, ◌∷◌, [], MatchOption};
 ghost use Rattle.std.specs.Bool.{MatchBool};
 ghost use Rattle.tb_syntax.specs.Spelling.{kinds_of};
-ghost use Rattle.tb_parse.specs.Parsing.{begins, expect, is_sign, is_word, is_time, upper, lower, text, free_name};
-ghost use Rattle.tb_parse.specs.Reading.{Meets, runs, eaten, next};
+ghost use Rattle.tb_parse.specs.Helpers.Parsing.{begins, expect, is_sign, is_word, is_time, upper, lower, text, free_name};
+ghost use Rattle.tb_parse.specs.Helpers.Reading.{Meets, runs, eaten, next};
 
 use crate::ParseFault;
 use std::alloc::Global;
@@ -20,7 +20,7 @@ pub(crate) struct Reader<'a> {
 }
 
 impl<'a> Model for Reader<'a> {
-    ghost use Rattle.tb_parse.specs.Reading.{Ahead};
+    ghost use Rattle.tb_parse.specs.Helpers.Reading.{Ahead};
 
     ghost Value = { Ahead };
 
@@ -172,7 +172,7 @@ impl<'a> Reader<'a> {
     }
 
     /// A lower name that isn't reserved.
-    #[tactic(auto, unfolding(crate::specs::Parsing::free_name))]
+    #[tactic(auto, unfolding(crate::specs::Helpers::Parsing::free_name))]
     pub(crate) fn free_name(&mut self, alloc: Global) -> Result<Name, ParseFault>
         ensures { Meets (runs free_name self.old) result self.new }
     {

@@ -1,6 +1,6 @@
 ghost use Rattle.std.specs.Prelude.{◌≡◌, IfOk, Some, None, if◌then◌else◌};
-ghost use Rattle.tb_parse.specs.Parsing.{sort, word_sort, named_sort, is_list};
-ghost use Rattle.tb_parse.specs.Reading.{Meets, runs, next};
+ghost use Rattle.tb_parse.specs.Helpers.Parsing.{sort, word_sort, named_sort, is_list};
+ghost use Rattle.tb_parse.specs.Helpers.Reading.{Meets, runs, next};
 
 use crate::ParseFault;
 use crate::reader::Reader;
@@ -9,7 +9,7 @@ use tb_lex::Symbol;
 use tb_terms::{Boxed, Name, NoMemory, Sort};
 
 /// A sort, and the position of its innermost name. The room bounds how deep sorts stand in each other.
-#[tactic(auto, unfolding(crate::specs::Parsing::sort))]
+#[tactic(auto, unfolding(crate::specs::Helpers::Parsing::sort))]
 pub(crate) fn sort(
     alloc: Global,
     reader: &mut Reader<'_>,
@@ -49,7 +49,7 @@ fn named_sort(alloc: Global, name: Name) -> Result<Sort, NoMemory>
 }
 
 /// The sort that has this word.
-#[tactic(auto, unfolding(crate::specs::Parsing::word_sort))]
+#[tactic(auto, unfolding(crate::specs::Helpers::Parsing::word_sort))]
 pub(crate) fn word_sort(alloc: Global, word: &[u8]) -> Result<Option<Sort>, NoMemory>
     ensures { IfOk result (λ made. made ≡ word_sort word.now) }
 {

@@ -24,7 +24,7 @@ use Rattle.tb_read.specs.declared.shape.Bracket.{Bracket}
 use Rattle.tb_read.specs.declared.shape.Bracket.TheVariants.{Paren, Square}
 use Rattle.tb_read.specs.Spelling.{is_blank, SpellsNumber, SpellsToken, Spaced, Reads}
 use Rattle.tb_read.specs.Lexing.{skip_blanks, string_turn, escaped_turn, unescaped, lead, string_rest, with_prefix, string_of, number_from, number_at, kind_of, token_of}
-use Rattle.tb_read.specs.Answers.{begins_with}
+use Rattle.tb_read.specs.Helpers.Answers.{begins_with}
 use Rattle.tb_read.specs.Scanning.{Makes, Ends as Stops, allows, after, may_end, made, next_at, start, Runs}
 use Rattle.tb_read.specs.Reading.{StopsAt}
 use Rattle.tb_read.proofs.Strings.{turned}

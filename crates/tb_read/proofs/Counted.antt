@@ -9,7 +9,7 @@ use Rattle.tb_terms.proofs.Induction.{term_induction, fold-Int, fold-Str, fold-A
 use Rattle.tb_read.specs.declared.token.Token.{Token}
 use Rattle.tb_read.specs.declared.token.Token.TheVariants as token
 use Rattle.tb_read.specs.Tokens.{tokens_of, with_commas, after_comma}
-use Rattle.tb_read.specs.Limits.{tokens_size, token_size, tokens_levels}
+use Rattle.tb_read.specs.Helpers.Limits.{tokens_size, token_size, tokens_levels}
 use Rattle.tb_read.proofs.Terms.{tokens-Int, tokens-Str, tokens-Appl, tokens-List}
 
 abbrev Sized : Term → Type 0

@@ -1,7 +1,7 @@
 -- Claims of faults.
 use Rattle.tb_read.specs.declared.fault.TermFault.{TermFault}
 use Rattle.tb_read.specs.declared.fault.TermFault.TheVariants as fault
-use Rattle.tb_read.specs.Answers.{Faulted}
+use Rattle.tb_read.specs.Helpers.Answers.{Faulted}
 
 pub Faulted-weaker : (P Q : TermFault → Type 0) → ((f : TermFault) → P f → Q f) → (e : TermFault) → Faulted P e → Faulted Q e
 Faulted-weaker P Q h fault.NoMemory p = tt

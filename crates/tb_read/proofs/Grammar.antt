@@ -22,7 +22,7 @@ use Rattle.tb_read.specs.declared.build.Builder.{Builder}
 use Rattle.tb_read.specs.declared.build.Frame.{Frame}
 use Rattle.tb_read.specs.Tokens.{tokens_of, appl_tokens, with_commas, after_comma}
 use Rattle.tb_read.specs.Scanning.{allows, after, may_end, start}
-use Rattle.tb_read.specs.Building.{built_from, holds, opens, whole, nothing, head_of}
+use Rattle.tb_read.specs.Helpers.Building.{built_from, holds, opens, whole, nothing, head_of}
 use Rattle.tb_read.proofs.Terms.{tokens-Int, tokens-Str, tokens-Appl, tokens-List}
 
 abbrev pub kind_of_token : Token → Kind

@@ -15,7 +15,7 @@ use Rattle.tb_read.specs.declared.kind.Kind.TheVariants as kind
 use Rattle.tb_read.specs.declared.shape.Shape.{Shape}
 use Rattle.tb_read.specs.Spelling.{is_blank, is_digits, digits_value, SpellsNumber, SpellsString, SpellsToken, Spaced}
 use Rattle.tb_read.specs.Lexing.{skip_blanks, string_rest, string_of, name_at, is_real, number_of, in_range, number_from, number_at, kind_of, token_of}
-use Rattle.tb_read.specs.Answers.{begins_with}
+use Rattle.tb_read.specs.Helpers.Answers.{begins_with}
 use Rattle.tb_read.specs.Scanning.{Next, Makes, Ends, allows, after, may_end, made, next_at, Runs}
 use Rattle.tb_read.proofs.Names.{all_of_prefix, is_name_prefix}
 use Rattle.tb_read.proofs.Scalars.{string_put}

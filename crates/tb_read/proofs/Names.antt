@@ -4,7 +4,7 @@ use Rattle.std.proofs.Math.Numerals.{one-add}
 use Rattle.std.proofs.lemmas.Bool.{false≢true}
 use Rattle.std.specs.List.{prefix_len, list_all}
 use Rattle.tb_terms.specs.Names.{is_name, is_name_byte}
-use Rattle.tb_read.specs.Answers.{begins_with}
+use Rattle.tb_read.specs.Helpers.Answers.{begins_with}
 use Rattle.tb_read.specs.declared.kind.Kind.TheVariants.{Name}
 
 -- a front that passes passes

@@ -21,7 +21,7 @@ use Rattle.tb_read.specs.declared.shape.Shape.{Shape}
 use Rattle.tb_read.specs.Tokens.{tokens_of}
 use Rattle.tb_read.specs.Spelling.{is_blank, is_digits, digits_value, SpellsToken, Reads}
 use Rattle.tb_read.specs.Lexing.{skip_blanks, string_turn, string_rest, with_prefix, string_of, name_at, is_real, is_negative, number_of, in_range, number_from, number_at, kind_of, token_of}
-use Rattle.tb_read.specs.Answers.{begins_with}
+use Rattle.tb_read.specs.Helpers.Answers.{begins_with}
 use Rattle.tb_read.specs.Scanning.{Next, Makes, Ends as Stops, allows, after, may_end, made, next_at, next_of, start, Runs}
 use Rattle.tb_read.specs.Reading.{StopsAt}
 use Rattle.tb_read.proofs.Names.{all_of_prefix}

@@ -10,7 +10,7 @@ use Rattle.tb_read.specs.declared.token.Token.TheVariants as token
 use Rattle.tb_read.specs.declared.build.Builder.{Builder}
 use Rattle.tb_read.specs.declared.build.Frame.{Frame}
 use Rattle.tb_read.specs.Tokens.{tokens_of, tokens_step, appl_tokens, list_tokens, with_commas, after_comma}
-use Rattle.tb_read.specs.Building.{built_from, build_step, holds, opens, closed, whole, nothing, head_of}
+use Rattle.tb_read.specs.Helpers.Building.{built_from, build_step, holds, opens, closed, whole, nothing, head_of}
 
 pub tokens-Int : (n : _) → tokens_of (term.Int n) ≡ token.Int n ∷ []
 tokens-Int n = fold-Int (List Token) tokens_step n

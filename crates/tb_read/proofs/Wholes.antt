@@ -16,13 +16,13 @@ use Rattle.tb_read.specs.declared.quoted.Turn.{Turn}
 use Rattle.tb_read.specs.declared.quoted.Turn.TheVariants.{Ends, Goes, Puts, Bad}
 use Rattle.tb_read.specs.declared.shape.Shape.{Shape}
 use Rattle.tb_read.specs.Tokens.{tokens_of}
-use Rattle.tb_read.specs.Limits.{tokens_size, tokens_levels, over_limit}
-use Rattle.tb_read.specs.Building.{built_from, nothing}
+use Rattle.tb_read.specs.Helpers.Limits.{tokens_size, tokens_levels, over_limit}
+use Rattle.tb_read.specs.Helpers.Building.{built_from, nothing}
 use Rattle.tb_read.specs.Spelling.{digits_value, Spaced, Reads}
 use Rattle.tb_read.specs.Lexing.{string_turn, string_rest, with_prefix, string_of, is_real, is_negative, number_of, in_range, number_from, kind_of, token_of, skip_blanks}
 use Rattle.tb_read.specs.Scanning.{Ends as Stops, allows, after, may_end, made, next_at, start, Runs, Scans}
 use Rattle.tb_read.specs.Reading.{IsWithin, HasFaultWithin}
-use Rattle.tb_read.specs.Answers.{Faulted}
+use Rattle.tb_read.specs.Helpers.Answers.{Faulted}
 use Rattle.tb_read.proofs.Strings.{turned}
 use Rattle.tb_read.proofs.Lexed.{Lexed, runs_sound}
 use Rattle.tb_read.proofs.Grammar.{term-accepts}

@@ -1,10 +1,7 @@
-pub mod Answers
-pub mod Building
 pub mod Lexing
-pub mod Limits
 pub mod Positions
 pub mod Reading
 pub mod Scanning
 pub mod Spelling
-pub mod Stacks
 pub mod Tokens
+pub mod Helpers

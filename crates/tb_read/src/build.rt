@@ -1,6 +1,6 @@
 ghost use Rattle.std.specs.Prelude.{◌≡◌, ◌++◌, IfOk, OnOk};
 ghost use Rattle.std.specs.Option.{option_to_list};
-ghost use Rattle.tb_read.specs.Building.{build_step, built_from, nothing, name_of, opens, closed, with_part, whole};
+ghost use Rattle.tb_read.specs.Helpers.Building.{build_step, built_from, nothing, name_of, opens, closed, with_part, whole};
 
 use crate::stack::Stack;
 use crate::token::Token;

@@ -3,7 +3,7 @@ ghost use Rattle.std.specs.List.{prefix_len};
 ghost use Rattle.tb_terms.specs.Names.{is_name_byte};
 ghost use Rattle.tb_read.specs.Spelling.{is_blank};
 ghost use Rattle.tb_read.specs.Lexing.{skip_blanks, kind_of, token_of, name_at};
-ghost use Rattle.tb_read.specs.Answers.{Gives, begins_with};
+ghost use Rattle.tb_read.specs.Helpers.Answers.{Gives, begins_with};
 
 use crate::TermFault;
 use crate::kind::Kind;

@@ -1,5 +1,5 @@
 ghost use Rattle.std.specs.Prelude.{◌≡◌, ◌≤◌, ◌<◌, ◌+◌, min};
-ghost use Rattle.tb_read.specs.Limits.{token_size, tokens_size, token_level, tokens_levels, nested_after};
+ghost use Rattle.tb_read.specs.Helpers.Limits.{token_size, tokens_size, token_level, tokens_levels, nested_after};
 
 use crate::token::Token;
 

@@ -3,7 +3,7 @@ ghost use Rattle.std.specs.List.{prefix_len};
 ghost use Rattle.tb_terms.specs.Names.{is_digit};
 ghost use Rattle.tb_read.specs.Lexing.{is_negative, is_real, number_of, number_from, number_at};
 ghost use Rattle.tb_read.specs.Spelling.{digits_value};
-ghost use Rattle.tb_read.specs.Answers.{Gives};
+ghost use Rattle.tb_read.specs.Helpers.Answers.{Gives};
 
 use crate::TermFault;
 use crate::token::Token;

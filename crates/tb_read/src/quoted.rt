@@ -1,6 +1,6 @@
 ghost use Rattle.std.specs.Prelude.{◌≡◌, ◌≤◌, ◌<◌, length, IfOk};
 ghost use Rattle.tb_read.specs.Lexing.{string_turn, between_turn, going_turn, unescaped, lead, string_rest, string_at};
-ghost use Rattle.tb_read.specs.Answers.{Gives};
+ghost use Rattle.tb_read.specs.Helpers.Answers.{Gives};
 ghost use Rattle.tb_read.specs.declared.quoted.Within.TheVariants.{Between};
 
 use crate::TermFault;

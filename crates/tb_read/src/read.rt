@@ -2,7 +2,7 @@ ghost use Rattle.std.specs.Prelude.{◌≡◌, ◌≢◌, ◌<◌, ◌⊎◌, If
 ghost use Rattle.tb_terms.specs.declared.term.Term.{Term};
 ghost use Rattle.tb_terms.specs.Sizes.{IsWithinLimits};
 ghost use Rattle.tb_read.specs.Spelling.{Reads};
-ghost use Rattle.tb_read.specs.Limits.{over_limit};
+ghost use Rattle.tb_read.specs.Helpers.Limits.{over_limit};
 ghost use Rattle.tb_read.specs.Reading.{IsWithin, HasFaultWithin, HasFault};
 ghost use Rattle.tb_read.specs.declared.fault.TermFault.{TermFault};
 

@@ -1,5 +1,5 @@
 ghost use Rattle.std.specs.Prelude.{◌≡◌, ◌≤◌, ◌<◌, [], length, IfOk, IfSome};
-ghost use Rattle.tb_read.specs.Answers.{IsNext, HasScanned};
+ghost use Rattle.tb_read.specs.Helpers.Answers.{IsNext, HasScanned};
 
 use crate::TermFault;
 use crate::lex::{kind_of, skip_blanks, token_of};

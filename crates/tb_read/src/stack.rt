@@ -1,6 +1,6 @@
 ghost use Rattle.std.specs.Prelude.{◌≡◌, [], ◌∷◌, OnOk, OnErr, MatchOption};
 ghost use Rattle.std.specs.Option.{option_copied};
-ghost use Rattle.tb_read.specs.Stacks.{top_of};
+ghost use Rattle.tb_read.specs.Helpers.Stacks.{top_of};
 
 use std::alloc::Global;
 use std::marker::Model;

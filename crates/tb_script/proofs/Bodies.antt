@@ -14,7 +14,7 @@ use Rattle.tb_expand.specs.declared.fault.ExpandFault.{ExpandFault}
 use Rattle.tb_expand.specs.declared.fault.ExpandFault.TheVariants as expand
 use Rattle.tb_expand.specs.Faults.{HasNoCycle, IsExpansion, IsBodyOf, IsBodyFault}
 use Rattle.tb_script.specs.Programs.{first_too_large}
-use Rattle.tb_script.specs.Making.{first_large_of, HasBodies, AreExpansions}
+use Rattle.tb_script.specs.Helpers.Making.{first_large_of, HasBodies, AreExpansions}
 
 -- what stands at a position that is there
 pub standing : {A : Type 0} (xs : List A) (n : ℕ) → n < length xs → (x : A) × (slice_get xs n ≡ Some x)

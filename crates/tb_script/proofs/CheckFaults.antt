@@ -6,7 +6,7 @@ use Rattle.tb_types.specs.declared.violation.Rule.TheVariants as rule
 use Rattle.tb_types.specs.declared.fault.CheckFault.{CheckFault}
 use Rattle.tb_types.specs.declared.fault.CheckFault.TheVariants as fault
 use Rattle.tb_types.specs.Conditions.{Proper, IsFirst, IsFault}
-use Rattle.tb_types.specs.Faults.{fault_at}
+use Rattle.tb_types.specs.Helpers.Faults.{fault_at}
 use Rattle.tb_types.proofs.FirstLaws.{one_first, none_first}
 
 -- the condition and the token of a fault

@@ -18,7 +18,7 @@ use Rattle.tb_types.specs.Conditions.{Proper, IsFault}
 use Rattle.tb_expand.specs.Cycles.{IsCycle}
 use Rattle.tb_expand.specs.Faults.{HasNoCycle}
 use Rattle.tb_script.specs.Programs.{HasTokens, IsTextOf, IsProgramOf, IsChecked, IsEnding, IsSmall, IsAccepted, first_too_large}
-use Rattle.tb_script.specs.Making.{HasOnlyTokens, IsOnlyScript}
+use Rattle.tb_script.specs.Helpers.Making.{HasOnlyTokens, IsOnlyScript}
 use Rattle.tb_script.specs.Findings.{HasNoTokens, Finding, NoTokens, NoScript, Improper, Recursive, Large, ManyRoots, Program', Holds, IsSame, IsFound}
 use Rattle.tb_script.proofs.CheckFaults.{one_fault, no_fault}
 use Rattle.tb_script.proofs.OneProgram.{one_program}

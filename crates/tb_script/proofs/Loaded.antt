@@ -10,7 +10,7 @@ use Rattle.tb_expand.specs.declared.fault.ExpandFault.TheVariants as expand
 use Rattle.tb_script.specs.declared.fault.ScriptFault.{ScriptFault}
 use Rattle.tb_script.specs.declared.fault.ScriptFault.TheVariants as fault
 use Rattle.tb_script.specs.Loading.{HasFault}
-use Rattle.tb_script.specs.Making.{IsOnlyScript, HasReadScript, HasBodies, HasJoined, AreExpansions, of_check, of_expand}
+use Rattle.tb_script.specs.Helpers.Making.{IsOnlyScript, HasReadScript, HasBodies, HasJoined, AreExpansions, of_check, of_expand}
 use Rattle.tb_script.proofs.Findings.{improper_found, recursive_found, large_found, many_found}
 
 pub read_failed : (text : List ℕ) (f : ScriptFault) → HasReadScript text (Err f) → HasFault text f

@@ -47,7 +47,7 @@ use Rattle.tb_expand.proofs.FaultFree.{fault_free, free_call, free_site}
 use Rattle.tb_expand.proofs.NoFaults.{append_none, noted_none}
 use Rattle.tb_expand.proofs.Ranges.{atoms_of_process}
 use Rattle.tb_script.specs.Programs.{IsRootOf, declared_tool}
-use Rattle.tb_script.specs.Making.{HasValues, HaveValues}
+use Rattle.tb_script.specs.Helpers.Making.{HasValues, HaveValues}
 use Rattle.tb_script.proofs.RootValues.{closed_is_limited}
 
 zip_long : {A B : Type 0} (R : A → B → Type 0) (xs : List A) (ys : List B) → AllZip R xs ys → length xs ≡ length ys

@@ -1,4 +1,4 @@
 pub mod Programs
 pub mod Findings
 pub mod Loading
-pub mod Making
+pub mod Helpers

@@ -1,6 +1,6 @@
 ghost use Rattle.tb_types.specs.Conditions.{Proper};
 ghost use Rattle.tb_expand.specs.Faults.{HasNoCycle};
-ghost use Rattle.tb_script.specs.Making.{HasBodies};
+ghost use Rattle.tb_script.specs.Helpers.Making.{HasBodies};
 
 use std::alloc::Global;
 use tb_body::Bodies;

@@ -1,7 +1,7 @@
 ghost use Rattle.std.specs.Prelude.{◌≡◌, ℕ, List};
 ghost use Rattle.tb_types.specs.Conditions.{Proper};
 ghost use Rattle.tb_script.specs.Loading.{HasLoaded};
-ghost use Rattle.tb_script.specs.Making.{AreExpansions, IsOnlyScript, of_check, of_expand};
+ghost use Rattle.tb_script.specs.Helpers.Making.{AreExpansions, IsOnlyScript, of_check, of_expand};
 
 use crate::ScriptFault;
 use crate::expanding::bodies_of;

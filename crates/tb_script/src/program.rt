@@ -1,7 +1,7 @@
 ghost use Rattle.std.specs.Prelude.{◌≡◌, IfOk, map};
 ghost use Rattle.tb_types.specs.Conditions.{Proper};
 ghost use Rattle.tb_script.specs.Programs.{declared_tool};
-ghost use Rattle.tb_script.specs.Making.{AreExpansions, HasJoined};
+ghost use Rattle.tb_script.specs.Helpers.Making.{AreExpansions, HasJoined};
 
 use crate::ScriptFault;
 use crate::roots::roots_of;

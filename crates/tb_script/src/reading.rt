@@ -1,5 +1,5 @@
 ghost use Rattle.std.specs.Prelude.{ℕ, List};
-ghost use Rattle.tb_script.specs.Making.{HasOnlyTokens, HasReadScript};
+ghost use Rattle.tb_script.specs.Helpers.Making.{HasOnlyTokens, HasReadScript};
 
 use crate::ScriptFault;
 use std::alloc::Global;

@@ -3,7 +3,7 @@ ghost use Rattle.std.specs.List.{AllZip};
 ghost use Rattle.tb_types.specs.Values.{closed_value};
 ghost use Rattle.tb_expand.specs.Acts.{process_of};
 ghost use Rattle.tb_script.specs.Programs.{IsRootOf};
-ghost use Rattle.tb_script.specs.Making.{HasValues, HaveValues};
+ghost use Rattle.tb_script.specs.Helpers.Making.{HasValues, HaveValues};
 
 use std::alloc::Global;
 use tb_body::{Root, Roots};

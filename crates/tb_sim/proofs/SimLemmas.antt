@@ -8,7 +8,7 @@ use Rattle.tb_bus.specs.Steps.{Step, steps}
 use Rattle.tb_bus.specs.Traces.{replay, fed, taken_out}
 use Rattle.tb_tools.specs.Finding.{first_out, next_out}
 use Rattle.tb_sim.specs.Simulation.{Limits, Sim, Ends, turn, input_turn, outside_turn, limits_of, IsSim, IsSimPrefix, sim_start}
-use Rattle.tb_sim.specs.Turns.{SimLeads, sim_of, entries_left, IsLonger, IsWithin, LedOn, LeftWithin, HandsIn, HandsInNext, HandsOut, Goes}
+use Rattle.tb_sim.specs.Helpers.Turns.{SimLeads, sim_of, entries_left, IsLonger, IsWithin, LedOn, LeftWithin, HandsIn, HandsInNext, HandsOut, Goes}
 use Rattle.tb_core.specs.Cores.{CoreState, HandIn, HandOut, MakeStep, bus_now, Logs, Stays, entries_of, would_log, lacks_room, is_full, step_entry, out_entry, IsStep, has_any, ends_quiet, says_quiet}
 use Rattle.tb_core.specs.declared.answers.Stepped.TheVariants as stepped
 use Rattle.tb_log.specs.Limits.{has_room, log_size, entry_size, most_size}

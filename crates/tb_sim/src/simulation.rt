@@ -5,7 +5,7 @@ ghost use Rattle.tb_log.specs.Shapes.{IsInputInShape, IsLane};
 ghost use Rattle.tb_tools.specs.Finding.{first_out, next_out};
 ghost use Rattle.tb_core.specs.Cores.{bus_now, has_any, ends_quiet, Stays};
 ghost use Rattle.tb_sim.specs.Simulation.{IsSim, IsSimPrefix, limits_of, sim_start};
-ghost use Rattle.tb_sim.specs.Turns.{HandsIn, HandsInNext, HandsOut, Goes, IsWithin, LeftWithin};
+ghost use Rattle.tb_sim.specs.Helpers.Turns.{HandsIn, HandsInNext, HandsOut, Goes, IsWithin, LeftWithin};
 
 use crate::ends::{Progress, SimEnd, Turned};
 use tb_algebra::Walker;

@@ -11,7 +11,7 @@ use Rattle.tb_syntax.specs.declared.ast.AstKind.TheVariants as ast
 use Rattle.tb_syntax.specs.declared.ast.AstKind.TheVariants.{outs-Int, outs-Str, outs-Appl, outs-Var, outs-Result, outs-Hole, outs-List}
 use Rattle.tb_syntax.specs.declared.ast.AstKind.TheOpen.{AstKind-F}
 use Rattle.tb_syntax.specs.declared.ast.AstKind.TheFolds.{fold_out-AstKind, map-AstKind, fold-Ast, fold_out-Ast}
-use Rattle.tb_syntax.specs.Canonical.{kind_tokens, expr_tokens, kind_step, expr_step, optional, hole_tokens, list_expr_tokens}
+use Rattle.tb_syntax.specs.Helpers.Canonical.{kind_tokens, expr_tokens, kind_step, expr_step, optional, hole_tokens, list_expr_tokens}
 
 abbrev tokens : AstKind-F AstKind Ast → List TokenKind
 tokens layer = kind_step (map-AstKind AstKind Ast (List TokenKind) (List TokenKind) kind_tokens (fold-Ast (List TokenKind) (List TokenKind) kind_step expr_step) layer)

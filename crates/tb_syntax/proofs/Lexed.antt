@@ -7,7 +7,7 @@ use Rattle.tb_read.specs.Positions.{HasPoint}
 use Rattle.tb_read.proofs.Written.{number_spelled, string_spelled}
 use Rattle.tb_lex.specs.Gaps.{IsGap, IsLast}
 use Rattle.tb_lex.specs.Tokens.{symbol_text, SpellsKind, IsToken, TokensThen, Lexes}
-use Rattle.tb_lex.specs.Scanning.{begins_with}
+use Rattle.tb_lex.specs.Helpers.Scanning.{begins_with}
 use Rattle.tb_lex.specs.declared.token.Token.{Token}
 use Rattle.tb_lex.specs.declared.kind.TokenKind.{TokenKind}
 use Rattle.tb_lex.specs.declared.kind.TokenKind.TheVariants.{Int, Str, Lower, Upper, Symbol as Sign}
@@ -17,8 +17,8 @@ use Rattle.tb_lex.proofs.Apart.{Apart, SymbolApart, token_apart}
 use Rattle.tb_lex.proofs.Gaps.{no_gap}
 use Rattle.tb_syntax.specs.declared.gap.Before.{Before}
 use Rattle.tb_syntax.specs.declared.gap.Before.TheVariants.{Nothing, Opening, Name, Other}
-use Rattle.tb_syntax.specs.ProperKinds.{is_proper_kind}
-use Rattle.tb_syntax.specs.TokenText.{definition_words, leading_words, token_text, before_next, symbol_before, gap, text_from, tokens_text, is_closing, is_joining, space, space_after_name}
+use Rattle.tb_syntax.specs.Helpers.ProperKinds.{is_proper_kind}
+use Rattle.tb_syntax.specs.Helpers.TokenText.{definition_words, leading_words, token_text, before_next, symbol_before, gap, text_from, tokens_text, is_closing, is_joining, space, space_after_name}
 use Rattle.tb_syntax.specs.Words.{is_among}
 
 -- each token's text spells it

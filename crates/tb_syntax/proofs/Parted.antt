@@ -5,7 +5,7 @@ use Rattle.std.proofs.lemmas.List.{map-append}
 use Rattle.tb_lex.specs.declared.kind.TokenKind.{TokenKind}
 use Rattle.tb_lex.specs.declared.kind.TokenKind.TheVariants.{Symbol as Sign}
 use Rattle.tb_lex.specs.declared.symbol.Symbol.TheVariants.{Comma}
-use Rattle.tb_syntax.specs.Canonical.{parted, comma_before}
+use Rattle.tb_syntax.specs.Helpers.Canonical.{parted, comma_before}
 
 parted-push : (x : List TokenKind) (xs : List (List TokenKind)) (y : List TokenKind) → parted (x ∷ xs ++ y ∷ []) ≡ parted (x ∷ xs) ++ (Sign Comma ∷ y)
 parted-push x [] y = refl

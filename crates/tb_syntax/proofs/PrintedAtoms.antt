@@ -9,7 +9,7 @@ use Rattle.tb_syntax.specs.declared.proc.Call.{Call}
 use Rattle.tb_syntax.specs.declared.proc.TimeDef.{TimeDef}
 use Rattle.tb_syntax.specs.declared.proc.Var.{Var}
 use Rattle.tb_syntax.specs.Spelling.{SpellsCall, SpellsAct, SpellsTime, SpellsAtom, SpellsVar}
-use Rattle.tb_syntax.specs.Canonical.{call_tokens, act_tokens, time_tokens, atom_tokens, var_tokens, expr_tokens, optional}
+use Rattle.tb_syntax.specs.Helpers.Canonical.{call_tokens, act_tokens, time_tokens, atom_tokens, var_tokens, expr_tokens, optional}
 use Rattle.tb_syntax.specs.Positions.{bare_call, bare_act, bare_time, bare_atom, bare_var}
 use Rattle.tb_syntax.proofs.PrintedExprs.{sort_printed, expr_printed, arguments_are_printed}
 use Rattle.tb_syntax.proofs.PrintedLists.{IsPrinted, row_printed}

@@ -12,7 +12,7 @@ use Rattle.tb_syntax.specs.declared.ast.AstKind.{AstKind}
 use Rattle.tb_syntax.specs.declared.ast.AstKind.TheVariants as ast
 use Rattle.tb_syntax.specs.Spelling.{word, in_parens, IsSortWord, SpellsSort, SpellsKind, SpellsExpr, SpellsArguments, SpellsExprs}
 use Rattle.tb_syntax.specs.Words.{is_free}
-use Rattle.tb_syntax.specs.Canonical.{sort_tokens, list_tokens, is_any, hole_word, kind_tokens, expr_tokens, parted, optional}
+use Rattle.tb_syntax.specs.Helpers.Canonical.{sort_tokens, list_tokens, is_any, hole_word, kind_tokens, expr_tokens, parted, optional}
 use Rattle.tb_syntax.specs.Positions.{bare_kind, bare_expr}
 use Rattle.tb_syntax.proofs.SortTokens.{tokens_of_bool, tokens_of_int, tokens_of_str, tokens_of_any, tokens_of_tool, tokens_of_list}
 use Rattle.tb_syntax.proofs.KindTokens.{tokens_of_number, tokens_of_string, tokens_of_appl, tokens_of_var, tokens_of_result, tokens_of_hole}

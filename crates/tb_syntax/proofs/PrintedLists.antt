@@ -5,7 +5,7 @@ use Rattle.tb_lex.specs.declared.kind.TokenKind.{TokenKind}
 use Rattle.tb_lex.specs.declared.kind.TokenKind.TheVariants.{Symbol as Sign}
 use Rattle.tb_lex.specs.declared.symbol.Symbol.TheVariants.{Comma}
 use Rattle.tb_syntax.specs.Spelling.{in_parens, Parted, InRow, InParens}
-use Rattle.tb_syntax.specs.Canonical.{parted, optional}
+use Rattle.tb_syntax.specs.Helpers.Canonical.{parted, optional}
 
 -- wherever something stands, these tokens spell it but for positions
 abbrev pub IsPrinted : {A : Type 0} → (A → A) → (ℕ → A → List TokenKind → Type 0) → A → List TokenKind → Type 0

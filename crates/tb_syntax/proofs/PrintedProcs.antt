@@ -13,7 +13,7 @@ use Rattle.tb_syntax.specs.declared.proc.Proc.{Proc}
 use Rattle.tb_syntax.specs.declared.proc.Proc.TheVariants as tree
 use Rattle.tb_syntax.specs.Spelling.{in_parens, SpellsProc, SpellsAtom, SpellsCall, SpellsVar, Parted}
 use Rattle.tb_syntax.specs.Binding.{is_looser}
-use Rattle.tb_syntax.specs.Canonical.{proc_tokens, placed, expr_tokens, var_tokens, parted, then_tokens, let_tokens}
+use Rattle.tb_syntax.specs.Helpers.Canonical.{proc_tokens, placed, expr_tokens, var_tokens, parted, then_tokens, let_tokens}
 use Rattle.tb_syntax.specs.Positions.{bare_proc, bare_var}
 use Rattle.tb_syntax.proofs.BareProcs.{bare_of_atom, bare_of_call, bare_of_seq, bare_of_alt, bare_of_star, bare_of_par, bare_of_if, bare_of_let}
 use Rattle.tb_syntax.proofs.ProcTokens.{tokens_of_atom, tokens_of_call, tokens_of_seq, tokens_of_alt, tokens_of_star, tokens_of_par, tokens_of_if, tokens_of_let}

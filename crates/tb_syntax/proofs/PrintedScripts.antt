@@ -10,7 +10,7 @@ use Rattle.tb_syntax.specs.declared.script.ProcDef.{ProcDef}
 use Rattle.tb_syntax.specs.declared.script.Script.{Script}
 use Rattle.tb_syntax.specs.declared.script.ToolDef.{ToolDef}
 use Rattle.tb_syntax.specs.Spelling.{SpellsFormal, SpellsProcDef, SpellsToolDef, SpellsDefinitions, SpellsRoots, SpellsCall, Spells, InRow}
-use Rattle.tb_syntax.specs.Canonical.{formal_tokens, process_tokens, tool_tokens, call_tokens, script_tokens, proc_tokens, sort_tokens, parted, optional}
+use Rattle.tb_syntax.specs.Helpers.Canonical.{formal_tokens, process_tokens, tool_tokens, call_tokens, script_tokens, proc_tokens, sort_tokens, parted, optional}
 use Rattle.tb_syntax.specs.Positions.{bare_formal, bare_process, bare_tool, bare_call, without_positions}
 use Rattle.tb_syntax.proofs.PrintedAtoms.{call_printed}
 use Rattle.tb_syntax.proofs.PrintedExprs.{sort_printed}

@@ -14,7 +14,7 @@ use Rattle.tb_syntax.specs.declared.proc.Proc.TheVariants as tree
 use Rattle.tb_syntax.specs.declared.proc.Proc.TheVariants.{outs-Atom, outs-Call, outs-Seq, outs-Alt, outs-Star, outs-Par, outs-If, outs-Let}
 use Rattle.tb_syntax.specs.declared.proc.Proc.TheOpen.{Proc-F}
 use Rattle.tb_syntax.specs.declared.proc.Proc.TheFolds.{fold_out-Proc, map-Proc}
-use Rattle.tb_syntax.specs.Canonical.{proc_tokens, proc_step, placed, atom_tokens, call_tokens, expr_tokens, then_tokens, else_tokens, let_tokens, var_tokens, parted}
+use Rattle.tb_syntax.specs.Helpers.Canonical.{proc_tokens, proc_step, placed, atom_tokens, call_tokens, expr_tokens, then_tokens, else_tokens, let_tokens, var_tokens, parted}
 
 abbrev tokens : Level → Proc-F Proc → List TokenKind
 tokens at layer = proc_step (map-Proc Proc (Level → List TokenKind) proc_tokens layer) at

@@ -7,7 +7,7 @@ use Rattle.tb_terms.specs.declared.sort.Sort.TheOpen as layer
 use Rattle.tb_terms.specs.declared.sort.Sort.TheFolds.{para-roll-Sort}
 use Rattle.tb_lex.specs.declared.kind.TokenKind.{TokenKind}
 use Rattle.tb_syntax.specs.Spelling.{word}
-use Rattle.tb_syntax.specs.Canonical.{sort_tokens, sort_step, list_tokens, is_any}
+use Rattle.tb_syntax.specs.Helpers.Canonical.{sort_tokens, sort_step, list_tokens, is_any}
 
 pub tokens_of_bool : sort_tokens sort.Bool ≡ word (codes "bool")
 tokens_of_bool = ap sort_tokens (sym rolls-Bool) ∙ para-roll-Sort (List TokenKind) sort_step layer.Bool

@@ -1,10 +1,8 @@
 pub mod Binding
-pub mod Canonical
 pub mod Limits
 pub mod Parens
 pub mod Positions
 pub mod Printing
-pub mod ProperKinds
 pub mod Spelling
-pub mod TokenText
 pub mod Words
+pub mod Helpers

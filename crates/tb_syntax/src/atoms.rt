@@ -1,6 +1,6 @@
 ghost use Rattle.std.specs.Prelude.{◌≡◌, ◌++◌, ◌∷◌, OnOk, map};
 ghost use Rattle.std.specs.List.{flat_map};
-ghost use Rattle.tb_syntax.specs.Canonical.{call_tokens, act_tokens, set_tokens, create_tokens, time_tokens, atom_tokens, var_tokens, parted};
+ghost use Rattle.tb_syntax.specs.Helpers.Canonical.{call_tokens, act_tokens, set_tokens, create_tokens, time_tokens, atom_tokens, var_tokens, parted};
 
 use crate::exprs::{push_appl, push_arguments, push_expr};
 use crate::push::{push_comma, push_ident, push_name, push_symbol, push_word};

@@ -1,7 +1,7 @@
 ghost use Rattle.std.specs.Prelude.{◌≡◌, ◌++◌, OnOk, IfOk, map, option_map};
 ghost use Rattle.std.specs.List.{flat_map};
 ghost use Rattle.tb_syntax.specs.Spelling.{mark, command_tokens};
-ghost use Rattle.tb_syntax.specs.Canonical.{script_tokens, roots_tokens, tool_tokens, process_tokens, formal_tokens, call_tokens, optional, parted};
+ghost use Rattle.tb_syntax.specs.Helpers.Canonical.{script_tokens, roots_tokens, tool_tokens, process_tokens, formal_tokens, call_tokens, optional, parted};
 
 use crate::atoms::push_call;
 use crate::procs::push_proc;

@@ -1,7 +1,7 @@
 ghost use Rattle.std.specs.Prelude.{◌≡◌, ◌++◌, ◌∷◌, [], OnOk, map};
 ghost use Rattle.tb_lex.specs.declared.kind.TokenKind.TheVariants.{Lower, Upper, Symbol as Sign};
 ghost use Rattle.tb_lex.specs.declared.symbol.Symbol.TheVariants.{Question};
-ghost use Rattle.tb_syntax.specs.Canonical.{kind_tokens, expr_tokens, parted, optional, hole_tokens, list_expr_tokens};
+ghost use Rattle.tb_syntax.specs.Helpers.Canonical.{kind_tokens, expr_tokens, parted, optional, hole_tokens, list_expr_tokens};
 
 use crate::push::{push_comma, push_ident, push_name, push_symbol};
 use crate::sorts::push_hole_word;

@@ -1,5 +1,5 @@
 ghost use Rattle.std.specs.Prelude.{◌≡◌};
-ghost use Rattle.tb_syntax.specs.TokenText.{gap, before_next, symbol_before, space, is_closing, is_joining, space_after_name};
+ghost use Rattle.tb_syntax.specs.Helpers.TokenText.{gap, before_next, symbol_before, space, is_closing, is_joining, space_after_name};
 
 use crate::words::{begins_line, is_leading};
 use tb_lex::{Symbol, TokenKind};

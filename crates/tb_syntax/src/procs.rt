@@ -1,7 +1,7 @@
 ghost use Rattle.std.specs.Prelude.{◌≡◌, ◌++◌, ◌∷◌, [], OnOk, map, option_map};
 ghost use Rattle.tb_lex.specs.declared.kind.TokenKind.TheVariants.{Symbol as Sign};
 ghost use Rattle.tb_syntax.specs.Binding.{rank, is_looser};
-ghost use Rattle.tb_syntax.specs.Canonical.{proc_tokens, placed, then_tokens, let_tokens, else_tokens, expr_tokens, var_tokens, parted};
+ghost use Rattle.tb_syntax.specs.Helpers.Canonical.{proc_tokens, placed, then_tokens, let_tokens, else_tokens, expr_tokens, var_tokens, parted};
 ghost use Rattle.tb_syntax.specs.declared.level.Level.TheVariants.{Proc as Whole};
 
 use crate::atoms::{push_atom, push_call, push_vars};

@@ -4,7 +4,7 @@ ghost use Rattle.std.specs.Prelude.{IsTrue};
 ghost use Rattle.std.specs.List.{list_all};
 ghost use Rattle.tb_terms.specs.Proper.{has_64_bits};
 ghost use Rattle.tb_terms.specs.Names.{is_string};
-ghost use Rattle.tb_syntax.specs.ProperKinds.{is_proper_kind};
+ghost use Rattle.tb_syntax.specs.Helpers.ProperKinds.{is_proper_kind};
 
 use tb_lex::TokenKind;
 use tb_terms::Text;

@@ -1,7 +1,7 @@
 ghost use Rattle.std.specs.Prelude.{◌≡◌, ◌++◌, ◌∷◌, [], IsTrue, OnOk};
 ghost use Rattle.tb_terms.specs.Names.{is_name};
 ghost use Rattle.tb_lex.specs.declared.kind.TokenKind.TheVariants.{Lower, Upper, Symbol as Sign};
-ghost use Rattle.tb_syntax.specs.Canonical.{comma_before};
+ghost use Rattle.tb_syntax.specs.Helpers.Canonical.{comma_before};
 
 use std::alloc::Global;
 use tb_lex::{Symbol, TokenKind};

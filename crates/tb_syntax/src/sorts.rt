@@ -2,7 +2,7 @@ ghost use Rattle.std.specs.Prelude.{◌≡◌, ◌++◌, ◌∷◌, [], IsTrue, 
 ghost use Rattle.tb_terms.specs.declared.sort.Sort.{out-Sort};
 ghost use Rattle.tb_lex.specs.declared.kind.TokenKind.TheVariants.{Lower, Upper, Symbol as Sign};
 ghost use Rattle.tb_syntax.specs.Spelling.{word, in_parens};
-ghost use Rattle.tb_syntax.specs.Canonical.{sort_tokens, list_tokens, is_any, hole_word};
+ghost use Rattle.tb_syntax.specs.Helpers.Canonical.{sort_tokens, list_tokens, is_any, hole_word};
 
 use crate::push::{push_name, push_symbol, push_word};
 use std::alloc::Global;

@@ -1,6 +1,6 @@
 ghost use Rattle.std.specs.Prelude.{◌≡◌, ◌++◌, OnOk, IfOk};
 ghost use Rattle.tb_lex.specs.Tokens.{symbol_text};
-ghost use Rattle.tb_syntax.specs.TokenText.{token_text, tokens_text};
+ghost use Rattle.tb_syntax.specs.Helpers.TokenText.{token_text, tokens_text};
 
 use crate::gap::{Before, before_next, gap};
 use std::alloc::Global;

@@ -1,6 +1,6 @@
 ghost use Rattle.std.specs.Prelude.{◌≡◌, map};
 ghost use Rattle.tb_syntax.specs.Words.{is_among, reserved_words, is_atom_word, is_time_word, is_sort_word};
-ghost use Rattle.tb_syntax.specs.TokenText.{definition_words, leading_words};
+ghost use Rattle.tb_syntax.specs.Helpers.TokenText.{definition_words, leading_words};
 
 /// Whether a word is reserved: no term, tool or sort may have this name.
 pub fn is_reserved(name: &[u8]) -> bool

@@ -3,7 +3,7 @@ use Rattle.std.proofs.Common.{◌≡◌, ℕ, zero, suc, ◌+◌, ◌<◌, List,
 use Rattle.std.proofs.Math.Seq.{take-suc}
 use Rattle.std.proofs.lemmas.List.{map-append}
 use Rattle.tb_terms.specs.Texts.{term_text, joined}
-use Rattle.tb_terms.specs.Prefixes.{comma_before}
+use Rattle.tb_terms.specs.Helpers.Prefixes.{comma_before}
 use Rattle.tb_terms.specs.declared.term.Term.{Term}
 
 -- behind texts of which there is one at least

@@ -2,7 +2,7 @@ ghost use Rattle.std.specs.Prelude.{◌≡◌, ◌++◌, [], ◌∷◌, OnOk, On
 ghost use Rattle.std.specs.List.{flat_map};
 ghost use Rattle.std.specs.Fmt.{signed_decimal};
 ghost use Rattle.tb_terms.specs.Texts.{term_text, terms_text, quoted, escaped, escape_letter, appl_text, list_text, joined};
-ghost use Rattle.tb_terms.specs.Prefixes.{KeepsPrefix, comma_before};
+ghost use Rattle.tb_terms.specs.Helpers.Prefixes.{KeepsPrefix, comma_before};
 
 use crate::{NoMemory, Term, Terms};
 use itoa::Buffer;

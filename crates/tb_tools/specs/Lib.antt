@@ -4,4 +4,4 @@ pub mod First
 pub mod Inputs
 pub mod Lanes
 pub mod Numbers
-pub mod Room
+pub mod Helpers

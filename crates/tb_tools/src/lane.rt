@@ -34,7 +34,7 @@ impl Model for LaneRow {
     ghost use Rattle.std.specs.Coded.{codes};
     ghost use Rattle.tb_terms.specs.contracts.term.Term as term_data;
     ghost use Rattle.tb_tools.specs.Lanes.{Lane};
-    ghost use Rattle.tb_tools.specs.Room.{KeepsRoom};
+    ghost use Rattle.tb_tools.specs.Helpers.Room.{KeepsRoom};
 
     ghost Value = { Lane };
 

@@ -19,7 +19,7 @@ use Rattle.tb_script.specs.declared.fault.ScriptFault.{ScriptFault}
 use Rattle.tb_script.specs.declared.fault.ScriptFault.TheVariants as script
 use Rattle.tb_top.specs.Outcomes.{HasSomeProgram, Run, IsFed, IsLoaded, IsRefused, IsSimOf, SimOutcome, WorkOutcome, FileOutcome, IsCaused, AsksAll, CommandAsks, AsksFor, Reported, script_of, feed_of}
 use Rattle.tb_top.specs.Lines.{status_line}
-use Rattle.tb_top.specs.Requests.{OriginOutcome, IsUnread, AsksNames, AsksFeed, WorkAsks, WritesLog, Reports, status_of_end}
+use Rattle.tb_top.specs.Helpers.Requests.{OriginOutcome, IsUnread, AsksNames, AsksFeed, WorkAsks, WritesLog, Reports, status_of_end}
 use Rattle.tb_top.specs.declared.status.Status.{Status}
 use Rattle.tb_top.specs.declared.status.Status.TheVariants.{Ended, Script, Feed, Words, Outside, Limit, NoMemory}
 use Rattle.tb_top.specs.declared.words.Command.{Command}

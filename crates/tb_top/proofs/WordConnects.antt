@@ -11,7 +11,7 @@ use Rattle.tb_top.specs.declared.words.WordFault.TheVariants as fault
 use Rattle.tb_top.specs.declared.words.verb.Verb.{Verb}
 use Rattle.tb_top.specs.declared.words.verb.Verb.TheVariants as verb
 use Rattle.tb_top.specs.Words.{Found, Part, AnOption, AWord, is_option, is_connect, is_unbuilt, parts_from, most_connects, connect_in, connect_by, connect_of, connects_of, script_by, feed_by, limit_by, and_script, and_feed, and_connects, and_steps, and_events, own_option_by, option_by, part_by, nothing, read_next, read_parts}
-use Rattle.tb_top.specs.WordReading.{AreText, connect_from, part_of, part_len}
+use Rattle.tb_top.specs.Helpers.WordReading.{AreText, connect_from, part_of, part_len}
 use Rattle.tb_top.proofs.WordParts.{parts-at}
 
 connect-is : (name : List ℕ) → is_connect name ≡ true → name ≡ codes "--connect"

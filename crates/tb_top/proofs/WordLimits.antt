@@ -10,7 +10,7 @@ use Rattle.tb_top.specs.declared.words.WordFault.TheVariants as fault
 use Rattle.tb_top.specs.declared.words.verb.Verb.{Verb}
 use Rattle.tb_top.specs.declared.words.verb.Verb.TheVariants as verb
 use Rattle.tb_top.specs.Words.{Found, Part, AnOption, AWord, and_connects, and_events, and_feed, and_script, and_steps, asked, asked_by, command_by, command_with, connect_by, connects_of, feed_by, is_connect, is_unbuilt, limit_by, limit_in, most_connects, most_limit, nothing, option_by, own_option_by, part_by, parts_ask, parts_from, read_next, read_parts, script_by, usual_limit, verb_by}
-use Rattle.tb_top.specs.Requests.{IsWithin}
+use Rattle.tb_top.specs.Helpers.Requests.{IsWithin}
 use Rattle.tb_top.proofs.WordConnects.{parts-connect}
 
 abbrev IsFew : Found → Type 0

@@ -7,7 +7,7 @@ use Rattle.std.proofs.lemmas.Option.{slice_get_past, slice_get_read, slice_get-m
 use Rattle.tb_top.specs.declared.words.WordFault.{WordFault}
 use Rattle.tb_top.specs.declared.words.verb.Verb.{Verb}
 use Rattle.tb_top.specs.Words.{Found, Part, AnOption, AWord, is_option, parts_from, part_by, read_parts}
-use Rattle.tb_top.specs.WordReading.{part_of, part_len}
+use Rattle.tb_top.specs.Helpers.WordReading.{part_of, part_len}
 
 abbrev first_of : List (List ℕ) → Option (List ℕ)
 first_of [] = None

@@ -1,5 +1,4 @@
 pub mod Words
-pub mod WordReading
 pub mod Lines
 pub mod Outcomes
-pub mod Requests
+pub mod Helpers

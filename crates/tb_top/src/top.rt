@@ -4,7 +4,7 @@ ghost use Rattle.tb_bus.specs.Buses.{origin_of};
 ghost use Rattle.tb_script.specs.Findings.{IsFound, Program'};
 ghost use Rattle.tb_top.specs.Words.{asked, most_connects, most_limit};
 ghost use Rattle.tb_top.specs.Outcomes.{Comes, CommandOutcome, FileOutcome, WorkOutcome, CheckOutcome, SimOutcome, Reported, AsksFor, CommandAsks, IsFed, script_of, feed_of, ok_line};
-ghost use Rattle.tb_top.specs.Requests.{Reports, ProgramOutcome, OriginOutcome, IsUnread, AsksFeed, AsksFeedBy, WorkAsks, WritesLog, status_of_end, IsWithin};
+ghost use Rattle.tb_top.specs.Helpers.Requests.{Reports, ProgramOutcome, OriginOutcome, IsUnread, AsksFeed, AsksFeedBy, WorkAsks, WritesLog, status_of_end, IsWithin};
 
 use crate::line::put_line;
 use crate::log_writer::{LogFault, put_log};

@@ -7,8 +7,8 @@ use Rattle.tb_types.specs.declared.violation.Rule.{Rule}
 use Rattle.tb_types.specs.declared.violation.Rule.TheVariants as rule
 use Rattle.tb_types.specs.Bodies.{script_faults}
 use Rattle.tb_types.specs.Conditions.{IsIn, IsFirst, IsFault, Proper}
-use Rattle.tb_types.specs.Faults.{fault_of, fault_at}
-use Rattle.tb_types.specs.First.{is_before, earlier, first_of}
+use Rattle.tb_types.specs.Helpers.Faults.{fault_of, fault_at}
+use Rattle.tb_types.specs.Helpers.First.{is_before, earlier, first_of}
 use Rattle.tb_types.specs.Numbers.{number_of}
 
 -- a condition's number and a token are before others

@@ -6,7 +6,7 @@ use Rattle.std.specs.Str.{bytes_eq}
 use Rattle.std.specs.HashMap.{HashMap, get_by, UpdatesBy}
 use Rattle.std.specs.Prelude.{is_some}
 use Rattle.tb_types.specs.Definitions.{or_seen}
-use Rattle.tb_types.specs.Seen.{was_seen}
+use Rattle.tb_types.specs.Helpers.Seen.{was_seen}
 
 some-after : {V : Type 0} (b : Bool) (v : V) (old : Option V) → is_some (cond b (Some v) old) ≡ cond b true (is_some old)
 some-after true v old = refl

@@ -12,7 +12,7 @@ use Rattle.tb_types.specs.declared.scope.Known.{Known}
 use Rattle.tb_types.specs.Exprs.{Judged, judged, judged_kind, appl_fits, word_fits, tool_fits}
 use Rattle.tb_types.specs.Fitting.{is_any, is_bool, is_int, is_list_of, is_tool_sort, is_truth_word, goes_step, goes_with, result_goes_with}
 use Rattle.tb_types.specs.Names.{applied}
-use Rattle.tb_types.specs.Tools.{is_one_number}
+use Rattle.tb_types.specs.Helpers.Tools.{is_one_number}
 use Rattle.tb_types.proofs.JudgedKinds.{fits_of_appl}
 
 abbrev layer_goes : Sort-F Sort → Sort → Bool

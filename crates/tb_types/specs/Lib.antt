@@ -6,14 +6,11 @@ pub mod Conditions
 pub mod Definitions
 pub mod ExpectedSorts
 pub mod Exprs
-pub mod Faults
-pub mod First
 pub mod Fitting
 pub mod NamePositions
 pub mod Names
 pub mod Numbers
 pub mod Positions
 pub mod Scopes
-pub mod Seen
-pub mod Tools
 pub mod Values
+pub mod Helpers

@@ -1,7 +1,7 @@
 ghost use Rattle.std.specs.Prelude.{◌≡◌, IfOk, IfErr, OnOk};
 ghost use Rattle.tb_types.specs.Bodies.{script_faults};
 ghost use Rattle.tb_types.specs.Conditions.{Proper, IsFault};
-ghost use Rattle.tb_types.specs.Faults.{fault_of};
+ghost use Rattle.tb_types.specs.Helpers.Faults.{fault_of};
 
 use crate::CheckFault;
 use crate::bodies::push_script;

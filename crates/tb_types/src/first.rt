@@ -1,6 +1,6 @@
 ghost use Rattle.std.specs.Prelude.{◌≡◌};
 ghost use Rattle.tb_types.specs.Numbers.{number_of};
-ghost use Rattle.tb_types.specs.First.{is_before, earlier, first_of};
+ghost use Rattle.tb_types.specs.Helpers.First.{is_before, earlier, first_of};
 
 use crate::violation::{Rule, Violation};
 

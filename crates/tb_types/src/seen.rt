@@ -1,7 +1,7 @@
 ghost use Rattle.std.specs.Prelude.{◌≡◌, ◌++◌, OnOk};
 ghost use Rattle.tb_types.specs.Violation.{noted_if};
 ghost use Rattle.tb_types.specs.Definitions.{none_seen, or_seen};
-ghost use Rattle.tb_types.specs.Seen.{was_seen};
+ghost use Rattle.tb_types.specs.Helpers.Seen.{was_seen};
 
 use crate::violation::{Rule, Violation, note_if};
 use indexmap::IndexMap;

@@ -5,7 +5,7 @@ ghost use Rattle.tb_types.specs.Exprs.{judged, judged_kind, appl_fits, variable_
 ghost use Rattle.tb_types.specs.Fitting.{goes_with, result_goes_with};
 ghost use Rattle.tb_types.specs.Scopes.{visible, sort_in};
 ghost use Rattle.tb_func.specs.Fitting.{sort_of};
-ghost use Rattle.tb_types.specs.Tools.{fitted_by, is_one_number};
+ghost use Rattle.tb_types.specs.Helpers.Tools.{fitted_by, is_one_number};
 
 use crate::exprs::fits;
 use crate::names::{Names, applied, tool};

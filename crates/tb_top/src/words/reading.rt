@@ -4,7 +4,7 @@ ghost use Rattle.std.specs.Prelude.{◌≡◌, ◌≢◌, ◌<◌, ◌≤◌, �
 ghost use Rattle.tb_terms.specs.Names.{is_text, is_text_byte};
 ghost use Rattle.tb_read.specs.Spelling.{is_digits};
 ghost use Rattle.tb_top.specs.Words.{asked, verb_by, verb_of, is_option, is_unbuilt, is_connect, part_by, option_by, own_option_by, name_in, script_by, feed_by, connect_by, connects_of, most_limit, limit_by, limit_in, and_script, and_feed, and_connects, and_steps, and_events, read_parts, parts_from, nothing, command_by};
-ghost use Rattle.tb_top.specs.WordReading.{found_of, answer_of, bytes_of, part_of, part_len, connect_from, HasText, IsText, AreText};
+ghost use Rattle.tb_top.specs.Helpers.WordReading.{found_of, answer_of, bytes_of, part_of, part_len, connect_from, HasText, IsText, AreText};
 
 use super::found::Found;
 use super::verb::Verb;

@@ -4,11 +4,11 @@ use Rattle.tb_func.specs.declared.slot.Slot.{Slot}
 use Rattle.tb_algebra.specs.declared.node.Node.TheVariants.{At, Seq, Alt, Star, Par, If, Let}
 use Rattle.tb_algebra.specs.declared.fired.Fired.{Fired}
 use Rattle.tb_algebra.specs.Settings.{tested, with_settings}
-use Rattle.tb_algebra.specs.Selections.{Selected, Past, On, chosen, selected, selected_of, selected_with, or_past, is_fired_on}
-use Rattle.tb_algebra.specs.Plans.{process_at}
+use Rattle.tb_algebra.specs.Helpers.Selections.{Selected, Past, On, chosen, selected, selected_of, selected_with, or_past, is_fired_on}
+use Rattle.tb_algebra.specs.Helpers.Plans.{process_at}
 use Rattle.tb_algebra.specs.Processes.{Process}
-use Rattle.tb_algebra.specs.OfferViews.{or_own}
-use Rattle.tb_algebra.specs.Runnings.{entered_term, term_of}
+use Rattle.tb_algebra.specs.Helpers.OfferViews.{or_own}
+use Rattle.tb_algebra.specs.Helpers.Runnings.{entered_term, term_of}
 use Rattle.tb_algebra.proofs.PlanLemmas.{both_before, one_before, chosen_before}
 use Rattle.tb_algebra.proofs.SelectedLemmas.{hit_atom, hit_seq, hit_alt, hit_star, hit_par, of_part, hit_chosen, hit_set, hit_unset, then, beside, along}
 use Rattle.tb_algebra.proofs.TermLemmas.{term-Whole, on_whole}

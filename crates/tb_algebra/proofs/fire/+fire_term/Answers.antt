@@ -1,9 +1,9 @@
 use Rattle.std.proofs.Common.{◌≡◌, ℕ, ap, sym, ◌∙◌, option_map}
 use Rattle.std.proofs.lemmas.Result.{IfOk-weaker}
-use Rattle.tb_algebra.specs.Selections.{Selected, Past, On, selected, selected_of, selected_with, or_past}
-use Rattle.tb_algebra.specs.Plans.{process_at}
-use Rattle.tb_algebra.specs.Runnings.{term_of}
-use Rattle.tb_algebra.specs.OfferViews.{or_own}
+use Rattle.tb_algebra.specs.Helpers.Selections.{Selected, Past, On, selected, selected_of, selected_with, or_past}
+use Rattle.tb_algebra.specs.Helpers.Plans.{process_at}
+use Rattle.tb_algebra.specs.Helpers.Runnings.{term_of}
+use Rattle.tb_algebra.specs.Helpers.OfferViews.{or_own}
 use Rattle.tb_algebra.specs.declared.running.Running.{Running}
 use Rattle.tb_algebra.specs.declared.running.Running.TheVariants.{Seq, Par}
 use Rattle.tb_algebra.proofs.SelectedLemmas.{then, beside, along}

@@ -1,7 +1,7 @@
 use Rattle.std.proofs.Common.{Option, ap, sym, ◌∙◌, option_map}
 use Rattle.tb_algebra.specs.Offers.{followed}
-use Rattle.tb_algebra.specs.Plans.{process_at}
-use Rattle.tb_algebra.specs.Runnings.{term_of}
+use Rattle.tb_algebra.specs.Helpers.Plans.{process_at}
+use Rattle.tb_algebra.specs.Helpers.Runnings.{term_of}
 use Rattle.tb_algebra.specs.declared.running.Running.{Running}
 use Rattle.tb_algebra.proofs.EntryLemmas.{entered_now}
 use Rattle.tb_algebra.proofs.TermLemmas.{term-Whole}

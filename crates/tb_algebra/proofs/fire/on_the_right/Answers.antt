@@ -1,9 +1,9 @@
 use Rattle.std.proofs.Common.{Some, ap, sym, ◌∙◌}
-use Rattle.tb_algebra.specs.Selections.{On, selected_of, selected_with}
+use Rattle.tb_algebra.specs.Helpers.Selections.{On, selected_of, selected_with}
 use Rattle.tb_algebra.specs.Offers.{right_of}
 use Rattle.tb_algebra.specs.Processes.{Process}
-use Rattle.tb_algebra.specs.Runnings.{term_of}
-use Rattle.tb_algebra.specs.OfferViews.{or_own}
+use Rattle.tb_algebra.specs.Helpers.Runnings.{term_of}
+use Rattle.tb_algebra.specs.Helpers.OfferViews.{or_own}
 use Rattle.tb_algebra.specs.declared.fired.Fired.{Fired}
 use Rattle.tb_algebra.proofs.fire.on_the_right.Goals as goal
 

@@ -1,7 +1,7 @@
 use Rattle.std.proofs.Common.{Some, ap}
-use Rattle.tb_algebra.specs.Selections.{On}
+use Rattle.tb_algebra.specs.Helpers.Selections.{On}
 use Rattle.tb_algebra.specs.Processes.{Process}
-use Rattle.tb_algebra.specs.OfferViews.{or_own}
+use Rattle.tb_algebra.specs.Helpers.OfferViews.{or_own}
 use Rattle.tb_algebra.proofs.fire.taken_beside.Goals as goal
 
 pub returns-clause-selected : goal.returns-clause-selected

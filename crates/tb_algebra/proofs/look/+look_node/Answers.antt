@@ -3,8 +3,8 @@ use Rattle.tb_func.specs.declared.slot.Slot.{Slot}
 use Rattle.tb_algebra.specs.declared.node.Node.TheVariants.{At, Seq, If, Let}
 use Rattle.tb_algebra.specs.declared.running.Entry.{Entry}
 use Rattle.tb_algebra.specs.Settings.{tested, with_settings}
-use Rattle.tb_algebra.specs.OfferViews.{OfferView, shown, or_own, offer_views}
-use Rattle.tb_algebra.specs.Runnings.{entered_term}
+use Rattle.tb_algebra.specs.Helpers.OfferViews.{OfferView, shown, or_own, offer_views}
+use Rattle.tb_algebra.specs.Helpers.Runnings.{entered_term}
 use Rattle.tb_algebra.proofs.PlanLemmas.{both_before, one_before, if_before, sides_before}
 use Rattle.tb_algebra.proofs.OfferViewLemmas.{offer_views_at, offer_views_seq, offer_views_sides, offer_views_true, offer_views_false, offer_views_absent, offer_views_untold, offer_views_set, offer_views_unset, nothing_more, both_more}
 use Rattle.tb_algebra.proofs.look.+look_node.Goals as goal

@@ -1,6 +1,6 @@
 use Rattle.std.proofs.Common.{◌≡◌, List, ◌++◌, map, ap, sym, ◌∙◌, subst, OnOk}
-use Rattle.tb_algebra.specs.Runnings.{term_of}
-use Rattle.tb_algebra.specs.OfferViews.{OfferView, shown, offer_views}
+use Rattle.tb_algebra.specs.Helpers.Runnings.{term_of}
+use Rattle.tb_algebra.specs.Helpers.OfferViews.{OfferView, shown, offer_views}
 use Rattle.tb_algebra.specs.declared.running.Running.{Running}
 use Rattle.tb_algebra.proofs.OfferViewLemmas.{both_more}
 use Rattle.tb_algebra.proofs.TermLemmas.{offer_views_of_seq, offer_views_of_par}

@@ -1,5 +1,5 @@
 use Rattle.std.proofs.Common.{arith}
-use Rattle.tb_algebra.specs.Rewritings.{rewriter_view}
+use Rattle.tb_algebra.specs.Helpers.Rewritings.{rewriter_view}
 use Rattle.tb_algebra.proofs.WalkerLemmas.{is_taken, takes_none}
 use Rattle.tb_algebra.proofs.tests.advanced.Goals as goal
 

@@ -1,4 +1,4 @@
-use Rattle.tb_algebra.specs.Rewritings.{IsOnPlan}
+use Rattle.tb_algebra.specs.Helpers.Rewritings.{IsOnPlan}
 use Rattle.tb_algebra.proofs.tests.walked.Given as goal
 
 -- the walker stays on its plan

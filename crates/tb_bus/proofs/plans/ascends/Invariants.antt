@@ -1,5 +1,5 @@
 use Rattle.std.proofs.Common.{◌≡◌, drop}
-use Rattle.tb_bus.specs.Candidates.{ascend, rows_of}
+use Rattle.tb_bus.specs.Helpers.Candidates.{ascend, rows_of}
 use Rattle.tb_bus.proofs.plans.ascends.Given as goal
 
 -- the processes that are left decide

@@ -1,5 +1,5 @@
 use Rattle.std.proofs.Common.{◌≡◌, drop}
-use Rattle.tb_bus.specs.Candidates.{first, partners, partners_among, rows_of}
+use Rattle.tb_bus.specs.Helpers.Candidates.{first, partners, partners_among, rows_of}
 use Rattle.tb_bus.proofs.receivers.first_among.Given as goal
 
 -- the receivers that are left decide

@@ -1,5 +1,5 @@
 use Rattle.std.proofs.Common.{◌≡◌, drop}
-use Rattle.tb_bus.specs.Candidates.{first, partners, rows_of}
+use Rattle.tb_bus.specs.Helpers.Candidates.{first, partners, rows_of}
 use Rattle.tb_bus.proofs.receivers.first_of_all.Given as goal
 
 -- the processes that are left decide

@@ -1,5 +1,5 @@
 use Rattle.std.proofs.Common.{◌≡◌, drop}
-use Rattle.tb_bus.specs.Candidates.{first, receptions}
+use Rattle.tb_bus.specs.Helpers.Candidates.{first, receptions}
 use Rattle.tb_bus.proofs.receivers.first_received.Given as goal
 
 -- the actions that are left decide

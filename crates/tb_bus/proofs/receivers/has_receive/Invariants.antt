@@ -1,5 +1,5 @@
 use Rattle.std.proofs.Common.{◌≡◌, drop}
-use Rattle.tb_bus.specs.Candidates.{has_receive}
+use Rattle.tb_bus.specs.Helpers.Candidates.{has_receive}
 use Rattle.tb_bus.proofs.receivers.has_receive.Given as goal
 
 -- the actions that are left decide

@@ -1,5 +1,5 @@
 use Rattle.std.proofs.Common.{◌≡◌, ◌++◌, drop}
-use Rattle.tb_bus.specs.Candidates.{receivers, rows_of}
+use Rattle.tb_bus.specs.Helpers.Candidates.{receivers, rows_of}
 use Rattle.tb_bus.proofs.receivers.look_up.Given as goal
 
 -- those so far, and then those among the processes that are left

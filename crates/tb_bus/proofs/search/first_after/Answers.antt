@@ -1,6 +1,6 @@
 use Rattle.std.proofs.Common.{◌∙◌, ap, sym}
 use Rattle.std.proofs.lemmas.List.{take_rest, drop-map, take-map}
-use Rattle.tb_bus.specs.Candidates.{first, candidates_from, scene_of, row_of, rows_of}
+use Rattle.tb_bus.specs.Helpers.Candidates.{first, candidates_from, scene_of, row_of, rows_of}
 use Rattle.tb_bus.proofs.TurnLemmas.{turn-found, turn-again}
 use Rattle.tb_bus.proofs.search.first_after.Goals as goal
 

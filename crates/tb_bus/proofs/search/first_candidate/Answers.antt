@@ -1,5 +1,5 @@
 use Rattle.std.proofs.Common.{◌∙◌, sym, Some, None}
-use Rattle.tb_bus.specs.Candidates.{rows_of, scene_of}
+use Rattle.tb_bus.specs.Helpers.Candidates.{rows_of, scene_of}
 use Rattle.tb_bus.specs.declared.candidate.Candidate.TheVariants.{Finish}
 use Rattle.tb_bus.proofs.CandidateLemmas.{move_first, stands_first}
 use Rattle.tb_bus.proofs.TurnLemmas.{nobody-is, first_all-down, first_all-finish, first_all-some, first_all-none}

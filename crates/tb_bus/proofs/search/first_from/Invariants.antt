@@ -1,5 +1,5 @@
 use Rattle.std.proofs.Common.{◌≡◌, ◌+◌, drop}
-use Rattle.tb_bus.specs.Candidates.{first, candidates_from, scene_of, rows_of, AreKnown}
+use Rattle.tb_bus.specs.Helpers.Candidates.{first, candidates_from, scene_of, rows_of, AreKnown}
 use Rattle.tb_bus.proofs.search.first_from.Given as goal
 
 -- the processes that are left decide

@@ -1,5 +1,5 @@
 use Rattle.std.proofs.Common.{◌≡◌, drop}
-use Rattle.tb_bus.specs.Candidates.{first, candidates_among, scene_of, row_of, rows_of, AreKnown}
+use Rattle.tb_bus.specs.Helpers.Candidates.{first, candidates_among, scene_of, row_of, rows_of, AreKnown}
 use Rattle.tb_bus.proofs.search.first_of.Given as goal
 
 -- the actions that are left decide

@@ -1,5 +1,5 @@
 use Rattle.std.proofs.Common.{◌≡◌, ◌++◌, drop}
-use Rattle.tb_bus.specs.Candidates.{all_take, wanting, rows_of}
+use Rattle.tb_bus.specs.Helpers.Candidates.{all_take, wanting, rows_of}
 use Rattle.tb_bus.proofs.wanting.wanting.Given as goal
 
 -- the processes that are left decide whether there is room; and those that want it are those so far, and then those among them

@@ -1,6 +1,6 @@
 use Rattle.std.proofs.Common.{◌∙◌, ap}
-use Rattle.tb_bus.specs.Candidates.{rows_of}
-use Rattle.tb_core.specs.Holdings.{put_each}
+use Rattle.tb_bus.specs.Helpers.Candidates.{rows_of}
+use Rattle.tb_core.specs.Helpers.Holdings.{put_each}
 use Rattle.tb_core.proofs.NoteLemmas.{all-can, apart-of, each-given, wanting-within}
 use Rattle.tb_core.proofs.inboxes.hand_out.Goals as goal
 

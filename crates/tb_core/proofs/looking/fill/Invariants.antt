@@ -1,6 +1,6 @@
 use Rattle.std.proofs.Common.{◌≡◌, ℕ, Some, take}
 use Rattle.tb_algebra.specs.Walks.{offers_of, seen_offers}
-use Rattle.tb_bus.specs.Candidates.{readies}
+use Rattle.tb_bus.specs.Helpers.Candidates.{readies}
 use Rattle.tb_core.proofs.looking.fill.Given as goal
 
 abbrev pub invariant-loop-at : goal.invariant-loop-at

@@ -1,7 +1,7 @@
 use Rattle.std.proofs.Common.{◌≡◌, ℕ, Some, take}
 use Rattle.std.specs.List.{All}
 use Rattle.tb_algebra.specs.Walks.{Walking, offers_of, seen_offers}
-use Rattle.tb_core.specs.Lives.{IsTimeless}
+use Rattle.tb_core.specs.Helpers.Lives.{IsTimeless}
 use Rattle.tb_core.proofs.looking.is_timed.Given as goal
 
 abbrev pub invariant-loop-at : goal.invariant-loop-at

@@ -2,7 +2,7 @@ use Rattle.std.proofs.Common.{◌≡◌, ◌∙◌, ap, sym, arith, true}
 use Rattle.tb_log.specs.declared.entry.Entry.TheVariants.{Fed}
 use Rattle.tb_log.specs.Limits.{has_room}
 use Rattle.tb_bus.specs.Traces.{fed}
-use Rattle.tb_core.specs.LiveBuses.{bus_of}
+use Rattle.tb_core.specs.Helpers.LiveBuses.{bus_of}
 use Rattle.tb_core.proofs.CoreLemmas.{room-kept, room-long}
 use Rattle.tb_core.proofs.machine.hand.Goals as goal
 

@@ -2,7 +2,7 @@ use Rattle.std.proofs.Common.{◌≡◌, ◌∙◌, ap, arith, sym, true}
 use Rattle.tb_log.specs.Limits.{has_room}
 use Rattle.tb_log.specs.declared.entry.Entry.TheVariants.{Did}
 use Rattle.tb_bus.specs.Steps.{label_of}
-use Rattle.tb_core.specs.LiveBuses.{move_in}
+use Rattle.tb_core.specs.Helpers.LiveBuses.{move_in}
 use Rattle.tb_core.proofs.CoreLemmas.{room-kept, room-long}
 use Rattle.tb_core.proofs.machine.make.Goals as goal
 

@@ -1,5 +1,5 @@
 use Rattle.std.proofs.Common.{◌<◌, ◌≡◌, length, slice_index_or, add-one, arith, ap, sym, subst, ◌∙◌}
-use Rattle.tb_core.specs.Ticking.{AreTicked, HasTicked, IsBefore}
+use Rattle.tb_core.specs.Helpers.Ticking.{AreTicked, HasTicked, IsBefore}
 use Rattle.tb_core.proofs.ReadLemmas.{plan-within, read-is}
 use Rattle.tb_core.proofs.TickLemmas.{AreTickedBelow, all-ticked, can-next, next-there, ticked-more, written}
 use Rattle.tb_core.proofs.ticking.tick_all.Goals as goal

@@ -1,5 +1,5 @@
 use Rattle.std.proofs.Common.{◌≡◌, length}
-use Rattle.tb_expand.specs.TurnedCycles.{onward}
+use Rattle.tb_expand.specs.Helpers.TurnedCycles.{onward}
 use Rattle.tb_expand.proofs.call_cycle.onward.Given as goal
 
 -- what is left has the same part

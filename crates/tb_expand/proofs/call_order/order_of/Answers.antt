@@ -3,9 +3,9 @@ use Rattle.tb_syntax.specs.declared.script.Script.{Script}
 use Rattle.tb_expand.specs.declared.order.Ordered.{Ordered}
 use Rattle.tb_expand.specs.declared.order.Ordered.TheVariants.{Cyclic}
 use Rattle.tb_expand.specs.Cycles.{IsCycle}
-use Rattle.tb_expand.specs.Graphs.{Graph, IsClosed, IsGraphCycle}
-use Rattle.tb_expand.specs.Ordered.{IsOrdered}
-use Rattle.tb_expand.specs.CallGraphs.{graph_of, names_of}
+use Rattle.tb_expand.specs.Helpers.Graphs.{Graph, IsClosed, IsGraphCycle}
+use Rattle.tb_expand.specs.Helpers.Ordered.{IsOrdered}
+use Rattle.tb_expand.specs.Helpers.CallGraphs.{graph_of, names_of}
 use Rattle.tb_expand.proofs.GraphCycles.{graph_is_closed, cycle_in_script, graph_cycle_is_cycle}
 use Rattle.tb_expand.proofs.call_order.order_of.Goals as goal
 

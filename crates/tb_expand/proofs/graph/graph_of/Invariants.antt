@@ -1,7 +1,7 @@
 use Rattle.std.proofs.Common.{◌≡◌, map, take}
 use Rattle.tb_syntax.specs.declared.script.ProcDef.{ProcDef}
 use Rattle.tb_expand.specs.Cycles.{called}
-use Rattle.tb_expand.specs.CallGraphs.{positions_of}
+use Rattle.tb_expand.specs.Helpers.CallGraphs.{positions_of}
 use Rattle.tb_expand.proofs.graph.graph_of.Given as goal
 
 -- the processes so far

@@ -1,5 +1,5 @@
 use Rattle.std.proofs.Common.{◌≡◌, take}
-use Rattle.tb_expand.specs.CallGraphs.{names_of}
+use Rattle.tb_expand.specs.Helpers.CallGraphs.{names_of}
 use Rattle.tb_expand.proofs.graph.names_at.Given as goal
 
 -- the names so far

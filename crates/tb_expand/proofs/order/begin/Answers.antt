@@ -1,6 +1,6 @@
 use Rattle.std.proofs.Common.{subst, sym}
 use Rattle.tb_expand.specs.declared.walk.Walk.{Walk}
-use Rattle.tb_expand.specs.Walks.{HasBegun}
+use Rattle.tb_expand.specs.Helpers.Walks.{HasBegun}
 use Rattle.tb_expand.proofs.Walking.{begun_new}
 use Rattle.tb_expand.proofs.order.begin.Goals as goal
 

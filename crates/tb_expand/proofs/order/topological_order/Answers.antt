@@ -1,7 +1,7 @@
 use Rattle.std.proofs.Common.{ℕ, List, subst, arith}
 use Rattle.std.proofs.lemmas.Option.{MatchOption-at_some}
-use Rattle.tb_expand.specs.Walks.{ClosesCycle, HasEnded}
-use Rattle.tb_expand.specs.TurnedCycles.{onward, IsTurned}
+use Rattle.tb_expand.specs.Helpers.Walks.{ClosesCycle, HasEnded}
+use Rattle.tb_expand.specs.Helpers.TurnedCycles.{onward, IsTurned}
 use Rattle.tb_expand.proofs.Walking.{rest_is_order}
 use Rattle.tb_expand.proofs.Turning.{turned_is_cycle}
 use Rattle.tb_expand.proofs.order.topological_order.Goals as goal

@@ -1,6 +1,6 @@
 use Rattle.std.proofs.Common.{◌≡◌, ℕ, ◌<◌, slice_get, Some}
 use Rattle.tb_expand.specs.declared.walk.Visit.TheVariants.{New}
-use Rattle.tb_expand.specs.Walks.{IsAtRest}
+use Rattle.tb_expand.specs.Helpers.Walks.{IsAtRest}
 use Rattle.tb_expand.proofs.order.topological_order.Given as goal
 
 -- no position so far is new, and nothing stands on the way

@@ -1,4 +1,4 @@
-use Rattle.tb_expand.specs.Walks.{HasBegun, left_in}
+use Rattle.tb_expand.specs.Helpers.Walks.{HasBegun, left_in}
 use Rattle.tb_expand.proofs.order.walk_from.Given as goal
 
 -- the position was visited, and no position is new that wasn't before

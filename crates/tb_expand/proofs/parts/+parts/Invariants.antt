@@ -1,6 +1,6 @@
 use Rattle.std.proofs.Common.{◌+◌, ◌*◌, ◌-◌, max}
 use Rattle.tb_types.specs.Names.{process_named}
-use Rattle.tb_expand.specs.Sizes.{called_size, size_of}
+use Rattle.tb_expand.specs.Helpers.Sizes.{called_size, size_of}
 use Rattle.tb_expand.proofs.PartSteps.{levels_with, other_levels}
 use Rattle.tb_expand.proofs.parts.+parts.Given as goal
 

@@ -1,7 +1,7 @@
 use Rattle.std.proofs.Common.{◌∙◌, ap, slice_get, List}
 use Rattle.tb_syntax.specs.declared.script.ProcDef.{ProcDef}
 use Rattle.tb_expand.specs.declared.size.Size.{Size}
-use Rattle.tb_expand.specs.Measuring.{measure}
+use Rattle.tb_expand.specs.Helpers.Measuring.{measure}
 use Rattle.tb_expand.proofs.SizesKept.{kept_size}
 use Rattle.tb_expand.proofs.sizes.keep_size.Goals as goal
 

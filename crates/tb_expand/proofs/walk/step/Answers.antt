@@ -1,7 +1,7 @@
 use Rattle.std.proofs.Common.{◌≡◌, List, slice_get, Some, subst, sym}
 use Rattle.tb_expand.specs.declared.walk.Visit.{Visit}
 use Rattle.tb_expand.specs.declared.walk.Visit.TheVariants.{Open}
-use Rattle.tb_expand.specs.Walks.{Continues}
+use Rattle.tb_expand.specs.Helpers.Walks.{Continues}
 use Rattle.tb_expand.proofs.Walking.{last_looked, last_within, next_within, open_continues, advance_continues, close_continues, open_closes_cycle, leads_on}
 use Rattle.tb_expand.proofs.walk.step.Goals as goal
 

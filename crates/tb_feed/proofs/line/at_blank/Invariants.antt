@@ -1,5 +1,5 @@
 use Rattle.std.proofs.Common.{◌≡◌, take, true}
-use Rattle.tb_feed.specs.OneLine.{lacks_blank}
+use Rattle.tb_feed.specs.Helpers.OneLine.{lacks_blank}
 use Rattle.tb_feed.proofs.line.at_blank.Given as goal
 
 -- no blank so far

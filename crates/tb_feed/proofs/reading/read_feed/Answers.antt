@@ -4,7 +4,7 @@ use Rattle.std.proofs.lemmas.Iterator.Consumers.{YieldsList-at}
 use Rattle.std.proofs.lemmas.Iterator.Splits.{YieldsList-from_slice_split}
 use Rattle.std.proofs.lemmas.List.Elements.{All-push}
 use Rattle.tb_feed.specs.Feeds.{MayBeFed, Says, SayAll, is_full, IsFeedOf}
-use Rattle.tb_feed.specs.OneLine.{IsSaid}
+use Rattle.tb_feed.specs.Helpers.OneLine.{IsSaid}
 use Rattle.tb_feed.proofs.FeedLemmas.{full-by, next-bad, read_lines, read-more}
 use Rattle.tb_feed.proofs.LineLemmas.{says-may}
 use Rattle.tb_feed.proofs.Roads.{next-part, last-part}

@@ -1,5 +1,5 @@
 use Rattle.std.proofs.Common.{◌≡◌, map, drop}
-use Rattle.tb_func.specs.Parts.{as_patterns}
+use Rattle.tb_func.specs.Helpers.Parts.{as_patterns}
 use Rattle.tb_func.specs.Patterns.{pattern_of}
 use Rattle.tb_func.specs.Values.{all_of}
 use Rattle.tb_func.proofs.Prefixes.{with_prefix}

@@ -1,5 +1,5 @@
 use Rattle.std.proofs.Common.{◌≡◌, false, drop}
-use Rattle.tb_func.specs.Outputs.{in_all}
+use Rattle.tb_func.specs.Helpers.Outputs.{in_all}
 use Rattle.tb_func.specs.Printing.{printed}
 use Rattle.tb_func.proofs.printing.printed.Given as goal
 

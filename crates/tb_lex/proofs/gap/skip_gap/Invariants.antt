@@ -1,5 +1,5 @@
 use Rattle.std.proofs.Common.{◌≡◌, false, drop}
-use Rattle.tb_lex.specs.Scanning.{skip_gap}
+use Rattle.tb_lex.specs.Helpers.Scanning.{skip_gap}
 use Rattle.tb_lex.proofs.gap.skip_gap.Given as goal
 
 abbrev pub invariant-loop-position : goal.invariant-loop-position

@@ -1,7 +1,7 @@
 use Rattle.std.proofs.Common.{◌≡◌, Err, Some}
 use Rattle.std.proofs.lemmas.Result.{err_from_is_err_and}
 use Rattle.tb_lex.specs.declared.fault.LexFault.{LexFault}
-use Rattle.tb_lex.specs.Scanning.{Ends, head_of, next_of, piece_at}
+use Rattle.tb_lex.specs.Helpers.Scanning.{Ends, head_of, next_of, piece_at}
 use Rattle.tb_lex.proofs.Faulted.{Faulted-weaker}
 use Rattle.tb_lex.proofs.Nexts.{next_err}
 use Rattle.tb_lex.proofs.lexer.next.Goals as goal

@@ -2,7 +2,7 @@ use Rattle.std.proofs.Common.{◌≡◌, List, [], ◌++◌, length, Some, None,
 use Rattle.std.proofs.lemmas.Result.{err_from_is_err_and}
 use Rattle.tb_lex.specs.declared.token.Token.{Token}
 use Rattle.tb_lex.specs.declared.fault.LexFault.{LexFault}
-use Rattle.tb_lex.specs.Scanning.{Ends, next_of, Scans}
+use Rattle.tb_lex.specs.Helpers.Scanning.{Ends, next_of, Scans}
 use Rattle.tb_lex.proofs.Faulted.{Faulted-weaker}
 use Rattle.tb_lex.proofs.lexer.scan.Goals as goal
 

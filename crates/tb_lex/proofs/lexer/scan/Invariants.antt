@@ -1,7 +1,7 @@
 use Rattle.std.proofs.Common.{◌≤◌, List, ◌++◌, length, Option}
 use Rattle.tb_lex.specs.declared.token.Token.{Token}
 use Rattle.tb_lex.specs.declared.fault.LexFault.{LexFault}
-use Rattle.tb_lex.specs.Scanning.{Runs, Scans}
+use Rattle.tb_lex.specs.Helpers.Scanning.{Runs, Scans}
 use Rattle.tb_lex.proofs.lexer.scan.Given as goal
 
 -- whatever the rest gives completes the tokens so far to those of the whole text

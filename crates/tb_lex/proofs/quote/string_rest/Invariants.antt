@@ -1,6 +1,6 @@
 use Rattle.std.proofs.Common.{◌≡◌, drop}
 use Rattle.tb_read.specs.declared.quoted.Within.TheVariants.{Between}
-use Rattle.tb_lex.specs.Scanning.{string_rest, with_prefix}
+use Rattle.tb_lex.specs.Helpers.Scanning.{string_rest, with_prefix}
 use Rattle.tb_lex.proofs.quote.string_rest.Given as goal
 
 -- what is put, and what the bytes that are left put, is the whole string

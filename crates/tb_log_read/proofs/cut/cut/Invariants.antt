@@ -1,5 +1,5 @@
 use Rattle.std.proofs.Common.{◌≡◌, ◌++◌, drop, take}
-use Rattle.tb_log_read.specs.Cutting.{prefix, behind}
+use Rattle.tb_log_read.specs.Helpers.Cutting.{prefix, behind}
 use Rattle.tb_log_read.proofs.cut.cut.Given as goal
 
 -- the bytes that are left decide

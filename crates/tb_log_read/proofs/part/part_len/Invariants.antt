@@ -1,5 +1,5 @@
 use Rattle.std.proofs.Common.{◌≡◌, ◌+◌, ◌≤◌, drop}
-use Rattle.tb_log_read.specs.Parts.{part_len, depth_of}
+use Rattle.tb_log_read.specs.Helpers.Parts.{part_len, depth_of}
 use Rattle.tb_log_read.specs.declared.part.Standing.TheVariants.{Plain}
 use Rattle.tb_log_read.proofs.part.part_len.Given as goal
 

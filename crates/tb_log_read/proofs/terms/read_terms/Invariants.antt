@@ -1,5 +1,5 @@
 use Rattle.std.proofs.Common.{◌≡◌, length}
-use Rattle.tb_log_read.specs.Terms.{terms_of, with_prefix}
+use Rattle.tb_log_read.specs.Helpers.Terms.{terms_of, with_prefix}
 use Rattle.tb_log_read.proofs.terms.read_terms.Given as goal
 
 -- the terms so far, and those that are left

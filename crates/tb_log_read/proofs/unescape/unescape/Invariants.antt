@@ -1,5 +1,5 @@
 use Rattle.std.proofs.Common.{◌≡◌, ◌++◌, false, drop}
-use Rattle.tb_log_read.specs.Unescaping.{unescaped_from}
+use Rattle.tb_log_read.specs.Helpers.Unescaping.{unescaped_from}
 use Rattle.tb_log_read.proofs.unescape.unescape.Given as goal
 
 -- what is put, and what the bytes that are left put, is all

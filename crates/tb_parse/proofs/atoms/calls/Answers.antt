@@ -1,4 +1,4 @@
-use Rattle.tb_parse.specs.Parsing.{call}
+use Rattle.tb_parse.specs.Helpers.Parsing.{call}
 use Rattle.tb_parse.proofs.Exits.{meets_err}
 use Rattle.tb_parse.proofs.Parts.{parts_begin, parts_stop, parts_last, parts_more, parts_end}
 use Rattle.tb_parse.proofs.atoms.calls.Goals as goal

@@ -1,4 +1,4 @@
-use Rattle.tb_parse.specs.Parsing.{call}
+use Rattle.tb_parse.specs.Helpers.Parsing.{call}
 use Rattle.tb_parse.proofs.Parts.{PartsSoFar}
 use Rattle.tb_parse.proofs.atoms.calls.Given as goal
 

@@ -1,4 +1,4 @@
-use Rattle.tb_parse.specs.Parsing.{var}
+use Rattle.tb_parse.specs.Helpers.Parsing.{var}
 use Rattle.tb_parse.proofs.Parts.{PartsSoFar}
 use Rattle.tb_parse.proofs.atoms.vars.Given as goal
 

@@ -1,5 +1,5 @@
 use Rattle.std.proofs.Common.{sym, ap, ◌∙◌}
-use Rattle.tb_parse.specs.Heights.{joined, join_of}
+use Rattle.tb_parse.specs.Helpers.Heights.{joined, join_of}
 use Rattle.tb_parse.proofs.Chains.{joined_push}
 use Rattle.tb_parse.proofs.built.joined.Goals as goal
 

@@ -1,5 +1,5 @@
 use Rattle.std.proofs.Common.{◌≡◌, length}
-use Rattle.tb_parse.specs.Heights.{joined, join_of}
+use Rattle.tb_parse.specs.Helpers.Heights.{joined, join_of}
 use Rattle.tb_parse.proofs.built.joined.Given as goal
 
 abbrev pub invariant-loop-x : goal.invariant-loop-x

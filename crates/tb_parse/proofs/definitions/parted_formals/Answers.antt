@@ -1,4 +1,4 @@
-use Rattle.tb_parse.specs.Parsing.{formal}
+use Rattle.tb_parse.specs.Helpers.Parsing.{formal}
 use Rattle.tb_parse.proofs.Exits.{meets_err}
 use Rattle.tb_parse.proofs.Parts.{parts_begin, parts_stop, parts_last, parts_more, parts_end}
 use Rattle.tb_parse.proofs.definitions.parted_formals.Goals as goal

@@ -1,4 +1,4 @@
-use Rattle.tb_parse.specs.Parsing.{formal}
+use Rattle.tb_parse.specs.Helpers.Parsing.{formal}
 use Rattle.tb_parse.proofs.Parts.{PartsSoFar}
 use Rattle.tb_parse.proofs.definitions.parted_formals.Given as goal
 

@@ -1,5 +1,5 @@
 use Rattle.std.proofs.Common.{◌+◌, ◌*◌}
-use Rattle.tb_parse.specs.Parsing.{expr}
+use Rattle.tb_parse.specs.Helpers.Parsing.{expr}
 use Rattle.tb_parse.proofs.Parts.{PartsSoFar}
 use Rattle.tb_parse.proofs.exprs.+exprs.Given as goal
 

@@ -1,8 +1,8 @@
 use Rattle.std.proofs.Common.{◌≤◌, length, subst, arith}
 use Rattle.tb_syntax.specs.Spelling.{kinds_of}
-use Rattle.tb_parse.specs.Parsing.{script}
-use Rattle.tb_parse.specs.Defining.{Judges}
-use Rattle.tb_parse.specs.Reading.{Ahead, runs}
+use Rattle.tb_parse.specs.Helpers.Parsing.{script}
+use Rattle.tb_parse.specs.Helpers.Defining.{Judges}
+use Rattle.tb_parse.specs.Helpers.Reading.{Ahead, runs}
 use Rattle.tb_parse.proofs.Opened.{same_length}
 use Rattle.tb_parse.proofs.Parsed.{judged_found, judged_fault}
 use Rattle.tb_parse.proofs.parser.read.Goals as goal

@@ -1,8 +1,8 @@
 use Rattle.std.proofs.Common.{◌<◌, sym, subst, arith}
 use Rattle.tb_parse.specs.declared.built.Built.{Built}
-use Rattle.tb_parse.specs.Parsing.{Outcome, prim, merge}
-use Rattle.tb_parse.specs.Heights.{as_built}
-use Rattle.tb_parse.specs.Reading.{Meets, runs}
+use Rattle.tb_parse.specs.Helpers.Parsing.{Outcome, prim, merge}
+use Rattle.tb_parse.specs.Helpers.Heights.{as_built}
+use Rattle.tb_parse.specs.Helpers.Reading.{Meets, runs}
 use Rattle.tb_parse.proofs.Chains.{chain_begin, chain_stop, chain_last, chain_more, chain_end}
 use Rattle.tb_parse.proofs.Exits.{meets_err}
 use Rattle.tb_parse.proofs.Blocks.{block_found, sides_found, side_found}

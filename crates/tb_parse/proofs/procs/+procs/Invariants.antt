@@ -1,5 +1,5 @@
 use Rattle.std.proofs.Common.{◌+◌, ◌*◌}
-use Rattle.tb_parse.specs.Heights.{rank}
+use Rattle.tb_parse.specs.Helpers.Heights.{rank}
 use Rattle.tb_parse.proofs.Chains.{ChainSoFar}
 use Rattle.tb_parse.proofs.Stars.{StarsSoFar}
 use Rattle.tb_parse.proofs.procs.+procs.Given as goal

@@ -1,6 +1,6 @@
 use Rattle.std.proofs.Common.{rules, arith}
 use Rattle.std.proofs.lemmas.Grind.{common_steps}
-use Rattle.tb_parse.specs.Parsing.{sort}
+use Rattle.tb_parse.specs.Helpers.Parsing.{sort}
 use Rattle.tb_parse.proofs.Exits.{meets_err}
 use Rattle.tb_parse.proofs.sorts.+sort.Goals as goal
 

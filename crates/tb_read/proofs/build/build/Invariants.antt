@@ -1,5 +1,5 @@
 use Rattle.std.proofs.Common.{◌≡◌, reverse, vec_len}
-use Rattle.tb_read.specs.Building.{built_from, nothing}
+use Rattle.tb_read.specs.Helpers.Building.{built_from, nothing}
 use Rattle.tb_read.proofs.build.build.Given as goal
 
 -- the tokens that are left, the last of them first, complete what all tokens make

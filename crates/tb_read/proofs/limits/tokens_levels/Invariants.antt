@@ -1,5 +1,5 @@
 use Rattle.std.proofs.Common.{◌≡◌, ◌≤◌, max, drop}
-use Rattle.tb_read.specs.Limits.{tokens_levels}
+use Rattle.tb_read.specs.Helpers.Limits.{tokens_levels}
 use Rattle.tb_read.proofs.limits.tokens_levels.Given as goal
 
 abbrev pub invariant-loop-token : goal.invariant-loop-token

@@ -1,5 +1,5 @@
 use Rattle.std.proofs.Common.{◌≡◌, min, take}
-use Rattle.tb_read.specs.Limits.{tokens_size}
+use Rattle.tb_read.specs.Helpers.Limits.{tokens_size}
 use Rattle.tb_read.proofs.limits.tokens_size.Given as goal
 
 abbrev pub invariant-loop-token : goal.invariant-loop-token

@@ -1,7 +1,7 @@
 use Rattle.std.proofs.Common.{◌≡◌, Some, None}
 use Rattle.std.proofs.lemmas.Result.{err_from_is_err_and}
-use Rattle.tb_read.specs.Building.{built_from, nothing}
-use Rattle.tb_read.specs.Limits.{over_limit}
+use Rattle.tb_read.specs.Helpers.Building.{built_from, nothing}
+use Rattle.tb_read.specs.Helpers.Limits.{over_limit}
 use Rattle.tb_read.proofs.Wholes.{fault_of_scan, fault_of_limit, found_term, always_built}
 use Rattle.tb_read.proofs.read.read.Goals as goal
 

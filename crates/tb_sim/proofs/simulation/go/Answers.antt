@@ -1,6 +1,6 @@
 use Rattle.std.proofs.Common.{refl, sym}
 use Rattle.std.proofs.lemmas.Result.{IfOk-weaker}
-use Rattle.tb_sim.specs.Turns.{HandsOut, Goes}
+use Rattle.tb_sim.specs.Helpers.Turns.{HandsOut, Goes}
 use Rattle.tb_sim.proofs.SimLemmas.{goes-handed}
 use Rattle.tb_sim.proofs.simulation.go.Goals as goal
 

@@ -3,7 +3,7 @@ use Rattle.std.proofs.lemmas.Result.{IfOk-weaker, on_err_weaker}
 use Rattle.tb_core.specs.Cores.{MakeStep, Logs, Stays, entries_of, is_full, IsStep}
 use Rattle.tb_core.specs.declared.answers.CoreFault.{CoreFault}
 use Rattle.tb_core.specs.declared.answers.Stepped.TheVariants.{Did, Quiet, Down}
-use Rattle.tb_sim.specs.Turns.{HandsInNext, Goes}
+use Rattle.tb_sim.specs.Helpers.Turns.{HandsInNext, Goes}
 use Rattle.tb_sim.proofs.SimLemmas.{goes-limit, goes-did, goes-down, goes-full, goes-quiet, left-quiet}
 use Rattle.tb_sim.proofs.simulation.go_up.Goals as goal
 

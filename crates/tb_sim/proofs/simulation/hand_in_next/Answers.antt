@@ -1,6 +1,6 @@
 use Rattle.std.proofs.Common.{List, IfOk, subst, sym}
 use Rattle.tb_log.specs.declared.entry.Input.{Input}
-use Rattle.tb_sim.specs.Turns.{HandsInNext}
+use Rattle.tb_sim.specs.Helpers.Turns.{HandsInNext}
 use Rattle.tb_sim.proofs.SimLemmas.{drop-at}
 use Rattle.tb_sim.proofs.simulation.hand_in_next.Goals as goal
 

@@ -1,7 +1,7 @@
 use Rattle.std.proofs.Common.{◌+◌, List, ap, arith}
 use Rattle.tb_log.specs.declared.entry.Entry.{Entry}
 use Rattle.tb_core.specs.Cores.{ends_quiet}
-use Rattle.tb_sim.specs.Turns.{Goes}
+use Rattle.tb_sim.specs.Helpers.Turns.{Goes}
 use Rattle.tb_sim.specs.declared.ends.Turned.TheVariants as turned
 use Rattle.tb_sim.proofs.SimLemmas.{begun, led-nothing, led-on, led-ends, led-left, left-fewer}
 use Rattle.tb_sim.proofs.simulation.simulate.Goals as goal

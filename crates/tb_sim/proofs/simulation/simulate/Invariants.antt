@@ -1,5 +1,5 @@
 use Rattle.std.proofs.Common.{◌≡◌, false}
-use Rattle.tb_sim.specs.Turns.{LedOn, IsWithin, entries_left}
+use Rattle.tb_sim.specs.Helpers.Turns.{LedOn, IsWithin, entries_left}
 use Rattle.tb_core.specs.Cores.{ends_quiet}
 use Rattle.tb_sim.proofs.SimLemmas.{begun}
 use Rattle.tb_sim.proofs.simulation.simulate.Given as goal

@@ -1,4 +1,4 @@
-use Rattle.tb_syntax.specs.Canonical.{var_tokens}
+use Rattle.tb_syntax.specs.Helpers.Canonical.{var_tokens}
 use Rattle.tb_syntax.proofs.Parted.{parted-more}
 use Rattle.tb_syntax.proofs.atoms.push_vars.Goals as goal
 

@@ -1,4 +1,4 @@
-use Rattle.tb_syntax.specs.Canonical.{call_tokens}
+use Rattle.tb_syntax.specs.Helpers.Canonical.{call_tokens}
 use Rattle.tb_syntax.proofs.Parted.{parted-more}
 use Rattle.tb_syntax.proofs.definitions.push_calls.Goals as goal
 

@@ -1,5 +1,5 @@
 use Rattle.std.proofs.Common.{◌≡◌, ◌++◌, map, take}
-use Rattle.tb_syntax.specs.Canonical.{call_tokens, parted}
+use Rattle.tb_syntax.specs.Helpers.Canonical.{call_tokens, parted}
 use Rattle.tb_syntax.proofs.definitions.push_calls.Given as goal
 
 abbrev pub invariant-loop-position : goal.invariant-loop-position

@@ -1,4 +1,4 @@
-use Rattle.tb_syntax.specs.Canonical.{formal_tokens}
+use Rattle.tb_syntax.specs.Helpers.Canonical.{formal_tokens}
 use Rattle.tb_syntax.proofs.Parted.{parted-more}
 use Rattle.tb_syntax.proofs.definitions.push_parted_formals.Goals as goal
 

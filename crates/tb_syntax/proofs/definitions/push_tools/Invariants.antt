@@ -1,6 +1,6 @@
 use Rattle.std.proofs.Common.{◌≡◌, ◌++◌, take}
 use Rattle.std.specs.List.{flat_map}
-use Rattle.tb_syntax.specs.Canonical.{tool_tokens}
+use Rattle.tb_syntax.specs.Helpers.Canonical.{tool_tokens}
 use Rattle.tb_syntax.proofs.definitions.push_tools.Given as goal
 
 abbrev pub invariant-loop-tool : goal.invariant-loop-tool

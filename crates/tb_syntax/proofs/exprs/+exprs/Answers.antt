@@ -1,4 +1,4 @@
-use Rattle.tb_syntax.specs.Canonical.{expr_tokens}
+use Rattle.tb_syntax.specs.Helpers.Canonical.{expr_tokens}
 use Rattle.tb_syntax.proofs.Parted.{parted-more}
 use Rattle.tb_syntax.proofs.exprs.+exprs.Goals as goal
 

@@ -1,5 +1,5 @@
 use Rattle.std.proofs.Common.{◌≡◌, ◌++◌, map, take}
-use Rattle.tb_syntax.specs.Canonical.{expr_tokens, parted}
+use Rattle.tb_syntax.specs.Helpers.Canonical.{expr_tokens, parted}
 use Rattle.tb_syntax.proofs.exprs.+exprs.Given as goal
 
 abbrev pub invariant-push_parted-loop-position : goal.invariant-push_parted-loop-position

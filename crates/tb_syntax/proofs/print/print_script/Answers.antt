@@ -1,9 +1,9 @@
 use Rattle.std.proofs.Common.{◌≡◌, true, ap, ◌∙◌, sym, subst}
 use Rattle.std.specs.List.{list_all}
 use Rattle.tb_lex.specs.Tokens.{Lexes}
-use Rattle.tb_syntax.specs.TokenText.{tokens_text}
-use Rattle.tb_syntax.specs.Canonical.{script_tokens}
-use Rattle.tb_syntax.specs.ProperKinds.{is_proper_kind}
+use Rattle.tb_syntax.specs.Helpers.TokenText.{tokens_text}
+use Rattle.tb_syntax.specs.Helpers.Canonical.{script_tokens}
+use Rattle.tb_syntax.specs.Helpers.ProperKinds.{is_proper_kind}
 use Rattle.tb_syntax.specs.Printing.{SpellsButPositions}
 use Rattle.tb_syntax.proofs.Lexed.{lexed}
 use Rattle.tb_syntax.proofs.PrintedScripts.{script_printed}

@@ -1,5 +1,5 @@
 use Rattle.std.proofs.Common.{◌++◌, ap, ◌∙◌, sym}
-use Rattle.tb_syntax.specs.Canonical.{proc_tokens, then_tokens, expr_tokens}
+use Rattle.tb_syntax.specs.Helpers.Canonical.{proc_tokens, then_tokens, expr_tokens}
 use Rattle.tb_syntax.specs.declared.level.Level.TheVariants.{Proc as Whole}
 use Rattle.tb_syntax.proofs.ProcTokens.{tokens_behind}
 use Rattle.tb_syntax.proofs.procs.+procs.Goals as goal

@@ -1,6 +1,6 @@
 use Rattle.std.proofs.Common.{take, IsTrue}
 use Rattle.std.specs.List.{list_all}
-use Rattle.tb_syntax.specs.ProperKinds.{is_proper_kind}
+use Rattle.tb_syntax.specs.Helpers.ProperKinds.{is_proper_kind}
 use Rattle.tb_syntax.proofs.proper.show_proper.Given as goal
 
 abbrev pub invariant-loop-kind : goal.invariant-loop-kind

@@ -1,5 +1,5 @@
 use Rattle.std.proofs.Common.{◌≡◌, ◌++◌, drop}
-use Rattle.tb_syntax.specs.TokenText.{text_from}
+use Rattle.tb_syntax.specs.Helpers.TokenText.{text_from}
 use Rattle.tb_syntax.specs.declared.gap.Before.TheVariants.{Nothing}
 use Rattle.tb_syntax.proofs.text.text_of.Given as goal
 

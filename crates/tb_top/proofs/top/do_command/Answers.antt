@@ -1,6 +1,6 @@
 use Rattle.std.proofs.Common.{◌≡◌, ◌≤◌, List, [], ◌∷◌, ◌++◌, ℕ, IfSome, length, subst}
 use Rattle.tb_top.specs.Outcomes.{IsLoaded, most_bytes, script_of}
-use Rattle.tb_top.specs.Requests.{WorkAsks}
+use Rattle.tb_top.specs.Helpers.Requests.{WorkAsks}
 use Rattle.tb_top.proofs.Outcomes.{command-asks}
 use Rattle.tb_top.proofs.top.do_command.Goals as goal
 

@@ -3,7 +3,7 @@ use Rattle.tb_bus.specs.Buses.{start}
 use Rattle.tb_bus.specs.Traces.{IsTrace}
 use Rattle.tb_bus.specs.declared.origin.Origin.{Origin}
 use Rattle.tb_log.specs.declared.entry.Entry.{Entry}
-use Rattle.tb_top.specs.Requests.{WritesLog}
+use Rattle.tb_top.specs.Helpers.Requests.{WritesLog}
 use Rattle.tb_top.proofs.Outcomes.{log-written}
 use Rattle.tb_top.proofs.top.simulate_core.Goals as goal
 

@@ -1,6 +1,6 @@
 use Rattle.std.proofs.Common.{◌≡◌, ◌++◌, drop}
 use Rattle.tb_types.specs.Definitions.{none_seen, tool_repeats}
-use Rattle.tb_types.specs.Seen.{was_seen}
+use Rattle.tb_types.specs.Helpers.Seen.{was_seen}
 use Rattle.tb_types.proofs.definitions.push_tool_repeats.Given as goal
 
 -- what the names that are left repeat stands behind what was noted

@@ -1,5 +1,5 @@
 use Rattle.std.proofs.Common.{◌≡◌, take}
-use Rattle.tb_types.specs.First.{first_of}
+use Rattle.tb_types.specs.Helpers.First.{first_of}
 use Rattle.tb_types.proofs.first.first.Given as goal
 
 abbrev pub invariant-loop-next : goal.invariant-loop-next

@@ -1,6 +1,6 @@
 use Rattle.std.proofs.Common.{◌≡◌, List, ◌++◌, map, ap, sym, ◌∙◌}
-use Rattle.tb_algebra.specs.Runnings.{term_of}
-use Rattle.tb_algebra.specs.OfferViews.{shown, offer_views}
+use Rattle.tb_algebra.specs.Helpers.Runnings.{term_of}
+use Rattle.tb_algebra.specs.Helpers.OfferViews.{shown, offer_views}
 use Rattle.tb_algebra.specs.declared.found.Found.{Found}
 use Rattle.tb_algebra.proofs.RewriterLemmas.{offer_views_some, offer_views_none}
 use Rattle.tb_algebra.proofs.rewriter.Rewriter.find.Goals as goal

@@ -1,6 +1,6 @@
 use Rattle.std.proofs.Common.{◌≡◌, sym, ◌∙◌}
-use Rattle.tb_algebra.specs.Selections.{selected, selected_of}
-use Rattle.tb_algebra.specs.Runnings.{term_of}
+use Rattle.tb_algebra.specs.Helpers.Selections.{selected, selected_of}
+use Rattle.tb_algebra.specs.Helpers.Runnings.{term_of}
 use Rattle.tb_algebra.proofs.RewriterLemmas.{hits_some, hits_none}
 use Rattle.tb_algebra.proofs.rewriter.Rewriter.taken.Goals as goal
 

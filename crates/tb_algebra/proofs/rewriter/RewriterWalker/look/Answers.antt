@@ -1,5 +1,5 @@
 use Rattle.std.proofs.Common.{Some, ap}
-use Rattle.tb_algebra.specs.Rewritings.{walking_of}
+use Rattle.tb_algebra.specs.Helpers.Rewritings.{walking_of}
 use Rattle.tb_algebra.specs.Walks.{offers_of}
 use Rattle.tb_algebra.proofs.RewriterLemmas.{found_kept, found_seen}
 use Rattle.tb_algebra.proofs.rewriter.RewriterWalker.look.Goals as goal

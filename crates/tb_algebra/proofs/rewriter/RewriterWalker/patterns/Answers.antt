@@ -3,8 +3,8 @@ use Rattle.tb_terms.specs.declared.pattern.Pattern.{Pattern}
 use Rattle.tb_func.specs.declared.slot.Slot.{Slot}
 use Rattle.tb_body.specs.declared.atom.Atom.{Atom}
 use Rattle.tb_algebra.specs.Atoms.{act_in, act_of, matched_exprs, patterns_of}
-use Rattle.tb_algebra.specs.Rewritings.{Kept}
-use Rattle.tb_algebra.specs.OfferViews.{or_own}
+use Rattle.tb_algebra.specs.Helpers.Rewritings.{Kept}
+use Rattle.tb_algebra.specs.Helpers.OfferViews.{or_own}
 use Rattle.tb_algebra.proofs.RewriterLemmas.{by_found, is_found}
 use Rattle.tb_algebra.proofs.rewriter.RewriterWalker.patterns.Goals as goal
 

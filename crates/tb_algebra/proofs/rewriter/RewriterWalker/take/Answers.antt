@@ -1,6 +1,6 @@
 use Rattle.std.proofs.Common.{sym, ap, ◌∙◌}
-use Rattle.tb_algebra.specs.Selections.{selected_of}
-use Rattle.tb_algebra.specs.Rewritings.{walking_of}
+use Rattle.tb_algebra.specs.Helpers.Selections.{selected_of}
+use Rattle.tb_algebra.specs.Helpers.Rewritings.{walking_of}
 use Rattle.tb_algebra.specs.Walks.{offers_of}
 use Rattle.tb_algebra.proofs.RewriterLemmas.{hit_inside, taken_left}
 use Rattle.tb_algebra.proofs.rewriter.RewriterWalker.take.Goals as goal

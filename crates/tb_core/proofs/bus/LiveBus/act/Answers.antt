@@ -2,8 +2,8 @@ use Rattle.std.proofs.Common.{◌≡◌, ◌∙◌, ◌∷◌, [], List, ap, get
 use Rattle.tb_terms.specs.declared.term.Term.{Term}
 use Rattle.tb_notes.specs.Inboxes.{subscribed, unsubscribed}
 use Rattle.tb_bus.specs.Effects.{changed, went_down}
-use Rattle.tb_core.specs.LiveBuses.{bus_of}
-use Rattle.tb_core.specs.Makings.{effect_by}
+use Rattle.tb_core.specs.Helpers.LiveBuses.{bus_of}
+use Rattle.tb_core.specs.Helpers.Makings.{effect_by}
 use Rattle.tb_core.specs.declared.acting.Done.{Done}
 use Rattle.tb_core.proofs.BenchLemmas.{down-changed}
 use Rattle.tb_core.proofs.ReadLemmas.{on-err, on-ok, some-at}

@@ -1,7 +1,7 @@
 use Rattle.std.proofs.Common.{sym, refl, subst}
 use Rattle.std.specs.Vec.{with_item}
-use Rattle.tb_bus.specs.Views.{proc_at}
-use Rattle.tb_core.specs.LiveBuses.{procs_in}
+use Rattle.tb_bus.specs.Helpers.Views.{proc_at}
+use Rattle.tb_core.specs.Helpers.LiveBuses.{procs_in}
 use Rattle.tb_core.proofs.AdvanceLemmas.{Went, read-at, leaves-there, advanced-set, advanced-removed, set-before, gone-before, sorts-once}
 use Rattle.tb_core.proofs.bus.LiveBus.advance_at.Goals as goal
 

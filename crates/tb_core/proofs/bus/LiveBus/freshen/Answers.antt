@@ -1,5 +1,5 @@
 use Rattle.std.proofs.Common.{subst, sym}
-use Rattle.tb_core.specs.LiveBuses.{AreFresh, StandsAs}
+use Rattle.tb_core.specs.Helpers.LiveBuses.{AreFresh, StandsAs}
 use Rattle.tb_core.specs.declared.bus.LiveBus.{LiveBus}
 use Rattle.tb_core.proofs.TickLemmas.{none-stale}
 use Rattle.tb_core.proofs.bus.LiveBus.freshen.Goals.{then-self+in_ok-freshen_all, else-self+in_ok-freshen_noted}

@@ -1,5 +1,5 @@
 use Rattle.std.proofs.Common.{◌≡◌, length}
-use Rattle.tb_core.specs.LiveBuses.{StandsAs}
+use Rattle.tb_core.specs.Helpers.LiveBuses.{StandsAs}
 use Rattle.tb_core.proofs.TickLemmas.{AreFreshBelow}
 use Rattle.tb_core.proofs.bus.LiveBus.freshen_all.Given as goal
 

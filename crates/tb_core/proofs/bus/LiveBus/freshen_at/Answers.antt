@@ -1,8 +1,8 @@
 use Rattle.std.proofs.Common.{◌≡◌, false, arith, refl, sym, subst, ap, ◌∙◌, inl}
 use Rattle.std.specs.Vec.{with_item}
 use Rattle.tb_bus.specs.Buses.{Proc}
-use Rattle.tb_core.specs.Lives.{IsLiveOn}
-use Rattle.tb_core.specs.LiveBuses.{IsFreshOr}
+use Rattle.tb_core.specs.Helpers.Lives.{IsLiveOn}
+use Rattle.tb_core.specs.Helpers.LiveBuses.{IsFreshOr}
 use Rattle.tb_core.proofs.ReadLemmas.{live-at, all-there, plan-within, body-within, read-is, body-is}
 use Rattle.tb_core.proofs.SetLemmas.{in-place, named-as, stands-set}
 use Rattle.tb_core.proofs.bus.LiveBus.freshen_at.Goals as goal

@@ -1,6 +1,6 @@
 use Rattle.std.proofs.Common.{◌≡◌, drop, length}
 use Rattle.std.specs.List.{All}
-use Rattle.tb_core.specs.LiveBuses.{IsFreshOr, StandsAs}
+use Rattle.tb_core.specs.Helpers.LiveBuses.{IsFreshOr, StandsAs}
 use Rattle.tb_core.proofs.bus.LiveBus.freshen_noted.Given as goal
 
 abbrev pub invariant-loop-index : goal.invariant-loop-index

@@ -1,7 +1,7 @@
 use Rattle.std.proofs.Common.{◌∙◌, [], sym, refl}
-use Rattle.tb_bus.specs.Candidates.{rows_of}
-use Rattle.tb_bus.specs.Views.{proc_at, offer_of, ready_at, sent_in}
-use Rattle.tb_core.specs.LiveBuses.{procs_in}
+use Rattle.tb_bus.specs.Helpers.Candidates.{rows_of}
+use Rattle.tb_bus.specs.Helpers.Views.{proc_at, offer_of, ready_at, sent_in}
+use Rattle.tb_core.specs.Helpers.LiveBuses.{procs_in}
 use Rattle.tb_core.proofs.AdvanceLemmas.{number-kept, leaves-kept}
 use Rattle.tb_core.proofs.FreshLemmas.{received-takes}
 use Rattle.tb_core.proofs.MakeLemmas.{offer-is, can-advance, kept-number, kept-leaves, place-is, named-first, named-second, index-apart, handshake-made, sent-is, handshake-label}

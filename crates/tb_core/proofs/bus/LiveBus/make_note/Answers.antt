@@ -1,11 +1,11 @@
 use Rattle.std.proofs.Common.{◌≡◌, ◌∙◌, ap, refl, sym}
-use Rattle.tb_bus.specs.Candidates.{all_take, rows_of, wanting}
-use Rattle.tb_bus.specs.Views.{offer_of, ready_at, sent_in}
+use Rattle.tb_bus.specs.Helpers.Candidates.{all_take, rows_of, wanting}
+use Rattle.tb_bus.specs.Helpers.Views.{offer_of, ready_at, sent_in}
 use Rattle.tb_bus.specs.declared.action.Action.TheVariants as action
 use Rattle.tb_log.specs.declared.entry.LabelKind.TheVariants as kind
-use Rattle.tb_core.specs.LiveBuses.{procs_in}
-use Rattle.tb_core.specs.Makings.{noting}
-use Rattle.tb_core.specs.Holdings.{HoldTheSame}
+use Rattle.tb_core.specs.Helpers.LiveBuses.{procs_in}
+use Rattle.tb_core.specs.Helpers.Makings.{noting}
+use Rattle.tb_core.specs.Helpers.Holdings.{HoldTheSame}
 use Rattle.tb_core.proofs.HoldLemmas.{helds-same, noted-changed, stands-held}
 use Rattle.tb_core.proofs.ReadLemmas.{some-at, on-err}
 use Rattle.tb_core.proofs.NoteLemmas.{all_take-same, wanting-same}

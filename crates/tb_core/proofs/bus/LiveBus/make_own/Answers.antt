@@ -1,9 +1,9 @@
 use Rattle.std.proofs.Common.{◌≡◌, ◌∙◌, sym}
-use Rattle.tb_bus.specs.Candidates.{rows_of}
-use Rattle.tb_bus.specs.Views.{offer_of, ready_at}
+use Rattle.tb_bus.specs.Helpers.Candidates.{rows_of}
+use Rattle.tb_bus.specs.Helpers.Views.{offer_of, ready_at}
 use Rattle.tb_bus.specs.declared.action.Action.TheVariants as action
-use Rattle.tb_core.specs.LiveBuses.{procs_in}
-use Rattle.tb_core.specs.Makings.{effect_by}
+use Rattle.tb_core.specs.Helpers.LiveBuses.{procs_in}
+use Rattle.tb_core.specs.Helpers.Makings.{effect_by}
 use Rattle.tb_core.proofs.MakeLemmas.{own-at, acted-own, acted-within, acted-named, acted-leaves, acted-advance, acted-made, acted-origin, acted-label}
 use Rattle.tb_core.proofs.bus.LiveBus.make_own.Goals as goal
 

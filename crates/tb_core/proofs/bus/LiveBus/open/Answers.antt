@@ -1,6 +1,6 @@
 use Rattle.std.proofs.Common.{◌∙◌, ◌+◌, arith, subst, sym}
 use Rattle.std.specs.List.{All}
-use Rattle.tb_core.specs.Lives.{IsBelow}
+use Rattle.tb_core.specs.Helpers.Lives.{IsBelow}
 use Rattle.tb_core.proofs.OpenLemmas.{all-named, few-roots}
 use Rattle.tb_core.proofs.bus.LiveBus.open.Goals as goal
 

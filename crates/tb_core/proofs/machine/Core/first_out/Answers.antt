@@ -1,7 +1,7 @@
 use Rattle.std.proofs.Common.{◌∙◌, ap, subst, sym, IsSome}
 use Rattle.tb_tools.specs.Finding.{first_out, next_out}
 use Rattle.tb_bus.specs.Buses.{Bus}
-use Rattle.tb_core.specs.LiveBuses.{bus_of}
+use Rattle.tb_core.specs.Helpers.LiveBuses.{bus_of}
 use Rattle.tb_core.proofs.CoreLemmas.{bus-seen}
 use Rattle.tb_core.proofs.machine.Core.first_out.Goals as goal
 

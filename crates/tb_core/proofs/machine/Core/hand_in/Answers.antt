@@ -4,7 +4,7 @@ use Rattle.tb_bus.specs.Buses.{Bus}
 use Rattle.tb_bus.specs.Traces.{fed}
 use Rattle.tb_bus.proofs.TraceLemmas.{legal-fed}
 use Rattle.tb_core.specs.Cores.{HandIn}
-use Rattle.tb_core.specs.LiveBuses.{bus_of}
+use Rattle.tb_core.specs.Helpers.LiveBuses.{bus_of}
 use Rattle.tb_core.proofs.CoreLemmas.{bus-seen, fed-next, fed-on, fed-within, full-seen, logs-on, represents-on, still-next}
 use Rattle.tb_core.proofs.ToolLemmas.{fed-tools}
 use Rattle.tb_core.proofs.machine.Core.hand_in.Goals as goal

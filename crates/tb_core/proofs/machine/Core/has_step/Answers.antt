@@ -1,6 +1,6 @@
 use Rattle.std.proofs.Common.{◌∙◌, ap, sym}
 use Rattle.tb_bus.specs.Steps.{steps}
-use Rattle.tb_core.specs.LiveBuses.{bus_of, move_in}
+use Rattle.tb_core.specs.Helpers.LiveBuses.{bus_of, move_in}
 use Rattle.tb_core.specs.Cores.{has_any}
 use Rattle.tb_core.proofs.CoreLemmas.{bus-seen}
 use Rattle.tb_core.proofs.GoLemmas.{any-found}

@@ -1,6 +1,6 @@
 use Rattle.std.proofs.Common.{ap, sym}
 use Rattle.tb_bus.specs.Buses.{Bus}
-use Rattle.tb_core.specs.LiveBuses.{bus_of}
+use Rattle.tb_core.specs.Helpers.LiveBuses.{bus_of}
 use Rattle.tb_core.proofs.CoreLemmas.{bus-seen}
 use Rattle.tb_core.proofs.machine.Core.is_down.Goals as goal
 

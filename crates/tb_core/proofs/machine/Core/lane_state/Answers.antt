@@ -1,7 +1,7 @@
 use Rattle.std.proofs.Common.{◌∙◌, ap, sym}
 use Rattle.tb_tools.specs.Lanes.{lane_at, lane_state}
 use Rattle.tb_bus.specs.Buses.{Bus}
-use Rattle.tb_core.specs.LiveBuses.{bus_of}
+use Rattle.tb_core.specs.Helpers.LiveBuses.{bus_of}
 use Rattle.tb_core.proofs.CoreLemmas.{bus-seen}
 use Rattle.tb_core.proofs.machine.Core.lane_state.Goals as goal
 

@@ -3,9 +3,9 @@ use Rattle.tb_log.specs.declared.entry.Entry.TheVariants.{Did, Quiet}
 use Rattle.tb_log.specs.Limits.{has_room}
 use Rattle.tb_bus.specs.Buses.{Bus}
 use Rattle.tb_bus.specs.Steps.{moves, steps, step_of, label_of}
-use Rattle.tb_bus.specs.Candidates.{first, rows_of}
+use Rattle.tb_bus.specs.Helpers.Candidates.{first, rows_of}
 use Rattle.tb_bus.proofs.TraceLemmas.{steps-first, steps-none}
-use Rattle.tb_core.specs.LiveBuses.{bus_of, move_in}
+use Rattle.tb_core.specs.Helpers.LiveBuses.{bus_of, move_in}
 use Rattle.tb_core.specs.Cores.{CoreState, MakeStep, ends_quiet, entries_of, lacks_room}
 use Rattle.tb_core.proofs.CoreLemmas.{apply-now, bus-seen, full-seen, logs-on, one-next, represents-on, represents-same, room-seen, still-next, still-within, would-on}
 use Rattle.tb_core.proofs.GoLemmas.{did-entry, did-trace, did-replay, down-entry, quiet_if, quiet-entry, quiet-listed, quiet-room, quiet-trace, quiet-replay}

@@ -5,7 +5,7 @@ use Rattle.tb_tools.specs.Finding.{next_out}
 use Rattle.tb_bus.specs.Buses.{Bus}
 use Rattle.tb_bus.proofs.TraceLemmas.{legal-gave}
 use Rattle.tb_core.specs.Cores.{HandOut, entries_of, lacks_room}
-use Rattle.tb_core.specs.LiveBuses.{bus_of}
+use Rattle.tb_core.specs.Helpers.LiveBuses.{bus_of}
 use Rattle.tb_core.proofs.CoreLemmas.{bus-seen, full-seen, logs-on, represents-on, still-next, still-within}
 use Rattle.tb_core.proofs.OutLemmas.{gave-on, left-on, nothing-on}
 use Rattle.tb_core.proofs.ToolLemmas.{still-tools}

@@ -6,7 +6,7 @@ use Rattle.tb_syntax.specs.declared.script.Script.{Script}
 use Rattle.tb_types.specs.Conditions.{Proper}
 use Rattle.tb_expand.specs.Expansion.{expansion_of, is_too_large}
 use Rattle.tb_expand.specs.Faults.{HasNoCycle, IsBodyOf, IsExpansion}
-use Rattle.tb_expand.specs.Wholes.{is_whole}
+use Rattle.tb_expand.specs.Helpers.Wholes.{is_whole}
 use Rattle.tb_expand.proofs.expansion.Expansions.body.Goals as goal
 
 -- the definition that was read stands there

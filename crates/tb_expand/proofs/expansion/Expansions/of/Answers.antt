@@ -1,11 +1,11 @@
 use Rattle.std.proofs.Common.{subst, sym}
 use Rattle.tb_syntax.specs.declared.script.Script.{Script}
 use Rattle.tb_types.specs.Conditions.{Proper}
-use Rattle.tb_expand.specs.CallGraphs.{NamesDiffer}
-use Rattle.tb_expand.specs.Descents.{Descends}
+use Rattle.tb_expand.specs.Helpers.CallGraphs.{NamesDiffer}
+use Rattle.tb_expand.specs.Helpers.Descents.{Descends}
 use Rattle.tb_expand.specs.Faults.{HasNoCycle}
-use Rattle.tb_expand.specs.Measuring.{AreSizes}
-use Rattle.tb_expand.specs.Wholes.{AllWhole}
+use Rattle.tb_expand.specs.Helpers.Measuring.{AreSizes}
+use Rattle.tb_expand.specs.Helpers.Wholes.{AllWhole}
 use Rattle.tb_expand.proofs.Depths.{all_whole}
 use Rattle.tb_expand.proofs.GraphCycles.{order_has_no_cycle}
 use Rattle.tb_expand.proofs.ProperCalls.{names_differ, all_defined, order_descends}

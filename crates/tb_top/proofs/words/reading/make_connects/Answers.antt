@@ -1,7 +1,7 @@
 use Rattle.std.proofs.Common.{◌≡◌, ◌++◌, ◌+◌, ◌<◌, ◌∙◌, sym, ap, subst, append_assoc, length, map, [], List, ℕ, drop, slice_get, get_or, string_bytes, option_map, option_copied, refl, arith}
 use Rattle.std.proofs.lemmas.List.{length-map}
 use Rattle.tb_top.specs.Words.{parts_from, connects_of}
-use Rattle.tb_top.specs.WordReading.{AreText, connect_from, part_len}
+use Rattle.tb_top.specs.Helpers.WordReading.{AreText, connect_from, part_len}
 use Rattle.tb_top.proofs.WordParts.{bytes-looked-up, bytes-read}
 use Rattle.tb_top.proofs.WordConnects.{connects-at, text-parted}
 use Rattle.tb_top.proofs.words.reading.make_connects.Goals as goal

@@ -1,6 +1,6 @@
 use Rattle.std.proofs.Common.{◌≡◌, ◌++◌, ◌+◌, ◌-◌, length, map, drop, string_bytes}
 use Rattle.tb_top.specs.Words.{parts_from, connects_of}
-use Rattle.tb_top.specs.WordReading.{AreText}
+use Rattle.tb_top.specs.Helpers.WordReading.{AreText}
 use Rattle.tb_top.proofs.words.reading.make_connects.Given as goal
 
 abbrev pub decreases-loop-index : goal.decreases-loop-index

@@ -1,5 +1,5 @@
 use Rattle.std.proofs.Common.{sym, subst}
-use Rattle.tb_top.specs.WordReading.{AreText}
+use Rattle.tb_top.specs.Helpers.WordReading.{AreText}
 use Rattle.tb_top.proofs.WordConnects.{text-one}
 use Rattle.tb_top.proofs.words.reading.push_connect.Goals as goal
 

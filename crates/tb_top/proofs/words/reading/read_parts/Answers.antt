@@ -1,7 +1,7 @@
 use Rattle.std.proofs.Common.{◌≡◌, ℕ, ◌+◌, ◌∙◌, ap, rules, List, [], Option, Ok, Err, map, length, ◌<◌, arith, string_bytes, option_map, option_copied, slice_get, get_or}
 use Rattle.std.proofs.lemmas.List.{length-map}
 use Rattle.tb_top.specs.Words.{read_parts, parts_from, part_by, nothing}
-use Rattle.tb_top.specs.WordReading.{found_of, answer_of, part_of}
+use Rattle.tb_top.specs.Helpers.WordReading.{found_of, answer_of, part_of}
 use Rattle.tb_top.proofs.WordParts.{bytes-looked-up, bytes-read, part-read, part-fault}
 use Rattle.tb_top.proofs.words.reading.read_parts.Goals as goal
 

@@ -1,6 +1,6 @@
 use Rattle.std.proofs.Common.{◌≡◌, ◌+◌, ◌-◌, length, Ok, map, drop, string_bytes}
 use Rattle.tb_top.specs.Words.{read_parts, parts_from, nothing}
-use Rattle.tb_top.specs.WordReading.{found_of, HasText}
+use Rattle.tb_top.specs.Helpers.WordReading.{found_of, HasText}
 use Rattle.tb_top.proofs.words.reading.read_parts.Given as goal
 
 abbrev pub decreases-loop-index : goal.decreases-loop-index

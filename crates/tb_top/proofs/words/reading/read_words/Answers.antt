@@ -1,7 +1,7 @@
 use Rattle.std.proofs.Common.{◌≡◌, ◌∙◌, refl, sym, ap, rules, Ok, Err, map, drop, take, length, ◌-◌, string_bytes}
 use Rattle.tb_top.specs.declared.words.WordFault.TheVariants.{NoMemory}
 use Rattle.tb_top.specs.Words.{parts_from, nothing}
-use Rattle.tb_top.specs.WordReading.{found_of}
+use Rattle.tb_top.specs.Helpers.WordReading.{found_of}
 use Rattle.tb_top.proofs.WordFaults.{parts-told}
 use Rattle.tb_top.proofs.WordConnects.{parts-text}
 use Rattle.tb_top.proofs.words.reading.read_words.Goals as goal

@@ -1,0 +1,7 @@
+-- Definitions that proofs and private functions need, and that nobody has to believe.
+pub mod Candidates
+pub mod Selections
+pub mod Plans
+pub mod Rewritings
+pub mod Runnings
+pub mod OfferViews

@@ -1,0 +1,7 @@
+-- Definitions that proofs and private functions need, and that nobody has to believe.
+pub mod Lives
+pub mod Makings
+pub mod Holdings
+pub mod LiveBuses
+pub mod Ticking
+pub mod Spoken

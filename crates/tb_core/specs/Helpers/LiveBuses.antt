@@ -1,0 +1,153 @@
+-- The bus for which the fields of a core stand, and when they stand for what contracts see of it.
+use Rattle.std.specs.Prelude.{◌≡◌, ◌≤◌, ◌+◌, ◌⊎◌, ℕ, List, [], map, length, true, false, IsTrue, Some, slice_get, slice_set, Contains}
+use Rattle.std.specs.List.{All}
+use Rattle.tb_match.specs.declared.bind.Bind.{Bind}
+use Rattle.tb_algebra.specs.Binds.{takes_binds}
+use Rattle.tb_algebra.specs.Offers.{Offered}
+use Rattle.tb_algebra.specs.Walks.{sorts_of}
+use Rattle.tb_algebra.specs.WalkerViews.{View}
+use Rattle.tb_log.specs.Logs.{LogState}
+use Rattle.tb_bus.specs.Buses.{Bus, Proc, start}
+use Rattle.tb_bus.specs.Effects.{Effect, changed}
+use Rattle.tb_bus.specs.Steps.{Move, advance, apply}
+use Rattle.tb_bus.specs.Helpers.Views.{move_of, proc_at}
+use Rattle.tb_bus.specs.Traces.{IsTrace, replay}
+use Rattle.tb_bus.specs.Helpers.Candidates.{Scene, ascend, row_at, rows_of, scene_of}
+use Rattle.tb_bus.specs.declared.living.Living.{Living}
+use Rattle.tb_bus.specs.declared.candidate.Candidate.{Candidate}
+use Rattle.tb_core.specs.Cores.{most_entries}
+use Rattle.tb_core.specs.Helpers.Lives.{IsBelow, IsLive, procs_of}
+use Rattle.tb_core.specs.declared.acting.Done.{Done}
+use Rattle.tb_core.specs.declared.bus.LiveBus.{LiveBus}
+
+-- the processes of the fields
+abbrev pub procs_in : {W P T : Type 0} → View P W T → LiveBus W P T → List Proc
+procs_in view bus = procs_of view bus.plans bus.living.items
+
+abbrev pub bus_of : {W P T : Type 0} → View P W T → LiveBus W P T → Bus
+bus_of view bus = record {
+  program = bus.origin.program;
+  procs = procs_in view bus;
+  now = bus.ticks;
+  last_starter = bus.marks.last_starter;
+  next_number = bus.marks.next_number;
+  no_ticks = bus.marks.no_ticks;
+  down = bus.marks.down;
+  bench = bus.bench;
+}
+
+-- what a search goes through
+abbrev pub scene_in : {W P T : Type 0} → LiveBus W P T → Scene
+scene_in bus = scene_of bus.origin.program.bodies bus.origin.program.tools bus.bench (rows_of bus.living.items) bus.marks
+
+-- the move that a candidate is
+abbrev pub move_in : {W P T : Type 0} → View P W T → LiveBus W P T → Candidate → Move
+move_in view bus candidate = move_of (bus_of view bus) (rows_of bus.living.items) candidate
+
+-- all that is ready is what the processes are ready to do now
+abbrev pub AreFresh : {W : Type 0} → List (Living W) → Type 0
+AreFresh all = All (λ living. living.fresh ≡ true) all
+
+-- what one is ready to do is fresh, or its number stands among these
+abbrev pub IsFreshOr : {W : Type 0} → List ℕ → Living W → Type 0
+IsFreshOr stale living = (living.fresh ≡ true) ⊎ Contains stale living.number
+
+-- The plans are those of the bodies, the living stand by their numbers, which are below that of the next, each lives
+-- by its plan, those that have to be looked at anew are named, unless a tick has passed, and there are 16 lanes.
+pub record IsSound {W P T : Type 0} (view : View P W T) (bus : LiveBus W P T) : Type 0 where
+  pub in_order : ascend 0 (rows_of bus.living.items) ≡ true
+  pub below : All (IsBelow bus.marks.next_number) bus.living.items
+  pub planned : map view.body_of bus.plans ≡ bus.origin.program.bodies
+  pub live : All (IsLive view bus.plans bus.ticks) bus.living.items
+  pub fresh : bus.aged ≡ false → All (IsFreshOr bus.stale.items) bus.living.items
+  pub lanes : length bus.bench.lanes ≡ 16
+
+-- the fields stand for the same bus as before
+pub record StandsAs {W P T : Type 0} (view : View P W T) (old new : LiveBus W P T) : Type 0 where
+  pub sound : IsSound view new
+  pub bus : bus_of view new ≡ bus_of view old
+  pub origin : new.origin ≡ old.origin
+  pub plans : new.plans ≡ old.plans
+  pub marks : new.marks ≡ old.marks
+
+-- one of the living was changed to one of which this holds
+abbrev pub IsSetAt : {X : Type 0} → List X → ℕ → (X → Type 0) → List X → Type 0
+IsSetAt {X = X} old at P new = (x : X) × (new ≡ slice_set old at x) × P x
+
+-- what was taken is what the offer leaves of the process at an index
+abbrev pub Leaves : {W P T : Type 0} → View P W T → LiveBus W P T → ℕ → T → Offered → Type 0
+Leaves {W = W} {P = P} view bus at taken offered =
+    (living : Living W) × (slice_get bus.living.items at ≡ Some living)
+    × ((plan : P) × (slice_get bus.plans living.body ≡ Some plan) × view.leaves plan living.walker taken offered)
+
+-- what was taken is what some offer leaves of the process at an index, whose store has the process's sorts and takes the binds
+abbrev pub CanAdvance : {W P T : Type 0} → View P W T → LiveBus W P T → ℕ → T → List Bind → Type 0
+CanAdvance view bus at taken binds =
+    (offered : Offered) × Leaves view bus at taken offered
+    × (sorts_of offered.store ≡ sorts_of (proc_at (procs_in view bus) at).store) × IsTrue (takes_binds offered.store binds)
+
+-- the process at an index went on with what the offer leaves, in the offered store with the binds set
+pub record IsAdvanced {W P T : Type 0} (view : View P W T) (old : LiveBus W P T) (at : ℕ) (offered : Offered) (binds : List Bind) (new : LiveBus W P T) : Type 0 where
+  pub sound : IsSound view new
+  pub bus : bus_of view new ≡ record (bus_of view old) { procs = advance (row_at (rows_of old.living.items) at).number offered binds (procs_in view old) }
+  pub origin : new.origin ≡ old.origin
+  pub plans : new.plans ≡ old.plans
+  pub marks : new.marks ≡ old.marks
+
+-- both parties of a handshake went on
+pub record AreAdvanced {W P T : Type 0} (view : View P W T) (old : LiveBus W P T) (at : ℕ) (offered : Offered) (other : ℕ) (its : Offered) (binds : List Bind) (new : LiveBus W P T) : Type 0 where
+  pub sound : IsSound view new
+  pub bus : bus_of view new ≡ record (bus_of view old) {
+    procs = advance (row_at (rows_of old.living.items) other).number its binds (advance (row_at (rows_of old.living.items) at).number offered [] (procs_in view old));
+  }
+  pub origin : new.origin ≡ old.origin
+
+-- the process at an index is the one that was there, but for its inbox and for what it is ready to do
+pub record IsKept {W : Type 0} (old new : List (Living W)) (at : ℕ) : Type 0 where
+  pub before : Living W
+  pub after : Living W
+  pub here : slice_get old at ≡ Some before
+  pub there : slice_get new at ≡ Some after
+  pub number : after.number ≡ before.number
+  pub body : after.body ≡ before.body
+  pub walker : after.walker ≡ before.walker
+
+-- what is seen and bound of an effect
+abbrev pub IsDone : Effect → Done → Type 0
+IsDone effect done = (done.kind ≡ effect.kind) × (done.shown ≡ effect.shown) × (done.binds ≡ effect.binds)
+
+-- The change of an effect was made for the process at an index, which itself hasn't gone on yet.
+pub record IsChanged {W P T : Type 0} (view : View P W T) (old : LiveBus W P T) (at : ℕ) (effect : Effect) (new : LiveBus W P T) : Type 0 where
+  pub sound : IsSound view new
+  pub bus : bus_of view new ≡ changed effect.change (row_at (rows_of old.living.items) at).number (bus_of view old)
+  pub origin : new.origin ≡ old.origin
+  pub plans : new.plans ≡ old.plans
+  pub kept : IsKept old.living.items new.living.items at
+  pub named : (number : ℕ) → Contains old.stale.items number → Contains new.stale.items number
+
+-- It then went on with what the offer leaves, in the offered store with the binds set, and is the last starter.
+pub record HasGone {W P T : Type 0} (view : View P W T) (old : LiveBus W P T) (at : ℕ) (offered : Offered) (binds : List Bind) (last : ℕ) (new : LiveBus W P T) : Type 0 where
+  pub sound : IsSound view new
+  pub bus : bus_of view new ≡ record (bus_of view old) {
+    procs = advance (row_at (rows_of old.living.items) at).number offered binds (procs_in view old);
+    last_starter = last;
+  }
+  pub origin : new.origin ≡ old.origin
+
+-- the move of a candidate was made
+pub record IsMade {W P T : Type 0} (view : View P W T) (old : LiveBus W P T) (candidate : Candidate) (new : LiveBus W P T) : Type 0 where
+  pub sound : IsSound view new
+  pub bus : bus_of view new ≡ apply (bus_of view old) (move_in view old candidate)
+  pub origin : new.origin ≡ old.origin
+
+-- The fields stand for the bus to which the log leads, the log is a trace within the limit, each tick is an entry of it, and
+-- so is each creation, and each tool that comes.
+pub record Represents {W P T : Type 0} (view : View P W T) (bus : LiveBus W P T) (log : LogState) : Type 0 where
+  pub sound : IsSound view bus
+  pub bus_is : bus_of view bus ≡ replay (start bus.origin) log.entries
+  pub trace : IsTrace (start bus.origin) log.entries
+  pub limit : log.limit ≡ bus.origin.limit
+  pub few : bus.origin.limit ≤ most_entries
+  pub ticks : bus.ticks ≤ length log.entries
+  pub next : bus.marks.next_number ≤ 10001 + length log.entries
+  pub tools : bus.bench.next_tool ≤ 1 + length log.entries

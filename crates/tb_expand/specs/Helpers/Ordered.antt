@@ -1,0 +1,8 @@
+-- What is found out of a graph: an order, or a way that closes a cycle.
+use Rattle.tb_expand.specs.declared.order.Ordered.{Ordered}
+use Rattle.tb_expand.specs.declared.order.Ordered.TheVariants.{Order, Cyclic}
+use Rattle.tb_expand.specs.Helpers.Graphs.{Graph, IsOrder, IsGraphCycle}
+
+abbrev pub IsOrdered : Graph → Ordered → Type 0
+IsOrdered graph (Order positions) = IsOrder graph positions
+IsOrdered graph (Cyclic positions) = IsGraphCycle graph positions

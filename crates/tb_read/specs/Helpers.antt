@@ -1,0 +1,5 @@
+-- Definitions that proofs and private functions need, and that nobody has to believe.
+pub mod Answers
+pub mod Building
+pub mod Limits
+pub mod Stacks
