@@ -4,7 +4,6 @@ use Rattle.std.proofs.lemmas.Bool.{ltb-true, lt-ltb}
 use Rattle.tb_algebra.specs.Processes.{Process, At, Seq, Alt, Star, Par, If, When, Let}
 use Rattle.tb_code.specs.Positions.{size, table, positions, node, part, of_two, IsTwo, IsOne, HasParts}
 use Rattle.tb_code.specs.declared.node.Node.{Node}
-use Rattle.tb_code.specs.declared.node.Op.{Op}
 use Rattle.tb_code.specs.declared.node.Op.TheVariants as op
 use Rattle.tb_code.proofs.Tables.{length-table}
 

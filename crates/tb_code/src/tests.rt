@@ -260,6 +260,7 @@ fn atoms_go_by_their_numbers(rt: HostRuntime) -> Result<(), Fail> {
 }
 
 #[test]
+#[tactic(auto, using(crate::proofs::Parts::some_size))]
 fn the_first_part_stands_at_the_next_position(rt: HostRuntime) -> Result<(), Fail> {
     let code = compiled(rt.alloc(), &[Tau, Tau, Seq])?;
     assert_eq!(rt; mark_of(&code.node(0).op), Mark::Seq(2));

@@ -1,4 +1,4 @@
-use Rattle.std.proofs.Common.{◌≡◌, ◌<◌, length, ap, sym, ◌∙◌, arith}
+use Rattle.std.proofs.Common.{◌≡◌, length, ap, ◌∙◌, arith}
 use Rattle.tb_algebra.specs.Processes.{fresh}
 use Rattle.tb_code.specs.Positions.{size}
 use Rattle.tb_code.proofs.Parts.{has_parts, frame_before, length-positions}
