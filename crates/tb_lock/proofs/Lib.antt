@@ -12,3 +12,4 @@ pub mod ShareLemmas
 pub mod TurnLemmas
 pub mod CallLemmas
 pub mod CountLemmas
+pub mod SendLemmas
