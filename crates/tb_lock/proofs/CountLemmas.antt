@@ -1,5 +1,5 @@
 -- How many entries of its own a seat has after a call.
-use Rattle.std.proofs.Common.{◌≡◌, ◌+◌, ℕ, List, [], ◌∷◌, map, length, Bool, true, false, if◌then◌else◌, Result, Ok, option_to_list, refl, sym, ap, ◌∙◌, subst, arith, length-append}
+use Rattle.std.proofs.Common.{◌≡◌, ◌+◌, ℕ, suc, List, [], ◌∷◌, map, length, Bool, true, false, if◌then◌else◌, Result, Ok, option_to_list, refl, sym, ap, ◌∙◌, subst, arith, length-append}
 use Rattle.tb_log.specs.declared.entry.Entry.{Entry}
 use Rattle.tb_log.specs.declared.entry.Input.{Input}
 use Rattle.tb_log.specs.declared.entry.Reply.{Reply}
