@@ -1,0 +1,15 @@
+pub mod ListLemmas
+pub mod RightLemmas
+pub mod OwnLemmas
+pub mod HistoryLemmas
+pub mod FrameLemmas
+pub mod StageLemmas
+pub mod DrawLemmas
+pub mod ReadLemmas
+pub mod PassLemmas
+pub mod NoteLemmas
+pub mod ShareLemmas
+pub mod TurnLemmas
+pub mod CallLemmas
+pub mod CountLemmas
+pub mod SendLemmas

@@ -1,0 +1,105 @@
+-- What a call comes to that waits for the seat's turn: it is answered as by one core, whose log is the one history.
+use Rattle.std.specs.Prelude.{◌≡◌, ◌↔◌, ℕ, List, [], ◌++◌, length, true, false, ◌||◌, IsTrue, Result, Ok, Err, IfOk, IsErrOf, ⊤}
+use Rattle.tb_log.specs.declared.entry.Entry.{Entry}
+use Rattle.tb_log.specs.declared.entry.Input.{Input}
+use Rattle.tb_log.specs.declared.entry.Reply.{Reply}
+use Rattle.tb_log.specs.Shapes.{IsInputInShape, IsLane}
+use Rattle.tb_tools.specs.declared.stage.LaneState.{LaneState}
+use Rattle.tb_tools.specs.Lanes.{lane_at, lane_state}
+use Rattle.tb_bus.specs.Buses.{start}
+use Rattle.tb_bus.specs.Traces.{IsTrace, fed}
+use Rattle.tb_core.specs.declared.answers.CoreFault.{CoreFault}
+use Rattle.tb_core.specs.declared.answers.CoreFault.TheVariants as fault
+use Rattle.tb_core.specs.declared.answers.TakeOut.{TakeOut}
+use Rattle.tb_core.specs.Cores.{CoreState, Call, HandIn, MakeStep, HandOut, bus_now, entries_of, is_full, IsTakenOut}
+use Rattle.tb_lock.specs.Rights.{own, all_rights}
+use Rattle.tb_lock.specs.Histories.{Grows, IsSparse, indexed}
+use Rattle.tb_lock.specs.Seats.{SeatView, joined}
+
+-- The core that a seat meets in its turn. It was started where the seat's bus was, and its log is the history so far.
+pub record Meets (seat : SeatView) (core : CoreState) : Type 0 where
+  pub origin : core.origin ≡ seat.origin
+  -- that begins with all that the seat has seen, and nothing that came since needs one of its rights
+  pub grows : Grows seat.rights seat.seen core.log
+  -- it is a trace, and says quiet once where nothing came between
+  pub trace : IsTrace (start seat.origin) core.log
+  pub sparse : IsSparse core.log
+  -- each entry needs a right that there is
+  pub owned : own all_rights core.log ≡ core.log
+  -- a seat that has stopped the bus, or was told that it was stopped, meets it stopped
+  pub called : seat.called ≡ true → core.stopped ≡ true
+  pub told : seat.told ≡ true → core.stopped ≡ true
+  -- where there is no other seat, it is stopped only where this one has stopped it
+  pub alone : seat.room ≡ 64 → core.stopped ≡ true → seat.called ≡ true
+
+-- a seat after a call of its own on that core, which has added these entries
+abbrev pub noted : SeatView → CoreState → List Entry → SeatView
+noted seat core entries = record seat {
+  seen = core.log ++ entries;
+  mine = seat.mine ++ indexed (length core.log) entries;
+  told = seat.told || core.stopped;
+}
+
+-- what a call adds: nothing where it was refused
+abbrev pub added : {A : Type 0} → Result A CoreFault → List Entry → List Entry
+added (Ok answer) entries = entries
+added (Err refused) entries = []
+
+-- what a call needs of what it hands in
+abbrev pub IsCallInShape : Call → Type 0
+IsCallInShape (HandIn input) = IsInputInShape input
+IsCallInShape MakeStep = ⊤
+IsCallInShape (HandOut lane) = IsLane lane
+
+-- A call that may log an entry: the answer and the entry are those of the core that the seat meets.
+pub record Called {A : Type 0} (Finds : CoreState → A → Type 0) (call : Call) (old new : SeatView) (result : Result A CoreFault) : Type 0 where
+  pub core : CoreState
+  pub meets : Meets old core
+  -- of the seat this changes
+  pub seat : new ≡ noted old core (added result (entries_of core call))
+  -- the history with the call
+  pub trace : IsTrace (start old.origin) new.seen
+  pub sparse : IsSparse new.seen
+  -- the answer, and when the call is refused
+  pub finds : IfOk result (Finds core)
+  pub stopped : IsErrOf result fault.Stopped ↔ IsTrue core.stopped
+  pub full : IsErrOf result fault.Full → is_full core call ≡ true
+  pub room : IfOk result (λ _. is_full core call ≡ false)
+
+-- what becomes of an input
+abbrev pub IsReply : Input → CoreState → Reply → Type 0
+IsReply input core reply = reply ≡ (fed (bus_now core) input).reply
+
+-- what is taken from a lane
+abbrev pub IsTaken : ℕ → CoreState → TakeOut → Type 0
+IsTaken lane core taken = IsTakenOut core lane taken
+
+-- A call that changes nothing: the seat has then seen the history so far, and the answer is that of the core that it meets.
+pub record Observes {A : Type 0} (Finds : CoreState → A → Type 0) (old new : SeatView) (answer : A) : Type 0 where
+  pub core : CoreState
+  pub meets : Meets old core
+  pub seat : new ≡ record old { seen = core.log }
+  pub finds : Finds core answer
+
+-- the state of a lane
+abbrev pub IsStateOf : ℕ → CoreState → LaneState → Type 0
+IsStateOf lane core state = state ≡ lane_state (lane_at lane (bus_now core).bench)
+
+-- The bus is stopped.
+pub record StopsBus (old new : SeatView) : Type 0 where
+  pub core : CoreState
+  pub meets : Meets old core
+  pub seat : new ≡ record old { seen = core.log; called = true; told = true }
+
+-- Two seats become one, of which each has seen all the entries of its rights.
+pub record Joins (old other new : SeatView) : Type 0 where
+  pub seat : new ≡ joined old other
+  pub grows : Grows old.rights old.seen new.seen
+  pub other_grows : Grows other.rights other.seen new.seen
+
+-- The core that a bus gives back once its only seat closes it.
+pub record Closes (seat : SeatView) (core : CoreState) : Type 0 where
+  pub origin : core.origin ≡ seat.origin
+  pub log : core.log ≡ seat.seen
+  pub stopped : core.stopped ≡ seat.called
+  pub told : seat.told ≡ true → seat.called ≡ true

@@ -1,0 +1,152 @@
+-- What each kind of atomic step tells the seat that makes it, and what the parts of a turn leave behind.
+use Rattle.std.specs.Prelude.{◌≡◌, ◌≢◌, ℕ, ◌%◌, ◌^◌, ◌<◌, List, [], ◌∷◌, ◌++◌, length, Bool, true, false, ◌||◌, Option, Some, None, IfSome, Result, IfOk, OnErr, IsErrOf, IsTrue, ◌↔◌}
+use Rattle.atomic_table.specs.Table.{Me}
+use Rattle.atomic_table.specs.Seated.{TableId}
+use Rattle.tb_log.specs.declared.entry.Entry.{Entry}
+use Rattle.tb_bus.specs.Buses.{start}
+use Rattle.tb_bus.specs.Traces.{IsTrace, replay}
+use Rattle.tb_core.specs.declared.answers.CoreFault.{CoreFault}
+use Rattle.tb_core.specs.declared.answers.CoreFault.TheVariants as fault
+use Rattle.tb_core.specs.Cores.{CoreState, Call, entries_of, is_full, Logs, Stays}
+use Rattle.tb_lock.specs.declared.rights.Rights.{Rights}
+use Rattle.tb_lock.specs.Rights.{own, all_rights}
+use Rattle.tb_lock.specs.Histories.{Grows, IsSparse, indexed}
+use Rattle.tb_lock.specs.Seats.{SeatView, Idle, Waiting, Serving, Joined, joined, nobody}
+use Rattle.tb_lock.specs.Calls.{Meets}
+
+-- a seat's view, and the slot that it holds, if any
+abbrev pub HolderState : Type 0
+HolderState = Me (Option CoreState) SeatView
+
+-- a bus has two words and one slot
+abbrev pub IsBoard : TableId → Type 0
+IsBoard id = (id.words ≡ 2) × (id.slots ≡ 1)
+
+-- Draw a turn: the word is the ticket, as far as 64 bits hold it.
+abbrev pub Draws : HolderState → ℕ → HolderState → Type 0
+Draws me found after = (ticket : ℕ) × (found ≡ ticket % 2 ^ 64) × (after ≡ (record me.0 { stage = Waiting ticket }, me.1))
+
+-- the slot is taken with the core in it, and the whole history is seen
+abbrev pub TakesSlot : ℕ → HolderState → HolderState → Type 0
+TakesSlot ticket me after = (core : CoreState) × (after ≡ (record me.0 { seen = core.log; stage = Serving ticket core.stopped }, (0, Some core) ∷ me.1)) × Meets me.0 core
+
+-- Read whose turn it is: where it is this seat's, the slot is taken, and else nothing changes.
+abbrev pub Reads : HolderState → ℕ → HolderState → Type 0
+Reads me found after = (ticket : ℕ) → me.0.stage ≡ Waiting ticket → (found ≡ ticket % 2 ^ 64 → TakesSlot ticket me after) × (found ≢ ticket % 2 ^ 64 → after ≡ me)
+
+-- The one seat of a bus that is being made reads that it is served, and takes the empty slot.
+abbrev pub Opens : HolderState → ℕ → HolderState → Type 0
+Opens me found after = after ≡ (record me.0 { stage = Serving 0 false }, (0, None) ∷ me.1)
+
+-- what a seat holds in its slot
+abbrev pub in_hand : List (ℕ × Option CoreState) → Option CoreState
+in_hand [] = None
+in_hand (slot ∷ slots) = slot.1
+
+-- a seat that has noted these entries of its own, on a core that is stopped or not
+abbrev pub noting : SeatView → List Entry → Bool → SeatView
+noting seat entries stopped = record seat {
+  seen = seat.seen ++ entries;
+  mine = seat.mine ++ indexed (length seat.seen) entries;
+  told = seat.told || stopped;
+}
+
+-- Note a call: what the core in hand has logged since is seen, and is the seat's own.
+abbrev pub Notes : HolderState → ℕ → HolderState → Type 0
+Notes me found after = IfSome (in_hand me.1) (λ core. (entries : List Entry) → core.log ≡ me.0.seen ++ entries → after ≡ (noting me.0 entries core.stopped, me.1))
+
+-- a seat that has stopped the core in hand
+abbrev pub stopping : ℕ → SeatView → SeatView
+stopping ticket seat = record seat { called = true; told = true; stage = Serving ticket true }
+
+-- Note that the core in hand was stopped.
+abbrev pub Stops : HolderState → ℕ → HolderState → Type 0
+Stops me found after = (ticket : ℕ) (mark : Bool) → me.0.stage ≡ Serving ticket mark → after ≡ (stopping ticket me.0, me.1)
+
+-- Pass the turn on: the slot is given back.
+abbrev pub Passes : HolderState → ℕ → HolderState → Type 0
+Passes me found after = after ≡ (record me.0 { stage = Idle }, [])
+
+-- two seats as one, which keeps what each had seen, with its rights
+abbrev pub joining : SeatView → SeatView → SeatView
+joining seat other = record (joined seat other) { stage = Joined seat.seen seat.rights other.seen other.rights }
+
+-- Look after a join: each had seen all entries of its rights.
+abbrev pub Looks : HolderState → ℕ → HolderState → Type 0
+Looks me found after =
+    (one : List Entry) (rights : Rights) (other : List Entry) (more : Rights) → me.0.stage ≡ Joined one rights other more
+    → (after ≡ (record me.0 { stage = Idle }, me.1)) × Grows rights one me.0.seen × Grows more other me.0.seen
+
+-- What a turn leaves behind: the seat has seen the history as far as the core in hand goes, and holds the empty slot.
+abbrev pub HasTurn : SeatView → CoreState → HolderState → Type 0
+HasTurn seat core me = (ticket : ℕ) × (me ≡ (record seat { seen = core.log; stage = Serving ticket core.stopped }, (0, None) ∷ []))
+
+-- What a call that may log an entry has made of the core in hand, and how it was answered.
+pub record Answers {A : Type 0} (Finds : CoreState → A → Type 0) (call : Call) (old new : CoreState) (result : Result A CoreFault) : Type 0 where
+  pub finds : IfOk result (Finds old)
+  pub logs : IfOk result (λ _. Logs old new (entries_of old call))
+  pub stopped : IsErrOf result fault.Stopped ↔ IsTrue old.stopped
+  pub full : IsErrOf result fault.Full → is_full old call ≡ true
+  pub room : IfOk result (λ _. is_full old call ≡ false)
+  pub stays : OnErr result (Stays old new)
+
+-- A seat whose turn is open may note these entries, which the core in hand has logged since it was taken.
+pub record Adds (seat : SeatView) (core : CoreState) (entries : List Entry) : Type 0 where
+  pub origin : core.origin ≡ seat.origin
+  pub log : core.log ≡ seat.seen ++ entries
+  pub trace : IsTrace (replay (start seat.origin) seat.seen) entries
+  pub sparse : IsSparse (seat.seen ++ entries)
+  pub rights : own seat.rights entries ≡ entries
+  pub owned : own all_rights entries ≡ entries
+
+-- Its turn is open, it holds the empty slot, and the core may go back with these entries.
+pub record MayRelease (me : HolderState) (core : CoreState) : Type 0 where
+  pub ticket : ℕ
+  pub entries : List Entry
+  pub stage : me.0.stage ≡ Serving ticket core.stopped
+  pub slot : me.1 ≡ (0, None) ∷ []
+  pub adds : Adds me.0 core entries
+
+-- what contracts see of a seat of this bus, whose views these are
+abbrev pub seat_of : TableId → List SeatView → SeatView
+seat_of bus [] = nobody
+seat_of bus (seat ∷ others) = record seat { bus = bus }
+
+-- Between two calls a seat has one view, is idle and has room.
+abbrev pub IsSeat : List SeatView → Type 0
+IsSeat views = (seat : SeatView) × (views ≡ seat ∷ []) × (seat.stage ≡ Idle) × (0 < seat.room)
+
+-- The turn may be passed on: the core of the whole history is in the slot that the seat holds.
+pub record MayPass (me : HolderState) : Type 0 where
+  pub ticket : ℕ
+  pub core : CoreState
+  pub stage : me.0.stage ≡ Serving ticket core.stopped
+  pub slot : me.1 ≡ (0, Some core) ∷ []
+  pub origin : core.origin ≡ me.0.origin
+  pub log : core.log ≡ me.0.seen
+
+-- the core was put back and the call noted, and the turn was passed on
+abbrev pub Releases : HolderState → CoreState → HolderState → Type 0
+Releases me core after = (entries : List Entry) → core.log ≡ me.0.seen ++ entries → after ≡ (record (noting me.0 entries core.stopped) { stage = Idle }, [])
+
+-- Its turn is open, it holds the empty slot, and the core is as it was taken out.
+pub record MayReturn (me : HolderState) (core : CoreState) : Type 0 where
+  pub ticket : ℕ
+  pub stage : me.0.stage ≡ Serving ticket core.stopped
+  pub slot : me.1 ≡ (0, None) ∷ []
+  pub origin : core.origin ≡ me.0.origin
+  pub log : core.log ≡ me.0.seen
+
+-- Its turn is open, it holds the empty slot, and the core was stopped and has logged nothing.
+pub record MayStop (me : HolderState) (core : CoreState) : Type 0 where
+  pub ticket : ℕ
+  pub mark : Bool
+  pub stage : me.0.stage ≡ Serving ticket mark
+  pub slot : me.1 ≡ (0, None) ∷ []
+  pub origin : core.origin ≡ me.0.origin
+  pub log : core.log ≡ me.0.seen
+  pub stopped : core.stopped ≡ true
+
+-- the core was put back, it was noted that it was stopped, and the turn was passed on
+abbrev pub ReleasesStopped : HolderState → HolderState → Type 0
+ReleasesStopped me after = after ≡ (record me.0 { called = true; told = true; stage = Idle }, [])

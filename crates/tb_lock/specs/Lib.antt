@@ -1,0 +1,5 @@
+pub mod Rights
+pub mod Histories
+pub mod Seats
+pub mod Calls
+pub mod Helpers

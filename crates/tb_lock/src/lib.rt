@@ -1,0 +1,21 @@
+//! The shared bus: threads take turns at one core, each by a seat of its own, and there is one history.
+#![tactic(auto)]
+
+mod board;
+mod call;
+mod laws;
+mod plays;
+mod rights;
+mod seat;
+mod share;
+mod shared;
+#[cfg(test)]
+mod tests;
+mod turn;
+#[cfg(test)]
+mod workers;
+
+pub use laws::{calls_add_their_own, joins_keep_their_own};
+pub use rights::Rights;
+pub use seat::Seat;
+pub use shared::{NoRoom, Shared};

@@ -1,0 +1,119 @@
+//! The rule of a bus, and the kinds of atomic step.
+use crate::rights::Rights;
+use crate::seat::View;
+use atomic_table::{Join, Play, Split, TableRule};
+use std::marker::{Brand, PhantomData};
+use tb_algebra::Walker;
+use tb_core::Core;
+
+/// The rule that every step keeps. Its key is the core that the bus was made of.
+pub struct BusRule;
+
+impl<W: Walker> TableRule<Option<Core<W>>, View, Core<W>> for BusRule {
+    ghost use Rattle.tb_lock.specs.Helpers.Rule.{Kept, opening_seat};
+
+    ghost holds = { λ core. Kept core.origin };
+
+    ghost first = { λ core. opening_seat core.origin };
+}
+
+/// The first seat takes the empty slot.
+pub(crate) struct Open;
+
+impl<W: Walker> Play<Option<Core<W>>, View> for Open {
+    ghost use Rattle.tb_lock.specs.Helpers.Plays.{Opens};
+
+    ghost then = { λ _ me found after. Opens me found after };
+}
+
+/// Draw a turn.
+pub(crate) struct Draw;
+
+impl<W: Walker> Play<Option<Core<W>>, View> for Draw {
+    ghost use Rattle.tb_lock.specs.Helpers.Plays.{Draws};
+
+    ghost then = { λ _ me found after. Draws me found after };
+}
+
+/// Read whose turn it is, and take the core where it is one's own.
+pub(crate) struct Read;
+
+impl<W: Walker> Play<Option<Core<W>>, View> for Read {
+    ghost use Rattle.tb_lock.specs.Helpers.Plays.{Reads};
+
+    ghost then = { λ _ me found after. Reads me found after };
+}
+
+/// Note a call that was made on the core in hand.
+pub(crate) struct Note;
+
+impl<W: Walker> Play<Option<Core<W>>, View> for Note {
+    ghost use Rattle.tb_lock.specs.Helpers.Plays.{Notes};
+
+    ghost then = { λ _ me found after. Notes me found after };
+}
+
+/// Note that the core in hand was stopped.
+pub(crate) struct Stop;
+
+impl<W: Walker> Play<Option<Core<W>>, View> for Stop {
+    ghost use Rattle.tb_lock.specs.Helpers.Plays.{Stops};
+
+    ghost then = { λ _ me found after. Stops me found after };
+}
+
+/// Pass the turn on.
+pub(crate) struct Pass;
+
+impl<W: Walker> Play<Option<Core<W>>, View> for Pass {
+    ghost use Rattle.tb_lock.specs.Helpers.Plays.{Passes};
+
+    ghost then = { λ _ me found after. Passes me found after };
+}
+
+/// Look after a join.
+pub(crate) struct Look;
+
+impl<W: Walker> Play<Option<Core<W>>, View> for Look {
+    ghost use Rattle.tb_lock.specs.Helpers.Plays.{Looks};
+
+    ghost then = { λ _ me found after. Looks me found after };
+}
+
+/// Which rights a seat hands on. Each split picks its own.
+pub(crate) trait HandsOn {
+    ghost use Rattle.tb_lock.specs.declared.rights.Rights.{Rights};
+
+    ghost rights: { Rights };
+}
+
+impl HandsOn for Brand {
+    ghost use Rattle.tb_lock.specs.Rights.{no_rights};
+
+    ghost rights = { no_rights };
+}
+
+/// A seat hands rights on to a new one.
+pub(crate) struct Part<H> {
+    of: PhantomData<H>,
+}
+
+impl<H: HandsOn> Split<View> for Part<H> {
+    ghost use Rattle.tb_lock.specs.Seats.{kept_of, handed_on};
+
+    ghost left = { kept_of H.rights };
+
+    ghost right = { handed_on H.rights };
+}
+
+/// Two seats become one.
+pub(crate) struct Unite;
+
+impl Join<View> for Unite {
+    ghost use Rattle.tb_lock.specs.Seats.{nobody};
+    ghost use Rattle.tb_lock.specs.Helpers.Plays.{joining};
+
+    ghost both = { joining };
+
+    ghost spent = { nobody };
+}

@@ -1,0 +1,188 @@
+ghost use Rattle.std.specs.Prelude.{◌≡◌, ◌<◌, [], IfOk, IfErr, false, true};
+ghost use Rattle.tb_log.specs.Shapes.{IsInputInShape, IsLane};
+ghost use Rattle.tb_core.specs.Cores.{HandIn, MakeStep, HandOut, IsStep};
+ghost use Rattle.tb_lock.specs.Rights.{AreAmong, has, right_to, all_rights};
+ghost use Rattle.tb_lock.specs.Seats.{first_seat, kept_of, handed_on};
+ghost use Rattle.tb_lock.specs.Calls.{IsCallInShape, Called, IsReply, IsTaken, Observes, IsStateOf, StopsBus, Joins, Closes};
+
+use crate::call::{CoreCall, HandingIn, Stepping, TakingOut};
+use crate::plays::BusRule;
+use crate::rights::Rights;
+use crate::seat::{Seat, View};
+use crate::share::{part, unite};
+use crate::turn::{acquire, open, release, release_stopped, release_unchanged};
+use atomic_table::{Badge, Table};
+use std::alloc::Global;
+use std::marker::{Brand, Model};
+use std::mem::replace;
+use std::sync::Wait;
+use tb_algebra::Walker;
+use tb_core::{Core, CoreFault, Stepped, TakeOut};
+use tb_log::{Input, Reply};
+use tb_tools::LaneState;
+
+/// A bus that threads share. Each takes part by a seat of its own, and the calls of all seats take turns: there is one
+/// log, of which each seat has seen a prefix. Contracts see of it its name, by which its seats are known.
+#[derive(Drop)]
+pub struct Shared<W: Walker> {
+    table: Table<Option<Core<W>>, View, Core<W>, BusRule, Global>,
+}
+
+impl<W: Walker> Model for Shared<W> {
+    ghost use Rattle.atomic_table.specs.Seated.{TableId, table_id_coded};
+    ghost use Rattle.tb_lock.specs.Helpers.Plays.{IsBoard};
+
+    ghost Value = { TableId };
+
+    ghost coded = { table_id_coded };
+
+    ghost view = { λ bus. bus.table.shared.table_id };
+
+    ghost invariant = { λ bus. IsBoard bus.table.shared.table_id };
+}
+
+/// There was no memory for a bus. The core comes back.
+#[derive(Drop)]
+pub struct NoRoom<W: Walker> {
+    pub core: Core<W>,
+}
+
+impl<W: Walker> Shared<W> {
+    /// Shares a core that has logged nothing and isn't stopped. The seat has all rights, and room for 64 seats.
+    pub fn make(alloc: Global, core: Core<W>) -> Result<(Shared<W>, Seat), NoRoom<W>>
+        requires log { core.log ≡ [] }
+        requires running { core.stopped ≡ false }
+        ensures ok { IfOk result (λ made. made.1 ≡ first_seat made.0 core.origin) }
+        ensures err { IfErr result (λ refused. refused.core ≡ core) }
+    {
+        let Ok((table, mut holder)) = Table::vacant(alloc, &[1, 0], 1, &core) else {
+            return Err(NoRoom { core });
+        };
+        open(&table.shared, &mut holder, core);
+        let seat = Seat {
+            badge: holder.into_badge(),
+        };
+        Ok((Shared { table }, seat))
+    }
+
+    /// Hands some of the seat's rights on to a new seat, with room for itself.
+    pub fn split(&self, seat: &mut Seat, rights: Rights) -> Seat
+        requires own { seat.old.bus ≡ self.now }
+        requires rights { AreAmong rights seat.old.rights }
+        requires room { 1 < seat.old.room }
+        ensures seat { seat.new ≡ kept_of rights seat.old }
+        ensures new { result ≡ handed_on rights seat.old }
+    {
+        let mut holder = replace(&mut seat.badge, Badge::blank()).into_seat();
+        let other = part::<W, Brand>(&self.table.shared, &mut holder, rights);
+        seat.badge = holder.into_badge();
+        Seat {
+            badge: other.into_badge(),
+        }
+    }
+
+    /// Takes in another seat, with its rights, its room and its entries.
+    pub fn join(&self, seat: &mut Seat, other: Seat)
+        requires own { seat.old.bus ≡ self.now }
+        requires other { other.bus ≡ self.now }
+        ensures { Joins seat.old other seat.new }
+    {
+        let Seat { badge } = other;
+        let mut holder = replace(&mut seat.badge, Badge::blank()).into_seat();
+        unite(&self.table.shared, &mut holder, badge.into_seat());
+        seat.badge = holder.into_badge();
+    }
+
+    /// Hands in what comes from outside, in the seat's turn.
+    pub fn hand_in<R: Wait>(
+        &self,
+        rt: &R,
+        seat: &mut Seat,
+        input: Input,
+    ) -> Result<Reply, CoreFault>
+        requires own { seat.old.bus ≡ self.now }
+        requires form { IsInputInShape input }
+        requires right { has seat.old.rights (right_to (HandIn input)) ≡ true }
+        ensures { Called (IsReply input) (HandIn input) seat.old seat.new result }
+    {
+        self.call(rt, seat, HandingIn { input })
+    }
+
+    /// Makes the first of the steps in the seat's turn, or says that there is none, as a core does.
+    pub fn step<R: Wait>(&self, rt: &R, seat: &mut Seat) -> Result<Stepped, CoreFault>
+        requires own { seat.old.bus ≡ self.now }
+        requires right { has seat.old.rights (right_to MakeStep) ≡ true }
+        ensures { Called IsStep MakeStep seat.old seat.new result }
+    {
+        self.call(rt, seat, Stepping)
+    }
+
+    /// Takes what is to be handed out next on a lane, in the seat's turn.
+    pub fn take_out<R: Wait>(&self, rt: &R, seat: &mut Seat, lane: u8) -> Result<TakeOut, CoreFault>
+        requires own { seat.old.bus ≡ self.now }
+        requires lane { IsLane lane }
+        requires right { has seat.old.rights (right_to (HandOut lane)) ≡ true }
+        ensures { Called (IsTaken lane) (HandOut lane) seat.old seat.new result }
+    {
+        self.call(rt, seat, TakingOut { lane })
+    }
+
+    /// The state of a lane in the seat's turn.
+    pub fn lane_state<R: Wait>(&self, rt: &R, seat: &mut Seat, lane: u8) -> LaneState
+        requires own { seat.old.bus ≡ self.now }
+        requires lane { IsLane lane }
+        ensures { Observes (IsStateOf lane) seat.old seat.new result }
+    {
+        let mut holder = replace(&mut seat.badge, Badge::blank()).into_seat();
+        let core = acquire(rt, &self.table.shared, &mut holder);
+        let state = core.lane_state(lane);
+        release_unchanged(&self.table.shared, &mut holder, core);
+        seat.badge = holder.into_badge();
+        state
+    }
+
+    /// Makes a call of the core in the seat's turn.
+    fn call<R: Wait, C: CoreCall<W>>(
+        &self,
+        rt: &R,
+        seat: &mut Seat,
+        call: C,
+    ) -> Result<C::Answer, CoreFault>
+        requires own { seat.old.bus ≡ self.now }
+        requires form { IsCallInShape (C.call call) }
+        requires right { has seat.old.rights (right_to (C.call call)) ≡ true }
+        ensures { Called (C.finds call) (C.call call) seat.old seat.new result }
+    {
+        let mut holder = replace(&mut seat.badge, Badge::blank()).into_seat();
+        let mut core = acquire(rt, &self.table.shared, &mut holder);
+        let answer = call.make(&mut core);
+        release(&self.table.shared, &mut holder, core);
+        seat.badge = holder.into_badge();
+        answer
+    }
+
+    /// Stops the bus in the seat's turn: from then on every call of any seat is answered `Stopped`.
+    pub fn stop<R: Wait>(&self, rt: &R, seat: &mut Seat)
+        requires own { seat.old.bus ≡ self.now }
+        ensures { StopsBus seat.old seat.new }
+    {
+        let mut holder = replace(&mut seat.badge, Badge::blank()).into_seat();
+        let mut core = acquire(rt, &self.table.shared, &mut holder);
+        core.stop();
+        release_stopped(&self.table.shared, &mut holder, core);
+        seat.badge = holder.into_badge();
+    }
+
+    /// Gives the core back once the seat is the only one left, with all rights and all room.
+    pub fn close<R: Wait>(self, rt: &R, seat: Seat) -> Core<W>
+        requires own { seat.bus ≡ self }
+        requires rights { seat.rights ≡ all_rights }
+        requires room { seat.room ≡ 64 }
+        ensures { Closes seat result }
+    {
+        let Shared { table } = self;
+        let Seat { badge } = seat;
+        let mut holder = badge.into_seat();
+        acquire(rt, &table.shared, &mut holder)
+    }
+}

@@ -1,0 +1,120 @@
+//! A seat's turn: it waits for it, takes the core out, puts it back and passes the turn on.
+ghost use Rattle.std.specs.Prelude.{◌≡◌, ◌<◌, [], false};
+ghost use Rattle.tb_lock.specs.Calls.{Meets};
+ghost use Rattle.tb_lock.specs.Seats.{Idle};
+ghost use Rattle.tb_lock.specs.Helpers.Rule.{opening_seat};
+ghost use Rattle.tb_lock.specs.Helpers.Plays.{IsBoard, HasTurn, MayRelease, MayReturn, MayStop, MayPass, Releases, ReleasesStopped};
+
+use crate::board::{Board, CORE, Holder, SERVING, TICKET};
+use crate::plays::{Draw, Note, Open, Pass, Read, Stop};
+use std::hint::spin_loop;
+use std::sync::Wait;
+use tb_algebra::Walker;
+use tb_core::Core;
+
+/// How often a seat looks whose turn it is before it sleeps.
+const LOOKS: u32 = 100;
+
+/// The first turn of a new bus: the core is put in its slot.
+pub(crate) fn open<W: Walker>(board: &Board<W>, holder: &mut Holder<W>, core: Core<W>)
+    requires board { IsBoard board.now.table_id }
+    requires holder { holder.old.table_id ≡ board.now.table_id }
+    requires first { holder.old.me ≡ (opening_seat core.origin, []) }
+    requires core { (core.log ≡ []) × (core.stopped ≡ false) }
+    ensures holder { holder.new.table_id ≡ holder.old.table_id }
+    ensures opened { holder.new.me ≡ (record (opening_seat core.origin) { stage = Idle }, []) }
+{
+    board.load::<Open>(holder, SERVING);
+    let _empty = board.exchange(holder, CORE, Some(core));
+    pass(board, holder);
+}
+
+/// Waits for the seat's turn, and takes the core out.
+pub(crate) fn acquire<W: Walker, R: Wait>(
+    rt: &R,
+    board: &Board<W>,
+    holder: &mut Holder<W>,
+) -> Core<W>
+    requires board { IsBoard board.now.table_id }
+    requires holder { holder.old.table_id ≡ board.now.table_id }
+    requires idle { (holder.old.me.1 ≡ []) × (holder.old.me.0.stage ≡ Idle) }
+    requires room { 0 < holder.old.me.0.room }
+    ensures holder { holder.new.table_id ≡ holder.old.table_id }
+    ensures turn { HasTurn holder.old.me.0 result holder.new.me }
+    ensures meets { Meets holder.old.me.0 result }
+{
+    let ticket = board.fetch_add::<Draw>(holder, TICKET, 1);
+    for _ in rt.forever() {
+        let serving = board.load::<Read>(holder, SERVING);
+        if serving == ticket {
+            return board.exchange(holder, CORE, None).unwrap();
+        }
+        wait_while(rt, board, serving);
+    }
+    unreachable!()
+}
+
+/// Looks a few times, and then sleeps, while it is the turn of this ticket.
+fn wait_while<W: Walker, R: Wait>(rt: &R, board: &Board<W>, serving: u64)
+    requires { IsBoard board.now.table_id }
+{
+    for _ in 0..LOOKS {
+        if board.peek(SERVING) != serving {
+            return;
+        }
+        spin_loop();
+    }
+    board.park(rt, SERVING, (serving & 0xffff_ffff) as u32);
+}
+
+/// Puts the core back with what it has logged in this turn, and passes the turn on.
+pub(crate) fn release<W: Walker>(board: &Board<W>, holder: &mut Holder<W>, core: Core<W>)
+    requires board { IsBoard board.now.table_id }
+    requires holder { holder.old.table_id ≡ board.now.table_id }
+    requires may { MayRelease holder.old.me core }
+    ensures holder { holder.new.table_id ≡ holder.old.table_id }
+    ensures releases { Releases holder.old.me core holder.new.me }
+{
+    let _empty = board.exchange(holder, CORE, Some(core));
+    board.load::<Note>(holder, SERVING);
+    pass(board, holder);
+}
+
+/// The same with a core that is as it was taken out: there is nothing to note.
+pub(crate) fn release_unchanged<W: Walker>(board: &Board<W>, holder: &mut Holder<W>, core: Core<W>)
+    requires board { IsBoard board.now.table_id }
+    requires holder { holder.old.table_id ≡ board.now.table_id }
+    requires may { MayReturn holder.old.me core }
+    ensures holder { holder.new.table_id ≡ holder.old.table_id }
+    ensures releases { holder.new.me ≡ (record holder.old.me.0 { stage = Idle }, []) }
+{
+    let _empty = board.exchange(holder, CORE, Some(core));
+    pass(board, holder);
+}
+
+/// The same with a core that was stopped in this turn, and has logged nothing.
+pub(crate) fn release_stopped<W: Walker>(board: &Board<W>, holder: &mut Holder<W>, core: Core<W>)
+    requires board { IsBoard board.now.table_id }
+    requires holder { holder.old.table_id ≡ board.now.table_id }
+    requires may { MayStop holder.old.me core }
+    ensures holder { holder.new.table_id ≡ holder.old.table_id }
+    ensures releases { ReleasesStopped holder.old.me holder.new.me }
+{
+    let _empty = board.exchange(holder, CORE, Some(core));
+    board.load::<Stop>(holder, SERVING);
+    pass(board, holder);
+}
+
+/// Passes the turn on, and wakes those who sleep where another ticket was drawn.
+pub(crate) fn pass<W: Walker>(board: &Board<W>, holder: &mut Holder<W>)
+    requires board { IsBoard board.now.table_id }
+    requires holder { holder.old.table_id ≡ board.now.table_id }
+    requires may { MayPass holder.old.me }
+    ensures holder { holder.new.table_id ≡ holder.old.table_id }
+    ensures passes { holder.new.me ≡ (record holder.old.me.0 { stage = Idle }, []) }
+{
+    let served = board.fetch_add::<Pass>(holder, SERVING, 1);
+    if board.peek(TICKET) != served.wrapping_add(1) {
+        board.wake_all(SERVING);
+    }
+}
