@@ -7,8 +7,8 @@ use crate::{Branch, Row};
 use std::alloc::Global;
 use std::mem::swap;
 use tb_algebra::{
-    Found, Offer, Walker, accepted_binds, copy_candidates, matched_patterns, sent_values, set_binds,
-    store_of,
+    Found, Offer, Walker, accepted_binds, copy_candidates, matched_patterns, sent_values,
+    set_binds, store_of,
 };
 use tb_body::Body;
 use tb_code::{Code, compile};

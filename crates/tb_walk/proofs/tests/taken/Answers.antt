@@ -10,5 +10,5 @@ returns-clause-ticks g c =
     let same : c.in_ok-copy.copy ≡ c.args.walker.now = c.in_ok-copy.ensures in
     let within : c.args.k < length (offers_of (g.W.Walker.view.walking c.args.plan.now c.in_ok-copy.copy)) = rw same c.requires.within in
     let ticks : (g.W.Walker.view.walking c.args.plan.now c.fire.new.self).ticks ≡ (g.W.Walker.view.walking c.args.plan.now c.in_ok-copy.copy).ticks =
-        fired_ticks (g.W.Walker.view.walking c.args.plan.now c.in_ok-copy.copy) (g.W.Walker.view.walking c.args.plan.now c.fire.new.self) c.args.k c.in_ok-binds.binds within c.in_ok-fire.ensures.goes in
+    fired_ticks (g.W.Walker.view.walking c.args.plan.now c.in_ok-copy.copy) (g.W.Walker.view.walking c.args.plan.now c.fire.new.self) c.args.k c.in_ok-binds.binds within c.in_ok-fire.ensures.goes in
     rw same at ticks
