@@ -1,5 +1,5 @@
 -- A branch in its row: what the whole is read as when the branch goes on, and when it ends.
-use Rattle.std.proofs.Common.{◌≡◌, ℕ, suc, ◌+◌, ◌-◌, ◌<◌, ◌≤◌, Bool, true, false, ◌||◌, if◌then◌else◌, List, [], ◌∷◌, ◌++◌, map, length, Option, Some, None, refl, ap, sym, subst, ◌∙◌, arith, append_assoc, length-append, ◌⊎◌, inl, inr}
+use Rattle.std.proofs.Common.{◌≡◌, ℕ, suc, ◌+◌, ◌-◌, ◌<◌, ◌≤◌, Bool, true, false, ◌||◌, List, [], ◌∷◌, ◌++◌, map, length, Option, Some, None, refl, ap, sym, subst, ◌∙◌, arith, append_assoc, length-append, ◌⊎◌, inl, inr}
 use Rattle.std.specs.Prelude.{⊤}
 use Rattle.std.proofs.lemmas.List.{append-nil}
 use Rattle.tb_func.specs.declared.slot.Slot.{Slot}
@@ -9,13 +9,13 @@ use Rattle.tb_algebra.specs.Helpers.Runnings.{waited}
 use Rattle.tb_algebra.specs.Walks.{offers_of_term}
 use Rattle.tb_algebra.proofs.SelectedLemmas.{with_left}
 use Rattle.tb_code.specs.Positions.{size, table, part}
-use Rattle.tb_code.proofs.Parts.{Stands, some_size, stands_here}
+use Rattle.tb_code.proofs.Parts.{Stands, stands_here}
 use Rattle.tb_walk.specs.Helpers.Goings.{counted}
 use Rattle.tb_walk.specs.Lefts.{beside}
-use Rattle.tb_walk.specs.Helpers.Reads.{branch, Passes, behind, Follows, sequence, turn, Reads, ended, waits, passes, follows, both, bound_of, next_of, any_inside, entered_behind}
+use Rattle.tb_walk.specs.Helpers.Reads.{branch, Passes, behind, Follows, sequence, turn, Reads, ended, waits, passes, follows, both, bound_of, any_inside, entered_behind}
 use Rattle.tb_walk.specs.declared.branch.Branch.{Branch}
 use Rattle.tb_walk.proofs.Ranges.{InRange, Outside, narrower, outside-append, apart, inside-append, inside-first, inside-left}
-use Rattle.tb_walk.proofs.ReadLemmas.{passes-range, passes-stands, follows-range, follows-bound, follows-stands, par-first, par-second, in_range, ends_together, EndsTogether, IsSomeRow, counts, counted-append, length-mapped}
+use Rattle.tb_walk.proofs.ReadLemmas.{passes-range, passes-stands, follows-range, follows-bound, follows-stands, par-first, par-second, in_range, ends_together, EndsTogether, counts, counted-append, length-mapped}
 
 -- the frame of a part reaches over all of it
 abbrev pub Covers : Process → Option ℕ → ℕ → Process → Type 0

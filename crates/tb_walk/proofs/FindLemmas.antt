@@ -1,19 +1,18 @@
 -- What is found at a position, by what is found at its parts.
-use Rattle.std.proofs.Common.{◌≡◌, ℕ, suc, ◌+◌, ◌-◌, ◌≤◌, Bool, true, false, List, [], ◌∷◌, ◌++◌, Option, Some, None, refl, ap, sym, subst, ◌∙◌}
+use Rattle.std.proofs.Common.{◌≡◌, ℕ, suc, ◌≤◌, true, false, List, [], ◌∷◌, ◌++◌, Option, Some, None, refl, ap, sym, subst, ◌∙◌}
 use Rattle.tb_terms.specs.declared.expr.Expr.{Expr}
 use Rattle.tb_func.specs.declared.slot.Slot.{Slot}
 use Rattle.tb_body.specs.declared.tree.Setting.{Setting}
 use Rattle.tb_algebra.specs.Helpers.Selections.{Selected, Past, On, selected, selected_with, or_past}
-use Rattle.tb_algebra.specs.Offers.{followed, left_of, right_of}
+use Rattle.tb_algebra.specs.Offers.{followed}
 use Rattle.tb_algebra.specs.Processes.{Process, Seq, Alt, Star, Par, If, When, Let}
 use Rattle.tb_algebra.specs.Settings.{tested, with_settings}
 use Rattle.tb_algebra.specs.Helpers.OfferViews.{or_own}
 use Rattle.tb_algebra.proofs.SelectedLemmas.{then, beside, along}
-use Rattle.tb_code.specs.Positions.{size, part, IsTwo, IsOne}
+use Rattle.tb_code.specs.Positions.{part, IsTwo, IsOne}
 use Rattle.tb_walk.specs.Helpers.Goings.{term_at}
-use Rattle.tb_walk.specs.Helpers.Reads.{branch, or_entered, Passes, behind, one, other, leaves, then_side, else_side, when, set, Follows, sequence, turn}
+use Rattle.tb_walk.specs.Helpers.Reads.{branch, or_entered, Passes, one, other, leaves, then_side, else_side, when, set, Follows, sequence, turn}
 use Rattle.tb_walk.specs.Helpers.Takings.{LeavesRow, IsFound, row_of}
-use Rattle.tb_walk.specs.declared.branch.Branch.{Branch}
 use Rattle.tb_walk.specs.declared.going.Going.{Going}
 use Rattle.tb_walk.specs.declared.going.Search.{Search}
 use Rattle.tb_walk.specs.declared.going.Search.TheVariants as search

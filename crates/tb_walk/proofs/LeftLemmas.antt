@@ -1,13 +1,13 @@
 -- What is left of a term is what its row is read as.
-use Rattle.std.proofs.Common.{◌≡◌, ℕ, suc, ◌+◌, ◌-◌, ◌<◌, ◌≤◌, List, [], ◌∷◌, ◌++◌, Option, Some, None, refl, ap, sym, ◌∙◌, arith, ◌⊎◌, inl, inr}
+use Rattle.std.proofs.Common.{◌≡◌, ℕ, suc, ◌+◌, ◌-◌, ◌<◌, ◌≤◌, List, ◌++◌, Option, Some, None, refl, ◌∙◌, arith, inl, inr}
 use Rattle.tb_algebra.specs.Processes.{Process, At, Seq, Alt, Star, Par, If, When, Let}
 use Rattle.tb_algebra.specs.Helpers.Runnings.{waited}
 use Rattle.tb_code.specs.Positions.{size}
 use Rattle.tb_code.proofs.Parts.{some_size}
-use Rattle.tb_walk.specs.Lefts.{entered_at, or_within, either, and_then, beside, left}
-use Rattle.tb_walk.specs.Helpers.Reads.{branch, Passes, behind, one, other, leaves, then_side, else_side, when, set, Follows, sequence, turn, Reads, ended, waits, passes, follows, both}
+use Rattle.tb_walk.specs.Lefts.{entered_at, beside, left}
+use Rattle.tb_walk.specs.Helpers.Reads.{Passes, behind, one, other, leaves, then_side, else_side, when, set, Follows, sequence, turn, Reads, ended, waits, passes, follows, both}
 use Rattle.tb_walk.specs.declared.branch.Branch.{Branch}
-use Rattle.tb_walk.proofs.Ranges.{InRange, wider, range-append, entered-left, entered-right, entered-none, entered-only}
+use Rattle.tb_walk.proofs.Ranges.{wider, range-append, entered-left, entered-right, entered-none, entered-only}
 use Rattle.tb_walk.proofs.ReadLemmas.{passes-range, follows-range, in_range}
 
 module _ (ticks : ℕ) (row : List Branch) where

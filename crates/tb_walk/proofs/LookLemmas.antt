@@ -1,6 +1,5 @@
 -- What is seen of the part at a position, and where its parts stand, as the code names them.
-use Rattle.std.proofs.Common.{◌≡◌, ℕ, suc, ◌+◌, ◌-◌, ◌<◌, Bool, true, false, List, [], ◌∷◌, ◌++◌, map, Option, Some, None, refl, ap, sym, subst, ◌∙◌, OnOk, append_assoc, arith, ◌⊎◌, inl, inr}
-use Rattle.std.proofs.lemmas.List.{append-nil}
+use Rattle.std.proofs.Common.{◌≡◌, ℕ, suc, ◌-◌, ◌<◌, true, false, List, [], ◌++◌, Some, None, ap, sym, subst, ◌∙◌, arith, ◌⊎◌, inl, inr}
 use Rattle.tb_terms.specs.declared.expr.Expr.{Expr}
 use Rattle.tb_func.specs.declared.slot.Slot.{Slot}
 use Rattle.tb_body.specs.declared.atom.Atom.{Atom}
@@ -8,7 +7,7 @@ use Rattle.tb_body.specs.declared.tree.Setting.{Setting}
 use Rattle.tb_algebra.specs.Processes.{Process, Seq, Alt, Star, Par, If, When, Let}
 use Rattle.tb_algebra.specs.Settings.{tested, with_settings}
 use Rattle.tb_algebra.specs.Helpers.OfferViews.{OfferView, offer_views}
-use Rattle.tb_code.specs.Positions.{size, part, IsTwo, IsOne, HasParts}
+use Rattle.tb_code.specs.Positions.{size, IsTwo, IsOne, HasParts}
 use Rattle.tb_code.specs.declared.node.Op.{Op}
 use Rattle.tb_code.specs.declared.node.Op.TheVariants as op
 use Rattle.tb_walk.specs.Helpers.Goings.{term_at}

@@ -1,11 +1,11 @@
 -- What the part that a branch stands for may do next, by its own parts.
-use Rattle.std.proofs.Common.{◌≡◌, ℕ, zero, suc, ◌+◌, ◌-◌, ◌<◌, ◌≤◌, Bool, true, false, nat_lt, List, [], ◌∷◌, ◌++◌, map, Option, Some, None, refl, ap, sym, subst, ◌∙◌, arith}
+use Rattle.std.proofs.Common.{◌≡◌, ℕ, zero, suc, ◌-◌, ◌≤◌, Bool, true, false, nat_lt, List, [], ◌∷◌, ◌++◌, map, Option, Some, None, refl, ap, sym, subst, ◌∙◌, arith}
 use Rattle.tb_terms.specs.declared.expr.Expr.{Expr}
 use Rattle.tb_func.specs.declared.slot.Slot.{Slot}
 use Rattle.tb_body.specs.declared.atom.Atom.{Atom}
 use Rattle.tb_body.specs.declared.tree.Setting.{Setting}
 use Rattle.tb_algebra.specs.Atoms.{is_ready, times_of}
-use Rattle.tb_algebra.specs.Helpers.Selections.{Selected, Past, On, selected, selected_at, selected_with, or_past}
+use Rattle.tb_algebra.specs.Helpers.Selections.{Selected, Past, selected, selected_at, selected_with, or_past}
 use Rattle.tb_algebra.specs.Offers.{Offered, offers, before, offers_if, offers_after}
 use Rattle.tb_algebra.specs.Processes.{Process, At, Seq, Alt, Star, Par, If, When, Let}
 use Rattle.tb_algebra.specs.Reached.{IsNew}

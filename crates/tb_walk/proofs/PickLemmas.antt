@@ -1,5 +1,5 @@
 -- The search for an offer goes from branch to branch.
-use Rattle.std.proofs.Common.{◌≡◌, ℕ, zero, suc, ◌+◌, ◌<◌, ◌≤◌, List, [], ◌∷◌, ◌++◌, take, length, slice_get, Option, Some, None, refl, ap, sym, subst, ◌∙◌, arith}
+use Rattle.std.proofs.Common.{◌≡◌, ℕ, zero, suc, ◌+◌, ◌≤◌, List, [], ◌∷◌, take, length, slice_get, Option, Some, None, refl, ap, subst, ◌∙◌, arith}
 use Rattle.tb_func.specs.declared.slot.Slot.{Slot}
 use Rattle.tb_algebra.specs.Helpers.Selections.{Selected, Past, On, selected, selected_at}
 use Rattle.tb_algebra.specs.Offers.{Offered, offers}

@@ -1,16 +1,15 @@
 -- Where a row that is read stands, and how many offers it has.
-use Rattle.std.proofs.Common.{◌≡◌, ℕ, suc, ◌+◌, ◌-◌, ◌<◌, ◌≤◌, List, [], ◌∷◌, ◌++◌, map, length, Option, Some, None, refl, ap, sym, subst, ◌∙◌, arith, append_assoc, length-append, ◌⊎◌, inl, inr}
-use Rattle.std.specs.Prelude.{⊤}
+use Rattle.std.proofs.Common.{◌≡◌, ℕ, suc, ◌+◌, ◌-◌, ◌<◌, ◌≤◌, List, [], ◌∷◌, ◌++◌, map, length, Option, Some, None, refl, ap, sym, ◌∙◌, arith, append_assoc, length-append, ◌⊎◌, inl, inr}
 use Rattle.std.proofs.lemmas.List.{append-nil}
 use Rattle.tb_func.specs.declared.slot.Slot.{Slot}
 use Rattle.tb_body.specs.declared.atom.Atom.{Atom}
-use Rattle.tb_algebra.specs.Processes.{Process, At, Seq, Alt, Star, Par, If, When, Let}
-use Rattle.tb_algebra.specs.Offers.{Offered, offers, before, on_the_left, on_the_right}
+use Rattle.tb_algebra.specs.Processes.{Process, Seq, Alt, Star, Par, If, When, Let}
+use Rattle.tb_algebra.specs.Offers.{offers, before, on_the_left, on_the_right}
 use Rattle.tb_algebra.specs.Helpers.Runnings.{waited}
 use Rattle.tb_algebra.specs.Helpers.OfferViews.{OfferView, offer_view, offer_views}
 use Rattle.tb_algebra.specs.Walks.{offers_of_term}
 use Rattle.tb_algebra.proofs.OfferViewLemmas.{offer_views-Seq, offer_views-Par}
-use Rattle.tb_code.specs.Positions.{size, table, part}
+use Rattle.tb_code.specs.Positions.{size, table}
 use Rattle.tb_code.specs.declared.node.Node.{Node}
 use Rattle.tb_code.proofs.Tables.{length-table}
 use Rattle.tb_code.proofs.Parts.{Stands, some_size, stands_first, stands_second, stands_only, stands_here}

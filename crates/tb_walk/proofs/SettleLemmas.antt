@@ -1,12 +1,10 @@
 -- What a frame's first part is, and what becomes of a row whose branch goes on.
-use Rattle.std.proofs.Common.{◌≡◌, ℕ, zero, suc, ◌+◌, ◌<◌, ◌≤◌, List, [], ◌∷◌, ◌++◌, take, drop, length, slice_get, get_or, set, remove, Option, Some, None, refl, ap, sym, subst, ◌∙◌, arith}
+use Rattle.std.proofs.Common.{◌≡◌, ℕ, zero, suc, ◌<◌, List, [], ◌∷◌, ◌++◌, take, drop, length, slice_get, get_or, set, remove, Option, Some, None, refl, ap, sym, subst, ◌∙◌, arith}
 use Rattle.std.specs.Option.{ForSome}
-use Rattle.std.proofs.lemmas.Option.{slice_get_within, slice_get-get_or}
+use Rattle.std.proofs.lemmas.Option.{slice_get-get_or}
 use Rattle.tb_terms.specs.declared.expr.Expr.{Expr}
-use Rattle.tb_func.specs.declared.slot.Slot.{Slot}
 use Rattle.tb_body.specs.declared.tree.Setting.{Setting}
-use Rattle.tb_algebra.specs.Helpers.Selections.{On, selected_at}
-use Rattle.tb_algebra.specs.Offers.{Offered}
+use Rattle.tb_algebra.specs.Helpers.Selections.{On}
 use Rattle.tb_algebra.specs.Processes.{Process, At, Seq, Alt, Star, Par, If, When, Let, fresh}
 use Rattle.tb_algebra.specs.Helpers.OfferViews.{or_own}
 use Rattle.tb_algebra.specs.Walks.{offers_of}
@@ -16,18 +14,16 @@ use Rattle.tb_code.specs.declared.code.Code.{Code}
 use Rattle.tb_code.specs.declared.node.Node.{Node}
 use Rattle.tb_code.specs.declared.node.Op.TheVariants as op
 use Rattle.tb_code.proofs.Parts.{length-positions}
-use Rattle.tb_walk.specs.Helpers.Goings.{counted}
 use Rattle.tb_walk.specs.Lefts.{left}
-use Rattle.tb_walk.specs.Helpers.Reads.{Reads, branch, bound_of, next_of, entered_behind, or_entered}
-use Rattle.tb_walk.specs.Helpers.Takings.{Picks, IsBehind, IsSettled, row_after, row_of}
+use Rattle.tb_walk.specs.Helpers.Reads.{Reads, bound_of, next_of, entered_behind}
+use Rattle.tb_walk.specs.Helpers.Takings.{Picks, IsBehind, IsSettled, row_after}
 use Rattle.tb_walk.specs.WalkViews.{walking_of, IsOnCode, IsLeft}
 use Rattle.tb_walk.specs.declared.branch.Branch.{Branch}
-use Rattle.tb_walk.specs.declared.settle.Step.{Step}
 use Rattle.tb_walk.specs.declared.settle.Step.TheVariants as step
 use Rattle.tb_walk.specs.declared.walk.Taken.{Taken}
 use Rattle.tb_walk.specs.declared.walk.Walk.{Walk}
 use Rattle.tb_walk.proofs.LeftLemmas.{left-read}
-use Rattle.tb_walk.proofs.Steps.{Went, went}
+use Rattle.tb_walk.proofs.Steps.{went}
 use Rattle.tb_walk.proofs.WalkLemmas.{are_there, read_left, hits_of}
 
 module _ (whole : Process) (at : ℕ) where

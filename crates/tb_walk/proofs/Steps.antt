@@ -1,8 +1,8 @@
 -- What becomes of a row where an offer of one of its branches is taken.
-use Rattle.std.proofs.Common.{◌≡◌, ℕ, zero, suc, ◌+◌, ◌-◌, List, [], ◌∷◌, ◌++◌, map, length, slice_get, Option, Some, None, refl, ap, sym, subst, ◌∙◌, arith, ◌⊎◌, inl, inr}
+use Rattle.std.proofs.Common.{◌≡◌, ℕ, suc, ◌+◌, ◌-◌, List, [], ◌∷◌, ◌++◌, map, length, slice_get, Option, Some, None, refl, ap, sym, subst, ◌∙◌, arith, inl, inr}
 use Rattle.std.proofs.lemmas.List.{append-nil}
 use Rattle.tb_func.specs.declared.slot.Slot.{Slot}
-use Rattle.tb_algebra.specs.Helpers.Selections.{Selected, Past, On, selected, selected_at, selected_with, or_past}
+use Rattle.tb_algebra.specs.Helpers.Selections.{Selected, On, selected, selected_at, selected_with, or_past}
 use Rattle.tb_algebra.specs.Offers.{Offered, offers}
 use Rattle.tb_algebra.specs.Processes.{Process}
 use Rattle.tb_algebra.specs.Helpers.Runnings.{waited}
@@ -10,13 +10,13 @@ use Rattle.tb_algebra.specs.Walks.{offers_of_term}
 use Rattle.tb_algebra.proofs.SelectedLemmas.{at-append, at-map, with_left}
 use Rattle.tb_code.specs.Positions.{size, table, part, positions}
 use Rattle.tb_code.specs.declared.node.Node.{Node}
-use Rattle.tb_code.proofs.Parts.{Stands, stands_here, stands_whole, parts_of}
+use Rattle.tb_code.proofs.Parts.{stands_here, stands_whole, parts_of}
 use Rattle.tb_walk.specs.Helpers.Goings.{term_at, counted}
 use Rattle.tb_walk.specs.Helpers.Reads.{Reads, ended, entered_behind, or_entered}
 use Rattle.tb_walk.specs.declared.branch.Branch.{Branch}
 use Rattle.tb_walk.proofs.Ranges.{outside-nil}
 use Rattle.tb_walk.proofs.ReadLemmas.{ends_together, EndsTogether}
-use Rattle.tb_walk.proofs.Contexts.{Context, Offering, Grows, Ends, together, continues, context}
+use Rattle.tb_walk.proofs.Contexts.{Context, Ends, together, continues, context}
 
 at-skip : (k : ℕ) (xs ys : List Offered) → selected_at (length xs + k) (xs ++ ys) ≡ selected_at k ys
 at-skip k [] ys = let e : 0 + k ≡ k = omega arith in ap (λ (n : ℕ). selected_at n ys) e

@@ -1,7 +1,7 @@
 -- The row that is left of a part, by the row that is left of a part of it.
-use Rattle.std.proofs.Common.{◌≡◌, ℕ, zero, suc, ◌+◌, ◌-◌, ◌≤◌, List, [], ◌∷◌, ◌++◌, Option, Some, None, refl, ap, sym, subst, ◌∙◌, arith, ◌⊎◌, inl, inr}
+use Rattle.std.proofs.Common.{◌≡◌, ℕ, suc, ◌+◌, ◌-◌, ◌≤◌, List, [], ◌∷◌, ◌++◌, Option, Some, None, refl, ap, sym, subst, ◌∙◌, arith, inl, inr}
 use Rattle.tb_func.specs.declared.slot.Slot.{Slot}
-use Rattle.tb_algebra.specs.Helpers.Selections.{Selected, Past, On, selected, selected_at}
+use Rattle.tb_algebra.specs.Helpers.Selections.{On, selected}
 use Rattle.tb_algebra.specs.Offers.{followed, left_of, right_of}
 use Rattle.tb_algebra.specs.Processes.{Process, At, Seq, Par}
 use Rattle.tb_algebra.specs.Reached.{IsNew}

@@ -1,22 +1,20 @@
 -- A walk starts, is looked at, goes on and ages.
-use Rattle.std.proofs.Common.{◌≡◌, ℕ, zero, suc, ◌+◌, ◌-◌, ◌<◌, ◌≤◌, Bool, true, false, if◌then◌else◌, IsTrue, Option, Some, None, List, [], ◌∷◌, ◌++◌, map, take, drop, length, slice_get, option_map, option_and_then, is_some, ◌↔◌, refl, ap, sym, subst, ◌∙◌, arith, ◌⊎◌, inl, inr}
+use Rattle.std.proofs.Common.{◌≡◌, ℕ, zero, suc, ◌+◌, ◌-◌, ◌<◌, ◌≤◌, Bool, true, false, if◌then◌else◌, IsTrue, Option, Some, None, List, [], ◌∷◌, ◌++◌, map, length, slice_get, option_map, option_and_then, is_some, ◌↔◌, refl, ap, sym, subst, ◌∙◌, arith, ◌⊎◌, inl, inr}
 use Rattle.std.specs.Option.{ForSome}
 use Rattle.tb_func.specs.declared.slot.Slot.{Slot}
 use Rattle.tb_body.specs.declared.atom.Atom.{Atom}
 use Rattle.tb_algebra.specs.Helpers.Candidates.{offer_of}
-use Rattle.tb_algebra.specs.Helpers.Selections.{Selected, Past, On, selected_at}
-use Rattle.tb_algebra.specs.Offers.{Offered}
-use Rattle.tb_algebra.specs.Processes.{Process, Par, Seq, fresh, aged}
+use Rattle.tb_algebra.specs.Helpers.Selections.{selected_at}
+use Rattle.tb_algebra.specs.Processes.{Process, Par, fresh, aged}
 use Rattle.tb_algebra.specs.Helpers.Rewritings.{Kept, kept, kept_found}
 use Rattle.tb_algebra.specs.Helpers.Runnings.{waited}
-use Rattle.tb_algebra.specs.Helpers.OfferViews.{OfferView, offer_view, shown}
+use Rattle.tb_algebra.specs.Helpers.OfferViews.{offer_view, shown}
 use Rattle.tb_algebra.specs.Walks.{Walking, offers_of, offers_of_term, entering, ticked, is_end}
 use Rattle.tb_algebra.specs.declared.found.Found.{Found}
-use Rattle.tb_algebra.specs.declared.offer.Offer.{Offer}
-use Rattle.tb_algebra.proofs.RewriterLemmas.{is_fresh, seen_is, length-map, kept_at, by_kept, hit_is, hit_inside, inside}
-use Rattle.tb_code.specs.Positions.{size, table}
+use Rattle.tb_algebra.proofs.RewriterLemmas.{is_fresh, length-map, kept_at, by_kept, inside}
+use Rattle.tb_code.specs.Positions.{size}
 use Rattle.tb_code.specs.declared.code.Code.{Code}
-use Rattle.tb_code.proofs.Parts.{some_size, stands_whole}
+use Rattle.tb_code.proofs.Parts.{stands_whole}
 use Rattle.tb_walk.specs.Helpers.Goings.{counted, row_sights}
 use Rattle.tb_walk.specs.Lefts.{beside, left}
 use Rattle.tb_walk.specs.Helpers.Reads.{branch, Reads, ended, waits, passes, follows, both}
@@ -26,7 +24,7 @@ use Rattle.tb_walk.specs.declared.branch.Branch.{Branch}
 use Rattle.tb_walk.specs.declared.walk.Walk.{Walk}
 use Rattle.tb_walk.proofs.LeftLemmas.{left-read}
 use Rattle.tb_walk.proofs.Ranges.{InRange}
-use Rattle.tb_walk.proofs.ReadLemmas.{in_range, ends_together, EndsTogether, counts, seen_all}
+use Rattle.tb_walk.proofs.ReadLemmas.{in_range, ends_together, counts, seen_all}
 
 -- what is read is what is left
 pub read_left : (ticks : ℕ) (whole : Process) (row : List Branch) (t : Option Process) → Reads ticks 0 whole row t → Reads ticks 0 whole row (left ticks row 0 whole)

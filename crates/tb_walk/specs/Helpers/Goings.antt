@@ -1,8 +1,7 @@
 -- What a branch stands for, how many offers the branches of a row have, and what takes a branch's place.
-use Rattle.std.specs.Prelude.{◌≡◌, ℕ, zero, suc, ◌+◌, ◌-◌, List, [], ◌∷◌, ◌++◌, length, Option, Some, None}
+use Rattle.std.specs.Prelude.{ℕ, ◌+◌, ◌-◌, List, [], ◌∷◌, ◌++◌, length}
 use Rattle.tb_func.specs.declared.slot.Slot.{Slot}
 use Rattle.tb_body.specs.declared.atom.Atom.{Atom}
-use Rattle.tb_algebra.specs.Helpers.Selections.{Selected, Past, On, selected}
 use Rattle.tb_algebra.specs.Offers.{offers}
 use Rattle.tb_algebra.specs.Processes.{Process}
 use Rattle.tb_algebra.specs.Helpers.Runnings.{waited}

@@ -1,11 +1,11 @@
-use Rattle.std.proofs.Common.{◌≡◌, ℕ, ◌-◌, ◌<◌, Bool, true, false, Option, Some, None, List, [], ◌∷◌, ◌++◌, map, ap, sym, subst, ◌∙◌, OnOk, arith}
+use Rattle.std.proofs.Common.{◌≡◌, Bool, true, false, Option, Some, None, List, ◌++◌, map, ap, sym, subst, ◌∙◌, OnOk}
 use Rattle.tb_func.specs.declared.slot.Slot.{Slot}
-use Rattle.tb_algebra.specs.Processes.{Process, fresh, Seq, If, When, Let}
+use Rattle.tb_algebra.specs.Processes.{fresh}
 use Rattle.tb_algebra.specs.Settings.{tested, with_settings}
 use Rattle.tb_algebra.specs.Helpers.OfferViews.{OfferView, shown, or_own, offer_views}
 use Rattle.tb_algebra.proofs.Ages.{fresh-new}
 use Rattle.tb_algebra.proofs.OfferViewLemmas.{nothing_more, both_more}
-use Rattle.tb_code.specs.Positions.{size, HasParts, IsTwo, IsOne}
+use Rattle.tb_code.specs.Positions.{HasParts}
 use Rattle.tb_code.specs.declared.node.Op.TheVariants as op
 use Rattle.tb_walk.specs.Helpers.Goings.{term_at}
 use Rattle.tb_walk.specs.Helpers.Reads.{branch}

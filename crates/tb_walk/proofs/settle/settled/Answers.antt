@@ -1,4 +1,4 @@
-use Rattle.std.proofs.Common.{◌≡◌, List, [], Bool, true, false, sym, subst, ◌∙◌}
+use Rattle.std.proofs.Common.{◌≡◌, [], true, false, sym, subst, ◌∙◌}
 use Rattle.tb_algebra.specs.Processes.{fresh}
 use Rattle.tb_walk.specs.Helpers.Takings.{IsSettled, row_of}
 use Rattle.tb_walk.specs.declared.going.Going.{Going}

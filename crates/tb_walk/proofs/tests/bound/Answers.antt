@@ -1,4 +1,4 @@
-use Rattle.std.proofs.Common.{◌<◌, arith}
+use Rattle.std.proofs.Common.{arith}
 use Rattle.tb_algebra.specs.Walks.{offers_of}
 use Rattle.tb_walk.proofs.TestLemmas.{bound_taken}
 use Rattle.tb_walk.proofs.tests.bound.Goals as goal
