@@ -15,7 +15,9 @@ use tb_terms::{Items, NoMemory};
 /// What a body is compiled to: its positions, with what stands at each.
 #[derive(Debug, Drop)]
 pub struct Code {
+    /// The body of which it is.
     pub body: Body,
+    /// What stands at each position, in order.
     pub nodes: Items<Node>,
     ghost numbered: { nodes ≡ positions (fresh body.tree) } by { Prim.hlevel (codes, coded_list, node_row.the_row.coded) },
 }
@@ -57,7 +59,7 @@ impl Code {
         &self.nodes.as_slice()[at]
     }
 
-    /// The atom with this number, where there is one.
+    /// The atom with this number, from 1, where there is one.
     pub fn atom(&self, number: u32) -> Option<&Atom>
         ensures { option_copied result ≡ slice_get self.now.body.atoms (number - 1) }
     {

@@ -7,19 +7,28 @@ use tb_terms::Expr;
 pub enum Op {
     /// The atom of this number.
     At(u32),
+    /// One part, and then the other.
     Seq(usize),
+    /// One part or the other.
     Alt(usize),
+    /// One part again and again, and then the other.
     Star(usize),
+    /// Both parts beside each other.
     Par(usize),
+    /// The first part where the test is true, the other where it is false.
     If(Expr, usize),
+    /// Its part where the test is true.
     When(Expr),
+    /// Its part, in the store with the settings made.
     Let(Settings),
 }
 
-/// A position of a code. Its frame is the innermost sequence or star in whose first part it stands: what
-/// follows where it has ended is the second part of that sequence, or that star.
+/// A position of a code.
 #[derive(Debug, Drop)]
 pub struct Node {
+    /// What stands there.
     pub op: Op,
+    /// The innermost sequence or star in whose first part it stands. Where all of that part has ended,
+    /// the second part of that sequence follows, or that star anew.
     pub frame: Option<usize>,
 }

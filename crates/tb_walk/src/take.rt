@@ -20,7 +20,7 @@ pub(crate) struct Since {
     pub ticks: u64,
 }
 
-/// Searches for the offer at this position among those of the part at a position.
+/// Searches for the offer with this index among those of the part at a position.
 #[cycle(find_at)]
 pub(crate) fn find_at(
     alloc: Global,

@@ -1,4 +1,4 @@
--- What a branch stands for, how many offers the branches of a row have, and what takes a branch's place.
+-- What a branch stands for, and how many offers the branches of a row have.
 use Rattle.std.specs.Prelude.{ℕ, ◌+◌, ◌-◌, List, [], ◌∷◌, ◌++◌, length}
 use Rattle.tb_func.specs.declared.slot.Slot.{Slot}
 use Rattle.tb_body.specs.declared.atom.Atom.{Atom}
