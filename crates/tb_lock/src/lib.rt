@@ -9,11 +9,7 @@ mod rights;
 mod seat;
 mod share;
 mod shared;
-#[cfg(test)]
-mod tests;
 mod turn;
-#[cfg(test)]
-mod workers;
 
 pub use laws::{calls_add_their_own, joins_keep_their_own};
 pub use rights::Rights;
