@@ -1,6 +1,5 @@
-//! Prints a script anew: its text in the printer's one form, with parentheses only where the grammar
-//! needs them. `script_printer FILE` reads the file and prints to standard output; a file that is no
-//! script ends it with status 1.
+//! Prints a script anew. `script_printer FILE` reads the file and prints to standard output; a file that is
+//! no script ends it with status 1.
 #![tactic(auto)]
 
 ghost use Rattle.std.specs.Prelude.{IfSome, List};
@@ -39,8 +38,7 @@ fn print_file(rt: &HostRuntime) -> io::Result<bool> {
     Ok(true)
 }
 
-/// The script's text in the printer's form, where the bytes are a script within the limits and there
-/// is memory for it.
+/// The text that is printed for the script which the bytes spell, where one comes.
 fn printed(alloc: Global, bytes: &[u8]) -> Option<Vec<u8>>
     ensures { IfSome result (λ text. (tokens : List Token) × (script : Script)
         × Lexes bytes.now tokens × Spells script (kinds_of tokens) × IsPrintOf script text.items) }

@@ -66,7 +66,7 @@ pub record MemSinkView : Type 0 where
   pub calls : ℕ
   pub faults : ℕ
 
--- of a piece it takes the front that there is room for, and nothing in a call that is to fail
+-- of a piece it takes the prefix that there is room for, and nothing in a call that is to fail
 abbrev pub prefix_put : MemSinkView → List ℕ → List ℕ
 prefix_put sink piece = if fails_at sink.fails (risen sink.calls) then [] else take (sink.room - length sink.taken) piece
 

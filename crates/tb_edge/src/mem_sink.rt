@@ -8,7 +8,7 @@ use std::alloc::Global;
 use std::marker::Model;
 use tb_terms::NoMemory;
 
-/// A sink in memory with room for so many bytes. Of a piece that doesn't fit it takes the front
+/// A sink in memory with room for so many bytes. Of a piece that doesn't fit it takes the prefix
 /// that fits, as a disk does that runs full, and of a piece in a call that is to fail nothing. An
 /// empty piece is a call as well, and never fails.
 #[derive(Debug, Drop)]

@@ -125,7 +125,7 @@ fn new_chunk(alloc: Global) -> Result<Vec<u8>, AllocError>
     vec![in alloc; 0u8; CHUNK]
 }
 
-/// Fills a front of the chunk and gives its length, 0 at the end of the file.
+/// Fills a prefix of the chunk and gives its length, 0 at the end of the file.
 fn read_some<F: Read>(file: &mut F, chunk: &mut [u8]) -> Result<usize, FilesFault>
     ensures within { IfOk result (λ count. count ≤ length chunk.new) }
     ensures given { IfOk result

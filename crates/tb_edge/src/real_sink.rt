@@ -86,7 +86,7 @@ fn write_whole<W: Write>(writer: &mut W, piece: &[u8]) -> bool
     true
 }
 
-/// Writes a front of the piece and gives its length, unless nothing was taken.
+/// Writes a prefix of the piece and gives its length, unless nothing was taken.
 fn write_some<W: Write>(writer: &mut W, piece: &[u8]) -> Option<usize>
     ensures some { IfSome result (λ count. (0 < count) × (count ≤ length piece.now)) }
     ensures prefix { IfSome result

@@ -38,7 +38,7 @@ pub struct Expansions<'a> {
 }
 
 impl<'a> Expansions<'a> {
-    /// Finds the sizes of all expansions, in time that is linear in the script.
+    /// The expansions of a proper script, where no calls form a cycle. None is built yet.
     #[tactic(auto, using(crate::proofs::ProperCalls::names_differ))]
     pub fn of(alloc: Global, script: &'a Script) -> Result<Expansions<'a>, ExpandFault>
         requires { Proper script.now }

@@ -1,4 +1,4 @@
-//! The parser of scripts: which script a list of tokens spells, or the first fault that it has.
+//! The parser of scripts: which script a list of tokens spells, or its fault.
 #![tactic(auto)]
 
 mod atoms;

@@ -8,9 +8,8 @@ use crate::text::text_of;
 use std::alloc::Global;
 use tb_terms::NoMemory;
 
-/// The text of a script: its tools, its processes and its roots, each on a line of its own, with
-/// parentheses only where the grammar needs them. Reading it gives the script back but for the
-/// positions of its tokens.
+/// The text that is printed for a script which some tokens spell. It has tokens, and these spell a script
+/// that is equal but for the positions of its tokens.
 pub fn print_script(alloc: Global, script: &Script) -> Result<Vec<u8>, NoMemory>
     requires { IsSpelt script.now }
     ensures { IfOk result (λ text. IsPrintOf script.now text.items) }

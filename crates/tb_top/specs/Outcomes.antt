@@ -100,7 +100,7 @@ pub record IsSimOf (run : Run) (bytes : List ℕ) (log : List Entry) (last : Sim
 abbrev pub PutsLog : Run → List ℕ → Option (List ℕ) → Option (List ℕ) → SimEnd → Type 0
 PutsLog run bytes old new last = (log : List Entry) × IsSimOf run bytes log last × Writes old new (log_text log)
 
--- a front of that text was put
+-- a prefix of that text was put
 abbrev pub PutsPrefix : Run → List ℕ → Option (List ℕ) → Option (List ℕ) → Type 0
 PutsPrefix run bytes old new = (log : List Entry) × (last : SimEnd) × IsSimOf run bytes log last × WritesPrefix old new (log_text log)
 
@@ -228,7 +228,7 @@ Comes asked held old new files_old files_new out_old out_new names_old names_new
     CommandOutcome asked held old new status × IsCaused files_old files_new out_old out_new status × AsksFor asked held names_old names_new status
 
 -- What is put of a status to standard error: nothing where all ended well; the status's line; or, where standard
--- error failed, a front of the line of the status that it hides.
+-- error failed, a prefix of the line of the status that it hides.
 abbrev pub Reported : (Status → Type 0) → Option (List ℕ) → Option (List ℕ) → Status → Type 0
 Reported comes old new Ended = comes Ended × (new ≡ old)
 Reported comes old new (Outside edge.Err) = (hidden : Status) × comes hidden × (hidden ≢ Ended) × WritesPrefix old new (status_line hidden)

@@ -1,6 +1,5 @@
 use std::alloc::Global;
 use std::test::Fail;
-use tb_algebra::Rewriter;
 use tb_body::Program;
 use tb_core::{Core, CoreFault, Stepped};
 use tb_feed::Feed;
@@ -8,8 +7,9 @@ use tb_log::{Input, Reply, Why, write_entry};
 use tb_script::load;
 use tb_sim::{SimEnd, simulate};
 use tb_terms::Items;
+use tb_walk::Walk;
 
-type Bus = Core<Rewriter>;
+type Bus = Core<Walk>;
 
 /// The program of a script.
 fn program(alloc: Global, script: &str) -> Result<Program, Fail> {

@@ -11,7 +11,6 @@ use crate::log_writer::{LogFault, put_log};
 use crate::status::{Bound, Edge, Status};
 use crate::words::{Command, WordFault, read_words};
 use std::alloc::Global;
-use tb_algebra::Rewriter;
 use tb_body::Program;
 use tb_core::Core;
 use tb_edge::{Failed, Files, FilesFault, Loaded, Sink};
@@ -20,6 +19,7 @@ use tb_log::Entry;
 use tb_script::{ScriptFault, load};
 use tb_sim::{SimEnd, simulate};
 use tb_terms::{NoMemory, Text, Texts};
+use tb_walk::Walk;
 
 /// A longer script or feed is refused.
 const MOST_BYTES: usize = 1_048_576;
@@ -229,7 +229,7 @@ fn simulate_program<O: Sink>(
 
 fn simulate_core<O: Sink>(
     alloc: Global,
-    core: &mut Core<Rewriter>,
+    core: &mut Core<Walk>,
     feed: &Feed,
     steps: u64,
     out: &mut O,

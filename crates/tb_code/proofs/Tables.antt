@@ -1,0 +1,67 @@
+-- How a table grows, and what stands in it.
+use Rattle.std.proofs.Common.{◌≡◌, ℕ, suc, ◌+◌, List, [], ◌∷◌, ◌++◌, length, slice_set, Option, Some, None, refl, ap, sym, ◌∙◌, arith, append_assoc, length-append}
+use Rattle.std.proofs.Math.Seq.{set-append_seam}
+use Rattle.tb_algebra.specs.Processes.{Process, At, Seq, Alt, Star, Par, If, When, Let}
+use Rattle.tb_code.specs.Positions.{size, table, positions, node}
+use Rattle.tb_code.specs.declared.node.Node.{Node}
+use Rattle.tb_code.specs.Helpers.Twos.{joined, frame_of_first, op_of}
+use Rattle.tb_code.specs.declared.node.Op.{Op}
+use Rattle.tb_code.specs.declared.two.Two.{Two}
+use Rattle.tb_code.specs.declared.two.Two.TheVariants as two
+
+length_two : (xs ys : List Node) (s t : ℕ) → length xs ≡ s → length ys ≡ t → suc (length (xs ++ ys)) ≡ suc (s + t)
+length_two xs ys s t e f = let l = length-append xs ys in omega arith
+
+-- as many positions as the term has
+pub length-table : (term : Process) (at : ℕ) (frame : Option ℕ) → length (table term at frame) ≡ size term
+length-table (At atom age) at frame = refl
+length-table (Seq x y) at frame = length_two (table x (suc at) (Some at)) (table y (suc at + size x) frame) (size x) (size y) (length-table x (suc at) (Some at)) (length-table y (suc at + size x) frame)
+length-table (Alt x y) at frame = length_two (table x (suc at) frame) (table y (suc at + size x) frame) (size x) (size y) (length-table x (suc at) frame) (length-table y (suc at + size x) frame)
+length-table (Star x y) at frame = length_two (table x (suc at) (Some at)) (table y (suc at + size x) frame) (size x) (size y) (length-table x (suc at) (Some at)) (length-table y (suc at + size x) frame)
+length-table (Par x y) at frame = length_two (table x (suc at) frame) (table y (suc at + size x) frame) (size x) (size y) (length-table x (suc at) frame) (length-table y (suc at + size x) frame)
+length-table (If test x y) at frame = length_two (table x (suc at) frame) (table y (suc at + size x) frame) (size x) (size y) (length-table x (suc at) frame) (length-table y (suc at + size x) frame)
+length-table (When test x) at frame = ap suc (length-table x (suc at) frame)
+length-table (Let settings x) at frame = ap suc (length-table x (suc at) frame)
+
+-- an operator is pushed, then its parts, and then it is set
+set-two : (old : List Node) (first last : Node) (xs ys : List Node) → slice_set (((old ++ first ∷ []) ++ xs) ++ ys) (length old) last ≡ old ++ (last ∷ (xs ++ ys))
+set-two old first last xs ys =
+    ap (λ (l : List Node). slice_set l (length old) last) (append_assoc (old ++ first ∷ []) xs ys ∙ append_assoc old (first ∷ []) (xs ++ ys))
+    ∙ set-append_seam old first (xs ++ ys) last
+
+-- the positions of an operator over two parts
+table-joined : (two : Two) (x y : Process) (at : ℕ) (frame : Option ℕ) → table (joined two x y) at frame ≡
+    node (op_of two (suc at + size x)) frame ∷ (table x (suc at) (frame_of_first two at frame) ++ table y (suc at + size x) frame)
+table-joined two.Seq x y at frame = refl
+table-joined two.Alt x y at frame = refl
+table-joined two.Star x y at frame = refl
+table-joined two.Par x y at frame = refl
+table-joined (two.If test) x y at frame = refl
+
+-- the nodes before, the operator's position, and the nodes behind its first part and its second
+pub added_two : (two : Two) (old opened behind_x behind_y new : List Node) (first : Node) (made : Op) (x y : Process) (frame_x frame : Option ℕ) (here right : ℕ) →
+    here ≡ length old → opened ≡ old ++ first ∷ [] → frame_x ≡ frame_of_first two here frame →
+    behind_x ≡ opened ++ table x (length opened) frame_x → right ≡ length behind_x →
+    behind_y ≡ behind_x ++ table y (length behind_x) frame → made ≡ op_of two right → new ≡ slice_set behind_y here (node made frame) →
+    new ≡ old ++ table (joined two x y) (length old) frame
+added_two two old opened behind_x behind_y new first made x y frame_x frame here right eh eo ef ex er ey em en =
+    let lo : length opened ≡ suc (length old) = (let l = length-append old (first ∷ []) in let k = ap length eo in omega arith) in
+    let lt : length (table x (length opened) frame_x) ≡ size x = length-table x (length opened) frame_x in
+    let lx : length behind_x ≡ suc (length old) + size x = (let l = length-append opened (table x (length opened) frame_x) in let k = ap length ex in omega arith) in
+    let inner = frame_of_first two (length old) frame in
+    let fx : frame_x ≡ inner = ef ∙ ap (λ (n : ℕ). frame_of_first two n frame) eh in
+    let xs = table x (suc (length old)) inner in
+    let ys = table y (suc (length old) + size x) frame in
+    let bx : behind_x ≡ (old ++ first ∷ []) ++ xs =
+    ex ∙ ap (λ (n : ℕ). opened ++ table x n frame_x) lo ∙ ap (λ (o : Option ℕ). opened ++ table x (suc (length old)) o) fx ∙ ap (λ (l : List Node). l ++ xs) eo in
+    let by : behind_y ≡ ((old ++ first ∷ []) ++ xs) ++ ys = ey ∙ ap (λ (n : ℕ). behind_x ++ table y n frame) lx ∙ ap (λ (l : List Node). l ++ ys) bx in
+    let last = node (op_of two (suc (length old) + size x)) frame in
+    en ∙ ap (λ (n : ℕ). slice_set behind_y n (node made frame)) eh
+    ∙ ap (λ (o : Op). slice_set behind_y (length old) (node o frame)) (em ∙ ap (op_of two) (er ∙ lx))
+    ∙ ap (λ (l : List Node). slice_set l (length old) last) by ∙ set-two old first last xs ys
+    ∙ ap (λ (l : List Node). old ++ l) (sym (table-joined two x y (length old) frame))
+
+pub numbered_all : (old new : List Node) (tree whole : Process) → old ≡ [] → new ≡ old ++ table tree (length old) None → tree ≡ whole → new ≡ positions whole
+unfolding positions
+numbered_all old new tree whole eo en ew =
+    en ∙ ap (λ (l : List Node). l ++ table tree (length l) None) eo ∙ ap (λ (p : Process). table p 0 None) ew

@@ -1,0 +1,143 @@
+ghost use Rattle.std.specs.Prelude.{◌≡◌, ◌++◌, ◌∷◌, [], ◌-◌, ◌<◌, Some, IfOk, IfSome, OnOk, length, suc, slice_get, slice_set};
+ghost use Rattle.std.specs.Coded.{codes, coded_list};
+ghost use Rattle.std.specs.Option.{option_copied};
+ghost use Rattle.tb_code.specs.contracts.node.Node as node_row;
+ghost use Rattle.tb_algebra.specs.Processes.{fresh};
+ghost use Rattle.tb_code.specs.Positions.{HasParts, positions, size, table, node};
+ghost use Rattle.tb_code.specs.Helpers.Twos.{joined};
+
+use crate::two::Two;
+use crate::{Node, Op};
+use std::alloc::Global;
+use tb_body::{Atom, Body, Tree, copy_settings};
+use tb_terms::{Items, NoMemory};
+
+/// What a body is compiled to: its positions, with what stands at each.
+#[derive(Debug, Drop)]
+pub struct Code {
+    pub body: Body,
+    pub nodes: Items<Node>,
+    ghost numbered: { nodes ≡ positions (fresh body.tree) } by { Prim.hlevel (codes, coded_list, node_row.the_row.coded) },
+}
+
+/// Numbers the positions of a body.
+pub fn compile(alloc: Global, body: &Body) -> Result<Code, NoMemory>
+    ensures body { IfOk result (λ code. code.body ≡ body.now) }
+{
+    let mut nodes = Items::new(alloc);
+    add_tree(alloc, &mut nodes, &body.tree, None)?;
+    let body = body.copy(alloc)?;
+    Ok(Code { body, nodes })
+}
+
+impl Code {
+    /// What stands at this position.
+    pub fn node(&self, at: usize) -> &Node
+        requires { at < size (fresh self.now.body.tree) }
+        ensures node { slice_get self.now.nodes at ≡ Some result.now }
+        ensures parts { HasParts (fresh self.now.body.tree) at result.now.op }
+        ensures frame { IfSome result.now.frame (λ frame. frame < at) }
+    {
+        self.node_of(at)
+    }
+
+    /// The position of an operator's first part.
+    pub fn first(&self, at: usize) -> usize
+        requires { at < size (fresh self.now.body.tree) }
+        ensures { result ≡ suc at }
+    {
+        let _positions = self.nodes.len();
+        at + 1
+    }
+
+    fn node_of(&self, at: usize) -> &Node
+        requires { at < length self.now.nodes }
+        ensures { slice_get self.now.nodes at ≡ Some result.now }
+    {
+        &self.nodes.as_slice()[at]
+    }
+
+    /// The atom with this number, where there is one.
+    pub fn atom(&self, number: u32) -> Option<&Atom>
+        ensures { option_copied result ≡ slice_get self.now.body.atoms (number - 1) }
+    {
+        self.body.atoms.get(number.saturating_sub(1) as usize)
+    }
+}
+
+/// Adds the positions of a tree whose root has this frame.
+#[cycle(add_tree)]
+fn add_tree(
+    alloc: Global,
+    nodes: &mut Items<Node>,
+    tree: &Tree,
+    frame: Option<usize>,
+) -> Result<(), NoMemory>
+    ensures { OnOk result (nodes.new ≡ nodes.old ++ table (fresh tree.now) (length nodes.old) frame) }
+{
+    match tree {
+        Tree::At(atom) => push_node(nodes, Op::At(*atom), frame),
+        Tree::Seq(x, y) => add_two(alloc, nodes, Two::Seq, x.get(), y.get(), frame),
+        Tree::Alt(x, y) => add_two(alloc, nodes, Two::Alt, x.get(), y.get(), frame),
+        Tree::Star(x, y) => add_two(alloc, nodes, Two::Star, x.get(), y.get(), frame),
+        Tree::Par(x, y) => add_two(alloc, nodes, Two::Par, x.get(), y.get(), frame),
+        Tree::If(test, x, Some(y)) => {
+            let test = test.copy(alloc)?;
+            add_two(alloc, nodes, Two::If(test), x.get(), y.get(), frame)
+        }
+        Tree::If(test, x, None) => {
+            let test = test.copy(alloc)?;
+            push_node(nodes, Op::When(test), frame)?;
+            add_tree(alloc, nodes, x.get(), frame)
+        }
+        Tree::Let(settings, x) => {
+            let settings = copy_settings(alloc, settings)?;
+            push_node(nodes, Op::Let(settings), frame)?;
+            add_tree(alloc, nodes, x.get(), frame)
+        }
+    }
+}
+
+/// Adds the position of an operator that has this frame, and those of its two parts.
+#[cycle(add_tree)]
+fn add_two(
+    alloc: Global,
+    nodes: &mut Items<Node>,
+    two: Two,
+    x: &Tree,
+    y: &Tree,
+    frame: Option<usize>,
+) -> Result<(), NoMemory>
+    ensures { OnOk result (nodes.new ≡ nodes.old ++ table (joined two (fresh x.now) (fresh y.now)) (length nodes.old) frame) }
+{
+    let here = open_node(nodes, frame)?;
+    add_tree(alloc, nodes, x, two.frame_of_first(here, frame))?;
+    let right = nodes.len();
+    add_tree(alloc, nodes, y, frame)?;
+    set_node(nodes, here, two.op(right), frame);
+    Ok(())
+}
+
+fn push_node(nodes: &mut Items<Node>, op: Op, frame: Option<usize>) -> Result<(), NoMemory>
+    ensures { OnOk result (nodes.new ≡ nodes.old ++ node op frame ∷ []) }
+{
+    nodes.push(Node { op, frame })?;
+    Ok(())
+}
+
+/// Adds a position at which an operator is set once its parts are there.
+fn open_node(nodes: &mut Items<Node>, frame: Option<usize>) -> Result<usize, NoMemory>
+    ensures here { IfOk result (λ here. here ≡ length nodes.old) }
+    ensures opened { OnOk result (nodes.new ≡ nodes.old ++ node (Op.At 0) frame ∷ []) }
+{
+    let here = nodes.len();
+    push_node(nodes, Op::At(0), frame)?;
+    Ok(here)
+}
+
+fn set_node(nodes: &mut Items<Node>, here: usize, op: Op, frame: Option<usize>)
+    requires { here < length nodes.old }
+    ensures { nodes.new ≡ slice_set nodes.old here (node op frame) }
+{
+    nodes.set(here, Node { op, frame });
+}

@@ -1,0 +1,11 @@
+//! Codes: the operators of a body in one table, each at a numbered position.
+#![tactic(auto)]
+
+mod code;
+mod node;
+#[cfg(test)]
+mod tests;
+mod two;
+
+pub use code::{Code, compile};
+pub use node::{Node, Op};

@@ -1,0 +1,13 @@
+pub mod Ranges
+pub mod ReadLemmas
+pub mod LeftLemmas
+pub mod Contexts
+pub mod Steps
+pub mod PartHits
+pub mod TakeLemmas
+pub mod LookLemmas
+pub mod FindLemmas
+pub mod WalkLemmas
+pub mod SettleLemmas
+pub mod PickLemmas
+pub mod TestLemmas

@@ -1,0 +1,139 @@
+-- What a frame's first part is, and what becomes of a row whose branch goes on.
+use Rattle.std.proofs.Common.{◌≡◌, ℕ, zero, suc, ◌+◌, ◌<◌, ◌≤◌, List, [], ◌∷◌, ◌++◌, take, drop, length, slice_get, get_or, set, remove, Option, Some, None, refl, ap, sym, subst, ◌∙◌, arith}
+use Rattle.std.specs.Option.{ForSome}
+use Rattle.std.proofs.lemmas.Option.{slice_get_within, slice_get-get_or}
+use Rattle.tb_terms.specs.declared.expr.Expr.{Expr}
+use Rattle.tb_func.specs.declared.slot.Slot.{Slot}
+use Rattle.tb_body.specs.declared.tree.Setting.{Setting}
+use Rattle.tb_algebra.specs.Helpers.Selections.{On, selected_at}
+use Rattle.tb_algebra.specs.Offers.{Offered}
+use Rattle.tb_algebra.specs.Processes.{Process, At, Seq, Alt, Star, Par, If, When, Let, fresh}
+use Rattle.tb_algebra.specs.Helpers.OfferViews.{or_own}
+use Rattle.tb_algebra.specs.Walks.{offers_of}
+use Rattle.tb_algebra.proofs.RewriterLemmas.{hit_is}
+use Rattle.tb_code.specs.Positions.{size, part, positions, node, IsTwo, IsOne}
+use Rattle.tb_code.specs.declared.code.Code.{Code}
+use Rattle.tb_code.specs.declared.node.Node.{Node}
+use Rattle.tb_code.specs.declared.node.Op.TheVariants as op
+use Rattle.tb_code.proofs.Parts.{length-positions}
+use Rattle.tb_walk.specs.Helpers.Goings.{counted}
+use Rattle.tb_walk.specs.Lefts.{left}
+use Rattle.tb_walk.specs.Helpers.Reads.{Reads, branch, bound_of, next_of, entered_behind, or_entered}
+use Rattle.tb_walk.specs.Helpers.Takings.{Picks, IsBehind, IsSettled, row_after, row_of}
+use Rattle.tb_walk.specs.WalkViews.{walking_of, IsOnCode, IsLeft}
+use Rattle.tb_walk.specs.declared.branch.Branch.{Branch}
+use Rattle.tb_walk.specs.declared.settle.Step.{Step}
+use Rattle.tb_walk.specs.declared.settle.Step.TheVariants as step
+use Rattle.tb_walk.specs.declared.walk.Taken.{Taken}
+use Rattle.tb_walk.specs.declared.walk.Walk.{Walk}
+use Rattle.tb_walk.proofs.LeftLemmas.{left-read}
+use Rattle.tb_walk.proofs.Steps.{Went, went}
+use Rattle.tb_walk.proofs.WalkLemmas.{are_there, read_left, hits_of}
+
+module _ (whole : Process) (at : ℕ) where
+  abbrev IsFirstPart : ℕ → ℕ → Type 0
+  IsFirstPart bound next = (bound ≡ bound_of at (part whole at)) × (next ≡ next_of at (part whole at))
+
+  pub frame_seq : (right : ℕ) → IsTwo whole Seq at right → IsFirstPart right right
+  frame_seq right two = (two.behind ∙ sym (ap (bound_of at) two.here), two.behind ∙ sym (ap (next_of at) two.here))
+
+  pub frame_star : (right : ℕ) → IsTwo whole Star at right → IsFirstPart right at
+  frame_star right two = (two.behind ∙ sym (ap (bound_of at) two.here), sym (ap (next_of at) two.here))
+
+  pub frame_at : (atom age : ℕ) → part whole at ≡ At atom age → IsFirstPart at at
+  frame_at atom age e = (sym (ap (bound_of at) e), sym (ap (next_of at) e))
+
+  pub frame_alt : (right : ℕ) → IsTwo whole Alt at right → IsFirstPart at at
+  frame_alt right two = (sym (ap (bound_of at) two.here), sym (ap (next_of at) two.here))
+
+  pub frame_par : (right : ℕ) → IsTwo whole Par at right → IsFirstPart at at
+  frame_par right two = (sym (ap (bound_of at) two.here), sym (ap (next_of at) two.here))
+
+  pub frame_if : (test : Expr) (right : ℕ) → IsTwo whole (If test) at right → IsFirstPart at at
+  frame_if test right two = (sym (ap (bound_of at) two.here), sym (ap (next_of at) two.here))
+
+  pub frame_when : (test : Expr) → IsOne whole (When test) at → IsFirstPart at at
+  frame_when test one = (sym (ap (bound_of at) one.here), sym (ap (next_of at) one.here))
+
+  pub frame_let : (settings : List Setting) → IsOne whole (Let settings) at → IsFirstPart at at
+  frame_let settings one = (sym (ap (bound_of at) one.here), sym (ap (next_of at) one.here))
+
+-- a row round one of its branches
+
+pub row_round : (row : List Branch) (at : ℕ) (b : Branch) → slice_get row at ≡ Some b → row ≡ take at row ++ (b ∷ drop (suc at) row)
+row_round [] at b e = (let t : ◌≡◌ {A = Option Branch} None (Some b) = e in cc)
+row_round (c ∷ row) zero b e = (let same : c ≡ b = (let t : ◌≡◌ {A = Option Branch} (Some c) (Some b) = e in cc) in ap (λ (d : Branch). d ∷ row) same)
+row_round (c ∷ row) (suc at) b e = ap (λ (l : List Branch). c ∷ l) (row_round row at b e)
+
+pub row_put : (row : List Branch) (at : ℕ) (b : Branch) → at < length row → set row at b ≡ take at row ++ (b ∷ drop (suc at) row)
+row_put [] at b h = absurd (omega arith)
+row_put (c ∷ row) zero b h = refl
+row_put (c ∷ row) (suc at) b h = ap (λ (l : List Branch). c ∷ l) (row_put row at b (omega arith))
+
+pub row_less : (row : List Branch) (at : ℕ) → at < length row → remove row at ≡ take at row ++ drop (suc at) row
+row_less [] at h = absurd (omega arith)
+row_less (c ∷ row) zero h = refl
+row_less (c ∷ row) (suc at) h = ap (λ (l : List Branch). c ∷ l) (row_less row at (omega arith))
+
+-- what becomes of a row
+
+pub behind_is : (whole : Process) (ticks : ℕ) (row : List Branch) (at : ℕ) (b : Branch) (n : Node) (nodes : List Node) (next : List Branch) → nodes ≡ positions whole → slice_get row at ≡ Some b → slice_get nodes b.position ≡ Some n → next ≡ entered_behind whole ticks n.frame (take at row) (drop (suc at) row) → IsBehind whole ticks row at next
+behind_is whole ticks row at b n nodes next numbered here node-here e c m there node-there =
+    let same : b ≡ c = (let t : ◌≡◌ {A = Option Branch} (Some b) (Some c) = sym here ∙ there in cc) in
+    let found : slice_get nodes b.position ≡ Some m = ap (λ (l : List Node). slice_get l b.position) numbered ∙ ap (λ (d : Branch). slice_get (positions whole) d.position) same ∙ node-there in
+    let node-same : n ≡ m = (let t : ◌≡◌ {A = Option Node} (Some n) (Some m) = sym node-here ∙ found in cc) in
+    e ∙ ap (λ (k : Node). entered_behind whole ticks k.frame (take at row) (drop (suc at) row)) node-same
+
+-- the same, where the branch is read at its index
+pub behind_at : (whole : Process) (ticks : ℕ) (row : List Branch) (at : ℕ) (d : Branch) (n : Node) (nodes : List Node) (next : List Branch) → nodes ≡ positions whole → at < length row → slice_get nodes (get_or row at d).position ≡ Some n → next ≡ entered_behind whole ticks n.frame (take at row) (drop (suc at) row) → IsBehind whole ticks row at next
+behind_at whole ticks row at d n nodes next numbered within node-here e = behind_is whole ticks row at (get_or row at d) n nodes next numbered (slice_get-get_or row at d within) node-here e
+
+module _ (whole : Process) (ticks : ℕ) (row : List Branch) (at : ℕ) (within : at < length row) where
+  pub settled_on : (one : Branch) → IsSettled whole ticks row at (one ∷ []) (step.Put at one)
+  settled_on one = record { within = within; after = λ b n e f. row_put row at one within }
+
+  pub settled_put : (next : Branch) → IsBehind whole ticks row at (next ∷ []) → IsSettled whole ticks row at [] (step.Put at next)
+  settled_put next behind = record {
+    within = within;
+    after = λ b n e f. row_put row at next within ∙ ap (λ (l : List Branch). take at row ++ (l ++ drop (suc at) row)) (behind b n e f);
+  }
+
+  pub settled_leave : IsBehind whole ticks row at [] → IsSettled whole ticks row at [] (step.Leave at)
+  settled_leave behind = record {
+    within = within;
+    after = λ b n e f. row_less row at within ∙ ap (λ (l : List Branch). take at row ++ (l ++ drop (suc at) row)) (behind b n e f);
+  }
+
+  pub settled_part : (inside new : List Branch) → (inside ≡ [] → ⊥) → new ≡ take at row ++ (inside ++ drop (suc at) row) → IsSettled whole ticks row at inside (step.Part new)
+  settled_part [] new some e = absurd (some refl)
+  settled_part (one ∷ inside) new some e = record { within = tt; after = λ b n f g. e }
+
+-- an offer that is taken
+
+node_there : (whole : Process) (at : ℕ) → at < size whole → (n : Node) × (slice_get (positions whole) at ≡ Some n)
+node_there whole at h =
+    let none : Node = node (op.At 0) None in
+    let l = length-positions whole in
+    (get_or (positions whole) at none, slice_get-get_or (positions whole) at none (omega arith))
+
+pub taken_left : (code : Code) (walk : Walk) (k at : ℕ) (inside : List Branch) (taken : Taken) → IsOnCode code walk →
+    Picks (fresh code.body.tree) walk.ticks walk.row walk.store k at inside (or_own taken.own walk.store) →
+    IsSettled (fresh code.body.tree) walk.ticks walk.row at inside taken.step →
+    ForSome (slice_get (offers_of (walking_of code walk)) k) (IsLeft code walk taken)
+taken_left code walk k at inside taken on p s offered here =
+    let whole = fresh code.body.tree in
+    let there = are_there walk.ticks whole walk.row (left walk.ticks walk.row 0 whole) on.reads at p.one p.here in
+    let n = node_there whole p.one.position there.0 in
+    let w = went whole walk.ticks walk.row (take at walk.row) p.one (drop (suc at) walk.row) (left walk.ticks walk.row 0 whole) n.0 inside p.takes.left walk.store (or_own taken.own walk.store) k p.rest
+    on.reads (row_round walk.row at p.one p.here) n.1 p.takes.reads p.takes.selects p.counts in
+    let after = s.after p.one n.0 p.here n.1 in
+    let reads = subst (λ (l : List Branch). Reads walk.ticks 0 whole l w.left) (sym after) w.reads in
+    let both : On w.left (or_own taken.own walk.store) ≡ On offered.residual offered.store = sym (hits_of code walk k ∙ w.selects) ∙ hit_is k (offers_of (walking_of code walk)) offered here in
+    let same : w.left ≡ offered.residual = cc in
+    let store : or_own taken.own walk.store ≡ offered.store = cc in
+    record {
+      within = s.within;
+      reads = read_left walk.ticks whole (row_after walk.row taken.step) w.left reads;
+      term = left-read walk.ticks reads ∙ same;
+      store = store;
+    }

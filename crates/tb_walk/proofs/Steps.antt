@@ -1,0 +1,75 @@
+-- What becomes of a row where an offer of one of its branches is taken.
+use Rattle.std.proofs.Common.{◌≡◌, ℕ, zero, suc, ◌+◌, ◌-◌, List, [], ◌∷◌, ◌++◌, map, length, slice_get, Option, Some, None, refl, ap, sym, subst, ◌∙◌, arith, ◌⊎◌, inl, inr}
+use Rattle.std.proofs.lemmas.List.{append-nil}
+use Rattle.tb_func.specs.declared.slot.Slot.{Slot}
+use Rattle.tb_algebra.specs.Helpers.Selections.{Selected, Past, On, selected, selected_at, selected_with, or_past}
+use Rattle.tb_algebra.specs.Offers.{Offered, offers}
+use Rattle.tb_algebra.specs.Processes.{Process}
+use Rattle.tb_algebra.specs.Helpers.Runnings.{waited}
+use Rattle.tb_algebra.specs.Walks.{offers_of_term}
+use Rattle.tb_algebra.proofs.SelectedLemmas.{at-append, at-map, with_left}
+use Rattle.tb_code.specs.Positions.{size, table, part, positions}
+use Rattle.tb_code.specs.declared.node.Node.{Node}
+use Rattle.tb_code.proofs.Parts.{Stands, stands_here, stands_whole, parts_of}
+use Rattle.tb_walk.specs.Helpers.Goings.{term_at, counted}
+use Rattle.tb_walk.specs.Helpers.Reads.{Reads, ended, entered_behind, or_entered}
+use Rattle.tb_walk.specs.declared.branch.Branch.{Branch}
+use Rattle.tb_walk.proofs.Ranges.{outside-nil}
+use Rattle.tb_walk.proofs.ReadLemmas.{ends_together, EndsTogether}
+use Rattle.tb_walk.proofs.Contexts.{Context, Offering, Grows, Ends, together, continues, context}
+
+at-skip : (k : ℕ) (xs ys : List Offered) → selected_at (length xs + k) (xs ++ ys) ≡ selected_at k ys
+at-skip k [] ys = let e : 0 + k ≡ k = omega arith in ap (λ (n : ℕ). selected_at n ys) e
+at-skip k (x ∷ xs) ys =
+    let e : suc (length xs) + k ≡ suc (length xs + k) = omega arith in
+    ap (λ (n : ℕ). selected_at n (x ∷ (xs ++ ys))) e ∙ at-skip k xs ys
+
+-- the offer of a branch, among those of the whole
+at-branch : (plug : Option Process → Option Process) (first xs last : List Offered) (k j : ℕ) (r : Option Process) (own : List Slot) → k ≡ length first + j → selected_at j xs ≡ On r own → selected_at k (first ++ (map (with_left plug) xs ++ last)) ≡ On (plug r) own
+at-branch plug first xs last k j r own e h =
+    ap (λ (n : ℕ). selected_at n (first ++ (map (with_left plug) xs ++ last))) e
+    ∙ at-skip j first (map (with_left plug) xs ++ last)
+    ∙ at-append j (map (with_left plug) xs) last
+    ∙ ap (λ (g : Selected). or_past g (λ rest. selected_at rest last)) (at-map plug j xs ∙ ap (selected_with plug) h)
+
+-- what is left then, and the row that stands for it
+pub record Went (whole : Process) (ticks : ℕ) (t : Option Process) (store : List Slot) (k : ℕ) (own : List Slot) (row : List Branch) : Type 0 where
+  pub left : Option Process
+  pub selects : selected_at k (offers_of_term t store) ≡ On left own
+  pub reads : Reads ticks 0 whole row left
+
+module _ (whole : Process) (ticks : ℕ) (t : Option Process) (pre : List Branch) (b : Branch) (post : List Branch) (ctx : Context whole ticks 0 whole None t b pre post) where
+  ended_row : Ends whole ticks 0 whole None ctx.inner pre post (ctx.plug None) → Reads ticks 0 whole (pre ++ (entered_behind whole ticks ctx.inner pre post ++ post)) (ctx.plug None)
+  ended_row (together e f g h) = rw (e, f, g, h) ended
+  ended_row (continues row term f k e) =
+      let same : entered_behind whole ticks ctx.inner pre post ≡ row = ap (entered_behind whole ticks ctx.inner pre) (sym (append-nil post)) ∙ f [] [] (outside-nil 0 (0 + size whole)) (outside-nil 0 (0 + size whole)) in
+      rw (same, e) k
+
+  left_row : (seg : List Branch) (r : Option Process) → Reads ticks b.position ctx.term seg r → EndsTogether ticks seg r → Reads ticks 0 whole (pre ++ (or_entered seg (entered_behind whole ticks ctx.inner pre post) ++ post)) (ctx.plug r)
+  left_row seg r h (inl k) = rw (k.0, k.1) (ended_row ctx.ends)
+  left_row seg r h (inr k) =
+      let reads = subst (λ (o : Option Process). Reads ticks b.position ctx.term seg o) k.1.1.1.1 h in
+      let g = ctx.grows seg k.1.1.1.0 reads in
+      let row : or_entered seg (entered_behind whole ticks ctx.inner pre post) ≡ seg = rw k.1.1.0 refl in
+      rw (row, k.1.1.1.1, g.is) g.reads
+
+pub went : (whole : Process) (ticks : ℕ) (row pre : List Branch) (b : Branch) (post : List Branch) (t : Option Process) (n : Node) (seg : List Branch) (r : Option Process) (store own : List Slot) (k j : ℕ) →
+    Reads ticks 0 whole row t → row ≡ pre ++ (b ∷ post) → slice_get (positions whole) b.position ≡ Some n →
+    Reads ticks b.position (part whole b.position) seg r → selected (term_at whole ticks b) store j ≡ On r own → k ≡ counted whole ticks store pre + j →
+    Went whole ticks t store k own (pre ++ (or_entered seg (entered_behind whole ticks n.frame pre post) ++ post))
+unfolding term_at selected
+went whole ticks row pre b post t n seg r store own k j reads is node part-reads selects place =
+    let ctx = context whole ticks None reads (stands_whole whole) tt pre b post is in
+    let here = (stands_here whole b.position ctx.term (table ctx.term b.position ctx.inner) ctx.stands).1 in
+    let frame = (parts_of whole b.position ctx.term ctx.inner ctx.stands n node).0 in
+    let now = waited (ticks - b.entered) ctx.term in
+    let o = ctx.offering now store in
+    let term : t ≡ Some o.term = ctx.now ∙ o.is in
+    let first = o.counted_first in
+    let at : selected_at j (offers now store) ≡ On r own = ap (λ (p : Process). selected_at j (offers (waited (ticks - b.entered) p) store)) (sym here) ∙ selects in
+    let inner-reads = subst (λ (p : Process). Reads ticks b.position p seg r) here part-reads in
+    record {
+      left = ctx.plug r;
+      selects = ap (λ (q : Option Process). selected_at k (offers_of_term q store)) term ∙ ap (selected_at k) o.are ∙ at-branch ctx.plug o.first (offers now store) o.last k j r own (omega arith) at;
+      reads = subst (λ (f : Option ℕ). Reads ticks 0 whole (pre ++ (or_entered seg (entered_behind whole ticks f pre post) ++ post)) (ctx.plug r)) (sym frame) (left_row whole ticks t pre b post ctx seg r inner-reads (ends_together ticks inner-reads));
+    }

@@ -1,0 +1,161 @@
+-- A walk starts, is looked at, goes on and ages.
+use Rattle.std.proofs.Common.{◌≡◌, ℕ, zero, suc, ◌+◌, ◌-◌, ◌<◌, ◌≤◌, Bool, true, false, if◌then◌else◌, IsTrue, Option, Some, None, List, [], ◌∷◌, ◌++◌, map, take, drop, length, slice_get, option_map, option_and_then, is_some, ◌↔◌, refl, ap, sym, subst, ◌∙◌, arith, ◌⊎◌, inl, inr}
+use Rattle.std.specs.Option.{ForSome}
+use Rattle.tb_func.specs.declared.slot.Slot.{Slot}
+use Rattle.tb_body.specs.declared.atom.Atom.{Atom}
+use Rattle.tb_algebra.specs.Helpers.Candidates.{offer_of}
+use Rattle.tb_algebra.specs.Helpers.Selections.{Selected, Past, On, selected_at}
+use Rattle.tb_algebra.specs.Offers.{Offered}
+use Rattle.tb_algebra.specs.Processes.{Process, Par, Seq, fresh, aged}
+use Rattle.tb_algebra.specs.Helpers.Rewritings.{Kept, kept, kept_found}
+use Rattle.tb_algebra.specs.Helpers.Runnings.{waited}
+use Rattle.tb_algebra.specs.Helpers.OfferViews.{OfferView, offer_view, shown}
+use Rattle.tb_algebra.specs.Walks.{Walking, offers_of, offers_of_term, entering, ticked, is_end}
+use Rattle.tb_algebra.specs.declared.found.Found.{Found}
+use Rattle.tb_algebra.specs.declared.offer.Offer.{Offer}
+use Rattle.tb_algebra.proofs.RewriterLemmas.{is_fresh, seen_is, length-map, kept_at, by_kept, hit_is, hit_inside, inside}
+use Rattle.tb_code.specs.Positions.{size, table}
+use Rattle.tb_code.specs.declared.code.Code.{Code}
+use Rattle.tb_code.proofs.Parts.{some_size, stands_whole}
+use Rattle.tb_walk.specs.Helpers.Goings.{counted, row_sights}
+use Rattle.tb_walk.specs.Lefts.{beside, left}
+use Rattle.tb_walk.specs.Helpers.Reads.{branch, Reads, ended, waits, passes, follows, both}
+use Rattle.tb_walk.specs.Helpers.Takings.{AreThere}
+use Rattle.tb_walk.specs.WalkViews.{walking_of, seen_of, IsOnCode}
+use Rattle.tb_walk.specs.declared.branch.Branch.{Branch}
+use Rattle.tb_walk.specs.declared.walk.Walk.{Walk}
+use Rattle.tb_walk.proofs.LeftLemmas.{left-read}
+use Rattle.tb_walk.proofs.Ranges.{InRange}
+use Rattle.tb_walk.proofs.ReadLemmas.{in_range, ends_together, EndsTogether, counts, seen_all}
+
+-- what is read is what is left
+pub read_left : (ticks : ℕ) (whole : Process) (row : List Branch) (t : Option Process) → Reads ticks 0 whole row t → Reads ticks 0 whole row (left ticks row 0 whole)
+read_left ticks whole row t r = subst (λ (o : Option Process). Reads ticks 0 whole row o) (sym (left-read ticks r)) r
+
+-- starting
+
+pub starts : (whole : Process) (row : List Branch) → row ≡ branch 0 0 ∷ [] → Reads 0 0 whole row (Some whole)
+starts whole row e = subst (λ (l : List Branch). Reads 0 0 whole l (Some whole)) (sym e) (waits 0 (omega arith))
+
+pub starts-on : (code : Code) (walk : Walk) → walk.row ≡ branch 0 0 ∷ [] → walk.ticks ≡ 0 → walk.fresh ≡ false → IsOnCode code walk
+starts-on code walk e t f =
+    let whole = fresh code.body.tree in
+    record {
+      reads = subst (λ (n : ℕ). Reads n 0 whole walk.row (left n walk.row 0 whole)) (sym t) (read_left 0 whole walk.row (Some whole) (starts whole walk.row e));
+      found = λ (h : walk.fresh ≡ true). (let no : true ≡ false = sym h ∙ f in cc);
+    }
+
+pub starts-as : (code : Code) (row : List Branch) (store : List Slot) → row ≡ branch 0 0 ∷ [] → ◌≡◌ {A = Walking} (record { term = left 0 row 0 (fresh code.body.tree); store = store; ticks = 0 }) (entering code.body store)
+starts-as code row store e =
+    ap (λ (term : Option Process). let walking : Walking = record { term = term; store = store; ticks = 0 } in walking) (left-read 0 (starts (fresh code.body.tree) row e))
+
+-- the branches of a row that is read are there
+
+pub range_at : (low high : ℕ) (row : List Branch) (i : ℕ) (b : Branch) → InRange low high row → slice_get row i ≡ Some b → (low ≤ b.position) × (b.position < high)
+range_at low high [] i b r e = (let t : ◌≡◌ {A = Option Branch} None (Some b) = e in cc)
+range_at low high (c ∷ row) zero b r e = (let same : c ≡ b = (let t : ◌≡◌ {A = Option Branch} (Some c) (Some b) = e in cc) in subst (λ (d : Branch). (low ≤ d.position) × (d.position < high)) same r.0)
+range_at low high (c ∷ row) (suc i) b r e = range_at low high row i b r.1 e
+
+get_two : (l r : List Branch) (i : ℕ) (b : Branch) (P : Branch → Type 0) → ((j : ℕ) (c : Branch) → slice_get l j ≡ Some c → P c) → ((j : ℕ) (c : Branch) → slice_get r j ≡ Some c → P c) → slice_get (l ++ r) i ≡ Some b → P b
+get_two [] r i b P f g e = g i b e
+get_two (c ∷ l) r zero b P f g e = f zero b e
+get_two (c ∷ l) r (suc i) b P f g e = get_two l r i b P (λ j d h. f (suc j) d h) g e
+
+pub entered_by : (ticks : ℕ) {at : ℕ} {w : Process} {row : List Branch} {t : Option Process} → Reads ticks at w row t → (i : ℕ) (b : Branch) → slice_get row i ≡ Some b → b.entered ≤ ticks
+entered_by ticks ended i b e = (let t : ◌≡◌ {A = Option Branch} None (Some b) = e in cc)
+entered_by ticks (waits {at = at} entered h) zero b e = (let same : branch at entered ≡ b = (let t : ◌≡◌ {A = Option Branch} (Some (branch at entered)) (Some b) = e in cc) in subst (λ (d : Branch). d.entered ≤ ticks) same h)
+entered_by ticks (waits entered h) (suc i) b e = (let t : ◌≡◌ {A = Option Branch} None (Some b) = e in cc)
+entered_by ticks (passes at-x x p r) i b e = entered_by ticks r i b e
+entered_by ticks (follows x at-z z p r) i b e = entered_by ticks r i b e
+entered_by ticks (both {one = one-row} {other = other-row} r s) i b e = get_two one-row other-row i b (λ c. c.entered ≤ ticks) (λ j c h. entered_by ticks r j c h) (λ j c h. entered_by ticks s j c h) e
+
+pub are_there : (ticks : ℕ) (whole : Process) (row : List Branch) (t : Option Process) → Reads ticks 0 whole row t → AreThere whole ticks row
+are_there ticks whole row t r i b e =
+    let range = (range_at 0 (0 + size whole) row i b (in_range ticks r) e).1 in
+    (omega arith, entered_by ticks r i b e)
+
+-- what is seen, and how many
+
+pub sees : (atoms : List Atom) (now : ℕ) (code : Code) (walk : Walk) → IsOnCode code walk → row_sights (fresh code.body.tree) atoms now walk.ticks walk.store walk.row ≡ map (offer_view atoms now) (offers_of (walking_of code walk))
+unfolding offers_of
+sees atoms now code walk on = sym (seen_all walk.ticks (fresh code.body.tree) atoms now walk.store None on.reads (stands_whole (fresh code.body.tree)))
+
+none_spare : (spare : List Found) → length spare ≡ 0 → spare ≡ []
+none_spare [] h = refl
+none_spare (one ∷ spare) h = absurd (omega arith)
+
+-- what a look found in spare memory that was empty
+pub looked : (code : Code) (walk : Walk) (now : ℕ) (row : List Branch) (found kept_now : List Found) → IsOnCode code walk → length walk.spare ≡ 0 → row ≡ walk.row →
+    map (shown walk.store) found ≡ map (shown walk.store) walk.spare ++ row_sights (fresh code.body.tree) code.body.atoms now walk.ticks walk.store row →
+    kept_now ≡ found → map (shown walk.store) kept_now ≡ map (offer_view code.body.atoms now) (offers_of (walking_of code walk))
+looked code walk now row found kept_now on none same e is =
+    ap (map (shown walk.store)) is
+    ∙ e
+    ∙ ap (λ (l : List Found). map (shown walk.store) l ++ row_sights (fresh code.body.tree) code.body.atoms now walk.ticks walk.store row) (none_spare walk.spare none)
+    ∙ ap (λ (r : List Branch). row_sights (fresh code.body.tree) code.body.atoms now walk.ticks walk.store r) same
+    ∙ sees code.body.atoms now code walk on
+
+pub count_of : (code : Code) (walk : Walk) → IsOnCode code walk → length (offers_of (walking_of code walk)) ≡ counted (fresh code.body.tree) walk.ticks walk.store walk.row
+unfolding offers_of
+count_of code walk on = counts walk.ticks (fresh code.body.tree) walk.store None on.reads (stands_whole (fresh code.body.tree))
+
+pub hits_of : (code : Code) (walk : Walk) (k : ℕ) → selected_at k (offers_of (walking_of code walk)) ≡ selected_at k (offers_of_term (left walk.ticks walk.row 0 (fresh code.body.tree)) walk.store)
+unfolding offers_of
+hits_of code walk k = refl
+
+-- ended exactly where the row is empty
+
+ends-so : (row : List Branch) (t : Option Process) (b : Bool) → ((row ≡ []) × (t ≡ None)) ⊎ ((c : Branch) × ((rest : List Branch) × ((row ≡ c ∷ rest) × ((u : Process) × (t ≡ Some u))))) → (b ≡ true → row ≡ []) → (row ≡ [] → b ≡ true) → b ≡ is_end t
+ends-so row t b (inl h) f g = g h.0 ∙ sym (ap is_end h.1)
+ends-so row t true (inr h) f g = (let e : [] ≡ h.0 ∷ h.1.0 = sym (f refl) ∙ h.1.1.0 in cc)
+ends-so row t false (inr h) f g = sym (ap is_end h.1.1.1.1)
+
+pub ends_as : (ticks : ℕ) (whole : Process) (row : List Branch) (t : Option Process) (b : Bool) → Reads ticks 0 whole row t → (b ≡ true → row ≡ []) → (row ≡ [] → b ≡ true) → b ≡ is_end t
+ends_as ticks whole row t b r f g = ends-so row t b (ends_together ticks r) f g
+
+pub is_done_as : (code : Code) (walk : Walk) (b : Bool) → IsOnCode code walk → IsTrue b ↔ (walk.row ≡ []) → b ≡ is_end (left walk.ticks walk.row 0 (fresh code.body.tree))
+is_done_as code walk b on h = ends_as walk.ticks (fresh code.body.tree) walk.row (left walk.ticks walk.row 0 (fresh code.body.tree)) b on.reads (λ e. h.0 e) (λ e. h.1 e)
+
+empty-iff : (row : List Branch) (t : Option Process) → ((row ≡ []) × (t ≡ None)) ⊎ ((c : Branch) × ((rest : List Branch) × ((row ≡ c ∷ rest) × ((u : Process) × (t ≡ Some u))))) → (row ≡ []) ↔ (t ≡ None)
+empty-iff row t (inl h) = (λ e. h.1, λ e. h.0)
+empty-iff row t (inr h) = (λ e. (let no : [] ≡ h.0 ∷ h.1.0 = sym e ∙ h.1.1.0 in cc), λ e. (let no : ◌≡◌ {A = Option Process} None (Some h.1.1.1.0) = sym e ∙ h.1.1.1.1 in cc))
+
+pub end_together : (code : Code) (walk : Walk) → IsOnCode code walk → (walk.row ≡ []) ↔ ((walking_of code walk).term ≡ None)
+end_together code walk on = empty-iff walk.row (left walk.ticks walk.row 0 (fresh code.body.tree)) (ends_together walk.ticks on.reads)
+
+-- a tick later
+
+aged-beside : (s t : Option Process) → option_map aged (beside s t) ≡ beside (option_map aged s) (option_map aged t)
+aged-beside None t = refl
+aged-beside (Some x) None = refl
+aged-beside (Some x) (Some y) = refl
+
+pub reads_later : (ticks : ℕ) {at : ℕ} {w : Process} {row : List Branch} {t : Option Process} → Reads ticks at w row t → Reads (ticks + 1) at w row (option_map aged t)
+reads_later ticks ended = ended
+reads_later ticks (waits {at = at} {term = w} entered h) =
+    let e : ticks + 1 - entered ≡ suc (ticks - entered) = omega arith in
+    subst (λ (n : ℕ). Reads (ticks + 1) at w (branch at entered ∷ []) (Some (waited n w))) e (waits entered (omega arith))
+reads_later ticks (passes at-x x p r) = passes at-x x p (reads_later ticks r)
+reads_later ticks (follows x at-z z p r) = follows x at-z z p (reads_later ticks r)
+reads_later ticks (both {at = at} {x = x} {y = y} {one = one-row} {other = other-row} {s = s} {t = t} r q) =
+    subst (λ (o : Option Process). Reads (ticks + 1) at (Par x y) (one-row ++ other-row) o) (sym (aged-beside s t)) (both (reads_later ticks r) (reads_later ticks q))
+
+pub walking-ticked : (code : Code) (walk : Walk) (fresh_then : Bool) → IsOnCode code walk → walking_of code (record walk { ticks = walk.ticks + 1; fresh = fresh_then }) ≡ ticked (walking_of code walk)
+walking-ticked code walk fresh_then on =
+    ap (λ (term : Option Process). let walking : Walking = record { term = term; store = walk.store; ticks = walk.ticks + 1 } in walking) (left-read (walk.ticks + 1) (reads_later walk.ticks on.reads))
+
+-- what was found at a position
+
+pub by_found : {B : Type 0} (g : Kept → Option B) (code : Code) (walk : Walk) (k : ℕ) (found : Found) → IsOnCode code walk → IsTrue (is_some (seen_of walk)) → slice_get walk.found k ≡ Some found → option_and_then (λ offered. g (kept offered)) (slice_get (offers_of (walking_of code walk)) k) ≡ g (kept_found walk.store found)
+by_found g code walk k found on fresh h =
+    let os = offers_of (walking_of code walk) in
+    let same = kept_at walk.store walk.found os k (on.found (is_fresh walk.fresh walk.found fresh)) in
+    by_kept g (slice_get os k) (kept_found walk.store found) (sym (ap (option_map (kept_found walk.store)) h) ∙ same)
+
+pub is_found : (walk : Walk) (k : ℕ) → IsTrue (is_some (seen_of walk)) → ForSome (seen_of walk) (λ seen. k < length seen) → slice_get walk.found k ≡ None → ⊥
+is_found walk k fresh within e =
+    let is = is_fresh walk.fresh walk.found fresh in
+    let seen : seen_of walk ≡ Some (map offer_of walk.found) = ap (λ (b : Bool). if b then Some (map offer_of walk.found) else None) is in
+    let less = within (map offer_of walk.found) seen in
+    let one = length-map offer_of walk.found in
+    inside k walk.found (omega arith) e

@@ -1,0 +1,24 @@
+-- What a branch stands for, how many offers the branches of a row have, and what takes a branch's place.
+use Rattle.std.specs.Prelude.{◌≡◌, ℕ, zero, suc, ◌+◌, ◌-◌, List, [], ◌∷◌, ◌++◌, length, Option, Some, None}
+use Rattle.tb_func.specs.declared.slot.Slot.{Slot}
+use Rattle.tb_body.specs.declared.atom.Atom.{Atom}
+use Rattle.tb_algebra.specs.Helpers.Selections.{Selected, Past, On, selected}
+use Rattle.tb_algebra.specs.Offers.{offers}
+use Rattle.tb_algebra.specs.Processes.{Process}
+use Rattle.tb_algebra.specs.Helpers.Runnings.{waited}
+use Rattle.tb_algebra.specs.Helpers.OfferViews.{OfferView, offer_views}
+use Rattle.tb_code.specs.Positions.{part}
+use Rattle.tb_walk.specs.declared.branch.Branch.{Branch}
+
+-- the part at its position, which has waited since it entered
+unfoldable pub term_at : Process → ℕ → Branch → Process
+term_at whole ticks branch = waited (ticks - branch.entered) (part whole branch.position)
+
+abbrev pub counted : Process → ℕ → List Slot → List Branch → ℕ
+counted whole ticks store [] = 0
+counted whole ticks store (branch ∷ row) = length (offers (term_at whole ticks branch) store) + counted whole ticks store row
+
+-- what is seen of the offers of a row's branches
+abbrev pub row_sights : Process → List Atom → ℕ → ℕ → List Slot → List Branch → List OfferView
+row_sights whole atoms now ticks store [] = []
+row_sights whole atoms now ticks store (branch ∷ row) = offer_views atoms now (term_at whole ticks branch) store ++ row_sights whole atoms now ticks store row

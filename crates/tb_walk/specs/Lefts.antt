@@ -1,0 +1,44 @@
+-- What is left of a term whose branches stand in a row.
+use Rattle.std.specs.Prelude.{ℕ, suc, ◌+◌, ◌-◌, ◌==◌, List, [], ◌∷◌, Option, Some, None, if◌then◌else◌}
+use Rattle.tb_algebra.specs.Processes.{Process, At, Seq, Alt, Star, Par, If, When, Let}
+use Rattle.tb_algebra.specs.Helpers.Runnings.{waited}
+use Rattle.tb_code.specs.Positions.{size}
+use Rattle.tb_walk.specs.declared.branch.Branch.{Branch}
+
+-- when a branch entered this position, where one stands there
+abbrev pub entered_at : List Branch → ℕ → Option ℕ
+entered_at [] at = None
+entered_at (branch ∷ row) at = if branch.position == at then Some branch.entered else entered_at row at
+
+-- a part at which a branch stands has waited since then; of another what is left within it
+abbrev pub or_within : ℕ → Option ℕ → Process → Option Process → Option Process
+or_within ticks (Some entered) term within = Some (waited (ticks - entered) term)
+or_within ticks None term within = within
+
+-- the one, or else the other
+abbrev pub either : Option Process → Option Process → Option Process
+either (Some x) y = Some x
+either None y = y
+
+-- what is left, and then another term
+abbrev pub and_then : Option Process → Process → Option Process
+and_then None y = None
+and_then (Some x) y = Some (Seq x y)
+
+-- both where both are left
+abbrev pub beside : Option Process → Option Process → Option Process
+beside None y = y
+beside (Some x) None = Some x
+beside (Some x) (Some y) = Some (Par x y)
+
+-- What is left of the term whose positions begin here, after so many ticks. There is nothing where no branch stands
+-- within it.
+abbrev pub left : ℕ → List Branch → ℕ → Process → Option Process
+left ticks row at (At atom age) = or_within ticks (entered_at row at) (At atom age) None
+left ticks row at (Seq x y) = or_within ticks (entered_at row at) (Seq x y) (either (and_then (left ticks row (suc at) x) y) (left ticks row (suc at + size x) y))
+left ticks row at (Alt x y) = or_within ticks (entered_at row at) (Alt x y) (either (left ticks row (suc at) x) (left ticks row (suc at + size x) y))
+left ticks row at (Star x y) = or_within ticks (entered_at row at) (Star x y) (either (and_then (left ticks row (suc at) x) (Star x y)) (left ticks row (suc at + size x) y))
+left ticks row at (Par x y) = or_within ticks (entered_at row at) (Par x y) (beside (left ticks row (suc at) x) (left ticks row (suc at + size x) y))
+left ticks row at (If test x y) = or_within ticks (entered_at row at) (If test x y) (either (left ticks row (suc at) x) (left ticks row (suc at + size x) y))
+left ticks row at (When test x) = or_within ticks (entered_at row at) (When test x) (left ticks row (suc at) x)
+left ticks row at (Let settings x) = or_within ticks (entered_at row at) (Let settings x) (left ticks row (suc at) x)

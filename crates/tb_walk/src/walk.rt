@@ -1,0 +1,197 @@
+ghost use Rattle.std.specs.Prelude.{◌≡◌, length};
+
+use crate::look::{empty, look_row};
+use crate::pick::{Pick, search_row};
+use crate::settle::{Step, go_on, settled};
+use crate::{Branch, Row};
+use std::alloc::Global;
+use std::mem::swap;
+use tb_algebra::{
+    Found, Offer, Walker, accepted_binds, copy_candidates, matched_patterns, sent_values,
+    set_binds, store_of,
+};
+use tb_body::Body;
+use tb_code::{Code, compile};
+use tb_func::Store;
+use tb_match::Binds;
+use tb_terms::{Items, NoMemory, Patterns, Terms};
+
+/// A walker that keeps the positions at which its process stands, each with the tick at which it was
+/// entered. A tick leaves them as they are: they stand for an older term then.
+#[derive(Debug, Drop)]
+pub struct Walk {
+    pub(crate) row: Row,
+    pub(crate) store: Store,
+    pub(crate) ticks: u64,
+    /// What the last look found.
+    pub(crate) found: Items<Found>,
+    /// Nothing has happened since then.
+    pub(crate) fresh: bool,
+    /// Memory for the next look.
+    pub(crate) spare: Items<Found>,
+    ghost spare_is_empty: { length spare ≡ 0 },
+}
+
+/// What becomes of the row once an offer is taken, and the store that a `let` made.
+#[derive(Debug, Drop)]
+pub struct Taken {
+    pub(crate) step: Step,
+    pub(crate) own: Option<Store>,
+}
+
+impl Walker for Walk {
+    ghost use Rattle.tb_walk.specs.WalkViews.{walk_view};
+
+    type Plan = Code;
+
+    type Taken = Taken;
+
+    ghost view = { walk_view };
+
+    fn plan(alloc: Global, body: &Body) -> Result<Code, NoMemory> {
+        compile(alloc, body)
+    }
+
+    fn start(alloc: Global, _plan: &Code, store: Store) -> Result<Walk, NoMemory> {
+        let mut row = Items::new(alloc);
+        row.push(Branch {
+            position: 0,
+            entered: 0,
+        })?;
+        Ok(Walk {
+            row,
+            store,
+            ticks: 0,
+            found: Items::new(alloc),
+            fresh: false,
+            spare: Items::new(alloc),
+        })
+    }
+
+    fn look(&mut self, alloc: Global, plan: &Code, now: u64) -> Result<(), NoMemory> {
+        let row = self.row.as_slice();
+        match look_row(
+            alloc,
+            plan,
+            row,
+            self.ticks,
+            now,
+            &self.store,
+            &mut self.spare,
+        ) {
+            Ok(()) => {
+                swap(&mut self.found, &mut self.spare);
+                empty(&mut self.spare);
+                self.fresh = true;
+                Ok(())
+            }
+            Err(NoMemory) => {
+                empty(&mut self.spare);
+                Err(NoMemory)
+            }
+        }
+    }
+
+    fn is_fresh(&self) -> bool {
+        self.fresh
+    }
+
+    fn offer_count(&self) -> usize {
+        self.found.len()
+    }
+
+    fn offer(&self, k: usize) -> Offer {
+        match self.found.get(k) {
+            Some(found) => found.offer(),
+            None => Offer {
+                atom: 0,
+                age: 0,
+                ready: false,
+            },
+        }
+    }
+
+    fn sent(&self, alloc: Global, plan: &Code, k: usize) -> Result<Option<Terms>, NoMemory> {
+        match self.found.get(k) {
+            Some(found) => {
+                let store = store_of(&self.store, &found.own);
+                Ok(sent_values(alloc, store, plan.atom(found.atom))?)
+            }
+            None => Ok(None),
+        }
+    }
+
+    fn patterns(&self, alloc: Global, plan: &Code, k: usize) -> Result<Option<Patterns>, NoMemory> {
+        match self.found.get(k) {
+            Some(found) => {
+                let store = store_of(&self.store, &found.own);
+                Ok(matched_patterns(alloc, store, plan.atom(found.atom))?)
+            }
+            None => Ok(None),
+        }
+    }
+
+    fn accepts(
+        &self,
+        alloc: Global,
+        plan: &Code,
+        k: usize,
+        ts: &Terms,
+    ) -> Result<Option<Binds>, NoMemory> {
+        match self.found.get(k) {
+            Some(found) => {
+                let store = store_of(&self.store, &found.own);
+                Ok(accepted_binds(alloc, store, plan.atom(found.atom), ts)?)
+            }
+            None => Ok(None),
+        }
+    }
+
+    fn take(&self, alloc: Global, plan: &Code, k: usize) -> Result<Taken, NoMemory> {
+        let row = self.row.as_slice();
+        match search_row(alloc, plan, row, self.ticks, &self.store, k)? {
+            Pick::Taken(at, going, own) => {
+                let step = settled(alloc, plan, row, self.ticks, at, going)?;
+                Ok(Taken { step, own })
+            }
+            Pick::Past => Ok(Taken {
+                step: Step::Part(Items::new(alloc)),
+                own: None,
+            }),
+        }
+    }
+
+    fn advance(&mut self, _plan: &Code, taken: Taken, binds: Binds) {
+        let Taken { step, own } = taken;
+        match own {
+            Some(store) => self.store = store,
+            None => {}
+        }
+        set_binds(&mut self.store, binds);
+        go_on(&mut self.row, step);
+        self.fresh = false;
+    }
+
+    fn tick(&mut self, _plan: &Code) {
+        self.ticks += 1;
+        self.fresh = false;
+    }
+
+    fn is_done(&self) -> bool {
+        self.row.is_empty()
+    }
+
+    fn copy(&self, alloc: Global) -> Result<Walk, NoMemory> {
+        let row = Items::from_slice(alloc, self.row.as_slice())?;
+        let store = self.store.copy(alloc)?;
+        let found = copy_candidates(alloc, &self.found)?;
+        Ok(Walk {
+            row,
+            store,
+            ticks: self.ticks,
+            found,
+            fresh: self.fresh,
+            spare: Items::new(alloc),
+        })
+    }
+}
