@@ -9,7 +9,11 @@ mod rights;
 mod seat;
 mod share;
 mod shared;
+#[cfg(test)]
+mod tests;
 mod turn;
+#[cfg(test)]
+mod workers;
 
 pub use laws::{calls_add_their_own, joins_keep_their_own};
 pub use rights::Rights;
