@@ -1,5 +1,5 @@
 -- How many entries of its own a seat has after a call.
-use Rattle.std.proofs.Common.{◌≡◌, ◌+◌, ℕ, suc, List, [], ◌∷◌, map, length, Bool, true, false, if◌then◌else◌, Result, Ok, option_to_list, refl, sym, ap, ◌∙◌, subst, arith, length-append}
+use Rattle.std.proofs.Common.{◌≡◌, ◌+◌, ℕ, suc, List, [], ◌∷◌, map, length, Bool, true, false, if◌then◌else◌, Result, Ok, option_to_list, refl, sym, ap, ◌∙◌, length-append}
 use Rattle.tb_log.specs.declared.entry.Entry.{Entry}
 use Rattle.tb_log.specs.declared.entry.Input.{Input}
 use Rattle.tb_log.specs.declared.entry.Reply.{Reply}
@@ -8,7 +8,7 @@ use Rattle.tb_bus.specs.Steps.{Step, steps, step_of, moves, moves_while_up}
 use Rattle.tb_core.specs.declared.answers.CoreFault.{CoreFault}
 use Rattle.tb_core.specs.declared.answers.Stepped.TheVariants.{Did}
 use Rattle.tb_core.specs.Cores.{CoreState, Call, HandIn, MakeStep, bus_now, ends_quiet, step_entry, entries_of, IsStep}
-use Rattle.tb_lock.specs.Histories.{Own, indexed}
+use Rattle.tb_lock.specs.Histories.{indexed}
 use Rattle.tb_lock.specs.Seats.{SeatView}
 use Rattle.tb_lock.specs.Calls.{added, Called, IsReply}
 

@@ -1,11 +1,16 @@
 -- What a core holds may go to another thread.
-use denote.Param.Send.{IsSend, sendable, view_send, struct_send}
-use denote.Param.SendFields.{as_row_send, declared_send, variants_send}
+use denote.Param.Send.{IsSend, IsSync, sendable, view_send, view_sync}
+use denote.Param.SendFields.{as_row_send, declared_send, declared_sync, variants_send}
 use denote.RattleType.{RattleType}
 use denote.Hole.{as_row}
 use denote.Struct.Field.{u32-field, u8-field}
-use Rattle.std.proofs.Crossing.{crosses}
+use Rattle.std.proofs.Crossing.{crosses, send as global_send}
+use Rattle.tb_algebra.specs.declared.walker.Walker.{Ghosts}
 use Rattle.std.proofs.option.Option.TheSendSync.{the_send as option_send}
+use Rattle.std.specs.contracts.option.Option as option
+use Rattle.atomic_table.proofs.owned.Table.TheSendSync.{the_sync as table_sync}
+use Rattle.tb_lock.specs.contracts.shared.Shared as shared
+use Rattle.tb_lock.specs.contracts.shared.Shared.TheInside as shared_inside
 use Rattle.sqlite_items.specs.contracts.items.Items as items
 use Rattle.sqlite_items.proofs.items.Items.TheSendSync.{the_send as items_send}
 use Rattle.sqlite_items.specs.contracts.boxed.Boxed as boxed
@@ -44,6 +49,9 @@ use Rattle.tb_bus.specs.contracts.action.Action as action
 use Rattle.tb_bus.specs.contracts.living.Ready as ready
 use Rattle.tb_bus.specs.contracts.living.Living as living
 use Rattle.tb_bus.specs.contracts.marks.Marks as marks
+use Rattle.tb_core.specs.contracts.machine.Core as core
+use Rattle.tb_core.specs.contracts.bus.LiveBus as live_bus
+use Rattle.tb_core.specs.contracts.machine.Core.TheInside as core_inside
 use Rattle.tb_algebra.specs.contracts.running.Running as running
 use Rattle.tb_algebra.proofs.running.Running.TheLaws.TheKnot as running_knot
 use Rattle.tb_algebra.specs.contracts.found.Found as found
@@ -242,3 +250,18 @@ node_send = search (sendable, crosses, expr_row, setting_send) depth 40
 
 pub plan_send : IsSend plan.the_row
 plan_send = declared_send plan.the_type (body_send, (items_send node.the_row node_send, (search sendable depth 20, tt)))
+
+module _ (W Plan Taken : RattleType) (g : Ghosts W.Denot Plan.Denot Taken.Denot) (w : IsSend W) (p : IsSend Plan) where
+  live_bus_send : IsSend (live_bus.the_row W Plan Taken)
+  live_bus_send = declared_send (live_bus.the_type W Plan Taken)
+      (origin_send, (search (sendable, items_send) depth 20, (search (sendable, crosses, living_send) depth 20, (search (sendable, crosses) depth 20, (search sendable depth 20, (search sendable depth 20, (marks_send, (bench_send, tt))))))))
+
+  pub core_send : IsSend (core.the_row W Plan Taken g)
+  core_send = view_send _ _ _ _ _ (declared_send (core_inside.the_type W Plan Taken g) (global_send, (live_bus_send, (log_send, (search sendable depth 20, tt)))))
+
+  core_option_send : IsSend (option.the_row (core.the_row W Plan Taken g))
+  core_option_send = option_send (core.the_row W Plan Taken g) core_send
+
+  -- so threads may share a bus
+  pub shared_sync : IsSync (shared.the_row W Plan Taken g)
+  shared_sync = view_sync _ _ _ _ _ (declared_sync (shared_inside.the_type W Plan Taken g) (search (sendable, crosses, table_sync, core_option_send) depth 20, tt))

@@ -14,7 +14,7 @@ pub fn calls_add_their_own()
     ensures added { (rights : Rights) (core : CoreState) (call : Call) → has rights (right_to call) ≡ true → own rights (entries_of core call) ≡ entries_of core call }
 {}
 
-/// Whose rights are in a seat that joins has seen all entries of them before, whichever of the two had seen more.
+/// Of each right of either seat, that seat had seen all entries before the join.
 pub fn joins_keep_their_own()
     ensures first { (old other new : SeatView) (some : Rights) → Joins old other new → AreAmong some old.rights → own some new.seen ≡ own some old.seen }
     ensures second { (old other new : SeatView) (some : Rights) → Joins old other new → AreAmong some other.rights → own some new.seen ≡ own some other.seen }

@@ -35,7 +35,7 @@ impl<W: Walker> Play<Option<Core<W>>, View> for Draw {
     ghost then = { λ _ me found after. Draws me found after };
 }
 
-/// Read whose turn it is, and take the core where it is one's own.
+/// Read whose turn it is, and take the slot where it is one's own. An exchange then takes the core out of it.
 pub(crate) struct Read;
 
 impl<W: Walker> Play<Option<Core<W>>, View> for Read {

@@ -38,6 +38,7 @@ impl Rights {
             outs: 0,
         }
     }
+
     /// Whether each of some rights is among these.
     pub fn cover(&self, some: &Rights) -> bool
         ensures { IsTrue result ↔ AreAmong some.now self.now }

@@ -44,6 +44,7 @@ impl<W: Walker> Model for Shared<W> {
 /// There was no memory for a bus. The core comes back.
 #[derive(Drop)]
 pub struct NoRoom<W: Walker> {
+    /// The core, as it was.
     pub core: Core<W>,
 }
 
@@ -161,7 +162,7 @@ impl<W: Walker> Shared<W> {
         answer
     }
 
-    /// Stops the bus in the seat's turn: from then on every call of any seat is answered `Stopped`.
+    /// Stops the bus in the seat's turn: from then on each call of any seat that may log an entry is answered `Stopped`.
     pub fn stop<R: Wait>(&self, rt: &R, seat: &mut Seat)
         requires own { seat.old.bus ≡ self.now }
         ensures { StopsBus seat.old seat.new }

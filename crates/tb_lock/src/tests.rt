@@ -1,10 +1,12 @@
 ghost use Rattle.std.specs.Prelude.{◌≡◌, ◌≤◌, IfOk, length};
+ghost use Rattle.tb_lock.specs.Rights.{all_rights};
 ghost use Rattle.tb_core.specs.Cores.{most_entries};
 ghost use Rattle.tb_lock.specs.Seats.{first_seat};
 
-use crate::workers::{Bus, crowd, side_by_side};
+use crate::workers::{Bus, side_by_side};
 use crate::{Rights, Seat, Shared};
 use std::alloc::Global;
+use std::sync::Wait;
 use std::test::Fail;
 use tb_body::{Act, Atom, Body, Program, Root, Tree};
 use tb_core::{Core, CoreFault, Stepped, TakeOut};
@@ -78,15 +80,6 @@ fn two_threads_make_one_history(rt: HostRuntime) -> Result<(), Fail> {
 }
 
 #[test]
-fn thirty_four_seats_of_which_some_stop(rt: HostRuntime) -> Result<(), Fail> {
-    let (bus, seat) = shared(rt.alloc(), &Items::new(rt.alloc()), 4_000_000)?;
-    let (seat, made) = crowd(&rt, &bus, seat, 33);
-    let core = bus.close(&rt, seat);
-    assert!(rt; core.is_stopped() && core.log().len() as u64 == made);
-    Ok(())
-}
-
-#[test]
 fn a_full_and_a_stopped_bus_refuse(rt: HostRuntime) -> Result<(), Fail> {
     let (bus, mut seat) = shared(rt.alloc(), &Items::new(rt.alloc()), 2)?;
     let step = bus.step(&rt, &mut seat);
@@ -107,20 +100,29 @@ fn a_full_and_a_stopped_bus_refuse(rt: HostRuntime) -> Result<(), Fail> {
     Ok(())
 }
 
+/// Whether a command is taken from the first lane.
+fn takes_command<R: Wait>(rt: &R, bus: &Bus, seat: &mut Seat) -> bool
+    requires own { seat.old.bus ≡ bus.now }
+    requires whole { seat.old.rights ≡ all_rights }
+    ensures { (seat.new.bus ≡ seat.old.bus) × (seat.new.rights ≡ seat.old.rights) × (seat.new.room ≡ seat.old.room) }
+{
+    match bus.take_out(rt, seat, 1) {
+        Ok(TakeOut::Out(Out::Start(_))) => true,
+        Ok(_) => false,
+        Err(_) => false,
+    }
+}
+
 #[test]
 fn what_is_to_be_handed_out_is_taken_once(rt: HostRuntime) -> Result<(), Fail> {
     let mut connects = Items::new(rt.alloc());
     connects.push(Text::from_str(rt.alloc(), "calc")?.ok_or("a text")?)?;
     let (bus, mut seat) = shared(rt.alloc(), &connects, 10)?;
-    let states = (
-        bus.lane_state(&rt, &mut seat, 1),
-        bus.lane_state(&rt, &mut seat, 2),
-    );
-    let first = bus.take_out(&rt, &mut seat, 1);
-    let second = bus.take_out(&rt, &mut seat, 1);
+    let state = bus.lane_state(&rt, &mut seat, 1);
+    let first = takes_command(&rt, &bus, &mut seat);
+    let second = takes_command(&rt, &bus, &mut seat);
     let core = bus.close(&rt, seat);
-    assert_eq!(rt; states, (LaneState::Unnamed, LaneState::Free));
-    assert!(rt; matches!(first, Ok(TakeOut::Out(Out::Start(_)))));
-    assert!(rt; matches!(second, Ok(TakeOut::Nothing)) && core.log().len() == 1);
+    let found = (state, first, second, core.log().len());
+    assert_eq!(rt; found, (LaneState::Unnamed, true, false, 1));
     Ok(())
 }

@@ -1,9 +1,7 @@
 //! Threads that use the seats of one bus.
-ghost use Rattle.std.specs.Prelude.{◌≡◌, ◌+◌, ◌<◌, [], length, IsTrue, true};
-ghost use Rattle.std.specs.Thread.{IsSync};
-ghost use Rattle.tb_lock.specs.Rights.{all_rights};
+ghost use Rattle.std.specs.Prelude.{◌≡◌, ◌+◌, [], length, IsTrue, true};
 
-use crate::{Rights, Seat, Shared};
+use crate::{Seat, Shared};
 use std::sync::Wait;
 use std::thread::{Threads, join};
 use tb_algebra::{Rewriter, Walker};
@@ -77,67 +75,4 @@ where
             ensures { (result.0.bus ≡ bus.entry.now) × (result.0.rights ≡ ticks.rights) × (result.0.room ≡ ticks.room) × (IsTrue result.1 → length result.0.mine ≡ length ticks.mine + ROUNDS) }
         { hand_in_ticks(rt, bus, ticks) },
     )
-}
-
-/// Makes steps and hands in ticks by turns, until a call is refused. Says how often none was.
-fn work<R: Wait>(rt: &R, bus: &Bus, mut seat: Seat) -> (Seat, u64)
-    requires own { seat.bus ≡ bus.now }
-    requires whole { seat.rights ≡ all_rights }
-    ensures same { (result.0.bus ≡ seat.bus) × (result.0.rights ≡ seat.rights) × (result.0.room ≡ seat.room) }
-{
-    let mut made = 0;
-    for _ in 0..1_000_000 {
-        if bus.step(rt, &mut seat).is_err() {
-            break;
-        }
-        made += 1;
-        if bus.hand_in(rt, &mut seat, Input::Tick).is_err() {
-            break;
-        }
-        made += 1;
-    }
-    (seat, made)
-}
-
-/// Every fourth of the seats stops the bus.
-fn stop_by_some<R: Wait>(rt: &R, bus: &Bus, number: u64, mut seat: Seat) -> Seat
-    requires { seat.bus ≡ bus.now }
-    ensures { (result.bus ≡ seat.bus) × (result.rights ≡ seat.rights) × (result.room ≡ seat.room) }
-{
-    if number % 4 == 3 {
-        bus.stop(rt, &mut seat);
-    }
-    seat
-}
-
-/// So many further seats, each in a thread of its own, of which some stop the bus beside the one that works. Then all
-/// are one again.
-pub(crate) fn crowd<R: Threads + Wait + Sync>(
-    rt: &R,
-    bus: &Bus,
-    mut seat: Seat,
-    others: u64,
-) -> (Seat, u64)
-    requires own { seat.bus ≡ bus.now }
-    requires whole { seat.rights ≡ all_rights }
-    requires room { others < seat.room }
-    ensures same { (result.0.bus ≡ seat.bus) × (result.0.rights ≡ seat.rights) × (result.0.room ≡ seat.room) }
-{
-    if others == 0 {
-        return work(rt, bus, seat);
-    }
-    let other = bus.split(&mut seat, Rights::none());
-    let ((mut seat, made), other) = join(
-        rt,
-        move || -> (Seat, u64)
-            requires { IsSync R.row × (seat.bus ≡ bus.now) × (seat.rights ≡ all_rights) × (0 < others) × (others < seat.room + 1) }
-            ensures { (result.0.bus ≡ bus.entry.now) × (result.0.rights ≡ all_rights) × (result.0.room ≡ seat.room) }
-        { crowd(rt, bus, seat, others - 1) },
-        move || -> Seat
-            requires { other.bus ≡ bus.now }
-            ensures { (result.bus ≡ bus.entry.now) × (result.rights ≡ other.rights) × (result.room ≡ other.room) }
-        { stop_by_some(rt, bus, others, other) },
-    );
-    bus.join(&mut seat, other);
-    (seat, made)
 }

@@ -1,4 +1,4 @@
-use Rattle.std.proofs.Common.{Ok, ap, sym, ◌∙◌, subst, arith}
+use Rattle.std.proofs.Common.{◌∙◌, subst, arith}
 use Rattle.tb_log.specs.declared.entry.Input.TheVariants.{Tick}
 use Rattle.tb_core.specs.Cores.{HandIn}
 use Rattle.tb_lock.specs.Calls.{Called, IsReply}
