@@ -1,5 +1,5 @@
 -- What a call on the core in hand adds, and what the whole call comes to.
-use Rattle.std.proofs.Common.{◌≡◌, ◌<◌, ◌++◌, cond, true≢false, ℕ, List, [], ◌∷◌, Bool, true, false, ◌||◌, Option, Some, None, Result, Ok, Err, IfOk, OnErr, IsErrOf, IsTrue, ◌↔◌, option_to_list, refl, sym, ap, ◌∙◌, subst, append-nil}
+use Rattle.std.proofs.Common.{◌≡◌, ◌<◌, ◌++◌, cond, true≢false, ℕ, List, [], ◌∷◌, Bool, true, false, ◌||◌, Option, Some, None, Result, Ok, Err, IfOk, OnErr, option_to_list, refl, sym, ap, ◌∙◌, subst, append-nil}
 use Rattle.atomic_table.specs.Seated.{TableId}
 use Rattle.tb_log.specs.declared.entry.Entry.{Entry}
 use Rattle.tb_log.specs.declared.entry.Out.{Out}
@@ -12,8 +12,7 @@ use Rattle.tb_bus.specs.Traces.{IsTrace, fed, replay}
 use Rattle.tb_tools.specs.Finding.{next_out}
 use Rattle.tb_bus.proofs.TraceLemmas.{trace-append}
 use Rattle.tb_core.specs.declared.answers.CoreFault.{CoreFault}
-use Rattle.tb_core.specs.declared.answers.CoreFault.TheVariants as fault
-use Rattle.tb_core.specs.Cores.{CoreState, Call, HandIn, MakeStep, HandOut, bus_now, ends_quiet, says_quiet, step_entry, out_entry, would_log, entries_of, is_full, Logs, Stays}
+use Rattle.tb_core.specs.Cores.{CoreState, Call, HandIn, MakeStep, HandOut, bus_now, ends_quiet, says_quiet, step_entry, out_entry, would_log, entries_of, Logs, Stays}
 use Rattle.tb_lock.specs.declared.rights.Rights.{Rights}
 use Rattle.tb_lock.specs.Rights.{has, right_of, right_to, own, all_rights}
 use Rattle.tb_lock.specs.Histories.{IsSparse}

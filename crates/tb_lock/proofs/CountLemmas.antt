@@ -4,7 +4,7 @@ use Rattle.tb_log.specs.declared.entry.Entry.{Entry}
 use Rattle.tb_log.specs.declared.entry.Input.{Input}
 use Rattle.tb_log.specs.declared.entry.Reply.{Reply}
 use Rattle.tb_bus.specs.Buses.{Bus}
-use Rattle.tb_bus.specs.Steps.{Step, steps, step_of, moves, moves_while_up}
+use Rattle.tb_bus.specs.Steps.{steps, step_of, moves, moves_while_up}
 use Rattle.tb_core.specs.declared.answers.CoreFault.{CoreFault}
 use Rattle.tb_core.specs.declared.answers.Stepped.TheVariants.{Did}
 use Rattle.tb_core.specs.Cores.{CoreState, Call, HandIn, MakeStep, bus_now, ends_quiet, step_entry, entries_of, IsStep}

@@ -1,5 +1,5 @@
 -- Rights that were handed on, and rights that came together.
-use Rattle.std.proofs.Common.{◌≡◌, ◌⊎◌, ◌≤◌, ◌<◌, ◌+◌, ◌%◌, ◌^◌, ◌==◌, ℕ, zero, suc, min, max, Bool, true, false, not, ◌&&◌, ◌||◌, true≢false, refl, sym, ap, ◌∙◌, subst, inl, inr, arith, eqb-true, eq-eqb}
+use Rattle.std.proofs.Common.{◌≡◌, ◌⊎◌, ◌<◌, ◌+◌, ◌%◌, ◌^◌, ◌==◌, ℕ, zero, suc, min, max, Bool, true, false, not, ◌&&◌, ◌||◌, true≢false, refl, sym, ap, ◌∙◌, subst, inl, inr, arith, eqb-true, eq-eqb}
 use Rattle.std.specs.Int.{bit_at}
 use Rattle.std.specs.Prelude.{bit_and, bit_or, ◌-◌, ◌↔◌, nat_eq}
 use Rattle.std.proofs.lemmas.Nat.Bits.{bit_at-lt, bit_at_and, bit_at_or, bit_at_xor, bit_at_ones, bit_at-zero, bit_at_above, same_from_bits}
