@@ -59,6 +59,7 @@ use Rattle.tb_algebra.specs.contracts.fired.Left as left
 use Rattle.tb_algebra.specs.contracts.node.Node as node
 use Rattle.tb_algebra.specs.contracts.plan.Plan as plan
 use Rattle.tb_algebra.specs.contracts.rewriter.Rewriter as rewriter
+use Rattle.tb_algebra.specs.contracts.rewriter.RewriterWalker.TheImpl.{ghosts}
 use Rattle.tb_tools.specs.contracts.handout.Handout as handout
 use Rattle.tb_tools.specs.contracts.handout.KeptOut as kept_out
 use Rattle.tb_tools.specs.contracts.events.Events as events
@@ -265,3 +266,7 @@ module _ (W Plan Taken : RattleType) (g : Ghosts W.Denot Plan.Denot Taken.Denot)
   -- so threads may share a bus
   pub shared_sync : IsSync (shared.the_row W Plan Taken g)
   shared_sync = view_sync _ _ _ _ _ (declared_sync (shared_inside.the_type W Plan Taken g) (search (sendable, crosses, table_sync, core_option_send) depth 20, tt))
+
+-- and one over rewriters
+pub bus_sync : IsSync (shared.the_row rewriter.the_row plan.the_row left.the_row ghosts)
+bus_sync = shared_sync rewriter.the_row plan.the_row left.the_row ghosts rewriter_send plan_send

@@ -3,6 +3,8 @@
 
 mod board;
 mod call;
+#[cfg(test)]
+mod crowd;
 mod laws;
 mod plays;
 mod rights;

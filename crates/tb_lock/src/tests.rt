@@ -3,6 +3,7 @@ ghost use Rattle.tb_lock.specs.Rights.{all_rights};
 ghost use Rattle.tb_core.specs.Cores.{most_entries};
 ghost use Rattle.tb_lock.specs.Seats.{first_seat};
 
+use crate::crowd::{join_all, split_off, work_beside};
 use crate::workers::{Bus, side_by_side};
 use crate::{Rights, Seat, Shared};
 use std::alloc::Global;
@@ -76,6 +77,17 @@ fn two_threads_make_one_history(rt: HostRuntime) -> Result<(), Fail> {
     let counted = (core.log().len(), count_steps(core.log()));
     assert!(rt; made && handed && !core.is_stopped());
     assert_eq!(rt; counted, (200, 100));
+    Ok(())
+}
+
+#[test]
+fn thirty_four_seats_of_which_some_stop(rt: HostRuntime) -> Result<(), Fail> {
+    let (bus, mut seat) = shared(rt.alloc(), &Items::new(rt.alloc()), 4_000_000)?;
+    let others = split_off(rt.alloc(), &bus, &mut seat, 33)?;
+    let ((seat, made), others) = work_beside(&rt, &bus, seat, others);
+    let seat = join_all(&bus, seat, others);
+    let core = bus.close(&rt, seat);
+    assert!(rt; core.is_stopped() && core.log().len() as u64 == made);
     Ok(())
 }
 
