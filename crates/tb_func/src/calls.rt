@@ -1,4 +1,4 @@
-ghost use Rattle.std.specs.Prelude.{◌≡◌, not, Some, IfOk, option_and_then, option_map};
+ghost use Rattle.std.specs.Prelude.{◌≡◌, ◌∷◌, [], not, Some, IfOk, option_and_then, option_map};
 ghost use Rattle.tb_func.specs.Apply.{apply_of, given, one_given, two_given, negated, truths, logic, numbers, orders, timed, number_of, first_of, rest_of, joined, member_at, members_test};
 ghost use Rattle.tb_func.specs.Arguments.{bool_of, list_of, int_of, bool_term, of_both};
 ghost use Rattle.tb_terms.specs.Same.{is_same_term};
@@ -15,6 +15,21 @@ pub fn apply(alloc: Global, f: Func, args: &Terms) -> Result<Option<Term>, NoMem
     ensures { IfOk result (λ v. v ≡ apply_of f args.now) }
 {
     match given(alloc, f, args.as_slice())? {
+        Some(term) => Ok(limited(term)),
+        None => Ok(None),
+    }
+}
+
+/// What the function gives for these two arguments, where it gives a value.
+pub(crate) fn apply_two(
+    alloc: Global,
+    f: Func,
+    a: &Term,
+    b: &Term,
+) -> Result<Option<Term>, NoMemory>
+    ensures { IfOk result (λ v. v ≡ apply_of f (a.now ∷ b.now ∷ [])) }
+{
+    match two_given(alloc, f, a, b)? {
         Some(term) => Ok(limited(term)),
         None => Ok(None),
     }

@@ -11,15 +11,39 @@ use crate::measured::Measured;
 use crate::open::{OpenPattern, OpenPatterns};
 use crate::values::{measured, value_of_call, variable};
 use std::alloc::Global;
-use tb_terms::{Expr, Func, Name, NoMemory, Pattern, Sort};
+use tb_terms::{Expr, Func, Name, NoMemory, Pattern, Sort, Term};
 
-/// What the expression is as a pattern, where the parts that stand for one term have a value.
+/// What the expression is as a pattern, where the parts that stand for one term have a value. Only what is put together
+/// is measured.
 pub fn pattern(alloc: Global, e: &Expr, s: &Store) -> Result<Option<Pattern>, NoMemory>
     ensures { IfOk result (λ v. v ≡ pattern_of s.now e.now) }
 {
-    match build(alloc, e, s)? {
-        Some(part) => Ok(Some(part.into_pattern())),
-        None => Ok(None),
+    match e {
+        Expr::Int(number) => Ok(Some(Pattern::Fixed(Term::Int(*number)))),
+        Expr::Var(slot) => Ok(fixed(variable(alloc, *slot, s)?)),
+        Expr::Result(slot) => result_variable(alloc, *slot, s),
+        Expr::Hole(sort) => Ok(Some(Pattern::Hole(sort.copy(alloc)?))),
+        Expr::Str(_) | Expr::Appl(_, _) | Expr::Call(_, _) | Expr::List(_) => {
+            Ok(whole(build(alloc, e, s)?))
+        }
+    }
+}
+
+fn fixed(value: Option<Term>) -> Option<Pattern>
+    ensures { result ≡ option_map pattern.Fixed value }
+{
+    match value {
+        Some(term) => Some(Pattern::Fixed(term)),
+        None => None,
+    }
+}
+
+fn whole(part: Option<Part>) -> Option<Pattern>
+    ensures { result ≡ option_map as_pattern part }
+{
+    match part {
+        Some(part) => Some(part.into_pattern()),
+        None => None,
     }
 }
 

@@ -5,18 +5,53 @@ ghost use Rattle.tb_func.specs.Limits.{limited};
 ghost use Rattle.tb_func.specs.Stores.{value_at};
 ghost use Rattle.tb_func.specs.Values.{value_of, all_of};
 
+use crate::calls::apply_two;
 use crate::measured::{Measured, MeasuredParts};
 use crate::{Store, apply};
 use std::alloc::Global;
 use tb_terms::{Expr, Func, Items, Name, NoMemory, Term};
 
-/// What the expression is worth in the store, where it is worth anything.
+/// What the expression is worth in the store, where it is worth anything. Only what is put together is measured.
+#[cycle(eval)]
 pub fn eval(alloc: Global, e: &Expr, s: &Store) -> Result<Option<Term>, NoMemory>
     ensures { IfOk result (λ v. v ≡ value_of s.now e.now) }
 {
-    match eval_measured(alloc, e, s)? {
-        Some(value) => Ok(Some(value.term)),
-        None => Ok(None),
+    match e {
+        Expr::Int(number) => Ok(Some(Term::Int(*number))),
+        Expr::Var(slot) => variable(alloc, *slot, s),
+        Expr::Call(func, parts) => eval_call(alloc, *func, parts.as_slice(), s),
+        Expr::Result(_) | Expr::Hole(_) => Ok(None),
+        Expr::Str(_) | Expr::Appl(_, _) | Expr::List(_) => Ok(term_in(eval_measured(alloc, e, s)?)),
+    }
+}
+
+/// What the function gives for the values of the expressions. Two values need no list of arguments.
+#[cycle(eval)]
+fn eval_call(alloc: Global, func: Func, exprs: &[Expr], s: &Store) -> Result<Option<Term>, NoMemory>
+    ensures { IfOk result (λ v. v ≡ option_and_then (apply_of func) (all_of (map (value_of s.now) exprs.now))) }
+{
+    match exprs {
+        [first, second] => match eval(alloc, first, s)? {
+            Some(a) => match eval(alloc, second, s)? {
+                Some(b) => apply_two(alloc, func, &a, &b),
+                None => Ok(None),
+            },
+            None => Ok(None),
+        },
+        _ => {
+            let values = eval_all(alloc, exprs, s)?;
+            Ok(term_in(value_of_call(alloc, func, values)?))
+        }
+    }
+}
+
+/// The term that was measured.
+fn term_in(value: Option<Measured>) -> Option<Term>
+    ensures { result ≡ option_map (λ m. m.term) value }
+{
+    match value {
+        Some(value) => Some(value.term),
+        None => None,
     }
 }
 

@@ -266,10 +266,16 @@ fn push_out(out: &Out, into: &mut Vec<u8>) -> Result<(), NoMemory>
     }
 }
 
+/// A number of one digit is put as its byte.
+#[tactic(auto, using(std::proofs::lemmas::Fmt::decimal_digit))]
 fn push_number(number: u64, into: &mut Vec<u8>) -> Result<(), NoMemory>
     ensures ok { OnOk result (into.new.items ≡ into.old.items ++ decimal number) }
     ensures err { OnErr result (into.new.items ≡ into.old.items) }
 {
+    if number < 10 {
+        into.push(b'0' + number as u8)?;
+        return Ok(());
+    }
     let mut buffer = Buffer::new();
     into.extend_from_slice(buffer.format(number).as_bytes())?;
     Ok(())

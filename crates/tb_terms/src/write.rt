@@ -99,10 +99,16 @@ fn push_comma(position: usize, into: &mut Vec<u8>) -> Result<(), NoMemory>
     Ok(())
 }
 
+/// A number of one digit is put as its byte.
+#[tactic(auto, using(std::proofs::lemmas::Fmt::decimal_digit))]
 fn push_number(number: i64, into: &mut Vec<u8>) -> Result<(), NoMemory>
     ensures ok { OnOk result (into.new.items ≡ into.old.items ++ signed_decimal number) }
     ensures err { OnErr result (into.new.items ≡ into.old.items) }
 {
+    if 0 <= number && number < 10 {
+        into.push(b'0' + number as u8)?;
+        return Ok(());
+    }
     let mut buffer = Buffer::new();
     into.extend_from_slice(buffer.format(number).as_bytes())?;
     Ok(())

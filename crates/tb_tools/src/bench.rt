@@ -27,6 +27,8 @@ pub struct Bench {
     alloc: Global,
     lanes: Vec<LaneRow>,
     next_tool: u32,
+    /// Where this is set, no lane has anything to hand out.
+    idle: bool,
 }
 
 impl Model for Bench {
@@ -34,7 +36,9 @@ impl Model for Bench {
     ghost use Rattle.std.specs.Coded.{codes};
     ghost use Rattle.tb_log.specs.Shapes.{lane_count};
     ghost use Rattle.tb_terms.specs.contracts.term.Term as term_data;
+    ghost use Rattle.std.specs.Prelude.{true, None};
     ghost use Rattle.tb_tools.specs.Lanes.{BenchState};
+    ghost use Rattle.tb_tools.specs.Finding.{first_out};
 
     ghost Value = { BenchState };
 
@@ -42,7 +46,8 @@ impl Model for Bench {
 
     ghost view = { λ bench. record { lanes = bench.lanes.items; next_tool = bench.next_tool } };
 
-    ghost invariant = { λ bench. length bench.lanes.items ≡ lane_count };
+    ghost invariant = { λ bench. (length bench.lanes.items ≡ lane_count)
+        × (bench.idle ≡ true → first_out (record { lanes = bench.lanes.items; next_tool = bench.next_tool }) ≡ None) };
 }
 
 impl Bench {
@@ -56,11 +61,14 @@ impl Bench {
         for _ in connects.len()..LANES {
             lanes.push(LaneRow::unused(alloc)?)?;
         }
-        Ok(Bench {
+        let mut bench = Bench {
             alloc,
             lanes,
             next_tool: 1,
-        })
+            idle: false,
+        };
+        bench.idle = bench.first_out().is_none();
+        Ok(bench)
     }
 
     /// The number of the next tool.
@@ -277,6 +285,7 @@ impl Bench {
         ensures ok { OnOk result (self.new ≡ with_line line lane self.old) }
         ensures err { OnErr result (self.new ≡ self.old) }
     {
+        self.idle = false;
         match line {
             ToolLine::Value(value) => self.lanes[index_of(lane)].set_answer(value),
             ToolLine::Event(terms) => self.lanes[index_of(lane)].push_event(terms)?,
@@ -294,6 +303,7 @@ impl Bench {
         ensures err { OnErr result (self.new ≡ self.old) }
     {
         let tool = LaneTool::new(self.alloc, name, self.next_tool, Stage::Waiting)?;
+        self.idle = false;
         self.lanes[index_of(lane)].set_tool(Some(tool));
         self.next_tool += 1;
         Ok(())
@@ -308,6 +318,7 @@ impl Bench {
         if !self.row(lane).is_up() {
             return Reply::Dropped(Why::NotLive);
         }
+        self.idle = false;
         self.lanes[index_of(lane)].lose();
         Reply::Took
     }
@@ -321,6 +332,7 @@ impl Bench {
         if !self.row(lane).is_up() {
             return Reply::Dropped(Why::NotLive);
         }
+        self.idle = false;
         self.lanes[index_of(lane)].close();
         Reply::Took
     }
@@ -337,6 +349,7 @@ impl Bench {
         let number = self.next_tool;
         let live = LaneTool::new(self.alloc, tool.copy(self.alloc)?, number, Stage::Live)?;
         let command = command.copy(self.alloc)?;
+        self.idle = false;
         let row = &mut self.lanes[index_of(lane)];
         row.start(self.alloc, command)?;
         row.set_tool(Some(live));
@@ -350,6 +363,7 @@ impl Bench {
         requires can { IsTrue (can_connect lane self.old) }
         ensures { self.new ≡ connected lane self.old }
     {
+        self.idle = false;
         self.lanes[index_of(lane)].connect();
     }
 
@@ -359,6 +373,7 @@ impl Bench {
         requires can { IsTrue (can_leave lane self.old) }
         ensures { self.new ≡ left lane self.old }
     {
+        self.idle = false;
         self.lanes[index_of(lane)].set_tool(None);
     }
 
@@ -369,6 +384,7 @@ impl Bench {
         ensures ok { OnOk result (self.new ≡ asked t lane self.old) }
         ensures err { OnErr result (self.new ≡ self.old) }
     {
+        self.idle = false;
         self.lanes[index_of(lane)].eval(self.alloc, t)
     }
 
@@ -379,6 +395,7 @@ impl Bench {
         ensures value { answer_at lane self.old ≡ Some result }
         ensures bench { self.new ≡ value_taken lane self.old }
     {
+        self.idle = false;
         self.lanes[index_of(lane)].take_answer()
     }
 
@@ -390,6 +407,7 @@ impl Bench {
         ensures err { OnErr result (self.new ≡ self.old) }
     {
         let line = line_with(self.alloc, b"rec-do", t)?;
+        self.idle = false;
         self.lanes[index_of(lane)].put(line)
     }
 
@@ -400,6 +418,7 @@ impl Bench {
         ensures ok { OnOk result (self.new ≡ event_taken place lane self.old) }
         ensures err { OnErr result (self.new ≡ self.old) }
     {
+        self.idle = false;
         self.lanes[index_of(lane)].receive(place)
     }
 
@@ -410,6 +429,7 @@ impl Bench {
         ensures ok { OnOk result (self.new ≡ acknowledged place lane self.old) }
         ensures err { OnErr result (self.new ≡ self.old) }
     {
+        self.idle = false;
         self.lanes[index_of(lane)].ack(self.alloc, place)
     }
 
@@ -420,6 +440,7 @@ impl Bench {
         ensures ok { OnOk result (self.new ≡ terminated t lane self.old) }
         ensures err { OnErr result (self.new ≡ self.old) }
     {
+        self.idle = false;
         self.lanes[index_of(lane)].terminate(self.alloc, t)
     }
 
@@ -432,6 +453,7 @@ impl Bench {
         for index in 0..LANES {
             self.lanes[index].dismiss(&mut lines);
         }
+        self.idle = false;
         Ok(())
     }
 
@@ -449,6 +471,9 @@ impl Bench {
         ensures within { ForSome result IsLane }
         ensures some { ForSome result (λ lane. IsSome (next_out lane self.now)) }
     {
+        if self.idle {
+            return None;
+        }
         for index in 0..LANES {
             if self.lanes[index].has_out() {
                 return Some(number_of(index));
@@ -475,7 +500,10 @@ impl Bench {
         ensures logged { next_out lane self.old ≡ Some result.logged }
         ensures bench { self.new ≡ handed_out lane self.old }
     {
-        self.lanes[index_of(lane)].take_out().into_handout()
+        self.idle = false;
+        let handout = self.lanes[index_of(lane)].take_out().into_handout();
+        self.idle = self.first_out().is_none();
+        handout
     }
 
     fn row(&self, lane: u8) -> &LaneRow

@@ -6,7 +6,7 @@ use Rattle.tb_tools.proofs.bench.Bench.down.Goals as goal
 
 pub loop-index-preserved : goal.loop-index-preserved
 loop-index-preserved c =
-    let within : c.loop-index.index < length c.self.inside.lanes.items = omega (arith, c.self.invariant) in
+    let within : c.loop-index.index < length c.self.inside.lanes.items = omega (arith, c.self.invariant.0) in
     let both = dismissed-more c.self.inside.lanes.items c.loop-index.self-inside.lanes.items c.loop-index.lines.items c.dismiss.new.lines.items
     c.loop-index.index c.index_mut.result.now c.dismiss.new.self (last_line c.args.t.now) within
     c.loop-index.invariant.lanes c.loop-index.invariant.lines c.index_mut.ensures.value c.dismiss.ensures in
@@ -14,7 +14,7 @@ loop-index-preserved c =
 
 pub returns-clause-ok : goal.returns-clause-ok
 returns-clause-ok c =
-    let all : length c.self.inside.lanes.items ≤ c.loop-index.index = omega (arith, c.self.invariant) in
+    let all : length c.self.inside.lanes.items ≤ c.loop-index.index = omega (arith, c.self.invariant.0) in
     let e = dismissed-all c.self.inside.lanes.items c.loop-index.self-inside.lanes.items c.loop-index.index (last_line c.args.t.now) all c.loop-index.invariant.lanes in
     same _ _ _ _ e c.loop-index.invariant.next_tool ∙ ap (λ (bench : BenchState). gone_down c.args.t.now bench) c.self.view_is
   where
