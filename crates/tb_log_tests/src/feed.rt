@@ -1,3 +1,5 @@
+//! The texts of feeds, and their first bad lines.
+
 use std::alloc::Global;
 use std::test::Fail;
 use tb_feed::{Feed, FeedFault, read_feed};
@@ -153,88 +155,86 @@ fn is_answer(
 
 #[test]
 fn texts_are_feeds_or_have_a_first_bad_line(rt: HostRuntime) -> Result<(), Fail> {
-    let alloc = rt.alloc();
     for (text, expected) in &ROWS {
-        let answer = read_feed(alloc, text);
+        let answer = read_feed(rt.alloc(), text);
         assert!(rt;
-            is_answer(alloc, &answer, *expected)?,
+            is_answer(rt.alloc(), &answer, *expected)?,
             "{text:?}: {answer:?}"
         );
-    }
-    // A tool's line of 65,536 bytes is in the log as it is, a longer one as a question mark.
-    for (letters, len) in [(65_523, 9 + 65_536 + 1), (65_524, 11)] {
-        let line = event_of(alloc, letters)?;
-        let answer = read_feed(alloc, line.as_slice());
-        assert!(rt; is_answer_of_len(alloc, &answer, len)?);
     }
     Ok(())
 }
 
-/// The tool on lane 1 puts an event of a string with so many letters.
-fn event_of(alloc: Global, letters: usize) -> Result<Vec<u8>, NoMemory> {
-    let mut line = Vec::new(alloc);
-    line.extend_from_slice(b"line 1 snd-event(\"")?;
+/// Whether the log has so many bytes of a feed whose tool on lane 1 puts an event of a string with so many
+/// letters.
+fn has_log_of(alloc: Global, letters: usize, len: usize) -> Result<bool, NoMemory> {
+    let mut line = Vec::from_slice(alloc, b"line 1 snd-event(\"")?;
     for _ in 0..letters {
         line.push(b'a')?;
     }
     line.extend_from_slice(b"\")")?;
-    Ok(line)
-}
-
-/// Whether the lines of a log have so many bytes.
-fn is_answer_of_len(
-    alloc: Global,
-    answer: &Result<Feed, FeedFault>,
-    len: usize,
-) -> Result<bool, NoMemory> {
-    match answer {
-        Ok(feed) => Ok(log_of(alloc, feed)?.len() == len),
+    match read_feed(alloc, line.as_slice()) {
+        Ok(feed) => Ok(log_of(alloc, &feed)?.len() == len),
         Err(_) => Ok(false),
     }
 }
 
-/// So many bytes, of which each fifth is the last of a line.
-fn ticks_of(alloc: Global, bytes: usize) -> Result<Vec<u8>, Fail> {
+/// A tool's line of 65,536 bytes is in the log as it is, a longer one as a question mark.
+static LONG: [(usize, usize); 2] = [(65_523, 9 + 65_536 + 1), (65_524, 11)];
+
+#[test]
+fn a_tool_s_line_has_65536_bytes(rt: HostRuntime) -> Result<(), Fail> {
+    for (letters, len) in &LONG {
+        assert!(rt; has_log_of(rt.alloc(), *letters, *len)?, "at {letters}");
+    }
+    Ok(())
+}
+
+/// So many bytes, of which each fifth is the last of a line, and others behind them.
+fn ticks_of(alloc: Global, bytes: usize, end: &[u8]) -> Result<Vec<u8>, NoMemory> {
     let mut text = Vec::new(alloc);
     for index in 0..bytes {
         text.push(b"tick\n"[index % 5])?;
     }
+    text.extend_from_slice(end)?;
     Ok(text)
 }
 
-#[test]
-fn a_mebibyte_is_read(rt: HostRuntime) -> Result<(), Fail> {
-    let alloc = rt.alloc();
-    let whole = ticks_of(alloc, 1_048_575)?;
-    assert!(rt; is_answer(alloc, &read_feed(alloc, whole.as_slice()), Ticks(209_715))?);
-    let mut more = ticks_of(alloc, 1_048_575)?;
-    more.push(b' ')?;
-    assert!(rt; is_answer(alloc, &read_feed(alloc, more.as_slice()), Bad(209_716))?);
-    Ok(())
+/// So many newlines, and others behind them.
+fn newlines_of(alloc: Global, count: usize, end: &[u8]) -> Result<Vec<u8>, NoMemory> {
+    let mut text = vec![in alloc; b'\n'; count]?;
+    text.extend_from_slice(end)?;
+    Ok(text)
 }
 
+/// What stands behind a mebibyte less one byte of ticks, and what the text gives.
+static TICKS: [(&[u8], Answer); 2] = [(b"", Ticks(209_715)), (b" ", Bad(209_716))];
+
+/// What stands behind 1,048,572 newlines, which take no place in a feed, and what the text gives.
+static NEWLINES: [(&[u8], Answer); 2] = [(b"tick", Ticks(1)), (b"tick!", Bad(1_048_573))];
+
 #[test]
-fn empty_lines_take_no_place_in_a_feed(rt: HostRuntime) -> Result<(), Fail> {
-    let alloc = rt.alloc();
-    let mut text = Vec::new(alloc);
-    for _ in 0..1_048_572 {
-        text.push(b'\n')?;
+fn a_mebibyte_is_read(rt: HostRuntime) -> Result<(), Fail> {
+    for (end, expected) in &TICKS {
+        let text = ticks_of(rt.alloc(), 1_048_575, end)?;
+        let answer = read_feed(rt.alloc(), text.as_slice());
+        assert!(rt; is_answer(rt.alloc(), &answer, *expected)?, "at {end:?}");
     }
-    text.extend_from_slice(b"tick")?;
-    assert!(rt; is_answer(alloc, &read_feed(alloc, text.as_slice()), Ticks(1))?);
-    text.push(b'!')?;
-    assert!(rt; is_answer(alloc, &read_feed(alloc, text.as_slice()), Bad(1_048_573))?);
+    for (end, expected) in &NEWLINES {
+        let text = newlines_of(rt.alloc(), 1_048_572, end)?;
+        let answer = read_feed(rt.alloc(), text.as_slice());
+        assert!(rt; is_answer(rt.alloc(), &answer, *expected)?, "at {end:?}");
+    }
     Ok(())
 }
 
 #[test]
 fn a_feed_gives_copies_by_index(rt: HostRuntime) -> Result<(), Fail> {
-    let alloc = rt.alloc();
-    let mut inputs = Vec::new(alloc);
+    let mut inputs = Vec::new(rt.alloc());
     inputs.push(Input::Tick)?;
-    let feed = Feed::new(alloc, inputs);
-    assert!(rt; feed.len() == 1);
+    let feed = Feed::new(rt.alloc(), inputs);
+    assert_eq!(rt; feed.len(), 1);
     assert!(rt; matches!(feed.input(0), Ok(Input::Tick)));
-    assert!(rt; Feed::empty(alloc).len() == 0);
+    assert_eq!(rt; Feed::empty(rt.alloc()).len(), 0);
     Ok(())
 }

@@ -1,3 +1,5 @@
+//! Each kind of step with its line.
+
 use std::alloc::Global;
 use std::test::Fail;
 use tb_log::{Entry, Label, LabelKind, Place, write_entry};

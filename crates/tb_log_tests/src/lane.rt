@@ -1,3 +1,5 @@
+//! The lines of tools, and limits.
+
 use std::alloc::Global;
 use std::test::Fail;
 use tb_lane::{each_line_is_one, read_tool_line, tool_lines_are_unique};
@@ -91,42 +93,61 @@ fn line_of(
     Ok(line)
 }
 
-fn is_bad(line: &ToolLine) -> bool {
-    matches!(line, ToolLine::Bad)
+fn is_bad(alloc: Global, line: &[u8]) -> Result<bool, NoMemory> {
+    match read_tool_line(alloc, line)? {
+        ToolLine::Bad => Ok(true),
+        _ => Ok(false),
+    }
 }
+
+/// Whether a line is bad in which so many lists stand in one another, of which the innermost is empty: these
+/// have as many levels.
+fn is_bad_nest(
+    alloc: Global,
+    prefix: &[u8],
+    levels: usize,
+    behind: &[u8],
+) -> Result<bool, NoMemory> {
+    let lists = line_of(alloc, prefix, levels, b"[", b"")?;
+    let line = line_of(alloc, lists.as_slice(), levels, b"]", behind)?;
+    Ok(is_bad(alloc, line.as_slice())?)
+}
+
+/// Levels, and whether lines that have them are bad.
+static LEVELS: [(usize, bool); 4] = [(1, false), (64, false), (65, true), (66, true)];
 
 #[test]
 fn a_part_may_have_64_levels(rt: HostRuntime) -> Result<(), Fail> {
-    let alloc = rt.alloc();
-    // So many lists in one another, of which the innermost is empty, have as many levels.
-    for (levels, bad) in [(1, false), (64, false), (65, true), (66, true)] {
-        let lists = line_of(alloc, b"snd-value(", levels, b"[", b"")?;
-        let value = line_of(alloc, lists.as_slice(), levels, b"]", b")")?;
-        assert_eq!(rt;
-            is_bad(&read_tool_line(alloc, value.as_slice())?),
-            bad,
-            "with {levels} levels"
-        );
-        let lists = line_of(alloc, b"snd-event(1,", levels, b"[", b"")?;
-        let event = line_of(alloc, lists.as_slice(), levels, b"]", b",2)")?;
-        assert_eq!(rt;
-            is_bad(&read_tool_line(alloc, event.as_slice())?),
-            bad,
-            "with {levels} levels"
-        );
+    for (levels, bad) in &LEVELS {
+        let value = is_bad_nest(rt.alloc(), b"snd-value(", *levels, b")")?;
+        let event = is_bad_nest(rt.alloc(), b"snd-event(1,", *levels, b",2)")?;
+        assert_eq!(rt; (value, event), (*bad, *bad), "with {levels} levels");
     }
     Ok(())
 }
 
+/// What stands in front, so many of a byte, what stands behind, how long the line is, and whether it is bad.
+type Long = (
+    &'static [u8],
+    usize,
+    &'static [u8],
+    &'static [u8],
+    usize,
+    bool,
+);
+
+static LENGTHS: [Long; 3] = [
+    (b"snd-event(\"", 65_523, b"a", b"\")", 65_536, false),
+    (b"snd-event(\"", 65_524, b"a", b"\")", 65_537, true),
+    (b"snd-disconnect", 65_523, b" ", b"", 65_537, true),
+];
+
 #[test]
 fn a_line_may_have_65536_bytes(rt: HostRuntime) -> Result<(), Fail> {
-    let alloc = rt.alloc();
-    for (letters, bytes, bad) in [(65_523, 65_536, false), (65_524, 65_537, true)] {
-        let line = line_of(alloc, b"snd-event(\"", letters, b"a", b"\")")?;
-        assert_eq!(rt; line.len(), bytes);
-        assert_eq!(rt; is_bad(&read_tool_line(alloc, line.as_slice())?), bad);
+    for (prefix, count, byte, behind, len, bad) in &LENGTHS {
+        let line = line_of(rt.alloc(), prefix, *count, byte, behind)?;
+        let found = is_bad(rt.alloc(), line.as_slice())?;
+        assert_eq!(rt; (line.len(), found), (*len, *bad), "of {len}");
     }
-    let blanks = line_of(alloc, b"snd-disconnect", 65_523, b" ", b"")?;
-    assert!(rt; is_bad(&read_tool_line(alloc, blanks.as_slice())?));
     Ok(())
 }

@@ -1,3 +1,5 @@
+//! Entries with their lines and out of shape, and the room of a log.
+
 use std::alloc::Global;
 use std::test::Fail;
 use tb_log::{

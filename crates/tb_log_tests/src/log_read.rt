@@ -1,5 +1,6 @@
+//! Logs and lines that are read, those that are none, and limits.
+
 use std::alloc::Global;
-use std::process::Abort;
 use std::test::Fail;
 use tb_log::{Entries, Entry, Input, Out, Reply, ToolLine, show_proper_log, write_entry};
 use tb_log_read::{LogFault, bytes_stop_once, log_text_is_one_to_one, read_entry, read_log};
@@ -43,16 +44,22 @@ fn written(alloc: Global, log: &Entries) -> Result<Vec<u8>, NoMemory> {
     Ok(text)
 }
 
+/// Whether a text is read as a log that has the text.
+fn is_log(alloc: Global, text: &[u8]) -> Result<bool, Fail> {
+    let log = read_log(alloc, text)?;
+    show_proper_log(log.as_slice());
+    let again = written(alloc, &log)?;
+    Ok(again.as_slice() == text && log.is_empty() == text.is_empty())
+}
+
 #[test]
 fn a_log_is_read_and_written_again(rt: HostRuntime) -> Result<(), Fail> {
     log_text_is_one_to_one();
     bytes_stop_once();
     for text in LOGS {
-        let log = read_log(rt.alloc(), text)?;
-        show_proper_log(log.as_slice());
-        assert_eq!(rt; written(rt.alloc(), &log)?.as_slice(), text);
+        assert!(rt; is_log(rt.alloc(), text)?, "at {text:?}");
     }
-    assert_eq!(rt; read_log(rt.alloc(), b"")?.len(), 0);
+    assert!(rt; is_log(rt.alloc(), b"")?);
     Ok(())
 }
 
@@ -121,19 +128,22 @@ const NO_LINES: [&[u8]; 56] = [
     b"1 out 1 start calc\n",
 ];
 
+/// Lines of entries that are near to these.
+const ENTRY_LINES: [&[u8]; 6] = [
+    b"18446744073709551615 quiet\n",
+    b"1 tau 4294967295.0\n",
+    b"1 gone 16\n",
+    b"1 msg 1.1 2.1 \"a, b\",[\"]\",f(1,2)],-7\n",
+    b"7 drop down line 3 snd-event(f(\"(\"),[])\n",
+    b"1 out 2 start \"sh -c \\\"a\\\" \\\\ \\n\\r\\t\"\n",
+];
+
 #[test]
 fn other_lines_are_no_entries(rt: HostRuntime) -> Result<(), Fail> {
     for line in NO_LINES {
         assert!(rt; !reads(rt.alloc(), line)?, "at {line:?}");
     }
-    for line in [
-        b"18446744073709551615 quiet\n".as_slice(),
-        b"1 tau 4294967295.0\n",
-        b"1 gone 16\n",
-        b"1 msg 1.1 2.1 \"a, b\",[\"]\",f(1,2)],-7\n",
-        b"7 drop down line 3 snd-event(f(\"(\"),[])\n",
-        b"1 out 2 start \"sh -c \\\"a\\\" \\\\ \\n\\r\\t\"\n",
-    ] {
+    for line in ENTRY_LINES {
         assert!(rt; reads(rt.alloc(), line)?, "at {line:?}");
     }
     Ok(())
@@ -160,83 +170,120 @@ fn nested(alloc: Global, prefix: &[u8], levels: usize, end: &[u8]) -> Result<Vec
     filled(alloc, opened.as_slice(), b']', levels, end)
 }
 
+/// What stands before and behind a term of 64 levels at most.
+const AROUND_LEVELS: [(&[u8], &[u8]); 3] = [
+    (b"1 set 1.1 ", b"\n"),
+    (b"1 line 1 snd-value(", b")\n"),
+    (b"1 out 1 rec-eval(", b")\n"),
+];
+
+/// What stands before and behind so many letters at most.
+const AROUND_LETTERS: [(&[u8], usize, &[u8]); 6] = [
+    (b"1 set 1.1 \"", 65_535, b"\"\n"),
+    (b"1 line 1 snd-event(\"", 65_535, b"\")\n"),
+    (b"1 line 1 snd-event(a,\"", 65_533, b"\")\n"),
+    (b"1 msg 1.1 2.1 a,\"", 65_535, b"\"\n"),
+    (b"1 line 1 snd-connect(", 65_534, b")\n"),
+    (b"1 out 1 rec-ack-event(0,\"", 65_534, b"\")\n"),
+];
+
+/// Whether a line is read with so many levels.
+fn reads_levels(alloc: Global, prefix: &[u8], levels: usize, end: &[u8]) -> Result<bool, NoMemory> {
+    let line = nested(alloc, prefix, levels, end)?;
+    Ok(reads(alloc, line.as_slice())?)
+}
+
+/// Whether a line is read with so many letters.
+fn reads_letters(
+    alloc: Global,
+    prefix: &[u8],
+    letters: usize,
+    end: &[u8],
+) -> Result<bool, NoMemory> {
+    let line = filled(alloc, prefix, b'a', letters, end)?;
+    Ok(reads(alloc, line.as_slice())?)
+}
+
 #[test]
 fn a_part_of_a_line_has_limits(rt: HostRuntime) -> Result<(), Fail> {
-    let alloc = rt.alloc();
-    for (levels, is) in [(64, true), (65, false)] {
-        for (prefix, end) in [
-            (b"1 set 1.1 ".as_slice(), b"\n".as_slice()),
-            (b"1 line 1 snd-value(", b")\n"),
-            (b"1 out 1 rec-eval(", b")\n"),
-        ] {
-            let line = nested(alloc, prefix, levels, end)?;
-            assert_eq!(rt; reads(alloc, line.as_slice())?, is, "{levels} levels");
-        }
+    for (prefix, end) in AROUND_LEVELS {
+        assert!(rt; reads_levels(rt.alloc(), prefix, 64, end)?, "at {prefix:?}");
+        assert!(rt;
+            !reads_levels(rt.alloc(), prefix, 65, end)?,
+            "at {prefix:?}"
+        );
     }
-    for (prefix, most, end) in [
-        (b"1 set 1.1 \"".as_slice(), 65_535, b"\"\n".as_slice()),
-        (b"1 line 1 snd-event(\"", 65_535, b"\")\n"),
-        (b"1 line 1 snd-event(a,\"", 65_533, b"\")\n"),
-        (b"1 msg 1.1 2.1 a,\"", 65_535, b"\"\n"),
-        (b"1 line 1 snd-connect(", 65_534, b")\n"),
-        (b"1 out 1 rec-ack-event(0,\"", 65_534, b"\")\n"),
-    ] {
-        let line = filled(alloc, prefix, b'a', most, end)?;
-        assert!(rt; reads(alloc, line.as_slice())?, "{most} bytes");
-        let line = filled(alloc, prefix, b'a', most + 1, end)?;
-        assert!(rt; !reads(alloc, line.as_slice())?, "one byte over {most}");
+    for (prefix, most, end) in AROUND_LETTERS {
+        assert!(rt;
+            reads_letters(rt.alloc(), prefix, most, end)?,
+            "at {prefix:?}"
+        );
+        assert!(rt;
+            !reads_letters(rt.alloc(), prefix, most + 1, end)?,
+            "at {prefix:?}"
+        );
     }
-    let start = filled(alloc, b"1 out 1 start \"", b'a', 100_000, b"\"\n")?;
-    assert!(rt; reads(alloc, start.as_slice())?);
+    assert!(rt; reads_letters(rt.alloc(), b"1 out 1 start \"", 100_000, b"\"\n")?);
     Ok(())
+}
+
+/// Texts, and the first line of each that isn't the next line of a log.
+const STOPS: [(&[u8], u64); 9] = [
+    (b"2 quiet\n", 1),
+    (b"1 quiet\n3 quiet\n", 2),
+    (b"1 quiet\n1 quiet\n", 2),
+    (b"1 quiet\n\n2 quiet\n", 2),
+    (b"1 quiet\n2 quiet\n3 gone 17\n4 quiet\n", 3),
+    (b"1 finish", 1),
+    (b"1 quiet\n2 finish", 2),
+    (b"\n", 1),
+    (b"1 quiet\n2 quiet\n3 quiet\n4 quiet\n5  quiet\n", 5),
+];
+
+/// Whether a log stops at this line.
+fn stops_at(alloc: Global, text: &[u8], line: u64) -> bool {
+    match read_log(alloc, text) {
+        Ok(_log) => false,
+        Err(fault) => fault == LogFault::Line(line),
+    }
 }
 
 #[test]
-fn a_log_stops_at_its_first_other_line(rt: HostRuntime) -> Result<(), Fail> {
-    let table: [(&[u8], u64); 9] = [
-        (b"2 quiet\n", 1),
-        (b"1 quiet\n3 quiet\n", 2),
-        (b"1 quiet\n1 quiet\n", 2),
-        (b"1 quiet\n\n2 quiet\n", 2),
-        (b"1 quiet\n2 quiet\n3 gone 17\n4 quiet\n", 3),
-        (b"1 finish", 1),
-        (b"1 quiet\n2 finish", 2),
-        (b"\n", 1),
-        (b"1 quiet\n2 quiet\n3 quiet\n4 quiet\n5  quiet\n", 5),
-    ];
-    for (text, line) in table {
-        match read_log(rt.alloc(), text) {
-            Ok(_log) => assert!(rt; false, "at {text:?}"),
-            Err(fault) => assert_eq!(rt; fault, LogFault::Line(line), "at {text:?}"),
-        }
+fn a_log_stops_at_its_first_other_line(rt: HostRuntime) {
+    for (text, line) in STOPS {
+        assert!(rt; stops_at(rt.alloc(), text, line), "at {text:?}");
     }
-    Ok(())
 }
 
-/// The entry of this line, of which there is to be one.
-fn entry_of(rt: &impl Abort, alloc: Global, line: &[u8]) -> Result<Entry, NoMemory> {
-    let read = read_entry(alloc, line)?;
-    assert!(rt; read.is_some());
-    match read {
-        Some(numbered) => Ok(numbered.entry),
-        None => Err(NoMemory),
+/// Whether the entry is an event of 7 and -8 on lane 1, which was taken.
+fn is_event(entry: &Entry) -> bool {
+    match entry {
+        Entry::Fed(Input::Line(1, ToolLine::Event(terms)), Reply::Took) => match terms.as_slice() {
+            [Term::Int(7), Term::Int(-8)] => true,
+            _ => false,
+        },
+        _ => false,
+    }
+}
+
+/// Whether the entry is a start on lane 3 with this command.
+fn is_start(entry: &Entry, wanted: &[u8]) -> bool {
+    match entry {
+        Entry::Gave(3, Out::Start(command)) => command.as_bytes() == wanted,
+        _ => false,
     }
 }
 
 #[test]
 fn a_line_says_what_its_words_mean(rt: HostRuntime) -> Result<(), Fail> {
-    let alloc = rt.alloc();
-    match entry_of(&rt, alloc, b"4 line 1 snd-event(7,-8)\n")? {
-        Entry::Fed(Input::Line(1, ToolLine::Event(terms)), Reply::Took) => {
-            assert!(rt; matches!(terms.as_slice(), [Term::Int(7), Term::Int(-8)]));
-        }
-        _ => assert!(rt; false),
-    }
-    match entry_of(&rt, alloc, b"2 out 3 start \"a \\\"b\\\"\"\n")? {
-        Entry::Gave(3, Out::Start(command)) => {
-            assert_eq!(rt; command.as_bytes(), b"a \"b\"".as_slice());
-        }
-        _ => assert!(rt; false),
-    }
+    let event = match read_entry(rt.alloc(), b"4 line 1 snd-event(7,-8)\n")? {
+        Some(numbered) => is_event(&numbered.entry),
+        None => false,
+    };
+    let start = match read_entry(rt.alloc(), b"2 out 3 start \"a \\\"b\\\"\"\n")? {
+        Some(numbered) => is_start(&numbered.entry, b"a \"b\""),
+        None => false,
+    };
+    assert!(rt; event && start);
     Ok(())
 }

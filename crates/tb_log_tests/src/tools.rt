@@ -1,3 +1,5 @@
+//! Tools from their start to their end.
+
 use std::alloc::Global;
 use std::test::Fail;
 use tb_log::{Out, Reply, ToolLine, Why};
@@ -461,36 +463,44 @@ static OLDEST: [Expected; 10] = [
 
 #[test]
 fn executed_tools_work(rt: HostRuntime) -> Result<(), Fail> {
-    let alloc = rt.alloc();
-    let none = Items::new(alloc);
-    assert_eq!(rt; rows_that_hold(alloc, &none, &CALCULATOR)?, 11);
-    assert_eq!(rt; rows_that_hold(alloc, &none, &UNASKED)?, 10);
-    assert_eq!(rt; rows_that_hold(alloc, &none, &CUT)?, 7);
-    assert_eq!(rt; rows_that_hold(alloc, &none, &GONE)?, 12);
-    assert_eq!(rt; rows_that_hold(alloc, &none, &OLDEST)?, 10);
+    let none = Items::new(rt.alloc());
+    let tables: [&[Expected]; 5] = [&CALCULATOR, &UNASKED, &CUT, &GONE, &OLDEST];
+    for rows in tables {
+        assert_eq!(rt; rows_that_hold(rt.alloc(), &none, rows)?, rows.len());
+    }
     Ok(())
 }
 
 #[test]
 fn connected_tools_work(rt: HostRuntime) -> Result<(), Fail> {
-    let alloc = rt.alloc();
-    let mut commands = Items::new(alloc);
-    commands.push(text(alloc, b"k")?)?;
-    assert_eq!(rt; rows_that_hold(alloc, &commands, &CONNECTED)?, 12);
-    assert_eq!(rt; rows_that_hold(alloc, &commands, &FORGOTTEN)?, 5);
+    let mut commands = Items::new(rt.alloc());
+    commands.push(text(rt.alloc(), b"k")?)?;
+    let tables: [&[Expected]; 2] = [&CONNECTED, &FORGOTTEN];
+    for rows in tables {
+        assert_eq!(rt; rows_that_hold(rt.alloc(), &commands, rows)?, rows.len());
+    }
     Ok(())
+}
+
+/// Whether the lane hands out the end of its tool, and nothing else is left.
+fn hands_out_end(bench: &mut Bench) -> bool {
+    if bench.next_out(LANE).is_none() {
+        return false;
+    }
+    match bench.take_out(LANE) {
+        Out::End => bench.first_out().is_none(),
+        _ => false,
+    }
 }
 
 #[test]
 fn a_cut_clears_what_was_to_be_handed_out(rt: HostRuntime) -> Result<(), Fail> {
-    let alloc = rt.alloc();
-    let mut bench = Bench::new(alloc, &Items::new(alloc))?;
-    assert_eq!(rt; execute(alloc, &mut bench, b"t")?, "done");
-    assert_eq!(rt; do_action(&mut bench, term(alloc, &X)?)?, "done");
-    assert_eq!(rt; answer_of(bench.cut(LANE)), "took");
-    let handed = bench.next_out(LANE).is_some();
-    assert!(rt; handed && matches!(bench.take_out(LANE), Out::End));
-    assert_eq!(rt; bench.first_out(), None);
+    let mut bench = Bench::new(rt.alloc(), &Items::new(rt.alloc()))?;
+    let executed = execute(rt.alloc(), &mut bench, b"t")?;
+    let done = do_action(&mut bench, term(rt.alloc(), &X)?)?;
+    let cut = answer_of(bench.cut(LANE));
+    assert_eq!(rt; (executed, done, cut), ("done", "done", "took"));
+    assert!(rt; hands_out_end(&mut bench));
     Ok(())
 }
 
@@ -508,22 +518,38 @@ fn empty(alloc: Global, bench: &mut Bench) -> Result<&'static str, NoMemory> {
     Ok(leave(bench, &name(alloc, b"t")?))
 }
 
-#[test]
-fn tools_go_by_their_numbers(rt: HostRuntime) -> Result<(), Fail> {
-    let alloc = rt.alloc();
-    let tool = name(alloc, b"t")?;
+/// A bench with a tool on each of the 16 lanes, if all were executed.
+fn full(alloc: Global) -> Result<Option<Bench>, NoMemory> {
     let mut bench = Bench::new(alloc, &Items::new(alloc))?;
     for _ in 0..16 {
-        assert_eq!(rt; execute(alloc, &mut bench, b"t")?, "done");
+        if execute(alloc, &mut bench, b"t")? != "done" {
+            return Ok(None);
+        }
     }
+    Ok(Some(bench))
+}
+
+/// The lanes of the tools 1 and 17, and the first lanes with a tool that is live and with one that leaves.
+fn found(alloc: Global, bench: &Bench) -> Result<[Option<u8>; 4], NoMemory> {
+    let tool = name(alloc, b"t")?;
+    let first = lane_of(alloc, bench, 1)?;
+    let last = lane_of(alloc, bench, 17)?;
+    let live = bench.first_at(&tool, Stage::Live);
+    Ok([first, last, live, bench.first_at(&tool, Stage::Leaving)])
+}
+
+#[test]
+fn tools_go_by_their_numbers(rt: HostRuntime) -> Result<(), Fail> {
+    let Some(mut bench) = full(rt.alloc())? else {
+        return Err(Fail::from("no lane"));
+    };
     assert_eq!(rt; (bench.free_lane(), bench.next_tool()), (None, 17));
-    assert_eq!(rt; empty(alloc, &mut bench)?, "done");
+    let emptied = empty(rt.alloc(), &mut bench)?;
     // The end of lane 1 was handed out, and then what stood on the next seven.
-    assert_eq!(rt; (bench.free_lane(), bench.first_out()), (Some(1), Some(9)));
-    assert_eq!(rt; execute(alloc, &mut bench, b"t")?, "done");
-    assert_eq!(rt; lane_of(alloc, &bench, 1)?, None);
-    assert_eq!(rt; lane_of(alloc, &bench, 17)?, Some(1));
-    assert_eq!(rt; bench.first_at(&tool, Stage::Live), Some(2));
-    assert_eq!(rt; bench.first_at(&tool, Stage::Leaving), None);
+    let lanes = (bench.free_lane(), bench.first_out());
+    assert_eq!(rt; (emptied, lanes), ("done", (Some(1), Some(9))));
+    let executed = execute(rt.alloc(), &mut bench, b"t")?;
+    let lanes = found(rt.alloc(), &bench)?;
+    assert_eq!(rt; (executed, lanes), ("done", [None, Some(1), Some(2), None]));
     Ok(())
 }

@@ -1,3 +1,5 @@
+//! The tokens of scripts, and the faults of texts that have none.
+
 use std::alloc::{AllocError, Global};
 use std::test::Fail;
 use tb_lex::{
@@ -260,33 +262,28 @@ fn reads_as(alloc: Global, row: &Row) -> Result<bool, LexFault> {
 
 #[test]
 fn each_token_is_the_longest_at_its_position(rt: HostRuntime) -> Result<(), Fail> {
-    for row in &NAMES_AND_SYMBOLS {
-        assert!(rt; reads_as(rt.alloc(), row)?, "at {:?}", row.0);
-    }
-    for row in &NUMBERS {
-        assert!(rt; reads_as(rt.alloc(), row)?, "at {:?}", row.0);
+    let tables: [&[Row]; 3] = [&NAMES_AND_SYMBOLS, &NUMBERS, &COMMENTS_AND_STRINGS];
+    for rows in tables {
+        for row in rows {
+            assert!(rt; reads_as(rt.alloc(), row)?, "at {:?}", row.0);
+        }
     }
     Ok(())
 }
 
-#[test]
-fn comments_end_with_their_line_and_strings_with_their_quote(rt: HostRuntime) -> Result<(), Fail> {
-    for row in &COMMENTS_AND_STRINGS {
-        assert!(rt; reads_as(rt.alloc(), row)?, "at {:?}", row.0);
+/// Whether the byte is the symbol, with a blank on each side.
+fn is_symbol(alloc: Global, byte: u8, symbol: Symbol) -> Result<bool, LexFault> {
+    let tokens = lex(alloc, &[b' ', byte, b' '])?;
+    match tokens.as_slice() {
+        [token] => Ok(is_token(token, &(Want::Sign(symbol), 1, 2))),
+        _ => Ok(false),
     }
-    Ok(())
 }
 
 #[test]
 fn each_symbol_is_read(rt: HostRuntime) -> Result<(), Fail> {
     for (byte, symbol) in &SYMBOLS {
-        let text = [b' ', *byte, b' '];
-        let tokens = lex(rt.alloc(), &text)?;
-        let want = (Want::Sign(*symbol), 1, 2);
-        assert_eq!(rt; tokens.len(), 1, "at {text:?}");
-        for token in tokens.as_slice() {
-            assert!(rt; is_token(token, &want), "{token:?} at {text:?}");
-        }
+        assert!(rt; is_symbol(rt.alloc(), *byte, *symbol)?, "at {byte}");
     }
     Ok(())
 }
@@ -314,22 +311,24 @@ fn faults_of_strings_stand_at_their_position(rt: HostRuntime) {
     }
 }
 
+/// So many names, the text behind them, and the fault.
+static MANY: [(usize, &[u8], Option<LexFault>); 9] = [
+    (200_000, b"", None),
+    (200_000, b" %%\xFF\n ", None),
+    (200_000, b"%% x", None),
+    (199_999, b"b", None),
+    (199_999, b"%", Some(LexFault::BadByte(399_998))),
+    (200_000, b"b", Some(LexFault::TooMany)),
+    (200_000, b"%", Some(LexFault::TooMany)),
+    (200_000, b"%%\n\"\xFF", Some(LexFault::TooMany)),
+    (200_000, b"3.5", Some(LexFault::TooMany)),
+];
+
 #[test]
 fn at_most_200_000_tokens_are_taken(rt: HostRuntime) -> Result<(), Fail> {
-    let table: [(usize, &[u8], Option<LexFault>); 9] = [
-        (200_000, b"", None),
-        (200_000, b" %%\xFF\n ", None),
-        (200_000, b"%% x", None),
-        (199_999, b"b", None),
-        (199_999, b"%", Some(LexFault::BadByte(399_998))),
-        (200_000, b"b", Some(LexFault::TooMany)),
-        (200_000, b"%", Some(LexFault::TooMany)),
-        (200_000, b"%%\n\"\xFF", Some(LexFault::TooMany)),
-        (200_000, b"3.5", Some(LexFault::TooMany)),
-    ];
-    for (count, end, want) in table {
-        let text = many(rt.alloc(), count, end)?;
-        assert_eq!(rt; fault_of(rt.alloc(), text.as_slice()), want, "at {end:?}");
+    for (count, end, want) in &MANY {
+        let text = many(rt.alloc(), *count, end)?;
+        assert_eq!(rt; fault_of(rt.alloc(), text.as_slice()), *want, "at {end:?}");
     }
     Ok(())
 }

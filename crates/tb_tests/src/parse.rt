@@ -1,8 +1,10 @@
+//! Scripts that are read, the faults of others, and limits.
+
 use std::alloc::{AllocError, Global};
 use std::test::Fail;
 use tb_lex::lex;
 use tb_parse::{ParseFault, each_row_has_one, faults_are_unique, parse, spelling_is_unique};
-use tb_syntax::{ActDef, AtomDef, Proc, ProcDef, Script, print_script};
+use tb_syntax::{ActDef, AtomDef, Proc, ProcDef, Script};
 
 /// The script of a text, or its fault. A text that is no tokens fails the test.
 fn read(alloc: Global, text: &[u8]) -> Result<Result<Script, ParseFault>, Fail> {
@@ -104,31 +106,51 @@ fn around(
     Ok(text)
 }
 
-/// So many brackets that open, what stands in them, and as many that close.
+/// So many brackets that open, what stands in them, and as many that close; and the fault.
+type Nest = (&'static [u8], usize, &'static [u8], Option<ParseFault>);
+
+static NESTS: [Nest; 4] = [
+    (b"( ", 128, b") ", None),
+    (b"( ", 129, b") ", Some(ParseFault::TooDeep(131))),
+    (b"let X : int in ", 128, b"endlet ", None),
+    // each `let` has five tokens, and the first stands at 3
+    (
+        b"let X : int in ",
+        129,
+        b"endlet ",
+        Some(ParseFault::TooDeep(643)),
+    ),
+];
+
+/// Other rows of brackets that open.
+static OPENS: [(&[u8], usize, &[u8], ParseFault); 2] = [
+    (b"fi ) x ", 129, b"[ if ", ParseFault::TooDeep(131)),
+    (b"x ", 128, b"( ", ParseFault::Syntax(0)),
+];
+
 fn nested(alloc: Global, open: &[u8], count: usize, close: &[u8]) -> Result<Vec<u8>, AllocError> {
     let prefix = around(alloc, b"process P is ", count, open, b"tau ")?;
-    around(alloc, prefix.as_slice(), count, close, b"toolbus(P)")
+    Ok(around(alloc, prefix.as_slice(), count, close, b"toolbus(P)")?)
 }
 
 #[test]
 fn at_most_128_brackets_are_open(rt: HostRuntime) -> Result<(), Fail> {
-    let table: [(usize, Option<ParseFault>); 2] = [
-        (128, None),
-        (129, Some(ParseFault::TooDeep(131))),
-    ];
-    for (count, want) in table {
-        let text = nested(rt.alloc(), b"( ", count, b") ")?;
-        assert_eq!(rt; fault_of(rt.alloc(), text.as_slice())?, want);
-        let text = nested(rt.alloc(), b"let X : int in ", count, b"endlet ")?;
-        let deep = fault_of(rt.alloc(), text.as_slice())?;
-        assert_eq!(rt; deep.is_some(), count > 128);
+    for (open, count, close, want) in &NESTS {
+        let text = nested(rt.alloc(), open, *count, close)?;
+        assert_eq!(rt;
+            fault_of(rt.alloc(), text.as_slice())?,
+            *want,
+            "{count} {open:?}"
+        );
     }
-    let text = around(rt.alloc(), b"fi ) x ", 129, b"[ if ", b"")?;
-    let want = Some(ParseFault::TooDeep(131));
-    assert_eq!(rt; fault_of(rt.alloc(), text.as_slice())?, want);
-    let text = around(rt.alloc(), b"x ", 128, b"( ", b"")?;
-    let want = Some(ParseFault::Syntax(0));
-    assert_eq!(rt; fault_of(rt.alloc(), text.as_slice())?, want);
+    for (prefix, count, part, want) in &OPENS {
+        let text = around(rt.alloc(), prefix, *count, part, b"")?;
+        assert_eq!(rt;
+            fault_of(rt.alloc(), text.as_slice())?,
+            Some(*want),
+            "{part:?}"
+        );
+    }
     Ok(())
 }
 
@@ -311,39 +333,16 @@ fn each_construct_is_read(rt: HostRuntime) -> Result<(), Fail> {
     Ok(())
 }
 
-/// The text that is printed for the script of a text.
-fn reprinted(alloc: Global, text: &[u8]) -> Result<Vec<u8>, Fail> {
-    let tokens = lex(alloc, text)?;
-    match parse(alloc, &tokens) {
-        Ok(script) => Ok(print_script(alloc, &script)?),
-        Err(fault) => Err(Fail::from(fault)),
-    }
-}
-
-static PRINTED: [&[u8]; 4] = [
-    b"toolbus()\n",
-    b"process P is tau delay(1) timeout(X)\ntoolbus(P, P)\n",
-    b"tool t is { command = \"x y\" }\nprocess P(X : int?, Y : list(t)) is let Z : term in Z := [] endlet\ntoolbus(P)\n",
-    b"process P is if eq(X, -1) then create(P(a), X?) else snd-msg(<str>) fi\ntoolbus(P)\n",
-];
-
-#[test]
-fn what_is_printed_is_read(rt: HostRuntime) -> Result<(), Fail> {
-    for text in &PRINTED {
-        let printed = reprinted(rt.alloc(), text)?;
-        assert_eq!(rt; printed.as_slice(), *text);
-    }
-    Ok(())
-}
-
-/// The positions of a formal, of the innermost name of its sort, of an atom, its time and the time's value.
-fn positions(definition: &ProcDef) -> Option<[usize; 5]> {
+/// The positions of a definition, a formal, the innermost name of its sort, an atom, its time and the time's
+/// value.
+fn positions(definition: &ProcDef) -> Option<[usize; 6]> {
     let formal = definition.formals.as_slice().first()?;
     let Proc::Atom(atom) = &definition.body else {
         return None;
     };
     let time = atom.times.as_slice().first()?;
     Some([
+        definition.token,
         formal.token,
         formal.sort_token,
         atom.token,
@@ -352,23 +351,27 @@ fn positions(definition: &ProcDef) -> Option<[usize; 5]> {
     ])
 }
 
+/// Whether the one tool, the one definition and the one root of a script have these positions.
+fn have_positions(script: &Script, tool: usize, of_definition: &[usize; 6], root: usize) -> bool {
+    match (
+        script.tools.as_slice(),
+        script.procs.as_slice(),
+        script.roots.as_slice(),
+    ) {
+        ([declared], [definition], [called]) => {
+            declared.token == tool
+                && called.token == root
+                && positions(definition) == Some(*of_definition)
+        }
+        _ => false,
+    }
+}
+
 #[test]
 fn constructs_have_the_position_of_their_first_token(rt: HostRuntime) -> Result<(), Fail> {
     let text = b"tool t is {} process P(X : list(str)) is snd-msg(f(1)) delay(2) toolbus(P)";
     let script = script_of(rt.alloc(), text)?;
-    assert_eq!(rt; script.tools.len(), 1);
-    for declared in script.tools.as_slice() {
-        assert_eq!(rt; declared.token, 0);
-    }
-    assert_eq!(rt; script.procs.len(), 1);
-    for definition in script.procs.as_slice() {
-        assert_eq!(rt; definition.token, 5);
-        assert_eq!(rt; positions(definition), Some([8, 12, 16, 23, 25]));
-    }
-    assert_eq!(rt; script.roots.len(), 1);
-    for root in script.roots.as_slice() {
-        assert_eq!(rt; root.token, 29);
-    }
+    assert!(rt; have_positions(&script, 0, &[5, 8, 12, 16, 23, 25], 29));
     Ok(())
 }
 

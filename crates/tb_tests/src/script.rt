@@ -159,12 +159,18 @@ fn atoms(alloc: Global, last: &str) -> Result<String, Fail> {
     Ok(text)
 }
 
+/// What stands last, and what becomes of the text.
+static LAST: [(&str, Expected); 2] = [
+    ("", Expected::Accepted),
+    (" . tau", Expected::TooLarge("P")),
+];
+
 #[test]
 fn atoms_have_a_limit(rt: HostRuntime) -> Result<(), Fail> {
-    let most = load(rt.alloc(), atoms(rt.alloc(), "")?.as_bytes());
-    assert!(rt; is_expected(&most, &Expected::Accepted));
-    let more = load(rt.alloc(), atoms(rt.alloc(), " . tau")?.as_bytes());
-    assert!(rt; is_expected(&more, &Expected::TooLarge("P")));
+    for (last, expected) in &LAST {
+        let found = load(rt.alloc(), atoms(rt.alloc(), last)?.as_bytes());
+        assert!(rt; is_expected(&found, expected), "{last}");
+    }
     Ok(())
 }
 
@@ -178,32 +184,42 @@ fn roots(alloc: Global, count: usize) -> Result<String, Fail> {
     Ok(text)
 }
 
+static ROOTS: [(usize, Expected); 2] = [
+    (10_000, Expected::Accepted),
+    (10_001, Expected::Roots(10_001)),
+];
+
 #[test]
 fn roots_have_a_limit(rt: HostRuntime) -> Result<(), Fail> {
-    let most = load(rt.alloc(), roots(rt.alloc(), 10_000)?.as_bytes());
-    assert!(rt; is_expected(&most, &Expected::Accepted));
-    let more = load(rt.alloc(), roots(rt.alloc(), 10_001)?.as_bytes());
-    assert!(rt; is_expected(&more, &Expected::Roots(10_001)));
+    for (count, expected) in &ROOTS {
+        let found = load(rt.alloc(), roots(rt.alloc(), *count)?.as_bytes());
+        assert!(rt; is_expected(&found, expected), "{count}");
+    }
     Ok(())
 }
 
-/// The actuals of the root, and how the program holds them.
+/// Whether there are two bodies, tools and roots, of which the second root has one actual, and its process
+/// two atoms and one formal.
+fn has_its_parts(program: &Program) -> bool {
+    match (program.bodies.as_slice(), program.roots.as_slice()) {
+        ([_, body], [_, root]) => {
+            body.atoms.len() == 2
+                && body.formals == 1
+                && root.process == 1
+                && root.actuals.len() == 1
+                && program.tools.len() == 2
+        }
+        _ => false,
+    }
+}
+
 #[test]
-fn programs_have_their_parts(rt: HostRuntime) -> Result<(), Fail> {
+fn programs_have_their_parts(rt: HostRuntime) {
     let text =
         "tool calc is { command = \"calc\" } tool ed is { } process Q is tau process P(A : int) is snd-msg(A) . Q toolbus(Q, P(add(1, 2)))";
-    let program = match load(rt.alloc(), text.as_bytes()) {
-        Ok(program) => program,
-        Err(_) => return Err(Fail::from("refused")),
+    let is_whole = match load(rt.alloc(), text.as_bytes()) {
+        Ok(program) => has_its_parts(&program),
+        Err(_) => false,
     };
-    assert_eq!(rt; program.bodies.len(), 2);
-    assert_eq!(rt; program.tools.len(), 2);
-    assert_eq!(rt; program.roots.len(), 2);
-    let second = program.roots.as_slice().get(1).ok_or("no root")?;
-    assert_eq!(rt; second.process, 1);
-    assert_eq!(rt; second.actuals.len(), 1);
-    let body = program.bodies.as_slice().get(1).ok_or("no body")?;
-    assert_eq!(rt; body.atoms.len(), 2);
-    assert_eq!(rt; body.formals, 1);
-    Ok(())
+    assert!(rt; is_whole);
 }

@@ -1,3 +1,5 @@
+//! Files and sinks in memory, the real ones, and callers that know of the traits alone.
+
 ghost use Rattle.std.specs.Prelude.{◌++◌, ◌<◌, length, IfSome, OnOk, OnErr, IsErrOf};
 ghost use Rattle.std.specs.List.{flat_map};
 ghost use Rattle.tb_edge.specs.Faults.{Rose};

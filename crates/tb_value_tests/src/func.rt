@@ -1,81 +1,33 @@
+//! Functions with their values, and expressions in a store.
+
+use crate::spelt::Spelt::{Appl, Int, List, Str};
+use crate::spelt::{Spelt, name, term, terms, written};
 use std::alloc::Global;
 use std::test::Fail;
 use tb_func::{
     Shape, Signature, Store, apply, eval, function, pattern, plain_expressions_are_fixed,
     printf_text, signature, values_fit_signatures,
 };
-use tb_terms::{
-    Expr, Exprs, Func, Items, Name, NoMemory, Pattern, Sort, Sorts, Term, Terms, Text, has_sort,
-    write_term,
-};
-
-#[derive(Clone, Copy)]
-enum Sample<'a> {
-    Int(i64),
-    Word(&'a [u8]),
-    Text(&'a str),
-    Ints(&'a [i64]),
-}
-
-use Sample::{Int, Ints, Word};
-
-fn name(alloc: Global, bytes: &[u8]) -> Result<Name, NoMemory> {
-    Name::from_bytes(alloc, bytes)?.ok_or(NoMemory)
-}
-
-fn text(alloc: Global, text: &str) -> Result<Text, NoMemory> {
-    Text::from_str(alloc, text)?.ok_or(NoMemory)
-}
-
-fn ints(alloc: Global, numbers: &[i64]) -> Result<Terms, NoMemory> {
-    let mut terms = Items::new(alloc);
-    for number in numbers {
-        terms.push(Term::Int(*number))?;
-    }
-    Ok(terms)
-}
-
-fn term(alloc: Global, sample: &Sample) -> Result<Term, NoMemory> {
-    match sample {
-        Sample::Int(number) => Ok(Term::Int(*number)),
-        Sample::Word(word) => Ok(Term::Appl(name(alloc, word)?, Items::new(alloc))),
-        Sample::Text(string) => Ok(Term::Str(text(alloc, string)?)),
-        Sample::Ints(numbers) => Ok(Term::List(ints(alloc, numbers)?)),
-    }
-}
-
-fn terms(alloc: Global, samples: &[Sample]) -> Result<Terms, NoMemory> {
-    let mut terms = Items::new(alloc);
-    for sample in samples {
-        terms.push(term(alloc, sample)?)?;
-    }
-    Ok(terms)
-}
+use tb_terms::{Expr, Exprs, Func, Items, NoMemory, Pattern, Sort, Sorts, Term, has_sort};
 
 /// The text of a value, and none where there is no value.
-fn written(alloc: Global, value: Option<Term>) -> Result<Vec<u8>, NoMemory> {
-    let mut into = Vec::new(alloc);
-    if let Some(term) = value {
-        write_term(&term, &mut into)?;
+fn shown(alloc: Global, value: Option<Term>) -> Result<Vec<u8>, NoMemory> {
+    match value {
+        Some(term) => Ok(written(alloc, &term)?),
+        None => Ok(Vec::new(alloc)),
     }
-    Ok(into)
 }
 
-fn applied(alloc: Global, word: &[u8], samples: &[Sample]) -> Result<Vec<u8>, NoMemory> {
-    let func = function(&name(alloc, word)?).ok_or(NoMemory)?;
-    written(alloc, apply(alloc, func, &terms(alloc, samples)?)?)
-}
-
-type Row = (&'static [u8], &'static [Sample<'static>], &'static [u8]);
+type Row = (&'static [u8], &'static [Spelt], &'static [u8]);
 
 /// A function, its arguments, and the text of its value, which is empty where there is none.
 static NUMBERS: [Row; 23] = [
     (b"equal", &[Int(1), Int(1)], b"true"),
-    (b"equal", &[Int(1), Sample::Text("1")], b"false"),
-    (b"not-equal", &[Ints(&[1]), Ints(&[1])], b"false"),
-    (b"and", &[Word(b"true"), Word(b"false")], b"false"),
-    (b"and", &[Word(b"true"), Int(1)], b""),
-    (b"or", &[Word(b"false"), Word(b"true")], b"true"),
+    (b"equal", &[Int(1), Str("1")], b"false"),
+    (b"not-equal", &[List(&[Int(1)]), List(&[Int(1)])], b"false"),
+    (b"and", &[Appl(b"true", &[]), Appl(b"false", &[])], b"false"),
+    (b"and", &[Appl(b"true", &[]), Int(1)], b""),
+    (b"or", &[Appl(b"false", &[]), Appl(b"true", &[])], b"true"),
     (b"add", &[Int(9223372036854775807), Int(1)], b""),
     (b"add", &[Int(-2), Int(1)], b"-1"),
     (b"sub", &[Int(-9223372036854775807), Int(2)], b""),
@@ -89,28 +41,32 @@ static NUMBERS: [Row; 23] = [
     (b"mod", &[Int(-9223372036854775808), Int(-1)], b""),
     (b"mod", &[Int(1), Int(0)], b""),
     (b"less", &[Int(1), Int(2)], b"true"),
-    (b"less", &[Word(b"false"), Word(b"true")], b""),
+    (b"less", &[Appl(b"false", &[]), Appl(b"true", &[])], b""),
     (b"less-equal", &[Int(2), Int(2)], b"true"),
     (b"greater", &[Int(2), Int(2)], b"false"),
     (b"greater-equal", &[Int(1), Int(2)], b"false"),
 ];
 
 static LISTS: [Row; 24] = [
-    (b"not", &[Word(b"true")], b"false"),
+    (b"not", &[Appl(b"true", &[])], b"false"),
     (b"not", &[Int(0)], b""),
-    (b"size", &[Ints(&[5, 6])], b"2"),
+    (b"size", &[List(&[Int(5), Int(6)])], b"2"),
     (b"size", &[Int(5)], b""),
-    (b"first", &[Ints(&[5, 6])], b"5"),
-    (b"first", &[Ints(&[])], b""),
-    (b"next", &[Ints(&[5, 6])], b"[6]"),
-    (b"next", &[Ints(&[])], b""),
-    (b"join", &[Ints(&[1]), Ints(&[2, 3])], b"[1,2,3]"),
-    (b"join", &[Ints(&[1]), Int(2)], b""),
-    (b"member", &[Int(6), Ints(&[5, 6])], b"true"),
-    (b"member", &[Int(7), Ints(&[5, 6])], b"false"),
-    (b"index", &[Ints(&[5, 6]), Int(2)], b"6"),
-    (b"index", &[Ints(&[5, 6]), Int(3)], b""),
-    (b"index", &[Ints(&[5, 6]), Int(0)], b""),
+    (b"first", &[List(&[Int(5), Int(6)])], b"5"),
+    (b"first", &[List(&[])], b""),
+    (b"next", &[List(&[Int(5), Int(6)])], b"[6]"),
+    (b"next", &[List(&[])], b""),
+    (
+        b"join",
+        &[List(&[Int(1)]), List(&[Int(2), Int(3)])],
+        b"[1,2,3]",
+    ),
+    (b"join", &[List(&[Int(1)]), Int(2)], b""),
+    (b"member", &[Int(6), List(&[Int(5), Int(6)])], b"true"),
+    (b"member", &[Int(7), List(&[Int(5), Int(6)])], b"false"),
+    (b"index", &[List(&[Int(5), Int(6)]), Int(2)], b"6"),
+    (b"index", &[List(&[Int(5), Int(6)]), Int(3)], b""),
+    (b"index", &[List(&[Int(5), Int(6)]), Int(0)], b""),
     (b"msec", &[Int(101)], b"2"),
     (b"msec", &[Int(100)], b"1"),
     (b"msec", &[Int(-1)], b""),
@@ -122,24 +78,27 @@ static LISTS: [Row; 24] = [
     (b"hour", &[Int(1), Int(1)], b""),
 ];
 
+/// Whether a function has a value of this text.
+fn is_value(alloc: Global, row: &Row) -> Result<bool, NoMemory> {
+    let func = function(&name(alloc, row.0)?).ok_or(NoMemory)?;
+    let value = apply(alloc, func, &terms(alloc, row.1)?)?;
+    Ok(shown(alloc, value)?.as_slice() == row.2)
+}
+
 #[test]
-fn logic_and_numbers_have_their_values(rt: HostRuntime) -> Result<(), Fail> {
-    let alloc = rt.alloc();
-    for (word, samples, want) in &NUMBERS {
-        let got = applied(alloc, word, samples)?;
-        assert_eq!(rt; got.as_slice(), *want, "at {word:?}");
+fn functions_have_their_values(rt: HostRuntime) -> Result<(), Fail> {
+    for row in &NUMBERS {
+        assert!(rt; is_value(rt.alloc(), row)?, "at {:?}", row.0);
+    }
+    for row in &LISTS {
+        assert!(rt; is_value(rt.alloc(), row)?, "at {:?}", row.0);
     }
     Ok(())
 }
 
 #[test]
-fn lists_and_times_have_their_values(rt: HostRuntime) -> Result<(), Fail> {
-    let alloc = rt.alloc();
-    for (word, samples, want) in &LISTS {
-        let got = applied(alloc, word, samples)?;
-        assert_eq!(rt; got.as_slice(), *want, "at {word:?}");
-    }
-    assert!(rt; function(&name(alloc, b"equals")?).is_none());
+fn functions_have_names_and_signatures(rt: HostRuntime) -> Result<(), Fail> {
+    assert!(rt; function(&name(rt.alloc(), b"equals")?).is_none());
     let of_index = Signature {
         arity: 2,
         first: Shape::List,
@@ -148,14 +107,16 @@ fn lists_and_times_have_their_values(rt: HostRuntime) -> Result<(), Fail> {
     };
     assert_eq!(rt; signature(Func::Index), of_index);
     values_fit_signatures();
+    plain_expressions_are_fixed();
     Ok(())
 }
 
+/// A store of a number and a string.
 fn store(alloc: Global) -> Result<Store, NoMemory> {
     let mut sorts: Sorts = Items::new(alloc);
     sorts.push(Sort::Int)?;
     sorts.push(Sort::Str)?;
-    Store::fresh(alloc, &sorts)
+    Ok(Store::fresh(alloc, &sorts)?)
 }
 
 fn pair(alloc: Global, first: Expr, second: Expr) -> Result<Exprs, NoMemory> {
@@ -165,77 +126,116 @@ fn pair(alloc: Global, first: Expr, second: Expr) -> Result<Exprs, NoMemory> {
     Ok(exprs)
 }
 
+/// `[add(V0, 2), V1]`
+fn list(alloc: Global) -> Result<Expr, NoMemory> {
+    let sum = Expr::Call(Func::Add, pair(alloc, Expr::Var(0), Expr::Int(2))?);
+    Ok(Expr::List(pair(alloc, sum, Expr::Var(1))?))
+}
+
+/// `f(1, div(1, 0))`
+fn worthless(alloc: Global) -> Result<Expr, NoMemory> {
+    let none = Expr::Call(Func::Div, pair(alloc, Expr::Int(1), Expr::Int(0))?);
+    Ok(Expr::Appl(name(alloc, b"f")?, pair(alloc, Expr::Int(1), none)?))
+}
+
+/// The text of the value of the list.
+fn value_of_list(alloc: Global) -> Result<Vec<u8>, NoMemory> {
+    let store = store(alloc)?.copy(alloc)?;
+    let value = eval(alloc, &list(alloc)?, &store)?;
+    Ok(shown(alloc, value)?)
+}
+
+/// Whether the other has neither a value nor a pattern.
+fn has_none(alloc: Global) -> Result<bool, NoMemory> {
+    let store = store(alloc)?;
+    let expr = worthless(alloc)?;
+    let value = eval(alloc, &expr, &store)?;
+    let pattern = pattern(alloc, &expr, &store)?;
+    Ok(value.is_none() && pattern.is_none())
+}
+
 #[test]
 fn expressions_have_values_in_a_store(rt: HostRuntime) -> Result<(), Fail> {
-    let alloc = rt.alloc();
-    let store = store(alloc)?.copy(alloc)?;
-    let sum = Expr::Call(Func::Add, pair(alloc, Expr::Var(0), Expr::Int(2))?);
-    let list = Expr::List(pair(alloc, sum, Expr::Var(1))?);
-    let value = eval(alloc, &list, &store)?;
-    assert_eq!(rt; written(alloc, value)?.as_slice(), b"[2,\"\"]".as_slice());
-    let worthless = Expr::Call(Func::Div, pair(alloc, Expr::Int(1), Expr::Int(0))?);
-    let within = Expr::Appl(name(alloc, b"f")?, pair(alloc, Expr::Int(1), worthless)?);
-    assert!(rt; eval(alloc, &within, &store)?.is_none());
-    assert!(rt; pattern(alloc, &within, &store)?.is_none());
+    assert_eq!(rt;
+        value_of_list(rt.alloc())?.as_slice(),
+        b"[2,\"\"]".as_slice()
+    );
+    assert!(rt; has_none(rt.alloc())?);
     Ok(())
+}
+
+/// `f([1, V0], V0?)`
+fn open(alloc: Global) -> Result<Expr, NoMemory> {
+    let plain = Expr::List(pair(alloc, Expr::Int(1), Expr::Var(0))?);
+    Ok(Expr::Appl(name(alloc, b"f")?, pair(alloc, plain, Expr::Result(0))?))
+}
+
+static FIXED: Spelt = List(&[Int(1), Int(0)]);
+
+/// `f([1, 0], V0?)`, of which the first part is fixed.
+fn open_pattern(alloc: Global) -> Result<Pattern, NoMemory> {
+    let mut parts = Items::new(alloc);
+    parts.push(Pattern::Fixed(term(alloc, &FIXED)?))?;
+    parts.push(Pattern::Result(0, Sort::Int))?;
+    Ok(Pattern::Appl(name(alloc, b"f")?, parts))
 }
 
 #[test]
 fn expressions_are_patterns(rt: HostRuntime) -> Result<(), Fail> {
-    let alloc = rt.alloc();
-    let store = store(alloc)?;
-    let plain = Expr::List(pair(alloc, Expr::Int(1), Expr::Var(0))?);
-    let open = Expr::Appl(name(alloc, b"f")?, pair(alloc, plain, Expr::Result(0))?);
-    let mut parts = Items::new(alloc);
-    parts.push(Pattern::Fixed(Term::List(ints(alloc, &[1, 0])?)))?;
-    parts.push(Pattern::Result(0, Sort::Int))?;
-    let want = Pattern::Appl(name(alloc, b"f")?, parts);
-    let got = pattern(alloc, &open, &store)?.ok_or(NoMemory)?;
-    assert!(rt; got.is_same(&want));
-    plain_expressions_are_fixed();
+    let store = store(rt.alloc())?;
+    let got = pattern(rt.alloc(), &open(rt.alloc())?, &store)?;
+    let want = open_pattern(rt.alloc())?;
+    let is_wanted = match got {
+        Some(found) => found.is_same(&want),
+        None => false,
+    };
+    assert!(rt; is_wanted);
     Ok(())
+}
+
+/// Arguments, and the text of what is printed, which is empty where nothing is.
+static PRINTED: [(&[Spelt], &str); 8] = [
+    (
+        &[
+            Str("%d %s %t %%"),
+            Int(-5),
+            Str("é\""),
+            List(&[Int(1), Int(2)]),
+        ],
+        "\"-5 é\\\" [1,2] %\"",
+    ),
+    (&[Str("%d"), Str("1")], ""),
+    (&[Str("%s"), Int(1)], ""),
+    (&[Str("%x"), Int(1)], ""),
+    (&[Str("1%")], ""),
+    (&[Str("%t")], ""),
+    (&[Str("no"), Int(1)], ""),
+    (&[Int(1)], ""),
+];
+
+fn is_printed(alloc: Global, samples: &[Spelt], wanted: &str) -> Result<bool, NoMemory> {
+    let value = printf_text(alloc, &terms(alloc, samples)?)?;
+    Ok(shown(alloc, value)?.as_slice() == wanted.as_bytes())
 }
 
 #[test]
 fn printf_shows_its_arguments(rt: HostRuntime) -> Result<(), Fail> {
-    let alloc = rt.alloc();
-    let shown = [
-        Sample::Text("%d %s %t %%"),
-        Int(-5),
-        Sample::Text("é\""),
-        Ints(&[1, 2]),
-    ];
-    let got = printf_text(alloc, &terms(alloc, shown.as_slice())?)?;
-    assert_eq!(rt;
-        written(alloc, got)?.as_slice(),
-        "\"-5 é\\\" [1,2] %\"".as_bytes()
-    );
-    let table: [&[Sample]; 7] = [
-        &[Sample::Text("%d"), Sample::Text("1")],
-        &[Sample::Text("%s"), Int(1)],
-        &[Sample::Text("%x"), Int(1)],
-        &[Sample::Text("1%")],
-        &[Sample::Text("%t")],
-        &[Sample::Text("no"), Int(1)],
-        &[Int(1)],
-    ];
-    for samples in table {
-        assert!(rt; printf_text(alloc, &terms(alloc, samples)?)?.is_none());
+    for (place, (samples, wanted)) in PRINTED.iter().enumerate() {
+        assert!(rt; is_printed(rt.alloc(), samples, wanted)?, "at {place}");
     }
     Ok(())
 }
 
 #[test]
 fn a_slot_is_set_to_a_value_of_its_sort(rt: HostRuntime) -> Result<(), Fail> {
-    let alloc = rt.alloc();
-    let mut sorts = Items::new(alloc);
+    let mut sorts = Items::new(rt.alloc());
     sorts.push(Sort::Int)?;
-    let mut store = Store::fresh(alloc, &sorts)?;
+    let mut store = Store::fresh(rt.alloc(), &sorts)?;
     let seven = Term::Int(7);
     assert!(rt; has_sort(store.value(0), store.sort(0)));
     assert!(rt; has_sort(&seven, store.sort(0)));
     store.set(0, seven);
-    let value = eval(alloc, &Expr::Var(0), &store)?;
-    assert_eq!(rt; written(alloc, value)?.as_slice(), b"7".as_slice());
+    let value = eval(rt.alloc(), &Expr::Var(0), &store)?;
+    assert_eq!(rt; shown(rt.alloc(), value)?.as_slice(), b"7".as_slice());
     Ok(())
 }

@@ -12,4 +12,6 @@ mod notes;
 #[cfg(test)]
 mod read;
 #[cfg(test)]
+mod spelt;
+#[cfg(test)]
 mod terms;

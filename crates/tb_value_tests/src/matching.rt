@@ -1,31 +1,15 @@
+//! Terms that match patterns, and what is bound.
+
 ghost use Rattle.std.specs.Prelude.{◌≡◌, [], ◌∷◌, IfOk};
 
+use crate::spelt::{Spelt, SpeltSort, name, sort, term, terms};
 use std::alloc::Global;
 use std::test::Fail;
 use tb_match::{
     Binds, copy_binds, fits_list, list_matches_are_least, match_list, match_term,
     matches_are_least, matches_bind_once, same_patterns,
 };
-use tb_terms::{Boxed, Items, Name, NoMemory, Pattern, Patterns, Sort, Term, Terms, Text, same};
-
-fn name(alloc: Global, bytes: &[u8]) -> Result<Name, NoMemory> {
-    Name::from_bytes(alloc, bytes)?.ok_or(NoMemory)
-}
-
-fn word(alloc: Global, bytes: &[u8]) -> Result<Term, NoMemory> {
-    Ok(Term::Appl(name(alloc, bytes)?, Items::new(alloc)))
-}
-
-fn text(alloc: Global, text: &str) -> Result<Term, NoMemory> {
-    Ok(Term::Str(Text::from_str(alloc, text)?.ok_or(NoMemory)?))
-}
-
-fn terms(alloc: Global, first: Term, second: Term) -> Result<Terms, NoMemory> {
-    let mut terms = Items::new(alloc);
-    terms.push(first)?;
-    terms.push(second)?;
-    Ok(terms)
-}
+use tb_terms::{Items, NoMemory, Pattern, Patterns, Sort, Term, same};
 
 fn patterns(alloc: Global, first: Pattern, second: Pattern) -> Result<Patterns, NoMemory>
     ensures { IfOk result (λ ps. ps ≡ first ∷ second ∷ []) }
@@ -36,81 +20,105 @@ fn patterns(alloc: Global, first: Pattern, second: Pattern) -> Result<Patterns, 
     Ok(patterns)
 }
 
-fn ints(alloc: Global, name_bytes: &[u8], first: i64, second: i64) -> Result<Term, NoMemory> {
-    let parts = terms(alloc, Term::Int(first), Term::Int(second))?;
-    Ok(Term::Appl(name(alloc, name_bytes)?, parts))
-}
-
-/// The slots and the numbers that they are bound to.
-fn numbers(alloc: Global, binds: &Binds) -> Result<Vec<(u32, i64)>, NoMemory> {
-    let mut numbers = Vec::new(alloc);
-    for bind in binds.as_slice() {
-        if let Term::Int(number) = &bind.value {
-            numbers.push((bind.slot, *number))?;
+/// Whether these are the numbers to which slots are bound.
+fn are_numbers(binds: &Binds, wanted: &[(u32, i64)]) -> bool {
+    for (bind, (slot, number)) in binds.as_slice().iter().zip(wanted) {
+        if bind.slot != *slot || !same(&bind.value, &Term::Int(*number)) {
+            return false;
         }
     }
-    Ok(numbers)
+    binds.len() == wanted.len()
+}
+
+/// Terms, and what is bound where they match `f(V7?, V7?)`.
+static TWICE: [(Spelt, Option<&[(u32, i64)]>); 3] = [
+    (Spelt::Appl(b"f", &[Spelt::Int(1), Spelt::Int(2)]), None),
+    (Spelt::Appl(b"g", &[Spelt::Int(3), Spelt::Int(3)]), None),
+    (
+        Spelt::Appl(b"f", &[Spelt::Int(3), Spelt::Int(3)]),
+        Some(&[(7, 3)]),
+    ),
+];
+
+/// `f(V7?, V7?)`
+fn twice(alloc: Global) -> Result<Pattern, NoMemory> {
+    let first = Pattern::Result(7, Sort::Int);
+    let taken = patterns(alloc, first, Pattern::Result(7, Sort::Int))?;
+    Ok(Pattern::Appl(name(alloc, b"f")?, taken))
+}
+
+/// Whether what is bound, and its copy, are as wanted.
+fn are_bound(
+    alloc: Global,
+    found: &Option<Binds>,
+    wanted: &Option<&[(u32, i64)]>,
+) -> Result<bool, NoMemory> {
+    match (found, wanted) {
+        (Some(binds), Some(numbers)) => {
+            let copies = copy_binds(alloc, binds)?;
+            Ok(are_numbers(binds, numbers) && are_numbers(&copies, numbers))
+        }
+        (None, None) => Ok(true),
+        _ => Ok(false),
+    }
+}
+
+fn is_twice(
+    alloc: Global,
+    spelt: &Spelt,
+    wanted: &Option<&[(u32, i64)]>,
+) -> Result<bool, NoMemory> {
+    let found = match_term(alloc, &twice(alloc)?, &term(alloc, spelt)?)?;
+    Ok(are_bound(alloc, &found, wanted)?)
 }
 
 #[test]
 fn a_variable_that_comes_again_needs_an_equal_term(rt: HostRuntime) -> Result<(), Fail> {
-    let alloc = rt.alloc();
-    let taken = patterns(
-        alloc,
-        Pattern::Result(7, Sort::Int),
-        Pattern::Result(7, Sort::Int),
-    )?;
-    let pattern = Pattern::Appl(name(alloc, b"f")?, taken);
-    assert!(rt; match_term(alloc, &pattern, &ints(alloc, b"f", 1, 2)?)?.is_none());
-    assert!(rt; match_term(alloc, &pattern, &ints(alloc, b"g", 3, 3)?)?.is_none());
-    let binds = match_term(alloc, &pattern, &ints(alloc, b"f", 3, 3)?)?.ok_or(NoMemory)?;
-    assert_eq!(rt; numbers(alloc, &binds)?.as_slice(), [(7, 3)].as_slice());
-    let copies = copy_binds(alloc, &binds)?;
-    assert_eq!(rt; numbers(alloc, &copies)?.as_slice(), [(7, 3)].as_slice());
+    for (place, (spelt, wanted)) in TWICE.iter().enumerate() {
+        assert!(rt; is_twice(rt.alloc(), spelt, wanted)?, "at {place}");
+    }
     matches_bind_once();
     matches_are_least();
     list_matches_are_least();
     Ok(())
 }
 
+static SAMPLES: [Spelt; 5] = [
+    Spelt::Appl(b"true", &[]),
+    Spelt::Int(-5),
+    Spelt::Str("a"),
+    Spelt::List(&[Spelt::Int(1)]),
+    Spelt::Appl(b"calc", &[Spelt::Int(0)]),
+];
+
+/// A sort, and of each sample whether it has the sort.
+static SORTED: [(SpeltSort, [bool; 5]); 7] = [
+    (SpeltSort::Bool, [true, false, false, false, false]),
+    (SpeltSort::Int, [false, true, false, false, false]),
+    (SpeltSort::Str, [false, false, true, false, false]),
+    (
+        SpeltSort::ListOf(&SpeltSort::Int),
+        [false, false, false, true, false],
+    ),
+    (
+        SpeltSort::ListOf(&SpeltSort::Str),
+        [false, false, false, false, false],
+    ),
+    (SpeltSort::Tool(b"calc"), [false, false, false, false, true]),
+    (SpeltSort::Any, [true, true, true, true, true]),
+];
+
+/// Whether a placeholder of the sort takes the term.
+fn takes(alloc: Global, spelt_sort: &SpeltSort, spelt: &Spelt) -> Result<bool, NoMemory> {
+    let hole = Pattern::Hole(sort(alloc, spelt_sort)?);
+    Ok(match_term(alloc, &hole, &term(alloc, spelt)?)?.is_some())
+}
+
 #[test]
 fn a_placeholder_takes_the_terms_of_its_sort(rt: HostRuntime) -> Result<(), Fail> {
-    let alloc = rt.alloc();
-    let mut one = Items::new(alloc);
-    one.push(Term::Int(1))?;
-    let mut number = Items::new(alloc);
-    number.push(Term::Int(0))?;
-    let samples = [
-        word(alloc, b"true")?,
-        Term::Int(-5),
-        text(alloc, "a")?,
-        Term::List(one),
-        Term::Appl(name(alloc, b"calc")?, number),
-    ];
-    // In the order of the samples, whether each has the sort.
-    let table = [
-        (Sort::Bool, [true, false, false, false, false]),
-        (Sort::Int, [false, true, false, false, false]),
-        (Sort::Str, [false, false, true, false, false]),
-        (
-            Sort::List(Boxed::new(alloc, Sort::Int)?),
-            [false, false, false, true, false],
-        ),
-        (
-            Sort::List(Boxed::new(alloc, Sort::Str)?),
-            [false, false, false, false, false],
-        ),
-        (
-            Sort::Tool(name(alloc, b"calc")?),
-            [false, false, false, false, true],
-        ),
-        (Sort::Any, [true, true, true, true, true]),
-    ];
-    for (sort, wanted) in &table {
-        let hole = Pattern::Hole(sort.copy(alloc)?);
-        for (sample, want) in samples.iter().zip(wanted) {
-            let found = match_term(alloc, &hole, sample)?;
-            assert_eq!(rt; found.is_some(), *want);
+    for (place, (sort, wanted)) in SORTED.iter().enumerate() {
+        for (sample, want) in SAMPLES.iter().zip(wanted) {
+            assert_eq!(rt; takes(rt.alloc(), sort, sample)?, *want, "at {place}");
         }
     }
     Ok(())
@@ -118,55 +126,90 @@ fn a_placeholder_takes_the_terms_of_its_sort(rt: HostRuntime) -> Result<(), Fail
 
 /// The list of 5, a list of the variables with slots 2 and 1, and the variable with slot 2.
 fn nested(alloc: Global) -> Result<Patterns, NoMemory> {
-    let taken = patterns(
-        alloc,
-        Pattern::Result(2, Sort::Any),
-        Pattern::Result(1, Sort::Int),
-    )?;
+    let first = Pattern::Result(2, Sort::Any);
+    let taken = patterns(alloc, first, Pattern::Result(1, Sort::Int))?;
     let list = patterns(alloc, Pattern::Fixed(Term::Int(5)), Pattern::List(taken))?;
-    patterns(alloc, Pattern::List(list), Pattern::Result(2, Sort::Int))
+    Ok(patterns(alloc, Pattern::List(list), Pattern::Result(2, Sort::Int))?)
 }
 
-/// `[first,[second,9]]` and third.
-fn nested_terms(alloc: Global, first: i64, second: i64, third: i64) -> Result<Terms, NoMemory> {
-    let inner = Term::List(terms(alloc, Term::Int(second), Term::Int(9))?);
-    let list = Term::List(terms(alloc, Term::Int(first), inner)?);
-    terms(alloc, list, Term::Int(third))
+/// Terms, and what is bound where they match these.
+static NESTED: [(&[Spelt], Option<&[(u32, i64)]>); 4] = [
+    (
+        &[
+            Spelt::List(&[Spelt::Int(5), Spelt::List(&[Spelt::Int(8), Spelt::Int(9)])]),
+            Spelt::Int(8),
+        ],
+        Some(&[(2, 8), (1, 9)]),
+    ),
+    (
+        &[
+            Spelt::List(&[Spelt::Int(5), Spelt::List(&[Spelt::Int(8), Spelt::Int(9)])]),
+            Spelt::Int(7),
+        ],
+        None,
+    ),
+    (
+        &[
+            Spelt::List(&[Spelt::Int(4), Spelt::List(&[Spelt::Int(8), Spelt::Int(9)])]),
+            Spelt::Int(8),
+        ],
+        None,
+    ),
+    (
+        &[Spelt::List(&[Spelt::Int(5), Spelt::List(&[Spelt::Int(8), Spelt::Int(9)])])],
+        None,
+    ),
+];
+
+fn is_nested(
+    alloc: Global,
+    spelt: &[Spelt],
+    wanted: &Option<&[(u32, i64)]>,
+) -> Result<bool, NoMemory> {
+    let found = match_list(alloc, &nested(alloc)?, &terms(alloc, spelt)?)?;
+    Ok(are_bound(alloc, &found, wanted)?)
 }
 
 #[test]
 fn lists_match_part_by_part(rt: HostRuntime) -> Result<(), Fail> {
-    let alloc = rt.alloc();
-    let wanted = nested(alloc)?;
-    let table = [(5, 8, 8, true), (5, 8, 7, false), (4, 8, 8, false)];
-    for (first, second, third, want) in table {
-        let found = match_list(alloc, &wanted, &nested_terms(alloc, first, second, third)?)?;
-        assert_eq!(rt; found.is_some(), want, "at {first}, {second}, {third}");
+    for (place, (spelt, wanted)) in NESTED.iter().enumerate() {
+        assert!(rt; is_nested(rt.alloc(), spelt, wanted)?, "at {place}");
     }
-    let binds = match_list(alloc, &wanted, &nested_terms(alloc, 5, 8, 8)?)?.ok_or(NoMemory)?;
-    assert_eq!(rt;
-        numbers(alloc, &binds)?.as_slice(),
-        [(2, 8), (1, 9)].as_slice()
-    );
-    let mut shorter = nested_terms(alloc, 5, 8, 8)?;
-    assert!(rt; shorter.pop().is_some_and(|last| same(&last, &Term::Int(8))));
-    assert!(rt; match_list(alloc, &wanted, &shorter)?.is_none());
     Ok(())
+}
+
+/// Terms, and whether they fit 1 and any string.
+static FITTING: [(&[Spelt], bool); 3] = [
+    (&[Spelt::Int(1), Spelt::Str("a")], true),
+    (&[Spelt::Int(2), Spelt::Str("a")], false),
+    (&[Spelt::Int(1), Spelt::Int(1)], false),
+];
+
+fn fits(alloc: Global, spelt: &[Spelt]) -> Result<bool, NoMemory> {
+    let terms = terms(alloc, spelt)?;
+    let first = Pattern::Fixed(Term::Int(1));
+    let wanted = patterns(alloc, first, Pattern::Hole(Sort::Str))?;
+    Ok(fits_list(&wanted, &terms))
+}
+
+/// Whether the nested patterns are the same as themselves, and as others.
+fn compared(alloc: Global) -> Result<(bool, bool), NoMemory> {
+    let first = Pattern::Fixed(Term::Int(1));
+    let others = patterns(alloc, first, Pattern::Hole(Sort::Str))?;
+    let nested_once = nested(alloc)?;
+    let nested_twice = nested(alloc)?;
+    Ok((
+        same_patterns(&nested_once, &nested_twice),
+        same_patterns(&nested_once, &others),
+    ))
 }
 
 #[test]
 fn patterns_without_variables_fit(rt: HostRuntime) -> Result<(), Fail> {
-    let alloc = rt.alloc();
-    let wanted = patterns(
-        alloc,
-        Pattern::Fixed(Term::Int(1)),
-        Pattern::Hole(Sort::Str),
-    )?;
-    assert!(rt; fits_list(&wanted, &terms(alloc, Term::Int(1), text(alloc, "a")?)?));
-    assert!(rt; !fits_list(&wanted, &terms(alloc, Term::Int(2), text(alloc, "a")?)?));
-    assert!(rt; !fits_list(&wanted, &terms(alloc, Term::Int(1), Term::Int(1))?));
-    assert!(rt; same_patterns(&nested(alloc)?, &nested(alloc)?));
-    assert!(rt; !same_patterns(&nested(alloc)?, &wanted));
+    for (place, (spelt, wanted)) in FITTING.iter().enumerate() {
+        assert_eq!(rt; fits(rt.alloc(), spelt)?, *wanted, "at {place}");
+    }
+    assert_eq!(rt; compared(rt.alloc())?, (true, false));
     Ok(())
 }
 
@@ -208,18 +251,54 @@ fn deep_pattern(alloc: Global, levels: usize) -> Result<Pattern, NoMemory> {
     Ok(pattern)
 }
 
+/// A large pattern and a large term.
+#[derive(Clone, Copy, Debug)]
+enum Large {
+    /// So many placeholders, and so many numbers.
+    Wide(usize, usize),
+    /// A list of so many numbers twice.
+    Fixed(usize),
+    /// A variable in so many levels, and so many levels of lists.
+    Deep(usize, usize),
+}
+
+/// How many variables are bound, where the two match.
+static LARGE: [(Large, Option<usize>); 5] = [
+    (Large::Wide(65_535, 65_535), Some(0)),
+    (Large::Wide(65_535, 65_534), None),
+    (Large::Fixed(65_535), Some(0)),
+    (Large::Deep(64, 64), Some(1)),
+    (Large::Deep(65, 64), None),
+];
+
+fn pattern_of(alloc: Global, large: &Large) -> Result<Pattern, NoMemory> {
+    match large {
+        Large::Wide(count, _) => Ok(wide_pattern(alloc, *count)?),
+        Large::Fixed(count) => Ok(Pattern::Fixed(wide(alloc, *count)?)),
+        Large::Deep(levels, _) => Ok(deep_pattern(alloc, *levels)?),
+    }
+}
+
+fn term_of(alloc: Global, large: &Large) -> Result<Term, NoMemory> {
+    match large {
+        Large::Wide(_, count) | Large::Fixed(count) => Ok(wide(alloc, *count)?),
+        Large::Deep(_, levels) => Ok(deep(alloc, *levels)?),
+    }
+}
+
+fn bound(alloc: Global, large: &Large) -> Result<Option<usize>, NoMemory> {
+    let pattern = pattern_of(alloc, large)?;
+    let term = term_of(alloc, large)?;
+    match match_term(alloc, &pattern, &term)? {
+        Some(binds) => Ok(Some(binds.len())),
+        None => Ok(None),
+    }
+}
+
 #[test]
 fn the_largest_terms_are_matched(rt: HostRuntime) -> Result<(), Fail> {
-    let alloc = rt.alloc();
-    let list = wide(alloc, 65_535)?;
-    let holes = wide_pattern(alloc, 65_535)?;
-    assert!(rt; match_term(alloc, &holes, &list)?.is_some());
-    assert!(rt; match_term(alloc, &holes, &wide(alloc, 65_534)?)?.is_none());
-    let fixed = Pattern::Fixed(list.copy(alloc)?);
-    assert!(rt; match_term(alloc, &fixed, &list)?.is_some());
-    let nested = deep(alloc, 64)?;
-    let found = match_term(alloc, &deep_pattern(alloc, 64)?, &nested)?.ok_or(NoMemory)?;
-    assert_eq!(rt; found.len(), 1);
-    assert!(rt; match_term(alloc, &deep_pattern(alloc, 65)?, &nested)?.is_none());
+    for (large, wanted) in &LARGE {
+        assert_eq!(rt; bound(rt.alloc(), large)?, *wanted, "at {large:?}");
+    }
     Ok(())
 }

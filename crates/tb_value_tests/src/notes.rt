@@ -1,3 +1,5 @@
+//! Notes that are found and taken, the room of a queue, and subscriptions.
+
 ghost use Rattle.std.specs.Prelude.{◌≡◌, [], ◌∷◌, IfOk};
 
 use std::alloc::Global;
@@ -54,18 +56,26 @@ fn stand_at(
     Ok(true)
 }
 
+/// Whether the note 1, with one variable, is the oldest, which is taken.
+fn takes_first(alloc: Global, inbox: &mut Inbox) -> Result<bool, NoMemory> {
+    let taking = patterns(alloc, Pattern::Result(7, Sort::Int))?;
+    let wanted = note(alloc, 1)?;
+    match inbox.find(&taking)? {
+        Some(found) => {
+            let taken = inbox.take(found.place);
+            Ok(found.place == 0 && found.binds.len() == 1 && same_terms(&taken, &wanted))
+        }
+        None => Ok(false),
+    }
+}
+
 #[test]
 fn the_oldest_note_that_matches_is_found(rt: HostRuntime) -> Result<(), Fail> {
     let alloc = rt.alloc();
     let mut inbox = filled(alloc)?;
     let before = [(1, Some(0)), (2, Some(1)), (3, Some(2)), (4, None)];
     assert!(rt; stand_at(alloc, &inbox, &before)?);
-    let taking = patterns(alloc, Pattern::Result(7, Sort::Int))?;
-    if let Some(found) = inbox.find(&taking)? {
-        assert_eq!(rt; (found.place, found.binds.len()), (0, 1));
-        let taken = inbox.take(found.place);
-        assert!(rt; same_terms(&taken, &note(alloc, 1)?));
-    }
+    assert!(rt; takes_first(alloc, &mut inbox)?);
     let after = [(1, None), (2, Some(0)), (3, Some(1)), (4, None)];
     assert!(rt; stand_at(alloc, &inbox, &after)?);
     inbox.show_order();

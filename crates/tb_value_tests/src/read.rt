@@ -1,17 +1,102 @@
+//! The reading of terms: texts written again, faults at their positions, and the limits.
+
+use crate::spelt::{SpeltSort, sort, written};
 use std::alloc::Global;
 use std::test::Fail;
 use tb_read::{
     Limits, TermFault, each_text_has_one, faults_are_unique, numeral_faults, read_term,
     read_within, reading_is_unique, syntax_begins, syntax_stops, written_text_reads,
 };
-use tb_terms::{Boxed, Sort, depth, has_sort, same, size, write_term};
+use tb_terms::{Sort, depth, has_sort, same, size};
 
-/// The text as it is written again, where it reads as a term.
-fn rewritten(alloc: Global, text: &[u8]) -> Result<Vec<u8>, TermFault> {
+/// A text, and how the term that it reads as is written again, without blanks.
+static REWRITTEN: [(&[u8], &[u8]); 13] = [
+    (b" [1, 2]", b"[1,2]"),
+    (b"[ ]", b"[]"),
+    (b"007", b"7"),
+    (b"-0", b"0"),
+    (b"-9223372036854775808", b"-9223372036854775808"),
+    (b"9223372036854775807", b"9223372036854775807"),
+    (b"true", b"true"),
+    (b"snd-msg ( f(a_1) , \"x\" )\n", b"snd-msg(f(a_1),\"x\")"),
+    (b"f( g ( h ) , [ [ ] , -12 ] )", b"f(g(h),[[],-12])"),
+    (b"\"\\\\ \\\" \\n \\r \\t\"", b"\"\\\\ \\\" \\n \\r \\t\""),
+    (b"\"a\tb\"", b"\"a\\tb\""),
+    (b"\"\x7F\"", b"\"\x7F\""),
+    (
+        b"\"\xC3\xA9 \xE2\x82\xAC \xF0\x9F\x98\x80\"",
+        b"\"\xC3\xA9 \xE2\x82\xAC \xF0\x9F\x98\x80\"",
+    ),
+];
+
+static NUMBERS: [(&[u8], TermFault); 14] = [
+    (b"3.5", TermFault::Real(0)),
+    (b"-3.5", TermFault::Real(0)),
+    (b"[1,2.5]", TermFault::Real(3)),
+    (b"99999999999999999999.5", TermFault::Real(0)),
+    (b"9223372036854775808", TermFault::IntRange(0)),
+    (b"-9223372036854775809", TermFault::IntRange(0)),
+    (b"[99999999999999999999,x y", TermFault::IntRange(1)),
+    (b"99999999999999999999.x", TermFault::IntRange(0)),
+    (b"1 99999999999999999999", TermFault::Syntax(2)),
+    (b"- 1", TermFault::Syntax(1)),
+    (b"-", TermFault::Syntax(1)),
+    (b"12a", TermFault::Syntax(2)),
+    (b"3.", TermFault::Syntax(1)),
+    (b"3.x", TermFault::Syntax(1)),
+];
+
+static BRACKETS: [(&[u8], usize); 15] = [
+    (b"", 0),
+    (b"  ", 2),
+    (b"f()", 2),
+    (b"[1 3.5", 3),
+    (b"[1,]", 3),
+    (b"[,1]", 1),
+    (b"a b", 2),
+    (b"1(2)", 1),
+    (b"f(1)(2)", 4),
+    (b"f(1", 3),
+    (b"f(x]", 3),
+    (b"[1)", 2),
+    (b"]", 0),
+    (b"A", 0),
+    (b"1,2", 1),
+];
+
+static STRINGS: [(&[u8], usize); 16] = [
+    (b"\"a", 2),
+    (b"\"a\\q\"", 3),
+    (b"\"a\\", 3),
+    (b"\"a\n\"", 2),
+    (b"\"a\r\"", 2),
+    (b"\"\x01\"", 1),
+    (b"\"\\\n\"", 2),
+    (b"\"\xFF\"", 1),
+    (b"\"\xC0\x80\"", 1),
+    (b"\"\xE2\"", 2),
+    (b"\"\xE2\\n\"", 2),
+    (b"\"\xE2\x82\n\"", 3),
+    (b"\"\xE0\x80\"", 2),
+    (b"\"\xED\xA0\x80\"", 2),
+    (b"\"\xF0\x80\"", 2),
+    (b"\"\xF4\x90\"", 2),
+];
+
+/// Whether a text reads as a term with this text, which reads as the same.
+fn is_rewritten(alloc: Global, text: &[u8], wanted: &[u8]) -> Result<bool, TermFault> {
     let term = read_term(alloc, text)?;
-    let mut written = Vec::new(alloc);
-    write_term(&term, &mut written)?;
-    Ok(written)
+    let again = written(alloc, &term)?;
+    let reread = read_term(alloc, again.as_slice())?;
+    Ok(again.as_slice() == wanted && same(&term, &reread))
+}
+
+#[test]
+fn a_text_is_written_again_without_blanks(rt: HostRuntime) -> Result<(), Fail> {
+    for (text, wanted) in &REWRITTEN {
+        assert!(rt; is_rewritten(rt.alloc(), text, wanted)?, "at {text:?}");
+    }
+    Ok(())
 }
 
 fn fault_of(alloc: Global, text: &[u8]) -> Option<TermFault> {
@@ -21,229 +106,166 @@ fn fault_of(alloc: Global, text: &[u8]) -> Option<TermFault> {
     }
 }
 
-/// So many opening brackets, this text, and as many closing brackets.
-fn nested(alloc: Global, levels: usize, inner: &[u8]) -> Result<Vec<u8>, TermFault> {
-    let mut text = vec![in alloc; b'['; levels]?;
-    text.extend_from_slice(inner)?;
-    let closing = vec![in alloc; b']'; levels]?;
-    text.extend_from_slice(closing.as_slice())?;
-    Ok(text)
-}
-
-/// A list of so many ones.
-fn flat(alloc: Global, count: usize) -> Result<Vec<u8>, TermFault> {
-    let mut text = Vec::from_slice(alloc, b"[1")?;
-    for _position in 1..count {
-        text.extend_from_slice(b",1")?;
+#[test]
+fn faults_stand_at_their_position(rt: HostRuntime) {
+    for (text, want) in &NUMBERS {
+        assert_eq!(rt; fault_of(rt.alloc(), text), Some(*want), "at {text:?}");
     }
-    text.push(b']')?;
-    Ok(text)
+    for (text, position) in &BRACKETS {
+        let want = Some(TermFault::Syntax(*position));
+        assert_eq!(rt; fault_of(rt.alloc(), text), want, "at {text:?}");
+    }
+    for (text, position) in &STRINGS {
+        let want = Some(TermFault::Syntax(*position));
+        assert_eq!(rt; fault_of(rt.alloc(), text), want, "at {text:?}");
+    }
 }
 
-/// A string of so many newlines, each as an escape.
-fn newlines(alloc: Global, count: usize) -> Result<Vec<u8>, TermFault> {
-    let mut text = vec![in alloc; b'"'; 1]?;
+/// A large text.
+#[derive(Clone, Copy, Debug)]
+enum Large {
+    /// So many opening brackets, this text, and as many closing brackets.
+    Nested(usize, &'static [u8]),
+    /// A list of so many ones.
+    Flat(usize),
+    /// A string of so many newlines, each as an escape.
+    Newlines(usize),
+    /// So many bytes of one kind.
+    Row(u8, usize),
+}
+
+static LIMITS: [(Large, Option<TermFault>); 12] = [
+    (Large::Flat(65535), None),
+    (Large::Flat(65536), Some(TermFault::TooLarge)),
+    (Large::Nested(63, b"1"), None),
+    (Large::Nested(64, b"1"), Some(TermFault::TooDeep)),
+    (Large::Nested(64, b""), None),
+    (Large::Nested(65537, b""), Some(TermFault::TooLarge)),
+    (Large::Nested(32768, b""), Some(TermFault::TooDeep)),
+    (Large::Row(b'[', 65536), Some(TermFault::Syntax(65536))),
+    // names and strings count in the size
+    (Large::Row(b'a', 65535), None),
+    (Large::Row(b'a', 65536), Some(TermFault::TooLarge)),
+    (Large::Newlines(65535), None),
+    (Large::Newlines(65536), Some(TermFault::TooLarge)),
+];
+
+/// This text, so many times another, and a last one.
+fn around(
+    alloc: Global,
+    first: &[u8],
+    count: usize,
+    part: &[u8],
+    last: &[u8],
+) -> Result<Vec<u8>, TermFault> {
+    let mut text = Vec::from_slice(alloc, first)?;
     for _position in 0..count {
-        text.extend_from_slice(b"\\n")?;
+        text.extend_from_slice(part)?;
     }
-    text.push(b'"')?;
+    text.extend_from_slice(last)?;
     Ok(text)
 }
 
-#[test]
-fn a_text_is_written_again_without_blanks(rt: HostRuntime) -> Result<(), Fail> {
-    let table: [(&[u8], &[u8]); 13] = [
-        (b" [1, 2]", b"[1,2]"),
-        (b"[ ]", b"[]"),
-        (b"007", b"7"),
-        (b"-0", b"0"),
-        (b"-9223372036854775808", b"-9223372036854775808"),
-        (b"9223372036854775807", b"9223372036854775807"),
-        (b"true", b"true"),
-        (b"snd-msg ( f(a_1) , \"x\" )\n", b"snd-msg(f(a_1),\"x\")"),
-        (b"f( g ( h ) , [ [ ] , -12 ] )", b"f(g(h),[[],-12])"),
-        (b"\"\\\\ \\\" \\n \\r \\t\"", b"\"\\\\ \\\" \\n \\r \\t\""),
-        (b"\"a\tb\"", b"\"a\\tb\""),
-        (b"\"\x7F\"", b"\"\x7F\""),
-        (
-            b"\"\xC3\xA9 \xE2\x82\xAC \xF0\x9F\x98\x80\"",
-            b"\"\xC3\xA9 \xE2\x82\xAC \xF0\x9F\x98\x80\"",
-        ),
-    ];
-    for (text, want) in table {
-        let written = rewritten(rt.alloc(), text)?;
-        assert_eq!(rt; written.as_slice(), want, "at {text:?}");
-        let term = read_term(rt.alloc(), text)?;
-        let again = read_term(rt.alloc(), written.as_slice())?;
-        assert!(rt; same(&term, &again), "at {text:?}");
-    }
-    Ok(())
-}
-
-#[test]
-fn faults_of_numbers_stand_at_their_position(rt: HostRuntime) {
-    let table: [(&[u8], TermFault); 14] = [
-        (b"3.5", TermFault::Real(0)),
-        (b"-3.5", TermFault::Real(0)),
-        (b"[1,2.5]", TermFault::Real(3)),
-        (b"99999999999999999999.5", TermFault::Real(0)),
-        (b"9223372036854775808", TermFault::IntRange(0)),
-        (b"-9223372036854775809", TermFault::IntRange(0)),
-        (b"[99999999999999999999,x y", TermFault::IntRange(1)),
-        (b"99999999999999999999.x", TermFault::IntRange(0)),
-        (b"1 99999999999999999999", TermFault::Syntax(2)),
-        (b"- 1", TermFault::Syntax(1)),
-        (b"-", TermFault::Syntax(1)),
-        (b"12a", TermFault::Syntax(2)),
-        (b"3.", TermFault::Syntax(1)),
-        (b"3.x", TermFault::Syntax(1)),
-    ];
-    for (text, want) in table {
-        assert_eq!(rt; fault_of(rt.alloc(), text), Some(want), "at {text:?}");
-    }
-}
-
-#[test]
-fn faults_of_brackets_stand_at_their_position(rt: HostRuntime) {
-    let table: [(&[u8], usize); 15] = [
-        (b"", 0),
-        (b"  ", 2),
-        (b"f()", 2),
-        (b"[1 3.5", 3),
-        (b"[1,]", 3),
-        (b"[,1]", 1),
-        (b"a b", 2),
-        (b"1(2)", 1),
-        (b"f(1)(2)", 4),
-        (b"f(1", 3),
-        (b"f(x]", 3),
-        (b"[1)", 2),
-        (b"]", 0),
-        (b"A", 0),
-        (b"1,2", 1),
-    ];
-    for (text, position) in table {
-        let want = Some(TermFault::Syntax(position));
-        assert_eq!(rt; fault_of(rt.alloc(), text), want, "at {text:?}");
-    }
-}
-
-#[test]
-fn faults_of_strings_stand_at_their_position(rt: HostRuntime) {
-    let table: [(&[u8], usize); 16] = [
-        (b"\"a", 2),
-        (b"\"a\\q\"", 3),
-        (b"\"a\\", 3),
-        (b"\"a\n\"", 2),
-        (b"\"a\r\"", 2),
-        (b"\"\x01\"", 1),
-        (b"\"\\\n\"", 2),
-        (b"\"\xFF\"", 1),
-        (b"\"\xC0\x80\"", 1),
-        (b"\"\xE2\"", 2),
-        (b"\"\xE2\\n\"", 2),
-        (b"\"\xE2\x82\n\"", 3),
-        (b"\"\xE0\x80\"", 2),
-        (b"\"\xED\xA0\x80\"", 2),
-        (b"\"\xF0\x80\"", 2),
-        (b"\"\xF4\x90\"", 2),
-    ];
-    for (text, position) in table {
-        let want = Some(TermFault::Syntax(position));
-        assert_eq!(rt; fault_of(rt.alloc(), text), want, "at {text:?}");
+fn large_text(alloc: Global, large: &Large) -> Result<Vec<u8>, TermFault> {
+    match large {
+        Large::Nested(levels, inner) => {
+            let open = around(alloc, b"", *levels, b"[", inner)?;
+            Ok(around(alloc, open.as_slice(), *levels, b"]", b"")?)
+        }
+        Large::Flat(count) => Ok(around(alloc, b"[1", count.saturating_sub(1), b",1", b"]")?),
+        Large::Newlines(count) => Ok(around(alloc, b"\"", *count, b"\\n", b"\"")?),
+        Large::Row(byte, count) => Ok(vec![in alloc; *byte; *count]?),
     }
 }
 
 #[test]
 fn the_limits_are_kept(rt: HostRuntime) -> Result<(), Fail> {
-    let alloc = rt.alloc();
-    assert_eq!(rt; fault_of(alloc, flat(alloc, 65535)?.as_slice()), None);
-    assert_eq!(rt;
-        fault_of(alloc, flat(alloc, 65536)?.as_slice()),
-        Some(TermFault::TooLarge)
-    );
-    assert_eq!(rt; fault_of(alloc, nested(alloc, 63, b"1")?.as_slice()), None);
-    assert_eq!(rt;
-        fault_of(alloc, nested(alloc, 64, b"1")?.as_slice()),
-        Some(TermFault::TooDeep)
-    );
-    assert_eq!(rt; fault_of(alloc, nested(alloc, 64, b"")?.as_slice()), None);
-    let both = nested(alloc, 65537, b"")?;
-    assert_eq!(rt; fault_of(alloc, both.as_slice()), Some(TermFault::TooLarge));
-    let deep = nested(alloc, 32768, b"")?;
-    assert_eq!(rt; fault_of(alloc, deep.as_slice()), Some(TermFault::TooDeep));
-    let open = vec![in alloc; b'['; 65536]?;
-    assert_eq!(rt;
-        fault_of(alloc, open.as_slice()),
-        Some(TermFault::Syntax(65536))
-    );
+    for (spelt, want) in &LIMITS {
+        let text = large_text(rt.alloc(), spelt)?;
+        assert_eq!(rt;
+            fault_of(rt.alloc(), text.as_slice()),
+            *want,
+            "at {spelt:?}"
+        );
+    }
+    Ok(())
+}
+
+/// A size and levels, and what is read of a list of two numbers within them.
+static WITHIN: [(u8, u8, Option<TermFault>); 4] = [
+    (3, 2, None),
+    (2, 2, Some(TermFault::TooLarge)),
+    (3, 1, Some(TermFault::TooDeep)),
+    (2, 1, Some(TermFault::TooLarge)),
+];
+
+fn fault_within(alloc: Global, size: u8, levels: u8) -> Option<TermFault> {
+    let limits = Limits {
+        size: size as usize,
+        levels: levels as usize,
+    };
+    match read_within(alloc, b"[1,2]", limits) {
+        Ok(_term) => None,
+        Err(fault) => Some(fault),
+    }
+}
+
+#[test]
+fn other_limits_are_kept(rt: HostRuntime) {
+    for (size, levels, want) in &WITHIN {
+        let found = fault_within(rt.alloc(), *size, *levels);
+        assert_eq!(rt; found, *want, "within {size} and {levels}");
+    }
+}
+
+const INTS: SpeltSort = SpeltSort::ListOf(&SpeltSort::Int);
+
+const LISTS: SpeltSort = SpeltSort::ListOf(&SpeltSort::Any);
+
+/// A text at a limit, the size and the levels of its term, and a sort of the term.
+static WHOLE: [(Large, usize, usize, SpeltSort); 2] = [
+    (Large::Flat(65535), 65536, 2, INTS),
+    (Large::Nested(64, b""), 64, 64, LISTS),
+];
+
+/// Whether the copy of a text's term is the same, and has the text, and a sort, as it should.
+fn is_copied(alloc: Global, text: &[u8], spelt: &SpeltSort) -> Result<bool, TermFault> {
+    let term = read_term(alloc, text)?;
+    let copy = term.copy(alloc)?;
+    let again = written(alloc, &copy)?;
+    let sort = sort(alloc, spelt)?;
+    written_text_reads(&copy);
+    let sorted = has_sort(&copy, &sort) && !has_sort(&copy, &Sort::Bool);
+    Ok(sorted && same(&term, &copy) && again.as_slice() == text)
+}
+
+/// The size and the levels of a text's term.
+fn measured(alloc: Global, text: &[u8]) -> Result<(usize, usize), TermFault> {
+    let term = read_term(alloc, text)?;
+    let copy = term.copy(alloc)?;
+    Ok((size(&copy), depth(&copy)))
+}
+
+#[test]
+fn terms_at_the_limits_are_handled_whole(rt: HostRuntime) -> Result<(), Fail> {
+    for (spelt, size, levels, sort) in &WHOLE {
+        let text = large_text(rt.alloc(), spelt)?;
+        let found = measured(rt.alloc(), text.as_slice())?;
+        assert_eq!(rt; found, (*size, *levels), "at {spelt:?}");
+        assert!(rt;
+            is_copied(rt.alloc(), text.as_slice(), sort)?,
+            "at {spelt:?}"
+        );
+    }
+    Ok(())
+}
+
+#[test]
+fn laws_hold(_rt: HostRuntime) {
     reading_is_unique();
     faults_are_unique();
     each_text_has_one();
     syntax_begins();
     syntax_stops();
     numeral_faults();
-    Ok(())
-}
-
-#[test]
-fn other_limits_are_kept(rt: HostRuntime) -> Result<(), Fail> {
-    let alloc = rt.alloc();
-    let table = [
-        (3, 2, None),
-        (2, 2, Some(TermFault::TooLarge)),
-        (3, 1, Some(TermFault::TooDeep)),
-        (2, 1, Some(TermFault::TooLarge)),
-    ];
-    for (size, levels, want) in table {
-        let found = match read_within(alloc, b"[1,2]", Limits { size, levels }) {
-            Ok(_term) => None,
-            Err(fault) => Some(fault),
-        };
-        assert_eq!(rt; found, want, "within {size} and {levels}");
-    }
-    Ok(())
-}
-
-#[test]
-fn names_and_strings_count_in_the_size(rt: HostRuntime) -> Result<(), Fail> {
-    let alloc = rt.alloc();
-    let name = vec![in alloc; b'a'; 65536]?;
-    assert_eq!(rt; fault_of(alloc, &name.as_slice()[1..]), None);
-    assert_eq!(rt; fault_of(alloc, name.as_slice()), Some(TermFault::TooLarge));
-    let string = newlines(alloc, 65535)?;
-    assert_eq!(rt; fault_of(alloc, string.as_slice()), None);
-    let longer = newlines(alloc, 65536)?;
-    assert_eq!(rt;
-        fault_of(alloc, longer.as_slice()),
-        Some(TermFault::TooLarge)
-    );
-    Ok(())
-}
-
-#[test]
-fn terms_at_the_limits_are_handled_whole(rt: HostRuntime) -> Result<(), Fail> {
-    let alloc = rt.alloc();
-    let wide = flat(alloc, 65535)?;
-    let deep = nested(alloc, 64, b"")?;
-    let ints = Sort::List(Boxed::new(alloc, Sort::Int)?);
-    let lists = Sort::List(Boxed::new(alloc, Sort::Any)?);
-    let table: [(&[u8], usize, usize, &Sort); 2] = [
-        (wide.as_slice(), 65536, 2, &ints),
-        (deep.as_slice(), 64, 64, &lists),
-    ];
-    for (text, want_size, want_levels, sort) in table {
-        let term = read_term(alloc, text)?;
-        let copy = term.copy(alloc)?;
-        assert!(rt; same(&term, &copy));
-        assert_eq!(rt; size(&copy), want_size);
-        assert_eq!(rt; depth(&copy), want_levels);
-        assert!(rt; has_sort(&copy, sort));
-        assert!(rt; !has_sort(&copy, &Sort::Bool));
-        let mut written = Vec::new(alloc);
-        write_term(&copy, &mut written)?;
-        assert!(rt; written.as_slice() == text);
-        written_text_reads(&copy);
-    }
-    Ok(())
 }

@@ -1,225 +1,284 @@
+//! Names, strings, terms, sorts, expressions and patterns.
+
+use crate::spelt::{Spelt, SpeltSort, name, sort, term, terms, text, written};
 use std::alloc::Global;
 use std::test::Fail;
 use tb_terms::{
-    Boxed, Expr, Func, Ident, Items, Name, NoMemory, Pattern, Patterns, Sort, Term, Terms, Text,
+    Expr, Exprs, Func, Ident, Items, Name, NoMemory, Pattern, Patterns, Sort, Term, Text,
     copy_exprs, copy_patterns, copy_terms, depth, has_sort, initial, is_ident_bytes, is_name_bytes,
-    same, same_pattern_lists, same_terms, show_proper, size, write_term, write_terms,
+    same, same_pattern_lists, same_terms, show_proper, size, write_terms,
 };
 
-fn name(alloc: Global, bytes: &[u8]) -> Result<Name, NoMemory> {
-    Name::from_bytes(alloc, bytes)?.ok_or(NoMemory)
+/// Bytes, and whether they are a name and an identifier.
+static FORMS: [(&[u8], bool, bool); 9] = [
+    (b"a", true, false),
+    (b"snd-msg", true, false),
+    (b"a_B9", true, false),
+    (b"T", false, true),
+    (b"Node", false, true),
+    (b"Node-1", false, true),
+    (b"", false, false),
+    (b"9a", false, false),
+    (b"a b", false, false),
+];
+
+/// Bytes, and whether they are a string.
+static STRINGS: [(&[u8], bool); 4] = [
+    (b"a\x01", false),
+    (b"\xC3\x28", false),
+    (b"\xC3\xA9", true),
+    (b"a\tb", true),
+];
+
+/// Whether each call says of the bytes that they are a name or none, and gives them back.
+fn is_name(alloc: Global, bytes: &[u8], wanted: bool) -> Result<bool, NoMemory> {
+    let copied = Name::from_bytes(alloc, bytes)?.is_some();
+    let moved = match Name::from_vec(Vec::from_slice(alloc, bytes)?) {
+        Some(name) => wanted && name.into_vec().as_slice() == bytes,
+        None => !wanted,
+    };
+    Ok(moved && copied == wanted && is_name_bytes(bytes) == wanted)
 }
 
-fn text(alloc: Global, text: &str) -> Result<Text, NoMemory> {
-    Text::from_str(alloc, text)?.ok_or(NoMemory)
+/// Whether each call says of the bytes that they are an identifier or none, and gives them back.
+fn is_ident(alloc: Global, bytes: &[u8], wanted: bool) -> Result<bool, NoMemory> {
+    let copied = Ident::from_bytes(alloc, bytes)?.is_some();
+    let moved = match Ident::from_vec(Vec::from_slice(alloc, bytes)?) {
+        Some(ident) => wanted && ident.into_vec().as_slice() == bytes,
+        None => !wanted,
+    };
+    Ok(moved && copied == wanted && is_ident_bytes(bytes) == wanted)
 }
 
-fn pair(first: Term, second: Term, alloc: Global) -> Result<Terms, NoMemory> {
-    let mut terms = Items::new(alloc);
-    terms.push(first)?;
-    terms.push(second)?;
-    Ok(terms)
-}
-
-fn one(term: Term, alloc: Global) -> Result<Terms, NoMemory> {
-    let mut terms = Items::new(alloc);
-    terms.push(term)?;
-    Ok(terms)
-}
-
-/// `f([-7,g],"x\n\"")`
-fn sample(alloc: Global) -> Result<Term, NoMemory> {
-    let plain = Term::Appl(name(alloc, b"g")?, Items::new(alloc));
-    let list = Term::List(pair(Term::Int(-7), plain, alloc)?);
-    let string = Term::Str(text(alloc, "x\n\"")?);
-    Ok(Term::Appl(name(alloc, b"f")?, pair(list, string, alloc)?))
-}
-
-fn written(alloc: Global, term: &Term) -> Result<Vec<u8>, NoMemory> {
-    let mut into = Vec::new(alloc);
-    write_term(term, &mut into)?;
-    Ok(into)
+/// Whether the bytes are a string or none, and are given back.
+fn is_string(alloc: Global, bytes: &[u8], wanted: bool) -> Result<bool, NoMemory> {
+    match Text::from_vec(Vec::from_slice(alloc, bytes)?) {
+        Some(text) => Ok(wanted && text.into_vec().as_slice() == bytes),
+        None => Ok(!wanted),
+    }
 }
 
 #[test]
 fn names_and_strings_have_their_form(rt: HostRuntime) -> Result<(), Fail> {
-    let alloc = rt.alloc();
-    let table: [(&[u8], bool, bool); 8] = [
-        (b"a", true, false),
-        (b"snd-msg", true, false),
-        (b"a_B9", true, false),
-        (b"T", false, true),
-        (b"Node-1", false, true),
-        (b"", false, false),
-        (b"9a", false, false),
-        (b"a b", false, false),
-    ];
-    for (bytes, is_name, is_ident) in table {
-        assert_eq!(rt; is_name_bytes(bytes), is_name, "at {bytes:?}");
-        assert_eq!(rt; is_ident_bytes(bytes), is_ident, "at {bytes:?}");
-        assert_eq!(rt;
-            Name::from_bytes(alloc, bytes)?.is_some(),
-            is_name,
-            "at {bytes:?}"
-        );
-        assert_eq!(rt;
-            Ident::from_bytes(alloc, bytes)?.is_some(),
-            is_ident,
-            "at {bytes:?}"
-        );
+    for (bytes, of_name, of_ident) in &FORMS {
+        assert!(rt; is_name(rt.alloc(), bytes, *of_name)?, "at {bytes:?}");
+        assert!(rt; is_ident(rt.alloc(), bytes, *of_ident)?, "at {bytes:?}");
     }
-    assert!(rt; Text::from_str(alloc, "a\u{1}")?.is_none());
-    assert!(rt; Text::from_vec(vec![in alloc; 0xC3, 0x28]?).is_none());
-    assert!(rt; Text::from_vec(vec![in alloc; 0xC3, 0xA9]?).is_some());
-    let ident = Ident::new(alloc, b"T")?;
-    assert!(rt; ident.is_same(&ident.copy(alloc)?));
+    for (bytes, wanted) in &STRINGS {
+        assert!(rt; is_string(rt.alloc(), bytes, *wanted)?, "at {bytes:?}");
+    }
     Ok(())
 }
 
 #[test]
-fn bytes_are_given_back(rt: HostRuntime) -> Result<(), Fail> {
-    let alloc = rt.alloc();
-    let name = Name::from_vec(Vec::from_slice(alloc, b"snd-msg")?).ok_or(NoMemory)?;
-    assert_eq!(rt; name.into_vec().as_slice(), b"snd-msg".as_slice());
-    let ident = Ident::from_vec(Vec::from_slice(alloc, b"Node")?).ok_or(NoMemory)?;
-    assert_eq!(rt; ident.into_vec().as_slice(), b"Node".as_slice());
-    let text = Text::from_vec(Vec::from_slice(alloc, b"a\tb")?).ok_or(NoMemory)?;
-    assert_eq!(rt; text.into_vec().as_slice(), b"a\tb".as_slice());
-    assert!(rt; Name::from_vec(Vec::from_slice(alloc, b"Node")?).is_none());
-    assert!(rt; Ident::from_vec(Vec::from_slice(alloc, b"snd-msg")?).is_none());
-    let terms = Items::from_vec(vec![in alloc; Term::Int(4), Term::Int(5)]?);
-    assert_eq!(rt; terms.len(), 2);
+fn names_and_strings_are_made(rt: HostRuntime) -> Result<(), Fail> {
+    let ident = Ident::new(rt.alloc(), b"T")?;
+    assert!(rt; ident.is_same(&ident.copy(rt.alloc())?));
+    assert!(rt; Text::from_str(rt.alloc(), "a\u{1}")?.is_none());
     Ok(())
+}
+
+/// `f([-7,g],"x\n\"")`
+const SAMPLE: Spelt = Spelt::Appl(
+    b"f",
+    &[
+        Spelt::List(&[Spelt::Int(-7), Spelt::Appl(b"g", &[])]),
+        Spelt::Str("x\n\""),
+    ],
+);
+
+/// Terms in a row, and their text.
+static ROWS: [(&[Spelt], &[u8]); 2] = [
+    (&[SAMPLE], b"f([-7,g],\"x\\n\\\"\")"),
+    (&[SAMPLE, Spelt::List(&[])], b"f([-7,g],\"x\\n\\\"\"),[]"),
+];
+
+/// Whether terms have this text in a row, behind other bytes, and are the same as their copies.
+fn is_row(alloc: Global, spelt: &[Spelt], wanted: &[u8]) -> Result<bool, NoMemory> {
+    let terms = terms(alloc, spelt)?;
+    let copies = copy_terms(alloc, &terms)?;
+    let mut into = Vec::from_slice(alloc, b"> ")?;
+    write_terms(&terms, &mut into)?;
+    let (front, own) = match into.as_slice() {
+        [b'>', b' ', own @ ..] => (true, own),
+        own => (false, own),
+    };
+    Ok(front && own == wanted && terms.len() == spelt.len() && same_terms(&terms, &copies))
+}
+
+/// Whether the sample has its size and levels, and its text, and its copy is the same and a number isn't.
+fn is_sample(alloc: Global, wanted: &[u8]) -> Result<bool, NoMemory> {
+    let term = term(alloc, &SAMPLE)?;
+    show_proper(&term);
+    let copy = term.copy(alloc)?;
+    let text = written(alloc, &copy)?;
+    let measured = size(&term) == 10 && depth(&term) == 3;
+    Ok(measured && text.as_slice() == wanted && same(&term, &copy) && !same(&term, &Term::Int(1)))
 }
 
 #[test]
 fn a_term_is_written_copied_and_measured(rt: HostRuntime) -> Result<(), Fail> {
-    let alloc = rt.alloc();
-    let term = sample(alloc)?;
-    show_proper(&term);
-    assert_eq!(rt;
-        written(alloc, &term)?.as_slice(),
-        b"f([-7,g],\"x\\n\\\"\")".as_slice()
-    );
-    assert_eq!(rt; size(&term), 10);
-    assert_eq!(rt; depth(&term), 3);
-    let copy = term.copy(alloc)?;
-    assert!(rt; same(&term, &copy));
-    assert!(rt; !same(&term, &Term::Int(1)));
-    let terms = pair(term, Term::List(Items::new(alloc)), alloc)?;
-    assert!(rt; same_terms(&terms, &copy_terms(alloc, &terms)?));
-    let mut into = Vec::from_slice(alloc, b"> ")?;
-    write_terms(&terms, &mut into)?;
-    assert_eq!(rt; into.as_slice(), b"> f([-7,g],\"x\\n\\\"\"),[]".as_slice());
+    assert!(rt; is_sample(rt.alloc(), b"f([-7,g],\"x\\n\\\"\")")?);
+    for (spelt, wanted) in &ROWS {
+        assert!(rt; is_row(rt.alloc(), spelt, wanted)?, "at {wanted:?}");
+    }
     Ok(())
+}
+
+const INTS: SpeltSort = SpeltSort::ListOf(&SpeltSort::Int);
+
+const LISTS: SpeltSort = SpeltSort::ListOf(&SpeltSort::Any);
+
+const TOOL: SpeltSort = SpeltSort::Tool(b"calc");
+
+/// A sort, and the text of the value with which its variables begin.
+static FIRST_VALUES: [(SpeltSort, &[u8]); 7] = [
+    (SpeltSort::Bool, b"false"),
+    (SpeltSort::Int, b"0"),
+    (SpeltSort::Str, b"\"\""),
+    (INTS, b"[]"),
+    (LISTS, b"[]"),
+    (SpeltSort::Any, b"none"),
+    (TOOL, b"calc(0)"),
+];
+
+const MIXED: Spelt = Spelt::List(&[Spelt::Int(1), Spelt::Str("a")]);
+
+/// A term, a sort, and whether the term has it. A tool's terms have one number.
+static SORTED: [(Spelt, SpeltSort, bool); 9] = [
+    (MIXED, LISTS, true),
+    (MIXED, INTS, false),
+    (MIXED, TOOL, false),
+    (Spelt::Int(1), SpeltSort::Bool, false),
+    (Spelt::Appl(b"calc", &[Spelt::Int(-1)]), TOOL, true),
+    (Spelt::Appl(b"calc", &[]), TOOL, false),
+    (
+        Spelt::Appl(b"calc", &[Spelt::Int(1), Spelt::Int(2)]),
+        TOOL,
+        false,
+    ),
+    (
+        Spelt::Appl(b"true", &[Spelt::Int(1)]),
+        SpeltSort::Bool,
+        false,
+    ),
+    (Spelt::Appl(b"calc", &[]), SpeltSort::Str, false),
+];
+
+/// Whether a sort begins with the value of this text, which has the sort, and its copy is the same.
+fn begins_with(alloc: Global, spelt: &SpeltSort, wanted: &[u8]) -> Result<bool, NoMemory> {
+    let sort = sort(alloc, spelt)?;
+    let first = initial(alloc, &sort)?;
+    let text = written(alloc, &first)?;
+    let copy = sort.copy(alloc)?;
+    Ok(text.as_slice() == wanted && has_sort(&first, &sort) && sort.is_same(&copy))
+}
+
+fn is_sorted(alloc: Global, spelt: &Spelt, spelt_sort: &SpeltSort) -> Result<bool, NoMemory> {
+    let term = term(alloc, spelt)?;
+    let sort = sort(alloc, spelt_sort)?;
+    Ok(has_sort(&term, &sort))
+}
+
+fn are_same_sorts(alloc: Global, x: &SpeltSort, y: &SpeltSort) -> Result<bool, NoMemory> {
+    let x = sort(alloc, x)?;
+    let y = sort(alloc, y)?;
+    Ok(x.is_same(&y))
 }
 
 #[test]
 fn each_sort_has_its_terms_and_its_first_value(rt: HostRuntime) -> Result<(), Fail> {
-    let alloc = rt.alloc();
-    let ints = Sort::List(Boxed::new(alloc, Sort::Int)?);
-    let lists = Sort::List(Boxed::new(alloc, Sort::Any)?);
-    let tool = Sort::Tool(name(alloc, b"calc")?);
-    let table: [(&Sort, &[u8]); 7] = [
-        (&Sort::Bool, b"false"),
-        (&Sort::Int, b"0"),
-        (&Sort::Str, b"\"\""),
-        (&ints, b"[]"),
-        (&lists, b"[]"),
-        (&Sort::Any, b"none"),
-        (&tool, b"calc(0)"),
-    ];
-    for (sort, want) in table {
-        let first = initial(alloc, sort)?;
-        assert_eq!(rt; written(alloc, &first)?.as_slice(), want);
-        assert!(rt; has_sort(&first, sort));
-        assert!(rt; sort.is_same(&sort.copy(alloc)?));
+    for (sort, wanted) in &FIRST_VALUES {
+        assert!(rt; begins_with(rt.alloc(), sort, wanted)?, "at {wanted:?}");
     }
-    let mixed = Term::List(pair(Term::Int(1), Term::Str(text(alloc, "a")?), alloc)?);
-    assert!(rt; has_sort(&mixed, &lists));
-    assert!(rt; !has_sort(&mixed, &ints));
-    assert!(rt; !has_sort(&mixed, &tool));
-    assert!(rt; !has_sort(&Term::Int(1), &Sort::Bool));
-    assert!(rt; !ints.is_same(&lists));
+    for (place, (term, sort, wanted)) in SORTED.iter().enumerate() {
+        assert_eq!(rt; is_sorted(rt.alloc(), term, sort)?, *wanted, "at {place}");
+    }
+    assert!(rt; !are_same_sorts(rt.alloc(), &INTS, &LISTS)?);
     Ok(())
 }
 
-#[test]
-fn a_tool_s_terms_have_one_number(rt: HostRuntime) -> Result<(), Fail> {
-    let alloc = rt.alloc();
-    let tool = Sort::Tool(name(alloc, b"calc")?);
-    let numbered = Term::Appl(name(alloc, b"calc")?, one(Term::Int(-1), alloc)?);
-    assert!(rt; has_sort(&numbered, &tool));
-    let bare = Term::Appl(name(alloc, b"calc")?, Items::new(alloc));
-    assert!(rt; !has_sort(&bare, &tool));
-    let longer = Term::Appl(
-        name(alloc, b"calc")?,
-        pair(Term::Int(1), Term::Int(2), alloc)?,
-    );
-    assert!(rt; !has_sort(&longer, &tool));
-    let truth = Term::Appl(name(alloc, b"true")?, one(Term::Int(1), alloc)?);
-    assert!(rt; !has_sort(&truth, &Sort::Bool));
-    assert!(rt; !has_sort(&bare, &Sort::Str));
-    Ok(())
+/// `f(add(V3, -1), [V2?, <int>])`, and the string `x`.
+fn sample_exprs(alloc: Global) -> Result<Exprs, NoMemory> {
+    let call = Items::from_vec(vec![in alloc; Expr::Var(3), Expr::Int(-1)]?);
+    let list = Items::from_vec(vec![in alloc; Expr::Result(2), Expr::Hole(Sort::Int)]?);
+    let parts = vec![in alloc; Expr::Call(Func::Add, call), Expr::List(list)]?;
+    let whole = Expr::Appl(name(alloc, b"f")?, Items::from_vec(parts));
+    Ok(Items::from_vec(vec![in alloc; whole, Expr::Str(text(alloc, "x")?)]?))
 }
 
-fn is_sample_call(expr: &Expr) -> bool {
-    match expr {
-        Expr::Call(Func::Add, parts) => match parts.as_slice() {
-            [Expr::Var(3), Expr::Int(-1)] => true,
-            _ => false,
-        },
+fn are_sample(exprs: &Exprs) -> bool {
+    match exprs.as_slice() {
+        [Expr::Appl(head, parts), Expr::Str(string)] => {
+            head.as_bytes() == b"f".as_slice()
+                && string.as_bytes() == b"x".as_slice()
+                && are_sample_parts(parts)
+        }
         _ => false,
     }
 }
 
-fn is_sample_list(expr: &Expr) -> bool {
-    match expr {
-        Expr::List(parts) => match parts.as_slice() {
-            [Expr::Result(2), Expr::Hole(Sort::Int)] => true,
-            _ => false,
-        },
+fn are_sample_parts(exprs: &Exprs) -> bool {
+    match exprs.as_slice() {
+        [Expr::Call(Func::Add, call), Expr::List(list)] => {
+            is_sample_call(call) && is_sample_list(list)
+        }
+        _ => false,
+    }
+}
+
+fn is_sample_call(parts: &Exprs) -> bool {
+    match parts.as_slice() {
+        [Expr::Var(3), Expr::Int(-1)] => true,
+        _ => false,
+    }
+}
+
+fn is_sample_list(parts: &Exprs) -> bool {
+    match parts.as_slice() {
+        [Expr::Result(2), Expr::Hole(Sort::Int)] => true,
         _ => false,
     }
 }
 
 #[test]
 fn expressions_are_copied(rt: HostRuntime) -> Result<(), Fail> {
-    let alloc = rt.alloc();
-    let call = Items::from_vec(vec![in alloc; Expr::Var(3), Expr::Int(-1)]?);
-    let list = Items::from_vec(vec![in alloc; Expr::Result(2), Expr::Hole(Sort::Int)]?);
-    let parts = vec![in alloc; Expr::Call(Func::Add, call), Expr::List(list)]?;
-    let whole = Expr::Appl(name(alloc, b"f")?, Items::from_vec(parts));
-    let exprs = Items::from_vec(vec![in alloc; whole, Expr::Str(text(alloc, "x")?)]?);
-    let copies = copy_exprs(alloc, &exprs)?;
-    match copies.as_slice() {
-        [Expr::Appl(head, parts), Expr::Str(string)] => {
-            assert_eq!(rt; head.as_bytes(), b"f".as_slice());
-            assert_eq!(rt; string.as_bytes(), b"x".as_slice());
-            assert_eq!(rt; parts.len(), 2);
-            assert!(rt; parts.get(0).is_some_and(is_sample_call));
-            assert!(rt; parts.get(1).is_some_and(is_sample_list));
-        }
-        _ => assert!(rt; false, "the copy has other parts"),
-    }
+    let exprs = sample_exprs(rt.alloc())?;
+    assert!(rt; are_sample(&copy_exprs(rt.alloc(), &exprs)?));
     Ok(())
 }
 
-fn patterns(alloc: Global, slot: u32, head: &[u8], part: Term) -> Result<Patterns, NoMemory> {
-    let parts = Items::from_vec(vec![in alloc; Pattern::Hole(Sort::Str), Pattern::Fixed(part)]?);
-    let list = Pattern::List(Items::from_vec(vec![in alloc; Pattern::Result(slot, Sort::Any)]?));
-    let appl = Pattern::Appl(name(alloc, head)?, parts);
-    Ok(Items::from_vec(vec![in alloc; appl, list]?))
+/// `NAME(<str>, NUMBER)`, and a list of the variable with this slot.
+struct Pair(u32, &'static [u8], i64);
+
+/// Two patterns, and whether they are the same as those of the first row.
+static PAIRS: [(Pair, bool); 4] = [
+    (Pair(3, b"f", 1), true),
+    (Pair(4, b"f", 1), false),
+    (Pair(3, b"g", 1), false),
+    (Pair(3, b"f", 2), false),
+];
+
+fn patterns(alloc: Global, pair: &Pair) -> Result<Patterns, NoMemory> {
+    let part = Pattern::Fixed(Term::Int(pair.2));
+    let parts = Items::from_vec(vec![in alloc; Pattern::Hole(Sort::Str), part]?);
+    let list = Items::from_vec(vec![in alloc; Pattern::Result(pair.0, Sort::Any)]?);
+    let appl = Pattern::Appl(name(alloc, pair.1)?, parts);
+    Ok(Items::from_vec(vec![in alloc; appl, Pattern::List(list)]?))
+}
+
+/// Whether the copies of the first patterns are the same as those of a row.
+fn are_first(alloc: Global, pair: &Pair) -> Result<bool, NoMemory> {
+    let first = patterns(alloc, &Pair(3, b"f", 1))?;
+    let copies = copy_patterns(alloc, &first)?;
+    let others = patterns(alloc, pair)?;
+    Ok(same_pattern_lists(&copies, &others) && !same_pattern_lists(&first, &Items::new(alloc)))
 }
 
 #[test]
 fn patterns_are_copied_and_compared(rt: HostRuntime) -> Result<(), Fail> {
-    let alloc = rt.alloc();
-    let first = patterns(alloc, 3, b"f", Term::Int(1))?;
-    assert!(rt; same_pattern_lists(&first, &copy_patterns(alloc, &first)?));
-    assert!(rt; !same_pattern_lists(&first, &patterns(alloc, 4, b"f", Term::Int(1))?));
-    assert!(rt; !same_pattern_lists(&first, &patterns(alloc, 3, b"g", Term::Int(1))?));
-    assert!(rt; !same_pattern_lists(&first, &patterns(alloc, 3, b"f", Term::Int(2))?));
-    assert!(rt; !same_pattern_lists(&first, &Items::new(alloc)));
+    for (pair, wanted) in &PAIRS {
+        assert_eq!(rt; are_first(rt.alloc(), pair)?, *wanted, "at {}", pair.0);
+    }
     Ok(())
 }
