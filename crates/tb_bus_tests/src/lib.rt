@@ -1,2 +1,11 @@
 //! Tests of processes, of the bus and of its cores, over the texts of scripts.
 #![tactic(auto)]
+
+#[cfg(test)]
+mod algebra_tests;
+#[cfg(test)]
+mod scripts;
+#[cfg(test)]
+mod walk_tests;
+#[cfg(test)]
+mod walkers;
