@@ -5,11 +5,12 @@ ghost use Rattle.tb_algebra.specs.Binds.{takes_binds};
 ghost use Rattle.tb_algebra.specs.Walks.{offers_of};
 
 use std::alloc::Global;
+use std::test::Fail;
 use tb_algebra::Walker;
 use tb_body::Body;
 use tb_func::Store;
 use tb_match::Binds;
-use tb_terms::{Items, NoMemory, Term};
+use tb_terms::{Items, NoMemory, Term, Terms};
 
 /// How many moves a process makes at most.
 const MOST_MOVES: u64 = 16;
@@ -156,4 +157,27 @@ pub(crate) fn seen_after<W: Walker>(
         }
     }
     offers(alloc, &plan, &mut walker, ticks + 3)
+}
+
+/// How many variables a process binds as it receives these terms, where it may; its first offer receives.
+pub(crate) fn count_bound<W: Walker>(
+    alloc: Global,
+    body: &Body,
+    terms: &Terms,
+) -> Result<Option<usize>, Fail> {
+    let plan = W::plan(alloc, body)?;
+    let mut walker = W::start(alloc, &plan, Store::fresh(alloc, &body.sorts)?)?;
+    walker.look(alloc, &plan, 3)?;
+    let walker = walker.copy(alloc)?;
+    if walker.is_done() || !walker.is_fresh() || walker.offer_count() == 0 {
+        return Err(Fail::new("no offer"));
+    }
+    match walker.patterns(alloc, &plan, 0)? {
+        Some(patterns) if patterns.len() == 1 => {}
+        _ => return Err(Fail::new("not one pattern")),
+    }
+    match walker.accepts(alloc, &plan, 0, terms)? {
+        Some(binds) => Ok(Some(binds.len())),
+        None => Ok(None),
+    }
 }

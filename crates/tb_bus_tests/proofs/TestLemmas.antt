@@ -1,4 +1,4 @@
--- What the tests of walks rest on: what an accepted value binds is taken, a step takes no time, and a new store has its sorts.
+-- What the tests of walkers rest on: what an accepted value binds is taken, a step takes no time, and a new store has its sorts.
 use Rattle.std.proofs.Common.{◌≡◌, ℕ, ◌<◌, List, [], map, length, get_or, slice_get, IsTrue, Option, Some, None, option_and_then, ap, sym, ◌∙◌}
 use Rattle.std.specs.Option.{ForSome}
 use Rattle.std.proofs.lemmas.Option.{slice_get-get_or}
@@ -12,7 +12,7 @@ use Rattle.tb_algebra.specs.Atoms.{act_of, matched_exprs}
 use Rattle.tb_algebra.specs.Binds.{takes_binds}
 use Rattle.tb_algebra.specs.Offers.{Offered}
 use Rattle.tb_algebra.specs.Walks.{Walking, offers_of, accepted_by, fired, sorts_of}
-use Rattle.tb_algebra.proofs.StartLemmas.{sorts_fresh}
+use Rattle.tb_algebra.proofs.Sorts.{sorts-fresh}
 use Rattle.tb_algebra.proofs.Taken.{binds-taken}
 
 pub bound_taken : (atoms : List Atom) (ts : List Term) (offers : List Offered) (k : ℕ) (given : Option (List Bind)) (binds : List Bind) (x : Offered) → given ≡ option_and_then (accepted_by atoms ts) (slice_get offers k) → given ≡ Some binds → slice_get offers k ≡ Some x → IsTrue (takes_binds x.store binds)
@@ -26,4 +26,4 @@ fired_ticks before after k binds within h =
     ap (λ (w : Walking). w.ticks) (h offered (slice_get-get_or (offers_of before) k none within))
 
 pub store_fits : (store : List Slot) (sorts own : List Sort) → store ≡ map fresh_slot sorts → own ≡ sorts → sorts_of store ≡ own
-store_fits store sorts own e same = ap sorts_of e ∙ sorts_fresh sorts ∙ sym same
+store_fits store sorts own e same = ap sorts_of e ∙ sorts-fresh sorts ∙ sym same
