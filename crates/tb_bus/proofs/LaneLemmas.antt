@@ -4,7 +4,7 @@ use Rattle.std.specs.List.{list_all}
 use Rattle.std.proofs.lemmas.List.{length-map, length-set, length-replicate}
 use Rattle.tb_terms.specs.declared.term.Term.{Term}
 use Rattle.tb_notes.specs.Inboxes.{Held, oldest_match}
-use Rattle.tb_log.specs.Shapes.{IsLane}
+use Rattle.tb_log.specs.Shapes.{lane_count, IsLane}
 use Rattle.tb_log.specs.declared.entry.ToolLine.{ToolLine}
 use Rattle.tb_log.specs.declared.entry.ToolLine.TheVariants as tool_line
 use Rattle.tb_log.specs.declared.entry.Input.{Input}
@@ -15,7 +15,7 @@ use Rattle.tb_log.specs.declared.entry.Why.{Why}
 use Rattle.tb_log.specs.declared.entry.Why.TheVariants as why
 use Rattle.tb_log.specs.declared.entry.Reply.TheVariants.{Took, Dropped}
 use Rattle.tb_log.specs.declared.entry.LabelKind.TheVariants as kind
-use Rattle.tb_tools.specs.Lanes.{Lane, BenchState, lane_at, lane_count, on_lane, started, unused}
+use Rattle.tb_tools.specs.Lanes.{Lane, BenchState, lane_at, on_lane, started, unused}
 use Rattle.tb_tools.specs.Acts.{asked, told, terminated}
 use Rattle.tb_tools.specs.Finding.{first_out, has_out}
 use Rattle.tb_tools.specs.First.{NoLane, IsFirstLane}

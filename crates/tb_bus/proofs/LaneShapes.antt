@@ -14,12 +14,12 @@ use Rattle.tb_log.specs.declared.entry.ToolLine.TheVariants as tool_line
 use Rattle.tb_log.specs.declared.entry.Why.{Why}
 use Rattle.tb_log.specs.declared.entry.Why.TheVariants as why
 use Rattle.tb_log.specs.declared.entry.Reply.TheVariants.{Took, Dropped}
-use Rattle.tb_log.specs.Shapes.{has_parts, AreParts, IsForTool, IsOutInShape, IsToolLineInShape}
+use Rattle.tb_log.specs.Shapes.{lane_count, has_parts, AreParts, IsForTool, IsOutInShape, IsToolLineInShape}
 use Rattle.tb_tools.specs.declared.stage.Stage.{Stage}
 use Rattle.tb_tools.specs.declared.stage.Stage.TheVariants as stage
 use Rattle.tb_tools.specs.declared.stage.Eval.{Eval}
 use Rattle.tb_tools.specs.declared.stage.Eval.TheVariants as eval
-use Rattle.tb_tools.specs.Lanes.{Tool, Lane, BenchState, lane_count, unused, lane_at, tool_at, outs_at, on_lane, on_tool, with_tool, without_tool, with_out, is_empty, is_open, started, new_tool, opening}
+use Rattle.tb_tools.specs.Lanes.{Tool, Lane, BenchState, unused, lane_at, tool_at, outs_at, on_lane, on_tool, with_tool, without_tool, with_out, is_empty, is_open, started, new_tool, opening}
 use Rattle.tb_tools.specs.Acts.{answer_of, answer_by, answer_at, events_of, events_at, received_of, received_at, event_at, executed, connected, with_live_tool, left, with_question, asked, without_answer, value_taken, told, with_received, event_taken, with_acknowledged_of, with_acknowledged, acknowledged, last_line, ended_with, terminated, dismissed, gone_down, without_out, handed_out}
 use Rattle.tb_tools.specs.Inputs.{Answer, departed_by, departed, closed, lost, while_up, gone, cut, answered, with_event, with_line, dropped, line_by, put_line}
 use Rattle.tb_tools.specs.Finding.{next_out}

@@ -1,3 +1,3 @@
--- Definitions that proofs and private functions need, and that nobody has to believe.
+-- Definitions that proofs and private functions need, and that nobody has to believe who believes the program's call.
 pub mod Candidates
 pub mod Views

@@ -1,5 +1,6 @@
 ghost use Rattle.std.specs.Prelude.{◌≡◌, ◌≢◌, ◌≤◌, ◌<◌, ◌++◌, List, Contains, length, true, false};
 ghost use Rattle.std.specs.List.{All, AllPairs};
+ghost use Rattle.tb_log.specs.Shapes.{lane_count};
 ghost use Rattle.tb_log.specs.declared.entry.Input.{Input};
 ghost use Rattle.tb_log.specs.declared.entry.Label.{Label};
 ghost use Rattle.tb_log.specs.declared.entry.Reply.TheVariants.{Dropped};
@@ -46,7 +47,7 @@ pub fn one_bus_after_an_entry()
 
 /// A bus that a program reaches has 16 lanes, where no more commands are started at its opening.
 pub fn there_are_16_lanes()
-    ensures { (origin : Origin) (bus : Bus) → length origin.connects ≤ 16 → Reaches origin bus → length bus.bench.lanes ≡ 16 }
+    ensures { (origin : Origin) (bus : Bus) → length origin.connects ≤ lane_count → Reaches origin bus → length bus.bench.lanes ≡ lane_count }
 {}
 
 /// An input that is dropped leaves the bus as it was.

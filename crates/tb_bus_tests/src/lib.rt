@@ -2,18 +2,18 @@
 #![tactic(auto)]
 
 #[cfg(test)]
-mod algebra_tests;
+mod algebra;
 #[cfg(test)]
-mod bus_tests;
+mod bus;
 #[cfg(test)]
-mod code_tests;
+mod code;
 #[cfg(test)]
-mod core_tests;
+mod cores;
 #[cfg(test)]
 mod scripts;
 #[cfg(test)]
-mod search_tests;
+mod search;
 #[cfg(test)]
-mod walk_tests;
+mod walk;
 #[cfg(test)]
 mod walkers;

@@ -23,6 +23,3 @@ pub use real_sink::RealSink;
 pub use sink::{Failed, Sink};
 pub use sure_files::SureFiles;
 pub use sure_sink::SureSink;
-
-#[cfg(test)]
-mod tests;

@@ -1,4 +1,4 @@
--- What a process of a script has: a body, which is its expansion, or a fault.
+-- When no calls of a script form a cycle, and which body is the expansion of a process; which fault it has where it has none.
 use Rattle.std.specs.Prelude.{◌≡◌, ℕ, true, false, List, length}
 use Rattle.tb_body.specs.declared.body.Body.{Body}
 use Rattle.tb_syntax.specs.declared.script.ProcDef.{ProcDef}

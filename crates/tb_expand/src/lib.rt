@@ -12,8 +12,6 @@ mod fault;
 mod graph;
 mod number;
 mod order;
-#[cfg(test)]
-mod order_tests;
 mod parts;
 mod positions;
 mod scope;
@@ -21,8 +19,6 @@ mod seen;
 mod size;
 mod sizes;
 mod slots;
-#[cfg(test)]
-mod tests;
 mod walk;
 mod whole;
 

@@ -13,6 +13,3 @@ pub use laws::{
     a_feed_has_no_fault, a_line_says_one_input, a_text_has_one_fault, a_text_has_one_feed,
 };
 pub use reading::read_feed;
-
-#[cfg(test)]
-mod tests;

@@ -1,4 +1,4 @@
--- Which terms fit a shape, and which arguments fit a signature.
+-- Which sort a shape has, which terms fit it, and which arguments fit a signature.
 use Rattle.std.specs.Prelude.{Bool, List, [], ◌∷◌, take, IsTrue}
 use Rattle.std.specs.List.{AllZip}
 use Rattle.tb_terms.specs.declared.term.Term.{Term}

@@ -18,8 +18,6 @@ mod printing;
 mod shape;
 mod slot;
 mod store;
-#[cfg(test)]
-mod tests;
 mod values;
 
 pub use calls::apply;

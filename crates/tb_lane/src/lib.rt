@@ -4,8 +4,6 @@
 mod laws;
 mod line;
 mod read;
-#[cfg(test)]
-mod tests;
 
 pub use laws::{each_line_is_one, tool_lines_are_unique};
 pub use read::read_tool_line;

@@ -11,8 +11,6 @@ mod numeral;
 mod piece;
 mod quote;
 mod symbol;
-#[cfg(test)]
-mod tests;
 mod token;
 
 pub use fault::LexFault;

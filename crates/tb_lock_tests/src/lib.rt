@@ -2,10 +2,10 @@
 #![tactic(auto)]
 
 #[cfg(test)]
-mod bells_tests;
+mod bells;
 #[cfg(test)]
 mod crowd;
 #[cfg(test)]
-mod lock_tests;
+mod lock;
 #[cfg(test)]
 mod workers;

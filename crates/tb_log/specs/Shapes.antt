@@ -97,9 +97,13 @@ IsOutInShape (out.Start command) = Unit {0}
 IsOutInShape (out.Line term) = IsForTool (out-Term term)
 IsOutInShape out.End = Unit {0}
 
--- there are 16 lanes
+-- how many lanes there are
+abbrev pub lane_count : ℕ
+lane_count = 16
+
+-- lanes have the numbers from 1
 abbrev pub IsLane : ℕ → Type 0
-IsLane lane = (1 ≤ lane) × (lane ≤ 16)
+IsLane lane = (1 ≤ lane) × (lane ≤ lane_count)
 
 abbrev pub IsInputInShape : Input → Type 0
 IsInputInShape input.Tick = Unit {0}

@@ -2,13 +2,9 @@
 #![tactic(auto)]
 
 mod entry;
-#[cfg(test)]
-mod label_tests;
 mod log;
 mod proper;
 mod shape;
-#[cfg(test)]
-mod tests;
 mod text;
 
 pub use entry::{Entries, Entry, Input, Label, LabelKind, Out, Place, Reply, ToolLine, Why};

@@ -9,8 +9,6 @@ mod log;
 mod number;
 mod part;
 mod terms;
-#[cfg(test)]
-mod tests;
 mod unescape;
 mod word;
 mod words;

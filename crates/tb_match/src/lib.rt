@@ -5,8 +5,6 @@ mod bind;
 mod fit;
 mod laws;
 mod matching;
-#[cfg(test)]
-mod tests;
 
 pub use bind::{Bind, Binds, copy_binds};
 pub use fit::{fits_list, same_patterns};

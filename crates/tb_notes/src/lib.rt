@@ -5,8 +5,6 @@ mod inbox;
 mod laws;
 mod queue;
 mod subscriptions;
-#[cfg(test)]
-mod tests;
 
 pub use inbox::Inbox;
 pub use laws::{oldest_match_is_first, subscribing_adds, unsubscribing_removes};

@@ -1,4 +1,4 @@
--- Which fault tokens have that are no script within the limits: brackets first, then the grammar, then heights.
+-- When tokens are a script within the limits, and which fault others have: brackets first, then the grammar, then heights.
 use Rattle.std.specs.Prelude.{◌≡◌, ℕ, ◌+◌, ◌<◌, ◌≤◌, List, ◌++◌, length, take, Some, None, ◌⊎◌}
 use Rattle.tb_lex.specs.declared.kind.TokenKind.{TokenKind}
 use Rattle.tb_syntax.specs.declared.script.Script.{Script}

@@ -10,13 +10,9 @@ mod fault;
 mod kept;
 mod laws;
 mod parser;
-#[cfg(test)]
-mod print_tests;
 mod procs;
 mod reader;
 mod sorts;
-#[cfg(test)]
-mod tests;
 
 pub use fault::ParseFault;
 pub use laws::{each_row_has_one, faults_are_unique, spelling_is_unique};

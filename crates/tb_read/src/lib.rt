@@ -13,8 +13,6 @@ mod read;
 mod scan;
 mod shape;
 mod stack;
-#[cfg(test)]
-mod tests;
 mod token;
 
 pub use fault::TermFault;

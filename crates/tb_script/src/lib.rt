@@ -12,6 +12,3 @@ mod roots;
 pub use fault::ScriptFault;
 pub use laws::a_text_has_one_program;
 pub use loading::load;
-
-#[cfg(test)]
-mod tests;

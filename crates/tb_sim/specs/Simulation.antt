@@ -1,5 +1,4 @@
--- The simulation of a bus and a feed: turn after turn, what is to be handed out before anything else, and always the first
--- of the steps.
+-- The simulation of a bus and a feed: what is to be handed out before anything else, and always the first of the steps.
 use Rattle.std.specs.Prelude.{◌≡◌, ℕ, ◌+◌, nat_le, List, [], ◌∷◌, ◌++◌, length, Bool, true, false, if◌then◌else◌, Option, Some, None, option_map, option_and_then, ⊤}
 use Rattle.tb_bus.specs.declared.origin.Origin.{Origin}
 use Rattle.tb_bus.specs.Buses.{Bus}
@@ -8,6 +7,7 @@ use Rattle.tb_bus.specs.Traces.{fed, taken_out}
 use Rattle.tb_tools.specs.Lanes.{BenchState}
 use Rattle.tb_tools.specs.Finding.{first_out, next_out}
 use Rattle.tb_log.specs.Limits.{has_room}
+use Rattle.tb_log.specs.Shapes.{lane_count}
 use Rattle.tb_log.specs.declared.entry.Out.{Out}
 use Rattle.tb_log.specs.declared.entry.Input.{Input}
 use Rattle.tb_log.specs.declared.entry.Input.TheVariants.{NoTicks}
@@ -102,9 +102,9 @@ IsSim limits sim (entry ∷ log) end = (next : Sim) × (turn limits sim ≡ Make
 abbrev pub sim_start : Bus → List Input → Sim
 sim_start bus feed = record { bus = bus; log = []; steps_made = 0; quiet = false; left = feed }
 
--- the bus has 16 lanes
+-- the bus has all lanes
 abbrev pub HasLanes : Bus → Type 0
-HasLanes bus = length bus.bench.lanes ≡ 16
+HasLanes bus = length bus.bench.lanes ≡ lane_count
 
 -- Turn after turn the simulation makes this log, and may go on.
 abbrev pub IsSimPrefix : Limits → Sim → List Entry → Type 0

@@ -15,8 +15,6 @@ mod proper;
 mod push;
 mod script;
 mod sorts;
-#[cfg(test)]
-mod tests;
 mod text;
 mod words;
 

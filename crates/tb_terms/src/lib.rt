@@ -11,8 +11,6 @@ mod pattern;
 mod proper;
 mod sort;
 mod term;
-#[cfg(test)]
-mod tests;
 mod text;
 mod well_sorted;
 mod write;

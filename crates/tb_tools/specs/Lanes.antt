@@ -2,6 +2,7 @@
 use Rattle.std.specs.Prelude.{ℕ, ◌+◌, ◌-◌, pos, Bool, true, false, not, ◌&&◌, List, [], ◌∷◌, ◌++◌, length, map, replicate, slice_index_or, slice_set, Option, Some, None, is_none, option_map, if◌then◌else◌}
 use Rattle.tb_terms.specs.declared.term.Term.{Term}
 use Rattle.tb_terms.specs.declared.term.Term.TheVariants.{Int, Appl}
+use Rattle.tb_log.specs.Shapes.{lane_count}
 use Rattle.tb_log.specs.declared.entry.Out.{Out}
 use Rattle.tb_log.specs.declared.entry.Out.TheVariants.{Start}
 use Rattle.tb_tools.specs.declared.stage.Stage.{Stage}
@@ -33,10 +34,6 @@ pub record Lane : Type 0 where
 pub record BenchState : Type 0 where
   pub lanes : List Lane
   pub next_tool : ℕ
-
--- how many lanes there are
-abbrev pub lane_count : ℕ
-lane_count = 16
 
 -- the greatest number of a tool
 abbrev pub most_tools : ℕ

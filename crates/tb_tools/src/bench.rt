@@ -1,6 +1,6 @@
 ghost use Rattle.std.specs.Prelude.{◌≡◌, ◌≤◌, ◌<◌, ◌+◌, ◌-◌, length, pos, IsTrue, IsSome, IfOk, OnOk, OnErr, Some, option_map, map, count_by};
 ghost use Rattle.std.specs.Option.{option_copied, ForSome};
-ghost use Rattle.tb_log.specs.Shapes.{IsLane};
+ghost use Rattle.tb_log.specs.Shapes.{IsLane, lane_count};
 ghost use Rattle.tb_tools.specs.Lanes.{opening, started, unused, is_open, most_tools, is_stage_at, lane_at, tool_at, lane_state, term_of};
 ghost use Rattle.tb_tools.specs.Finding.{free_lane, find_tool, first_at, oldest_event, oldest_received, next_out, first_out};
 ghost use Rattle.tb_tools.specs.Inputs.{put_line, with_line, gone, cut, has_asked};
@@ -32,6 +32,7 @@ pub struct Bench {
 impl Model for Bench {
     ghost use Rattle.std.specs.Prelude.{◌≡◌, length};
     ghost use Rattle.std.specs.Coded.{codes};
+    ghost use Rattle.tb_log.specs.Shapes.{lane_count};
     ghost use Rattle.tb_terms.specs.contracts.term.Term as term_data;
     ghost use Rattle.tb_tools.specs.Lanes.{BenchState};
 
@@ -41,14 +42,14 @@ impl Model for Bench {
 
     ghost view = { λ bench. record { lanes = bench.lanes.items; next_tool = bench.next_tool } };
 
-    ghost invariant = { λ bench. length bench.lanes.items ≡ 16 };
+    ghost invariant = { λ bench. length bench.lanes.items ≡ lane_count };
 }
 
 impl Bench {
     /// The first lanes are started with the commands, and no tool has come. Takes the memory for
     /// one end on each lane, and keeps it for good.
     pub fn new(alloc: Global, connects: &Texts) -> Result<Bench, NoMemory>
-        requires { length connects.now ≤ 16 }
+        requires { length connects.now ≤ lane_count }
         ensures { IfOk result (λ bench. bench ≡ opening connects.now) }
     {
         let mut lanes = started_lanes(alloc, connects)?;
@@ -115,7 +116,7 @@ impl Bench {
 
     /// There are 16 lanes. The call changes nothing.
     pub fn show_lanes(&self)
-        ensures { length self.now.lanes ≡ 16 }
+        ensures { length self.now.lanes ≡ lane_count }
     {
         let _lanes = self.lanes.len();
     }

@@ -9,8 +9,6 @@ mod handout;
 mod lane;
 mod laws;
 mod stage;
-#[cfg(test)]
-mod tests;
 mod told;
 mod tool;
 

@@ -1,0 +1,529 @@
+use std::alloc::Global;
+use std::test::Fail;
+use tb_log::{Out, Reply, ToolLine, Why};
+use tb_terms::{
+    Items, Name, NoMemory, Pattern, Patterns, Sort, Term, Terms, Text, Texts, write_term,
+};
+use tb_tools::{Bench, LaneState, Stage};
+
+/// The lane of the tables.
+const LANE: u8 = 1;
+
+/// A term as the tables spell it: a number, or a name with its parts.
+enum Spelt {
+    Number(i64),
+    Name(&'static [u8], &'static [Spelt]),
+}
+
+/// What is done to the lane and its tool.
+enum Call {
+    /// A tool of this name is executed.
+    Execute(&'static [u8]),
+    /// The first tool of this name that waits is connected.
+    Connect(&'static [u8]),
+    /// The first tool of this name that is leaving leaves.
+    Leave(&'static [u8]),
+    Eval(Spelt),
+    /// The value is taken.
+    Take,
+    Do(Spelt),
+    /// The oldest event of this name, with so many parts, is received.
+    Receive(&'static [u8], usize),
+    Ack(Spelt),
+    Terminate(Spelt),
+    Down(Spelt),
+    /// The tool puts a value.
+    Value(Spelt),
+    /// The tool puts an event.
+    Event(Spelt),
+    /// The tool names itself, by a name that is declared or isn't.
+    Name(&'static [u8], bool),
+    Disconnect,
+    Bad,
+    Gone,
+    Cut,
+}
+
+/// A call, what it answered, what was handed out on the lane then and logged alike, and the state
+/// of the lane after that.
+struct Expected(Call, &'static str, &'static [u8], LaneState);
+
+const PLUS: Spelt = Spelt::Name(b"plus", &[Spelt::Number(1), Spelt::Number(2)]);
+
+fn name(alloc: Global, bytes: &[u8]) -> Result<Name, NoMemory> {
+    match Name::from_bytes(alloc, bytes)? {
+        Some(name) => Ok(name),
+        None => Name::new(alloc, b"bad"),
+    }
+}
+
+fn text(alloc: Global, bytes: &[u8]) -> Result<Text, NoMemory> {
+    match Text::from_vec(Vec::from_slice(alloc, bytes)?) {
+        Some(text) => Ok(text),
+        None => Ok(Text::empty(alloc)),
+    }
+}
+
+fn term(alloc: Global, spelt: &Spelt) -> Result<Term, NoMemory> {
+    match spelt {
+        Spelt::Number(number) => Ok(Term::Int(*number)),
+        Spelt::Name(word, parts) => {
+            let mut terms = Items::new(alloc);
+            for part in *parts {
+                terms.push(term(alloc, part)?)?;
+            }
+            Ok(Term::Appl(name(alloc, word)?, terms))
+        }
+    }
+}
+
+fn terms(alloc: Global, spelt: &Spelt) -> Result<Terms, NoMemory> {
+    let mut terms = Items::new(alloc);
+    terms.push(term(alloc, spelt)?)?;
+    Ok(terms)
+}
+
+fn patterns(alloc: Global, word: &[u8], parts: usize) -> Result<Patterns, NoMemory> {
+    let mut holes = Items::new(alloc);
+    for _ in 0..parts {
+        holes.push(Pattern::Hole(Sort::Any))?;
+    }
+    let mut patterns = Items::new(alloc);
+    patterns.push(Pattern::Appl(name(alloc, word)?, holes))?;
+    Ok(patterns)
+}
+
+fn answer_of(reply: Reply) -> &'static str {
+    match reply {
+        Reply::Took => "took",
+        Reply::Dropped(Why::Unasked) => "unasked",
+        Reply::Dropped(Why::NotLive) => "not-live",
+        Reply::Dropped(Why::Named) => "named",
+        Reply::Dropped(Why::Stranger) => "stranger",
+        Reply::Dropped(Why::Bad) => "bad",
+        Reply::Dropped(Why::Down) => "down",
+    }
+}
+
+fn put_line(bench: &mut Bench, line: ToolLine, declared: bool) -> Result<&'static str, NoMemory> {
+    if bench.next_tool() > 1000 {
+        return Ok("no number");
+    }
+    Ok(answer_of(bench.line(LANE, line, declared)?))
+}
+
+fn execute(alloc: Global, bench: &mut Bench, word: &[u8]) -> Result<&'static str, NoMemory> {
+    if bench.next_tool() > 1000 {
+        return Ok("no number");
+    }
+    match bench.free_lane() {
+        Some(lane) => {
+            let command = text(alloc, word)?;
+            let _number = bench.execute(lane, &name(alloc, word)?, &command)?;
+            Ok("done")
+        }
+        None => Ok("no lane"),
+    }
+}
+
+fn connect(bench: &mut Bench, name: &Name) -> &'static str {
+    match bench.first_at(name, Stage::Waiting) {
+        Some(lane) => {
+            bench.connect(lane);
+            "done"
+        }
+        None => "no tool",
+    }
+}
+
+fn leave(bench: &mut Bench, name: &Name) -> &'static str {
+    match bench.first_at(name, Stage::Leaving) {
+        Some(lane) => {
+            bench.leave(lane);
+            "done"
+        }
+        None => "no tool",
+    }
+}
+
+fn eval(bench: &mut Bench, term: Term) -> Result<&'static str, NoMemory> {
+    if !bench.can_eval(LANE) {
+        return Ok("no");
+    }
+    bench.eval(LANE, term)?;
+    Ok("done")
+}
+
+fn take_value(bench: &mut Bench) -> &'static str {
+    if !bench.is_taken(LANE) {
+        return "no";
+    }
+    match bench.answer(LANE) {
+        None => "no value",
+        Some(_) => {
+            let _value = bench.value(LANE);
+            "done"
+        }
+    }
+}
+
+fn receive(bench: &mut Bench, patterns: &Patterns) -> Result<&'static str, NoMemory> {
+    if !bench.is_taken(LANE) {
+        return Ok("no");
+    }
+    match bench.find_event(LANE, patterns)? {
+        None => Ok("no event"),
+        Some(found) => {
+            bench.event(LANE, found.place)?;
+            Ok("done")
+        }
+    }
+}
+
+fn ack(bench: &mut Bench, terms: &Terms) -> Result<&'static str, NoMemory> {
+    if !bench.is_live(LANE) {
+        return Ok("no");
+    }
+    match bench.find_received(LANE, terms) {
+        None => Ok("no event"),
+        Some(place) => {
+            bench.ack(LANE, place)?;
+            Ok("done")
+        }
+    }
+}
+
+fn do_action(bench: &mut Bench, term: Term) -> Result<&'static str, NoMemory> {
+    if !bench.can_eval(LANE) {
+        return Ok("no");
+    }
+    bench.do_action(LANE, term)?;
+    Ok("done")
+}
+
+fn terminate(bench: &mut Bench, term: Term) -> Result<&'static str, NoMemory> {
+    if !bench.is_live(LANE) {
+        return Ok("no");
+    }
+    bench.terminate(LANE, term)?;
+    Ok("done")
+}
+
+fn go_down(bench: &mut Bench, term: &Term) -> Result<&'static str, NoMemory> {
+    bench.down(term)?;
+    Ok("done")
+}
+
+fn make(alloc: Global, bench: &mut Bench, call: &Call) -> Result<&'static str, NoMemory> {
+    match call {
+        Call::Execute(word) => execute(alloc, bench, word),
+        Call::Connect(word) => Ok(connect(bench, &name(alloc, word)?)),
+        Call::Leave(word) => Ok(leave(bench, &name(alloc, word)?)),
+        Call::Eval(spelt) => eval(bench, term(alloc, spelt)?),
+        Call::Take => Ok(take_value(bench)),
+        Call::Do(spelt) => do_action(bench, term(alloc, spelt)?),
+        Call::Receive(word, parts) => receive(bench, &patterns(alloc, word, *parts)?),
+        Call::Ack(spelt) => ack(bench, &terms(alloc, spelt)?),
+        Call::Terminate(spelt) => terminate(bench, term(alloc, spelt)?),
+        Call::Down(spelt) => go_down(bench, &term(alloc, spelt)?),
+        Call::Value(spelt) => put_line(bench, ToolLine::Value(term(alloc, spelt)?), false),
+        Call::Event(spelt) => put_line(bench, ToolLine::Event(terms(alloc, spelt)?), false),
+        Call::Name(word, declared) => {
+            put_line(bench, ToolLine::Connect(name(alloc, word)?), *declared)
+        }
+        Call::Disconnect => put_line(bench, ToolLine::Disconnect, false),
+        Call::Bad => put_line(bench, ToolLine::Bad, false),
+        Call::Gone => Ok(answer_of(bench.gone(LANE))),
+        Call::Cut => Ok(answer_of(bench.cut(LANE))),
+    }
+}
+
+/// Appends what was handed out, with a blank behind it.
+fn push_out(out: &Out, into: &mut Vec<u8>) -> Result<(), NoMemory> {
+    match out {
+        Out::Start(command) => {
+            into.extend_from_slice(b"start ")?;
+            into.extend_from_slice(command.as_bytes())?;
+        }
+        Out::Line(term) => write_term(term, into)?,
+        Out::End => into.extend_from_slice(b"end")?,
+    }
+    into.push(b' ')?;
+    Ok(())
+}
+
+/// What is handed out until nothing is left, 8 items at most: what is given, and what is logged.
+fn handed_out(alloc: Global, bench: &mut Bench) -> Result<(Vec<u8>, Vec<u8>), NoMemory> {
+    let mut given = Vec::new(alloc);
+    let mut logged = Vec::new(alloc);
+    for _ in 0..8 {
+        if let Some(lane) = bench.first_out() {
+            let handout = bench.take_handout(lane);
+            push_out(&handout.given, &mut given)?;
+            push_out(&handout.logged, &mut logged)?;
+        }
+    }
+    Ok((given, logged))
+}
+
+/// How many rows hold, from the first on, on a bench that is started with these commands.
+fn rows_that_hold(alloc: Global, commands: &Texts, rows: &[Expected]) -> Result<usize, NoMemory> {
+    if commands.len() > 16 {
+        return Ok(0);
+    }
+    let mut bench = Bench::new(alloc, commands)?;
+    for (place, Expected(call, answer, outs, state)) in rows.iter().enumerate() {
+        let answered = make(alloc, &mut bench, call)?;
+        let (given, logged) = handed_out(alloc, &mut bench)?;
+        let handed = given.as_slice() == *outs && logged.as_slice() == *outs;
+        if !handed || answered != *answer || bench.lane_state(LANE) != *state {
+            return Ok(place);
+        }
+    }
+    Ok(rows.len())
+}
+
+const X: Spelt = Spelt::Name(b"x", &[]);
+
+const FIRST: Spelt = Spelt::Name(b"e", &[Spelt::Number(1)]);
+
+const SECOND: Spelt = Spelt::Name(b"e", &[Spelt::Number(2)]);
+
+const BUTTON: Spelt = Spelt::Name(b"button", &[PLUS]);
+
+static CALCULATOR: [Expected; 11] = [
+    Expected(
+        Call::Execute(b"calc"),
+        "done",
+        b"start calc ",
+        LaneState::Live,
+    ),
+    Expected(Call::Event(BUTTON), "took", b"", LaneState::Live),
+    Expected(Call::Receive(b"quit", 0), "no event", b"", LaneState::Live),
+    Expected(Call::Receive(b"button", 1), "done", b"", LaneState::Live),
+    Expected(
+        Call::Eval(PLUS),
+        "done",
+        b"rec-eval(plus(1,2)) ",
+        LaneState::Live,
+    ),
+    Expected(Call::Value(Spelt::Number(3)), "took", b"", LaneState::Live),
+    Expected(Call::Take, "done", b"", LaneState::Live),
+    Expected(
+        Call::Ack(BUTTON),
+        "done",
+        b"rec-ack-event(button(plus(1,2))) ",
+        LaneState::Live,
+    ),
+    Expected(
+        Call::Event(Spelt::Name(b"quit", &[])),
+        "took",
+        b"",
+        LaneState::Live,
+    ),
+    Expected(Call::Receive(b"quit", 0), "done", b"", LaneState::Live),
+    Expected(
+        Call::Terminate(X),
+        "done",
+        b"rec-terminate(x) end ",
+        LaneState::Ending,
+    ),
+];
+
+static UNASKED: [Expected; 10] = [
+    Expected(
+        Call::Execute(b"calc"),
+        "done",
+        b"start calc ",
+        LaneState::Live,
+    ),
+    Expected(
+        Call::Value(Spelt::Number(1)),
+        "unasked",
+        b"",
+        LaneState::Live,
+    ),
+    Expected(Call::Eval(X), "done", b"rec-eval(x) ", LaneState::Live),
+    Expected(Call::Eval(X), "no", b"", LaneState::Live),
+    Expected(Call::Value(Spelt::Number(2)), "took", b"", LaneState::Live),
+    Expected(
+        Call::Value(Spelt::Number(3)),
+        "unasked",
+        b"",
+        LaneState::Live,
+    ),
+    Expected(Call::Take, "done", b"", LaneState::Live),
+    Expected(Call::Take, "no value", b"", LaneState::Live),
+    Expected(
+        Call::Down(Spelt::Name(b"finish", &[])),
+        "done",
+        b"rec-terminate(finish) end ",
+        LaneState::Live,
+    ),
+    Expected(Call::Down(X), "done", b"", LaneState::Live),
+];
+
+static CUT: [Expected; 7] = [
+    Expected(Call::Execute(b"t"), "done", b"start t ", LaneState::Live),
+    Expected(Call::Do(X), "done", b"rec-do(x) ", LaneState::Live),
+    Expected(Call::Cut, "took", b"end ", LaneState::Leaving),
+    Expected(Call::Disconnect, "not-live", b"", LaneState::Leaving),
+    Expected(Call::Leave(b"t"), "done", b"", LaneState::Ending),
+    Expected(Call::Gone, "took", b"", LaneState::Free),
+    Expected(Call::Cut, "not-live", b"", LaneState::Free),
+];
+
+static GONE: [Expected; 12] = [
+    Expected(
+        Call::Execute(b"calc"),
+        "done",
+        b"start calc ",
+        LaneState::Live,
+    ),
+    Expected(Call::Gone, "took", b"end ", LaneState::Leaving),
+    Expected(Call::Gone, "not-live", b"", LaneState::Leaving),
+    Expected(Call::Eval(X), "no", b"", LaneState::Leaving),
+    Expected(Call::Leave(b"calc"), "done", b"", LaneState::Free),
+    Expected(Call::Event(X), "not-live", b"", LaneState::Free),
+    Expected(Call::Bad, "not-live", b"", LaneState::Free),
+    Expected(
+        Call::Execute(b"calc"),
+        "done",
+        b"start calc ",
+        LaneState::Live,
+    ),
+    Expected(
+        Call::Terminate(Spelt::Number(0)),
+        "done",
+        b"rec-terminate(0) end ",
+        LaneState::Ending,
+    ),
+    Expected(Call::Gone, "took", b"", LaneState::Free),
+    Expected(
+        Call::Execute(b"calc"),
+        "done",
+        b"start calc ",
+        LaneState::Live,
+    ),
+    Expected(Call::Event(X), "took", b"", LaneState::Live),
+];
+
+static CONNECTED: [Expected; 12] = [
+    Expected(Call::Bad, "bad", b"start k ", LaneState::Unnamed),
+    Expected(Call::Value(X), "not-live", b"", LaneState::Unnamed),
+    Expected(Call::Event(X), "not-live", b"", LaneState::Unnamed),
+    Expected(Call::Disconnect, "not-live", b"", LaneState::Unnamed),
+    Expected(
+        Call::Name(b"other", false),
+        "stranger",
+        b"",
+        LaneState::Unnamed,
+    ),
+    Expected(Call::Name(b"ed", true), "took", b"", LaneState::Waiting),
+    Expected(Call::Connect(b"ed"), "done", b"", LaneState::Live),
+    Expected(Call::Do(X), "done", b"rec-do(x) ", LaneState::Live),
+    Expected(Call::Name(b"ed", false), "named", b"", LaneState::Live),
+    Expected(Call::Disconnect, "took", b"end ", LaneState::Leaving),
+    Expected(Call::Leave(b"ed"), "done", b"", LaneState::Ending),
+    Expected(Call::Name(b"ed", true), "not-live", b"", LaneState::Ending),
+];
+
+static FORGOTTEN: [Expected; 5] = [
+    Expected(
+        Call::Name(b"ed", true),
+        "took",
+        b"start k ",
+        LaneState::Waiting,
+    ),
+    Expected(Call::Event(FIRST), "took", b"", LaneState::Waiting),
+    Expected(Call::Receive(b"e", 1), "no", b"", LaneState::Waiting),
+    Expected(Call::Gone, "took", b"end ", LaneState::Free),
+    Expected(Call::Leave(b"ed"), "no tool", b"", LaneState::Free),
+];
+
+static OLDEST: [Expected; 10] = [
+    Expected(Call::Execute(b"t"), "done", b"start t ", LaneState::Live),
+    Expected(Call::Event(FIRST), "took", b"", LaneState::Live),
+    Expected(Call::Event(SECOND), "took", b"", LaneState::Live),
+    Expected(Call::Receive(b"e", 1), "done", b"", LaneState::Live),
+    Expected(Call::Ack(SECOND), "no event", b"", LaneState::Live),
+    Expected(
+        Call::Ack(FIRST),
+        "done",
+        b"rec-ack-event(e(1)) ",
+        LaneState::Live,
+    ),
+    Expected(Call::Ack(FIRST), "no event", b"", LaneState::Live),
+    Expected(Call::Gone, "took", b"end ", LaneState::Leaving),
+    Expected(Call::Receive(b"e", 1), "done", b"", LaneState::Leaving),
+    Expected(Call::Ack(SECOND), "no", b"", LaneState::Leaving),
+];
+
+#[test]
+fn executed_tools_work(rt: HostRuntime) -> Result<(), Fail> {
+    let alloc = rt.alloc();
+    let none = Items::new(alloc);
+    assert_eq!(rt; rows_that_hold(alloc, &none, &CALCULATOR)?, 11);
+    assert_eq!(rt; rows_that_hold(alloc, &none, &UNASKED)?, 10);
+    assert_eq!(rt; rows_that_hold(alloc, &none, &CUT)?, 7);
+    assert_eq!(rt; rows_that_hold(alloc, &none, &GONE)?, 12);
+    assert_eq!(rt; rows_that_hold(alloc, &none, &OLDEST)?, 10);
+    Ok(())
+}
+
+#[test]
+fn connected_tools_work(rt: HostRuntime) -> Result<(), Fail> {
+    let alloc = rt.alloc();
+    let mut commands = Items::new(alloc);
+    commands.push(text(alloc, b"k")?)?;
+    assert_eq!(rt; rows_that_hold(alloc, &commands, &CONNECTED)?, 12);
+    assert_eq!(rt; rows_that_hold(alloc, &commands, &FORGOTTEN)?, 5);
+    Ok(())
+}
+
+#[test]
+fn a_cut_clears_what_was_to_be_handed_out(rt: HostRuntime) -> Result<(), Fail> {
+    let alloc = rt.alloc();
+    let mut bench = Bench::new(alloc, &Items::new(alloc))?;
+    assert_eq!(rt; execute(alloc, &mut bench, b"t")?, "done");
+    assert_eq!(rt; do_action(&mut bench, term(alloc, &X)?)?, "done");
+    assert_eq!(rt; answer_of(bench.cut(LANE)), "took");
+    let handed = bench.next_out(LANE).is_some();
+    assert!(rt; handed && matches!(bench.take_out(LANE), Out::End));
+    assert_eq!(rt; bench.first_out(), None);
+    Ok(())
+}
+
+/// The lane of the tool with this number.
+fn lane_of(alloc: Global, bench: &Bench, number: i64) -> Result<Option<u8>, NoMemory> {
+    let mut parts = Items::new(alloc);
+    parts.push(Term::Int(number))?;
+    Ok(bench.find_tool(&Term::Appl(name(alloc, b"t")?, parts)))
+}
+
+/// The lane is lost, its end is handed out, and its tool leaves.
+fn empty(alloc: Global, bench: &mut Bench) -> Result<&'static str, NoMemory> {
+    let _reply = bench.gone(LANE);
+    let (_given, _logged) = handed_out(alloc, bench)?;
+    Ok(leave(bench, &name(alloc, b"t")?))
+}
+
+#[test]
+fn tools_go_by_their_numbers(rt: HostRuntime) -> Result<(), Fail> {
+    let alloc = rt.alloc();
+    let tool = name(alloc, b"t")?;
+    let mut bench = Bench::new(alloc, &Items::new(alloc))?;
+    for _ in 0..16 {
+        assert_eq!(rt; execute(alloc, &mut bench, b"t")?, "done");
+    }
+    assert_eq!(rt; (bench.free_lane(), bench.next_tool()), (None, 17));
+    assert_eq!(rt; empty(alloc, &mut bench)?, "done");
+    // The end of lane 1 was handed out, and then what stood on the next seven.
+    assert_eq!(rt; (bench.free_lane(), bench.first_out()), (Some(1), Some(9)));
+    assert_eq!(rt; execute(alloc, &mut bench, b"t")?, "done");
+    assert_eq!(rt; lane_of(alloc, &bench, 1)?, None);
+    assert_eq!(rt; lane_of(alloc, &bench, 17)?, Some(1));
+    assert_eq!(rt; bench.first_at(&tool, Stage::Live), Some(2));
+    assert_eq!(rt; bench.first_at(&tool, Stage::Leaving), None);
+    Ok(())
+}
