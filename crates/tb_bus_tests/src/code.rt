@@ -11,8 +11,14 @@ static ROWS: [(&str, &str); 11] = [
     ("tau . tau", "seq 2, 1 in 0, 2,"),
     ("tau + tau", "alt 2, 1, 2,"),
     ("tau * tau", "star 2, 1 in 0, 2,"),
-    ("(tau || tau) . tau", "seq 4, par 3 in 0, 1 in 0, 2 in 0, 3,"),
-    ("(tau . tau) * tau", "star 4, seq 3 in 0, 1 in 1, 2 in 0, 3,"),
+    (
+        "(tau || tau) . tau",
+        "seq 4, par 3 in 0, 1 in 0, 2 in 0, 3,",
+    ),
+    (
+        "(tau . tau) * tau",
+        "star 4, seq 3 in 0, 1 in 1, 2 in 0, 3,",
+    ),
     ("tau . tau . tau", "seq 2, 1 in 0, seq 4, 2 in 2, 3,"),
     ("tau || tau * tau", "par 2, 1, star 4, 2 in 2, 3,"),
     (
@@ -69,9 +75,12 @@ fn positions_are_numbered_in_text_order(rt: HostRuntime) -> Result<(), Fail> {
 fn name(atom: Option<&Atom>) -> &'static str {
     match atom {
         Some(Atom { act: Act::Tau, .. }) => "tau",
-        Some(Atom {
-            act: Act::Delta, ..
-        }) => "delta",
+        Some(
+            Atom {
+                act: Act::Delta,
+                ..
+            },
+        ) => "delta",
         Some(_) => "another",
         None => "none",
     }

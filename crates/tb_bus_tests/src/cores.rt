@@ -246,10 +246,7 @@ fn called<W: Walker>(
 }
 
 /// The index of the first row whose answer or whose state isn't as it says, and the log.
-fn first_wrong<W: Walker>(
-    alloc: Global,
-    calls: &Calls,
-) -> Result<(Option<usize>, Vec<u8>), Fail> {
+fn first_wrong<W: Walker>(alloc: Global, calls: &Calls) -> Result<(Option<usize>, Vec<u8>), Fail> {
     let (script, entries, rows, _log) = *calls;
     let mut core: Core<W> = started(alloc, script, &["ui"], entries)?;
     core.reserve(9)?;
@@ -285,7 +282,10 @@ fn the_lowest_lane_is_handed_out_first(rt: HostRuntime) -> Result<(), Fail> {
     let taken = take_word(core.take_out(1));
     let second = core.first_out();
     let refused = take_word(core.take_out(2));
-    assert_eq!(rt; (first, second, core.first_out()), (Some(1), Some(2), Some(2)));
+    assert_eq!(rt;
+        (first, second, core.first_out()),
+        (Some(1), Some(2), Some(2))
+    );
     assert!(rt; taken == b"start".as_slice() && refused == b"full".as_slice());
     Ok(())
 }

@@ -63,12 +63,7 @@ pub(crate) fn started<W: Walker>(
     if commands.len() > 16 || entries > 1_000_000 {
         return Err(Fail::new("too many"));
     }
-    Ok(Core::start(
-        alloc,
-        load(alloc, script.as_bytes())?,
-        &commands,
-        entries,
-    )?)
+    Ok(Core::start(alloc, load(alloc, script.as_bytes())?, &commands, entries)?)
 }
 
 /// The text of a core's log, from the entry with this number on.
@@ -89,7 +84,11 @@ pub(crate) fn log_text<W: Walker>(
 /// The log of a simulation over walkers of one kind.
 pub(crate) fn log_of<W: Walker>(alloc: Global, run: &Run) -> Result<Vec<u8>, Fail> {
     let mut core: Core<W> = started(alloc, run.script, run.connects, 1_000_000)?;
-    simulate(&mut core, &read_feed(alloc, run.feed.as_bytes())?, run.steps)?;
+    simulate(
+        &mut core,
+        &read_feed(alloc, run.feed.as_bytes())?,
+        run.steps,
+    )?;
     Ok(log_text(alloc, &core, run.from)?)
 }
 

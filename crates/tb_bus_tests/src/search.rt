@@ -4,8 +4,8 @@ ghost use Rattle.tb_log.specs.Shapes.{IsLane};
 
 use std::alloc::Global;
 use std::test::Fail;
-use tb_bus::{Action, Candidate, Living, Marks, OwnAction, Ready, ToolAction, first_candidate};
 use tb_body::Program;
+use tb_bus::{Action, Candidate, Living, Marks, OwnAction, Ready, ToolAction, first_candidate};
 use tb_log::ToolLine;
 use tb_notes::Inbox;
 use tb_script::load;

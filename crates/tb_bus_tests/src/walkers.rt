@@ -1,5 +1,5 @@
 //! Walkers of any kind, taken through their moves.
-ghost use Rattle.std.specs.Prelude.{◌≡◌, ◌<◌, ◌≤◌, IfOk, IfSome, IsTrue, OnOk, is_some, length, slice_get};
+ghost use Rattle.std.specs.Prelude.{◌≡◌, ◌<◌, ◌≤◌, IfOk, IfSome, IsTrue, OnOk, is_some, slice_get, ◌+◌, ◌*◌};
 ghost use Rattle.std.specs.Option.{ForSome};
 ghost use Rattle.tb_algebra.specs.Binds.{takes_binds};
 ghost use Rattle.tb_algebra.specs.Walks.{offers_of};
@@ -19,10 +19,12 @@ const MOST_MOVES: u64 = 16;
 fn bound<W: Walker>(alloc: Global, plan: &W::Plan, walker: &W, k: usize) -> Result<Binds, NoMemory>
     requires on { W.view.is_on plan.now walker.now }
     requires fresh { IsTrue (is_some (W.view.seen walker.now)) }
-    requires within { k < length (offers_of (W.view.walking plan.now walker.now)) }
     ensures { IfOk result (λ binds. ForSome (slice_get (offers_of (W.view.walking plan.now walker.now)) k)
         (λ offered. IsTrue (takes_binds offered.store binds))) }
 {
+    if k >= walker.offer_count() {
+        return Err(NoMemory);
+    }
     let mut terms = Items::new(alloc);
     terms.push(Term::Int(7))?;
     match walker.accepts(alloc, plan, k, &terms)? {
@@ -115,17 +117,20 @@ fn go<W: Walker>(
     }
 }
 
-/// What a process may do next: each offer as the atom's number, a point, its age, and a bang where it isn't ready.
-fn offers<W: Walker>(
+/// Writes what a process may do next: each offer as the atom's number, a point, its age, and a bang where it isn't ready.
+fn write_offers<W: Walker>(
     alloc: Global,
     plan: &W::Plan,
     walker: &mut W,
     now: u64,
-) -> Result<String, NoMemory>
+    text: &mut String,
+) -> Result<(), NoMemory>
     requires on { W.view.is_on plan.now walker.old }
+    ensures on { W.view.is_on plan.now walker.new }
+    ensures stays { W.view.walking plan.now walker.new ≡ W.view.walking plan.now walker.old }
+    ensures fresh { OnOk result (IsTrue (is_some (W.view.seen walker.new))) }
 {
     walker.look(alloc, plan, now)?;
-    let mut text = String::new(alloc);
     if walker.is_done() {
         text.push_str("end")?;
     }
@@ -135,7 +140,7 @@ fn offers<W: Walker>(
         let bang = if offer.ready { "" } else { "!" };
         write!(text, "{gap}{}.{}{bang}", offer.atom, offer.age)?;
     }
-    Ok(text)
+    Ok(())
 }
 
 /// What a process of this body may do next after these moves, of which there are a few. The bus has seen 3 ticks as it starts.
@@ -156,7 +161,49 @@ pub(crate) fn seen_after<W: Walker>(
             None => return Ok(String::from_str(alloc, "no such offer")?),
         }
     }
-    offers(alloc, &plan, &mut walker, ticks + 3)
+    let mut text = String::new(alloc);
+    write_offers(alloc, &plan, &mut walker, ticks + 3, &mut text)?;
+    Ok(text)
+}
+
+/// Writes what a process may do next now, and after each list of so many ticks and offers that are taken.
+#[cycle(explore)]
+fn explore<W: Walker>(
+    alloc: Global,
+    plan: &W::Plan,
+    walker: W,
+    now: u64,
+    more: u64,
+    text: &mut String,
+) -> Result<(), NoMemory>
+    requires on { W.view.is_on plan.now walker }
+    requires ticks { (W.view.walking plan.now walker).ticks + more ≤ MOST_MOVES }
+    requires now { now + more ≤ 2 * MOST_MOVES }
+{
+    let mut walker = walker;
+    write_offers(alloc, plan, &mut walker, now, text)?;
+    text.push_str("; ")?;
+    if more == 0 {
+        return Ok(());
+    }
+    let mut older = walker.copy(alloc)?;
+    older.tick(plan);
+    explore(alloc, plan, older, now + 1, more - 1, text)?;
+    for k in 0..walker.offer_count() {
+        let mut next = walker.copy(alloc)?;
+        take(alloc, plan, &mut next, k, now)?;
+        explore(alloc, plan, next, now, more - 1, text)?;
+    }
+    Ok(())
+}
+
+/// What a process of this body may do next, at first and after each list of up to four moves.
+pub(crate) fn explored<W: Walker>(alloc: Global, body: &Body) -> Result<String, NoMemory> {
+    let plan = W::plan(alloc, body)?;
+    let walker = W::start(alloc, &plan, Store::fresh(alloc, &body.sorts)?)?;
+    let mut text = String::new(alloc);
+    explore(alloc, &plan, walker, 3, 4, &mut text)?;
+    Ok(text)
 }
 
 /// How many variables a process binds as it receives these terms, where it may; its first offer receives.
