@@ -14,6 +14,5 @@ pub mod PlanLemmas
 pub mod RewriterLemmas
 pub mod OfferViewLemmas
 pub mod TermLemmas
-pub mod StartLemmas
 pub mod WalkerLemmas
 pub mod TickLemmas

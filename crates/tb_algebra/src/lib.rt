@@ -13,10 +13,6 @@ mod ready;
 mod rewriter;
 mod running;
 mod settings;
-#[cfg(test)]
-mod tests;
-#[cfg(test)]
-mod time_tests;
 mod values;
 mod walker;
 

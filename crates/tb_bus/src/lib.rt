@@ -10,21 +10,11 @@ mod exchanging;
 mod laws;
 mod living;
 mod marks;
-#[cfg(test)]
-mod note_tests;
 mod origin;
-#[cfg(test)]
-mod plans;
 mod receivers;
 mod search;
-#[cfg(test)]
-mod search_tests;
 mod shapes;
 mod slots;
-#[cfg(test)]
-mod tool_plans;
-#[cfg(test)]
-mod tool_tests;
 mod wanting;
 
 pub use action::{Action, OwnAction, ToolAction};

@@ -3,8 +3,6 @@
 
 mod code;
 mod node;
-#[cfg(test)]
-mod tests;
 mod two;
 
 pub use code::{Code, compile};

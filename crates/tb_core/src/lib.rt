@@ -5,16 +5,10 @@ mod acting;
 mod answers;
 mod bus;
 mod inboxes;
-#[cfg(test)]
-mod lane_tests;
 mod looking;
 mod machine;
 mod opening;
 mod speaking;
-#[cfg(test)]
-mod tests;
-#[cfg(test)]
-mod tick_tests;
 mod ticking;
 
 pub use answers::{CoreFault, Stepped, TakeOut};

@@ -11,5 +11,4 @@ pub mod NoteLemmas
 pub mod ShareLemmas
 pub mod TurnLemmas
 pub mod CallLemmas
-pub mod CountLemmas
 pub mod SendLemmas

@@ -3,19 +3,13 @@
 
 mod board;
 mod call;
-#[cfg(test)]
-mod crowd;
 mod laws;
 mod plays;
 mod rights;
 mod seat;
 mod share;
 mod shared;
-#[cfg(test)]
-mod tests;
 mod turn;
-#[cfg(test)]
-mod workers;
 
 pub use laws::{calls_add_their_own, joins_keep_their_own};
 pub use rights::Rights;

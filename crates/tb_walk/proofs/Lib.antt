@@ -10,4 +10,3 @@ pub mod FindLemmas
 pub mod WalkLemmas
 pub mod SettleLemmas
 pub mod PickLemmas
-pub mod TestLemmas

@@ -8,8 +8,6 @@ mod look;
 mod pick;
 mod settle;
 mod take;
-#[cfg(test)]
-mod tests;
 mod walk;
 
 pub use branch::{Branch, Row};

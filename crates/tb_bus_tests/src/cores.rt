@@ -1,0 +1,291 @@
+ghost use Rattle.std.specs.Prelude.{IfOk};
+ghost use Rattle.tb_log.specs.Shapes.{IsInputInShape, IsLane};
+
+use crate::scripts::{log_text, started};
+use std::alloc::Global;
+use std::test::Fail;
+use tb_algebra::{Rewriter, Walker};
+use tb_core::{Core, CoreFault, Stepped, TakeOut};
+use tb_feed::read_feed;
+use tb_log::{Input, Out, Reply, why_word};
+use tb_tools::LaneState;
+use tb_walk::Walk;
+
+/// What is done to a core.
+#[derive(Clone, Copy)]
+enum Call {
+    Step,
+    /// What is to be handed out next on the lane is taken.
+    Take,
+    /// A line of a feed is handed in.
+    Feed(&'static str),
+    NoTicks,
+    Stop,
+}
+
+use Call::{Feed, NoTicks, Step, Stop, Take};
+use LaneState::{Ending, Free, Leaving, Live, Unnamed, Waiting};
+
+/// A lane, a call, what it answers, and the state of the lane after it.
+type Row = (u8, Call, &'static str, LaneState);
+
+/// A script, whose first lane is started with `ui`; how many entries its log may have; the calls; and the log.
+type Calls = (&'static str, u32, &'static [Row], &'static str);
+
+static CALLS: [Calls; 6] = [
+    (
+        "tool calc is { command = \"calc\" } tool ui is { } \
+         process P is let C : calc, U : ui, V : int in execute(calc, C?) . snd-eval(C, 7) . \
+         rec-value(C, V?) . rec-connect(U?) . rec-event(U, 5) . snd-ack-event(U, 5) . \
+         rec-disconnect(U) . snd-terminate(C, 9) endlet toolbus(P)",
+        40,
+        &[
+            (2, Take, "nothing", Free),
+            (2, Feed("line 2 snd-value(3)"), "not-live", Free),
+            (1, Feed("line 1 x"), "bad", Unnamed),
+            (1, Feed("line 1 snd-connect(nobody)"), "stranger", Unnamed),
+            (1, Feed("line 1 snd-value(3)"), "not-live", Unnamed),
+            (2, Step, "did", Live),
+            (2, Feed("line 2 snd-connect(calc)"), "named", Live),
+            (2, Feed("line 2 snd-value(3)"), "unasked", Live),
+            (2, Step, "did", Live),
+            (2, Take, "start", Live),
+            (2, Take, "line", Live),
+            (2, Take, "nothing", Live),
+            (2, Feed("line 2 snd-value(49)"), "took", Live),
+            (2, Feed("line 2 snd-value(50)"), "unasked", Live),
+            (2, Step, "did", Live),
+            (1, Step, "quiet", Unnamed),
+            (1, Feed("line 1 snd-connect(ui)"), "took", Waiting),
+            (1, Step, "did", Live),
+            (1, Feed("line 1 snd-event(5)"), "took", Live),
+            (1, Step, "did", Live),
+            (1, Step, "did", Live),
+            // What was to be handed out is forgotten with the lane, but for its end.
+            (1, Feed("line 1 snd-disconnect"), "took", Leaving),
+            (1, Feed("line 1 snd-event(6)"), "not-live", Leaving),
+            (1, Take, "end", Leaving),
+            (1, Feed("cut 1"), "took", Leaving),
+            (1, Feed("gone 1"), "took", Leaving),
+            (1, Feed("gone 1"), "not-live", Leaving),
+            (1, Feed("cut 1"), "not-live", Leaving),
+            (1, Step, "did", Free),
+            (2, Step, "did", Ending),
+            (2, Take, "line", Ending),
+            (2, Take, "end", Ending),
+            (2, Feed("tick"), "took", Ending),
+            (2, Step, "did", Ending),
+            (2, Take, "closed", Ending),
+            (2, Feed("gone 2"), "down", Ending),
+            (2, Feed("line 2 snd-value(1)"), "down", Ending),
+            (1, NoTicks, "down", Free),
+            (1, Step, "down", Free),
+        ],
+        "1 drop not-live line 2 snd-value(3)\n2 drop bad line 1 ?\n\
+         3 drop stranger line 1 snd-connect(nobody)\n4 drop not-live line 1 snd-value(3)\n\
+         5 execute 1.1 calc(1)\n6 drop named line 2 snd-connect(calc)\n\
+         7 drop unasked line 2 snd-value(3)\n8 snd-eval 1.2 calc(1),7\n9 out 2 start \"calc\"\n\
+         10 out 2 rec-eval(7)\n11 line 2 snd-value(49)\n12 drop unasked line 2 snd-value(50)\n\
+         13 rec-value 1.3 calc(1),49\n14 quiet\n15 line 1 snd-connect(ui)\n\
+         16 rec-connect 1.4 ui(2)\n17 line 1 snd-event(5)\n18 rec-event 1.5 ui(2),5\n\
+         19 snd-ack-event 1.6 ui(2),5\n20 line 1 snd-disconnect\n\
+         21 drop not-live line 1 snd-event(6)\n22 out 1 end\n23 cut 1\n24 gone 1\n\
+         25 drop not-live gone 1\n26 drop not-live cut 1\n27 rec-disconnect 1.7 ui(2)\n\
+         28 snd-terminate 1.8 calc(1),9\n29 out 2 rec-terminate(9)\n30 out 2 end\n31 tick\n\
+         32 finish\n33 drop down gone 2\n34 drop down line 2 snd-value(1)\n35 drop down noticks\n",
+    ),
+    // A tool that has ended is leaving until a process takes it, and its lane isn't free before its end was taken.
+    (
+        "tool calc is { command = \"calc\" } process P is let C : calc in execute(calc, C?) . \
+         snd-do(C, 4) . rec-disconnect(C?) . execute(calc, C?) endlet toolbus(P)",
+        40,
+        &[
+            (2, Step, "did", Live),
+            (2, Step, "did", Live),
+            (2, Take, "start", Live),
+            (2, Take, "line", Live),
+            (2, Step, "quiet", Live),
+            (2, Feed("gone 2"), "took", Leaving),
+            (2, Step, "did", Ending),
+            (3, Step, "did", Live),
+            (2, Take, "end", Free),
+            (2, Step, "did", Free),
+        ],
+        "1 execute 1.1 calc(1)\n2 snd-do 1.2 calc(1),4\n3 out 2 start \"calc\"\n\
+         4 out 2 rec-do(4)\n5 quiet\n6 gone 2\n7 rec-disconnect 1.3 calc(1)\n\
+         8 execute 1.4 calc(2)\n9 out 2 end\n10 finish\n",
+    ),
+    // A lane that is open as the bus goes down is told so, and ends.
+    (
+        "process P is shutdown(3) toolbus(P)",
+        40,
+        &[
+            (1, Take, "start", Unnamed),
+            (1, Step, "did", Ending),
+            (1, Take, "line", Ending),
+            (1, Take, "end", Ending),
+            (1, Take, "closed", Ending),
+            (1, Feed("cut 1"), "down", Ending),
+        ],
+        "1 out 1 start \"ui\"\n2 shutdown 1.1 3\n3 out 1 rec-terminate(3)\n4 out 1 end\n\
+         5 drop down cut 1\n",
+    ),
+    // Inputs are taken or dropped, and refused where the log is full.
+    (
+        "process P is delta toolbus(P)",
+        9,
+        &[
+            (2, Feed("tick"), "took", Free),
+            (2, Feed("line 2 x"), "not-live", Free),
+            (2, Feed("gone 2"), "not-live", Free),
+            (16, Feed("cut 16"), "not-live", Free),
+            (2, NoTicks, "took", Free),
+            (2, Step, "did", Free),
+            (2, Feed("tick"), "down", Free),
+            (2, Feed("gone 2"), "down", Free),
+            (2, Feed("line 2 x"), "down", Free),
+            (2, Feed("tick"), "full", Free),
+        ],
+        "1 tick\n2 drop not-live line 2 ?\n3 drop not-live gone 2\n4 drop not-live cut 16\n\
+         5 noticks\n6 halt\n7 drop down tick\n8 drop down gone 2\n9 drop down line 2 ?\n",
+    ),
+    // What is handed out needs room in the log, and what is nothing needs none.
+    (
+        "tool calc is { command = \"calc\" } process P is let C : calc in execute(calc, C?) endlet \
+         toolbus(P)",
+        2,
+        &[
+            (2, Step, "did", Live),
+            (1, Take, "start", Unnamed),
+            (2, Take, "full", Live),
+            (2, Step, "full", Live),
+            (1, Take, "nothing", Unnamed),
+        ],
+        "1 execute 1.1 calc(1)\n2 out 1 start \"ui\"\n",
+    ),
+    // A core that was stopped refuses each call.
+    (
+        "process P is tau toolbus(P)",
+        9,
+        &[
+            (2, Stop, "none", Free),
+            (2, Step, "stopped", Free),
+            (2, Feed("tick"), "stopped", Free),
+            (1, Take, "stopped", Unnamed),
+        ],
+        "",
+    ),
+];
+
+fn fault_word(fault: CoreFault) -> &'static [u8] {
+    match fault {
+        CoreFault::Full => b"full",
+        CoreFault::Stopped => b"stopped",
+        CoreFault::NoMemory => b"no memory",
+    }
+}
+
+fn step_word(answer: Result<Stepped, CoreFault>) -> &'static [u8] {
+    match answer {
+        Ok(Stepped::Did) => b"did",
+        Ok(Stepped::Quiet) => b"quiet",
+        Ok(Stepped::Down) => b"down",
+        Err(fault) => fault_word(fault),
+    }
+}
+
+fn take_word(answer: Result<TakeOut, CoreFault>) -> &'static [u8] {
+    match answer {
+        Ok(TakeOut::Out(Out::Start(_))) => b"start",
+        Ok(TakeOut::Out(Out::Line(_))) => b"line",
+        Ok(TakeOut::Out(Out::End)) => b"end",
+        Ok(TakeOut::Nothing) => b"nothing",
+        Ok(TakeOut::Closed) => b"closed",
+        Err(fault) => fault_word(fault),
+    }
+}
+
+fn reply_word(answer: Result<Reply, CoreFault>) -> &'static [u8] {
+    match answer {
+        Ok(Reply::Took) => b"took",
+        Ok(Reply::Dropped(why)) => why_word(why),
+        Err(fault) => fault_word(fault),
+    }
+}
+
+/// What is handed in by a line of a feed.
+fn input(alloc: Global, line: &str) -> Result<Input, Fail>
+    ensures { IfOk result IsInputInShape }
+{
+    let feed = read_feed(alloc, line.as_bytes())?;
+    if feed.len() == 0 {
+        return Err(Fail::new("no input"));
+    }
+    Ok(feed.input(0)?)
+}
+
+/// What the call answers.
+fn called<W: Walker>(
+    alloc: Global,
+    core: &mut Core<W>,
+    lane: u8,
+    call: Call,
+) -> Result<&'static [u8], Fail>
+    requires { IsLane lane }
+{
+    match call {
+        Call::Step => Ok(step_word(core.step())),
+        Call::Take => Ok(take_word(core.take_out(lane))),
+        Call::Feed(line) => Ok(reply_word(core.hand_in(input(alloc, line)?))),
+        Call::NoTicks => Ok(reply_word(core.hand_in(Input::NoTicks))),
+        Call::Stop => {
+            core.stop();
+            Ok(b"none")
+        }
+    }
+}
+
+/// The index of the first row whose answer or whose state isn't as it says, and the log.
+fn first_wrong<W: Walker>(alloc: Global, calls: &Calls) -> Result<(Option<usize>, Vec<u8>), Fail> {
+    let (script, entries, rows, _log) = *calls;
+    let mut core: Core<W> = started(alloc, script, &["ui"], entries)?;
+    core.reserve(9)?;
+    for (at, (lane, call, answer, state)) in rows.iter().enumerate() {
+        if *lane < 1 || *lane > 16 {
+            return Ok((Some(at), Vec::new(alloc)));
+        }
+        let found = called(alloc, &mut core, *lane, *call)?;
+        if found != answer.as_bytes() || core.lane_state(*lane) != *state {
+            return Ok((Some(at), Vec::new(alloc)));
+        }
+    }
+    Ok((None, log_text(alloc, &core, 1)?))
+}
+
+#[test]
+fn calls_answer_as_worked_by_hand(rt: HostRuntime) -> Result<(), Fail> {
+    for (number, calls) in CALLS.iter().enumerate() {
+        let (wrong, log) = first_wrong::<Rewriter>(rt.alloc(), calls)?;
+        assert_eq!(rt; wrong, None, "{number}");
+        assert!(rt; log.as_slice() == calls.3.as_bytes(), "{number}");
+        let (wrong, log) = first_wrong::<Walk>(rt.alloc(), calls)?;
+        assert_eq!(rt; wrong, None, "{number}");
+        assert!(rt; log.as_slice() == calls.3.as_bytes(), "{number}");
+    }
+    Ok(())
+}
+
+#[test]
+fn the_lowest_lane_is_handed_out_first(rt: HostRuntime) -> Result<(), Fail> {
+    let mut core: Core<Walk> = started(rt.alloc(), "toolbus()", &["a", "b"], 1)?;
+    let first = core.first_out();
+    let taken = take_word(core.take_out(1));
+    let second = core.first_out();
+    let refused = take_word(core.take_out(2));
+    assert_eq!(rt;
+        (first, second, core.first_out()),
+        (Some(1), Some(2), Some(2))
+    );
+    assert!(rt; taken == b"start".as_slice() && refused == b"full".as_slice());
+    Ok(())
+}

@@ -1,0 +1,128 @@
+//! Actions that no script has, since its checks refuse them: the search finds none of them possible.
+ghost use Rattle.std.specs.Prelude.{◌≡◌, IfOk};
+ghost use Rattle.tb_log.specs.Shapes.{IsLane};
+
+use std::alloc::Global;
+use std::test::Fail;
+use tb_body::Program;
+use tb_bus::{Action, Candidate, Living, Marks, OwnAction, Ready, ToolAction, first_candidate};
+use tb_log::ToolLine;
+use tb_notes::Inbox;
+use tb_script::load;
+use tb_terms::{Items, Name, NoMemory, Term, Text};
+use tb_tools::Bench;
+
+/// Bodies 0 to 2, and kinds of tools 0 to 2. Slot 0 of the first body takes a tool of the first kind, slot 1 any term, and
+/// slot 2 a number. The second kind has no command.
+const SCRIPT: &str = "tool a is { command = \"run a\" } tool b is { } \
+                      tool c is { command = \"run c\" } \
+                      process P is let T : a, Y : term, V : int in tau endlet \
+                      process N(X : int) is tau process S(X : str) is tau toolbus()";
+
+/// What a process of the first body is ready for.
+#[derive(Clone, Copy)]
+enum Wish {
+    /// A process of this body, with these actuals, whose number goes to this slot.
+    Creates(u32, &'static [i64], u32),
+    /// A tool of this kind, which goes to this slot.
+    Executes(u32, u32),
+    Connects(u32, u32),
+    LetsGo(u32, u32),
+}
+
+/// A wish, and whether it comes true where a tool of the first kind waits on lane 1 and another is leaving on lane 2.
+static WISHES: [(Wish, bool); 20] = [
+    (Wish::Creates(1, &[7], 2), true),
+    (Wish::Creates(1, &[7], 1), true),
+    (Wish::Creates(2, &[7], 2), false),
+    (Wish::Creates(3, &[7], 2), false),
+    (Wish::Creates(1, &[], 2), false),
+    (Wish::Creates(1, &[7, 8], 2), false),
+    (Wish::Creates(1, &[7], 0), false),
+    (Wish::Creates(1, &[7], 9), false),
+    (Wish::Executes(0, 0), true),
+    (Wish::Executes(2, 1), true),
+    (Wish::Executes(1, 1), false),
+    (Wish::Executes(0, 2), false),
+    (Wish::Executes(2, 0), false),
+    (Wish::Connects(0, 0), true),
+    (Wish::Connects(0, 1), true),
+    (Wish::Connects(0, 2), false),
+    (Wish::Connects(1, 1), false),
+    (Wish::LetsGo(0, 0), true),
+    (Wish::LetsGo(0, 2), false),
+    (Wish::LetsGo(1, 1), false),
+];
+
+fn action(alloc: Global, wish: Wish) -> Result<Action, NoMemory> {
+    match wish {
+        Wish::Creates(body, actuals, slot) => {
+            let mut terms = Items::new(alloc);
+            for actual in actuals {
+                terms.push(Term::Int(*actual))?;
+            }
+            Ok(Action::Own(OwnAction::Create(body, terms, slot)))
+        }
+        Wish::Executes(kind, slot) => Ok(Action::Speak(ToolAction::Execute(kind, slot))),
+        Wish::Connects(kind, slot) => Ok(Action::Speak(ToolAction::Connect(kind, slot))),
+        Wish::LetsGo(kind, slot) => Ok(Action::Speak(ToolAction::DisconnectAny(kind, slot))),
+    }
+}
+
+/// Lanes of which the first has a tool that waits, and the second one that is leaving.
+fn bench(alloc: Global) -> Result<Bench, Fail> {
+    let name = Name::new(alloc, b"a")?;
+    let command = Text::from_str(alloc, "a")?.ok_or("no text")?;
+    let mut connects = Items::new(alloc);
+    connects.push(command.copy(alloc)?)?;
+    let mut bench = Bench::new(alloc, &connects)?;
+    let _reply = bench.line(1, ToolLine::Connect(name.copy(alloc)?), true)?;
+    if bench.next_tool() > 100 || bench.free_lane() != Some(2) {
+        return Err(Fail::new("other lanes"));
+    }
+    let _number = bench.execute(2, &name, &command)?;
+    let _reply = bench.gone(2);
+    Ok(bench)
+}
+
+/// Whether a process that is ready for this alone goes on.
+fn comes_true(alloc: Global, program: &Program, bench: &Bench, wish: Wish) -> Result<bool, Fail> {
+    let action = action(alloc, wish)?;
+    let ready = Ready {
+        offer: 0,
+        atom: 1,
+        action,
+    };
+    let living = Living {
+        number: 1,
+        body: 0,
+        walker: (),
+        inbox: Inbox::new(alloc),
+        ready: vec![in alloc; ready]?,
+        fresh: true,
+        timed: false,
+    };
+    let marks = Marks {
+        last_starter: 0,
+        next_number: 2,
+        no_ticks: false,
+        down: false,
+    };
+    let all = [living];
+    let found = first_candidate(alloc, program, bench, &all, marks)?;
+    Ok(matches!(
+        found,
+        Some(Candidate::Own(0, 0) | Candidate::Speak(0, 0, _))
+    ))
+}
+
+#[test]
+fn what_no_script_has_is_not_possible(rt: HostRuntime) -> Result<(), Fail> {
+    let program = load(rt.alloc(), SCRIPT.as_bytes())?;
+    let bench = bench(rt.alloc())?;
+    for (number, (wish, possible)) in WISHES.iter().enumerate() {
+        let found = comes_true(rt.alloc(), &program, &bench, *wish)?;
+        assert_eq!(rt; found, *possible, "wish {number}");
+    }
+    Ok(())
+}

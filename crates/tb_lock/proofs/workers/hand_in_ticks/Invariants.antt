@@ -1,5 +1,0 @@
-use Rattle.std.proofs.Common.{◌≡◌, ◌+◌, length}
-use Rattle.tb_lock.proofs.workers.hand_in_ticks.Given as goal
-
-abbrev pub invariant-loop : goal.invariant-loop
-invariant-loop g l = (l.seat.bus ≡ l.fn.seat.bus) × (l.seat.rights ≡ l.fn.seat.rights) × (l.seat.room ≡ l.fn.seat.room) × (length l.seat.mine ≡ length l.fn.seat.mine + l.counter)
