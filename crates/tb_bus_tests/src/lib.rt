@@ -14,6 +14,8 @@ mod scripts;
 #[cfg(test)]
 mod search;
 #[cfg(test)]
+mod simulations;
+#[cfg(test)]
 mod walk;
 #[cfg(test)]
 mod walkers;

@@ -9,8 +9,3 @@ pub mod words;
 
 pub use status::{Bound, Edge, Status};
 pub use top::toolbus;
-
-#[cfg(test)]
-mod bus_tests;
-#[cfg(test)]
-mod tests;

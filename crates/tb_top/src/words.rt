@@ -46,6 +46,3 @@ pub enum WordFault {
     /// The word at this position asks for what isn't built yet.
     NotBuilt(usize),
 }
-
-#[cfg(test)]
-mod tests;

@@ -1,5 +1,3 @@
-use crate::words::WordFault;
-use crate::{Bound, Edge, Status, toolbus};
 use std::alloc::Global;
 use std::test::Fail;
 use tb_edge::{Bytes, HeldFile, MemFiles, MemSink};
@@ -8,6 +6,8 @@ use tb_lex::LexFault;
 use tb_parse::ParseFault;
 use tb_script::ScriptFault;
 use tb_terms::{Items, Text};
+use tb_top::words::WordFault;
+use tb_top::{Bound, Edge, Status, toolbus};
 use tb_types::CheckFault;
 
 const HELLO: &str = "process A is snd-msg(hello) process B is rec-msg(hello) toolbus(A, B)";

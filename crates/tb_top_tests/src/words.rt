@@ -1,6 +1,7 @@
-use super::*;
 use std::alloc::Global;
 use std::test::Fail;
+use tb_terms::Texts;
+use tb_top::words::{Command, WordFault, read_words};
 
 /// What a row of words is to give.
 #[derive(Clone, Copy)]
