@@ -107,11 +107,36 @@ fn action_in<W: Walker>(
     match act {
         Act::Delta => Ok(None),
         Act::Tau => Ok(Some(Action::Own(OwnAction::Tau))),
-        _ => action_with(alloc, plan, body, walker, k, act),
+        _ => message_action(alloc, plan, body, walker, k, act),
     }
 }
 
 /// The same, and apart from it, since a function pays at entry for all that it may hold.
+#[inline(never)]
+fn message_action<W: Walker>(
+    alloc: Global,
+    plan: &W::Plan,
+    body: &Body,
+    walker: &W,
+    k: usize,
+    act: &Act,
+) -> Result<Option<Action>, NoMemory>
+    requires on { W.view.is_on plan.now walker.now }
+    requires fresh { IsTrue (is_some (W.view.seen walker.now)) }
+    requires within { ForSome (W.view.seen walker.now) (λ offers. k < length offers) }
+    requires body { W.view.body_of plan.now ≡ body.now }
+    ensures { (offered : Offered) → slice_get (offers_of (W.view.walking plan.now walker.now)) k ≡ Some offered →
+        act_of body.now.atoms offered.atom ≡ act.now → sorts_of offered.store ≡ body.now.sorts →
+        IfOk result (λ action. action ≡ action_in offered.store act.now) }
+{
+    match act {
+        Act::SndMsg(_) => Ok(walker.sent(alloc, plan, k)?.map(Action::Send)),
+        Act::RecMsg(_) => Ok(walker.patterns(alloc, plan, k)?.map(Action::Receive)),
+        _ => action_with(alloc, plan, body, walker, k, act),
+    }
+}
+
+/// The same once more, for every act.
 #[inline(never)]
 fn action_with<W: Walker>(
     alloc: Global,
