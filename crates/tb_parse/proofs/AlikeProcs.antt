@@ -13,7 +13,7 @@ use Rattle.tb_syntax.specs.declared.proc.Proc.{Proc}
 use Rattle.tb_syntax.specs.declared.proc.Proc.TheVariants as tree
 use Rattle.tb_syntax.specs.declared.proc.TimeDef.{TimeDef}
 use Rattle.tb_syntax.specs.Words.{is_atom_word, is_time_word}
-use Rattle.tb_parse.specs.Helpers.Parsing.{Parser, Found, after, mapped, is_sign, is_word, expect, skip, expr, create, time, times, timed, var, upper_proc, block, sides, test, lower_proc, prim_of, rightward, leftward, turns, sequence, choice, merge, prim, proc}
+use Rattle.tb_parse.specs.Helpers.Parsing.{Parser, Found, after, mapped, is_sign, is_word, expect, skip, expr, create, time, times, timed, var, upper_proc, block, sides, conditional, lower_proc, prim_of, rightward, leftward, turns, sequence, choice, merge, prim, proc}
 use Rattle.tb_parse.proofs.Alike.{Alike, Same, fewer, moved, if_alike, after_alike, finding, branch, skipped, expected, roomless, by_token, next_alike, mapping, behind}
 use Rattle.tb_parse.proofs.AlikeParts.{stops_there, upper_alike, parted_alike, in_parens_alike, sort_alike}
 use Rattle.tb_parse.proofs.AlikeExprs.{expr_alike, call_of_alike, call_alike}
@@ -130,8 +130,8 @@ module _ {whole same : Parser Proc} (room more count : ℕ) (h : count ≤ room)
       (behind _ _ count s (λ y. expected (is_word (codes "fi")) (tree.If value x (Some y)) count))
       (expected (is_word (codes "fi")) (tree.If value x None) count)
 
-  test_alike : Same count (test whole room) (test same more)
-  unfolding test
+  test_alike : Same count (conditional whole room) (conditional same more)
+  unfolding conditional
   test_alike = behind _ _ count (exprs room more count h i) (λ value. skipped (is_word (codes "then")) _ _ count (behind _ _ count s (sides_alike value)))
 
   lower_proc_by : (name : List ℕ) (at : ℕ) (us vs ws : List TokenKind) → length us ≤ count → Alike at (at + 1 + length us) vs ws (lower_proc whole room name at (at + 1) (us ++ vs)) (lower_proc same more name at (at + 1) (us ++ ws))

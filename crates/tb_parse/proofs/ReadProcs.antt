@@ -14,7 +14,7 @@ use Rattle.tb_syntax.specs.declared.proc.Proc.{Proc}
 use Rattle.tb_syntax.specs.declared.proc.Proc.TheVariants as tree
 use Rattle.tb_syntax.specs.declared.proc.Var.{Var}
 use Rattle.tb_syntax.specs.Spelling.{Parted, SpellsExpr, SpellsArguments, SpellsCall, SpellsAtom, SpellsProc}
-use Rattle.tb_parse.specs.Helpers.Parsing.{Parser, Found, after, mapped, begins, is_sign, parted, expr, is_time, var, upper_proc, block, sides, test, lower_proc, prim_of, rightward, leftward, turns, sequence, choice, merge, prim, proc}
+use Rattle.tb_parse.specs.Helpers.Parsing.{Parser, Found, after, mapped, begins, is_sign, parted, expr, is_time, var, upper_proc, block, sides, conditional, lower_proc, prim_of, rightward, leftward, turns, sequence, choice, merge, prim, proc}
 use Rattle.tb_parse.proofs.Signs.{its_own}
 use Rattle.tb_parse.proofs.ReadParts.{either, neither, arrives, read, read_last, Reads, parted_map, parted_reads}
 use Rattle.tb_parse.proofs.ReadExprs.{on_expr, expr_reads, call_of_reads}
@@ -212,7 +212,7 @@ block_reads at vars vs x xs d f room h more e =
 
 test_reads : (at : ℕ) (t : Ast) (es : List TokenKind) (x : Proc) (xs : List TokenKind) → SpellsExpr (at + 1) t es → At level.Proc (at + length es + 2) x xs
     → PrimOf at (tree.If t x None) (test_tokens es xs)
-unfolding prim_of lower_proc test sides
+unfolding prim_of lower_proc conditional sides
 test_reads at t es x xs d f room h more e =
     let inner = length-append xs (Lower (codes "fi") ∷ []) in
     let sum = length-append es (Lower (codes "then") ∷ (xs ++ Lower (codes "fi") ∷ [])) in
@@ -223,7 +223,7 @@ test_reads at t es x xs d f room h more e =
 
 else_reads : (at : ℕ) (t : Ast) (es : List TokenKind) (x y : Proc) (xs ys : List TokenKind) → SpellsExpr (at + 1) t es → At level.Proc (at + length es + 2) x xs → At level.Proc (at + length es + length xs + 3) y ys
     → PrimOf at (tree.If t x (Some y)) (else_tokens es xs ys)
-unfolding prim_of lower_proc test sides
+unfolding prim_of lower_proc conditional sides
 else_reads at t es x y xs ys d f g room h more e =
     let last = length-append ys (Lower (codes "fi") ∷ []) in
     let inner = length-append xs (Lower (codes "else") ∷ (ys ++ Lower (codes "fi") ∷ [])) in

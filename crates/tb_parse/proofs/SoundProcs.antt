@@ -13,7 +13,7 @@ use Rattle.tb_syntax.specs.declared.proc.Proc.{Proc}
 use Rattle.tb_syntax.specs.declared.proc.Proc.TheVariants as tree
 use Rattle.tb_syntax.specs.Spelling.{SpellsArguments, SpellsVar, SpellsAct, SpellsProc}
 use Rattle.tb_syntax.specs.Words.{is_atom_word}
-use Rattle.tb_parse.specs.Helpers.Parsing.{Parser, Outcome, Stops, after, mapped, is_sign, is_word, expect, in_parens, expr, create, timed, var, upper_proc, block, sides, test, lower_proc, prim_of, rightward, leftward, turns, sequence, choice, merge, prim, proc}
+use Rattle.tb_parse.specs.Helpers.Parsing.{Parser, Outcome, Stops, after, mapped, is_sign, is_word, expect, in_parens, expr, create, timed, var, upper_proc, block, sides, conditional, lower_proc, prim_of, rightward, leftward, turns, sequence, choice, merge, prim, proc}
 use Rattle.tb_parse.proofs.Signs.{is_that_sign, same_name}
 use Rattle.tb_parse.proofs.Fits.{Fits, Opens, found, stops, opens, token, behind, mapping, weaker, with_sign, with_word, skip_word, expect_sign, expect_word}
 use Rattle.tb_parse.proofs.SoundLists.{Sound, nothing_more, parted_sound}
@@ -86,8 +86,8 @@ block_sound whole h room position ks = behind _ (parted_sound SpellsVar (var roo
     expect_word (codes "endlet") _ (SpellsProc.block d (at_proc (omega arith) e)))))
 
 test_sound : (whole : Parser Proc) → Sound (SpellsProc level.Proc) whole → (room position : ℕ) (ks : List TokenKind)
-    → Fits (λ p ns. SpellsProc level.Prim position p (Lower (codes "if") ∷ ns)) (position + 1) ks (test whole room (position + 1) ks)
-unfolding test sides
+    → Fits (λ p ns. SpellsProc level.Prim position p (Lower (codes "if") ∷ ns)) (position + 1) ks (conditional whole room (position + 1) ks)
+unfolding conditional sides
 test_sound whole h room position ks = behind _ (expr_sound room (position + 1) ks) (λ v vs rest d.
     skip_word (codes "then") (λ at ks. after (whole at ks) (sides whole v)) (λ rest. behind _ (h (position + 1 + length vs + 1) rest) (λ x xs rest e.
     with_word (codes "else") (λ at ks. after (whole at ks) (λ y. expect (is_word (codes "fi")) (tree.If v x (Some y))))

@@ -1,6 +1,6 @@
 ghost use Rattle.std.specs.Prelude.{◌≡◌};
 ghost use Rattle.tb_syntax.specs.declared.proc.Proc.{Proc};
-ghost use Rattle.tb_parse.specs.Helpers.Parsing.{proc, prim, merge, turns, prim_of, lower_proc, upper_proc, timed, block, test, sides};
+ghost use Rattle.tb_parse.specs.Helpers.Parsing.{proc, prim, merge, turns, prim_of, lower_proc, upper_proc, timed, block, conditional, sides};
 ghost use Rattle.tb_parse.specs.Helpers.Heights.{built, as_built, creation, chained, member, sign_of};
 ghost use Rattle.tb_parse.specs.Helpers.Reading.{Meets, runs};
 
@@ -212,10 +212,10 @@ fn block(alloc: Global, reader: &mut Reader<'_>, room: usize) -> Result<Built, P
 }
 
 /// What stands behind the word `if`.
-#[tactic(auto, unfolding(crate::specs::Helpers::Parsing::test))]
+#[tactic(auto, unfolding(crate::specs::Helpers::Parsing::conditional))]
 #[cycle(procs)]
 fn test(alloc: Global, reader: &mut Reader<'_>, room: usize) -> Result<Built, ParseFault>
-    ensures { Meets (runs (as_built (test (merge (prim room) room) room)) reader.old) result reader.new }
+    ensures { Meets (runs (as_built (conditional (merge (prim room) room) room)) reader.old) result reader.new }
 {
     let value = expr(alloc, reader, room)?;
     reader.skip_word(b"then")?;

@@ -236,14 +236,14 @@ sides whole test x at ks =
     then after (whole (at + 1) (tail ks)) (λ y. expect (is_word (codes "fi")) (tree.If test x (Some y)))
     else expect (is_word (codes "fi")) (tree.If test x None) at ks
 
-unfoldable pub test : Parser Proc → ℕ → Parser Proc
-test whole room at ks = after (expr room at ks) (λ value. skip (is_word (codes "then")) (λ at ks. after (whole at ks) (sides whole value)))
+unfoldable pub conditional : Parser Proc → ℕ → Parser Proc
+conditional whole room at ks = after (expr room at ks) (λ value. skip (is_word (codes "then")) (λ at ks. after (whole at ks) (sides whole value)))
 
 -- what begins with a lower name at the position
 unfoldable pub lower_proc : Parser Proc → ℕ → List ℕ → ℕ → Parser Proc
 lower_proc whole room name position at ks =
     if bytes_eq name (codes "let") then block whole room at ks
-    else (if bytes_eq name (codes "if") then test whole room at ks
+    else (if bytes_eq name (codes "if") then conditional whole room at ks
     else (if bytes_eq name (codes "create") then after (create room at ks) (timed room position)
     else (if is_atom_word name then after (mapped (act.Named name) (in_parens (expr room) room at ks)) (timed room position)
     else Stops position)))
