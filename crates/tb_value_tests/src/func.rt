@@ -138,29 +138,35 @@ fn worthless(alloc: Global) -> Result<Expr, NoMemory> {
     Ok(Expr::Appl(name(alloc, b"f")?, pair(alloc, Expr::Int(1), none)?))
 }
 
-/// The text of the value of the list.
-fn value_of_list(alloc: Global) -> Result<Vec<u8>, NoMemory> {
-    let store = store(alloc)?.copy(alloc)?;
-    let value = eval(alloc, &list(alloc)?, &store)?;
-    Ok(shown(alloc, value)?)
+/// Whether an expression has a value of this text.
+fn is_worth(alloc: Global, expr: &Expr, store: &Store, wanted: &[u8]) -> Result<bool, NoMemory> {
+    let value = eval(alloc, expr, store)?;
+    Ok(shown(alloc, value)?.as_slice() == wanted)
 }
 
-/// Whether the other has neither a value nor a pattern.
-fn has_none(alloc: Global) -> Result<bool, NoMemory> {
-    let store = store(alloc)?;
+fn list_is_worth(alloc: Global, store: &Store, wanted: &[u8]) -> Result<bool, NoMemory> {
+    let list = list(alloc)?;
+    Ok(is_worth(alloc, &list, store, wanted)?)
+}
+
+/// Whether an expression has neither a value nor a pattern.
+fn is_worthless(alloc: Global, expr: &Expr, store: &Store) -> Result<bool, NoMemory> {
+    if eval(alloc, expr, store)?.is_some() {
+        return Ok(false);
+    }
+    Ok(pattern(alloc, expr, store)?.is_none())
+}
+
+fn quotient_is_worthless(alloc: Global, store: &Store) -> Result<bool, NoMemory> {
     let expr = worthless(alloc)?;
-    let value = eval(alloc, &expr, &store)?;
-    let pattern = pattern(alloc, &expr, &store)?;
-    Ok(value.is_none() && pattern.is_none())
+    Ok(is_worthless(alloc, &expr, store)?)
 }
 
 #[test]
 fn expressions_have_values_in_a_store(rt: HostRuntime) -> Result<(), Fail> {
-    assert_eq!(rt;
-        value_of_list(rt.alloc())?.as_slice(),
-        b"[2,\"\"]".as_slice()
-    );
-    assert!(rt; has_none(rt.alloc())?);
+    let store = store(rt.alloc())?.copy(rt.alloc())?;
+    assert!(rt; list_is_worth(rt.alloc(), &store, b"[2,\"\"]")?);
+    assert!(rt; quotient_is_worthless(rt.alloc(), &store)?);
     Ok(())
 }
 
@@ -180,16 +186,23 @@ fn open_pattern(alloc: Global) -> Result<Pattern, NoMemory> {
     Ok(Pattern::Appl(name(alloc, b"f")?, parts))
 }
 
+fn is_open_pattern(alloc: Global, found: &Pattern) -> Result<bool, NoMemory> {
+    Ok(found.is_same(&open_pattern(alloc)?))
+}
+
+/// Whether the open expression is the pattern.
+fn is_opened(alloc: Global, store: &Store) -> Result<bool, NoMemory> {
+    let expr = open(alloc)?;
+    match pattern(alloc, &expr, store)? {
+        Some(found) => Ok(is_open_pattern(alloc, &found)?),
+        None => Ok(false),
+    }
+}
+
 #[test]
 fn expressions_are_patterns(rt: HostRuntime) -> Result<(), Fail> {
     let store = store(rt.alloc())?;
-    let got = pattern(rt.alloc(), &open(rt.alloc())?, &store)?;
-    let want = open_pattern(rt.alloc())?;
-    let is_wanted = match got {
-        Some(found) => found.is_same(&want),
-        None => false,
-    };
-    assert!(rt; is_wanted);
+    assert!(rt; is_opened(rt.alloc(), &store)?);
     Ok(())
 }
 
@@ -232,10 +245,8 @@ fn a_slot_is_set_to_a_value_of_its_sort(rt: HostRuntime) -> Result<(), Fail> {
     sorts.push(Sort::Int)?;
     let mut store = Store::fresh(rt.alloc(), &sorts)?;
     let seven = Term::Int(7);
-    assert!(rt; has_sort(store.value(0), store.sort(0)));
-    assert!(rt; has_sort(&seven, store.sort(0)));
+    assert!(rt; has_sort(store.value(0), store.sort(0)) && has_sort(&seven, store.sort(0)));
     store.set(0, seven);
-    let value = eval(rt.alloc(), &Expr::Var(0), &store)?;
-    assert_eq!(rt; shown(rt.alloc(), value)?.as_slice(), b"7".as_slice());
+    assert!(rt; is_worth(rt.alloc(), &Expr::Var(0), &store, b"7")?);
     Ok(())
 }

@@ -9,7 +9,7 @@ use tb_match::{
     Binds, copy_binds, fits_list, list_matches_are_least, match_list, match_term,
     matches_are_least, matches_bind_once, same_patterns,
 };
-use tb_terms::{Items, NoMemory, Pattern, Patterns, Sort, Term, same};
+use tb_terms::{Items, NoMemory, Pattern, Patterns, Sort, Term, Terms, same};
 
 fn patterns(alloc: Global, first: Pattern, second: Pattern) -> Result<Patterns, NoMemory>
     ensures { IfOk result (λ ps. ps ≡ first ∷ second ∷ []) }
@@ -63,13 +63,25 @@ fn are_bound(
     }
 }
 
+/// Whether a term matches a pattern with these binds, or not.
+fn binds(
+    alloc: Global,
+    pattern: &Pattern,
+    term: &Term,
+    wanted: &Option<&[(u32, i64)]>,
+) -> Result<bool, NoMemory> {
+    let found = match_term(alloc, pattern, term)?;
+    Ok(are_bound(alloc, &found, wanted)?)
+}
+
 fn is_twice(
     alloc: Global,
     spelt: &Spelt,
     wanted: &Option<&[(u32, i64)]>,
 ) -> Result<bool, NoMemory> {
-    let found = match_term(alloc, &twice(alloc)?, &term(alloc, spelt)?)?;
-    Ok(are_bound(alloc, &found, wanted)?)
+    let pattern = twice(alloc)?;
+    let term = term(alloc, spelt)?;
+    Ok(binds(alloc, &pattern, &term, wanted)?)
 }
 
 #[test]
@@ -108,10 +120,19 @@ static SORTED: [(SpeltSort, [bool; 5]); 7] = [
     (SpeltSort::Any, [true, true, true, true, true]),
 ];
 
+/// How many variables are bound, where a term matches a pattern.
+fn bound(alloc: Global, pattern: &Pattern, term: &Term) -> Result<Option<usize>, NoMemory> {
+    match match_term(alloc, pattern, term)? {
+        Some(binds) => Ok(Some(binds.len())),
+        None => Ok(None),
+    }
+}
+
 /// Whether a placeholder of the sort takes the term.
 fn takes(alloc: Global, spelt_sort: &SpeltSort, spelt: &Spelt) -> Result<bool, NoMemory> {
     let hole = Pattern::Hole(sort(alloc, spelt_sort)?);
-    Ok(match_term(alloc, &hole, &term(alloc, spelt)?)?.is_some())
+    let term = term(alloc, spelt)?;
+    Ok(bound(alloc, &hole, &term)?.is_some())
 }
 
 #[test]
@@ -161,13 +182,25 @@ static NESTED: [(&[Spelt], Option<&[(u32, i64)]>); 4] = [
     ),
 ];
 
+/// The same of terms in a row.
+fn list_binds(
+    alloc: Global,
+    patterns: &Patterns,
+    terms: &Terms,
+    wanted: &Option<&[(u32, i64)]>,
+) -> Result<bool, NoMemory> {
+    let found = match_list(alloc, patterns, terms)?;
+    Ok(are_bound(alloc, &found, wanted)?)
+}
+
 fn is_nested(
     alloc: Global,
     spelt: &[Spelt],
     wanted: &Option<&[(u32, i64)]>,
 ) -> Result<bool, NoMemory> {
-    let found = match_list(alloc, &nested(alloc)?, &terms(alloc, spelt)?)?;
-    Ok(are_bound(alloc, &found, wanted)?)
+    let patterns = nested(alloc)?;
+    let terms = terms(alloc, spelt)?;
+    Ok(list_binds(alloc, &patterns, &terms, wanted)?)
 }
 
 #[test]
@@ -286,19 +319,16 @@ fn term_of(alloc: Global, large: &Large) -> Result<Term, NoMemory> {
     }
 }
 
-fn bound(alloc: Global, large: &Large) -> Result<Option<usize>, NoMemory> {
+fn bound_in(alloc: Global, large: &Large) -> Result<Option<usize>, NoMemory> {
     let pattern = pattern_of(alloc, large)?;
     let term = term_of(alloc, large)?;
-    match match_term(alloc, &pattern, &term)? {
-        Some(binds) => Ok(Some(binds.len())),
-        None => Ok(None),
-    }
+    Ok(bound(alloc, &pattern, &term)?)
 }
 
 #[test]
 fn the_largest_terms_are_matched(rt: HostRuntime) -> Result<(), Fail> {
     for (large, wanted) in &LARGE {
-        assert_eq!(rt; bound(rt.alloc(), large)?, *wanted, "at {large:?}");
+        assert_eq!(rt; bound_in(rt.alloc(), large)?, *wanted, "at {large:?}");
     }
     Ok(())
 }

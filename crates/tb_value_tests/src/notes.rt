@@ -83,20 +83,37 @@ fn the_oldest_note_that_matches_is_found(rt: HostRuntime) -> Result<(), Fail> {
     Ok(())
 }
 
-#[test]
-fn a_queue_has_room_for_65536_notes(rt: HostRuntime) -> Result<(), Fail> {
-    let alloc = rt.alloc();
+/// A queue that has room until it has 65,536 notes, and then none.
+fn full(alloc: Global) -> Result<Option<Inbox>, NoMemory> {
     let mut inbox = Inbox::new(alloc);
     for count in 0..65_537 {
-        assert_eq!(rt; inbox.room(), count < 65_536, "with {count} notes");
+        if inbox.room() != (count < 65_536) {
+            return Ok(None);
+        }
         if inbox.room() {
             inbox.offer_note(Items::new(alloc))?;
         }
     }
-    if let Some(found) = inbox.find(&Items::new(alloc))? {
-        let _oldest = inbox.take(found.place);
+    Ok(Some(inbox))
+}
+
+/// Whether there is room once a note is taken.
+fn has_room_again(alloc: Global, inbox: &mut Inbox) -> Result<bool, NoMemory> {
+    match inbox.find(&Items::new(alloc))? {
+        Some(found) => {
+            let _oldest = inbox.take(found.place);
+            Ok(inbox.room())
+        }
+        None => Ok(false),
     }
-    assert!(rt; inbox.room());
+}
+
+#[test]
+fn a_queue_has_room_for_65536_notes(rt: HostRuntime) -> Result<(), Fail> {
+    let Some(mut inbox) = full(rt.alloc())? else {
+        return Err(Fail::from("no room"));
+    };
+    assert!(rt; has_room_again(rt.alloc(), &mut inbox)?);
     Ok(())
 }
 
@@ -110,22 +127,42 @@ fn are_wanted(alloc: Global, inbox: &Inbox, wants: [bool; 3]) -> Result<bool, No
     Ok(true)
 }
 
-#[test]
-fn an_equal_subscription_stands_once(rt: HostRuntime) -> Result<(), Fail> {
-    let alloc = rt.alloc();
+/// An inbox that has subscribed to the notes 1, 2 and 1.
+fn subscribed(alloc: Global) -> Result<Inbox, NoMemory> {
     let mut inbox = Inbox::new(alloc);
     for number in [1, 2, 1] {
-        inbox.subscribe(patterns(alloc, Pattern::Fixed(Term::Int(number)))?)?;
+        let note = patterns(alloc, Pattern::Fixed(Term::Int(number)))?;
+        inbox.subscribe(note)?;
     }
-    // What is unsubscribed in turn, and which of the notes 1, 2 and 3 are wanted then.
-    let table = [
-        (3, [true, true, false]),
-        (1, [false, true, false]),
-        (2, [false, false, false]),
-    ];
-    for (number, wants) in table {
-        inbox.unsubscribe(&patterns(alloc, Pattern::Fixed(Term::Int(number)))?);
-        assert!(rt; are_wanted(alloc, &inbox, wants)?, "after {number}");
+    Ok(inbox)
+}
+
+/// What is unsubscribed in turn, and which of the notes 1, 2 and 3 are wanted then.
+static WANTED: [(i64, [bool; 3]); 3] = [
+    (3, [true, true, false]),
+    (1, [false, true, false]),
+    (2, [false, false, false]),
+];
+
+fn is_unsubscribed(
+    alloc: Global,
+    inbox: &mut Inbox,
+    number: i64,
+    wants: &[bool; 3],
+) -> Result<bool, NoMemory> {
+    let note = patterns(alloc, Pattern::Fixed(Term::Int(number)))?;
+    inbox.unsubscribe(&note);
+    Ok(are_wanted(alloc, inbox, *wants)?)
+}
+
+#[test]
+fn an_equal_subscription_stands_once(rt: HostRuntime) -> Result<(), Fail> {
+    let mut inbox = subscribed(rt.alloc())?;
+    for (number, wants) in &WANTED {
+        assert!(rt;
+            is_unsubscribed(rt.alloc(), &mut inbox, *number, wants)?,
+            "after {number}"
+        );
     }
     subscribing_adds();
     unsubscribing_removes();

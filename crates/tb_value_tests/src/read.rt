@@ -7,7 +7,7 @@ use tb_read::{
     Limits, TermFault, each_text_has_one, faults_are_unique, numeral_faults, read_term,
     read_within, reading_is_unique, syntax_begins, syntax_stops, written_text_reads,
 };
-use tb_terms::{Sort, depth, has_sort, same, size};
+use tb_terms::{NoMemory, Sort, Term, depth, has_sort, same, size};
 
 /// A text, and how the term that it reads as is written again, without blanks.
 static REWRITTEN: [(&[u8], &[u8]); 13] = [
@@ -29,7 +29,8 @@ static REWRITTEN: [(&[u8], &[u8]); 13] = [
     ),
 ];
 
-static NUMBERS: [(&[u8], TermFault); 14] = [
+/// Texts with faults of numbers, of brackets and of strings.
+static FAULTS: [(&[u8], TermFault); 45] = [
     (b"3.5", TermFault::Real(0)),
     (b"-3.5", TermFault::Real(0)),
     (b"[1,2.5]", TermFault::Real(3)),
@@ -44,51 +45,50 @@ static NUMBERS: [(&[u8], TermFault); 14] = [
     (b"12a", TermFault::Syntax(2)),
     (b"3.", TermFault::Syntax(1)),
     (b"3.x", TermFault::Syntax(1)),
+    // brackets
+    (b"", TermFault::Syntax(0)),
+    (b"  ", TermFault::Syntax(2)),
+    (b"f()", TermFault::Syntax(2)),
+    (b"[1 3.5", TermFault::Syntax(3)),
+    (b"[1,]", TermFault::Syntax(3)),
+    (b"[,1]", TermFault::Syntax(1)),
+    (b"a b", TermFault::Syntax(2)),
+    (b"1(2)", TermFault::Syntax(1)),
+    (b"f(1)(2)", TermFault::Syntax(4)),
+    (b"f(1", TermFault::Syntax(3)),
+    (b"f(x]", TermFault::Syntax(3)),
+    (b"[1)", TermFault::Syntax(2)),
+    (b"]", TermFault::Syntax(0)),
+    (b"A", TermFault::Syntax(0)),
+    (b"1,2", TermFault::Syntax(1)),
+    // strings
+    (b"\"a", TermFault::Syntax(2)),
+    (b"\"a\\q\"", TermFault::Syntax(3)),
+    (b"\"a\\", TermFault::Syntax(3)),
+    (b"\"a\n\"", TermFault::Syntax(2)),
+    (b"\"a\r\"", TermFault::Syntax(2)),
+    (b"\"\x01\"", TermFault::Syntax(1)),
+    (b"\"\\\n\"", TermFault::Syntax(2)),
+    (b"\"\xFF\"", TermFault::Syntax(1)),
+    (b"\"\xC0\x80\"", TermFault::Syntax(1)),
+    (b"\"\xE2\"", TermFault::Syntax(2)),
+    (b"\"\xE2\\n\"", TermFault::Syntax(2)),
+    (b"\"\xE2\x82\n\"", TermFault::Syntax(3)),
+    (b"\"\xE0\x80\"", TermFault::Syntax(2)),
+    (b"\"\xED\xA0\x80\"", TermFault::Syntax(2)),
+    (b"\"\xF0\x80\"", TermFault::Syntax(2)),
+    (b"\"\xF4\x90\"", TermFault::Syntax(2)),
 ];
 
-static BRACKETS: [(&[u8], usize); 15] = [
-    (b"", 0),
-    (b"  ", 2),
-    (b"f()", 2),
-    (b"[1 3.5", 3),
-    (b"[1,]", 3),
-    (b"[,1]", 1),
-    (b"a b", 2),
-    (b"1(2)", 1),
-    (b"f(1)(2)", 4),
-    (b"f(1", 3),
-    (b"f(x]", 3),
-    (b"[1)", 2),
-    (b"]", 0),
-    (b"A", 0),
-    (b"1,2", 1),
-];
-
-static STRINGS: [(&[u8], usize); 16] = [
-    (b"\"a", 2),
-    (b"\"a\\q\"", 3),
-    (b"\"a\\", 3),
-    (b"\"a\n\"", 2),
-    (b"\"a\r\"", 2),
-    (b"\"\x01\"", 1),
-    (b"\"\\\n\"", 2),
-    (b"\"\xFF\"", 1),
-    (b"\"\xC0\x80\"", 1),
-    (b"\"\xE2\"", 2),
-    (b"\"\xE2\\n\"", 2),
-    (b"\"\xE2\x82\n\"", 3),
-    (b"\"\xE0\x80\"", 2),
-    (b"\"\xED\xA0\x80\"", 2),
-    (b"\"\xF0\x80\"", 2),
-    (b"\"\xF4\x90\"", 2),
-];
+fn reads_as(alloc: Global, text: &[u8], term: &Term) -> Result<bool, TermFault> {
+    Ok(same(&read_term(alloc, text)?, term))
+}
 
 /// Whether a text reads as a term with this text, which reads as the same.
 fn is_rewritten(alloc: Global, text: &[u8], wanted: &[u8]) -> Result<bool, TermFault> {
     let term = read_term(alloc, text)?;
     let again = written(alloc, &term)?;
-    let reread = read_term(alloc, again.as_slice())?;
-    Ok(again.as_slice() == wanted && same(&term, &reread))
+    Ok(again.as_slice() == wanted && reads_as(alloc, again.as_slice(), &term)?)
 }
 
 #[test]
@@ -108,16 +108,8 @@ fn fault_of(alloc: Global, text: &[u8]) -> Option<TermFault> {
 
 #[test]
 fn faults_stand_at_their_position(rt: HostRuntime) {
-    for (text, want) in &NUMBERS {
+    for (text, want) in &FAULTS {
         assert_eq!(rt; fault_of(rt.alloc(), text), Some(*want), "at {text:?}");
-    }
-    for (text, position) in &BRACKETS {
-        let want = Some(TermFault::Syntax(*position));
-        assert_eq!(rt; fault_of(rt.alloc(), text), want, "at {text:?}");
-    }
-    for (text, position) in &STRINGS {
-        let want = Some(TermFault::Syntax(*position));
-        assert_eq!(rt; fault_of(rt.alloc(), text), want, "at {text:?}");
     }
 }
 
@@ -228,15 +220,22 @@ static WHOLE: [(Large, usize, usize, SpeltSort); 2] = [
     (Large::Nested(64, b""), 64, 64, LISTS),
 ];
 
+fn is_text(alloc: Global, term: &Term, wanted: &[u8]) -> Result<bool, NoMemory> {
+    Ok(written(alloc, term)?.as_slice() == wanted)
+}
+
+/// Whether the term has the sort, and isn't a truth.
+fn is_of_sort(alloc: Global, term: &Term, spelt: &SpeltSort) -> Result<bool, NoMemory> {
+    let sort = sort(alloc, spelt)?;
+    Ok(has_sort(term, &sort) && !has_sort(term, &Sort::Bool))
+}
+
 /// Whether the copy of a text's term is the same, and has the text, and a sort, as it should.
 fn is_copied(alloc: Global, text: &[u8], spelt: &SpeltSort) -> Result<bool, TermFault> {
     let term = read_term(alloc, text)?;
     let copy = term.copy(alloc)?;
-    let again = written(alloc, &copy)?;
-    let sort = sort(alloc, spelt)?;
     written_text_reads(&copy);
-    let sorted = has_sort(&copy, &sort) && !has_sort(&copy, &Sort::Bool);
-    Ok(sorted && same(&term, &copy) && again.as_slice() == text)
+    Ok(same(&term, &copy) && is_text(alloc, &copy, text)? && is_of_sort(alloc, &copy, spelt)?)
 }
 
 /// The size and the levels of a text's term.

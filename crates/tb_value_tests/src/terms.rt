@@ -4,7 +4,7 @@ use crate::spelt::{Spelt, SpeltSort, name, sort, term, terms, text, written};
 use std::alloc::Global;
 use std::test::Fail;
 use tb_terms::{
-    Expr, Exprs, Func, Ident, Items, Name, NoMemory, Pattern, Patterns, Sort, Term, Text,
+    Expr, Exprs, Func, Ident, Items, Name, NoMemory, Pattern, Patterns, Sort, Term, Terms, Text,
     copy_exprs, copy_patterns, copy_terms, depth, has_sort, initial, is_ident_bytes, is_name_bytes,
     same, same_pattern_lists, same_terms, show_proper, size, write_terms,
 };
@@ -93,17 +93,28 @@ static ROWS: [(&[Spelt], &[u8]); 2] = [
     (&[SAMPLE, Spelt::List(&[])], b"f([-7,g],\"x\\n\\\"\"),[]"),
 ];
 
+fn are_written(alloc: Global, terms: &Terms, wanted: &[u8]) -> Result<bool, NoMemory> {
+    let mut into = Vec::from_slice(alloc, b"> ")?;
+    write_terms(terms, &mut into)?;
+    match into.as_slice() {
+        [b'>', b' ', own @ ..] => Ok(own == wanted),
+        _ => Ok(false),
+    }
+}
+
 /// Whether terms have this text in a row, behind other bytes, and are the same as their copies.
 fn is_row(alloc: Global, spelt: &[Spelt], wanted: &[u8]) -> Result<bool, NoMemory> {
     let terms = terms(alloc, spelt)?;
     let copies = copy_terms(alloc, &terms)?;
-    let mut into = Vec::from_slice(alloc, b"> ")?;
-    write_terms(&terms, &mut into)?;
-    let (front, own) = match into.as_slice() {
-        [b'>', b' ', own @ ..] => (true, own),
-        own => (false, own),
-    };
-    Ok(front && own == wanted && terms.len() == spelt.len() && same_terms(&terms, &copies))
+    Ok(same_terms(&terms, &copies) && are_written(alloc, &copies, wanted)?)
+}
+
+fn is_text(alloc: Global, term: &Term, wanted: &[u8]) -> Result<bool, NoMemory> {
+    Ok(written(alloc, term)?.as_slice() == wanted)
+}
+
+fn is_measured(term: &Term) -> bool {
+    size(term) == 10 && depth(term) == 3 && !same(term, &Term::Int(1))
 }
 
 /// Whether the sample has its size and levels, and its text, and its copy is the same and a number isn't.
@@ -111,9 +122,7 @@ fn is_sample(alloc: Global, wanted: &[u8]) -> Result<bool, NoMemory> {
     let term = term(alloc, &SAMPLE)?;
     show_proper(&term);
     let copy = term.copy(alloc)?;
-    let text = written(alloc, &copy)?;
-    let measured = size(&term) == 10 && depth(&term) == 3;
-    Ok(measured && text.as_slice() == wanted && same(&term, &copy) && !same(&term, &Term::Int(1)))
+    Ok(is_measured(&term) && same(&term, &copy) && is_text(alloc, &copy, wanted)?)
 }
 
 #[test]
@@ -165,13 +174,19 @@ static SORTED: [(Spelt, SpeltSort, bool); 9] = [
     (Spelt::Appl(b"calc", &[]), SpeltSort::Str, false),
 ];
 
+fn is_first(alloc: Global, sort: &Sort, wanted: &[u8]) -> Result<bool, NoMemory> {
+    let first = initial(alloc, sort)?;
+    Ok(has_sort(&first, sort) && is_text(alloc, &first, wanted)?)
+}
+
+fn is_copied(alloc: Global, sort: &Sort) -> Result<bool, NoMemory> {
+    Ok(sort.is_same(&sort.copy(alloc)?))
+}
+
 /// Whether a sort begins with the value of this text, which has the sort, and its copy is the same.
 fn begins_with(alloc: Global, spelt: &SpeltSort, wanted: &[u8]) -> Result<bool, NoMemory> {
     let sort = sort(alloc, spelt)?;
-    let first = initial(alloc, &sort)?;
-    let text = written(alloc, &first)?;
-    let copy = sort.copy(alloc)?;
-    Ok(text.as_slice() == wanted && has_sort(&first, &sort) && sort.is_same(&copy))
+    Ok(is_first(alloc, &sort, wanted)? && is_copied(alloc, &sort)?)
 }
 
 fn is_sorted(alloc: Global, spelt: &Spelt, spelt_sort: &SpeltSort) -> Result<bool, NoMemory> {
