@@ -1,12 +1,8 @@
-//! Tests of processes, of the bus and of its cores, over the texts of scripts.
+//! Tests of the bus and of its cores, over the texts of scripts.
 #![tactic(auto)]
 
 #[cfg(test)]
-mod algebra;
-#[cfg(test)]
 mod bus;
-#[cfg(test)]
-mod code;
 #[cfg(test)]
 mod cores;
 #[cfg(test)]
@@ -15,7 +11,3 @@ mod scripts;
 mod search;
 #[cfg(test)]
 mod simulations;
-#[cfg(test)]
-mod walk;
-#[cfg(test)]
-mod walkers;

@@ -1,4 +1,4 @@
-use crate::scripts::{body, first_body, repeated};
+use crate::bodies::{body, first_body, repeated};
 use std::alloc::Global;
 use std::test::Fail;
 use tb_body::{Act, Atom};

@@ -162,7 +162,13 @@ pub(crate) fn seen_after<W: Walker>(
         }
     }
     let mut text = String::new(alloc);
-    write_offers(alloc, &plan, &mut walker, ticks + 3, &mut text)?;
+    write_offers(
+        alloc,
+        &plan,
+        &mut walker,
+        ticks.saturating_add(3),
+        &mut text,
+    )?;
     Ok(text)
 }
 

@@ -1,4 +1,4 @@
-use Rattle.tb_bus_tests.proofs.walkers.+explore.Given as goal
+use Rattle.tb_walk_tests.proofs.walkers.+explore.Given as goal
 
 -- each call has fewer moves left
 abbrev pub decreases-explore : goal.decreases-explore

@@ -1,4 +1,4 @@
-use crate::scripts::body;
+use crate::bodies::body;
 use crate::walkers::{count_bound, seen_after};
 use std::alloc::Global;
 use std::test::Fail;
