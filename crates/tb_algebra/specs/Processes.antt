@@ -1,4 +1,4 @@
--- Process terms: the operators of the algebra, with an age on each atom.
+-- Process terms: the operators of the algebra with an age on each atom; a body as it is entered, and a term a tick later.
 use Rattle.std.specs.Prelude.{ℕ, ◌+◌, List, Some, None}
 use Rattle.tb_terms.specs.declared.expr.Expr.{Expr}
 use Rattle.tb_body.specs.declared.tree.Tree.{Tree}

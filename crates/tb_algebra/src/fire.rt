@@ -22,7 +22,7 @@ use tb_func::Store;
 use tb_terms::{Boxed, Expr, NoMemory};
 
 /// When a part was entered, and how many ticks the process has seen.
-#[derive(Clone, Copy, Debug)]
+#[derive(Clone, Copy)]
 struct Since {
     entered: u64,
     ticks: u64,

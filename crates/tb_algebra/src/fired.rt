@@ -2,7 +2,7 @@ use crate::running::Running;
 use tb_func::Store;
 
 /// What came of the search for an offer.
-#[derive(Debug, Drop)]
+#[derive(Drop)]
 pub enum Fired {
     /// There were fewer: so many more are to be counted.
     Past(usize),
@@ -11,7 +11,7 @@ pub enum Fired {
 }
 
 /// What is left once an offer is taken, and the store that a `let` made.
-#[derive(Debug, Drop)]
+#[derive(Drop)]
 pub struct Left {
     pub(crate) term: Option<Running>,
     pub(crate) own: Option<Store>,

@@ -7,7 +7,7 @@ use tb_func::Store;
 use tb_terms::{Items, NoMemory};
 
 /// An atom that was found to be next. Its store is its own where a `let` made one.
-#[derive(Debug, Drop)]
+#[derive(Drop)]
 pub struct Found {
     pub atom: u32,
     pub age: u64,

@@ -14,7 +14,7 @@ use tb_func::Store;
 use tb_terms::{Items, NoMemory};
 
 /// When a part was entered, and how many ticks the process and the bus have seen.
-#[derive(Clone, Copy, Debug)]
+#[derive(Clone, Copy)]
 pub(crate) struct Clock {
     pub entered: u64,
     pub ticks: u64,

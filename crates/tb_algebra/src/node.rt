@@ -2,7 +2,7 @@ use tb_body::Settings;
 use tb_terms::Expr;
 
 /// One operator of a body. Its parts are the nodes at these positions, which stand before it.
-#[derive(Debug, Drop)]
+#[derive(Drop)]
 pub enum Node {
     At(u32),
     Seq(usize, usize),

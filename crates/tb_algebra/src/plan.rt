@@ -10,7 +10,7 @@ use tb_body::{Atom, Body, Tree, copy_settings};
 use tb_terms::{Items, NoMemory};
 
 /// What a body is worked out to: its operators one after another, each behind its parts.
-#[derive(Debug, Drop)]
+#[derive(Drop)]
 pub struct Plan {
     pub(crate) body: Body,
     pub(crate) nodes: Items<Node>,

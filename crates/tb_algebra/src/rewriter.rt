@@ -22,7 +22,7 @@ use tb_terms::{Items, NoMemory, Patterns, Terms};
 /// A walker that rewrites what is left of its process. Parts of the plan that wait are kept by their
 /// nodes and the ticks at which they were entered, so a tick leaves the term as it is: it stands for an
 /// older one then.
-#[derive(Debug, Drop)]
+#[derive(Drop)]
 pub struct Rewriter {
     pub(crate) term: Option<Running>,
     pub(crate) store: Store,

@@ -4,7 +4,7 @@ use std::alloc::Global;
 use tb_terms::{Boxed, NoMemory};
 
 /// A part of the plan that has been entered, and of which nothing has happened yet.
-#[derive(Clone, Copy, Debug)]
+#[derive(Clone, Copy)]
 pub struct Entry {
     pub node: usize,
     /// How many ticks the process had seen.
@@ -12,7 +12,7 @@ pub struct Entry {
 }
 
 /// What is left of a process.
-#[derive(Debug, Drop)]
+#[derive(Drop)]
 pub enum Running {
     Whole(Entry),
     /// The one, and then this node of the plan.

@@ -1,4 +1,4 @@
--- Which programs are in range: what each process and each root says of other processes and of tools.
+-- Which programs are in range: how many roots they have, and what each process and each root says of processes and tools.
 use Rattle.std.specs.Prelude.{ℕ, Bool, true, false, ◌&&◌, ◌==◌, nat_lt, nat_le, List, [], ◌∷◌, length, Option, Some, None, is_some, slice_get}
 use Rattle.std.specs.List.{list_all}
 use Rattle.tb_terms.specs.declared.term.Term.{Term}

@@ -5,7 +5,7 @@ use tb_terms::{Expr, Exprs, NoMemory, copy_exprs};
 
 /// What an atom does when it happens. Processes and tools go by their positions in the program, from 0,
 /// variables by their slots.
-#[derive(Debug, Drop)]
+#[derive(Drop)]
 pub enum Act {
     /// Never happens.
     Delta,

@@ -18,7 +18,7 @@ pub enum TimeKind {
 }
 
 /// When an atom may happen.
-#[derive(Debug, Drop)]
+#[derive(Drop)]
 pub struct Time {
     pub kind: TimeKind,
     pub value: Expr,
@@ -28,7 +28,7 @@ pub struct Time {
 pub type Times = Items<Time>;
 
 /// An atom of a body.
-#[derive(Debug, Drop)]
+#[derive(Drop)]
 pub struct Atom {
     pub act: Act,
     pub times: Times,

@@ -16,7 +16,7 @@ pub const MOST_BODY_LEVELS: usize = 1_000;
 
 /// A process without its calls. Its slots have these sorts, and the first of them are its formals.
 /// It has at most 200,000 atoms and 1,000 levels.
-#[derive(Debug, Drop)]
+#[derive(Drop)]
 pub struct Body {
     pub tree: Tree,
     pub atoms: Atoms,

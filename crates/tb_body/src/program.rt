@@ -6,7 +6,7 @@ use crate::in_program::is_program_in_range;
 use tb_terms::{Items, Name, Terms, Text};
 
 /// A process that is there from the start: its body, from 0, and the values of its formals.
-#[derive(Debug, Drop)]
+#[derive(Drop)]
 pub struct Root {
     pub process: u32,
     pub actuals: Terms,
@@ -16,7 +16,7 @@ pub struct Root {
 pub type Roots = Items<Root>;
 
 /// A kind of tool. Where it has a command, a script may start one.
-#[derive(Debug, Drop)]
+#[derive(Drop)]
 pub struct Tool {
     pub name: Name,
     pub command: Option<Text>,
@@ -27,7 +27,7 @@ pub type Tools = Items<Tool>;
 
 /// A script that was read: the bodies of its processes and its tools in order of definition, and the
 /// processes with which it starts, at most 10,000.
-#[derive(Debug, Drop)]
+#[derive(Drop)]
 pub struct Program {
     pub bodies: Bodies,
     pub roots: Roots,

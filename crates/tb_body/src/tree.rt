@@ -5,7 +5,7 @@ use tb_terms::{Boxed, Expr, Items, NoMemory};
 
 /// What a process does, by the operators of the algebra. An atom goes by its number, from 1 in text
 /// order.
-#[derive(Debug, Drop)]
+#[derive(Drop)]
 pub enum Tree {
     At(u32),
     /// The one, and then the other.
@@ -23,7 +23,7 @@ pub enum Tree {
 }
 
 /// A slot with the value that it gets: that of `start`, or the value with which its sort begins.
-#[derive(Debug, Drop)]
+#[derive(Drop)]
 pub struct Setting {
     pub slot: u32,
     pub start: Option<Expr>,

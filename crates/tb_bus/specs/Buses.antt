@@ -1,4 +1,4 @@
--- The whole state of a bus, and the one that a program opens with.
+-- The whole state of a bus, the one that a program opens with, and the process that it creates next.
 use Rattle.std.specs.Prelude.{ℕ, ◌+◌, List, [], ◌∷◌, ◌++◌, map, length, Bool, false, Option, Some, None, slice_get}
 use Rattle.tb_terms.specs.declared.term.Term.{Term}
 use Rattle.tb_func.specs.declared.slot.Slot.{Slot}

@@ -1,4 +1,4 @@
--- All that may happen next on a bus, in order, and the bus after each.
+-- The steps that a bus may make next, in order: what is seen of each, and the bus after it.
 use Rattle.std.specs.Prelude.{ℕ, codes, ◌==◌, nat_lt, nat_le, List, [], ◌∷◌, ◌++◌, map, filter, Bool, not, if◌then◌else◌, Option, Some, None}
 use Rattle.std.specs.List.{flat_map}
 use Rattle.tb_terms.specs.declared.term.Term.{Term}

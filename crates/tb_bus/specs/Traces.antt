@@ -1,4 +1,4 @@
--- What an entry of the log may do to a bus, which logs are traces, and the bus to which a log leads.
+-- What becomes of an input, what an entry of the log may do to a bus, which logs are traces, and the bus to which a log leads.
 use Rattle.std.specs.Prelude.{◌≡◌, ℕ, ◌+◌, map, List, [], ◌∷◌, Bool, true, false, Some, if◌then◌else◌, Contains, ⊤}
 use Rattle.std.specs.List.{list_any}
 use Rattle.std.specs.Str.{bytes_eq}

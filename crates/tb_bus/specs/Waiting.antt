@@ -1,4 +1,4 @@
--- What waits on a bus is in shape: the values of stores, the notes in queues, and what stands on the lanes.
+-- When what waits on a bus is in shape: the values of stores, the notes in queues, and what stands on the lanes.
 use Rattle.std.specs.Prelude.{◌≤◌, List, length, IfSome, ⊤}
 use Rattle.std.specs.List.{All}
 use Rattle.tb_terms.specs.declared.term.Term.{Term}

@@ -2,7 +2,7 @@ use tb_match::Binds;
 use tb_terms::{Patterns, Term, Terms};
 
 /// What an offered atom that is ready does, by the store in which it is offered alone.
-#[derive(Debug, Drop)]
+#[derive(Drop)]
 pub enum Action {
     /// It happens by itself.
     Own(OwnAction),
@@ -20,7 +20,7 @@ pub enum Action {
 
 /// How a process speaks with a tool. Kinds of tools go by their indices among definitions, from 0, and so do slots. Where
 /// there are terms, the first of them is the tool's own.
-#[derive(Debug, Drop)]
+#[derive(Drop)]
 pub enum ToolAction {
     /// A tool of this kind is started, and the slot takes it.
     Execute(u32, u32),
@@ -45,7 +45,7 @@ pub enum ToolAction {
 }
 
 /// What a process does by itself: one kind for each such atom.
-#[derive(Debug, Drop)]
+#[derive(Drop)]
 pub enum OwnAction {
     Tau,
     /// The values that are seen of it, and what is set.

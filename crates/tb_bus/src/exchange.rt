@@ -1,7 +1,7 @@
 use tb_match::Binds;
 
 /// How a process may speak with a tool.
-#[derive(Debug, Drop)]
+#[derive(Drop)]
 pub struct Exchange {
     /// The lane of the tool, from 1.
     pub lane: u8,

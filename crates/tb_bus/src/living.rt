@@ -2,7 +2,7 @@ use crate::action::Action;
 use tb_notes::Inbox;
 
 /// An offer of a process that is ready for an action: its index among the offers, and its atom.
-#[derive(Debug, Drop)]
+#[derive(Drop)]
 pub struct Ready {
     pub offer: usize,
     pub atom: u32,

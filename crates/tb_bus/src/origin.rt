@@ -2,7 +2,7 @@ use tb_body::Program;
 use tb_terms::Texts;
 
 /// What a bus was started from, which nothing changes.
-#[derive(Debug, Drop)]
+#[derive(Drop)]
 pub struct Origin {
     pub program: Program,
     /// The commands with which the first lanes are started.

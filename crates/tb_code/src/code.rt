@@ -13,7 +13,7 @@ use tb_body::{Atom, Body, Tree, copy_settings};
 use tb_terms::{Items, NoMemory};
 
 /// What a body is compiled to: its positions, with what stands at each.
-#[derive(Debug, Drop)]
+#[derive(Drop)]
 pub struct Code {
     /// The body of which it is.
     pub body: Body,

@@ -3,7 +3,7 @@ use tb_terms::Expr;
 
 /// What stands at a position. The first part of an operator stands at the next position, and its second
 /// part at the position that it names.
-#[derive(Debug, Drop)]
+#[derive(Drop)]
 pub enum Op {
     /// The atom of this number.
     At(u32),
@@ -24,7 +24,7 @@ pub enum Op {
 }
 
 /// A position of a code.
-#[derive(Debug, Drop)]
+#[derive(Drop)]
 pub struct Node {
     /// What stands there.
     pub op: Op,

@@ -5,7 +5,7 @@ use crate::Op;
 use tb_terms::Expr;
 
 /// An operator over two parts of which it isn't known yet where the second stands.
-#[derive(Debug, Drop)]
+#[derive(Drop)]
 pub(crate) enum Two {
     Seq,
     Alt,

@@ -1,4 +1,4 @@
--- What a core stands for, and what each of its calls logs.
+-- What a core stands for, what each of its calls logs and answers, and when the log has no room for it.
 use Rattle.std.specs.Prelude.{◌≡◌, ◌≤◌, ℕ, List, [], ◌∷◌, ◌++◌, ◌+◌, ◌-◌, length, slice_get, Option, Some, None, Bool, true, false, not, option_to_list, refl}
 use Rattle.std.specs.Coded.{Coded, code_by, coded×, coded_ℕ, coded_bool, coded_list}
 use Rattle.tb_log.specs.Limits.{has_room}

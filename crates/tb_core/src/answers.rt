@@ -17,7 +17,7 @@ pub enum Stepped {
 }
 
 /// What was taken from a lane.
-#[derive(Debug, Drop)]
+#[derive(Drop)]
 pub enum TakeOut {
     /// What was to be handed out next.
     Out(Out),

@@ -59,7 +59,7 @@ impl<W: Walker> LiveBus<W> {
     ghost use Rattle.tb_bus.specs.Buses.{start};
     ghost use Rattle.tb_bus.specs.Effects.{creation, own_effect, went_down};
     ghost use Rattle.tb_bus.specs.Slots.{fits_formals};
-    ghost use Rattle.tb_log.specs.Shapes.{IsInputInShape, IsLane};
+    ghost use Rattle.tb_log.specs.Shapes.{IsInputInShape, IsLane, lane_count};
     ghost use Rattle.tb_tools.specs.Lanes.{most_tools};
     ghost use Rattle.tb_tools.specs.Finding.{next_out};
     ghost use Rattle.tb_bus.specs.Steps.{moves, apply, label_of, nowhere, finish_reason, halt_reason};
@@ -72,7 +72,7 @@ impl<W: Walker> LiveBus<W> {
 
     /// The bus that a program opens with. Its processes are looked at later.
     pub fn open(alloc: Global, origin: Origin) -> Result<LiveBus<W>, NoMemory>
-        requires { length origin.connects ≤ 16 }
+        requires { length origin.connects ≤ lane_count }
         ensures sound { IfOk result (IsSound W.view) }
         ensures bus { IfOk result (λ bus. bus_of W.view bus ≡ start origin) }
         ensures origin { IfOk result (λ bus. bus.origin ≡ origin) }

@@ -2,7 +2,7 @@ ghost use Rattle.std.specs.Option.{ForSome};
 ghost use Rattle.std.below.core.specs.declared.int.usize.TheConstants.{MAX};
 ghost use Rattle.std.specs.Prelude.{◌≡◌, IsSome, Some, min, ◌≤◌, ◌<◌, ◌+◌, ◌↔◌, ◌∷◌, [], ◌++◌, length, IsTrue, IfOk, OnOk, OnErr, IsErrOf, true, false, if◌then◌else◌};
 ghost use Rattle.tb_log.specs.Limits.{has_room, out_size};
-ghost use Rattle.tb_log.specs.Shapes.{IsInputInShape, IsLane};
+ghost use Rattle.tb_log.specs.Shapes.{IsInputInShape, IsLane, lane_count};
 ghost use Rattle.tb_tools.specs.Lanes.{lane_at, lane_state};
 ghost use Rattle.tb_tools.specs.Finding.{first_out, next_out};
 ghost use Rattle.tb_bus.specs.Buses.{origin_of, start};
@@ -55,7 +55,7 @@ impl<W: Walker> Core<W> {
         connects: &Texts,
         limit: u32,
     ) -> Result<Core<W>, NoMemory>
-        requires connects { length connects.now ≤ 16 }
+        requires connects { length connects.now ≤ lane_count }
         requires limit { limit ≤ most_entries }
         ensures { IfOk result (Stays (started (origin_of program connects.now limit))) }
     {

@@ -10,7 +10,7 @@ use tb_terms::NoMemory;
 pub type Bytes = Items<u8>;
 
 /// What a name holds.
-#[derive(Debug, Drop)]
+#[derive(Drop)]
 pub enum Loaded {
     /// All of its bytes.
     Bytes(Bytes),

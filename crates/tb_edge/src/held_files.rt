@@ -8,7 +8,7 @@ use std::alloc::{AllocError, Global};
 use tb_terms::Text;
 
 /// A file in memory.
-#[derive(Debug, Drop)]
+#[derive(Drop)]
 pub struct HeldFile {
     pub name: Text,
     pub bytes: Bytes,

@@ -11,7 +11,7 @@ use std::marker::Model;
 /// Files in memory. A call fails where its number is among those that are to fail, and where it
 /// asks for a name that is not held. Calls are numbered by the names asked for before them, so one
 /// that found no memory has no number.
-#[derive(Debug, Drop)]
+#[derive(Drop)]
 pub struct MemFiles {
     held: HeldFiles,
     fails: FailCalls,

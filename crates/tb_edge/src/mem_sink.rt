@@ -11,7 +11,7 @@ use tb_terms::NoMemory;
 /// A sink in memory with room for so many bytes. Of a piece that doesn't fit it takes the prefix
 /// that fits, as a disk does that runs full, and of a piece in a call that is to fail nothing. An
 /// empty piece is a call as well, and never fails.
-#[derive(Debug, Drop)]
+#[derive(Drop)]
 pub struct MemSink {
     bytes: Vec<u8>,
     room: usize,

@@ -8,7 +8,7 @@ use std::alloc::Global;
 use std::marker::Model;
 
 /// Files in memory that never fail: a name that is not held has no bytes.
-#[derive(Debug, Drop)]
+#[derive(Drop)]
 pub struct SureFiles {
     held: HeldFiles,
     asked: Items<Bytes>,

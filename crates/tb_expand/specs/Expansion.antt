@@ -1,4 +1,4 @@
--- The expansion of a process: its body in which each call is replaced by a `let` round the expansion of the called process.
+-- The expansion of a process: its body in which each call is replaced by a `let` round the expansion of the called process; and which are too large.
 use Rattle.std.specs.Prelude.{ℕ, zero, suc, ◌+◌, Bool, List, [], ◌∷◌, ◌++◌, map, length, filter, nat_lt, ◌||◌, not, Option, Some, None, if◌then◌else◌}
 use Rattle.tb_terms.specs.declared.expr.Expr.{Expr}
 use Rattle.tb_terms.specs.declared.sort.Sort.{Sort}

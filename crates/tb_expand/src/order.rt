@@ -10,7 +10,7 @@ use std::alloc::Global;
 use tb_terms::NoMemory;
 
 /// What is found out of a graph.
-#[derive(Debug, Drop)]
+#[derive(Drop)]
 pub(crate) enum Ordered {
     /// All positions, each behind those to which it leads.
     Order(Positions),

@@ -1,7 +1,7 @@
 use tb_terms::{Ident, Items, Sort};
 
 /// A variable that is seen: the slot for which its name stands, and its sort.
-#[derive(Debug, Drop)]
+#[derive(Drop)]
 pub(crate) struct Seen {
     pub name: Ident,
     pub slot: u32,

@@ -1,5 +1,5 @@
 /// How many atoms an expansion has, and how many levels its tree.
-#[derive(Clone, Copy, Debug, PartialEq, Eq)]
+#[derive(Clone, Copy, PartialEq, Eq)]
 pub(crate) struct Size {
     pub atoms: usize,
     pub levels: usize,

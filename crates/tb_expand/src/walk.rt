@@ -9,7 +9,7 @@ use std::alloc::Global;
 use tb_terms::{Items, NoMemory};
 
 /// How far a position was visited.
-#[derive(Clone, Copy, Debug)]
+#[derive(Clone, Copy)]
 pub(crate) enum Visit {
     New,
     /// It stands on the way, and so many of the positions to which it leads are done.
@@ -18,7 +18,7 @@ pub(crate) enum Visit {
 }
 
 /// A walk through a graph, into each way as far as it goes.
-#[derive(Debug, Drop)]
+#[derive(Drop)]
 pub(crate) struct Walk {
     /// How far each position was visited.
     pub visits: Items<Visit>,

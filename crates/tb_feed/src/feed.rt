@@ -9,7 +9,7 @@ use tb_terms::NoMemory;
 
 /// What comes from outside, one input after the other: each is in shape, and none says that no more ticks come.
 /// Contracts see it as a list.
-#[derive(Debug, Drop)]
+#[derive(Drop)]
 pub struct Feed {
     alloc: Global,
     inputs: Vec<Input>,

@@ -1,4 +1,4 @@
--- What is left of a term past the limits of size and levels.
+-- A term where it is within the limits of size and levels, and else nothing.
 use Rattle.std.specs.Prelude.{Option, Some, None, if◌then◌else◌}
 use Rattle.tb_terms.specs.declared.term.Term.{Term}
 use Rattle.tb_terms.specs.Sizes.{is_within_limits}

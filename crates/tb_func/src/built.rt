@@ -8,14 +8,14 @@ use std::alloc::Global;
 use tb_terms::{Items, NoMemory, Pattern, Patterns, Term};
 
 /// What a part of a pattern has become.
-#[derive(Debug, Drop)]
+#[derive(Drop)]
 pub(crate) enum Part {
     Value(Measured),
     Open(OpenPattern),
 }
 
 /// The parts of a pattern: values as long as each part is one.
-#[derive(Debug, Drop)]
+#[derive(Drop)]
 pub(crate) enum Parts {
     Values(MeasuredParts),
     Open(OpenPatterns),

@@ -9,7 +9,7 @@ use std::alloc::Global;
 use tb_terms::{Items, Name, NoMemory, Term, Text, depth, size};
 
 /// A term beside its size and its levels. The greatest `usize` stands for all greater numbers.
-#[derive(Debug, Drop)]
+#[derive(Drop)]
 pub(crate) struct Measured {
     pub term: Term,
     pub size: usize,
@@ -63,7 +63,7 @@ impl Measured {
 }
 
 /// Terms beside the sum of their sizes and the levels of the deepest.
-#[derive(Debug, Drop)]
+#[derive(Drop)]
 pub(crate) struct MeasuredParts {
     pub terms: Vec<Term>,
     pub sizes: usize,

@@ -4,14 +4,14 @@ ghost use Rattle.tb_func.specs.Helpers.Opens.{is_open, has_open};
 use tb_terms::{Pattern, Patterns};
 
 /// A pattern that is not one term alone.
-#[derive(Debug, Drop)]
+#[derive(Drop)]
 pub(crate) struct OpenPattern {
     pub pattern: Pattern,
     ghost stays_open: { IsTrue (is_open pattern) },
 }
 
 /// Patterns of which one at least is not one term alone.
-#[derive(Debug, Drop)]
+#[derive(Drop)]
 pub(crate) struct OpenPatterns {
     pub patterns: Patterns,
     ghost stays_open: { IsTrue (has_open patterns) },

@@ -7,7 +7,7 @@ use std::alloc::Global;
 use tb_terms::{NoMemory, Term, write_term};
 
 /// What has been printed so far, how many arguments that took, and whether a `%` came last.
-#[derive(Debug, Drop)]
+#[derive(Drop)]
 pub(crate) struct Printer {
     text: Vec<u8>,
     taken: usize,

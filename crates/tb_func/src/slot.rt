@@ -1,7 +1,7 @@
 use tb_terms::{Sort, Term};
 
 /// The place of a variable: its sort, and the value that it has.
-#[derive(Debug, Drop)]
+#[derive(Drop)]
 pub struct Slot {
     pub sort: Sort,
     pub value: Term,

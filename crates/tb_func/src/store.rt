@@ -9,7 +9,7 @@ use std::marker::Model;
 use tb_terms::{NoMemory, Sort, Sorts, Term, initial};
 
 /// The variables of a process by their slots. Contracts see it as the list of its slots.
-#[derive(Debug, Drop)]
+#[derive(Drop)]
 pub struct Store {
     slots: Vec<Slot>,
 }

@@ -1,4 +1,4 @@
--- Blanks and comments.
+-- Which bytes are blanks and comments.
 use Rattle.std.specs.Prelude.{◌≡◌, ℕ, Bool, not, ◌==◌, List, [], ◌∷◌, ◌++◌, IsTrue, ◌⊎◌}
 use Rattle.std.specs.List.{list_all}
 use Rattle.tb_read.specs.Spelling.{is_blank}

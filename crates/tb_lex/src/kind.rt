@@ -2,7 +2,7 @@ use crate::Symbol;
 use tb_terms::{Ident, Name, Text};
 
 /// What a token is. A reserved word is a lower name.
-#[derive(Debug, Drop)]
+#[derive(Drop)]
 pub enum TokenKind {
     Int(i64),
     /// The string that is meant, without its quotes and escapes.

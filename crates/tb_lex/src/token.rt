@@ -2,7 +2,7 @@ use crate::TokenKind;
 use tb_terms::Items;
 
 /// A token and where it stands: its text is the source from `from` to before `to`, in bytes from 0.
-#[derive(Debug, Drop)]
+#[derive(Drop)]
 pub struct Token {
     pub kind: TokenKind,
     pub from: usize,

@@ -1,4 +1,4 @@
--- What a call comes to that waits for the seat's turn: it is answered as by one core, whose log is the one history.
+-- What the calls of a shared bus come to: those that wait for a turn are answered as by one core, whose log is the one history; and how seats join.
 use Rattle.std.specs.Prelude.{◌≡◌, ◌↔◌, ℕ, List, [], ◌++◌, length, true, false, ◌||◌, IsTrue, Result, Ok, Err, IfOk, IsErrOf, ⊤}
 use Rattle.tb_log.specs.declared.entry.Entry.{Entry}
 use Rattle.tb_log.specs.declared.entry.Input.{Input}
@@ -14,7 +14,7 @@ use Rattle.tb_core.specs.declared.answers.TakeOut.{TakeOut}
 use Rattle.tb_core.specs.Cores.{CoreState, Call, HandIn, MakeStep, HandOut, bus_now, entries_of, is_full, IsTakenOut}
 use Rattle.tb_lock.specs.Rights.{own, all_rights}
 use Rattle.tb_lock.specs.Histories.{Grows, IsSparse, indexed}
-use Rattle.tb_lock.specs.Seats.{SeatView, joined}
+use Rattle.tb_lock.specs.Seats.{SeatView, joined, most_seats}
 
 -- The core that a seat meets in its turn. It was started where the seat's bus was, and its log is the history so far.
 pub record Meets (seat : SeatView) (core : CoreState) : Type 0 where
@@ -30,7 +30,7 @@ pub record Meets (seat : SeatView) (core : CoreState) : Type 0 where
   pub called : seat.called ≡ true → core.stopped ≡ true
   pub told : seat.told ≡ true → core.stopped ≡ true
   -- where there is no other seat, it is stopped only where this one has stopped it
-  pub alone : seat.room ≡ 64 → core.stopped ≡ true → seat.called ≡ true
+  pub alone : seat.room ≡ most_seats → core.stopped ≡ true → seat.called ≡ true
 
 -- a seat after a call of its own on that core, which has added these entries
 abbrev pub noted : SeatView → CoreState → List Entry → SeatView

@@ -102,9 +102,13 @@ no_origin = record { program = record { bodies = []; roots = []; tools = []; in_
 abbrev pub nobody : SeatView
 nobody = record { bus = no_bus; origin = no_origin; seen = []; mine = []; rights = no_rights; room = 0; called = false; told = false; stage = Idle }
 
+-- how many seats there may be
+abbrev pub most_seats : ℕ
+most_seats = 64
+
 -- the first seat of a bus, which has all rights
 abbrev pub first_seat : TableId → Origin → SeatView
-first_seat bus origin = record { bus = bus; origin = origin; seen = []; mine = []; rights = all_rights; room = 64; called = false; told = false; stage = Idle }
+first_seat bus origin = record { bus = bus; origin = origin; seen = []; mine = []; rights = all_rights; room = most_seats; called = false; told = false; stage = Idle }
 
 -- what a seat keeps where these rights are handed on
 abbrev pub kept_of : Rights → SeatView → SeatView

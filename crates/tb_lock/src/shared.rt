@@ -2,7 +2,7 @@ ghost use Rattle.std.specs.Prelude.{◌≡◌, ◌<◌, [], IfOk, IfErr, false, 
 ghost use Rattle.tb_log.specs.Shapes.{IsInputInShape, IsLane};
 ghost use Rattle.tb_core.specs.Cores.{HandIn, MakeStep, HandOut, IsStep};
 ghost use Rattle.tb_lock.specs.Rights.{AreAmong, has, right_to, all_rights};
-ghost use Rattle.tb_lock.specs.Seats.{first_seat, kept_of, handed_on};
+ghost use Rattle.tb_lock.specs.Seats.{first_seat, kept_of, handed_on, most_seats};
 ghost use Rattle.tb_lock.specs.Calls.{IsCallInShape, Called, IsReply, IsTaken, Observes, IsStateOf, StopsBus, Joins, Closes};
 
 use crate::call::{CoreCall, HandingIn, Stepping, TakingOut};
@@ -178,7 +178,7 @@ impl<W: Walker> Shared<W> {
     pub fn close<R: Wait>(self, rt: &R, seat: Seat) -> Core<W>
         requires own { seat.bus ≡ self }
         requires rights { seat.rights ≡ all_rights }
-        requires room { seat.room ≡ 64 }
+        requires room { seat.room ≡ most_seats }
         ensures { Closes seat result }
     {
         let Shared { table } = self;

@@ -4,7 +4,7 @@ use std::alloc::Global;
 use tb_terms::{Items, Name, NoMemory, Term, Terms, Text, copy_terms};
 
 /// A line that a tool put.
-#[derive(Debug, Drop)]
+#[derive(Drop)]
 pub enum ToolLine {
     /// The value of what the tool was asked to evaluate.
     Value(Term),
@@ -34,7 +34,7 @@ impl ToolLine {
 }
 
 /// What comes from outside. A lane has a number from 1 to 16.
-#[derive(Debug, Drop)]
+#[derive(Drop)]
 pub enum Input {
     /// A unit of time has passed.
     Tick,
@@ -88,7 +88,7 @@ pub enum Reply {
 }
 
 /// What is handed out on a lane.
-#[derive(Debug, Drop)]
+#[derive(Drop)]
 pub enum Out {
     /// The command that starts the tool.
     Start(Text),
@@ -150,7 +150,7 @@ pub enum LabelKind {
 }
 
 /// What is seen of a step: which atoms made it, the sender's first, and which terms it moved.
-#[derive(Debug, Drop)]
+#[derive(Drop)]
 pub struct Label {
     pub kind: LabelKind,
     pub from: Place,
@@ -174,7 +174,7 @@ impl Label {
 }
 
 /// One event of the bus.
-#[derive(Debug, Drop)]
+#[derive(Drop)]
 pub enum Entry {
     /// A step was made.
     Did(Label),

@@ -12,7 +12,7 @@ use tb_terms::{NoMemory, Term, size};
 const MOST_SIZE: usize = 16_777_216;
 
 /// The entries of a bus, within limits: at most so many, whose terms are together at most 16,777,216 in size.
-#[derive(Debug, Drop)]
+#[derive(Drop)]
 pub struct Log {
     entries: Vec<Entry>,
     limit: u32,

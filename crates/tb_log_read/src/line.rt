@@ -13,7 +13,7 @@ use tb_log::{Entry, is_in_shape, write_entry};
 use tb_terms::NoMemory;
 
 /// An entry, and the number that its line has.
-#[derive(Debug, Drop)]
+#[derive(Drop)]
 pub struct Numbered {
     pub number: u64,
     pub entry: Entry,

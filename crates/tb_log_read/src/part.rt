@@ -3,7 +3,7 @@ ghost use Rattle.std.specs.Option.{option_copied};
 ghost use Rattle.tb_log_read.specs.Helpers.Parts.{depth_of, after, plain_after, is_cut, part_len, parts, more_parts};
 
 /// Where a reader of terms stands, within so many brackets.
-#[derive(Clone, Copy, Debug, PartialEq, Eq)]
+#[derive(Clone, Copy, PartialEq, Eq)]
 pub(crate) enum Standing {
     Plain(usize),
     /// Within a string.

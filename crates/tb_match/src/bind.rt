@@ -7,7 +7,7 @@ use std::alloc::Global;
 use tb_terms::{Items, NoMemory, Term, same};
 
 /// What a match gives to the variable with this slot.
-#[derive(Debug, Drop)]
+#[derive(Drop)]
 pub struct Bind {
     pub slot: u32,
     pub value: Term,

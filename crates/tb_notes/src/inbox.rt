@@ -15,7 +15,7 @@ const MOST_NOTES: usize = 65_536;
 
 /// What a process has subscribed to, and the notes that wait for it. Contracts see the two lists,
 /// and apart from them for how many more notes there is memory.
-#[derive(Debug, Drop)]
+#[derive(Drop)]
 pub struct Inbox {
     subscriptions: Items<Patterns>,
     queue: VecDeque<Terms>,

@@ -8,7 +8,7 @@ use tb_match::{Binds, match_list};
 use tb_terms::{NoMemory, Patterns, Terms};
 
 /// The note at this position in the queue matches, and this is what it binds.
-#[derive(Debug, Drop)]
+#[derive(Drop)]
 pub struct Found {
     pub place: usize,
     pub binds: Binds,

@@ -11,7 +11,7 @@ use tb_terms::{Boxed, Items, NoMemory};
 const MOST_LEVELS: usize = 400;
 
 /// A process that was read.
-#[derive(Debug, Drop)]
+#[derive(Drop)]
 pub(crate) enum Built {
     /// Its tree, and how high it is: at most 400.
     Tree(Boxed<Proc>, usize),
@@ -20,7 +20,7 @@ pub(crate) enum Built {
 }
 
 /// An operator behind whose first side all the rest is its second.
-#[derive(Clone, Copy, Debug, PartialEq, Eq)]
+#[derive(Clone, Copy, PartialEq, Eq)]
 pub(crate) enum Chain {
     Par,
     Alt,

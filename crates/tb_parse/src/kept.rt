@@ -10,7 +10,7 @@ use tb_syntax::{Calls, Formals, ProcDef, ProcDefs, Script, ToolDefs};
 use tb_terms::{Ident, Items, NoMemory};
 
 /// What is defined so far: the processes that are not too high, and the position of the first that is.
-#[derive(Debug, Drop)]
+#[derive(Drop)]
 pub(crate) struct Kept {
     pub(crate) procs: ProcDefs,
     pub(crate) tools: ToolDefs,
@@ -18,7 +18,7 @@ pub(crate) struct Kept {
 }
 
 /// The definition of a process that was read.
-#[derive(Debug, Drop)]
+#[derive(Drop)]
 pub(crate) enum Made {
     Low(ProcDef),
     /// The one at this position has a body that is too high.

@@ -8,14 +8,14 @@ use std::alloc::Global;
 use tb_terms::{Items, Name, NoMemory, Term, Terms};
 
 /// An open bracket, with the name before it, and the parts that stand in it so far.
-#[derive(Debug, Drop)]
+#[derive(Drop)]
 pub(crate) struct Frame {
     head: Option<Name>,
     parts: Terms,
 }
 
 /// A term that is put together from its tokens.
-#[derive(Debug, Drop)]
+#[derive(Drop)]
 pub(crate) struct Builder {
     done: Option<Term>,
     frames: Stack<Frame>,

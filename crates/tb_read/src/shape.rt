@@ -8,7 +8,7 @@ use std::alloc::Global;
 use tb_terms::NoMemory;
 
 /// What the next token may be.
-#[derive(Clone, Copy, Debug, PartialEq, Eq)]
+#[derive(Clone, Copy, PartialEq, Eq)]
 pub(crate) enum Expect {
     /// The first token of a term.
     Term,
@@ -20,14 +20,14 @@ pub(crate) enum Expect {
     Named,
 }
 
-#[derive(Clone, Copy, Debug, PartialEq, Eq)]
+#[derive(Clone, Copy, PartialEq, Eq)]
 pub(crate) enum Bracket {
     Paren,
     Square,
 }
 
 /// What has been opened so far, and what is expected.
-#[derive(Debug, Drop)]
+#[derive(Drop)]
 pub(crate) struct Shape {
     expect: Expect,
     brackets: Stack<Bracket>,

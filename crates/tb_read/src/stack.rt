@@ -7,7 +7,7 @@ use std::marker::Model;
 use tb_terms::NoMemory;
 
 /// A stack that contracts see as the list of its items, the last one in front.
-#[derive(Debug, Drop)]
+#[derive(Drop)]
 pub(crate) struct Stack<T> {
     items: Vec<T>,
 }

@@ -1,7 +1,7 @@
 use tb_terms::{Name, Text};
 
 /// What the text of a term is made of.
-#[derive(Debug, Drop)]
+#[derive(Drop)]
 pub(crate) enum Token {
     Int(i64),
     Str(Text),

@@ -1,4 +1,4 @@
--- Which program a text stands for.
+-- Which script a text spells, when it is accepted, and which program it stands for.
 use Rattle.std.specs.Prelude.{◌≡◌, ℕ, ◌≤◌, List, length, map, Option, Some, None, find, option_map}
 use Rattle.std.specs.List.{AllZip}
 use Rattle.tb_terms.specs.declared.term.Term.{Term}

@@ -1,4 +1,4 @@
--- The simulation of a bus and a feed: what is to be handed out before anything else, and always the first of the steps.
+-- The simulation of a bus and a feed, turn after turn: what is handed out first, then the first of the steps, then quiet and the next input; its limits, and how it ends.
 use Rattle.std.specs.Prelude.{◌≡◌, ℕ, ◌+◌, nat_le, List, [], ◌∷◌, ◌++◌, length, Bool, true, false, if◌then◌else◌, Option, Some, None, option_map, option_and_then, ⊤}
 use Rattle.tb_bus.specs.declared.origin.Origin.{Origin}
 use Rattle.tb_bus.specs.Buses.{Bus}

@@ -10,14 +10,14 @@ pub enum SimEnd {
 }
 
 /// How far a simulation has come: how many steps it has made, and how many inputs of its feed it has handed in.
-#[derive(Clone, Copy, Debug)]
+#[derive(Clone, Copy)]
 pub struct Progress {
     pub steps: u64,
     pub inputs: usize,
 }
 
 /// What one go of a simulation did.
-#[derive(Clone, Copy, Debug)]
+#[derive(Clone, Copy)]
 pub enum Turned {
     /// It has come so far.
     On(Progress),

@@ -1,4 +1,4 @@
--- How high a process body is, and how many brackets are open in front of a position in a list of tokens.
+-- How high a process body is, how many brackets tokens leave open, and what first passes each limit.
 use Rattle.std.specs.Prelude.{ℕ, ◌+◌, ◌-◌, ◌<◌, ◌≤◌, Bool, true, false, nat_lt, List, [], ◌∷◌, length, take, fold, max, find, option_map, unwrap_or, Option, codes, if◌then◌else◌}
 use Rattle.tb_lex.specs.declared.kind.TokenKind.{TokenKind}
 use Rattle.tb_lex.specs.declared.kind.TokenKind.TheVariants.{Int, Str, Lower, Upper, Symbol as Sign}

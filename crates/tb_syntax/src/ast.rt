@@ -1,7 +1,7 @@
 use tb_terms::{Ident, Items, Name, Sort, Text};
 
 /// An expression as a script writes it, with the position of its first token.
-#[derive(Debug, Drop)]
+#[derive(Drop)]
 #[cycle(ast)]
 pub struct Ast {
     pub kind: AstKind,
@@ -9,7 +9,7 @@ pub struct Ast {
 }
 
 /// What an expression is.
-#[derive(Debug, Drop)]
+#[derive(Drop)]
 #[cycle(ast)]
 pub enum AstKind {
     Int(i64),

@@ -5,7 +5,7 @@ use crate::words::{begins_line, is_leading};
 use tb_lex::{Symbol, TokenKind};
 
 /// What stands in front of a token, as far as the space between the two goes.
-#[derive(Clone, Copy, Debug, PartialEq, Eq)]
+#[derive(Clone, Copy, PartialEq, Eq)]
 pub(crate) enum Before {
     Nothing,
     /// An opening sign.

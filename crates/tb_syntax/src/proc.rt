@@ -2,7 +2,7 @@ use crate::{Ast, Asts};
 use tb_terms::{Boxed, Ident, Items, Name, Sort};
 
 /// A process that is called, or made, with its actuals.
-#[derive(Debug, Drop)]
+#[derive(Drop)]
 pub struct Call {
     pub name: Ident,
     pub actuals: Asts,
@@ -13,7 +13,7 @@ pub struct Call {
 pub type Calls = Items<Call>;
 
 /// A variable of a `let`.
-#[derive(Debug, Drop)]
+#[derive(Drop)]
 pub struct Var {
     pub name: Ident,
     pub sort: Sort,
@@ -26,7 +26,7 @@ pub struct Var {
 pub type Vars = Items<Var>;
 
 /// What an atom does.
-#[derive(Debug, Drop)]
+#[derive(Drop)]
 pub enum ActDef {
     /// `V := E`.
     Set(Ident, Ast),
@@ -37,7 +37,7 @@ pub enum ActDef {
 }
 
 /// A condition on the time at which an atom may happen.
-#[derive(Debug, Drop)]
+#[derive(Drop)]
 pub struct TimeDef {
     /// `delay`, `timeout`, `abs-delay` or `abs-timeout`.
     pub name: Name,
@@ -49,7 +49,7 @@ pub struct TimeDef {
 pub type TimeDefs = Items<TimeDef>;
 
 /// An atom with its times.
-#[derive(Debug, Drop)]
+#[derive(Drop)]
 pub struct AtomDef {
     pub act: ActDef,
     pub times: TimeDefs,
@@ -57,7 +57,7 @@ pub struct AtomDef {
 }
 
 /// What a process does.
-#[derive(Debug, Drop)]
+#[derive(Drop)]
 pub enum Proc {
     Atom(AtomDef),
     Call(Call),

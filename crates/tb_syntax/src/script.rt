@@ -2,7 +2,7 @@ use crate::{Calls, Proc};
 use tb_terms::{Ident, Items, Name, Sort, Text};
 
 /// A formal of a process.
-#[derive(Debug, Drop)]
+#[derive(Drop)]
 pub struct Formal {
     pub name: Ident,
     pub sort: Sort,
@@ -17,7 +17,7 @@ pub struct Formal {
 pub type Formals = Items<Formal>;
 
 /// The definition of a process.
-#[derive(Debug, Drop)]
+#[derive(Drop)]
 pub struct ProcDef {
     pub name: Ident,
     pub formals: Formals,
@@ -29,7 +29,7 @@ pub struct ProcDef {
 pub type ProcDefs = Items<ProcDef>;
 
 /// The declaration of a tool.
-#[derive(Debug, Drop)]
+#[derive(Drop)]
 pub struct ToolDef {
     pub name: Name,
     pub command: Option<Text>,
@@ -41,7 +41,7 @@ pub type ToolDefs = Items<ToolDef>;
 
 /// A script: what it defines, and the processes with which it starts. Each `token` is the position of
 /// the construct's first token in the script's tokens, counted from 0.
-#[derive(Debug, Drop)]
+#[derive(Drop)]
 pub struct Script {
     pub procs: ProcDefs,
     pub tools: ToolDefs,

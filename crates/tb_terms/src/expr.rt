@@ -33,7 +33,7 @@ pub enum Func {
 }
 
 /// What a script writes where a term is meant. A variable goes by its slot.
-#[derive(Debug, Drop)]
+#[derive(Drop)]
 pub enum Expr {
     Int(i64),
     Str(Text),

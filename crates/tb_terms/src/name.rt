@@ -8,7 +8,7 @@ use std::marker::Model;
 
 /// The name of a term, a tool, a sort or an atom: a lower-case ASCII letter, followed by ASCII
 /// letters, digits, `-` and `_`. Contracts see it as its bytes.
-#[derive(Debug, Drop)]
+#[derive(Drop)]
 pub struct Name {
     bytes: Vec<u8>,
 }

@@ -4,7 +4,7 @@ use crate::{Items, Name, NoMemory, Sort, Term, same};
 use std::alloc::Global;
 
 /// What a term is matched against.
-#[derive(Debug, Drop)]
+#[derive(Drop)]
 pub enum Pattern {
     /// This term alone.
     Fixed(Term),

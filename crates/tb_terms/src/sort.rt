@@ -4,7 +4,7 @@ use crate::{Boxed, Items, Name, NoMemory};
 use std::alloc::Global;
 
 /// What a variable may hold.
-#[derive(Debug, Drop)]
+#[derive(Drop)]
 pub enum Sort {
     Bool,
     Int,

@@ -4,7 +4,7 @@ use crate::{Items, Name, NoMemory, Text};
 use std::alloc::Global;
 
 /// What messages and tool lines are made of.
-#[derive(Debug, Drop)]
+#[derive(Drop)]
 pub enum Term {
     Int(i64),
     Str(Text),

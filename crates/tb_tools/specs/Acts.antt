@@ -1,4 +1,4 @@
--- What atoms do to the lanes and their tools: where each may happen, and the bench after it.
+-- What atoms, going down and handing out do to the lanes and their tools: where each may happen, and the bench after it.
 use Rattle.std.specs.Prelude.{ℕ, nat_lt, Bool, true, false, ◌&&◌, ◌||◌, List, [], ◌∷◌, ◌++◌, length, map, drop, remove, slice_index_or, Option, Some, None, is_some, codes, if◌then◌else◌}
 use Rattle.tb_terms.specs.declared.term.Term.{Term}
 use Rattle.tb_terms.specs.declared.term.Term.TheVariants.{Appl}

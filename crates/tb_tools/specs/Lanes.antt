@@ -1,4 +1,4 @@
--- What stands on the lanes of a bench: whether each is up, its tool, and what is to be handed out on it.
+-- What stands on the lanes of a bench: whether each is up, its tool, and what is to be handed out on it; the bench at the opening, and the state of a lane.
 use Rattle.std.specs.Prelude.{ℕ, ◌+◌, ◌-◌, pos, Bool, true, false, not, ◌&&◌, List, [], ◌∷◌, ◌++◌, length, map, replicate, slice_index_or, slice_set, Option, Some, None, is_none, option_map, if◌then◌else◌}
 use Rattle.tb_terms.specs.declared.term.Term.{Term}
 use Rattle.tb_terms.specs.declared.term.Term.TheVariants.{Int, Appl}

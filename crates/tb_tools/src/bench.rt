@@ -22,7 +22,7 @@ use tb_terms::{Name, NoMemory, Patterns, Term, Terms, Text, Texts};
 const LANES: usize = 16;
 
 /// The lanes, numbered from 1 to 16, with the tools that stand on them.
-#[derive(Debug, Drop)]
+#[derive(Drop)]
 pub struct Bench {
     alloc: Global,
     lanes: Vec<LaneRow>,
@@ -528,7 +528,7 @@ impl Bench {
 /// Where a lane stands.
 fn index_of(lane: u8) -> usize
     requires { IsLane lane }
-    ensures { (result ≡ lane - 1) × (result < 16) }
+    ensures { (result ≡ lane - 1) × (result < lane_count) }
 {
     usize::from(lane) - 1
 }
@@ -561,7 +561,7 @@ fn open_count(lanes: &[LaneRow]) -> usize
 
 /// The number of the lane that stands there.
 fn number_of(index: usize) -> u8
-    requires { index < 16 }
+    requires { index < lane_count }
     ensures { result ≡ index + 1 }
 {
     index as u8 + 1

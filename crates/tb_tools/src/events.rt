@@ -12,7 +12,7 @@ use tb_match::match_list;
 use tb_terms::{NoMemory, Patterns, Terms, copy_terms, same_terms};
 
 /// Events of one tool, the oldest first. Contracts see them as a list.
-#[derive(Debug, Drop)]
+#[derive(Drop)]
 pub struct Events {
     queue: VecDeque<Terms>,
 }

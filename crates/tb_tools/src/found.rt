@@ -4,14 +4,14 @@ ghost use Rattle.tb_tools.specs.Finding.{smaller};
 use tb_match::Binds;
 
 /// The event at this position matches, and this is what it binds.
-#[derive(Debug, Drop)]
+#[derive(Drop)]
 pub struct FoundEvent {
     pub place: usize,
     pub binds: Binds,
 }
 
 /// A tool by its number, and its lane.
-#[derive(Clone, Copy, Debug)]
+#[derive(Clone, Copy)]
 pub(crate) struct FoundTool {
     pub number: u32,
     pub lane: u8,

@@ -7,7 +7,7 @@ use tb_log::Out;
 use tb_terms::NoMemory;
 
 /// One item that was to be handed out on a lane, twice: for the tool, and for a log.
-#[derive(Debug, Drop)]
+#[derive(Drop)]
 pub struct Handout {
     pub given: Out,
     pub logged: Out,
@@ -15,7 +15,7 @@ pub struct Handout {
 
 /// An item that waits on a lane. It is kept twice, so that it can be handed out and logged without
 /// memory. Contracts see the item.
-#[derive(Debug, Drop)]
+#[derive(Drop)]
 pub(crate) struct KeptOut {
     handout: Handout,
 }

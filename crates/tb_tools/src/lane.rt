@@ -22,7 +22,7 @@ use tb_terms::{Name, NoMemory, Term, Terms, Text};
 const LAST_ITEMS: usize = 2;
 
 /// One lane. Contracts see it without its memory.
-#[derive(Debug, Drop)]
+#[derive(Drop)]
 pub(crate) struct LaneRow {
     up: bool,
     ended: bool,

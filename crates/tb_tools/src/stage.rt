@@ -12,7 +12,7 @@ pub enum Stage {
 }
 
 /// What a tool is asked to evaluate.
-#[derive(Debug, Drop)]
+#[derive(Drop)]
 pub(crate) enum Eval {
     /// Nothing.
     Closed,

@@ -18,7 +18,7 @@ use tb_log::Out;
 use tb_terms::{Items, Name, NoMemory, Term, Terms, same};
 
 /// A tool that stands on a lane.
-#[derive(Debug, Drop)]
+#[derive(Drop)]
 pub(crate) struct LaneTool {
     number: u32,
     name: Name,

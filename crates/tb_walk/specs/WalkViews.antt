@@ -1,4 +1,4 @@
--- What a walk stands for, and what it keeps.
+-- What a walk stands for and keeps, and when what was taken is what an offer leaves.
 use Rattle.std.specs.Prelude.{◌≡◌, true, List, map, Option, Some, None, if◌then◌else◌}
 use Rattle.tb_algebra.specs.Helpers.Candidates.{offer_of}
 use Rattle.tb_algebra.specs.Offers.{Offered}

@@ -8,7 +8,7 @@ use tb_func::Store;
 use tb_terms::{Items, NoMemory};
 
 /// The branches that take the place of one.
-#[derive(Debug, Drop)]
+#[derive(Drop)]
 pub enum Going {
     /// None: its part has ended.
     Away,
@@ -18,7 +18,7 @@ pub enum Going {
 }
 
 /// What came of the search for an offer.
-#[derive(Debug, Drop)]
+#[derive(Drop)]
 pub enum Search {
     /// There were fewer: so many more are to be counted.
     Past(usize),

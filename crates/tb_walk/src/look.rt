@@ -15,7 +15,7 @@ use tb_func::Store;
 use tb_terms::{Items, NoMemory};
 
 /// When a branch was entered, and how many ticks the process and the bus have seen.
-#[derive(Clone, Copy, Debug)]
+#[derive(Clone, Copy)]
 struct Clock {
     entered: u64,
     ticks: u64,

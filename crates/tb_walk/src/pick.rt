@@ -11,7 +11,7 @@ use tb_func::Store;
 use tb_terms::NoMemory;
 
 /// What came of the search for an offer of a row.
-#[derive(Debug, Drop)]
+#[derive(Drop)]
 pub enum Pick {
     Past,
     /// The branch whose offer it is, what takes its place, and the store that a `let` made.

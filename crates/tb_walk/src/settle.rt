@@ -12,7 +12,7 @@ use tb_code::{Code, Op};
 use tb_terms::{Items, NoMemory};
 
 /// What becomes of a row.
-#[derive(Debug, Drop)]
+#[derive(Drop)]
 pub enum Step {
     /// The branch at this index goes on as another.
     Put(usize, Branch),
@@ -112,7 +112,7 @@ fn entered(
 }
 
 /// Where the first part of a frame ends, and what is entered then.
-#[derive(Clone, Copy, Debug)]
+#[derive(Clone, Copy)]
 struct FirstPart {
     bound: usize,
     next: usize,

@@ -15,7 +15,7 @@ use tb_func::Store;
 use tb_terms::{Expr, NoMemory};
 
 /// When a branch was entered, and how many ticks the process has seen.
-#[derive(Clone, Copy, Debug)]
+#[derive(Clone, Copy)]
 pub(crate) struct Since {
     pub entered: u64,
     pub ticks: u64,

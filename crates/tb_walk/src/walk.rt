@@ -18,7 +18,7 @@ use tb_terms::{Items, NoMemory, Patterns, Terms};
 
 /// A walker that keeps the positions at which its process stands, each with the tick at which it was
 /// entered. A tick leaves them as they are: they stand for an older term then.
-#[derive(Debug, Drop)]
+#[derive(Drop)]
 pub struct Walk {
     pub(crate) row: Row,
     pub(crate) store: Store,
@@ -33,7 +33,7 @@ pub struct Walk {
 }
 
 /// What becomes of the row once an offer is taken, and the store that a `let` made.
-#[derive(Debug, Drop)]
+#[derive(Drop)]
 pub struct Taken {
     pub(crate) step: Step,
     pub(crate) own: Option<Store>,

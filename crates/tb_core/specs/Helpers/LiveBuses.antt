@@ -7,6 +7,7 @@ use Rattle.tb_algebra.specs.Offers.{Offered}
 use Rattle.tb_algebra.specs.Walks.{sorts_of}
 use Rattle.tb_algebra.specs.WalkerViews.{View}
 use Rattle.tb_log.specs.Logs.{LogState}
+use Rattle.tb_log.specs.Shapes.{lane_count}
 use Rattle.tb_bus.specs.Buses.{Bus, Proc, start}
 use Rattle.tb_bus.specs.Effects.{Effect, changed}
 use Rattle.tb_bus.specs.Steps.{Move, advance, apply}
@@ -53,14 +54,14 @@ abbrev pub IsFreshOr : {W : Type 0} → List ℕ → Living W → Type 0
 IsFreshOr stale living = (living.fresh ≡ true) ⊎ Contains stale living.number
 
 -- The plans are those of the bodies, the living stand by their numbers, which are below that of the next, each lives
--- by its plan, those that have to be looked at anew are named, unless a tick has passed, and there are 16 lanes.
+-- by its plan, those that have to be looked at anew are named, unless a tick has passed, and all lanes are there.
 pub record IsSound {W P T : Type 0} (view : View P W T) (bus : LiveBus W P T) : Type 0 where
   pub in_order : ascend 0 (rows_of bus.living.items) ≡ true
   pub below : All (IsBelow bus.marks.next_number) bus.living.items
   pub planned : map view.body_of bus.plans ≡ bus.origin.program.bodies
   pub live : All (IsLive view bus.plans bus.ticks) bus.living.items
   pub fresh : bus.aged ≡ false → All (IsFreshOr bus.stale.items) bus.living.items
-  pub lanes : length bus.bench.lanes ≡ 16
+  pub lanes : length bus.bench.lanes ≡ lane_count
 
 -- the fields stand for the same bus as before
 pub record StandsAs {W P T : Type 0} (view : View P W T) (old new : LiveBus W P T) : Type 0 where

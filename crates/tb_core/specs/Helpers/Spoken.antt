@@ -3,6 +3,7 @@ use Rattle.std.specs.Prelude.{◌≡◌, List, [], length, Option, Some, None, �
 use Rattle.tb_terms.specs.declared.term.Term.{Term}
 use Rattle.tb_body.specs.declared.body.Body.{Body}
 use Rattle.tb_body.specs.declared.program.Tool.{Tool as ToolKind}
+use Rattle.tb_log.specs.Shapes.{lane_count}
 use Rattle.tb_tools.specs.Lanes.{BenchState}
 use Rattle.tb_bus.specs.Exchanges.{Setting, exchange_for, terms_seen}
 use Rattle.tb_bus.specs.declared.action.Action.{Action}
@@ -10,11 +11,11 @@ use Rattle.tb_bus.specs.declared.action.Action.TheVariants.{Own, Send, Receive, 
 use Rattle.tb_bus.specs.declared.action.ToolAction.{ToolAction}
 use Rattle.tb_bus.specs.declared.exchange.Exchange.{Exchange}
 
--- The exchange is the one that may happen, for a process of some body, with these kinds of tools and these 16 lanes.
+-- The exchange is the one that may happen, for a process of some body, with these kinds of tools and these lanes.
 pub record CanSpeak (kinds : List ToolKind) (bench : BenchState) (does : ToolAction) (exchange : Exchange) : Type 0 where
   pub body : Option Body
   pub found : exchange_for (record { body = body; kinds = kinds; bench = bench }) does ≡ Some exchange
-  pub lanes : length bench.lanes ≡ 16
+  pub lanes : length bench.lanes ≡ lane_count
 
 -- likewise, where the action speaks with a tool
 abbrev pub CanSpeakBy : List ToolKind → BenchState → Action → Exchange → Type 0

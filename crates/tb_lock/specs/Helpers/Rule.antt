@@ -11,7 +11,7 @@ use Rattle.tb_core.specs.Cores.{CoreState}
 use Rattle.tb_lock.specs.Rights.{Right, has, own, all_rights, AreAmong}
 use Rattle.tb_lock.specs.Histories.{Grows, IsSparse, longer}
 use Rattle.tb_lock.specs.Helpers.Indices.{AreIn, has_index}
-use Rattle.tb_lock.specs.Seats.{SeatView, Stage, Opening, Idle, Waiting, Serving, Joined, nobody, first_seat, no_bus}
+use Rattle.tb_lock.specs.Seats.{SeatView, Stage, Opening, Idle, Waiting, Serving, Joined, nobody, first_seat, no_bus, most_seats}
 
 -- the words, the slot and the seats of a bus
 abbrev pub BoardState : Type 0
@@ -103,9 +103,9 @@ pub record Running (origin : Origin) (board : BoardState) : Type 0 where
   pub drawn : ℕ
   pub served : ℕ
   pub words : board.words ≡ drawn % 2 ^ 64 ∷ served % 2 ^ 64 ∷ []
-  -- the tickets that are out follow on from those that were served; and there are 64 seats at most
+  -- the tickets that are out follow on from those that were served; and there are so many seats at most
   pub waiting : served + sum_by (λ seat. tickets seat.stage) board.views ≡ drawn
-  pub rooms : sum_by (λ seat. seat.room) board.views ≡ 64
+  pub rooms : sum_by (λ seat. seat.room) board.views ≡ most_seats
   pub fits : (id : ℕ) (seat : SeatView) → get_elem? board.views id ≡ some seat → Fits origin log stopped served drawn seat
   pub apart : (id by : ℕ) (seat other : SeatView) → id ≢ by → get_elem? board.views id ≡ some seat → get_elem? board.views by ≡ some other → Apart seat other
   pub slot : AtHome origin log stopped board ⊎ Away board

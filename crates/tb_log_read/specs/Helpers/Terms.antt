@@ -1,4 +1,4 @@
--- The terms that bytes read as.
+-- The terms that bytes read as: the value is taken from the proof that each text has a term or a fault.
 use Rattle.std.specs.Prelude.{ℕ, List, [], ◌∷◌, ◌++◌, Option, Some, None, ◌⊎◌, map}
 use Rattle.std.specs.Option.{option_map}
 use Rattle.std.proofs.Common.{inl, inr}
