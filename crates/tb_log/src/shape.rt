@@ -9,6 +9,9 @@ use crate::entry::{Entry, Input, Label, LabelKind, Out, Place, ToolLine};
 use crate::log::total_size;
 use tb_terms::{MOST_TERM_SIZE, Term, is_within_limits};
 
+/// How many lanes there are. They are numbered from 1.
+pub const LANES: usize = 16;
+
 /// How long the name of a tool may be: the term of a tool is 2 larger.
 pub const MOST_TOOL_NAME: usize = 65_534;
 
@@ -88,7 +91,7 @@ fn is_input_in_shape(input: &Input) -> bool
 fn is_lane(lane: u8) -> bool
     ensures { IsTrue result ↔ IsLane lane }
 {
-    1 <= lane && lane <= 16
+    1 <= lane && usize::from(lane) <= LANES
 }
 
 /// Whether a tool may put this line, or it is a bad one.

@@ -15,11 +15,8 @@ use crate::told::{last_lines, line_with};
 use crate::tool::LaneTool;
 use std::alloc::Global;
 use std::marker::Model;
-use tb_log::{Out, Reply, ToolLine, Why};
+use tb_log::{LANES, Out, Reply, ToolLine, Why};
 use tb_terms::{Name, NoMemory, Patterns, Term, Terms, Text, Texts};
-
-/// How many lanes there are.
-const LANES: usize = 16;
 
 /// The lanes, numbered from 1 to 16, with the tools that stand on them.
 #[derive(Drop)]

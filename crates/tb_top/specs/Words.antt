@@ -3,6 +3,7 @@ use Rattle.std.specs.Prelude.{ℕ, ◌+◌, Bool, ◌&&◌, ◌||◌, if◌then�
 use Rattle.std.specs.List.{starts_with, flat_map}
 use Rattle.tb_terms.specs.Names.{is_text}
 use Rattle.tb_read.specs.Spelling.{is_digits, digits_value}
+use Rattle.tb_log.specs.Shapes.{lane_count}
 use Rattle.tb_top.specs.declared.words.Command.{Command}
 use Rattle.tb_top.specs.declared.words.Command.TheVariants.{Check, Sim}
 use Rattle.tb_top.specs.declared.words.WordFault.{WordFault}
@@ -54,9 +55,9 @@ feed_by (Some feed) position value = Err (fault.Extra position)
 feed_by None position None = Err fault.Missing
 feed_by None position (Some value) = name_in (position + 1) value
 
--- so many commands may be connected
+-- so many commands may be connected: one on each lane
 abbrev pub most_connects : ℕ
-most_connects = 16
+most_connects = lane_count
 
 -- one more command to connect, which is a string
 abbrev pub connect_in : ℕ → ℕ → Option (List ℕ) → Result ℕ WordFault

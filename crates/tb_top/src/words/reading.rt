@@ -10,14 +10,12 @@ use super::found::Found;
 use super::verb::Verb;
 use super::{Command, WordFault};
 use std::alloc::Global;
+use tb_log::LANES;
 use tb_read::digits_value;
 use tb_terms::{Items, NoMemory, Text, Texts};
 
 /// The greatest number of `--steps` and of `--events`.
 const MOST_LIMIT: u64 = 4_000_000;
-
-/// So many commands may be connected.
-const MOST_CONNECTS: usize = 16;
 
 /// So many steps where `--steps` isn't given.
 const USUAL_LIMIT: u64 = 1_000_000;
@@ -281,7 +279,7 @@ fn count_connect(count: usize, position: usize, value: Option<&String>) -> Resul
     requires { position < 2 ^ 63 }
     ensures { result ≡ connect_by count position (option_map string_bytes (option_copied value.entry)) }
 {
-    if MOST_CONNECTS <= count {
+    if LANES <= count {
         return Err(WordFault::Range(position));
     }
     let Some(value) = value else {
