@@ -157,10 +157,7 @@ fn is_answer(
 fn texts_are_feeds_or_have_a_first_bad_line(rt: HostRuntime) -> Result<(), Fail> {
     for (text, expected) in &ROWS {
         let answer = read_feed(rt.alloc(), text);
-        assert!(rt;
-            is_answer(rt.alloc(), &answer, *expected)?,
-            "{text:?}: {answer:?}"
-        );
+        assert!(rt; is_answer(rt.alloc(), &answer, *expected)?, "{text:?}");
     }
     Ok(())
 }
