@@ -1,13 +1,21 @@
-//! Tests of the bus and of its cores, over the texts of scripts.
+//! Tests of processes, of the bus and of its cores, over the texts of scripts.
 #![tactic(auto)]
 
 #[cfg(test)]
+mod algebra;
+#[cfg(test)]
+mod bodies;
+#[cfg(test)]
 mod bus;
 #[cfg(test)]
-mod cores;
+mod code;
 #[cfg(test)]
-mod scripts;
+mod cores;
 #[cfg(test)]
 mod search;
 #[cfg(test)]
 mod simulations;
+#[cfg(test)]
+mod walk;
+#[cfg(test)]
+mod walkers;

@@ -66,19 +66,7 @@ fn work<R: Wait>(rt: &R, bus: &Bus, mut seat: Seat) -> (Seat, u64)
     (seat, made)
 }
 
-/// Every fourth of the seats stops the bus, and the others look at a lane.
-fn attend<R: Wait>(rt: &R, bus: &Bus, number: usize, seat: &mut Seat)
-    requires { seat.old.bus ≡ bus.now }
-    ensures { (seat.new.bus ≡ seat.old.bus) × (seat.new.rights ≡ seat.old.rights) × (seat.new.room ≡ seat.old.room) }
-{
-    if number % 4 == 3 {
-        bus.stop(rt, seat);
-    } else {
-        bus.lane_state(rt, seat, 1);
-    }
-}
-
-/// Each of these seats is used in a thread of its own.
+/// Each of these seats is used in a thread of its own: every fourth stops the bus, and the others look at a lane.
 fn attend_all<R: Threads + Wait + Sync>(rt: &R, bus: &Bus, mut seats: Vec<Seat>) -> Vec<Seat>
     requires { All (λ seat. (seat.bus ≡ bus.now) × (seat.rights ≡ no_rights) × (seat.room ≡ 1)) seats.items }
     ensures len { vec_len result ≡ vec_len seats }
@@ -91,7 +79,13 @@ fn attend_all<R: Threads + Wait + Sync>(rt: &R, bus: &Bus, mut seats: Vec<Seat>)
         &|number, seat|
             requires { seat.now.bus ≡ bus.now }
             ensures { (seat.exit.now.bus ≡ seat.entry.now.bus) × (seat.exit.now.rights ≡ seat.entry.now.rights) × (seat.exit.now.room ≡ seat.entry.now.room) }
-        { attend(rt, bus, number, seat) },
+        {
+            if number % 4 == 3 {
+                bus.stop(rt, seat);
+            } else {
+                bus.lane_state(rt, seat, 1);
+            }
+        },
     );
     seats
 }
