@@ -1,7 +1,7 @@
-use crate::bodies::{joined, repeated};
-use crate::simulations::{Run, both_run_so, runs_so};
+use crate::scripts::{Run, log_of, repeated};
 use std::alloc::Global;
-use tb_sim::SimEnd;
+use std::test::Fail;
+use tb_algebra::Rewriter;
 use tb_walk::Walk;
 
 /// Scripts, their feeds, and their logs where at most 40 steps are made.
@@ -260,34 +260,24 @@ static PLAIN: [(&str, &str, &str); 38] = [
     ),
 ];
 
-fn first_wrong_plain(alloc: Global) -> Option<&'static str> {
+#[test]
+fn scripts_have_their_logs(rt: HostRuntime) -> Result<(), Fail> {
     for (script, feed, log) in &PLAIN {
         let run = Run {
             script,
             connects: &[],
             feed,
             steps: 40,
-            end: SimEnd::Down,
             from: 1,
-            log,
         };
-        if !both_run_so(alloc, &run) {
-            return Some(script);
-        }
+        assert!(rt; has_log(rt.alloc(), &run, log)?, "{}", run.script);
     }
-    None
-}
-
-#[test]
-fn scripts_have_their_logs(rt: HostRuntime) {
-    assert_eq!(rt; first_wrong_plain(rt.alloc()), None);
+    Ok(())
 }
 
 /// Tools of three kinds, of which one can't be started.
-static KINDS: &str = "tool a is { command = \"run a\" } tool b is { } \
-                     tool c is { command = \"run c\" } ";
-
-static VARIABLES: &str = "process P is let T : a, U : a, B : b, V : int, Y : term in ";
+const KINDS: &str = "tool a is { command = \"run a\" } tool b is { } \
+                     tool c is { command = \"run c\" }";
 
 /// What a process does that has variables for tools, for any term and for a number; its feed, how many steps are made, and
 /// its log behind the start of the first two lanes.
@@ -541,34 +531,22 @@ static TOOLS: [(&str, &str, u64, &str); 30] = [
     ),
 ];
 
-/// Whether a process that does this has this log behind the start of the first two lanes.
-fn has_tool_log(alloc: Global, text: &str, feed: &str, steps: u64, log: &str) -> Option<bool> {
-    let parts = [KINDS, VARIABLES, text, " endlet toolbus(P)"];
-    let script = joined(alloc, &parts).ok()?;
-    let run = Run {
-        script: script.as_str(),
-        connects: &["one", "two"],
-        feed,
-        steps,
-        end: SimEnd::Steps,
-        from: 3,
-        log,
-    };
-    Some(both_run_so(alloc, &run))
-}
-
-fn first_wrong_with_tools(alloc: Global) -> Option<&'static str> {
-    for (text, feed, steps, log) in &TOOLS {
-        if has_tool_log(alloc, text, feed, *steps, log) != Some(true) {
-            return Some(text);
-        }
-    }
-    None
-}
-
 #[test]
-fn scripts_with_tools_have_their_logs(rt: HostRuntime) {
-    assert_eq!(rt; first_wrong_with_tools(rt.alloc()), None);
+fn scripts_with_tools_have_their_logs(rt: HostRuntime) -> Result<(), Fail> {
+    for (text, feed, steps, log) in &TOOLS {
+        let script = format!(in rt.alloc();
+            "{KINDS} process P is let T : a, U : a, B : b, V : int, Y : term in {text} endlet toolbus(P)"
+        )?;
+        let run = Run {
+            script: script.as_str(),
+            connects: &["one", "two"],
+            feed,
+            steps: *steps,
+            from: 3,
+        };
+        assert!(rt; has_log(rt.alloc(), &run, log)?, "{}", run.script);
+    }
+    Ok(())
 }
 
 /// A queue that is full stops the notes that its process wants, though another has room, and no others. There is room for
@@ -589,52 +567,49 @@ static FULL: [(&str, usize, &str); 2] = [
     ),
 ];
 
-fn first_wrong_full(alloc: Global) -> Option<&'static str> {
+#[test]
+fn a_full_queue_stops_the_notes_that_it_wants(rt: HostRuntime) -> Result<(), Fail> {
     for (script, from, log) in &FULL {
         let run = Run {
             script,
             connects: &[],
             feed: "",
             steps: 200_000,
-            end: SimEnd::Down,
             from: *from,
-            log,
         };
-        if runs_so::<Walk>(alloc, &run) != Some(true) {
-            return Some(script);
-        }
+        let found = log_of::<Walk>(rt.alloc(), &run)?;
+        assert!(rt; found.as_slice() == log.as_bytes(), "{script}");
     }
-    None
+    Ok(())
+}
+
+/// The first of so many processes would create two more, and then does something else.
+fn creator_among(alloc: Global, count: u32) -> Result<String, Fail> {
+    let others = repeated(alloc, count, "B", ", ")?;
+    Ok(format!(in alloc;
+        "process A is let N : int in create(B, N?) . (create(B, N?) + tau) endlet process B is delta \
+         toolbus(A, {others})"
+    )?)
 }
 
 #[test]
-fn a_full_queue_stops_the_notes_that_it_wants(rt: HostRuntime) {
-    assert_eq!(rt; first_wrong_full(rt.alloc()), None);
-}
-
-/// A script up to the last of 10,000 processes: the first creates one more, can't create another, and then does something
-/// else.
-static MANY: &str = "process A is let N : int in create(B, N?) . (create(B, N?) + tau) endlet \
-                     process B is delta toolbus(A, ";
-
-static MANY_LOG: &str = "1 create 1.1 10000\n2 tau 1.3\n3 quiet\n4 noticks\n5 halt\n";
-
-fn first_of_many_goes_on(alloc: Global) -> Option<bool> {
-    let others = repeated(alloc, 9_997, "B, ").ok()?;
-    let script = joined(alloc, &[MANY, others.as_str(), "B)"]).ok()?;
+fn ten_thousand_may_be_alive(rt: HostRuntime) -> Result<(), Fail> {
+    let script = creator_among(rt.alloc(), 9_998)?;
     let run = Run {
         script: script.as_str(),
         connects: &[],
         feed: "",
         steps: 40,
-        end: SimEnd::Down,
         from: 1,
-        log: MANY_LOG,
     };
-    Some(both_run_so(alloc, &run))
+    let log = "1 create 1.1 10000\n2 tau 1.3\n3 quiet\n4 noticks\n5 halt\n";
+    assert!(rt; has_log(rt.alloc(), &run, log)?);
+    Ok(())
 }
 
-#[test]
-fn ten_thousand_may_be_alive(rt: HostRuntime) {
-    assert_eq!(rt; first_of_many_goes_on(rt.alloc()), Some(true));
+/// Whether the simulation has this log, over walkers of either kind.
+fn has_log(alloc: Global, run: &Run, log: &str) -> Result<bool, Fail> {
+    let rewritten = log_of::<Rewriter>(alloc, run)?;
+    let walked = log_of::<Walk>(alloc, run)?;
+    Ok(rewritten.as_slice() == log.as_bytes() && walked.as_slice() == log.as_bytes())
 }

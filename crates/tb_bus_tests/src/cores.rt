@@ -1,57 +1,43 @@
-ghost use Rattle.std.specs.Prelude.{◌≤◌, length};
-ghost use Rattle.std.specs.Option.{ForSome};
+ghost use Rattle.std.specs.Prelude.{IfOk};
 ghost use Rattle.tb_log.specs.Shapes.{IsInputInShape, IsLane};
 
-use crate::simulations::{commands, log_text};
+use crate::scripts::{log_text, started};
 use std::alloc::Global;
+use std::test::Fail;
 use tb_algebra::{Rewriter, Walker};
-use tb_body::Program;
 use tb_core::{Core, CoreFault, Stepped, TakeOut};
 use tb_feed::read_feed;
 use tb_log::{Input, Out, Reply, why_word};
-use tb_script::load;
-use tb_terms::{NoMemory, Texts};
 use tb_tools::LaneState;
 use tb_walk::Walk;
 
 /// What is done to a core.
 #[derive(Clone, Copy)]
 enum Call {
-    HasStep,
     Step,
-    FirstOut,
     /// What is to be handed out next on the lane is taken.
     Take,
     /// A line of a feed is handed in.
     Feed(&'static str),
     NoTicks,
-    IsDown,
     Stop,
-    IsStopped,
 }
 
-use Call::{Feed, FirstOut, HasStep, IsDown, IsStopped, NoTicks, Step, Stop, Take};
+use Call::{Feed, NoTicks, Step, Stop, Take};
 use LaneState::{Ending, Free, Leaving, Live, Unnamed, Waiting};
 
 /// A lane, a call, what it answers, and the state of the lane after it.
 type Row = (u8, Call, &'static str, LaneState);
 
-/// A script, the commands with which its first lanes are started, how many entries its log may have, the calls, and the log.
-type Calls = (
-    &'static str,
-    &'static [&'static str],
-    u32,
-    &'static [Row],
-    &'static str,
-);
+/// A script, whose first lane is started with `ui`; how many entries its log may have; the calls; and the log.
+type Calls = (&'static str, u32, &'static [Row], &'static str);
 
-static CALLS: [Calls; 8] = [
+static CALLS: [Calls; 6] = [
     (
         "tool calc is { command = \"calc\" } tool ui is { } \
          process P is let C : calc, U : ui, V : int in execute(calc, C?) . snd-eval(C, 7) . \
          rec-value(C, V?) . rec-connect(U?) . rec-event(U, 5) . snd-ack-event(U, 5) . \
          rec-disconnect(U) . snd-terminate(C, 9) endlet toolbus(P)",
-        &["ui"],
         40,
         &[
             (2, Take, "nothing", Free),
@@ -112,7 +98,6 @@ static CALLS: [Calls; 8] = [
     (
         "tool calc is { command = \"calc\" } process P is let C : calc in execute(calc, C?) . \
          snd-do(C, 4) . rec-disconnect(C?) . execute(calc, C?) endlet toolbus(P)",
-        &["ui"],
         40,
         &[
             (2, Step, "did", Live),
@@ -133,7 +118,6 @@ static CALLS: [Calls; 8] = [
     // A lane that is open as the bus goes down is told so, and ends.
     (
         "process P is shutdown(3) toolbus(P)",
-        &["ui"],
         40,
         &[
             (1, Take, "start", Unnamed),
@@ -149,7 +133,6 @@ static CALLS: [Calls; 8] = [
     // Inputs are taken or dropped, and refused where the log is full.
     (
         "process P is delta toolbus(P)",
-        &["ui"],
         9,
         &[
             (2, Feed("tick"), "took", Free),
@@ -170,7 +153,6 @@ static CALLS: [Calls; 8] = [
     (
         "tool calc is { command = \"calc\" } process P is let C : calc in execute(calc, C?) endlet \
          toolbus(P)",
-        &["ui"],
         2,
         &[
             (2, Step, "did", Live),
@@ -184,7 +166,6 @@ static CALLS: [Calls; 8] = [
     // A core that was stopped refuses each call.
     (
         "process P is tau toolbus(P)",
-        &["ui"],
         9,
         &[
             (2, Stop, "none", Free),
@@ -193,43 +174,6 @@ static CALLS: [Calls; 8] = [
             (1, Take, "stopped", Unnamed),
         ],
         "",
-    ),
-    (
-        "process D is delta toolbus(D)",
-        &[],
-        1_000,
-        &[
-            (2, HasStep, "no", Free),
-            (2, Step, "quiet", Free),
-            (2, Step, "quiet", Free),
-            (2, IsDown, "no", Free),
-            (2, NoTicks, "took", Free),
-            (2, HasStep, "yes", Free),
-            (2, Step, "did", Free),
-            (2, IsDown, "yes", Free),
-            (2, Step, "down", Free),
-            (2, NoTicks, "down", Free),
-            (2, IsStopped, "no", Free),
-            (2, Stop, "none", Free),
-            (2, IsStopped, "yes", Free),
-            (2, Step, "stopped", Free),
-            (2, NoTicks, "stopped", Free),
-        ],
-        "1 quiet\n2 noticks\n3 halt\n4 drop down noticks\n",
-    ),
-    // The lowest lane is handed out first.
-    (
-        "toolbus()",
-        &["a", "b"],
-        1,
-        &[
-            (1, FirstOut, "1", Unnamed),
-            (1, Take, "start", Unnamed),
-            (2, FirstOut, "2", Unnamed),
-            (2, Take, "full", Unnamed),
-            (2, FirstOut, "2", Unnamed),
-        ],
-        "1 out 1 start \"a\"\n",
     ),
 ];
 
@@ -269,35 +213,15 @@ fn reply_word(answer: Result<Reply, CoreFault>) -> &'static [u8] {
     }
 }
 
-fn lane_word(lane: Option<u8>) -> &'static [u8] {
-    match lane {
-        Some(1) => b"1",
-        Some(2) => b"2",
-        Some(_) => b"another",
-        None => b"none",
-    }
-}
-
-fn yes_or_no(holds: bool) -> &'static [u8] {
-    if holds { b"yes" } else { b"no" }
-}
-
-fn has_step_word(answer: Result<bool, NoMemory>) -> &'static [u8] {
-    match answer {
-        Ok(holds) => yes_or_no(holds),
-        Err(_) => b"no memory",
-    }
-}
-
 /// What is handed in by a line of a feed.
-fn input(alloc: Global, line: &str) -> Option<Input>
-    ensures { ForSome result IsInputInShape }
+fn input(alloc: Global, line: &str) -> Result<Input, Fail>
+    ensures { IfOk result IsInputInShape }
 {
-    let feed = read_feed(alloc, line.as_bytes()).ok()?;
+    let feed = read_feed(alloc, line.as_bytes())?;
     if feed.len() == 0 {
-        return None;
+        return Err(Fail::new("no input"));
     }
-    feed.input(0).ok()
+    Ok(feed.input(0)?)
 }
 
 /// What the call answers.
@@ -306,80 +230,62 @@ fn called<W: Walker>(
     core: &mut Core<W>,
     lane: u8,
     call: Call,
-) -> Option<&'static [u8]>
+) -> Result<&'static [u8], Fail>
     requires { IsLane lane }
 {
     match call {
-        Call::HasStep => Some(has_step_word(core.has_step())),
-        Call::Step => Some(step_word(core.step())),
-        Call::FirstOut => Some(lane_word(core.first_out())),
-        Call::Take => Some(take_word(core.take_out(lane))),
-        Call::Feed(line) => Some(reply_word(core.hand_in(input(alloc, line)?))),
-        Call::NoTicks => Some(reply_word(core.hand_in(Input::NoTicks))),
-        Call::IsDown => Some(yes_or_no(core.is_down())),
+        Call::Step => Ok(step_word(core.step())),
+        Call::Take => Ok(take_word(core.take_out(lane))),
+        Call::Feed(line) => Ok(reply_word(core.hand_in(input(alloc, line)?))),
+        Call::NoTicks => Ok(reply_word(core.hand_in(Input::NoTicks))),
         Call::Stop => {
             core.stop();
-            Some(b"none")
+            Ok(b"none")
         }
-        Call::IsStopped => Some(yes_or_no(core.is_stopped())),
     }
 }
 
-/// Whether the call is answered so, and leaves the lane in this state.
-fn answers_so<W: Walker>(alloc: Global, core: &mut Core<W>, row: &Row) -> bool {
-    let (lane, call, answer, state) = *row;
-    if lane < 1 || lane > 16 {
-        return false;
-    }
-    called(alloc, core, lane, call) == Some(answer.as_bytes()) && core.lane_state(lane) == state
-}
-
-/// The index of the first row whose answer or whose state isn't as it says, or their number where the log isn't.
-fn first_wrong_call<W: Walker>(
-    alloc: Global,
-    program: Program,
-    commands: &Texts,
-    calls: &Calls,
-) -> Result<Option<usize>, NoMemory>
-    requires { length commands.now ≤ 16 }
-{
-    let (_script, _connects, entries, rows, log) = *calls;
-    if entries > 1_000_000 {
-        return Ok(Some(0));
-    }
-    let mut core: Core<W> = Core::start(alloc, program, commands, entries)?;
+/// The index of the first row whose answer or whose state isn't as it says, and the log.
+fn first_wrong<W: Walker>(alloc: Global, calls: &Calls) -> Result<(Option<usize>, Vec<u8>), Fail> {
+    let (script, entries, rows, _log) = *calls;
+    let mut core: Core<W> = started(alloc, script, &["ui"], entries)?;
     core.reserve(9)?;
-    for (at, row) in rows.iter().enumerate() {
-        if !answers_so(alloc, &mut core, row) {
-            return Ok(Some(at));
+    for (at, (lane, call, answer, state)) in rows.iter().enumerate() {
+        if *lane < 1 || *lane > 16 {
+            return Ok((Some(at), Vec::new(alloc)));
+        }
+        let found = called(alloc, &mut core, *lane, *call)?;
+        if found != answer.as_bytes() || core.lane_state(*lane) != *state {
+            return Ok((Some(at), Vec::new(alloc)));
         }
     }
-    if log_text(alloc, core.log(), 1)?.as_slice() != log.as_bytes() {
-        return Ok(Some(rows.len()));
-    }
-    Ok(None)
-}
-
-/// Whether all calls of a core over walkers of one kind are answered so.
-fn calls_answer_so<W: Walker>(alloc: Global, calls: &Calls) -> Option<bool> {
-    let (script, connects, _entries, _rows, _log) = *calls;
-    let commands = commands(alloc, connects)?;
-    let program = load(alloc, script.as_bytes()).ok()?;
-    Some(first_wrong_call::<W>(alloc, program, &commands, calls) == Ok(None))
-}
-
-fn first_wrong_calls(alloc: Global) -> Option<usize> {
-    for (number, calls) in CALLS.iter().enumerate() {
-        if calls_answer_so::<Rewriter>(alloc, calls) != Some(true)
-            || calls_answer_so::<Walk>(alloc, calls) != Some(true)
-        {
-            return Some(number);
-        }
-    }
-    None
+    Ok((None, log_text(alloc, &core, 1)?))
 }
 
 #[test]
-fn calls_answer_as_worked_by_hand(rt: HostRuntime) {
-    assert_eq!(rt; first_wrong_calls(rt.alloc()), None);
+fn calls_answer_as_worked_by_hand(rt: HostRuntime) -> Result<(), Fail> {
+    for (number, calls) in CALLS.iter().enumerate() {
+        let (wrong, log) = first_wrong::<Rewriter>(rt.alloc(), calls)?;
+        assert_eq!(rt; wrong, None, "{number}");
+        assert!(rt; log.as_slice() == calls.3.as_bytes(), "{number}");
+        let (wrong, log) = first_wrong::<Walk>(rt.alloc(), calls)?;
+        assert_eq!(rt; wrong, None, "{number}");
+        assert!(rt; log.as_slice() == calls.3.as_bytes(), "{number}");
+    }
+    Ok(())
+}
+
+#[test]
+fn the_lowest_lane_is_handed_out_first(rt: HostRuntime) -> Result<(), Fail> {
+    let mut core: Core<Walk> = started(rt.alloc(), "toolbus()", &["a", "b"], 1)?;
+    let first = core.first_out();
+    let taken = take_word(core.take_out(1));
+    let second = core.first_out();
+    let refused = take_word(core.take_out(2));
+    assert_eq!(rt;
+        (first, second, core.first_out()),
+        (Some(1), Some(2), Some(2))
+    );
+    assert!(rt; taken == b"start".as_slice() && refused == b"full".as_slice());
+    Ok(())
 }

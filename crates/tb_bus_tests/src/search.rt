@@ -1,7 +1,9 @@
 //! Actions that no script has, since its checks refuse them: the search finds none of them possible.
 ghost use Rattle.std.specs.Prelude.{◌≡◌, IfOk};
+ghost use Rattle.tb_log.specs.Shapes.{IsLane};
 
 use std::alloc::Global;
+use std::test::Fail;
 use tb_body::Program;
 use tb_bus::{Action, Candidate, Living, Marks, OwnAction, Ready, ToolAction, first_candidate};
 use tb_log::ToolLine;
@@ -12,7 +14,7 @@ use tb_tools::Bench;
 
 /// Bodies 0 to 2, and kinds of tools 0 to 2. Slot 0 of the first body takes a tool of the first kind, slot 1 any term, and
 /// slot 2 a number. The second kind has no command.
-static SCRIPT: &str = "tool a is { command = \"run a\" } tool b is { } \
+const SCRIPT: &str = "tool a is { command = \"run a\" } tool b is { } \
                       tool c is { command = \"run c\" } \
                       process P is let T : a, Y : term, V : int in tau endlet \
                       process N(X : int) is tau process S(X : str) is tau toolbus()";
@@ -68,34 +70,30 @@ fn action(alloc: Global, wish: Wish) -> Result<Action, NoMemory> {
 }
 
 /// Lanes of which the first has a tool that waits, and the second one that is leaving.
-fn bench(alloc: Global) -> Result<Option<Bench>, NoMemory> {
+fn bench(alloc: Global) -> Result<Bench, Fail> {
     let name = Name::new(alloc, b"a")?;
-    let Some(command) = Text::from_str(alloc, "a")? else {
-        return Ok(None);
-    };
+    let command = Text::from_str(alloc, "a")?.ok_or("no text")?;
     let mut connects = Items::new(alloc);
     connects.push(command.copy(alloc)?)?;
     let mut bench = Bench::new(alloc, &connects)?;
     let _reply = bench.line(1, ToolLine::Connect(name.copy(alloc)?), true)?;
     if bench.next_tool() > 100 || bench.free_lane() != Some(2) {
-        return Ok(None);
+        return Err(Fail::new("other lanes"));
     }
     let _number = bench.execute(2, &name, &command)?;
     let _reply = bench.gone(2);
-    Ok(Some(bench))
+    Ok(bench)
 }
 
-/// A process of the first body that is ready for this alone.
-fn ready_for(alloc: Global, wish: Wish) -> Result<Living<()>, NoMemory>
-    ensures { IfOk result (λ living. living.number ≡ 1) }
-{
+/// Whether a process that is ready for this alone goes on.
+fn comes_true(alloc: Global, program: &Program, bench: &Bench, wish: Wish) -> Result<bool, Fail> {
     let action = action(alloc, wish)?;
     let ready = Ready {
         offer: 0,
         atom: 1,
         action,
     };
-    Ok(Living {
+    let living = Living {
         number: 1,
         body: 0,
         walker: (),
@@ -103,42 +101,28 @@ fn ready_for(alloc: Global, wish: Wish) -> Result<Living<()>, NoMemory>
         ready: vec![in alloc; ready]?,
         fresh: true,
         timed: false,
-    })
-}
-
-/// Whether a process that is ready for this alone goes on.
-fn comes_true(
-    alloc: Global,
-    program: &Program,
-    bench: &Bench,
-    wish: Wish,
-) -> Result<bool, NoMemory> {
+    };
     let marks = Marks {
         last_starter: 0,
         next_number: 2,
         no_ticks: false,
         down: false,
     };
-    let all = [ready_for(alloc, wish)?];
-    match first_candidate(alloc, program, bench, &all, marks)? {
-        Some(Candidate::Own(0, 0) | Candidate::Speak(0, 0, _)) => Ok(true),
-        _ => Ok(false),
-    }
-}
-
-/// How many of the wishes, from the first on, come true where they may.
-fn count_right_wishes(alloc: Global) -> Option<usize> {
-    let program = load(alloc, SCRIPT.as_bytes()).ok()?;
-    let bench = bench(alloc).ok()??;
-    for (number, (wish, possible)) in WISHES.iter().enumerate() {
-        if comes_true(alloc, &program, &bench, *wish) != Ok(*possible) {
-            return Some(number);
-        }
-    }
-    Some(WISHES.len())
+    let all = [living];
+    let found = first_candidate(alloc, program, bench, &all, marks)?;
+    Ok(matches!(
+        found,
+        Some(Candidate::Own(0, 0) | Candidate::Speak(0, 0, _))
+    ))
 }
 
 #[test]
-fn what_no_script_has_is_not_possible(rt: HostRuntime) {
-    assert_eq!(rt; count_right_wishes(rt.alloc()), Some(WISHES.len()));
+fn what_no_script_has_is_not_possible(rt: HostRuntime) -> Result<(), Fail> {
+    let program = load(rt.alloc(), SCRIPT.as_bytes())?;
+    let bench = bench(rt.alloc())?;
+    for (number, (wish, possible)) in WISHES.iter().enumerate() {
+        let found = comes_true(rt.alloc(), &program, &bench, *wish)?;
+        assert_eq!(rt; found, *possible, "wish {number}");
+    }
+    Ok(())
 }

@@ -1,7 +1,7 @@
 use Rattle.std.proofs.Common.{ap}
 use Rattle.tb_body.specs.declared.body.Body.{Body}
-use Rattle.tb_bus_tests.proofs.TestLemmas.{store_fits}
-use Rattle.tb_bus_tests.proofs.walkers.binds_so_many.Goals as goal
+use Rattle.tb_walk_tests.proofs.TestLemmas.{store_fits}
+use Rattle.tb_walk_tests.proofs.walkers.seen_after.Goals as goal
 
 -- a new store has the slots of its body
 pub start-requires : goal.start-requires

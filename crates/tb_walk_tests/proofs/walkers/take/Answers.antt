@@ -1,7 +1,7 @@
 use Rattle.std.proofs.Common.{◌<◌, length, ap, ◌∙◌, arith}
 use Rattle.tb_algebra.specs.Walks.{Walking, offers_of}
-use Rattle.tb_bus_tests.proofs.TestLemmas.{fired_ticks}
-use Rattle.tb_bus_tests.proofs.walkers.take.Goals as goal
+use Rattle.tb_walk_tests.proofs.TestLemmas.{fired_ticks}
+use Rattle.tb_walk_tests.proofs.walkers.take.Goals as goal
 
 -- a look and a step take no time
 pub returns-clause-ticks : goal.returns-clause-ticks

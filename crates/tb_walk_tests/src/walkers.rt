@@ -5,12 +5,12 @@ ghost use Rattle.tb_algebra.specs.Binds.{takes_binds};
 ghost use Rattle.tb_algebra.specs.Walks.{offers_of};
 
 use std::alloc::Global;
-use tb_algebra::{Rewriter, Walker};
+use std::test::Fail;
+use tb_algebra::Walker;
 use tb_body::Body;
 use tb_func::Store;
 use tb_match::Binds;
 use tb_terms::{Items, NoMemory, Term, Terms};
-use tb_walk::Walk;
 
 /// How many moves a process makes at most.
 const MOST_MOVES: u64 = 16;
@@ -82,8 +82,7 @@ fn take_later<W: Walker>(
 }
 
 /// Makes a move, and gives how many ticks there were by then, or none where there is no such offer. A move is `t`, a tick;
-/// a digit, the position of the offer that is taken; a letter from `a` on, which is taken a tick after the look; or a blank,
-/// which is none.
+/// a digit, the position of the offer that is taken; or a letter from `a` on, which is taken a tick after the look.
 fn go<W: Walker>(
     alloc: Global,
     plan: &W::Plan,
@@ -98,7 +97,6 @@ fn go<W: Walker>(
     ensures ticks { IfOk result (λ some. IfSome some (λ after. ((W.view.walking plan.now walker.new).ticks ≤ after) × (after ≤ ticks + 1))) }
 {
     match one {
-        b' ' => Ok(Some(ticks)),
         b't' => {
             walker.tick(plan);
             Ok(Some(ticks + 1))
@@ -146,7 +144,11 @@ fn write_offers<W: Walker>(
 }
 
 /// What a process of this body may do next after these moves, of which there are a few. The bus has seen 3 ticks as it starts.
-fn seen_after<W: Walker>(alloc: Global, body: &Body, moves: &[u8]) -> Result<String, NoMemory> {
+pub(crate) fn seen_after<W: Walker>(
+    alloc: Global,
+    body: &Body,
+    moves: &[u8],
+) -> Result<String, NoMemory> {
     let plan = W::plan(alloc, body)?;
     let mut walker = W::start(alloc, &plan, Store::fresh(alloc, &body.sorts)?)?;
     let mut ticks: u64 = 0;
@@ -170,46 +172,65 @@ fn seen_after<W: Walker>(alloc: Global, body: &Body, moves: &[u8]) -> Result<Str
     Ok(text)
 }
 
-/// What a process of this body may do next after these moves, where walkers of both kinds say the same.
-pub(crate) fn offers_after(alloc: Global, body: &Body, moves: &[u8]) -> Option<String> {
-    let rewritten = seen_after::<Rewriter>(alloc, body, moves).ok()?;
-    let walked = seen_after::<Walk>(alloc, body, moves).ok()?;
-    if rewritten.as_str() == walked.as_str() {
-        Some(walked)
-    } else {
-        None
+/// Writes what a process may do next now, and after each list of so many ticks and offers that are taken.
+#[cycle(explore)]
+fn explore<W: Walker>(
+    alloc: Global,
+    plan: &W::Plan,
+    walker: W,
+    now: u64,
+    more: u64,
+    text: &mut String,
+) -> Result<(), NoMemory>
+    requires on { W.view.is_on plan.now walker }
+    requires ticks { (W.view.walking plan.now walker).ticks + more ≤ MOST_MOVES }
+    requires now { now + more ≤ 2 * MOST_MOVES }
+{
+    let mut walker = walker;
+    write_offers(alloc, plan, &mut walker, now, text)?;
+    text.push_str("; ")?;
+    if more == 0 {
+        return Ok(());
     }
+    let mut older = walker.copy(alloc)?;
+    older.tick(plan);
+    explore(alloc, plan, older, now + 1, more - 1, text)?;
+    for k in 0..walker.offer_count() {
+        let mut next = walker.copy(alloc)?;
+        take(alloc, plan, &mut next, k, now)?;
+        explore(alloc, plan, next, now, more - 1, text)?;
+    }
+    Ok(())
 }
 
-/// Whether walkers of both kinds say that a process of this body may do this next after these moves.
-pub(crate) fn has_offers(alloc: Global, body: &Body, moves: &str, offers: &str) -> bool {
-    match offers_after(alloc, body, moves.as_bytes()) {
-        Some(found) => found.as_str() == offers,
-        None => false,
-    }
+/// What a process of this body may do next, at first and after each list of up to four moves.
+pub(crate) fn explored<W: Walker>(alloc: Global, body: &Body) -> Result<String, NoMemory> {
+    let plan = W::plan(alloc, body)?;
+    let walker = W::start(alloc, &plan, Store::fresh(alloc, &body.sorts)?)?;
+    let mut text = String::new(alloc);
+    explore(alloc, &plan, walker, 3, 4, &mut text)?;
+    Ok(text)
 }
 
-/// Whether a process binds so many variables as it receives these terms, and none where it may not. Its first offer receives
-/// one term.
-pub(crate) fn binds_so_many<W: Walker>(
+/// How many variables a process binds as it receives these terms, where it may; its first offer receives.
+pub(crate) fn count_bound<W: Walker>(
     alloc: Global,
     body: &Body,
     terms: &Terms,
-    count: Option<usize>,
-) -> Result<bool, NoMemory> {
+) -> Result<Option<usize>, Fail> {
     let plan = W::plan(alloc, body)?;
     let mut walker = W::start(alloc, &plan, Store::fresh(alloc, &body.sorts)?)?;
     walker.look(alloc, &plan, 3)?;
     let walker = walker.copy(alloc)?;
     if walker.is_done() || !walker.is_fresh() || walker.offer_count() == 0 {
-        return Ok(false);
+        return Err(Fail::new("no offer"));
     }
     match walker.patterns(alloc, &plan, 0)? {
         Some(patterns) if patterns.len() == 1 => {}
-        _ => return Ok(false),
+        _ => return Err(Fail::new("not one pattern")),
     }
     match walker.accepts(alloc, &plan, 0, terms)? {
-        Some(binds) => Ok(count == Some(binds.len())),
-        None => Ok(count.is_none()),
+        Some(binds) => Ok(Some(binds.len())),
+        None => Ok(None),
     }
 }

@@ -2,7 +2,7 @@ use Rattle.std.proofs.Common.{◌≡◌, ◌+◌, ap, arith}
 use Rattle.tb_algebra.specs.Walks.{Walking}
 use Rattle.tb_algebra.proofs.AgedOffers.{within-ticked}
 use Rattle.tb_algebra.proofs.WalkerLemmas.{is_taken, takes_none}
-use Rattle.tb_bus_tests.proofs.walkers.take_later.Goals as goal
+use Rattle.tb_walk_tests.proofs.walkers.take_later.Goals as goal
 
 pub take-requires-clause-within : goal.take-requires-clause-within
 take-requires-clause-within g c =

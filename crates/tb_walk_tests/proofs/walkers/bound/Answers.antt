@@ -1,7 +1,7 @@
 use Rattle.std.proofs.Common.{arith}
 use Rattle.tb_algebra.specs.Walks.{offers_of}
-use Rattle.tb_bus_tests.proofs.TestLemmas.{bound_taken}
-use Rattle.tb_bus_tests.proofs.walkers.bound.Goals as goal
+use Rattle.tb_walk_tests.proofs.TestLemmas.{bound_taken}
+use Rattle.tb_walk_tests.proofs.walkers.bound.Goals as goal
 
 pub accepts-requires-clause-within : goal.accepts-requires-clause-within
 accepts-requires-clause-within g c = λ seen is. (let count = c.offer_count.ensures.seen seen is in omega arith)

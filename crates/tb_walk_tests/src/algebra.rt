@@ -1,10 +1,11 @@
 use crate::bodies::body;
-use crate::walkers::{binds_so_many, has_offers};
+use crate::walkers::{count_bound, seen_after};
 use std::alloc::Global;
+use std::test::Fail;
 use tb_algebra::{Rewriter, is_ready};
-use tb_body::{Act, Atom, Body, Tree, copy_settings};
+use tb_body::{Act, Atom, Body, Setting, Tree};
 use tb_func::Store;
-use tb_terms::{Boxed, Expr, Items, Sort, Term};
+use tb_terms::{Boxed, Expr, Func, Items, NoMemory, Sort, Term};
 use tb_walk::Walk;
 
 /// A body, the moves of its process, and its offers then.
@@ -120,198 +121,184 @@ static ROWS: [Row; 91] = [
     ("tau . tau", "00t0", "no such offer"),
 ];
 
-fn first_wrong_offers(alloc: Global) -> Option<&'static str> {
-    for (text, moves, offers) in &ROWS {
-        match body(alloc, text) {
-            Some(body) if has_offers(alloc, &body, moves, offers) => {}
-            _ => return Some(text),
-        }
-    }
-    None
-}
-
 #[test]
-fn offers_are_as_worked_by_hand(rt: HostRuntime) {
-    assert_eq!(rt; first_wrong_offers(rt.alloc()), None);
+fn offers_are_as_worked_by_hand(rt: HostRuntime) -> Result<(), Fail> {
+    for (text, moves, offers) in &ROWS {
+        let body = body(rt.alloc(), text)?;
+        let rewritten = seen_after::<Rewriter>(rt.alloc(), &body, moves.as_bytes())?;
+        let walked = seen_after::<Walk>(rt.alloc(), &body, moves.as_bytes())?;
+        assert_eq!(rt; rewritten.as_str(), *offers, "{text}: {moves}");
+        assert_eq!(rt; walked.as_str(), *offers, "{text}: {moves}");
+    }
+    Ok(())
 }
 
-/// An atom with its times, its age, how many ticks the bus has seen, and whether the atom is ready.
+/// The times of an atom, its age, how many ticks the bus has seen, and whether the atom is ready.
 type Timed = (&'static str, u64, u64, bool);
 
 static TIMED: [Timed; 47] = [
     // A time holds up to its bound.
-    ("tau", 7, 9, true),
-    ("tau delay(2)", 1, 9, false),
-    ("tau delay(2)", 2, 9, true),
-    ("tau delay(2)", 3, 9, true),
-    ("tau timeout(2)", 1, 9, true),
-    ("tau timeout(2)", 2, 9, true),
-    ("tau timeout(2)", 3, 9, false),
-    ("tau abs-delay(5)", 2, 4, false),
-    ("tau abs-delay(5)", 2, 5, true),
-    ("tau abs-delay(5)", 2, 6, true),
-    ("tau abs-timeout(5)", 2, 4, true),
-    ("tau abs-timeout(5)", 2, 5, true),
-    ("tau abs-timeout(5)", 2, 6, false),
-    ("tau delay(-1)", 0, 9, true),
-    ("tau timeout(-1)", 0, 9, false),
-    ("tau abs-delay(-1)", 0, 0, true),
-    ("tau abs-timeout(-1)", 0, 0, false),
-    ("tau delay(0)", 0, 9, true),
+    ("", 7, 9, true),
+    ("delay(2)", 1, 9, false),
+    ("delay(2)", 2, 9, true),
+    ("delay(2)", 3, 9, true),
+    ("timeout(2)", 1, 9, true),
+    ("timeout(2)", 2, 9, true),
+    ("timeout(2)", 3, 9, false),
+    ("abs-delay(5)", 2, 4, false),
+    ("abs-delay(5)", 2, 5, true),
+    ("abs-delay(5)", 2, 6, true),
+    ("abs-timeout(5)", 2, 4, true),
+    ("abs-timeout(5)", 2, 5, true),
+    ("abs-timeout(5)", 2, 6, false),
+    ("delay(-1)", 0, 9, true),
+    ("timeout(-1)", 0, 9, false),
+    ("abs-delay(-1)", 0, 0, true),
+    ("abs-timeout(-1)", 0, 0, false),
+    ("delay(0)", 0, 9, true),
     // All times of an atom hold where it is ready.
-    ("tau delay(1) timeout(3)", 0, 9, false),
-    ("tau delay(1) timeout(3)", 1, 9, true),
-    ("tau delay(1) timeout(3)", 3, 9, true),
-    ("tau delay(1) timeout(3)", 4, 9, false),
-    ("tau delay(2) timeout(1)", 1, 9, false),
-    ("tau delay(2) timeout(1)", 2, 9, false),
-    ("tau delay(1) delay(2)", 1, 9, false),
-    ("tau delay(1) delay(2)", 2, 9, true),
+    ("delay(1) timeout(3)", 0, 9, false),
+    ("delay(1) timeout(3)", 1, 9, true),
+    ("delay(1) timeout(3)", 3, 9, true),
+    ("delay(1) timeout(3)", 4, 9, false),
+    ("delay(2) timeout(1)", 1, 9, false),
+    ("delay(2) timeout(1)", 2, 9, false),
+    ("delay(1) delay(2)", 1, 9, false),
+    ("delay(1) delay(2)", 2, 9, true),
     (
-        "tau delay(1) timeout(3) abs-delay(5) abs-timeout(5)",
+        "delay(1) timeout(3) abs-delay(5) abs-timeout(5)",
         2,
         5,
         true,
     ),
     (
-        "tau delay(1) timeout(3) abs-delay(5) abs-timeout(5)",
+        "delay(1) timeout(3) abs-delay(5) abs-timeout(5)",
         2,
         6,
         false,
     ),
     (
-        "tau delay(1) timeout(3) abs-delay(5) abs-timeout(4)",
+        "delay(1) timeout(3) abs-delay(5) abs-timeout(4)",
         2,
         5,
         false,
     ),
     // What is no number, as Y, or has no value holds nowhere.
-    ("tau delay(Y)", 9, 9, false),
-    ("tau timeout(Y)", 0, 9, false),
-    ("tau delay(div(1, 0))", 9, 9, false),
-    ("tau abs-timeout(div(1, 0))", 0, 0, false),
+    ("delay(Y)", 9, 9, false),
+    ("timeout(Y)", 0, 9, false),
+    ("delay(div(1, 0))", 9, 9, false),
+    ("abs-timeout(div(1, 0))", 0, 0, false),
     // Times, ages and ticks at the ends of their bits.
     (
-        "tau delay(9223372036854775807)",
+        "delay(9223372036854775807)",
         9_223_372_036_854_775_806,
         0,
         false,
     ),
     (
-        "tau delay(9223372036854775807)",
+        "delay(9223372036854775807)",
         9_223_372_036_854_775_807,
         0,
         true,
     ),
     (
-        "tau delay(9223372036854775807)",
+        "delay(9223372036854775807)",
         18_446_744_073_709_551_615,
         0,
         true,
     ),
-    ("tau delay(-9223372036854775808)", 0, 0, true),
+    ("delay(-9223372036854775808)", 0, 0, true),
     (
-        "tau timeout(9223372036854775807)",
+        "timeout(9223372036854775807)",
         9_223_372_036_854_775_807,
         0,
         true,
     ),
     (
-        "tau timeout(9223372036854775807)",
+        "timeout(9223372036854775807)",
         9_223_372_036_854_775_808,
         0,
         false,
     ),
     (
-        "tau timeout(9223372036854775807)",
+        "timeout(9223372036854775807)",
         18_446_744_073_709_551_615,
         0,
         false,
     ),
-    ("tau timeout(-9223372036854775808)", 0, 0, false),
+    ("timeout(-9223372036854775808)", 0, 0, false),
     (
-        "tau abs-delay(9223372036854775807)",
+        "abs-delay(9223372036854775807)",
         0,
         9_223_372_036_854_775_806,
         false,
     ),
     (
-        "tau abs-delay(9223372036854775807)",
+        "abs-delay(9223372036854775807)",
         0,
         9_223_372_036_854_775_807,
         true,
     ),
     (
-        "tau abs-delay(9223372036854775807)",
+        "abs-delay(9223372036854775807)",
         0,
         18_446_744_073_709_551_615,
         true,
     ),
     (
-        "tau abs-timeout(9223372036854775807)",
+        "abs-timeout(9223372036854775807)",
         0,
         9_223_372_036_854_775_807,
         true,
     ),
     (
-        "tau abs-timeout(9223372036854775807)",
+        "abs-timeout(9223372036854775807)",
         0,
         9_223_372_036_854_775_808,
         false,
     ),
     (
-        "tau abs-timeout(9223372036854775807)",
+        "abs-timeout(9223372036854775807)",
         0,
         18_446_744_073_709_551_615,
         false,
     ),
 ];
 
-/// Whether the atom of this text is ready at this age, in the store with which its process begins.
-fn is_atom_ready(alloc: Global, text: &str, age: u64, now: u64) -> Option<bool> {
-    let body = body(alloc, text)?;
-    let store = Store::fresh(alloc, &body.sorts).ok()?;
-    let atom = body.atoms.as_slice().first()?;
-    is_ready(alloc, &store, age, now, &atom.times).ok()
-}
-
-fn first_wrong_time(alloc: Global) -> Option<usize> {
-    for (at, (text, age, now, ready)) in TIMED.iter().enumerate() {
-        if is_atom_ready(alloc, text, *age, *now) != Some(*ready) {
-            return Some(at);
-        }
+/// Whether the first atom is ready, in the store with which its process begins.
+fn is_first_ready(alloc: Global, body: &Body, age: u64, now: u64) -> Result<bool, Fail> {
+    let store = Store::fresh(alloc, &body.sorts)?;
+    match body.atoms.as_slice().first() {
+        Some(atom) => Ok(is_ready(alloc, &store, age, now, &atom.times)?),
+        None => Err(Fail::new("no atom")),
     }
-    None
 }
 
 #[test]
-fn atoms_are_ready_at_their_times(rt: HostRuntime) {
-    assert_eq!(rt; first_wrong_time(rt.alloc()), None);
-}
-
-/// Whether a process that receives one term binds it where it is given one, and nothing where it is given none or two.
-fn binds_one_of_one(alloc: Global) -> Option<bool> {
-    let body = body(alloc, "rec-msg(X?)")?;
-    let mut terms = Items::new(alloc);
-    for count in [None, Some(1), None] {
-        if !binds_so_many::<Rewriter>(alloc, &body, &terms, count).ok()?
-            || !binds_so_many::<Walk>(alloc, &body, &terms, count).ok()?
-        {
-            return Some(false);
-        }
-        terms.push(Term::Int(7)).ok()?;
+fn atoms_are_ready_at_their_times(rt: HostRuntime) -> Result<(), Fail> {
+    for (times, age, now, ready) in &TIMED {
+        let text = format!(in rt.alloc(); "tau {times}")?;
+        let body = body(rt.alloc(), text.as_str())?;
+        let found = is_first_ready(rt.alloc(), &body, *age, *now)?;
+        assert_eq!(rt; found, *ready, "{times} at {age} and {now}");
     }
-    Some(true)
+    Ok(())
 }
 
 #[test]
-fn a_receive_takes_what_matches(rt: HostRuntime) {
-    assert_eq!(rt; binds_one_of_one(rt.alloc()), Some(true));
+fn a_receive_takes_what_matches(rt: HostRuntime) -> Result<(), Fail> {
+    let body = body(rt.alloc(), "rec-msg(X?)")?;
+    let mut terms = Items::new(rt.alloc());
+    for wanted in [None, Some(1), None] {
+        assert_eq!(rt; count_bound::<Rewriter>(rt.alloc(), &body, &terms)?, wanted);
+        assert_eq!(rt; count_bound::<Walk>(rt.alloc(), &body, &terms)?, wanted);
+        terms.push(Term::Int(7))?;
+    }
+    Ok(())
 }
 
 /// Bodies that no script has: a `let` sets a variable that a test outside of it asks for, or that a `let` in it sets again.
-/// The tests ask whether it is 1, and it is 0 at first. Each `let` is that of a call of a script, and each test that of the
-/// process that is called there.
+/// The tests ask whether it is 1, and it is 0 at first.
 #[derive(Clone, Copy)]
 enum Shared {
     /// `if X = 1 then tau fi || let X := 1 in tau endlet`
@@ -334,81 +321,62 @@ static SHARED: [(Shared, &str, &str); 6] = [
     (Shared::SetAgain, "", "1.0"),
 ];
 
-fn at(alloc: Global, atom: u32) -> Option<Boxed<Tree>> {
-    Boxed::new(alloc, Tree::At(atom)).ok()
+fn at(alloc: Global, atom: u32) -> Result<Boxed<Tree>, NoMemory> {
+    Ok(Boxed::new(alloc, Tree::At(atom))?)
 }
 
-/// What this call sets its variable to, before a part.
-fn set(alloc: Global, call: &str, part: Boxed<Tree>) -> Option<Boxed<Tree>> {
-    match &body(alloc, call)?.tree {
-        Tree::Let(settings, _) => {
-            let settings = copy_settings(alloc, settings).ok()?;
-            Boxed::new(alloc, Tree::Let(settings, part)).ok()
-        }
-        _ => None,
-    }
+fn set(alloc: Global, number: i64, part: Boxed<Tree>) -> Result<Boxed<Tree>, NoMemory> {
+    let mut settings = Items::new(alloc);
+    let start = Some(Expr::Int(number));
+    settings.push(Setting { slot: 0, start })?;
+    Ok(Boxed::new(alloc, Tree::Let(settings, part))?)
 }
 
-/// A part where that variable is 1.
-fn when_one(alloc: Global, part: Boxed<Tree>) -> Option<Boxed<Tree>> {
-    match &body(alloc, "One(1)")?.tree {
-        Tree::Let(_, called) => Boxed::new(
-            alloc,
-            Tree::If(test(alloc, called.get())?, part, None),
-        ).ok(),
-        _ => None,
-    }
+fn when_one(alloc: Global, part: Boxed<Tree>) -> Result<Boxed<Tree>, NoMemory> {
+    let mut parts = Items::new(alloc);
+    parts.push(Expr::Var(0))?;
+    parts.push(Expr::Int(1))?;
+    let test = Expr::Call(Func::Equal, parts);
+    Ok(Boxed::new(alloc, Tree::If(test, part, None))?)
 }
 
-fn test(alloc: Global, tree: &Tree) -> Option<Expr> {
-    match tree {
-        Tree::If(test, _, _) => test.copy(alloc).ok(),
-        _ => None,
-    }
-}
-
-fn shared_tree(alloc: Global, shared: Shared) -> Option<Tree> {
+fn shared_tree(alloc: Global, shared: Shared) -> Result<Tree, NoMemory> {
     let first = at(alloc, 1)?;
     let second = at(alloc, 2)?;
     match shared {
-        Shared::Beside => Some(Tree::Par(when_one(alloc, first)?, set(alloc, "One(1)", second)?)),
-        Shared::Behind => Some(Tree::Seq(set(alloc, "One(1)", first)?, when_one(alloc, second)?)),
-        Shared::AfterTurns => Some(Tree::Star(
-            set(alloc, "One(1)", first)?,
-            when_one(alloc, second)?,
-        )),
+        Shared::Beside => Ok(Tree::Par(when_one(alloc, first)?, set(alloc, 1, second)?)),
+        Shared::Behind => Ok(Tree::Seq(set(alloc, 1, first)?, when_one(alloc, second)?)),
+        Shared::AfterTurns => Ok(Tree::Star(set(alloc, 1, first)?, when_one(alloc, second)?)),
         Shared::SetAgain => {
-            let inner = set(alloc, "One(1)", when_one(alloc, first)?)?;
-            Some(Tree::Seq(set(alloc, "One(2)", inner)?, second))
+            let inner = set(alloc, 1, when_one(alloc, first)?)?;
+            Ok(Tree::Seq(set(alloc, 2, inner)?, second))
         }
     }
 }
 
-fn shared_body(alloc: Global, shared: Shared) -> Option<Body> {
+fn shared_body(alloc: Global, shared: Shared) -> Result<Body, Fail> {
     let mut atoms = Items::new(alloc);
     for _ in 0..2 {
         let act = Act::Tau;
         let times = Items::new(alloc);
-        atoms.push(Atom { act, times }).ok()?;
+        atoms.push(Atom { act, times })?;
     }
     let mut sorts = Items::new(alloc);
-    for _ in 0..3 {
-        sorts.push(Sort::Int).ok()?;
+    sorts.push(Sort::Int)?;
+    match Body::new(alloc, shared_tree(alloc, shared)?, atoms, sorts, 0)? {
+        Some(body) => Ok(body),
+        None => Err(Fail::new("not in range")),
     }
-    Body::new(alloc, shared_tree(alloc, shared)?, atoms, sorts, 0).ok()?
-}
-
-fn first_wrong_shared(alloc: Global) -> Option<usize> {
-    for (at, (shared, moves, offers)) in SHARED.iter().enumerate() {
-        match shared_body(alloc, *shared) {
-            Some(body) if has_offers(alloc, &body, moves, offers) => {}
-            _ => return Some(at),
-        }
-    }
-    None
 }
 
 #[test]
-fn what_is_set_is_seen_outside(rt: HostRuntime) {
-    assert_eq!(rt; first_wrong_shared(rt.alloc()), None);
+fn what_is_set_is_seen_outside(rt: HostRuntime) -> Result<(), Fail> {
+    for (shared, moves, offers) in &SHARED {
+        let body = shared_body(rt.alloc(), *shared)?;
+        let rewritten = seen_after::<Rewriter>(rt.alloc(), &body, moves.as_bytes())?;
+        let walked = seen_after::<Walk>(rt.alloc(), &body, moves.as_bytes())?;
+        assert_eq!(rt; rewritten.as_str(), *offers, "{moves}");
+        assert_eq!(rt; walked.as_str(), *offers, "{moves}");
+    }
+    Ok(())
 }

@@ -1,5 +1,5 @@
 use Rattle.std.proofs.Common.{◌≤◌}
-use Rattle.tb_bus_tests.proofs.walkers.seen_after.Given as goal
+use Rattle.tb_walk_tests.proofs.walkers.seen_after.Given as goal
 
 -- the walker stays on its plan, and has seen no more ticks than were counted
 abbrev pub invariant-loop-one : goal.invariant-loop-one

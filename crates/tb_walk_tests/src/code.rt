@@ -1,0 +1,154 @@
+use crate::bodies::{body, first_body, repeated};
+use std::alloc::Global;
+use std::test::Fail;
+use tb_body::{Act, Atom};
+use tb_code::{Node, Op, compile};
+use tb_terms::NoMemory;
+
+/// A body, and what stands at each position, with its frame.
+static ROWS: [(&str, &str); 11] = [
+    ("tau", "1,"),
+    ("tau . tau", "seq 2, 1 in 0, 2,"),
+    ("tau + tau", "alt 2, 1, 2,"),
+    ("tau * tau", "star 2, 1 in 0, 2,"),
+    (
+        "(tau || tau) . tau",
+        "seq 4, par 3 in 0, 1 in 0, 2 in 0, 3,",
+    ),
+    (
+        "(tau . tau) * tau",
+        "star 4, seq 3 in 0, 1 in 1, 2 in 0, 3,",
+    ),
+    ("tau . tau . tau", "seq 2, 1 in 0, seq 4, 2 in 2, 3,"),
+    ("tau || tau * tau", "par 2, 1, star 4, 2 in 2, 3,"),
+    (
+        "(if equal(X, 0) then tau else tau fi) . tau",
+        "seq 4, if 3 in 0, 1 in 0, 2 in 0, 3,",
+    ),
+    (
+        "(if equal(X, 0) then tau fi) * tau",
+        "star 3, when in 0, 1 in 0, 2,",
+    ),
+    (
+        "(let Z : int in tau . tau endlet) . tau",
+        "seq 5, let in 0, seq 4 in 0, 1 in 2, 2 in 0, 3,",
+    ),
+];
+
+fn op_text(alloc: Global, op: &Op) -> Result<String, NoMemory> {
+    match op {
+        Op::At(atom) => Ok(format!(in alloc; "{atom}")?),
+        Op::Seq(right) => Ok(format!(in alloc; "seq {right}")?),
+        Op::Alt(right) => Ok(format!(in alloc; "alt {right}")?),
+        Op::Star(right) => Ok(format!(in alloc; "star {right}")?),
+        Op::Par(right) => Ok(format!(in alloc; "par {right}")?),
+        Op::If(_, right) => Ok(format!(in alloc; "if {right}")?),
+        Op::When(_) => Ok(String::from_str(alloc, "when")?),
+        Op::Let(_) => Ok(String::from_str(alloc, "let")?),
+    }
+}
+
+fn positions_text(alloc: Global, nodes: &[Node]) -> Result<String, NoMemory> {
+    let mut text = String::new(alloc);
+    for (at, node) in nodes.iter().enumerate() {
+        let op = op_text(alloc, &node.op)?;
+        let gap = if at > 0 { " " } else { "" };
+        match node.frame {
+            Some(frame) => write!(text, "{gap}{op} in {frame},")?,
+            None => write!(text, "{gap}{op},")?,
+        }
+    }
+    Ok(text)
+}
+
+#[test]
+fn positions_are_numbered_in_text_order(rt: HostRuntime) -> Result<(), Fail> {
+    for (text, positions) in &ROWS {
+        let code = compile(rt.alloc(), &body(rt.alloc(), text)?)?;
+        let found = positions_text(rt.alloc(), code.nodes.as_slice())?;
+        assert_eq!(rt; found.as_str(), *positions, "{text}");
+    }
+    Ok(())
+}
+
+/// An atom's name, where the atom is there.
+fn name(atom: Option<&Atom>) -> &'static str {
+    match atom {
+        Some(Atom { act: Act::Tau, .. }) => "tau",
+        Some(
+            Atom {
+                act: Act::Delta,
+                ..
+            },
+        ) => "delta",
+        Some(_) => "another",
+        None => "none",
+    }
+}
+
+#[test]
+fn atoms_go_by_their_numbers(rt: HostRuntime) -> Result<(), Fail> {
+    let code = compile(rt.alloc(), &body(rt.alloc(), "tau . delta")?)?;
+    let names = [name(code.atom(1)), name(code.atom(2)), name(code.atom(3))];
+    assert_eq!(rt; names, ["tau", "delta", "none"]);
+    Ok(())
+}
+
+/// A choice of so many atoms.
+fn choice(alloc: Global, atoms: u32) -> Result<String, NoMemory> {
+    let all = repeated(alloc, atoms, "tau", " + ")?;
+    Ok(format!(in alloc; "({all})")?)
+}
+
+/// How many of these are atoms in ascending order, from 1.
+fn count_ascending(nodes: &[Node]) -> u32 {
+    let mut count: u32 = 0;
+    for node in nodes {
+        match &node.op {
+            Op::At(atom) if *atom == count.saturating_add(1) => count = *atom,
+            _ => {}
+        }
+    }
+    count
+}
+
+#[test]
+fn a_large_body_has_a_position_for_each_operator_and_each_atom(
+    rt: HostRuntime,
+) -> Result<(), Fail> {
+    let one = choice(rt.alloc(), 200)?;
+    let text = repeated(rt.alloc(), 100, one.as_str(), " . ")?;
+    let script = format!(in rt.alloc(); "process P is {text} toolbus()")?;
+    let code = compile(rt.alloc(), &first_body(rt.alloc(), script.as_str())?)?;
+    let found = (code.nodes.len(), count_ascending(code.nodes.as_slice()));
+    assert_eq!(rt; found, (39_999, 20_000));
+    Ok(())
+}
+
+/// Whether this may stand at a position of a choice of 300 atoms that is called within as many stars. The stars come
+/// first, then the `let` of the call and the choice's 599 positions, and then the atoms with which the stars end, from the
+/// inside to the outside.
+fn stands_within_stars(at: usize, node: &Node) -> bool {
+    let from_last = 1_199_usize.saturating_sub(at);
+    if at < 300 {
+        return matches!(&node.op, Op::Star(right) if *right == from_last)
+            && node.frame == at.checked_sub(1);
+    }
+    if at < 900 {
+        return node.frame == Some(299);
+    }
+    node.frame == from_last.checked_sub(1)
+}
+
+#[test]
+fn a_choice_within_stars_is_written_once(rt: HostRuntime) -> Result<(), Fail> {
+    let stars = repeated(rt.alloc(), 300, " * tau", "")?;
+    let one = choice(rt.alloc(), 300)?;
+    let script = format!(in rt.alloc(); "process P is C{stars} process C is {one} toolbus()")?;
+    let code = compile(rt.alloc(), &first_body(rt.alloc(), script.as_str())?)?;
+    assert_eq!(rt; code.nodes.len(), 1_200);
+    for (at, node) in code.nodes.as_slice().iter().enumerate() {
+        assert!(rt; stands_within_stars(at, node), "{at}");
+    }
+    Ok(())
+}
