@@ -7,6 +7,7 @@ ghost use Rattle.tb_log.specs.declared.entry.Reply.TheVariants.{Dropped};
 ghost use Rattle.tb_log.specs.declared.entry.Why.{Why};
 ghost use Rattle.tb_log.specs.declared.entry.Entry.{Entry};
 ghost use Rattle.tb_log.specs.declared.entry.Entry.TheVariants.{Did};
+ghost use Rattle.tb_tools.specs.Lanes.{HasLanes};
 ghost use Rattle.tb_bus.specs.declared.origin.Origin.{Origin};
 ghost use Rattle.tb_bus.specs.Buses.{Bus, Proc};
 ghost use Rattle.tb_bus.specs.Steps.{Step, steps};
@@ -47,7 +48,7 @@ pub fn one_bus_after_an_entry()
 
 /// A bus that a program reaches has 16 lanes, where no more commands are started at its opening.
 pub fn there_are_16_lanes()
-    ensures { (origin : Origin) (bus : Bus) → length origin.connects ≤ lane_count → Reaches origin bus → length bus.bench.lanes ≡ lane_count }
+    ensures { (origin : Origin) (bus : Bus) → length origin.connects ≤ lane_count → Reaches origin bus → HasLanes bus.bench }
 {}
 
 /// An input that is dropped leaves the bus as it was.

@@ -1,4 +1,4 @@
-ghost use Rattle.std.specs.Prelude.{◌≡◌, ◌<◌, ◌++◌, ℕ, List, [], length, slice_get, IfOk, IsTrue, OnOk, OnErr, Some, is_some, option_map, true, false};
+ghost use Rattle.std.specs.Prelude.{◌≡◌, ◌<◌, ◌++◌, ℕ, List, [], length, slice_get, IfOk, IsTrue, OnOk, OnErr, Some, is_some, option_and_then, option_map, true, false};
 ghost use Rattle.std.specs.List.{All};
 ghost use Rattle.std.specs.Option.{ForSome};
 ghost use Rattle.tb_func.specs.declared.slot.Slot.{Slot};
@@ -7,7 +7,7 @@ ghost use Rattle.tb_algebra.specs.Binds.{has_slot_sort, takes_binds};
 ghost use Rattle.tb_algebra.specs.Offers.{Offered};
 ghost use Rattle.tb_algebra.specs.Walks.{Walking, fired, is_end, offers_of, seen, seen_offers, sorts_of};
 ghost use Rattle.tb_func.specs.Printing.{printf_of};
-ghost use Rattle.tb_bus.specs.Actions.{action_in, action_of, print_action, set_action, shutdown_action, speak_about};
+ghost use Rattle.tb_bus.specs.Actions.{action_in, action_of, create_action, print_action, set_action, shutdown_action, speak_about};
 ghost use Rattle.tb_bus.specs.Helpers.Candidates.{ready_one, readies};
 ghost use Rattle.tb_core.specs.Helpers.Lives.{IsLiveOn, IsTimeless, proc_by};
 
@@ -29,15 +29,18 @@ fn takes(sorts: &Sorts, slot: u32, value: &Term) -> bool
     }
 }
 
-/// The slot takes the value, where it has the slot's sort.
+/// The slot takes the value, where there is one that has the slot's sort.
 fn set_action(
     alloc: Global,
     sorts: &Sorts,
     slot: u32,
-    values: Terms,
+    values: Option<Terms>,
 ) -> Result<Option<Action>, NoMemory>
-    ensures { (store : List Slot) → sorts_of store ≡ sorts.now → IfOk result (λ action. action ≡ set_action store slot values) }
+    ensures { (store : List Slot) → sorts_of store ≡ sorts.now → IfOk result (λ action. action ≡ option_and_then (set_action store slot) values) }
 {
+    let Some(values) = values else {
+        return Ok(None);
+    };
     if values.len() != 1 {
         return Ok(None);
     }
@@ -52,33 +55,44 @@ fn set_action(
 }
 
 /// The text that the values have by their format is printed, where they have one.
-fn print_action(alloc: Global, values: &Terms) -> Result<Option<Action>, NoMemory>
-    ensures { IfOk result (λ action. action ≡ option_map print_action (printf_of values.now)) }
+fn print_action(alloc: Global, values: Option<Terms>) -> Result<Option<Action>, NoMemory>
+    ensures { IfOk result (λ action. action ≡ option_map print_action (option_and_then printf_of values)) }
 {
-    match printf_text(alloc, values)? {
+    let Some(values) = values else {
+        return Ok(None);
+    };
+    match printf_text(alloc, &values)? {
         Some(text) => Ok(Some(Action::Own(OwnAction::Print(text)))),
         None => Ok(None),
     }
 }
 
-/// The answer of the tool is taken, where the patterns are there.
-fn value_action(terms: Terms, patterns: Option<Patterns>) -> Option<Action>
-    ensures { result ≡ speak_about ToolAction.TakeValue patterns terms }
+/// A process begins with these values, and the slot takes its number.
+fn create_action(process: u32, actuals: Option<Terms>, slot: u32) -> Option<Action>
+    ensures { result ≡ option_map (create_action process slot) actuals }
 {
-    Some(Action::Speak(ToolAction::TakeValue(terms, patterns?)))
+    Some(Action::Own(OwnAction::Create(process, actuals?, slot)))
 }
 
-/// An event of the tool is received, where the patterns are there.
-fn event_action(terms: Terms, patterns: Option<Patterns>) -> Option<Action>
-    ensures { result ≡ speak_about ToolAction.TakeEvent patterns terms }
+/// The answer of the tool is taken, where the tool and the patterns are there.
+fn value_action(terms: Option<Terms>, patterns: Option<Patterns>) -> Option<Action>
+    ensures { result ≡ option_and_then (speak_about ToolAction.TakeValue patterns) terms }
 {
-    Some(Action::Speak(ToolAction::TakeEvent(terms, patterns?)))
+    Some(Action::Speak(ToolAction::TakeValue(terms?, patterns?)))
+}
+
+/// An event of the tool is received, where the tool and the patterns are there.
+fn event_action(terms: Option<Terms>, patterns: Option<Patterns>) -> Option<Action>
+    ensures { result ≡ option_and_then (speak_about ToolAction.TakeEvent patterns) terms }
+{
+    Some(Action::Speak(ToolAction::TakeEvent(terms?, patterns?)))
 }
 
 /// The bus goes down, for the one reason that there is.
-fn shutdown_action(mut reasons: Terms) -> Option<Action>
-    ensures { result ≡ shutdown_action reasons }
+fn shutdown_action(reasons: Option<Terms>) -> Option<Action>
+    ensures { result ≡ option_and_then shutdown_action reasons }
 {
+    let mut reasons = reasons?;
     let reason = reasons.pop()?;
     if reasons.is_empty() {
         Some(Action::Own(OwnAction::Shutdown(reason)))
@@ -159,18 +173,9 @@ fn action_with<W: Walker>(
     match act {
         Act::Delta => Ok(None),
         Act::Tau => Ok(Some(Action::Own(OwnAction::Tau))),
-        Act::Set { slot, .. } => match sent()? {
-            Some(values) => set_action(alloc, &body.sorts, *slot, values),
-            None => Ok(None),
-        },
-        Act::Printf(_) => match sent()? {
-            Some(values) => print_action(alloc, &values),
-            None => Ok(None),
-        },
-        &Act::Create { process, slot, .. } => match sent()? {
-            Some(actuals) => Ok(Some(Action::Own(OwnAction::Create(process, actuals, slot)))),
-            None => Ok(None),
-        },
+        Act::Set { slot, .. } => set_action(alloc, &body.sorts, *slot, sent()?),
+        Act::Printf(_) => print_action(alloc, sent()?),
+        Act::Create { process, slot, .. } => Ok(create_action(*process, sent()?, *slot)),
         Act::SndMsg(_) => Ok(sent()?.map(Action::Send)),
         Act::RecMsg(_) => Ok(patterns()?.map(Action::Receive)),
         Act::SndNote(_) => Ok(sent()?.map(Action::Notify)),
@@ -187,21 +192,12 @@ fn action_with<W: Walker>(
         }
         Act::RecDisconnect(_) => Ok(sent()?.map(ToolAction::Disconnect).map(Action::Speak)),
         Act::SndEval(_, _) => Ok(sent()?.map(ToolAction::Eval).map(Action::Speak)),
-        Act::RecValue(_, _) => match sent()? {
-            Some(terms) => Ok(value_action(terms, patterns()?)),
-            None => Ok(None),
-        },
+        Act::RecValue(_, _) => Ok(value_action(sent()?, patterns()?)),
         Act::SndDo(_, _) => Ok(sent()?.map(ToolAction::Do).map(Action::Speak)),
-        Act::RecEvent(_, _) => match sent()? {
-            Some(terms) => Ok(event_action(terms, patterns()?)),
-            None => Ok(None),
-        },
+        Act::RecEvent(_, _) => Ok(event_action(sent()?, patterns()?)),
         Act::SndAckEvent(_, _) => Ok(sent()?.map(ToolAction::Acknowledge).map(Action::Speak)),
         Act::SndTerminate(_, _) => Ok(sent()?.map(ToolAction::Terminate).map(Action::Speak)),
-        Act::Shutdown(_) => match sent()? {
-            Some(reasons) => Ok(shutdown_action(reasons)),
-            None => Ok(None),
-        },
+        Act::Shutdown(_) => Ok(shutdown_action(sent()?)),
     }
 }
 

@@ -3,12 +3,13 @@ ghost use Rattle.std.specs.List.{list_any};
 ghost use Rattle.std.specs.Str.{bytes_eq};
 ghost use Rattle.std.below.core.specs.declared.int.usize.TheConstants.{MAX};
 ghost use Rattle.tb_body.specs.declared.program.Tool.{Tool as ToolKind};
+ghost use Rattle.tb_log.specs.declared.entry.LabelKind.TheVariants as kind;
 ghost use Rattle.tb_log.specs.Limits.{terms_size};
 ghost use Rattle.tb_log.specs.Shapes.{IsLane};
 ghost use Rattle.tb_tools.specs.Lanes.{most_tools};
-ghost use Rattle.tb_tools.specs.Acts.{can_execute, can_take_event, can_take_value, event_at, events_at, executed, value_taken};
+ghost use Rattle.tb_tools.specs.Acts.{asked, can_do, can_eval, can_execute, can_take_event, can_take_value, can_terminate, event_at, events_at, executed, terminated, told, value_taken};
 ghost use Rattle.tb_bus.specs.Effects.{speaking};
-ghost use Rattle.tb_bus.specs.Exchanges.{behind, bench_after, kind_command, kind_name, terms_seen, values_in, values_on};
+ghost use Rattle.tb_bus.specs.Exchanges.{behind, bench_after, kind_command, kind_name, terms_seen, values_in, values_on, with_told};
 ghost use Rattle.tb_bus.specs.Traces.{declares};
 ghost use Rattle.tb_core.specs.Helpers.LiveBuses.{IsDone};
 ghost use Rattle.tb_core.specs.Helpers.Spoken.{CanSpeak, CanSpeakBy, around, seen_by};
@@ -57,22 +58,12 @@ pub fn speak(
             bench.leave(lane);
             Ok(seen(LabelKind::RecDisconnect, terms, binds))
         }
-        ToolAction::Eval(terms) => {
-            if let Some(term) = second(alloc, &terms)? {
-                bench.eval(lane, term)?;
-            }
-            Ok(seen(LabelKind::SndEval, terms, binds))
-        }
+        ToolAction::Eval(terms) => eval(alloc, bench, lane, terms, binds),
         ToolAction::TakeValue(terms, _) => {
             let shown = with_value(terms, bench, lane)?;
             Ok(seen(LabelKind::RecValue, shown, binds))
         }
-        ToolAction::Do(terms) => {
-            if let Some(term) = second(alloc, &terms)? {
-                bench.do_action(lane, term)?;
-            }
-            Ok(seen(LabelKind::SndDo, terms, binds))
-        }
+        ToolAction::Do(terms) => do_action(alloc, bench, lane, terms, binds),
         ToolAction::TakeEvent(terms, _) => {
             let shown = with_event(alloc, terms, bench, lane, event)?;
             bench.event(lane, event)?;
@@ -82,12 +73,7 @@ pub fn speak(
             bench.ack(lane, event)?;
             Ok(seen(LabelKind::SndAckEvent, terms, binds))
         }
-        ToolAction::Terminate(terms) => {
-            if let Some(term) = second(alloc, &terms)? {
-                bench.terminate(lane, term)?;
-            }
-            Ok(seen(LabelKind::SndTerminate, terms, binds))
-        }
+        ToolAction::Terminate(terms) => terminate(alloc, bench, lane, terms, binds),
     }
 }
 
@@ -125,6 +111,66 @@ fn execute(kinds: &[Tool], bench: &mut Bench, tool: u32, lane: u8) -> Result<(),
         }
         None => unreachable!(),
     }
+}
+
+/// The tool of a lane, the first of these terms, is asked to evaluate the second.
+fn eval(
+    alloc: Global,
+    bench: &mut Bench,
+    lane: u8,
+    terms: Terms,
+    binds: Binds,
+) -> Result<Done, NoMemory>
+    requires lane { IsLane lane }
+    requires can { IsTrue (can_eval lane bench.old) }
+    ensures done { IfOk result (λ done. done ≡ record { kind = kind.SndEval; shown = terms; binds = binds }) }
+    ensures ok { OnOk result (bench.new ≡ with_told asked (behind terms) lane bench.old) }
+    ensures err { OnErr result (bench.new ≡ bench.old) }
+{
+    if let Some(term) = second(alloc, &terms)? {
+        bench.eval(lane, term)?;
+    }
+    Ok(seen(LabelKind::SndEval, terms, binds))
+}
+
+/// The tool of a lane, the first of these terms, is told to do the second.
+fn do_action(
+    alloc: Global,
+    bench: &mut Bench,
+    lane: u8,
+    terms: Terms,
+    binds: Binds,
+) -> Result<Done, NoMemory>
+    requires lane { IsLane lane }
+    requires can { IsTrue (can_do lane bench.old) }
+    ensures done { IfOk result (λ done. done ≡ record { kind = kind.SndDo; shown = terms; binds = binds }) }
+    ensures ok { OnOk result (bench.new ≡ with_told told (behind terms) lane bench.old) }
+    ensures err { OnErr result (bench.new ≡ bench.old) }
+{
+    if let Some(term) = second(alloc, &terms)? {
+        bench.do_action(lane, term)?;
+    }
+    Ok(seen(LabelKind::SndDo, terms, binds))
+}
+
+/// The tool of a lane, the first of these terms, is told to end, with the second.
+fn terminate(
+    alloc: Global,
+    bench: &mut Bench,
+    lane: u8,
+    terms: Terms,
+    binds: Binds,
+) -> Result<Done, NoMemory>
+    requires lane { IsLane lane }
+    requires can { IsTrue (can_terminate lane bench.old) }
+    ensures done { IfOk result (λ done. done ≡ record { kind = kind.SndTerminate; shown = terms; binds = binds }) }
+    ensures ok { OnOk result (bench.new ≡ with_told terminated (behind terms) lane bench.old) }
+    ensures err { OnErr result (bench.new ≡ bench.old) }
+{
+    if let Some(term) = second(alloc, &terms)? {
+        bench.terminate(lane, term)?;
+    }
+    Ok(seen(LabelKind::SndTerminate, terms, binds))
 }
 
 /// The second of these terms.

@@ -6,11 +6,11 @@ use Rattle.tb_bus.specs.Buses.{Bus}
 use Rattle.tb_bus.specs.Steps.{Step, steps}
 use Rattle.tb_log.specs.Shapes.{IsInputInShape, IsLane}
 use Rattle.tb_log.specs.declared.entry.Out.{Out}
-use Rattle.tb_tools.specs.Lanes.{BenchState}
+use Rattle.tb_tools.specs.Lanes.{BenchState, HasLanes}
 use Rattle.tb_tools.specs.Finding.{first_out, next_out}
 use Rattle.tb_bus.specs.Traces.{IsLegal, IsTrace, after, fed, taken_out}
 use Rattle.tb_bus.proofs.LaneLemmas.{legal-lanes, first_out-lane}
-use Rattle.tb_sim.specs.Simulation.{Limits, Sim, Ends, Makes, Handing, HasLanes, makes, input_turn, outside_turn, step_turn, turn_by, handing_on, first_handing, IsSim, IsSimPrefix}
+use Rattle.tb_sim.specs.Simulation.{Limits, Sim, Ends, Makes, Handing, makes, input_turn, outside_turn, step_turn, turn_by, handing_on, first_handing, IsSim, IsSimPrefix}
 use Rattle.tb_log.specs.Limits.{has_room}
 use Rattle.tb_log.specs.declared.entry.Input.{Input}
 use Rattle.tb_log.specs.declared.entry.Input.TheVariants.{NoTicks}
@@ -81,7 +81,7 @@ lane-by : (bench : BenchState) (first : Option ℕ) (handing : Handing) → leng
 lane-by bench None handing lanes e h = cc
 lane-by bench (Some lane) handing lanes e h = handing-by bench lane (next_out lane bench) handing (first_out-lane bench lane lanes e) refl h
 
-turn-leads : (limits : Limits) (sim : Sim) (found : Option Handing) → HasLanes sim.bus → first_handing sim.bus.bench ≡ found → All IsInputInShape sim.left → (entry : Entry) (next : Sim) → turn_by limits sim found ≡ Makes entry next → Leads sim entry next
+turn-leads : (limits : Limits) (sim : Sim) (found : Option Handing) → HasLanes sim.bus.bench → first_handing sim.bus.bench ≡ found → All IsInputInShape sim.left → (entry : Entry) (next : Sim) → turn_by limits sim found ≡ Makes entry next → Leads sim entry next
 turn-leads limits sim None lanes f forms entry next e = up-leads limits sim sim.bus.down refl forms entry next e
 turn-leads limits sim (Some handing) lanes f forms entry next e =
     let is = lane-by sim.bus.bench (first_out sim.bus.bench) handing lanes refl f in
@@ -131,12 +131,12 @@ turn-forms limits sim (Some handing) forms entry next e =
     room-forms sim (Gave handing.lane handing.out) entry (record sim { bus = taken_out handing.lane sim.bus; quiet = false }) next (has_room limits.entries sim.log (Gave handing.lane handing.out)) e forms
 
 -- so far
-pub prefix-trace : (limits : Limits) (sim : Sim) (log : List Entry) → HasLanes sim.bus → All IsInputInShape sim.left → IsSimPrefix limits sim log → IsTrace sim.bus log
+pub prefix-trace : (limits : Limits) (sim : Sim) (log : List Entry) → HasLanes sim.bus.bench → All IsInputInShape sim.left → IsSimPrefix limits sim log → IsTrace sim.bus log
 prefix-trace limits sim [] lanes forms h = tt
 prefix-trace limits sim (entry ∷ log) lanes forms h =
     let t = turn-leads limits sim (first_handing sim.bus.bench) lanes refl forms entry h.0 h.1 in
     let left = turn-forms limits sim (first_handing sim.bus.bench) forms entry h.0 h.1 in
-    let still : HasLanes h.0.bus = ap (λ (b : Bus). length b.bench.lanes) (sym t.1) ∙ legal-lanes sim.bus entry t.0 ∙ lanes in
+    let still : HasLanes h.0.bus.bench = ap (λ (b : Bus). length b.bench.lanes) (sym t.1) ∙ legal-lanes sim.bus entry t.0 ∙ lanes in
     (t.0, subst (λ (b : Bus). IsTrace b log) (sym t.1) (prefix-trace limits h.0 log still left h.2))
 
 -- and to the end
@@ -144,7 +144,7 @@ whole-prefix : (limits : Limits) (sim : Sim) (log : List Entry) (end : SimEnd) �
 whole-prefix limits sim [] end h = tt
 whole-prefix limits sim (entry ∷ log) end h = (h.0, h.1, whole-prefix limits h.0 log end h.2)
 
-pub sim-trace : (limits : Limits) (sim : Sim) (log : List Entry) (end : SimEnd) → HasLanes sim.bus → All IsInputInShape sim.left → IsSim limits sim log end → IsTrace sim.bus log
+pub sim-trace : (limits : Limits) (sim : Sim) (log : List Entry) (end : SimEnd) → HasLanes sim.bus.bench → All IsInputInShape sim.left → IsSim limits sim log end → IsTrace sim.bus log
 sim-trace limits sim log end lanes forms h = prefix-trace limits sim log lanes forms (whole-prefix limits sim log end h)
 
 -- There is one such log, and one end.

@@ -1,5 +1,5 @@
 -- The simulation of a bus and a feed, turn after turn: what is handed out first, then the first of the steps, then quiet and the next input; its limits, and how it ends.
-use Rattle.std.specs.Prelude.{◌≡◌, ℕ, ◌+◌, nat_le, List, [], ◌∷◌, ◌++◌, length, Bool, true, false, if◌then◌else◌, Option, Some, None, option_map, option_and_then, ⊤}
+use Rattle.std.specs.Prelude.{◌≡◌, ℕ, ◌+◌, nat_le, List, [], ◌∷◌, ◌++◌, Bool, true, false, if◌then◌else◌, Option, Some, None, option_map, option_and_then, ⊤}
 use Rattle.tb_bus.specs.declared.origin.Origin.{Origin}
 use Rattle.tb_bus.specs.Buses.{Bus}
 use Rattle.tb_bus.specs.Steps.{Step, steps}
@@ -7,7 +7,6 @@ use Rattle.tb_bus.specs.Traces.{fed, taken_out}
 use Rattle.tb_tools.specs.Lanes.{BenchState}
 use Rattle.tb_tools.specs.Finding.{first_out, next_out}
 use Rattle.tb_log.specs.Limits.{has_room}
-use Rattle.tb_log.specs.Shapes.{lane_count}
 use Rattle.tb_log.specs.declared.entry.Out.{Out}
 use Rattle.tb_log.specs.declared.entry.Input.{Input}
 use Rattle.tb_log.specs.declared.entry.Input.TheVariants.{NoTicks}
@@ -101,10 +100,6 @@ IsSim limits sim (entry ∷ log) end = (next : Sim) × (turn limits sim ≡ Make
 -- a simulation begins with an empty log, no steps made, and all of its feed
 abbrev pub sim_start : Bus → List Input → Sim
 sim_start bus feed = record { bus = bus; log = []; steps_made = 0; quiet = false; left = feed }
-
--- the bus has all lanes
-abbrev pub HasLanes : Bus → Type 0
-HasLanes bus = length bus.bench.lanes ≡ lane_count
 
 -- Turn after turn the simulation makes this log, and may go on.
 abbrev pub IsSimPrefix : Limits → Sim → List Entry → Type 0

@@ -2,18 +2,19 @@ ghost use Rattle.std.specs.Prelude.{◌≡◌, ◌++◌, List};
 ghost use Rattle.std.specs.List.{All};
 ghost use Rattle.tb_log.specs.declared.entry.Input.{Input};
 ghost use Rattle.tb_log.specs.declared.entry.Entry.{Entry};
+ghost use Rattle.tb_tools.specs.Lanes.{HasLanes};
 ghost use Rattle.tb_bus.specs.Buses.{Bus};
 ghost use Rattle.tb_log.specs.Shapes.{IsInputInShape};
 ghost use Rattle.tb_bus.specs.Traces.{IsTrace};
-ghost use Rattle.tb_sim.specs.Simulation.{HasLanes, IsSim, IsSimPrefix, Limits, sim_start};
+ghost use Rattle.tb_sim.specs.Simulation.{IsSim, IsSimPrefix, Limits, sim_start};
 
 use crate::ends::SimEnd;
 
 /// What a simulation logs is a trace, at each of its turns and at its end, where the bus has 16 lanes and the inputs of its
 /// feed are in shape.
 pub fn simulations_log_traces()
-    ensures on_the_way { (limits : Limits) (bus : Bus) (feed : List Input) (log : List Entry) → HasLanes bus → All IsInputInShape feed → IsSimPrefix limits (sim_start bus feed) log → IsTrace bus log }
-    ensures at_the_end { (limits : Limits) (bus : Bus) (feed : List Input) (log : List Entry) (end : SimEnd) → HasLanes bus → All IsInputInShape feed → IsSim limits (sim_start bus feed) log end → IsTrace bus log }
+    ensures on_the_way { (limits : Limits) (bus : Bus) (feed : List Input) (log : List Entry) → HasLanes bus.bench → All IsInputInShape feed → IsSimPrefix limits (sim_start bus feed) log → IsTrace bus log }
+    ensures at_the_end { (limits : Limits) (bus : Bus) (feed : List Input) (log : List Entry) (end : SimEnd) → HasLanes bus.bench → All IsInputInShape feed → IsSim limits (sim_start bus feed) log end → IsTrace bus log }
 {}
 
 /// A bus and a feed have one simulation at most.

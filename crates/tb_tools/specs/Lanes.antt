@@ -1,5 +1,5 @@
 -- What stands on the lanes of a bench: whether each is up, its tool, and what is to be handed out on it; the bench at the opening, and the state of a lane.
-use Rattle.std.specs.Prelude.{ℕ, ◌+◌, ◌-◌, pos, Bool, true, false, not, ◌&&◌, List, [], ◌∷◌, ◌++◌, length, map, replicate, slice_index_or, slice_set, Option, Some, None, is_none, option_map, if◌then◌else◌}
+use Rattle.std.specs.Prelude.{◌≡◌, ℕ, ◌+◌, ◌-◌, pos, Bool, true, false, not, ◌&&◌, List, [], ◌∷◌, ◌++◌, length, map, replicate, slice_index_or, slice_set, Option, Some, None, is_none, option_map, if◌then◌else◌}
 use Rattle.tb_terms.specs.declared.term.Term.{Term}
 use Rattle.tb_terms.specs.declared.term.Term.TheVariants.{Int, Appl}
 use Rattle.tb_log.specs.Shapes.{lane_count}
@@ -60,6 +60,10 @@ is_same_stage stage.Live stage.Leaving = false
 is_same_stage stage.Leaving stage.Waiting = false
 is_same_stage stage.Leaving stage.Live = false
 is_same_stage stage.Leaving stage.Leaving = true
+
+-- all lanes are there
+abbrev pub HasLanes : BenchState → Type 0
+HasLanes bench = length bench.lanes ≡ lane_count
 
 -- the lane with this number
 abbrev pub lane_at : ℕ → BenchState → Lane

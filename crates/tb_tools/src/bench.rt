@@ -1,7 +1,7 @@
 ghost use Rattle.std.specs.Prelude.{◌≡◌, ◌≤◌, ◌<◌, ◌+◌, ◌-◌, length, pos, IsTrue, IsSome, IfOk, OnOk, OnErr, Some, option_map, map, count_by};
 ghost use Rattle.std.specs.Option.{option_copied, ForSome};
 ghost use Rattle.tb_log.specs.Shapes.{IsLane, lane_count};
-ghost use Rattle.tb_tools.specs.Lanes.{opening, started, unused, is_open, most_tools, is_stage_at, lane_at, tool_at, lane_state, term_of};
+ghost use Rattle.tb_tools.specs.Lanes.{HasLanes, opening, started, unused, is_open, most_tools, is_stage_at, lane_at, tool_at, lane_state, term_of};
 ghost use Rattle.tb_tools.specs.Finding.{free_lane, find_tool, first_at, oldest_event, oldest_received, next_out, first_out};
 ghost use Rattle.tb_tools.specs.Inputs.{put_line, with_line, gone, cut, has_asked};
 ghost use Rattle.tb_tools.specs.Acts.{answer_at, events_at, received_at, is_live_at, is_taken_at, can_execute, executed, can_connect, connected, can_leave, left, can_eval, asked, can_take_value, value_taken, can_do, told, can_take_event, event_taken, can_ack, acknowledged, can_terminate, terminated, gone_down, handed_out};
@@ -121,7 +121,7 @@ impl Bench {
 
     /// There are 16 lanes. The call changes nothing.
     pub fn show_lanes(&self)
-        ensures { length self.now.lanes ≡ lane_count }
+        ensures { HasLanes self.now }
     {
         let _lanes = self.lanes.len();
     }

@@ -7,7 +7,7 @@ use Rattle.tb_algebra.specs.Offers.{Offered}
 use Rattle.tb_algebra.specs.Walks.{sorts_of}
 use Rattle.tb_algebra.specs.WalkerViews.{View}
 use Rattle.tb_log.specs.Logs.{LogState}
-use Rattle.tb_log.specs.Shapes.{lane_count}
+use Rattle.tb_tools.specs.Lanes.{HasLanes}
 use Rattle.tb_bus.specs.Buses.{Bus, Proc, start}
 use Rattle.tb_bus.specs.Effects.{Effect, changed}
 use Rattle.tb_bus.specs.Steps.{Move, advance, apply}
@@ -61,7 +61,7 @@ pub record IsSound {W P T : Type 0} (view : View P W T) (bus : LiveBus W P T) : 
   pub planned : map view.body_of bus.plans ≡ bus.origin.program.bodies
   pub live : All (IsLive view bus.plans bus.ticks) bus.living.items
   pub fresh : bus.aged ≡ false → All (IsFreshOr bus.stale.items) bus.living.items
-  pub lanes : length bus.bench.lanes ≡ lane_count
+  pub lanes : HasLanes bus.bench
 
 -- the fields stand for the same bus as before
 pub record StandsAs {W P T : Type 0} (view : View P W T) (old new : LiveBus W P T) : Type 0 where

@@ -1,10 +1,9 @@
 -- When a process may speak with a tool as was found, and what is seen of it.
-use Rattle.std.specs.Prelude.{◌≡◌, List, [], length, Option, Some, None, ⊤}
+use Rattle.std.specs.Prelude.{◌≡◌, List, [], Option, Some, None, ⊤}
 use Rattle.tb_terms.specs.declared.term.Term.{Term}
 use Rattle.tb_body.specs.declared.body.Body.{Body}
 use Rattle.tb_body.specs.declared.program.Tool.{Tool as ToolKind}
-use Rattle.tb_log.specs.Shapes.{lane_count}
-use Rattle.tb_tools.specs.Lanes.{BenchState}
+use Rattle.tb_tools.specs.Lanes.{BenchState, HasLanes}
 use Rattle.tb_bus.specs.Exchanges.{Setting, exchange_for, terms_seen}
 use Rattle.tb_bus.specs.declared.action.Action.{Action}
 use Rattle.tb_bus.specs.declared.action.Action.TheVariants.{Own, Send, Receive, Notify, TakeNote, Speak}
@@ -15,7 +14,7 @@ use Rattle.tb_bus.specs.declared.exchange.Exchange.{Exchange}
 pub record CanSpeak (kinds : List ToolKind) (bench : BenchState) (does : ToolAction) (exchange : Exchange) : Type 0 where
   pub body : Option Body
   pub found : exchange_for (record { body = body; kinds = kinds; bench = bench }) does ≡ Some exchange
-  pub lanes : length bench.lanes ≡ lane_count
+  pub lanes : HasLanes bench
 
 -- likewise, where the action speaks with a tool
 abbrev pub CanSpeakBy : List ToolKind → BenchState → Action → Exchange → Type 0
