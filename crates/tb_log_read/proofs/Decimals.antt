@@ -1,15 +1,13 @@
 -- The decimal text of a number has digits alone, and is worth the number.
-use Rattle.std.proofs.Common.{◌≡◌, ℕ, ◌+◌, ◌-◌, ◌*◌, ◌/◌, ◌%◌, ◌^◌, ◌≤◌, ◌<◌, Bool, true, false, min, List, [], ◌∷◌, ◌++◌, fold, refl, ap, sym, ◌∙◌, arith}
-use Rattle.std.proofs.lemmas.Bool.{false≢true, and_parts, and_from}
+use Rattle.std.proofs.Common.{◌≡◌, ℕ, ◌+◌, ◌-◌, ◌*◌, ◌/◌, ◌%◌, ◌^◌, ◌≤◌, ◌<◌, true, false, List, [], ◌∷◌, ◌++◌, fold, refl, ◌∙◌, arith}
+use Rattle.std.proofs.lemmas.Bool.{and_from}
 use Rattle.std.proofs.lemmas.Bool.Decides.{nat_tests}
 use Rattle.std.proofs.lemmas.Fmt.{decimal_by_steps}
 use Rattle.std.proofs.lemmas.List.Folds.{list_all-append}
 use Rattle.std.specs.Fmt.{decimal}
 use Rattle.std.specs.List.{list_all}
-use Rattle.tb_terms.specs.Names.{is_digit, is_name_byte}
+use Rattle.tb_terms.specs.Names.{is_digit}
 use Rattle.tb_read.specs.Spelling.{digits_value}
-use Rattle.tb_log.specs.declared.entry.Place.{Place}
-use Rattle.tb_log.specs.Proper.{is_proper_place}
 use Rattle.tb_log_read.specs.Helpers.Numbers.{number64, number32, number8, place_of}
 use Rattle.tb_log_read.proofs.Cuts.{lacks, lacks_by, prefix-cut, behind-cut}
 

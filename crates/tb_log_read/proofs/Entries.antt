@@ -1,25 +1,24 @@
 -- The words of an entry in shape give this entry.
-use Rattle.std.proofs.Common.{◌≡◌, ◌⊎◌, ◌≤◌, ◌<◌, ◌^◌, ℕ, ◌+◌, Bool, true, false, ◌&&◌, ◌||◌, eqb, ltb, leb, List, [], ◌∷◌, ◌++◌, length, map, Option, Some, None, refl, ap, sym, ◌∙◌, subst, inl, inr, ⊎_elim, arith, append_assoc, append-nil}
+use Rattle.std.proofs.Common.{◌≡◌, ◌⊎◌, ◌≤◌, ◌<◌, ◌^◌, ℕ, Bool, true, false, ◌&&◌, ◌||◌, eqb, ltb, leb, List, [], ◌∷◌, ◌++◌, length, map, Some, None, refl, ap, sym, ◌∙◌, subst, inl, inr, ⊎_elim, arith, append_assoc, append-nil}
 use Rattle.std.specs.Prelude.{codes}
 use Rattle.std.specs.Fmt.{decimal}
 use Rattle.std.specs.Str.{bytes_eq}
 use Rattle.std.specs.List.{list_all, flat_map, All}
-use Rattle.std.proofs.lemmas.Bool.{false≢true, and_parts, and_from, ltb-true, leb-true, eqb-true, or_cases}
+use Rattle.std.proofs.lemmas.Bool.{and_parts, and_from, ltb-true, leb-true, eqb-true, or_cases}
 use Rattle.std.proofs.lemmas.Slice.Eq.{bytes_eq-Decides}
 use Rattle.tb_terms.specs.Names.{is_name, is_string}
 use Rattle.tb_terms.specs.Proper.{is_proper, proper_step}
 use Rattle.tb_terms.specs.Sizes.{IsWithinLimits}
-use Rattle.tb_terms.specs.Texts.{term_text, terms_text, text_step, quoted, escaped, joined}
+use Rattle.tb_terms.specs.Texts.{term_text, terms_text, text_step, escaped}
 use Rattle.tb_terms.specs.declared.term.Term.{Term, out-Term}
 use Rattle.tb_terms.specs.declared.term.Term.TheVariants as term
 use Rattle.tb_terms.specs.declared.term.Term.TheVariants.{outs-Int, outs-Str, outs-Appl, outs-List}
 use Rattle.tb_terms.proofs.Induction.{term_induction, fold-Appl}
 use Rattle.tb_read.specs.declared.fault.TermFault.TheVariants.{Syntax}
-use Rattle.tb_log.specs.LogText.{place_words, term_words, kind_word, label_words, arguments_text, tool_line_words, input_words, why_word, fed_words, out_words, entry_words}
+use Rattle.tb_log.specs.LogText.{place_words, term_words, kind_word, label_words, tool_line_words, input_words, why_word, fed_words, out_words, entry_words}
 use Rattle.tb_log.specs.Proper.{is_proper_place, is_proper_tool_line, is_proper_input, is_proper_out, is_proper_entry}
-use Rattle.tb_log.specs.Shapes.{nowhere, HasPlaces, has_terms, IsLabelInShape, AreParts, IsToolLineInShape, has_parts, IsForTool, IsOutInShape, IsLane, IsInputInShape, InShape}
+use Rattle.tb_log.specs.Shapes.{nowhere, HasPlaces, has_terms, IsToolLineInShape, has_parts, IsForTool, IsOutInShape, IsLane, IsInputInShape, InShape}
 use Rattle.tb_log.specs.declared.entry.Place.{Place}
-use Rattle.tb_log.specs.declared.entry.Label.{Label}
 use Rattle.tb_log.specs.declared.entry.LabelKind.{LabelKind}
 use Rattle.tb_log.specs.declared.entry.LabelKind.TheVariants as kind
 use Rattle.tb_log.specs.declared.entry.ToolLine.{ToolLine}
@@ -36,9 +35,9 @@ use Rattle.tb_log.specs.declared.entry.Entry.{Entry}
 use Rattle.tb_log.specs.declared.entry.Entry.TheVariants.{Did, Quiet, Fed, Gave}
 use Rattle.tb_log_read.specs.Helpers.Cutting.{prefix, behind, without_last}
 use Rattle.tb_log_read.specs.Helpers.Numbers.{number8, place_of}
-use Rattle.tb_log_read.specs.Helpers.Terms.{term_of, terms_of, label_terms, with_prefix, with_first}
+use Rattle.tb_log_read.specs.Helpers.Terms.{term_of, terms_of, label_terms}
 use Rattle.tb_log_read.specs.Helpers.Unescaping.{unescaped_from}
-use Rattle.tb_log_read.specs.Helpers.Words.{kind_of, why_of, labelled, step_of, value_line, event_line, named_line, tool_line_of, line_on, input_of, fed_by, dropped_by, drop_of, start_of, line_of, out_of, gave_on, gave_of, other_of, entry_by, words_of}
+use Rattle.tb_log_read.specs.Helpers.Words.{kind_of, labelled, step_of, value_line, event_line, named_line, tool_line_of, line_on, input_of, fed_by, start_of, line_of, out_of, gave_on, entry_by, words_of}
 use Rattle.tb_log_read.proofs.Cuts.{lacks, lacks-append, prefix-cut, behind-cut, prefix-none, behind-none, without_last-push}
 use Rattle.tb_log_read.proofs.Decimals.{lacks-decimal, number8-decimal, place_of-decimal}
 use Rattle.tb_log_read.proofs.LabelKinds.{HasOnePlace, kinds}

@@ -1,5 +1,5 @@
 -- The kinds of step whose line shows one place.
-use Rattle.std.proofs.Common.{◌≡◌, ℕ, true, List, ◌∷◌, ◌++◌, Option, Some, refl}
+use Rattle.std.proofs.Common.{◌≡◌, ℕ, true, List, ◌++◌, Some, refl}
 use Rattle.tb_terms.specs.declared.term.Term.{Term}
 use Rattle.tb_log.specs.LogText.{place_words, term_words, kind_word, label_words}
 use Rattle.tb_log.specs.Shapes.{nowhere, HasPlaces}

@@ -1,14 +1,14 @@
 -- No line but at its end has a newline.
-use Rattle.std.proofs.Common.{◌≡◌, ℕ, ◌+◌, ◌^◌, ◌<◌, Bool, true, false, not, ◌&&◌, cond, eqb, ltb, List, [], ◌∷◌, ◌++◌, map, Option, Some, None, refl, ap, sym, ◌∙◌, subst, arith}
+use Rattle.std.proofs.Common.{◌≡◌, ℕ, ◌^◌, ◌<◌, Bool, true, false, ◌&&◌, cond, eqb, ltb, List, [], ◌∷◌, ◌++◌, Option, Some, None, refl, arith}
 use Rattle.std.specs.Prelude.{codes}
 use Rattle.std.specs.Fmt.{decimal}
 use Rattle.std.specs.List.{list_all, flat_map}
-use Rattle.std.proofs.lemmas.Bool.{false≢true, and_parts, and_from, ltb-true, not_from_false}
-use Rattle.tb_terms.specs.Names.{is_name_byte, is_name}
+use Rattle.std.proofs.lemmas.Bool.{and_parts, and_from, ltb-true}
+use Rattle.tb_terms.specs.Names.{is_name_byte}
 use Rattle.tb_terms.specs.Proper.{is_proper}
-use Rattle.tb_terms.specs.Texts.{term_text, terms_text, joined, quoted, escaped, escape_letter, with_letter}
+use Rattle.tb_terms.specs.Texts.{term_text, terms_text, quoted, escaped, escape_letter, with_letter}
 use Rattle.tb_terms.specs.declared.term.Term.{Term}
-use Rattle.tb_log.specs.LogText.{place_words, term_words, kind_word, label_words, arguments_text, tool_line_words, input_words, why_word, fed_words, out_words, entry_words}
+use Rattle.tb_log.specs.LogText.{place_words, term_words, kind_word, label_words, tool_line_words, input_words, why_word, fed_words, out_words, entry_words}
 use Rattle.tb_log.specs.Proper.{is_proper_place, is_proper_tool_line, is_proper_input, is_proper_out, is_proper_entry}
 use Rattle.tb_log.specs.declared.entry.Place.{Place}
 use Rattle.tb_log.specs.declared.entry.LabelKind.{LabelKind}

@@ -1,6 +1,6 @@
 -- A part and what is behind its comma.
-use Rattle.std.proofs.Common.{◌≡◌, ◌≤◌, ℕ, zero, suc, ◌+◌, Bool, true, false, cond, List, [], ◌∷◌, ◌++◌, length, take, drop, Option, Some, None, refl, ap, sym, ◌∙◌, arith}
-use Rattle.tb_log_read.specs.Helpers.Parts.{after, is_cut, part_len, onto, parts_from, parts}
+use Rattle.std.proofs.Common.{◌≡◌, ℕ, Bool, true, false, List, [], ◌∷◌, length, take, drop, refl, ap, sym, ◌∙◌, arith}
+use Rattle.tb_log_read.specs.Helpers.Parts.{after, is_cut, part_len, parts_from, parts}
 use Rattle.tb_log_read.specs.declared.part.Standing.{Standing}
 use Rattle.tb_log_read.specs.declared.part.Standing.TheVariants.{Plain}
 

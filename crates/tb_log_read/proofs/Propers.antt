@@ -1,9 +1,9 @@
 -- What is read is proper: its numbers fit their types, and its terms, strings and names are such.
-use Rattle.std.proofs.Common.{◌≡◌, ◌⊎◌, ◌≤◌, ◌<◌, ◌^◌, ◌-◌, ℕ, zero, suc, ℤ, pos, negsuc, neg_ℤ, min, Bool, true, false, ◌&&◌, cond, ltb, List, [], ◌∷◌, ◌++◌, map, Option, Some, None, refl, ap, sym, ◌∙◌, subst, inl, inr, arith, append_assoc, append-nil}
+use Rattle.std.proofs.Common.{◌≡◌, ◌⊎◌, ◌≤◌, ◌<◌, ◌^◌, ℕ, zero, suc, ℤ, pos, neg_ℤ, Bool, true, false, ◌&&◌, cond, ltb, List, [], ◌∷◌, ◌++◌, map, Option, Some, None, refl, ap, sym, ◌∙◌, subst, inl, inr, arith, append_assoc, append-nil}
 use Rattle.std.specs.Prelude.{codes}
 use Rattle.std.specs.Str.{bytes_eq}
 use Rattle.std.specs.List.{list_all, flat_map, AllByRecursion}
-use Rattle.std.proofs.lemmas.Bool.{false≢true, and_parts, and_from, lt-ltb}
+use Rattle.std.proofs.lemmas.Bool.{and_parts, and_from, lt-ltb}
 use Rattle.tb_terms.specs.Names.{is_name, is_string}
 use Rattle.tb_terms.specs.Proper.{is_proper, proper_step, has_64_bits}
 use Rattle.tb_terms.specs.declared.term.Term.{Term}
@@ -27,11 +27,11 @@ use Rattle.tb_log.specs.declared.entry.Reply.{Reply}
 use Rattle.tb_log.specs.declared.entry.Reply.TheVariants.{Took, Dropped}
 use Rattle.tb_log.specs.declared.entry.Why.{Why}
 use Rattle.tb_log.specs.declared.entry.Entry.{Entry}
-use Rattle.tb_log.specs.declared.entry.Entry.TheVariants.{Did, Quiet, Fed, Gave}
+use Rattle.tb_log.specs.declared.entry.Entry.TheVariants.{Quiet}
 use Rattle.tb_log_read.specs.Helpers.Cutting.{prefix, behind, without_last}
-use Rattle.tb_log_read.specs.Helpers.Numbers.{number64, number32, number8, place_of}
+use Rattle.tb_log_read.specs.Helpers.Numbers.{number32, number8, place_of}
 use Rattle.tb_log_read.specs.Helpers.Parts.{parts}
-use Rattle.tb_log_read.specs.Helpers.Terms.{term_of, with_prefix, with_first, all_terms, terms_of, label_terms}
+use Rattle.tb_log_read.specs.Helpers.Terms.{term_of, with_first, all_terms, terms_of, label_terms}
 use Rattle.tb_log_read.specs.Helpers.Unescaping.{unescaped_from}
 use Rattle.tb_log_read.specs.Helpers.Words.{kind_of, why_of, labelled, step_of, value_line, event_line, named_line, tool_line_of, line_on, input_of, fed_by, dropped_by, drop_of, start_of, line_of, out_of, gave_on, gave_of, other_of, entry_by, words_of}
 use Rattle.tb_log_read.proofs.LabelKinds.{HasOnePlace, kinds}

@@ -1,5 +1,5 @@
 -- What a reading finds is the one term of the bytes, where they have one within the limits.
-use Rattle.std.proofs.Common.{◌≡◌, ◌⊎◌, ℕ, List, Option, Some, None, refl, ap, inl, inr}
+use Rattle.std.proofs.Common.{◌≡◌, ℕ, List, Some, None, refl, ap, inl, inr}
 use Rattle.tb_terms.specs.Sizes.{IsWithinLimits}
 use Rattle.tb_terms.specs.declared.term.Term.{Term}
 use Rattle.tb_read.specs.declared.fault.TermFault.{TermFault}

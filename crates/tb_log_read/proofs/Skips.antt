@@ -1,16 +1,16 @@
 -- The texts of terms are parted between each two, and nowhere within one.
-use Rattle.std.proofs.Common.{◌≡◌, ℕ, zero, suc, ◌+◌, ◌-◌, Bool, true, false, ◌&&◌, ◌||◌, cond, eqb, List, [], ◌∷◌, ◌++◌, map, Option, Some, None, refl, ap, sym, ◌∙◌, subst, arith, append_assoc, append-nil, add-one}
+use Rattle.std.proofs.Common.{◌≡◌, ℕ, suc, ◌+◌, ◌-◌, Bool, true, false, cond, eqb, List, [], ◌∷◌, ◌++◌, map, Option, Some, None, refl, ap, sym, ◌∙◌, arith, append_assoc, append-nil, add-one}
 use Rattle.std.specs.List.{list_all, flat_map, All}
 use Rattle.std.proofs.lemmas.Bool.{false≢true, and_parts, and_right, eqb-true, ne_eqb, false_from_ne_true}
 use Rattle.std.proofs.lemmas.List.Elements.{All-head, All-tail}
 use Rattle.tb_terms.specs.Names.{is_name_byte}
 use Rattle.tb_terms.specs.Proper.{is_proper}
 use Rattle.tb_terms.specs.Sizes.{IsWithinLimits}
-use Rattle.tb_terms.specs.Texts.{term_text, terms_text, joined, quoted, escaped, escape_letter, with_letter}
+use Rattle.tb_terms.specs.Texts.{term_text, terms_text, quoted, escaped, escape_letter, with_letter}
 use Rattle.tb_terms.specs.declared.term.Term.{Term}
 use Rattle.tb_read.proofs.Written.{written_reads}
 use Rattle.tb_log_read.specs.Helpers.Parts.{plain_after, after, is_cut, onto, parts_from, parts}
-use Rattle.tb_log_read.specs.Helpers.Terms.{term_of, with_prefix, with_first, all_terms, terms_of, label_terms}
+use Rattle.tb_log_read.specs.Helpers.Terms.{term_of, all_terms, terms_of}
 use Rattle.tb_log_read.specs.declared.part.Standing.{Standing}
 use Rattle.tb_log_read.specs.declared.part.Standing.TheVariants.{Plain, Quoted, Escaped}
 use Rattle.tb_log_read.proofs.Readings.{term_of-reads}

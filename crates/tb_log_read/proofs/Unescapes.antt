@@ -3,7 +3,7 @@ use Rattle.std.proofs.Common.{◌≡◌, ℕ, Bool, true, false, cond, eqb, List
 use Rattle.std.specs.List.{flat_map}
 use Rattle.std.proofs.lemmas.Bool.{eqb-true}
 use Rattle.tb_terms.specs.Texts.{escaped, escape_letter, with_letter}
-use Rattle.tb_log_read.specs.Helpers.Unescaping.{letter_byte, unescaped_from}
+use Rattle.tb_log_read.specs.Helpers.Unescaping.{unescaped_from}
 
 -- one byte, with whatever follows
 escape_read : (b : ℕ) (rest : List ℕ) → unescaped_from false (with_letter b (escape_letter b) ++ rest) ≡ b ∷ unescaped_from false rest

@@ -1,6 +1,6 @@
 ghost use Rattle.std.specs.Prelude.{◌≡◌};
 ghost use Rattle.std.specs.Str.{bytes_eq};
-ghost use Rattle.tb_log_read.specs.Helpers.Words.{kind_of, why_of};
+ghost use Rattle.tb_log_read.specs.Helpers.Words.{kind_of, own_kind, tool_or_end_kind, why_of};
 
 use tb_log::{LabelKind, Why};
 
@@ -13,6 +13,16 @@ pub(crate) fn is_word(bytes: &[u8], word: &[u8]) -> bool
 /// The kind of step whose line begins with this word.
 pub(crate) fn kind_of(word: &[u8]) -> Option<LabelKind>
     ensures { result ≡ kind_of word.now }
+{
+    match own_kind(word) {
+        Some(kind) => Some(kind),
+        None => tool_or_end_kind(word),
+    }
+}
+
+/// The same, for a step that speaks with no tool.
+fn own_kind(word: &[u8]) -> Option<LabelKind>
+    ensures { result ≡ own_kind word.now }
 {
     if is_word(word, b"msg") {
         return Some(LabelKind::Msg);
@@ -44,6 +54,13 @@ pub(crate) fn kind_of(word: &[u8]) -> Option<LabelKind>
     if is_word(word, b"create") {
         return Some(LabelKind::Create);
     }
+    None
+}
+
+/// The same, for one that speaks with a tool, and for an end.
+fn tool_or_end_kind(word: &[u8]) -> Option<LabelKind>
+    ensures { result ≡ tool_or_end_kind word.now }
+{
     if is_word(word, b"execute") {
         return Some(LabelKind::Execute);
     }

@@ -1,6 +1,5 @@
 -- The terms that bytes read as: the value is taken from the proof that each text has a term or a fault.
-use Rattle.std.specs.Prelude.{ℕ, List, [], ◌∷◌, ◌++◌, Option, Some, None, ◌⊎◌, map}
-use Rattle.std.specs.Option.{option_map}
+use Rattle.std.specs.Prelude.{ℕ, List, [], ◌∷◌, ◌++◌, Option, Some, None}
 use Rattle.std.proofs.Common.{inl, inr}
 use Rattle.tb_terms.specs.declared.term.Term.{Term}
 use Rattle.tb_read.proofs.Ended.{OneOf, has_one}

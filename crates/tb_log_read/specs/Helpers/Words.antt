@@ -25,8 +25,9 @@ use Rattle.tb_log_read.specs.Helpers.Numbers.{number8, place_of}
 use Rattle.tb_log_read.specs.Helpers.Terms.{term_of, terms_of, label_terms}
 use Rattle.tb_log_read.specs.Helpers.Unescaping.{unescaped_from}
 
-abbrev pub kind_of : List ℕ → Option LabelKind
-kind_of word =
+-- of a step that speaks with no tool
+abbrev pub own_kind : List ℕ → Option LabelKind
+own_kind word =
     if bytes_eq word (codes "msg") then Some kind.Msg
     else (if bytes_eq word (codes "set") then Some kind.Set
     else (if bytes_eq word (codes "tau") then Some kind.Tau
@@ -37,7 +38,12 @@ kind_of word =
     else (if bytes_eq word (codes "subscribe") then Some kind.Subscribe
     else (if bytes_eq word (codes "unsubscribe") then Some kind.Unsubscribe
     else (if bytes_eq word (codes "create") then Some kind.Create
-    else (if bytes_eq word (codes "execute") then Some kind.Execute
+    else None)))))))))
+
+-- of one that speaks with a tool, or an end
+abbrev pub tool_or_end_kind : List ℕ → Option LabelKind
+tool_or_end_kind word =
+    if bytes_eq word (codes "execute") then Some kind.Execute
     else (if bytes_eq word (codes "rec-connect") then Some kind.RecConnect
     else (if bytes_eq word (codes "rec-disconnect") then Some kind.RecDisconnect
     else (if bytes_eq word (codes "snd-eval") then Some kind.SndEval
@@ -49,7 +55,14 @@ kind_of word =
     else (if bytes_eq word (codes "shutdown") then Some kind.Shutdown
     else (if bytes_eq word (codes "finish") then Some kind.Finish
     else (if bytes_eq word (codes "halt") then Some kind.Halt
-    else None)))))))))))))))))))))
+    else None)))))))))))
+
+abbrev kind_from : Option LabelKind → List ℕ → Option LabelKind
+kind_from (Some k) word = Some k
+kind_from None word = tool_or_end_kind word
+
+abbrev pub kind_of : List ℕ → Option LabelKind
+kind_of word = kind_from (own_kind word) word
 
 abbrev pub why_of : List ℕ → Option Why
 why_of word =

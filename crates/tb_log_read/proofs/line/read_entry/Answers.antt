@@ -1,4 +1,4 @@
-use Rattle.std.proofs.Common.{◌≡◌, sym, ◌∙◌}
+use Rattle.std.proofs.Common.{sym, ◌∙◌}
 use Rattle.std.proofs.lemmas.Bool.{false≢true}
 use Rattle.tb_log_read.proofs.LineReadings.{line_says, says_line, says_other}
 use Rattle.tb_log_read.proofs.line.read_entry.Goals as goal

@@ -1,6 +1,5 @@
-use Rattle.std.proofs.Common.{◌≡◌, true, sym, ap, ◌∙◌}
+use Rattle.std.proofs.Common.{◌≡◌, sym, ◌∙◌}
 use Rattle.std.proofs.lemmas.Bool.{false≢true}
-use Rattle.tb_read.specs.declared.fault.TermFault.TheVariants as fault
 use Rattle.tb_log_read.proofs.Readings.{term_of-reads, term_of-fault}
 use Rattle.tb_log_read.proofs.terms.read_one.Goals as goal
 
