@@ -67,21 +67,21 @@ fn print_action(alloc: Global, values: Option<Terms>) -> Result<Option<Action>, 
     }
 }
 
-/// A process begins with these values, and the slot takes its number.
+/// A process begins with these values, where they are there, and the slot takes its number.
 fn create_action(process: u32, actuals: Option<Terms>, slot: u32) -> Option<Action>
     ensures { result ≡ option_map (create_action process slot) actuals }
 {
     Some(Action::Own(OwnAction::Create(process, actuals?, slot)))
 }
 
-/// The answer of the tool is taken, where the tool and the patterns are there.
+/// The answer of the tool is taken, where the tool and the patterns have values.
 fn value_action(terms: Option<Terms>, patterns: Option<Patterns>) -> Option<Action>
     ensures { result ≡ option_and_then (speak_about ToolAction.TakeValue patterns) terms }
 {
     Some(Action::Speak(ToolAction::TakeValue(terms?, patterns?)))
 }
 
-/// An event of the tool is received, where the tool and the patterns are there.
+/// An event of the tool is received, where the tool and the patterns have values.
 fn event_action(terms: Option<Terms>, patterns: Option<Patterns>) -> Option<Action>
     ensures { result ≡ option_and_then (speak_about ToolAction.TakeEvent patterns) terms }
 {

@@ -3,7 +3,7 @@ ghost use Rattle.std.specs.List.{list_any};
 ghost use Rattle.std.specs.Str.{bytes_eq};
 ghost use Rattle.std.below.core.specs.declared.int.usize.TheConstants.{MAX};
 ghost use Rattle.tb_body.specs.declared.program.Tool.{Tool as ToolKind};
-ghost use Rattle.tb_log.specs.declared.entry.LabelKind.TheVariants as kind;
+ghost use Rattle.tb_log.specs.declared.entry.LabelKind.TheVariants as label_kind;
 ghost use Rattle.tb_log.specs.Limits.{terms_size};
 ghost use Rattle.tb_log.specs.Shapes.{IsLane};
 ghost use Rattle.tb_tools.specs.Lanes.{most_tools};
@@ -113,7 +113,7 @@ fn execute(kinds: &[Tool], bench: &mut Bench, tool: u32, lane: u8) -> Result<(),
     }
 }
 
-/// The tool of a lane, the first of these terms, is asked to evaluate the second.
+/// The tool of a lane is asked to evaluate the second of these terms.
 fn eval(
     alloc: Global,
     bench: &mut Bench,
@@ -123,7 +123,7 @@ fn eval(
 ) -> Result<Done, NoMemory>
     requires lane { IsLane lane }
     requires can { IsTrue (can_eval lane bench.old) }
-    ensures done { IfOk result (λ done. done ≡ record { kind = kind.SndEval; shown = terms; binds = binds }) }
+    ensures done { IfOk result (λ done. done ≡ record { kind = label_kind.SndEval; shown = terms; binds = binds }) }
     ensures ok { OnOk result (bench.new ≡ with_told asked (behind terms) lane bench.old) }
     ensures err { OnErr result (bench.new ≡ bench.old) }
 {
@@ -133,7 +133,7 @@ fn eval(
     Ok(seen(LabelKind::SndEval, terms, binds))
 }
 
-/// The tool of a lane, the first of these terms, is told to do the second.
+/// The tool of a lane is told to do the second of these terms.
 fn do_action(
     alloc: Global,
     bench: &mut Bench,
@@ -143,7 +143,7 @@ fn do_action(
 ) -> Result<Done, NoMemory>
     requires lane { IsLane lane }
     requires can { IsTrue (can_do lane bench.old) }
-    ensures done { IfOk result (λ done. done ≡ record { kind = kind.SndDo; shown = terms; binds = binds }) }
+    ensures done { IfOk result (λ done. done ≡ record { kind = label_kind.SndDo; shown = terms; binds = binds }) }
     ensures ok { OnOk result (bench.new ≡ with_told told (behind terms) lane bench.old) }
     ensures err { OnErr result (bench.new ≡ bench.old) }
 {
@@ -153,7 +153,7 @@ fn do_action(
     Ok(seen(LabelKind::SndDo, terms, binds))
 }
 
-/// The tool of a lane, the first of these terms, is told to end, with the second.
+/// The tool of a lane is told to end, with the second of these terms as the reason.
 fn terminate(
     alloc: Global,
     bench: &mut Bench,
@@ -163,7 +163,7 @@ fn terminate(
 ) -> Result<Done, NoMemory>
     requires lane { IsLane lane }
     requires can { IsTrue (can_terminate lane bench.old) }
-    ensures done { IfOk result (λ done. done ≡ record { kind = kind.SndTerminate; shown = terms; binds = binds }) }
+    ensures done { IfOk result (λ done. done ≡ record { kind = label_kind.SndTerminate; shown = terms; binds = binds }) }
     ensures ok { OnOk result (bench.new ≡ with_told terminated (behind terms) lane bench.old) }
     ensures err { OnErr result (bench.new ≡ bench.old) }
 {

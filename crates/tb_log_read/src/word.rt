@@ -1,6 +1,6 @@
 ghost use Rattle.std.specs.Prelude.{◌≡◌};
 ghost use Rattle.std.specs.Str.{bytes_eq};
-ghost use Rattle.tb_log_read.specs.Helpers.Words.{kind_of, own_kind, tool_or_end_kind, why_of};
+ghost use Rattle.tb_log_read.specs.Helpers.Words.{kind_of, plain_kind, tool_or_down_kind, why_of};
 
 use tb_log::{LabelKind, Why};
 
@@ -14,15 +14,15 @@ pub(crate) fn is_word(bytes: &[u8], word: &[u8]) -> bool
 pub(crate) fn kind_of(word: &[u8]) -> Option<LabelKind>
     ensures { result ≡ kind_of word.now }
 {
-    match own_kind(word) {
+    match plain_kind(word) {
         Some(kind) => Some(kind),
-        None => tool_or_end_kind(word),
+        None => tool_or_down_kind(word),
     }
 }
 
-/// The same, for a step that speaks with no tool.
-fn own_kind(word: &[u8]) -> Option<LabelKind>
-    ensures { result ≡ own_kind word.now }
+/// The same, for a step that neither speaks with a tool nor takes the bus down.
+fn plain_kind(word: &[u8]) -> Option<LabelKind>
+    ensures { result ≡ plain_kind word.now }
 {
     if is_word(word, b"msg") {
         return Some(LabelKind::Msg);
@@ -57,9 +57,9 @@ fn own_kind(word: &[u8]) -> Option<LabelKind>
     None
 }
 
-/// The same, for one that speaks with a tool, and for an end.
-fn tool_or_end_kind(word: &[u8]) -> Option<LabelKind>
-    ensures { result ≡ tool_or_end_kind word.now }
+/// The same, for one that speaks with a tool or takes the bus down.
+fn tool_or_down_kind(word: &[u8]) -> Option<LabelKind>
+    ensures { result ≡ tool_or_down_kind word.now }
 {
     if is_word(word, b"execute") {
         return Some(LabelKind::Execute);

@@ -25,9 +25,9 @@ use Rattle.tb_log_read.specs.Helpers.Numbers.{number8, place_of}
 use Rattle.tb_log_read.specs.Helpers.Terms.{term_of, terms_of, label_terms}
 use Rattle.tb_log_read.specs.Helpers.Unescaping.{unescaped_from}
 
--- of a step that speaks with no tool
-abbrev pub own_kind : List ℕ → Option LabelKind
-own_kind word =
+-- the kind of step with this word, where it neither speaks with a tool nor takes the bus down
+abbrev pub plain_kind : List ℕ → Option LabelKind
+plain_kind word =
     if bytes_eq word (codes "msg") then Some kind.Msg
     else (if bytes_eq word (codes "set") then Some kind.Set
     else (if bytes_eq word (codes "tau") then Some kind.Tau
@@ -40,9 +40,9 @@ own_kind word =
     else (if bytes_eq word (codes "create") then Some kind.Create
     else None)))))))))
 
--- of one that speaks with a tool, or an end
-abbrev pub tool_or_end_kind : List ℕ → Option LabelKind
-tool_or_end_kind word =
+-- the kind of step with this word, where it speaks with a tool or takes the bus down
+abbrev pub tool_or_down_kind : List ℕ → Option LabelKind
+tool_or_down_kind word =
     if bytes_eq word (codes "execute") then Some kind.Execute
     else (if bytes_eq word (codes "rec-connect") then Some kind.RecConnect
     else (if bytes_eq word (codes "rec-disconnect") then Some kind.RecDisconnect
@@ -59,10 +59,11 @@ tool_or_end_kind word =
 
 abbrev kind_from : Option LabelKind → List ℕ → Option LabelKind
 kind_from (Some k) word = Some k
-kind_from None word = tool_or_end_kind word
+kind_from None word = tool_or_down_kind word
 
+-- the kind of step with this word
 abbrev pub kind_of : List ℕ → Option LabelKind
-kind_of word = kind_from (own_kind word) word
+kind_of word = kind_from (plain_kind word) word
 
 abbrev pub why_of : List ℕ → Option Why
 why_of word =
