@@ -4,7 +4,6 @@ use Rattle.tb_terms.specs.declared.term.Term.{Term}
 use Rattle.tb_body.specs.declared.program.Tool.{Tool as ToolKind}
 use Rattle.tb_algebra.specs.WalkerViews.{View}
 use Rattle.tb_tools.specs.Lanes.{BenchState}
-use Rattle.tb_tools.specs.Acts.{gone_down}
 use Rattle.tb_bus.specs.Buses.{Bus}
 use Rattle.tb_bus.specs.Effects.{Change, Effect, SetsBench, GoesDown, changed, speaking, went_down}
 use Rattle.tb_bus.specs.Exchanges.{bench_after}

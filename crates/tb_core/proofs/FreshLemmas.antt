@@ -7,11 +7,10 @@ use Rattle.std.proofs.lemmas.Option.{get_or_from_slice_get}
 use Rattle.tb_terms.specs.declared.term.Term.{Term}
 use Rattle.tb_terms.specs.declared.sort.Sort.{Sort}
 use Rattle.tb_terms.specs.declared.pattern.Pattern.{Pattern}
-use Rattle.tb_terms.specs.declared.expr.Expr.{Expr}
 use Rattle.tb_func.specs.declared.slot.Slot.{Slot}
 use Rattle.tb_match.specs.declared.bind.Bind.{Bind}
 use Rattle.tb_func.specs.Printing.{printf_of}
-use Rattle.tb_match.specs.Matches.{match_list, are_plain}
+use Rattle.tb_match.specs.Matches.{are_plain}
 use Rattle.tb_body.specs.declared.act.Act.{Act}
 use Rattle.tb_body.specs.declared.act.Act.TheVariants.{Delta, Tau, SndMsg, RecMsg, SndNote, RecNote, NoNote, Subscribe, Unsubscribe, Create, Set, Printf, Execute, RecConnect, RecDisconnectAny, RecDisconnect, SndEval, RecValue, SndDo, RecEvent, SndAckEvent, SndTerminate, Shutdown}
 use Rattle.tb_body.specs.declared.atom.Atom.{Atom}
@@ -27,7 +26,6 @@ use Rattle.tb_algebra.specs.Binds.{takes_bind, takes_binds}
 use Rattle.tb_algebra.specs.Offers.{Offered, offers}
 use Rattle.tb_algebra.specs.Walks.{Walking, offers_of, is_end}
 use Rattle.tb_algebra.specs.WalkerViews.{View}
-use Rattle.tb_algebra.proofs.Taken.{binds-taken}
 use Rattle.tb_bus.specs.Actions.{set_action, print_action, no_note_action, subscribe_action, unsubscribe_action, create_action, speak_by, shutdown_action, action_in, action_if, action_of}
 use Rattle.tb_bus.specs.Helpers.Candidates.{row_of, rows_of, row_at, ready_one, readies}
 use Rattle.tb_bus.specs.Helpers.Views.{ready_at, offer_at, offer_of, no_ready, no_offer, Receives}

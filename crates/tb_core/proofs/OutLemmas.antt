@@ -1,5 +1,5 @@
 -- What is to be handed out next on a lane of a core, and what a call that takes it logs.
-use Rattle.std.proofs.Common.{◌≡◌, ℕ, List, [], ◌∷◌, ap, sym, subst, ◌∙◌, Some, None, Bool, true, false, if◌then◌else◌}
+use Rattle.std.proofs.Common.{◌≡◌, ℕ, ap, sym, subst, ◌∙◌, Some, None, Bool, true, false, if◌then◌else◌}
 use Rattle.tb_log.specs.declared.entry.Out.{Out}
 use Rattle.tb_log.specs.declared.entry.Entry.TheVariants.{Gave}
 use Rattle.tb_tools.specs.Finding.{next_out}
