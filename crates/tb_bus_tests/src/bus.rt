@@ -5,7 +5,7 @@ use tb_algebra::Rewriter;
 use tb_walk::Walk;
 
 /// Scripts, their feeds, and their logs where at most 40 steps are made.
-static PLAIN: [(&str, &str, &str); 38] = [
+static PLAIN: [(&str, &str, &str); 40] = [
     // Those after the last starter are asked first, whether it goes on or not, or is gone.
     (
         "process T is tau . tau process D is tau . delta process O is tau toolbus(T, D, O, T)",
@@ -17,6 +17,17 @@ static PLAIN: [(&str, &str, &str); 38] = [
         "process T is tau . tau process O is tau toolbus(T, O)",
         "",
         "1 tau 1.1\n2 tau 2.1\n3 tau 1.2\n4 finish\n",
+    ),
+    // A slot takes a value of its own sort alone.
+    (
+        "process P is let X : term, N : int in X := 3 . N := X endlet toolbus(P)",
+        "",
+        "1 set 1.1 3\n2 set 1.2 3\n3 finish\n",
+    ),
+    (
+        "process P is let X : term, N : int in X := \"a\" . N := X endlet toolbus(P)",
+        "",
+        "1 set 1.1 \"a\"\n2 quiet\n3 noticks\n4 halt\n",
     ),
     // A process shakes no hands with itself.
     (

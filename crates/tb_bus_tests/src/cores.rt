@@ -250,6 +250,9 @@ fn first_wrong<W: Walker>(alloc: Global, calls: &Calls) -> Result<(Option<usize>
     let (script, entries, rows, _log) = *calls;
     let mut core: Core<W> = started(alloc, script, &["ui"], entries)?;
     core.reserve(9)?;
+    if core.spare() < 9 {
+        return Err(Fail::new("no memory for nine entries"));
+    }
     for (at, (lane, call, answer, state)) in rows.iter().enumerate() {
         if *lane < 1 || *lane > 16 {
             return Ok((Some(at), Vec::new(alloc)));
