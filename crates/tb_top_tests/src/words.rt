@@ -1,6 +1,6 @@
 use std::alloc::Global;
 use std::test::Fail;
-use tb_terms::Texts;
+use tb_terms::{Text, Texts};
 use tb_top::words::{Command, WordFault, read_words};
 
 /// What a row of words is to give.
@@ -136,6 +136,24 @@ fn are_commands(connects: &Texts, expected: &[&str]) -> bool {
     connects.len() == expected.len()
 }
 
+fn is_simulation(
+    feed: &Option<Text>,
+    connects: &Texts,
+    limits: (u64, u32),
+    expected: Answer,
+) -> bool {
+    match (feed, expected) {
+        (None, Sim(steps, events)) => connects.len() == 0 && limits == (steps, events),
+        (Some(feed), Fed(file)) => {
+            feed.as_str() == file && connects.len() == 0 && limits == (1_000_000, 1_000_000)
+        }
+        (None, Connected(commands)) => {
+            are_commands(connects, commands) && limits == (1_000_000, 1_000_000)
+        }
+        _ => false,
+    }
+}
+
 fn is_answer(answer: &Result<Command, WordFault>, expected: Answer, script: &str) -> bool {
     match (answer, expected) {
         (Ok(Command::Check { script: name }), Check) => name.as_str() == script,
@@ -143,40 +161,14 @@ fn is_answer(answer: &Result<Command, WordFault>, expected: Answer, script: &str
             Ok(
                 Command::Sim {
                     script: name,
-                    feed: None,
+                    feed,
                     connects,
                     steps,
                     events,
                 },
             ),
-            Sim(most, entries),
-        ) => {
-            name.as_str() == script && connects.len() == 0 && *steps == most && *events == entries
-        }
-        (
-            Ok(
-                Command::Sim {
-                    script: name,
-                    feed: Some(feed),
-                    connects,
-                    steps: 1_000_000,
-                    events: 1_000_000,
-                },
-            ),
-            Fed(file),
-        ) => { name.as_str() == script && feed.as_str() == file && connects.len() == 0 }
-        (
-            Ok(
-                Command::Sim {
-                    script: name,
-                    feed: None,
-                    connects,
-                    steps: 1_000_000,
-                    events: 1_000_000,
-                },
-            ),
-            Connected(commands),
-        ) => { name.as_str() == script && are_commands(connects, commands) }
+            _,
+        ) => name.as_str() == script && is_simulation(feed, connects, (*steps, *events), expected),
         (Err(fault), Fault(other)) => *fault == other,
         _ => false,
     }
