@@ -1,0 +1,15 @@
+//! Lanes on which child programs stand as tools: what they write comes from the inlet, and what is put to the outlet
+//! they read. Nothing is told of what a real child gives or takes.
+#![tactic(auto)]
+
+mod arrivals;
+mod inlet;
+mod lines;
+mod outlet;
+mod pipes;
+mod ready;
+mod starting;
+
+pub use inlet::ChildInlet;
+pub use outlet::ChildOutlet;
+pub use pipes::{ChildPair, child_pair};

@@ -1,0 +1,94 @@
+//! How the output of a program is parted into lines.
+ghost use Rattle.std.specs.Prelude.{◌≡◌, ◌≤◌, length};
+
+use std::alloc::{AllocError, Global};
+use std::io;
+use std::io::Read;
+
+/// A line of a tool has at most so many bytes, without its newline.
+const MOST_LINE: usize = 65_536;
+
+/// So many bytes are read at once at most.
+const READ_BYTES: usize = 16_384;
+
+/// Bytes that were read and not yet taken.
+#[derive(Drop)]
+pub struct Pending {
+    bytes: Vec<u8>,
+    from: usize,
+    to: usize,
+}
+
+impl Pending {
+    pub fn new(alloc: Global) -> Result<Pending, AllocError> {
+        Ok(Pending {
+            bytes: vec![in alloc; 0; READ_BYTES]?,
+            from: 0,
+            to: 0,
+        })
+    }
+
+    pub fn is_empty(&self) -> bool {
+        self.rest().is_empty()
+    }
+
+    fn rest(&self) -> &[u8] {
+        match self.bytes.as_slice().get(self.from..self.to) {
+            Some(rest) => rest,
+            None => &[],
+        }
+    }
+
+    /// Reads more, where all was taken, and says how much; nothing at the end.
+    pub fn fill<R: Read>(&mut self, source: &mut R) -> io::Result<usize> {
+        self.from = 0;
+        self.to = 0;
+        let count = source.read(self.bytes.as_mut_slice())?;
+        self.to = count;
+        Ok(count)
+    }
+}
+
+/// A line of which perhaps only a part was read.
+#[derive(Clone, Copy, PartialEq, Eq)]
+pub enum Part {
+    /// It goes on.
+    Open,
+    /// Its newline was read.
+    Whole,
+}
+
+/// Moves what belongs to the line from the bytes that were read into it. A line that gets too long is emptied, and says so.
+pub fn take_part(
+    pending: &mut Pending,
+    line: &mut Vec<u8>,
+    is_long: &mut bool,
+) -> Result<Part, AllocError>
+    requires { length line.old.items ≤ 65536 }
+    ensures { length line.new.items ≤ 65536 }
+{
+    let rest = pending.rest();
+    let (part, end) = match rest.iter().position(|byte| *byte == b'\n') {
+        Some(at) => (&rest[..at], Part::Whole),
+        None => (rest, Part::Open),
+    };
+    if !*is_long {
+        *is_long = !append(part, line)?;
+    }
+    let taken = part.len() + if end == Part::Whole { 1 } else { 0 };
+    pending.from = pending.from.saturating_add(taken);
+    Ok(end)
+}
+
+/// Appends a part to a line, unless it gets too long, and says whether it did.
+fn append(part: &[u8], line: &mut Vec<u8>) -> Result<bool, AllocError>
+    requires { length line.old.items ≤ 65536 }
+    ensures { length line.new.items ≤ 65536 }
+{
+    if part.len() > MOST_LINE - line.len() {
+        line.clear();
+        return Ok(false);
+    }
+    line.extend_from_slice(part)?;
+    Ok(true)
+}

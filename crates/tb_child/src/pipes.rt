@@ -1,0 +1,27 @@
+use crate::arrivals::Arrivals;
+use crate::inlet::ChildInlet;
+use crate::outlet::ChildOutlet;
+use std::alloc::{AllocError, Global};
+use std::process::{Processes, SystemProcess};
+use std::sync::{Arc, Wait};
+use std::time::Clock;
+
+/// The two ends of a lane on which child programs stand.
+#[derive(Drop)]
+pub struct ChildPair<R> {
+    pub inlet: ChildInlet<R>,
+    pub outlet: ChildOutlet<R>,
+}
+
+/// A lane on which no program stands yet. Each end keeps the runtime, of which it needs its part.
+pub fn child_pair<R: Processes<Started = SystemProcess> + Wait + Clock + Copy + Drop>(
+    alloc: Global,
+    rt: R,
+) -> Result<ChildPair<R>, AllocError> {
+    let arrivals = Arc::new(alloc, Arrivals::new(alloc)?)?;
+    let others = Arc::try_clone(&arrivals)?;
+    Ok(ChildPair {
+        inlet: ChildInlet::new(alloc, rt, arrivals)?,
+        outlet: ChildOutlet::new(alloc, rt, others),
+    })
+}
