@@ -1,4 +1,5 @@
 pub mod Faults
 pub mod Gaps
 pub mod Tokens
+pub mod Lines
 pub mod Helpers

@@ -1,4 +1,9 @@
+ghost use Rattle.std.specs.Prelude.{◌≡◌};
+ghost use Rattle.tb_line.specs.Lines.{line_text};
+ghost use Rattle.tb_lex.specs.Lines.{lex_line};
+
 use std::alloc::{AllocError, AllocFailed};
+use tb_line::Line;
 use tb_terms::NoMemory;
 use thiserror::Error;
 
@@ -24,6 +29,22 @@ pub enum LexFault {
     /// There wasn't memory enough; it says nothing of the bytes.
     #[error("no memory")]
     NoMemory,
+}
+
+impl LexFault {
+    /// The words of its line.
+    pub fn line(&self) -> Line<'static>
+        ensures { line_text result ≡ lex_line self.now }
+    {
+        match self {
+            LexFault::BadByte(at) => Line::numbered(b"script: byte ", *at),
+            LexFault::OpenString(at) => Line::numbered(b"script: open string ", *at),
+            LexFault::Real(at) => Line::numbered(b"script: real ", *at),
+            LexFault::IntRange(at) => Line::numbered(b"script: integer ", *at),
+            LexFault::TooMany => Line::plain(b"script: too many tokens"),
+            LexFault::NoMemory => Line::plain(b"no memory"),
+        }
+    }
 }
 
 impl From<NoMemory> for LexFault {

@@ -1,0 +1,10 @@
+use Rattle.std.proofs.lemmas.Result.{on_err_weaker}
+use Rattle.tb_edge.proofs.Puts.{WritesPrefix-append, WritesPrefix-more}
+use Rattle.tb_write.proofs.line.put_both.Goals as goal
+
+pub returns-in-Ok-clause-prefix : goal.returns-in-Ok-clause-prefix
+returns-in-Ok-clause-prefix g c =
+    on_err_weaker c.put-in-Ok.result (WritesPrefix-append (g.E.Sink.taken c.args.err.now) (g.E.Sink.taken c.put.new.self) (g.E.Sink.taken c.put-in-Ok.new.self) c.args.first.now c.args.second.now c.in-Ok.ensures.ok) c.put-in-Ok.ensures.prefix
+
+pub returns-in-Err-clause-prefix : goal.returns-in-Err-clause-prefix
+returns-in-Err-clause-prefix g c = WritesPrefix-more (g.E.Sink.taken c.args.err.now) (g.E.Sink.taken c.put.new.self) c.args.first.now c.args.second.now c.in-Err.ensures.prefix

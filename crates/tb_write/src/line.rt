@@ -1,0 +1,130 @@
+//! A line is put piece by piece. It takes no memory.
+ghost use Rattle.std.specs.Prelude.{◌≡◌, ◌++◌, ◌∷◌, [], ◌≤◌, OnOk, OnErr, decimal};
+ghost use Rattle.std.specs.List.{flat_map, join_with_byte};
+ghost use Rattle.tb_edge.specs.Faults.{Rose};
+ghost use Rattle.tb_edge.specs.Sinks.{Writes, WritesPrefix};
+ghost use Rattle.tb_line.specs.Lines.{line_text, rest_text};
+
+use itoa::Buffer;
+use tb_edge::{Failed, Sink};
+use tb_line::{Line, Rest};
+use tb_terms::Ident;
+
+/// Puts the prefix, the line and a newline.
+pub fn put_line<E: Sink>(prefix: &[u8], line: &Line, err: &mut E) -> Result<(), Failed>
+    ensures ok { OnOk result
+        (Writes (E.taken err.old) (E.taken err.new) (prefix.now ++ line_text line.now ++ 10 ∷ [])) }
+    ensures prefix { OnErr result
+        (WritesPrefix (E.taken err.old) (E.taken err.new) (prefix.now ++ line_text line.now ++ 10 ∷ [])) }
+    ensures rose { OnErr result (Rose (E.faults err.old) (E.faults err.new)) }
+    ensures never_falls { E.faults err.old ≤ E.faults err.new }
+{
+    match put_text(prefix, line, err) {
+        Ok(()) => err.put(b"\n"),
+        Err(Failed) => Err(Failed),
+    }
+}
+
+/// Puts the prefix and the line.
+fn put_text<E: Sink>(prefix: &[u8], line: &Line, err: &mut E) -> Result<(), Failed>
+    ensures ok { OnOk result
+        (Writes (E.taken err.old) (E.taken err.new) (prefix.now ++ line_text line.now)) }
+    ensures prefix { OnErr result
+        (WritesPrefix (E.taken err.old) (E.taken err.new) (prefix.now ++ line_text line.now)) }
+    ensures rose { OnErr result (Rose (E.faults err.old) (E.faults err.new)) }
+    ensures never_falls { E.faults err.old ≤ E.faults err.new }
+{
+    match err.put(prefix) {
+        Ok(()) => put_words(line, err),
+        Err(Failed) => Err(Failed),
+    }
+}
+
+fn put_words<E: Sink>(line: &Line, err: &mut E) -> Result<(), Failed>
+    ensures ok { OnOk result (Writes (E.taken err.old) (E.taken err.new) (line_text line.now)) }
+    ensures prefix { OnErr result
+        (WritesPrefix (E.taken err.old) (E.taken err.new) (line_text line.now)) }
+    ensures rose { OnErr result (Rose (E.faults err.old) (E.faults err.new)) }
+    ensures never_falls { E.faults err.old ≤ E.faults err.new }
+{
+    match err.put(line.words) {
+        Ok(()) => put_rest(&line.rest, err),
+        Err(Failed) => Err(Failed),
+    }
+}
+
+/// Puts what stands behind the words.
+fn put_rest<E: Sink>(rest: &Rest, err: &mut E) -> Result<(), Failed>
+    ensures ok { OnOk result (Writes (E.taken err.old) (E.taken err.new) (rest_text rest.now)) }
+    ensures prefix { OnErr result
+        (WritesPrefix (E.taken err.old) (E.taken err.new) (rest_text rest.now)) }
+    ensures rose { OnErr result (Rose (E.faults err.old) (E.faults err.new)) }
+    ensures never_falls { E.faults err.old ≤ E.faults err.new }
+{
+    match *rest {
+        Rest::Nothing => err.put(b""),
+        Rest::Number(number) => put_number(number, err),
+        Rest::Names(names) => put_names(names, err),
+    }
+}
+
+fn put_number<E: Sink>(number: usize, err: &mut E) -> Result<(), Failed>
+    ensures ok { OnOk result (Writes (E.taken err.old) (E.taken err.new) (decimal number)) }
+    ensures prefix { OnErr result (WritesPrefix (E.taken err.old) (E.taken err.new) (decimal number)) }
+    ensures rose { OnErr result (Rose (E.faults err.old) (E.faults err.new)) }
+    ensures never_falls { E.faults err.old ≤ E.faults err.new }
+{
+    let mut buffer = Buffer::new();
+    err.put(buffer.format(number).as_bytes())
+}
+
+/// Puts names with a comma between each two.
+fn put_names<E: Sink>(names: &[Ident], err: &mut E) -> Result<(), Failed>
+    ensures ok { OnOk result
+        (Writes (E.taken err.old) (E.taken err.new) (join_with_byte 44 names.now)) }
+    ensures prefix { OnErr result
+        (WritesPrefix (E.taken err.old) (E.taken err.new) (join_with_byte 44 names.now)) }
+    ensures rose { OnErr result (Rose (E.faults err.old) (E.faults err.new)) }
+    ensures never_falls { E.faults err.old ≤ E.faults err.new }
+{
+    let Some((first, others)) = names.split_first() else {
+        return Ok(());
+    };
+    match err.put(first.as_bytes()) {
+        Ok(()) => put_more_names(others, err),
+        Err(Failed) => Err(Failed),
+    }
+}
+
+/// Puts each name behind a comma.
+fn put_more_names<E: Sink>(names: &[Ident], err: &mut E) -> Result<(), Failed>
+    ensures ok { OnOk result
+        (Writes (E.taken err.old) (E.taken err.new) (flat_map (λ name. 44 ∷ name) names.now)) }
+    ensures prefix { OnErr result
+        (WritesPrefix (E.taken err.old) (E.taken err.new) (flat_map (λ name. 44 ∷ name) names.now)) }
+    ensures rose { OnErr result (Rose (E.faults err.old) (E.faults err.new)) }
+    ensures never_falls { E.faults err.old ≤ E.faults err.new }
+{
+    for name in names {
+        match put_both(b",", name.as_bytes(), err) {
+            Ok(()) => {}
+            Err(Failed) => return Err(Failed),
+        }
+    }
+    Ok(())
+}
+
+/// Puts one text after another.
+fn put_both<E: Sink>(first: &[u8], second: &[u8], err: &mut E) -> Result<(), Failed>
+    ensures ok { OnOk result
+        (Writes (E.taken err.old) (E.taken err.new) (first.now ++ second.now)) }
+    ensures prefix { OnErr result
+        (WritesPrefix (E.taken err.old) (E.taken err.new) (first.now ++ second.now)) }
+    ensures rose { OnErr result (Rose (E.faults err.old) (E.faults err.new)) }
+    ensures never_falls { E.faults err.old ≤ E.faults err.new }
+{
+    match err.put(first) {
+        Ok(()) => err.put(second),
+        Err(Failed) => Err(Failed),
+    }
+}

@@ -1,0 +1,164 @@
+//! The text of a log, put piece by piece.
+ghost use Rattle.std.specs.Prelude.{◌≡◌, ◌≤◌, ◌+◌, ◌++◌, [], length, OnOk, OnErr, IsErrOf, IsOkUnless};
+ghost use Rattle.tb_edge.specs.Faults.{Rose};
+ghost use Rattle.tb_edge.specs.Sinks.{Writes, WritesPrefix, Owes};
+ghost use Rattle.tb_log.specs.LogText.{log_text, log_text_from, entry_text};
+
+use std::alloc::Global;
+use std::marker::Model;
+use tb_edge::{Failed, Sink};
+use tb_log::{Entry, write_entry};
+use tb_terms::NoMemory;
+
+/// The buffer is handed to the sink as soon as it has so many bytes.
+const PIECE_BYTES: usize = 32_768;
+
+/// Why a log was not put whole.
+#[derive(Clone, Copy, Debug, PartialEq, Eq)]
+pub enum LogFault {
+    /// The sink failed.
+    Out,
+    /// Memory ran out, or there are 2^64 entries.
+    NoMemory,
+}
+
+/// Writes the entries of a log in order, numbered from 1. It keeps lines back until there are many,
+/// or until it is flushed. After a fault it is done with: nothing is told of what it then keeps.
+#[derive(Drop)]
+pub struct LogWriter {
+    buffer: Vec<u8>,
+    written: u64,
+}
+
+impl Model for LogWriter {
+    ghost use Rattle.tb_write.specs.Writers.{WriterView};
+
+    ghost Value = { WriterView };
+
+    ghost view = { λ writer. record { written = writer.written; held = writer.buffer.items } };
+}
+
+impl LogWriter {
+    /// A writer that has been given nothing.
+    pub fn new(alloc: Global) -> LogWriter
+        ensures { result ≡ record { written = 0; held = [] } }
+    {
+        LogWriter {
+            buffer: Vec::new(alloc),
+            written: 0,
+        }
+    }
+
+    /// Takes the next entries.
+    pub fn put<O: Sink>(&mut self, entries: &[Entry], out: &mut O) -> Result<(), LogFault>
+        ensures ok { OnOk result (Owes (O.taken out.old) (O.taken out.new)
+            (self.old.held ++ log_text_from (self.old.written + 1) entries.now) self.new.held) }
+        ensures counted { OnOk result (self.new.written ≡ self.old.written + length entries.now) }
+        ensures prefix { OnErr result (WritesPrefix (O.taken out.old) (O.taken out.new)
+            (self.old.held ++ log_text_from (self.old.written + 1) entries.now)) }
+        ensures rose { IsErrOf result LogFault.Out → Rose (O.faults out.old) (O.faults out.new) }
+        ensures never_falls { O.faults out.old ≤ O.faults out.new }
+    {
+        for entry in entries {
+            match self.put_entry(entry, out) {
+                Ok(()) => {}
+                Err(fault) => return Err(fault),
+            }
+        }
+        Ok(())
+    }
+
+    /// Hands over what was kept back.
+    pub fn flush<O: Sink>(&mut self, out: &mut O) -> Result<(), LogFault>
+        ensures ok { OnOk result (Writes (O.taken out.old) (O.taken out.new) self.old.held) }
+        ensures emptied { OnOk result (self.new ≡ record self.old { held = [] }) }
+        ensures prefix { OnErr result (WritesPrefix (O.taken out.old) (O.taken out.new) self.old.held) }
+        ensures rose { OnErr result (Rose (O.faults out.old) (O.faults out.new)) }
+        ensures out_alone { IsOkUnless result LogFault.Out }
+        ensures never_falls { O.faults out.old ≤ O.faults out.new }
+    {
+        match out.put(self.buffer.as_slice()) {
+            Ok(()) => {
+                self.buffer.clear();
+                Ok(())
+            }
+            Err(Failed) => Err(LogFault::Out),
+        }
+    }
+
+    /// Takes the next entries, and hands over everything.
+    pub fn put_and_flush<O: Sink>(&mut self, entries: &[Entry], out: &mut O) -> Result<(), LogFault>
+        ensures ok { OnOk result (Writes (O.taken out.old) (O.taken out.new)
+            (self.old.held ++ log_text_from (self.old.written + 1) entries.now)) }
+        ensures counted { OnOk result
+            (self.new ≡ record { written = self.old.written + length entries.now; held = [] }) }
+        ensures prefix { OnErr result (WritesPrefix (O.taken out.old) (O.taken out.new)
+            (self.old.held ++ log_text_from (self.old.written + 1) entries.now)) }
+        ensures rose { IsErrOf result LogFault.Out → Rose (O.faults out.old) (O.faults out.new) }
+        ensures never_falls { O.faults out.old ≤ O.faults out.new }
+    {
+        match self.put(entries, out) {
+            Ok(()) => self.flush(out),
+            Err(fault) => Err(fault),
+        }
+    }
+
+    fn put_entry<O: Sink>(&mut self, entry: &Entry, out: &mut O) -> Result<(), LogFault>
+        ensures ok { OnOk result (Owes (O.taken out.old) (O.taken out.new)
+            (self.old.held ++ entry_text (self.old.written + 1) entry.now) self.new.held) }
+        ensures counted { OnOk result (self.new.written ≡ self.old.written + 1) }
+        ensures prefix { OnErr result (WritesPrefix (O.taken out.old) (O.taken out.new)
+            (self.old.held ++ entry_text (self.old.written + 1) entry.now)) }
+        ensures rose { IsErrOf result LogFault.Out → Rose (O.faults out.old) (O.faults out.new) }
+        ensures never_falls { O.faults out.old ≤ O.faults out.new }
+    {
+        match self.add_line(entry) {
+            Ok(()) => self.flush_full(out),
+            Err(NoMemory) => Err(LogFault::NoMemory),
+        }
+    }
+
+    /// The line of the entry is added to the buffer.
+    fn add_line(&mut self, entry: &Entry) -> Result<(), NoMemory>
+        ensures { OnOk result (self.new ≡ record {
+          written = self.old.written + 1;
+          held = self.old.held ++ entry_text (self.old.written + 1) entry.now;
+        }) }
+    {
+        let Some(number) = self.written.checked_add(1) else {
+            return Err(NoMemory);
+        };
+        match write_entry(number, entry, &mut self.buffer) {
+            Ok(()) => {
+                self.written = number;
+                Ok(())
+            }
+            Err(NoMemory) => Err(NoMemory),
+        }
+    }
+
+    /// Hands the buffer over where it is full.
+    fn flush_full<O: Sink>(&mut self, out: &mut O) -> Result<(), LogFault>
+        ensures ok { OnOk result (Owes (O.taken out.old) (O.taken out.new) self.old.held self.new.held) }
+        ensures counted { OnOk result (self.new.written ≡ self.old.written) }
+        ensures prefix { OnErr result (WritesPrefix (O.taken out.old) (O.taken out.new) self.old.held) }
+        ensures rose { OnErr result (Rose (O.faults out.old) (O.faults out.new)) }
+        ensures never_falls { O.faults out.old ≤ O.faults out.new }
+    {
+        if self.buffer.len() < PIECE_BYTES {
+            return Ok(());
+        }
+        self.flush(out)
+    }
+}
+
+/// Puts the text of a log.
+pub fn put_log<O: Sink>(alloc: Global, log: &[Entry], out: &mut O) -> Result<(), LogFault>
+    ensures ok { OnOk result (Writes (O.taken out.old) (O.taken out.new) (log_text log.now)) }
+    ensures prefix { OnErr result (WritesPrefix (O.taken out.old) (O.taken out.new) (log_text log.now)) }
+    ensures rose { IsErrOf result LogFault.Out → Rose (O.faults out.old) (O.faults out.new) }
+    ensures never_falls { O.faults out.old ≤ O.faults out.new }
+{
+    let mut writer = LogWriter::new(alloc);
+    writer.put_and_flush(log, out)
+}
