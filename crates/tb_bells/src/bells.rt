@@ -12,7 +12,7 @@ pub enum Sleeper {
     Log,
 }
 
-/// A bell for each who sleeps while a bus has nothing for it: a ring for one wakes no other.
+/// A bell for each who sleeps while a bus has nothing for it: a ring for one isn't counted for another.
 #[derive(Drop)]
 pub struct Bells {
     stepper: Bell,
