@@ -16,3 +16,4 @@ pub mod OfferViewLemmas
 pub mod TermLemmas
 pub mod WalkerLemmas
 pub mod TickLemmas
+pub mod SendLemmas

@@ -3,12 +3,14 @@
 
 mod entry;
 mod log;
+mod pieces;
 mod proper;
 mod shape;
 mod text;
 
 pub use entry::{Entries, Entry, Input, Label, LabelKind, Out, Place, Reply, ToolLine, Why};
 pub use log::{Log, input_size, out_size, total_size};
+pub use pieces::piece;
 pub use proper::{show_proper_entry, show_proper_log};
 pub use shape::{LANES, MOST_TOOL_NAME, is_in_shape, is_out_in_shape, is_tool_line_in_shape};
 pub use text::{kind_word, why_word, write_entry};

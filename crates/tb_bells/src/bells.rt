@@ -1,0 +1,87 @@
+use crate::bell::Bell;
+use std::sync::Wait;
+
+/// Who sleeps on one of the bells of a bus.
+#[derive(Clone, Copy, Debug, PartialEq, Eq)]
+pub enum Sleeper {
+    /// The one that makes steps.
+    Stepper,
+    /// The one that takes what goes to the tool of a lane, from 1 to 16. A lane that lies further by 16 has the same bell.
+    Writer(u8),
+    /// The one that writes the log.
+    Log,
+}
+
+/// A bell for each who sleeps while a bus has nothing for it: a ring for one isn't counted for another.
+#[derive(Drop)]
+pub struct Bells {
+    stepper: Bell,
+    writers: [Bell; 16],
+    log: Bell,
+}
+
+impl Bells {
+    /// Bells that weren't rung yet: the count of each is 0.
+    pub fn new() -> Bells {
+        Bells {
+            stepper: Bell::new(),
+            writers: sixteen(),
+            log: Bell::new(),
+        }
+    }
+
+    /// Counts one ring more for this sleeper, and wakes it. Where it doesn't sleep, no call of the system is made.
+    pub fn ring(&self, sleeper: Sleeper) {
+        self.of(sleeper).ring();
+    }
+
+    /// Counts one ring more for each, and wakes all.
+    pub fn ring_all(&self) {
+        self.stepper.ring();
+        for writer in &self.writers {
+            writer.ring();
+        }
+        self.log.ring();
+    }
+
+    /// Sleeps while this sleeper's count is `seen`, and gives the count as it is then. It is meant to begin with 0, and to
+    /// be handed the last answer from then on: so a ring that came since that answer isn't slept past.
+    pub fn wait_past<R: Wait>(&self, rt: &R, sleeper: Sleeper, seen: u64) -> u64 {
+        self.of(sleeper).wait_past(rt, seen)
+    }
+
+    fn of(&self, sleeper: Sleeper) -> &Bell {
+        match sleeper {
+            Sleeper::Stepper => &self.stepper,
+            Sleeper::Writer(lane) => &self.writers[lane.wrapping_sub(1) as usize % 16],
+            Sleeper::Log => &self.log,
+        }
+    }
+}
+
+fn sixteen() -> [Bell; 16] {
+    [
+        Bell::new(),
+        Bell::new(),
+        Bell::new(),
+        Bell::new(),
+        Bell::new(),
+        Bell::new(),
+        Bell::new(),
+        Bell::new(),
+        Bell::new(),
+        Bell::new(),
+        Bell::new(),
+        Bell::new(),
+        Bell::new(),
+        Bell::new(),
+        Bell::new(),
+        Bell::new(),
+    ]
+}
+
+impl Default for Bells {
+    fn default() -> Bells {
+        Bells::new()
+    }
+}
