@@ -1,5 +1,5 @@
 -- What waits on a bus stays in shape, and each entry is in shape.
-use Rattle.std.proofs.Common.{◌≡◌, ℕ, ◌+◌, ◌==◌, Bool, true, false, ◌&&◌, List, [], ◌∷◌, map, length, slice_get, slice_index_or, Option, Some, None, if◌then◌else◌, refl, ap, sym, subst}
+use Rattle.std.proofs.Common.{◌≡◌, ℕ, ◌+◌, ◌==◌, ◌≤◌, Bool, true, false, ◌&&◌, List, [], ◌∷◌, map, length, slice_get, slice_index_or, Option, Some, None, if◌then◌else◌, refl, ap, sym, subst, arith}
 use Rattle.std.specs.List.{All, list_all}
 use Rattle.std.proofs.lemmas.Bool.{and_parts, le-leb}
 use Rattle.std.proofs.lemmas.List.Elements.{All-nil, All-cons, All-head, All-tail, All-append, All-push, All-map, All-weaker, All-contains}
@@ -26,6 +26,8 @@ use Rattle.tb_log.specs.declared.entry.Reply.TheVariants.{Dropped}
 use Rattle.tb_log.specs.declared.entry.Why.TheVariants.{Down}
 use Rattle.tb_log.specs.declared.entry.Entry.{Entry}
 use Rattle.tb_log.specs.declared.entry.Entry.TheVariants.{Did, Quiet, Fed, Gave}
+use Rattle.tb_log.specs.declared.entry.Label.{Label}
+use Rattle.tb_log.specs.Limits.{terms_size}
 use Rattle.tb_log.specs.Shapes.{IsLabelInShape, IsInputInShape, InShape}
 use Rattle.tb_bus.specs.declared.origin.Origin.{Origin}
 use Rattle.tb_bus.specs.declared.action.Action.{Action}
@@ -130,6 +132,7 @@ acting-in bus proc offered does h ready =
 -- what is seen of a move, and the bus after it
 record IsMoved (bus : Bus) (move : Move) : Type 0 where
   label : IsLabelInShape (label_of move)
+  size : terms_size (label_of move).terms ≤ 131072
   next : IsBusInShape (apply bus move)
 
 own-moved : (bus : Bus) (proc : Proc) (offered : Offered) (effect : Effect) (does : Action) → IsBusInShape bus → IsReadyFor bus proc offered does → effect_of bus proc does ≡ Some effect → IsMoved bus (Own proc offered effect)
@@ -139,6 +142,7 @@ own-moved bus proc offered effect does h ready e =
     let new = changed-in effect.change proc.number bus is.change h in
     record {
       label = record { places = is.places (place_of proc offered); count = is.count; terms = is.terms };
+      size = is.size;
       next = record { procs = advance-in proc.number offered effect.binds (changed effect.change proc.number bus).procs acting.store is.binds new.procs; bench = new.bench };
     }
 
@@ -149,9 +153,10 @@ handshake-moved bus sender sent receiver received terms binds patterns h ready i
     let taking = acting-in bus receiver received (action.Receive patterns) h its in
     let note : IsNote terms = acting.what in
     record {
-      label = record { places = tt; count = le-leb 1 (length terms) note.0; terms = note.1 };
+      label = record { places = tt; count = le-leb 1 (length terms) note.0; terms = note.1.each };
+      size = let size = note.1.together in omega arith;
       next = record {
-        procs = advance-in receiver.number received binds (advance sender.number sent [] bus.procs) taking.store (match-shallow patterns terms binds (all-levels terms note.1) e)
+        procs = advance-in receiver.number received binds (advance sender.number sent [] bus.procs) taking.store (match-shallow patterns terms binds (all-levels terms note.1.each) e)
             (advance-in sender.number sent [] bus.procs acting.store (All-nil (λ (bind : Bind). IsShallow bind.value)) h.procs);
         bench = h.bench;
       };
@@ -162,10 +167,12 @@ moved-in bus (Own proc offered effect) h is = own-moved bus proc offered effect 
 moved-in bus (Handshake sender sent receiver received terms binds) h is = handshake-moved bus sender sent receiver received terms binds is.1.0 h is.0 is.1.1 is.1.2
 moved-in bus Finish h is = record {
   label = record { places = (refl, refl); count = refl; terms = All-nil IsWithinLimits };
+  size = omega arith;
   next = went_down-in finish_reason bus finish-within h;
 }
 moved-in bus Halt h is = record {
   label = record { places = (refl, refl); count = refl; terms = All-nil IsWithinLimits };
+  size = omega arith;
   next = went_down-in halt_reason bus halt-within h;
 }
 
@@ -201,6 +208,14 @@ legal-in_shape bus next (Gave lane out) h legal = record {
   shape = (legal.0, next_out-in lane bus.bench out h.bench legal.1);
   waits = subst IsBusInShape (sym legal.2) (record { procs = h.procs; bench = handed_out-in lane bus.bench h.bench });
 }
+
+-- what is seen of a step is no larger than two terms may be
+pub label-size : (bus next : Bus) (label : Label) → IsBusInShape bus → IsLegal bus (Did label) next → terms_size label.terms ≤ 131072
+label-size bus next label h legal =
+    let step : Step = record { label = label; bus = next } in
+    let made = step-made bus step legal in
+    let it = moved-in bus made.0 h made.1 in
+    subst (λ (l : Label). terms_size l.terms ≤ 131072) (sym (ap (λ (s : Step). s.label) made.2)) it.size
 
 -- the opening bus
 

@@ -1,9 +1,7 @@
 -- What an input that is dropped leaves, and which steps take a bus down.
-use Rattle.std.proofs.Common.{◌≡◌, ℕ, List, [], refl, ap, sym, ◌∙◌, subst, Option, Some, None, Bool, true, false, is_some, if◌then◌else◌, length, option_map}
-use Rattle.std.specs.Bool.{⊤}
+use Rattle.std.proofs.Common.{◌≡◌, ℕ, [], refl, ap, sym, ◌∙◌, subst, Option, Some, None, Bool, true, false, is_some, if◌then◌else◌, length, option_map}
 use Rattle.std.specs.List.{list_all}
 use Rattle.tb_notes.specs.Inboxes.{oldest_match}
-use Rattle.tb_log.specs.declared.entry.LabelKind.{LabelKind}
 use Rattle.tb_log.specs.declared.entry.LabelKind.TheVariants as kind
 use Rattle.tb_log.specs.declared.entry.Label.{Label}
 use Rattle.tb_log.specs.declared.entry.Input.{Input}
@@ -14,14 +12,13 @@ use Rattle.tb_log.specs.declared.entry.Why.TheVariants as why
 use Rattle.tb_log.specs.declared.entry.ToolLine.{ToolLine}
 use Rattle.tb_log.specs.declared.entry.Entry.{Entry}
 use Rattle.tb_log.specs.declared.entry.Entry.TheVariants.{Did, Quiet, Fed, Gave}
-use Rattle.tb_tools.specs.Lanes.{Lane, BenchState, lane_at, on_lane}
+use Rattle.tb_tools.specs.Lanes.{Lane, lane_at, on_lane}
 use Rattle.tb_tools.specs.Inputs.{line_by, dropped, lost, closed}
-use Rattle.tb_tools.specs.Inputs as lanes
 use Rattle.tb_bus.specs.Buses.{Bus, Proc}
 use Rattle.tb_bus.specs.Exchanges.{exchange_for}
 use Rattle.tb_bus.specs.Effects.{Effect, Nothing, PutsNote, changed, creation, may_create, taking, takes_note, own_effect, effect_of, speaking, setting_of}
-use Rattle.tb_bus.specs.Steps.{Move, Own, Handshake, Finish, Halt, Step, steps, step_of, apply, label_of}
-use Rattle.tb_bus.specs.Traces.{Answer, IsLegal, after, fed, took, on_bench, declares}
+use Rattle.tb_bus.specs.Steps.{Move, Own, Handshake, Finish, Halt, Step, step_of, apply, label_of}
+use Rattle.tb_bus.specs.Traces.{Answer, IsLegal, fed, took, on_bench, declares}
 use Rattle.tb_bus.specs.Ends.{TakesDown}
 use Rattle.tb_bus.specs.declared.action.Action.{Action}
 use Rattle.tb_bus.specs.declared.action.Action.TheVariants as action

@@ -20,6 +20,7 @@ use Rattle.tb_notes.specs.declared.queue.Found.{Found}
 use Rattle.tb_notes.proofs.Finding.{oldest-first}
 use Rattle.tb_log.specs.declared.entry.Place.{Place}
 use Rattle.tb_log.specs.declared.entry.LabelKind.TheVariants as kind
+use Rattle.tb_log.specs.Limits.{terms_size}
 use Rattle.tb_log.specs.Shapes.{HasPlaces, has_terms, AreParts}
 use Rattle.tb_tools.specs.Lanes.{BenchState, term_of}
 use Rattle.tb_tools.specs.Acts.{event_at, events_at, asked, told, terminated}
@@ -37,7 +38,7 @@ use Rattle.tb_bus.specs.Steps.{nowhere, finish_reason, halt_reason}
 use Rattle.tb_bus.specs.Waiting.{IsShallow, IsNote, IsEvent, IsBenchInShape, IsProcInShape, IsBusInShape}
 use Rattle.tb_bus.proofs.ExchangeLemmas.{IsTaking, ExchangeIs, next_term, exchange-is}
 use Rattle.tb_bus.proofs.LevelLemmas.{AreShallowBinds, match-shallow}
-use Rattle.tb_bus.proofs.SentLemmas.{IsOwnInShape, IsSpeakInShape, IsActionInShape, size-cons}
+use Rattle.tb_bus.proofs.SentLemmas.{IsOwnInShape, IsSpeakInShape, IsActionInShape, size-cons, size-append}
 use Rattle.tb_bus.proofs.LaneShapes.{all-there, executed-in, connected-in, left-in, asked-in, value_taken-in, told-in, event_taken-in, acknowledged-in, terminated-in, answer-in, event_at-in}
 use Rattle.tb_bus.proofs.OrderLemmas.{All-one}
 
@@ -83,6 +84,7 @@ pub record IsEffectInShape (effect : Effect) : Type 0 where
   pub places : (from : Place) → HasPlaces effect.kind from nowhere
   pub count : has_terms effect.kind (length effect.shown) ≡ true
   pub terms : All IsWithinLimits effect.shown
+  pub size : terms_size effect.shown ≤ 131072
   pub binds : AreShallowBinds effect.binds
   pub change : IsChangeInShape effect.change
 
@@ -106,24 +108,46 @@ if-not-in : (b : Bool) (effect : Effect) → IsEffectInShape effect → GivesInS
 if-not-in true effect h = tt
 if-not-in false effect h = h
 
+-- how large what is seen is
+
+none-size : terms_size [] ≤ 131072
+none-size = omega arith
+
+one-size : (term : Term) → IsWithinLimits term → terms_size (term ∷ []) ≤ 131072
+one-size term h = let e = size-cons term [] in let size = h.size in omega arith
+
+parts-size : (terms : List Term) → AreParts terms → terms_size terms ≤ 131072
+parts-size terms h = let size = h.together in omega arith
+
+behind-size : (terms came : List Term) → AreParts terms → terms_size came ≤ 65536 → terms_size (terms ++ came) ≤ 131072
+behind-size terms came h l =
+    let size = h.together in
+    let both : terms_size (terms ++ came) ≡ terms_size terms + terms_size came = size-append terms came in
+    omega arith
+
 -- so many terms
 count-is : (terms : List Term) (many : ℕ) → length terms ≡ many → (length terms == many) ≡ true
 count-is terms many e = grind (arith, nat_tests)
 
+values-size : (values : List Term) → length values ≡ 1 → All IsWithinLimits values → terms_size values ≤ 131072
+values-size [] e h = none-size
+values-size (value ∷ []) e h = one-size value (All-head IsWithinLimits value [] h)
+values-size (value ∷ other ∷ values) e h = absurd (omega arith)
+
 own-in : (bus : Bus) (proc : Proc) (does : OwnAction) → IsOwnInShape does → GivesInShape (own_effect bus proc does)
-own-in bus proc own.Tau h = record { places = λ from. refl; count = refl; terms = no-terms; binds = no-binds; change = tt }
-own-in bus proc (own.Set values binds) h = record { places = λ from. refl; count = count-is values 1 h.0; terms = h.1; binds = h.2; change = tt }
-own-in bus proc (own.Print text) h = record { places = λ from. refl; count = refl; terms = All-one IsWithinLimits text h; binds = no-binds; change = tt }
+own-in bus proc own.Tau h = record { places = λ from. refl; count = refl; terms = no-terms; size = none-size; binds = no-binds; change = tt }
+own-in bus proc (own.Set values binds) h = record { places = λ from. refl; count = count-is values 1 h.0; terms = h.1; size = values-size values h.0 h.1; binds = h.2; change = tt }
+own-in bus proc (own.Print text) h = record { places = λ from. refl; count = refl; terms = All-one IsWithinLimits text h; size = one-size text h; binds = no-binds; change = tt }
 own-in bus proc (own.NoNote patterns) h =
     if-not-in (is_some (oldest_match patterns proc.inbox)) (record { kind = kind.NoNote; shown = []; binds = []; change = Nothing })
-    (record { places = λ from. refl; count = refl; terms = no-terms; binds = no-binds; change = tt })
-own-in bus proc (own.Subscribe patterns) h = record { places = λ from. refl; count = refl; terms = no-terms; binds = no-binds; change = tt }
-own-in bus proc (own.Unsubscribe patterns) h = record { places = λ from. refl; count = refl; terms = no-terms; binds = no-binds; change = tt }
+    (record { places = λ from. refl; count = refl; terms = no-terms; size = none-size; binds = no-binds; change = tt })
+own-in bus proc (own.Subscribe patterns) h = record { places = λ from. refl; count = refl; terms = no-terms; size = none-size; binds = no-binds; change = tt }
+own-in bus proc (own.Unsubscribe patterns) h = record { places = λ from. refl; count = refl; terms = no-terms; size = none-size; binds = no-binds; change = tt }
 own-in bus proc (own.Create process actuals slot) h =
     let number = number-within bus.next_number in
     if-in (may_create bus.program.bodies (length bus.procs) bus.next_number proc.body process actuals slot) (creation bus.next_number process actuals slot)
-    (record { places = λ from. refl; count = refl; terms = All-one IsWithinLimits (number_term bus.next_number) number; binds = one-bind slot (number_term bus.next_number) number.levels; change = h })
-own-in bus proc (own.Shutdown reason) h = record { places = λ from. refl; count = refl; terms = All-one IsWithinLimits reason h; binds = no-binds; change = h }
+    (record { places = λ from. refl; count = refl; terms = All-one IsWithinLimits (number_term bus.next_number) number; size = one-size (number_term bus.next_number) number; binds = one-bind slot (number_term bus.next_number) number.levels; change = h })
+own-in bus proc (own.Shutdown reason) h = record { places = λ from. refl; count = refl; terms = All-one IsWithinLimits reason h; size = one-size reason h; binds = no-binds; change = h }
 
 -- a note that was found in a queue
 
@@ -135,8 +159,9 @@ note-by patterns held found (Some note) there matches h =
     record {
       places = λ from. refl;
       count = subst (λ (ts : List Term). nat_le 1 (length ts) ≡ true) (sym same) (le-leb 1 (length note) is.0);
-      terms = subst (All IsWithinLimits) (sym same) is.1;
-      binds = match-shallow patterns note found.binds (all-levels note is.1) matches;
+      terms = subst (All IsWithinLimits) (sym same) is.1.each;
+      size = subst (λ (ts : List Term). terms_size ts ≤ 131072) (sym same) (parts-size note is.1);
+      binds = match-shallow patterns note found.binds (all-levels note is.1.each) matches;
       change = tt;
     }
 
@@ -164,30 +189,33 @@ taking-in setting does exchange slot term is places count seen bench =
       places = places;
       count = subst (λ (ts : List Term). has_terms (kind_of does) (length ts) ≡ true) (sym shown) count;
       terms = subst (All IsWithinLimits) (sym shown) (All-one IsWithinLimits term within);
+      size = subst (λ (ts : List Term). terms_size ts ≤ 131072) (sym shown) (one-size term within);
       binds = subst AreShallowBinds (sym is.binds) (one-bind slot term within.levels);
       change = bench;
     }
 
 -- nothing is bound, and its own terms are seen
 plain-in : (setting : Setting) (does : ToolAction) (exchange : Exchange) (terms : List Term) → exchange.binds ≡ [] → ((from : Place) → HasPlaces (kind_of does) from nowhere) → has_terms (kind_of does) (length terms) ≡ true →
-    All IsWithinLimits terms → terms_seen setting does exchange ≡ terms → IsBenchInShape (bench_after setting does exchange) → IsEffectInShape (speaking setting does exchange)
+    AreParts terms → terms_seen setting does exchange ≡ terms → IsBenchInShape (bench_after setting does exchange) → IsEffectInShape (speaking setting does exchange)
 plain-in setting does exchange terms binds places count within seen bench = record {
   places = places;
   count = subst (λ (ts : List Term). has_terms (kind_of does) (length ts) ≡ true) (sym seen) count;
-  terms = subst (All IsWithinLimits) (sym seen) within;
+  terms = subst (All IsWithinLimits) (sym seen) within.each;
+  size = subst (λ (ts : List Term). terms_size ts ≤ 131072) (sym seen) (parts-size terms within);
   binds = subst AreShallowBinds (sym binds) no-binds;
   change = bench;
 }
 
 -- what came from a tool is seen behind its own term
-from-in : (setting : Setting) (does : ToolAction) (exchange : Exchange) (terms came : List Term) (patterns : List Pattern) → All IsWithinLimits terms → All IsWithinLimits came → match_list patterns came ≡ Some exchange.binds →
+from-in : (setting : Setting) (does : ToolAction) (exchange : Exchange) (terms came : List Term) (patterns : List Pattern) → AreParts terms → AreParts came → match_list patterns came ≡ Some exchange.binds →
     ((from : Place) → HasPlaces (kind_of does) from nowhere) → has_terms (kind_of does) (length (terms ++ came)) ≡ true → terms_seen setting does exchange ≡ terms ++ came → IsBenchInShape (bench_after setting does exchange) →
     IsEffectInShape (speaking setting does exchange)
 from-in setting does exchange terms came patterns within parts matches places count seen bench = record {
   places = places;
   count = subst (λ (ts : List Term). has_terms (kind_of does) (length ts) ≡ true) (sym seen) count;
-  terms = subst (All IsWithinLimits) (sym seen) (All-append IsWithinLimits terms came within parts);
-  binds = match-shallow patterns came exchange.binds (all-levels came parts) matches;
+  terms = subst (All IsWithinLimits) (sym seen) (All-append IsWithinLimits terms came within.each parts.each);
+  size = subst (λ (ts : List Term). terms_size ts ≤ 131072) (sym seen) (behind-size terms came within parts.together);
+  binds = match-shallow patterns came exchange.binds (all-levels came parts.each) matches;
   change = bench;
 }
 
@@ -203,29 +231,29 @@ exchange-in setting (tool_action.Connect tool slot) exchange h sent is =
 exchange-in setting (tool_action.DisconnectAny tool slot) exchange h sent is =
     taking-in setting (tool_action.DisconnectAny tool slot) exchange slot (term_of is.tool) is.taking (λ from. refl) refl refl (left-in exchange.lane setting.bench h)
 exchange-in setting (tool_action.Disconnect terms) exchange h sent is =
-    plain-in setting (tool_action.Disconnect terms) exchange terms is.binds (λ from. refl) (count-is terms 1 sent.many) sent.parts.each refl (left-in exchange.lane setting.bench h)
+    plain-in setting (tool_action.Disconnect terms) exchange terms is.binds (λ from. refl) (count-is terms 1 sent.many) sent.parts refl (left-in exchange.lane setting.bench h)
 exchange-in setting (tool_action.Eval terms) exchange h sent is =
-    plain-in setting (tool_action.Eval terms) exchange terms is.binds (λ from. refl) (count-is terms 2 sent.many) sent.parts.each refl
+    plain-in setting (tool_action.Eval terms) exchange terms is.binds (λ from. refl) (count-is terms 2 sent.many) sent.parts refl
     (told-in_shape asked terms exchange.lane setting.bench (λ term k. asked-in term exchange.lane setting.bench k h) sent.parts.each h)
 exchange-in setting (tool_action.TakeValue terms patterns) exchange h sent is =
     let came : terms_seen setting (tool_action.TakeValue terms patterns) exchange ≡ terms ++ is.value ∷ [] = ap (λ (o : Option Term). terms ++ option_to_list o) is.there in
     let two : length (terms ++ is.value ∷ []) ≡ 2 = length_push terms is.value ∙ ap (λ n. n + 1) sent.many in
-    from-in setting (tool_action.TakeValue terms patterns) exchange terms (is.value ∷ []) patterns sent.parts.each (All-one IsWithinLimits is.value (answer-in exchange.lane setting.bench is.value h is.there)) is.matches
+    from-in setting (tool_action.TakeValue terms patterns) exchange terms (is.value ∷ []) patterns sent.parts (one-part is.value (answer-in exchange.lane setting.bench is.value h is.there)) is.matches
     (λ from. refl) (count-is (terms ++ is.value ∷ []) 2 two) came (value_taken-in exchange.lane setting.bench h)
 exchange-in setting (tool_action.Do terms) exchange h sent is =
-    plain-in setting (tool_action.Do terms) exchange terms is.binds (λ from. refl) (count-is terms 2 sent.many) sent.parts.each refl
+    plain-in setting (tool_action.Do terms) exchange terms is.binds (λ from. refl) (count-is terms 2 sent.many) sent.parts refl
     (told-in_shape told terms exchange.lane setting.bench (λ term k. told-in term exchange.lane setting.bench k h) sent.parts.each h)
 exchange-in setting (tool_action.TakeEvent terms patterns) exchange h sent is =
     let event = event_at-in exchange.event exchange.lane setting.bench is.terms h is.there in
     let same : event_at exchange.event (events_at exchange.lane setting.bench) ≡ is.terms = get_or_from_slice_get (events_at exchange.lane setting.bench) exchange.event is.terms [] is.there in
     let came : IsEvent is.terms = subst IsEvent same event in
-    from-in setting (tool_action.TakeEvent terms patterns) exchange terms is.terms patterns sent.parts.each came.1.each is.matches
+    from-in setting (tool_action.TakeEvent terms patterns) exchange terms is.terms patterns sent.parts came.1 is.matches
     (λ from. refl) (more-are terms is.terms sent.many came.0) (ap (λ (ts : List Term). terms ++ ts) same) (event_taken-in exchange.event exchange.lane setting.bench is.terms is.there h)
 exchange-in setting (tool_action.Acknowledge terms) exchange h sent is =
-    plain-in setting (tool_action.Acknowledge terms) exchange terms is.binds (λ from. refl) (le-leb 2 (length terms) sent.0) sent.1.each refl
+    plain-in setting (tool_action.Acknowledge terms) exchange terms is.binds (λ from. refl) (le-leb 2 (length terms) sent.0) sent.1 refl
     (acknowledged-in exchange.event exchange.lane setting.bench (behind terms) is.there h)
 exchange-in setting (tool_action.Terminate terms) exchange h sent is =
-    plain-in setting (tool_action.Terminate terms) exchange terms is.binds (λ from. refl) (count-is terms 2 sent.many) sent.parts.each refl
+    plain-in setting (tool_action.Terminate terms) exchange terms is.binds (λ from. refl) (count-is terms 2 sent.many) sent.parts refl
     (told-in_shape terminated terms exchange.lane setting.bench (λ term k. terminated-in term exchange.lane setting.bench k h) sent.parts.each h)
 
 speak-in : (setting : Setting) (does : ToolAction) (o : Option Exchange) → exchange_for setting does ≡ o → IsBenchInShape setting.bench → IsSpeakInShape does → GivesInShape (option_map (speaking setting does) o)
@@ -238,7 +266,7 @@ effect-gives bus proc (action.Send terms) h k is = tt
 effect-gives bus proc (action.Receive patterns) h k is = tt
 effect-gives bus proc (action.Notify terms) h k is =
     if-in (list_all (λ (other : Proc). takes_note terms other.inbox) bus.procs) (record { kind = kind.SndNote; shown = terms; binds = []; change = PutsNote terms })
-    (record { places = λ from. refl; count = le-leb 1 (length terms) is.0; terms = is.1; binds = no-binds; change = is })
+    (record { places = λ from. refl; count = le-leb 1 (length terms) is.0; terms = is.1.each; size = parts-size terms is.1; binds = no-binds; change = is })
 effect-gives bus proc (action.TakeNote patterns) h k is = take-in patterns proc.inbox (oldest_match patterns proc.inbox) (oldest-first patterns proc.inbox) k.notes
 effect-gives bus proc (action.Speak does) h k is = speak-in (setting_of bus proc) does (exchange_for (setting_of bus proc) does) refl h.bench is
 

@@ -30,7 +30,7 @@ use Rattle.tb_tools.specs.declared.stage.Stage.{Stage}
 use Rattle.tb_tools.specs.declared.stage.Stage.TheVariants.{Waiting, Leaving}
 use Rattle.tb_tools.specs.declared.found.FoundEvent.{FoundEvent}
 use Rattle.tb_tools.specs.Lanes.{Tool, Lane, BenchState, of_tool, is_same_stage, is_stage_at, tool_at, is_free, tool_term, term_of}
-use Rattle.tb_tools.specs.Acts.{answer_at, events_at, received_at, is_live_at, is_taken_at, can_execute, can_connect, can_leave, can_eval, can_take_value, can_do, can_take_event, can_ack, can_terminate, is_closed}
+use Rattle.tb_tools.specs.Acts.{answer_at, events_at, received_at, is_live_at, is_taken_at, can_execute, can_connect, can_leave, can_eval, can_take_value, can_do, can_take_event, can_ack, can_terminate}
 use Rattle.tb_tools.specs.Finding.{first_lane, free_lane, find_tool, has_tool, first_at, oldest_event, oldest_received}
 use Rattle.tb_tools.specs.First.{IsThere, NoLane, IsFirstLane, NoToolAt, HasSmallest, NoneMatches, IsOldest}
 use Rattle.tb_tools.proofs.Lowest.{first_lane-lowest, first_at-smallest}

@@ -1,9 +1,9 @@
 -- How many lanes there are stays, and the lane of what is handed out first is one of them.
-use Rattle.std.proofs.Common.{◌≡◌, ℕ, ◌+◌, ◌-◌, ◌<◌, ◌≤◌, List, [], ◌∷◌, ◌++◌, map, replicate, length, length-append, drop, refl, ap, sym, ◌∙◌, subst, arith, Option, Some, None, MatchOption, Bool, true, false, if◌then◌else◌, option_map, is_some}
+use Rattle.std.proofs.Common.{◌≡◌, ℕ, ◌+◌, ◌-◌, ◌≤◌, List, [], ◌∷◌, ◌++◌, map, replicate, length, length-append, refl, ap, ◌∙◌, subst, arith, Option, Some, None, MatchOption, Bool, true, false, if◌then◌else◌, option_map, is_some}
 use Rattle.std.specs.List.{list_all}
 use Rattle.std.proofs.lemmas.List.{length-map, length-set, length-replicate}
 use Rattle.tb_terms.specs.declared.term.Term.{Term}
-use Rattle.tb_notes.specs.Inboxes.{Held, oldest_match}
+use Rattle.tb_notes.specs.Inboxes.{oldest_match}
 use Rattle.tb_log.specs.Shapes.{lane_count, IsLane}
 use Rattle.tb_log.specs.declared.entry.ToolLine.{ToolLine}
 use Rattle.tb_log.specs.declared.entry.ToolLine.TheVariants as tool_line
@@ -26,9 +26,9 @@ use Rattle.tb_bus.specs.declared.origin.Origin.{Origin}
 use Rattle.tb_bus.specs.Reached.{Reaches}
 use Rattle.tb_bus.specs.Buses.{Bus, Proc, start}
 use Rattle.tb_bus.specs.Exchanges.{Setting, exchange_for, bench_after, with_told, behind}
-use Rattle.tb_bus.specs.Effects.{Change, Nothing, PutsNote, TakesNote, Subscribes, Unsubscribes, Creates, SetsBench, GoesDown, Effect, changed, effect_of, own_effect, speaking, setting_of, creation, may_create, taking, takes_note}
-use Rattle.tb_bus.specs.Steps.{Move, Own, Handshake, Finish, Halt, Step, steps, step_of, apply}
-use Rattle.tb_bus.specs.Traces.{Answer, IsLegal, IsTrace, after, replay, fed, took, declares}
+use Rattle.tb_bus.specs.Effects.{Nothing, PutsNote, Effect, changed, effect_of, own_effect, speaking, setting_of, creation, may_create, taking, takes_note}
+use Rattle.tb_bus.specs.Steps.{Move, Own, Handshake, Finish, Halt, Step, apply}
+use Rattle.tb_bus.specs.Traces.{Answer, IsLegal, IsTrace, after, replay, took, declares}
 use Rattle.tb_bus.specs.declared.action.Action.{Action}
 use Rattle.tb_bus.specs.declared.action.Action.TheVariants as action
 use Rattle.tb_bus.specs.declared.action.OwnAction.{OwnAction}

@@ -32,7 +32,7 @@ all-there P [] at x h e = cc
 all-there P (y ∷ xs) zero x h e = let same : y ≡ x = cc in subst P same (All-head P y xs h)
 all-there P (y ∷ xs) (suc at) x h e = all-there P xs at x (All-tail P y xs h) e
 
-all-or : {A : Type 0} (P : A → Type 0) (xs : List A) (at : ℕ) (d : A) → All P xs → P d → P (slice_index_or xs at d)
+pub all-or : {A : Type 0} (P : A → Type 0) (xs : List A) (at : ℕ) (d : A) → All P xs → P d → P (slice_index_or xs at d)
 all-or P [] at d h k = k
 all-or P (x ∷ xs) zero d h k = All-head P x xs h
 all-or P (x ∷ xs) (suc at) d h k = all-or P xs at d (All-tail P x xs h) k

@@ -14,7 +14,7 @@ use Rattle.tb_terms.specs.declared.expr.Expr.TheOpen as layer
 use Rattle.tb_terms.specs.declared.pattern.Pattern.{Pattern, Pattern-F, map-Pattern, ind-Pattern, roll-Pattern, fold-roll-Pattern}
 use Rattle.tb_terms.specs.declared.pattern.Pattern.TheOpen as pattern_layer
 use Rattle.tb_terms.specs.Same.{is_same_term}
-use Rattle.tb_terms.specs.Sizes.{term_size, term_levels, greatest, levels_step, is_within_limits, IsWithinLimits}
+use Rattle.tb_terms.specs.Sizes.{term_levels, greatest, levels_step, is_within_limits, IsWithinLimits}
 use Rattle.tb_terms.specs.Sorts.{has_sort, initial_of, initial_value}
 use Rattle.tb_terms.proofs.Induction.{fold-Int, fold-Str, fold-Appl, fold-List}
 use Rattle.tb_terms.proofs.LimitLemmas.{within-limits}
@@ -198,7 +198,7 @@ offer-shallow term store offered h c = All-contains IsShallowOffer (offers term 
 
 -- the parts of a term have fewer levels
 
-greatest-from : (least most : ℕ) (xs : List ℕ) → fold max least xs ≤ most → (least ≤ most) × AllByRecursion (λ x. x ≤ most) xs
+pub greatest-from : (least most : ℕ) (xs : List ℕ) → fold max least xs ≤ most → (least ≤ most) × AllByRecursion (λ x. x ≤ most) xs
 greatest-from least most [] h = (h, tt)
 greatest-from least most (x ∷ xs) h =
     let rest = greatest-from (max least x) most xs h in

@@ -12,6 +12,9 @@ pub mod CandidateLemmas
 pub mod LaneLemmas
 pub mod DownLemmas
 pub mod TraceLemmas
+pub mod StayLemmas
+pub mod CommandLemmas
+pub mod SizeLemmas
 pub mod OrderLemmas
 pub mod ChangeLemmas
 pub mod TickLemmas

@@ -1,5 +1,5 @@
 -- What each action sends, shows or says is in shape.
-use Rattle.std.proofs.Common.{◌≡◌, ℕ, zero, suc, ◌+◌, ◌-◌, ◌≤◌, Bool, true, false, List, [], ◌∷◌, map, length, slice_get, Option, Some, None, IfSome, option_map, option_and_then, if◌then◌else◌, refl, ap, sym, subst, arith, nat_le}
+use Rattle.std.proofs.Common.{◌≡◌, ℕ, zero, suc, ◌+◌, ◌-◌, ◌≤◌, Bool, true, false, List, [], ◌∷◌, ◌++◌, map, length, slice_get, Option, Some, None, IfSome, option_map, option_and_then, if◌then◌else◌, refl, ap, sym, subst, arith, nat_le}
 use Rattle.std.specs.Prelude.{⊤}
 use Rattle.std.specs.List.{All, list_all}
 use Rattle.std.proofs.lemmas.Bool.{and_parts, leb-true}
@@ -59,6 +59,10 @@ all-shallow store (expr ∷ exprs) h = cons-shallow (length exprs) (value_of sto
 
 pub size-cons : (t : Term) (ts : List Term) → terms_size (t ∷ ts) ≡ term_size t + terms_size ts
 size-cons t ts = sum_by-cons (λ (n : ℕ). n) (term_size t) (map term_size ts)
+
+pub size-append : (xs ys : List Term) → terms_size (xs ++ ys) ≡ terms_size xs + terms_size ys
+size-append [] ys = omega arith
+size-append (x ∷ xs) ys = let first = size-cons x (xs ++ ys) in let same = size-cons x xs in let rest = size-append xs ys in omega arith
 
 within-all : (ts : List Term) → All IsShallow ts → terms_size ts ≤ 65536 → All IsWithinLimits ts
 within-all [] h l = All-nil IsWithinLimits
@@ -141,7 +145,7 @@ some-there may_stand [] e = cc
 some-there may_stand (expr ∷ exprs) e = omega arith
 
 note-in : (may_stand : Expr → Bool) (exprs : List Expr) (terms : List Term) → some_and_all may_stand exprs ≡ true → AreSent (length exprs) terms → IsNote terms
-note-in may_stand exprs terms e sent = let some = some-there may_stand exprs e in let many = sent.many in (omega arith, sent.parts.each)
+note-in may_stand exprs terms e sent = let some = some-there may_stand exprs e in let many = sent.many in (omega arith, sent.parts)
 
 first-in : (terms : List Term) → AreSent 1 terms → (value : Term) × (terms ≡ value ∷ []) × IsWithinLimits value
 first-in [] sent = absurd (let many = sent.many in omega arith)

@@ -8,4 +8,5 @@ pub mod Traces
 pub mod Ends
 pub mod Reached
 pub mod Waiting
+pub mod Commands
 pub mod Helpers

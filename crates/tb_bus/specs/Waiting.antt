@@ -18,9 +18,9 @@ IsShallow term = term_levels term ≤ most_term_levels
 abbrev pub IsShallowStore : List Slot → Type 0
 IsShallowStore store = All (λ (slot : Slot). IsShallow slot.value) store
 
--- a note: one term at least, each within the limits
+-- a note: one term at least, each within the limits, and all together no larger than a term may be
 abbrev pub IsNote : List Term → Type 0
-IsNote terms = (1 ≤ length terms) × All IsWithinLimits terms
+IsNote terms = (1 ≤ length terms) × AreParts terms
 
 -- an event: one part at least, of one line
 abbrev pub IsEvent : List Term → Type 0

@@ -1,13 +1,15 @@
-ghost use Rattle.std.specs.Prelude.{◌≡◌, ◌≢◌, ◌≤◌, ◌<◌, ◌++◌, List, Contains, length, true, false};
+ghost use Rattle.std.specs.Prelude.{◌≡◌, ◌≢◌, ◌≤◌, ◌<◌, ◌++◌, ℕ, List, [], None, Contains, length, true, false};
 ghost use Rattle.std.specs.List.{All, AllPairs};
-ghost use Rattle.tb_log.specs.Shapes.{lane_count};
+ghost use Rattle.tb_log.specs.Lanes.{handed};
+ghost use Rattle.tb_log.specs.Shapes.{IsLane, lane_count};
 ghost use Rattle.tb_log.specs.declared.entry.Input.{Input};
 ghost use Rattle.tb_log.specs.declared.entry.Label.{Label};
 ghost use Rattle.tb_log.specs.declared.entry.Reply.TheVariants.{Dropped};
 ghost use Rattle.tb_log.specs.declared.entry.Why.{Why};
 ghost use Rattle.tb_log.specs.declared.entry.Entry.{Entry};
 ghost use Rattle.tb_log.specs.declared.entry.Entry.TheVariants.{Did};
-ghost use Rattle.tb_tools.specs.Lanes.{HasLanes};
+ghost use Rattle.tb_tools.specs.Finding.{next_out};
+ghost use Rattle.tb_tools.specs.Lanes.{HasLanes, outs_at};
 ghost use Rattle.tb_bus.specs.declared.origin.Origin.{Origin};
 ghost use Rattle.tb_bus.specs.Buses.{Bus, Proc};
 ghost use Rattle.tb_bus.specs.Steps.{Step, steps};
@@ -60,4 +62,15 @@ pub fn dropped_inputs_change_nothing()
 pub fn three_steps_take_a_bus_down()
     ensures { (bus next : Bus) (entry : Entry) → IsLegal bus entry next → bus.down ≡ false → next.down ≡ true →
         (label : Label) × (entry ≡ Did label) × TakesDown label.kind }
+{}
+
+/// A bus that is down makes no step, and along each trace it stays down. What is to be handed out on a lane of it is what
+/// the trace hands out there, and what is left then: so a lane with nothing to hand out keeps nothing.
+pub fn a_bus_that_is_down_stays_down()
+    ensures steps { (bus : Bus) → bus.down ≡ true → steps bus ≡ [] }
+    ensures stays { (bus : Bus) (log : List Entry) → IsTrace bus log → bus.down ≡ true → (replay bus log).down ≡ true }
+    ensures outs { (bus : Bus) (log : List Entry) (lane : ℕ) → IsLane lane → IsTrace bus log → bus.down ≡ true →
+        outs_at lane bus.bench ≡ handed log lane ++ outs_at lane (replay bus log).bench }
+    ensures empty { (bus : Bus) (log : List Entry) (lane : ℕ) → IsLane lane → IsTrace bus log → bus.down ≡ true →
+        next_out lane bus.bench ≡ None → next_out lane (replay bus log).bench ≡ None }
 {}
