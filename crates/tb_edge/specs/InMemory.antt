@@ -1,5 +1,5 @@
--- What the files and sinks in memory hold, and what a call of each answers and changes.
-use Rattle.std.specs.Prelude.{◌≡◌, ℕ, ◌+◌, ◌-◌, ◌==◌, nat_le, Bool, if◌then◌else◌, Option, Result, Ok, Err, List, [], ◌∷◌, ◌++◌, length, take, unwrap_or}
+-- What the files, sinks and clocks in memory hold, and what a call of each answers and changes.
+use Rattle.std.specs.Prelude.{◌≡◌, ℕ, ◌+◌, ◌-◌, ◌==◌, nat_le, nat_lt, Bool, true, if◌then◌else◌, Option, Result, Ok, Err, List, [], ◌∷◌, ◌++◌, length, take, unwrap_or}
 use Rattle.std.specs.List.{find, list_any}
 use Rattle.std.specs.Option.{option_map, ok_or}
 use Rattle.std.specs.Str.{bytes_eq}
@@ -9,6 +9,8 @@ use Rattle.tb_edge.specs.declared.files.Loaded.{Loaded}
 use Rattle.tb_edge.specs.declared.files.Loaded.TheVariants.{Bytes, TooLong}
 use Rattle.tb_edge.specs.declared.files.FilesFault.{FilesFault}
 use Rattle.tb_edge.specs.declared.files.FilesFault.TheVariants.{Failed, NoMemory}
+use Rattle.tb_edge.specs.declared.clock.Beat.{Beat}
+use Rattle.tb_edge.specs.declared.clock.Beat.TheVariants as beat
 
 -- what a name holds: the bytes of the first file of that name
 abbrev pub held_in : List HeldFile → List ℕ → Option (List ℕ)
@@ -80,3 +82,48 @@ mem_sink_after sink piece = record sink {
   calls = risen sink.calls;
   faults = if is_put sink piece then sink.faults else risen sink.faults;
 }
+
+-- a `MemClock`
+pub record MemClockView : Type 0 where
+  pub ticks : ℕ
+  pub fails : List ℕ
+  pub gave : ℕ
+  pub ended : Bool
+  pub calls : ℕ
+  pub faults : ℕ
+
+-- what a clock of so many ticks that gave some of them answers next
+abbrev pub next_beat : ℕ → ℕ → Beat
+next_beat ticks gave = if nat_lt gave ticks then beat.Tick else beat.End
+
+-- once it has ended it answers nothing else; before that it fails in a call that is to fail
+abbrev pub mem_beat : MemClockView → Beat
+mem_beat clock =
+    if clock.ended then beat.End else if fails_at clock.fails (risen clock.calls) then beat.Failed else next_beat clock.ticks clock.gave
+
+-- the clock after an answer
+abbrev pub mem_clock_by : Beat → MemClockView → MemClockView
+mem_clock_by beat.Tick clock = record clock { gave = clock.gave + 1; calls = risen clock.calls }
+mem_clock_by beat.End clock = record clock { ended = true; calls = risen clock.calls }
+mem_clock_by beat.Failed clock = record clock { calls = risen clock.calls; faults = risen clock.faults }
+
+abbrev pub mem_clock_after : MemClockView → MemClockView
+mem_clock_after clock = mem_clock_by (mem_beat clock) clock
+
+-- a `SureClock`
+pub record SureClockView : Type 0 where
+  pub ticks : ℕ
+  pub gave : ℕ
+  pub ended : Bool
+
+abbrev pub sure_beat : SureClockView → Beat
+sure_beat clock = if clock.ended then beat.End else next_beat clock.ticks clock.gave
+
+-- the clock after an answer
+abbrev pub sure_clock_by : Beat → SureClockView → SureClockView
+sure_clock_by beat.Tick clock = record clock { gave = clock.gave + 1 }
+sure_clock_by beat.End clock = record clock { ended = true }
+sure_clock_by beat.Failed clock = clock
+
+abbrev pub sure_clock_after : SureClockView → SureClockView
+sure_clock_after clock = sure_clock_by (sure_beat clock) clock

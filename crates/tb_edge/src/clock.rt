@@ -1,0 +1,32 @@
+ghost use Rattle.std.specs.Prelude.{◌≡◌, ℕ, ◌^◌, ◌<◌, ◌≤◌, Option};
+ghost use Rattle.tb_edge.specs.Faults.{Rose};
+ghost use Rattle.tb_edge.specs.Ends.{ClockView, clock_after, has_ended, MayBeat};
+
+/// What a clock answers.
+#[derive(Clone, Copy, Debug, PartialEq, Eq)]
+pub enum Beat {
+    /// A tick has passed.
+    Tick,
+    /// No more ticks come: every later answer is this one.
+    End,
+    /// The clock failed, and no tick has passed. The next call may give one.
+    Failed,
+}
+
+/// Where ticks come from.
+pub trait Clock {
+    // How many calls have failed so far.
+    ghost faults: { Self → ℕ };
+
+    // How many ticks it gave, and whether it has ended, where the clock tells it.
+    ghost told: { Self → Option ClockView };
+
+    /// Waits for the next tick. A clock that has ended answers at once.
+    fn wait(&mut self) -> Beat
+        ensures told { told self.new ≡ clock_after (told self.old) result }
+        ensures over { MayBeat (told self.old) result }
+        ensures stays { has_ended (told self.old) → faults self.new ≡ faults self.old }
+        ensures rose { result ≡ Beat.Failed → Rose (faults self.old) (faults self.new) }
+        ensures never_falls { faults self.old ≤ faults self.new }
+        ensures fits { faults self.old < 2 ^ 64 → faults self.new < 2 ^ 64 };
+}
