@@ -11,7 +11,7 @@ joined-push : (x : List ℕ) (xs : List (List ℕ)) (y : List ℕ) → joined (x
 joined-push x [] y = refl
 joined-push x (z ∷ zs) y = ap (λ t. x ++ (44 ∷ t)) (joined-push z zs y) ∙ sym (append_assoc x (44 ∷ joined (z ∷ zs)) (44 ∷ y))
 
-joined-turn : (ts : List Term) (i : ℕ) (d : Term) → i < length ts → joined (map term_text (take (suc i) ts)) ≡ joined (map term_text (take i ts)) ++ (comma_before i ++ term_text (get_or ts i d))
+pub joined-turn : (ts : List Term) (i : ℕ) (d : Term) → i < length ts → joined (map term_text (take (suc i) ts)) ≡ joined (map term_text (take i ts)) ++ (comma_before i ++ term_text (get_or ts i d))
 joined-turn [] i d h = absurd (omega arith)
 joined-turn (t ∷ ts) zero d h = refl
 joined-turn (t ∷ ts) (suc i) d h =

@@ -3,3 +3,4 @@ pub mod Joined
 pub mod LimitLemmas
 pub mod SameLemmas
 pub mod TextBytes
+pub mod TextLengths

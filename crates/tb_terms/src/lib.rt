@@ -4,6 +4,7 @@
 
 mod expr;
 mod ident;
+mod laws;
 mod measure;
 mod memory;
 mod name;
@@ -17,6 +18,7 @@ mod write;
 
 pub use expr::{Expr, Exprs, Func, copy_exprs};
 pub use ident::{Ident, is_ident_bytes};
+pub use laws::texts_are_short;
 pub use measure::{MOST_TERM_LEVELS, MOST_TERM_SIZE, depth, is_within_limits, size};
 pub use memory::NoMemory;
 pub use name::{Name, Names, is_name_bytes};

@@ -18,8 +18,18 @@ pub type Terms = Items<Term>;
 
 impl Term {
     /// The same term in memory of its own.
-    #[cycle(copy)]
     pub fn copy(&self, alloc: Global) -> Result<Term, NoMemory>
+        ensures { IfOk result (λ copy. copy ≡ self.now) }
+    {
+        match self {
+            Term::Int(number) => Ok(Term::Int(*number)),
+            Term::Str(_) | Term::Appl(_, _) | Term::List(_) => self.copy_deep(alloc),
+        }
+    }
+
+    #[cycle(copy)]
+    #[inline(never)]
+    fn copy_deep(&self, alloc: Global) -> Result<Term, NoMemory>
         ensures { IfOk result (λ copy. copy ≡ self.now) }
     {
         match self {
@@ -47,7 +57,7 @@ fn copy_all(alloc: Global, terms: &[Term]) -> Result<Terms, NoMemory>
 {
     let mut copies = Vec::with_capacity(alloc, terms.len())?;
     for term in terms {
-        copies.push(term.copy(alloc)?)?;
+        copies.push(term.copy_deep(alloc)?)?;
     }
     Ok(Items::from_vec(copies))
 }

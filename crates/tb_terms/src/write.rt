@@ -1,4 +1,4 @@
-ghost use Rattle.std.specs.Prelude.{◌≡◌, ◌++◌, [], ◌∷◌, OnOk, OnErr, length, map};
+ghost use Rattle.std.specs.Prelude.{◌≡◌, ◌+◌, ◌<◌, ◌≤◌, ◌++◌, [], ◌∷◌, OnOk, OnErr, length, map, vec_len, vec_capacity};
 ghost use Rattle.std.specs.List.{flat_map};
 ghost use Rattle.std.specs.Fmt.{signed_decimal};
 ghost use Rattle.tb_terms.specs.Texts.{term_text, terms_text, quoted, escaped, escape_letter, appl_text, list_text, joined};
@@ -11,6 +11,8 @@ use itoa::Buffer;
 pub fn write_term(term: &Term, into: &mut Vec<u8>) -> Result<(), NoMemory>
     ensures ok { OnOk result (into.new.items ≡ into.old.items ++ term_text term.now) }
     ensures err { OnErr result (into.new.items ≡ into.old.items) }
+    ensures full { OnErr result (vec_capacity into.old < vec_len into.old + length (term_text term.now)) }
+    ensures capacity { vec_capacity into.old ≤ vec_capacity into.new }
 {
     let kept = into.len();
     match push_term(term, into) {
@@ -26,6 +28,8 @@ pub fn write_term(term: &Term, into: &mut Vec<u8>) -> Result<(), NoMemory>
 pub fn write_terms(terms: &Terms, into: &mut Vec<u8>) -> Result<(), NoMemory>
     ensures ok { OnOk result (into.new.items ≡ into.old.items ++ terms_text terms.now) }
     ensures err { OnErr result (into.new.items ≡ into.old.items) }
+    ensures full { OnErr result (vec_capacity into.old < vec_len into.old + length (terms_text terms.now)) }
+    ensures capacity { vec_capacity into.old ≤ vec_capacity into.new }
 {
     let kept = into.len();
     match push_joined(terms.as_slice(), into) {
@@ -41,6 +45,9 @@ pub fn write_terms(terms: &Terms, into: &mut Vec<u8>) -> Result<(), NoMemory>
 fn push_term(term: &Term, into: &mut Vec<u8>) -> Result<(), NoMemory>
     ensures ok { OnOk result (into.new.items ≡ into.old.items ++ term_text term.now) }
     ensures err { OnErr result (KeepsPrefix into.old.items into.new.items) }
+    ensures full { OnErr result (vec_capacity into.old < vec_len into.old + length (term_text term.now)) }
+    ensures len { OnOk result (vec_len into.new ≡ vec_len into.old + length (term_text term.now)) }
+    ensures capacity { vec_capacity into.old ≤ vec_capacity into.new }
 {
     match term {
         Term::Int(number) => push_number(*number, into),
@@ -54,6 +61,9 @@ fn push_term(term: &Term, into: &mut Vec<u8>) -> Result<(), NoMemory>
 fn push_appl(name: &[u8], parts: &[Term], into: &mut Vec<u8>) -> Result<(), NoMemory>
     ensures ok { OnOk result (into.new.items ≡ into.old.items ++ appl_text name.now (map term_text parts.now)) }
     ensures err { OnErr result (KeepsPrefix into.old.items into.new.items) }
+    ensures full { OnErr result (vec_capacity into.old < vec_len into.old + length (appl_text name.now (map term_text parts.now))) }
+    ensures len { OnOk result (vec_len into.new ≡ vec_len into.old + length (appl_text name.now (map term_text parts.now))) }
+    ensures capacity { vec_capacity into.old ≤ vec_capacity into.new }
 {
     into.extend_from_slice(name)?;
     if parts.is_empty() {
@@ -69,6 +79,9 @@ fn push_appl(name: &[u8], parts: &[Term], into: &mut Vec<u8>) -> Result<(), NoMe
 fn push_list(parts: &[Term], into: &mut Vec<u8>) -> Result<(), NoMemory>
     ensures ok { OnOk result (into.new.items ≡ into.old.items ++ list_text (map term_text parts.now)) }
     ensures err { OnErr result (KeepsPrefix into.old.items into.new.items) }
+    ensures full { OnErr result (vec_capacity into.old < vec_len into.old + length (list_text (map term_text parts.now))) }
+    ensures len { OnOk result (vec_len into.new ≡ vec_len into.old + length (list_text (map term_text parts.now))) }
+    ensures capacity { vec_capacity into.old ≤ vec_capacity into.new }
 {
     into.push(b'[')?;
     push_joined(parts, into)?;
@@ -80,6 +93,9 @@ fn push_list(parts: &[Term], into: &mut Vec<u8>) -> Result<(), NoMemory>
 fn push_joined(terms: &[Term], into: &mut Vec<u8>) -> Result<(), NoMemory>
     ensures ok { OnOk result (into.new.items ≡ into.old.items ++ joined (map term_text terms.now)) }
     ensures err { OnErr result (KeepsPrefix into.old.items into.new.items) }
+    ensures full { OnErr result (vec_capacity into.old < vec_len into.old + length (joined (map term_text terms.now))) }
+    ensures len { OnOk result (vec_len into.new ≡ vec_len into.old + length (joined (map term_text terms.now))) }
+    ensures capacity { vec_capacity into.old ≤ vec_capacity into.new }
 {
     for (position, term) in terms.iter().enumerate() {
         push_comma(position, into)?;
@@ -92,6 +108,9 @@ fn push_joined(terms: &[Term], into: &mut Vec<u8>) -> Result<(), NoMemory>
 fn push_comma(position: usize, into: &mut Vec<u8>) -> Result<(), NoMemory>
     ensures ok { OnOk result (into.new.items ≡ into.old.items ++ comma_before position) }
     ensures err { OnErr result (into.new.items ≡ into.old.items) }
+    ensures full { OnErr result (vec_capacity into.old < vec_len into.old + length (comma_before position)) }
+    ensures len { OnOk result (vec_len into.new ≡ vec_len into.old + length (comma_before position)) }
+    ensures capacity { vec_capacity into.old ≤ vec_capacity into.new }
 {
     if position > 0 {
         into.push(b',')?;
@@ -104,6 +123,9 @@ fn push_comma(position: usize, into: &mut Vec<u8>) -> Result<(), NoMemory>
 fn push_number(number: i64, into: &mut Vec<u8>) -> Result<(), NoMemory>
     ensures ok { OnOk result (into.new.items ≡ into.old.items ++ signed_decimal number) }
     ensures err { OnErr result (into.new.items ≡ into.old.items) }
+    ensures full { OnErr result (vec_capacity into.old < vec_len into.old + length (signed_decimal number)) }
+    ensures len { OnOk result (vec_len into.new ≡ vec_len into.old + length (signed_decimal number)) }
+    ensures capacity { vec_capacity into.old ≤ vec_capacity into.new }
 {
     if 0 <= number && number < 10 {
         into.push(b'0' + number as u8)?;
@@ -118,6 +140,9 @@ fn push_number(number: i64, into: &mut Vec<u8>) -> Result<(), NoMemory>
 pub fn push_quoted(text: &[u8], into: &mut Vec<u8>) -> Result<(), NoMemory>
     ensures ok { OnOk result (into.new.items ≡ into.old.items ++ quoted text.now) }
     ensures err { OnErr result (KeepsPrefix into.old.items into.new.items) }
+    ensures full { OnErr result (vec_capacity into.old < vec_len into.old + length (quoted text.now)) }
+    ensures len { OnOk result (vec_len into.new ≡ vec_len into.old + length (quoted text.now)) }
+    ensures capacity { vec_capacity into.old ≤ vec_capacity into.new }
 {
     into.push(b'"')?;
     push_escaped(text, into)?;
@@ -128,6 +153,9 @@ pub fn push_quoted(text: &[u8], into: &mut Vec<u8>) -> Result<(), NoMemory>
 fn push_escaped(text: &[u8], into: &mut Vec<u8>) -> Result<(), NoMemory>
     ensures ok { OnOk result (into.new.items ≡ into.old.items ++ flat_map escaped text.now) }
     ensures err { OnErr result (KeepsPrefix into.old.items into.new.items) }
+    ensures full { OnErr result (vec_capacity into.old < vec_len into.old + length (flat_map escaped text.now)) }
+    ensures len { OnOk result (vec_len into.new ≡ vec_len into.old + length (flat_map escaped text.now)) }
+    ensures capacity { vec_capacity into.old ≤ vec_capacity into.new }
 {
     for byte in text {
         push_byte(*byte, into)?;
@@ -138,6 +166,9 @@ fn push_escaped(text: &[u8], into: &mut Vec<u8>) -> Result<(), NoMemory>
 fn push_byte(byte: u8, into: &mut Vec<u8>) -> Result<(), NoMemory>
     ensures ok { OnOk result (into.new.items ≡ into.old.items ++ escaped byte) }
     ensures err { OnErr result (KeepsPrefix into.old.items into.new.items) }
+    ensures full { OnErr result (vec_capacity into.old < vec_len into.old + length (escaped byte)) }
+    ensures len { OnOk result (vec_len into.new ≡ vec_len into.old + length (escaped byte)) }
+    ensures capacity { vec_capacity into.old ≤ vec_capacity into.new }
 {
     match letter_of(byte) {
         Some(letter) => {
