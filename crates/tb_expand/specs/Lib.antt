@@ -4,4 +4,5 @@ pub mod Acts
 pub mod Expansion
 pub mod Cycles
 pub mod Faults
+pub mod Lines
 pub mod Helpers

@@ -1,4 +1,9 @@
+ghost use Rattle.std.specs.Prelude.{◌≡◌};
+ghost use Rattle.tb_line.specs.Lines.{line_text};
+ghost use Rattle.tb_expand.specs.Lines.{expand_line};
+
 use std::alloc::{AllocError, AllocFailed};
+use tb_line::Line;
 use tb_terms::{Ident, Items, NoMemory};
 
 /// Names of processes in a row.
@@ -14,6 +19,21 @@ pub enum ExpandFault {
     TooLarge(Ident),
     /// There wasn't memory enough; it says nothing of the script.
     NoMemory,
+}
+
+impl ExpandFault {
+    /// The words of its line.
+    pub fn line(&self) -> Line<'_>
+        ensures { line_text result ≡ expand_line self.now }
+    {
+        match self {
+            ExpandFault::Recursion(names) => {
+                Line::of_names(b"script: recursion ", names.as_slice())
+            }
+            ExpandFault::TooLarge(name) => Line::of_name(b"script: too large ", name),
+            ExpandFault::NoMemory => Line::plain(b"no memory"),
+        }
+    }
 }
 
 impl From<NoMemory> for ExpandFault {

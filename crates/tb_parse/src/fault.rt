@@ -1,4 +1,9 @@
+ghost use Rattle.std.specs.Prelude.{◌≡◌};
+ghost use Rattle.tb_line.specs.Lines.{line_text};
+ghost use Rattle.tb_parse.specs.Lines.{parse_line};
+
 use std::alloc::{AllocError, AllocFailed};
+use tb_line::Line;
 use tb_terms::NoMemory;
 use thiserror::Error;
 
@@ -16,6 +21,19 @@ pub enum ParseFault {
     /// There wasn't memory enough; it says nothing of the tokens.
     #[error("no memory")]
     NoMemory,
+}
+
+impl ParseFault {
+    /// The words of its line.
+    pub fn line(&self) -> Line<'static>
+        ensures { line_text result ≡ parse_line self.now }
+    {
+        match self {
+            ParseFault::Syntax(token) => Line::numbered(b"script: syntax at token ", *token),
+            ParseFault::TooDeep(token) => Line::numbered(b"script: too deep at token ", *token),
+            ParseFault::NoMemory => Line::plain(b"no memory"),
+        }
+    }
 }
 
 impl From<NoMemory> for ParseFault {

@@ -1,4 +1,5 @@
 pub mod Programs
 pub mod Findings
 pub mod Loading
+pub mod Lines
 pub mod Helpers

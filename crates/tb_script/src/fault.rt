@@ -1,6 +1,11 @@
+ghost use Rattle.std.specs.Prelude.{◌≡◌};
+ghost use Rattle.tb_line.specs.Lines.{line_text};
+ghost use Rattle.tb_script.specs.Lines.{script_line};
+
 use std::alloc::{AllocError, AllocFailed};
 use tb_expand::ExpandFault;
 use tb_lex::LexFault;
+use tb_line::Line;
 use tb_parse::ParseFault;
 use tb_terms::NoMemory;
 use tb_types::CheckFault;
@@ -24,6 +29,24 @@ pub enum ScriptFault {
     NotBuilt(usize),
     /// There wasn't memory enough; it says nothing of the script.
     NoMemory,
+}
+
+impl ScriptFault {
+    /// The words of its line.
+    pub fn line(&self) -> Line<'_>
+        ensures { line_text result ≡ script_line self.now }
+    {
+        match self {
+            ScriptFault::Lex(fault) => fault.line(),
+            ScriptFault::Parse(fault) => fault.line(),
+            ScriptFault::Check(fault) => fault.line(),
+            ScriptFault::Expand(fault) => fault.line(),
+            ScriptFault::Roots(count) => Line::numbered(b"script: too many processes ", *count),
+            ScriptFault::TooLong(bytes) => Line::numbered(b"script: too long ", *bytes),
+            ScriptFault::NotBuilt(token) => Line::numbered(b"script: not built at token ", *token),
+            ScriptFault::NoMemory => Line::plain(b"no memory"),
+        }
+    }
 }
 
 impl From<NoMemory> for ScriptFault {

@@ -13,4 +13,5 @@ pub mod Numbers
 pub mod Positions
 pub mod Scopes
 pub mod Values
+pub mod Lines
 pub mod Helpers

@@ -5,4 +5,4 @@ mod line;
 mod log_writer;
 
 pub use line::put_line;
-pub use log_writer::{LogFault, LogWriter, put_log};
+pub use log_writer::{LogFault, LogWriter, PIECE_BYTES, put_log};

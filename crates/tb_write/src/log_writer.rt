@@ -1,5 +1,5 @@
 //! The text of a log, put piece by piece.
-ghost use Rattle.std.specs.Prelude.{◌≡◌, ◌≤◌, ◌+◌, ◌++◌, [], length, OnOk, OnErr, IsErrOf, IsOkUnless};
+ghost use Rattle.std.specs.Prelude.{◌≡◌, ◌<◌, ◌≤◌, ◌+◌, ◌++◌, [], length, OnOk, OnErr, IsErrOf, IsOkUnless};
 ghost use Rattle.tb_edge.specs.Faults.{Rose};
 ghost use Rattle.tb_edge.specs.Sinks.{Writes, WritesPrefix, Owes};
 ghost use Rattle.tb_log.specs.LogText.{log_text, log_text_from, entry_text};
@@ -11,7 +11,7 @@ use tb_log::{Entry, write_entry};
 use tb_terms::NoMemory;
 
 /// The buffer is handed to the sink as soon as it has so many bytes.
-const PIECE_BYTES: usize = 32_768;
+pub const PIECE_BYTES: usize = 32_768;
 
 /// Why a log was not put whole.
 #[derive(Clone, Copy, Debug, PartialEq, Eq)]
@@ -54,6 +54,8 @@ impl LogWriter {
         ensures ok { OnOk result (Owes (O.taken out.old) (O.taken out.new)
             (self.old.held ++ log_text_from (self.old.written + 1) entries.now) self.new.held) }
         ensures counted { OnOk result (self.new.written ≡ self.old.written + length entries.now) }
+        ensures small { length self.old.held < PIECE_BYTES
+            → OnOk result (length self.new.held < PIECE_BYTES) }
         ensures prefix { OnErr result (WritesPrefix (O.taken out.old) (O.taken out.new)
             (self.old.held ++ log_text_from (self.old.written + 1) entries.now)) }
         ensures rose { IsErrOf result LogFault.Out → Rose (O.faults out.old) (O.faults out.new) }
@@ -107,6 +109,7 @@ impl LogWriter {
         ensures ok { OnOk result (Owes (O.taken out.old) (O.taken out.new)
             (self.old.held ++ entry_text (self.old.written + 1) entry.now) self.new.held) }
         ensures counted { OnOk result (self.new.written ≡ self.old.written + 1) }
+        ensures small { OnOk result (length self.new.held < PIECE_BYTES) }
         ensures prefix { OnErr result (WritesPrefix (O.taken out.old) (O.taken out.new)
             (self.old.held ++ entry_text (self.old.written + 1) entry.now)) }
         ensures rose { IsErrOf result LogFault.Out → Rose (O.faults out.old) (O.faults out.new) }
@@ -141,6 +144,7 @@ impl LogWriter {
     fn flush_full<O: Sink>(&mut self, out: &mut O) -> Result<(), LogFault>
         ensures ok { OnOk result (Owes (O.taken out.old) (O.taken out.new) self.old.held self.new.held) }
         ensures counted { OnOk result (self.new.written ≡ self.old.written) }
+        ensures small { OnOk result (length self.new.held < PIECE_BYTES) }
         ensures prefix { OnErr result (WritesPrefix (O.taken out.old) (O.taken out.new) self.old.held) }
         ensures rose { OnErr result (Rose (O.faults out.old) (O.faults out.new)) }
         ensures never_falls { O.faults out.old ≤ O.faults out.new }

@@ -14,6 +14,7 @@ loop-entry-preserved g c = record {
       c.args.entries.now c.loop-entry.self.held c.put_entry.new.self.held c.loop-entry.self.written c.put_entry.new.self.written c.loop-entry.entry-index c.entry-item.result c.loop-entry-test.true c.entry-item.is
       c.in-Ok.ensures.counted c.loop-entry.invariant.owed c.in-Ok.ensures.ok;
   counted = omega (arith, c.in-Ok.ensures.counted, c.loop-entry.invariant.counted);
+  small = λ _. c.in-Ok.ensures.small;
   within = omega (arith, c.loop-entry-test.true);
   risen = omega (arith, c.in-Ok.ensures.never_falls, c.loop-entry.invariant.risen);
 }
