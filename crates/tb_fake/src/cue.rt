@@ -1,0 +1,81 @@
+ghost use Rattle.std.specs.Prelude.{◌≡◌, ◌==◌, IfOk, map};
+ghost use Rattle.std.specs.List.{filter};
+ghost use Rattle.tb_fake.specs.Fakes.{cues_on, fails_on};
+
+use sqlite_items::Items;
+use std::alloc::Global;
+use tb_edge::{Bytes, FailCalls, Given};
+use tb_terms::NoMemory;
+
+/// What an inlet gives, and when.
+#[derive(Drop)]
+pub struct Cue {
+    /// The lane whose inlet gives it, from 1 to 16. Nobody gives a cue of another lane.
+    pub lane: u8,
+    /// The lane whose outlet is watched, from 1 to 16.
+    pub watch: u8,
+    /// How many items this outlet has to have taken.
+    pub after: usize,
+    /// What is given then. A line of more than 65,536 bytes is given as `Long`.
+    pub gives: Given,
+}
+
+/// Cues in a row. Each lane's are given in this order.
+pub type Cues = Items<Cue>;
+
+/// A call that is to fail.
+#[derive(Clone, Copy, Debug, PartialEq, Eq)]
+pub struct Fail {
+    /// The lane of the outlet, from 1 to 16.
+    pub lane: u8,
+    /// The number, from 1, of the call among those of `begin` and `line`.
+    pub call: u64,
+}
+
+/// Calls that are to fail, in any order.
+pub type Fails = Items<Fail>;
+
+impl Cue {
+    /// The same cue in memory of its own.
+    pub fn copy(&self, alloc: Global) -> Result<Cue, NoMemory>
+        ensures { IfOk result (λ copy. copy ≡ self.now) }
+    {
+        let gives = match &self.gives {
+            Given::Line(bytes) => Given::Line(Bytes::from_slice(alloc, bytes.as_slice())?),
+            Given::Long => Given::Long,
+            Given::End => Given::End,
+        };
+        Ok(Cue {
+            lane: self.lane,
+            watch: self.watch,
+            after: self.after,
+            gives,
+        })
+    }
+}
+
+/// Copies of a lane's cues, in order.
+pub(crate) fn copy_cues(alloc: Global, cues: &[Cue], lane: u8) -> Result<Cues, NoMemory>
+    ensures { IfOk result (λ own. own ≡ cues_on lane cues.now) }
+{
+    let mut own = Items::new(alloc);
+    for cue in cues {
+        if cue.lane == lane {
+            own.push(cue.copy(alloc)?)?;
+        }
+    }
+    Ok(own)
+}
+
+/// The calls of a lane's outlet that are to fail.
+pub(crate) fn copy_fails(alloc: Global, fails: &[Fail], lane: u8) -> Result<FailCalls, NoMemory>
+    ensures { IfOk result (λ own. own ≡ fails_on lane fails.now) }
+{
+    let mut own = Items::new(alloc);
+    for fail in fails {
+        if fail.lane == lane {
+            own.push(fail.call)?;
+        }
+    }
+    Ok(own)
+}

@@ -1,0 +1,119 @@
+ghost use Rattle.std.specs.Prelude.{◌≡◌, ◌≤◌, false, length, Some};
+ghost use Rattle.tb_edge.specs.Ends.{inlet_after, MayGive};
+ghost use Rattle.tb_fake.specs.Fakes.{IsGiving, IsNext, inlet_next, gave_by};
+
+use crate::board::{Board, Sign};
+use crate::{Cue, Cues};
+use std::alloc::Global;
+use std::marker::Model;
+use std::sync::Arc;
+use tb_edge::{Given, Got, Inlet};
+
+/// How many bytes a line has at most.
+const LINE: usize = 65_536;
+
+/// An inlet that gives its cues in order, each once the outlet that it watches has taken so many items, and is over
+/// once it has given the last and its own outlet is closed. Where it has looked for one of these 20,000,000 times, it
+/// is over too. It never fails. Contracts see its cues, how many of them it gave, and whether it is over.
+#[derive(Drop)]
+pub struct FakeInlet {
+    board: Arc<Board, Global>,
+    lane: u8,
+    cues: Cues,
+    given: usize,
+    over: bool,
+}
+
+impl Model for FakeInlet {
+    ghost use Rattle.tb_fake.specs.Fakes.{FakeInletView};
+
+    ghost Value = { FakeInletView };
+
+    ghost view = { λ inlet. record {
+      cues = inlet.cues;
+      given = inlet.given;
+      over = inlet.over;
+    } };
+}
+
+impl FakeInlet {
+    pub(crate) fn new(board: Arc<Board, Global>, lane: u8, cues: Cues) -> FakeInlet
+        ensures { result ≡ record { cues = cues; given = 0; over = false } }
+    {
+        FakeInlet {
+            board,
+            lane,
+            cues,
+            given: 0,
+            over: false,
+        }
+    }
+
+    /// How many calls have failed, which is none.
+    pub fn faults(&self) -> u64
+        ensures { result ≡ 0 }
+    {
+        0
+    }
+
+    /// Waits for what the next cue watches, or after the last cue for the closing of the own outlet.
+    fn wait(&self) -> bool {
+        self.board.wait_for(match self.cues.get(self.given) {
+            Some(cue) => Sign::Took(cue.watch, cue.after),
+            None => Sign::Closed(self.lane),
+        })
+    }
+}
+
+impl Inlet for FakeInlet {
+    ghost use Rattle.std.specs.Prelude.{Some};
+    ghost use Rattle.tb_fake.specs.Fakes.{gave_by};
+
+    ghost faults = { λ _. 0 };
+
+    ghost told = { λ inlet. Some (gave_by inlet) };
+
+    #[tactic(auto, using(crate::proofs::Giving::tells, crate::proofs::Giving::may_give, crate::proofs::Giving::gives_short))]
+    fn next(&mut self, line: &mut Vec<u8>) -> Got
+        ensures told { Some (gave_by self.new) ≡ inlet_after (Some (gave_by self.old)) result line.new.items }
+        ensures over { MayGive (Some (gave_by self.old)) result }
+        ensures short { result ≡ Got.Line → length line.new.items ≤ 65536 }
+        ensures next { IsNext self.old result line.new.items }
+        ensures after { self.new ≡ inlet_next result self.old }
+    {
+        if self.over || !self.wait() || self.cues.len() <= self.given {
+            self.over = true;
+            return Got::Over;
+        }
+        match self.cues.get(self.given) {
+            Some(cue) => {
+                let got = give(cue, line);
+                if got != Got::NoMemory {
+                    self.given += 1;
+                }
+                got
+            }
+            None => {
+                self.over = true;
+                Got::Over
+            }
+        }
+    }
+}
+
+/// Gives what the cue says.
+fn give(cue: &Cue, line: &mut Vec<u8>) -> Got
+    ensures { IsGiving cue.now result line.new.items }
+{
+    match &cue.gives {
+        Given::Line(bytes) if bytes.len() <= LINE => {
+            line.clear();
+            match line.extend_from_slice(bytes.as_slice()) {
+                Ok(()) => Got::Line,
+                Err(_) => Got::NoMemory,
+            }
+        }
+        Given::Line(_) | Given::Long => Got::Long,
+        Given::End => Got::End,
+    }
+}

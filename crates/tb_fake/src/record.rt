@@ -1,0 +1,103 @@
+use crate::board::Board;
+use sqlite_items::Items;
+use std::alloc::Global;
+use std::sync::Arc;
+use tb_edge::{Bytes, Taken};
+use tb_terms::{NoMemory, Text};
+
+/// How many items an outlet has room for.
+pub(crate) const ITEMS: usize = 64;
+
+/// How many bytes all of them may have together.
+pub(crate) const BYTES: usize = 65_536;
+
+/// The kinds of items that an outlet takes.
+#[derive(Clone, Copy, Debug, PartialEq, Eq)]
+pub(crate) enum Kind {
+    Start,
+    Line,
+    End,
+}
+
+/// An item whose bytes end at this place.
+#[derive(Clone, Copy, Debug)]
+struct Item {
+    kind: Kind,
+    to: usize,
+}
+
+/// What an outlet took: the items, and the bytes of all of them in a row.
+#[derive(Drop)]
+pub(crate) struct Record {
+    items: Vec<Item>,
+    bytes: Vec<u8>,
+}
+
+impl Record {
+    /// Takes the memory for all items.
+    pub(crate) fn new(alloc: Global) -> Result<Record, NoMemory> {
+        Ok(Record {
+            items: Vec::with_capacity(alloc, ITEMS)?,
+            bytes: Vec::with_capacity(alloc, BYTES)?,
+        })
+    }
+
+    /// Adds the item, and says whether there was room for it.
+    pub(crate) fn add(&mut self, kind: Kind, bytes: &[u8]) -> bool {
+        if self.items.len() >= ITEMS || bytes.len() > BYTES.saturating_sub(self.bytes.len()) {
+            return false;
+        }
+        if self.bytes.extend_from_slice(bytes).is_err() {
+            return false;
+        }
+        let to = self.bytes.len();
+        self.items.push(Item { kind, to }).is_ok()
+    }
+
+    /// Copies of all items. It is None where a start has bytes that no text has.
+    pub(crate) fn copy(&self, alloc: Global) -> Result<Option<Items<Taken>>, NoMemory> {
+        let mut copies = Items::new(alloc);
+        let mut from = 0;
+        for item in self.items.as_slice() {
+            match copy_item(alloc, item.kind, part(self.bytes.as_slice(), from, item.to))? {
+                Some(taken) => copies.push(taken)?,
+                None => return Ok(None),
+            }
+            from = item.to;
+        }
+        Ok(Some(copies))
+    }
+}
+
+fn part(bytes: &[u8], from: usize, to: usize) -> &[u8] {
+    if from <= to && to <= bytes.len() {
+        &bytes[from..to]
+    } else {
+        &[]
+    }
+}
+
+fn copy_item(alloc: Global, kind: Kind, bytes: &[u8]) -> Result<Option<Taken>, NoMemory> {
+    let mut copy = Vec::with_capacity(alloc, bytes.len())?;
+    copy.extend_from_slice(bytes)?;
+    Ok(match kind {
+        Kind::Start => Text::from_vec(copy).map(Taken::Start),
+        Kind::Line => Some(Taken::Line(Bytes::from_vec(copy))),
+        Kind::End => Some(Taken::End),
+    })
+}
+
+/// What the sixteen outlets took, to be read once they are not in use any more: the ends may be boxed and dropped by
+/// then.
+#[derive(Drop)]
+pub struct Records {
+    pub(crate) board: Arc<Board, Global>,
+}
+
+impl Records {
+    /// Copies of all that the outlet of this lane took, in order. It is None where that had more than 64 items, so
+    /// that the last ends are missing, and where the lane isn't from 1 to 16.
+    pub fn of(&self, alloc: Global, lane: u8) -> Result<Option<Items<Taken>>, NoMemory> {
+        self.board.copy_record(alloc, lane)
+    }
+}
