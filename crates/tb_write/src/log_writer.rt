@@ -49,6 +49,13 @@ impl LogWriter {
         }
     }
 
+    /// How many entries it has been given.
+    pub fn written(&self) -> u64
+        ensures { result ≡ self.now.written }
+    {
+        self.written
+    }
+
     /// Takes the next entries.
     pub fn put<O: Sink>(&mut self, entries: &[Entry], out: &mut O) -> Result<(), LogFault>
         ensures ok { OnOk result (Owes (O.taken out.old) (O.taken out.new)
