@@ -1,0 +1,31 @@
+-- What an outlet takes of what is handed out, and how much room the text of a line needs.
+use Rattle.std.specs.Prelude.{ℕ, List, []}
+use Rattle.tb_terms.specs.declared.term.Term.{out-Term}
+use Rattle.tb_terms.specs.Texts.{term_text}
+use Rattle.tb_log.specs.declared.entry.Out.{Out}
+use Rattle.tb_log.specs.declared.entry.Out.TheVariants as out
+use Rattle.tb_log.specs.Shapes.{IsForTool}
+use Rattle.tb_edge.specs.declared.given.Taken.{Taken}
+use Rattle.tb_edge.specs.declared.given.Taken.TheVariants as taken
+
+-- a line for a tool, and no start or end
+abbrev pub IsLineInShape : Out → Type 0
+IsLineInShape (out.Start command) = ⊥
+IsLineInShape (out.Line term) = IsForTool (out-Term term)
+IsLineInShape out.End = ⊥
+
+-- the text of a line, which has no newline
+abbrev pub line_text : Out → List ℕ
+line_text (out.Start command) = []
+line_text (out.Line term) = term_text term
+line_text out.End = []
+
+-- how many bytes the text of a line may have: 21 for each one of its parts' size, and 64 for the name around them
+abbrev pub most_line_text : ℕ
+most_line_text = 1376320
+
+-- a start as its command, a line as its text, an end as such
+abbrev pub taken_of : Out → Taken
+taken_of (out.Start command) = taken.Start command
+taken_of (out.Line term) = taken.Line (term_text term)
+taken_of out.End = taken.End
