@@ -81,8 +81,8 @@ stays-on origin other log more stopped core view kept spare same = record {
 pub represents-on : {W P T : Type 0} (view : View P W T) (old new : LiveBus W P T) (log more : LogState) (entries : List Entry) →
     Represents view old log → IsSound view new → new.origin ≡ old.origin → more.limit ≡ log.limit → more.entries ≡ log.entries ++ entries → bus_of view new ≡ replay (bus_of view old) entries → IsTrace (bus_of view old) entries →
     (bus_of view new).now ≤ (bus_of view old).now + length entries → (bus_of view new).next_number ≤ (bus_of view old).next_number + length entries →
-    (bus_of view new).bench.next_tool ≤ (bus_of view old).bench.next_tool + length entries → Represents view new more
-represents-on view old new log more entries stands sound same kept grown leads trace much many came =
+    (bus_of view new).bench.next_tool ≤ (bus_of view old).bench.next_tool + length entries → length log.entries + length entries ≤ log.limit → Represents view new more
+represents-on view old new log more entries stands sound same kept grown leads trace much many came room =
     let long : length more.entries ≡ length log.entries + length entries = ap length grown ∙ length-append log.entries entries in
     let ticks = stands.ticks in
     let next = stands.next in
@@ -95,6 +95,7 @@ represents-on view old new log more entries stands sound same kept grown leads t
           (subst (λ (o : Origin). IsTrace (start o) (log.entries ++ entries)) (sym same)
           (trace-append (start old.origin) log.entries entries stands.trace (subst (λ (b : Bus). IsTrace b entries) stands.bus_is trace)));
       limit = kept ∙ stands.limit ∙ ap (λ (o : Origin). o.limit) (sym same);
+      within = subst (λ (n : ℕ). length more.entries ≤ n) (sym kept) (omega arith);
       few = subst (λ (o : Origin). o.limit ≤ 4000000) (sym same) stands.few;
       ticks = omega arith;
       next = omega arith;
@@ -115,6 +116,7 @@ represents-same view old new log stands same =
       bus_is = same.bus ∙ stands.bus_is ∙ ap (λ o. replay (start o) log.entries) (sym same.origin);
       trace = subst (λ (o : Origin). IsTrace (start o) log.entries) (sym same.origin) stands.trace;
       limit = stands.limit ∙ ap (λ (o : Origin). o.limit) (sym same.origin);
+      within = stands.within;
       few = subst (λ (o : Origin). o.limit ≤ 4000000) (sym same.origin) stands.few;
       ticks = omega arith;
       next = omega arith;

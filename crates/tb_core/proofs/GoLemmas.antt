@@ -1,5 +1,5 @@
 -- The first of the moves of a bus, and what a step logs of it.
-use Rattle.std.proofs.Common.{◌≡◌, List, [], ◌∷◌, refl, ap, sym, ◌∙◌, Option, Some, None, Bool, true, false, not, is_some, option_map, option_to_list, if◌then◌else◌}
+use Rattle.std.proofs.Common.{◌≡◌, ◌≤◌, ◌+◌, ℕ, List, [], ◌∷◌, length, refl, ap, sym, ◌∙◌, arith, Option, Some, None, Bool, true, false, not, is_some, option_map, option_to_list, if◌then◌else◌}
 use Rattle.tb_bus.specs.Helpers.Candidates.{first}
 use Rattle.tb_bus.specs.Buses.{Bus}
 use Rattle.tb_bus.specs.Steps.{Move, moves, moves_while_up, steps, step_of, label_of, apply}
@@ -9,6 +9,7 @@ use Rattle.tb_log.specs.Limits.{has_room}
 use Rattle.tb_log.specs.declared.entry.Entry.{Entry}
 use Rattle.tb_log.specs.declared.entry.Entry.TheVariants.{Did, Quiet}
 use Rattle.tb_bus.proofs.TraceLemmas.{steps-first, steps-none, after-first, legal-first, legal-quiet}
+use Rattle.tb_core.proofs.CoreLemmas.{room-long}
 
 -- a bus that is down makes no move
 down-nothing : (down : Bool) (ms : List Move) → down ≡ true → (if down then [] else ms) ≡ []
@@ -76,3 +77,8 @@ quiet-trace bus false e f = legal-quiet bus e f
 pub quiet-replay : (bus : Bus) (said : Bool) → bus ≡ replay bus (if said then [] else Quiet ∷ [])
 quiet-replay bus true = refl
 quiet-replay bus false = refl
+
+-- what says quiet where it is to be said is within the limit, where there is room for it
+pub quiet-long : (limit : ℕ) (log : List Entry) (quiet : Bool) → length log ≤ limit → (quiet ≡ false → has_room limit log Quiet ≡ true) → length log + length (let said : List Entry = if quiet then [] else Quiet ∷ [] in said) ≤ limit
+quiet-long limit log true within room = omega arith
+quiet-long limit log false within room = room-long limit log Quiet (room refl)

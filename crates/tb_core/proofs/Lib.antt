@@ -18,3 +18,4 @@ pub mod ToolLemmas
 pub mod OutLemmas
 pub mod SpokenLemmas
 pub mod BenchLemmas
+pub mod FullLemmas

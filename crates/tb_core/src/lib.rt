@@ -5,6 +5,7 @@ mod acting;
 mod answers;
 mod bus;
 mod inboxes;
+mod laws;
 mod looking;
 mod machine;
 mod opening;
@@ -12,4 +13,5 @@ mod speaking;
 mod ticking;
 
 pub use answers::{CoreFault, Stepped, TakeOut};
+pub use laws::a_full_log_is_at_its_limit;
 pub use machine::Core;

@@ -77,6 +77,7 @@ impl<W: Walker> Core<W> {
     pub fn log(&self) -> &[Entry]
         ensures value { result.now ≡ self.now.log }
         ensures trace { IsTrace (start self.now.origin) self.now.log }
+        ensures within { length self.now.log ≤ self.now.origin.limit }
     {
         self.log.entries()
     }

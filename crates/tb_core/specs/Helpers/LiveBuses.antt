@@ -148,6 +148,7 @@ pub record Represents {W P T : Type 0} (view : View P W T) (bus : LiveBus W P T)
   pub bus_is : bus_of view bus ≡ replay (start bus.origin) log.entries
   pub trace : IsTrace (start bus.origin) log.entries
   pub limit : log.limit ≡ bus.origin.limit
+  pub within : length log.entries ≤ log.limit
   pub few : bus.origin.limit ≤ most_entries
   pub ticks : bus.ticks ≤ length log.entries
   pub next : bus.marks.next_number ≤ 10001 + length log.entries

@@ -5,7 +5,7 @@ use Rattle.tb_bus.specs.Traces.{fed}
 use Rattle.tb_bus.proofs.TraceLemmas.{legal-fed}
 use Rattle.tb_core.specs.Cores.{HandIn}
 use Rattle.tb_core.specs.Helpers.LiveBuses.{bus_of}
-use Rattle.tb_core.proofs.CoreLemmas.{bus-seen, fed-next, fed-on, fed-within, full-seen, logs-on, represents-on, still-next}
+use Rattle.tb_core.proofs.CoreLemmas.{bus-seen, fed-next, fed-on, fed-within, full-seen, logs-on, represents-on, room-long, still-next}
 use Rattle.tb_core.proofs.ToolLemmas.{fed-tools}
 use Rattle.tb_core.proofs.machine.Core.hand_in.Goals as goal
 
@@ -19,6 +19,7 @@ invariant_of-self-2 g c =
     (fed-within bus (bus_of g.W.Walker.view c.hand.new.bus) c.args.input (Fed c.args.input c.in_ok-reply.reply) c.in_ok-reply.ensures.bus)
     (still-next bus (bus_of g.W.Walker.view c.hand.new.bus) entries (ap (λ (b : Bus). b.next_number) c.in_ok-reply.ensures.bus ∙ fed-next bus c.args.input))
     (fed-tools bus (bus_of g.W.Walker.view c.hand.new.bus) c.args.input (Fed c.args.input c.in_ok-reply.reply) c.in_ok-reply.ensures.bus)
+    (room-long c.self.inside.log.limit c.self.inside.log.entries (Fed c.args.input (fed bus c.args.input).reply) c.in_ok-reply.ensures.room)
 
 pub returns-clause-reply : goal.returns-clause-reply
 returns-clause-reply g c =

@@ -20,6 +20,7 @@ invariant_of-result g c =
       bus_is = opens.bus ∙ ap start (sym opens.origin) ∙ ap (replay (start bus.origin)) (sym c.new.ensures.entries);
       trace = subst (λ (entries : List Entry). IsTrace (start bus.origin) entries) (sym c.new.ensures.entries) tt;
       limit = c.new.ensures.limit ∙ ap (λ (o : Origin). o.limit) (sym opens.origin);
+      within = subst (λ (entries : List Entry). length entries ≤ log.limit) (sym c.new.ensures.entries) (omega arith);
       few = subst (λ (o : Origin). o.limit ≤ 4000000) (sym opens.origin) c.requires.limit;
       ticks = omega arith;
       next = omega arith;

@@ -7,8 +7,8 @@ use Rattle.tb_bus.specs.Helpers.Candidates.{first, rows_of}
 use Rattle.tb_bus.proofs.TraceLemmas.{steps-first, steps-none}
 use Rattle.tb_core.specs.Helpers.LiveBuses.{bus_of, move_in}
 use Rattle.tb_core.specs.Cores.{CoreState, MakeStep, ends_quiet, entries_of, lacks_room}
-use Rattle.tb_core.proofs.CoreLemmas.{apply-now, bus-seen, full-seen, logs-on, one-next, represents-on, represents-same, room-seen, still-next, still-within, would-on}
-use Rattle.tb_core.proofs.GoLemmas.{did-entry, did-trace, did-replay, down-entry, quiet_if, quiet-entry, quiet-listed, quiet-room, quiet-trace, quiet-replay}
+use Rattle.tb_core.proofs.CoreLemmas.{apply-now, bus-seen, full-seen, logs-on, one-next, represents-on, represents-same, room-long, room-seen, still-next, still-within, would-on}
+use Rattle.tb_core.proofs.GoLemmas.{did-entry, did-trace, did-replay, down-entry, quiet_if, quiet-entry, quiet-listed, quiet-long, quiet-room, quiet-trace, quiet-replay}
 use Rattle.tb_core.proofs.ToolLemmas.{one-tools, still-tools}
 use Rattle.tb_core.proofs.machine.Core.step.Goals as goal
 
@@ -25,6 +25,7 @@ invariant_of-self-in-Some g c =
     (still-within bus (bus_of g.W.Walker.view c.make.new.bus) (Did (label_of move) ∷ []) (ap (λ (b : Bus). b.now) c.in_ok-make-in-Some.ensures.bus ∙ apply-now bus move))
     (one-next bus (bus_of g.W.Walker.view c.make.new.bus) move (Did (label_of move)) c.in_ok-make-in-Some.ensures.bus)
     (one-tools bus (bus_of g.W.Walker.view c.make.new.bus) (rows_of now.living.items) c.in-Some.candidate (Did (label_of move)) c.in_ok-make-in-Some.ensures.bus)
+    (room-long c.self.inside.log.limit c.self.inside.log.entries (Did (label_of move)) c.in_ok-make-in-Some.ensures.room)
 
 pub invariant_of-self-in-None-2 : goal.invariant_of-self-in-None-2
 invariant_of-self-in-None-2 g c =
@@ -37,6 +38,7 @@ invariant_of-self-in-None-2 g c =
     (represents-same g.W.Walker.view c.self.inside.bus now log c.self.invariant c.freshen.ensures.same)
     c.freshen.ensures.same.sound refl c.say_quiet.ensures.limit c.in_ok-say_quiet-in-None-2.ensures.ok (quiet-replay bus (ends_quiet log.entries)) (quiet-trace bus (ends_quiet log.entries) (steps-none bus nothing) c.if-self-2.false)
     (still-within bus bus entries refl) (still-next bus bus entries refl) (still-tools bus bus entries refl)
+    (quiet-long log.limit log.entries (ends_quiet log.entries) c.self.invariant.within c.in_ok-say_quiet-in-None-2.ensures.room)
 
 pub returns-in_ok-make-in-Some-clause-found : goal.returns-in_ok-make-in-Some-clause-found
 returns-in_ok-make-in-Some-clause-found g c =

@@ -6,7 +6,7 @@ use Rattle.tb_bus.specs.Buses.{Bus}
 use Rattle.tb_bus.proofs.TraceLemmas.{legal-gave}
 use Rattle.tb_core.specs.Cores.{HandOut, entries_of, lacks_room}
 use Rattle.tb_core.specs.Helpers.LiveBuses.{bus_of}
-use Rattle.tb_core.proofs.CoreLemmas.{bus-seen, full-seen, logs-on, represents-on, still-next, still-within}
+use Rattle.tb_core.proofs.CoreLemmas.{bus-seen, full-seen, logs-on, represents-on, room-long, still-next, still-within}
 use Rattle.tb_core.proofs.OutLemmas.{gave-on, left-on, nothing-on}
 use Rattle.tb_core.proofs.ToolLemmas.{still-tools}
 use Rattle.tb_core.proofs.machine.Core.take_out.Goals as goal
@@ -21,6 +21,7 @@ invariant_of-self-in-Some g c =
     c.in_ok-take-in-Some.ensures.log c.in_ok-take-in-Some.ensures.bus (legal-gave bus c.args.lane c.in_ok-take-in-Some.field-0 c.requires c.in_ok-take-in-Some.ensures.out)
     (still-within bus new entries (ap (λ (b : Bus). b.now) c.in_ok-take-in-Some.ensures.bus)) (still-next bus new entries (ap (λ (b : Bus). b.next_number) c.in_ok-take-in-Some.ensures.bus))
     (still-tools bus new entries (ap (λ (b : Bus). b.bench.next_tool) c.in_ok-take-in-Some.ensures.bus))
+    (room-long c.self.inside.log.limit c.self.inside.log.entries (Gave c.args.lane c.in_ok-take-in-Some.field-0) c.in_ok-take-in-Some.ensures.room)
 
 pub returns-in-None-clause-found : goal.returns-in-None-clause-found
 returns-in-None-clause-found g c =
