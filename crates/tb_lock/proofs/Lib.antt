@@ -1,6 +1,7 @@
 pub mod ListLemmas
 pub mod RightLemmas
 pub mod OwnLemmas
+pub mod LaneLemmas
 pub mod HistoryLemmas
 pub mod FrameLemmas
 pub mod StageLemmas

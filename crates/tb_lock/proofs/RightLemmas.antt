@@ -1,13 +1,14 @@
 -- Rights that were handed on, and rights that came together.
 use Rattle.std.proofs.Common.{◌≡◌, ◌⊎◌, ◌<◌, ◌+◌, ◌%◌, ◌^◌, ◌==◌, ℕ, zero, suc, min, max, Bool, true, false, not, ◌&&◌, ◌||◌, true≢false, refl, sym, ap, ◌∙◌, subst, inl, inr, arith, eqb-true, eq-eqb}
+use Rattle.std.proofs.lemmas.Bool.{eqb-false}
 use Rattle.std.specs.Int.{bit_at}
 use Rattle.std.specs.Prelude.{bit_and, bit_or, ◌-◌, ◌↔◌, nat_eq}
-use Rattle.std.proofs.lemmas.Nat.Bits.{bit_at-lt, bit_at_and, bit_at_or, bit_at_xor, bit_at_ones, bit_at-zero, bit_at_above, same_from_bits}
+use Rattle.std.proofs.lemmas.Nat.Bits.{bit_at-lt, bit_at_and, bit_at_or, bit_at_xor, bit_at_ones, bit_at-zero, bit_at_above, bit_at-pow_same, bit_at-pow_other, same_from_bits}
 use mathlib.Core.Logic.{dite}
 use native.Mathlib.Decide.{dec_lt}
 use Rattle.tb_log.specs.Shapes.{IsLane}
 use Rattle.tb_lock.specs.declared.rights.Rights.{Rights}
-use Rattle.tb_lock.specs.Rights.{Right, Steps, Ticks, In, Out, has, has_lane, lanes_without, without, united, AreAmong, no_rights, all_rights}
+use Rattle.tb_lock.specs.Rights.{Right, Steps, Ticks, In, Out, has, has_lane, lanes_without, without, united, AreAmong, no_rights, all_rights, lane_alone, reader_rights, writer_rights, stepper_rights, ticker_rights}
 
 without_bit : (x y : ℕ) → x < 2 → y < 2 → ((x + min x y) % 2 == 1) ≡ ((x == 1) && not (y == 1))
 without_bit zero zero one other = refl
@@ -158,3 +159,37 @@ lanes_all lanes fits lane e =
 
 pub all_among : (some : Rights) → some.ins < 2 ^ 16 → some.outs < 2 ^ 16 → AreAmong some all_rights
 all_among some ins outs = among_by some all_rights (λ _. refl) (λ _. refl) (lanes_all some.ins ins) (lanes_all some.outs outs)
+
+-- The rights for one lane, for steps or for ticks are among any that have this one.
+
+pub own_lane : (lane : ℕ) → has_lane (lane_alone lane) lane ≡ true
+own_lane lane = ap (λ (n : ℕ). n == 1) (bit_at-pow_same (lane - 1))
+
+alone_among : (lanes lane : ℕ) → has_lane lanes lane ≡ true → AreLanesAmong (lane_alone lane) lanes
+alone_among lanes lane there at e =
+    go (nat_eq (at - 1) (lane - 1)) refl
+  where
+    go : (b : Bool) → nat_eq (at - 1) (lane - 1) ≡ b → has_lane lanes at ≡ true
+    go true same = ap (λ (i : ℕ). bit_at lanes i == 1) (eqb-true (at - 1) (lane - 1) same) ∙ there
+    go false other = absurd (true≢false (sym e ∙ ap (λ (n : ℕ). n == 1) (bit_at-pow_other (lane - 1) (at - 1) (eqb-false (at - 1) (lane - 1) other))))
+
+no_lanes_among : (lanes : ℕ) → AreLanesAmong 0 lanes
+no_lanes_among lanes lane e = absurd (true≢false (sym e ∙ no_lane lane))
+
+pub reads_lane : (lane : ℕ) → has (reader_rights lane) (In lane) ≡ true
+reads_lane lane = own_lane lane
+
+pub writes_lane : (lane : ℕ) → has (writer_rights lane) (Out lane) ≡ true
+writes_lane lane = own_lane lane
+
+pub reader_among : (rights : Rights) (lane : ℕ) → has rights (In lane) ≡ true → AreAmong (reader_rights lane) rights
+reader_among rights lane there = among_by (reader_rights lane) rights (λ e. absurd (true≢false (sym e))) (λ e. absurd (true≢false (sym e))) (alone_among rights.ins lane there) (no_lanes_among rights.outs)
+
+pub writer_among : (rights : Rights) (lane : ℕ) → has rights (Out lane) ≡ true → AreAmong (writer_rights lane) rights
+writer_among rights lane there = among_by (writer_rights lane) rights (λ e. absurd (true≢false (sym e))) (λ e. absurd (true≢false (sym e))) (no_lanes_among rights.ins) (alone_among rights.outs lane there)
+
+pub stepper_among : (rights : Rights) → rights.steps ≡ true → AreAmong stepper_rights rights
+stepper_among rights there = among_by stepper_rights rights (λ _. there) (λ e. absurd (true≢false (sym e))) (no_lanes_among rights.ins) (no_lanes_among rights.outs)
+
+pub ticker_among : (rights : Rights) → rights.ticks ≡ true → AreAmong ticker_rights rights
+ticker_among rights there = among_by ticker_rights rights (λ e. absurd (true≢false (sym e))) (λ _. there) (no_lanes_among rights.ins) (no_lanes_among rights.outs)

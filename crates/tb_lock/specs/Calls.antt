@@ -1,5 +1,6 @@
 -- What the calls of a shared bus come to: those that wait for a turn are answered as by one core, whose log is the one history; and how seats join.
-use Rattle.std.specs.Prelude.{◌≡◌, ◌↔◌, ℕ, List, [], ◌++◌, length, true, false, ◌||◌, IsTrue, Result, Ok, Err, IfOk, IsErrOf, ⊤}
+use Rattle.std.specs.Prelude.{◌≡◌, ◌↔◌, ℕ, List, [], ◌++◌, length, take, drop, true, false, ◌||◌, IsTrue, Result, Ok, Err, IfOk, IsErrOf, ⊤}
+use Rattle.tb_terms.specs.declared.memory.NoMemory.{NoMemory}
 use Rattle.tb_log.specs.declared.entry.Entry.{Entry}
 use Rattle.tb_log.specs.declared.entry.Input.{Input}
 use Rattle.tb_log.specs.declared.entry.Reply.{Reply}
@@ -84,6 +85,10 @@ pub record Observes {A : Type 0} (Finds : CoreState → A → Type 0) (old new :
 -- the state of a lane
 abbrev pub IsStateOf : ℕ → CoreState → LaneState → Type 0
 IsStateOf lane core state = state ≡ lane_state (lane_at lane (bus_now core).bench)
+
+-- the entries of the log behind the first so many, and of these so many at most
+abbrev pub IsPieceOf : ℕ → ℕ → CoreState → Result (List Entry) NoMemory → Type 0
+IsPieceOf from most core found = IfOk found (λ piece. piece ≡ take most (drop from core.log))
 
 -- The bus is stopped.
 pub record StopsBus (old new : SeatView) : Type 0 where

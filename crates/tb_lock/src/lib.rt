@@ -11,7 +11,7 @@ mod share;
 mod shared;
 mod turn;
 
-pub use laws::{calls_add_their_own, joins_keep_their_own};
+pub use laws::{calls_add_their_own, joins_keep_their_own, looks_add_nothing};
 pub use rights::Rights;
 pub use seat::Seat;
 pub use shared::{NoRoom, Shared};

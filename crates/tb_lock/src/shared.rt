@@ -3,7 +3,7 @@ ghost use Rattle.tb_log.specs.Shapes.{IsInputInShape, IsLane};
 ghost use Rattle.tb_core.specs.Cores.{HandIn, MakeStep, HandOut, IsStep};
 ghost use Rattle.tb_lock.specs.Rights.{AreAmong, has, right_to, all_rights};
 ghost use Rattle.tb_lock.specs.Seats.{first_seat, kept_of, handed_on, most_seats};
-ghost use Rattle.tb_lock.specs.Calls.{IsCallInShape, Called, IsReply, IsTaken, Observes, IsStateOf, StopsBus, Joins, Closes};
+ghost use Rattle.tb_lock.specs.Calls.{IsCallInShape, Called, IsReply, IsTaken, Observes, IsStateOf, IsPieceOf, StopsBus, Joins, Closes};
 
 use crate::call::{CoreCall, HandingIn, Stepping, TakingOut};
 use crate::plays::BusRule;
@@ -18,7 +18,8 @@ use std::mem::replace;
 use std::sync::Wait;
 use tb_algebra::Walker;
 use tb_core::{Core, CoreFault, Stepped, TakeOut};
-use tb_log::{Input, Reply};
+use tb_log::{Entries, Input, Reply, piece};
+use tb_terms::NoMemory;
 use tb_tools::LaneState;
 
 /// A bus that threads share. Each takes part by a seat of its own, and the calls of all seats take turns: there is one
@@ -140,6 +141,28 @@ impl<W: Walker> Shared<W> {
         release_unchanged(&self.table.shared, &mut holder, core);
         seat.badge = holder.into_badge();
         state
+    }
+
+    /// Copies of entries of the history in the seat's turn: of those that stand behind the first `from` the first `most`,
+    /// or all where they are fewer. A seat needs no right for it. Where memory runs out, the seat has seen the history all
+    /// the same.
+    pub fn read_log<R: Wait>(
+        &self,
+        rt: &R,
+        alloc: Global,
+        seat: &mut Seat,
+        from: u64,
+        most: usize,
+    ) -> Result<Entries, NoMemory>
+        requires { seat.old.bus ≡ self.now }
+        ensures { Observes (IsPieceOf from most) seat.old seat.new result }
+    {
+        let mut holder = replace(&mut seat.badge, Badge::blank()).into_seat();
+        let core = acquire(rt, &self.table.shared, &mut holder);
+        let found = piece(alloc, core.log(), from, most);
+        release_unchanged(&self.table.shared, &mut holder, core);
+        seat.badge = holder.into_badge();
+        found
     }
 
     /// Makes a call of the core in the seat's turn.

@@ -10,3 +10,4 @@ pub mod FindLemmas
 pub mod WalkLemmas
 pub mod SettleLemmas
 pub mod PickLemmas
+pub mod SendLemmas

@@ -1,5 +1,5 @@
 use denote.Param.Send.{param_send, arg_send}
-use Rattle.tb_lock.proofs.SendLemmas.{rewriter_send, plan_send}
+use Rattle.tb_algebra.proofs.SendLemmas.{rewriter_send, plan_send}
 use Rattle.tb_lock_tests.proofs.lock.two_threads_make_one_history.Goals as goal
 
 pub side_by_side-seat-requires-send-W : goal.side_by_side-seat-requires-send-W

@@ -1,0 +1,26 @@
+-- A walk, its code and what it takes may go to another thread.
+use denote.Param.Send.{IsSend, sendable}
+use denote.Param.SendFields.{declared_send}
+use Rattle.std.proofs.Crossing.{crosses}
+use Rattle.sqlite_items.proofs.items.Items.TheSendSync.{the_send as items_send}
+use Rattle.tb_algebra.proofs.SendLemmas.{expr_row, setting_send, body_send, store_send, found_send}
+use Rattle.tb_code.specs.contracts.node.Node as node
+use Rattle.tb_code.specs.contracts.code.Code as code
+use Rattle.tb_walk.specs.contracts.branch.Branch as branch
+use Rattle.tb_walk.specs.contracts.walk.Taken as taken
+use Rattle.tb_walk.specs.contracts.walk.Walk as walk
+
+node_send : IsSend node.the_row
+node_send = search (sendable, crosses, expr_row, setting_send) depth 40
+
+pub code_send : IsSend code.the_row
+code_send = declared_send code.the_type (body_send, (items_send node.the_row node_send, tt))
+
+branch_send : IsSend branch.the_row
+branch_send = search sendable depth 30
+
+pub taken_send : IsSend taken.the_row
+taken_send = search (sendable, crosses, store_send) depth 40
+
+pub walk_send : IsSend walk.the_row
+walk_send = search (sendable, crosses, items_send, branch_send, store_send, found_send) depth 40
