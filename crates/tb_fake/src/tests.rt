@@ -1,34 +1,39 @@
-//! One pair, driven by hand.
+//! Pairs whose ends are boxed, driven by hand; and clocks that may go to another thread.
 
 use crate::{Cue, Fail, FakePair, FakePairs, fakes};
 use sqlite_items::Items;
 use std::alloc::Global;
 use std::test::Fail as TestFail;
-use tb_edge::{Beat, Bytes, Clock, Given, Got, Inlet, Outlet, Taken};
+use tb_edge::{
+    Beat, Bytes, Clock, Given, Got, Inlet, LanePair, MemClock, Outlet, RealClock, SureClock, Taken,
+};
 
-/// What is done with the pair of lane 1, and what it answers.
+/// What is done with the pair of lane 16, and what it answers. The watched outlet is that of lane 15.
 #[derive(Clone, Copy)]
 enum Step {
     Begin(&'static str, bool),
     Line(&'static str, bool),
     End,
     Close,
+    Watched,
     Next(Got, &'static str),
 }
 
-static STEPS: [Step; 9] = [
+static STEPS: [Step; 11] = [
     Step::Begin("tool", true),
+    Step::Watched,
     Step::Next(Got::Line, "one"),
     Step::Line("a", true),
     Step::Line("b", false),
     Step::Line("c", true),
     Step::End,
+    Step::Next(Got::Long, ""),
     Step::Next(Got::End, ""),
     Step::Close,
     Step::Next(Got::Over, ""),
 ];
 
-fn is_step(pair: &mut FakePair, line: &mut Vec<u8>, step: &Step) -> bool {
+fn is_step(pair: &mut LanePair, watched: &mut LanePair, line: &mut Vec<u8>, step: &Step) -> bool {
     match step {
         Step::Begin(command, ok) => pair.outlet.begin(command).is_ok() == *ok,
         Step::Line(text, ok) => pair.outlet.line(text.as_bytes()).is_ok() == *ok,
@@ -40,14 +45,17 @@ fn is_step(pair: &mut FakePair, line: &mut Vec<u8>, step: &Step) -> bool {
             pair.outlet.close();
             true
         }
-        Step::Next(got, text) => {
-            let answer = pair.inlet.next(line);
-            answer == *got && (answer != Got::Line || line.as_slice() == text.as_bytes())
-        }
+        Step::Watched => watched.outlet.begin("other").is_ok(),
+        Step::Next(got, text) => is_next(pair, line, *got, text.as_bytes()),
     }
 }
 
-/// The kinds and bytes of what lane 1 takes.
+fn is_next(pair: &mut LanePair, line: &mut Vec<u8>, got: Got, bytes: &[u8]) -> bool {
+    let answer = pair.inlet.next(line);
+    answer == got && (answer != Got::Line || line.as_slice() == bytes)
+}
+
+/// What lane 16 takes: 0 for a start, 1 for a line, 2 for an end, and the bytes.
 static TAKEN: [(u8, &str); 4] = [(0, "tool"), (1, "a"), (1, "c"), (2, "")];
 
 fn is_taken(taken: &Taken, row: &(u8, &'static str)) -> bool {
@@ -58,36 +66,84 @@ fn is_taken(taken: &Taken, row: &(u8, &'static str)) -> bool {
     }
 }
 
-fn two_cues(alloc: Global) -> Result<FakePairs, TestFail> {
-    let one = Cue {
-        lane: 1,
-        watch: 1,
-        after: 1,
-        gives: Given::Line(Bytes::from_slice(alloc, b"one")?),
-    };
-    let end = Cue {
-        lane: 1,
-        watch: 1,
-        after: 4,
-        gives: Given::End,
-    };
-    let cues = Items::from_vec(vec![in alloc; one, end]?);
-    let fails = Items::from_vec(vec![in alloc; Fail { lane: 1, call: 3 }]?);
+fn are_taken(taken: &[Taken]) -> bool {
+    for at in 0..TAKEN.len() {
+        match taken.get(at) {
+            Some(item) if is_taken(item, &TAKEN[at]) => {}
+            _ => return false,
+        }
+    }
+    taken.len() == TAKEN.len()
+}
+
+fn cue(watch: u8, after: usize, gives: Given) -> Cue {
+    Cue {
+        lane: 16,
+        watch,
+        after,
+        gives,
+    }
+}
+
+/// Lane 16 gives a line once lane 15 took something, and a line that is too long and its end once it
+/// took four items itself. Its third call fails.
+fn three_cues(alloc: Global) -> Result<FakePairs, TestFail> {
+    let one = Bytes::from_slice(alloc, b"one")?;
+    let long = Bytes::from_vec(vec![in alloc; b'x'; 65_537]?);
+    let mut cues = Items::new(alloc);
+    cues.push(cue(15, 1, Given::Line(one)))?;
+    cues.push(cue(16, 4, Given::Line(long)))?;
+    cues.push(cue(16, 4, Given::End))?;
+    let mut fails = Items::new(alloc);
+    fails.push(Fail { lane: 16, call: 3 })?;
     Ok(fakes(alloc, cues, fails)?)
 }
 
 #[test]
-fn one_pair(rt: HostRuntime) -> Result<(), TestFail> {
-    let mut made = two_cues(rt.alloc())?;
+fn boxed_pairs(rt: HostRuntime) -> Result<(), TestFail> {
+    let mut made = three_cues(rt.alloc())?;
+    let FakePair { inlet, outlet } = made.pairs.pop().ok_or("no pair")?;
+    let mut pair = LanePair {
+        inlet: Box::new(rt.alloc(), inlet)?,
+        outlet: Box::new(rt.alloc(), outlet)?,
+    };
+    let FakePair { inlet, outlet } = made.pairs.pop().ok_or("no pair")?;
+    let mut watched = LanePair {
+        inlet: Box::new(rt.alloc(), inlet)?,
+        outlet: Box::new(rt.alloc(), outlet)?,
+    };
     let mut line = Vec::new(rt.alloc());
-    let pair = made.pairs.first_mut().ok_or("no pair")?;
     for step in &STEPS {
-        assert!(rt; is_step(pair, &mut line, step));
+        assert!(rt; is_step(&mut pair, &mut watched, &mut line, step));
     }
-    let taken = made.records.of(rt.alloc(), 1)?.ok_or("lost")?;
-    assert!(rt; taken.len() == TAKEN.len());
-    for at in 0..TAKEN.len() {
-        assert!(rt; is_taken(taken.get(at).ok_or("none")?, &TAKEN[at]));
+    let taken = made.records.of(rt.alloc(), 16)?.ok_or("lost")?;
+    assert!(rt; are_taken(taken.as_slice()));
+    watched.outlet.close();
+    for other in made.pairs.as_mut_slice() {
+        other.outlet.close();
     }
+    assert!(rt; gives(&mut made.clock, &[Beat::End, Beat::End]));
+    Ok(())
+}
+
+fn gives<C: Clock + Send>(clock: &mut C, beats: &[Beat]) -> bool {
+    for beat in beats {
+        if clock.wait() != *beat {
+            return false;
+        }
+    }
+    true
+}
+
+#[test]
+fn clocks(rt: HostRuntime) -> Result<(), TestFail> {
+    let mut fails = Items::new(rt.alloc());
+    fails.push(1)?;
+    let mut mem = MemClock::new(1, fails);
+    assert!(rt; gives(&mut mem, &[Beat::Failed, Beat::Tick, Beat::End]));
+    let mut sure = SureClock::new(1);
+    assert!(rt; gives(&mut sure, &[Beat::Tick, Beat::End, Beat::End]));
+    let mut real = RealClock::new(&rt);
+    assert!(rt; gives(&mut real, &[Beat::Tick, Beat::Tick]));
     Ok(())
 }
