@@ -1,4 +1,13 @@
-pub mod Words
-pub mod Lines
-pub mod Outcomes
+pub mod Asking
+pub mod Causes
+pub mod Check
+pub mod Completeness
 pub mod Helpers
+pub mod Lines
+pub mod Loading
+pub mod Outcomes
+pub mod Reporting
+pub mod Ring
+pub mod Sim
+pub mod Statuses
+pub mod Views

@@ -1,11 +1,17 @@
 //! The whole ToolBus, from the words of the command line on.
 #![tactic(auto)]
 
-mod line;
-mod log_writer;
+mod check;
+mod fault;
+mod laws;
+mod loading;
+mod report;
+mod ring;
+mod sim;
 mod status;
 mod top;
-pub mod words;
 
+pub use fault::Fault;
+pub use laws::{a_simulation_that_ends_is_put, an_accepted_script_is_told};
 pub use status::{Bound, Edge, Status};
 pub use top::toolbus;

@@ -1,4 +1,4 @@
-use crate::words::WordFault;
+use tb_cli::WordFault;
 use tb_feed::FeedFault;
 use tb_script::ScriptFault;
 
@@ -35,7 +35,7 @@ pub enum Status {
 
 impl Status {
     ghost use Rattle.std.specs.Prelude.{◌≡◌};
-    ghost use Rattle.tb_top.specs.Lines.{status_number};
+    ghost use Rattle.tb_top.specs.Statuses.{status_number};
 
     /// The exit status of the program.
     pub fn number(&self) -> u8

@@ -1,0 +1,170 @@
+-- Where nothing of the outside fails, and no limit is met, a command ends well, or memory ran out.
+use Rattle.std.proofs.Common.{◌≡◌, ◌≢◌, ℕ, ◌<◌, ◌≤◌, Option, Some, None, List, [], ◌∷◌, Result, Ok, Err, refl, ap, sym, ◌∙◌, subst, length, inl, inr, ◌⊎◌, arith}
+use Rattle.tb_body.specs.declared.program.Program.{Program}
+use Rattle.tb_bus.specs.Buses.{start}
+use Rattle.tb_cli.specs.declared.command.Command.{Command}
+use Rattle.tb_cli.specs.declared.command.Command.TheVariants as command
+use Rattle.tb_edge.specs.Faults.{Rose}
+use Rattle.tb_expand.specs.declared.fault.ExpandFault.TheVariants as expand
+use Rattle.tb_feed.specs.Feeds.{IsFeedOf, IsFirstBad}
+use Rattle.tb_feed.specs.declared.fault.FeedFault.{FeedFault}
+use Rattle.tb_feed.specs.declared.fault.FeedFault.TheVariants as feed_fault
+use Rattle.tb_feed.proofs.FeedLemmas.{feed-fine, one-feed}
+use Rattle.tb_log.specs.declared.entry.Entry.{Entry}
+use Rattle.tb_log.specs.declared.entry.Input.{Input}
+use Rattle.tb_script.specs.Findings.{IsFound, NoTokens, NoScript, Improper, Recursive, Large, ManyRoots, Program'}
+use Rattle.tb_script.specs.declared.fault.ScriptFault.{ScriptFault}
+use Rattle.tb_script.specs.declared.fault.ScriptFault.TheVariants as script
+use Rattle.tb_sim.specs.Simulation.{IsSim, limits_of, sim_start}
+use Rattle.tb_sim.specs.declared.ends.SimEnd.{SimEnd}
+use Rattle.tb_sim.specs.declared.ends.SimEnd.TheVariants as sim
+use Rattle.tb_sim.proofs.SimTraces.{one-sim}
+use Rattle.tb_top.specs.Check.{CheckOutcome}
+use Rattle.tb_top.specs.Loading.{HasProgram, IsLoaded, IsRefused, IsTooLong, IsUnloaded, most_bytes}
+use Rattle.tb_top.specs.Outcomes.{Comes}
+use Rattle.tb_top.specs.Causes.{IsCaused}
+use Rattle.tb_top.specs.Completeness.{MustEnd, Reads}
+use Rattle.tb_top.specs.Reporting.{Reported, Reports}
+use Rattle.tb_top.specs.Sim.{IsFed, IsFeedRefused, IsSimOf, Request, SimOutcome, origin_for}
+use Rattle.tb_top.specs.Views.{Seen}
+use Rattle.tb_top.specs.declared.fault.Fault.{Fault}
+use Rattle.tb_top.specs.declared.fault.Fault.TheVariants.{Script, Feed, Words, File, Out, Limit, NoMemory}
+use Rattle.tb_top.specs.declared.status.Status.{Status}
+use Rattle.tb_top.specs.declared.status.Status.TheVariants as status
+use Rattle.tb_top.specs.declared.status.Edge.TheVariants as edge
+use Rattle.tb_top.specs.declared.status.Bound.TheVariants as bound
+
+-- bytes that have a program aren't refused
+not-refused : (bytes : List ℕ) (program : Program) (fault : ScriptFault) → IsFound bytes (Program' program) → IsRefused bytes fault → ⊥
+not-refused bytes program (script.Lex fault) found h = let same : NoTokens fault ≡ Program' program = found.only (NoTokens fault) h.holds in cc
+not-refused bytes program (script.Parse fault) found h = let same : NoScript fault ≡ Program' program = found.only (NoScript fault) h.holds in cc
+not-refused bytes program (script.Check fault) found h = let same : Improper fault ≡ Program' program = found.only (Improper fault) h.holds in cc
+not-refused bytes program (script.Expand (expand.Recursion names)) found h = let same : Recursive names ≡ Program' program = found.only (Recursive names) h.holds in cc
+not-refused bytes program (script.Expand (expand.TooLarge name)) found h = let same : Large name ≡ Program' program = found.only (Large name) h.holds in cc
+not-refused bytes program (script.Expand expand.NoMemory) found h = h
+not-refused bytes program (script.Roots count) found h = let same : ManyRoots count ≡ Program' program = found.only (ManyRoots count) h.holds in cc
+not-refused bytes program (script.NotBuilt token) found h = h
+not-refused bytes program script.NoMemory found h = h
+not-refused bytes program (script.TooLong len) found h = h
+
+-- bytes that are loaded are those that are told
+is-told : (file : Option (List ℕ)) (bytes all : List ℕ) → file ≡ Some bytes → IsLoaded file all → all ≡ bytes
+is-told file bytes all told loaded = (subst (λ (it : Option (List ℕ)). IsLoaded it all) told loaded).0
+
+-- a name that is told to hold few bytes doesn't hold too many
+not-long : (bytes : List ℕ) (len : ℕ) → length bytes ≤ most_bytes → IsTooLong (Some bytes) len → ⊥
+not-long bytes len few h = let same : len ≡ length bytes = h.1 in omega (h.0, same, few, arith)
+
+-- the file of a script that is accepted is loaded
+not-unloaded : (bytes : List ℕ) (program : Program) (fault : ScriptFault) → length bytes ≤ most_bytes → IsFound bytes (Program' program) → IsUnloaded (Some bytes) (Script fault) → ⊥
+not-unloaded bytes program (script.TooLong len) few found h = not-long bytes len few h
+not-unloaded bytes program (script.Lex fault) few found (all, loaded, refused) = not-refused bytes program (script.Lex fault) found (subst (λ (bs : List ℕ). IsRefused bs (script.Lex fault)) loaded.0 refused)
+not-unloaded bytes program (script.Parse fault) few found (all, loaded, refused) = not-refused bytes program (script.Parse fault) found (subst (λ (bs : List ℕ). IsRefused bs (script.Parse fault)) loaded.0 refused)
+not-unloaded bytes program (script.Check fault) few found (all, loaded, refused) = not-refused bytes program (script.Check fault) found (subst (λ (bs : List ℕ). IsRefused bs (script.Check fault)) loaded.0 refused)
+not-unloaded bytes program (script.Expand fault) few found (all, loaded, refused) = not-refused bytes program (script.Expand fault) found (subst (λ (bs : List ℕ). IsRefused bs (script.Expand fault)) loaded.0 refused)
+not-unloaded bytes program (script.Roots count) few found (all, loaded, refused) = not-refused bytes program (script.Roots count) found (subst (λ (bs : List ℕ). IsRefused bs (script.Roots count)) loaded.0 refused)
+not-unloaded bytes program (script.NotBuilt token) few found (all, loaded, refused) = refused
+not-unloaded bytes program script.NoMemory few found (all, loaded, refused) = refused
+
+-- what a command answers that ends well, or for which memory ran out
+abbrev pub IsWell : {A : Type 0} → Result A Fault → Type 0
+IsWell (Ok done) = Unit {0}
+IsWell (Err NoMemory) = Unit {0}
+IsWell _ = ⊥
+
+-- `check` of a script that is accepted
+pub check-well : {A : Type 0} (bytes : List ℕ) (program : Program) (old new : Option (List ℕ)) (answer : Result A Fault) → length bytes ≤ most_bytes → IsFound bytes (Program' program) →
+    (answer ≡ Err File → ⊥) → (answer ≡ Err Out → ⊥) → CheckOutcome (Some bytes) old new answer → IsWell answer
+check-well bytes program old new (Ok done) few found file out h = tt
+check-well bytes program old new (Err NoMemory) few found file out h = tt
+check-well bytes program old new (Err File) few found file out h = absurd (file refl)
+check-well bytes program old new (Err Out) few found file out h = absurd (out refl)
+check-well bytes program old new (Err (Script fault)) few found file out h = absurd (not-unloaded bytes program fault few found h.0)
+check-well bytes program old new (Err (Feed fault)) few found file out h = absurd h
+check-well bytes program old new (Err (Words fault)) few found file out h = absurd h
+check-well bytes program old new (Err (Limit bound)) few found file out h = absurd h
+
+-- a fault of a feed that reads
+not-unread : (held : List ℕ → Option (List ℕ)) (feed : Option (List ℕ)) (inputs : List Input) (fault : FeedFault) → Reads held feed inputs → IsFeedRefused held feed fault → ⊥
+not-unread held None inputs fault reads h = h
+not-unread held (Some name) inputs (feed_fault.Line number) (bytes, told, few, is) (all, loaded, bad) =
+    feed-fine bytes inputs number is (subst (λ (bs : List ℕ). IsFirstBad bs number) (is-told (held name) bytes all told loaded) bad)
+not-unread held (Some name) inputs (feed_fault.TooLong len) (bytes, told, few, is) h =
+    not-long bytes len few (subst (λ (file : Option (List ℕ)). IsTooLong file len) told h)
+not-unread held (Some name) inputs feed_fault.NoMemory reads h = h
+
+-- the inputs of a feed that reads are those that are fed
+one-fed : (held : List ℕ → Option (List ℕ)) (feed : Option (List ℕ)) (inputs others : List Input) → Reads held feed inputs → IsFed held feed others → others ≡ inputs
+one-fed held None inputs others reads fed = fed ∙ sym reads
+one-fed held (Some name) inputs others (bytes, told, few, is) (all, loaded, fed) =
+    one-feed bytes others inputs (subst (λ (bs : List ℕ). IsFeedOf bs others) (is-told (held name) bytes all told loaded) fed) is
+
+-- a file that has a program has that one
+one-program : (file : Option (List ℕ)) (bytes : List ℕ) (program other : Program) → file ≡ Some bytes → IsFound bytes (Program' program) → HasProgram file other → other ≡ program
+one-program file bytes program other told found has =
+    let there : IsFound bytes (Program' other) = subst (λ (bs : List ℕ). IsFound bs (Program' other)) (is-told file bytes has.bytes told has.loaded) has.found in
+    let same : Program' other ≡ Program' program = found.only (Program' other) there.holds in cc
+
+-- a program and inputs have one simulation
+same-end : (request : Request) (program other : Program) (inputs others : List Input) (log more : List Entry) (last : SimEnd) → other ≡ program → others ≡ inputs →
+    IsSim (limits_of request.steps (origin_for request program)) (sim_start (start (origin_for request program)) inputs) log sim.Down →
+    IsSim (limits_of request.steps (origin_for request other)) (sim_start (start (origin_for request other)) others) more last → last ≡ sim.Down
+same-end request program other inputs others log more last p i ends is =
+    let moved : IsSim (limits_of request.steps (origin_for request program)) (sim_start (start (origin_for request program)) inputs) more last =
+    subst (λ (q : Program). IsSim (limits_of request.steps (origin_for request q)) (sim_start (start (origin_for request q)) inputs) more last) p
+    (subst (λ (xs : List Input). IsSim (limits_of request.steps (origin_for request other)) (sim_start (start (origin_for request other)) xs) more last) i is) in
+    (one-sim (limits_of request.steps (origin_for request program)) (sim_start (start (origin_for request program)) inputs) more log last sim.Down moved ends).1
+
+ends-down : (held : List ℕ → Option (List ℕ)) (request : Request) (log : List Entry) (last : SimEnd) → MustEnd held request → IsSimOf held request log last → last ≡ sim.Down
+ends-down held request log last must is =
+    same-end request must.program is.program must.inputs is.inputs must.log log last
+    (one-program (held request.script) must.bytes must.program is.program must.told must.found is.has) (one-fed held request.feed must.inputs is.inputs must.reads is.fed) must.ends is.simulated
+
+pub sim-well : {A : Type 0} (held : List ℕ → Option (List ℕ)) (request : Request) (old new : Option (List ℕ)) (answer : Result A Fault) → MustEnd held request →
+    (answer ≡ Err File → ⊥) → (answer ≡ Err Out → ⊥) → SimOutcome held request old new answer → IsWell answer
+sim-well held request old new (Ok done) must file out h = tt
+sim-well held request old new (Err NoMemory) must file out h = tt
+sim-well held request old new (Err File) must file out h = absurd (file refl)
+sim-well held request old new (Err Out) must file out h = absurd (out refl)
+sim-well held request old new (Err (Script fault)) must file out h =
+    absurd (not-unloaded must.bytes must.program fault must.few must.found (subst (λ (told : Option (List ℕ)). IsUnloaded told (Script fault)) must.told h.0))
+sim-well held request old new (Err (Feed fault)) must file out h = absurd (not-unread held request.feed must.inputs fault must.reads h.1)
+sim-well held request old new (Err (Words fault)) must file out h = absurd h
+sim-well held request old new (Err (Limit bound.Steps)) must file out (log, is, put) = let e : sim.Steps ≡ sim.Down = ends-down held request log sim.Steps must is in cc
+sim-well held request old new (Err (Limit bound.Events)) must file out (log, is, put) = let e : sim.Events ≡ sim.Down = ends-down held request log sim.Events must is in cc
+
+-- what is reported of an answer that ends well, or for which memory ran out
+pub reported-well : {A : Type 0} (answer : Result A Fault) (old new : Option (List ℕ)) (it : Status) → IsWell answer → (it ≡ status.Outside edge.Err → ⊥) → Reports answer old new it → (it ≡ status.Ended) ⊎ (it ≡ status.NoMemory)
+reported-well (Ok done) old new it well err h = inl h.0
+reported-well (Err NoMemory) old new it well err (inl h) = inr h.0
+reported-well (Err NoMemory) old new it well err (inr h) = absurd (err h.0)
+reported-well (Err File) old new it well err h = absurd well
+reported-well (Err Out) old new it well err h = absurd well
+reported-well (Err (Script fault)) old new it well err h = absurd well
+reported-well (Err (Feed fault)) old new it well err h = absurd well
+reported-well (Err (Words fault)) old new it well err h = absurd well
+reported-well (Err (Limit bound)) old new it well err h = absurd well
+
+-- nothing of the outside failed in the call
+file-stays : {A : Type 0} (old new : Seen) (answer : Result A Fault) → (Rose old.file_faults new.file_faults → ⊥) → IsCaused old new answer → answer ≡ Err File → ⊥
+file-stays {A} old new answer stays caused e = stays (subst (λ (it : Result A Fault). IsCaused old new it) e caused)
+
+out-stays : {A : Type 0} (old new : Seen) (answer : Result A Fault) → (Rose old.out_faults new.out_faults → ⊥) → IsCaused old new answer → answer ≡ Err Out → ⊥
+out-stays {A} old new answer stays caused e = stays (subst (λ (it : Result A Fault). IsCaused old new it) e caused)
+
+pub check-completes : (A : Type 0) (script bytes : List ℕ) (program : Program) (old new : Seen) (told more : Option (List ℕ)) (it : Status) →
+    old.held script ≡ Some bytes → length bytes ≤ most_bytes → IsFound bytes (Program' program) → (Rose old.file_faults new.file_faults → ⊥) → (Rose old.out_faults new.out_faults → ⊥) → (it ≡ status.Outside edge.Err → ⊥) →
+    Reported {A = A} (Comes (Ok (command.Check script)) old new) told more it → (it ≡ status.Ended) ⊎ (it ≡ status.NoMemory)
+check-completes A script bytes program old new told more it holds few found file out err (answer, comes, reports) =
+    reported-well answer told more it
+    (check-well bytes program old.put new.put answer few found (file-stays old new answer file comes.caused) (out-stays old new answer out comes.caused)
+    (subst (λ (held : Option (List ℕ)). CheckOutcome held old.put new.put answer) holds comes.outcome))
+    err reports
+
+pub sim-completes : (A : Type 0) (request : Request) (old new : Seen) (told more : Option (List ℕ)) (it : Status) →
+    MustEnd old.held request → (Rose old.file_faults new.file_faults → ⊥) → (Rose old.out_faults new.out_faults → ⊥) → (it ≡ status.Outside edge.Err → ⊥) →
+    Reported {A = A} (Comes (Ok (command.Sim request.script request.feed request.connects request.steps request.events)) old new) told more it → (it ≡ status.Ended) ⊎ (it ≡ status.NoMemory)
+sim-completes A request old new told more it must file out err (answer, comes, reports) =
+    reported-well answer told more it
+    (sim-well old.held request old.put new.put answer must (file-stays old new answer file comes.caused) (out-stays old new answer out comes.caused) comes.outcome)
+    err reports

@@ -1,0 +1,12 @@
+-- What has failed where a fault of the outside is told.
+use Rattle.std.specs.Prelude.{Result, Ok, Err}
+use Rattle.tb_edge.specs.Faults.{Rose}
+use Rattle.tb_top.specs.Views.{Seen}
+use Rattle.tb_top.specs.declared.fault.Fault.{Fault}
+use Rattle.tb_top.specs.declared.fault.Fault.TheVariants.{File, Out}
+
+-- A thing of the outside is named only where its count of faults rose in the call.
+abbrev pub IsCaused : {A : Type 0} → Seen → Seen → Result A Fault → Type 0
+IsCaused old new (Err File) = Rose old.file_faults new.file_faults
+IsCaused old new (Err Out) = Rose old.out_faults new.out_faults
+IsCaused old new _ = Unit {0}

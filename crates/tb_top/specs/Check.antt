@@ -1,0 +1,24 @@
+-- How `check` ends, and what was put then.
+use Rattle.std.specs.Prelude.{◌≡◌, ℕ, List, Option, Result, Ok, Err, codes}
+use Rattle.tb_edge.specs.Sinks.{Writes, WritesPrefix}
+use Rattle.tb_top.specs.Loading.{IsAccepted, IsUnloaded}
+use Rattle.tb_top.specs.declared.fault.Fault.{Fault}
+use Rattle.tb_top.specs.declared.fault.Fault.TheVariants.{Script, File, Out, NoMemory}
+
+abbrev pub ok_line : List ℕ
+ok_line = codes "ok\n"
+
+-- by what the script's name is told to hold, and what was put
+abbrev pub CheckOutcome : {A : Type 0} → Option (List ℕ) → Option (List ℕ) → Option (List ℕ) → Result A Fault → Type 0
+-- the script is accepted
+CheckOutcome told old new (Ok done) = IsAccepted told × Writes old new ok_line
+-- it is so, and the sink failed
+CheckOutcome told old new (Err Out) = IsAccepted told × WritesPrefix old new ok_line
+-- it was refused
+CheckOutcome told old new (Err (Script fault)) = IsUnloaded told (Script fault) × (new ≡ old)
+-- its file could not be read
+CheckOutcome told old new (Err File) = new ≡ old
+-- memory ran out
+CheckOutcome told old new (Err NoMemory) = new ≡ old
+-- no other answer comes
+CheckOutcome told old new _ = ⊥

@@ -1,0 +1,87 @@
+-- What the parts of the top call say to each other.
+use Rattle.std.specs.Prelude.{◌≡◌, ◌⊎◌, ℕ, List, [], ◌∷◌, ◌++◌, Option, IsSome, option_to_list, Result, Ok, Err}
+use Rattle.tb_body.specs.declared.program.Program.{Program}
+use Rattle.tb_edge.specs.Sinks.{Writes, WritesPrefix}
+use Rattle.tb_feed.specs.Feeds.{IsFirstBad}
+use Rattle.tb_feed.specs.declared.fault.FeedFault.TheVariants as feed_fault
+use Rattle.tb_script.specs.Findings.{IsFound, Program'}
+use Rattle.tb_sim.specs.declared.ends.SimEnd.{SimEnd}
+use Rattle.tb_sim.specs.declared.ends.SimEnd.TheVariants as sim
+use Rattle.tb_gen.specs.Ring.{ring_text}
+use Rattle.tb_top.specs.Loading.{HasProgram, IsRefused}
+use Rattle.tb_top.specs.Ring.{RingOutcome}
+use Rattle.tb_top.specs.Sim.{IsFed, IsFeedRefused, SimOutcome}
+use Rattle.tb_bus.specs.declared.origin.Origin.{Origin}
+use Rattle.tb_log.specs.declared.entry.Input.{Input}
+use Rattle.tb_top.specs.declared.fault.Fault.{Fault}
+use Rattle.tb_top.specs.declared.fault.Fault.TheVariants.{Script, Feed, File, Out, Limit, NoMemory}
+use Rattle.tb_top.specs.declared.status.Bound.TheVariants as bound
+
+-- these names were asked for, or perhaps none where memory ran out
+abbrev pub AsksFor : {A : Type 0} → List (List ℕ) → List (List ℕ) → List (List ℕ) → Result A Fault → Type 0
+AsksFor names old new (Err NoMemory) = (new ≡ old) ⊎ (new ≡ old ++ names)
+AsksFor names old new _ = new ≡ old ++ names
+
+-- the feed's name was, where there is one
+abbrev pub AsksForFeed : {A : Type 0} → Option (List ℕ) → List (List ℕ) → List (List ℕ) → Result A Fault → Type 0
+AsksForFeed name old new answer = AsksFor (option_to_list name) old new answer
+
+-- why bytes give no program
+abbrev pub IsRefusedBy : List ℕ → Fault → Type 0
+IsRefusedBy bytes (Script fault) = IsRefused bytes fault
+IsRefusedBy bytes NoMemory = Unit {0}
+IsRefusedBy bytes _ = ⊥
+
+-- why bytes give no feed
+abbrev pub IsBadFeed : List ℕ → Fault → Type 0
+IsBadFeed bytes (Feed (feed_fault.Line number)) = IsFirstBad bytes number
+IsBadFeed bytes NoMemory = Unit {0}
+IsBadFeed bytes _ = ⊥
+
+-- why the file of a feed gives none
+abbrev pub IsUnread : (List ℕ → Option (List ℕ)) → Option (List ℕ) → Fault → Type 0
+IsUnread held name (Feed fault) = IsFeedRefused held name fault
+IsUnread held name File = IsSome name
+IsUnread held name NoMemory = Unit {0}
+IsUnread held name _ = ⊥
+
+-- a fault that is told only behind a script that has its program
+abbrev pub IsBehindScript : Fault → Type 0
+IsBehindScript (Script fault) = ⊥
+IsBehindScript _ = Unit {0}
+
+-- what a simulation that ended so comes to, where all was put
+abbrev pub EndsAs : {A : Type 0} → SimEnd → Result A Fault → Type 0
+EndsAs last (Ok done) = last ≡ sim.Down
+EndsAs last (Err (Limit bound.Steps)) = last ≡ sim.Steps
+EndsAs last (Err (Limit bound.Events)) = last ≡ sim.Events
+EndsAs last _ = ⊥
+
+-- What came of a text behind a simulation that ended so: it was put whole, or its sink failed, or memory ran out.
+abbrev pub PutsText : {A : Type 0} → List ℕ → SimEnd → Option (List ℕ) → Option (List ℕ) → Result A Fault → Type 0
+PutsText text last old new (Err Out) = WritesPrefix old new text
+PutsText text last old new (Err NoMemory) = WritesPrefix old new text
+PutsText text last old new answer = EndsAs last answer × Writes old new text
+
+-- what comes of a simulation alone
+abbrev pub IsBehindFeed : Fault → Type 0
+IsBehindFeed Out = Unit {0}
+IsBehindFeed (Limit bound) = Unit {0}
+IsBehindFeed NoMemory = Unit {0}
+IsBehindFeed _ = ⊥
+
+-- whatever file says these inputs, and whatever file the program is that of, the outcome is that of their simulation with so many steps
+abbrev pub IsSimulated : {A : Type 0} → ℕ → Origin → List Input → Option (List ℕ) → Option (List ℕ) → Result A Fault → Type 0
+IsSimulated steps origin inputs old new answer =
+    (held : List ℕ → Option (List ℕ)) (script : List ℕ) (name : Option (List ℕ)) → IsFed held name inputs → HasProgram (held script) origin.program →
+    SimOutcome held (record { script = script; feed = name; connects = origin.connects; steps = steps; events = origin.limit }) old new answer
+
+-- The same of a text that is put whole together: memory ran out before it was put.
+abbrev pub PutsWhole : {A : Type 0} → List ℕ → SimEnd → Option (List ℕ) → Option (List ℕ) → Result A Fault → Type 0
+PutsWhole text last old new (Err Out) = WritesPrefix old new text
+PutsWhole text last old new (Err NoMemory) = new ≡ old
+PutsWhole text last old new answer = EndsAs last answer × Writes old new text
+
+-- whatever ring's script the program is that of, the outcome is that of its simulation
+abbrev pub IsRingSimulated : {A : Type 0} → Program → ℕ → Option (List ℕ) → Option (List ℕ) → Result A Fault → Type 0
+IsRingSimulated program n old new answer = (k : ℕ) → IsFound (ring_text n k) (Program' program) → RingOutcome n k old new answer

@@ -1,0 +1,85 @@
+-- How `sim` ends, and what was put then.
+use Rattle.std.specs.Prelude.{◌≡◌, ◌⊎◌, ℕ, List, [], Option, Some, None, Result, Ok, Err}
+use Rattle.tb_edge.specs.Sinks.{Writes, WritesPrefix}
+use Rattle.tb_body.specs.declared.program.Program.{Program}
+use Rattle.tb_bus.specs.declared.origin.Origin.{Origin}
+use Rattle.tb_bus.specs.Buses.{origin_of, start}
+use Rattle.tb_bus.specs.Traces.{IsTrace}
+use Rattle.tb_feed.specs.Feeds.{IsFeedOf, IsFirstBad}
+use Rattle.tb_feed.specs.declared.fault.FeedFault.{FeedFault}
+use Rattle.tb_feed.specs.declared.fault.FeedFault.TheVariants as feed_fault
+use Rattle.tb_log.specs.LogText.{log_text}
+use Rattle.tb_log.specs.declared.entry.Input.{Input}
+use Rattle.tb_log.specs.declared.entry.Entry.{Entry}
+use Rattle.tb_sim.specs.Simulation.{IsSim, limits_of, sim_start}
+use Rattle.tb_sim.specs.declared.ends.SimEnd.{SimEnd}
+use Rattle.tb_sim.specs.declared.ends.SimEnd.TheVariants as sim
+use Rattle.tb_top.specs.Loading.{HasProgram, IsAccepted, IsLoaded, IsTooLong, IsUnloaded}
+use Rattle.tb_top.specs.declared.fault.Fault.{Fault}
+use Rattle.tb_top.specs.declared.fault.Fault.TheVariants.{Script, Feed, File, Out, Limit, NoMemory}
+use Rattle.tb_top.specs.declared.status.Bound.TheVariants as bound
+
+-- What is to be simulated: the names of the script's file and of the feed's, where there is one; the commands that are connected; and how many steps and entries there may be.
+pub record Request : Type 0 where
+  pub script : List ℕ
+  pub feed : Option (List ℕ)
+  pub connects : List (List ℕ)
+  pub steps : ℕ
+  pub events : ℕ
+
+-- These inputs are fed: those of the file, or none where no file is named.
+abbrev pub IsFed : (List ℕ → Option (List ℕ)) → Option (List ℕ) → List Input → Type 0
+IsFed held None inputs = inputs ≡ []
+IsFed held (Some name) inputs = (bytes : List ℕ) × IsLoaded (held name) bytes × IsFeedOf bytes inputs
+
+-- What a fault of a feed says of its file.
+abbrev pub IsFeedRefused : (List ℕ → Option (List ℕ)) → Option (List ℕ) → FeedFault → Type 0
+IsFeedRefused held None fault = ⊥
+-- the line of this number is its first bad one
+IsFeedRefused held (Some name) (feed_fault.Line number) = (bytes : List ℕ) × IsLoaded (held name) bytes × IsFirstBad bytes number
+-- it has so many bytes, too many
+IsFeedRefused held (Some name) (feed_fault.TooLong len) = IsTooLong (held name) len
+-- running out of memory is no fault of the feed
+IsFeedRefused held (Some name) feed_fault.NoMemory = ⊥
+
+-- where the simulation of a program begins
+abbrev pub origin_for : Request → Program → Origin
+origin_for request program = origin_of program request.connects request.events
+
+-- The script has a program, these inputs are fed, and this log is that of its simulation, which ends so. It is a trace of the program.
+pub record IsSimOf (held : List ℕ → Option (List ℕ)) (request : Request) (log : List Entry) (last : SimEnd) : Type 0 where
+  pub program : Program
+  pub has : HasProgram (held request.script) program
+  pub inputs : List Input
+  pub fed : IsFed held request.feed inputs
+  pub simulated : IsSim (limits_of request.steps (origin_for request program)) (sim_start (start (origin_for request program)) inputs) log last
+  pub trace : IsTrace (start (origin_for request program)) log
+
+-- the whole text of the log of the simulation was put, which ends so
+abbrev pub PutsLog : (List ℕ → Option (List ℕ)) → Request → Option (List ℕ) → Option (List ℕ) → SimEnd → Type 0
+PutsLog held request old new last = (log : List Entry) × IsSimOf held request log last × Writes old new (log_text log)
+
+-- a prefix of that text was put
+abbrev pub PutsPrefix : (List ℕ → Option (List ℕ)) → Request → Option (List ℕ) → Option (List ℕ) → Type 0
+PutsPrefix held request old new = (log : List Entry) × (last : SimEnd) × IsSimOf held request log last × WritesPrefix old new (log_text log)
+
+-- by what names are told to hold, what is to be simulated, and what was put
+abbrev pub SimOutcome : {A : Type 0} → (List ℕ → Option (List ℕ)) → Request → Option (List ℕ) → Option (List ℕ) → Result A Fault → Type 0
+-- the bus went down
+SimOutcome held request old new (Ok done) = PutsLog held request old new sim.Down
+-- the limit of steps was reached, and another step was possible
+SimOutcome held request old new (Err (Limit bound.Steps)) = PutsLog held request old new sim.Steps
+-- the log had no room for the next entry
+SimOutcome held request old new (Err (Limit bound.Events)) = PutsLog held request old new sim.Events
+-- the sink failed
+SimOutcome held request old new (Err Out) = PutsPrefix held request old new
+-- the script was refused
+SimOutcome held request old new (Err (Script fault)) = IsUnloaded (held request.script) (Script fault) × (new ≡ old)
+-- it is accepted, and the feed was refused
+SimOutcome held request old new (Err (Feed fault)) = IsAccepted (held request.script) × IsFeedRefused held request.feed fault × (new ≡ old)
+-- a file could not be read
+SimOutcome held request old new (Err File) = new ≡ old
+-- memory ran out, before the log was put or within it
+SimOutcome held request old new (Err NoMemory) = (new ≡ old) ⊎ PutsPrefix held request old new
+-- no other answer comes
+SimOutcome held request old new _ = ⊥

@@ -1,0 +1,25 @@
+-- The status that the program ends with at each fault, and the number with which it exits at each status.
+use Rattle.std.specs.Prelude.{ℕ, List, [], ◌∷◌, ◌++◌, codes}
+use Rattle.tb_top.specs.declared.status.Status.{Status}
+use Rattle.tb_top.specs.declared.status.Status.TheVariants as status
+use Rattle.tb_top.specs.declared.status.Edge.TheVariants as edge
+use Rattle.tb_top.specs.declared.fault.Fault.{Fault}
+use Rattle.tb_top.specs.declared.fault.Fault.TheVariants.{Script, Feed, Words, File, Out, Limit, NoMemory}
+
+abbrev pub status_of : Fault → Status
+status_of (Script fault) = status.Script fault
+status_of (Feed fault) = status.Feed fault
+status_of (Words fault) = status.Words fault
+status_of File = status.Outside edge.File
+status_of Out = status.Outside edge.Out
+status_of (Limit bound) = status.Limit bound
+status_of NoMemory = status.NoMemory
+
+abbrev pub status_number : Status → ℕ
+status_number status.Ended = 0
+status_number (status.Script fault) = 1
+status_number (status.Feed fault) = 1
+status_number (status.Words fault) = 2
+status_number (status.Outside edge) = 3
+status_number (status.Limit bound) = 4
+status_number status.NoMemory = 5

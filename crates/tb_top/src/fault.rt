@@ -1,0 +1,85 @@
+ghost use Rattle.std.specs.Prelude.{◌≡◌};
+ghost use Rattle.tb_line.specs.Lines.{line_text};
+ghost use Rattle.tb_top.specs.Lines.{bound_words};
+ghost use Rattle.tb_top.specs.Helpers.Parts.{EndsAs};
+
+use crate::status::{Bound, Edge, Status};
+use tb_cli::WordFault;
+use tb_feed::FeedFault;
+use tb_line::Line;
+use tb_script::ScriptFault;
+use tb_sim::SimEnd;
+
+/// Why what the words ask for did not end well. That this could not be said is a `Status` of its own.
+#[derive(Debug, Drop)]
+pub enum Fault {
+    /// The script was refused; never because memory ran out.
+    Script(ScriptFault),
+    /// The feed was refused; never because memory ran out.
+    Feed(FeedFault),
+    /// The words were refused; never because memory ran out.
+    Words(WordFault),
+    /// A file could not be read.
+    File,
+    /// What was to be put could not be written.
+    Out,
+    Limit(Bound),
+    NoMemory,
+}
+
+impl Fault {
+    ghost use Rattle.std.specs.Prelude.{◌≡◌};
+    ghost use Rattle.tb_line.specs.Lines.{line_text};
+    ghost use Rattle.tb_top.specs.Lines.{fault_words, bound_words};
+    ghost use Rattle.tb_top.specs.Statuses.{status_of};
+
+    /// The status that the program ends with.
+    pub fn status(self) -> Status
+        ensures { result ≡ status_of self }
+    {
+        match self {
+            Fault::Script(fault) => Status::Script(fault),
+            Fault::Feed(fault) => Status::Feed(fault),
+            Fault::Words(fault) => Status::Words(fault),
+            Fault::File => Status::Outside(Edge::File),
+            Fault::Out => Status::Outside(Edge::Out),
+            Fault::Limit(bound) => Status::Limit(bound),
+            Fault::NoMemory => Status::NoMemory,
+        }
+    }
+
+    /// The words of its line.
+    pub fn line(&self) -> Line<'_>
+        ensures { line_text result ≡ fault_words self.now }
+    {
+        match self {
+            Fault::Script(fault) => fault.line(),
+            Fault::Feed(fault) => fault.line(),
+            Fault::Words(fault) => fault.line(),
+            Fault::File => Line::plain(b"outside: file"),
+            Fault::Out => Line::plain(b"outside: out"),
+            Fault::Limit(bound) => bound_line(*bound),
+            Fault::NoMemory => Line::plain(b"no memory"),
+        }
+    }
+}
+
+fn bound_line(bound: Bound) -> Line<'static>
+    ensures { line_text result ≡ bound_words bound }
+{
+    match bound {
+        Bound::Steps => Line::plain(b"limit: steps"),
+        Bound::Events => Line::plain(b"limit: events"),
+    }
+}
+
+/// What a simulation ended so comes to, where all was put.
+pub fn after_end(end: SimEnd) -> Result<(), Fault>
+    ensures { EndsAs end result }
+{
+    match end {
+        SimEnd::Down => Ok(()),
+        SimEnd::Steps => Err(Fault::Limit(Bound::Steps)),
+        SimEnd::Events => Err(Fault::Limit(Bound::Events)),
+    }
+}

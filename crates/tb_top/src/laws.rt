@@ -1,0 +1,29 @@
+ghost use Rattle.std.specs.Prelude.{◌≡◌, ◌≢◌, ◌≤◌, ◌⊎◌, ℕ, List, Option, Ok, Some, length};
+ghost use Rattle.tb_body.specs.declared.program.Program.{Program};
+ghost use Rattle.tb_cli.specs.declared.command.Command.TheVariants.{Check, Sim};
+ghost use Rattle.tb_edge.specs.Faults.{Rose};
+ghost use Rattle.tb_script.specs.Findings.{IsFound, Program'};
+ghost use Rattle.tb_top.specs.Completeness.{MustEnd};
+ghost use Rattle.tb_top.specs.Loading.{most_bytes};
+ghost use Rattle.tb_top.specs.Outcomes.{Comes};
+ghost use Rattle.tb_top.specs.Reporting.{Reported};
+ghost use Rattle.tb_top.specs.Sim.{Request};
+ghost use Rattle.tb_top.specs.Views.{Seen};
+
+use crate::status::{Edge, Status};
+
+/// What must end well ends well, unless something of the outside fails or memory runs out: `check` of a script that is accepted.
+pub fn an_accepted_script_is_told()
+    ensures { (script bytes : List ℕ) (program : Program) (old new : Seen) (told more : Option (List ℕ)) (status : Status) →
+        old.held script ≡ Some bytes → length bytes ≤ most_bytes → IsFound bytes (Program' program) →
+        (Rose old.file_faults new.file_faults → ⊥) → (Rose old.out_faults new.out_faults → ⊥) → (status ≡ Status.Outside Edge.Err → ⊥) →
+        Reported {A = Unit {0}} (Comes (Ok (Check script)) old new) told more status → (status ≡ Status.Ended) ⊎ (status ≡ Status.NoMemory) }
+{}
+
+/// The same of `sim`, where the simulation ends with the bus down.
+pub fn a_simulation_that_ends_is_put()
+    ensures { (request : Request) (old new : Seen) (told more : Option (List ℕ)) (status : Status) → MustEnd old.held request →
+        (Rose old.file_faults new.file_faults → ⊥) → (Rose old.out_faults new.out_faults → ⊥) → (status ≡ Status.Outside Edge.Err → ⊥) →
+        Reported {A = Unit {0}} (Comes (Ok (Sim request.script request.feed request.connects request.steps request.events)) old new) told more status →
+        (status ≡ Status.Ended) ⊎ (status ≡ Status.NoMemory) }
+{}

@@ -1,0 +1,90 @@
+//! How the files that a command asks for are loaded.
+ghost use Rattle.std.specs.Prelude.{◌≡◌, ◌≤◌, [], ◌∷◌, Some, IfOk, IfErr, Err};
+ghost use Rattle.tb_edge.specs.Faults.{Rose};
+ghost use Rattle.tb_feed.specs.Feeds.{IsFeedOf};
+ghost use Rattle.tb_script.specs.Findings.{IsFound, Program'};
+ghost use Rattle.tb_top.specs.Loading.{HasProgram, IsRefused, IsUnloaded};
+ghost use Rattle.tb_top.specs.Sim.{IsFed};
+ghost use Rattle.tb_top.specs.Helpers.Parts.{AsksFor, AsksForFeed, IsBadFeed, IsRefusedBy, IsUnread};
+
+use crate::fault::Fault;
+use std::alloc::Global;
+use tb_body::Program;
+use tb_edge::{Files, FilesFault, Loaded};
+use tb_feed::{Feed, FeedFault, read_feed};
+use tb_script::{ScriptFault, load};
+use tb_terms::Text;
+
+/// A longer file is refused.
+const MOST_BYTES: usize = 1_048_576;
+
+/// The program of the script in the file of this name.
+pub fn load_script<F: Files>(alloc: Global, name: &str, files: &mut F) -> Result<Program, Fault>
+    ensures ok { IfOk result (HasProgram (F.held files.old name.now)) }
+    ensures err { IfErr result (IsUnloaded (F.held files.old name.now)) }
+    ensures asks { AsksFor (name.now ∷ []) (F.asked files.old) (F.asked files.new) result }
+    ensures held_stays { F.held files.new ≡ F.held files.old }
+    ensures rose { result ≡ Err Fault.File → Rose (F.faults files.old) (F.faults files.new) }
+    ensures never_falls { F.faults files.old ≤ F.faults files.new }
+{
+    match files.load(alloc, name, MOST_BYTES) {
+        Ok(Loaded::Bytes(bytes)) => load_bytes(alloc, bytes.as_slice()),
+        Ok(Loaded::TooLong(len)) => Err(Fault::Script(ScriptFault::TooLong(len))),
+        Err(FilesFault::Failed) => Err(Fault::File),
+        Err(FilesFault::NoMemory) => Err(Fault::NoMemory),
+    }
+}
+
+/// The program of these bytes.
+pub fn load_bytes(alloc: Global, bytes: &[u8]) -> Result<Program, Fault>
+    ensures ok { IfOk result (λ program. IsFound bytes.now (Program' program)) }
+    ensures err { IfErr result (IsRefusedBy bytes.now) }
+{
+    match load(alloc, bytes) {
+        Ok(program) => Ok(program),
+        Err(ScriptFault::NoMemory) => Err(Fault::NoMemory),
+        Err(fault) => Err(Fault::Script(fault)),
+    }
+}
+
+/// The feed in the file of this name, or an empty one where there is no name.
+pub fn load_feed<F: Files>(alloc: Global, name: &Option<Text>, files: &mut F) -> Result<Feed, Fault>
+    ensures ok { IfOk result (IsFed (F.held files.old) name.now) }
+    ensures err { IfErr result (IsUnread (F.held files.old) name.now) }
+    ensures asks { AsksForFeed name.now (F.asked files.old) (F.asked files.new) result }
+    ensures rose { result ≡ Err Fault.File → Rose (F.faults files.old) (F.faults files.new) }
+    ensures never_falls { F.faults files.old ≤ F.faults files.new }
+{
+    match name {
+        Some(name) => load_feed_of(alloc, name.as_str(), files),
+        None => Ok(Feed::empty(alloc)),
+    }
+}
+
+/// The feed in the file of this name.
+fn load_feed_of<F: Files>(alloc: Global, name: &str, files: &mut F) -> Result<Feed, Fault>
+    ensures ok { IfOk result (IsFed (F.held files.old) (Some name.now)) }
+    ensures err { IfErr result (IsUnread (F.held files.old) (Some name.now)) }
+    ensures asks { AsksFor (name.now ∷ []) (F.asked files.old) (F.asked files.new) result }
+    ensures rose { result ≡ Err Fault.File → Rose (F.faults files.old) (F.faults files.new) }
+    ensures never_falls { F.faults files.old ≤ F.faults files.new }
+{
+    match files.load(alloc, name, MOST_BYTES) {
+        Ok(Loaded::Bytes(bytes)) => read_bytes(alloc, bytes.as_slice()),
+        Ok(Loaded::TooLong(len)) => Err(Fault::Feed(FeedFault::TooLong(len))),
+        Err(FilesFault::Failed) => Err(Fault::File),
+        Err(FilesFault::NoMemory) => Err(Fault::NoMemory),
+    }
+}
+
+/// The feed of these bytes.
+fn read_bytes(alloc: Global, bytes: &[u8]) -> Result<Feed, Fault>
+    ensures ok { IfOk result (IsFeedOf bytes.now) }
+    ensures err { IfErr result (IsBadFeed bytes.now) }
+{
+    match read_feed(alloc, bytes) {
+        Ok(feed) => Ok(feed),
+        Err(FeedFault::NoMemory) => Err(Fault::NoMemory),
+        Err(fault) => Err(Fault::Feed(fault)),
+    }
+}

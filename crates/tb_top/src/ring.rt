@@ -1,0 +1,162 @@
+//! `ring`: a summary of the simulation of processes in a ring that hand on messages.
+ghost use Rattle.std.specs.Prelude.{◌≡◌, ◌≤◌, ◌*◌, ◌++◌, [], false, Err, IfOk, IfErr, OnOk, OnErr, sum_by, length, decimal};
+ghost use Rattle.tb_edge.specs.Faults.{Rose};
+ghost use Rattle.tb_edge.specs.Sinks.{Writes, WritesPrefix};
+ghost use Rattle.tb_gen.specs.Ring.{ring_text};
+ghost use Rattle.tb_top.specs.Ring.{RingOutcome, last_word, ring_origin, steps_in, summary, word_after};
+ghost use Rattle.tb_top.specs.Helpers.Parts.{IsBehindFeed, IsRingSimulated, PutsWhole};
+
+use crate::fault::{Fault, after_end};
+use crate::loading::load_bytes;
+use itoa::Buffer;
+use std::alloc::Global;
+use tb_body::Program;
+use tb_core::Core;
+use tb_edge::{Failed, Sink};
+use tb_feed::Feed;
+use tb_gen::ring_script;
+use tb_log::{Entry, kind_word};
+use tb_sim::{SimEnd, simulate};
+use tb_terms::{Items, NoMemory};
+use tb_walk::Walk;
+
+/// How many steps a ring may make.
+const MOST_STEPS: u64 = 4_000_000;
+
+/// How many entries its log may have.
+const MOST_EVENTS: u32 = 4_000_000;
+
+/// Puts a summary of the simulation of `n` processes in a ring, round which a message goes `k` times.
+pub fn ring<O: Sink>(alloc: Global, n: u32, k: u32, out: &mut O) -> Result<(), Fault>
+    requires few { 2 ≤ n }
+    requires many { n ≤ 10000 }
+    requires once { 1 ≤ k }
+    requires product { n * k ≤ 1000000 }
+    ensures outcome { RingOutcome n k (O.taken out.old) (O.taken out.new) result }
+    ensures out_rose { result ≡ Err Fault.Out → Rose (O.faults out.old) (O.faults out.new) }
+{
+    let Ok(script) = ring_script(alloc, n, k) else {
+        return Err(Fault::NoMemory);
+    };
+    match load_bytes(alloc, script.as_slice()) {
+        Ok(program) => ring_program(alloc, program, n, out),
+        Err(fault) => Err(fault),
+    }
+}
+
+/// The same of the program of the ring's script.
+fn ring_program<O: Sink>(alloc: Global, program: Program, n: u32, out: &mut O) -> Result<(), Fault>
+    ensures outcome { IsRingSimulated program n (O.taken out.old) (O.taken out.new) result }
+    ensures behind { IfErr result IsBehindFeed }
+    ensures out_rose { result ≡ Err Fault.Out → Rose (O.faults out.old) (O.faults out.new) }
+{
+    match Core::start(alloc, program, &Items::new(alloc), MOST_EVENTS) {
+        Ok(mut core) => ring_core(alloc, &mut core, n, out),
+        Err(NoMemory) => Err(Fault::NoMemory),
+    }
+}
+
+/// The same over a core.
+fn ring_core<O: Sink>(
+    alloc: Global,
+    core: &mut Core<Walk>,
+    n: u32,
+    out: &mut O,
+) -> Result<(), Fault>
+    requires fresh { core.old.log ≡ [] }
+    requires running { core.old.stopped ≡ false }
+    requires origin { core.old.origin ≡ ring_origin core.old.origin.program }
+    ensures outcome { IsRingSimulated core.old.origin.program n (O.taken out.old) (O.taken out.new) result }
+    ensures behind { IfErr result IsBehindFeed }
+    ensures out_rose { result ≡ Err Fault.Out → Rose (O.faults out.old) (O.faults out.new) }
+{
+    match simulate(core, &Feed::empty(alloc), MOST_STEPS) {
+        Ok(end) => put_summary(alloc, n, core.log(), end, out),
+        Err(NoMemory) => Err(Fault::NoMemory),
+    }
+}
+
+/// Puts the summary of a simulation that ended so.
+fn put_summary<O: Sink>(
+    alloc: Global,
+    n: u32,
+    log: &[Entry],
+    end: SimEnd,
+    out: &mut O,
+) -> Result<(), Fault>
+    ensures outcome { PutsWhole (summary n log.now) end (O.taken out.old) (O.taken out.new) result }
+    ensures behind { IfErr result IsBehindFeed }
+    ensures out_rose { result ≡ Err Fault.Out → Rose (O.faults out.old) (O.faults out.new) }
+{
+    let Ok(text) = summary_text(alloc, n, log) else {
+        return Err(Fault::NoMemory);
+    };
+    match out.put(text.as_slice()) {
+        Ok(()) => after_end(end),
+        Err(Failed) => Err(Fault::Out),
+    }
+}
+
+/// The summary of a log.
+fn summary_text(alloc: Global, n: u32, log: &[Entry]) -> Result<Vec<u8>, NoMemory>
+    ensures { IfOk result (λ text. text.items ≡ summary n log.now) }
+{
+    let mut text = Vec::new(alloc);
+    text.extend_from_slice(b"processes ")?;
+    push_number(u64::from(n), &mut text)?;
+    text.extend_from_slice(b" steps ")?;
+    push_number(step_count(log) as u64, &mut text)?;
+    text.extend_from_slice(b" end ")?;
+    text.extend_from_slice(last_word(log))?;
+    text.push(b'\n')?;
+    Ok(text)
+}
+
+fn push_number(number: u64, text: &mut Vec<u8>) -> Result<(), NoMemory>
+    ensures { OnOk result (text.new.items ≡ text.old.items ++ decimal number) }
+{
+    let mut buffer = Buffer::new();
+    text.extend_from_slice(buffer.format(number).as_bytes())?;
+    Ok(())
+}
+
+/// How many steps a log has.
+fn step_count(log: &[Entry]) -> usize
+    ensures { result ≡ sum_by steps_in log.now }
+{
+    let mut count = 0;
+    for entry in log {
+        count += steps_in(entry);
+    }
+    count
+}
+
+fn steps_in(entry: &Entry) -> usize
+    ensures value { result ≡ steps_in entry.now }
+    ensures one { result ≤ 1 }
+{
+    match entry {
+        Entry::Did(_) => 1,
+        _ => 0,
+    }
+}
+
+/// The word of the last step of a log.
+fn last_word(log: &[Entry]) -> &'static [u8]
+    ensures { result.now ≡ last_word log.now }
+{
+    let mut word: &'static [u8] = b"";
+    for entry in log {
+        word = word_after(word, entry);
+    }
+    word
+}
+
+fn word_after(word: &'static [u8], entry: &Entry) -> &'static [u8]
+    ensures { result.now ≡ word_after word.now entry.now }
+{
+    match entry {
+        Entry::Did(label) => kind_word(label.kind),
+        _ => word,
+    }
+}
