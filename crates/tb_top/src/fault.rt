@@ -11,7 +11,7 @@ use tb_script::ScriptFault;
 use tb_sim::SimEnd;
 
 /// Why what the words ask for did not end well. That this could not be said is a `Status` of its own.
-#[derive(Debug, Drop)]
+#[derive(Drop)]
 pub enum Fault {
     /// The script was refused; never because memory ran out.
     Script(ScriptFault),
