@@ -6,8 +6,9 @@ use std::alloc::Global;
 use std::test::Fail;
 use tb_algebra::{Rewriter, Walker};
 use tb_core::{Core, CoreFault, Stepped, TakeOut};
-use tb_feed::read_feed;
+use tb_feed::{Feed as Inputs, read_feed};
 use tb_log::{Input, Out, Reply, why_word};
+use tb_sim::{SimEnd, simulate};
 use tb_tools::LaneState;
 use tb_walk::Walk;
 
@@ -21,9 +22,12 @@ enum Call {
     Feed(&'static str),
     NoTicks,
     Stop,
+    HasStep,
+    IsDown,
+    IsStopped,
 }
 
-use Call::{Feed, NoTicks, Step, Stop, Take};
+use Call::{Feed, HasStep, IsDown, IsStopped, NoTicks, Step, Stop, Take};
 use LaneState::{Ending, Free, Leaving, Live, Unnamed, Waiting};
 
 /// A lane, a call, what it answers, and the state of the lane after it.
@@ -32,7 +36,7 @@ type Row = (u8, Call, &'static str, LaneState);
 /// A script, whose first lane is started with `ui`; how many entries its log may have; the calls; and the log.
 type Calls = (&'static str, u32, &'static [Row], &'static str);
 
-static CALLS: [Calls; 6] = [
+static CALLS: [Calls; 7] = [
     (
         "tool calc is { command = \"calc\" } tool ui is { } \
          process P is let C : calc, U : ui, V : int in execute(calc, C?) . snd-eval(C, 7) . \
@@ -175,6 +179,29 @@ static CALLS: [Calls; 6] = [
         ],
         "",
     ),
+    // What may be asked changes nothing.
+    (
+        "process D is delta toolbus(D)",
+        1_000,
+        &[
+            (2, HasStep, "no", Free),
+            (2, Step, "quiet", Free),
+            (2, Step, "quiet", Free),
+            (2, IsDown, "no", Free),
+            (2, NoTicks, "took", Free),
+            (2, HasStep, "yes", Free),
+            (2, Step, "did", Free),
+            (2, IsDown, "yes", Free),
+            (2, Step, "down", Free),
+            (2, NoTicks, "down", Free),
+            (2, IsStopped, "no", Free),
+            (2, Stop, "none", Free),
+            (2, IsStopped, "yes", Free),
+            (2, Step, "stopped", Free),
+            (2, NoTicks, "stopped", Free),
+        ],
+        "1 quiet\n2 noticks\n3 halt\n4 drop down noticks\n",
+    ),
 ];
 
 fn fault_word(fault: CoreFault) -> &'static [u8] {
@@ -213,6 +240,10 @@ fn reply_word(answer: Result<Reply, CoreFault>) -> &'static [u8] {
     }
 }
 
+fn yes_or_no(holds: bool) -> &'static [u8] {
+    if holds { b"yes" } else { b"no" }
+}
+
 /// What is handed in by a line of a feed.
 fn input(alloc: Global, line: &str) -> Result<Input, Fail>
     ensures { IfOk result IsInputInShape }
@@ -242,6 +273,9 @@ fn called<W: Walker>(
             core.stop();
             Ok(b"none")
         }
+        Call::HasStep => Ok(yes_or_no(core.has_step()?)),
+        Call::IsDown => Ok(yes_or_no(core.is_down())),
+        Call::IsStopped => Ok(yes_or_no(core.is_stopped())),
     }
 }
 
@@ -262,7 +296,7 @@ fn first_wrong<W: Walker>(alloc: Global, calls: &Calls) -> Result<(Option<usize>
             return Ok((Some(at), Vec::new(alloc)));
         }
     }
-    Ok((None, log_text(alloc, &core, 1)?))
+    Ok((None, log_text(alloc, &core)?))
 }
 
 #[test]
@@ -290,5 +324,16 @@ fn the_lowest_lane_is_handed_out_first(rt: HostRuntime) -> Result<(), Fail> {
         (Some(1), Some(2), Some(2))
     );
     assert!(rt; taken == b"start".as_slice() && refused == b"full".as_slice());
+    Ok(())
+}
+
+#[test]
+fn no_step_is_made_where_none_may_be(rt: HostRuntime) -> Result<(), Fail> {
+    let script = "process D is delta toolbus(D)";
+    let mut core: Core<Walk> = started(rt.alloc(), script, &[], 1_000)?;
+    let end = simulate(&mut core, &Inputs::empty(rt.alloc()), 0)?;
+    assert!(rt; matches!(end, SimEnd::Steps));
+    let log = b"1 quiet\n2 noticks\n".as_slice();
+    assert_eq!(rt; log_text(rt.alloc(), &core)?.as_slice(), log);
     Ok(())
 }

@@ -1,16 +1,19 @@
-//! Tests of the libraries of terms, patterns, notes, functions, and files and sinks.
+//! Tests of values, where no data file says a row: terms, expressions, patterns, scripts and entries as they are held, laws
+//! of texts, and files and sinks.
 #![tactic(auto)]
 
 #[cfg(test)]
 mod edge;
 #[cfg(test)]
+mod entries;
+#[cfg(test)]
 mod func;
+#[cfg(test)]
+mod laws;
 #[cfg(test)]
 mod matching;
 #[cfg(test)]
-mod notes;
-#[cfg(test)]
-mod read;
+mod scripts;
 #[cfg(test)]
 mod spelt;
 #[cfg(test)]

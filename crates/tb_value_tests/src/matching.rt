@@ -1,15 +1,15 @@
-//! Terms that match patterns, and what is bound.
+//! Patterns without variables, and the largest terms and patterns.
 
 ghost use Rattle.std.specs.Prelude.{◌≡◌, [], ◌∷◌, IfOk};
 
-use crate::spelt::{Spelt, SpeltSort, name, sort, term, terms};
+use crate::spelt::{Spelt, SpeltSort, sort, term, terms};
 use std::alloc::Global;
 use std::test::Fail;
 use tb_match::{
-    Binds, copy_binds, fits_list, list_matches_are_least, match_list, match_term,
-    matches_are_least, matches_bind_once, same_patterns,
+    copy_binds, fits_list, list_matches_are_least, match_term, matches_are_least,
+    matches_bind_once, same_patterns,
 };
-use tb_terms::{Items, NoMemory, Pattern, Patterns, Sort, Term, Terms, same};
+use tb_terms::{Items, NoMemory, Pattern, Patterns, Sort, Term};
 
 fn patterns(alloc: Global, first: Pattern, second: Pattern) -> Result<Patterns, NoMemory>
     ensures { IfOk result (λ ps. ps ≡ first ∷ second ∷ []) }
@@ -20,81 +20,6 @@ fn patterns(alloc: Global, first: Pattern, second: Pattern) -> Result<Patterns, 
     Ok(patterns)
 }
 
-/// Whether these are the numbers to which slots are bound.
-fn are_numbers(binds: &Binds, wanted: &[(u32, i64)]) -> bool {
-    for (bind, (slot, number)) in binds.as_slice().iter().zip(wanted) {
-        if bind.slot != *slot || !same(&bind.value, &Term::Int(*number)) {
-            return false;
-        }
-    }
-    binds.len() == wanted.len()
-}
-
-/// Terms, and what is bound where they match `f(V7?, V7?)`.
-static TWICE: [(Spelt, Option<&[(u32, i64)]>); 3] = [
-    (Spelt::Appl(b"f", &[Spelt::Int(1), Spelt::Int(2)]), None),
-    (Spelt::Appl(b"g", &[Spelt::Int(3), Spelt::Int(3)]), None),
-    (
-        Spelt::Appl(b"f", &[Spelt::Int(3), Spelt::Int(3)]),
-        Some(&[(7, 3)]),
-    ),
-];
-
-/// `f(V7?, V7?)`
-fn twice(alloc: Global) -> Result<Pattern, NoMemory> {
-    let first = Pattern::Result(7, Sort::Int);
-    let taken = patterns(alloc, first, Pattern::Result(7, Sort::Int))?;
-    Ok(Pattern::Appl(name(alloc, b"f")?, taken))
-}
-
-/// Whether what is bound, and its copy, are as wanted.
-fn are_bound(
-    alloc: Global,
-    found: &Option<Binds>,
-    wanted: &Option<&[(u32, i64)]>,
-) -> Result<bool, NoMemory> {
-    match (found, wanted) {
-        (Some(binds), Some(numbers)) => {
-            let copies = copy_binds(alloc, binds)?;
-            Ok(are_numbers(binds, numbers) && are_numbers(&copies, numbers))
-        }
-        (None, None) => Ok(true),
-        _ => Ok(false),
-    }
-}
-
-/// Whether a term matches a pattern with these binds, or not.
-fn binds(
-    alloc: Global,
-    pattern: &Pattern,
-    term: &Term,
-    wanted: &Option<&[(u32, i64)]>,
-) -> Result<bool, NoMemory> {
-    let found = match_term(alloc, pattern, term)?;
-    Ok(are_bound(alloc, &found, wanted)?)
-}
-
-fn is_twice(
-    alloc: Global,
-    spelt: &Spelt,
-    wanted: &Option<&[(u32, i64)]>,
-) -> Result<bool, NoMemory> {
-    let pattern = twice(alloc)?;
-    let term = term(alloc, spelt)?;
-    Ok(binds(alloc, &pattern, &term, wanted)?)
-}
-
-#[test]
-fn a_variable_that_comes_again_needs_an_equal_term(rt: HostRuntime) -> Result<(), Fail> {
-    for (place, (spelt, wanted)) in TWICE.iter().enumerate() {
-        assert!(rt; is_twice(rt.alloc(), spelt, wanted)?, "at {place}");
-    }
-    matches_bind_once();
-    matches_are_least();
-    list_matches_are_least();
-    Ok(())
-}
-
 static SAMPLES: [Spelt; 5] = [
     Spelt::Appl(b"true", &[]),
     Spelt::Int(-5),
@@ -103,11 +28,8 @@ static SAMPLES: [Spelt; 5] = [
     Spelt::Appl(b"calc", &[Spelt::Int(0)]),
 ];
 
-/// A sort, and of each sample whether it has the sort.
-static SORTED: [(SpeltSort, [bool; 5]); 7] = [
-    (SpeltSort::Bool, [true, false, false, false, false]),
-    (SpeltSort::Int, [false, true, false, false, false]),
-    (SpeltSort::Str, [false, false, true, false, false]),
+/// A sort whose placeholder no script has, and of each sample whether it has the sort.
+static SORTED: [(SpeltSort, [bool; 5]); 3] = [
     (
         SpeltSort::ListOf(&SpeltSort::Int),
         [false, false, false, true, false],
@@ -117,13 +39,12 @@ static SORTED: [(SpeltSort, [bool; 5]); 7] = [
         [false, false, false, false, false],
     ),
     (SpeltSort::Tool(b"calc"), [false, false, false, false, true]),
-    (SpeltSort::Any, [true, true, true, true, true]),
 ];
 
 /// How many variables are bound, where a term matches a pattern.
 fn bound(alloc: Global, pattern: &Pattern, term: &Term) -> Result<Option<usize>, NoMemory> {
     match match_term(alloc, pattern, term)? {
-        Some(binds) => Ok(Some(binds.len())),
+        Some(binds) => Ok(Some(copy_binds(alloc, &binds)?.len())),
         None => Ok(None),
     }
 }
@@ -151,64 +72,6 @@ fn nested(alloc: Global) -> Result<Patterns, NoMemory> {
     let taken = patterns(alloc, first, Pattern::Result(1, Sort::Int))?;
     let list = patterns(alloc, Pattern::Fixed(Term::Int(5)), Pattern::List(taken))?;
     Ok(patterns(alloc, Pattern::List(list), Pattern::Result(2, Sort::Int))?)
-}
-
-/// Terms, and what is bound where they match these.
-static NESTED: [(&[Spelt], Option<&[(u32, i64)]>); 4] = [
-    (
-        &[
-            Spelt::List(&[Spelt::Int(5), Spelt::List(&[Spelt::Int(8), Spelt::Int(9)])]),
-            Spelt::Int(8),
-        ],
-        Some(&[(2, 8), (1, 9)]),
-    ),
-    (
-        &[
-            Spelt::List(&[Spelt::Int(5), Spelt::List(&[Spelt::Int(8), Spelt::Int(9)])]),
-            Spelt::Int(7),
-        ],
-        None,
-    ),
-    (
-        &[
-            Spelt::List(&[Spelt::Int(4), Spelt::List(&[Spelt::Int(8), Spelt::Int(9)])]),
-            Spelt::Int(8),
-        ],
-        None,
-    ),
-    (
-        &[Spelt::List(&[Spelt::Int(5), Spelt::List(&[Spelt::Int(8), Spelt::Int(9)])])],
-        None,
-    ),
-];
-
-/// The same of terms in a row.
-fn list_binds(
-    alloc: Global,
-    patterns: &Patterns,
-    terms: &Terms,
-    wanted: &Option<&[(u32, i64)]>,
-) -> Result<bool, NoMemory> {
-    let found = match_list(alloc, patterns, terms)?;
-    Ok(are_bound(alloc, &found, wanted)?)
-}
-
-fn is_nested(
-    alloc: Global,
-    spelt: &[Spelt],
-    wanted: &Option<&[(u32, i64)]>,
-) -> Result<bool, NoMemory> {
-    let patterns = nested(alloc)?;
-    let terms = terms(alloc, spelt)?;
-    Ok(list_binds(alloc, &patterns, &terms, wanted)?)
-}
-
-#[test]
-fn lists_match_part_by_part(rt: HostRuntime) -> Result<(), Fail> {
-    for (place, (spelt, wanted)) in NESTED.iter().enumerate() {
-        assert!(rt; is_nested(rt.alloc(), spelt, wanted)?, "at {place}");
-    }
-    Ok(())
 }
 
 /// Terms, and whether they fit 1 and any string.
@@ -243,6 +106,9 @@ fn patterns_without_variables_fit(rt: HostRuntime) -> Result<(), Fail> {
         assert_eq!(rt; fits(rt.alloc(), spelt)?, *wanted, "at {place}");
     }
     assert_eq!(rt; compared(rt.alloc())?, (true, false));
+    matches_bind_once();
+    matches_are_least();
+    list_matches_are_least();
     Ok(())
 }
 

@@ -1,7 +1,7 @@
 //! Terms and sorts as the tables of the tests spell them.
 
 use std::alloc::Global;
-use tb_terms::{Boxed, Items, Name, NoMemory, Sort, Term, Terms, Text, write_term};
+use tb_terms::{Boxed, Items, Name, NoMemory, Sort, Term, Terms, Text};
 
 /// A term.
 #[derive(Clone, Copy)]
@@ -69,11 +69,4 @@ pub(crate) fn sort(alloc: Global, spelt: &SpeltSort) -> Result<Sort, NoMemory> {
         SpeltSort::ListOf(inner) => Ok(Sort::List(Boxed::new(alloc, sort(alloc, inner)?)?)),
         SpeltSort::Tool(word) => Ok(Sort::Tool(name(alloc, word)?)),
     }
-}
-
-/// The text of a term.
-pub(crate) fn written(alloc: Global, term: &Term) -> Result<Vec<u8>, NoMemory> {
-    let mut into = Vec::new(alloc);
-    write_term(term, &mut into)?;
-    Ok(into)
 }

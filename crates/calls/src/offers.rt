@@ -1,0 +1,210 @@
+//! Calls over bodies of processes, which are written as in scripts: what a process may do next, when an atom is ready, and
+//! the values and patterns of what it sends and receives.
+
+use crate::fault::Fault;
+use crate::shared::shared_body;
+use crate::texts::{first, number, one, said, terms, two, utf8, value, yes_or_no};
+use crate::walkers::{count_bound, explored, seen_after};
+use std::alloc::Global;
+use tb_algebra::{Rewriter, is_ready};
+use tb_body::{Act, Body};
+use tb_func::{Store, eval, pattern};
+use tb_match::{Binds, match_list, match_term};
+use tb_script::{ScriptFault, load};
+use tb_terms::{Exprs, Items, Patterns, Sort, Term, has_sort, initial, write_term};
+use tb_walk::Walk;
+
+pub(crate) fn answer(
+    alloc: Global,
+    name: &str,
+    args: &[Vec<u8>],
+) -> Result<Option<Vec<u8>>, Fault> {
+    let found = match name {
+        "offers" => offers_of(alloc, &body(alloc, two(args)?.0)?, two(args)?.1)?,
+        "offers_shared" => offers_of(alloc, &shared_body(alloc, two(args)?.0)?, two(args)?.1)?,
+        "accepts" => accepted(alloc, args)?,
+        "walkers_agree" => agree(alloc, one(args)?)?,
+        "is_ready" => ready(alloc, args)?,
+        "eval" => evaluated(alloc, one(args)?)?,
+        "match_list" => matched(alloc, args)?,
+        "has_sort" => of_sort(alloc, args)?,
+        "initial" => value(alloc, &Some(initial(alloc, &sort(alloc, one(args)?)?)?))?,
+        _ => return Ok(None),
+    };
+    Ok(Some(found))
+}
+
+/// Processes that bodies may call: what stands in one happens where a `let` has set its X.
+const CALLED: &str = "process One(X : int) is if equal(X, 1) then tau fi \
+                      process Less(X : int) is One(sub(X, 1)) \
+                      process Then(X : int) is tau . if equal(X, 1) then tau fi \
+                      process From(X : int) is tau delay(X) \
+                      process Until(X : int) is tau timeout(X) \
+                      process Later(X : int) is tau . tau delay(X) \
+                      tool calc is { } toolbus()";
+
+/// The body of a script's first process.
+fn first_body(alloc: Global, script: &str) -> Result<Body, Fault> {
+    let program = match load(alloc, script.as_bytes()) {
+        Ok(program) => program,
+        Err(ScriptFault::NoMemory) => return Err(Fault::NoMemory),
+        Err(_) => return Err(Fault::Argument),
+    };
+    match program.bodies.as_slice().first() {
+        Some(body) => Ok(body.copy(alloc)?),
+        None => Err(Fault::Argument),
+    }
+}
+
+/// The body that this text has, where X is a number, 0 at first, and Y any term, at first none.
+fn body(alloc: Global, text: &[u8]) -> Result<Body, Fault> {
+    let text = utf8(text)?;
+    let script = format!(in alloc; "process P(X : int, Y : term) is {text} {CALLED}")?;
+    first_body(alloc, script.as_str())
+}
+
+/// What a process may do next after these moves, over both kinds of walkers.
+fn offers_of(alloc: Global, body: &Body, moves: &[u8]) -> Result<Vec<u8>, Fault> {
+    let rewritten = seen_after::<Rewriter>(alloc, body, moves)?;
+    let walked = seen_after::<Walk>(alloc, body, moves)?;
+    if rewritten.as_str() == walked.as_str() {
+        return said(alloc, walked.as_str());
+    }
+    let text = format!(in alloc; "{walked}, and by rewriting {rewritten}")?;
+    said(alloc, text.as_str())
+}
+
+/// How many variables a process binds as it receives terms, where it may; its first offer receives.
+fn accepted(alloc: Global, args: &[Vec<u8>]) -> Result<Vec<u8>, Fault> {
+    let (text, others) = first(args)?;
+    let body = body(alloc, text)?;
+    let terms = terms(alloc, others)?;
+    let rewritten = count_bound::<Rewriter>(alloc, &body, &terms)?;
+    let walked = count_bound::<Walk>(alloc, &body, &terms)?;
+    match walked {
+        _ if rewritten != walked => said(alloc, "another number by rewriting"),
+        Some(count) => {
+            let text = format!(in alloc; "{count} bound")?;
+            said(alloc, text.as_str())
+        }
+        None => said(alloc, "no match"),
+    }
+}
+
+/// Whether both kinds of walkers offer the same and send the same values, at first and after each list of up to four moves.
+fn agree(alloc: Global, text: &[u8]) -> Result<Vec<u8>, Fault> {
+    let body = body(alloc, text)?;
+    let rewritten = explored::<Rewriter>(alloc, &body)?;
+    let walked = explored::<Walk>(alloc, &body)?;
+    let offers = rewritten.offers.as_str() == walked.offers.as_str();
+    yes_or_no(
+        alloc,
+        offers && rewritten.values.as_slice() == walked.values.as_slice(),
+    )
+}
+
+/// Whether an atom with these times is ready at an age and after so many ticks, as its process begins.
+fn ready(alloc: Global, args: &[Vec<u8>]) -> Result<Vec<u8>, Fault> {
+    let (times, others) = first(args)?;
+    let (age, now) = two(others)?;
+    let times = utf8(times)?;
+    let text = format!(in alloc; "tau {times}")?;
+    let body = body(alloc, text.as_bytes())?;
+    let store = Store::fresh(alloc, &body.sorts)?;
+    match body.atoms.as_slice().first() {
+        Some(atom) => {
+            let ready = is_ready(alloc, &store, number(age)?, number(now)?, &atom.times)?;
+            yes_or_no(alloc, ready)
+        }
+        None => Err(Fault::Argument),
+    }
+}
+
+/// What the first atom of a body sends.
+fn sent(body: &Body) -> Result<&Exprs, Fault> {
+    match body.atoms.as_slice().first() {
+        Some(atom) => match &atom.act {
+            Act::SndMsg(exprs) => Ok(exprs),
+            _ => Err(Fault::Argument),
+        },
+        None => Err(Fault::Argument),
+    }
+}
+
+/// The value of the first expression that a body's first atom sends.
+fn evaluated(alloc: Global, text: &[u8]) -> Result<Vec<u8>, Fault> {
+    let body = body(alloc, text)?;
+    let store = Store::fresh(alloc, &body.sorts)?;
+    match sent(&body)?.as_slice().first() {
+        Some(expr) => value(alloc, &eval(alloc, expr, &store)?),
+        None => Err(Fault::Argument),
+    }
+}
+
+/// The patterns of what the first atom of a body receives.
+fn patterns(alloc: Global, body: &Body) -> Result<Patterns, Fault> {
+    let store = Store::fresh(alloc, &body.sorts)?;
+    let mut patterns = Items::new(alloc);
+    for expr in received(body)?.as_slice() {
+        patterns.push(pattern(alloc, expr, &store)?.ok_or(Fault::Argument)?)?;
+    }
+    Ok(patterns)
+}
+
+fn received(body: &Body) -> Result<&Exprs, Fault> {
+    match body.atoms.as_slice().first() {
+        Some(atom) => match &atom.act {
+            Act::RecMsg(exprs) => Ok(exprs),
+            _ => Err(Fault::Argument),
+        },
+        None => Err(Fault::Argument),
+    }
+}
+
+/// What terms bind where they match what a body's first atom receives. One term is matched by itself too.
+fn matched(alloc: Global, args: &[Vec<u8>]) -> Result<Vec<u8>, Fault> {
+    let (text, others) = first(args)?;
+    let patterns = patterns(alloc, &body(alloc, text)?)?;
+    let terms = terms(alloc, others)?;
+    let found = binds_text(alloc, &match_list(alloc, &patterns, &terms)?)?;
+    if let ([pattern], [term]) = (patterns.as_slice(), terms.as_slice()) {
+        let alone = binds_text(alloc, &match_term(alloc, pattern, term)?)?;
+        if alone.as_slice() != found.as_slice() {
+            return said(alloc, "another match by itself");
+        }
+    }
+    Ok(found)
+}
+
+fn binds_text(alloc: Global, binds: &Option<Binds>) -> Result<Vec<u8>, Fault> {
+    let Some(binds) = binds else {
+        return said(alloc, "no match");
+    };
+    let mut text = said(alloc, "match")?;
+    for bind in binds.as_slice() {
+        let slot = format!(in alloc; " {}=", bind.slot)?;
+        text.extend_from_slice(slot.as_bytes())?;
+        write_term(&bind.value, &mut text)?;
+    }
+    Ok(text)
+}
+
+/// The sort that this text has.
+fn sort(alloc: Global, text: &[u8]) -> Result<Sort, Fault> {
+    let text = utf8(text)?;
+    let script = format!(in alloc; "process P(X : {text}) is tau {CALLED}")?;
+    match first_body(alloc, script.as_str())?.sorts.as_slice().first() {
+        Some(sort) => Ok(sort.copy(alloc)?),
+        None => Err(Fault::Argument),
+    }
+}
+
+/// Whether a term has a sort.
+fn of_sort(alloc: Global, args: &[Vec<u8>]) -> Result<Vec<u8>, Fault> {
+    let (text, others) = first(args)?;
+    let sort = sort(alloc, text)?;
+    match terms(alloc, others)?.as_slice() {
+        [term] => yes_or_no(alloc, has_sort(term, &sort)),
+        _ => Err(Fault::Line),
+    }
+}

@@ -1,0 +1,58 @@
+//! Bodies that no script has: a `let` sets a variable that a test outside of it asks for, or that a `let` in it sets again.
+
+use crate::fault::Fault;
+use std::alloc::Global;
+use tb_body::{Act, Atom, Body, Setting, Tree};
+use tb_terms::{Boxed, Expr, Func, Items, NoMemory, Sort};
+
+fn at(alloc: Global, atom: u32) -> Result<Boxed<Tree>, NoMemory> {
+    Ok(Boxed::new(alloc, Tree::At(atom))?)
+}
+
+fn set(alloc: Global, number: i64, part: Boxed<Tree>) -> Result<Boxed<Tree>, NoMemory> {
+    let mut settings = Items::new(alloc);
+    let start = Some(Expr::Int(number));
+    settings.push(Setting { slot: 0, start })?;
+    Ok(Boxed::new(alloc, Tree::Let(settings, part))?)
+}
+
+fn when_one(alloc: Global, part: Boxed<Tree>) -> Result<Boxed<Tree>, NoMemory> {
+    let mut parts = Items::new(alloc);
+    parts.push(Expr::Var(0))?;
+    parts.push(Expr::Int(1))?;
+    let test = Expr::Call(Func::Equal, parts);
+    Ok(Boxed::new(alloc, Tree::If(test, part, None))?)
+}
+
+/// The tree of this name.
+fn shared_tree(alloc: Global, name: &[u8]) -> Result<Tree, Fault> {
+    let first = at(alloc, 1)?;
+    let second = at(alloc, 2)?;
+    match name {
+        b"beside" => Ok(Tree::Par(when_one(alloc, first)?, set(alloc, 1, second)?)),
+        b"behind" => Ok(Tree::Seq(set(alloc, 1, first)?, when_one(alloc, second)?)),
+        b"after turns" => Ok(Tree::Star(set(alloc, 1, first)?, when_one(alloc, second)?)),
+        b"set again" => {
+            let inner = set(alloc, 1, when_one(alloc, first)?)?;
+            Ok(Tree::Seq(set(alloc, 2, inner)?, second))
+        }
+        _ => Err(Fault::Argument),
+    }
+}
+
+/// The body of this name, whose only variable is a number, 0 at first.
+pub(crate) fn shared_body(alloc: Global, name: &[u8]) -> Result<Body, Fault> {
+    let mut atoms = Items::new(alloc);
+    for _ in 0..2 {
+        let act = Act::Tau;
+        let times = Items::new(alloc);
+        atoms.push(Atom { act, times })?;
+    }
+    let mut sorts = Items::new(alloc);
+    sorts.push(Sort::Int)?;
+    let tree = shared_tree(alloc, name)?;
+    match Body::new(alloc, tree, atoms, sorts, 0)? {
+        Some(body) => Ok(body),
+        None => Err(Fault::Argument),
+    }
+}

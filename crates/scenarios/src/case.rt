@@ -1,0 +1,197 @@
+//! A case as it is read, line by line.
+
+use std::alloc::{AllocError, Global};
+use tb_cases::meant;
+
+/// A file by its name.
+#[derive(Drop)]
+pub(crate) struct Named {
+    pub(crate) name: String,
+    pub(crate) bytes: Vec<u8>,
+}
+
+/// Which call of the files and of each sink is to fail, from 1; 0 for none.
+#[derive(Clone, Copy)]
+pub(crate) struct Fails {
+    pub(crate) files: u64,
+    pub(crate) out: u64,
+    pub(crate) err: u64,
+}
+
+/// What lines of text are added to.
+#[derive(Clone, Copy)]
+enum Block {
+    Nothing,
+    File,
+    Out,
+    Err,
+}
+
+/// The words of a call, its files and what fails, and what is wanted of it.
+#[derive(Drop)]
+pub(crate) struct Case {
+    pub(crate) name: String,
+    pub(crate) words: Vec<String>,
+    pub(crate) files: Vec<Named>,
+    pub(crate) fails: Fails,
+    pub(crate) out: Vec<u8>,
+    /// Whether what is wanted on `out` is its end.
+    pub(crate) is_end: bool,
+    pub(crate) err: Vec<u8>,
+    pub(crate) status: u8,
+    /// Whether the simulation isn't made over rewriters too.
+    pub(crate) is_once: bool,
+    /// What the words ask for, where that is wanted.
+    pub(crate) asks: Option<String>,
+    block: Block,
+}
+
+impl Case {
+    pub(crate) fn new(alloc: Global, name: &str) -> Result<Case, AllocError> {
+        Ok(Case {
+            name: String::from_str(alloc, name)?,
+            words: Vec::new(alloc),
+            files: Vec::new(alloc),
+            fails: Fails {
+                files: 0,
+                out: 0,
+                err: 0,
+            },
+            out: Vec::new(alloc),
+            is_end: false,
+            err: Vec::new(alloc),
+            status: 0,
+            is_once: false,
+            asks: None,
+            block: Block::Nothing,
+        })
+    }
+
+    /// Takes a line of the case. Whether it is one.
+    pub(crate) fn take_line(&mut self, alloc: Global, line: &str) -> Result<bool, AllocError> {
+        let (word, rest) = line.split_once(' ').unwrap_or((line, ""));
+        match word {
+            "|" => Ok(self.put(rest.as_bytes())? && self.put(b"\n")?),
+            "\\" => self.put_meant(alloc, rest),
+            "words" => self.add_words(alloc, rest),
+            "word" => self.add_word(alloc, rest),
+            "file" => self.add_file(alloc, rest),
+            "asks" => {
+                self.asks = text_meant(alloc, rest)?;
+                Ok(self.asks.is_some())
+            }
+            _ => Ok(self.take_want(word, rest)),
+        }
+    }
+
+    /// Adds to the text of the block.
+    fn put(&mut self, bytes: &[u8]) -> Result<bool, AllocError> {
+        match self.block {
+            Block::Nothing => return Ok(false),
+            Block::File => match self.files.last_mut() {
+                Some(file) => file.bytes.extend_from_slice(bytes)?,
+                None => return Ok(false),
+            },
+            Block::Out => self.out.extend_from_slice(bytes)?,
+            Block::Err => self.err.extend_from_slice(bytes)?,
+        }
+        Ok(true)
+    }
+
+    fn put_meant(&mut self, alloc: Global, text: &str) -> Result<bool, AllocError> {
+        match meant(alloc, text)? {
+            Some(bytes) => self.put(bytes.as_slice()),
+            None => Ok(false),
+        }
+    }
+
+    /// Adds words that blanks part.
+    fn add_words(&mut self, alloc: Global, text: &str) -> Result<bool, AllocError> {
+        for word in text.split_whitespace() {
+            self.words.push(String::from_str(alloc, word)?)?;
+        }
+        Ok(true)
+    }
+
+    /// Adds one word, in which escapes may stand.
+    fn add_word(&mut self, alloc: Global, text: &str) -> Result<bool, AllocError> {
+        match text_meant(alloc, text)? {
+            Some(word) => self.words.push(word)?,
+            None => return Ok(false),
+        }
+        Ok(true)
+    }
+
+    fn add_file(&mut self, alloc: Global, text: &str) -> Result<bool, AllocError> {
+        let bytes = Vec::new(alloc);
+        match text_meant(alloc, text)? {
+            Some(name) => self.files.push(Named { name, bytes })?,
+            None => return Ok(false),
+        }
+        self.block = Block::File;
+        Ok(true)
+    }
+
+    /// Takes a line that says what is wanted. Whether it is one.
+    fn take_want(&mut self, word: &str, rest: &str) -> bool {
+        match word {
+            "out" => self.block = Block::Out,
+            "end" => {
+                self.is_end = true;
+                self.block = Block::Out;
+            }
+            "err" => self.block = Block::Err,
+            "once" => self.is_once = true,
+            "status" => return self.take_status(rest),
+            "fails" => return self.take_fails(rest),
+            _ => return word.is_empty() || word.starts_with('#'),
+        }
+        true
+    }
+
+    fn take_status(&mut self, text: &str) -> bool {
+        match text.parse::<u8>() {
+            Ok(status) => {
+                self.status = status;
+                true
+            }
+            Err(_) => false,
+        }
+    }
+
+    /// Takes which call is to fail, as `out 2`.
+    fn take_fails(&mut self, text: &str) -> bool {
+        let (thing, number) = text.split_once(' ').unwrap_or((text, ""));
+        let Ok(call) = number.parse::<u64>() else {
+            return false;
+        };
+        match thing {
+            "files" => self.fails.files = call,
+            "out" => self.fails.out = call,
+            "err" => self.fails.err = call,
+            _ => return false,
+        }
+        true
+    }
+
+    /// The bytes of the first file of this name.
+    pub(crate) fn held(&self, name: &str) -> Option<&[u8]> {
+        for file in &self.files {
+            if file.name.as_str() == name {
+                return Some(file.bytes.as_slice());
+            }
+        }
+        None
+    }
+}
+
+/// The text that is meant, where it is UTF-8.
+fn text_meant(alloc: Global, text: &str) -> Result<Option<String>, AllocError> {
+    let Some(bytes) = meant(alloc, text)? else {
+        return Ok(None);
+    };
+    match str::from_utf8(bytes.as_slice()) {
+        Ok(meant) => Ok(Some(String::from_str(alloc, meant)?)),
+        Err(_) => Ok(None),
+    }
+}

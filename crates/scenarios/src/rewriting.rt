@@ -1,0 +1,117 @@
+//! The same simulation over walkers of the other kind: the program's are walks.
+
+ghost use Rattle.std.specs.Prelude.{◌≡◌, [], false};
+
+use crate::case::Case;
+use std::alloc::Global;
+use tb_algebra::Rewriter;
+use tb_body::Program;
+use tb_core::Core;
+use tb_feed::{Feed, read_feed};
+use tb_log::write_entry;
+use tb_script::load;
+use tb_sim::simulate;
+use tb_terms::{NoMemory, Text, Texts};
+use tb_top::words::{Command, read_words};
+
+/// What the case's words ask for; nothing where they are refused.
+pub(crate) fn asked(alloc: Global, case: &Case) -> Result<String, NoMemory> {
+    match read_words(alloc, &case.words) {
+        Ok(Command::Check { script }) => Ok(format!(in alloc; "check {}", script.as_str())?),
+        Ok(
+            Command::Sim {
+                script,
+                feed,
+                connects,
+                steps,
+                events,
+            },
+        ) => {
+            let mut text = format!(in alloc; "sim {}", script.as_str())?;
+            if let Some(feed) = feed {
+                write!(text, ", feed {}", feed.as_str())?;
+            }
+            for command in connects.as_slice() {
+                write!(text, ", connect {}", command.as_str())?;
+            }
+            write!(text, ", {steps} steps, {events} entries")?;
+            Ok(text)
+        }
+        Err(_) => Ok(String::new(alloc)),
+    }
+}
+
+/// What a simulation goes by, but its program.
+#[derive(Drop)]
+struct Course<'a> {
+    feed: &'a Feed,
+    connects: &'a Texts,
+    steps: u64,
+    events: u32,
+}
+
+/// The log of the simulation that the case's words ask for, over rewriters. None where they ask for none, and where the
+/// script or the feed is refused.
+pub(crate) fn rewritten(alloc: Global, case: &Case) -> Result<Option<Vec<u8>>, NoMemory> {
+    match read_words(alloc, &case.words) {
+        Ok(
+            Command::Sim {
+                script,
+                feed,
+                connects,
+                steps,
+                events,
+            },
+        ) => {
+            let Some(feed) = feed_of(alloc, case, &feed) else {
+                return Ok(None);
+            };
+            let course = Course {
+                feed: &feed,
+                connects: &connects,
+                steps,
+                events,
+            };
+            log_of(alloc, case.held(script.as_str()), &course)
+        }
+        _ => Ok(None),
+    }
+}
+
+fn feed_of(alloc: Global, case: &Case, name: &Option<Text>) -> Option<Feed> {
+    match name {
+        Some(name) => read_feed(alloc, case.held(name.as_str())?).ok(),
+        None => Some(Feed::empty(alloc)),
+    }
+}
+
+fn log_of(
+    alloc: Global,
+    script: Option<&[u8]>,
+    course: &Course,
+) -> Result<Option<Vec<u8>>, NoMemory> {
+    let Some(script) = script else {
+        return Ok(None);
+    };
+    match load(alloc, script) {
+        Ok(program) => log_over(alloc, program, course),
+        Err(_) => Ok(None),
+    }
+}
+
+fn log_over(alloc: Global, program: Program, course: &Course) -> Result<Option<Vec<u8>>, NoMemory> {
+    if course.connects.len() > 16 || course.events > 4_000_000 {
+        return Ok(None);
+    }
+    let mut core: Core<Rewriter> = Core::start(alloc, program, course.connects, course.events)?;
+    let _end = simulate(&mut core, course.feed, course.steps)?;
+    Ok(Some(log_text(alloc, &core)?))
+}
+
+fn log_text(alloc: Global, core: &Core<Rewriter>) -> Result<Vec<u8>, NoMemory> {
+    let mut text = Vec::new(alloc);
+    for (position, entry) in core.log().iter().enumerate() {
+        write_entry(position as u64 + 1, entry, &mut text)?;
+    }
+    Ok(text)
+}

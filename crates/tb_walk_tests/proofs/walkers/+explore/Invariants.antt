@@ -1,5 +1,0 @@
-use Rattle.tb_walk_tests.proofs.walkers.+explore.Given as goal
-
--- each call has fewer moves left
-abbrev pub decreases-explore : goal.decreases-explore
-decreases-explore g l = l.more
