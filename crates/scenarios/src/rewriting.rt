@@ -6,13 +6,13 @@ use crate::case::Case;
 use std::alloc::Global;
 use tb_algebra::Rewriter;
 use tb_body::Program;
+use tb_cli::{Command, read_words};
 use tb_core::Core;
 use tb_feed::{Feed, read_feed};
 use tb_log::write_entry;
 use tb_script::load;
 use tb_sim::simulate;
 use tb_terms::{NoMemory, Text, Texts};
-use tb_top::words::{Command, read_words};
 
 /// What the case's words ask for; nothing where they are refused.
 pub(crate) fn asked(alloc: Global, case: &Case) -> Result<String, NoMemory> {
@@ -37,6 +37,22 @@ pub(crate) fn asked(alloc: Global, case: &Case) -> Result<String, NoMemory> {
             write!(text, ", {steps} steps, {events} entries")?;
             Ok(text)
         }
+        Ok(
+            Command::Run {
+                script,
+                connects,
+                ticks,
+                events,
+            },
+        ) => {
+            let mut text = format!(in alloc; "run {}", script.as_str())?;
+            for command in connects.as_slice() {
+                write!(text, ", connect {}", command.as_str())?;
+            }
+            write!(text, ", {ticks} ticks, {events} entries")?;
+            Ok(text)
+        }
+        Ok(Command::Ring { n, k }) => Ok(format!(in alloc; "ring {n} {k}")?),
         Err(_) => Ok(String::new(alloc)),
     }
 }
