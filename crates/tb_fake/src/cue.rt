@@ -24,7 +24,7 @@ pub struct Cue {
 pub type Cues = Items<Cue>;
 
 /// A call that is to fail.
-#[derive(Clone, Copy, Debug, PartialEq, Eq)]
+#[derive(Clone, Copy)]
 pub struct Fail {
     /// The lane of the outlet, from 1 to 16.
     pub lane: u8,

@@ -12,7 +12,7 @@ pub(crate) const ITEMS: usize = 64;
 pub(crate) const BYTES: usize = 65_536;
 
 /// The kinds of items that an outlet takes.
-#[derive(Clone, Copy, Debug, PartialEq, Eq)]
+#[derive(Clone, Copy)]
 pub(crate) enum Kind {
     Start,
     Line,
@@ -20,7 +20,7 @@ pub(crate) enum Kind {
 }
 
 /// An item whose bytes end at this place.
-#[derive(Clone, Copy, Debug)]
+#[derive(Clone, Copy)]
 struct Item {
     kind: Kind,
     to: usize,
