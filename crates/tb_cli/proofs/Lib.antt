@@ -1,0 +1,4 @@
+pub mod Scanning
+pub mod Fitting
+pub mod Rows
+pub mod Examples

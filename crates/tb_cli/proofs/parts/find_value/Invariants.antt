@@ -1,0 +1,10 @@
+use Rattle.std.proofs.Common.{◌≡◌, ◌-◌, length, map, drop, slice_get, string_bytes, option_copied}
+use Rattle.tb_cli.specs.Parts.{parts_of, given}
+use Rattle.tb_cli.proofs.parts.find_value.Given as goal
+
+abbrev pub decreases-loop-index : goal.decreases-loop-index
+decreases-loop-index l = length l.words - l.index
+
+-- what is sought stands so many places on in the words that are left
+abbrev pub invariant-loop-index : goal.invariant-loop-index
+invariant-loop-index l = slice_get (given (option_copied l.name) (parts_of (drop l.index (map string_bytes l.words)))) l.left ≡ slice_get (given (option_copied l.name) (parts_of (map string_bytes l.words))) l.place

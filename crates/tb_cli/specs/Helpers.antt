@@ -1,0 +1,4 @@
+-- Definitions that proofs and private functions need, and that nobody has to believe.
+pub mod Tables
+pub mod Scanning
+pub mod Fitting

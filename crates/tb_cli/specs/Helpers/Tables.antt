@@ -1,0 +1,11 @@
+-- The table of the code as that of the definitions.
+use Rattle.std.specs.Prelude.{map}
+use Rattle.tb_cli.specs.declared.table.Setting.{Setting as CodeSetting}
+use Rattle.tb_cli.specs.declared.table.Row.{Row as CodeRow}
+use Rattle.tb_cli.specs.Table.{Setting, Row}
+
+abbrev pub setting_of : CodeSetting → Setting
+setting_of option = record { name = option.name.now; kind = option.kind; usual = option.usual }
+
+abbrev pub row_of : CodeRow → Row
+row_of row = record { verb = row.verb; word = row.word.now; operands = row.operands.now; options = map setting_of row.options.now; is_built = row.is_built }

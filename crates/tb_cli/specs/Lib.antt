@@ -1,0 +1,5 @@
+pub mod Parts
+pub mod Table
+pub mod Words
+pub mod Lines
+pub mod Helpers

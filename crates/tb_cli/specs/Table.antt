@@ -1,0 +1,108 @@
+-- The commands: each has a row, which says how its words are read, and one way in which it is made of the values that they give.
+use Rattle.std.specs.Prelude.{ℕ, Bool, true, false, List, [], ◌∷◌, Option, Some, None, find, get_or, slice_get, codes, bytes_eq, length, ◌≤◌, ◌*◌, ⊤}
+use Rattle.tb_read.specs.Spelling.{digits_value}
+use Rattle.tb_cli.specs.declared.command.Command.{Command}
+use Rattle.tb_cli.specs.declared.command.Command.TheVariants as command
+use Rattle.tb_cli.specs.declared.table.Verb.{Verb}
+use Rattle.tb_cli.specs.declared.table.Verb.TheVariants as verb
+use Rattle.tb_cli.specs.declared.table.Kind.{Kind}
+use Rattle.tb_cli.specs.declared.table.Kind.TheVariants.{File, Number, Factor}
+use Rattle.tb_cli.specs.declared.table.Kind.TheVariants as kind
+use Rattle.tb_cli.specs.Parts.{Part, given, operands_of}
+
+-- an option: its name, what its value is, and where that is a number, which one it is where the option isn't given
+pub record Setting : Type 0 where
+  pub name : List ℕ
+  pub kind : Kind
+  pub usual : ℕ
+
+-- a command: its first word, what its operands are, its options, and whether it is built
+pub record Row : Type 0 where
+  pub verb : Verb
+  pub word : List ℕ
+  pub operands : List Kind
+  pub options : List Setting
+  pub is_built : Bool
+
+-- Whether `run` is built.
+abbrev pub run_is_built : Bool
+run_is_built = false
+
+-- the options
+
+abbrev pub feed : Setting
+feed = record { name = codes "--feed"; kind = File; usual = 0 }
+
+abbrev pub connect : Setting
+connect = record { name = codes "--connect"; kind = kind.Command; usual = 0 }
+
+abbrev pub steps : Setting
+steps = record { name = codes "--steps"; kind = Number 1 4000000; usual = 1000000 }
+
+abbrev pub ticks : Setting
+ticks = record { name = codes "--ticks"; kind = Number 0 10000000; usual = 36000 }
+
+abbrev pub events : Setting
+events = record { name = codes "--events"; kind = Number 1 4000000; usual = 1000000 }
+
+-- the commands
+
+abbrev pub check : Row
+check = record { verb = verb.Check; word = codes "check"; operands = File ∷ []; options = []; is_built = true }
+
+abbrev pub sim : Row
+sim = record { verb = verb.Sim; word = codes "sim"; operands = File ∷ []; options = feed ∷ connect ∷ steps ∷ events ∷ []; is_built = true }
+
+abbrev pub run : Row
+run = record { verb = verb.Run; word = codes "run"; operands = File ∷ []; options = connect ∷ ticks ∷ events ∷ []; is_built = run_is_built }
+
+abbrev pub ring : Row
+ring = record { verb = verb.Ring; word = codes "ring"; operands = Number 2 10000 ∷ Factor 1000000 ∷ []; options = []; is_built = true }
+
+abbrev pub table : List Row
+table = check ∷ sim ∷ run ∷ ring ∷ []
+
+abbrev pub row_named : List ℕ → Option Row
+row_named word = find (λ (row : Row). bytes_eq row.word word) table
+
+abbrev pub option_named : List Setting → List ℕ → Option Setting
+option_named options name = find (λ (option : Setting). bytes_eq option.name name) options
+
+-- what parts give
+
+abbrev pub operand : ℕ → List Part → List ℕ
+operand place parts = get_or (operands_of parts) place []
+
+-- the file of an option that may be given once
+abbrev pub file_of : Setting → List Part → Option (List ℕ)
+file_of option parts = slice_get (given (Some option.name) parts) 0
+
+-- the commands of an option that may be given several times
+abbrev pub commands_of : Setting → List Part → List (List ℕ)
+commands_of option parts = given (Some option.name) parts
+
+abbrev pub number_or : ℕ → Option (List ℕ) → ℕ
+number_or usual None = usual
+number_or usual (Some digits) = digits_value digits
+
+-- the number of an option that may be given once
+abbrev pub number_of : Setting → List Part → ℕ
+number_of option parts = number_or option.usual (slice_get (given (Some option.name) parts) 0)
+
+-- each command of what was given
+abbrev pub make : Verb → List Part → Command
+make verb.Check parts = command.Check (operand 0 parts)
+make verb.Sim parts = command.Sim (operand 0 parts) (file_of feed parts) (commands_of connect parts) (number_of steps parts) (number_of events parts)
+make verb.Run parts = command.Run (operand 0 parts) (commands_of connect parts) (number_of ticks parts) (number_of events parts)
+make verb.Ring parts = command.Ring (digits_value (operand 0 parts)) (digits_value (operand 1 parts))
+
+-- so many commands may be connected: one on each lane
+abbrev pub most_connects : ℕ
+most_connects = 16
+
+-- The numbers of a command that was asked for are in their ranges, and there are no more commands to connect than lanes.
+abbrev pub IsWithin : Command → Type 0
+IsWithin (command.Check script) = ⊤
+IsWithin (command.Sim script file commands step_limit event_limit) = (length commands ≤ most_connects) × ((1 ≤ step_limit) × (step_limit ≤ 4000000)) × ((1 ≤ event_limit) × (event_limit ≤ 4000000))
+IsWithin (command.Run script commands tick_limit event_limit) = (length commands ≤ most_connects) × (tick_limit ≤ 10000000) × ((1 ≤ event_limit) × (event_limit ≤ 4000000))
+IsWithin (command.Ring n k) = ((2 ≤ n) × (n ≤ 10000)) × (1 ≤ k) × (n * k ≤ 1000000)

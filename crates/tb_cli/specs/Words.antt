@@ -1,0 +1,114 @@
+-- What the words of the command line ask for, or which fault they have. Words are read from the left, and the first fault ends the reading; their positions count from 1.
+use Rattle.std.specs.Prelude.{ℕ, ◌+◌, ◌*◌, Bool, ◌&&◌, if◌then◌else◌, List, [], ◌∷◌, ◌++◌, length, get_or, slice_get, Option, Some, None, Result, Ok, Err, ⊤, nat_le}
+use Rattle.tb_terms.specs.Names.{is_text}
+use Rattle.tb_read.specs.Spelling.{is_digits, digits_value}
+use Rattle.tb_cli.specs.declared.command.Command.{Command}
+use Rattle.tb_cli.specs.declared.fault.WordFault.{WordFault}
+use Rattle.tb_cli.specs.declared.fault.WordFault.TheVariants as fault
+use Rattle.tb_cli.specs.declared.table.Kind.{Kind}
+use Rattle.tb_cli.specs.declared.table.Kind.TheVariants.{File, Number, Factor}
+use Rattle.tb_cli.specs.declared.table.Kind.TheVariants as kind
+use Rattle.tb_cli.specs.Parts.{Part, AnOption, AWord, parts_of, name_of, len_of, given, operands_of}
+use Rattle.tb_cli.specs.Table.{Setting, Row, most_connects, option_named, row_named, make}
+
+-- Nothing is wrong with a part, or it has a fault.
+abbrev pub Answer : Type 0
+Answer = Result ⊤ WordFault
+
+-- the value of an operand or an option
+
+-- A file's name and a command are strings: each byte is one that a string may have, and words are well-formed already.
+abbrev pub text_answer : ℕ → List ℕ → Answer
+text_answer position word = if is_text word then Ok tt else Err (fault.Unknown position)
+
+-- A number is one or more decimal digits and nothing else, and it has a range.
+abbrev pub number_answer : Bool → ℕ → List ℕ → Answer
+number_answer in_range position word =
+    if is_digits word then (if in_range then Ok tt else Err (fault.Range position))
+    else Err (fault.Number position)
+
+-- The value at this position, where the first that was given under the same name is this: a factor is multiplied by it.
+abbrev pub value_answer : Kind → List ℕ → ℕ → List ℕ → Answer
+value_answer File first position word = text_answer position word
+value_answer kind.Command first position word = text_answer position word
+value_answer (Number least most) first position word =
+    number_answer (nat_le least (digits_value word) && nat_le (digits_value word) most) position word
+value_answer (Factor most) first position word =
+    number_answer (nat_le 1 (digits_value word) && nat_le (digits_value first * digits_value word) most) position word
+
+-- what the value is
+
+-- How many times an option with such a value may be given.
+abbrev pub most_times : Kind → ℕ
+most_times kind.Command = most_connects
+most_times File = 1
+most_times (Number least most) = 1
+most_times (Factor most) = 1
+
+-- the fault of an option at this position that was given as often as it may be
+abbrev pub once_more : Kind → ℕ → WordFault
+once_more kind.Command position = fault.Range position
+once_more File position = fault.Extra position
+once_more (Number least most) position = fault.Extra position
+once_more (Factor most) position = fault.Extra position
+
+-- an option at this position, which was given so many times before
+abbrev pub setting_kind : Option Setting → ℕ → ℕ → Result Kind WordFault
+setting_kind None times position = Err (fault.Unknown position)
+setting_kind (Some option) times position =
+    if nat_le (most_times option.kind) times then Err (once_more option.kind position) else Ok option.kind
+
+-- a word at this position that is no option
+abbrev pub operand_kind : Option Kind → ℕ → Result Kind WordFault
+operand_kind None position = Err (fault.Extra position)
+operand_kind (Some kind) position = Ok kind
+
+-- parts
+
+-- A value that lacks is told where nothing else is wrong with its option.
+abbrev pub checked_value : Result Kind WordFault → List ℕ → ℕ → Option (List ℕ) → Answer
+checked_value (Err f) first position value = Err f
+checked_value (Ok kind) first position None = Err fault.Missing
+checked_value (Ok kind) first position (Some value) = value_answer kind first position value
+
+-- the part at this position, behind the values that were given before under its name
+abbrev pub part_answer : Row → List (List ℕ) → ℕ → Part → Answer
+part_answer row before position (AWord word) =
+    checked_value (operand_kind (slice_get row.operands (length before)) position) (get_or before 0 []) position (Some word)
+part_answer row before position (AnOption name value) =
+    checked_value (setting_kind (option_named row.options name) (length before) position) (get_or before 0 []) (position + 1) value
+
+abbrev pub and_then : Answer → Answer → Answer
+and_then (Ok fine) next = next
+and_then (Err f) next = Err f
+
+-- parts behind others, of which the first stands at this position
+abbrev pub parts_answer : Row → List Part → ℕ → List Part → Answer
+parts_answer row before position [] = Ok tt
+parts_answer row before position (part ∷ parts) =
+    and_then (part_answer row (given (name_of part) before) position part) (parts_answer row (before ++ part ∷ []) (position + len_of part) parts)
+
+-- commands
+
+-- At the end of the words all operands must be there, and the command must be built.
+abbrev pub whole_answer : Row → List Part → Answer
+whole_answer row parts =
+    if nat_le (length row.operands) (length (operands_of parts)) then (if row.is_built then Ok tt else Err (fault.NotBuilt 1))
+    else Err fault.Missing
+
+-- all parts behind the first word, and then their end
+abbrev pub row_answer : Row → List Part → Answer
+row_answer row parts = and_then (parts_answer row [] 2 parts) (whole_answer row parts)
+
+abbrev pub made : Row → List Part → Answer → Result Command WordFault
+made row parts (Ok fine) = Ok (make row.verb parts)
+made row parts (Err f) = Err f
+
+abbrev pub asked_by : Option Row → List (List ℕ) → Result Command WordFault
+asked_by None words = Err (fault.Unknown 1)
+asked_by (Some row) words = made row (parts_of words) (row_answer row (parts_of words))
+
+-- what all words ask for, or their fault
+abbrev pub asked : List (List ℕ) → Result Command WordFault
+asked [] = Err fault.NoCommand
+asked (word ∷ words) = asked_by (row_named word) words

@@ -1,0 +1,202 @@
+//! The commands: what each asks for, the row that says how its words are read, and how it is made of the values that
+//! they give.
+
+ghost use Rattle.std.specs.Prelude.{◌≡◌, map, option_map, option_copied, string_bytes, IfOk};
+ghost use Rattle.tb_cli.specs.Parts.{parts_of};
+ghost use Rattle.tb_cli.specs.Table.{make, IsWithin, check, sim, run, ring, row_named};
+ghost use Rattle.tb_cli.specs.Helpers.Tables.{row_of};
+ghost use Rattle.tb_cli.specs.Helpers.Fitting.{row_by, RowFits};
+
+use crate::table::{Kind, Row, Setting, Verb, find_row};
+use crate::values::{operand_number, operand_text, option_commands, option_file, option_number};
+use std::alloc::Global;
+use tb_terms::{NoMemory, Text, Texts};
+
+/// What the words of the command line ask for.
+#[derive(Debug, Drop)]
+pub enum Command {
+    /// Whether the script in the file of this name is accepted.
+    Check {
+        script: Text,
+    },
+    /// The log of the simulation of that script and of the feed in the file of this name, or of an empty one,
+    /// with these commands connected; it makes so many steps at most, and logs so many entries at most.
+    Sim {
+        script: Text,
+        feed: Option<Text>,
+        connects: Texts,
+        steps: u64,
+        events: u32,
+    },
+    /// The log of a run of that script with live tools, with these commands connected; the clock ticks so many times
+    /// at most, and so many entries are logged at most.
+    Run {
+        script: Text,
+        connects: Texts,
+        ticks: u64,
+        events: u32,
+    },
+    /// A summary of the simulation of a ring of `n` processes that a message goes round `k` times.
+    Ring {
+        n: u32,
+        k: u32,
+    },
+}
+
+/// Whether `run` is built.
+const RUN_IS_BUILT: bool = false;
+
+const FEED: Setting = Setting {
+    name: "--feed",
+    kind: Kind::File,
+    usual: 0,
+};
+
+const CONNECT: Setting = Setting {
+    name: "--connect",
+    kind: Kind::Command,
+    usual: 0,
+};
+
+const STEPS: Setting = Setting {
+    name: "--steps",
+    kind: Kind::Number {
+        least: 1,
+        most: 4_000_000,
+    },
+    usual: 1_000_000,
+};
+
+const TICKS: Setting = Setting {
+    name: "--ticks",
+    kind: Kind::Number {
+        least: 0,
+        most: 10_000_000,
+    },
+    usual: 36_000,
+};
+
+const EVENTS: Setting = Setting {
+    name: "--events",
+    kind: Kind::Number {
+        least: 1,
+        most: 4_000_000,
+    },
+    usual: 1_000_000,
+};
+
+const CHECK: Row = Row {
+    verb: Verb::Check,
+    word: "check",
+    operands: &[Kind::File],
+    options: &[],
+    is_built: true,
+};
+
+const SIM: Row = Row {
+    verb: Verb::Sim,
+    word: "sim",
+    operands: &[Kind::File],
+    options: &[FEED, CONNECT, STEPS, EVENTS],
+    is_built: true,
+};
+
+const RUN: Row = Row {
+    verb: Verb::Run,
+    word: "run",
+    operands: &[Kind::File],
+    options: &[CONNECT, TICKS, EVENTS],
+    is_built: RUN_IS_BUILT,
+};
+
+const RING: Row = Row {
+    verb: Verb::Ring,
+    word: "ring",
+    operands: &[
+        Kind::Number {
+            least: 2,
+            most: 10_000,
+        },
+        Kind::Factor { most: 1_000_000 },
+    ],
+    options: &[],
+    is_built: true,
+};
+
+static TABLE: [Row; 4] = [CHECK, SIM, RUN, RING];
+
+/// The row of the command with this first word.
+pub(crate) fn row_named(word: &str) -> Option<&'static Row>
+    ensures { option_map row_of (option_copied result) ≡ row_named word.now }
+{
+    find_row(&TABLE, word)
+}
+
+/// The command of this row, of the words behind the first.
+pub(crate) fn make_command(alloc: Global, verb: Verb, words: &[String]) -> Result<Command, NoMemory>
+    requires { RowFits (row_by verb) (parts_of (map string_bytes words.now)) }
+    ensures is { IfOk result (λ command. command ≡ make verb (parts_of (map string_bytes words.now))) }
+    ensures within { IfOk result IsWithin }
+{
+    match verb {
+        Verb::Check => make_check(alloc, words),
+        Verb::Sim => make_sim(alloc, words),
+        Verb::Run => make_run(alloc, words),
+        Verb::Ring => Ok(make_ring(words)),
+    }
+}
+
+fn make_check(alloc: Global, words: &[String]) -> Result<Command, NoMemory>
+    requires { RowFits check (parts_of (map string_bytes words.now)) }
+    ensures is { IfOk result (λ command. command ≡ make Verb.Check (parts_of (map string_bytes words.now))) }
+    ensures within { IfOk result IsWithin }
+{
+    let script = operand_text(alloc, words, 0)?;
+    Ok(Command::Check { script })
+}
+
+fn make_sim(alloc: Global, words: &[String]) -> Result<Command, NoMemory>
+    requires { RowFits sim (parts_of (map string_bytes words.now)) }
+    ensures is { IfOk result (λ command. command ≡ make Verb.Sim (parts_of (map string_bytes words.now))) }
+    ensures within { IfOk result IsWithin }
+{
+    let script = operand_text(alloc, words, 0)?;
+    let feed = option_file(alloc, &FEED, words)?;
+    let connects = option_commands(alloc, &CONNECT, words)?;
+    let steps = option_number(&STEPS, words);
+    let events = option_number(&EVENTS, words);
+    Ok(Command::Sim {
+        script,
+        feed,
+        connects,
+        steps: u64::from(steps),
+        events,
+    })
+}
+
+fn make_run(alloc: Global, words: &[String]) -> Result<Command, NoMemory>
+    requires { RowFits run (parts_of (map string_bytes words.now)) }
+    ensures is { IfOk result (λ command. command ≡ make Verb.Run (parts_of (map string_bytes words.now))) }
+    ensures within { IfOk result IsWithin }
+{
+    let script = operand_text(alloc, words, 0)?;
+    let connects = option_commands(alloc, &CONNECT, words)?;
+    let ticks = option_number(&TICKS, words);
+    let events = option_number(&EVENTS, words);
+    Ok(Command::Run {
+        script,
+        connects,
+        ticks: u64::from(ticks),
+        events,
+    })
+}
+
+fn make_ring(words: &[String]) -> Command
+    requires { RowFits ring (parts_of (map string_bytes words.now)) }
+    ensures is { result ≡ make Verb.Ring (parts_of (map string_bytes words.now)) }
+    ensures within { IsWithin result }
+{
+    let n = operand_number(words, 0);
+    let k = operand_number(words, 1);
+    Command::Ring { n, k }
+}

@@ -1,0 +1,45 @@
+ghost use Rattle.std.specs.Prelude.{◌≡◌};
+ghost use Rattle.tb_line.specs.Lines.{line_text};
+ghost use Rattle.tb_cli.specs.Lines.{word_line};
+
+use tb_line::Line;
+
+/// Why the words of the command line were refused. Positions count from 1.
+#[derive(Clone, Copy, Debug, PartialEq, Eq)]
+pub enum WordFault {
+    /// There were no words.
+    NoCommand,
+    /// The word at this position is no command, no option of its command, or a file's name or a command to
+    /// connect that is no string.
+    Unknown(usize),
+    /// An operand lacks, or the value of an option.
+    Missing,
+    /// The option at this position was given before, or the word there is one more than the command's operands.
+    Extra(usize),
+    /// The word at this position is no number.
+    Number(usize),
+    /// The number at this position is out of its range, or the option there is the seventeenth `--connect`.
+    Range(usize),
+    /// There wasn't memory enough; it says nothing of the words.
+    NoMemory,
+    /// The word at this position asks for what isn't built yet.
+    NotBuilt(usize),
+}
+
+impl WordFault {
+    /// The words of its line.
+    pub fn line(&self) -> Line<'static>
+        ensures { line_text result ≡ word_line self.now }
+    {
+        match self {
+            WordFault::NoCommand => Line::plain(b"words: no command"),
+            WordFault::Unknown(position) => Line::numbered(b"words: unknown at ", *position),
+            WordFault::Missing => Line::plain(b"words: missing"),
+            WordFault::Extra(position) => Line::numbered(b"words: extra at ", *position),
+            WordFault::Number(position) => Line::numbered(b"words: number at ", *position),
+            WordFault::Range(position) => Line::numbered(b"words: range at ", *position),
+            WordFault::NotBuilt(position) => Line::numbered(b"words: not built at ", *position),
+            WordFault::NoMemory => Line::plain(b"no memory"),
+        }
+    }
+}

@@ -1,0 +1,272 @@
+//! How the words of the command line are read.
+
+ghost use Rattle.std.specs.Prelude.{◌≡◌, ◌≢◌, ◌+◌, ◌<◌, ◌^◌, ◌&&◌, ◌*◌, [], length, map, slice_get, nat_le, string_bytes, option_map, option_copied, Ok, IsOk, IfOk, IfErr, OnOk, Err, Some};
+ghost use Rattle.tb_read.specs.Spelling.{is_digits, digits_value};
+ghost use Rattle.tb_terms.specs.Names.{is_text, is_text_byte};
+ghost use Rattle.tb_cli.specs.Parts.{AnOption, AWord, parts_of, name_of, given, operands_of};
+ghost use Rattle.tb_cli.specs.Table.{option_named, IsWithin};
+ghost use Rattle.tb_cli.specs.Words.{Answer, asked, made, row_answer, parts_answer, part_answer, whole_answer, setting_kind, operand_kind, checked_value, value_answer, text_answer, number_answer, most_times, once_more};
+ghost use Rattle.tb_cli.specs.Helpers.Tables.{row_of, setting_of};
+ghost use Rattle.tb_cli.specs.Helpers.Scanning.{part_of};
+ghost use Rattle.tb_cli.specs.Helpers.Fitting.{row_by, RowFits};
+
+use crate::command::{make_command, row_named};
+use crate::parts::{OPERANDS, count_values, find_or_empty, is_option, part_len};
+use crate::table::{Kind, Row, option_named};
+use crate::{Command, WordFault};
+use std::alloc::Global;
+use tb_read::digits_value;
+use tb_terms::NoMemory;
+
+/// So many commands may be connected.
+const MOST_CONNECTS: usize = 16;
+
+/// What the words of the command line ask for.
+pub fn read_words(alloc: Global, words: &Vec<String>) -> Result<Command, WordFault>
+    ensures ok { IfOk result (λ command. asked (map string_bytes words.now.items) ≡ Ok command) }
+    ensures fault { IfErr result (λ fault. fault ≢ WordFault.NoMemory → asked (map string_bytes words.now.items) ≡ Err fault) }
+
+    // The command's numbers are in their ranges.
+    ensures within { IfOk result IsWithin }
+
+    // A fault of the words is told whether or not there is memory.
+    ensures memory { result ≡ Err WordFault.NoMemory → IsOk (asked (map string_bytes words.now.items)) }
+{
+    let words = words.as_slice();
+    let Some(word) = words.first() else {
+        return Err(WordFault::NoCommand);
+    };
+    let Some(row) = row_named(word.as_str()) else {
+        return Err(WordFault::Unknown(1));
+    };
+    read_row(alloc, row, &words[1..])
+}
+
+/// What the words behind the first ask for, of the command with this row.
+fn read_row(alloc: Global, row: &Row, words: &[String]) -> Result<Command, WordFault>
+    requires { row_of row.now ≡ row_by row.now.verb }
+    ensures ok { IfOk result (λ command. made (row_of row.now) (parts_of (map string_bytes words.now)) (row_answer (row_of row.now) (parts_of (map string_bytes words.now))) ≡ Ok command) }
+    ensures within { IfOk result IsWithin }
+    ensures fault { IfErr result (λ fault. fault ≢ WordFault.NoMemory → made (row_of row.now) (parts_of (map string_bytes words.now)) (row_answer (row_of row.now) (parts_of (map string_bytes words.now))) ≡ Err fault) }
+    ensures memory { result ≡ Err WordFault.NoMemory → IsOk (made (row_of row.now) (parts_of (map string_bytes words.now)) (row_answer (row_of row.now) (parts_of (map string_bytes words.now)))) }
+{
+    check_row(row, words)?;
+    match make_command(alloc, row.verb, words) {
+        Ok(command) => Ok(command),
+        Err(NoMemory) => Err(WordFault::NoMemory),
+    }
+}
+
+/// Whether the words behind the first have a fault, of the command with this row.
+fn check_row(row: &Row, words: &[String]) -> Result<(), WordFault>
+    ensures is { result ≡ row_answer (row_of row.now) (parts_of (map string_bytes words.now)) }
+    ensures told { result ≢ Err WordFault.NoMemory }
+{
+    check_parts(row, words)?;
+    check_whole(row, words)
+}
+
+fn check_whole(row: &Row, words: &[String]) -> Result<(), WordFault>
+    ensures is { result ≡ whole_answer (row_of row.now) (parts_of (map string_bytes words.now)) }
+    ensures told { result ≢ Err WordFault.NoMemory }
+{
+    if count_values(words, OPERANDS) < row.operands.len() {
+        Err(WordFault::Missing)
+    } else if row.is_built {
+        Ok(())
+    } else {
+        Err(WordFault::NotBuilt(1))
+    }
+}
+
+/// Whether one of the parts into which the words behind the first fall has a fault.
+fn check_parts(row: &Row, words: &[String]) -> Result<(), WordFault>
+    ensures is { result ≡ parts_answer (row_of row.now) [] 2 (parts_of (map string_bytes words.now)) }
+    ensures told { result ≢ Err WordFault.NoMemory }
+{
+    let mut index = 0;
+    while index < words.len() {
+        let word = words[index].as_str();
+        check_part(row, &words[..index], word, words.get(index + 1))?;
+        index += part_len(word);
+    }
+    Ok(())
+}
+
+/// The part that begins with this word, behind others.
+fn check_part(
+    row: &Row,
+    before: &[String],
+    word: &str,
+    next: Option<&String>,
+) -> Result<(), WordFault>
+    requires { length before.now < 2 ^ 62 }
+    ensures is { result ≡ part_answer (row_of row.now) (given (name_of (part_of word.now (option_map string_bytes (option_copied next.entry)))) (parts_of (map string_bytes before.now))) (length before.now + 2) (part_of word.now (option_map string_bytes (option_copied next.entry))) }
+    ensures told { result ≢ Err WordFault.NoMemory }
+{
+    if is_option(word) {
+        check_option(row, before, word, next)
+    } else {
+        check_operand(row, before, word)
+    }
+}
+
+fn check_operand(row: &Row, before: &[String], word: &str) -> Result<(), WordFault>
+    requires { length before.now < 2 ^ 62 }
+    ensures is { result ≡ part_answer (row_of row.now) (operands_of (parts_of (map string_bytes before.now))) (length before.now + 2) (AWord word.now) }
+    ensures told { result ≢ Err WordFault.NoMemory }
+{
+    let position = before.len() + 2;
+    let kind = operand_kind(row, count_values(before, OPERANDS), position)?;
+    let first = find_or_empty(before, OPERANDS, 0);
+    check_value(kind, first, position, word)
+}
+
+/// What the value is of the operand at this position, behind so many.
+fn operand_kind(row: &Row, place: usize, position: usize) -> Result<Kind, WordFault>
+    ensures is { result ≡ operand_kind (slice_get (row_of row.now).operands place) position }
+    ensures told { result ≢ Err WordFault.NoMemory }
+{
+    match row.operands.get(place) {
+        Some(kind) => Ok(*kind),
+        None => Err(WordFault::Extra(position)),
+    }
+}
+
+fn check_option(
+    row: &Row,
+    before: &[String],
+    name: &str,
+    value: Option<&String>,
+) -> Result<(), WordFault>
+    requires { length before.now < 2 ^ 62 }
+    ensures is { result ≡ part_answer (row_of row.now) (given (Some name.now) (parts_of (map string_bytes before.now))) (length before.now + 2) (AnOption name.now (option_map string_bytes (option_copied value.entry))) }
+    ensures told { result ≢ Err WordFault.NoMemory }
+{
+    let position = before.len() + 2;
+    let kind = option_kind(row, count_values(before, Some(name)), position, name)?;
+    let Some(value) = value else {
+        return Err(WordFault::Missing);
+    };
+    let first = find_or_empty(before, Some(name), 0);
+    check_value(kind, first, position + 1, value.as_str())
+}
+
+/// What the value is of the option of this name at this position, which was given so many times before.
+fn option_kind(row: &Row, times: usize, position: usize, name: &str) -> Result<Kind, WordFault>
+    ensures is { result ≡ setting_kind (option_named (row_of row.now).options name.now) times position }
+    ensures told { result ≢ Err WordFault.NoMemory }
+{
+    let Some(option) = option_named(row.options, name) else {
+        return Err(WordFault::Unknown(position));
+    };
+    if times < most_times(option.kind) {
+        Ok(option.kind)
+    } else {
+        Err(once_more(option.kind, position))
+    }
+}
+
+/// How many times an option with such a value may be given.
+fn most_times(kind: Kind) -> usize
+    ensures { result ≡ most_times kind }
+{
+    match kind {
+        Kind::Command => MOST_CONNECTS,
+        Kind::File | Kind::Number { .. } | Kind::Factor { .. } => 1,
+    }
+}
+
+/// The fault of an option at this position that was given as often as it may be.
+fn once_more(kind: Kind, position: usize) -> WordFault
+    ensures is { result ≡ once_more kind position }
+    ensures told { result ≢ WordFault.NoMemory }
+{
+    match kind {
+        Kind::Command => WordFault::Range(position),
+        Kind::File | Kind::Number { .. } | Kind::Factor { .. } => WordFault::Extra(position),
+    }
+}
+
+/// The value at this position, where `first` was given first under the same name, or is empty.
+fn check_value(kind: Kind, first: &str, position: usize, word: &str) -> Result<(), WordFault>
+    ensures is { result ≡ value_answer kind first.now position word.now }
+    ensures told { result ≢ Err WordFault.NoMemory }
+{
+    match kind {
+        Kind::File | Kind::Command => check_text(position, word),
+        Kind::Number { least, most } => {
+            let number = digits_value(word.as_bytes());
+            let in_range = u64::from(least) <= number && number <= u64::from(most);
+            check_number(in_range, position, word)
+        }
+        Kind::Factor { most } => {
+            let in_range = is_factor(first, word, most);
+            check_number(in_range, position, word)
+        }
+    }
+}
+
+/// Whether the second number is 1 at least, and both multiplied are at most this.
+fn is_factor(first: &str, word: &str, most: u32) -> bool
+    ensures { result ≡ nat_le 1 (digits_value word.now) && nat_le (digits_value first.now * digits_value word.now) most }
+{
+    let number = digits_value(word.as_bytes());
+    let product = digits_value(first.as_bytes()).saturating_mul(number);
+    1 <= number && product <= u64::from(most)
+}
+
+fn check_text(position: usize, word: &str) -> Result<(), WordFault>
+    ensures is { result ≡ text_answer position word.now }
+    ensures told { result ≢ Err WordFault.NoMemory }
+{
+    if is_text(word.as_bytes()) {
+        Ok(())
+    } else {
+        Err(WordFault::Unknown(position))
+    }
+}
+
+fn check_number(in_range: bool, position: usize, word: &str) -> Result<(), WordFault>
+    ensures is { result ≡ number_answer in_range position word.now }
+    ensures told { result ≢ Err WordFault.NoMemory }
+{
+    if !is_digits(word.as_bytes()) {
+        Err(WordFault::Number(position))
+    } else if in_range {
+        Ok(())
+    } else {
+        Err(WordFault::Range(position))
+    }
+}
+
+fn is_text(bytes: &[u8]) -> bool
+    ensures { result ≡ is_text bytes.now }
+{
+    for byte in bytes {
+        if !is_text_byte(*byte) {
+            return false;
+        }
+    }
+    true
+}
+
+fn is_text_byte(byte: u8) -> bool
+    ensures { result ≡ is_text_byte byte }
+{
+    byte >= 32 || byte == b'\t' || byte == b'\n' || byte == b'\r'
+}
+
+fn is_digits(bytes: &[u8]) -> bool
+    ensures { result ≡ is_digits bytes.now }
+{
+    if bytes.is_empty() {
+        return false;
+    }
+    for byte in bytes {
+        if !byte.is_ascii_digit() {
+            return false;
+        }
+    }
+    true
+}

@@ -1,0 +1,69 @@
+//! How the words of a command are read is said by a row.
+
+ghost use Rattle.std.specs.Prelude.{◌≡◌, option_map, option_copied, find, bytes_eq, map};
+ghost use Rattle.tb_cli.specs.Table.{Row as RowWords, option_named};
+ghost use Rattle.tb_cli.specs.Helpers.Tables.{row_of, setting_of};
+
+/// Which command the first word is.
+#[derive(Clone, Copy)]
+pub(crate) enum Verb {
+    Check,
+    Sim,
+    Run,
+    Ring,
+}
+
+/// What the value of an operand or of an option is.
+#[derive(Clone, Copy)]
+pub(crate) enum Kind {
+    /// The name of a file.
+    File,
+    /// A command to connect, one of several.
+    Command,
+    /// A number from `least` to `most`.
+    Number { least: u32, most: u32 },
+    /// A number from 1 that times the operand before it is at most this.
+    Factor { most: u32 },
+}
+
+/// An option. Where its value is a number, `usual` is that of an option that isn't given.
+#[derive(Clone, Copy)]
+pub(crate) struct Setting {
+    pub(crate) name: &'static str,
+    pub(crate) kind: Kind,
+    pub(crate) usual: u32,
+}
+
+/// How the words of a command are read: its first word, its operands in their order, and its options.
+#[derive(Clone, Copy)]
+pub(crate) struct Row {
+    pub(crate) verb: Verb,
+    pub(crate) word: &'static str,
+    pub(crate) operands: &'static [Kind],
+    pub(crate) options: &'static [Setting],
+    pub(crate) is_built: bool,
+}
+
+/// The row with this first word among these.
+pub(crate) fn find_row<'a>(rows: &'a [Row], word: &str) -> Option<&'a Row>
+    ensures { option_map row_of (option_copied result) ≡ find (λ (row : RowWords). bytes_eq row.word word.now) (map row_of rows.now) }
+{
+    for row in rows {
+        if row.word == word {
+            return Some(row);
+        }
+    }
+    None
+}
+
+/// The option with this name among these.
+pub(crate) fn option_named<'a>(options: &'a [Setting], name: &str) -> Option<&'a Setting>
+    ensures { option_map setting_of (option_copied result) ≡ option_named (map setting_of options.now) name.now }
+{
+    for option in options {
+        if option.name == name {
+            return Some(option);
+        }
+    }
+    None
+}
