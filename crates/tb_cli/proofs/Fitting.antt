@@ -1,7 +1,5 @@
 -- The values of words without a fault are what they should be.
-use Rattle.std.proofs.Common.{◌≡◌, ◌≤◌, ◌<◌, ◌&&◌, ◌*◌, ◌+◌, ℕ, zero, suc, Bool, true, false, if◌then◌else◌, nat_le, bytes_eq, List, [], ◌∷◌, ◌++◌, length, get_or, slice_get, take, Option, Some, None, option_to_list, IsTrue, Result, Ok, Err, refl, sym, ap, subst, ◌∙◌, ◌⊎◌, inl, inr, ◌^◌, ◌-◌, min, arith}
-use Rattle.std.specs.Bool.{⊤}
-use Rattle.std.specs.List.{flat_map}
+use Rattle.std.proofs.Common.{◌≡◌, ◌≤◌, ◌<◌, ◌&&◌, ◌*◌, ◌+◌, ℕ, zero, suc, Bool, true, false, if◌then◌else◌, nat_le, bytes_eq, List, [], ◌∷◌, ◌++◌, length, get_or, slice_get, take, Option, Some, None, IsTrue, Result, Ok, Err, refl, sym, ap, subst, ◌∙◌, ◌⊎◌, inl, inr, ◌^◌, ◌-◌, min, arith}
 use Rattle.std.proofs.lemmas.Bool.{and_parts, leb-true, leb-false}
 use Rattle.std.proofs.lemmas.List.{append-nil, append_assoc, length-append}
 use Rattle.std.proofs.lemmas.Grind.{flat_map-append}
@@ -16,7 +14,7 @@ use Rattle.tb_cli.specs.declared.table.Kind.TheVariants.{File, Number, Factor}
 use Rattle.tb_cli.specs.declared.table.Kind.TheVariants as kind
 use Rattle.tb_cli.specs.Parts.{Part, AnOption, AWord, name_of, len_of, given_by, given, operands_of}
 use Rattle.tb_cli.specs.Table.{Setting, Row, option_named, operand, ring}
-use Rattle.tb_cli.specs.Words.{Answer, and_then, text_answer, number_answer, value_answer, most_times, once_more, setting_kind, operand_kind, checked_value, part_answer, parts_answer, whole_answer, row_answer}
+use Rattle.tb_cli.specs.Words.{Answer, and_then, value_answer, most_times, once_more, setting_kind, operand_kind, checked_value, part_answer, parts_answer, whole_answer, row_answer}
 use Rattle.tb_cli.specs.Helpers.Fitting.{Fits, AllFit, OperandsFit, OptionFits, OperandFits, RowFits, IsIn, IsNumber}
 
 -- a value
@@ -136,6 +134,7 @@ option-fine row before position name value fine e =
   where
     part : Part
     part = AnOption name (Some value)
+
     under : (option : Setting) → name ≡ option.name → (k : Kind) → option_named row.options option.name ≡ Some option → Known (option_named row.options name) (length (given (Some name) before)) k → Fits k (given (Some name) before) value → (length (given (Some option.name) before) < most_times option.kind) × Fits option.kind (given (Some option.name) before) value
     under option same k named setting fit =
         let alike : Some setting.option ≡ Some option = sym setting.is ∙ ap (option_named row.options) same ∙ named in
@@ -144,6 +143,7 @@ option-fine row before position name value fine e =
         let few : length (given (Some name) before) < most_times option.kind = subst (λ (j : Kind). length (given (Some name) before) < most_times j) kinds setting.few in
         let fits : Fits option.kind (given (Some name) before) value = subst (λ (j : Kind). Fits j (given (Some name) before) value) kinds fit in
         (subst (λ (n : List ℕ). length (given (Some n) before) < most_times option.kind) same few, subst (λ (n : List ℕ). Fits option.kind (given (Some n) before) value) same fits)
+
     by : (option : Setting) → option_named row.options option.name ≡ Some option → (b : Bool) → bytes_eq name option.name ≡ b → {k : Kind} → Known (option_named row.options name) (length (given (Some name) before)) k → Fits k (given (Some name) before) value → OptionFits option (before ++ part ∷ [])
     by option named true is {k = k} setting fit =
         let here = under option ((bytes_eq-Decides name option.name).0 is) k named setting fit in
@@ -201,8 +201,8 @@ row-fits row parts e =
     record {
       option = fine.option;
       operand = λ place kind at.
-        let here = operand-at row.operands [] (operands_of parts) place kind fine.operands at (enough-operands row parts fines.1) in
-        record { there = here.0; fits = here.1 };
+          let here = operand-at row.operands [] (operands_of parts) place kind fine.operands at (enough-operands row parts fines.1) in
+          record { there = here.0; fits = here.1 };
     }
 
 pub option_fits : (row : Row) (parts : List Part) (option : Setting) → RowFits row parts → option_named row.options option.name ≡ Some option → OptionFits option parts

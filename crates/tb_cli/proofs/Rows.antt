@@ -1,5 +1,5 @@
 -- Each row of the table is that of its own command.
-use Rattle.std.proofs.Common.{◌≡◌, ℕ, Bool, true, false, cond, List, [], ◌∷◌, Option, Some, None, bytes_eq, refl, subst}
+use Rattle.std.proofs.Common.{◌≡◌, ℕ, Bool, true, false, cond, List, [], ◌∷◌, Some, bytes_eq, refl, subst}
 use Rattle.std.specs.Bool.{⊤}
 use Rattle.std.specs.List.{find}
 use Rattle.tb_cli.specs.Table.{Row, table, row_named}

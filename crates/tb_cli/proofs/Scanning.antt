@@ -83,11 +83,11 @@ advanced before chunk part whole is =
     let parts : parts_of (before ++ chunk) ≡ parts_of before ++ part ∷ [] = whole chunk ∙ ap (λ (ps : List Part). parts_of before ++ ps) alone in
     record {
       whole = λ rest.
-        ap parts_of (append_assoc before chunk rest)
-        ∙ whole (chunk ++ rest)
-        ∙ ap (λ (ps : List Part). parts_of before ++ ps) (is rest)
-        ∙ sym (append_assoc (parts_of before) (part ∷ []) (parts_of rest))
-        ∙ ap (λ (ps : List Part). ps ++ parts_of rest) (sym parts);
+          ap parts_of (append_assoc before chunk rest)
+          ∙ whole (chunk ++ rest)
+          ∙ ap (λ (ps : List Part). parts_of before ++ ps) (is rest)
+          ∙ sym (append_assoc (parts_of before) (part ∷ []) (parts_of rest))
+          ∙ ap (λ (ps : List Part). ps ++ parts_of rest) (sym parts);
       parts = parts;
     }
 
@@ -113,6 +113,7 @@ pub part-behind : (row : Row) (values : List (List ℕ)) (words : List (List ℕ
 part-behind row values words i position word next within is comes whole fine = by (is_option word) refl next comes fine where
   first : take (i + 1) words ≡ take i words ++ word ∷ []
   first = take_more words i [] within ∙ ap (λ (w : List ℕ). take i words ++ w ∷ []) (sym is)
+
   both : (value : List ℕ) → Some value ≡ slice_get words (i + 1) → take (i + 2) words ≡ take i words ++ word ∷ value ∷ []
   both value there =
       let inside : i + 1 < length words = slice_get_within words (i + 1) value (sym there) in
@@ -122,6 +123,7 @@ part-behind row values words i position word next within is comes whole fine = b
       ∙ ap (λ (w : List ℕ). take (i + 1) words ++ w ∷ []) (get_or_from_slice_get words (i + 1) value [] (sym there))
       ∙ ap (λ (ws : List (List ℕ)). ws ++ value ∷ []) first
       ∙ append_assoc (take i words) (word ∷ []) (value ∷ [])
+
   by : (b : Bool) → is_option word ≡ b → (n : Option (List ℕ)) → n ≡ slice_get words (i + 1) → part_answer row values position (if b then AnOption word n else AWord word) ≡ Ok tt →
       Advanced (take i words) (take (i + (if b then 2 else 1)) words) (if b then AnOption word n else AWord word)
   by true option None there ok = absurd (bare-faulty row values position word ok)

@@ -8,7 +8,7 @@ ghost use Rattle.tb_cli.specs.Helpers.Tables.{row_of};
 ghost use Rattle.tb_cli.specs.Helpers.Fitting.{row_by, RowFits};
 
 use crate::table::{Kind, Row, Setting, Verb, find_row};
-use crate::values::{option_commands, option_file, option_number, operand_number, operand_text};
+use crate::values::{operand_number, operand_text, option_commands, option_file, option_number};
 use std::alloc::Global;
 use tb_terms::{NoMemory, Text, Texts};
 
@@ -133,11 +133,7 @@ pub(crate) fn row_named(word: &str) -> Option<&'static Row>
 }
 
 /// The command of this row, of the words behind the first.
-pub(crate) fn make_command(
-    alloc: Global,
-    verb: Verb,
-    words: &[String],
-) -> Result<Command, NoMemory>
+pub(crate) fn make_command(alloc: Global, verb: Verb, words: &[String]) -> Result<Command, NoMemory>
     requires { RowFits (row_by verb) (parts_of (map string_bytes words.now)) }
     ensures is { IfOk result (λ command. command ≡ make verb (parts_of (map string_bytes words.now))) }
     ensures within { IfOk result IsWithin }

@@ -62,7 +62,11 @@ fn count_value(value: Option<&str>) -> usize
 }
 
 /// The value at this place, from 0, of those that the words give under this name.
-pub(crate) fn find_value<'w>(words: &'w [String], name: Option<&str>, place: usize) -> Option<&'w str>
+pub(crate) fn find_value<'w>(
+    words: &'w [String],
+    name: Option<&str>,
+    place: usize,
+) -> Option<&'w str>
     ensures { option_copied result ≡ slice_get (given (option_copied name.entry) (parts_of (map string_bytes words.now))) place }
 {
     let mut index = 0;

@@ -1,7 +1,6 @@
 //! How the words of a command are read is said by a row.
 
 ghost use Rattle.std.specs.Prelude.{◌≡◌, option_map, option_copied, find, bytes_eq, map};
-
 ghost use Rattle.tb_cli.specs.Table.{Row as RowWords, option_named};
 ghost use Rattle.tb_cli.specs.Helpers.Tables.{row_of, setting_of};
 
@@ -22,14 +21,9 @@ pub(crate) enum Kind {
     /// A command to connect, one of several.
     Command,
     /// A number from `least` to `most`.
-    Number {
-        least: u32,
-        most: u32,
-    },
+    Number { least: u32, most: u32 },
     /// A number from 1 that times the operand before it is at most this.
-    Factor {
-        most: u32,
-    },
+    Factor { most: u32 },
 }
 
 /// An option. Where its value is a number, `usual` is that of an option that isn't given.

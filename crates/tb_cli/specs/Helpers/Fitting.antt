@@ -1,7 +1,7 @@
 -- What values are that have no fault.
-use Rattle.std.specs.Prelude.{◌≡◌, ℕ, ◌*◌, ◌≤◌, ◌<◌, ◌^◌, List, [], ◌∷◌, ◌++◌, length, take, get_or, slice_get, Some, IsTrue, Ok, ⊤}
+use Rattle.std.specs.Prelude.{◌≡◌, ℕ, ◌*◌, ◌≤◌, ◌<◌, ◌^◌, List, [], ◌∷◌, ◌++◌, length, take, get_or, slice_get, Some, IsTrue, ⊤}
 use Rattle.tb_terms.specs.Names.{is_text}
-use Rattle.tb_read.specs.Spelling.{is_digits, digits_value}
+use Rattle.tb_read.specs.Spelling.{digits_value}
 use Rattle.tb_cli.specs.declared.table.Verb.{Verb}
 use Rattle.tb_cli.specs.declared.table.Verb.TheVariants as verb
 use Rattle.tb_cli.specs.declared.table.Kind.{Kind}

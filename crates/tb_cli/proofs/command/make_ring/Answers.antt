@@ -1,4 +1,4 @@
-use Rattle.std.proofs.Common.{◌≡◌, ◌*◌, ◌≤◌, ℕ, map, string_bytes, sym, subst, ap, arith}
+use Rattle.std.proofs.Common.{◌*◌, ◌≤◌, ℕ, map, string_bytes, sym, subst, arith}
 use Rattle.tb_read.specs.Spelling.{digits_value}
 use Rattle.tb_cli.specs.Parts.{parts_of}
 use Rattle.tb_cli.specs.Table.{operand}

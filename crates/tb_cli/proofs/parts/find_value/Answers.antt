@@ -1,7 +1,7 @@
-use Rattle.std.proofs.Common.{◌≡◌, ◌+◌, ◌-◌, ◌<◌, ◌++◌, ◌∙◌, refl, sym, ap, length, map, [], List, ℕ, drop, slice_get, get_or, string_bytes, option_map, option_copied, option_to_list, arith}
+use Rattle.std.proofs.Common.{◌≡◌, ◌+◌, ◌-◌, ◌<◌, ◌++◌, ◌∙◌, refl, sym, ap, length, map, [], List, ℕ, drop, slice_get, get_or, string_bytes, option_map, option_copied, arith}
 use Rattle.std.proofs.lemmas.List.{length-map}
-use Rattle.tb_cli.specs.Parts.{parts_of, given, given_by}
-use Rattle.tb_cli.specs.Helpers.Scanning.{part_of, part_len}
+use Rattle.tb_cli.specs.Parts.{parts_of, given}
+use Rattle.tb_cli.specs.Helpers.Scanning.{part_len}
 use Rattle.tb_cli.proofs.Scanning.{bytes-looked-up, bytes-read, given-at, found-first, found-later}
 use Rattle.tb_cli.proofs.parts.find_value.Goals as goal
 

@@ -1,4 +1,4 @@
-use Rattle.std.proofs.Common.{◌≡◌, ◌+◌, ◌-◌, ◌<◌, ◌≤◌, ◌++◌, ◌∷◌, [], ◌∙◌, rules, refl, sym, ap, subst, length, map, take, drop, List, ℕ, Ok, Err, Option, slice_get, get_or, string_bytes, option_map, option_copied, arith}
+use Rattle.std.proofs.Common.{◌≡◌, ◌+◌, ◌<◌, ◌++◌, ◌∷◌, [], ◌∙◌, rules, sym, ap, subst, length, map, take, drop, List, ℕ, Ok, Err, slice_get, get_or, string_bytes, option_map, option_copied, arith}
 use Rattle.std.proofs.lemmas.List.{length-map, length-take-le}
 use Rattle.tb_cli.specs.Parts.{Part, parts_of, given, name_of}
 use Rattle.tb_cli.specs.Words.{Answer, part_answer, parts_answer, and_then}

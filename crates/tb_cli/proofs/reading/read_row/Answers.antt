@@ -1,4 +1,4 @@
-use Rattle.std.proofs.Common.{◌≡◌, ◌∙◌, sym, subst, map, string_bytes}
+use Rattle.std.proofs.Common.{sym, subst, map, string_bytes}
 use Rattle.tb_cli.specs.Parts.{parts_of}
 use Rattle.tb_cli.specs.Table.{Row}
 use Rattle.tb_cli.specs.Helpers.Tables.{row_of}

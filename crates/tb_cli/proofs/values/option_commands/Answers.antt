@@ -1,4 +1,4 @@
-use Rattle.std.proofs.Common.{Bor, refl, ◌≡◌, ◌≤◌, ◌<◌, ◌+◌, ◌++◌, ◌∷◌, [], ◌∙◌, sym, ap, map, take, length, get_or, string_bytes, inr, Some, None, slice_get, option_copied, Option, List, ℕ, arith}
+use Rattle.std.proofs.Common.{Bor, refl, ◌≡◌, ◌<◌, ◌++◌, ◌∷◌, [], ◌∙◌, sym, ap, map, take, length, get_or, string_bytes, inr, Some, None, slice_get, option_copied, Option, List, ℕ, arith}
 use Rattle.std.proofs.lemmas.List.{take_more}
 use Rattle.std.proofs.lemmas.Option.{slice_get_within, get_or_from_slice_get}
 use Rattle.tb_cli.specs.Parts.{parts_of, given}

@@ -1,4 +1,4 @@
-use Rattle.std.proofs.Common.{◌≡◌, ◌∙◌, sym, ap, map, string_bytes, inl, Some, slice_get, option_copied, Option, List, ℕ}
+use Rattle.std.proofs.Common.{◌≡◌, ◌∙◌, sym, ap, map, string_bytes, inl, Some, slice_get, option_copied}
 use Rattle.tb_cli.specs.Parts.{parts_of, given}
 use Rattle.tb_cli.proofs.Fitting.{text-at}
 use Rattle.tb_cli.proofs.values.option_file.Goals as goal

@@ -1,4 +1,4 @@
-use Rattle.std.proofs.Common.{◌≡◌, ◌-◌, ◌^◌, ◌∙◌, sym, ap, subst, map, min, string_bytes, Some, slice_get, option_copied, Option, List, ℕ, arith}
+use Rattle.std.proofs.Common.{◌≡◌, ◌-◌, ◌^◌, ◌∙◌, sym, ap, subst, map, min, string_bytes, Some, slice_get, option_copied, List, ℕ, arith}
 use Rattle.tb_read.specs.Spelling.{digits_value}
 use Rattle.tb_cli.specs.Table.{number_or}
 use Rattle.tb_cli.specs.Parts.{parts_of, given}
