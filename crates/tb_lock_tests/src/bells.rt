@@ -1,6 +1,6 @@
 use std::sync::Wait;
 use std::thread::join;
-use tb_bells::Bell;
+use tb_bells::{Bell, Bells, Sleeper};
 
 /// How often two threads ring for each other.
 const ROUNDS: u64 = 1_000;
@@ -15,6 +15,29 @@ fn a_ring_before_the_wait_is_not_lost(rt: HostRuntime) {
     let last = bell.wait_past(&rt, first);
     drop(bell);
     assert_eq!(rt; (first, last), (1, 3));
+}
+
+/// Sleepers, and how often each was rung for.
+static RUNG: [(Sleeper, u64); 6] = [
+    (Sleeper::Stepper, 2),
+    (Sleeper::Writer(1), 1),
+    (Sleeper::Writer(2), 3),
+    (Sleeper::Writer(3), 1),
+    (Sleeper::Writer(16), 2),
+    (Sleeper::Log, 1),
+];
+
+#[test]
+fn a_ring_counts_for_one_sleeper(rt: HostRuntime) {
+    let bells = Bells::new();
+    bells.ring(Sleeper::Stepper);
+    bells.ring(Sleeper::Writer(2));
+    bells.ring(Sleeper::Writer(2));
+    bells.ring(Sleeper::Writer(16));
+    bells.ring_all();
+    for (sleeper, rings) in RUNG {
+        assert_eq!(rt; bells.wait_past(&rt, sleeper, 0), rings);
+    }
 }
 
 /// Rings for the other and waits for its ring, round after round. Gives the last count that was heard.

@@ -3,22 +3,23 @@ ghost use Rattle.tb_core.specs.Cores.{most_entries};
 ghost use Rattle.tb_lock.specs.Seats.{first_seat};
 
 use crate::crowd::{join_all, split_off, work_beside};
-use crate::workers::{Bus, side_by_side};
+use crate::workers::side_by_side;
 use std::alloc::Global;
 use std::test::Fail;
-use tb_algebra::Rewriter;
+use tb_algebra::{Rewriter, Walker};
 use tb_core::{Core, CoreFault, Stepped, TakeOut};
 use tb_lock::{Rights, Seat, Shared};
 use tb_log::{Entry, Input, Out, Reply};
 use tb_script::load;
 use tb_terms::{Items, Text};
 use tb_tools::LaneState;
+use tb_walk::Walk;
 
 /// Steps without end.
 const TAUS: &str = "process P is tau * delta toolbus(P)";
 
 /// A bus of that program, for at most so many entries, whose first lane is started with a command.
-fn shared(alloc: Global, limit: u32) -> Result<(Bus, Seat), Fail>
+fn shared<W: Walker>(alloc: Global, limit: u32) -> Result<(Shared<W>, Seat), Fail>
     requires { limit ≤ most_entries }
     ensures { IfOk result (λ made. made.1 ≡ first_seat made.0 made.1.origin) }
 {
@@ -32,27 +33,22 @@ fn shared(alloc: Global, limit: u32) -> Result<(Bus, Seat), Fail>
 }
 
 /// Whether a core is stopped, how many entries its log has, and how many of them say that a step was made.
-fn counted(core: Core<Rewriter>) -> (bool, usize, usize) {
-    let steps = core
-        .log()
-        .iter()
-        .filter(|entry| matches!(entry, Entry::Did(_)))
-        .count();
-    (core.is_stopped(), core.log().len(), steps)
+fn counted<W: Walker>(core: Core<W>) -> (bool, usize, usize) {
+    (core.is_stopped(), core.log().len(), steps_in(core.log()))
 }
 
-/// The right to hand in ticks alone.
-static TICKS: Rights = Rights {
-    steps: false,
-    ticks: true,
-    ins: 0,
-    outs: 0,
-};
+/// How many of these entries say that a step was made.
+fn steps_in(entries: &[Entry]) -> usize {
+    entries
+        .iter()
+        .filter(|entry| matches!(entry, Entry::Did(_)))
+        .count()
+}
 
 #[test]
 fn two_threads_make_one_history(rt: HostRuntime) -> Result<(), Fail> {
-    let (bus, mut seat) = shared(rt.alloc(), 1_000)?;
-    let other = bus.split(&mut seat, TICKS);
+    let (bus, mut seat) = shared::<Walk>(rt.alloc(), 1_000)?;
+    let other = bus.split(&mut seat, Rights::ticker());
     let ((mut seat, made), (other, handed)) = side_by_side(&rt, &bus, seat, other);
     bus.join(&mut seat, other);
     let found = counted(bus.close(&rt, seat));
@@ -62,7 +58,7 @@ fn two_threads_make_one_history(rt: HostRuntime) -> Result<(), Fail> {
 
 #[test]
 fn thirty_four_seats_of_which_some_stop(rt: HostRuntime) -> Result<(), Fail> {
-    let (bus, mut seat) = shared(rt.alloc(), 4_000_000)?;
+    let (bus, mut seat) = shared::<Rewriter>(rt.alloc(), 4_000_000)?;
     let others = split_off(rt.alloc(), &bus, &mut seat, 33)?;
     let ((seat, made), others) = work_beside(&rt, &bus, seat, others);
     let seat = join_all(&bus, seat, others);
@@ -73,7 +69,7 @@ fn thirty_four_seats_of_which_some_stop(rt: HostRuntime) -> Result<(), Fail> {
 
 #[test]
 fn a_full_and_a_stopped_bus_refuse(rt: HostRuntime) -> Result<(), Fail> {
-    let (bus, mut seat) = shared(rt.alloc(), 2)?;
+    let (bus, mut seat) = shared::<Rewriter>(rt.alloc(), 2)?;
     let step = bus.step(&rt, &mut seat);
     let tick = bus.hand_in(&rt, &mut seat, Input::Tick);
     let full = bus.step(&rt, &mut seat);
@@ -98,7 +94,7 @@ fn is_command(taken: Result<TakeOut, CoreFault>) -> bool {
 
 #[test]
 fn what_is_to_be_handed_out_is_taken_once(rt: HostRuntime) -> Result<(), Fail> {
-    let (bus, mut seat) = shared(rt.alloc(), 10)?;
+    let (bus, mut seat) = shared::<Rewriter>(rt.alloc(), 10)?;
     let state = bus.lane_state(&rt, &mut seat, 1);
     let first = is_command(bus.take_out(&rt, &mut seat, 1));
     let second = is_command(bus.take_out(&rt, &mut seat, 1));
