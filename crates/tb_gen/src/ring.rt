@@ -8,7 +8,8 @@ use itoa::Buffer;
 use std::alloc::Global;
 use tb_terms::NoMemory;
 
-const NODE: &[u8] = b"process Node(I : int, J : int) is let T : int in (rec-msg(I, T?) . snd-msg(J, add(T, 1))) * delta endlet\n";
+const NODE: &[u8] =
+    b"process Node(I : int, J : int) is let T : int in (rec-msg(I, T?) . snd-msg(J, add(T, 1))) * delta endlet\n";
 
 const BEFORE_LIMIT: &[u8] =
     b"process First is let T : int in snd-msg(2, 1) . (rec-msg(1, T?) . if less(T, ";
