@@ -5,7 +5,7 @@ use crate::texts::{one, said};
 use std::alloc::Global;
 use tb_feed::{Feed, FeedFault, read_feed};
 use tb_lane::read_tool_line;
-use tb_log::{Entry, Reply, ToolLine, write_entry};
+use tb_log::{Entry, Reply, ToolLine, is_in_shape, write_entry};
 use tb_log_read::{LogFault, read_entry, read_log};
 use tb_terms::{write_term, write_terms};
 
@@ -86,14 +86,16 @@ fn count_feed(alloc: Global, bytes: &[u8]) -> Result<Vec<u8>, Fault> {
     }
 }
 
-/// The line of the entry that the bytes are the line of.
+/// The line of a copy of the entry that the bytes are the line of, which is in shape.
 fn entry(alloc: Global, bytes: &[u8]) -> Result<Vec<u8>, Fault> {
     match read_entry(alloc, bytes)? {
-        Some(numbered) => {
+        Some(numbered) if is_in_shape(&numbered.entry) => {
+            let copy = numbered.entry.copy(alloc)?;
             let mut text = Vec::new(alloc);
-            write_entry(numbered.number, &numbered.entry, &mut text)?;
+            write_entry(numbered.number, &copy, &mut text)?;
             Ok(text)
         }
+        Some(_) => said(alloc, "out of shape"),
         None => said(alloc, "no entry"),
     }
 }

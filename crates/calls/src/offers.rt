@@ -11,7 +11,7 @@ use tb_body::{Act, Body};
 use tb_func::{Store, eval, pattern};
 use tb_match::{Binds, match_list, match_term};
 use tb_script::{ScriptFault, load};
-use tb_terms::{Exprs, Items, Patterns, Sort, Term, has_sort, initial, write_term};
+use tb_terms::{Exprs, Items, Patterns, Sort, has_sort, initial, write_term};
 use tb_walk::Walk;
 
 pub(crate) fn answer(

@@ -1,7 +1,5 @@
 //! The same simulation over walkers of the other kind: the program's are walks.
 
-ghost use Rattle.std.specs.Prelude.{◌≡◌, [], false};
-
 use crate::case::Case;
 use std::alloc::Global;
 use tb_algebra::Rewriter;
