@@ -1,0 +1,153 @@
+-- What a tick worker comes to, tick by tick.
+use Rattle.std.proofs.Common.{◌≡◌, ◌≤◌, ◌<◌, ◌+◌, ◌⊎◌, ℕ, List, [], ◌∷◌, ◌++◌, length, Bool, true, false, ◌||◌, Option, Some, None, MatchOption, refl, sym, ap, ◌∙◌, subst, inl, inr, append_assoc, append-nil, length-append, arith}
+use Rattle.std.proofs.Math.Bool.{or-false}
+use Rattle.tb_edge.specs.Faults.{Rose}
+use Rattle.tb_edge.specs.Ends.{ClockView, and_ticked}
+use Rattle.tb_log.specs.declared.entry.Input.TheVariants as input
+use Rattle.tb_log.specs.declared.entry.Reply.{Reply}
+use Rattle.tb_log.specs.declared.entry.Reply.TheVariants.{Dropped}
+use Rattle.tb_log.specs.declared.entry.Why.TheVariants as why
+use Rattle.tb_log.specs.declared.entry.Entry.{Entry}
+use Rattle.tb_log.specs.declared.entry.Entry.TheVariants.{Did, Quiet, Fed, Gave}
+use Rattle.tb_lock.specs.Seats.{SeatView}
+use Rattle.tb_run.specs.declared.ends.WorkEnd.{WorkEnd}
+use Rattle.tb_run.specs.declared.ends.WorkEnd.TheVariants as end
+use Rattle.tb_run.specs.Seats.{Adds, Hands, Marks, WasFull}
+use Rattle.tb_run.specs.Workers.{AreTicks, Ticks, TicksBus, TickerEnds, MayLack, IsNoTicks}
+use Rattle.tb_run.specs.Ticking.{EndsAll, IsRefused}
+use Rattle.tb_run.proofs.SeatLemmas.{adds_none, adds_on}
+
+pub ticked_on : (told : Option ClockView) (m n : ℕ) (ended : Bool) → and_ticked (and_ticked told m false) n ended ≡ and_ticked told (m + n) ended
+ticked_on None m n ended = refl
+ticked_on (Some view) m n ended =
+    let sum : view.ticks + m + n ≡ view.ticks + (m + n) = omega arith in
+    ap (λ (t : ℕ). Some (record { ticks = t; ended = (view.ended || false) || ended })) sum
+    ∙ ap (λ (b : Bool). Some (record { ticks = view.ticks + (m + n); ended = b || ended })) (or-false view.ended)
+
+pub ticked_none : (told : Option ClockView) → and_ticked told 0 false ≡ told
+ticked_none None = refl
+ticked_none (Some view) =
+    let sum : view.ticks + 0 ≡ view.ticks = omega arith in
+    ap (λ (t : ℕ). Some (record { ticks = t; ended = view.ended || false })) sum ∙ ap (λ (b : Bool). Some (record { ticks = view.ticks; ended = b })) (or-false view.ended)
+
+pub ticks_append : (xs ys : List Entry) → AreTicks xs → AreTicks ys → AreTicks (xs ++ ys)
+ticks_append [] ys a b = b
+ticks_append (Fed input.Tick reply ∷ xs) ys a b = ticks_append xs ys a b
+ticks_append (Fed input.NoTicks reply ∷ xs) ys a b = absurd a
+ticks_append (Fed (input.Line at line) reply ∷ xs) ys a b = absurd a
+ticks_append (Fed (input.Gone at) reply ∷ xs) ys a b = absurd a
+ticks_append (Fed (input.Cut at) reply ∷ xs) ys a b = absurd a
+ticks_append (Did label ∷ xs) ys a b = absurd a
+ticks_append (Quiet ∷ xs) ys a b = absurd a
+ticks_append (Gave at out ∷ xs) ys a b = absurd a
+
+pub ticks_none : (seat : SeatView) (told : Option ClockView) (faults : ℕ) → Ticks seat seat told told faults faults 0
+ticks_none seat told faults = record { more = []; adds = adds_none seat; ticks = tt; count = refl; told = sym (ticked_none told); never_falls = omega arith; called = refl }
+
+module _ (a b c : SeatView) (told_a told_b told_c : Option ClockView) (faults_a faults_b faults_c : ℕ) (m : ℕ) where
+  pub ticks_on : (n : ℕ) → Ticks a b told_a told_b faults_a faults_b m → Ticks b c told_b told_c faults_b faults_c n → Ticks a c told_a told_c faults_a faults_c (m + n)
+  ticks_on n one two = record {
+    more = one.more ++ two.more;
+    adds = adds_on a b c one.more two.more one.adds two.adds;
+    ticks = ticks_append one.more two.more one.ticks two.ticks;
+    count = let p = one.count in let q = two.count in omega (arith, length-append one.more two.more);
+    told = two.told ∙ (ap (λ (t : Option ClockView). and_ticked t n false) one.told ∙ ticked_on told_a m n false);
+    never_falls = let p = one.never_falls in let q = two.never_falls in omega arith;
+    called = two.called ∙ one.called;
+  }
+
+  marks_on : (it : WorkEnd) → b.called ≡ a.called → Marks b c it → Marks a c it
+  marks_on end.Over e k = k ∙ e
+  marks_on end.Down e k = k ∙ e
+  marks_on end.Stopped e k = (k.0 ∙ e, k.1)
+  marks_on end.Full e k = k
+  marks_on end.Failed e k = k ∙ e
+  marks_on end.NoMemory e k = k
+
+  rose_on : faults_a ≤ faults_b → Rose faults_b faults_c → Rose faults_a faults_c
+  rose_on low (inl up) = inl (omega arith)
+  rose_on low (inr top) = inr top
+
+  ends_on : (Enough Enough' : ℕ → Type 0) → ((k : ℕ) → Enough k → Enough' (m + k)) → (tail : List Entry) (k : ℕ) (ended : Bool) (it : WorkEnd) → faults_a ≤ faults_b → TickerEnds Enough tail c k faults_b faults_c ended it → TickerEnds Enough' tail c (m + k) faults_a faults_c ended it
+  ends_on Enough Enough' f tail k ended end.Over low (w, inl e) = (w, inl e)
+  ends_on Enough Enough' f tail k ended end.Over low (w, inr e) = (w, inr (f k e))
+  ends_on Enough Enough' f tail k ended end.Failed low e = (e.0, rose_on low e.1)
+  ends_on Enough Enough' f tail k ended end.Down low e = e
+  ends_on Enough Enough' f tail k ended end.Full low e = e
+  ends_on Enough Enough' f tail k ended end.Stopped low e = e
+  ends_on Enough Enough' f tail k ended end.NoMemory low e = e
+
+  pub ticks_end : (Enough Enough' : ℕ → Type 0) (room most : ℕ) → ((k : ℕ) → Enough k → Enough' (m + k)) → m + room ≤ most → (it : WorkEnd) → Ticks a b told_a told_b faults_a faults_b m → TicksBus Enough room b c told_b told_c faults_b faults_c it → TicksBus Enough' most a c told_a told_c faults_a faults_c it
+  ticks_end Enough Enough' room most f low it one two =
+      let len : m + length two.first ≡ length (one.more ++ two.first) = let p = one.count in omega (arith, length-append one.more two.first) in
+      let all : m + (length two.first + two.last) ≡ length (one.more ++ two.first) + two.last = omega (arith, len) in
+      record {
+        first = one.more ++ two.first;
+        tail = two.tail;
+        adds = subst (Adds a c) (sym (append_assoc one.more two.first two.tail)) (adds_on a b c one.more (two.first ++ two.tail) one.adds two.adds);
+        ticks = ticks_append one.more two.first one.ticks two.ticks;
+        last = two.last;
+        ended = two.ended;
+        told = two.told ∙ (ap (λ (t : Option ClockView). and_ticked t (length two.first + two.last) two.ended) one.told ∙ (ticked_on told_a m (length two.first + two.last) two.ended ∙ ap (λ (n : ℕ). and_ticked told_a n two.ended) all));
+        within = let q = two.within in omega (arith, all);
+        lacks = two.lacks;
+        marks = marks_on it one.called two.marks;
+        never_falls = let p = one.never_falls in let q = two.never_falls in omega arith;
+        ends = subst (λ (n : ℕ). TickerEnds Enough' two.tail c n faults_a faults_c two.ended it) len (ends_on Enough Enough' f two.tail (length two.first) two.ended it one.never_falls two.ends);
+      }
+
+module _ (old new : SeatView) (told_old told_new : Option ClockView) (faults_old faults_new : ℕ) (low : faults_old ≤ faults_new) where
+  -- a tick that was given
+  pub ticks_hands : (answer : Option WorkEnd) → told_new ≡ and_ticked told_old 1 false → Hands input.Tick old new answer
+      → MatchOption answer (Ticks old new told_old told_new faults_old faults_new 1) (TicksBus (λ count. ⊥) 1 old new told_old told_new faults_old faults_new)
+  ticks_hands None told h = record { more = Fed input.Tick h.0 ∷ []; adds = h.1; ticks = tt; count = refl; told = told; never_falls = low; called = h.2 }
+  ticks_hands (Some end.Down) told h = record { first = Fed input.Tick (Dropped why.Down) ∷ []; tail = []; adds = h.0; ticks = tt; last = 0; ended = false; told = told; within = omega arith; lacks = refl; marks = h.1; never_falls = low; ends = (refl, h.2) }
+  ticks_hands (Some end.Stopped) told h = record { first = []; tail = []; adds = h.0; ticks = tt; last = 1; ended = false; told = told; within = omega arith; lacks = omega arith; marks = (h.1, h.2); never_falls = low; ends = refl }
+  ticks_hands (Some end.Full) told h = record { first = []; tail = []; adds = h.0; ticks = tt; last = 1; ended = false; told = told; within = omega arith; lacks = omega arith; marks = tt; never_falls = low; ends = (refl, h.1) }
+  ticks_hands (Some end.NoMemory) told h = record { first = []; tail = []; adds = h; ticks = tt; last = 1; ended = false; told = told; within = omega arith; lacks = omega arith; marks = tt; never_falls = low; ends = refl }
+  ticks_hands (Some end.Over) told h = absurd h
+  ticks_hands (Some end.Failed) told h = absurd h
+
+  -- no more come: the clock has ended, or failed, or there were enough
+  module _ (Enough : ℕ → Type 0) (most : ℕ) (ended : Bool) (told : told_new ≡ and_ticked told_old 0 ended) where
+    refused_all : (it : WorkEnd) → IsRefused old new it → TicksBus Enough most old new told_old told_new faults_old faults_new it
+    refused_all end.Stopped r = record { first = []; tail = []; adds = r.0; ticks = tt; last = 0; ended = ended; told = told; within = omega arith; lacks = omega arith; marks = (r.1, r.2); never_falls = low; ends = refl }
+    refused_all end.Full r = record { first = []; tail = []; adds = r.0; ticks = tt; last = 0; ended = ended; told = told; within = omega arith; lacks = omega arith; marks = tt; never_falls = low; ends = (refl, r.1) }
+    refused_all end.NoMemory r = record { first = []; tail = []; adds = r; ticks = tt; last = 0; ended = ended; told = told; within = omega arith; lacks = omega arith; marks = tt; never_falls = low; ends = refl }
+    refused_all end.Over r = absurd r
+    refused_all end.Down r = absurd r
+    refused_all end.Failed r = absurd r
+
+    pub ticks_over : (it : WorkEnd) → (ended ≡ true) ⊎ Enough 0 → EndsAll old new end.Over it → TicksBus Enough most old new told_old told_new faults_old faults_new it
+    ticks_over it why (inl e) = subst (TicksBus Enough most old new told_old told_new faults_old faults_new) (sym e.0) (record {
+      first = [];
+      tail = Fed input.NoTicks e.1.0 ∷ [];
+      adds = e.1.1;
+      ticks = tt;
+      last = 0;
+      ended = ended;
+      told = told;
+      within = omega arith;
+      lacks = refl;
+      marks = e.1.2;
+      never_falls = low;
+      ends = ((e.1.0, refl), why);
+    })
+    ticks_over it why (inr r) = refused_all it r
+
+    pub ticks_failed : (it : WorkEnd) → Rose faults_old faults_new → EndsAll old new end.Failed it → TicksBus Enough most old new told_old told_new faults_old faults_new it
+    ticks_failed it rose (inl e) = subst (TicksBus Enough most old new told_old told_new faults_old faults_new) (sym e.0) (record {
+      first = [];
+      tail = Fed input.NoTicks e.1.0 ∷ [];
+      adds = e.1.1;
+      ticks = tt;
+      last = 0;
+      ended = ended;
+      told = told;
+      within = omega arith;
+      lacks = refl;
+      marks = e.1.2;
+      never_falls = low;
+      ends = ((e.1.0, refl), rose);
+    })
+    ticks_failed it rose (inr r) = refused_all it r

@@ -1,0 +1,14 @@
+pub mod Outcomes
+pub mod Workers
+pub mod Seats
+pub mod Clocks
+pub mod Dropping
+pub mod Ticking
+pub mod Jobs
+pub mod Joining
+pub mod Logging
+pub mod Moving
+pub mod Parting
+pub mod Parts
+pub mod Reasons
+pub mod Running

@@ -1,0 +1,133 @@
+-- What a run has done once it ends: over the log of the core that it hands back, and what the outside gave and took in the call.
+use Rattle.std.specs.Prelude.{◌≡◌, ◌≤◌, ◌+◌, ◌⊎◌, ℕ, Bool, true, false, List, [], ◌∷◌, ◌++◌, length, map, Option, Some, None, is_some, ⊤}
+use Rattle.tb_edge.specs.Faults.{Rose}
+use Rattle.tb_edge.specs.Sinks.{Writes, WritesPrefix}
+use Rattle.tb_edge.specs.Ends.{InletView, ClockView, and_given, and_taken, and_ticked}
+use Rattle.tb_edge.specs.declared.given.Given.{Given}
+use Rattle.tb_edge.specs.declared.given.Taken.{Taken}
+use Rattle.tb_log.specs.declared.entry.Input.{Input}
+use Rattle.tb_log.specs.declared.entry.Input.TheVariants as input
+use Rattle.tb_log.specs.declared.entry.Reply.{Reply}
+use Rattle.tb_log.specs.declared.entry.Reply.TheVariants.{Dropped}
+use Rattle.tb_log.specs.declared.entry.Why.TheVariants as why
+use Rattle.tb_log.specs.declared.entry.Out.{Out}
+use Rattle.tb_log.specs.declared.entry.Entry.{Entry}
+use Rattle.tb_log.specs.declared.entry.Entry.TheVariants.{Fed}
+use Rattle.tb_log.specs.Shapes.{IsLane}
+use Rattle.tb_log.specs.Lanes.{inputs, given_on, sent, ticks, is_tick_input}
+use Rattle.tb_log.specs.LogText.{log_text}
+use Rattle.tb_bus.specs.declared.origin.Origin.{Origin}
+use Rattle.tb_bus.specs.Buses.{Bus, start}
+use Rattle.tb_bus.specs.Traces.{IsTrace, replay}
+use Rattle.tb_tools.specs.Finding.{next_out}
+use Rattle.tb_bus.specs.Commands.{largest_command}
+use Rattle.tb_core.specs.Cores.{CoreState}
+use Rattle.tb_core.specs.Full.{IsAtLimit}
+use Rattle.tb_lane.specs.Sending.{taken_of}
+use Rattle.tb_lock.specs.Histories.{IsSparse}
+use Rattle.tb_run.specs.Dropping.{HasDropped}
+use Rattle.tb_run.specs.Clocks.{ClockRan, ClockStopped}
+use Rattle.tb_run.specs.Workers.{AreLines, CountsTo, cut_count}
+use Rattle.tb_run.specs.declared.ends.RunWhy.{RunWhy}
+use Rattle.tb_run.specs.declared.ends.RunWhy.TheVariants.{Ended, Crew, Clock, Out as Sink, Events, NoMemory}
+
+-- what a lane's ends show: what its inlet gave, what its outlet took, and how often that failed
+pub record LaneView : Type 0 where
+  pub gave : Option InletView
+  pub took : Option (List Taken)
+  pub faults : ℕ
+
+-- the lanes with these ends, in order
+abbrev pub views : {I O : Type 0} → (I → Option InletView) → (O → Option (List Taken)) → (O → ℕ) → List I → List O → List LaneView
+views gave took faults [] outlets = []
+views gave took faults (inlet ∷ inlets) [] = []
+views gave took faults (inlet ∷ inlets) (outlet ∷ outlets) = record { gave = gave inlet; took = took outlet; faults = faults outlet } ∷ views gave took faults inlets outlets
+
+-- what is to be seen of the outside, before the call or after it
+pub record OutsideView : Type 0 where
+  pub lanes : List LaneView
+  pub clock : Option ClockView
+  pub clock_faults : ℕ
+  pub crew_faults : ℕ
+  pub put : Option (List ℕ)
+  pub out_faults : ℕ
+
+abbrev pub is_of : ℕ → Input → Bool
+is_of lane it = is_some (given_on lane it)
+
+-- A lane after a run that went to its end: the log has just the lines and ends that the inlet gave, and the outlet took just what the log hands out and doesn't cut off.
+pub record LaneRan (log : List Entry) (lane : ℕ) (old new : LaneView) : Type 0 where
+  pub given : List Given
+  pub over : Bool
+  pub gave : new.gave ≡ and_given old.gave given over
+  pub lines : AreLines lane given (inputs log lane)
+  -- it was read to the end, or the bus was down
+  pub end : (over ≡ true) ⊎ HasDropped (is_of lane) log
+  pub took : new.took ≡ and_taken old.took (map taken_of (sent log lane))
+  pub cuts : CountsTo old.faults new.faults (cut_count lane log)
+
+-- A lane after a run that was stopped: the log may lack the last item that the inlet gave, and the outlet the last that the log hands out, where that failed.
+pub record LaneStopped (log : List Entry) (lane : ℕ) (old new : LaneView) : Type 0 where
+  pub fed : List Given
+  pub last : List Given
+  pub over : Bool
+  pub gave : new.gave ≡ and_given old.gave (fed ++ last) over
+  pub lines : AreLines lane fed (inputs log lane)
+  pub one : length last ≤ 1
+  pub put : List Out
+  pub lost : List Out
+  pub handed : sent log lane ≡ put ++ lost
+  pub took : new.took ≡ and_taken old.took (map taken_of put)
+  pub one_lost : length lost ≤ 1
+  pub failed : (lost ≡ []) ⊎ Rose old.faults new.faults
+  pub cuts : CountsTo old.faults new.faults (cut_count lane log)
+
+-- this holds of each lane, numbered from here on
+abbrev pub EachLane : {A : Type 0} → (ℕ → A → A → Type 0) → ℕ → List A → List A → Type 0
+EachLane P lane [] [] = ⊤
+EachLane P lane (old ∷ olds) (new ∷ news) = P lane old new × EachLane P (lane + 1) olds news
+EachLane P lane [] (new ∷ news) = ⊥
+EachLane P lane (old ∷ olds) [] = ⊥
+
+-- the bus is down, and nothing is left to be handed out
+pub record IsDone (bus : Bus) : Type 0 where
+  pub down : bus.down ≡ true
+  pub empty : (lane : ℕ) → IsLane lane → next_out lane bus.bench ≡ None
+
+-- a trace of the origin, which says quiet once where nothing comes between
+pub record IsRunOf (origin : Origin) (log : List Entry) : Type 0 where
+  pub trace : IsTrace (start origin) log
+  pub sparse : IsSparse log
+
+-- How a run ends, by its answer: the number of ticks that there may be, what was to be seen of the outside before and after, and the core that it hands back.
+abbrev pub RunOutcome : ℕ → OutsideView → OutsideView → CoreState → RunWhy → Type 0
+-- to its end
+RunOutcome most old new back Ended =
+    Writes old.put new.put (log_text back.log) × EachLane (LaneRan back.log) 1 old.lanes new.lanes
+    × ClockRan back.log most old.clock new.clock old.clock_faults new.clock_faults × IsDone (replay (start back.origin) back.log)
+-- to its end, though the clock failed
+RunOutcome most old new back Clock =
+    Writes old.put new.put (log_text back.log) × EachLane (LaneRan back.log) 1 old.lanes new.lanes
+    × ClockRan back.log most old.clock new.clock old.clock_faults new.clock_faults × IsDone (replay (start back.origin) back.log)
+    × Rose old.clock_faults new.clock_faults
+-- the log was full: it has all entries that it may have, or it is so large that an entry might not fit
+RunOutcome most old new back Events =
+    Writes old.put new.put (log_text back.log) × EachLane (LaneStopped back.log) 1 old.lanes new.lanes
+    × ClockStopped back.log most old.clock new.clock × IsAtLimit (largest_command back.origin) back.origin back.log
+-- the sink failed
+RunOutcome most old new back Sink =
+    WritesPrefix old.put new.put (log_text back.log) × EachLane (LaneStopped back.log) 1 old.lanes new.lanes
+    × ClockStopped back.log most old.clock new.clock × Rose old.out_faults new.out_faults
+-- memory ran out
+RunOutcome most old new back NoMemory =
+    WritesPrefix old.put new.put (log_text back.log) × EachLane (LaneStopped back.log) 1 old.lanes new.lanes
+    × ClockStopped back.log most old.clock new.clock
+-- there was no crew: nothing was logged, and the outside is as it was
+RunOutcome most old new back Crew =
+    (new.put ≡ old.put) × (new.lanes ≡ old.lanes) × (new.clock ≡ old.clock) × (back.log ≡ []) × Rose old.crew_faults new.crew_faults
+
+-- `run`, of a core that was started there
+pub record Runs (most : ℕ) (old new : OutsideView) (origin : Origin) (back : CoreState) (it : RunWhy) : Type 0 where
+  pub origin_is : back.origin ≡ origin
+  pub history : IsRunOf back.origin back.log
+  pub outcome : RunOutcome most old new back it

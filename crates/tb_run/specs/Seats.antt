@@ -1,0 +1,88 @@
+-- How a seat of a run goes on, and what a worker that hands in an input comes to.
+use Rattle.std.specs.Prelude.{◌≡◌, Bool, true, List, [], ◌∷◌, ◌++◌, Option, Some, None}
+use Rattle.tb_log.specs.declared.entry.Input.{Input}
+use Rattle.tb_log.specs.declared.entry.Reply.{Reply}
+use Rattle.tb_log.specs.declared.entry.Reply.TheVariants.{Took, Dropped}
+use Rattle.tb_log.specs.declared.entry.Why.TheVariants as why
+use Rattle.tb_log.specs.declared.entry.Entry.{Entry}
+use Rattle.tb_log.specs.declared.entry.Entry.TheVariants.{Fed}
+use Rattle.tb_bus.specs.Buses.{start}
+use Rattle.tb_bus.specs.Traces.{IsTrace}
+use Rattle.tb_core.specs.declared.answers.CoreFault.{CoreFault}
+use Rattle.tb_core.specs.declared.answers.CoreFault.TheVariants as fault
+use Rattle.tb_core.specs.Cores.{CoreState, Call, is_full}
+use Rattle.tb_core.specs.Full.{MayCall}
+use Rattle.tb_lock.specs.Rights.{own}
+use Rattle.tb_lock.specs.Histories.{IsSparse}
+use Rattle.tb_lock.specs.Seats.{SeatView}
+use Rattle.tb_run.specs.declared.ends.WorkEnd.{WorkEnd}
+use Rattle.tb_run.specs.declared.ends.WorkEnd.TheVariants as end
+
+-- what a seat has seen is a trace that says quiet once
+pub record SeesTrace (seat : SeatView) : Type 0 where
+  pub trace : IsTrace (start seat.origin) seat.seen
+  pub sparse : IsSparse seat.seen
+
+-- A seat goes on: the history has grown, and of the entries that need its rights these are new.
+pub record Adds (old new : SeatView) (more : List Entry) : Type 0 where
+  pub bus : new.bus ≡ old.bus
+  pub origin : new.origin ≡ old.origin
+  pub rights : new.rights ≡ old.rights
+  pub room : new.room ≡ old.room
+  pub rest : List Entry
+  pub seen : new.seen ≡ old.seen ++ rest
+  pub adds : own old.rights new.seen ≡ own old.rights old.seen ++ more
+  pub trace : SeesTrace old → SeesTrace new
+  pub told : old.told ≡ true → new.told ≡ true
+
+-- a call was refused since the log had no room at some place of what the seat has seen
+pub record WasFull (seat : SeatView) : Type 0 where
+  pub core : CoreState
+  pub call : Call
+  pub rest : List Entry
+  pub may : MayCall call
+  pub origin : core.origin ≡ seat.origin
+  pub seen : seat.seen ≡ core.log ++ rest
+  pub full : is_full core call ≡ true
+
+-- the last entry that the seat has seen
+abbrev pub EndsWith : SeatView → Entry → Type 0
+EndsWith seat entry = (before : List Entry) × (seat.seen ≡ before ++ entry ∷ [])
+
+-- What a worker's end says of the marks of its seat: it calls `stop` only where it was refused a call.
+abbrev pub Marks : SeatView → SeatView → WorkEnd → Type 0
+Marks old new end.Over = new.called ≡ old.called
+Marks old new end.Down = new.called ≡ old.called
+Marks old new end.Stopped = (new.called ≡ old.called) × (new.told ≡ true)
+Marks old new end.Full = Unit {0}
+Marks old new end.Failed = new.called ≡ old.called
+Marks old new end.NoMemory = Unit {0}
+
+-- what a worker that was refused a call comes to; a stopped seat is one that was told so
+abbrev pub Ends : CoreFault → SeatView → SeatView → WorkEnd → Type 0
+Ends fault.Stopped old new it = (it ≡ end.Stopped) × (new ≡ old)
+Ends fault.Full old new it = (it ≡ end.Full) × Adds old new []
+Ends fault.NoMemory old new it = (it ≡ end.NoMemory) × Adds old new []
+
+-- a reply that says that the bus is down ends a worker
+abbrev pub end_of : Reply → Option WorkEnd
+end_of Took = None
+end_of (Dropped why.Unasked) = None
+end_of (Dropped why.NotLive) = None
+end_of (Dropped why.Named) = None
+end_of (Dropped why.Stranger) = None
+end_of (Dropped why.Bad) = None
+end_of (Dropped why.Down) = Some end.Down
+
+-- What becomes of an input that a worker hands in, and of the worker.
+abbrev pub Hands : Input → SeatView → SeatView → Option WorkEnd → Type 0
+-- it goes on
+Hands input old new None = (reply : Reply) × Adds old new (Fed input reply ∷ []) × (new.called ≡ old.called)
+-- the bus is down, and dropped the input
+Hands input old new (Some end.Down) = Adds old new (Fed input (Dropped why.Down) ∷ []) × (new.called ≡ old.called) × EndsWith new (Fed input (Dropped why.Down))
+-- it was refused
+Hands input old new (Some end.Stopped) = Adds old new [] × (new.called ≡ old.called) × (new.told ≡ true)
+Hands input old new (Some end.Full) = Adds old new [] × WasFull new
+Hands input old new (Some end.NoMemory) = Adds old new []
+Hands input old new (Some end.Over) = ⊥
+Hands input old new (Some end.Failed) = ⊥

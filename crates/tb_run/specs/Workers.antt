@@ -1,0 +1,252 @@
+-- What each of the four workers of a run has done once it ends, over what its seat has seen and what its end of the outside gave or took in the call.
+use Rattle.std.specs.Prelude.{◌≡◌, ℕ, ◌+◌, ◌-◌, ◌≤◌, ◌<◌, ◌^◌, ◌⊎◌, ◌==◌, Bool, true, false, List, [], ◌∷◌, ◌++◌, length, map, count_by, Option, Some, None}
+use Rattle.std.specs.List.{AllZip}
+use Rattle.tb_edge.specs.Faults.{Rose}
+use Rattle.tb_edge.specs.Ends.{InletView, and_given, and_taken, ClockView, and_ticked}
+use Rattle.tb_edge.specs.declared.given.Given.{Given}
+use Rattle.tb_edge.specs.declared.given.Given.TheVariants as given
+use Rattle.tb_edge.specs.declared.given.Taken.{Taken}
+use Rattle.tb_log.specs.declared.entry.ToolLine.TheVariants as tool
+use Rattle.tb_log.specs.declared.entry.Input.{Input}
+use Rattle.tb_log.specs.declared.entry.Input.TheVariants as input
+use Rattle.tb_log.specs.declared.entry.Reply.{Reply}
+use Rattle.tb_log.specs.declared.entry.Reply.TheVariants.{Dropped}
+use Rattle.tb_log.specs.declared.entry.Why.TheVariants as why
+use Rattle.tb_log.specs.declared.entry.Out.{Out}
+use Rattle.tb_log.specs.declared.entry.Entry.{Entry}
+use Rattle.tb_log.specs.declared.entry.Entry.TheVariants.{Did, Quiet, Fed, Gave}
+use Rattle.tb_log.specs.Lanes.{inputs, given_on, sent, cuts, is_cut_off, ticks}
+use Rattle.tb_bus.specs.Buses.{Bus, start}
+use Rattle.tb_bus.specs.Traces.{replay}
+use Rattle.tb_tools.specs.Finding.{next_out}
+use Rattle.tb_lane.specs.ToolLines.{IsToolLine}
+use Rattle.tb_lane.specs.Sending.{taken_of}
+use Rattle.tb_lock.specs.Seats.{SeatView}
+use Rattle.tb_run.specs.declared.ends.WorkEnd.{WorkEnd}
+use Rattle.tb_run.specs.declared.ends.WorkEnd.TheVariants as end
+use Rattle.tb_run.specs.Seats.{Adds, Marks, EndsWith, WasFull}
+
+-- the input that stands for what the inlet of a lane gave
+abbrev pub IsInputFor : ℕ → Given → Input → Type 0
+IsInputFor lane (given.Line bytes) (input.Line at line) = (at ≡ lane) × IsToolLine bytes line
+IsInputFor lane given.Long (input.Line at line) = (at ≡ lane) × (line ≡ tool.Bad)
+IsInputFor lane given.End (input.Gone at) = at ≡ lane
+IsInputFor lane given it = ⊥
+
+-- the inputs are the lines and ends that were given, in order
+abbrev pub AreLines : ℕ → List Given → List Input → Type 0
+AreLines lane given inputs = AllZip (IsInputFor lane) given inputs
+
+-- what was got last, and not handed in: nothing where the worker came to the end of its work, one at most where it was stopped
+abbrev pub MayLack : WorkEnd → ℕ → Type 0
+MayLack end.Over count = count ≡ 0
+MayLack end.Down count = count ≡ 0
+MayLack end.Failed count = count ≡ 0
+MayLack end.Stopped count = count ≤ 1
+MayLack end.Full count = count ≤ 1
+MayLack end.NoMemory count = count ≤ 1
+
+abbrev pub ends_over : WorkEnd → Bool
+ends_over end.Over = true
+ends_over end.Down = false
+ends_over end.Stopped = false
+ends_over end.Full = false
+ends_over end.Failed = false
+ends_over end.NoMemory = false
+
+-- a reader that goes on: all that was given was handed in
+pub record Reads (lane : ℕ) (old new : SeatView) (gave_old gave_new : Option InletView) : Type 0 where
+  pub more : List Entry
+  pub adds : Adds old new more
+  pub fed : List Given
+  pub told : gave_new ≡ and_given gave_old fed false
+  pub lines : AreLines lane fed (inputs more lane)
+  pub called : new.called ≡ old.called
+
+-- why a reader may end so
+abbrev pub ReaderEnds : ℕ → SeatView → WorkEnd → Type 0
+ReaderEnds lane new end.Over = Unit {0}
+-- the last entry is an input of the lane that was dropped since the bus is down
+ReaderEnds lane new end.Down = (it : Input) × (given_on lane it ≡ Some it) × EndsWith new (Fed it (Dropped why.Down))
+ReaderEnds lane new end.Stopped = Unit {0}
+ReaderEnds lane new end.Full = WasFull new
+ReaderEnds lane new end.Failed = ⊥
+ReaderEnds lane new end.NoMemory = Unit {0}
+
+-- `read_lane`: the inputs of the lane are what the inlet gave, but for the last item where it was stopped.
+pub record ReadsLane (lane : ℕ) (old new : SeatView) (gave_old gave_new : Option InletView) (it : WorkEnd) : Type 0 where
+  pub more : List Entry
+  pub adds : Adds old new more
+  pub fed : List Given
+  pub last : List Given
+  pub told : gave_new ≡ and_given gave_old (fed ++ last) (ends_over it)
+  pub lines : AreLines lane fed (inputs more lane)
+  pub lacks : MayLack it (length last)
+  pub marks : Marks old new it
+  pub ends : ReaderEnds lane new it
+
+-- so often a call failed at most, or the count stands at its last value
+abbrev pub CountsTo : ℕ → ℕ → ℕ → Type 0
+CountsTo old new count = (old + count ≤ new) ⊎ (new ≡ 2 ^ 64 - 1)
+
+abbrev pub is_cut : ℕ → Entry → Bool
+is_cut lane (Did label) = false
+is_cut lane Quiet = false
+is_cut lane (Fed it reply) = cuts lane it
+is_cut lane (Gave at out) = false
+
+-- how often it was handed in that something couldn't be put
+abbrev pub cut_count : ℕ → List Entry → ℕ
+cut_count lane log = count_by (is_cut lane) log
+
+-- a count of faults after some calls
+pub record Counts (old new count : ℕ) : Type 0 where
+  pub cuts : CountsTo old new count
+  pub never_falls : old ≤ new
+  pub fits : old < 2 ^ 64 → new < 2 ^ 64
+
+-- a writer that goes on: what was handed out was put, or is cut off
+pub record Writes (lane : ℕ) (old new : SeatView) (took_old took_new : Option (List Taken)) (faults_old faults_new : ℕ) : Type 0 where
+  pub more : List Entry
+  pub adds : Adds old new more
+  pub told : took_new ≡ and_taken took_old (map taken_of (sent more lane))
+  pub starts : is_cut_off more lane ≡ false
+  pub counts : Counts faults_old faults_new (cut_count lane more)
+  pub called : new.called ≡ old.called
+
+-- the bus at the end of what a seat has seen
+abbrev pub bus_of : SeatView → Bus
+bus_of seat = replay (start seat.origin) seat.seen
+
+-- why a writer may end so
+abbrev pub WriterEnds : ℕ → SeatView → WorkEnd → Type 0
+WriterEnds lane new end.Over = ⊥
+-- the bus is down, and nothing is left to be handed out
+WriterEnds lane new end.Down = (next_out lane (bus_of new).bench ≡ None) × ((bus_of new).down ≡ true)
+WriterEnds lane new end.Stopped = Unit {0}
+WriterEnds lane new end.Full = WasFull new
+WriterEnds lane new end.Failed = ⊥
+WriterEnds lane new end.NoMemory = Unit {0}
+
+-- `write_lane`: the outlet took what was handed out and not cut off, but for the last where it was stopped.
+pub record WritesLane (lane : ℕ) (old new : SeatView) (took_old took_new : Option (List Taken)) (faults_old faults_new : ℕ) (it : WorkEnd) : Type 0 where
+  pub more : List Entry
+  pub adds : Adds old new more
+  pub put : List Out
+  pub last : List Out
+  pub handed : sent more lane ≡ put ++ last
+  pub told : took_new ≡ and_taken took_old (map taken_of put)
+  pub starts : is_cut_off more lane ≡ false
+  pub lacks : MayLack it (length last)
+  -- what was not put, failed to be put
+  pub rose : (last ≡ []) ⊎ Rose faults_old faults_new
+  pub counts : Counts faults_old faults_new (cut_count lane more)
+  pub marks : Marks old new it
+  pub ends : WriterEnds lane new it
+
+-- ticks alone, whatever became of them
+abbrev pub AreTicks : List Entry → Type 0
+AreTicks [] = Unit {0}
+AreTicks (Fed input.Tick reply ∷ log) = AreTicks log
+AreTicks (entry ∷ log) = ⊥
+
+-- a tick worker that goes on: so many ticks were handed in
+pub record Ticks (old new : SeatView) (told_old told_new : Option ClockView) (faults_old faults_new : ℕ) (fed : ℕ) : Type 0 where
+  pub more : List Entry
+  pub adds : Adds old new more
+  pub ticks : AreTicks more
+  pub count : length more ≡ fed
+  pub told : told_new ≡ and_ticked told_old fed false
+  pub never_falls : faults_old ≤ faults_new
+  pub called : new.called ≡ old.called
+
+-- that no more ticks come, whatever became of it
+abbrev pub IsNoTicks : List Entry → Type 0
+IsNoTicks tail = (reply : Reply) × (tail ≡ Fed input.NoTicks reply ∷ [])
+
+-- What stands after the ticks, and why a tick worker may end so; `Enough` says which number of ticks is enough.
+abbrev pub TickerEnds : (ℕ → Type 0) → List Entry → SeatView → ℕ → ℕ → ℕ → Bool → WorkEnd → Type 0
+-- the clock has ended, or there were as many as there may be
+TickerEnds Enough tail new count faults_old faults_new ended end.Over = IsNoTicks tail × ((ended ≡ true) ⊎ Enough count)
+-- the clock failed
+TickerEnds Enough tail new count faults_old faults_new ended end.Failed = IsNoTicks tail × Rose faults_old faults_new
+-- the last entry is a tick that was dropped since the bus is down
+TickerEnds Enough tail new count faults_old faults_new ended end.Down = (tail ≡ []) × EndsWith new (Fed input.Tick (Dropped why.Down))
+TickerEnds Enough tail new count faults_old faults_new ended end.Full = (tail ≡ []) × WasFull new
+TickerEnds Enough tail new count faults_old faults_new ended end.Stopped = tail ≡ []
+TickerEnds Enough tail new count faults_old faults_new ended end.NoMemory = tail ≡ []
+
+-- `tick_worker`: the ticks are those that the clock gave, but for the last where it was stopped; then perhaps that no more come.
+pub record TicksBus (Enough : ℕ → Type 0) (most : ℕ) (old new : SeatView) (told_old told_new : Option ClockView) (faults_old faults_new : ℕ) (it : WorkEnd) : Type 0 where
+  pub first : List Entry
+  pub tail : List Entry
+  pub adds : Adds old new (first ++ tail)
+  pub ticks : AreTicks first
+  pub last : ℕ
+  pub ended : Bool
+  pub told : told_new ≡ and_ticked told_old (length first + last) ended
+  pub within : length first + last ≤ most
+  pub lacks : MayLack it last
+  pub marks : Marks old new it
+  pub never_falls : faults_old ≤ faults_new
+  pub ends : TickerEnds Enough tail new (length first) faults_old faults_new ended it
+
+-- why a step worker may end so
+abbrev pub StepperEnds : SeatView → WorkEnd → Type 0
+StepperEnds new end.Over = ⊥
+StepperEnds new end.Down = (bus_of new).down ≡ true
+StepperEnds new end.Stopped = Unit {0}
+StepperEnds new end.Full = WasFull new
+StepperEnds new end.Failed = ⊥
+StepperEnds new end.NoMemory = Unit {0}
+
+-- a step worker that goes on
+pub record Steps (old new : SeatView) : Type 0 where
+  pub more : List Entry
+  pub adds : Adds old new more
+  pub called : new.called ≡ old.called
+
+-- `step_worker`
+pub record StepsBus (old new : SeatView) (it : WorkEnd) : Type 0 where
+  pub more : List Entry
+  pub adds : Adds old new more
+  pub marks : Marks old new it
+  pub ends : StepperEnds new it
+
+-- a writer goes on where the bus is down
+abbrev pub going_on : Option WorkEnd → Option WorkEnd
+going_on None = None
+going_on (Some end.Over) = Some end.Over
+going_on (Some end.Down) = None
+going_on (Some end.Stopped) = Some end.Stopped
+going_on (Some end.Full) = Some end.Full
+going_on (Some end.Failed) = Some end.Failed
+going_on (Some end.NoMemory) = Some end.NoMemory
+
+-- what becomes of an item that was handed out and failed to be put
+abbrev pub CutsOff : ℕ → SeatView → SeatView → Option WorkEnd → Type 0
+CutsOff lane old new None = (reply : Reply) × Adds old new (Fed (input.Cut lane) reply ∷ []) × (new.called ≡ old.called)
+CutsOff lane old new (Some end.Stopped) = Adds old new [] × (new.called ≡ old.called) × (new.told ≡ true)
+CutsOff lane old new (Some end.Full) = Adds old new [] × WasFull new
+CutsOff lane old new (Some end.NoMemory) = Adds old new []
+CutsOff lane old new (Some end.Over) = ⊥
+CutsOff lane old new (Some end.Down) = ⊥
+CutsOff lane old new (Some end.Failed) = ⊥
+
+-- an item is put, or fails to be, which is handed in
+pub record Fails (lane : ℕ) (old new : SeatView) (took_old took_new : Option (List Taken)) (faults_old faults_new : ℕ) (answer : Option WorkEnd) : Type 0 where
+  pub told : took_new ≡ took_old
+  pub rose : Rose faults_old faults_new
+  pub never_falls : faults_old ≤ faults_new
+  pub fits : faults_old < 2 ^ 64 → faults_new < 2 ^ 64
+  pub cuts_off : CutsOff lane old new answer
+
+pub record PutsIt (out : Out) (old new : SeatView) (took_old took_new : Option (List Taken)) (faults_old faults_new : ℕ) (answer : Option WorkEnd) : Type 0 where
+  pub told : took_new ≡ and_taken took_old (taken_of out ∷ [])
+  pub never_falls : faults_old ≤ faults_new
+  pub fits : faults_old < 2 ^ 64 → faults_new < 2 ^ 64
+  pub same : new ≡ old
+  pub goes_on : answer ≡ None
+
+abbrev pub Puts : ℕ → Out → SeatView → SeatView → Option (List Taken) → Option (List Taken) → ℕ → ℕ → Option WorkEnd → Type 0
+Puts lane out old new took_old took_new faults_old faults_new answer = PutsIt out old new took_old took_new faults_old faults_new answer ⊎ Fails lane old new took_old took_new faults_old faults_new answer

@@ -1,0 +1,101 @@
+ghost use Rattle.std.specs.Prelude.{◌≡◌, [], true};
+ghost use Rattle.tb_log.specs.Shapes.{IsInputInShape};
+ghost use Rattle.tb_core.specs.Cores.{HandIn};
+ghost use Rattle.tb_lock.specs.Rights.{has, right_to};
+ghost use Rattle.tb_run.specs.Seats.{Hands, Ends, Adds, end_of};
+
+use crate::ends::WorkEnd;
+use std::sync::Wait;
+use tb_algebra::Walker;
+use tb_bells::{Bells, Sleeper};
+use tb_core::CoreFault;
+use tb_lock::{Seat, Shared, calls_add_their_own};
+use tb_log::{Input, Reply, Why};
+
+/// Hands an input in, and says why the worker ends, where it does.
+pub(crate) fn hand<W: Walker, R: Wait>(
+    rt: &R,
+    shared: &Shared<W>,
+    bells: &Bells,
+    seat: &mut Seat,
+    input: Input,
+) -> Option<WorkEnd>
+    requires own { seat.old.bus ≡ shared.now }
+    requires form { IsInputInShape input }
+    requires right { has seat.old.rights (right_to (HandIn input)) ≡ true }
+    ensures { Hands input seat.old seat.new result }
+{
+    calls_add_their_own();
+    let lane = lane_of(&input);
+    match shared.hand_in(rt, seat, input) {
+        Ok(reply) => {
+            tell(bells, lane);
+            end_of(reply)
+        }
+        Err(fault) => Some(refused(rt, shared, bells, seat, fault)),
+    }
+}
+
+/// The lane of an input, where it has one.
+fn lane_of(input: &Input) -> Option<u8> {
+    match input {
+        Input::Line(lane, _) => Some(*lane),
+        Input::Gone(lane) => Some(*lane),
+        Input::Cut(lane) => Some(*lane),
+        Input::Tick | Input::NoTicks => None,
+    }
+}
+
+/// Wakes who may have something to do after an input: steps may be possible, and something may be handed out on its lane.
+fn tell(bells: &Bells, lane: Option<u8>) {
+    bells.ring(Sleeper::Stepper);
+    bells.ring(Sleeper::Log);
+    match lane {
+        Some(lane) => bells.ring(Sleeper::Writer(lane)),
+        None => {}
+    }
+}
+
+/// Whether a reply says that the bus is down.
+fn end_of(reply: Reply) -> Option<WorkEnd>
+    ensures { result ≡ end_of reply }
+{
+    match reply {
+        Reply::Dropped(Why::Down) => Some(WorkEnd::Down),
+        _ => None,
+    }
+}
+
+/// The end of a worker that was refused a call: it stops the bus, unless that was stopped.
+pub(crate) fn refused<W: Walker, R: Wait>(
+    rt: &R,
+    shared: &Shared<W>,
+    bells: &Bells,
+    seat: &mut Seat,
+    fault: CoreFault,
+) -> WorkEnd
+    requires own { seat.old.bus ≡ shared.now }
+    ensures { Ends fault seat.old seat.new result }
+{
+    match fault {
+        CoreFault::Stopped => WorkEnd::Stopped,
+        CoreFault::Full => {
+            stop(rt, shared, bells, seat);
+            WorkEnd::Full
+        }
+        CoreFault::NoMemory => {
+            stop(rt, shared, bells, seat);
+            WorkEnd::NoMemory
+        }
+    }
+}
+
+/// Stops the bus, and tells all.
+pub(crate) fn stop<W: Walker, R: Wait>(rt: &R, shared: &Shared<W>, bells: &Bells, seat: &mut Seat)
+    requires own { seat.old.bus ≡ shared.now }
+    ensures { Adds seat.old seat.new [] }
+{
+    calls_add_their_own();
+    shared.stop(rt, seat);
+    bells.ring_all();
+}

@@ -1,0 +1,76 @@
+ghost use Rattle.std.specs.Prelude.{◌≡◌, true, MatchOption};
+ghost use Rattle.tb_log.specs.Shapes.{IsLane};
+ghost use Rattle.tb_lock.specs.Rights.{In, has};
+ghost use Rattle.tb_run.specs.Workers.{Reads, ReadsLane};
+
+use crate::ends::WorkEnd;
+use crate::hand::{hand, stop};
+use std::alloc::Global;
+use std::sync::Wait;
+use tb_algebra::Walker;
+use tb_bells::Bells;
+use tb_edge::{Got, Inlet};
+use tb_lane::read_tool_line;
+use tb_lock::{Seat, Shared};
+use tb_log::{Input, ToolLine};
+
+/// Hands in all that an inlet gives, until it is over or the bus is down. A failure of the inlet is the end of its tool.
+/// `line` is for the lines.
+pub fn read_lane<W: Walker, R: Wait, I: Inlet>(
+    rt: &R,
+    alloc: Global,
+    shared: &Shared<W>,
+    bells: &Bells,
+    seat: &mut Seat,
+    inlet: &mut I,
+    line: &mut Vec<u8>,
+    lane: u8,
+) -> WorkEnd
+    requires own { seat.old.bus ≡ shared.now }
+    requires lane { IsLane lane }
+    requires right { has seat.old.rights (In lane) ≡ true }
+    ensures { ReadsLane lane seat.old seat.new (I.told inlet.old) (I.told inlet.new) result }
+{
+    for _ in rt.forever() {
+        match read_one(rt, alloc, shared, bells, seat, inlet, line, lane) {
+            Some(end) => return end,
+            None => {}
+        }
+    }
+    unreachable!()
+}
+
+/// Hands in what the inlet gives next, and says why the worker ends, where it does.
+fn read_one<W: Walker, R: Wait, I: Inlet>(
+    rt: &R,
+    alloc: Global,
+    shared: &Shared<W>,
+    bells: &Bells,
+    seat: &mut Seat,
+    inlet: &mut I,
+    line: &mut Vec<u8>,
+    lane: u8,
+) -> Option<WorkEnd>
+    requires own { seat.old.bus ≡ shared.now }
+    requires lane { IsLane lane }
+    requires right { has seat.old.rights (In lane) ≡ true }
+    ensures { MatchOption result (Reads lane seat.old seat.new (I.told inlet.old) (I.told inlet.new)) (ReadsLane lane seat.old seat.new (I.told inlet.old) (I.told inlet.new)) }
+{
+    match inlet.next(line) {
+        Got::Line => match read_tool_line(alloc, line.as_slice()) {
+            Ok(read) => hand(rt, shared, bells, seat, Input::Line(lane, read)),
+            Err(_) => {
+                stop(rt, shared, bells, seat);
+                Some(WorkEnd::NoMemory)
+            }
+        },
+        Got::Long => hand(rt, shared, bells, seat, Input::Line(lane, ToolLine::Bad)),
+        Got::End => hand(rt, shared, bells, seat, Input::Gone(lane)),
+        Got::Failed => hand(rt, shared, bells, seat, Input::Gone(lane)),
+        Got::Over => Some(WorkEnd::Over),
+        Got::NoMemory => {
+            stop(rt, shared, bells, seat);
+            Some(WorkEnd::NoMemory)
+        }
+    }
+}

@@ -1,0 +1,135 @@
+ghost use Rattle.std.specs.Prelude.{◌≡◌, ◌≤◌, true, MatchOption, vec_capacity};
+ghost use Rattle.tb_log.specs.Shapes.{IsLane, IsOutInShape};
+ghost use Rattle.tb_lane.specs.Sending.{most_line_text};
+ghost use Rattle.tb_lock.specs.Rights.{Out as Outs, has};
+ghost use Rattle.tb_run.specs.Workers.{Writes, WritesLane, Puts, going_on};
+
+use crate::ends::WorkEnd;
+use crate::hand::{hand, refused};
+use std::sync::Wait;
+use tb_algebra::Walker;
+use tb_bells::{Bells, Sleeper};
+use tb_bus::entries_are_in_shape;
+use tb_core::TakeOut;
+use tb_edge::Outlet;
+use tb_lane::{SendFault, send_out};
+use tb_lock::{Seat, Shared, calls_add_their_own};
+use tb_log::{Input, Out};
+
+/// Puts all that is handed out on a lane to its outlet, until the bus is down and nothing is left; then it closes the
+/// outlet. What the outlet fails to take is handed in as cut off before the next is taken.
+pub fn write_lane<W: Walker, R: Wait, O: Outlet>(
+    rt: &R,
+    shared: &Shared<W>,
+    bells: &Bells,
+    seat: &mut Seat,
+    outlet: &mut O,
+    buffer: &mut Vec<u8>,
+    lane: u8,
+) -> WorkEnd
+    requires own { seat.old.bus ≡ shared.now }
+    requires lane { IsLane lane }
+    requires right { has seat.old.rights (Outs lane) ≡ true }
+    requires room { most_line_text ≤ vec_capacity buffer.old }
+    ensures work { WritesLane lane seat.old seat.new (O.told outlet.old) (O.told outlet.new) (O.faults outlet.old) (O.faults outlet.new) result }
+    ensures room { most_line_text ≤ vec_capacity buffer.new }
+{
+    let end = write_all(rt, shared, bells, seat, outlet, buffer, lane);
+    outlet.close();
+    end
+}
+
+fn write_all<W: Walker, R: Wait, O: Outlet>(
+    rt: &R,
+    shared: &Shared<W>,
+    bells: &Bells,
+    seat: &mut Seat,
+    outlet: &mut O,
+    buffer: &mut Vec<u8>,
+    lane: u8,
+) -> WorkEnd
+    requires own { seat.old.bus ≡ shared.now }
+    requires lane { IsLane lane }
+    requires right { has seat.old.rights (Outs lane) ≡ true }
+    requires room { most_line_text ≤ vec_capacity buffer.old }
+    ensures work { WritesLane lane seat.old seat.new (O.told outlet.old) (O.told outlet.new) (O.faults outlet.old) (O.faults outlet.new) result }
+    ensures room { most_line_text ≤ vec_capacity buffer.new }
+{
+    let mut heard = 0;
+    for _ in rt.forever() {
+        match write_one(rt, shared, bells, seat, outlet, buffer, lane, &mut heard) {
+            Some(end) => return end,
+            None => {}
+        }
+    }
+    unreachable!()
+}
+
+/// Puts what is to be handed out next, or waits where nothing is; says why the worker ends, where it
+/// does.
+fn write_one<W: Walker, R: Wait, O: Outlet>(
+    rt: &R,
+    shared: &Shared<W>,
+    bells: &Bells,
+    seat: &mut Seat,
+    outlet: &mut O,
+    buffer: &mut Vec<u8>,
+    lane: u8,
+    heard: &mut u64,
+) -> Option<WorkEnd>
+    requires own { seat.old.bus ≡ shared.now }
+    requires lane { IsLane lane }
+    requires right { has seat.old.rights (Outs lane) ≡ true }
+    requires room { most_line_text ≤ vec_capacity buffer.old }
+    ensures work { MatchOption result (Writes lane seat.old seat.new (O.told outlet.old) (O.told outlet.new) (O.faults outlet.old) (O.faults outlet.new)) (WritesLane lane seat.old seat.new (O.told outlet.old) (O.told outlet.new) (O.faults outlet.old) (O.faults outlet.new)) }
+    ensures room { most_line_text ≤ vec_capacity buffer.new }
+{
+    calls_add_their_own();
+    entries_are_in_shape();
+    match shared.take_out(rt, seat, lane) {
+        Ok(TakeOut::Out(out)) => put(rt, shared, bells, seat, outlet, &out, buffer, lane),
+        Ok(TakeOut::Nothing) => {
+            bells.ring(Sleeper::Log);
+            *heard = bells.wait_past(rt, Sleeper::Writer(lane), *heard);
+            None
+        }
+        Ok(TakeOut::Closed) => Some(WorkEnd::Down),
+        Err(fault) => Some(refused(rt, shared, bells, seat, fault)),
+    }
+}
+
+/// Puts what was handed out. Where the outlet fails, that is handed in.
+fn put<W: Walker, R: Wait, O: Outlet>(
+    rt: &R,
+    shared: &Shared<W>,
+    bells: &Bells,
+    seat: &mut Seat,
+    outlet: &mut O,
+    out: &Out,
+    buffer: &mut Vec<u8>,
+    lane: u8,
+) -> Option<WorkEnd>
+    requires own { seat.old.bus ≡ shared.now }
+    requires lane { IsLane lane }
+    requires right { has seat.old.rights (Outs lane) ≡ true }
+    requires form { IsOutInShape out.now }
+    requires room { most_line_text ≤ vec_capacity buffer.old }
+    ensures work { Puts lane out.now seat.old seat.new (O.told outlet.old) (O.told outlet.new) (O.faults outlet.old) (O.faults outlet.new) result }
+    ensures room { most_line_text ≤ vec_capacity buffer.new }
+{
+    buffer.clear();
+    match send_out(outlet, out, buffer) {
+        Ok(()) => None,
+        Err(SendFault::Cut) => going_on(hand(rt, shared, bells, seat, Input::Cut(lane))),
+    }
+}
+
+/// A writer goes on where the bus is down, until nothing is left to be put.
+fn going_on(end: Option<WorkEnd>) -> Option<WorkEnd>
+    ensures { result ≡ going_on end }
+{
+    match end {
+        Some(WorkEnd::Down) => None,
+        _ => end,
+    }
+}
