@@ -11,7 +11,7 @@ use tb_body::{Act, Body};
 use tb_func::{Store, eval, pattern};
 use tb_match::{Binds, match_list, match_term};
 use tb_script::{ScriptFault, load};
-use tb_terms::{Exprs, Items, Patterns, Sort, has_sort, initial, write_term};
+use tb_terms::{Exprs, Items, Patterns, Sort, Terms, has_sort, initial, write_term};
 use tb_walk::Walk;
 
 pub(crate) fn answer(
@@ -20,18 +20,18 @@ pub(crate) fn answer(
     args: &[Vec<u8>],
 ) -> Result<Option<Vec<u8>>, Fault> {
     let found = match name {
-        "offers" => offers_of(alloc, &body(alloc, two(args)?.0)?, two(args)?.1)?,
-        "offers_shared" => offers_of(alloc, &shared_body(alloc, two(args)?.0)?, two(args)?.1)?,
-        "accepts" => accepted(alloc, args)?,
-        "walkers_agree" => agree(alloc, one(args)?)?,
-        "is_ready" => ready(alloc, args)?,
-        "eval" => evaluated(alloc, one(args)?)?,
-        "match_list" => matched(alloc, args)?,
-        "has_sort" => of_sort(alloc, args)?,
-        "initial" => value(alloc, &Some(initial(alloc, &sort(alloc, one(args)?)?)?))?,
+        "offers" => offers(alloc, args),
+        "offers_shared" => offers_shared(alloc, args),
+        "accepts" => accepted(alloc, args),
+        "walkers_agree" => agree(alloc, args),
+        "is_ready" => ready(alloc, args),
+        "eval" => evaluated(alloc, args),
+        "match_list" => matched(alloc, args),
+        "has_sort" => of_sort(alloc, args),
+        "initial" => initial_of(alloc, args),
         _ => return Ok(None),
     };
-    Ok(Some(found))
+    Ok(Some(found?))
 }
 
 /// Processes that bodies may call: what stands in one happens where a `let` has set its X.
@@ -63,6 +63,16 @@ fn body(alloc: Global, text: &[u8]) -> Result<Body, Fault> {
     first_body(alloc, script.as_str())
 }
 
+fn offers(alloc: Global, args: &[Vec<u8>]) -> Result<Vec<u8>, Fault> {
+    let (text, moves) = two(args)?;
+    offers_of(alloc, &body(alloc, text)?, moves)
+}
+
+fn offers_shared(alloc: Global, args: &[Vec<u8>]) -> Result<Vec<u8>, Fault> {
+    let (text, moves) = two(args)?;
+    offers_of(alloc, &shared_body(alloc, text)?, moves)
+}
+
 /// What a process may do next after these moves, over both kinds of walkers.
 fn offers_of(alloc: Global, body: &Body, moves: &[u8]) -> Result<Vec<u8>, Fault> {
     let rewritten = seen_after::<Rewriter>(alloc, body, moves)?;
@@ -79,21 +89,29 @@ fn accepted(alloc: Global, args: &[Vec<u8>]) -> Result<Vec<u8>, Fault> {
     let (text, others) = first(args)?;
     let body = body(alloc, text)?;
     let terms = terms(alloc, others)?;
-    let rewritten = count_bound::<Rewriter>(alloc, &body, &terms)?;
-    let walked = count_bound::<Walk>(alloc, &body, &terms)?;
-    match walked {
-        _ if rewritten != walked => said(alloc, "another number by rewriting"),
-        Some(count) => {
-            let text = format!(in alloc; "{count} bound")?;
-            said(alloc, text.as_str())
-        }
-        None => said(alloc, "no match"),
+    counted(alloc, &body, &terms)
+}
+
+fn counted(alloc: Global, body: &Body, terms: &Terms) -> Result<Vec<u8>, Fault> {
+    let rewritten = count_bound::<Rewriter>(alloc, body, terms)?;
+    let walked = count_bound::<Walk>(alloc, body, terms)?;
+    if rewritten != walked {
+        return said(alloc, "another number by rewriting");
     }
+    count_text(alloc, walked)
+}
+
+fn count_text(alloc: Global, count: Option<usize>) -> Result<Vec<u8>, Fault> {
+    let Some(count) = count else {
+        return said(alloc, "no match");
+    };
+    let text = format!(in alloc; "{count} bound")?;
+    said(alloc, text.as_str())
 }
 
 /// Whether both kinds of walkers offer the same and send the same values, at first and after each list of up to four moves.
-fn agree(alloc: Global, text: &[u8]) -> Result<Vec<u8>, Fault> {
-    let body = body(alloc, text)?;
+fn agree(alloc: Global, args: &[Vec<u8>]) -> Result<Vec<u8>, Fault> {
+    let body = body(alloc, one(args)?)?;
     let rewritten = explored::<Rewriter>(alloc, &body)?;
     let walked = explored::<Walk>(alloc, &body)?;
     let offers = rewritten.offers.as_str() == walked.offers.as_str();
@@ -109,15 +127,22 @@ fn ready(alloc: Global, args: &[Vec<u8>]) -> Result<Vec<u8>, Fault> {
     let (age, now) = two(others)?;
     let times = utf8(times)?;
     let text = format!(in alloc; "tau {times}")?;
-    let body = body(alloc, text.as_bytes())?;
+    ready_at(
+        alloc,
+        &body(alloc, text.as_bytes())?,
+        number(age)?,
+        number(now)?,
+    )
+}
+
+/// Whether the first atom of a body is ready.
+fn ready_at(alloc: Global, body: &Body, age: u64, now: u64) -> Result<Vec<u8>, Fault> {
+    let Some(atom) = body.atoms.as_slice().first() else {
+        return Err(Fault::Argument);
+    };
     let store = Store::fresh(alloc, &body.sorts)?;
-    match body.atoms.as_slice().first() {
-        Some(atom) => {
-            let ready = is_ready(alloc, &store, number(age)?, number(now)?, &atom.times)?;
-            yes_or_no(alloc, ready)
-        }
-        None => Err(Fault::Argument),
-    }
+    let ready = is_ready(alloc, &store, age, now, &atom.times)?;
+    yes_or_no(alloc, ready)
 }
 
 /// What the first atom of a body sends.
@@ -132,8 +157,8 @@ fn sent(body: &Body) -> Result<&Exprs, Fault> {
 }
 
 /// The value of the first expression that a body's first atom sends.
-fn evaluated(alloc: Global, text: &[u8]) -> Result<Vec<u8>, Fault> {
-    let body = body(alloc, text)?;
+fn evaluated(alloc: Global, args: &[Vec<u8>]) -> Result<Vec<u8>, Fault> {
+    let body = body(alloc, one(args)?)?;
     let store = Store::fresh(alloc, &body.sorts)?;
     match sent(&body)?.as_slice().first() {
         Some(expr) => value(alloc, &eval(alloc, expr, &store)?),
@@ -197,6 +222,12 @@ fn sort(alloc: Global, text: &[u8]) -> Result<Sort, Fault> {
         Some(sort) => Ok(sort.copy(alloc)?),
         None => Err(Fault::Argument),
     }
+}
+
+/// The initial value of a sort.
+fn initial_of(alloc: Global, args: &[Vec<u8>]) -> Result<Vec<u8>, Fault> {
+    let sort = sort(alloc, one(args)?)?;
+    value(alloc, &Some(initial(alloc, &sort)?))
 }
 
 /// Whether a term has a sort.
