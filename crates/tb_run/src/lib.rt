@@ -1,17 +1,29 @@
-//! The workers of a run, which share a bus: each stands between the bus and one end of the outside.
+//! A run: the workers that share a bus, each between the bus and one end of the outside, and the parts of the run of all.
 #![tactic(auto)]
 
+mod buffer;
+mod ending;
 mod ends;
 mod hand;
+mod lanes;
+mod logger;
+mod moving;
+mod parts;
 mod reader;
+mod room;
+mod running;
+mod seats;
+mod starting;
 mod stepper;
+mod tick_job;
 mod ticker;
 mod worker;
+mod working;
 mod writer;
 
 pub use ends::{LogEnd, RunWhy, WorkEnd};
+pub use lanes::{AnyInlet, AnyOutlet};
 pub use reader::read_lane;
 pub use stepper::step_worker;
 pub use ticker::tick_worker;
-pub use worker::Work;
 pub use writer::write_lane;

@@ -1,0 +1,24 @@
+use Rattle.std.proofs.Common.{rules, Ok, is_ok, [], ◌∷◌, if◌then◌else◌, append_assoc, ◌≡◌, ◌≤◌, ◌+◌, ◌++◌, length, map, vec_len, vec_capacity, List, subst, sym, ◌∙◌, ap}
+use Rattle.tb_run.specs.declared.worker.Worker.{Worker}
+use Rattle.tb_run.specs.declared.worker.Work.{Work}
+use Rattle.tb_run.specs.Moving.{inlets_of, outlets_of}
+use Rattle.tb_run.proofs.moving.end_all.Goals as goal
+
+pub loop-worker-preserved : goal.loop-worker-preserved
+loop-worker-preserved g c =
+    let i = c.loop-worker.invariant in
+    let e = c.in-Some.ensures.steps.0 in
+    let works : List (Worker g.row.W.Denot g.row.I.Denot g.row.O.Denot g.row.W-Plan.Denot g.row.W-Taken.Denot) → List (Work g.row.I.Denot g.row.O.Denot) = map (λ (it : Worker g.row.W.Denot g.row.I.Denot g.row.O.Denot g.row.W-Plan.Denot g.row.W-Taken.Denot). it.work) in
+    let l = c.loop-worker in
+    let rest = works c.next.new.self.rest.items in (
+      search rules,
+      search rules,
+      c.move_out.ensures.inlets_room rest (subst (λ (s : List (Worker g.row.W.Denot g.row.I.Denot g.row.O.Denot g.row.W-Plan.Denot g.row.W-Taken.Denot)). vec_len l.inlets + length (inlets_of (works s)) ≤ vec_capacity l.inlets) e i.2),
+      c.move_out.ensures.outlets_room rest (subst (λ (s : List (Worker g.row.W.Denot g.row.I.Denot g.row.O.Denot g.row.W-Plan.Denot g.row.W-Taken.Denot)). vec_len l.outlets + length (outlets_of (works s)) ≤ vec_capacity l.outlets) e i.3),
+      ap (λ s. s ++ map (λ (it : Worker g.row.W.Denot g.row.I.Denot g.row.O.Denot g.row.W-Plan.Denot g.row.W-Taken.Denot). it.seat) c.next.new.self.rest.items) (c.push.ensures.items ∙ ap (λ r. if is_ok r then l.seats.items ++ c.in-Some.worker.seat ∷ [] else l.seats.items) c.unwrap.ensures)
+          ∙ (append_assoc l.seats.items (c.in-Some.worker.seat ∷ []) (map (λ (it : Worker g.row.W.Denot g.row.I.Denot g.row.O.Denot g.row.W-Plan.Denot g.row.W-Taken.Denot). it.seat) c.next.new.self.rest.items) ∙ (ap (λ (s : List (Worker g.row.W.Denot g.row.I.Denot g.row.O.Denot g.row.W-Plan.Denot g.row.W-Taken.Denot)). l.seats.items ++ map (λ (it : Worker g.row.W.Denot g.row.I.Denot g.row.O.Denot g.row.W-Plan.Denot g.row.W-Taken.Denot). it.seat) s) (sym e) ∙ i.4)),
+      ap (λ s. s ++ map (λ (it : Worker g.row.W.Denot g.row.I.Denot g.row.O.Denot g.row.W-Plan.Denot g.row.W-Taken.Denot). it.end) c.next.new.self.rest.items) (c.push-in-loop-worker.ensures.items ∙ ap (λ r. if is_ok r then l.ends.items ++ c.in-Some.worker.end ∷ [] else l.ends.items) c.unwrap-in-loop-worker.ensures)
+          ∙ (append_assoc l.ends.items (c.in-Some.worker.end ∷ []) (map (λ (it : Worker g.row.W.Denot g.row.I.Denot g.row.O.Denot g.row.W-Plan.Denot g.row.W-Taken.Denot). it.end) c.next.new.self.rest.items) ∙ (ap (λ (s : List (Worker g.row.W.Denot g.row.I.Denot g.row.O.Denot g.row.W-Plan.Denot g.row.W-Taken.Denot)). l.ends.items ++ map (λ (it : Worker g.row.W.Denot g.row.I.Denot g.row.O.Denot g.row.W-Plan.Denot g.row.W-Taken.Denot). it.end) s) (sym e) ∙ i.5)),
+      c.move_out.ensures.inlets rest ∙ (ap (λ (s : List (Worker g.row.W.Denot g.row.I.Denot g.row.O.Denot g.row.W-Plan.Denot g.row.W-Taken.Denot)). l.inlets.items ++ inlets_of (works s)) (sym e) ∙ i.6),
+      c.move_out.ensures.outlets rest ∙ (ap (λ (s : List (Worker g.row.W.Denot g.row.I.Denot g.row.O.Denot g.row.W-Plan.Denot g.row.W-Taken.Denot)). l.outlets.items ++ outlets_of (works s)) (sym e) ∙ i.7),
+    )

@@ -1,0 +1,21 @@
+ghost use Rattle.std.specs.Prelude.{◌≤◌, vec_capacity};
+ghost use Rattle.tb_lane.specs.Sending.{most_line_text};
+
+use std::alloc::Global;
+use tb_lane::MOST_LINE_TEXT;
+use tb_terms::NoMemory;
+
+/// A buffer with room for the text of any line that is handed out.
+#[derive(Drop)]
+pub struct Buffer {
+    pub(crate) bytes: Vec<u8>,
+    ghost has_room: { most_line_text ≤ vec_capacity bytes },
+}
+
+impl Buffer {
+    /// Takes the memory.
+    pub(crate) fn new(alloc: Global) -> Result<Buffer, NoMemory> {
+        let bytes = Vec::with_capacity(alloc, MOST_LINE_TEXT)?;
+        Ok(Buffer { bytes })
+    }
+}

@@ -1,0 +1,178 @@
+//! The job that writes the log while the bus runs.
+ghost use Rattle.std.specs.Prelude.{◌≡◌, ◌≤◌, ◌+◌, [], length, MatchOption, OnOk, OnErr, IsErrOf};
+ghost use Rattle.tb_edge.specs.Faults.{Rose};
+ghost use Rattle.tb_edge.specs.Sinks.{Writes, WritesPrefix};
+ghost use Rattle.tb_log.specs.LogText.{log_text_from};
+ghost use Rattle.tb_run.specs.Logging.{LogsOn, EndsLogging, LogDone, PutsSome, PutsLast, end_by};
+
+use crate::ends::LogEnd;
+use crate::hand::stop;
+use std::alloc::Global;
+use std::sync::Wait;
+use std::sync::atomic::{AtomicU32, Ordering};
+use tb_algebra::Walker;
+use tb_bells::{Bells, Sleeper};
+use tb_edge::{Job, Sink};
+use tb_lock::{Seat, Shared, calls_add_their_own};
+use tb_log::Entry;
+use tb_write::{LogFault, LogWriter};
+
+/// How many entries are read in one turn.
+const MOST: usize = 1_000;
+
+/// The caller's own job: the log is read by a seat without rights, and written.
+#[derive(Drop)]
+pub struct LogJob<'a, W: Walker, O> {
+    pub shared: &'a Shared<W>,
+    pub bells: &'a Bells,
+    /// How many workers are still at work.
+    pub left: &'a AtomicU32,
+    pub alloc: Global,
+    pub seat: Seat,
+    pub out: &'a mut O,
+    pub writer: LogWriter,
+    pub end: LogEnd,
+}
+
+impl<'a, W: Walker, O: Sink> Job for LogJob<'a, W, O> {
+    ghost use Rattle.std.specs.Prelude.{◌≡◌, []};
+    ghost use Rattle.tb_run.specs.Logging.{LogDone};
+
+    ghost ready = { λ it. (it.seat.bus ≡ it.shared.now) × (it.writer ≡ record { written = 0; held = [] }) };
+
+    ghost done = { λ old new. (new.out.ghost_name ≡ old.out.ghost_name) × LogDone old.seat new.seat new.writer (O.taken old.out.now) (O.taken new.out.now) (O.faults old.out.now) (O.faults new.out.now) new.end };
+
+    fn work<R: Wait>(&mut self, rt: &R) {
+        self.end = log_all(
+            rt,
+            self.alloc,
+            self.shared,
+            self.bells,
+            self.left,
+            &mut self.seat,
+            &mut self.writer,
+            self.out,
+        );
+    }
+}
+
+/// Writes the log, until all workers have ended.
+fn log_all<W: Walker, R: Wait, O: Sink>(
+    rt: &R,
+    alloc: Global,
+    shared: &Shared<W>,
+    bells: &Bells,
+    left: &AtomicU32,
+    seat: &mut Seat,
+    writer: &mut LogWriter,
+    out: &mut O,
+) -> LogEnd
+    requires own { seat.old.bus ≡ shared.now }
+    requires none { writer.old ≡ record { written = 0; held = [] } }
+    ensures { LogDone seat.old seat.new writer.new (O.taken out.old) (O.taken out.new) (O.faults out.old) (O.faults out.new) result }
+{
+    let mut heard = 0;
+    for _ in rt.forever() {
+        match log_some(
+            rt, alloc, shared, bells, left, seat, writer, out, &mut heard,
+        ) {
+            Some(end) => return end,
+            None => {}
+        }
+    }
+    unreachable!()
+}
+
+/// Writes some entries of the log, or waits where there are none; says why the job ends, where it does. All is
+/// written where no worker was left before nothing was found.
+fn log_some<W: Walker, R: Wait, O: Sink>(
+    rt: &R,
+    alloc: Global,
+    shared: &Shared<W>,
+    bells: &Bells,
+    left: &AtomicU32,
+    seat: &mut Seat,
+    writer: &mut LogWriter,
+    out: &mut O,
+    heard: &mut u64,
+) -> Option<LogEnd>
+    requires own { seat.old.bus ≡ shared.now }
+    requires held { writer.old.held ≡ [] }
+    ensures { MatchOption result (LogsOn seat.old seat.new writer.old writer.new (O.taken out.old) (O.taken out.new) (O.faults out.old) (O.faults out.new)) (EndsLogging seat.old seat.new writer.old writer.new (O.taken out.old) (O.taken out.new) (O.faults out.old) (O.faults out.new)) }
+{
+    calls_add_their_own();
+    let over = left.load(Ordering::SeqCst) == 0;
+    match shared.read_log(rt, alloc, seat, writer.written(), MOST) {
+        Ok(piece) => put_some(
+            rt,
+            shared,
+            bells,
+            over,
+            seat,
+            writer,
+            piece.as_slice(),
+            out,
+            heard,
+        ),
+        Err(_) => {
+            stop(rt, shared, bells, seat);
+            Some(LogEnd::NoMemory)
+        }
+    }
+}
+
+/// Puts what was read.
+fn put_some<W: Walker, R: Wait, O: Sink>(
+    rt: &R,
+    shared: &Shared<W>,
+    bells: &Bells,
+    over: bool,
+    seat: &mut Seat,
+    writer: &mut LogWriter,
+    piece: &[Entry],
+    out: &mut O,
+    heard: &mut u64,
+) -> Option<LogEnd>
+    requires own { seat.old.bus ≡ shared.now }
+    requires held { writer.old.held ≡ [] }
+    ensures { MatchOption result (PutsSome seat.old seat.new piece.now writer.old writer.new (O.taken out.old) (O.taken out.new) (O.faults out.old) (O.faults out.new)) (PutsLast seat.old seat.new piece.now writer.old writer.new (O.taken out.old) (O.taken out.new) (O.faults out.old) (O.faults out.new)) }
+{
+    if piece.is_empty() {
+        if over {
+            return Some(LogEnd::Over);
+        }
+        *heard = bells.wait_past(rt, Sleeper::Log, *heard);
+    }
+    match put_piece(writer, piece, out) {
+        Ok(()) => None,
+        Err(fault) => {
+            stop(rt, shared, bells, seat);
+            Some(end_of(fault))
+        }
+    }
+}
+
+fn end_of(fault: LogFault) -> LogEnd
+    ensures { result ≡ end_by fault }
+{
+    match fault {
+        LogFault::Out => LogEnd::Out,
+        LogFault::NoMemory => LogEnd::NoMemory,
+    }
+}
+
+/// Puts the lines of the next entries.
+pub(crate) fn put_piece<O: Sink>(
+    writer: &mut LogWriter,
+    piece: &[Entry],
+    out: &mut O,
+) -> Result<(), LogFault>
+    requires { writer.old.held ≡ [] }
+    ensures ok { OnOk result (Writes (O.taken out.old) (O.taken out.new) (log_text_from (writer.old.written + 1) piece.now)) }
+    ensures counted { OnOk result (writer.new ≡ record { written = writer.old.written + length piece.now; held = [] }) }
+    ensures prefix { OnErr result (WritesPrefix (O.taken out.old) (O.taken out.new) (log_text_from (writer.old.written + 1) piece.now)) }
+    ensures rose { IsErrOf result LogFault.Out → Rose (O.faults out.old) (O.faults out.new) }
+    ensures never_falls { O.faults out.old ≤ O.faults out.new }
+{
+    writer.put_and_flush(piece, out)
+}

@@ -1,0 +1,59 @@
+//! The workers are made.
+ghost use Rattle.std.specs.Prelude.{◌≡◌, ◌≤◌, ◌+◌, [], map, vec_len, vec_capacity};
+ghost use Rattle.std.specs.List.{All};
+ghost use Rattle.tb_run.specs.Jobs.{IsReady};
+ghost use Rattle.tb_run.specs.Running.{Fits};
+
+use crate::buffer::Buffer;
+use crate::ends::WorkEnd;
+use crate::worker::{Work, Worker};
+use std::alloc::Global;
+use std::sync::atomic::AtomicU32;
+use tb_algebra::Walker;
+use tb_bells::Bells;
+use tb_edge::{Inlet, Outlet};
+use tb_lock::{Seat, Shared};
+
+/// Makes a worker of each work, with its seat and a buffer.
+pub(crate) fn begin_all<'a, W: Walker, I: Inlet, O: Outlet>(
+    alloc: Global,
+    shared: &'a Shared<W>,
+    bells: &'a Bells,
+    left: &'a AtomicU32,
+    seats: Vec<Seat>,
+    buffers: Vec<Buffer>,
+    works: Vec<Work<I, O>>,
+    workers: &mut Vec<Worker<'a, W, I, O>>,
+)
+    requires fits { Fits shared.now seats.items works.items }
+    requires seats { vec_len seats ≡ vec_len works }
+    requires buffers { vec_len buffers ≡ vec_len works }
+    requires none { workers.old.items ≡ [] }
+    requires room { vec_len works ≤ vec_capacity workers.old }
+    ensures seats { map (λ it. it.seat) workers.new.items ≡ seats.items }
+    ensures works { map (λ it. it.work) workers.new.items ≡ works.items }
+    ensures ready { All (λ it. IsReady it.shared.now it.seat it.work) workers.new.items }
+{
+    let mut seats = seats.into_iter();
+    let mut buffers = buffers;
+    for work in works {
+        match seats.next() {
+            Some(seat) => match buffers.pop() {
+                Some(buffer) => workers
+                    .push(Worker {
+                        shared,
+                        bells,
+                        alloc,
+                        left,
+                        seat,
+                        buffer,
+                        work,
+                        end: WorkEnd::Over,
+                    })
+                    .unwrap(),
+                None => unreachable!(),
+            },
+            None => unreachable!(),
+        }
+    }
+}
