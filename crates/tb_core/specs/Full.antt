@@ -6,8 +6,8 @@ use Rattle.tb_log.specs.declared.entry.Entry.{Entry}
 use Rattle.tb_bus.specs.declared.origin.Origin.{Origin}
 use Rattle.tb_core.specs.Cores.{Call, HandIn, MakeStep, HandOut}
 
--- Where the log of an origin had no room: it has all entries that it may have, or so much that an entry didn't fit that is no
--- larger than two terms may be together, or than the largest command.
+-- A log of an origin that is full, or nearly so: it has all entries that it may have, or it is so large that an entry may be too
+-- large for it that is no larger than two terms may be together, or than the largest command.
 abbrev pub IsAtLimit : ℕ → Origin → List Entry → Type 0
 IsAtLimit largest origin log = (length log ≡ origin.limit) ⊎ (most_size < log_size log + max 131072 largest)
 

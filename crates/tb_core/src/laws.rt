@@ -9,8 +9,8 @@ ghost use Rattle.tb_core.specs.Cores.{Call, CoreState, is_full};
 ghost use Rattle.tb_core.specs.Full.{IsAtLimit, MayCall};
 
 /// Where a log has no room for what a call would log, it has all entries that it may have, or it is so large that an
-/// entry didn't fit that is no larger than two terms may be together, or than the largest command of its origin. The same
-/// holds of each log within the limit that begins with it.
+/// entry may be too large for it that is no larger than two terms may be together, or than the largest command of its
+/// origin. The same holds of each log within the limit that begins with it.
 pub fn a_full_log_is_at_its_limit()
     ensures full { (core : CoreState) (call : Call) → IsTrace (start core.origin) core.log →
         MayCall call → is_full core call ≡ true → length core.log ≤ core.origin.limit →

@@ -38,7 +38,7 @@ pub trait Outlet: Drop {
         ensures never_falls { faults self.old ≤ faults self.new }
         ensures fits { faults self.old < 2 ^ 64 → faults self.new < 2 ^ 64 };
 
-    /// Ends the lane for good: its inlet is over once it has given what is left.
+    /// Ends the lane for good. Its inlet is meant to be over once it has given what is left, but no clause ties the two ends.
     fn close(&mut self)
         ensures told { told self.new ≡ told self.old }
         ensures never_falls { faults self.old ≤ faults self.new }
