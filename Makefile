@@ -1,4 +1,5 @@
-# What one types. Each target needs the command rt of the Rattle kit; bench needs the built program and Python 3.
+# What one types. Each target needs the command rt of the Rattle kit; bench needs the built program, Python 3
+# and a C compiler.
 .PHONY: hello build test bench
 
 SCRIPT := $(CURDIR)/examples/hello.tb
@@ -18,6 +19,7 @@ build:
 test:
 	.ci/run
 
-# How long the built program takes. No part of the gate.
+# How long the built program takes, on scripts and with live tools. No part of the gate.
 bench:
 	bench/run
+	bench/live
