@@ -1,10 +1,7 @@
 -- What some words ask for, and the faults of others, worked out by hand: each rule once at least.
 use Rattle.std.proofs.Common.{◌≡◌, ℕ, zero, suc, List, [], ◌∷◌, replicate, Some, None, Ok, Err, codes, refl}
 use Rattle.tb_cli.specs.declared.command.Command.TheVariants.{Check, Sim, Run, Ring}
-use Rattle.tb_cli.specs.declared.fault.WordFault.TheVariants.{NoCommand, Unknown, Missing, Extra, Number, Range, NotBuilt}
-use Rattle.tb_cli.specs.declared.table.Verb.TheVariants as verb
-use Rattle.tb_cli.specs.Parts.{parts_of}
-use Rattle.tb_cli.specs.Table.{make}
+use Rattle.tb_cli.specs.declared.fault.WordFault.TheVariants.{NoCommand, Unknown, Missing, Extra, Number, Range}
 use Rattle.tb_cli.specs.Words.{asked}
 
 -- no words
@@ -186,8 +183,8 @@ other_digit = refl
 missing_last : asked (codes "sim" ∷ codes "--steps" ∷ codes "0" ∷ []) ≡ Err (Range 3)
 missing_last = refl
 
--- `run` has a script and three options of its own, and isn't built: another fault comes first
-run_asked : asked (codes "run" ∷ codes "a.tb" ∷ codes "--connect" ∷ codes "k" ∷ codes "--ticks" ∷ codes "0" ∷ codes "--events" ∷ codes "7" ∷ []) ≡ Err (NotBuilt 1)
+-- `run` has a script and three options: the commands to connect, and the limits of ticks and of events
+run_asked : asked (codes "run" ∷ codes "a.tb" ∷ codes "--connect" ∷ codes "k" ∷ codes "--ticks" ∷ codes "0" ∷ codes "--events" ∷ codes "7" ∷ []) ≡ Ok (Run (codes "a.tb") (codes "k" ∷ []) 0 7)
 run_asked = refl
 
 run_bare : asked (codes "run" ∷ []) ≡ Err Missing
@@ -199,7 +196,7 @@ run_steps = refl
 run_feed : asked (codes "run" ∷ codes "--feed" ∷ codes "f" ∷ codes "a.tb" ∷ []) ≡ Err (Unknown 2)
 run_feed = refl
 
-most_ticks : asked (codes "run" ∷ codes "--ticks" ∷ codes "10000000" ∷ codes "a.tb" ∷ []) ≡ Err (NotBuilt 1)
+most_ticks : asked (codes "run" ∷ codes "--ticks" ∷ codes "10000000" ∷ codes "a.tb" ∷ []) ≡ Ok (Run (codes "a.tb") [] 10000000 1000000)
 most_ticks = refl
 
 past_ticks : asked (codes "run" ∷ codes "--ticks" ∷ codes "10000001" ∷ codes "a.tb" ∷ []) ≡ Err (Range 3)
@@ -211,12 +208,12 @@ ticks_twice = refl
 run_extra : asked (codes "run" ∷ codes "a.tb" ∷ codes "b.tb" ∷ []) ≡ Err (Extra 3)
 run_extra = refl
 
--- what `run` is made of, once it is built
-run_made : make verb.Run (parts_of (codes "--ticks" ∷ codes "0" ∷ codes "a.tb" ∷ codes "--connect" ∷ codes "k" ∷ [])) ≡ Run (codes "a.tb") (codes "k" ∷ []) 0 1000000
-run_made = refl
+-- each limit that isn't given is the usual one
+run_usual_events : asked (codes "run" ∷ codes "--ticks" ∷ codes "0" ∷ codes "a.tb" ∷ codes "--connect" ∷ codes "k" ∷ []) ≡ Ok (Run (codes "a.tb") (codes "k" ∷ []) 0 1000000)
+run_usual_events = refl
 
-run_usual : make verb.Run (parts_of (codes "a.tb" ∷ codes "--events" ∷ codes "7" ∷ [])) ≡ Run (codes "a.tb") [] 36000 7
-run_usual = refl
+run_usual_ticks : asked (codes "run" ∷ codes "a.tb" ∷ codes "--events" ∷ codes "7" ∷ []) ≡ Ok (Run (codes "a.tb") [] 36000 7)
+run_usual_ticks = refl
 
 -- `ring` has two numbers, and no options
 ring_asked : asked (codes "ring" ∷ codes "2" ∷ codes "1" ∷ []) ≡ Ok (Ring 2 1)

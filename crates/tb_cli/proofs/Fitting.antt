@@ -189,7 +189,7 @@ operand-at (other ∷ kinds) before (value ∷ values) (suc place) kind all at e
 
 enough-operands : (row : Row) (parts : List Part) → whole_answer row parts ≡ Ok tt → length row.operands ≤ length (operands_of parts)
 enough-operands row parts e = by (nat_le (length row.operands) (length (operands_of parts))) refl e where
-  by : (b : Bool) → nat_le (length row.operands) (length (operands_of parts)) ≡ b → ◌≡◌ {A = Answer} (if b then (if row.is_built then Ok tt else Err (fault.NotBuilt 1)) else Err fault.Missing) (Ok tt) → length row.operands ≤ length (operands_of parts)
+  by : (b : Bool) → nat_le (length row.operands) (length (operands_of parts)) ≡ b → ◌≡◌ {A = Answer} (if b then Ok tt else Err fault.Missing) (Ok tt) → length row.operands ≤ length (operands_of parts)
   by true is h = leb-true (length row.operands) (length (operands_of parts)) is
   by false is h = absurd cc
 

@@ -1,4 +1,5 @@
 pub mod Scanning
 pub mod Fitting
 pub mod Rows
+pub mod Built
 pub mod Examples

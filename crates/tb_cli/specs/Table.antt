@@ -1,5 +1,5 @@
 -- The commands: each has a row, which says how its words are read, and one way in which it is made of the values that they give.
-use Rattle.std.specs.Prelude.{ℕ, Bool, true, false, List, [], ◌∷◌, Option, Some, None, find, get_or, slice_get, codes, bytes_eq, length, ◌≤◌, ◌*◌, ⊤}
+use Rattle.std.specs.Prelude.{ℕ, List, [], ◌∷◌, Option, Some, None, find, get_or, slice_get, codes, bytes_eq, length, ◌≤◌, ◌*◌, ⊤}
 use Rattle.tb_read.specs.Spelling.{digits_value}
 use Rattle.tb_cli.specs.declared.command.Command.{Command}
 use Rattle.tb_cli.specs.declared.command.Command.TheVariants as command
@@ -16,17 +16,12 @@ pub record Setting : Type 0 where
   pub kind : Kind
   pub usual : ℕ
 
--- a command: its first word, what its operands are, its options, and whether it is built
+-- a command: its first word, what its operands are, and its options
 pub record Row : Type 0 where
   pub verb : Verb
   pub word : List ℕ
   pub operands : List Kind
   pub options : List Setting
-  pub is_built : Bool
-
--- Whether `run` is built.
-abbrev pub run_is_built : Bool
-run_is_built = false
 
 -- the options
 
@@ -48,16 +43,16 @@ events = record { name = codes "--events"; kind = Number 1 4000000; usual = 1000
 -- the commands
 
 abbrev pub check : Row
-check = record { verb = verb.Check; word = codes "check"; operands = File ∷ []; options = []; is_built = true }
+check = record { verb = verb.Check; word = codes "check"; operands = File ∷ []; options = [] }
 
 abbrev pub sim : Row
-sim = record { verb = verb.Sim; word = codes "sim"; operands = File ∷ []; options = feed ∷ connect ∷ steps ∷ events ∷ []; is_built = true }
+sim = record { verb = verb.Sim; word = codes "sim"; operands = File ∷ []; options = feed ∷ connect ∷ steps ∷ events ∷ [] }
 
 abbrev pub run : Row
-run = record { verb = verb.Run; word = codes "run"; operands = File ∷ []; options = connect ∷ ticks ∷ events ∷ []; is_built = run_is_built }
+run = record { verb = verb.Run; word = codes "run"; operands = File ∷ []; options = connect ∷ ticks ∷ events ∷ [] }
 
 abbrev pub ring : Row
-ring = record { verb = verb.Ring; word = codes "ring"; operands = Number 2 10000 ∷ Factor 1000000 ∷ []; options = []; is_built = true }
+ring = record { verb = verb.Ring; word = codes "ring"; operands = Number 2 10000 ∷ Factor 1000000 ∷ []; options = [] }
 
 abbrev pub table : List Row
 table = check ∷ sim ∷ run ∷ ring ∷ []

@@ -90,10 +90,10 @@ parts_answer row before position (part ∷ parts) =
 
 -- commands
 
--- At the end of the words all operands must be there, and the command must be built.
+-- At the end of the words all operands must be there.
 abbrev pub whole_answer : Row → List Part → Answer
 whole_answer row parts =
-    if nat_le (length row.operands) (length (operands_of parts)) then (if row.is_built then Ok tt else Err (fault.NotBuilt 1))
+    if nat_le (length row.operands) (length (operands_of parts)) then Ok tt
     else Err fault.Missing
 
 -- all parts behind the first word, and then their end

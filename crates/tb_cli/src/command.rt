@@ -43,9 +43,6 @@ pub enum Command {
     },
 }
 
-/// Whether `run` is built.
-const RUN_IS_BUILT: bool = false;
-
 const FEED: Setting = Setting {
     name: "--feed",
     kind: Kind::File,
@@ -90,7 +87,6 @@ const CHECK: Row = Row {
     word: "check",
     operands: &[Kind::File],
     options: &[],
-    is_built: true,
 };
 
 const SIM: Row = Row {
@@ -98,7 +94,6 @@ const SIM: Row = Row {
     word: "sim",
     operands: &[Kind::File],
     options: &[FEED, CONNECT, STEPS, EVENTS],
-    is_built: true,
 };
 
 const RUN: Row = Row {
@@ -106,7 +101,6 @@ const RUN: Row = Row {
     word: "run",
     operands: &[Kind::File],
     options: &[CONNECT, TICKS, EVENTS],
-    is_built: RUN_IS_BUILT,
 };
 
 const RING: Row = Row {
@@ -120,7 +114,6 @@ const RING: Row = Row {
         Kind::Factor { most: 1_000_000 },
     ],
     options: &[],
-    is_built: true,
 };
 
 static TABLE: [Row; 4] = [CHECK, SIM, RUN, RING];

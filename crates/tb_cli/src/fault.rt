@@ -22,7 +22,8 @@ pub enum WordFault {
     Range(usize),
     /// There wasn't memory enough; it says nothing of the words.
     NoMemory,
-    /// The word at this position asks for what isn't built yet.
+    /// The word at this position names a command or an option that a later version builds. It never comes:
+    /// every command and each of its options is built.
     NotBuilt(usize),
 }
 

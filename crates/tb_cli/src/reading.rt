@@ -1,6 +1,6 @@
 //! How the words of the command line are read.
 
-ghost use Rattle.std.specs.Prelude.{◌≡◌, ◌≢◌, ◌+◌, ◌<◌, ◌^◌, ◌&&◌, ◌*◌, [], length, map, slice_get, nat_le, string_bytes, option_map, option_copied, Ok, IsOk, IfOk, IfErr, OnOk, Err, Some};
+ghost use Rattle.std.specs.Prelude.{◌≡◌, ◌≢◌, ℕ, ◌+◌, ◌<◌, ◌^◌, ◌&&◌, ◌*◌, [], length, map, slice_get, nat_le, string_bytes, option_map, option_copied, Ok, IsOk, IfOk, IfErr, OnOk, Err, Some};
 ghost use Rattle.tb_read.specs.Spelling.{is_digits, digits_value};
 ghost use Rattle.tb_terms.specs.Names.{is_text, is_text_byte};
 ghost use Rattle.tb_cli.specs.Parts.{AnOption, AWord, parts_of, name_of, given, operands_of};
@@ -31,6 +31,9 @@ pub fn read_words(alloc: Global, words: &Vec<String>) -> Result<Command, WordFau
 
     // A fault of the words is told whether or not there is memory.
     ensures memory { result ≡ Err WordFault.NoMemory → IsOk (asked (map string_bytes words.now.items)) }
+
+    // Every command and each of its options is built.
+    ensures built { (place : ℕ) → result ≢ Err (WordFault.NotBuilt place) }
 {
     let words = words.as_slice();
     let Some(word) = words.first() else {
@@ -72,10 +75,8 @@ fn check_whole(row: &Row, words: &[String]) -> Result<(), WordFault>
 {
     if count_values(words, OPERANDS) < row.operands.len() {
         Err(WordFault::Missing)
-    } else if row.is_built {
-        Ok(())
     } else {
-        Err(WordFault::NotBuilt(1))
+        Ok(())
     }
 }
 

@@ -41,7 +41,6 @@ pub(crate) struct Row {
     pub(crate) word: &'static str,
     pub(crate) operands: &'static [Kind],
     pub(crate) options: &'static [Setting],
-    pub(crate) is_built: bool,
 }
 
 /// The row with this first word among these.

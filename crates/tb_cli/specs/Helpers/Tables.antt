@@ -8,4 +8,4 @@ abbrev pub setting_of : CodeSetting → Setting
 setting_of option = record { name = option.name.now; kind = option.kind; usual = option.usual }
 
 abbrev pub row_of : CodeRow → Row
-row_of row = record { verb = row.verb; word = row.word.now; operands = row.operands.now; options = map setting_of row.options.now; is_built = row.is_built }
+row_of row = record { verb = row.verb; word = row.word.now; operands = row.operands.now; options = map setting_of row.options.now }
