@@ -35,6 +35,11 @@ pub fails_for : {J : Type 0} (it : CrewFault J) (f f' : ℕ) → FailsOnly it (R
 fails_for (fault.Failed jobs) f f' h = h
 fails_for (fault.NoMemory jobs) f f' h = tt
 
+-- what follows from either answer
+pub either_way : {U V : Type 0} (r : Result U V) (A : U → Type 0) (B : V → Type 0) (P : Type 0) → ((u : U) → A u → P) → ((v : V) → B v → P) → IfOk r A → IfErr r B → P
+either_way (Ok u) A B P f h a b = f u a
+either_way (Err v) A B P f h a b = h v b
+
 pub back_by : {J U : Type 0} (items : U → List J) (r : Result U (CrewFault J)) (failed : Option RunWhy) (workers old : List J) (A : List J → Type 0) (B D : Type 0) (f f' : ℕ) →
     IfOk r (λ jobs. (failed ≡ None) × (workers ≡ items jobs)) → IfErr r (λ it. (failed ≡ Some (why_by it)) × (workers ≡ jobs_of it)) → IfOk r (λ jobs. A (items jobs)) →
     IfErr r (λ it. (jobs_of it ≡ old) × B × D) → IfErr r (λ it. FailsOnly it (Rose f f')) → MatchOption failed (A workers) (λ w. FailsFor w f f' × (workers ≡ old) × B × D)
@@ -46,6 +51,15 @@ back_by items (Err it) failed workers old A B D f f' ok err a b rose =
 pub match_map : {Y : Type 0} (o : Option Y) (A C : Type 0) (B D : Y → Type 0) → (A → C) → ((y : Y) → B y → D y) → MatchOption o A B → MatchOption o C D
 match_map None A C B D f h m = f m
 match_map (Some y) A C B D f h m = h y m
+
+-- what was done, said of what is the same
+pub moved : {K S : Type 0} (A : Type 0) (T : SeatView → K → WorkEnd → Type 0) (L : SeatView → WriterView → S → LogEnd → Type 0) (s s' : SeatView) (k k' : K) (e e' : WorkEnd) (l l' : SeatView) (w w' : WriterView) (o o' : S) (f f' : LogEnd) →
+    s' ≡ s → k' ≡ k → e' ≡ e → l' ≡ l → w' ≡ w → o' ≡ o → f' ≡ f → A × T s k e × L l w o f → A × T s' k' e' × L l' w' o' f'
+moved {K} {S} A T L s s' k k' e e' l l' w w' o o' f f' ps pk pe pl pw po pf (a, t, d) = (
+  a,
+  subst (λ (x : WorkEnd). T s' k' x) (sym pe) (subst (λ (x : K). T s' x e) (sym pk) (subst (λ (x : SeatView). T x k e) (sym ps) t)),
+  subst (λ (x : LogEnd). L l' w' o' x) (sym pf) (subst (λ (x : S). L l' w' x f) (sym po) (subst (λ (x : WriterView). L l' x o f) (sym pw) (subst (λ (x : SeatView). L x w o f) (sym pl) d))),
+)
 
 module _ {X I O : Type 0} (seat : X → SeatView) (ended : X → WorkEnd) (work : X → Work I O) (gave : I → Option InletView) (took : O → Option (List Taken)) (faults : O → ℕ)
     (most : ℕ) (begun : SeatView) (is : List I) (os : List O) (xs ys : List X) (tick_begun tick_done log_begun log_done : SeatView) (tick_end : WorkEnd) (log_end : LogEnd)

@@ -115,6 +115,7 @@ module _ (law : LaterLaw) (most : ℕ) (old : OutsideView) (lanes : List LaneVie
   closed w it come after = record {
     origin_is = closes.origin ∙ come.origin;
     history = known (λ (k : CoreState). IsRunOf k.origin k.log) (record { trace = come.sees.trace; sparse = come.sees.sparse });
+    within = within;
     outcome = known (λ (k : CoreState). RunOutcome most old New k it)
         (outcome w it come.sees come.outcome (subst (λ (l : List Entry). IsAfterRest l writer w it put_mid put_new faults_mid faults_new) closes.log after));
   }

@@ -249,13 +249,14 @@ module _ (first_law : FirstLaw) (second_law : SecondLaw) (down_law : DownLaw) (e
     abbrev meet_end : EachEnd CameToEnd (map ended ys)
     meet_end = came_each seat ended work gave took faults begun xs ys zip new_seats came.1
 
-    ticker_whole : (it : WorkEnd) → CameToEnd it → TickerWhole most tick_begun tick_done last clock_old clock_new clock_faults_old clock_faults_new tick_end c.ticks tick_right tick_fresh kept.1.0 it
-    ticker_whole end.Over h = tt
-    ticker_whole end.Down h = tt
-    ticker_whole end.Failed h = tt
-    ticker_whole end.Stopped h = absurd h
-    ticker_whole end.Full h = absurd h
-    ticker_whole end.NoMemory h = absurd h
+    ticker_whole : (Failed : Type 0) → (tick_end ≡ end.Failed → Rose clock_faults_old clock_faults_new → Failed) → (it : WorkEnd) → tick_end ≡ it → CameToEnd it →
+        TickerWhole most tick_begun tick_done last clock_old clock_new clock_faults_old clock_faults_new tick_end c.ticks tick_right tick_fresh kept.1.0 Failed it
+    ticker_whole Failed fails end.Over e h = tt
+    ticker_whole Failed fails end.Down e h = tt
+    ticker_whole Failed fails end.Failed e h = fails e
+    ticker_whole Failed fails end.Stopped e h = absurd h
+    ticker_whole Failed fails end.Full e h = absurd h
+    ticker_whole Failed fails end.NoMemory e h = absurd h
 
     down_of : (stepper : StepperWent seat ended work gave took faults last begun CameToEnd) (it : WorkEnd) → CameToEnd it → StepperEnds stepper.done it → (bus_of stepper.done).down ≡ true
     down_of stepper end.Over h e = absurd e
@@ -288,10 +289,10 @@ module _ (first_law : FirstLaw) (second_law : SecondLaw) (down_law : DownLaw) (e
               empty_to_end s.done last (same_origin s.done s.origin) sees.trace s.kept empty_law lane is e.1 e.0;
         }
 
-    has_run : HasRun most last Before After
-    has_run = record {
+    has_run : (Failed : Type 0) → (tick_end ≡ end.Failed → Rose clock_faults_old clock_faults_new → Failed) → HasRun most Failed last Before After
+    has_run Failed fails = record {
       lanes = each_ran seat ended work gave took faults last begun CameToEnd (λ it h. h) is is_new os os_new (reads CameToEnd meet_end) (writes CameToEnd meet_end);
-      clock = clock_ran most tick_begun tick_done last clock_old clock_new clock_faults_old clock_faults_new tick_end c.ticks tick_right tick_fresh kept.1.0 (ticker_whole tick_end came.0);
+      clock = clock_ran most tick_begun tick_done last clock_old clock_new clock_faults_old clock_faults_new tick_end c.ticks tick_right tick_fresh kept.1.0 Failed (ticker_whole Failed fails tick_end refl came.0);
       done = bus_done;
     }
 
@@ -332,18 +333,18 @@ module _ (first_law : FirstLaw) (second_law : SecondLaw) (down_law : DownLaw) (e
       go end.Failed t h = others h
       go end.NoMemory t h = others h
 
-  of_tick : Logged log_begun log_done writer put_old put_new out_faults_old out_faults_new → NoneRefused (tick_end ∷ map ended ys) → (it : WorkEnd) → TickerEndsOf it → ComesTo most Before After last writer (of_clock it)
-  of_tick l none end.Over t = (is_put l, stopped, λ core closes. has_run l none core closes)
-  of_tick l none end.Down t = (is_put l, stopped, λ core closes. has_run l none core closes)
-  of_tick l none end.Stopped t = (is_put l, stopped, λ core closes. has_run l none core closes)
-  of_tick l none end.Full t = (is_put l, stopped, λ core closes. has_run l none core closes)
-  of_tick l none end.NoMemory t = (is_put l, stopped, λ core closes. has_run l none core closes)
-  of_tick l none end.Failed t = (is_put l, stopped, λ core closes. has_run l none core closes, t.1)
+  of_tick : Logged log_begun log_done writer put_old put_new out_faults_old out_faults_new → NoneRefused (tick_end ∷ map ended ys) → (it : WorkEnd) → tick_end ≡ it → TickerEndsOf it → ComesTo most Before After last writer (of_clock it)
+  of_tick l none end.Over e t = (is_put l, stopped, λ core closes. has_run l none core closes ⊥ (λ f r. let no : end.Over ≡ end.Failed = sym e ∙ f in absurd (let b : ⊥ = cc in b)))
+  of_tick l none end.Down e t = (is_put l, stopped, λ core closes. has_run l none core closes ⊥ (λ f r. let no : end.Down ≡ end.Failed = sym e ∙ f in absurd (let b : ⊥ = cc in b)))
+  of_tick l none end.Stopped e t = (is_put l, stopped, λ core closes. has_run l none core closes ⊥ (λ f r. let no : end.Stopped ≡ end.Failed = sym e ∙ f in absurd (let b : ⊥ = cc in b)))
+  of_tick l none end.Full e t = (is_put l, stopped, λ core closes. has_run l none core closes ⊥ (λ f r. let no : end.Full ≡ end.Failed = sym e ∙ f in absurd (let b : ⊥ = cc in b)))
+  of_tick l none end.NoMemory e t = (is_put l, stopped, λ core closes. has_run l none core closes ⊥ (λ f r. let no : end.NoMemory ≡ end.Failed = sym e ∙ f in absurd (let b : ⊥ = cc in b)))
+  of_tick l none end.Failed e t = (is_put l, stopped, λ core closes. has_run l none core closes (Rose clock_faults_old clock_faults_new) (λ f r. r), t.1)
 
   outcome : (m f : Bool) → list_any is_no_memory (tick_end ∷ map ended ys) ≡ m → list_any is_full_end (tick_end ∷ map ended ys) ≡ f → (it : LogEnd) → LogDone log_begun log_done writer put_old put_new out_faults_old out_faults_new it → ComesTo most Before After last writer (of_log m f tick_end it)
   outcome true f me fe log.Over d = (puts_some d, stopped)
   outcome false true me fe log.Over d = (is_put d, stopped, full_one fe)
-  outcome false false me fe log.Over d = of_tick d (me, fe) tick_end c.ticks.ends
+  outcome false false me fe log.Over d = of_tick d (me, fe) tick_end refl c.ticks.ends
   outcome true f me fe log.Out d = (puts_part d.1, stopped)
   outcome false f me fe log.Out d = (puts_part d.1, stopped, d.2)
   outcome m f me fe log.NoMemory d = (puts_part d.1, stopped)

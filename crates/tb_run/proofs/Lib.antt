@@ -22,3 +22,4 @@ pub mod TraceLemmas
 pub mod WentLemmas
 pub mod WorkLemmas
 pub mod WriteLemmas
+mod SendLemmas

@@ -58,20 +58,21 @@ lanes_same : (lane : ℕ) (views : List LaneView) → EachLane (LaneStopped []) 
 lanes_same lane [] = tt
 lanes_same lane (view ∷ views) = (lane_same lane view, lanes_same (lane + 1) views)
 
-clock_same : (most : ℕ) (clock : Option ClockView) → ClockStopped [] most clock clock
-clock_same most clock = record {
+clock_same : (most : ℕ) (clock : Option ClockView) (Failed : Type 0) → ClockStopped [] most clock clock Failed
+clock_same most clock Failed = record {
   last = 0;
   ended = false;
   told = sym (ticked_none clock);
   one = omega arith;
   within = omega arith;
   time = record { first = []; tail = []; is = refl; ticks = tt; last = inl refl };
+  why = inl refl;
 }
 
 pub nothing_stopped : (most : ℕ) (old new : OutsideView) → new.lanes ≡ old.lanes → new.clock ≡ old.clock → IsStopped most [] old new
 nothing_stopped most old new lanes clock = record {
   lanes = subst (EachLane (LaneStopped []) 1 old.lanes) (sym lanes) (lanes_same 1 old.lanes);
-  clock = subst (λ (o : Option ClockView). ClockStopped [] most old.clock o) (sym clock) (clock_same most old.clock);
+  clock = subst (λ (o : Option ClockView). ClockStopped [] most old.clock o (Rose old.clock_faults new.clock_faults)) (sym clock) (clock_same most old.clock (Rose old.clock_faults new.clock_faults));
 }
 
 pub nothing_put : (old new : OutsideView) → new.put ≡ old.put → WritesPrefix old.put new.put (log_text [])
@@ -84,7 +85,8 @@ unbegun most outside core none =
     record {
       origin_is = refl;
       history = subst (IsRunOf core.origin) (sym none) (record { trace = tt; sparse = sparse_nil });
-      outcome = subst (λ (l : List Entry). WritesPrefix outside.put outside.put (log_text l) × EachLane (LaneStopped l) 1 outside.lanes outside.lanes × ClockStopped l most outside.clock outside.clock) (sym none)
+      within = subst (λ (l : List Entry). length l ≤ core.origin.limit) (sym none) (let z : length {A = Entry} [] ≤ core.origin.limit = omega arith in z);
+      outcome = subst (λ (l : List Entry). WritesPrefix outside.put outside.put (log_text l) × EachLane (LaneStopped l) 1 outside.lanes outside.lanes × ClockStopped l most outside.clock outside.clock (Rose outside.clock_faults outside.clock_faults)) (sym none)
           (nothing_put outside outside refl, st.lanes, st.clock);
     }
 

@@ -101,27 +101,27 @@ pub record IsRunOf (origin : Origin) (log : List Entry) : Type 0 where
 
 -- How a run ends, by its answer: the number of ticks that there may be, what was to be seen of the outside before and after, and the core that it hands back.
 abbrev pub RunOutcome : ℕ → OutsideView → OutsideView → CoreState → RunWhy → Type 0
--- to its end
+-- to its end, and the clock didn't fail
 RunOutcome most old new back Ended =
     Writes old.put new.put (log_text back.log) × EachLane (LaneRan back.log) 1 old.lanes new.lanes
-    × ClockRan back.log most old.clock new.clock old.clock_faults new.clock_faults × IsDone (replay (start back.origin) back.log)
+    × ClockRan back.log most old.clock new.clock ⊥ × IsDone (replay (start back.origin) back.log)
 -- to its end, though the clock failed
 RunOutcome most old new back Clock =
     Writes old.put new.put (log_text back.log) × EachLane (LaneRan back.log) 1 old.lanes new.lanes
-    × ClockRan back.log most old.clock new.clock old.clock_faults new.clock_faults × IsDone (replay (start back.origin) back.log)
+    × ClockRan back.log most old.clock new.clock (Rose old.clock_faults new.clock_faults) × IsDone (replay (start back.origin) back.log)
     × Rose old.clock_faults new.clock_faults
 -- the log was full: it has all entries that it may have, or it is so large that an entry might not fit
 RunOutcome most old new back Events =
     Writes old.put new.put (log_text back.log) × EachLane (LaneStopped back.log) 1 old.lanes new.lanes
-    × ClockStopped back.log most old.clock new.clock × IsAtLimit (largest_command back.origin) back.origin back.log
+    × ClockStopped back.log most old.clock new.clock (Rose old.clock_faults new.clock_faults) × IsAtLimit (largest_command back.origin) back.origin back.log
 -- the sink failed
 RunOutcome most old new back Sink =
     WritesPrefix old.put new.put (log_text back.log) × EachLane (LaneStopped back.log) 1 old.lanes new.lanes
-    × ClockStopped back.log most old.clock new.clock × Rose old.out_faults new.out_faults
+    × ClockStopped back.log most old.clock new.clock (Rose old.clock_faults new.clock_faults) × Rose old.out_faults new.out_faults
 -- memory ran out
 RunOutcome most old new back NoMemory =
     WritesPrefix old.put new.put (log_text back.log) × EachLane (LaneStopped back.log) 1 old.lanes new.lanes
-    × ClockStopped back.log most old.clock new.clock
+    × ClockStopped back.log most old.clock new.clock (Rose old.clock_faults new.clock_faults)
 -- there was no crew: nothing was logged, and the outside is as it was
 RunOutcome most old new back Crew =
     (new.put ≡ old.put) × (new.lanes ≡ old.lanes) × (new.clock ≡ old.clock) × (back.log ≡ []) × Rose old.crew_faults new.crew_faults
@@ -130,4 +130,6 @@ RunOutcome most old new back Crew =
 pub record Runs (most : ℕ) (old new : OutsideView) (origin : Origin) (back : CoreState) (it : RunWhy) : Type 0 where
   pub origin_is : back.origin ≡ origin
   pub history : IsRunOf back.origin back.log
+  -- it has at most as many entries as it may have
+  pub within : length back.log ≤ back.origin.limit
   pub outcome : RunOutcome most old new back it

@@ -43,25 +43,25 @@ PutsPrefix log old new = WritesPrefix old.put new.put (log_text log)
 -- the lanes and the clock after a run that may have been stopped
 pub record IsStopped (most : ℕ) (log : List Entry) (old new : OutsideView) : Type 0 where
   pub lanes : EachLane (LaneStopped log) 1 old.lanes new.lanes
-  pub clock : ClockStopped log most old.clock new.clock
+  pub clock : ClockStopped log most old.clock new.clock (Rose old.clock_faults new.clock_faults)
 
--- the lanes, the clock and the bus after a run that went to its end
-pub record HasRun (most : ℕ) (seat : SeatView) (old new : OutsideView) : Type 0 where
+-- the lanes, the clock and the bus after a run that went to its end; `Failed` says what a failure of the clock shows
+pub record HasRun (most : ℕ) (Failed : Type 0) (seat : SeatView) (old new : OutsideView) : Type 0 where
   pub lanes : EachLane (LaneRan seat.seen) 1 old.lanes new.lanes
-  pub clock : ClockRan seat.seen most old.clock new.clock old.clock_faults new.clock_faults
+  pub clock : ClockRan seat.seen most old.clock new.clock Failed
   pub done : IsDone (bus_of seat)
 
 -- likewise, once the seat has closed the bus
-abbrev pub RunsIfClosed : ℕ → SeatView → OutsideView → OutsideView → Type 0
-RunsIfClosed most seat old new = (core : CoreState) → Closes seat core → HasRun most seat old new
+abbrev pub RunsIfClosed : ℕ → Type 0 → SeatView → OutsideView → OutsideView → Type 0
+RunsIfClosed most Failed seat old new = (core : CoreState) → Closes seat core → HasRun most Failed seat old new
 
 abbrev pub IsPutBy : SeatView → WriterView → OutsideView → OutsideView → Type 0
 IsPutBy seat writer old new = IsPut seat.seen writer old.put new.put old.out_faults new.out_faults
 
 -- what the workers have done, by why they ended
 abbrev pub ComesTo : ℕ → OutsideView → OutsideView → SeatView → WriterView → RunWhy → Type 0
-ComesTo most old new seat writer Ended = IsPutBy seat writer old new × IsStopped most seat.seen old new × RunsIfClosed most seat old new
-ComesTo most old new seat writer Clock = IsPutBy seat writer old new × IsStopped most seat.seen old new × RunsIfClosed most seat old new × Rose old.clock_faults new.clock_faults
+ComesTo most old new seat writer Ended = IsPutBy seat writer old new × IsStopped most seat.seen old new × RunsIfClosed most ⊥ seat old new
+ComesTo most old new seat writer Clock = IsPutBy seat writer old new × IsStopped most seat.seen old new × RunsIfClosed most (Rose old.clock_faults new.clock_faults) seat old new × Rose old.clock_faults new.clock_faults
 ComesTo most old new seat writer Events = IsPutBy seat writer old new × IsStopped most seat.seen old new × WasFull seat
 ComesTo most old new seat writer Sink = PutsPrefix seat.seen old new × IsStopped most seat.seen old new × Rose old.out_faults new.out_faults
 ComesTo most old new seat writer NoMemory = PutsPrefix seat.seen old new × IsStopped most seat.seen old new

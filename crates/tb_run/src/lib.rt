@@ -1,4 +1,4 @@
-//! A run: the workers that share a bus, each between the bus and one end of the outside, and the parts of the run of all.
+//! A run: the workers that share a bus, each between the bus and one end of the outside, and the run of all of them.
 #![tactic(auto)]
 
 mod buffer;
@@ -24,6 +24,7 @@ mod writer;
 pub use ends::{LogEnd, RunWhy, WorkEnd};
 pub use lanes::{AnyInlet, AnyOutlet};
 pub use reader::read_lane;
+pub use running::run;
 pub use stepper::step_worker;
 pub use ticker::tick_worker;
 pub use writer::write_lane;

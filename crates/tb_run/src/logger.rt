@@ -20,9 +20,10 @@ use tb_write::{LogFault, LogWriter};
 /// How many entries are read in one turn.
 const MOST: usize = 1_000;
 
-/// The caller's own job: the log is read by a seat without rights, and written.
+/// The caller's own job: the log is read by a seat without rights, and written. The writer's type is a parameter, so that
+/// contracts see what is left behind `out` once the job is taken apart.
 #[derive(Drop)]
-pub struct LogJob<'a, W: Walker, O> {
+pub struct LogJob<'a, W: Walker, O, L> {
     pub shared: &'a Shared<W>,
     pub bells: &'a Bells,
     /// How many workers are still at work.
@@ -30,11 +31,11 @@ pub struct LogJob<'a, W: Walker, O> {
     pub alloc: Global,
     pub seat: Seat,
     pub out: &'a mut O,
-    pub writer: LogWriter,
+    pub writer: L,
     pub end: LogEnd,
 }
 
-impl<'a, W: Walker, O: Sink> Job for LogJob<'a, W, O> {
+impl<'a, W: Walker, O: Sink> Job for LogJob<'a, W, O, LogWriter> {
     ghost use Rattle.std.specs.Prelude.{◌≡◌, []};
     ghost use Rattle.tb_run.specs.Logging.{LogDone};
 

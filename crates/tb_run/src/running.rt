@@ -1,17 +1,125 @@
-//! What is left of the log once a bus is closed.
+//! The run of a bus: all its workers, and the log that is written meanwhile.
 ghost use Rattle.std.specs.Prelude.{◌≡◌, ◌≤◌, ◌+◌, ◌∷◌, [], map, drop, length, vec_len, vec_capacity, false, IfSome, OnOk, OnErr, IsErrOf};
 ghost use Rattle.std.specs.List.{All};
 ghost use Rattle.tb_edge.specs.Faults.{Rose};
 ghost use Rattle.tb_edge.specs.Sinks.{Writes, WritesPrefix};
 ghost use Rattle.tb_log.specs.LogText.{log_text_from};
 ghost use Rattle.tb_lock.specs.Seats.{first_seat};
+ghost use Rattle.tb_run.specs.Outcomes.{OutsideView, LaneView, Runs, views};
 ghost use Rattle.tb_run.specs.Running.{IsAfterRest, GoesToRest};
 
 use crate::ends::RunWhy;
+use crate::lanes::{AnyInlet, AnyOutlet};
 use crate::logger::put_piece;
-use tb_edge::Sink;
+use crate::moving::{pair_lanes, part_lanes};
+use crate::room::{Room, make_room};
+use crate::working::run_workers;
+use std::alloc::Global;
+use std::mem;
+use std::sync::Wait;
+use std::sync::atomic::AtomicU32;
+use std::thread::Threads;
+use tb_algebra::Walker;
+use tb_bells::Bells;
+use tb_core::{Core, a_full_log_is_at_its_limit};
+use tb_edge::{Clock, Crew, Inlet, LanePair, Outlet, Sink};
+use tb_lock::{Seat, Shared};
 use tb_log::Entry;
+use tb_terms::NoMemory;
 use tb_write::{LogFault, LogWriter};
+
+/// Runs a bus over the two ends of sixteen lanes, which it hands back.
+fn run_ends<
+    W: Walker + Send,
+    R: Threads + Wait + Sync,
+    C: Clock + Send,
+    P: Crew,
+    S: Sink,
+    I: Inlet + Send,
+    O: Outlet + Send,
+>(
+    rt: &R,
+    alloc: Global,
+    core: Core<W>,
+    inlets: &mut Vec<I>,
+    outlets: &mut Vec<O>,
+    clock: &mut C,
+    ticks: u64,
+    crew: &mut P,
+    out: &mut S,
+) -> (RunWhy, Core<W>)
+where
+    W::Plan: Send,
+    W::Taken: Send,
+    requires inlets { vec_len inlets.old ≡ 16 }
+    requires outlets { vec_len outlets.old ≡ 16 }
+    requires log { core.log ≡ [] }
+    requires running { core.stopped ≡ false }
+    ensures runs { Runs ticks
+        (record { lanes = views I.told O.told O.faults inlets.old.items outlets.old.items; clock = C.told clock.old; clock_faults = C.faults clock.old; crew_faults = P.faults crew.old; put = S.taken out.old; out_faults = S.faults out.old })
+        (record { lanes = views I.told O.told O.faults inlets.new.items outlets.new.items; clock = C.told clock.new; clock_faults = C.faults clock.new; crew_faults = P.faults crew.new; put = S.taken out.new; out_faults = S.faults out.new })
+        core.origin result.1 result.0 }
+    ensures inlets { vec_len inlets.new ≡ 16 }
+    ensures outlets { vec_len outlets.new ≡ 16 }
+{
+    let Ok(room) = make_room(alloc) else {
+        return (RunWhy::NoMemory, core);
+    };
+    match Shared::make(alloc, core) {
+        Ok((shared, seat)) => run_shared(
+            rt, alloc, shared, seat, inlets, outlets, room, clock, ticks, crew, out,
+        ),
+        Err(refused) => (RunWhy::NoMemory, refused.core),
+    }
+}
+
+/// Runs a bus that was made, closes it, and writes what is left of the log.
+fn run_shared<
+    W: Walker + Send,
+    R: Threads + Wait + Sync,
+    C: Clock + Send,
+    P: Crew,
+    S: Sink,
+    I: Inlet + Send,
+    O: Outlet + Send,
+>(
+    rt: &R,
+    alloc: Global,
+    shared: Shared<W>,
+    seat: Seat,
+    inlets: &mut Vec<I>,
+    outlets: &mut Vec<O>,
+    room: Room<I, O>,
+    clock: &mut C,
+    ticks: u64,
+    crew: &mut P,
+    out: &mut S,
+) -> (RunWhy, Core<W>)
+where
+    W::Plan: Send,
+    W::Taken: Send,
+    requires inlets { vec_len inlets.old ≡ 16 }
+    requires outlets { vec_len outlets.old ≡ 16 }
+    requires first { seat ≡ first_seat shared seat.origin }
+    ensures runs { Runs ticks
+        (record { lanes = views I.told O.told O.faults inlets.old.items outlets.old.items; clock = C.told clock.old; clock_faults = C.faults clock.old; crew_faults = P.faults crew.old; put = S.taken out.old; out_faults = S.faults out.old })
+        (record { lanes = views I.told O.told O.faults inlets.new.items outlets.new.items; clock = C.told clock.new; clock_faults = C.faults clock.new; crew_faults = P.faults crew.new; put = S.taken out.new; out_faults = S.faults out.new })
+        seat.origin result.1 result.0 }
+    ensures inlets { vec_len inlets.new ≡ 16 }
+    ensures outlets { vec_len outlets.new ≡ 16 }
+{
+    a_full_log_is_at_its_limit();
+    let bells = Bells::new();
+    let left = AtomicU32::new(34);
+    let mut seat = seat;
+    let (why, writer) = run_workers(
+        rt, alloc, &shared, &bells, &left, &mut seat, inlets, outlets, room, clock, ticks, crew,
+        out,
+    );
+    let core = shared.close(rt, seat);
+    let why = put_rest(core.log(), why, writer, out);
+    (why, core)
+}
 
 /// Writes what is left of a log, where nothing failed before.
 fn put_rest<S: Sink>(log: &[Entry], why: RunWhy, writer: LogWriter, out: &mut S) -> RunWhy
@@ -40,4 +148,75 @@ fn put_behind<S: Sink>(log: &[Entry], writer: LogWriter, out: &mut S) -> Result<
     let mut writer = writer;
     let written = writer.written() as usize;
     put_piece(&mut writer, &log[written..], out)
+}
+
+/// What a run over boxes takes memory for, beside the rest.
+#[derive(Drop)]
+struct Boxes {
+    lanes: Vec<LanePair>,
+    inlets: Vec<AnyInlet>,
+    outlets: Vec<AnyOutlet>,
+    ghost for_lanes: { (lanes.items ≡ []) × (16 ≤ vec_capacity lanes) },
+    ghost for_inlets: { (inlets.items ≡ []) × (16 ≤ vec_capacity inlets) },
+    ghost for_outlets: { (outlets.items ≡ []) × (16 ≤ vec_capacity outlets) },
+}
+
+fn make_boxes(alloc: Global) -> Result<Boxes, NoMemory> {
+    Ok(Boxes {
+        lanes: Vec::with_capacity(alloc, 16)?,
+        inlets: Vec::with_capacity(alloc, 16)?,
+        outlets: Vec::with_capacity(alloc, 16)?,
+    })
+}
+
+/// Runs a bus to its end: sixteen readers, sixteen writers, who makes steps and who hands in the ticks, `ticks` of them at
+/// most, each in a thread of its own, while this thread writes the log to `out`. A worker that finds the log full or no
+/// memory stops the bus, and so does this thread where the sink fails. The core comes back with all that was logged, and
+/// the lanes in their order.
+pub fn run<W: Walker + Send, R: Threads + Wait + Sync, C: Clock + Send, P: Crew, S: Sink>(
+    rt: &R,
+    alloc: Global,
+    core: Core<W>,
+    lanes: &mut Vec<LanePair>,
+    clock: &mut C,
+    ticks: u64,
+    crew: &mut P,
+    out: &mut S,
+) -> (RunWhy, Core<W>)
+where
+    W::Plan: Send,
+    W::Taken: Send,
+    requires lanes { vec_len lanes.old ≡ 16 }
+    requires log { core.log ≡ [] }
+    requires running { core.stopped ≡ false }
+    ensures runs { Runs ticks
+        (record { lanes = map (λ pair. record { gave = ⟦<Box<dyn Inlet + Send> as Inlet>⟧.told pair.inlet; took = ⟦<Box<dyn Outlet + Send> as Outlet>⟧.told pair.outlet; faults = ⟦<Box<dyn Outlet + Send> as Outlet>⟧.faults pair.outlet }) lanes.old.items; clock = C.told clock.old; clock_faults = C.faults clock.old; crew_faults = P.faults crew.old; put = S.taken out.old; out_faults = S.faults out.old })
+        (record { lanes = map (λ pair. record { gave = ⟦<Box<dyn Inlet + Send> as Inlet>⟧.told pair.inlet; took = ⟦<Box<dyn Outlet + Send> as Outlet>⟧.told pair.outlet; faults = ⟦<Box<dyn Outlet + Send> as Outlet>⟧.faults pair.outlet }) lanes.new.items; clock = C.told clock.new; clock_faults = C.faults clock.new; crew_faults = P.faults crew.new; put = S.taken out.new; out_faults = S.faults out.new })
+        core.origin result.1 result.0 }
+    ensures lanes { vec_len lanes.new ≡ 16 }
+{
+    let Ok(boxes) = make_boxes(alloc) else {
+        return (RunWhy::NoMemory, core);
+    };
+    let Boxes {
+        lanes: no_lanes,
+        inlets,
+        outlets,
+    } = boxes;
+    let mut inlets = inlets;
+    let mut outlets = outlets;
+    part_lanes(mem::replace(lanes, no_lanes), &mut inlets, &mut outlets);
+    let answer = run_ends(
+        rt,
+        alloc,
+        core,
+        &mut inlets,
+        &mut outlets,
+        clock,
+        ticks,
+        crew,
+        out,
+    );
+    pair_lanes(inlets, outlets, lanes);
+    answer
 }

@@ -1,32 +1,43 @@
-//! The parts of a run before its workers work beside each other, and after.
-ghost use Rattle.std.specs.Prelude.{◌≡◌, ◌≤◌, ◌+◌, [], ◌∷◌, map, length, vec_len, vec_capacity, None, Some, MatchOption, IfOk, IfErr};
+//! All workers beside each other, from the first seat of a bus until their seats are one again.
+ghost use Rattle.std.specs.Prelude.{◌≡◌, ◌≤◌, ◌++◌, [], ◌∷◌, List, map, length, vec_len, vec_capacity, None, Some, MatchOption, IfOk, IfErr, true, ◌+◌};
 ghost use Rattle.std.specs.List.{All};
-ghost use Rattle.tb_edge.specs.Jobs.{jobs_of};
-ghost use Rattle.tb_lock.specs.Rights.{no_rights};
+ghost use Rattle.tb_edge.specs.Faults.{Rose};
+ghost use Rattle.tb_edge.specs.Jobs.{AllDone, FailsOnly, jobs_of};
+ghost use Rattle.tb_lock.specs.Rights.{Ticks as ToTick, has, no_rights};
 ghost use Rattle.tb_lock.specs.Seats.{first_seat, handed_on, kept_of};
-ghost use Rattle.tb_run.specs.Jobs.{IsReady};
+ghost use Rattle.tb_run.specs.Jobs.{IsReady, WorkDone};
 ghost use Rattle.tb_run.specs.Joining.{JoinsAll};
+ghost use Rattle.tb_run.specs.Logging.{LogDone};
 ghost use Rattle.tb_run.specs.Moving.{works_of, inlets_of, outlets_of};
+ghost use Rattle.tb_run.specs.Outcomes.{OutsideView, views};
 ghost use Rattle.tb_run.specs.Parting.{left_after, parted};
 ghost use Rattle.tb_run.specs.Parts.{job_rights, to_tick};
 ghost use Rattle.tb_run.specs.Reasons.{reason_of};
-ghost use Rattle.tb_run.specs.Running.{why_by};
+ghost use Rattle.tb_run.specs.Running.{HasCome, FailsFor, why_by};
+ghost use Rattle.tb_run.specs.Workers.{TicksBus};
 
 use crate::buffer::Buffer;
 use crate::ending::reason_of;
 use crate::ends::{LogEnd, RunWhy, WorkEnd};
+use crate::logger::LogJob;
 use crate::moving::{end_all, works_of};
 use crate::parts::hand_out;
+use crate::room::Room;
 use crate::seats::join_all;
 use crate::starting::begin_all;
+use crate::tick_job::TickJob;
 use crate::worker::{Work, Worker};
 use std::alloc::Global;
 use std::mem;
+use std::sync::Wait;
 use std::sync::atomic::AtomicU32;
+use std::thread::Threads;
 use tb_algebra::Walker;
 use tb_bells::Bells;
-use tb_edge::{CrewFault, Inlet, Outlet};
-use tb_lock::{Seat, Shared};
+use tb_bus::a_bus_that_is_down_stays_down;
+use tb_edge::{Clock, Crew, CrewFault, Inlet, Outlet, Sink};
+use tb_lock::{Seat, Shared, joins_keep_their_own};
+use tb_write::LogWriter;
 
 /// The workers of a run, with their seats.
 #[derive(Drop)]
@@ -34,6 +45,93 @@ struct Team<'a, W: Walker, I, O> {
     workers: Vec<Worker<'a, W, I, O>>,
     tick_seat: Seat,
     log_seat: Seat,
+}
+
+/// The workers after their work, and what the two others came to. Where there was no crew, `failed` says why.
+#[derive(Drop)]
+struct Back<'a, W: Walker, I, O> {
+    failed: Option<RunWhy>,
+    workers: Vec<Worker<'a, W, I, O>>,
+    tick_seat: Seat,
+    tick_end: WorkEnd,
+    log_seat: Seat,
+    log_end: LogEnd,
+    writer: LogWriter,
+}
+
+/// Lets all work beside each other, and gives why they ended, and who has written the log.
+pub(crate) fn run_workers<
+    'a,
+    W: Walker + Send,
+    R: Threads + Wait + Sync,
+    C: Clock + Send,
+    P: Crew,
+    S: Sink,
+    I: Inlet + Send,
+    O: Outlet + Send,
+>(
+    rt: &R,
+    alloc: Global,
+    shared: &'a Shared<W>,
+    bells: &'a Bells,
+    left: &'a AtomicU32,
+    seat: &mut Seat,
+    inlets: &mut Vec<I>,
+    outlets: &mut Vec<O>,
+    room: Room<I, O>,
+    clock: &mut C,
+    ticks: u64,
+    crew: &mut P,
+    out: &mut S,
+) -> (RunWhy, LogWriter)
+where
+    W::Plan: Send,
+    W::Taken: Send,
+    requires inlets { vec_len inlets.old ≡ 16 }
+    requires outlets { vec_len outlets.old ≡ 16 }
+    requires first { seat.old ≡ first_seat shared.now seat.old.origin }
+    ensures come { HasCome ticks
+        (record { lanes = views I.told O.told O.faults inlets.old.items outlets.old.items; clock = C.told clock.old; clock_faults = C.faults clock.old; crew_faults = P.faults crew.old; put = S.taken out.old; out_faults = S.faults out.old })
+        (record { lanes = views I.told O.told O.faults inlets.new.items outlets.new.items; clock = C.told clock.new; clock_faults = C.faults clock.new; crew_faults = P.faults crew.new; put = S.taken out.new; out_faults = S.faults out.new })
+        seat.old seat.new result.1 result.0 }
+    ensures inlets { vec_len inlets.new ≡ 16 }
+    ensures outlets { vec_len outlets.new ≡ 16 }
+{
+    joins_keep_their_own();
+    a_bus_that_is_down_stays_down();
+    let Ok(workers) = Vec::with_capacity(alloc, 33) else {
+        return (RunWhy::NoMemory, LogWriter::new(alloc));
+    };
+    let Room {
+        works,
+        inlets: no_inlets,
+        outlets: no_outlets,
+        seats,
+        ended,
+        ends,
+        buffers,
+    } = room;
+    let mut ends = ends;
+    let team = begin(
+        alloc, shared, bells, left, seat, inlets, outlets, no_inlets, no_outlets, works, seats,
+        buffers, workers,
+    );
+    let back = work(
+        rt, alloc, shared, bells, left, team, clock, ticks, crew, out,
+    );
+    let Back {
+        failed,
+        workers,
+        tick_seat,
+        tick_end,
+        log_seat,
+        log_end,
+        writer,
+    } = back;
+    gather(
+        shared, seat, workers, tick_seat, log_seat, inlets, outlets, ended, &mut ends,
+    );
+    (why_of(failed, tick_end, ends.as_slice(), log_end), writer)
 }
 
 fn why_of(failed: Option<RunWhy>, tick_end: WorkEnd, ends: &[WorkEnd], log_end: LogEnd) -> RunWhy
@@ -101,6 +199,143 @@ fn begin<'a, W: Walker, I: Inlet, O: Outlet>(
         tick_seat,
         log_seat,
     }
+}
+
+/// Lets all work beside each other.
+fn work<
+    'a,
+    W: Walker + Send,
+    R: Threads + Wait + Sync,
+    C: Clock + Send,
+    P: Crew,
+    S: Sink,
+    I: Inlet + Send,
+    O: Outlet + Send,
+>(
+    rt: &R,
+    alloc: Global,
+    shared: &'a Shared<W>,
+    bells: &'a Bells,
+    left: &'a AtomicU32,
+    team: Team<'a, W, I, O>,
+    clock: &mut C,
+    ticks: u64,
+    crew: &mut P,
+    out: &mut S,
+) -> Back<'a, W, I, O>
+where
+    W::Plan: Send,
+    W::Taken: Send,
+    requires ready { All (λ it. IsReady it.shared.now it.seat it.work) team.workers.items }
+    requires tick { (team.tick_seat.bus ≡ shared.now) × (has team.tick_seat.rights ToTick ≡ true) }
+    requires log { team.log_seat.bus ≡ shared.now }
+    ensures worked { MatchOption result.failed
+        (AllDone (λ old new. WorkDone I.told O.told O.faults old.seat new.seat new.end old.work new.work) team.entry.workers.items result.workers.items
+        × TicksBus (λ count. count ≡ ticks) ticks team.entry.tick_seat result.tick_seat (C.told clock.old) (C.told clock.new) (C.faults clock.old) (C.faults clock.new) result.tick_end
+        × LogDone team.entry.log_seat result.log_seat result.writer (S.taken out.old) (S.taken out.new) (S.faults out.old) (S.faults out.new) result.log_end)
+        (λ why. FailsFor why (P.faults crew.old) (P.faults crew.new)
+        × (result.workers.items ≡ team.entry.workers.items) × (result.tick_seat ≡ team.entry.tick_seat) × (result.log_seat ≡ team.entry.log_seat)
+        × (C.told clock.new ≡ C.told clock.old) × (S.taken out.new ≡ S.taken out.old)) }
+{
+    let Team {
+        workers,
+        tick_seat,
+        log_seat,
+    } = team;
+    let mut ticker = TickJob {
+        shared,
+        bells,
+        left,
+        seat: tick_seat,
+        clock,
+        ticks,
+        end: WorkEnd::Over,
+    };
+    let mut logger = LogJob {
+        shared,
+        bells,
+        left,
+        alloc,
+        seat: log_seat,
+        out,
+        writer: LogWriter::new(alloc),
+        end: LogEnd::Over,
+    };
+    let (failed, workers) = taken_back(beside(rt, crew, workers, &mut ticker, &mut logger));
+    let (tick_seat, tick_end) = end_ticks(ticker);
+    let (log_seat, writer, log_end) = end_log(logger);
+    Back {
+        failed,
+        workers,
+        tick_seat,
+        tick_end,
+        log_seat,
+        log_end,
+        writer,
+    }
+}
+
+/// The crew does the jobs of all workers beside each other, that of the ticker and the log's among them. The two that were
+/// lent keep their clock and their sink.
+fn beside<
+    'a,
+    'b,
+    'c,
+    W: Walker + Send,
+    R: Threads + Wait + Sync,
+    C: Clock + Send,
+    P: Crew,
+    S: Sink,
+    I: Inlet + Send,
+    O: Outlet + Send,
+>(
+    rt: &R,
+    crew: &mut P,
+    workers: Vec<Worker<'a, W, I, O>>,
+    ticker: &mut TickJob<'b, W, C>,
+    logger: &mut LogJob<'c, W, S, LogWriter>,
+) -> Result<Vec<Worker<'a, W, I, O>>, CrewFault<Worker<'a, W, I, O>>>
+where
+    W::Plan: Send,
+    W::Taken: Send,
+    requires ready { All (λ it. IsReady it.shared.now it.seat it.work) workers.items }
+    requires tick { (ticker.old.seat.bus ≡ ticker.old.shared.now) × (has ticker.old.seat.rights ToTick ≡ true) }
+    requires log { (logger.old.seat.bus ≡ logger.old.shared.now) × (logger.old.writer ≡ record { written = 0; held = [] }) }
+    ensures clock { ticker.new.clock.ghost_name ≡ ticker.old.clock.ghost_name }
+    ensures out { logger.new.out.ghost_name ≡ logger.old.out.ghost_name }
+    ensures ok { IfOk result (λ all. AllDone (λ old new. WorkDone I.told O.told O.faults old.seat new.seat new.end old.work new.work) workers.entry.items all.items
+        × TicksBus (λ count. count ≡ ticker.old.ticks) ticker.old.ticks ticker.old.seat ticker.new.seat (C.told ticker.old.clock.now) (C.told ticker.new.clock.now) (C.faults ticker.old.clock.now) (C.faults ticker.new.clock.now) ticker.new.end
+        × LogDone logger.old.seat logger.new.seat logger.new.writer (S.taken logger.old.out.now) (S.taken logger.new.out.now) (S.faults logger.old.out.now) (S.faults logger.new.out.now) logger.new.end) }
+    ensures err { IfErr result (λ fault. (jobs_of fault ≡ workers.entry.items) × (ticker.new ≡ ticker.old) × (logger.new ≡ logger.old)) }
+    ensures rose { IfErr result (λ fault. FailsOnly fault (Rose (P.faults crew.old) (P.faults crew.new))) }
+{
+    crew.beside(rt, workers, ticker, logger)
+}
+
+/// The seat of the tick worker after its work, and why it ended. Its clock is left as it is.
+fn end_ticks<'b, W: Walker, C: Clock>(job: TickJob<'b, W, C>) -> (Seat, WorkEnd)
+    ensures seat { result.0 ≡ job.entry.seat }
+    ensures end { result.1 ≡ job.entry.end }
+    ensures clock { job.exit.1.1.1.1.0.now ≡ job.entry.clock.now }
+{
+    let TickJob { seat, end, .. } = job;
+    (seat, end)
+}
+
+/// The seat of who has written the log, with the writer, and why it ended. Its sink is left as it is.
+fn end_log<'b, W: Walker, S: Sink, L: Drop>(job: LogJob<'b, W, S, L>) -> (Seat, L, LogEnd)
+    ensures seat { result.0 ≡ job.entry.seat }
+    ensures writer { result.1 ≡ job.entry.writer }
+    ensures end { result.2 ≡ job.entry.end }
+    ensures out { job.exit.1.1.1.1.1.0.now ≡ job.entry.out.now }
+{
+    let LogJob {
+        seat,
+        writer,
+        end,
+        ..
+    } = job;
+    (seat, writer, end)
 }
 
 /// Takes the workers back, and why there was no crew, where there was none.

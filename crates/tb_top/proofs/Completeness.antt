@@ -28,7 +28,7 @@ use Rattle.tb_top.specs.Reporting.{Reported, Reports}
 use Rattle.tb_top.specs.Sim.{IsFed, IsFeedRefused, IsSimOf, Request, SimOutcome, origin_for}
 use Rattle.tb_top.specs.Views.{Seen}
 use Rattle.tb_top.specs.declared.fault.Fault.{Fault}
-use Rattle.tb_top.specs.declared.fault.Fault.TheVariants.{Script, Feed, Words, File, Out, Limit, NoMemory}
+use Rattle.tb_top.specs.declared.fault.Fault.TheVariants.{Script, Feed, Words, File, Out, Clock, Crew, Limit, NoMemory}
 use Rattle.tb_top.specs.declared.status.Status.{Status}
 use Rattle.tb_top.specs.declared.status.Status.TheVariants as status
 use Rattle.tb_top.specs.declared.status.Edge.TheVariants as edge
@@ -82,6 +82,8 @@ check-well bytes program old new (Err Out) few found file out h = absurd (out re
 check-well bytes program old new (Err (Script fault)) few found file out h = absurd (not-unloaded bytes program fault few found h.0)
 check-well bytes program old new (Err (Feed fault)) few found file out h = absurd h
 check-well bytes program old new (Err (Words fault)) few found file out h = absurd h
+check-well bytes program old new (Err Clock) few found file out h = absurd h
+check-well bytes program old new (Err Crew) few found file out h = absurd h
 check-well bytes program old new (Err (Limit bound)) few found file out h = absurd h
 
 -- a fault of a feed that reads
@@ -130,6 +132,8 @@ sim-well held request old new (Err (Script fault)) must file out h =
     absurd (not-unloaded must.bytes must.program fault must.few must.found (subst (λ (told : Option (List ℕ)). IsUnloaded told (Script fault)) must.told h.0))
 sim-well held request old new (Err (Feed fault)) must file out h = absurd (not-unread held request.feed must.inputs fault must.reads h.1)
 sim-well held request old new (Err (Words fault)) must file out h = absurd h
+sim-well held request old new (Err Clock) must file out h = absurd h
+sim-well held request old new (Err Crew) must file out h = absurd h
 sim-well held request old new (Err (Limit bound.Steps)) must file out (log, is, put) = let e : sim.Steps ≡ sim.Down = ends-down held request log sim.Steps must is in cc
 sim-well held request old new (Err (Limit bound.Events)) must file out (log, is, put) = let e : sim.Events ≡ sim.Down = ends-down held request log sim.Events must is in cc
 
@@ -140,6 +144,8 @@ reported-well (Err NoMemory) old new it well err (inl h) = inr h.0
 reported-well (Err NoMemory) old new it well err (inr h) = absurd (err h.0)
 reported-well (Err File) old new it well err h = absurd well
 reported-well (Err Out) old new it well err h = absurd well
+reported-well (Err Clock) old new it well err h = absurd well
+reported-well (Err Crew) old new it well err h = absurd well
 reported-well (Err (Script fault)) old new it well err h = absurd well
 reported-well (Err (Feed fault)) old new it well err h = absurd well
 reported-well (Err (Words fault)) old new it well err h = absurd well
@@ -149,22 +155,22 @@ reported-well (Err (Limit bound)) old new it well err h = absurd well
 file-stays : {A : Type 0} (old new : Seen) (answer : Result A Fault) → (Rose old.file_faults new.file_faults → ⊥) → IsCaused old new answer → answer ≡ Err File → ⊥
 file-stays {A} old new answer stays caused e = stays (subst (λ (it : Result A Fault). IsCaused old new it) e caused)
 
-out-stays : {A : Type 0} (old new : Seen) (answer : Result A Fault) → (Rose old.out_faults new.out_faults → ⊥) → IsCaused old new answer → answer ≡ Err Out → ⊥
+out-stays : {A : Type 0} (old new : Seen) (answer : Result A Fault) → (Rose old.outside.out_faults new.outside.out_faults → ⊥) → IsCaused old new answer → answer ≡ Err Out → ⊥
 out-stays {A} old new answer stays caused e = stays (subst (λ (it : Result A Fault). IsCaused old new it) e caused)
 
 pub check-completes : (A : Type 0) (script bytes : List ℕ) (program : Program) (old new : Seen) (told more : Option (List ℕ)) (it : Status) →
-    old.held script ≡ Some bytes → length bytes ≤ most_bytes → IsFound bytes (Program' program) → (Rose old.file_faults new.file_faults → ⊥) → (Rose old.out_faults new.out_faults → ⊥) → (it ≡ status.Outside edge.Err → ⊥) →
+    old.held script ≡ Some bytes → length bytes ≤ most_bytes → IsFound bytes (Program' program) → (Rose old.file_faults new.file_faults → ⊥) → (Rose old.outside.out_faults new.outside.out_faults → ⊥) → (it ≡ status.Outside edge.Err → ⊥) →
     Reported {A = A} (Comes (Ok (command.Check script)) old new) told more it → (it ≡ status.Ended) ⊎ (it ≡ status.NoMemory)
 check-completes A script bytes program old new told more it holds few found file out err (answer, comes, reports) =
     reported-well answer told more it
-    (check-well bytes program old.put new.put answer few found (file-stays old new answer file comes.caused) (out-stays old new answer out comes.caused)
-    (subst (λ (held : Option (List ℕ)). CheckOutcome held old.put new.put answer) holds comes.outcome))
+    (check-well bytes program old.outside.put new.outside.put answer few found (file-stays old new answer file comes.caused) (out-stays old new answer out comes.caused)
+    (subst (λ (held : Option (List ℕ)). CheckOutcome held old.outside.put new.outside.put answer) holds comes.outcome.0))
     err reports
 
 pub sim-completes : (A : Type 0) (request : Request) (old new : Seen) (told more : Option (List ℕ)) (it : Status) →
-    MustEnd old.held request → (Rose old.file_faults new.file_faults → ⊥) → (Rose old.out_faults new.out_faults → ⊥) → (it ≡ status.Outside edge.Err → ⊥) →
+    MustEnd old.held request → (Rose old.file_faults new.file_faults → ⊥) → (Rose old.outside.out_faults new.outside.out_faults → ⊥) → (it ≡ status.Outside edge.Err → ⊥) →
     Reported {A = A} (Comes (Ok (command.Sim request.script request.feed request.connects request.steps request.events)) old new) told more it → (it ≡ status.Ended) ⊎ (it ≡ status.NoMemory)
 sim-completes A request old new told more it must file out err (answer, comes, reports) =
     reported-well answer told more it
-    (sim-well old.held request old.put new.put answer must (file-stays old new answer file comes.caused) (out-stays old new answer out comes.caused) comes.outcome)
+    (sim-well old.held request old.outside.put new.outside.put answer must (file-stays old new answer file comes.caused) (out-stays old new answer out comes.caused) comes.outcome.0)
     err reports

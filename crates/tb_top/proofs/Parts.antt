@@ -19,13 +19,23 @@ use Rattle.tb_cli.specs.declared.command.Command.TheVariants as command
 use Rattle.tb_cli.specs.declared.fault.WordFault.{WordFault}
 use Rattle.tb_top.specs.Loading.{HasProgram, IsAccepted, IsRefused}
 use Rattle.tb_top.specs.Outcomes.{CommandOutcome}
-use Rattle.tb_top.specs.Views.{Seen}
+use Rattle.tb_core.specs.Cores.{CoreState}
+use Rattle.tb_edge.specs.Faults.{Rose}
+use Rattle.tb_run.specs.Outcomes.{OutsideView, RunOutcome, Runs}
+use Rattle.tb_run.specs.declared.ends.RunWhy.{RunWhy}
+use Rattle.tb_run.specs.declared.ends.RunWhy.TheVariants as why
+use Rattle.tb_top.specs.Run.{IsRun, LiveOutcome, RunRequest}
+use Rattle.tb_top.specs.Views.{IsLeft, Seen}
 use Rattle.tb_top.specs.Ring.{IsRingOf, RingOutcome, most_of_ring, ring_origin, summary}
 use Rattle.tb_top.specs.Sim.{IsFed, IsSimOf, Request, SimOutcome}
-use Rattle.tb_top.specs.Helpers.Parts.{AsksFor, AsksForFeed, IsBehindScript, IsRefusedBy, IsRingSimulated, IsSimulated, IsUnread, PutsText, PutsWhole}
+use Rattle.tb_top.specs.Helpers.Parts.{AsksFor, AsksForFeed, EndsRun, IsBehindScript, IsLive, IsRefusedBy, IsRingSimulated, IsSimulated, IsUnread, PutsText, PutsWhole}
 use Rattle.tb_top.specs.declared.fault.Fault.{Fault}
-use Rattle.tb_top.specs.declared.fault.Fault.TheVariants.{Script, Feed, Words, File, Out, Limit, NoMemory}
+use Rattle.tb_top.specs.declared.fault.Fault.TheVariants.{Script, Feed, Words, File, Out, Clock, Crew, Limit, NoMemory}
 use Rattle.tb_top.specs.declared.status.Bound.TheVariants as bound
+
+-- what isn't touched
+left : (it : OutsideView) → IsLeft it it
+left it = record { lanes = refl; clock = refl; clock_faults = refl; crew_faults = refl }
 
 -- the simulation of an origin's program with these inputs, as a file says them
 abbrev request_of : List ℕ → Option (List ℕ) → ℕ → Origin → Request
@@ -54,6 +64,8 @@ log-written steps origin inputs log last old new (Err (Script fault)) is trace p
 log-written steps origin inputs log last old new (Err (Feed fault)) is trace put held script name fed has = absurd put.0
 log-written steps origin inputs log last old new (Err (Words fault)) is trace put held script name fed has = absurd put.0
 log-written steps origin inputs log last old new (Err File) is trace put held script name fed has = absurd put.0
+log-written steps origin inputs log last old new (Err Clock) is trace put held script name fed has = absurd put.0
+log-written steps origin inputs log last old new (Err Crew) is trace put held script name fed has = absurd put.0
 
 -- a feed that isn't read ends the work on a program
 pub unread : (A : Type 0) (held : List ℕ → Option (List ℕ)) (request : Request) (program : Program) (told : Option (List ℕ)) (fault : Fault) →
@@ -62,6 +74,8 @@ unread A held request program told (Feed fault) h has = ((program, has), h, refl
 unread A held request program told File h has = refl
 unread A held request program told NoMemory h has = inl refl
 unread A held request program told Out h has = absurd h
+unread A held request program told Clock h has = absurd h
+unread A held request program told Crew h has = absurd h
 unread A held request program told (Script fault) h has = absurd h
 unread A held request program told (Words fault) h has = absurd h
 unread A held request program told (Limit bound) h has = absurd h
@@ -77,6 +91,8 @@ ring-put n k log last old new (Err (Script fault)) is put = absurd put.0
 ring-put n k log last old new (Err (Feed fault)) is put = absurd put.0
 ring-put n k log last old new (Err (Words fault)) is put = absurd put.0
 ring-put n k log last old new (Err File) is put = absurd put.0
+ring-put n k log last old new (Err Clock) is put = absurd put.0
+ring-put n k log last old new (Err Crew) is put = absurd put.0
 
 ring-of : (n k : ℕ) (origin : Origin) (log : List Entry) (last : SimEnd) → IsFound (ring_text n k) (Program' origin.program) →
     origin ≡ ring_origin origin.program → IsSim (limits_of most_of_ring origin) (sim_start (start origin) []) log last → IsTrace (start origin) log → IsRingOf n k log last
@@ -107,6 +123,8 @@ asks-feed told script feed old mid new (Err (Feed fault)) accepted e behind asks
 asks-feed told script feed old mid new (Err (Words fault)) accepted e behind asks = then-feed told script (option_to_list feed) old mid new accepted e asks
 asks-feed told script feed old mid new (Err File) accepted e behind asks = inr (then-feed told script (option_to_list feed) old mid new accepted e asks)
 asks-feed told script feed old mid new (Err Out) accepted e behind asks = then-feed told script (option_to_list feed) old mid new accepted e asks
+asks-feed told script feed old mid new (Err Clock) accepted e behind asks = then-feed told script (option_to_list feed) old mid new accepted e asks
+asks-feed told script feed old mid new (Err Crew) accepted e behind asks = then-feed told script (option_to_list feed) old mid new accepted e asks
 asks-feed told script feed old mid new (Err (Limit bound)) accepted e behind asks = then-feed told script (option_to_list feed) old mid new accepted e asks
 asks-feed told script feed old mid new (Err NoMemory) accepted e behind (inl h) = inr (inl (h ∙ e))
 asks-feed told script feed old mid new (Err NoMemory) accepted e behind (inr h) = inr (inr (then-feed told script (option_to_list feed) old mid new accepted e h))
@@ -120,6 +138,8 @@ asks-alone told script old new (Err (Feed fault)) accepted e behind = (accepted,
 asks-alone told script old new (Err (Words fault)) accepted e behind = (accepted, e)
 asks-alone told script old new (Err File) accepted e behind = inr (accepted, e)
 asks-alone told script old new (Err Out) accepted e behind = (accepted, e)
+asks-alone told script old new (Err Clock) accepted e behind = (accepted, e)
+asks-alone told script old new (Err Crew) accepted e behind = (accepted, e)
 asks-alone told script old new (Err (Limit bound)) accepted e behind = (accepted, e)
 asks-alone told script old new (Err NoMemory) accepted e behind = inr (inr (accepted, e))
 
@@ -142,6 +162,8 @@ asks-some-of told script others old new (Err (Words fault)) h = asks-all told sc
 asks-some-of told script others old new (Err File) (inl h) = asks-one script others old new h
 asks-some-of told script others old new (Err File) (inr h) = asks-all told script others old new h
 asks-some-of told script others old new (Err Out) h = asks-all told script others old new h
+asks-some-of told script others old new (Err Clock) h = asks-all told script others old new h
+asks-some-of told script others old new (Err Crew) h = asks-all told script others old new h
 asks-some-of told script others old new (Err (Limit bound)) h = asks-all told script others old new h
 asks-some-of told script others old new (Err NoMemory) (inl h) = asks-none (script ∷ others) old new h
 asks-some-of told script others old new (Err NoMemory) (inr (inl h)) = asks-one script others old new h
@@ -159,12 +181,52 @@ ring-refused A n k bytes told (Feed fault) e h = absurd h
 ring-refused A n k bytes told (Words fault) e h = absurd h
 ring-refused A n k bytes told File e h = absurd h
 ring-refused A n k bytes told Out e h = absurd h
+ring-refused A n k bytes told Clock e h = absurd h
+ring-refused A n k bytes told Crew e h = absurd h
 ring-refused A n k bytes told (Limit bound) e h = absurd h
 
 -- memory ran out before anything was done
-pub not-begun : (A : Type 0) (asked : Result Command WordFault) (old new : Seen) → IsOk asked → new.put ≡ old.put → CommandOutcome {A = A} asked old new (Err NoMemory)
-not-begun A (Err fault) old new ok e = let h : ◌≡◌ {A = Bool} false true = ok in let no : ⊥ = cc in absurd no
-not-begun A (Ok (command.Check script)) old new ok e = e
-not-begun A (Ok (command.Sim script feed connects steps events)) old new ok e = inl e
-not-begun A (Ok (command.Ring n k)) old new ok e = e
-not-begun A (Ok (command.Run script connects ticks events)) old new ok e = (inr refl, e)
+pub not-begun : (A : Type 0) (asked : Result Command WordFault) (old : Seen) → IsOk asked → CommandOutcome {A = A} asked old old (Err NoMemory)
+not-begun A (Err fault) old ok = let h : ◌≡◌ {A = Bool} false true = ok in let no : ⊥ = cc in absurd no
+not-begun A (Ok (command.Check script)) old ok = (refl, left old.outside)
+not-begun A (Ok (command.Sim script feed connects steps events)) old ok = (inl refl, left old.outside)
+not-begun A (Ok (command.Ring n k)) old ok = (refl, left old.outside)
+not-begun A (Ok (command.Run script connects ticks events)) old ok = inl (refl, left old.outside)
+
+-- a run that ended so
+abbrev run_request : List ℕ → ℕ → Origin → RunRequest
+run_request script ticks origin = record { script = script; connects = origin.connects; ticks = ticks; events = origin.limit }
+
+is-run : (held : List ℕ → Option (List ℕ)) (script : List ℕ) (ticks : ℕ) (origin : Origin) (old new : OutsideView) (back : CoreState) (it other : RunWhy) → Runs ticks old new origin back it → it ≡ other → HasProgram (held script) origin.program →
+    IsRun held (run_request script ticks origin) old new other
+is-run held script ticks origin old new back it other runs e has =
+    record { program = origin.program; has = has; back = back; runs = subst (λ (w : RunWhy). Runs ticks old new origin back w) e runs }
+
+pub run-ended : {A : Type 0} (ticks : ℕ) (origin : Origin) (old new : OutsideView) (back : CoreState) (it : RunWhy) (answer : Result A Fault) → Runs ticks old new origin back it → EndsRun it answer → IsLive ticks origin old new answer
+run-ended ticks origin old new back it (Ok done) runs e held script has = is-run held script ticks origin old new back it why.Ended runs e has
+run-ended ticks origin old new back it (Err Clock) runs e held script has = is-run held script ticks origin old new back it why.Clock runs e has
+run-ended ticks origin old new back it (Err Crew) runs e held script has = is-run held script ticks origin old new back it why.Crew runs e has
+run-ended ticks origin old new back it (Err Out) runs e held script has = is-run held script ticks origin old new back it why.Out runs e has
+run-ended ticks origin old new back it (Err (Limit bound.Events)) runs e held script has = is-run held script ticks origin old new back it why.Events runs e has
+run-ended ticks origin old new back it (Err NoMemory) runs e held script has = inr (is-run held script ticks origin old new back it why.NoMemory runs e has)
+run-ended ticks origin old new back it (Err (Limit bound.Steps)) runs e held script has = absurd e
+run-ended ticks origin old new back it (Err (Script fault)) runs e held script has = absurd e
+run-ended ticks origin old new back it (Err (Feed fault)) runs e held script has = absurd e
+run-ended ticks origin old new back it (Err (Words fault)) runs e held script has = absurd e
+run-ended ticks origin old new back it (Err File) runs e held script has = absurd e
+
+-- what rose where a thing of the outside is named
+pub out-rose : {A : Type 0} (ticks : ℕ) (origin : Origin) (old new : OutsideView) (back : CoreState) (it : RunWhy) (answer : Result A Fault) → Runs ticks old new origin back it → EndsRun it answer → answer ≡ Err Out → Rose old.out_faults new.out_faults
+out-rose {A} ticks origin old new back it answer runs e named =
+    let ended : it ≡ why.Out = subst (λ (a : Result A Fault). EndsRun it a) named e in
+    (subst (λ (w : RunWhy). RunOutcome ticks old new back w) ended runs.outcome).3
+
+pub clock-rose : {A : Type 0} (ticks : ℕ) (origin : Origin) (old new : OutsideView) (back : CoreState) (it : RunWhy) (answer : Result A Fault) → Runs ticks old new origin back it → EndsRun it answer → answer ≡ Err Clock → Rose old.clock_faults new.clock_faults
+clock-rose {A} ticks origin old new back it answer runs e named =
+    let ended : it ≡ why.Clock = subst (λ (a : Result A Fault). EndsRun it a) named e in
+    (subst (λ (w : RunWhy). RunOutcome ticks old new back w) ended runs.outcome).4
+
+pub crew-rose : {A : Type 0} (ticks : ℕ) (origin : Origin) (old new : OutsideView) (back : CoreState) (it : RunWhy) (answer : Result A Fault) → Runs ticks old new origin back it → EndsRun it answer → answer ≡ Err Crew → Rose old.crew_faults new.crew_faults
+crew-rose {A} ticks origin old new back it answer runs e named =
+    let ended : it ≡ why.Crew = subst (λ (a : Result A Fault). EndsRun it a) named e in
+    (subst (λ (w : RunWhy). RunOutcome ticks old new back w) ended runs.outcome).4

@@ -3,10 +3,12 @@ use Rattle.std.specs.Prelude.{Result, Ok, Err}
 use Rattle.tb_edge.specs.Faults.{Rose}
 use Rattle.tb_top.specs.Views.{Seen}
 use Rattle.tb_top.specs.declared.fault.Fault.{Fault}
-use Rattle.tb_top.specs.declared.fault.Fault.TheVariants.{File, Out}
+use Rattle.tb_top.specs.declared.fault.Fault.TheVariants.{File, Out, Clock, Crew}
 
 -- A thing of the outside is named only where its count of faults rose in the call.
 abbrev pub IsCaused : {A : Type 0} → Seen → Seen → Result A Fault → Type 0
 IsCaused old new (Err File) = Rose old.file_faults new.file_faults
-IsCaused old new (Err Out) = Rose old.out_faults new.out_faults
+IsCaused old new (Err Out) = Rose old.outside.out_faults new.outside.out_faults
+IsCaused old new (Err Clock) = Rose old.outside.clock_faults new.outside.clock_faults
+IsCaused old new (Err Crew) = Rose old.outside.crew_faults new.outside.crew_faults
 IsCaused old new _ = Unit {0}

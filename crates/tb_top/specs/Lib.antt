@@ -8,6 +8,7 @@ pub mod Loading
 pub mod Outcomes
 pub mod Reporting
 pub mod Ring
+pub mod Run
 pub mod Sim
 pub mod Statuses
 pub mod Views

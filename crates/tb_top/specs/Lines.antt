@@ -4,7 +4,7 @@ use Rattle.tb_script.specs.Lines.{script_line}
 use Rattle.tb_feed.specs.Lines.{feed_line}
 use Rattle.tb_cli.specs.Lines.{word_line}
 use Rattle.tb_top.specs.declared.fault.Fault.{Fault}
-use Rattle.tb_top.specs.declared.fault.Fault.TheVariants.{Script, Feed, Words, File, Out, Limit, NoMemory}
+use Rattle.tb_top.specs.declared.fault.Fault.TheVariants.{Script, Feed, Words, File, Out, Clock, Crew, Limit, NoMemory}
 use Rattle.tb_top.specs.declared.status.Bound.{Bound}
 use Rattle.tb_top.specs.declared.status.Bound.TheVariants as bound
 
@@ -18,6 +18,8 @@ fault_words (Feed fault) = feed_line fault
 fault_words (Words fault) = word_line fault
 fault_words File = codes "outside: file"
 fault_words Out = codes "outside: out"
+fault_words Clock = codes "outside: clock"
+fault_words Crew = codes "outside: crew"
 fault_words (Limit bound) = bound_words bound
 fault_words NoMemory = codes "no memory"
 

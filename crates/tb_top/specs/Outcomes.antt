@@ -1,5 +1,5 @@
 -- How a call of the program ends, by what its words ask for: what was put, and which files were asked for.
-use Rattle.std.specs.Prelude.{◌≡◌, ◌≢◌, ◌⊎◌, ℕ, List, [], ◌∷◌, Option, option_to_list, Result, Ok, Err}
+use Rattle.std.specs.Prelude.{◌≡◌, ◌≢◌, ℕ, List, [], ◌∷◌, Option, option_to_list, Result, Ok, Err}
 use Rattle.tb_cli.specs.declared.command.Command.{Command}
 use Rattle.tb_cli.specs.declared.command.Command.TheVariants as command
 use Rattle.tb_cli.specs.declared.fault.WordFault.{WordFault}
@@ -8,20 +8,21 @@ use Rattle.tb_top.specs.Asking.{Asks}
 use Rattle.tb_top.specs.Causes.{IsCaused}
 use Rattle.tb_top.specs.Check.{CheckOutcome}
 use Rattle.tb_top.specs.Ring.{RingOutcome}
+use Rattle.tb_top.specs.Run.{IsUntouched, LiveOutcome}
 use Rattle.tb_top.specs.Sim.{Request, SimOutcome}
-use Rattle.tb_top.specs.Views.{Seen}
+use Rattle.tb_top.specs.Views.{IsLeft, Seen}
 use Rattle.tb_top.specs.declared.fault.Fault.{Fault}
-use Rattle.tb_top.specs.declared.fault.Fault.TheVariants.{Words, NoMemory}
+use Rattle.tb_top.specs.declared.fault.Fault.TheVariants.{Words}
 
 -- by what the words ask for, or which fault they have
 abbrev pub CommandOutcome : {A : Type 0} → Result Command WordFault → Seen → Seen → Result A Fault → Type 0
-CommandOutcome (Err fault) old new answer = (answer ≡ Err (Words fault)) × (fault ≢ word.NoMemory) × (new.put ≡ old.put)
-CommandOutcome (Ok (command.Check script)) old new answer = CheckOutcome (old.held script) old.put new.put answer
+CommandOutcome (Err fault) old new answer = (answer ≡ Err (Words fault)) × (fault ≢ word.NoMemory) × IsUntouched old.outside new.outside
+CommandOutcome (Ok (command.Check script)) old new answer = CheckOutcome (old.held script) old.outside.put new.outside.put answer × IsLeft old.outside new.outside
 CommandOutcome (Ok (command.Sim script feed connects steps events)) old new answer =
-    SimOutcome old.held (record { script = script; feed = feed; connects = connects; steps = steps; events = events }) old.put new.put answer
-CommandOutcome (Ok (command.Ring n k)) old new answer = RingOutcome n k old.put new.put answer
--- it isn't built
-CommandOutcome (Ok (command.Run script connects ticks events)) old new answer = ((answer ≡ Err (Words (word.NotBuilt 1))) ⊎ (answer ≡ Err NoMemory)) × (new.put ≡ old.put)
+    SimOutcome old.held (record { script = script; feed = feed; connects = connects; steps = steps; events = events }) old.outside.put new.outside.put answer × IsLeft old.outside new.outside
+CommandOutcome (Ok (command.Ring n k)) old new answer = RingOutcome n k old.outside.put new.outside.put answer × IsLeft old.outside new.outside
+CommandOutcome (Ok (command.Run script connects ticks events)) old new answer =
+    LiveOutcome old.held (record { script = script; connects = connects; ticks = ticks; events = events }) old.outside new.outside answer
 
 -- the names of the files that are asked for, in order
 abbrev pub files_of : Result Command WordFault → List (List ℕ)
@@ -29,7 +30,7 @@ files_of (Err fault) = []
 files_of (Ok (command.Check script)) = script ∷ []
 files_of (Ok (command.Sim script feed connects steps events)) = script ∷ option_to_list feed
 files_of (Ok (command.Ring n k)) = []
-files_of (Ok (command.Run script connects ticks events)) = []
+files_of (Ok (command.Run script connects ticks events)) = script ∷ []
 
 -- An answer may come: by what was put, by the counts of faults, and by the names that were asked for.
 pub record Comes {A : Type 0} (asked : Result Command WordFault) (old new : Seen) (answer : Result A Fault) : Type 0 where

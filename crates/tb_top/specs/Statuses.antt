@@ -4,7 +4,7 @@ use Rattle.tb_top.specs.declared.status.Status.{Status}
 use Rattle.tb_top.specs.declared.status.Status.TheVariants as status
 use Rattle.tb_top.specs.declared.status.Edge.TheVariants as edge
 use Rattle.tb_top.specs.declared.fault.Fault.{Fault}
-use Rattle.tb_top.specs.declared.fault.Fault.TheVariants.{Script, Feed, Words, File, Out, Limit, NoMemory}
+use Rattle.tb_top.specs.declared.fault.Fault.TheVariants.{Script, Feed, Words, File, Out, Clock, Crew, Limit, NoMemory}
 
 abbrev pub status_of : Fault → Status
 status_of (Script fault) = status.Script fault
@@ -12,6 +12,8 @@ status_of (Feed fault) = status.Feed fault
 status_of (Words fault) = status.Words fault
 status_of File = status.Outside edge.File
 status_of Out = status.Outside edge.Out
+status_of Clock = status.Outside edge.Clock
+status_of Crew = status.Outside edge.Crew
 status_of (Limit bound) = status.Limit bound
 status_of NoMemory = status.NoMemory
 

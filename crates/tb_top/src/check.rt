@@ -21,6 +21,7 @@ pub fn check<F: Files, O: Sink>(
     ensures outcome { CheckOutcome (F.held files.old script.now) (O.taken out.old) (O.taken out.new) result }
     ensures asks { AsksBeside (F.held files.old script.now) script.now [] (F.asked files.old) (F.asked files.new) result }
     ensures file_rose { result ≡ Err Fault.File → Rose (F.faults files.old) (F.faults files.new) }
+    ensures inside { IfErr result IsInside }
     ensures out_rose { result ≡ Err Fault.Out → Rose (O.faults out.old) (O.faults out.new) }
 {
     match load_script(alloc, script, files) {

@@ -23,6 +23,10 @@ pub enum Fault {
     File,
     /// What was to be put could not be written.
     Out,
+    /// The clock failed; all else went on to its end.
+    Clock,
+    /// There are too few threads.
+    Crew,
     Limit(Bound),
     NoMemory,
 }
@@ -43,6 +47,8 @@ impl Fault {
             Fault::Words(fault) => Status::Words(fault),
             Fault::File => Status::Outside(Edge::File),
             Fault::Out => Status::Outside(Edge::Out),
+            Fault::Clock => Status::Outside(Edge::Clock),
+            Fault::Crew => Status::Outside(Edge::Crew),
             Fault::Limit(bound) => Status::Limit(bound),
             Fault::NoMemory => Status::NoMemory,
         }
@@ -58,6 +64,8 @@ impl Fault {
             Fault::Words(fault) => fault.line(),
             Fault::File => Line::plain(b"outside: file"),
             Fault::Out => Line::plain(b"outside: out"),
+            Fault::Clock => Line::plain(b"outside: clock"),
+            Fault::Crew => Line::plain(b"outside: crew"),
             Fault::Limit(bound) => bound_line(*bound),
             Fault::NoMemory => Line::plain(b"no memory"),
         }

@@ -16,14 +16,14 @@ use crate::status::{Edge, Status};
 pub fn an_accepted_script_is_told()
     ensures { (script bytes : List ℕ) (program : Program) (old new : Seen) (told more : Option (List ℕ)) (status : Status) →
         old.held script ≡ Some bytes → length bytes ≤ most_bytes → IsFound bytes (Program' program) →
-        (Rose old.file_faults new.file_faults → ⊥) → (Rose old.out_faults new.out_faults → ⊥) → (status ≡ Status.Outside Edge.Err → ⊥) →
+        (Rose old.file_faults new.file_faults → ⊥) → (Rose old.outside.out_faults new.outside.out_faults → ⊥) → (status ≡ Status.Outside Edge.Err → ⊥) →
         Reported {A = Unit {0}} (Comes (Ok (Check script)) old new) told more status → (status ≡ Status.Ended) ⊎ (status ≡ Status.NoMemory) }
 {}
 
 /// The same of `sim`, where the simulation ends with the bus down.
 pub fn a_simulation_that_ends_is_put()
     ensures { (request : Request) (old new : Seen) (told more : Option (List ℕ)) (status : Status) → MustEnd old.held request →
-        (Rose old.file_faults new.file_faults → ⊥) → (Rose old.out_faults new.out_faults → ⊥) → (status ≡ Status.Outside Edge.Err → ⊥) →
+        (Rose old.file_faults new.file_faults → ⊥) → (Rose old.outside.out_faults new.outside.out_faults → ⊥) → (status ≡ Status.Outside Edge.Err → ⊥) →
         Reported {A = Unit {0}} (Comes (Ok (Sim request.script request.feed request.connects request.steps request.events)) old new) told more status →
         (status ≡ Status.Ended) ⊎ (status ≡ Status.NoMemory) }
 {}

@@ -7,6 +7,7 @@ mod laws;
 mod loading;
 mod report;
 mod ring;
+mod run;
 mod sim;
 mod status;
 mod top;

@@ -33,6 +33,7 @@ pub fn ring<O: Sink>(alloc: Global, n: u32, k: u32, out: &mut O) -> Result<(), F
     requires once { 1 ≤ k }
     requires product { n * k ≤ 1000000 }
     ensures outcome { RingOutcome n k (O.taken out.old) (O.taken out.new) result }
+    ensures inside { IfErr result IsInside }
     ensures out_rose { result ≡ Err Fault.Out → Rose (O.faults out.old) (O.faults out.new) }
 {
     let Ok(script) = ring_script(alloc, n, k) else {
@@ -48,6 +49,7 @@ pub fn ring<O: Sink>(alloc: Global, n: u32, k: u32, out: &mut O) -> Result<(), F
 fn ring_program<O: Sink>(alloc: Global, program: Program, n: u32, out: &mut O) -> Result<(), Fault>
     ensures outcome { IsRingSimulated program n (O.taken out.old) (O.taken out.new) result }
     ensures behind { IfErr result IsBehindFeed }
+    ensures inside { IfErr result IsInside }
     ensures out_rose { result ≡ Err Fault.Out → Rose (O.faults out.old) (O.faults out.new) }
 {
     match Core::start(alloc, program, &Items::new(alloc), MOST_EVENTS) {
@@ -68,6 +70,7 @@ fn ring_core<O: Sink>(
     requires origin { core.old.origin ≡ ring_origin core.old.origin.program }
     ensures outcome { IsRingSimulated core.old.origin.program n (O.taken out.old) (O.taken out.new) result }
     ensures behind { IfErr result IsBehindFeed }
+    ensures inside { IfErr result IsInside }
     ensures out_rose { result ≡ Err Fault.Out → Rose (O.faults out.old) (O.faults out.new) }
 {
     match simulate(core, &Feed::empty(alloc), MOST_STEPS) {
@@ -86,6 +89,7 @@ fn put_summary<O: Sink>(
 ) -> Result<(), Fault>
     ensures outcome { PutsWhole (summary n log.now) end (O.taken out.old) (O.taken out.new) result }
     ensures behind { IfErr result IsBehindFeed }
+    ensures inside { IfErr result IsInside }
     ensures out_rose { result ≡ Err Fault.Out → Rose (O.faults out.old) (O.faults out.new) }
 {
     let Ok(text) = summary_text(alloc, n, log) else {

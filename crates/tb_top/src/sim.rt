@@ -41,6 +41,7 @@ pub fn sim<F: Files, O: Sink>(
         (O.taken out.old) (O.taken out.new) result }
     ensures asks { AsksBeside (F.held files.old script.now) script.now (option_to_list feed.now) (F.asked files.old) (F.asked files.new) result }
     ensures file_rose { result ≡ Err Fault.File → Rose (F.faults files.old) (F.faults files.new) }
+    ensures inside { IfErr result IsInside }
     ensures out_rose { result ≡ Err Fault.Out → Rose (O.faults out.old) (O.faults out.new) }
 {
     match load_script(alloc, script, files) {
@@ -68,6 +69,7 @@ fn sim_program<F: Files, O: Sink>(
     ensures behind { IfErr result IsBehindScript }
     ensures asks { AsksForFeed feed.now (F.asked files.old) (F.asked files.new) result }
     ensures file_rose { result ≡ Err Fault.File → Rose (F.faults files.old) (F.faults files.new) }
+    ensures inside { IfErr result IsInside }
     ensures out_rose { result ≡ Err Fault.Out → Rose (O.faults out.old) (O.faults out.new) }
 {
     match load_feed(alloc, feed, files) {
@@ -90,6 +92,7 @@ fn sim_fed<O: Sink>(
     requires events { events ≤ 4000000 }
     ensures outcome { IsSimulated steps (origin_of program connects.now events) feed.now (O.taken out.old) (O.taken out.new) result }
     ensures behind { IfErr result IsBehindFeed }
+    ensures inside { IfErr result IsInside }
     ensures out_rose { result ≡ Err Fault.Out → Rose (O.faults out.old) (O.faults out.new) }
 {
     match Core::start(alloc, program, connects, events) {
@@ -110,6 +113,7 @@ fn sim_core<O: Sink>(
     requires running { core.old.stopped ≡ false }
     ensures outcome { IsSimulated steps core.old.origin feed.now (O.taken out.old) (O.taken out.new) result }
     ensures behind { IfErr result IsBehindFeed }
+    ensures inside { IfErr result IsInside }
     ensures out_rose { result ≡ Err Fault.Out → Rose (O.faults out.old) (O.faults out.new) }
 {
     match simulate(core, feed, steps) {
@@ -127,6 +131,7 @@ fn put_simulation<O: Sink>(
 ) -> Result<(), Fault>
     ensures outcome { PutsText (log_text log.now) end (O.taken out.old) (O.taken out.new) result }
     ensures behind { IfErr result IsBehindFeed }
+    ensures inside { IfErr result IsInside }
     ensures out_rose { result ≡ Err Fault.Out → Rose (O.faults out.old) (O.faults out.new) }
 {
     match put_log(alloc, log, out) {

@@ -8,6 +8,8 @@ pub enum Edge {
     File,
     Out,
     Err,
+    Clock,
+    Crew,
 }
 
 /// Which limit was reached.

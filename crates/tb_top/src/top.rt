@@ -1,7 +1,8 @@
-ghost use Rattle.std.specs.Prelude.{◌≡◌, Err, Ok, map, string_bytes};
+ghost use Rattle.std.specs.Prelude.{◌≡◌, Err, Ok, map, string_bytes, vec_len};
 ghost use Rattle.tb_cli.specs.Words.{asked};
 ghost use Rattle.tb_cli.specs.Table.{IsWithin};
 ghost use Rattle.tb_edge.specs.Faults.{Rose};
+ghost use Rattle.tb_run.specs.Outcomes.{LaneView, OutsideView};
 ghost use Rattle.tb_top.specs.Asking.{Asks, AsksSome};
 ghost use Rattle.tb_top.specs.Outcomes.{Comes, CommandOutcome, files_of};
 ghost use Rattle.tb_top.specs.Reporting.{Reported};
@@ -10,42 +11,78 @@ use crate::check::check;
 use crate::fault::Fault;
 use crate::report::report;
 use crate::ring::ring;
+use crate::run::run_script;
 use crate::sim::sim;
 use crate::status::{Edge, Status};
 use std::alloc::Global;
 use tb_cli::{Command, WordFault, read_words};
-use tb_edge::{Files, Sink};
+use std::sync::Wait;
+use std::thread::Threads;
+use tb_edge::{Clock, Crew, Files, Inlet, LanePair, Outlet, Sink};
 
 /// Does what the words of the command line ask for. `check SCRIPT` puts `ok` and a newline to `out`
 /// where the script in that file is accepted; `sim SCRIPT [--feed FILE] [--connect COMMAND] [--steps N] [--events N]`
 /// puts the log of its simulation, which begins with each command connected, hands in what the feed in that file says,
-/// makes so many steps and logs so many entries at most; `ring N K` puts a summary of the simulation of N processes in a
+/// makes so many steps and logs so many entries at most; `run SCRIPT [--connect COMMAND] [--ticks N] [--events N]` runs it
+/// over the tools of the lanes and puts its log while it runs; `ring N K` puts a summary of the simulation of N processes in a
 /// ring, round which a message goes K times.
 /// Each status but `Ended` puts its one line to `err`, and where `err` fails at that, the status is `Outside(Err)`.
-pub fn toolbus<F: Files, O: Sink, E: Sink>(
+pub fn toolbus<
+    R: Threads + Wait + Sync,
+    F: Files,
+    O: Sink,
+    E: Sink,
+    C: Clock + Send,
+    P: Crew,
+>(
+    rt: &R,
     alloc: Global,
     words: &Vec<String>,
     files: &mut F,
     out: &mut O,
     err: &mut E,
+    lanes: &mut Vec<LanePair>,
+    clock: &mut C,
+    crew: &mut P,
 ) -> Status
+    requires { vec_len lanes.old ≡ 16 }
     // Which status comes when, and what was put and asked for then.
     ensures outcome { Reported {A = Unit {0}}
         (Comes (asked (map string_bytes words.now.items))
         (record {
-          held = F.held files.old;
-          asked = F.asked files.old;
-          file_faults = F.faults files.old;
-          put = O.taken out.old;
-          out_faults = O.faults out.old;
-        })
+              held = F.held files.old;
+              asked = F.asked files.old;
+              file_faults = F.faults files.old;
+              outside = record {
+                lanes = map (λ pair. record {
+                  gave = ⟦<Box<dyn Inlet + Send> as Inlet>⟧.told pair.inlet;
+                  took = ⟦<Box<dyn Outlet + Send> as Outlet>⟧.told pair.outlet;
+                  faults = ⟦<Box<dyn Outlet + Send> as Outlet>⟧.faults pair.outlet;
+                }) lanes.old.items;
+                clock = C.told clock.old;
+                clock_faults = C.faults clock.old;
+                crew_faults = P.faults crew.old;
+                put = O.taken out.old;
+                out_faults = O.faults out.old;
+              };
+            })
         (record {
-          held = F.held files.new;
-          asked = F.asked files.new;
-          file_faults = F.faults files.new;
-          put = O.taken out.new;
-          out_faults = O.faults out.new;
-        }))
+              held = F.held files.new;
+              asked = F.asked files.new;
+              file_faults = F.faults files.new;
+              outside = record {
+                lanes = map (λ pair. record {
+                  gave = ⟦<Box<dyn Inlet + Send> as Inlet>⟧.told pair.inlet;
+                  took = ⟦<Box<dyn Outlet + Send> as Outlet>⟧.told pair.outlet;
+                  faults = ⟦<Box<dyn Outlet + Send> as Outlet>⟧.faults pair.outlet;
+                }) lanes.new.items;
+                clock = C.told clock.new;
+                clock_faults = C.faults clock.new;
+                crew_faults = P.faults crew.new;
+                put = O.taken out.new;
+                out_faults = O.faults out.new;
+              };
+            }))
         (E.taken err.old) (E.taken err.new) result }
 
     // Whatever the status, only files that the words name are asked for, in their order.
@@ -54,70 +91,129 @@ pub fn toolbus<F: Files, O: Sink, E: Sink>(
     // A thing of the outside is named only where it failed in this call.
     ensures file_rose { result ≡ Status.Outside Edge.File → Rose (F.faults files.old) (F.faults files.new) }
     ensures out_rose { result ≡ Status.Outside Edge.Out → Rose (O.faults out.old) (O.faults out.new) }
+    ensures clock_rose { result ≡ Status.Outside Edge.Clock → Rose (C.faults clock.old) (C.faults clock.new) }
+    ensures crew_rose { result ≡ Status.Outside Edge.Crew → Rose (P.faults crew.old) (P.faults crew.new) }
+    ensures lanes { vec_len lanes.new ≡ 16 }
     ensures err_rose { result ≡ Status.Outside Edge.Err → Rose (E.faults err.old) (E.faults err.new) }
 {
-    let answer = answer(alloc, words, files, out);
+    let answer = answer(rt, alloc, words, files, out, lanes, clock, crew);
     report(answer, err)
 }
 
 /// Does what the words ask for.
-fn answer<F: Files, O: Sink>(
+fn answer<R: Threads + Wait + Sync, F: Files, O: Sink, C: Clock + Send, P: Crew>(
+    rt: &R,
     alloc: Global,
     words: &Vec<String>,
     files: &mut F,
     out: &mut O,
+    lanes: &mut Vec<LanePair>,
+    clock: &mut C,
+    crew: &mut P,
 ) -> Result<(), Fault>
+    requires { vec_len lanes.old ≡ 16 }
     ensures outcome { CommandOutcome (asked (map string_bytes words.now.items))
         (record {
-          held = F.held files.old;
-          asked = F.asked files.old;
-          file_faults = F.faults files.old;
-          put = O.taken out.old;
-          out_faults = O.faults out.old;
-        })
+              held = F.held files.old;
+              asked = F.asked files.old;
+              file_faults = F.faults files.old;
+              outside = record {
+                lanes = map (λ pair. record {
+                  gave = ⟦<Box<dyn Inlet + Send> as Inlet>⟧.told pair.inlet;
+                  took = ⟦<Box<dyn Outlet + Send> as Outlet>⟧.told pair.outlet;
+                  faults = ⟦<Box<dyn Outlet + Send> as Outlet>⟧.faults pair.outlet;
+                }) lanes.old.items;
+                clock = C.told clock.old;
+                clock_faults = C.faults clock.old;
+                crew_faults = P.faults crew.old;
+                put = O.taken out.old;
+                out_faults = O.faults out.old;
+              };
+            })
         (record {
-          held = F.held files.new;
-          asked = F.asked files.new;
-          file_faults = F.faults files.new;
-          put = O.taken out.new;
-          out_faults = O.faults out.new;
-        }) result }
+              held = F.held files.new;
+              asked = F.asked files.new;
+              file_faults = F.faults files.new;
+              outside = record {
+                lanes = map (λ pair. record {
+                  gave = ⟦<Box<dyn Inlet + Send> as Inlet>⟧.told pair.inlet;
+                  took = ⟦<Box<dyn Outlet + Send> as Outlet>⟧.told pair.outlet;
+                  faults = ⟦<Box<dyn Outlet + Send> as Outlet>⟧.faults pair.outlet;
+                }) lanes.new.items;
+                clock = C.told clock.new;
+                clock_faults = C.faults clock.new;
+                crew_faults = P.faults crew.new;
+                put = O.taken out.new;
+                out_faults = O.faults out.new;
+              };
+            }) result }
     ensures asks { Asks (F.held files.old) (files_of (asked (map string_bytes words.now.items))) (F.asked files.old) (F.asked files.new) result }
     ensures file_rose { result ≡ Err Fault.File → Rose (F.faults files.old) (F.faults files.new) }
     ensures out_rose { result ≡ Err Fault.Out → Rose (O.faults out.old) (O.faults out.new) }
+    ensures clock_rose { result ≡ Err Fault.Clock → Rose (C.faults clock.old) (C.faults clock.new) }
+    ensures crew_rose { result ≡ Err Fault.Crew → Rose (P.faults crew.old) (P.faults crew.new) }
+    ensures lanes { vec_len lanes.new ≡ 16 }
 {
     match read_words(alloc, words) {
-        Ok(command) => do_command(alloc, &command, files, out),
+        Ok(command) => do_command(rt, alloc, &command, files, out, lanes, clock, crew),
         Err(WordFault::NoMemory) => Err(Fault::NoMemory),
         Err(fault) => Err(Fault::Words(fault)),
     }
 }
 
-fn do_command<F: Files, O: Sink>(
+fn do_command<R: Threads + Wait + Sync, F: Files, O: Sink, C: Clock + Send, P: Crew>(
+    rt: &R,
     alloc: Global,
     command: &Command,
     files: &mut F,
     out: &mut O,
+    lanes: &mut Vec<LanePair>,
+    clock: &mut C,
+    crew: &mut P,
 ) -> Result<(), Fault>
-    requires { IsWithin command.now }
+    requires within { IsWithin command.now }
+    requires lanes { vec_len lanes.old ≡ 16 }
     ensures outcome { CommandOutcome (Ok command.now)
         (record {
-          held = F.held files.old;
-          asked = F.asked files.old;
-          file_faults = F.faults files.old;
-          put = O.taken out.old;
-          out_faults = O.faults out.old;
-        })
+              held = F.held files.old;
+              asked = F.asked files.old;
+              file_faults = F.faults files.old;
+              outside = record {
+                lanes = map (λ pair. record {
+                  gave = ⟦<Box<dyn Inlet + Send> as Inlet>⟧.told pair.inlet;
+                  took = ⟦<Box<dyn Outlet + Send> as Outlet>⟧.told pair.outlet;
+                  faults = ⟦<Box<dyn Outlet + Send> as Outlet>⟧.faults pair.outlet;
+                }) lanes.old.items;
+                clock = C.told clock.old;
+                clock_faults = C.faults clock.old;
+                crew_faults = P.faults crew.old;
+                put = O.taken out.old;
+                out_faults = O.faults out.old;
+              };
+            })
         (record {
-          held = F.held files.new;
-          asked = F.asked files.new;
-          file_faults = F.faults files.new;
-          put = O.taken out.new;
-          out_faults = O.faults out.new;
-        }) result }
+              held = F.held files.new;
+              asked = F.asked files.new;
+              file_faults = F.faults files.new;
+              outside = record {
+                lanes = map (λ pair. record {
+                  gave = ⟦<Box<dyn Inlet + Send> as Inlet>⟧.told pair.inlet;
+                  took = ⟦<Box<dyn Outlet + Send> as Outlet>⟧.told pair.outlet;
+                  faults = ⟦<Box<dyn Outlet + Send> as Outlet>⟧.faults pair.outlet;
+                }) lanes.new.items;
+                clock = C.told clock.new;
+                clock_faults = C.faults clock.new;
+                crew_faults = P.faults crew.new;
+                put = O.taken out.new;
+                out_faults = O.faults out.new;
+              };
+            }) result }
     ensures asks { Asks (F.held files.old) (files_of (Ok command.now)) (F.asked files.old) (F.asked files.new) result }
     ensures file_rose { result ≡ Err Fault.File → Rose (F.faults files.old) (F.faults files.new) }
     ensures out_rose { result ≡ Err Fault.Out → Rose (O.faults out.old) (O.faults out.new) }
+    ensures clock_rose { result ≡ Err Fault.Clock → Rose (C.faults clock.old) (C.faults clock.new) }
+    ensures crew_rose { result ≡ Err Fault.Crew → Rose (P.faults crew.old) (P.faults crew.new) }
+    ensures lanes { vec_len lanes.new ≡ 16 }
 {
     match command {
         Command::Check { script } => check(alloc, script.as_str(), files, out),
@@ -137,7 +233,24 @@ fn do_command<F: Files, O: Sink>(
             files,
             out,
         ),
-        Command::Run { .. } => Err(Fault::Words(WordFault::NotBuilt(1))),
+        Command::Run {
+            script,
+            connects,
+            ticks,
+            events,
+        } => run_script(
+            rt,
+            alloc,
+            script.as_str(),
+            connects,
+            *ticks,
+            *events,
+            files,
+            out,
+            lanes,
+            clock,
+            crew,
+        ),
         Command::Ring { n, k } => ring(alloc, *n, *k, out),
     }
 }

@@ -1,26 +1,54 @@
-//! The program: it makes the real files and sinks, and calls the ToolBus with the words of its
+//! The program: it makes the real files, sinks, lanes, clock and crew, and calls the ToolBus with the words of its
 //! command line.
 #![tactic(auto)]
+
+ghost use Rattle.std.specs.Prelude.{vec_len};
 
 use std::io::ErrorKind;
 use std::process::ExitCode;
 use std::{env, io};
-use tb_edge::{RealFiles, RealSink};
+use tb_child::{ChildPair, child_pair};
+use tb_edge::{LanePair, RealClock, RealFiles, RealSink, ThreadCrew};
 use tb_top::{Status, toolbus};
 
-fn main(rt: HostRuntime) -> ExitCode {
-    let status = match words(&rt) {
-        Ok(words) => run(&rt, &words),
-        Err(_) => Status::NoMemory,
-    };
-    ExitCode::from(status.number())
-}
+/// How many lanes there are.
+const LANES: usize = 16;
 
-fn run(rt: &HostRuntime, words: &Vec<String>) -> Status {
-    let mut files = RealFiles::new(rt);
+fn main(rt: HostRuntime) -> ExitCode {
+    let Ok(words) = words(&rt) else {
+        return ExitCode::from(Status::NoMemory.number());
+    };
+    let Ok(mut lanes) = Vec::with_capacity(rt.alloc(), LANES) else {
+        return ExitCode::from(Status::NoMemory.number());
+    };
+    for _ in 0..LANES {
+        let Ok(ChildPair { inlet, outlet }) = child_pair(rt.alloc(), rt) else {
+            return ExitCode::from(Status::NoMemory.number());
+        };
+        let (Ok(inlet), Ok(outlet)) = (Box::new(rt.alloc(), inlet), Box::new(rt.alloc(), outlet)) else {
+            return ExitCode::from(Status::NoMemory.number());
+        };
+        if lanes.push(LanePair { inlet, outlet }).is_err() {
+            return ExitCode::from(Status::NoMemory.number());
+        }
+    }
+    let mut files = RealFiles::new(&rt);
     let mut out = RealSink::new(rt.stdout());
     let mut err = RealSink::new(rt.stderr());
-    toolbus(rt.alloc(), words, &mut files, &mut out, &mut err)
+    let mut clock = RealClock::new(rt);
+    let mut crew = ThreadCrew::new();
+    let status = toolbus(
+        &rt,
+        rt.alloc(),
+        &words,
+        &mut files,
+        &mut out,
+        &mut err,
+        &mut lanes,
+        &mut clock,
+        &mut crew,
+    );
+    ExitCode::from(status.number())
 }
 
 /// The words of the command line, without the program's name. Where one isn't UTF-8, a word that

@@ -9,12 +9,16 @@ use Rattle.tb_sim.specs.declared.ends.SimEnd.{SimEnd}
 use Rattle.tb_sim.specs.declared.ends.SimEnd.TheVariants as sim
 use Rattle.tb_gen.specs.Ring.{ring_text}
 use Rattle.tb_top.specs.Loading.{HasProgram, IsRefused}
+use Rattle.tb_run.specs.Outcomes.{OutsideView}
+use Rattle.tb_run.specs.declared.ends.RunWhy.{RunWhy}
+use Rattle.tb_run.specs.declared.ends.RunWhy.TheVariants as why
 use Rattle.tb_top.specs.Ring.{RingOutcome}
+use Rattle.tb_top.specs.Run.{LiveOutcome}
 use Rattle.tb_top.specs.Sim.{IsFed, IsFeedRefused, SimOutcome}
 use Rattle.tb_bus.specs.declared.origin.Origin.{Origin}
 use Rattle.tb_log.specs.declared.entry.Input.{Input}
 use Rattle.tb_top.specs.declared.fault.Fault.{Fault}
-use Rattle.tb_top.specs.declared.fault.Fault.TheVariants.{Script, Feed, File, Out, Limit, NoMemory}
+use Rattle.tb_top.specs.declared.fault.Fault.TheVariants.{Script, Feed, File, Out, Clock, Crew, Limit, NoMemory}
 use Rattle.tb_top.specs.declared.status.Bound.TheVariants as bound
 
 -- these names were asked for, or perhaps none where memory ran out
@@ -85,3 +89,25 @@ PutsWhole text last old new answer = EndsAs last answer × Writes old new text
 -- whatever ring's script the program is that of, the outcome is that of its simulation
 abbrev pub IsRingSimulated : {A : Type 0} → Program → ℕ → Option (List ℕ) → Option (List ℕ) → Result A Fault → Type 0
 IsRingSimulated program n old new answer = (k : ℕ) → IsFound (ring_text n k) (Program' program) → RingOutcome n k old new answer
+
+-- what a run comes to that ended so
+abbrev pub EndsRun : {A : Type 0} → RunWhy → Result A Fault → Type 0
+EndsRun it (Ok done) = it ≡ why.Ended
+EndsRun it (Err Clock) = it ≡ why.Clock
+EndsRun it (Err Crew) = it ≡ why.Crew
+EndsRun it (Err Out) = it ≡ why.Out
+EndsRun it (Err (Limit bound.Events)) = it ≡ why.Events
+EndsRun it (Err NoMemory) = it ≡ why.NoMemory
+EndsRun it _ = ⊥
+
+-- whatever file the program is that of, the outcome is that of a run with so many ticks
+abbrev pub IsLive : {A : Type 0} → ℕ → Origin → OutsideView → OutsideView → Result A Fault → Type 0
+IsLive ticks origin old new answer =
+    (held : List ℕ → Option (List ℕ)) (script : List ℕ) → HasProgram (held script) origin.program →
+    LiveOutcome held (record { script = script; connects = origin.connects; ticks = ticks; events = origin.limit }) old new answer
+
+-- a fault that comes without the clock and the crew
+abbrev pub IsInside : Fault → Type 0
+IsInside Clock = ⊥
+IsInside Crew = ⊥
+IsInside _ = Unit {0}

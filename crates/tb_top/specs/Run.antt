@@ -1,0 +1,52 @@
+-- How `run` ends, and what was given, taken and put then.
+use Rattle.std.specs.Prelude.{◌≡◌, ◌⊎◌, ℕ, List, Option, Result, Ok, Err}
+use Rattle.tb_body.specs.declared.program.Program.{Program}
+use Rattle.tb_bus.specs.Buses.{origin_of}
+use Rattle.tb_core.specs.Cores.{CoreState}
+use Rattle.tb_run.specs.Outcomes.{OutsideView, Runs}
+use Rattle.tb_run.specs.declared.ends.RunWhy.{RunWhy}
+use Rattle.tb_run.specs.declared.ends.RunWhy.TheVariants as why
+use Rattle.tb_top.specs.Loading.{HasProgram, IsUnloaded}
+use Rattle.tb_top.specs.Views.{IsLeft}
+use Rattle.tb_top.specs.declared.fault.Fault.{Fault}
+use Rattle.tb_top.specs.declared.fault.Fault.TheVariants.{Script, File, Out, Clock, Crew, Limit, NoMemory}
+use Rattle.tb_top.specs.declared.status.Bound.TheVariants as bound
+
+-- What is to be run: the name of the script's file; the commands that are connected; and how many ticks and entries there may be.
+pub record RunRequest : Type 0 where
+  pub script : List ℕ
+  pub connects : List (List ℕ)
+  pub ticks : ℕ
+  pub events : ℕ
+
+-- The script has a program, and a bus that began with it was run, which ended so: `Runs` says of its log and of the outside what each end says.
+pub record IsRun (held : List ℕ → Option (List ℕ)) (request : RunRequest) (old new : OutsideView) (it : RunWhy) : Type 0 where
+  pub program : Program
+  pub has : HasProgram (held request.script) program
+  pub back : CoreState
+  pub runs : Runs request.ticks old new (origin_of program request.connects request.events) back it
+
+-- nothing was put, and nothing of the rest was touched
+abbrev pub IsUntouched : OutsideView → OutsideView → Type 0
+IsUntouched old new = (new.put ≡ old.put) × IsLeft old new
+
+-- by what names are told to hold, what is to be run, and what is seen of the outside
+abbrev pub LiveOutcome : {A : Type 0} → (List ℕ → Option (List ℕ)) → RunRequest → OutsideView → OutsideView → Result A Fault → Type 0
+-- the bus went down, and all was handed out
+LiveOutcome held request old new (Ok done) = IsRun held request old new why.Ended
+-- so it did, and the clock failed
+LiveOutcome held request old new (Err Clock) = IsRun held request old new why.Clock
+-- the log was full
+LiveOutcome held request old new (Err (Limit bound.Events)) = IsRun held request old new why.Events
+-- the sink failed
+LiveOutcome held request old new (Err Out) = IsRun held request old new why.Out
+-- there are too few threads
+LiveOutcome held request old new (Err Crew) = IsRun held request old new why.Crew
+-- memory ran out, before the bus was run or while it was
+LiveOutcome held request old new (Err NoMemory) = IsUntouched old new ⊎ IsRun held request old new why.NoMemory
+-- the script was refused
+LiveOutcome held request old new (Err (Script fault)) = IsUnloaded (held request.script) (Script fault) × IsUntouched old new
+-- its file could not be read
+LiveOutcome held request old new (Err File) = IsUntouched old new
+-- no other answer comes
+LiveOutcome held request old new _ = ⊥

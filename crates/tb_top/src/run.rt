@@ -1,0 +1,198 @@
+//! `run`: a bus with live tools, whose log is put while it runs.
+ghost use Rattle.std.specs.Prelude.{◌≡◌, ◌≤◌, List, [], Err, IfErr, false, length, map, vec_len};
+ghost use Rattle.tb_bus.specs.Buses.{origin_of};
+ghost use Rattle.tb_cli.specs.Table.{most_connects};
+ghost use Rattle.tb_edge.specs.Faults.{Rose};
+ghost use Rattle.tb_run.specs.Outcomes.{LaneView, OutsideView};
+ghost use Rattle.tb_top.specs.Asking.{AsksBeside};
+ghost use Rattle.tb_top.specs.Run.{LiveOutcome};
+ghost use Rattle.tb_top.specs.Helpers.Parts.{EndsRun, IsBehindScript, IsLive};
+
+use crate::fault::Fault;
+use crate::loading::load_script;
+use crate::status::Bound;
+use std::alloc::Global;
+use std::sync::Wait;
+use std::thread::Threads;
+use tb_body::Program;
+use tb_core::Core;
+use tb_edge::{Clock, Crew, Files, Inlet, LanePair, Outlet, Sink};
+use tb_run::{RunWhy, run};
+use tb_terms::{NoMemory, Texts};
+use tb_walk::Walk;
+
+/// Runs the script in the file of this name, which begins with each command connected, over the tools of sixteen lanes, and
+/// puts its log while it runs; so many ticks are handed in and so many entries logged at most.
+pub fn run_script<R: Threads + Wait + Sync, F: Files, O: Sink, C: Clock + Send, P: Crew>(
+    rt: &R,
+    alloc: Global,
+    script: &str,
+    connects: &Texts,
+    ticks: u64,
+    events: u32,
+    files: &mut F,
+    out: &mut O,
+    lanes: &mut Vec<LanePair>,
+    clock: &mut C,
+    crew: &mut P,
+) -> Result<(), Fault>
+    requires connects { length connects.now ≤ most_connects }
+    requires events { events ≤ 4000000 }
+    requires lanes { vec_len lanes.old ≡ 16 }
+    ensures outcome { LiveOutcome (F.held files.old)
+        (record { script = script.now; connects = connects.now; ticks = ticks; events = events })
+        (record {
+          lanes = map (λ pair. record {
+            gave = ⟦<Box<dyn Inlet + Send> as Inlet>⟧.told pair.inlet;
+            took = ⟦<Box<dyn Outlet + Send> as Outlet>⟧.told pair.outlet;
+            faults = ⟦<Box<dyn Outlet + Send> as Outlet>⟧.faults pair.outlet;
+          }) lanes.old.items;
+          clock = C.told clock.old;
+          clock_faults = C.faults clock.old;
+          crew_faults = P.faults crew.old;
+          put = O.taken out.old;
+          out_faults = O.faults out.old;
+        })
+        (record {
+          lanes = map (λ pair. record {
+            gave = ⟦<Box<dyn Inlet + Send> as Inlet>⟧.told pair.inlet;
+            took = ⟦<Box<dyn Outlet + Send> as Outlet>⟧.told pair.outlet;
+            faults = ⟦<Box<dyn Outlet + Send> as Outlet>⟧.faults pair.outlet;
+          }) lanes.new.items;
+          clock = C.told clock.new;
+          clock_faults = C.faults clock.new;
+          crew_faults = P.faults crew.new;
+          put = O.taken out.new;
+          out_faults = O.faults out.new;
+        }) result }
+    ensures asks { AsksBeside (F.held files.old script.now) script.now [] (F.asked files.old) (F.asked files.new) result }
+    ensures file_rose { result ≡ Err Fault.File → Rose (F.faults files.old) (F.faults files.new) }
+    ensures out_rose { result ≡ Err Fault.Out → Rose (O.faults out.old) (O.faults out.new) }
+    ensures clock_rose { result ≡ Err Fault.Clock → Rose (C.faults clock.old) (C.faults clock.new) }
+    ensures crew_rose { result ≡ Err Fault.Crew → Rose (P.faults crew.old) (P.faults crew.new) }
+    ensures lanes { vec_len lanes.new ≡ 16 }
+{
+    match load_script(alloc, script, files) {
+        Ok(program) => run_program(
+            rt, alloc, program, connects, ticks, events, out, lanes, clock, crew,
+        ),
+        Err(fault) => Err(fault),
+    }
+}
+
+/// The same of the program of some script.
+fn run_program<R: Threads + Wait + Sync, O: Sink, C: Clock + Send, P: Crew>(
+    rt: &R,
+    alloc: Global,
+    program: Program,
+    connects: &Texts,
+    ticks: u64,
+    events: u32,
+    out: &mut O,
+    lanes: &mut Vec<LanePair>,
+    clock: &mut C,
+    crew: &mut P,
+) -> Result<(), Fault>
+    requires connects { length connects.now ≤ most_connects }
+    requires events { events ≤ 4000000 }
+    requires lanes { vec_len lanes.old ≡ 16 }
+    ensures outcome { IsLive ticks (origin_of program connects.now events)
+        (record {
+          lanes = map (λ pair. record {
+            gave = ⟦<Box<dyn Inlet + Send> as Inlet>⟧.told pair.inlet;
+            took = ⟦<Box<dyn Outlet + Send> as Outlet>⟧.told pair.outlet;
+            faults = ⟦<Box<dyn Outlet + Send> as Outlet>⟧.faults pair.outlet;
+          }) lanes.old.items;
+          clock = C.told clock.old;
+          clock_faults = C.faults clock.old;
+          crew_faults = P.faults crew.old;
+          put = O.taken out.old;
+          out_faults = O.faults out.old;
+        })
+        (record {
+          lanes = map (λ pair. record {
+            gave = ⟦<Box<dyn Inlet + Send> as Inlet>⟧.told pair.inlet;
+            took = ⟦<Box<dyn Outlet + Send> as Outlet>⟧.told pair.outlet;
+            faults = ⟦<Box<dyn Outlet + Send> as Outlet>⟧.faults pair.outlet;
+          }) lanes.new.items;
+          clock = C.told clock.new;
+          clock_faults = C.faults clock.new;
+          crew_faults = P.faults crew.new;
+          put = O.taken out.new;
+          out_faults = O.faults out.new;
+        }) result }
+    ensures behind { IfErr result IsBehindScript }
+    ensures out_rose { result ≡ Err Fault.Out → Rose (O.faults out.old) (O.faults out.new) }
+    ensures clock_rose { result ≡ Err Fault.Clock → Rose (C.faults clock.old) (C.faults clock.new) }
+    ensures crew_rose { result ≡ Err Fault.Crew → Rose (P.faults crew.old) (P.faults crew.new) }
+    ensures lanes { vec_len lanes.new ≡ 16 }
+{
+    match Core::start(alloc, program, connects, events) {
+        Ok(core) => run_core(rt, alloc, core, ticks, out, lanes, clock, crew),
+        Err(NoMemory) => Err(Fault::NoMemory),
+    }
+}
+
+/// The same over a core.
+fn run_core<R: Threads + Wait + Sync, O: Sink, C: Clock + Send, P: Crew>(
+    rt: &R,
+    alloc: Global,
+    core: Core<Walk>,
+    ticks: u64,
+    out: &mut O,
+    lanes: &mut Vec<LanePair>,
+    clock: &mut C,
+    crew: &mut P,
+) -> Result<(), Fault>
+    requires fresh { core.log ≡ [] }
+    requires running { core.stopped ≡ false }
+    requires lanes { vec_len lanes.old ≡ 16 }
+    ensures outcome { IsLive ticks core.origin
+        (record {
+          lanes = map (λ pair. record {
+            gave = ⟦<Box<dyn Inlet + Send> as Inlet>⟧.told pair.inlet;
+            took = ⟦<Box<dyn Outlet + Send> as Outlet>⟧.told pair.outlet;
+            faults = ⟦<Box<dyn Outlet + Send> as Outlet>⟧.faults pair.outlet;
+          }) lanes.old.items;
+          clock = C.told clock.old;
+          clock_faults = C.faults clock.old;
+          crew_faults = P.faults crew.old;
+          put = O.taken out.old;
+          out_faults = O.faults out.old;
+        })
+        (record {
+          lanes = map (λ pair. record {
+            gave = ⟦<Box<dyn Inlet + Send> as Inlet>⟧.told pair.inlet;
+            took = ⟦<Box<dyn Outlet + Send> as Outlet>⟧.told pair.outlet;
+            faults = ⟦<Box<dyn Outlet + Send> as Outlet>⟧.faults pair.outlet;
+          }) lanes.new.items;
+          clock = C.told clock.new;
+          clock_faults = C.faults clock.new;
+          crew_faults = P.faults crew.new;
+          put = O.taken out.new;
+          out_faults = O.faults out.new;
+        }) result }
+    ensures behind { IfErr result IsBehindScript }
+    ensures out_rose { result ≡ Err Fault.Out → Rose (O.faults out.old) (O.faults out.new) }
+    ensures clock_rose { result ≡ Err Fault.Clock → Rose (C.faults clock.old) (C.faults clock.new) }
+    ensures crew_rose { result ≡ Err Fault.Crew → Rose (P.faults crew.old) (P.faults crew.new) }
+    ensures lanes { vec_len lanes.new ≡ 16 }
+{
+    let (why, _core) = run(rt, alloc, core, lanes, clock, ticks, crew, out);
+    after_run(why)
+}
+
+/// What a run comes to that ended so.
+fn after_run(why: RunWhy) -> Result<(), Fault>
+    ensures ends { EndsRun why result }
+    ensures behind { IfErr result IsBehindScript }
+{
+    match why {
+        RunWhy::Ended => Ok(()),
+        RunWhy::Crew => Err(Fault::Crew),
+        RunWhy::Clock => Err(Fault::Clock),
+        RunWhy::Out => Err(Fault::Out),
+        RunWhy::Events => Err(Fault::Limit(Bound::Events)),
+        RunWhy::NoMemory => Err(Fault::NoMemory),
+    }
+}
