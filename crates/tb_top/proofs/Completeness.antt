@@ -5,6 +5,9 @@ use Rattle.tb_bus.specs.Buses.{start}
 use Rattle.tb_cli.specs.declared.command.Command.{Command}
 use Rattle.tb_cli.specs.declared.command.Command.TheVariants as command
 use Rattle.tb_edge.specs.Faults.{Rose}
+use Rattle.tb_run.specs.Outcomes.{OutsideView}
+use Rattle.tb_run.specs.declared.ends.RunWhy.TheVariants as why
+use Rattle.tb_top.specs.Run.{IsRun, LiveOutcome, RunRequest}
 use Rattle.tb_expand.specs.declared.fault.ExpandFault.TheVariants as expand
 use Rattle.tb_feed.specs.Feeds.{IsFeedOf, IsFirstBad}
 use Rattle.tb_feed.specs.declared.fault.FeedFault.{FeedFault}
@@ -173,4 +176,62 @@ pub sim-completes : (A : Type 0) (request : Request) (old new : Seen) (told more
 sim-completes A request old new told more it must file out err (answer, comes, reports) =
     reported-well answer told more it
     (sim-well old.held request old.outside.put new.outside.put answer must (file-stays old new answer file comes.caused) (out-stays old new answer out comes.caused) comes.outcome.0)
+    err reports
+
+-- what `run` answers of a script that is accepted, where nothing of the outside fails
+abbrev pub EndsLive : {A : Type 0} → (List ℕ → Option (List ℕ)) → RunRequest → OutsideView → OutsideView → Result A Fault → Type 0
+EndsLive held request old new (Ok done) = Unit {0}
+EndsLive held request old new (Err NoMemory) = Unit {0}
+EndsLive held request old new (Err (Limit bound.Events)) = IsRun held request old new why.Events
+EndsLive held request old new _ = ⊥
+
+run-well : {A : Type 0} (held : List ℕ → Option (List ℕ)) (request : RunRequest) (bytes : List ℕ) (program : Program) (old new : OutsideView) (answer : Result A Fault) →
+    held request.script ≡ Some bytes → length bytes ≤ most_bytes → IsFound bytes (Program' program) →
+    (answer ≡ Err File → ⊥) → (answer ≡ Err Out → ⊥) → (answer ≡ Err Clock → ⊥) → (answer ≡ Err Crew → ⊥) → LiveOutcome held request old new answer → EndsLive held request old new answer
+run-well held request bytes program old new (Ok done) told few found file out clock crew h = tt
+run-well held request bytes program old new (Err NoMemory) told few found file out clock crew h = tt
+run-well held request bytes program old new (Err (Limit bound.Events)) told few found file out clock crew h = h
+run-well held request bytes program old new (Err (Limit bound.Steps)) told few found file out clock crew h = h
+run-well held request bytes program old new (Err File) told few found file out clock crew h = file refl
+run-well held request bytes program old new (Err Out) told few found file out clock crew h = out refl
+run-well held request bytes program old new (Err Clock) told few found file out clock crew h = clock refl
+run-well held request bytes program old new (Err Crew) told few found file out clock crew h = crew refl
+run-well held request bytes program old new (Err (Script fault)) told few found file out clock crew h =
+    not-unloaded bytes program fault few found (subst (λ (it : Option (List ℕ)). IsUnloaded it (Script fault)) told h.0)
+run-well held request bytes program old new (Err (Feed fault)) told few found file out clock crew h = h
+run-well held request bytes program old new (Err (Words fault)) told few found file out clock crew h = h
+
+reported-live : {A : Type 0} (held : List ℕ → Option (List ℕ)) (request : RunRequest) (before after : OutsideView) (answer : Result A Fault) (old new : Option (List ℕ)) (it : Status) →
+    EndsLive held request before after answer → (it ≡ status.Outside edge.Err → ⊥) → Reports answer old new it →
+    (it ≡ status.Ended) ⊎ ((it ≡ status.NoMemory) ⊎ ((it ≡ status.Limit bound.Events) × IsRun held request before after why.Events))
+reported-live held request before after (Ok done) old new it well err h = inl h.0
+reported-live held request before after (Err NoMemory) old new it well err (inl h) = inr (inl h.0)
+reported-live held request before after (Err NoMemory) old new it well err (inr h) = absurd (err h.0)
+reported-live held request before after (Err (Limit bound.Events)) old new it well err (inl h) = inr (inr (h.0, well))
+reported-live held request before after (Err (Limit bound.Events)) old new it well err (inr h) = absurd (err h.0)
+reported-live held request before after (Err (Limit bound.Steps)) old new it well err h = absurd well
+reported-live held request before after (Err File) old new it well err h = absurd well
+reported-live held request before after (Err Out) old new it well err h = absurd well
+reported-live held request before after (Err Clock) old new it well err h = absurd well
+reported-live held request before after (Err Crew) old new it well err h = absurd well
+reported-live held request before after (Err (Script fault)) old new it well err h = absurd well
+reported-live held request before after (Err (Feed fault)) old new it well err h = absurd well
+reported-live held request before after (Err (Words fault)) old new it well err h = absurd well
+
+-- a thing of the outside whose count stays isn't named
+clock-stays : {A : Type 0} (old new : Seen) (answer : Result A Fault) → (Rose old.outside.clock_faults new.outside.clock_faults → ⊥) → IsCaused old new answer → answer ≡ Err Clock → ⊥
+clock-stays {A} old new answer stays caused e = stays (subst (λ (it : Result A Fault). IsCaused old new it) e caused)
+
+crew-stays : {A : Type 0} (old new : Seen) (answer : Result A Fault) → (Rose old.outside.crew_faults new.outside.crew_faults → ⊥) → IsCaused old new answer → answer ≡ Err Crew → ⊥
+crew-stays {A} old new answer stays caused e = stays (subst (λ (it : Result A Fault). IsCaused old new it) e caused)
+
+pub run-completes : (A : Type 0) (request : RunRequest) (bytes : List ℕ) (program : Program) (old new : Seen) (told more : Option (List ℕ)) (it : Status) →
+    old.held request.script ≡ Some bytes → length bytes ≤ most_bytes → IsFound bytes (Program' program) → (Rose old.file_faults new.file_faults → ⊥) → (Rose old.outside.out_faults new.outside.out_faults → ⊥) →
+    (Rose old.outside.clock_faults new.outside.clock_faults → ⊥) → (Rose old.outside.crew_faults new.outside.crew_faults → ⊥) → (it ≡ status.Outside edge.Err → ⊥) →
+    Reported {A = A} (Comes (Ok (command.Run request.script request.connects request.ticks request.events)) old new) told more it →
+    (it ≡ status.Ended) ⊎ ((it ≡ status.NoMemory) ⊎ ((it ≡ status.Limit bound.Events) × IsRun old.held request old.outside new.outside why.Events))
+run-completes A request bytes program old new told more it holds few found file out clock crew err (answer, comes, reports) =
+    reported-live old.held request old.outside new.outside answer told more it
+    (run-well old.held request bytes program old.outside new.outside answer holds few found (file-stays old new answer file comes.caused) (out-stays old new answer out comes.caused)
+    (clock-stays old new answer clock comes.caused) (crew-stays old new answer crew comes.caused) comes.outcome)
     err reports

@@ -1,16 +1,18 @@
 ghost use Rattle.std.specs.Prelude.{◌≡◌, ◌≢◌, ◌≤◌, ◌⊎◌, ℕ, List, Option, Ok, Some, length};
 ghost use Rattle.tb_body.specs.declared.program.Program.{Program};
-ghost use Rattle.tb_cli.specs.declared.command.Command.TheVariants.{Check, Sim};
+ghost use Rattle.tb_cli.specs.declared.command.Command.TheVariants.{Check, Run, Sim};
 ghost use Rattle.tb_edge.specs.Faults.{Rose};
+ghost use Rattle.tb_run.specs.declared.ends.RunWhy.TheVariants as why;
 ghost use Rattle.tb_script.specs.Findings.{IsFound, Program'};
 ghost use Rattle.tb_top.specs.Completeness.{MustEnd};
 ghost use Rattle.tb_top.specs.Loading.{most_bytes};
 ghost use Rattle.tb_top.specs.Outcomes.{Comes};
 ghost use Rattle.tb_top.specs.Reporting.{Reported};
+ghost use Rattle.tb_top.specs.Run.{IsRun, RunRequest};
 ghost use Rattle.tb_top.specs.Sim.{Request};
 ghost use Rattle.tb_top.specs.Views.{Seen};
 
-use crate::status::{Edge, Status};
+use crate::status::{Bound, Edge, Status};
 
 /// What must end well ends well, unless something of the outside fails or memory runs out: `check` of a script that is accepted.
 pub fn an_accepted_script_is_told()
@@ -26,4 +28,16 @@ pub fn a_simulation_that_ends_is_put()
         (Rose old.file_faults new.file_faults → ⊥) → (Rose old.outside.out_faults new.outside.out_faults → ⊥) → (status ≡ Status.Outside Edge.Err → ⊥) →
         Reported {A = Unit {0}} (Comes (Ok (Sim request.script request.feed request.connects request.steps request.events)) old new) told more status →
         (status ≡ Status.Ended) ⊎ (status ≡ Status.NoMemory) }
+{}
+
+/// The same of `run` of a script that is accepted, where neither the clock nor the crew fails, unless the log is full: then
+/// the run ended for that.
+pub fn a_run_of_an_accepted_script_ends()
+    ensures { (request : RunRequest) (bytes : List ℕ) (program : Program) (old new : Seen) (told more : Option (List ℕ)) (status : Status) →
+        old.held request.script ≡ Some bytes → length bytes ≤ most_bytes → IsFound bytes (Program' program) →
+        (Rose old.file_faults new.file_faults → ⊥) → (Rose old.outside.out_faults new.outside.out_faults → ⊥) →
+        (Rose old.outside.clock_faults new.outside.clock_faults → ⊥) → (Rose old.outside.crew_faults new.outside.crew_faults → ⊥) →
+        (status ≡ Status.Outside Edge.Err → ⊥) →
+        Reported {A = Unit {0}} (Comes (Ok (Run request.script request.connects request.ticks request.events)) old new) told more status →
+        (status ≡ Status.Ended) ⊎ ((status ≡ Status.NoMemory) ⊎ ((status ≡ Status.Limit Bound.Events) × IsRun old.held request old.outside new.outside why.Events)) }
 {}

@@ -1,0 +1,14 @@
+use Rattle.tb_top.proofs.Parts.{run-ended, out-rose, clock-rose, crew-rose}
+use Rattle.tb_top.proofs.run.run_core.Goals as goal
+
+pub returns-clause-outcome : goal.returns-clause-outcome
+returns-clause-outcome g c = run-ended c.args.ticks c.args.core.origin _ _ c.run-why.result.1 c.run-why.result.0 c.after_run.result c.run-why.ensures.runs c.after_run.ensures.ends
+
+pub returns-clause-out_rose : goal.returns-clause-out_rose
+returns-clause-out_rose g c = out-rose c.args.ticks c.args.core.origin _ _ c.run-why.result.1 c.run-why.result.0 c.after_run.result c.run-why.ensures.runs c.after_run.ensures.ends
+
+pub returns-clause-clock_rose : goal.returns-clause-clock_rose
+returns-clause-clock_rose g c = clock-rose c.args.ticks c.args.core.origin _ _ c.run-why.result.1 c.run-why.result.0 c.after_run.result c.run-why.ensures.runs c.after_run.ensures.ends
+
+pub returns-clause-crew_rose : goal.returns-clause-crew_rose
+returns-clause-crew_rose g c = crew-rose c.args.ticks c.args.core.origin _ _ c.run-why.result.1 c.run-why.result.0 c.after_run.result c.run-why.ensures.runs c.after_run.ensures.ends
