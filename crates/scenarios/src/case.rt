@@ -1,5 +1,7 @@
 //! A case as it is read, line by line.
 
+use crate::live::{Live, parted, what_of};
+use crate::playing::ROOM;
 use std::alloc::{AllocError, Global};
 use tb_cases::meant;
 
@@ -25,6 +27,8 @@ enum Block {
     File,
     Out,
     Err,
+    /// What is wanted of a run.
+    Wanted,
 }
 
 /// The words of a call, its files and what fails, and what is wanted of it.
@@ -34,7 +38,12 @@ pub(crate) struct Case {
     pub(crate) words: Vec<String>,
     pub(crate) files: Vec<Named>,
     pub(crate) fails: Fails,
+    /// How many bytes may be put to `out`.
+    pub(crate) room: usize,
+    pub(crate) live: Live,
     pub(crate) out: Vec<u8>,
+    /// Whether it says what is wanted on `out`.
+    pub(crate) says_out: bool,
     /// Whether what is wanted on `out` is its end.
     pub(crate) is_end: bool,
     pub(crate) err: Vec<u8>,
@@ -57,7 +66,10 @@ impl Case {
                 out: 0,
                 err: 0,
             },
+            room: ROOM,
+            live: Live::new(alloc),
             out: Vec::new(alloc),
+            says_out: false,
             is_end: false,
             err: Vec::new(alloc),
             status: 0,
@@ -69,7 +81,7 @@ impl Case {
 
     /// Takes a line of the case. Whether it is one.
     pub(crate) fn take_line(&mut self, alloc: Global, line: &str) -> Result<bool, AllocError> {
-        let (word, rest) = line.split_once(' ').unwrap_or((line, ""));
+        let (word, rest) = parted(line);
         match word {
             "|" => Ok(self.put(rest.as_bytes())? && self.put(b"\n")?),
             "\\" => self.put_meant(alloc, rest),
@@ -80,6 +92,9 @@ impl Case {
                 self.asks = text_meant(alloc, rest)?;
                 Ok(self.asks.is_some())
             }
+            "fails" => self.take_fails(rest),
+            "cue" => self.live.take_cue(alloc, rest),
+            "order" | "time" | "lane" | "took" => self.take_wanted(alloc, word, rest),
             _ => Ok(self.take_want(word, rest)),
         }
     }
@@ -94,6 +109,10 @@ impl Case {
             },
             Block::Out => self.out.extend_from_slice(bytes)?,
             Block::Err => self.err.extend_from_slice(bytes)?,
+            Block::Wanted => match self.live.wanted.last_mut() {
+                Some(wanted) => wanted.lines.extend_from_slice(bytes)?,
+                None => return Ok(false),
+            },
         }
         Ok(true)
     }
@@ -132,21 +151,37 @@ impl Case {
         Ok(true)
     }
 
+    /// Begins lines that are wanted of a run. Whether there are such.
+    fn take_wanted(&mut self, alloc: Global, word: &str, rest: &str) -> Result<bool, AllocError> {
+        match what_of(word, rest) {
+            Some(what) => self.live.want(alloc, what)?,
+            None => return Ok(false),
+        }
+        self.block = Block::Wanted;
+        Ok(true)
+    }
+
     /// Takes a line that says what is wanted. Whether it is one.
     fn take_want(&mut self, word: &str, rest: &str) -> bool {
         match word {
-            "out" => self.block = Block::Out,
+            "out" => self.take_out(),
             "end" => {
                 self.is_end = true;
-                self.block = Block::Out;
+                self.take_out();
             }
             "err" => self.block = Block::Err,
             "once" => self.is_once = true,
             "status" => return self.take_status(rest),
-            "fails" => return self.take_fails(rest),
+            "room" => return self.take_room(rest),
+            "ticks" => return self.live.take_ticks(rest),
             _ => return word.is_empty() || word.starts_with('#'),
         }
         true
+    }
+
+    fn take_out(&mut self) {
+        self.says_out = true;
+        self.block = Block::Out;
     }
 
     fn take_status(&mut self, text: &str) -> bool {
@@ -159,19 +194,34 @@ impl Case {
         }
     }
 
-    /// Takes which call is to fail, as `out 2`.
-    fn take_fails(&mut self, text: &str) -> bool {
-        let (thing, number) = text.split_once(' ').unwrap_or((text, ""));
-        let Ok(call) = number.parse::<u64>() else {
-            return false;
-        };
-        match thing {
-            "files" => self.fails.files = call,
-            "out" => self.fails.out = call,
-            "err" => self.fails.err = call,
-            _ => return false,
+    fn take_room(&mut self, text: &str) -> bool {
+        match text.parse::<usize>() {
+            Ok(room) => {
+                self.room = room;
+                true
+            }
+            Err(_) => false,
         }
-        true
+    }
+
+    /// Takes which call is to fail, as `out 2`.
+    fn take_fails(&mut self, text: &str) -> Result<bool, AllocError> {
+        let (thing, rest) = parted(text);
+        match (thing, rest.parse::<u64>()) {
+            ("files", Ok(call)) => self.fails.files = call,
+            ("out", Ok(call)) => self.fails.out = call,
+            ("err", Ok(call)) => self.fails.err = call,
+            _ => return self.live.take_fails(thing, rest),
+        }
+        Ok(true)
+    }
+
+    /// Whether the words ask for a run.
+    pub(crate) fn is_run(&self) -> bool {
+        match self.words.first() {
+            Some(word) => word.as_str() == "run",
+            None => false,
+        }
     }
 
     /// The bytes of the first file of this name.

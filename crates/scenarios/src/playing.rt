@@ -1,35 +1,129 @@
 //! The call of the ToolBus over what a case holds.
 
 use crate::case::{Case, Named};
+use crate::lanes::{Lanes, lanes_of};
 use std::alloc::Global;
-use tb_edge::{Bytes, HeldFile, MemFiles, MemSink};
+use std::sync::Wait;
+use std::thread::Threads;
+use tb_edge::{
+    Bytes, Clock, Crew, HeldFile, LanePair, MemClock, MemFiles, MemSink, NoCrew, ThreadCrew,
+};
+use tb_fake::Records;
 use tb_terms::{Items, NoMemory, Text};
-use tb_top::toolbus;
+use tb_top::{Status, toolbus};
 
-/// What a call put to its sinks, and its status.
+/// What a call put to its sinks and its lanes, and its status.
 #[derive(Drop)]
 pub(crate) struct Played {
     pub(crate) status: u8,
     pub(crate) out: MemSink,
     pub(crate) err: MemSink,
+    pub(crate) records: Records,
 }
 
-/// How many bytes may be put to a sink.
-const ROOM: usize = 24_000_000;
+/// What a call is lent beside its words, its clock and its crew.
+#[derive(Drop)]
+struct Stage {
+    files: MemFiles,
+    out: MemSink,
+    err: MemSink,
+    lanes: Vec<LanePair>,
+}
 
-/// What the ToolBus does with the words and files of the case.
-pub(crate) fn play(alloc: Global, case: &Case) -> Result<Played, NoMemory> {
+/// How many bytes may be put to `err`, and to `out` where no other number is said.
+pub(crate) const ROOM: usize = 24_000_000;
+
+/// How many lanes there are.
+const LANES: usize = 16;
+
+/// What the ToolBus does with the words, files and lanes of the case. None where there aren't sixteen lanes.
+pub(crate) fn play<R: Threads + Wait + Sync>(
+    rt: &R,
+    alloc: Global,
+    case: &Case,
+) -> Result<Option<Played>, NoMemory> {
+    let Lanes {
+        pairs,
+        mut clock,
+        records,
+    } = lanes_of(alloc, &case.live)?;
+    let mut stage = stage_of(alloc, case, pairs)?;
+    let status = match case.live.ticks {
+        Some(ticks) => {
+            let mut clock = MemClock::new(ticks, one(alloc, case.live.clock_fails)?);
+            play_by(rt, alloc, case, &mut stage, &mut clock)
+        }
+        None => play_by(rt, alloc, case, &mut stage, &mut clock),
+    };
+    let Some(status) = status else {
+        return Ok(None);
+    };
+    let Stage {
+        files: _,
+        out,
+        err,
+        lanes: _,
+    } = stage;
+    Ok(Some(Played {
+        status: status.number(),
+        out,
+        err,
+        records,
+    }))
+}
+
+/// The same by this clock.
+fn play_by<R: Threads + Wait + Sync, C: Clock + Send>(
+    rt: &R,
+    alloc: Global,
+    case: &Case,
+    stage: &mut Stage,
+    clock: &mut C,
+) -> Option<Status> {
+    if case.live.has_crew {
+        play_with(rt, alloc, case, stage, clock, &mut ThreadCrew::new())
+    } else {
+        play_with(rt, alloc, case, stage, clock, &mut NoCrew::new())
+    }
+}
+
+/// The same with this crew.
+fn play_with<R: Threads + Wait + Sync, C: Clock + Send, P: Crew>(
+    rt: &R,
+    alloc: Global,
+    case: &Case,
+    stage: &mut Stage,
+    clock: &mut C,
+    crew: &mut P,
+) -> Option<Status> {
+    if stage.lanes.len() != LANES {
+        return None;
+    }
+    Some(toolbus(
+        rt,
+        alloc,
+        &case.words,
+        &mut stage.files,
+        &mut stage.out,
+        &mut stage.err,
+        &mut stage.lanes,
+        clock,
+        crew,
+    ))
+}
+
+fn stage_of(alloc: Global, case: &Case, lanes: Vec<LanePair>) -> Result<Stage, NoMemory> {
     let mut held = Vec::new(alloc);
     for file in &case.files {
         held.push(held_file(alloc, file)?)?;
     }
     let held = Items::from_vec(held);
-    let mut files = MemFiles::new(alloc, held, one(alloc, case.fails.files)?);
-    let mut out = MemSink::new(alloc, ROOM, one(alloc, case.fails.out)?)?;
-    let mut err = MemSink::new(alloc, ROOM, one(alloc, case.fails.err)?)?;
-    let status = toolbus(alloc, &case.words, &mut files, &mut out, &mut err);
-    let status = status.number();
-    Ok(Played { status, out, err })
+    Ok(Stage {
+        files: MemFiles::new(alloc, held, one(alloc, case.fails.files)?),
+        out: MemSink::new(alloc, case.room, one(alloc, case.fails.out)?)?,
+        err: MemSink::new(alloc, ROOM, one(alloc, case.fails.err)?)?,
+        lanes,
+    })
 }
 
 /// A file in memory. One whose name is no string isn't found.

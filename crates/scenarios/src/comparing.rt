@@ -1,0 +1,174 @@
+//! What a call does, beside what its case wants.
+
+use crate::case::Case;
+use crate::lanes::taken_text;
+use crate::live::{Wanted, What};
+use crate::logged::{first_missing, inputs_of, times_of};
+use crate::playing::{Played, play};
+use crate::rewriting::{asked, rewritten};
+use std::alloc::Global;
+use std::sync::Wait;
+use std::thread::Threads;
+use tb_fake::Records;
+use tb_terms::NoMemory;
+
+/// What differs first from what the case wants.
+pub(crate) fn difference<R: Threads + Wait + Sync>(
+    rt: &R,
+    alloc: Global,
+    case: &Case,
+) -> Result<Option<String>, NoMemory> {
+    let Some(played) = play(rt, alloc, case)? else {
+        return Ok(Some(String::from_str(alloc, "there are not sixteen lanes")?));
+    };
+    if let Some(what) = difference_played(alloc, case, &played)? {
+        return Ok(Some(what));
+    }
+    if let Some(what) = difference_live(alloc, case, &played)? {
+        return Ok(Some(what));
+    }
+    if let Some(what) = difference_asked(alloc, case)? {
+        return Ok(Some(what));
+    }
+    if case.is_once || (played.status != 0 && played.status != 4) {
+        return Ok(None);
+    }
+    match rewritten(alloc, case)? {
+        Some(log) => difference_at(alloc, "over rewriters", case, log.as_slice()),
+        None => Ok(None),
+    }
+}
+
+/// What the words ask for instead of what the case wants them to.
+fn difference_asked(alloc: Global, case: &Case) -> Result<Option<String>, NoMemory> {
+    let Some(asks) = &case.asks else {
+        return Ok(None);
+    };
+    let found = asked(alloc, case)?;
+    if found.as_str() == asks.as_str() {
+        return Ok(None);
+    }
+    Ok(Some(format!(in alloc; "asks {found}")?))
+}
+
+fn difference_played(
+    alloc: Global,
+    case: &Case,
+    played: &Played,
+) -> Result<Option<String>, NoMemory> {
+    if played.status != case.status {
+        return Ok(Some(format!(in alloc; "status {}", played.status)?));
+    }
+    if let Some(what) = first_line(alloc, "err", case.err.as_slice(), played.err.as_slice())? {
+        return Ok(Some(what));
+    }
+    if case.says_out || !case.is_run() {
+        return difference_at(alloc, "out", case, played.out.as_slice());
+    }
+    Ok(None)
+}
+
+/// Which lines that are wanted of a run differ first. Where none is asked for, no lane may have taken anything.
+fn difference_live(
+    alloc: Global,
+    case: &Case,
+    played: &Played,
+) -> Result<Option<String>, NoMemory> {
+    let log = str::from_utf8(played.out.as_slice()).unwrap_or("(no text)");
+    for wanted in &case.live.wanted {
+        if let Some(what) = difference_wanted(alloc, wanted, log, &played.records)? {
+            return Ok(Some(what));
+        }
+    }
+    if case.is_run() {
+        return Ok(None);
+    }
+    for lane in 1..17u8 {
+        if let Some(what) = difference_taken(alloc, lane, b"", &played.records)? {
+            return Ok(Some(what));
+        }
+    }
+    Ok(None)
+}
+
+fn difference_wanted(
+    alloc: Global,
+    wanted: &Wanted,
+    log: &str,
+    records: &Records,
+) -> Result<Option<String>, NoMemory> {
+    let lines = wanted.lines.as_slice();
+    match wanted.what {
+        What::Order => difference_order(alloc, lines, log),
+        What::Time => first_line(alloc, "time", lines, times_of(alloc, log)?.as_bytes()),
+        What::Lane(lane) => {
+            let what = format!(in alloc; "lane {lane}")?;
+            let inputs = inputs_of(alloc, log, lane)?;
+            first_line(alloc, what.as_str(), lines, inputs.as_bytes())
+        }
+        What::Took(lane) => difference_taken(alloc, lane, lines, records),
+    }
+}
+
+fn difference_order(alloc: Global, lines: &[u8], log: &str) -> Result<Option<String>, NoMemory> {
+    let lines = str::from_utf8(lines).unwrap_or("(no text)");
+    match first_missing(log, lines) {
+        Some(line) => Ok(Some(format!(in alloc; "order: not in its place: {line}")?)),
+        None => Ok(None),
+    }
+}
+
+/// Where what the outlet of a lane took differs from these lines.
+fn difference_taken(
+    alloc: Global,
+    lane: u8,
+    lines: &[u8],
+    records: &Records,
+) -> Result<Option<String>, NoMemory> {
+    let what = format!(in alloc; "took {lane}")?;
+    match taken_text(alloc, records, lane)? {
+        Some(taken) => first_line(alloc, what.as_str(), lines, taken.as_slice()),
+        None => Ok(Some(format!(in alloc; "{what}: more than is kept")?)),
+    }
+}
+
+/// Where a log differs from what the case wants on `out`.
+fn difference_at(
+    alloc: Global,
+    what: &str,
+    case: &Case,
+    found: &[u8],
+) -> Result<Option<String>, NoMemory> {
+    let wanted = case.out.as_slice();
+    if case.is_end {
+        if found.ends_with(wanted) {
+            return Ok(None);
+        }
+        return Ok(Some(format!(in alloc; "{what}: another end")?));
+    }
+    first_line(alloc, what, wanted, found)
+}
+
+/// The first line in which two texts differ.
+fn first_line(
+    alloc: Global,
+    what: &str,
+    wanted: &[u8],
+    found: &[u8],
+) -> Result<Option<String>, NoMemory> {
+    if wanted == found {
+        return Ok(None);
+    }
+    let mut number: usize = 1;
+    let pairs = wanted
+        .split(|byte| *byte == b'\n')
+        .zip(found.split(|byte| *byte == b'\n'));
+    for (want, line) in pairs {
+        if want != line {
+            let line = str::from_utf8(line).unwrap_or("(no text)");
+            return Ok(Some(format!(in alloc; "{what}: line {number}: {line}")?));
+        }
+        number = number.saturating_add(1);
+    }
+    Ok(Some(format!(in alloc; "{what}: line {number}: more or less")?))
+}

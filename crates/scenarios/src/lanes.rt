@@ -1,0 +1,80 @@
+//! Sixteen lanes in memory.
+
+use crate::live::Live;
+use std::alloc::Global;
+use tb_edge::{LanePair, Taken};
+use tb_fake::{Cue, Cues, FakeClock, FakePair, FakePairs, Records, fakes};
+use tb_terms::{Items, NoMemory};
+
+/// The lanes of a call, and what goes with them.
+#[derive(Drop)]
+pub(crate) struct Lanes {
+    pub(crate) pairs: Vec<LanePair>,
+    /// A clock that ends once all outlets are closed.
+    pub(crate) clock: FakeClock,
+    /// What the outlets took, to be read once the call is over.
+    pub(crate) records: Records,
+}
+
+/// Lanes that do what the case says.
+pub(crate) fn lanes_of(alloc: Global, live: &Live) -> Result<Lanes, NoMemory> {
+    let cues = copied(alloc, live.cues.as_slice())?;
+    let fails = Items::from_slice(alloc, live.fails.as_slice())?;
+    let FakePairs {
+        pairs: ends,
+        clock,
+        records,
+    } = fakes(alloc, cues, fails)?;
+    let mut pairs = Vec::new(alloc);
+    for FakePair { inlet, outlet } in ends {
+        pairs.push(LanePair {
+            inlet: Box::new(alloc, inlet)?,
+            outlet: Box::new(alloc, outlet)?,
+        })?;
+    }
+    Ok(Lanes {
+        pairs,
+        clock,
+        records,
+    })
+}
+
+fn copied(alloc: Global, cues: &[Cue]) -> Result<Cues, NoMemory> {
+    let mut copies = Items::new(alloc);
+    for cue in cues {
+        copies.push(cue.copy(alloc)?)?;
+    }
+    Ok(copies)
+}
+
+/// What the outlet of a lane took, an item a line. None where it took more than is kept.
+pub(crate) fn taken_text(
+    alloc: Global,
+    records: &Records,
+    lane: u8,
+) -> Result<Option<Vec<u8>>, NoMemory> {
+    let Some(taken) = records.of(alloc, lane)? else {
+        return Ok(None);
+    };
+    let mut text = Vec::new(alloc);
+    for item in taken.as_slice() {
+        put_item(item, &mut text)?;
+    }
+    Ok(Some(text))
+}
+
+fn put_item(item: &Taken, into: &mut Vec<u8>) -> Result<(), NoMemory> {
+    match item {
+        Taken::Start(command) => {
+            into.extend_from_slice(b"start ")?;
+            into.extend_from_slice(command.as_bytes())?;
+        }
+        Taken::Line(bytes) => {
+            into.extend_from_slice(b"line ")?;
+            into.extend_from_slice(bytes.as_slice())?;
+        }
+        Taken::End => into.extend_from_slice(b"end")?,
+    }
+    into.push(b'\n')?;
+    Ok(())
+}
