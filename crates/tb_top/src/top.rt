@@ -15,9 +15,9 @@ use crate::run::run_script;
 use crate::sim::sim;
 use crate::status::{Edge, Status};
 use std::alloc::Global;
-use tb_cli::{Command, WordFault, read_words};
 use std::sync::Wait;
 use std::thread::Threads;
+use tb_cli::{Command, WordFault, read_words};
 use tb_edge::{Clock, Crew, Files, Inlet, LanePair, Outlet, Sink};
 
 /// Does what the words of the command line ask for. `check SCRIPT` puts `ok` and a newline to `out`
@@ -27,14 +27,7 @@ use tb_edge::{Clock, Crew, Files, Inlet, LanePair, Outlet, Sink};
 /// over the tools of the lanes and puts its log while it runs; `ring N K` puts a summary of the simulation of N processes in a
 /// ring, round which a message goes K times.
 /// Each status but `Ended` puts its one line to `err`, and where `err` fails at that, the status is `Outside(Err)`.
-pub fn toolbus<
-    R: Threads + Wait + Sync,
-    F: Files,
-    O: Sink,
-    E: Sink,
-    C: Clock + Send,
-    P: Crew,
->(
+pub fn toolbus<R: Threads + Wait + Sync, F: Files, O: Sink, E: Sink, C: Clock + Send, P: Crew>(
     rt: &R,
     alloc: Global,
     words: &Vec<String>,
@@ -50,39 +43,39 @@ pub fn toolbus<
     ensures outcome { Reported {A = Unit {0}}
         (Comes (asked (map string_bytes words.now.items))
         (record {
-              held = F.held files.old;
-              asked = F.asked files.old;
-              file_faults = F.faults files.old;
-              outside = record {
-                lanes = map (λ pair. record {
-                  gave = ⟦<Box<dyn Inlet + Send> as Inlet>⟧.told pair.inlet;
-                  took = ⟦<Box<dyn Outlet + Send> as Outlet>⟧.told pair.outlet;
-                  faults = ⟦<Box<dyn Outlet + Send> as Outlet>⟧.faults pair.outlet;
-                }) lanes.old.items;
-                clock = C.told clock.old;
-                clock_faults = C.faults clock.old;
-                crew_faults = P.faults crew.old;
-                put = O.taken out.old;
-                out_faults = O.faults out.old;
-              };
-            })
+          held = F.held files.old;
+          asked = F.asked files.old;
+          file_faults = F.faults files.old;
+          outside = record {
+            lanes = map (λ pair. record {
+              gave = ⟦<Box<dyn Inlet + Send> as Inlet>⟧.told pair.inlet;
+              took = ⟦<Box<dyn Outlet + Send> as Outlet>⟧.told pair.outlet;
+              faults = ⟦<Box<dyn Outlet + Send> as Outlet>⟧.faults pair.outlet;
+            }) lanes.old.items;
+            clock = C.told clock.old;
+            clock_faults = C.faults clock.old;
+            crew_faults = P.faults crew.old;
+            put = O.taken out.old;
+            out_faults = O.faults out.old;
+          };
+        })
         (record {
-              held = F.held files.new;
-              asked = F.asked files.new;
-              file_faults = F.faults files.new;
-              outside = record {
-                lanes = map (λ pair. record {
-                  gave = ⟦<Box<dyn Inlet + Send> as Inlet>⟧.told pair.inlet;
-                  took = ⟦<Box<dyn Outlet + Send> as Outlet>⟧.told pair.outlet;
-                  faults = ⟦<Box<dyn Outlet + Send> as Outlet>⟧.faults pair.outlet;
-                }) lanes.new.items;
-                clock = C.told clock.new;
-                clock_faults = C.faults clock.new;
-                crew_faults = P.faults crew.new;
-                put = O.taken out.new;
-                out_faults = O.faults out.new;
-              };
-            }))
+          held = F.held files.new;
+          asked = F.asked files.new;
+          file_faults = F.faults files.new;
+          outside = record {
+            lanes = map (λ pair. record {
+              gave = ⟦<Box<dyn Inlet + Send> as Inlet>⟧.told pair.inlet;
+              took = ⟦<Box<dyn Outlet + Send> as Outlet>⟧.told pair.outlet;
+              faults = ⟦<Box<dyn Outlet + Send> as Outlet>⟧.faults pair.outlet;
+            }) lanes.new.items;
+            clock = C.told clock.new;
+            clock_faults = C.faults clock.new;
+            crew_faults = P.faults crew.new;
+            put = O.taken out.new;
+            out_faults = O.faults out.new;
+          };
+        }))
         (E.taken err.old) (E.taken err.new) result }
 
     // Whatever the status, only files that the words name are asked for, in their order.
@@ -114,39 +107,39 @@ fn answer<R: Threads + Wait + Sync, F: Files, O: Sink, C: Clock + Send, P: Crew>
     requires { vec_len lanes.old ≡ 16 }
     ensures outcome { CommandOutcome (asked (map string_bytes words.now.items))
         (record {
-              held = F.held files.old;
-              asked = F.asked files.old;
-              file_faults = F.faults files.old;
-              outside = record {
-                lanes = map (λ pair. record {
-                  gave = ⟦<Box<dyn Inlet + Send> as Inlet>⟧.told pair.inlet;
-                  took = ⟦<Box<dyn Outlet + Send> as Outlet>⟧.told pair.outlet;
-                  faults = ⟦<Box<dyn Outlet + Send> as Outlet>⟧.faults pair.outlet;
-                }) lanes.old.items;
-                clock = C.told clock.old;
-                clock_faults = C.faults clock.old;
-                crew_faults = P.faults crew.old;
-                put = O.taken out.old;
-                out_faults = O.faults out.old;
-              };
-            })
+          held = F.held files.old;
+          asked = F.asked files.old;
+          file_faults = F.faults files.old;
+          outside = record {
+            lanes = map (λ pair. record {
+              gave = ⟦<Box<dyn Inlet + Send> as Inlet>⟧.told pair.inlet;
+              took = ⟦<Box<dyn Outlet + Send> as Outlet>⟧.told pair.outlet;
+              faults = ⟦<Box<dyn Outlet + Send> as Outlet>⟧.faults pair.outlet;
+            }) lanes.old.items;
+            clock = C.told clock.old;
+            clock_faults = C.faults clock.old;
+            crew_faults = P.faults crew.old;
+            put = O.taken out.old;
+            out_faults = O.faults out.old;
+          };
+        })
         (record {
-              held = F.held files.new;
-              asked = F.asked files.new;
-              file_faults = F.faults files.new;
-              outside = record {
-                lanes = map (λ pair. record {
-                  gave = ⟦<Box<dyn Inlet + Send> as Inlet>⟧.told pair.inlet;
-                  took = ⟦<Box<dyn Outlet + Send> as Outlet>⟧.told pair.outlet;
-                  faults = ⟦<Box<dyn Outlet + Send> as Outlet>⟧.faults pair.outlet;
-                }) lanes.new.items;
-                clock = C.told clock.new;
-                clock_faults = C.faults clock.new;
-                crew_faults = P.faults crew.new;
-                put = O.taken out.new;
-                out_faults = O.faults out.new;
-              };
-            }) result }
+          held = F.held files.new;
+          asked = F.asked files.new;
+          file_faults = F.faults files.new;
+          outside = record {
+            lanes = map (λ pair. record {
+              gave = ⟦<Box<dyn Inlet + Send> as Inlet>⟧.told pair.inlet;
+              took = ⟦<Box<dyn Outlet + Send> as Outlet>⟧.told pair.outlet;
+              faults = ⟦<Box<dyn Outlet + Send> as Outlet>⟧.faults pair.outlet;
+            }) lanes.new.items;
+            clock = C.told clock.new;
+            clock_faults = C.faults clock.new;
+            crew_faults = P.faults crew.new;
+            put = O.taken out.new;
+            out_faults = O.faults out.new;
+          };
+        }) result }
     ensures asks { Asks (F.held files.old) (files_of (asked (map string_bytes words.now.items))) (F.asked files.old) (F.asked files.new) result }
     ensures file_rose { result ≡ Err Fault.File → Rose (F.faults files.old) (F.faults files.new) }
     ensures out_rose { result ≡ Err Fault.Out → Rose (O.faults out.old) (O.faults out.new) }
@@ -175,39 +168,39 @@ fn do_command<R: Threads + Wait + Sync, F: Files, O: Sink, C: Clock + Send, P: C
     requires lanes { vec_len lanes.old ≡ 16 }
     ensures outcome { CommandOutcome (Ok command.now)
         (record {
-              held = F.held files.old;
-              asked = F.asked files.old;
-              file_faults = F.faults files.old;
-              outside = record {
-                lanes = map (λ pair. record {
-                  gave = ⟦<Box<dyn Inlet + Send> as Inlet>⟧.told pair.inlet;
-                  took = ⟦<Box<dyn Outlet + Send> as Outlet>⟧.told pair.outlet;
-                  faults = ⟦<Box<dyn Outlet + Send> as Outlet>⟧.faults pair.outlet;
-                }) lanes.old.items;
-                clock = C.told clock.old;
-                clock_faults = C.faults clock.old;
-                crew_faults = P.faults crew.old;
-                put = O.taken out.old;
-                out_faults = O.faults out.old;
-              };
-            })
+          held = F.held files.old;
+          asked = F.asked files.old;
+          file_faults = F.faults files.old;
+          outside = record {
+            lanes = map (λ pair. record {
+              gave = ⟦<Box<dyn Inlet + Send> as Inlet>⟧.told pair.inlet;
+              took = ⟦<Box<dyn Outlet + Send> as Outlet>⟧.told pair.outlet;
+              faults = ⟦<Box<dyn Outlet + Send> as Outlet>⟧.faults pair.outlet;
+            }) lanes.old.items;
+            clock = C.told clock.old;
+            clock_faults = C.faults clock.old;
+            crew_faults = P.faults crew.old;
+            put = O.taken out.old;
+            out_faults = O.faults out.old;
+          };
+        })
         (record {
-              held = F.held files.new;
-              asked = F.asked files.new;
-              file_faults = F.faults files.new;
-              outside = record {
-                lanes = map (λ pair. record {
-                  gave = ⟦<Box<dyn Inlet + Send> as Inlet>⟧.told pair.inlet;
-                  took = ⟦<Box<dyn Outlet + Send> as Outlet>⟧.told pair.outlet;
-                  faults = ⟦<Box<dyn Outlet + Send> as Outlet>⟧.faults pair.outlet;
-                }) lanes.new.items;
-                clock = C.told clock.new;
-                clock_faults = C.faults clock.new;
-                crew_faults = P.faults crew.new;
-                put = O.taken out.new;
-                out_faults = O.faults out.new;
-              };
-            }) result }
+          held = F.held files.new;
+          asked = F.asked files.new;
+          file_faults = F.faults files.new;
+          outside = record {
+            lanes = map (λ pair. record {
+              gave = ⟦<Box<dyn Inlet + Send> as Inlet>⟧.told pair.inlet;
+              took = ⟦<Box<dyn Outlet + Send> as Outlet>⟧.told pair.outlet;
+              faults = ⟦<Box<dyn Outlet + Send> as Outlet>⟧.faults pair.outlet;
+            }) lanes.new.items;
+            clock = C.told clock.new;
+            clock_faults = C.faults clock.new;
+            crew_faults = P.faults crew.new;
+            put = O.taken out.new;
+            out_faults = O.faults out.new;
+          };
+        }) result }
     ensures asks { Asks (F.held files.old) (files_of (Ok command.now)) (F.asked files.old) (F.asked files.new) result }
     ensures file_rose { result ≡ Err Fault.File → Rose (F.faults files.old) (F.faults files.new) }
     ensures out_rose { result ≡ Err Fault.Out → Rose (O.faults out.old) (O.faults out.new) }

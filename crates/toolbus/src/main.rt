@@ -25,7 +25,8 @@ fn main(rt: HostRuntime) -> ExitCode {
         let Ok(ChildPair { inlet, outlet }) = child_pair(rt.alloc(), rt) else {
             return ExitCode::from(Status::NoMemory.number());
         };
-        let (Ok(inlet), Ok(outlet)) = (Box::new(rt.alloc(), inlet), Box::new(rt.alloc(), outlet)) else {
+        let (Ok(inlet), Ok(outlet)) = (Box::new(rt.alloc(), inlet), Box::new(rt.alloc(), outlet))
+        else {
             return ExitCode::from(Status::NoMemory.number());
         };
         if lanes.push(LanePair { inlet, outlet }).is_err() {
