@@ -28,7 +28,7 @@ use Rattle.tb_top.specs.Run.{IsRun, LiveOutcome, RunRequest}
 use Rattle.tb_top.specs.Views.{IsLeft, Seen}
 use Rattle.tb_top.specs.Ring.{IsRingOf, RingOutcome, most_of_ring, ring_origin, summary}
 use Rattle.tb_top.specs.Sim.{IsFed, IsSimOf, Request, SimOutcome}
-use Rattle.tb_top.specs.Helpers.Parts.{AsksFor, AsksForFeed, EndsRun, IsBehindScript, IsLive, IsRefusedBy, IsRingSimulated, IsSimulated, IsUnread, PutsText, PutsWhole}
+use Rattle.tb_top.specs.Helpers.Parts.{AsksFor, AsksForFeed, EndsRun, IsBehindScript, IsLive, IsLiveFault, IsRefusedBy, IsRingSimulated, IsSimulated, IsUnread, PutsText, PutsWhole}
 use Rattle.tb_top.specs.declared.fault.Fault.{Fault}
 use Rattle.tb_top.specs.declared.fault.Fault.TheVariants.{Script, Feed, Words, File, Out, Clock, Crew, Limit, NoMemory}
 use Rattle.tb_top.specs.declared.status.Bound.TheVariants as bound
@@ -230,3 +230,21 @@ pub crew-rose : {A : Type 0} (ticks : ℕ) (origin : Origin) (old new : OutsideV
 crew-rose {A} ticks origin old new back it answer runs e named =
     let ended : it ≡ why.Crew = subst (λ (a : Result A Fault). EndsRun it a) named e in
     (subst (λ (w : RunWhy). RunOutcome ticks old new back w) ended runs.outcome).4
+
+pub live-by : {A : Type 0} (ticks : ℕ) (one other : Origin) (old new : OutsideView) (answer : Result A Fault) → one ≡ other → IsLive ticks one old new answer → IsLive ticks other old new answer
+live-by ticks one other old new answer e live = subst (λ (o : Origin). IsLive ticks o old new answer) e live
+
+pub live-behind : {A : Type 0} (answer : Result A Fault) → IfErr answer IsLiveFault → IfErr answer IsBehindScript
+live-behind (Ok done) h = tt
+live-behind (Err Out) h = tt
+live-behind (Err Clock) h = tt
+live-behind (Err Crew) h = tt
+live-behind (Err (Limit bound)) h = tt
+live-behind (Err NoMemory) h = tt
+live-behind (Err (Script fault)) h = h
+live-behind (Err (Feed fault)) h = tt
+live-behind (Err (Words fault)) h = tt
+live-behind (Err File) h = tt
+
+pub not-file : {A : Type 0} (P : Type 0) (answer : Result A Fault) → IfErr answer IsLiveFault → answer ≡ Err File → P
+not-file {A} P answer h e = absurd (subst (λ (a : Result A Fault). IfErr a IsLiveFault) e h)

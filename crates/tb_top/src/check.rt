@@ -4,7 +4,7 @@ ghost use Rattle.tb_edge.specs.Faults.{Rose};
 ghost use Rattle.tb_top.specs.Asking.{AsksBeside};
 ghost use Rattle.tb_top.specs.Check.{CheckOutcome};
 ghost use Rattle.tb_top.specs.Loading.{IsAccepted};
-ghost use Rattle.tb_top.specs.Helpers.Parts.{IsBehindScript};
+ghost use Rattle.tb_top.specs.Helpers.Parts.{IsBehindScript, IsInside};
 
 use crate::fault::Fault;
 use crate::loading::load_script;
@@ -34,6 +34,7 @@ pub fn check<F: Files, O: Sink>(
 fn put_ok<O: Sink>(out: &mut O) -> Result<(), Fault>
     ensures outcome { (told : Option (List ℕ)) → IsAccepted told → CheckOutcome told (O.taken out.old) (O.taken out.new) result }
     ensures behind { IfErr result IsBehindScript }
+    ensures inside { IfErr result IsInside }
     ensures not_file { result ≢ Err Fault.File }
     ensures rose { OnErr result (Rose (O.faults out.old) (O.faults out.new)) }
 {

@@ -4,7 +4,7 @@ ghost use Rattle.tb_edge.specs.Faults.{Rose};
 ghost use Rattle.tb_edge.specs.Sinks.{Writes, WritesPrefix};
 ghost use Rattle.tb_gen.specs.Ring.{ring_text};
 ghost use Rattle.tb_top.specs.Ring.{RingOutcome, last_word, ring_origin, steps_in, summary, word_after};
-ghost use Rattle.tb_top.specs.Helpers.Parts.{IsBehindFeed, IsRingSimulated, PutsWhole};
+ghost use Rattle.tb_top.specs.Helpers.Parts.{IsBehindFeed, IsInside, IsRingSimulated, PutsWhole};
 
 use crate::fault::{Fault, after_end};
 use crate::loading::load_bytes;

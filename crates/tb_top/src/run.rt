@@ -6,7 +6,7 @@ ghost use Rattle.tb_edge.specs.Faults.{Rose};
 ghost use Rattle.tb_run.specs.Outcomes.{LaneView, OutsideView};
 ghost use Rattle.tb_top.specs.Asking.{AsksBeside};
 ghost use Rattle.tb_top.specs.Run.{LiveOutcome};
-ghost use Rattle.tb_top.specs.Helpers.Parts.{EndsRun, IsBehindScript, IsLive};
+ghost use Rattle.tb_top.specs.Helpers.Parts.{EndsRun, IsLive, IsLiveFault};
 
 use crate::fault::Fault;
 use crate::loading::load_script;
@@ -121,7 +121,7 @@ fn run_program<R: Threads + Wait + Sync, O: Sink, C: Clock + Send, P: Crew>(
           put = O.taken out.new;
           out_faults = O.faults out.new;
         }) result }
-    ensures behind { IfErr result IsBehindScript }
+    ensures behind { IfErr result IsLiveFault }
     ensures out_rose { result ≡ Err Fault.Out → Rose (O.faults out.old) (O.faults out.new) }
     ensures clock_rose { result ≡ Err Fault.Clock → Rose (C.faults clock.old) (C.faults clock.new) }
     ensures crew_rose { result ≡ Err Fault.Crew → Rose (P.faults crew.old) (P.faults crew.new) }
@@ -172,7 +172,7 @@ fn run_core<R: Threads + Wait + Sync, O: Sink, C: Clock + Send, P: Crew>(
           put = O.taken out.new;
           out_faults = O.faults out.new;
         }) result }
-    ensures behind { IfErr result IsBehindScript }
+    ensures behind { IfErr result IsLiveFault }
     ensures out_rose { result ≡ Err Fault.Out → Rose (O.faults out.old) (O.faults out.new) }
     ensures clock_rose { result ≡ Err Fault.Clock → Rose (C.faults clock.old) (C.faults clock.new) }
     ensures crew_rose { result ≡ Err Fault.Crew → Rose (P.faults crew.old) (P.faults crew.new) }
@@ -185,7 +185,7 @@ fn run_core<R: Threads + Wait + Sync, O: Sink, C: Clock + Send, P: Crew>(
 /// What a run comes to that ended so.
 fn after_run(why: RunWhy) -> Result<(), Fault>
     ensures ends { EndsRun why result }
-    ensures behind { IfErr result IsBehindScript }
+    ensures behind { IfErr result IsLiveFault }
 {
     match why {
         RunWhy::Ended => Ok(()),

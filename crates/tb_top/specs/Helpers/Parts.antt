@@ -111,3 +111,12 @@ abbrev pub IsInside : Fault → Type 0
 IsInside Clock = ⊥
 IsInside Crew = ⊥
 IsInside _ = Unit {0}
+
+-- a fault that comes of a run, once its script has a program
+abbrev pub IsLiveFault : Fault → Type 0
+IsLiveFault Out = Unit {0}
+IsLiveFault Clock = Unit {0}
+IsLiveFault Crew = Unit {0}
+IsLiveFault (Limit bound) = Unit {0}
+IsLiveFault NoMemory = Unit {0}
+IsLiveFault _ = ⊥

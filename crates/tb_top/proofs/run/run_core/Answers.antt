@@ -1,3 +1,6 @@
+use denote.Exit.{no}
+use denote.Param.Send.{param_send, arg_send}
+use Rattle.tb_walk.proofs.SendLemmas.{walk_send, code_send}
 use Rattle.tb_top.proofs.Parts.{run-ended, out-rose, clock-rose, crew-rose}
 use Rattle.tb_top.proofs.run.run_core.Goals as goal
 
@@ -12,3 +15,9 @@ returns-clause-clock_rose g c = clock-rose c.args.ticks c.args.core.origin _ _ c
 
 pub returns-clause-crew_rose : goal.returns-clause-crew_rose
 returns-clause-crew_rose g c = crew-rose c.args.ticks c.args.core.origin _ _ c.run-why.result.1 c.run-why.result.0 c.after_run.result c.run-why.ensures.runs c.after_run.ensures.ends
+
+pub run-why-requires-send-W : goal.run-why-requires-send-W
+run-why-requires-send-W g c κs within = param_send _ _ (arg_send _ no _ walk_send)
+
+pub run-why-requires-send-W-Plan : goal.run-why-requires-send-W-Plan
+run-why-requires-send-W-Plan g c κs within = param_send _ _ (arg_send _ no _ code_send)
