@@ -119,8 +119,20 @@ fn put<W: Walker, R: Wait, O: Outlet>(
 {
     buffer.clear();
     match send_out(outlet, out, buffer) {
-        Ok(()) => None,
+        Ok(()) => {
+            tell_free(bells, out);
+            None
+        }
         Err(SendFault::Cut) => going_on(hand(rt, shared, bells, seat, Input::Cut(lane))),
+    }
+}
+
+/// Wakes who makes steps where a lane may be free now: behind an end nothing is to be handed out, and a step may wait for
+/// just that.
+fn tell_free(bells: &Bells, out: &Out) {
+    match out {
+        Out::End => bells.ring(Sleeper::Stepper),
+        Out::Start(_) | Out::Line(_) => {}
     }
 }
 
