@@ -26,7 +26,7 @@ pub(crate) struct Wanted {
     pub(crate) lines: Vec<u8>,
 }
 
-/// What is said of live tools. Nothing is where the lanes are to be left alone.
+/// What is said of live tools: nothing, where lanes are to be left alone.
 #[derive(Drop)]
 pub(crate) struct Live {
     pub(crate) cues: Cues,

@@ -122,7 +122,7 @@ RunOutcome most old new back Sink =
 RunOutcome most old new back NoMemory =
     WritesPrefix old.put new.put (log_text back.log) × EachLane (LaneStopped back.log) 1 old.lanes new.lanes
     × ClockStopped back.log most old.clock new.clock (Rose old.clock_faults new.clock_faults)
--- there was no crew: nothing was logged, and the outside is as it was
+-- there was no crew: nothing was logged, given, taken or put
 RunOutcome most old new back Crew =
     (new.put ≡ old.put) × (new.lanes ≡ old.lanes) × (new.clock ≡ old.clock) × (back.log ≡ []) × Rose old.crew_faults new.crew_faults
 

@@ -35,7 +35,7 @@ pub record Adds (old new : SeatView) (more : List Entry) : Type 0 where
   pub trace : SeesTrace old → SeesTrace new
   pub told : old.told ≡ true → new.told ≡ true
 
--- a call was refused since the log had no room at some place of what the seat has seen
+-- at some place of what the seat has seen the log had no room for what some call would log
 pub record WasFull (seat : SeatView) : Type 0 where
   pub core : CoreState
   pub call : Call
@@ -49,7 +49,7 @@ pub record WasFull (seat : SeatView) : Type 0 where
 abbrev pub EndsWith : SeatView → Entry → Type 0
 EndsWith seat entry = (before : List Entry) × (seat.seen ≡ before ++ entry ∷ [])
 
--- What a worker's end says of the marks of its seat: it calls `stop` only where it was refused a call.
+-- What a worker's end says of the marks of its seat: it calls `stop` only where it ends for want of room or of memory.
 abbrev pub Marks : SeatView → SeatView → WorkEnd → Type 0
 Marks old new end.Over = new.called ≡ old.called
 Marks old new end.Down = new.called ≡ old.called

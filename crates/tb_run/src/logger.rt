@@ -143,6 +143,7 @@ fn put_some<W: Walker, R: Wait, O: Sink>(
             return Some(LogEnd::Over);
         }
         *heard = bells.wait_past(rt, Sleeper::Log, *heard);
+        return None;
     }
     match put_piece(writer, piece, out) {
         Ok(()) => None,

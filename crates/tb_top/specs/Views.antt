@@ -11,7 +11,7 @@ pub record Seen : Type 0 where
   -- the lanes, the clock, the crew and the sink of the log
   pub outside : OutsideView
 
--- no lane gave or took anything, and neither the clock nor the crew was asked for
+-- no lane gave or took anything, the clock gave no tick, and the counts of clock and crew stay
 pub record IsLeft (old new : OutsideView) : Type 0 where
   pub lanes : new.lanes ≡ old.lanes
   pub clock : new.clock ≡ old.clock
