@@ -1,5 +1,5 @@
 -- What the calls of a shared bus come to: those that wait for a turn are answered as by one core, whose log is the one history; and how seats join.
-use Rattle.std.specs.Prelude.{◌≡◌, ◌↔◌, ℕ, List, [], ◌++◌, length, take, drop, true, false, ◌||◌, IsTrue, Result, Ok, Err, IfOk, IsErrOf, ⊤}
+use Rattle.std.specs.Prelude.{◌≡◌, ◌↔◌, ℕ, List, [], ◌∷◌, ◌++◌, map, length, take, drop, true, false, ◌||◌, IsTrue, Result, Ok, Err, IfOk, IsErrOf, ⊤}
 use Rattle.tb_terms.specs.declared.memory.NoMemory.{NoMemory}
 use Rattle.tb_log.specs.declared.entry.Entry.{Entry}
 use Rattle.tb_log.specs.declared.entry.Input.{Input}
@@ -85,6 +85,10 @@ pub record Observes {A : Type 0} (Finds : CoreState → A → Type 0) (old new :
 -- the state of a lane
 abbrev pub IsStateOf : ℕ → CoreState → LaneState → Type 0
 IsStateOf lane core state = state ≡ lane_state (lane_at lane (bus_now core).bench)
+
+-- the states of all lanes, in order
+abbrev pub AreStates : CoreState → List LaneState → Type 0
+AreStates core states = states ≡ map (λ lane. lane_state (lane_at lane (bus_now core).bench)) (1 ∷ 2 ∷ 3 ∷ 4 ∷ 5 ∷ 6 ∷ 7 ∷ 8 ∷ 9 ∷ 10 ∷ 11 ∷ 12 ∷ 13 ∷ 14 ∷ 15 ∷ 16 ∷ [])
 
 -- the entries of the log behind the first so many, and of these so many at most
 abbrev pub IsPieceOf : ℕ → ℕ → CoreState → Result (List Entry) NoMemory → Type 0

@@ -9,6 +9,7 @@ use tb_algebra::Walker;
 use tb_bells::{Bells, Sleeper};
 use tb_core::Stepped;
 use tb_lock::{Seat, Shared, calls_add_their_own};
+use tb_tools::LaneState;
 
 /// How many steps are made before the others are told.
 const BURST: u32 = 64;
@@ -53,11 +54,11 @@ fn step_some<W: Walker, R: Wait>(
             None => {}
         }
         if none {
-            rest(rt, bells, done, heard);
+            rest(rt, shared, bells, seat, done, heard);
             return None;
         }
     }
-    bells.ring_all();
+    tell_lanes(rt, shared, bells, seat);
     None
 }
 
@@ -89,11 +90,38 @@ fn step_one<W: Walker, R: Wait>(
 }
 
 /// Where steps were made, the others are told. Else the worker waits until it is told that something came.
-fn rest<R: Wait>(rt: &R, bells: &Bells, done: u32, heard: &mut u64) {
+fn rest<W: Walker, R: Wait>(
+    rt: &R,
+    shared: &Shared<W>,
+    bells: &Bells,
+    seat: &mut Seat,
+    done: u32,
+    heard: &mut u64,
+)
+    requires own { seat.old.bus ≡ shared.now }
+    ensures { Steps seat.old seat.new }
+{
     if done > 0 {
-        bells.ring_all();
+        tell_lanes(rt, shared, bells, seat);
     } else {
         bells.ring(Sleeper::Log);
         *heard = bells.wait_past(rt, Sleeper::Stepper, *heard);
+    }
+}
+
+/// Wakes who may have something to do after steps: who writes the log, and the writers of the lanes that aren't free. Nothing is
+/// to be handed out on a free lane.
+fn tell_lanes<W: Walker, R: Wait>(rt: &R, shared: &Shared<W>, bells: &Bells, seat: &mut Seat)
+    requires own { seat.old.bus ≡ shared.now }
+    ensures { Steps seat.old seat.new }
+{
+    calls_add_their_own();
+    bells.ring(Sleeper::Log);
+    let mut lane: u8 = 0;
+    for state in &shared.lane_states(rt, seat) {
+        lane = lane.wrapping_add(1);
+        if *state != LaneState::Free {
+            bells.ring(Sleeper::Writer(lane));
+        }
     }
 }

@@ -1,0 +1,2 @@
+use Rattle.tb_run.proofs.StepLemmas.{steps_none}
+use Rattle.tb_run.proofs.stepper.rest.Goals as goal
