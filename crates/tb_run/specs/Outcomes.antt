@@ -101,7 +101,7 @@ pub record IsRunOf (origin : Origin) (log : List Entry) : Type 0 where
 
 -- How a run ends, by its answer: the number of ticks that there may be, what was to be seen of the outside before and after, and the core that it hands back.
 abbrev pub RunOutcome : ℕ → OutsideView → OutsideView → CoreState → RunWhy → Type 0
--- to its end, and the clock didn't fail
+-- to its end, and no failure of the clock is why its ticks ended
 RunOutcome most old new back Ended =
     Writes old.put new.put (log_text back.log) × EachLane (LaneRan back.log) 1 old.lanes new.lanes
     × ClockRan back.log most old.clock new.clock ⊥ × IsDone (replay (start back.origin) back.log)

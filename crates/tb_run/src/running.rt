@@ -171,8 +171,8 @@ fn make_boxes(alloc: Global) -> Result<Boxes, NoMemory> {
 
 /// Runs a bus to its end: sixteen readers, sixteen writers, who makes steps and who hands in the ticks, `ticks` of them at
 /// most, each in a thread of its own, while this thread writes the log to `out`. A worker that finds the log full or no
-/// memory stops the bus, and so does this thread where the sink fails. The core comes back with all that was logged, and
-/// the lanes in their order.
+/// memory stops the bus, and so does this thread where the sink fails or it finds no memory. The core comes back with all
+/// that was logged, and the lanes in their order.
 pub fn run<W: Walker + Send, R: Threads + Wait + Sync, C: Clock + Send, P: Crew, S: Sink>(
     rt: &R,
     alloc: Global,

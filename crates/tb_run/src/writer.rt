@@ -87,7 +87,10 @@ fn write_one<W: Walker, R: Wait, O: Outlet>(
     calls_add_their_own();
     entries_are_in_shape();
     match shared.take_out(rt, seat, lane) {
-        Ok(TakeOut::Out(out)) => put(rt, shared, bells, seat, outlet, &out, buffer, lane),
+        Ok(TakeOut::Out(out)) => {
+            tell(bells, &out);
+            put(rt, shared, bells, seat, outlet, &out, buffer, lane)
+        }
         Ok(TakeOut::Nothing) => {
             bells.ring(Sleeper::Log);
             *heard = bells.wait_past(rt, Sleeper::Writer(lane), *heard);
@@ -119,17 +122,15 @@ fn put<W: Walker, R: Wait, O: Outlet>(
 {
     buffer.clear();
     match send_out(outlet, out, buffer) {
-        Ok(()) => {
-            tell_free(bells, out);
-            None
-        }
+        Ok(()) => None,
         Err(SendFault::Cut) => going_on(hand(rt, shared, bells, seat, Input::Cut(lane))),
     }
 }
 
-/// Wakes who makes steps where a lane may be free now: behind an end nothing is to be handed out, and a step may wait for
-/// just that.
-fn tell_free(bells: &Bells, out: &Out) {
+/// Wakes who writes the log, and who makes steps where the lane may be free now: behind an end nothing is to be handed out, and
+/// a step may wait for just that.
+fn tell(bells: &Bells, out: &Out) {
+    bells.ring(Sleeper::Log);
     match out {
         Out::End => bells.ring(Sleeper::Stepper),
         Out::Start(_) | Out::Line(_) => {}

@@ -1,4 +1,4 @@
--- How a call of the program ends, by what its words ask for: what was put, and which files were asked for.
+-- How a call of the program ends, by what its words ask for: what was put, which files were asked for, and what was made of lanes and clock.
 use Rattle.std.specs.Prelude.{◌≡◌, ◌≢◌, ℕ, List, [], ◌∷◌, Option, option_to_list, Result, Ok, Err}
 use Rattle.tb_cli.specs.declared.command.Command.{Command}
 use Rattle.tb_cli.specs.declared.command.Command.TheVariants as command

@@ -21,7 +21,7 @@ fn main(rt: HostRuntime) -> ExitCode {
     let Ok(mut lanes) = Vec::with_capacity(rt.alloc(), LANES) else {
         return ExitCode::from(Status::NoMemory.number());
     };
-    for _ in 0..LANES {
+    for _made in 0..LANES {
         let Ok(ChildPair { inlet, outlet }) = child_pair(rt.alloc(), rt) else {
             return ExitCode::from(Status::NoMemory.number());
         };
