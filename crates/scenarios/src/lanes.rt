@@ -1,42 +1,16 @@
-//! Sixteen lanes in memory.
+//! The ends of sixteen lanes in memory.
 
 use crate::live::Live;
 use std::alloc::Global;
-use tb_edge::{LanePair, Taken};
-use tb_fake::{Cue, Cues, FakeClock, FakePair, FakePairs, Records, fakes};
+use tb_edge::Taken;
+use tb_fake::{Cue, Cues, FakePairs, Records, fakes};
 use tb_terms::{Items, NoMemory};
 
-/// The lanes of a call, and what goes with them.
-#[derive(Drop)]
-pub(crate) struct Lanes {
-    pub(crate) pairs: Vec<LanePair>,
-    /// A clock that ends once all outlets are closed.
-    pub(crate) clock: FakeClock,
-    /// What the outlets took, to be read once the call is over.
-    pub(crate) records: Records,
-}
-
-/// Lanes that do what the case says.
-pub(crate) fn lanes_of(alloc: Global, live: &Live) -> Result<Lanes, NoMemory> {
+/// The ends of lanes that do what the case says.
+pub(crate) fn ends_of(alloc: Global, live: &Live) -> Result<FakePairs, NoMemory> {
     let cues = copied(alloc, live.cues.as_slice())?;
     let fails = Items::from_slice(alloc, live.fails.as_slice())?;
-    let FakePairs {
-        pairs: ends,
-        clock,
-        records,
-    } = fakes(alloc, cues, fails)?;
-    let mut pairs = Vec::new(alloc);
-    for FakePair { inlet, outlet } in ends {
-        pairs.push(LanePair {
-            inlet: Box::new(alloc, inlet)?,
-            outlet: Box::new(alloc, outlet)?,
-        })?;
-    }
-    Ok(Lanes {
-        pairs,
-        clock,
-        records,
-    })
+    fakes(alloc, cues, fails)
 }
 
 fn copied(alloc: Global, cues: &[Cue]) -> Result<Cues, NoMemory> {

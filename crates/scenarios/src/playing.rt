@@ -1,14 +1,14 @@
 //! The call of the ToolBus over what a case holds.
 
 use crate::case::{Case, Named};
-use crate::lanes::{Lanes, lanes_of};
+use crate::lanes::ends_of;
 use std::alloc::Global;
 use std::sync::Wait;
 use std::thread::Threads;
 use tb_edge::{
     Bytes, Clock, Crew, HeldFile, LanePair, MemClock, MemFiles, MemSink, NoCrew, ThreadCrew,
 };
-use tb_fake::Records;
+use tb_fake::{FakePair, FakePairs, Records};
 use tb_terms::{Items, NoMemory, Text};
 use tb_top::{Status, toolbus};
 
@@ -42,12 +42,19 @@ pub(crate) fn play<R: Threads + Wait + Sync>(
     alloc: Global,
     case: &Case,
 ) -> Result<Option<Played>, NoMemory> {
-    let Lanes {
+    let FakePairs {
         pairs,
         mut clock,
         records,
-    } = lanes_of(alloc, &case.live)?;
-    let mut stage = stage_of(alloc, case, pairs)?;
+    } = ends_of(alloc, &case.live)?;
+    let mut lanes = Vec::new(alloc);
+    for FakePair { inlet, outlet } in pairs {
+        lanes.push(LanePair {
+            inlet: Box::new(alloc, inlet)?,
+            outlet: Box::new(alloc, outlet)?,
+        })?;
+    }
+    let mut stage = stage_of(alloc, case, lanes)?;
     let status = match case.live.ticks {
         Some(ticks) => {
             let mut clock = MemClock::new(ticks, one(alloc, case.live.clock_fails)?);
