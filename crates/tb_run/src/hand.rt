@@ -26,33 +26,45 @@ pub(crate) fn hand<W: Walker, R: Wait>(
     ensures { Hands input seat.old seat.new result }
 {
     calls_add_their_own();
-    let lane = lane_of(&input);
+    let woken = woken_by(&input);
     match shared.hand_in(rt, seat, input) {
         Ok(reply) => {
-            tell(bells, lane);
+            tell(bells, woken);
             end_of(reply)
         }
         Err(fault) => Some(refused(rt, shared, bells, seat, fault)),
     }
 }
 
-/// The lane of an input, where it has one.
-fn lane_of(input: &Input) -> Option<u8> {
+/// Who may have something to do after an input, beside who writes the log.
+#[derive(Clone, Copy)]
+enum Woken {
+    /// Who makes steps.
+    Stepper,
+    /// Who makes steps, and the writer of this lane.
+    StepperAndWriter(u8),
+    Nobody,
+}
+
+fn woken_by(input: &Input) -> Woken {
     match input {
-        Input::Line(lane, _) => Some(*lane),
-        Input::Gone(lane) => Some(*lane),
-        Input::Cut(lane) => Some(*lane),
-        Input::Tick | Input::NoTicks => None,
+        Input::Line(lane, _) => Woken::StepperAndWriter(*lane),
+        Input::Gone(lane) => Woken::StepperAndWriter(*lane),
+        Input::Tick | Input::NoTicks => Woken::Stepper,
+        // An end is left on the lane. Who handed in the cut takes it next, and wakes who makes steps then.
+        Input::Cut(_) => Woken::Nobody,
     }
 }
 
-/// Wakes who may have something to do after an input: steps may be possible, and something may be handed out on its lane.
-fn tell(bells: &Bells, lane: Option<u8>) {
-    bells.ring(Sleeper::Stepper);
+fn tell(bells: &Bells, woken: Woken) {
     bells.ring(Sleeper::Log);
-    match lane {
-        Some(lane) => bells.ring(Sleeper::Writer(lane)),
-        None => {}
+    match woken {
+        Woken::Stepper => bells.ring(Sleeper::Stepper),
+        Woken::StepperAndWriter(lane) => {
+            bells.ring(Sleeper::Writer(lane));
+            bells.ring(Sleeper::Stepper);
+        }
+        Woken::Nobody => {}
     }
 }
 
