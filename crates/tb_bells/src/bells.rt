@@ -1,5 +1,9 @@
 use crate::bell::Bell;
 use std::sync::Wait;
+use std::time::Duration;
+
+/// How many milliseconds who has written some of the log lets pass.
+const PAUSE: u64 = 2;
 
 /// Who sleeps on one of the bells of a bus.
 #[derive(Clone, Copy, Debug, PartialEq, Eq)]
@@ -18,6 +22,7 @@ pub struct Bells {
     stepper: Bell,
     writers: [Bell; 16],
     log: Bell,
+    pause: Bell,
 }
 
 impl Bells {
@@ -27,6 +32,7 @@ impl Bells {
             stepper: Bell::new(),
             writers: sixteen(),
             log: Bell::new(),
+            pause: Bell::new(),
         }
     }
 
@@ -42,6 +48,13 @@ impl Bells {
             writer.ring();
         }
         self.log.ring();
+        self.pause.ring();
+    }
+
+    /// Lets two milliseconds pass, or less where all are rung for. It is meant for who has written some of the log: what
+    /// is logged meanwhile is written in one piece, and nobody has to wake it for each entry.
+    pub fn pause<R: Wait>(&self, rt: &R) {
+        self.pause.sleep(rt, Duration::from_millis(PAUSE));
     }
 
     /// Sleeps while this sleeper's count is `seen`, and gives the count as it is then. It is meant to begin with 0, and to

@@ -1,10 +1,14 @@
-//! Tests of the shared bus, of bells and of a run, whose threads run beside each other.
+//! Tests of the shared bus, of bells, of a crew and of a run, whose threads run beside each other, and of a run with a child.
 #![tactic(auto)]
 
 #[cfg(test)]
 mod bells;
 #[cfg(test)]
+mod child;
+#[cfg(test)]
 mod crowd;
+#[cfg(test)]
+mod jobs;
 #[cfg(test)]
 mod live;
 #[cfg(test)]

@@ -25,7 +25,7 @@ const FIRST: &[u8] = b"1 execute 1.1 t(1)\n";
 const WANTED: &str = "execute 1.1 t(1)\ngone 1\nrec-disconnect 1.2 t(1)\nfinish";
 
 /// How many lanes there are.
-const LANES: usize = 16;
+pub(crate) const LANES: usize = 16;
 
 /// How often one looks for a sign before one gives up.
 const LOOKS: u64 = 20_000_000;
@@ -186,34 +186,35 @@ impl Sink for ShowingSink {
     }
 }
 
-/// The core of a program that starts a tool.
-fn core_of(alloc: Global) -> Result<Core<Walk>, Fail>
+/// The core of a program.
+pub(crate) fn core_of(alloc: Global, script: &str) -> Result<Core<Walk>, Fail>
     ensures { IfOk result (λ core. (core.log ≡ []) × (core.stopped ≡ false)) }
 {
-    let program = load(alloc, STARTS.as_bytes())?;
+    let program = load(alloc, script.as_bytes())?;
     Ok(Core::start(alloc, program, &Items::new(alloc), 1_000)?)
 }
 
-/// Runs a core over these ends, and says why the run ended.
-fn run_core<R: Threads + Wait + Sync>(
+/// Runs a core over these ends for so many ticks at most, and says why the run ended.
+pub(crate) fn run_core<R: Threads + Wait + Sync, C: Clock + Send, S: Sink>(
     rt: &R,
     alloc: Global,
     core: Core<Walk>,
     lanes: &mut Vec<LanePair>,
-    clock: &mut TicklessClock,
-    out: &mut ShowingSink,
+    clock: &mut C,
+    ticks: u64,
+    out: &mut S,
 ) -> RunWhy
     requires fresh { core.log ≡ [] }
     requires running { core.stopped ≡ false }
     requires lanes { vec_len lanes.old ≡ 16 }
 {
     let mut crew = ThreadCrew::new();
-    let (why, _core) = run(rt, alloc, core, lanes, clock, 1, &mut crew, out);
+    let (why, _core) = run(rt, alloc, core, lanes, clock, ticks, &mut crew, out);
     why
 }
 
 /// The first of the lines that doesn't stand in the log behind those before it.
-fn first_missing<'a>(log: &str, lines: &'a str) -> Option<&'a str> {
+pub(crate) fn first_missing<'a>(log: &str, lines: &'a str) -> Option<&'a str> {
     let mut lines = lines.lines();
     let mut wanted = lines.next();
     for entry in log.lines() {
@@ -249,9 +250,9 @@ fn a_log_is_put_while_its_bus_runs(rt: HostRuntime) -> Result<(), Fail> {
     };
     let text = Vec::with_capacity(rt.alloc(), ROOM)?;
     let mut out = ShowingSink { signs, text };
-    let core = core_of(rt.alloc())?;
+    let core = core_of(rt.alloc(), STARTS)?;
     assert!(rt; lanes.len() == LANES);
-    let why = run_core(&rt, rt.alloc(), core, &mut lanes, &mut clock, &mut out);
+    let why = run_core(&rt, rt.alloc(), core, &mut lanes, &mut clock, 1, &mut out);
     let log = str::from_utf8(out.text.as_slice()).unwrap_or("(no text)");
     assert_eq!(rt; (why, first_missing(log, WANTED)), (RunWhy::Ended, None));
     Ok(())

@@ -116,8 +116,8 @@ pub record Course {X I O : Type 0} (seat : X → SeatView) (ended : X → WorkEn
 
 pub logs_add : (begun done : SeatView) (writer : WriterView) (put_old put_new : Option (List ℕ)) (f g : ℕ) (it : LogEnd) → LogDone begun done writer put_old put_new f g it → Adds begun done []
 logs_add begun done writer put_old put_new f g log.Over d = d.adds
-logs_add begun done writer put_old put_new f g log.Out d = d.0
-logs_add begun done writer put_old put_new f g log.NoMemory d = d.0
+logs_add begun done writer put_old put_new f g log.Out d = d.0.adds
+logs_add begun done writer put_old put_new f g log.NoMemory d = d.0.adds
 
 module _ (first_law : FirstLaw) (second_law : SecondLaw) (down_law : DownLaw) (empty_law : EmptyLaw)
     {X I O : Type 0} (seat : X → SeatView) (ended : X → WorkEnd) (work : X → Work I O) (gave : I → Option InletView) (took : O → Option (List Taken)) (faults : O → ℕ)

@@ -15,11 +15,11 @@ use Rattle.tb_lock.specs.Calls.{Meets}
 use Rattle.tb_run.specs.declared.ends.LogEnd.{LogEnd}
 use Rattle.tb_run.specs.declared.ends.LogEnd.TheVariants as end
 use Rattle.tb_write.specs.Writers.{WriterView}
-use Rattle.tb_run.specs.Seats.{Adds}
+use Rattle.tb_run.specs.Seats.{Adds, Stops}
 use Rattle.tb_write.specs.declared.log_writer.LogFault.{LogFault}
 use Rattle.tb_write.specs.declared.log_writer.LogFault.TheVariants as fault
 use Rattle.tb_run.specs.Logging.{LogsOn, PutsPart, EndsLogging, Logged, LogDone, PutsSome, PutsLast, end_by}
-use Rattle.tb_run.proofs.SeatLemmas.{SeenLaw, adds_none, adds_on}
+use Rattle.tb_run.proofs.SeatLemmas.{SeenLaw, adds_none, adds_on, stops_on}
 
 pub more_none : (put : Option (List ℕ)) → and_more put [] ≡ put
 more_none None = refl
@@ -134,8 +134,8 @@ module _ (a b c : SeatView) (from to : WriterView) (put_a put_b put_c : Option (
     never_falls = let p = one.never_falls in let q = e.3 in omega arith;
     called = e.4 ∙ one.called;
   }
-  log_end end.Out e = (adds_on a b c [] [] one.adds e.0, part_on e.1, rose_after e.2)
-  log_end end.NoMemory e = (adds_on a b c [] [] one.adds e.0, part_on e.1)
+  log_end end.Out e = (stops_on a b c one.adds e.0, part_on e.1, rose_after e.2)
+  log_end end.NoMemory e = (stops_on a b c one.adds e.0, part_on e.1)
 
 -- a piece that was read
 module _ (seen_law : SeenLaw) (old mid new : SeatView) (core : CoreState) (from to : WriterView) (most : ℕ) (piece : List Entry) (put_old put_new : Option (List ℕ)) (faults_old faults_new : ℕ)
@@ -157,8 +157,8 @@ module _ (seen_law : SeenLaw) (old mid new : SeatView) (core : CoreState) (from 
 
   pub puts_last : (it : LogEnd) → PutsLast mid new piece from to put_old put_new faults_old faults_new it → EndsLogging old new from to put_old put_new faults_old faults_new it
   puts_last end.Over e = (subst (λ (s : SeatView). Adds old s []) (sym e.0) adds, e.1, e.2, e.3, ap (λ (s : SeatView). s.called) e.0 ∙ called)
-  puts_last end.Out e = (adds_on old mid new [] [] adds e.0, part e.0 e.1, e.2)
-  puts_last end.NoMemory e = (adds_on old mid new [] [] adds e.0, part e.0 e.1)
+  puts_last end.Out e = (stops_on old mid new adds e.0, part e.0.adds e.1, e.2)
+  puts_last end.NoMemory e = (stops_on old mid new adds e.0, part e.0.adds e.1)
 
   pub puts_any : (answer : Option LogEnd) → MatchOption answer (PutsSome mid new piece from to put_old put_new faults_old faults_new) (PutsLast mid new piece from to put_old put_new faults_old faults_new)
       → MatchOption answer (LogsOn old new from to put_old put_new faults_old faults_new) (EndsLogging old new from to put_old put_new faults_old faults_new)
@@ -170,7 +170,7 @@ pub part_none : (old mid new : SeatView) (core : CoreState) (from : WriterView) 
 part_none old mid new core from put adds seen after = record { mid = core.log; more = adds.rest; grows = sym seen ∙ adds.seen; tail = after.rest; seen = after.seen ∙ ap (λ (s : List Entry). s ++ after.rest) seen; most = 0; piece = []; is = refl; prefix = prefix_none put (log_text_from (from.written + 1) []) }
 
 -- a piece that wasn't put whole
-pub puts_fault : (old new : SeatView) (piece : List Entry) (from to : WriterView) (put_old put_new : Option (List ℕ)) (faults_old faults_new : ℕ) (it : LogFault) → Adds old new [] → WritesPrefix put_old put_new (log_text_from (from.written + 1) piece)
+pub puts_fault : (old new : SeatView) (piece : List Entry) (from to : WriterView) (put_old put_new : Option (List ℕ)) (faults_old faults_new : ℕ) (it : LogFault) → Stops old new → WritesPrefix put_old put_new (log_text_from (from.written + 1) piece)
     → ((let r : Result (Unit {0}) LogFault = Err it in IsErrOf r fault.Out) → Rose faults_old faults_new) → PutsLast old new piece from to put_old put_new faults_old faults_new (end_by it)
-puts_fault old new piece from to put_old put_new faults_old faults_new fault.Out adds prefix rose = (adds, prefix, rose refl)
-puts_fault old new piece from to put_old put_new faults_old faults_new fault.NoMemory adds prefix rose = (adds, prefix)
+puts_fault old new piece from to put_old put_new faults_old faults_new fault.Out stops prefix rose = (stops, prefix, rose refl)
+puts_fault old new piece from to put_old put_new faults_old faults_new fault.NoMemory stops prefix rose = (stops, prefix)

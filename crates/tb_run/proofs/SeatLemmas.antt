@@ -20,7 +20,7 @@ use Rattle.tb_lock.specs.Histories.{IsSparse}
 use Rattle.tb_lock.specs.Calls.{Meets, Called, StopsBus, IsReply, noted, added}
 use Rattle.tb_run.specs.declared.ends.WorkEnd.{WorkEnd}
 use Rattle.tb_run.specs.declared.ends.WorkEnd.TheVariants as end
-use Rattle.tb_run.specs.Seats.{Adds, SeesTrace, WasFull, EndsWith, Ends, Hands, end_of}
+use Rattle.tb_run.specs.Seats.{Adds, Stops, SeesTrace, WasFull, EndsWith, Ends, Hands, end_of}
 
 -- the laws of the shared bus
 abbrev pub SeenLaw : Type 0
@@ -81,7 +81,7 @@ adds_call seen_law added_law finds call old new result right c =
       told = λ t. ap (λ (s : SeatView). s.told) c.seat ∙ ap (λ (b : Bool). b || c.core.stopped) t;
     }
 
-pub adds_stop : SeenLaw → (old new : SeatView) → StopsBus old new → Adds old new []
+adds_stop : SeenLaw → (old new : SeatView) → StopsBus old new → Adds old new []
 adds_stop seen_law old new c =
     let origin : new.origin ≡ old.origin = ap (λ (s : SeatView). s.origin) c.seat in
     let seen : new.seen ≡ c.core.log = ap (λ (s : SeatView). s.seen) c.seat in
@@ -99,6 +99,12 @@ adds_stop seen_law old new c =
       };
       told = λ t. ap (λ (s : SeatView). s.told) c.seat;
     }
+
+pub stops_by : SeenLaw → (old new : SeatView) → StopsBus old new → Stops old new
+stops_by seen_law old new c = record { adds = adds_stop seen_law old new c; called = ap (λ (s : SeatView). s.called) c.seat }
+
+pub stops_on : (a b c : SeatView) → Adds a b [] → Stops b c → Stops a c
+stops_on a b c adds stops = record { adds = adds_on a b c [] [] adds stops.adds; called = stops.called }
 
 -- an input that was handed in
 module _ (seen_law : SeenLaw) (added_law : AddedLaw) (input : Input) (old new : SeatView) where
@@ -126,8 +132,8 @@ module _ (seen_law : SeenLaw) (added_law : AddedLaw) (input : Input) (old new : 
 -- what is left of a worker after a call that was refused, and after it stopped the bus
 abbrev pub Refused : SeatView → SeatView → WorkEnd → Type 0
 Refused old new end.Stopped = Adds old new [] × (new.called ≡ old.called) × (new.told ≡ true)
-Refused old new end.Full = Adds old new [] × WasFull new
-Refused old new end.NoMemory = Adds old new []
+Refused old new end.Full = Stops old new × WasFull new
+Refused old new end.NoMemory = Stops old new
 Refused old new end.Over = ⊥
 Refused old new end.Down = ⊥
 Refused old new end.Failed = ⊥
@@ -146,14 +152,14 @@ refused_by seen_law added_law finds call old mid new fault.Full it may right c e
       core = c.core;
       call = call;
       may = may;
-      rest = e.1.rest;
-      origin = c.meets.origin ∙ sym (e.1.origin ∙ ap (λ (s : SeatView). s.origin) c.seat);
-      seen = e.1.seen ∙ ap (λ (s : List Entry). s ++ e.1.rest) (ap (λ (s : SeatView). s.seen) c.seat ∙ append-nil c.core.log);
+      rest = e.1.adds.rest;
+      origin = c.meets.origin ∙ sym (e.1.adds.origin ∙ ap (λ (s : SeatView). s.origin) c.seat);
+      seen = e.1.adds.seen ∙ ap (λ (s : List Entry). s ++ e.1.adds.rest) (ap (λ (s : SeatView). s.seen) c.seat ∙ append-nil c.core.log);
       full = c.full refl;
     } in
-    subst (Refused old new) (sym e.0) (adds_on old mid new [] [] (adds_call seen_law added_law finds call old mid (Err fault.Full) right c) e.1, full)
+    subst (Refused old new) (sym e.0) (stops_on old mid new (adds_call seen_law added_law finds call old mid (Err fault.Full) right c) e.1, full)
 refused_by seen_law added_law finds call old mid new fault.NoMemory it may right c e =
-    subst (Refused old new) (sym e.0) (adds_on old mid new [] [] (adds_call seen_law added_law finds call old mid (Err fault.NoMemory) right c) e.1)
+    subst (Refused old new) (sym e.0) (stops_on old mid new (adds_call seen_law added_law finds call old mid (Err fault.NoMemory) right c) e.1)
 
 -- a refused worker as one that handed an input in
 pub hands_err : (input : Input) (old new : SeatView) (it : WorkEnd) → Refused old new it → Hands input old new (Some it)

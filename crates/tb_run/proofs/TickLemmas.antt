@@ -103,8 +103,8 @@ module _ (old new : SeatView) (told_old told_new : Option ClockView) (faults_old
   ticks_hands None told h = record { more = Fed input.Tick h.0 ∷ []; adds = h.1; ticks = tt; count = refl; told = told; never_falls = low; called = h.2 }
   ticks_hands (Some end.Down) told h = record { first = Fed input.Tick (Dropped why.Down) ∷ []; tail = []; adds = h.0; ticks = tt; last = 0; ended = false; told = told; within = omega arith; lacks = refl; marks = h.1; never_falls = low; ends = (refl, h.2) }
   ticks_hands (Some end.Stopped) told h = record { first = []; tail = []; adds = h.0; ticks = tt; last = 1; ended = false; told = told; within = omega arith; lacks = omega arith; marks = (h.1, h.2); never_falls = low; ends = refl }
-  ticks_hands (Some end.Full) told h = record { first = []; tail = []; adds = h.0; ticks = tt; last = 1; ended = false; told = told; within = omega arith; lacks = omega arith; marks = tt; never_falls = low; ends = (refl, h.1) }
-  ticks_hands (Some end.NoMemory) told h = record { first = []; tail = []; adds = h; ticks = tt; last = 1; ended = false; told = told; within = omega arith; lacks = omega arith; marks = tt; never_falls = low; ends = refl }
+  ticks_hands (Some end.Full) told h = record { first = []; tail = []; adds = h.0.adds; ticks = tt; last = 1; ended = false; told = told; within = omega arith; lacks = omega arith; marks = h.0.called; never_falls = low; ends = (refl, h.1) }
+  ticks_hands (Some end.NoMemory) told h = record { first = []; tail = []; adds = h.adds; ticks = tt; last = 1; ended = false; told = told; within = omega arith; lacks = omega arith; marks = h.called; never_falls = low; ends = refl }
   ticks_hands (Some end.Over) told h = absurd h
   ticks_hands (Some end.Failed) told h = absurd h
 
@@ -112,8 +112,8 @@ module _ (old new : SeatView) (told_old told_new : Option ClockView) (faults_old
   module _ (Enough : ℕ → Type 0) (most : ℕ) (ended : Bool) (told : told_new ≡ and_ticked told_old 0 ended) where
     refused_all : (it : WorkEnd) → IsRefused old new it → TicksBus Enough most old new told_old told_new faults_old faults_new it
     refused_all end.Stopped r = record { first = []; tail = []; adds = r.0; ticks = tt; last = 0; ended = ended; told = told; within = omega arith; lacks = omega arith; marks = (r.1, r.2); never_falls = low; ends = refl }
-    refused_all end.Full r = record { first = []; tail = []; adds = r.0; ticks = tt; last = 0; ended = ended; told = told; within = omega arith; lacks = omega arith; marks = tt; never_falls = low; ends = (refl, r.1) }
-    refused_all end.NoMemory r = record { first = []; tail = []; adds = r; ticks = tt; last = 0; ended = ended; told = told; within = omega arith; lacks = omega arith; marks = tt; never_falls = low; ends = refl }
+    refused_all end.Full r = record { first = []; tail = []; adds = r.0.adds; ticks = tt; last = 0; ended = ended; told = told; within = omega arith; lacks = omega arith; marks = r.0.called; never_falls = low; ends = (refl, r.1) }
+    refused_all end.NoMemory r = record { first = []; tail = []; adds = r.adds; ticks = tt; last = 0; ended = ended; told = told; within = omega arith; lacks = omega arith; marks = r.called; never_falls = low; ends = refl }
     refused_all end.Over r = absurd r
     refused_all end.Down r = absurd r
     refused_all end.Failed r = absurd r

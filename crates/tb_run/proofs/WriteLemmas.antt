@@ -218,8 +218,8 @@ module _ (lane : ℕ) (old new : SeatView) (told : Option (List Taken)) (faults 
 
   pub writes_refused : (it : WorkEnd) → Refused old new it → WritesLane lane old new told told faults faults it
   writes_refused end.Stopped r = record { more = []; adds = r.0; put = []; last = []; handed = refl; told = sym (and_taken_none told); starts = refl; lacks = omega arith; rose = inl refl; counts = counts_none faults; marks = (r.1, r.2); ends = tt }
-  writes_refused end.Full r = record { more = []; adds = r.0; put = []; last = []; handed = refl; told = sym (and_taken_none told); starts = refl; lacks = omega arith; rose = inl refl; counts = counts_none faults; marks = tt; ends = r.1 }
-  writes_refused end.NoMemory r = record { more = []; adds = r; put = []; last = []; handed = refl; told = sym (and_taken_none told); starts = refl; lacks = omega arith; rose = inl refl; counts = counts_none faults; marks = tt; ends = tt }
+  writes_refused end.Full r = record { more = []; adds = r.0.adds; put = []; last = []; handed = refl; told = sym (and_taken_none told); starts = refl; lacks = omega arith; rose = inl refl; counts = counts_none faults; marks = r.0.called; ends = r.1 }
+  writes_refused end.NoMemory r = record { more = []; adds = r.adds; put = []; last = []; handed = refl; told = sym (and_taken_none told); starts = refl; lacks = omega arith; rose = inl refl; counts = counts_none faults; marks = r.called; ends = tt }
   writes_refused end.Over r = absurd r
   writes_refused end.Down r = absurd r
   writes_refused end.Failed r = absurd r
@@ -274,8 +274,8 @@ module _ (lane : ℕ) (out : Out) (old mid new : SeatView) (told_old told_new : 
     called = h.2 ∙ same;
   }
   fails (Some end.Stopped) f h = lost end.Stopped (Some end.Stopped) f h.0 (omega arith) (h.1 ∙ same, h.2) tt
-  fails (Some end.Full) f h = lost end.Full (Some end.Full) f h.0 (omega arith) tt h.1
-  fails (Some end.NoMemory) f h = lost end.NoMemory (Some end.NoMemory) f h (omega arith) tt tt
+  fails (Some end.Full) f h = lost end.Full (Some end.Full) f h.0.adds (omega arith) h.0.called h.1
+  fails (Some end.NoMemory) f h = lost end.NoMemory (Some end.NoMemory) f h.adds (omega arith) h.called tt
   fails (Some end.Over) f h = absurd h
   fails (Some end.Down) f h = absurd h
   fails (Some end.Failed) f h = absurd h

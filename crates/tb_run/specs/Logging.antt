@@ -10,7 +10,7 @@ use Rattle.tb_write.specs.declared.log_writer.LogFault.TheVariants as fault
 use Rattle.tb_run.specs.declared.ends.LogEnd.{LogEnd}
 use Rattle.tb_run.specs.declared.ends.LogEnd.TheVariants as end
 use Rattle.tb_write.specs.Writers.{WriterView}
-use Rattle.tb_run.specs.Seats.{Adds}
+use Rattle.tb_run.specs.Seats.{Adds, Stops}
 
 -- the job goes on: the entries from an index on were put
 pub record LogsOn (old new : SeatView) (from to : WriterView) (put_old put_new : Option (List ℕ)) (faults_old faults_new : ℕ) : Type 0 where
@@ -38,8 +38,8 @@ pub record PutsPart (old new : SeatView) (from : WriterView) (put_old put_new : 
 -- why the job ends, which has put so many entries before
 abbrev pub EndsLogging : SeatView → SeatView → WriterView → WriterView → Option (List ℕ) → Option (List ℕ) → ℕ → ℕ → LogEnd → Type 0
 EndsLogging old new from to put_old put_new faults_old faults_new end.Over = Adds old new [] × (to ≡ from) × (put_new ≡ put_old) × (faults_old ≤ faults_new) × (new.called ≡ old.called)
-EndsLogging old new from to put_old put_new faults_old faults_new end.Out = Adds old new [] × PutsPart old new from put_old put_new × Rose faults_old faults_new
-EndsLogging old new from to put_old put_new faults_old faults_new end.NoMemory = Adds old new [] × PutsPart old new from put_old put_new
+EndsLogging old new from to put_old put_new faults_old faults_new end.Out = Stops old new × PutsPart old new from put_old put_new × Rose faults_old faults_new
+EndsLogging old new from to put_old put_new faults_old faults_new end.NoMemory = Stops old new × PutsPart old new from put_old put_new
 
 -- what becomes of a piece of the log
 pub record PutsSome (old new : SeatView) (piece : List Entry) (from to : WriterView) (put_old put_new : Option (List ℕ)) (faults_old faults_new : ℕ) : Type 0 where
@@ -50,8 +50,8 @@ pub record PutsSome (old new : SeatView) (piece : List Entry) (from to : WriterV
 
 abbrev pub PutsLast : SeatView → SeatView → List Entry → WriterView → WriterView → Option (List ℕ) → Option (List ℕ) → ℕ → ℕ → LogEnd → Type 0
 PutsLast old new piece from to put_old put_new faults_old faults_new end.Over = (new ≡ old) × (to ≡ from) × (put_new ≡ put_old) × (faults_old ≤ faults_new)
-PutsLast old new piece from to put_old put_new faults_old faults_new end.Out = Adds old new [] × WritesPrefix put_old put_new (log_text_from (from.written + 1) piece) × Rose faults_old faults_new
-PutsLast old new piece from to put_old put_new faults_old faults_new end.NoMemory = Adds old new [] × WritesPrefix put_old put_new (log_text_from (from.written + 1) piece)
+PutsLast old new piece from to put_old put_new faults_old faults_new end.Out = Stops old new × WritesPrefix put_old put_new (log_text_from (from.written + 1) piece) × Rose faults_old faults_new
+PutsLast old new piece from to put_old put_new faults_old faults_new end.NoMemory = Stops old new × WritesPrefix put_old put_new (log_text_from (from.written + 1) piece)
 
 -- so many entries of what the seat has seen were put, from the first on
 pub record Logged (old new : SeatView) (writer : WriterView) (put_old put_new : Option (List ℕ)) (faults_old faults_new : ℕ) : Type 0 where
@@ -68,8 +68,8 @@ pub record Logged (old new : SeatView) (writer : WriterView) (put_old put_new : 
 -- what the whole job comes to
 abbrev pub LogDone : SeatView → SeatView → WriterView → Option (List ℕ) → Option (List ℕ) → ℕ → ℕ → LogEnd → Type 0
 LogDone old new writer put_old put_new faults_old faults_new end.Over = Logged old new writer put_old put_new faults_old faults_new
-LogDone old new writer put_old put_new faults_old faults_new end.Out = Adds old new [] × WritesPrefix put_old put_new (log_text new.seen) × Rose faults_old faults_new
-LogDone old new writer put_old put_new faults_old faults_new end.NoMemory = Adds old new [] × WritesPrefix put_old put_new (log_text new.seen)
+LogDone old new writer put_old put_new faults_old faults_new end.Out = Stops old new × WritesPrefix put_old put_new (log_text new.seen) × Rose faults_old faults_new
+LogDone old new writer put_old put_new faults_old faults_new end.NoMemory = Stops old new × WritesPrefix put_old put_new (log_text new.seen)
 
 -- why the job ends where a piece wasn't put
 abbrev pub end_by : LogFault → LogEnd

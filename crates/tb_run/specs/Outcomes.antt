@@ -37,11 +37,15 @@ pub record LaneView : Type 0 where
   pub took : Option (List Taken)
   pub faults : ℕ
 
+-- what is to be seen of a lane with these two ends
+abbrev pub lane_view : {I O : Type 0} → (I → Option InletView) → (O → Option (List Taken)) → (O → ℕ) → I → O → LaneView
+lane_view gave took faults inlet outlet = record { gave = gave inlet; took = took outlet; faults = faults outlet }
+
 -- the lanes with these ends, in order
 abbrev pub views : {I O : Type 0} → (I → Option InletView) → (O → Option (List Taken)) → (O → ℕ) → List I → List O → List LaneView
 views gave took faults [] outlets = []
 views gave took faults (inlet ∷ inlets) [] = []
-views gave took faults (inlet ∷ inlets) (outlet ∷ outlets) = record { gave = gave inlet; took = took outlet; faults = faults outlet } ∷ views gave took faults inlets outlets
+views gave took faults (inlet ∷ inlets) (outlet ∷ outlets) = lane_view gave took faults inlet outlet ∷ views gave took faults inlets outlets
 
 -- what is to be seen of the outside, before the call or after it
 pub record OutsideView : Type 0 where
@@ -51,6 +55,9 @@ pub record OutsideView : Type 0 where
   pub crew_faults : ℕ
   pub put : Option (List ℕ)
   pub out_faults : ℕ
+
+abbrev pub outside_of : List LaneView → Option ClockView → ℕ → ℕ → Option (List ℕ) → ℕ → OutsideView
+outside_of lanes clock clock_faults crew_faults put out_faults = record { lanes = lanes; clock = clock; clock_faults = clock_faults; crew_faults = crew_faults; put = put; out_faults = out_faults }
 
 abbrev pub is_of : ℕ → Input → Bool
 is_of lane it = is_some (given_on lane it)

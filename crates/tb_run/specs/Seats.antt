@@ -49,20 +49,25 @@ pub record WasFull (seat : SeatView) : Type 0 where
 abbrev pub EndsWith : SeatView → Entry → Type 0
 EndsWith seat entry = (before : List Entry) × (seat.seen ≡ before ++ entry ∷ [])
 
--- What a worker's end says of the marks of its seat: it calls `stop` only where it ends for want of room or of memory.
+-- a seat that goes on with nothing of its own, and has stopped the bus
+pub record Stops (old new : SeatView) : Type 0 where
+  pub adds : Adds old new []
+  pub called : new.called ≡ true
+
+-- What a worker's end says of the marks of its seat: it calls `stop` where it ends for want of room or of memory, and nowhere else.
 abbrev pub Marks : SeatView → SeatView → WorkEnd → Type 0
 Marks old new end.Over = new.called ≡ old.called
 Marks old new end.Down = new.called ≡ old.called
 Marks old new end.Stopped = (new.called ≡ old.called) × (new.told ≡ true)
-Marks old new end.Full = Unit {0}
+Marks old new end.Full = new.called ≡ true
 Marks old new end.Failed = new.called ≡ old.called
-Marks old new end.NoMemory = Unit {0}
+Marks old new end.NoMemory = new.called ≡ true
 
--- what a worker that was refused a call comes to; a stopped seat is one that was told so
+-- what a worker that was refused a call comes to: it stops the bus, unless it was told that it was stopped
 abbrev pub Ends : CoreFault → SeatView → SeatView → WorkEnd → Type 0
 Ends fault.Stopped old new it = (it ≡ end.Stopped) × (new ≡ old)
-Ends fault.Full old new it = (it ≡ end.Full) × Adds old new []
-Ends fault.NoMemory old new it = (it ≡ end.NoMemory) × Adds old new []
+Ends fault.Full old new it = (it ≡ end.Full) × Stops old new
+Ends fault.NoMemory old new it = (it ≡ end.NoMemory) × Stops old new
 
 -- a reply that says that the bus is down ends a worker
 abbrev pub end_of : Reply → Option WorkEnd
@@ -82,7 +87,7 @@ Hands input old new None = (reply : Reply) × Adds old new (Fed input reply ∷ 
 Hands input old new (Some end.Down) = Adds old new (Fed input (Dropped why.Down) ∷ []) × (new.called ≡ old.called) × EndsWith new (Fed input (Dropped why.Down))
 -- it was refused
 Hands input old new (Some end.Stopped) = Adds old new [] × (new.called ≡ old.called) × (new.told ≡ true)
-Hands input old new (Some end.Full) = Adds old new [] × WasFull new
-Hands input old new (Some end.NoMemory) = Adds old new []
+Hands input old new (Some end.Full) = Stops old new × WasFull new
+Hands input old new (Some end.NoMemory) = Stops old new
 Hands input old new (Some end.Over) = ⊥
 Hands input old new (Some end.Failed) = ⊥

@@ -24,7 +24,7 @@ use Rattle.tb_lane.specs.Sending.{taken_of}
 use Rattle.tb_lock.specs.Seats.{SeatView}
 use Rattle.tb_run.specs.declared.ends.WorkEnd.{WorkEnd}
 use Rattle.tb_run.specs.declared.ends.WorkEnd.TheVariants as end
-use Rattle.tb_run.specs.Seats.{Adds, Marks, EndsWith, WasFull}
+use Rattle.tb_run.specs.Seats.{Adds, Stops, Marks, EndsWith, WasFull}
 
 -- the input that stands for what the inlet of a lane gave
 abbrev pub IsInputFor : ℕ → Given → Input → Type 0
@@ -227,8 +227,8 @@ going_on (Some end.NoMemory) = Some end.NoMemory
 abbrev pub CutsOff : ℕ → SeatView → SeatView → Option WorkEnd → Type 0
 CutsOff lane old new None = (reply : Reply) × Adds old new (Fed (input.Cut lane) reply ∷ []) × (new.called ≡ old.called)
 CutsOff lane old new (Some end.Stopped) = Adds old new [] × (new.called ≡ old.called) × (new.told ≡ true)
-CutsOff lane old new (Some end.Full) = Adds old new [] × WasFull new
-CutsOff lane old new (Some end.NoMemory) = Adds old new []
+CutsOff lane old new (Some end.Full) = Stops old new × WasFull new
+CutsOff lane old new (Some end.NoMemory) = Stops old new
 CutsOff lane old new (Some end.Over) = ⊥
 CutsOff lane old new (Some end.Down) = ⊥
 CutsOff lane old new (Some end.Failed) = ⊥

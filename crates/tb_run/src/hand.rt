@@ -1,8 +1,8 @@
-ghost use Rattle.std.specs.Prelude.{◌≡◌, [], true};
+ghost use Rattle.std.specs.Prelude.{◌≡◌, true};
 ghost use Rattle.tb_log.specs.Shapes.{IsInputInShape};
 ghost use Rattle.tb_core.specs.Cores.{HandIn};
 ghost use Rattle.tb_lock.specs.Rights.{has, right_to};
-ghost use Rattle.tb_run.specs.Seats.{Hands, Ends, Adds, end_of};
+ghost use Rattle.tb_run.specs.Seats.{Hands, Ends, Stops, end_of};
 
 use crate::ends::WorkEnd;
 use std::sync::Wait;
@@ -105,7 +105,7 @@ pub(crate) fn refused<W: Walker, R: Wait>(
 /// Stops the bus, and tells all.
 pub(crate) fn stop<W: Walker, R: Wait>(rt: &R, shared: &Shared<W>, bells: &Bells, seat: &mut Seat)
     requires own { seat.old.bus ≡ shared.now }
-    ensures { Adds seat.old seat.new [] }
+    ensures { Stops seat.old seat.new }
 {
     calls_add_their_own();
     shared.stop(rt, seat);

@@ -146,11 +146,21 @@ fn put_some<W: Walker, R: Wait, O: Sink>(
         return None;
     }
     match put_piece(writer, piece, out) {
-        Ok(()) => None,
+        Ok(()) => {
+            gather(rt, bells, piece);
+            None
+        }
         Err(fault) => {
             stop(rt, shared, bells, seat);
             Some(end_of(fault))
         }
+    }
+}
+
+/// Lets a time pass after a piece that has no further entry behind it.
+fn gather<R: Wait>(rt: &R, bells: &Bells, piece: &[Entry]) {
+    if piece.len() < MOST {
+        bells.pause(rt);
     }
 }
 

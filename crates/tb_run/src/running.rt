@@ -5,7 +5,7 @@ ghost use Rattle.tb_edge.specs.Faults.{Rose};
 ghost use Rattle.tb_edge.specs.Sinks.{Writes, WritesPrefix};
 ghost use Rattle.tb_log.specs.LogText.{log_text_from};
 ghost use Rattle.tb_lock.specs.Seats.{first_seat};
-ghost use Rattle.tb_run.specs.Outcomes.{OutsideView, LaneView, Runs, views};
+ghost use Rattle.tb_run.specs.Outcomes.{Runs, lane_view, outside_of, views};
 ghost use Rattle.tb_run.specs.Running.{IsAfterRest, GoesToRest};
 
 use crate::ends::RunWhy;
@@ -56,8 +56,12 @@ where
     requires log { core.log ≡ [] }
     requires running { core.stopped ≡ false }
     ensures runs { Runs ticks
-        (record { lanes = views I.told O.told O.faults inlets.old.items outlets.old.items; clock = C.told clock.old; clock_faults = C.faults clock.old; crew_faults = P.faults crew.old; put = S.taken out.old; out_faults = S.faults out.old })
-        (record { lanes = views I.told O.told O.faults inlets.new.items outlets.new.items; clock = C.told clock.new; clock_faults = C.faults clock.new; crew_faults = P.faults crew.new; put = S.taken out.new; out_faults = S.faults out.new })
+        (outside_of
+        (views I.told O.told O.faults inlets.old.items outlets.old.items)
+        (C.told clock.old) (C.faults clock.old) (P.faults crew.old) (S.taken out.old) (S.faults out.old))
+        (outside_of
+        (views I.told O.told O.faults inlets.new.items outlets.new.items)
+        (C.told clock.new) (C.faults clock.new) (P.faults crew.new) (S.taken out.new) (S.faults out.new))
         core.origin result.1 result.0 }
     ensures inlets { vec_len inlets.new ≡ 16 }
     ensures outlets { vec_len outlets.new ≡ 16 }
@@ -102,8 +106,12 @@ where
     requires outlets { vec_len outlets.old ≡ 16 }
     requires first { seat ≡ first_seat shared seat.origin }
     ensures runs { Runs ticks
-        (record { lanes = views I.told O.told O.faults inlets.old.items outlets.old.items; clock = C.told clock.old; clock_faults = C.faults clock.old; crew_faults = P.faults crew.old; put = S.taken out.old; out_faults = S.faults out.old })
-        (record { lanes = views I.told O.told O.faults inlets.new.items outlets.new.items; clock = C.told clock.new; clock_faults = C.faults clock.new; crew_faults = P.faults crew.new; put = S.taken out.new; out_faults = S.faults out.new })
+        (outside_of
+        (views I.told O.told O.faults inlets.old.items outlets.old.items)
+        (C.told clock.old) (C.faults clock.old) (P.faults crew.old) (S.taken out.old) (S.faults out.old))
+        (outside_of
+        (views I.told O.told O.faults inlets.new.items outlets.new.items)
+        (C.told clock.new) (C.faults clock.new) (P.faults crew.new) (S.taken out.new) (S.faults out.new))
         seat.origin result.1 result.0 }
     ensures inlets { vec_len inlets.new ≡ 16 }
     ensures outlets { vec_len outlets.new ≡ 16 }
@@ -190,8 +198,18 @@ where
     requires log { core.log ≡ [] }
     requires running { core.stopped ≡ false }
     ensures runs { Runs ticks
-        (record { lanes = map (λ pair. record { gave = ⟦<Box<dyn Inlet + Send> as Inlet>⟧.told pair.inlet; took = ⟦<Box<dyn Outlet + Send> as Outlet>⟧.told pair.outlet; faults = ⟦<Box<dyn Outlet + Send> as Outlet>⟧.faults pair.outlet }) lanes.old.items; clock = C.told clock.old; clock_faults = C.faults clock.old; crew_faults = P.faults crew.old; put = S.taken out.old; out_faults = S.faults out.old })
-        (record { lanes = map (λ pair. record { gave = ⟦<Box<dyn Inlet + Send> as Inlet>⟧.told pair.inlet; took = ⟦<Box<dyn Outlet + Send> as Outlet>⟧.told pair.outlet; faults = ⟦<Box<dyn Outlet + Send> as Outlet>⟧.faults pair.outlet }) lanes.new.items; clock = C.told clock.new; clock_faults = C.faults clock.new; crew_faults = P.faults crew.new; put = S.taken out.new; out_faults = S.faults out.new })
+        (outside_of
+        (map (λ pair. lane_view
+        ⟦<Box<dyn Inlet + Send> as Inlet>⟧.told
+        ⟦<Box<dyn Outlet + Send> as Outlet>⟧.told
+        ⟦<Box<dyn Outlet + Send> as Outlet>⟧.faults pair.inlet pair.outlet) lanes.old.items)
+        (C.told clock.old) (C.faults clock.old) (P.faults crew.old) (S.taken out.old) (S.faults out.old))
+        (outside_of
+        (map (λ pair. lane_view
+        ⟦<Box<dyn Inlet + Send> as Inlet>⟧.told
+        ⟦<Box<dyn Outlet + Send> as Outlet>⟧.told
+        ⟦<Box<dyn Outlet + Send> as Outlet>⟧.faults pair.inlet pair.outlet) lanes.new.items)
+        (C.told clock.new) (C.faults clock.new) (P.faults crew.new) (S.taken out.new) (S.faults out.new))
         core.origin result.1 result.0 }
     ensures lanes { vec_len lanes.new ≡ 16 }
 {

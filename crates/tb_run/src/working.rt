@@ -9,7 +9,7 @@ ghost use Rattle.tb_run.specs.Jobs.{IsReady, WorkDone};
 ghost use Rattle.tb_run.specs.Joining.{JoinsAll};
 ghost use Rattle.tb_run.specs.Logging.{LogDone};
 ghost use Rattle.tb_run.specs.Moving.{works_of, inlets_of, outlets_of};
-ghost use Rattle.tb_run.specs.Outcomes.{OutsideView, views};
+ghost use Rattle.tb_run.specs.Outcomes.{outside_of, views};
 ghost use Rattle.tb_run.specs.Parting.{left_after, parted};
 ghost use Rattle.tb_run.specs.Parts.{job_rights, to_tick};
 ghost use Rattle.tb_run.specs.Reasons.{reason_of};
@@ -91,8 +91,12 @@ where
     requires outlets { vec_len outlets.old ≡ 16 }
     requires first { seat.old ≡ first_seat shared.now seat.old.origin }
     ensures come { HasCome ticks
-        (record { lanes = views I.told O.told O.faults inlets.old.items outlets.old.items; clock = C.told clock.old; clock_faults = C.faults clock.old; crew_faults = P.faults crew.old; put = S.taken out.old; out_faults = S.faults out.old })
-        (record { lanes = views I.told O.told O.faults inlets.new.items outlets.new.items; clock = C.told clock.new; clock_faults = C.faults clock.new; crew_faults = P.faults crew.new; put = S.taken out.new; out_faults = S.faults out.new })
+        (outside_of
+        (views I.told O.told O.faults inlets.old.items outlets.old.items)
+        (C.told clock.old) (C.faults clock.old) (P.faults crew.old) (S.taken out.old) (S.faults out.old))
+        (outside_of
+        (views I.told O.told O.faults inlets.new.items outlets.new.items)
+        (C.told clock.new) (C.faults clock.new) (P.faults crew.new) (S.taken out.new) (S.faults out.new))
         seat.old seat.new result.1 result.0 }
     ensures inlets { vec_len inlets.new ≡ 16 }
     ensures outlets { vec_len outlets.new ≡ 16 }

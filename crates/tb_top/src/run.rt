@@ -3,7 +3,7 @@ ghost use Rattle.std.specs.Prelude.{◌≡◌, ◌≤◌, List, [], Err, IfErr, 
 ghost use Rattle.tb_bus.specs.Buses.{origin_of};
 ghost use Rattle.tb_cli.specs.Table.{most_connects};
 ghost use Rattle.tb_edge.specs.Faults.{Rose};
-ghost use Rattle.tb_run.specs.Outcomes.{LaneView, OutsideView};
+ghost use Rattle.tb_run.specs.Outcomes.{lane_view, outside_of};
 ghost use Rattle.tb_top.specs.Asking.{AsksBeside};
 ghost use Rattle.tb_top.specs.Run.{LiveOutcome};
 ghost use Rattle.tb_top.specs.Helpers.Parts.{EndsRun, IsLive, IsLiveFault};
@@ -41,30 +41,18 @@ pub fn run_script<R: Threads + Wait + Sync, F: Files, O: Sink, C: Clock + Send, 
     requires lanes { vec_len lanes.old ≡ 16 }
     ensures outcome { LiveOutcome (F.held files.old)
         (record { script = script.now; connects = connects.now; ticks = ticks; events = events })
-        (record {
-          lanes = map (λ pair. record {
-            gave = ⟦<Box<dyn Inlet + Send> as Inlet>⟧.told pair.inlet;
-            took = ⟦<Box<dyn Outlet + Send> as Outlet>⟧.told pair.outlet;
-            faults = ⟦<Box<dyn Outlet + Send> as Outlet>⟧.faults pair.outlet;
-          }) lanes.old.items;
-          clock = C.told clock.old;
-          clock_faults = C.faults clock.old;
-          crew_faults = P.faults crew.old;
-          put = O.taken out.old;
-          out_faults = O.faults out.old;
-        })
-        (record {
-          lanes = map (λ pair. record {
-            gave = ⟦<Box<dyn Inlet + Send> as Inlet>⟧.told pair.inlet;
-            took = ⟦<Box<dyn Outlet + Send> as Outlet>⟧.told pair.outlet;
-            faults = ⟦<Box<dyn Outlet + Send> as Outlet>⟧.faults pair.outlet;
-          }) lanes.new.items;
-          clock = C.told clock.new;
-          clock_faults = C.faults clock.new;
-          crew_faults = P.faults crew.new;
-          put = O.taken out.new;
-          out_faults = O.faults out.new;
-        }) result }
+        (outside_of
+        (map (λ pair. lane_view
+        ⟦<Box<dyn Inlet + Send> as Inlet>⟧.told
+        ⟦<Box<dyn Outlet + Send> as Outlet>⟧.told
+        ⟦<Box<dyn Outlet + Send> as Outlet>⟧.faults pair.inlet pair.outlet) lanes.old.items)
+        (C.told clock.old) (C.faults clock.old) (P.faults crew.old) (O.taken out.old) (O.faults out.old))
+        (outside_of
+        (map (λ pair. lane_view
+        ⟦<Box<dyn Inlet + Send> as Inlet>⟧.told
+        ⟦<Box<dyn Outlet + Send> as Outlet>⟧.told
+        ⟦<Box<dyn Outlet + Send> as Outlet>⟧.faults pair.inlet pair.outlet) lanes.new.items)
+        (C.told clock.new) (C.faults clock.new) (P.faults crew.new) (O.taken out.new) (O.faults out.new)) result }
     ensures asks { AsksBeside (F.held files.old script.now) script.now [] (F.asked files.old) (F.asked files.new) result }
     ensures file_rose { result ≡ Err Fault.File → Rose (F.faults files.old) (F.faults files.new) }
     ensures out_rose { result ≡ Err Fault.Out → Rose (O.faults out.old) (O.faults out.new) }
@@ -97,30 +85,18 @@ fn run_program<R: Threads + Wait + Sync, O: Sink, C: Clock + Send, P: Crew>(
     requires events { events ≤ 4000000 }
     requires lanes { vec_len lanes.old ≡ 16 }
     ensures outcome { IsLive ticks (origin_of program connects.now events)
-        (record {
-          lanes = map (λ pair. record {
-            gave = ⟦<Box<dyn Inlet + Send> as Inlet>⟧.told pair.inlet;
-            took = ⟦<Box<dyn Outlet + Send> as Outlet>⟧.told pair.outlet;
-            faults = ⟦<Box<dyn Outlet + Send> as Outlet>⟧.faults pair.outlet;
-          }) lanes.old.items;
-          clock = C.told clock.old;
-          clock_faults = C.faults clock.old;
-          crew_faults = P.faults crew.old;
-          put = O.taken out.old;
-          out_faults = O.faults out.old;
-        })
-        (record {
-          lanes = map (λ pair. record {
-            gave = ⟦<Box<dyn Inlet + Send> as Inlet>⟧.told pair.inlet;
-            took = ⟦<Box<dyn Outlet + Send> as Outlet>⟧.told pair.outlet;
-            faults = ⟦<Box<dyn Outlet + Send> as Outlet>⟧.faults pair.outlet;
-          }) lanes.new.items;
-          clock = C.told clock.new;
-          clock_faults = C.faults clock.new;
-          crew_faults = P.faults crew.new;
-          put = O.taken out.new;
-          out_faults = O.faults out.new;
-        }) result }
+        (outside_of
+        (map (λ pair. lane_view
+        ⟦<Box<dyn Inlet + Send> as Inlet>⟧.told
+        ⟦<Box<dyn Outlet + Send> as Outlet>⟧.told
+        ⟦<Box<dyn Outlet + Send> as Outlet>⟧.faults pair.inlet pair.outlet) lanes.old.items)
+        (C.told clock.old) (C.faults clock.old) (P.faults crew.old) (O.taken out.old) (O.faults out.old))
+        (outside_of
+        (map (λ pair. lane_view
+        ⟦<Box<dyn Inlet + Send> as Inlet>⟧.told
+        ⟦<Box<dyn Outlet + Send> as Outlet>⟧.told
+        ⟦<Box<dyn Outlet + Send> as Outlet>⟧.faults pair.inlet pair.outlet) lanes.new.items)
+        (C.told clock.new) (C.faults clock.new) (P.faults crew.new) (O.taken out.new) (O.faults out.new)) result }
     ensures behind { IfErr result IsLiveFault }
     ensures out_rose { result ≡ Err Fault.Out → Rose (O.faults out.old) (O.faults out.new) }
     ensures clock_rose { result ≡ Err Fault.Clock → Rose (C.faults clock.old) (C.faults clock.new) }
@@ -148,30 +124,18 @@ fn run_core<R: Threads + Wait + Sync, O: Sink, C: Clock + Send, P: Crew>(
     requires running { core.stopped ≡ false }
     requires lanes { vec_len lanes.old ≡ 16 }
     ensures outcome { IsLive ticks core.origin
-        (record {
-          lanes = map (λ pair. record {
-            gave = ⟦<Box<dyn Inlet + Send> as Inlet>⟧.told pair.inlet;
-            took = ⟦<Box<dyn Outlet + Send> as Outlet>⟧.told pair.outlet;
-            faults = ⟦<Box<dyn Outlet + Send> as Outlet>⟧.faults pair.outlet;
-          }) lanes.old.items;
-          clock = C.told clock.old;
-          clock_faults = C.faults clock.old;
-          crew_faults = P.faults crew.old;
-          put = O.taken out.old;
-          out_faults = O.faults out.old;
-        })
-        (record {
-          lanes = map (λ pair. record {
-            gave = ⟦<Box<dyn Inlet + Send> as Inlet>⟧.told pair.inlet;
-            took = ⟦<Box<dyn Outlet + Send> as Outlet>⟧.told pair.outlet;
-            faults = ⟦<Box<dyn Outlet + Send> as Outlet>⟧.faults pair.outlet;
-          }) lanes.new.items;
-          clock = C.told clock.new;
-          clock_faults = C.faults clock.new;
-          crew_faults = P.faults crew.new;
-          put = O.taken out.new;
-          out_faults = O.faults out.new;
-        }) result }
+        (outside_of
+        (map (λ pair. lane_view
+        ⟦<Box<dyn Inlet + Send> as Inlet>⟧.told
+        ⟦<Box<dyn Outlet + Send> as Outlet>⟧.told
+        ⟦<Box<dyn Outlet + Send> as Outlet>⟧.faults pair.inlet pair.outlet) lanes.old.items)
+        (C.told clock.old) (C.faults clock.old) (P.faults crew.old) (O.taken out.old) (O.faults out.old))
+        (outside_of
+        (map (λ pair. lane_view
+        ⟦<Box<dyn Inlet + Send> as Inlet>⟧.told
+        ⟦<Box<dyn Outlet + Send> as Outlet>⟧.told
+        ⟦<Box<dyn Outlet + Send> as Outlet>⟧.faults pair.inlet pair.outlet) lanes.new.items)
+        (C.told clock.new) (C.faults clock.new) (P.faults crew.new) (O.taken out.new) (O.faults out.new)) result }
     ensures behind { IfErr result IsLiveFault }
     ensures out_rose { result ≡ Err Fault.Out → Rose (O.faults out.old) (O.faults out.new) }
     ensures clock_rose { result ≡ Err Fault.Clock → Rose (C.faults clock.old) (C.faults clock.new) }

@@ -2,7 +2,7 @@ ghost use Rattle.std.specs.Prelude.{◌≡◌, Err, Ok, map, string_bytes, vec_l
 ghost use Rattle.tb_cli.specs.Words.{asked};
 ghost use Rattle.tb_cli.specs.Table.{IsWithin};
 ghost use Rattle.tb_edge.specs.Faults.{Rose};
-ghost use Rattle.tb_run.specs.Outcomes.{LaneView, OutsideView};
+ghost use Rattle.tb_run.specs.Outcomes.{lane_view, outside_of};
 ghost use Rattle.tb_top.specs.Asking.{Asks, AsksSome};
 ghost use Rattle.tb_top.specs.Outcomes.{Comes, CommandOutcome, files_of};
 ghost use Rattle.tb_top.specs.Reporting.{Reported};
@@ -46,35 +46,23 @@ pub fn toolbus<R: Threads + Wait + Sync, F: Files, O: Sink, E: Sink, C: Clock + 
           held = F.held files.old;
           asked = F.asked files.old;
           file_faults = F.faults files.old;
-          outside = record {
-            lanes = map (λ pair. record {
-              gave = ⟦<Box<dyn Inlet + Send> as Inlet>⟧.told pair.inlet;
-              took = ⟦<Box<dyn Outlet + Send> as Outlet>⟧.told pair.outlet;
-              faults = ⟦<Box<dyn Outlet + Send> as Outlet>⟧.faults pair.outlet;
-            }) lanes.old.items;
-            clock = C.told clock.old;
-            clock_faults = C.faults clock.old;
-            crew_faults = P.faults crew.old;
-            put = O.taken out.old;
-            out_faults = O.faults out.old;
-          };
+          outside = outside_of
+              (map (λ pair. lane_view
+              ⟦<Box<dyn Inlet + Send> as Inlet>⟧.told
+              ⟦<Box<dyn Outlet + Send> as Outlet>⟧.told
+              ⟦<Box<dyn Outlet + Send> as Outlet>⟧.faults pair.inlet pair.outlet) lanes.old.items)
+              (C.told clock.old) (C.faults clock.old) (P.faults crew.old) (O.taken out.old) (O.faults out.old);
         })
         (record {
           held = F.held files.new;
           asked = F.asked files.new;
           file_faults = F.faults files.new;
-          outside = record {
-            lanes = map (λ pair. record {
-              gave = ⟦<Box<dyn Inlet + Send> as Inlet>⟧.told pair.inlet;
-              took = ⟦<Box<dyn Outlet + Send> as Outlet>⟧.told pair.outlet;
-              faults = ⟦<Box<dyn Outlet + Send> as Outlet>⟧.faults pair.outlet;
-            }) lanes.new.items;
-            clock = C.told clock.new;
-            clock_faults = C.faults clock.new;
-            crew_faults = P.faults crew.new;
-            put = O.taken out.new;
-            out_faults = O.faults out.new;
-          };
+          outside = outside_of
+              (map (λ pair. lane_view
+              ⟦<Box<dyn Inlet + Send> as Inlet>⟧.told
+              ⟦<Box<dyn Outlet + Send> as Outlet>⟧.told
+              ⟦<Box<dyn Outlet + Send> as Outlet>⟧.faults pair.inlet pair.outlet) lanes.new.items)
+              (C.told clock.new) (C.faults clock.new) (P.faults crew.new) (O.taken out.new) (O.faults out.new);
         }))
         (E.taken err.old) (E.taken err.new) result }
 
@@ -110,35 +98,23 @@ fn answer<R: Threads + Wait + Sync, F: Files, O: Sink, C: Clock + Send, P: Crew>
           held = F.held files.old;
           asked = F.asked files.old;
           file_faults = F.faults files.old;
-          outside = record {
-            lanes = map (λ pair. record {
-              gave = ⟦<Box<dyn Inlet + Send> as Inlet>⟧.told pair.inlet;
-              took = ⟦<Box<dyn Outlet + Send> as Outlet>⟧.told pair.outlet;
-              faults = ⟦<Box<dyn Outlet + Send> as Outlet>⟧.faults pair.outlet;
-            }) lanes.old.items;
-            clock = C.told clock.old;
-            clock_faults = C.faults clock.old;
-            crew_faults = P.faults crew.old;
-            put = O.taken out.old;
-            out_faults = O.faults out.old;
-          };
+          outside = outside_of
+              (map (λ pair. lane_view
+              ⟦<Box<dyn Inlet + Send> as Inlet>⟧.told
+              ⟦<Box<dyn Outlet + Send> as Outlet>⟧.told
+              ⟦<Box<dyn Outlet + Send> as Outlet>⟧.faults pair.inlet pair.outlet) lanes.old.items)
+              (C.told clock.old) (C.faults clock.old) (P.faults crew.old) (O.taken out.old) (O.faults out.old);
         })
         (record {
           held = F.held files.new;
           asked = F.asked files.new;
           file_faults = F.faults files.new;
-          outside = record {
-            lanes = map (λ pair. record {
-              gave = ⟦<Box<dyn Inlet + Send> as Inlet>⟧.told pair.inlet;
-              took = ⟦<Box<dyn Outlet + Send> as Outlet>⟧.told pair.outlet;
-              faults = ⟦<Box<dyn Outlet + Send> as Outlet>⟧.faults pair.outlet;
-            }) lanes.new.items;
-            clock = C.told clock.new;
-            clock_faults = C.faults clock.new;
-            crew_faults = P.faults crew.new;
-            put = O.taken out.new;
-            out_faults = O.faults out.new;
-          };
+          outside = outside_of
+              (map (λ pair. lane_view
+              ⟦<Box<dyn Inlet + Send> as Inlet>⟧.told
+              ⟦<Box<dyn Outlet + Send> as Outlet>⟧.told
+              ⟦<Box<dyn Outlet + Send> as Outlet>⟧.faults pair.inlet pair.outlet) lanes.new.items)
+              (C.told clock.new) (C.faults clock.new) (P.faults crew.new) (O.taken out.new) (O.faults out.new);
         }) result }
     ensures asks { Asks (F.held files.old) (files_of (asked (map string_bytes words.now.items))) (F.asked files.old) (F.asked files.new) result }
     ensures file_rose { result ≡ Err Fault.File → Rose (F.faults files.old) (F.faults files.new) }
@@ -171,35 +147,23 @@ fn do_command<R: Threads + Wait + Sync, F: Files, O: Sink, C: Clock + Send, P: C
           held = F.held files.old;
           asked = F.asked files.old;
           file_faults = F.faults files.old;
-          outside = record {
-            lanes = map (λ pair. record {
-              gave = ⟦<Box<dyn Inlet + Send> as Inlet>⟧.told pair.inlet;
-              took = ⟦<Box<dyn Outlet + Send> as Outlet>⟧.told pair.outlet;
-              faults = ⟦<Box<dyn Outlet + Send> as Outlet>⟧.faults pair.outlet;
-            }) lanes.old.items;
-            clock = C.told clock.old;
-            clock_faults = C.faults clock.old;
-            crew_faults = P.faults crew.old;
-            put = O.taken out.old;
-            out_faults = O.faults out.old;
-          };
+          outside = outside_of
+              (map (λ pair. lane_view
+              ⟦<Box<dyn Inlet + Send> as Inlet>⟧.told
+              ⟦<Box<dyn Outlet + Send> as Outlet>⟧.told
+              ⟦<Box<dyn Outlet + Send> as Outlet>⟧.faults pair.inlet pair.outlet) lanes.old.items)
+              (C.told clock.old) (C.faults clock.old) (P.faults crew.old) (O.taken out.old) (O.faults out.old);
         })
         (record {
           held = F.held files.new;
           asked = F.asked files.new;
           file_faults = F.faults files.new;
-          outside = record {
-            lanes = map (λ pair. record {
-              gave = ⟦<Box<dyn Inlet + Send> as Inlet>⟧.told pair.inlet;
-              took = ⟦<Box<dyn Outlet + Send> as Outlet>⟧.told pair.outlet;
-              faults = ⟦<Box<dyn Outlet + Send> as Outlet>⟧.faults pair.outlet;
-            }) lanes.new.items;
-            clock = C.told clock.new;
-            clock_faults = C.faults clock.new;
-            crew_faults = P.faults crew.new;
-            put = O.taken out.new;
-            out_faults = O.faults out.new;
-          };
+          outside = outside_of
+              (map (λ pair. lane_view
+              ⟦<Box<dyn Inlet + Send> as Inlet>⟧.told
+              ⟦<Box<dyn Outlet + Send> as Outlet>⟧.told
+              ⟦<Box<dyn Outlet + Send> as Outlet>⟧.faults pair.inlet pair.outlet) lanes.new.items)
+              (C.told clock.new) (C.faults clock.new) (P.faults crew.new) (O.taken out.new) (O.faults out.new);
         }) result }
     ensures asks { Asks (F.held files.old) (files_of (Ok command.now)) (F.asked files.old) (F.asked files.new) result }
     ensures file_rose { result ≡ Err Fault.File → Rose (F.faults files.old) (F.faults files.new) }

@@ -1,7 +1,7 @@
 use Rattle.std.proofs.Common.{sym, ap, subst, ◌∙◌, ◌≡◌, ℕ, List, [], take, drop}
 use Rattle.tb_log.specs.declared.entry.Entry.{Entry}
 use Rattle.tb_lock.specs.Seats.{SeatView}
-use Rattle.tb_run.proofs.SeatLemmas.{adds_on}
+use Rattle.tb_run.proofs.SeatLemmas.{stops_on}
 use Rattle.tb_run.proofs.LogLemmas.{adds_observe, puts_any, part_none}
 use Rattle.tb_run.proofs.logger.log_some.Goals as goal
 
@@ -22,4 +22,4 @@ returns-in-Err g c =
     let old = c.args.seat.now in
     let mid = c.read_log.new.seat in
     let adds = adds_observe law old mid o.core o.meets o.seat in
-    (adds_on old mid c.stop.new.seat [] [] adds c.stop.ensures, part_none old mid c.stop.new.seat o.core c.args.writer.now (g.O.Sink.taken c.args.out.now) adds (ap (λ (s : SeatView). s.seen) o.seat) c.stop.ensures)
+    (stops_on old mid c.stop.new.seat adds c.stop.ensures, part_none old mid c.stop.new.seat o.core c.args.writer.now (g.O.Sink.taken c.args.out.now) adds (ap (λ (s : SeatView). s.seen) o.seat) c.stop.ensures.adds)

@@ -1,0 +1,68 @@
+//! All jobs of a run are done beside each other: each waits until all have begun.
+use std::sync::Wait;
+use std::sync::atomic::{AtomicU32, Ordering};
+use std::test::Fail;
+use std::thread;
+use tb_edge::{Crew, Job, ThreadCrew};
+
+/// How many jobs a run has beside the one that writes the log: one a reader and one a writer of sixteen lanes, and those of who
+/// makes steps and of who hands in ticks.
+const JOBS: u32 = 34;
+
+/// How often a job looks whether all have begun before it gives up.
+const LOOKS: u32 = 20_000_000;
+
+/// A job that waits until all have begun.
+#[derive(Drop)]
+struct Waiting<'a> {
+    begun: &'a AtomicU32,
+    has_met_all: bool,
+}
+
+impl<'a> Job for Waiting<'a> {
+    ghost use Rattle.std.specs.Prelude.{⊤};
+
+    ghost ready = { λ _. ⊤ };
+
+    ghost done = { λ _ _. ⊤ };
+
+    fn work<R: Wait>(&mut self, _rt: &R) {
+        self.begun.fetch_add(1, Ordering::SeqCst);
+        for _ in 0..LOOKS {
+            if self.begun.load(Ordering::SeqCst) > JOBS {
+                self.has_met_all = true;
+                return;
+            }
+            thread::yield_now();
+        }
+    }
+}
+
+fn waiting(begun: &AtomicU32) -> Waiting {
+    Waiting {
+        begun,
+        has_met_all: false,
+    }
+}
+
+#[test]
+fn all_jobs_are_done_beside_each_other(rt: HostRuntime) -> Result<(), Fail> {
+    let begun = AtomicU32::new(0);
+    let mut jobs = Vec::new(rt.alloc());
+    for _ in 1..JOBS {
+        jobs.push(waiting(&begun))?;
+    }
+    let mut lent = waiting(&begun);
+    let mut own = waiting(&begun);
+    let mut met = 0;
+    if let Ok(done) = ThreadCrew::new().beside(&rt, jobs, &mut lent, &mut own) {
+        for job in &done {
+            met += u32::from(job.has_met_all);
+        }
+    }
+    assert_eq!(rt;
+        (met, lent.has_met_all, own.has_met_all),
+        (JOBS - 1, true, true)
+    );
+    Ok(())
+}
