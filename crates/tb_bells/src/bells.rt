@@ -1,6 +1,11 @@
 use crate::bell::Bell;
 use std::sync::Wait;
+use std::sync::atomic::{AtomicU32, Ordering};
 use std::time::Duration;
+
+/// How many look for their ring at once before they sleep, each for some microseconds: where the answer of a tool comes within
+/// these, nobody has to be woken. More of them would take the processors from the tools.
+const LOOKERS: u32 = 2;
 
 /// How many milliseconds who has written some of the log lets pass.
 const PAUSE: u64 = 2;
@@ -23,6 +28,7 @@ pub struct Bells {
     writers: [Bell; 16],
     log: Bell,
     pause: Bell,
+    lookers: AtomicU32,
 }
 
 impl Bells {
@@ -33,6 +39,7 @@ impl Bells {
             writers: sixteen(),
             log: Bell::new(),
             pause: Bell::new(),
+            lookers: AtomicU32::new(0),
         }
     }
 
@@ -60,7 +67,22 @@ impl Bells {
     /// Sleeps while this sleeper's count is `seen`, and gives the count as it is then. It is meant to begin with 0, and to
     /// be handed the last answer from then on: so a ring that came since that answer isn't slept past.
     pub fn wait_past<R: Wait>(&self, rt: &R, sleeper: Sleeper, seen: u64) -> u64 {
-        self.of(sleeper).wait_past(rt, seen)
+        let bell = self.of(sleeper);
+        let rings = self.look_past(bell, seen);
+        if rings != seen {
+            return rings;
+        }
+        bell.wait_past(rt, seen)
+    }
+
+    /// Looks for a ring of this bell, where not too many look for theirs, and gives its count.
+    fn look_past(&self, bell: &Bell, seen: u64) -> u64 {
+        let mut rings = seen;
+        if self.lookers.fetch_add(1, Ordering::SeqCst) < LOOKERS {
+            rings = bell.look_past(seen);
+        }
+        self.lookers.fetch_sub(1, Ordering::SeqCst);
+        rings
     }
 
     fn of(&self, sleeper: Sleeper) -> &Bell {

@@ -10,7 +10,7 @@ use tb_algebra::Walker;
 use tb_bells::{Bells, Sleeper};
 use tb_core::CoreFault;
 use tb_lock::{Seat, Shared, calls_add_their_own};
-use tb_log::{Input, Reply, Why};
+use tb_log::{Input, Reply, ToolLine, Why};
 
 /// Hands an input in, and says why the worker ends, where it does.
 pub(crate) fn hand<W: Walker, R: Wait>(
@@ -48,8 +48,11 @@ enum Woken {
 
 fn woken_by(input: &Input) -> Woken {
     match input {
-        Input::Line(lane, _) => Woken::StepperAndWriter(*lane),
-        Input::Gone(lane) => Woken::StepperAndWriter(*lane),
+        // Behind these an end is left on the lane. No other line leaves anything to be handed out.
+        Input::Line(lane, ToolLine::Disconnect) | Input::Gone(lane) => Woken::StepperAndWriter(
+            *lane,
+        ),
+        Input::Line(_, _) => Woken::Stepper,
         Input::Tick | Input::NoTicks => Woken::Stepper,
         // An end is left on the lane. Who handed in the cut takes it next, and wakes who makes steps then.
         Input::Cut(_) => Woken::Nobody,
