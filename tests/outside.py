@@ -75,7 +75,7 @@ def left_behind():
 
 
 def start(words, folder, err, env=None):
-    """Starts the program. Its standard error is a file: what a tool leaves behind has that too, and would hold up who reads it."""
+    """Starts the program. Its standard error is a file: what a tool leaves behind has it too, and would hold up a reader."""
     return subprocess.Popen(words, cwd=folder, stdin=subprocess.DEVNULL, stdout=subprocess.PIPE, stderr=err, env=env)
 
 

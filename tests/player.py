@@ -1,5 +1,5 @@
-"""A tool of tests/soak: it does as it likes, by a seed and a rate that stand in the file `settings`, and writes down in a file of its own
-what it says and hears. What it says last may be within a line.
+"""A tool of tests/soak: it does as it likes, by a seed and a rate that stand in the file `settings`, and writes down in a
+file of its own what it says and hears. What it says last may be within a line.
 """
 import os
 import random
@@ -29,7 +29,7 @@ class Player:
             self.notes.write(f"{mark} {text}\n")
 
     def put(self, text, means):
-        """Writes a line, perhaps in pieces, and notes what the log is to show of it. No other thread writes between the pieces."""
+        """Writes a line, perhaps in pieces, and notes what the log is to show of it. No other thread writes in between."""
         data = text.encode() + b"\n"
         with self.lock:
             self.notes.write(f"said {means}\n")
