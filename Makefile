@@ -1,6 +1,6 @@
-# What one types. Each target needs the command rt of the Rattle kit; bench needs the built program, Python 3
-# and a C compiler.
-.PHONY: hello build test bench
+# What one types. hello, build and test need the command rt of the Rattle kit. The others need the built program and Python 3,
+# bench and faults also a C compiler, and those from faults on Linux.
+.PHONY: hello build test bench faults hostile soak
 
 SCRIPT := $(CURDIR)/examples/hello.tb
 PROGRAM := $(CURDIR)/crates/toolbus/out/toolbus
@@ -23,3 +23,16 @@ test:
 bench:
 	bench/run
 	bench/live
+
+# Each request for memory refused in turn; the table of docs/FAULTS.md. Some minutes. No part of the gate, as the next two aren't.
+faults:
+	tests/faults
+
+# Tools that misbehave. Two minutes.
+hostile:
+	tests/hostile
+
+# Sixteen random tools under load, for so many minutes.
+MINUTES := 10
+soak:
+	tests/soak --minutes $(MINUTES)

@@ -40,6 +40,8 @@ pub(crate) struct Case {
     pub(crate) fails: Fails,
     /// How many bytes may be put to `out`.
     pub(crate) room: usize,
+    /// How many bytes may be put to `err`.
+    pub(crate) err_room: usize,
     pub(crate) live: Live,
     pub(crate) out: Vec<u8>,
     /// Whether it says what is wanted on `out`.
@@ -67,6 +69,7 @@ impl Case {
                 err: 0,
             },
             room: ROOM,
+            err_room: ROOM,
             live: Live::new(alloc),
             out: Vec::new(alloc),
             says_out: false,
@@ -194,14 +197,23 @@ impl Case {
         }
     }
 
+    /// Takes how many bytes may be put, as `10`, or of the faults' sink `err 10`.
     fn take_room(&mut self, text: &str) -> bool {
-        match text.parse::<usize>() {
-            Ok(room) => {
-                self.room = room;
-                true
-            }
-            Err(_) => false,
+        let (thing, rest) = parted(text);
+        let (is_err, number) = if thing == "err" {
+            (true, rest)
+        } else {
+            (false, text)
+        };
+        let Ok(room) = number.parse::<usize>() else {
+            return false;
+        };
+        if is_err {
+            self.err_room = room;
+        } else {
+            self.room = room;
         }
+        true
     }
 
     /// Takes which call is to fail, as `out 2`.

@@ -30,13 +30,13 @@ struct Stage {
     lanes: Vec<LanePair>,
 }
 
-/// How many bytes may be put to `err`, and to `out` where no other number is said.
+/// How many bytes may be put to `out` and to `err`, where no other number is said.
 pub(crate) const ROOM: usize = 24_000_000;
 
 /// How many lanes there are.
 const LANES: usize = 16;
 
-/// What the ToolBus does with the words, files and lanes of the case. None where there aren't sixteen lanes.
+/// What the ToolBus does with the words, files and lanes of the case. None where there aren't sixteen lanes, before the call or after it.
 pub(crate) fn play<R: Threads + Wait + Sync>(
     rt: &R,
     alloc: Global,
@@ -69,8 +69,11 @@ pub(crate) fn play<R: Threads + Wait + Sync>(
         files: _,
         out,
         err,
-        lanes: _,
+        lanes,
     } = stage;
+    if lanes.len() != LANES {
+        return Ok(None);
+    }
     Ok(Some(Played {
         status: status.number(),
         out,
@@ -128,7 +131,7 @@ fn stage_of(alloc: Global, case: &Case, lanes: Vec<LanePair>) -> Result<Stage, N
     Ok(Stage {
         files: MemFiles::new(alloc, held, one(alloc, case.fails.files)?),
         out: MemSink::new(alloc, case.room, one(alloc, case.fails.out)?)?,
-        err: MemSink::new(alloc, ROOM, one(alloc, case.fails.err)?)?,
+        err: MemSink::new(alloc, case.err_room, one(alloc, case.fails.err)?)?,
         lanes,
     })
 }
