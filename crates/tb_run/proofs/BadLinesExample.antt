@@ -35,7 +35,10 @@ use Rattle.tb_tools.specs.Lanes.{Lane, unused, new_tool, opening}
 use Rattle.tb_tools.specs.declared.stage.Stage.TheVariants as stage
 use Rattle.tb_bus.specs.declared.origin.Origin.{Origin}
 use Rattle.tb_bus.specs.Buses.{Bus, Proc, start}
-use Rattle.tb_bus.specs.Traces.{replay}
+use Rattle.tb_bus.specs.Helpers.Candidates.{first}
+use Rattle.tb_bus.specs.Traces.{IsTrace, replay}
+use Rattle.tb_bus.proofs.TraceLemmas.{trace-rest}
+use Rattle.tb_core.specs.Cores.{CoreState}
 use Rattle.tb_bus.specs.Steps.{steps, moves, moves_of_all, moves_of, handshakes, handshakes_with, advance}
 use Rattle.tb_edge.specs.declared.given.Given.{Given}
 use Rattle.tb_edge.specs.declared.given.Given.TheVariants as given
@@ -51,6 +54,7 @@ use Rattle.tb_log.specs.declared.entry.Out.{Out}
 use Rattle.tb_log.specs.declared.entry.Out.TheVariants as out
 use Rattle.tb_log.specs.declared.entry.Entry.{Entry}
 use Rattle.tb_log.specs.declared.entry.Entry.TheVariants.{Did, Quiet, Fed, Gave}
+use Rattle.tb_log.specs.declared.entry.Label.{Label}
 use Rattle.tb_log.specs.declared.entry.LabelKind.TheVariants as kind
 use Rattle.tb_log.specs.Lanes.{inputs, sent}
 use Rattle.tb_log.specs.LogText.{log_text}
@@ -58,8 +62,10 @@ use Rattle.tb_core.specs.Cores.{says_quiet}
 use Rattle.tb_lock.specs.Histories.{IsSparse}
 use Rattle.tb_run.specs.Workers.{AreLines, cut_count}
 use Rattle.tb_run.specs.Clocks.{ClockRan, TimeIs}
-use Rattle.tb_run.specs.Outcomes.{LaneView, LaneRan, EachLane, IsDone}
-use Rattle.tb_run.proofs.Examples.{plain, root, seen, finish, tool, holding, Leads, stays, did, quiet, came, gave, sparse, from_start, empty-lane, idle, at_end, silent-lanes, one_lane, clock_of}
+use Rattle.tb_run.specs.declared.ends.RunWhy.{RunWhy}
+use Rattle.tb_run.specs.declared.ends.RunWhy.TheVariants.{Ended, Crew, Clock, NoMemory}
+use Rattle.tb_run.specs.Outcomes.{LaneView, LaneRan, EachLane, IsDone, OutsideView, Runs}
+use Rattle.tb_run.proofs.Examples.{plain, root, seen, finish, tool, holding, Leads, stays, did, quiet, came, gave, sparse, from_start, empty-lane, idle, at_end, silent-lanes, one_lane, clock_of, before, afterwards, core_of, no-ticks, not-twice, not-behind, not-quiet, not-made, gave-all, gave-most}
 
 -- the name of the tool, and its command
 abbrev pub t : List ℕ
@@ -169,10 +175,14 @@ leads =
     (did (over false) (over true) (over true) finish _ refl
     (came (over true) (over true) (over true) input.NoTicks (Dropped why.Down) [] tt refl refl (stays (over true))))))))))))
 
+-- the bus that the program opens with
+opens : (P : Bus → Type 0) → P opened → P (start departing)
+opens P p =
+    subst (λ (term : Process). P (bus_of (record (proc term 0) { store = record { sort = sort.Tool t; value = initial_value (sort.Tool t) } ∷ [] } ∷ []) 0 false 1 unused)) (sym fresh-body)
+    (subst (λ (value : Term). P (bus_of (record (proc (Let from_start (Seq (At 1 0) (At 2 0))) 0) { store = record { sort = sort.Tool t; value = value } ∷ [] } ∷ []) 0 false 1 unused)) (sym begins-none) p)
+
 pub departing-leads : Leads (start departing) departing_log (over true)
-departing-leads =
-    subst (λ (term : Process). Leads (bus_of (record (proc term 0) { store = record { sort = sort.Tool t; value = initial_value (sort.Tool t) } ∷ [] } ∷ []) 0 false 1 unused) departing_log (over true)) (sym fresh-body)
-    (subst (λ (value : Term). Leads (bus_of (record (proc (Let from_start (Seq (At 1 0) (At 2 0))) 0) { store = record { sort = sort.Tool t; value = value } ∷ [] } ∷ []) 0 false 1 unused) departing_log (over true)) (sym begins-none) leads)
+departing-leads = opens (λ bus. Leads bus departing_log (over true)) leads
 
 pub departing-sparse : IsSparse departing_log
 departing-sparse = sparse departing_log refl
@@ -187,7 +197,10 @@ tool-text : term_text (tool t 1) ≡ codes "t(1)"
 unfolding digits
 tool-text = search (rules, term_lemmas)
 
-pub departing-text : log_text departing_log ≡ codes "1 execute 1.1 t(1)\n2 out 1 start \"t\"\n3 quiet\n4 drop bad line 1 ?\n5 drop bad line 1 ?\n6 drop bad line 1 ?\n7 gone 1\n8 out 1 end\n9 rec-disconnect 1.2 t(1)\n10 finish\n11 drop down noticks\n"
+abbrev pub departing_text : List ℕ
+departing_text = codes "1 execute 1.1 t(1)\n2 out 1 start \"t\"\n3 quiet\n4 drop bad line 1 ?\n5 drop bad line 1 ?\n6 drop bad line 1 ?\n7 gone 1\n8 out 1 end\n9 rec-disconnect 1.2 t(1)\n10 finish\n11 drop down noticks\n"
+
+pub departing-text : log_text departing_log ≡ departing_text
 unfolding digits
 departing-text = simp tool-text
 
@@ -233,66 +246,117 @@ tool-ran = record {
 pub lanes-ran : EachLane (LaneRan departing_log) 1 (one_lane idle idle) (one_lane (at_end put_by_tool (taken.Start t ∷ taken.End ∷ []) 0) (at_end [] [] 0))
 lanes-ran = (tool-ran, silent-lanes departing_log 2 15 refl)
 
-no-ticks-come : TimeIs departing_log
-no-ticks-come = record {
-  first = [];
-  tail = Fed input.NoTicks (Dropped why.Down) ∷ [];
-  is = refl;
-  ticks = tt;
-  last = inr (Dropped why.Down, refl);
-}
-
 pub clock-ran : ClockRan departing_log 36000 (clock_of false) (clock_of true) ⊥
 clock-ran = record {
   ended = true;
   told = refl;
   within = omega arith;
-  time = no-ticks-come;
+  time = no-ticks departing_log (Dropped why.Down) refl;
   why = inr (inl refl);
   end = inl (inl refl);
 }
 
--- the outlet took one less than the log hands out
-pub none-lacks : LaneRan departing_log 1 idle (at_end put_by_tool (taken.Start t ∷ []) 0) → ⊥
-none-lacks ran = let e : ◌≡◌ {A = Option (List Taken)} (Some (taken.Start t ∷ [])) (Some (taken.Start t ∷ taken.End ∷ [])) = ran.took in cc
+-- the lanes after the run, where the first has these ends
+abbrev pub lanes_of : List Given → List Taken → List LaneView
+lanes_of gives takes = one_lane (at_end gives takes 0) (at_end [] [] 0)
+
+abbrev pub departed : OutsideView
+departed = afterwards (lanes_of put_by_tool (taken.Start t ∷ taken.End ∷ [])) departing_text
+
+abbrev pub back : CoreState
+back = core_of departing departing_log
+
+-- such a run went to its end
+pub departing-run : Runs 36000 before departed departing back Ended
+departing-run = record {
+  origin_is = refl;
+  history = record { trace = departing-leads.trace; sparse = departing-sparse };
+  within = omega arith;
+  outcome = (ap (λ (text : List ℕ). Some text) (sym departing-text), lanes-ran, clock-ran, departing-done);
+}
+
+-- the outlet took one item less than the log hands out
+pub none-lacks : (text : List ℕ) → Runs 36000 before (afterwards (lanes_of put_by_tool (taken.Start t ∷ [])) text) departing back Ended → ⊥
+none-lacks text runs = let e : ◌≡◌ {A = Option (List Taken)} (Some (taken.Start t ∷ [])) (Some (taken.Start t ∷ taken.End ∷ [])) = runs.outcome.1.0.took in cc
 
 -- or another one
-pub none-differs : LaneRan departing_log 1 idle (at_end put_by_tool (taken.Start t ∷ taken.Line (codes "x") ∷ []) 0) → ⊥
-none-differs ran =
-    let e : ◌≡◌ {A = Option (List Taken)} (Some (taken.Start t ∷ taken.Line (codes "x") ∷ [])) (Some (taken.Start t ∷ taken.End ∷ [])) = ran.took in
+pub none-differs : (text : List ℕ) → Runs 36000 before (afterwards (lanes_of put_by_tool (taken.Start t ∷ taken.Line (codes "x") ∷ [])) text) departing back Ended → ⊥
+none-differs text runs =
+    let e : ◌≡◌ {A = Option (List Taken)} (Some (taken.Start t ∷ taken.Line (codes "x") ∷ [])) (Some (taken.Start t ∷ taken.End ∷ [])) = runs.outcome.1.0.took in
     let same : ◌≡◌ {A = Taken} (taken.Line (codes "x")) taken.End = cc in cc
 
-abbrev gave_of : Option InletView → List Given
-gave_of None = []
-gave_of (Some view) = view.gave
+-- the inlet gave a line that the log lacks
+pub none-unheard : (text : List ℕ) (takes : List Taken) → Runs 36000 before (afterwards (lanes_of (given.Line (codes "x") ∷ put_by_tool) takes) text) departing back Ended → ⊥
+none-unheard text takes runs = let lines = gave-all departing_log 1 (given.Line (codes "x") ∷ put_by_tool) takes 0 runs.outcome.1.0 in lines.1.1.1.1
 
--- the inlet gave what the log lacks
-pub none-unheard : LaneRan departing_log 1 idle (at_end (given.Line (codes "x") ∷ put_by_tool) (taken.Start t ∷ taken.End ∷ []) 0) → ⊥
-none-unheard ran =
-    let e : ◌≡◌ {A = Option InletView} (Some (record { gave = given.Line (codes "x") ∷ put_by_tool; over = true })) (Some (record { gave = ran.given; over = ran.over })) = ran.gave in
-    let same : given.Line (codes "x") ∷ put_by_tool ≡ ran.given = ap gave_of e in
-    let lines = subst (λ (gives : List Given). AreLines 1 gives (inputs departing_log 1)) (sym same) ran.lines in
-    lines.1.1.1.1
+-- the log has a line that the inlet didn't give
+pub none-made_up : (text : List ℕ) (takes : List Taken) → Runs 36000 before (afterwards (lanes_of (given.Long ∷ given.End ∷ []) takes) text) departing back Ended → ⊥
+none-made_up text takes runs = let lines = gave-all departing_log 1 (given.Long ∷ given.End ∷ []) takes 0 runs.outcome.1.0 in lines.1.0
 
--- the log has what the inlet didn't give
-pub none-made_up : LaneRan departing_log 1 idle (at_end (given.Long ∷ given.End ∷ []) (taken.Start t ∷ taken.End ∷ []) 0) → ⊥
-none-made_up ran =
-    let e : ◌≡◌ {A = Option InletView} (Some (record { gave = given.Long ∷ given.End ∷ []; over = true })) (Some (record { gave = ran.given; over = ran.over })) = ran.gave in
-    let same : given.Long ∷ given.End ∷ [] ≡ ran.given = ap gave_of e in
-    let lines = subst (λ (gives : List Given). AreLines 1 gives (inputs departing_log 1)) (sym same) ran.lines in
-    lines.1.0
+-- other bytes were put
+pub none-unwritten : (lanes : List LaneView) → Runs 36000 before (afterwards lanes []) departing back Ended → ⊥
+none-unwritten lanes runs =
+    let e : ◌≡◌ {A = Option (List ℕ)} (Some []) (Some (log_text departing_log)) = runs.outcome.0 in
+    let same : ◌≡◌ {A = Option (List ℕ)} (Some []) (Some departing_text) = e ∙ ap (λ (text : List ℕ). Some text) departing-text in cc
 
--- a log that says quiet twice
-pub none-quiet_twice : IsSparse (Did finish ∷ Quiet ∷ Quiet ∷ []) → ⊥
-none-quiet_twice sparse = let e : ◌≡◌ {A = Bool} true false = sparse 1 refl in cc
+-- the clock didn't fail, the crew didn't
+pub none-clock : (lanes : List LaneView) (text : List ℕ) → Runs 36000 before (afterwards lanes text) departing back Clock → ⊥
+none-clock lanes text runs = elim runs.outcome.4 [ inl less ↦ absurd (omega (arith, less)) | inr last ↦ absurd (omega (arith, last)) ]
 
+pub none-crew : (new : OutsideView) → Runs 36000 before new departing back Crew → ⊥
+none-crew new runs = let e : ◌≡◌ {A = List Entry} departing_log [] = runs.outcome.3 in cc
+
+-- a run that was stopped lacks one item of an inlet at most
+pub none-forgotten : (text : List ℕ) (takes : List Taken) → Runs 36000 before (afterwards (lanes_of (given.Long ∷ given.Long ∷ put_by_tool) takes) text) departing back NoMemory → ⊥
+none-forgotten text takes runs =
+    let most : 6 ≤ 5 = gave-most departing_log 1 (given.Long ∷ given.Long ∷ put_by_tool) takes 0 runs.outcome.1.0 in absurd (omega (arith, most))
+
+-- a log that says quiet twice, however it goes on and whatever the outside shows
+pub none-quiet_twice : (old new : OutsideView) (label : Label) (rest : List Entry) (it : RunWhy) → Runs 36000 old new departing (core_of departing (Did label ∷ Quiet ∷ Quiet ∷ rest)) it → ⊥
+none-quiet_twice old new label rest it runs = let e : ◌≡◌ {A = Bool} true false = runs.history.sparse 1 refl in cc
+
+-- or that says so where a step is possible
+first-step : first (steps opened) ≡ Some (record { label = seen kind.Execute 1 1 (tool t 1 ∷ []); bus = waits (live (out.Start t ∷ [])) })
+unfolding steps moves moves_of_all moves_of handshakes handshakes_with advance
+first-step = simp (let-starts, is-tool, is-within)
+
+pub none-quiet_early : (old new : OutsideView) (rest : List Entry) (it : RunWhy) → Runs 36000 old new departing (core_of departing (Quiet ∷ rest)) it → ⊥
+none-quiet_early old new rest it runs =
+    opens (λ bus. IsTrace bus (Quiet ∷ rest) → ⊥) (not-quiet opened (record { label = seen kind.Execute 1 1 (tool t 1 ∷ []); bus = waits (live (out.Start t ∷ [])) }) rest first-step) runs.history.trace
+
+-- or where the tool leaves that is still there
+abbrev early : List Entry
+early = Did (seen kind.Execute 1 1 (tool t 1 ∷ [])) ∷ Gave 1 (out.Start t) ∷ []
+
+starts : Leads opened early (waits (live []))
+unfolding steps moves moves_of_all moves_of handshakes handshakes_with advance
+starts =
+    did opened (waits (live (out.Start t ∷ []))) (waits (live [])) _ _ (simp (let-starts, is-tool, is-within))
+    (gave (waits (live (out.Start t ∷ []))) (waits (live [])) (waits (live [])) 1 (out.Start t) _ (omega arith, omega arith) refl refl (stays (waits (live []))))
+
+none-left : steps (waits (live [])) ≡ []
+unfolding steps moves moves_of_all moves_of handshakes handshakes_with advance
+none-left = refl
+
+pub none-left_early : (old new : OutsideView) (label : Label) (rest : List Entry) (it : RunWhy) → Runs 36000 old new departing (core_of departing (early ++ Did label ∷ rest)) it → ⊥
+none-left_early old new label rest it runs =
+    let leads : Leads (start departing) early (waits (live [])) = opens (λ bus. Leads bus early (waits (live []))) starts in
+    let trace = trace-rest (start departing) early (Did label ∷ rest) runs.history.trace in
+    not-made (waits (live [])) label rest none-left (subst (λ bus. IsTrace bus (Did label ∷ rest)) leads.is trace)
+
+-- the clock gave a tick that the log lacks
 abbrev ticks_of : Option ClockView → ℕ
 ticks_of None = 0
 ticks_of (Some view) = view.ticks
 
--- the clock gave a tick that the log lacks
 pub none-untold : ClockRan departing_log 36000 (clock_of false) (Some (record { ticks = 1; ended = true })) ⊥ → ⊥
 none-untold ran =
-    let e : ◌≡◌ {A = Option ClockView} (Some (record { ticks = 1; ended = true })) (Some (record { ticks = 0; ended = ran.ended })) = ran.told in
-    let same : ◌≡◌ {A = ℕ} 1 0 = ap ticks_of e in
+    let same : ◌≡◌ {A = ℕ} 1 0 = ap ticks_of ran.told in
     absurd (omega (arith, same))
+
+-- that no more ticks come is said twice, or a tick comes behind it
+pub none-twice : TimeIs (departing_log ++ Fed input.NoTicks (Dropped why.Down) ∷ []) → ⊥
+none-twice = not-twice (departing_log ++ Fed input.NoTicks (Dropped why.Down) ∷ []) (Dropped why.Down) (Dropped why.Down) refl
+
+pub none-behind : TimeIs (departing_log ++ Fed input.Tick (Dropped why.Down) ∷ []) → ⊥
+none-behind = not-behind (departing_log ++ Fed input.Tick (Dropped why.Down) ∷ []) (Dropped why.Down) (Dropped why.Down) refl

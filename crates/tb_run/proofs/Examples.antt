@@ -1,6 +1,6 @@
 -- Worked runs, computed from the definitions alone: what they share.
-use Rattle.std.proofs.Common.{◌≡◌, ℕ, ◌≤◌, pos, List, [], ◌∷◌, replicate, inl, map, refl, ap, sym, ◌∙◌, subst, arith, codes, false, true, rules, Option, Some, None, Bool, not, ◌&&◌, ◌+◌, ◌-◌, suc, zero, slice_get}
-use Rattle.std.specs.Prelude.{nat_eq, slice_index_or}
+use Rattle.std.proofs.Common.{length-append, ◌≡◌, ℕ, ◌≤◌, pos, List, [], ◌∷◌, replicate, inl, map, refl, ap, sym, ◌∙◌, subst, arith, codes, false, true, rules, Option, Some, None, Bool, not, ◌&&◌, ◌+◌, ◌-◌, ◌++◌, suc, zero, length, Contains, inr, slice_get}
+use Rattle.std.specs.Prelude.{nat_eq, slice_index_or, filter, ◌⊎◌}
 use Rattle.std.proofs.lemmas.Bool.{and_parts, eqb-true}
 use Rattle.tb_terms.specs.declared.term.Term.{Term, the_lemmas as term_lemmas}
 use Rattle.tb_terms.specs.declared.term.Term.TheVariants as term
@@ -16,6 +16,7 @@ use Rattle.tb_body.specs.declared.program.Root.{Root}
 use Rattle.tb_algebra.specs.Settings.{with_settings}
 use Rattle.tb_log.specs.Shapes.{IsInputInShape, IsLane}
 use Rattle.tb_log.specs.declared.entry.Input.{Input}
+use Rattle.tb_log.specs.declared.entry.Input.TheVariants as input_of
 use Rattle.tb_log.specs.declared.entry.Reply.{Reply}
 use Rattle.tb_log.specs.declared.entry.Out.{Out}
 use Rattle.tb_log.specs.declared.entry.Entry.{Entry}
@@ -25,6 +26,7 @@ use Rattle.tb_log.specs.declared.entry.LabelKind.{LabelKind}
 use Rattle.tb_log.specs.declared.entry.LabelKind.TheVariants as kind
 use Rattle.tb_tools.specs.Lanes.{Lane, BenchState, unused, tool_term, is_empty}
 use Rattle.tb_tools.specs.Finding.{next_out}
+use Rattle.tb_bus.specs.declared.origin.Origin.{Origin}
 use Rattle.tb_bus.specs.Buses.{Bus}
 use Rattle.tb_bus.specs.Steps.{Step, steps}
 use Rattle.tb_bus.specs.Helpers.Candidates.{first}
@@ -32,13 +34,14 @@ use Rattle.tb_bus.specs.Traces.{IsTrace, after, replay, fed, taken_out}
 use Rattle.tb_bus.proofs.TraceLemmas.{after-first, legal-first, legal-quiet, legal-fed, legal-gave}
 use Rattle.tb_edge.specs.declared.given.Given.{Given}
 use Rattle.tb_edge.specs.declared.given.Taken.{Taken}
-use Rattle.tb_edge.specs.Ends.{ClockView}
+use Rattle.tb_edge.specs.Ends.{InletView, ClockView}
 use Rattle.tb_lane.specs.Sending.{taken_of}
 use Rattle.tb_log.specs.Lanes.{inputs, sent}
-use Rattle.tb_core.specs.Cores.{says_quiet}
+use Rattle.tb_core.specs.Cores.{CoreState, says_quiet}
 use Rattle.tb_lock.specs.Histories.{IsSparse}
-use Rattle.tb_run.specs.Workers.{AreLines, cut_count}
-use Rattle.tb_run.specs.Outcomes.{LaneView, LaneRan, EachLane}
+use Rattle.tb_run.specs.Workers.{AreLines, AreTicks, IsNoTicks, cut_count}
+use Rattle.tb_run.specs.Clocks.{is_time, TimeIs}
+use Rattle.tb_run.specs.Outcomes.{LaneView, LaneRan, LaneStopped, EachLane, OutsideView, outside_of}
 
 -- an atom that has no times
 abbrev pub plain : Act → Atom
@@ -191,3 +194,84 @@ empty-at (lane ∷ lanes) (suc index) e = empty-at lanes index (and_parts (is_em
 
 pub empty-lane : (bench : BenchState) (lane : ℕ) → are_empty bench.lanes ≡ true → next_out lane bench ≡ None
 empty-lane bench lane e = empty-at bench.lanes (lane - 1) e
+
+-- the outside before a run, and after one that this lane's ends came to, and the other lanes', with this text put
+abbrev pub before : OutsideView
+before = outside_of (replicate 16 idle) (clock_of false) 0 0 (Some []) 0
+
+abbrev pub afterwards : List LaneView → List ℕ → OutsideView
+afterwards lanes text = outside_of lanes (clock_of true) 0 0 (Some text) 0
+
+-- the core that is handed back
+abbrev pub core_of : Origin → List Entry → CoreState
+core_of origin log = record { origin = origin; log = log; stopped = false; spare = 0 }
+
+-- the one entry of time says that no more ticks come
+pub no-ticks : (log : List Entry) (reply : Reply) → filter is_time log ≡ Fed input_of.NoTicks reply ∷ [] → TimeIs log
+no-ticks log reply e = record {
+  first = [];
+  tail = Fed input_of.NoTicks reply ∷ [];
+  is = e;
+  ticks = tt;
+  last = inr (reply, refl);
+}
+
+-- it isn't said twice
+said-twice : (one two : Reply) (first tail : List Entry) → Fed input_of.NoTicks one ∷ Fed input_of.NoTicks two ∷ [] ≡ first ++ tail → AreTicks first → (tail ≡ []) ⊎ IsNoTicks tail → ⊥
+said-twice one two [] tail e ticks (inl none) = let both : ◌≡◌ {A = List Entry} (Fed input_of.NoTicks one ∷ Fed input_of.NoTicks two ∷ []) [] = e ∙ none in cc
+said-twice one two [] tail e ticks (inr last) =
+    let both : ◌≡◌ {A = List Entry} (Fed input_of.NoTicks one ∷ Fed input_of.NoTicks two ∷ []) (Fed input_of.NoTicks last.0 ∷ []) = e ∙ last.1 in cc
+said-twice one two (entry ∷ first) tail e ticks last =
+    let same : ◌≡◌ {A = Entry} (Fed input_of.NoTicks one) entry = cc in
+    subst (λ (it : Entry). AreTicks (it ∷ first)) (sym same) ticks
+
+pub not-twice : (log : List Entry) (one two : Reply) → filter is_time log ≡ Fed input_of.NoTicks one ∷ Fed input_of.NoTicks two ∷ [] → TimeIs log → ⊥
+not-twice log one two e time = said-twice one two time.first time.tail (sym e ∙ time.is) time.ticks time.last
+
+-- no tick comes behind it
+tick-behind : (one two : Reply) (first tail : List Entry) → Fed input_of.NoTicks one ∷ Fed input_of.Tick two ∷ [] ≡ first ++ tail → AreTicks first → (tail ≡ []) ⊎ IsNoTicks tail → ⊥
+tick-behind one two [] tail e ticks (inl none) = let both : ◌≡◌ {A = List Entry} (Fed input_of.NoTicks one ∷ Fed input_of.Tick two ∷ []) [] = e ∙ none in cc
+tick-behind one two [] tail e ticks (inr last) =
+    let both : ◌≡◌ {A = List Entry} (Fed input_of.NoTicks one ∷ Fed input_of.Tick two ∷ []) (Fed input_of.NoTicks last.0 ∷ []) = e ∙ last.1 in cc
+tick-behind one two (entry ∷ first) tail e ticks last =
+    let same : ◌≡◌ {A = Entry} (Fed input_of.NoTicks one) entry = cc in
+    subst (λ (it : Entry). AreTicks (it ∷ first)) (sym same) ticks
+
+pub not-behind : (log : List Entry) (one two : Reply) → filter is_time log ≡ Fed input_of.NoTicks one ∷ Fed input_of.Tick two ∷ [] → TimeIs log → ⊥
+not-behind log one two e time = tick-behind one two time.first time.tail (sym e ∙ time.is) time.ticks time.last
+
+-- where a step is possible, nothing says quiet
+pub not-quiet : (bus : Bus) (step : Step) (log : List Entry) → first (steps bus) ≡ Some step → IsTrace bus (Quiet ∷ log) → ⊥
+not-quiet bus step log e trace = let none : ◌≡◌ {A = Option Step} None (Some step) = sym (ap first trace.0.0) ∙ e in cc
+
+-- and where none is, none is made
+pub not-made : (bus : Bus) (label : Label) (log : List Entry) → steps bus ≡ [] → IsTrace bus (Did label ∷ log) → ⊥
+not-made bus label log e trace =
+    let there = subst (λ (all : List Step). Contains all (record { label = label; bus = after bus (Did label) })) e trace.0 in
+    absurd (omega (arith, there.1))
+
+-- as many inputs as were given
+lines-length : (lane : ℕ) (gives : List Given) (ins : List Input) → AreLines lane gives ins → length gives ≡ length ins
+lines-length lane [] [] lines = refl
+lines-length lane [] (i ∷ ins) lines = absurd lines
+lines-length lane (g ∷ gives) [] lines = absurd lines
+lines-length lane (g ∷ gives) (i ∷ ins) lines = ap suc (lines-length lane gives ins lines.1)
+
+-- what an inlet told in a call that began with nothing
+abbrev gave_of : Option InletView → List Given
+gave_of None = []
+gave_of (Some view) = view.gave
+
+-- a run went to its end: it gave just what the log has
+pub gave-all : (log : List Entry) (lane : ℕ) (gives : List Given) (takes : List Taken) (faults : ℕ) → LaneRan log lane idle (at_end gives takes faults) → AreLines lane gives (inputs log lane)
+gave-all log lane gives takes faults ran =
+    let same : gives ≡ ran.given = ap gave_of ran.gave in
+    subst (λ (those : List Given). AreLines lane those (inputs log lane)) (sym same) ran.lines
+
+-- it was stopped: it gave one more at most
+pub gave-most : (log : List Entry) (lane : ℕ) (gives : List Given) (takes : List Taken) (faults : ℕ) → LaneStopped log lane idle (at_end gives takes faults) → length gives ≤ length (inputs log lane) + 1
+gave-most log lane gives takes faults ran =
+    let same : gives ≡ ran.fed ++ ran.last = ap gave_of ran.gave in
+    let heard : length ran.fed ≡ length (inputs log lane) = lines-length lane ran.fed (inputs log lane) ran.lines in
+    let all : length gives ≡ length ran.fed + length ran.last = ap length same ∙ length-append ran.fed ran.last in
+    omega (arith, heard, all, ran.one)
