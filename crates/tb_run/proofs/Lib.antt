@@ -22,4 +22,8 @@ pub mod TraceLemmas
 pub mod WentLemmas
 pub mod WorkLemmas
 pub mod WriteLemmas
+mod BadLinesExample
+mod CutOffExample
+mod Examples
 mod SendLemmas
+mod TwoToolsExample
