@@ -1,19 +1,18 @@
 -- What was found in a row are the offers of its branches.
-use Rattle.std.proofs.Common.{◌≡◌, ℕ, zero, suc, ◌+◌, ◌-◌, ◌<◌, ◌≤◌, List, [], ◌∷◌, ◌++◌, map, take, length, slice_get, Option, Some, None, refl, ap, sym, subst, ◌∙◌, arith, ◌⊎◌, inl, inr}
+use Rattle.std.proofs.Common.{◌≡◌, ℕ, suc, ◌+◌, ◌-◌, ◌≤◌, List, [], ◌∷◌, map, take, length, slice_get, Option, Some, None, refl, subst, ◌∙◌, arith, ◌⊎◌, inl, inr}
 use Rattle.tb_func.specs.declared.slot.Slot.{Slot}
 use Rattle.tb_body.specs.declared.atom.Atom.{Atom}
-use Rattle.tb_algebra.specs.Helpers.Selections.{Selected, On, selected, selected_at}
-use Rattle.tb_algebra.specs.Offers.{Offered, offers}
+use Rattle.tb_algebra.specs.Helpers.Selections.{selected}
+use Rattle.tb_algebra.specs.Offers.{offers}
 use Rattle.tb_algebra.specs.Processes.{Process}
 use Rattle.tb_algebra.specs.Reached.{IsNew}
-use Rattle.tb_algebra.specs.Helpers.OfferViews.{OfferView, offer_view, offer_views}
+use Rattle.tb_algebra.specs.Helpers.OfferViews.{offer_views}
 use Rattle.tb_code.specs.Positions.{part}
 use Rattle.tb_walk.specs.Helpers.Goings.{term_at, counted, row_sights}
-use Rattle.tb_walk.specs.Helpers.Sights.{Sighting, sightings, branch_sightings, row_sightings, branch_by}
+use Rattle.tb_walk.specs.Helpers.Sights.{Sighting, branch_sightings, row_sightings, branch_by}
 use Rattle.tb_walk.specs.Helpers.Takings.{AreThere, LeavesRow, Picks}
 use Rattle.tb_walk.specs.declared.branch.Branch.{Branch}
-use Rattle.tb_walk.proofs.ReadLemmas.{length-mapped}
-use Rattle.tb_walk.proofs.SightLemmas.{Leaving, leaving, seen_of, seen-sightings, length-sightings, is_of, new-part, split_get, seen-two}
+use Rattle.tb_walk.proofs.SightLemmas.{leaving, seen_of, seen-sightings, length-sightings, is_of, new-part, split_get, seen-two}
 
 module _ (whole : Process) (new : IsNew whole) (atoms : List Atom) (now ticks : ℕ) (store : List Slot) where
   abbrev one_branch : ℕ → Branch → List Sighting

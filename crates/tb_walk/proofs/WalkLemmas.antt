@@ -10,7 +10,7 @@ use Rattle.tb_algebra.specs.Helpers.Rewritings.{Kept, kept}
 use Rattle.tb_algebra.specs.Helpers.Runnings.{waited}
 use Rattle.tb_algebra.specs.Helpers.OfferViews.{OfferView, offer_view, or_own}
 use Rattle.tb_algebra.specs.Offers.{Offered}
-use Rattle.tb_algebra.specs.Walks.{Walking, offers_of, offers_of_term, entering, ticked, is_end, seen, seen_offers}
+use Rattle.tb_algebra.specs.Walks.{Walking, offers_of, offers_of_term, entering, ticked, is_end, seen_offers}
 use Rattle.tb_algebra.specs.declared.offer.Offer.{Offer}
 use Rattle.tb_algebra.proofs.Ages.{fresh-new}
 use Rattle.tb_algebra.proofs.RewriterLemmas.{length-map, by_kept, inside}

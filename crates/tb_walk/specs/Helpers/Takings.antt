@@ -1,5 +1,5 @@
 -- What comes of an offer of a branch that is taken: the row that is left of its part.
-use Rattle.std.specs.Prelude.{◌≡◌, ℕ, ◌+◌, List, [], ◌∷◌, ◌++◌, Option, Some, suc, slice_get, slice_set, take, drop, remove, ◌≤◌, ◌<◌, length, ⊤}
+use Rattle.std.specs.Prelude.{◌≡◌, ℕ, ◌+◌, List, ◌++◌, Option, Some, suc, slice_get, slice_set, take, drop, remove, ◌≤◌, ◌<◌, length, ⊤}
 use Rattle.tb_func.specs.declared.slot.Slot.{Slot}
 use Rattle.tb_algebra.specs.Helpers.Selections.{On, selected}
 use Rattle.tb_algebra.specs.Processes.{Process}

@@ -1,4 +1,4 @@
-use Rattle.std.proofs.Common.{◌≡◌, subst, ◌∙◌, nat_lt, if◌then◌else◌, ap}
+use Rattle.std.proofs.Common.{subst, ◌∙◌}
 use Rattle.tb_algebra.specs.Processes.{fresh}
 use Rattle.tb_code.specs.Positions.{HasParts}
 use Rattle.tb_walk.proofs.TakeLemmas.{by_seq, by_alt, by_star, by_if, by_when, by_let, of_side, on_first_side, goes_same, goes_first}

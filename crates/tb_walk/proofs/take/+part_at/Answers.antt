@@ -1,10 +1,8 @@
-use Rattle.std.proofs.Common.{◌≡◌, List, [], ◌++◌, OnOk, ap, sym, subst, ◌∙◌, nat_lt, if◌then◌else◌}
-use Rattle.std.proofs.lemmas.List.{append-nil}
+use Rattle.std.proofs.Common.{◌≡◌, List, ◌++◌, OnOk, sym, subst, ◌∙◌}
 use Rattle.tb_algebra.specs.Processes.{fresh}
 use Rattle.tb_code.specs.Positions.{HasParts}
-use Rattle.tb_code.specs.declared.node.Op.TheVariants as op
 use Rattle.tb_walk.specs.declared.branch.Branch.{Branch}
-use Rattle.tb_walk.proofs.TakeLemmas.{by_atom, by_seq, by_alt, by_star, by_par, by_if, by_when, by_let, of_side, on_first_side, on_second_side, first_ended, first_goes_on}
+use Rattle.tb_walk.proofs.TakeLemmas.{by_seq, by_alt, by_star, by_if, by_when, by_let, of_side, on_first_side, on_second_side}
 use Rattle.tb_walk.proofs.take.+part_at.Goals as goal
 
 pub part_at-returns-in-Seq : goal.part_at-returns-in-Seq
