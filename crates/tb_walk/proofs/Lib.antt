@@ -3,11 +3,10 @@ pub mod ReadLemmas
 pub mod LeftLemmas
 pub mod Contexts
 pub mod Steps
-pub mod PartHits
 pub mod TakeLemmas
+pub mod SightLemmas
 pub mod LookLemmas
-pub mod FindLemmas
+pub mod PickLemmas
 pub mod WalkLemmas
 pub mod SettleLemmas
-pub mod PickLemmas
 pub mod SendLemmas

@@ -1,57 +1,98 @@
--- The search for an offer goes from branch to branch.
-use Rattle.std.proofs.Common.{◌≡◌, ℕ, zero, suc, ◌+◌, ◌≤◌, List, [], ◌∷◌, take, length, slice_get, Option, Some, None, refl, ap, subst, ◌∙◌, arith}
+-- What was found in a row are the offers of its branches.
+use Rattle.std.proofs.Common.{◌≡◌, ℕ, suc, ◌+◌, ◌-◌, ◌≤◌, List, [], ◌∷◌, map, take, length, slice_get, Option, Some, None, refl, subst, ◌∙◌, arith, ◌⊎◌, inl, inr}
 use Rattle.tb_func.specs.declared.slot.Slot.{Slot}
-use Rattle.tb_algebra.specs.Helpers.Selections.{Selected, Past, On, selected, selected_at}
-use Rattle.tb_algebra.specs.Offers.{Offered, offers}
+use Rattle.tb_body.specs.declared.atom.Atom.{Atom}
+use Rattle.tb_algebra.specs.Helpers.Selections.{selected}
+use Rattle.tb_algebra.specs.Offers.{offers}
 use Rattle.tb_algebra.specs.Processes.{Process}
-use Rattle.tb_algebra.specs.Helpers.OfferViews.{or_own}
-use Rattle.tb_walk.specs.Helpers.Goings.{term_at, counted}
-use Rattle.tb_walk.specs.Helpers.Takings.{IsFound, Picks, row_of}
+use Rattle.tb_algebra.specs.Reached.{IsNew}
+use Rattle.tb_algebra.specs.Helpers.OfferViews.{offer_views}
+use Rattle.tb_code.specs.Positions.{part}
+use Rattle.tb_walk.specs.Helpers.Goings.{term_at, counted, row_sights}
+use Rattle.tb_walk.specs.Helpers.Sights.{Sighting, branch_sightings, row_sightings, branch_by}
+use Rattle.tb_walk.specs.Helpers.Takings.{AreThere, LeavesRow, Picks}
 use Rattle.tb_walk.specs.declared.branch.Branch.{Branch}
-use Rattle.tb_walk.specs.declared.going.Going.{Going}
-use Rattle.tb_walk.specs.declared.going.Search.{Search}
-use Rattle.tb_walk.specs.declared.going.Search.TheVariants as search
+use Rattle.tb_walk.proofs.SightLemmas.{leaving, seen_of, seen-sightings, length-sightings, is_of, new-part, split_get, seen-two}
 
-past_at : (k : ℕ) (os : List Offered) (rest : ℕ) → selected_at k os ≡ Past rest → k ≡ length os + rest
-past_at k [] rest e = (let same : k ≡ rest = cc in omega arith)
-past_at zero (o ∷ os) rest e = (let t : ◌≡◌ {A = Selected} (On o.residual o.store) (Past rest) = e in cc)
-past_at (suc k) (o ∷ os) rest e = (let h = past_at k os rest e in omega arith)
+module _ (whole : Process) (new : IsNew whole) (atoms : List Atom) (now ticks : ℕ) (store : List Slot) where
+  abbrev one_branch : ℕ → Branch → List Sighting
+  one_branch at b = branch_sightings whole atoms now ticks store at b
 
-pub past : (term : Process) (store : List Slot) (k rest : ℕ) → selected term store k ≡ Past rest → k ≡ length (offers term store) + rest
-unfolding selected
-past term store k rest e = past_at k (offers term store) rest e
+  abbrev rows : ℕ → List Branch → List Sighting
+  rows at row = row_sightings whole atoms now ticks store at row
 
-module _ (whole : Process) (ticks : ℕ) (store : List Slot) where
-  pub counted_more : (row : List Branch) (at : ℕ) (b : Branch) → slice_get row at ≡ Some b → counted whole ticks store (take (at + 1) row) ≡ counted whole ticks store (take at row) + length (offers (term_at whole ticks b) store)
-  counted_more [] at b e = (let t : ◌≡◌ {A = Option Branch} None (Some b) = e in cc)
-  counted_more (c ∷ row) zero b e =
-      let same : c ≡ b = (let t : ◌≡◌ {A = Option Branch} (Some c) (Some b) = e in cc) in
-      let one : 0 + 1 ≡ suc 0 = omega arith in
-      ap (λ (n : ℕ). counted whole ticks store (take n (c ∷ row))) one
-      ∙ (let h = ap (λ (d : Branch). length (offers (term_at whole ticks d) store)) same in omega arith)
-  counted_more (c ∷ row) (suc at) b e =
-      let one : suc at + 1 ≡ suc (at + 1) = omega arith in
-      ap (λ (n : ℕ). counted whole ticks store (take n (c ∷ row))) one
-      ∙ (let h = counted_more row at b e in omega arith)
+  seen-branch : (at : ℕ) (b : Branch) → map seen_of (one_branch at b) ≡ offer_views atoms now (term_at whole ticks b) store
+  unfolding term_at
+  seen-branch at b = seen-sightings (record { atoms = atoms; branch = at; age = ticks - b.entered; now = now }) b.position (part whole b.position) store (new-part whole b.position new)
 
-  pub counted_all : (row : List Branch) (at : ℕ) → length row ≤ at → take at row ≡ row
-  counted_all [] zero h = refl
-  counted_all [] (suc at) h = refl
-  counted_all (c ∷ row) zero h = absurd (omega arith)
-  counted_all (c ∷ row) (suc at) h = ap (λ (l : List Branch). c ∷ l) (counted_all row at (omega arith))
+  length-branch : (at : ℕ) (b : Branch) → length (one_branch at b) ≡ length (offers (term_at whole ticks b) store)
+  unfolding term_at
+  length-branch at b = length-sightings (record { atoms = atoms; branch = at; age = ticks - b.entered; now = now }) b.position (part whole b.position) store (new-part whole b.position new)
 
-  pub past_branch : (row : List Branch) (k at rest more : ℕ) (b : Branch) (found : Search) → slice_get row at ≡ Some b → k ≡ counted whole ticks store (take at row) + rest → IsFound whole ticks b.position b.entered store store rest found → found ≡ search.Past more → k ≡ counted whole ticks store (take (at + 1) row) + more
-  past_branch row k at rest more b found here e f g =
-      let p : selected (term_at whole ticks b) store rest ≡ Past more = subst (IsFound whole ticks b.position b.entered store store rest) g f in
-      let n = past (term_at whole ticks b) store rest more p in
-      let c = counted_more row at b here in
-      omega arith
+  pub seen-row : (at : ℕ) (row : List Branch) → map seen_of (rows at row) ≡ row_sights whole atoms now ticks store row
+  seen-row at [] = refl
+  seen-row at (b ∷ row) =
+      seen-two (record { atoms = atoms; branch = at; age = ticks - b.entered; now = now }) (one_branch at b) (rows (suc at) row) _ _ (seen-branch at b) (seen-row (suc at) row)
 
-  pub picks : (row : List Branch) (k at rest : ℕ) (b : Branch) (found : Search) (going : Going) (own : Option (List Slot)) → slice_get row at ≡ Some b → k ≡ counted whole ticks store (take at row) + rest → IsFound whole ticks b.position b.entered store store rest found → found ≡ search.Taken going own → Picks whole ticks row store k at (row_of going) (or_own own store)
-  picks row k at rest b found going own here e f g = record {
-    one = b;
-    here = here;
-    rest = rest;
-    counts = e;
-    takes = subst (IsFound whole ticks b.position b.entered store store rest) g f;
-  }
+  leaves_row : (at j : ℕ) (b : Branch) (s : Sighting) → b.entered ≤ ticks → slice_get (one_branch at b) j ≡ Some s → LeavesRow whole ticks b.position b.entered store j (branch_by whole ticks b s.position) s.seen.store
+  unfolding term_at selected
+  leaves_row at j b s le e =
+      let l = leaving atoms now at ticks b.entered le b.position (part whole b.position) store j s (new-part whole b.position new) e in
+      record { left = l.left; selects = l.selects; reads = l.reads }
+
+  -- the branch of what was found, and how many offers stand before it
+  record Placed (at : ℕ) (row : List Branch) (k : ℕ) (s : Sighting) : Type 0 where
+    pub index : ℕ
+    pub one : Branch
+    pub here : slice_get row index ≡ Some one
+    pub branch : s.branch ≡ at + index
+    pub rest : ℕ
+    pub counts : k ≡ counted whole ticks store (take index row) + rest
+    pub found : slice_get (one_branch (at + index) one) rest ≡ Some s
+
+  placed : (at : ℕ) (row : List Branch) (k : ℕ) (s : Sighting) → slice_get (rows at row) k ≡ Some s → Placed at row k s
+  placed at [] k s e = (let t : ◌≡◌ {A = Option Sighting} None (Some s) = e in cc)
+  placed at (b ∷ row) k s e = by_side (split_get (one_branch at b) (rows (suc at) row) k s e) (λ i h. placed (suc at) row i s h)
+    where
+      by_side : (slice_get (one_branch at b) k ≡ Some s) ⊎ ((i : ℕ) × ((k ≡ length (one_branch at b) + i) × (slice_get (rows (suc at) row) i ≡ Some s))) → ((i : ℕ) → slice_get (rows (suc at) row) i ≡ Some s → Placed (suc at) row i s) → Placed at (b ∷ row) k s
+      by_side (inl h) f =
+          let z : at ≡ at + 0 = omega arith in
+          record {
+            index = 0;
+            one = b;
+            here = refl;
+            branch = (is_of (record { atoms = atoms; branch = at; age = ticks - b.entered; now = now }) b.position (part whole b.position) store k s h).1 ∙ z;
+            rest = k;
+            counts = omega arith;
+            found = subst (λ (n : ℕ). slice_get (one_branch n b) k ≡ Some s) z h;
+          }
+      by_side (inr h) f =
+          let p = f h.0 h.1.1 in
+          let z : suc at + p.index ≡ at + suc p.index = omega arith in
+          record {
+            index = suc p.index;
+            one = p.one;
+            here = p.here;
+            branch = p.branch ∙ z;
+            rest = p.rest;
+            counts = (let a = h.1.0 in let c = p.counts in let n = length-branch at b in omega arith);
+            found = subst (λ (n : ℕ). slice_get (one_branch n p.one) p.rest ≡ Some s) z p.found;
+          }
+
+  pub picks : (row : List Branch) (k : ℕ) (s : Sighting) → AreThere whole ticks row → slice_get (rows 0 row) k ≡ Some s → (b : Branch) × ((slice_get row s.branch ≡ Some b) × Picks whole ticks row store k s.branch (branch_by whole ticks b s.position) s.seen.store)
+  picks row k s there e =
+      let p = placed 0 row k s e in
+      let z : p.index ≡ s.branch = (let h = p.branch in omega arith) in
+      let here : slice_get row s.branch ≡ Some p.one = subst (λ (n : ℕ). slice_get row n ≡ Some p.one) z p.here in (
+        p.one,
+        (
+          here,
+          record {
+            one = p.one;
+            here = here;
+            rest = p.rest;
+            counts = subst (λ (n : ℕ). k ≡ counted whole ticks store (take n row) + p.rest) z p.counts;
+            takes = leaves_row (0 + p.index) p.rest p.one s (there p.index p.one p.here).1 p.found;
+          },
+        ),
+      )

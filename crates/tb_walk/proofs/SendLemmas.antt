@@ -3,10 +3,11 @@ use denote.Param.Send.{IsSend, sendable}
 use denote.Param.SendFields.{declared_send}
 use Rattle.std.proofs.Crossing.{crosses}
 use Rattle.sqlite_items.proofs.items.Items.TheSendSync.{the_send as items_send}
-use Rattle.tb_algebra.proofs.SendLemmas.{expr_row, setting_send, body_send, store_send, found_send}
+use Rattle.tb_algebra.proofs.SendLemmas.{expr_row, setting_send, body_send, store_send}
 use Rattle.tb_code.specs.contracts.node.Node as node
 use Rattle.tb_code.specs.contracts.code.Code as code
 use Rattle.tb_walk.specs.contracts.branch.Branch as branch
+use Rattle.tb_walk.specs.contracts.sight.Sight as sight
 use Rattle.tb_walk.specs.contracts.walk.Taken as taken
 use Rattle.tb_walk.specs.contracts.walk.Walk as walk
 
@@ -19,8 +20,11 @@ code_send = declared_send code.the_type (body_send, (items_send node.the_row nod
 branch_send : IsSend branch.the_row
 branch_send = search sendable depth 30
 
+sight_send : IsSend sight.the_row
+sight_send = search (sendable, crosses, store_send) depth 40
+
 pub taken_send : IsSend taken.the_row
 taken_send = search (sendable, crosses, store_send) depth 40
 
 pub walk_send : IsSend walk.the_row
-walk_send = search (sendable, crosses, items_send, branch_send, store_send, found_send) depth 40
+walk_send = search (sendable, crosses, items_send, branch_send, store_send, sight_send) depth 40

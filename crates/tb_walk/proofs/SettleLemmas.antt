@@ -1,8 +1,9 @@
 -- What a frame's first part is, and what becomes of a row whose branch goes on.
-use Rattle.std.proofs.Common.{◌≡◌, ℕ, zero, suc, ◌<◌, List, [], ◌∷◌, ◌++◌, take, drop, length, slice_get, get_or, set, remove, Option, Some, None, refl, ap, sym, subst, ◌∙◌, arith}
+use Rattle.std.proofs.Common.{◌≡◌, ℕ, zero, suc, ◌<◌, List, [], ◌∷◌, ◌++◌, map, take, drop, length, slice_get, get_or, set, remove, Option, Some, None, refl, ap, sym, subst, ◌∙◌, arith}
 use Rattle.std.specs.Option.{ForSome}
 use Rattle.std.proofs.lemmas.Option.{slice_get-get_or}
 use Rattle.tb_terms.specs.declared.expr.Expr.{Expr}
+use Rattle.tb_func.specs.declared.slot.Slot.{Slot}
 use Rattle.tb_body.specs.declared.tree.Setting.{Setting}
 use Rattle.tb_algebra.specs.Helpers.Selections.{On}
 use Rattle.tb_algebra.specs.Processes.{Process, At, Seq, Alt, Star, Par, If, When, Let, fresh}
@@ -16,15 +17,17 @@ use Rattle.tb_code.specs.declared.node.Op.TheVariants as op
 use Rattle.tb_code.proofs.Parts.{length-positions}
 use Rattle.tb_walk.specs.Lefts.{left}
 use Rattle.tb_walk.specs.Helpers.Reads.{Reads, bound_of, next_of, entered_behind}
-use Rattle.tb_walk.specs.Helpers.Takings.{Picks, IsBehind, IsSettled, row_after}
+use Rattle.tb_walk.specs.Helpers.Sights.{sighted, branch_by}
+use Rattle.tb_walk.specs.Helpers.Takings.{Picks, IsBehind, IsSettled, IsTakenBy, row_after}
 use Rattle.tb_walk.specs.WalkViews.{walking_of, IsOnCode, IsLeft}
 use Rattle.tb_walk.specs.declared.branch.Branch.{Branch}
 use Rattle.tb_walk.specs.declared.settle.Step.TheVariants as step
+use Rattle.tb_walk.specs.declared.sight.Sight.{Sight}
 use Rattle.tb_walk.specs.declared.walk.Taken.{Taken}
 use Rattle.tb_walk.specs.declared.walk.Walk.{Walk}
 use Rattle.tb_walk.proofs.LeftLemmas.{left-read}
 use Rattle.tb_walk.proofs.Steps.{went}
-use Rattle.tb_walk.proofs.WalkLemmas.{are_there, read_left, hits_of}
+use Rattle.tb_walk.proofs.WalkLemmas.{are_there, read_left, hits_of, all_of, picked}
 
 module _ (whole : Process) (at : ℕ) where
   abbrev IsFirstPart : ℕ → ℕ → Type 0
@@ -133,3 +136,14 @@ taken_left code walk k at inside taken on p s offered here =
       term = left-read walk.ticks reads ∙ same;
       store = store;
     }
+
+-- an atom that was found is taken
+pub taken_found : (code : Code) (walk : Walk) (on : IsOnCode code walk) (now : ℕ) (found : List Sight) → map (sighted walk.store) found ≡ all_of code walk now →
+    (k : ℕ) (one : Sight) (taken : Taken) → slice_get found k ≡ Some one → IsTakenBy (fresh code.body.tree) walk.ticks walk.row one taken → ForSome (slice_get (offers_of (walking_of code walk)) k) (IsLeft code walk taken)
+taken_found code walk on now found e k one taken g t =
+    let whole = fresh code.body.tree in
+    let p = picked code walk on now found e k one g in
+    let inside = branch_by whole walk.ticks p.0 one.position in
+    taken_left code walk k one.branch inside taken on
+    (subst (λ (own : Option (List Slot)). Picks whole walk.ticks walk.row walk.store k one.branch inside (or_own own walk.store)) (sym t.0) p.1.1)
+    (t.1 p.0 p.1.0)

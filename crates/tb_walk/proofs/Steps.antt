@@ -18,7 +18,7 @@ use Rattle.tb_walk.proofs.Ranges.{outside-nil}
 use Rattle.tb_walk.proofs.ReadLemmas.{ends_together, EndsTogether}
 use Rattle.tb_walk.proofs.Contexts.{Context, Ends, together, continues, context}
 
-at-skip : (k : ℕ) (xs ys : List Offered) → selected_at (length xs + k) (xs ++ ys) ≡ selected_at k ys
+pub at-skip : (k : ℕ) (xs ys : List Offered) → selected_at (length xs + k) (xs ++ ys) ≡ selected_at k ys
 at-skip k [] ys = let e : 0 + k ≡ k = omega arith in ap (λ (n : ℕ). selected_at n ys) e
 at-skip k (x ∷ xs) ys =
     let e : suc (length xs) + k ≡ suc (length xs + k) = omega arith in

@@ -1,108 +1,138 @@
--- The row that is left of a part, by the row that is left of a part of it.
-use Rattle.std.proofs.Common.{◌≡◌, ℕ, suc, ◌+◌, ◌-◌, ◌≤◌, List, [], ◌∷◌, ◌++◌, Option, Some, None, refl, ap, sym, subst, ◌∙◌, arith, inl, inr}
-use Rattle.tb_func.specs.declared.slot.Slot.{Slot}
-use Rattle.tb_algebra.specs.Helpers.Selections.{On, selected}
-use Rattle.tb_algebra.specs.Offers.{followed, left_of, right_of}
-use Rattle.tb_algebra.specs.Processes.{Process, At, Seq, Par}
-use Rattle.tb_algebra.specs.Reached.{IsNew}
-use Rattle.tb_algebra.specs.Helpers.Runnings.{waited}
-use Rattle.tb_algebra.specs.Helpers.OfferViews.{or_own}
-use Rattle.tb_code.specs.Positions.{size, part, IsTwo}
-use Rattle.tb_walk.specs.Helpers.Goings.{term_at}
-use Rattle.tb_walk.specs.Lefts.{beside}
-use Rattle.tb_walk.specs.Helpers.Reads.{branch, Passes, Follows, Reads, ended, waits, passes, follows, both, or_entered}
-use Rattle.tb_walk.specs.Helpers.Takings.{LeavesRow, IsFound, IsAtomFound, row_of}
+-- The row that is left of the part at a position, by the row that is left of a part of it.
+use Rattle.std.proofs.Common.{◌≡◌, ℕ, suc, ◌+◌, ◌<◌, ◌≤◌, Bool, true, false, nat_lt, if◌then◌else◌, List, [], ◌∷◌, ◌++◌, length, refl, ap, sym, subst, ◌∙◌, arith, length-append}
+use Rattle.std.proofs.lemmas.Bool.{ltb-true, lt-ltb}
+use Rattle.std.proofs.lemmas.List.{append-nil}
+use Rattle.tb_terms.specs.declared.expr.Expr.{Expr}
+use Rattle.tb_body.specs.declared.tree.Setting.{Setting}
+use Rattle.tb_algebra.specs.Processes.{Process, At, Seq, Alt, Star, Par, If, When, Let}
+use Rattle.tb_code.specs.Positions.{size, part, IsTwo, IsOne}
+use Rattle.tb_walk.specs.Helpers.Reads.{branch, or_entered}
+use Rattle.tb_walk.specs.Helpers.Sights.{row_by, branch_by, entering, GoesOn}
 use Rattle.tb_walk.specs.declared.branch.Branch.{Branch}
-use Rattle.tb_walk.specs.declared.going.Search.{Search}
-use Rattle.tb_walk.specs.declared.going.Search.TheVariants as search
-use Rattle.tb_walk.proofs.Contexts.{entered-next, beside-left, beside-right}
-use Rattle.tb_walk.proofs.PartHits.{selected_at-At}
-use Rattle.tb_walk.proofs.ReadLemmas.{ends_together, EndsTogether}
+use Rattle.tb_walk.specs.declared.take.Behind.{Behind}
+use Rattle.tb_walk.specs.declared.take.Behind.TheVariants as behind
 
-module _ (whole : Process) (ticks entered at : ℕ) where
-  abbrev term : ℕ → Process
-  term position = term_at whole ticks (branch position entered)
+pub or-nothing : (row : List Branch) → or_entered row [] ≡ row
+or-nothing [] = refl
+or-nothing (b ∷ row) = refl
 
-  takes_passes : (w x : Process) (at-x : ℕ) (inner store own : List Slot) (j k : ℕ) (row : List Branch) → Passes at w at-x x → part whole at ≡ w → part whole at-x ≡ x → (t : LeavesRow whole ticks at-x entered inner j row own) → selected (term at) store k ≡ On t.left own → LeavesRow whole ticks at entered store k row own
-  takes_passes w x at-x inner store own j k row p is is-x t h = by_end t.left (subst (λ (q : Process). Reads ticks at-x q row t.left) is-x t.reads) (ends_together ticks t.reads) h
-    where
-      by_end : (left : Option Process) → Reads ticks at-x x row left → EndsTogether ticks row left → selected (term at) store k ≡ On left own → LeavesRow whole ticks at entered store k row own
-      by_end left r (inl e) h = record { left = None; selects = h ∙ ap (λ (o : Option Process). On o own) e.1; reads = rw e.0 ended }
-      by_end left r (inr e) h =
-          let u = e.1.1.1.0 in
-          let inside = subst (λ (o : Option Process). Reads ticks at-x x row o) e.1.1.1.1 r in
-          record {
-            left = Some u;
-            selects = h ∙ ap (λ (o : Option Process). On o own) e.1.1.1.1;
-            reads = subst (λ (q : Process). Reads ticks at q row (Some u)) (sym is) (passes at-x x p inside);
-          }
+pub or-twice : (row : List Branch) (next : Branch) (last : List Branch) → or_entered (or_entered row (next ∷ [])) last ≡ or_entered row (next ∷ [])
+or-twice [] next last = refl
+or-twice (b ∷ row) next last = refl
 
-  pub takes_follows : (w x z : Process) (at-z : ℕ) (store own : List Slot) (j k : ℕ) (row new : List Branch) → Follows at w x at-z z → part whole at ≡ w → part whole (suc at) ≡ x → (t : LeavesRow whole ticks (suc at) entered store j row own) → selected (term at) store k ≡ On (Some (followed t.left z)) own → new ≡ or_entered row (branch at-z ticks ∷ []) → LeavesRow whole ticks at entered store k new own
-  takes_follows w x z at-z store own j k row new p is is-x t h n = by_end t.left (subst (λ (q : Process). Reads ticks (suc at) q row t.left) is-x t.reads) (ends_together ticks t.reads) h
-    where
-      by_end : (left : Option Process) → Reads ticks (suc at) x row left → EndsTogether ticks row left → selected (term at) store k ≡ On (Some (followed left z)) own → LeavesRow whole ticks at entered store k new own
-      by_end left r (inl e) h =
-          let same : new ≡ branch at-z ticks ∷ [] = n ∙ ap (λ (l : List Branch). or_entered l (branch at-z ticks ∷ [])) e.0 in
-          record {
-            left = Some z;
-            selects = h ∙ ap (λ (o : Option Process). On (Some (followed o z)) own) e.1;
-            reads = subst (λ (q : Process). Reads ticks at q new (Some z)) (sym is) (subst (λ (l : List Branch). Reads ticks at w l (Some z)) (sym same) (entered-next whole ticks p));
-          }
-      by_end left r (inr e) h =
-          let u = e.1.1.1.0 in
-          let inside = subst (λ (o : Option Process). Reads ticks (suc at) x row o) e.1.1.1.1 r in
-          let stays : or_entered row (branch at-z ticks ∷ []) ≡ row = rw e.1.1.0 refl in
-          record {
-            left = Some (Seq u z);
-            selects = h ∙ ap (λ (o : Option Process). On (Some (followed o z)) own) e.1.1.1.1;
-            reads = subst (λ (q : Process). Reads ticks at q new (Some (Seq u z))) (sym is) (subst (λ (l : List Branch). Reads ticks at w l (Some (Seq u z))) (sym (n ∙ stays)) (follows x at-z z p inside));
-          }
+-- which side an atom is on
 
-  side : (position : ℕ) (x : Process) → part whole position ≡ x → entered ≤ ticks → Reads ticks position x (branch position entered ∷ []) (Some (term position))
-  unfolding term_at
-  side position x e h = subst (λ (q : Process). Reads ticks position x (branch position entered ∷ []) (Some (waited (ticks - entered) q))) (sym e) (waits entered h)
+pub on_first_side : {A : Type 0} (to bound : ℕ) (x y : A) → to < bound → (if nat_lt to bound then x else y) ≡ x
+on_first_side to bound x y h = rw (lt-ltb to bound h) refl
 
-  pub takes_left : (right : ℕ) (store own : List Slot) (j k : ℕ) (row new : List Branch) → IsTwo whole Par at right → entered ≤ ticks → (t : LeavesRow whole ticks (suc at) entered store j row own) → selected (term at) store k ≡ On (Some (left_of t.left (term right))) own → new ≡ row ++ (branch right entered ∷ []) → LeavesRow whole ticks at entered store k new own
-  takes_left right store own j k row new two le t h n =
-      let x = part whole (suc at) in
-      let y = part whole right in
-      let other : Reads ticks (suc at + size x) y (branch right entered ∷ []) (Some (term right)) = subst (λ (p : ℕ). Reads ticks p y (branch right entered ∷ []) (Some (term right))) two.behind (side right y refl le) in
-      record {
-        left = beside t.left (Some (term right));
-        selects = h ∙ ap (λ (o : Option Process). On o own) (beside-left t.left (term right));
-        reads = subst (λ (q : Process). Reads ticks at q new (beside t.left (Some (term right)))) (sym two.here) (subst (λ (l : List Branch). Reads ticks at (Par x y) l (beside t.left (Some (term right)))) (sym n) (both t.reads other));
-      }
+pub on_second_side : {A : Type 0} (to bound : ℕ) (x y : A) → bound ≤ to → (if nat_lt to bound then x else y) ≡ y
+on_second_side to bound x y h = by_cases (nat_lt to bound) refl
+  where
+    by_cases : (b : Bool) → nat_lt to bound ≡ b → (if nat_lt to bound then x else y) ≡ y
+    by_cases true e = (let k = ltb-true to bound e in absurd (omega arith))
+    by_cases false e = rw e refl
 
-  pub takes_right : (right : ℕ) (store own : List Slot) (j k : ℕ) (row new : List Branch) → IsTwo whole Par at right → entered ≤ ticks → (t : LeavesRow whole ticks right entered store j row own) → selected (term at) store k ≡ On (Some (right_of (term (suc at)) t.left)) own → new ≡ branch (suc at) entered ∷ row → LeavesRow whole ticks at entered store k new own
-  takes_right right store own j k row new two le t h n =
-      let x = part whole (suc at) in
-      let y = part whole right in
-      let other : Reads ticks (suc at + size x) y row t.left = subst (λ (p : ℕ). Reads ticks p y row t.left) two.behind t.reads in
-      record {
-        left = beside (Some (term (suc at))) t.left;
-        selects = h ∙ ap (λ (o : Option Process). On o own) (beside-right (term (suc at)) t.left);
-        reads = subst (λ (q : Process). Reads ticks at q new (beside (Some (term (suc at))) t.left)) (sym two.here) (subst (λ (l : List Branch). Reads ticks at (Par x y) l (beside (Some (term (suc at))) t.left)) (sym n) (both (side (suc at) x refl le) other));
-      }
+module _ (whole : Process) (at first : ℕ) (f : first ≡ suc at) (to : ℕ) where
+  module _ (ticks entered : ℕ) where
+    abbrev pub left_at : ℕ → List Branch
+    left_at position = row_by ticks entered position (part whole position) to
 
-  -- what is found at a part that is all that is left
-  pub found_passes : (w x : Process) (at-x : ℕ) (base inner store : List Slot) (j k : ℕ) (found : Search) → Passes at w at-x x → part whole at ≡ w → part whole at-x ≡ x → selected (term at) store k ≡ selected (term at-x) inner j → IsFound whole ticks at-x entered base inner j found → IsFound whole ticks at entered base store k found
-  found_passes w x at-x base inner store j k (search.Past rest) p is is-x h f = h ∙ f
-  found_passes w x at-x base inner store j k (search.Taken going own) p is is-x h f = takes_passes w x at-x inner store (or_own own base) j k (row_of going) p is is-x f (h ∙ f.selects)
+    at-first : left_at (suc at) ≡ left_at first
+    at-first = ap left_at (sym f)
 
-  pub takes_one : (w x : Process) (at-x : ℕ) (store own : List Slot) (j k : ℕ) (row : List Branch) → Passes at w at-x x → part whole at ≡ w → part whole at-x ≡ x → (t : LeavesRow whole ticks at-x entered store j row own) → selected (term at) store k ≡ On t.left own → LeavesRow whole ticks at entered store k row own
-  takes_one w x at-x store own j k row p is is-x t h = takes_passes w x at-x store store own j k row p is is-x t h
+    at-right : (make : Process → Process → Process) (right : ℕ) → (two : IsTwo whole make at right) → row_by ticks entered (suc at + size (part whole (suc at))) (part whole right) to ≡ left_at right
+    at-right make right two = ap (λ (p : ℕ). row_by ticks entered p (part whole right) to) (sym two.behind)
 
-  pub found_atom : (base : List Slot) (own : Option (List Slot)) (k : ℕ) (found : Search) (atom age : ℕ) → IsNew whole → part whole at ≡ At atom age → IsAtomFound own k found → IsFound whole ticks at entered base (or_own own base) k found
-  unfolding selected
-  found_atom base own k (search.Past rest) atom age new is f =
-      let e : k ≡ suc rest = omega arith in
-      selected_at-At whole ticks entered at (or_own own base) k new atom age is ∙ rw e refl
-  found_atom base own k (search.Taken going taken) atom age new is f = record {
-    left = None;
-    selects = selected_at-At whole ticks entered at (or_own own base) k new atom age is ∙ rw (f.0, f.1.1) refl;
-    reads = rw f.1.0 ended;
-  }
+    pub by_seq : (right : ℕ) → IsTwo whole Seq at right → left_at at ≡ or_entered (left_at first) (branch right ticks ∷ [])
+    by_seq right two =
+        ap (λ (p : Process). row_by ticks entered at p to) two.here
+        ∙ ap (λ (n : ℕ). or_entered (left_at (suc at)) (branch n ticks ∷ [])) (sym two.behind)
+        ∙ ap (λ (l : List Branch). or_entered l (branch right ticks ∷ [])) at-first
 
--- what was found, as it is known to be
-pub taken_is : (whole : Process) (ticks at entered : ℕ) (base store : List Slot) (k : ℕ) (found other : Search) → found ≡ other → IsFound whole ticks at entered base store k found → IsFound whole ticks at entered base store k other
-taken_is whole ticks at entered base store k found other e f = subst (IsFound whole ticks at entered base store k) e f
+    sides : (make : Process → Process → Process) (right : ℕ) (g h : List Branch → List Branch) → (two : IsTwo whole make at right) →
+        (if nat_lt to (suc at + size (part whole (suc at))) then g (left_at (suc at)) else h (row_by ticks entered (suc at + size (part whole (suc at))) (part whole right) to))
+        ≡ (if nat_lt to right then g (left_at first) else h (left_at right))
+    sides make right g h two =
+        ap (λ (l : List Branch). if nat_lt to (suc at + size (part whole (suc at))) then g (left_at (suc at)) else h l) (at-right make right two)
+        ∙ ap (λ (n : ℕ). if nat_lt to n then g (left_at (suc at)) else h (left_at right)) (sym two.behind)
+        ∙ ap (λ (l : List Branch). if nat_lt to right then g l else h (left_at right)) at-first
+
+    pub by_alt : (right : ℕ) → IsTwo whole Alt at right → left_at at ≡ (if nat_lt to right then left_at first else left_at right)
+    by_alt right two = ap (λ (p : Process). row_by ticks entered at p to) two.here ∙ sides Alt right (λ l. l) (λ l. l) two
+
+    pub by_star : (right : ℕ) → IsTwo whole Star at right → left_at at ≡ (if nat_lt to right then or_entered (left_at first) (branch at ticks ∷ []) else left_at right)
+    by_star right two = ap (λ (p : Process). row_by ticks entered at p to) two.here ∙ sides Star right (λ l. or_entered l (branch at ticks ∷ [])) (λ l. l) two
+
+    pub by_par : (right : ℕ) → IsTwo whole Par at right → left_at at ≡ (if nat_lt to right then left_at first ++ branch right entered ∷ [] else branch first entered ∷ left_at right)
+    by_par right two =
+        ap (λ (p : Process). row_by ticks entered at p to) two.here
+        ∙ sides Par right (λ l. l ++ branch (suc at + size (part whole (suc at))) entered ∷ []) (λ l. branch (suc at) entered ∷ l) two
+        ∙ ap (λ (n : ℕ). if nat_lt to right then left_at first ++ branch n entered ∷ [] else branch (suc at) entered ∷ left_at right) (sym two.behind)
+        ∙ ap (λ (n : ℕ). if nat_lt to right then left_at first ++ branch right entered ∷ [] else branch n entered ∷ left_at right) (sym f)
+
+    pub by_if : (test : Expr) (right : ℕ) → IsTwo whole (If test) at right → left_at at ≡ (if nat_lt to right then left_at first else left_at right)
+    by_if test right two = ap (λ (p : Process). row_by ticks entered at p to) two.here ∙ sides (If test) right (λ l. l) (λ l. l) two
+
+    pub by_when : (test : Expr) → IsOne whole (When test) at → left_at at ≡ left_at first
+    by_when test one = ap (λ (p : Process). row_by ticks entered at p to) one.here ∙ at-first
+
+    pub by_let : (settings : List Setting) → IsOne whole (Let settings) at → left_at at ≡ left_at first
+    by_let settings one = ap (λ (p : Process). row_by ticks entered at p to) one.here ∙ at-first
+
+    pub by_atom : (atom age : ℕ) → part whole at ≡ At atom age → left_at at ≡ []
+    by_atom atom age e = ap (λ (p : Process). row_by ticks entered at p to) e
+
+    -- the side in which the atom stands
+    pub of_side : (right : ℕ) (side : ℕ) → side ≡ (if nat_lt to right then first else right) → (if nat_lt to right then left_at first else left_at right) ≡ left_at side
+    of_side right side e = by_cases (nat_lt to right) refl
+      where
+        by_cases : (b : Bool) → nat_lt to right ≡ b → (if nat_lt to right then left_at first else left_at right) ≡ left_at side
+        by_cases true h = rw h (ap left_at (sym (e ∙ ap (λ (b : Bool). if b then first else right) h)))
+        by_cases false h = rw h (ap left_at (sym (e ∙ ap (λ (b : Bool). if b then first else right) h)))
+
+  -- what comes of a part, by what comes of its own
+
+  pub goes_same : (position : ℕ) (so_far result : Behind) → ((ticks entered : ℕ) → left_at ticks entered at ≡ left_at ticks entered position) → GoesOn whole position to so_far result → GoesOn whole at to so_far result
+  goes_same position so_far behind.Ended e g = λ ticks entered. ap (λ (l : List Branch). or_entered l (entering ticks so_far)) (e ticks entered) ∙ g ticks entered
+  goes_same position so_far (behind.Entered next) e g = λ ticks entered. ap (λ (l : List Branch). or_entered l (entering ticks so_far)) (e ticks entered) ∙ g ticks entered
+  goes_same position so_far behind.Parted e g = tt
+
+  pub goes_first : (next : ℕ) (so_far result : Behind) → ((ticks entered : ℕ) → left_at ticks entered at ≡ or_entered (left_at ticks entered first) (branch next ticks ∷ [])) → GoesOn whole first to (behind.Entered next) result → GoesOn whole at to so_far result
+  goes_first next so_far behind.Ended e g = λ ticks entered.
+      ap (λ (l : List Branch). or_entered l (entering ticks so_far)) (e ticks entered) ∙ or-twice (left_at ticks entered first) (branch next ticks) (entering ticks so_far) ∙ g ticks entered
+  goes_first next so_far (behind.Entered position) e g = λ ticks entered.
+      ap (λ (l : List Branch). or_entered l (entering ticks so_far)) (e ticks entered) ∙ or-twice (left_at ticks entered first) (branch next ticks) (entering ticks so_far) ∙ g ticks entered
+  goes_first next so_far behind.Parted e g = tt
+
+  pub goes_atom : (so_far : Behind) (atom age : ℕ) → part whole at ≡ At atom age → GoesOn whole at to so_far so_far
+  goes_atom behind.Ended atom age e = λ ticks entered. ap (λ (l : List Branch). or_entered l []) (by_atom ticks entered atom age e)
+  goes_atom (behind.Entered next) atom age e = λ ticks entered. ap (λ (l : List Branch). or_entered l (branch next ticks ∷ [])) (by_atom ticks entered atom age e)
+  goes_atom behind.Parted atom age e = tt
+
+-- what is left of the part of a branch
+
+pub left_ended : (whole : Process) (ticks : ℕ) (b : Branch) (to : ℕ) (result : Behind) → GoesOn whole b.position to behind.Ended result → result ≡ behind.Ended → branch_by whole ticks b to ≡ []
+left_ended whole ticks b to result g e =
+    let h : GoesOn whole b.position to behind.Ended behind.Ended = subst (GoesOn whole b.position to behind.Ended) e g in
+    sym (or-nothing (branch_by whole ticks b to)) ∙ h ticks b.entered
+
+pub left_entered : (whole : Process) (ticks : ℕ) (b : Branch) (to position : ℕ) (result : Behind) → GoesOn whole b.position to behind.Ended result → result ≡ behind.Entered position → branch_by whole ticks b to ≡ branch position ticks ∷ []
+left_entered whole ticks b to position result g e =
+    let h : GoesOn whole b.position to behind.Ended (behind.Entered position) = subst (GoesOn whole b.position to behind.Ended) e g in
+    sym (or-nothing (branch_by whole ticks b to)) ∙ h ticks b.entered
+
+-- a row is longer exactly where something was added
+
+pub more-nothing : (old row : List Branch) → length (old ++ row) ≡ length old → row ≡ []
+more-nothing old [] e = refl
+more-nothing old (b ∷ row) e = (let l = length-append old (b ∷ row) in absurd (omega arith))
+
+pub first_ended : (old new row : List Branch) (next : Branch) → new ≡ old ++ row → length new ≡ length old → new ++ next ∷ [] ≡ old ++ or_entered row (next ∷ [])
+first_ended old new row next e l =
+    let none : row ≡ [] = more-nothing old row (ap length (sym e) ∙ l) in
+    ap (λ (r : List Branch). r ++ next ∷ []) (e ∙ ap (λ (r : List Branch). old ++ r) none ∙ append-nil old)
+    ∙ sym (ap (λ (r : List Branch). old ++ or_entered r (next ∷ [])) none)
+
+pub first_goes_on : (old new row : List Branch) (next : Branch) → new ≡ old ++ row → (length new ≡ length old → ⊥) → new ≡ old ++ or_entered row (next ∷ [])
+first_goes_on old new [] next e l = absurd (l (ap length (e ∙ append-nil old)))
+first_goes_on old new (b ∷ row) next e l = e

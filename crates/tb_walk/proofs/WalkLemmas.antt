@@ -1,30 +1,36 @@
 -- A walk starts, is looked at, goes on and ages.
 use Rattle.std.proofs.Common.{◌≡◌, ℕ, zero, suc, ◌+◌, ◌-◌, ◌<◌, ◌≤◌, Bool, true, false, if◌then◌else◌, IsTrue, Option, Some, None, List, [], ◌∷◌, ◌++◌, map, length, slice_get, option_map, option_and_then, is_some, ◌↔◌, refl, ap, sym, subst, ◌∙◌, arith, ◌⊎◌, inl, inr}
 use Rattle.std.specs.Option.{ForSome}
+use Rattle.std.proofs.lemmas.Option.{slice_get-map, slice_get_within}
 use Rattle.tb_func.specs.declared.slot.Slot.{Slot}
 use Rattle.tb_body.specs.declared.atom.Atom.{Atom}
-use Rattle.tb_algebra.specs.Helpers.Candidates.{offer_of}
 use Rattle.tb_algebra.specs.Helpers.Selections.{selected_at}
 use Rattle.tb_algebra.specs.Processes.{Process, Par, fresh, aged}
-use Rattle.tb_algebra.specs.Helpers.Rewritings.{Kept, kept, kept_found}
+use Rattle.tb_algebra.specs.Helpers.Rewritings.{Kept, kept}
 use Rattle.tb_algebra.specs.Helpers.Runnings.{waited}
-use Rattle.tb_algebra.specs.Helpers.OfferViews.{offer_view, shown}
-use Rattle.tb_algebra.specs.Walks.{Walking, offers_of, offers_of_term, entering, ticked, is_end}
-use Rattle.tb_algebra.specs.declared.found.Found.{Found}
-use Rattle.tb_algebra.proofs.RewriterLemmas.{is_fresh, length-map, kept_at, by_kept, inside}
+use Rattle.tb_algebra.specs.Helpers.OfferViews.{OfferView, offer_view, or_own}
+use Rattle.tb_algebra.specs.Offers.{Offered}
+use Rattle.tb_algebra.specs.Walks.{Walking, offers_of, offers_of_term, entering, ticked, is_end, seen_offers}
+use Rattle.tb_algebra.specs.declared.offer.Offer.{Offer}
+use Rattle.tb_algebra.proofs.Ages.{fresh-new}
+use Rattle.tb_algebra.proofs.RewriterLemmas.{length-map, by_kept, inside}
 use Rattle.tb_code.specs.Positions.{size}
 use Rattle.tb_code.specs.declared.code.Code.{Code}
 use Rattle.tb_code.proofs.Parts.{stands_whole}
 use Rattle.tb_walk.specs.Helpers.Goings.{counted, row_sights}
 use Rattle.tb_walk.specs.Lefts.{beside, left}
 use Rattle.tb_walk.specs.Helpers.Reads.{branch, Reads, ended, waits, passes, follows, both}
-use Rattle.tb_walk.specs.Helpers.Takings.{AreThere}
+use Rattle.tb_walk.specs.Helpers.Sights.{Sighting, offer_of, sighted, row_sightings, branch_by}
+use Rattle.tb_walk.specs.Helpers.Takings.{AreThere, IsInRow, Picks}
 use Rattle.tb_walk.specs.WalkViews.{walking_of, seen_of, IsOnCode}
 use Rattle.tb_walk.specs.declared.branch.Branch.{Branch}
+use Rattle.tb_walk.specs.declared.sight.Sight.{Sight}
 use Rattle.tb_walk.specs.declared.walk.Walk.{Walk}
 use Rattle.tb_walk.proofs.LeftLemmas.{left-read}
 use Rattle.tb_walk.proofs.Ranges.{InRange}
+use Rattle.tb_walk.proofs.PickLemmas.{seen-row, picks}
 use Rattle.tb_walk.proofs.ReadLemmas.{in_range, ends_together, counts, seen_all}
+use Rattle.tb_walk.proofs.SightLemmas.{seen_of as seen_of_sighting}
 
 -- what is read is what is left
 pub read_left : (ticks : ℕ) (whole : Process) (row : List Branch) (t : Option Process) → Reads ticks 0 whole row t → Reads ticks 0 whole row (left ticks row 0 whole)
@@ -78,20 +84,95 @@ pub sees : (atoms : List Atom) (now : ℕ) (code : Code) (walk : Walk) → IsOnC
 unfolding offers_of
 sees atoms now code walk on = sym (seen_all walk.ticks (fresh code.body.tree) atoms now walk.store None on.reads (stands_whole (fresh code.body.tree)))
 
-none_spare : (spare : List Found) → length spare ≡ 0 → spare ≡ []
+none_spare : (spare : List Sight) → length spare ≡ 0 → spare ≡ []
 none_spare [] h = refl
 none_spare (one ∷ spare) h = absurd (omega arith)
 
+-- what its branches offer, on a bus that has seen so many ticks
+abbrev pub all_of : Code → Walk → ℕ → List Sighting
+all_of code walk now = row_sightings (fresh code.body.tree) code.body.atoms now walk.ticks walk.store 0 walk.row
+
 -- what a look found in spare memory that was empty
-pub looked : (code : Code) (walk : Walk) (now : ℕ) (row : List Branch) (found kept_now : List Found) → IsOnCode code walk → length walk.spare ≡ 0 → row ≡ walk.row →
-    map (shown walk.store) found ≡ map (shown walk.store) walk.spare ++ row_sights (fresh code.body.tree) code.body.atoms now walk.ticks walk.store row →
-    kept_now ≡ found → map (shown walk.store) kept_now ≡ map (offer_view code.body.atoms now) (offers_of (walking_of code walk))
-looked code walk now row found kept_now on none same e is =
-    ap (map (shown walk.store)) is
+pub looked : (code : Code) (walk : Walk) (now : ℕ) (row : List Branch) (found kept_now : List Sight) → length walk.spare ≡ 0 → row ≡ walk.row →
+    map (sighted walk.store) found ≡ map (sighted walk.store) walk.spare ++ row_sightings (fresh code.body.tree) code.body.atoms now walk.ticks walk.store 0 row →
+    kept_now ≡ found → map (sighted walk.store) kept_now ≡ all_of code walk now
+looked code walk now row found kept_now none same e is =
+    ap (map (sighted walk.store)) is
     ∙ e
-    ∙ ap (λ (l : List Found). map (shown walk.store) l ++ row_sights (fresh code.body.tree) code.body.atoms now walk.ticks walk.store row) (none_spare walk.spare none)
-    ∙ ap (λ (r : List Branch). row_sights (fresh code.body.tree) code.body.atoms now walk.ticks walk.store r) same
-    ∙ sees code.body.atoms now code walk on
+    ∙ ap (λ (l : List Sight). map (sighted walk.store) l ++ row_sightings (fresh code.body.tree) code.body.atoms now walk.ticks walk.store 0 row) (none_spare walk.spare none)
+    ∙ ap (λ (r : List Branch). row_sightings (fresh code.body.tree) code.body.atoms now walk.ticks walk.store 0 r) same
+
+-- the same in a list of its own
+pub looked_anew : (code : Code) (walk : Walk) (now : ℕ) (row : List Branch) (old found : List Sight) → old ≡ [] → row ≡ walk.row →
+    map (sighted walk.store) found ≡ map (sighted walk.store) old ++ row_sightings (fresh code.body.tree) code.body.atoms now walk.ticks walk.store 0 row → map (sighted walk.store) found ≡ all_of code walk now
+looked_anew code walk now row old found none same e =
+    e
+    ∙ ap (λ (l : List Sight). map (sighted walk.store) l ++ row_sightings (fresh code.body.tree) code.body.atoms now walk.ticks walk.store 0 row) none
+    ∙ ap (λ (r : List Branch). row_sightings (fresh code.body.tree) code.body.atoms now walk.ticks walk.store 0 r) same
+
+-- two lists that are seen alike are seen alike by less
+
+map_twice : {A B C : Type 0} (f : A → B) (g : B → C) (xs : List A) → map g (map f xs) ≡ map (λ x. g (f x)) xs
+map_twice f g [] = refl
+map_twice f g (x ∷ xs) = ap (λ rest. g (f x) ∷ rest) (map_twice f g xs)
+
+abbrev view_of : List Slot → Sight → OfferView
+view_of base sight = seen_of_sighting (sighted base sight)
+
+abbrev offer_in : OfferView → Offer
+offer_in view = record { atom = view.atom; age = view.age; ready = view.ready }
+
+abbrev kept_in : OfferView → Kept
+kept_in view = record { atom = view.atom; age = view.age; store = view.store }
+
+abbrev pub kept_sight : List Slot → Sight → Kept
+kept_sight base sight = record { atom = sight.atom; age = sight.age; store = or_own sight.own base }
+
+module _ (code : Code) (walk : Walk) (on : IsOnCode code walk) (now : ℕ) (found : List Sight) (e : map (sighted walk.store) found ≡ all_of code walk now) where
+  abbrev os : List Offered
+  os = offers_of (walking_of code walk)
+
+  viewed : map (view_of walk.store) found ≡ map (offer_view code.body.atoms now) os
+  viewed =
+      sym (map_twice (sighted walk.store) seen_of_sighting found)
+      ∙ ap (map seen_of_sighting) e
+      ∙ seen-row (fresh code.body.tree) (fresh-new code.body.tree) code.body.atoms now walk.ticks walk.store 0 walk.row
+      ∙ sees code.body.atoms now code walk on
+
+  viewed_less : {A : Type 0} (g : OfferView → A) → map (λ (s : Sight). g (view_of walk.store s)) found ≡ map (λ (o : Offered). g (offer_view code.body.atoms now o)) os
+  viewed_less g = sym (map_twice (view_of walk.store) g found) ∙ ap (map g) viewed ∙ map_twice (offer_view code.body.atoms now) g os
+
+  pub found_seen : map offer_of found ≡ seen_offers code.body.atoms now (walking_of code walk)
+  found_seen = viewed_less offer_in
+
+  found_kept : map (kept_sight walk.store) found ≡ map kept os
+  found_kept = viewed_less kept_in
+
+  pub found_length : length found ≡ length os
+  found_length = sym (length-map (kept_sight walk.store) found) ∙ ap length found_kept ∙ length-map kept os
+
+  pub kept_at : (k : ℕ) → option_map (kept_sight walk.store) (slice_get found k) ≡ option_map kept (slice_get os k)
+  kept_at k = sym (slice_get-map (kept_sight walk.store) found k) ∙ ap (λ (l : List Kept). slice_get l k) found_kept ∙ slice_get-map kept os k
+
+  -- one was found where there is an offer
+  pub one_found : (k : ℕ) → k < length os → (one : Sight) × (slice_get found k ≡ Some one)
+  one_found k h = by_get (slice_get found k) refl
+    where
+      by_get : (got : Option Sight) → slice_get found k ≡ got → (one : Sight) × (slice_get found k ≡ Some one)
+      by_get (Some one) g = (one, g)
+      by_get None g = (let n = found_length in absurd (inside k found (omega arith) g))
+
+  module _ (k : ℕ) (one : Sight) (g : slice_get found k ≡ Some one) where
+    pub picked : (b : Branch) × ((slice_get walk.row one.branch ≡ Some b) × Picks (fresh code.body.tree) walk.ticks walk.row walk.store k one.branch (branch_by (fresh code.body.tree) walk.ticks b one.position) (or_own one.own walk.store))
+    picked =
+        picks (fresh code.body.tree) (fresh-new code.body.tree) code.body.atoms now walk.ticks walk.store walk.row k (sighted walk.store one)
+        (are_there walk.ticks (fresh code.body.tree) walk.row (left walk.ticks walk.row 0 (fresh code.body.tree)) on.reads)
+        (ap (λ (l : List Sighting). slice_get l k) (sym e) ∙ slice_get-map (sighted walk.store) found k ∙ ap (option_map (sighted walk.store)) g)
+
+    pub is_in_row : IsInRow (fresh code.body.tree) walk.row one
+    is_in_row =
+        let there = are_there walk.ticks (fresh code.body.tree) walk.row (left walk.ticks walk.row 0 (fresh code.body.tree)) on.reads in
+        (slice_get_within walk.row one.branch picked.0 picked.1.0, λ b h. (there one.branch b h).0)
 
 pub count_of : (code : Code) (walk : Walk) → IsOnCode code walk → length (offers_of (walking_of code walk)) ≡ counted (fresh code.body.tree) walk.ticks walk.store walk.row
 unfolding offers_of
@@ -144,11 +225,15 @@ walking-ticked code walk fresh_then on =
 
 -- what was found at a position
 
-pub by_found : {B : Type 0} (g : Kept → Option B) (code : Code) (walk : Walk) (k : ℕ) (found : Found) → IsOnCode code walk → IsTrue (is_some (seen_of walk)) → slice_get walk.found k ≡ Some found → option_and_then (λ offered. g (kept offered)) (slice_get (offers_of (walking_of code walk)) k) ≡ g (kept_found walk.store found)
+pub is_fresh : (fresh : Bool) (found : List Sight) → IsTrue (is_some (if fresh then Some (map offer_of found) else None)) → fresh ≡ true
+is_fresh true found h = refl
+is_fresh false found h = cc
+
+pub by_found : {B : Type 0} (g : Kept → Option B) (code : Code) (walk : Walk) (k : ℕ) (found : Sight) → IsOnCode code walk → IsTrue (is_some (seen_of walk)) → slice_get walk.found k ≡ Some found → option_and_then (λ offered. g (kept offered)) (slice_get (offers_of (walking_of code walk)) k) ≡ g (kept_sight walk.store found)
 by_found g code walk k found on fresh h =
     let os = offers_of (walking_of code walk) in
-    let same = kept_at walk.store walk.found os k (on.found (is_fresh walk.fresh walk.found fresh)) in
-    by_kept g (slice_get os k) (kept_found walk.store found) (sym (ap (option_map (kept_found walk.store)) h) ∙ same)
+    let all = on.found (is_fresh walk.fresh walk.found fresh) in
+    by_kept g (slice_get os k) (kept_sight walk.store found) (sym (ap (option_map (kept_sight walk.store)) h) ∙ kept_at code walk on all.0 walk.found all.1 k)
 
 pub is_found : (walk : Walk) (k : ℕ) → IsTrue (is_some (seen_of walk)) → ForSome (seen_of walk) (λ seen. k < length seen) → slice_get walk.found k ≡ None → ⊥
 is_found walk k fresh within e =

@@ -1,4 +1,5 @@
 -- Definitions that proofs and private functions need, and that nobody has to believe who believes the program's call.
 pub mod Goings
 pub mod Reads
+pub mod Sights
 pub mod Takings

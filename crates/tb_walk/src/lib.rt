@@ -2,14 +2,15 @@
 #![tactic(auto)]
 
 mod branch;
-mod going;
 mod laws;
 mod look;
-mod pick;
 mod settle;
+mod sight;
 mod take;
+mod taking;
 mod walk;
 
 pub use branch::{Branch, Row};
 pub use laws::rows_end_with_their_terms;
+pub use sight::Sight;
 pub use walk::Walk;

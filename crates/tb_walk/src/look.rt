@@ -1,25 +1,26 @@
-ghost use Rattle.std.specs.Prelude.{◌≡◌, ◌∷◌, [], ◌++◌, ◌-◌, ◌<◌, IfOk, OnOk, map};
+ghost use Rattle.std.specs.Prelude.{◌≡◌, ◌∷◌, [], ◌++◌, ◌-◌, ◌<◌, ℕ, IfOk, OnOk, map};
 ghost use Rattle.tb_algebra.specs.Atoms.{is_ready, times_of};
-ghost use Rattle.tb_algebra.specs.Processes.{fresh};
-ghost use Rattle.tb_algebra.specs.Helpers.OfferViews.{offer_views, shown, or_own};
-ghost use Rattle.tb_code.specs.Positions.{size};
-ghost use Rattle.tb_walk.specs.Helpers.Goings.{row_sights, term_at};
-ghost use Rattle.tb_walk.specs.Helpers.Reads.{branch};
+ghost use Rattle.tb_algebra.specs.Processes.{fresh, If, When, Let};
+ghost use Rattle.tb_algebra.specs.Helpers.OfferViews.{or_own};
+ghost use Rattle.tb_code.specs.Positions.{size, part, IsTwo, IsOne};
+ghost use Rattle.tb_walk.specs.Helpers.Sights.{Sighting, sighted, sightings, looking, row_sightings};
 ghost use Rattle.tb_walk.specs.Helpers.Takings.{AreThere};
 
-use crate::Branch;
+use crate::{Branch, Sight};
 use std::alloc::Global;
-use tb_algebra::{Found, copy_own, is_ready, store_of, tested, with_settings};
+use tb_algebra::{copy_own, is_ready, store_of, tested, with_settings};
+use tb_body::Settings;
 use tb_code::{Code, Op};
 use tb_func::Store;
-use tb_terms::{Items, NoMemory};
+use tb_terms::{Expr, Items, NoMemory};
 
-/// When a branch was entered, and how many ticks the process and the bus have seen.
+/// Which branch is looked at, when it was entered, and how many ticks the process and the bus have seen.
 #[derive(Clone, Copy)]
-struct Clock {
-    entered: u64,
-    ticks: u64,
-    now: u64,
+pub struct Clock {
+    pub branch: usize,
+    pub entered: u64,
+    pub ticks: u64,
+    pub bus: u64,
 }
 
 /// Adds what the branches of a row may do next, in text order.
@@ -30,25 +31,27 @@ pub(crate) fn look_row(
     ticks: u64,
     now: u64,
     base: &Store,
-    found: &mut Items<Found>,
+    found: &mut Items<Sight>,
 ) -> Result<(), NoMemory>
     requires { AreThere (fresh code.now.body.tree) ticks row.now }
-    ensures { OnOk result (map (shown base.now) found.new
-        ≡ map (shown base.now) found.old ++ row_sights (fresh code.now.body.tree) code.now.body.atoms now ticks base.now row.now) }
+    ensures { OnOk result (map (sighted base.now) found.new
+        ≡ map (sighted base.now) found.old ++ row_sightings (fresh code.now.body.tree) code.now.body.atoms now ticks base.now 0 row.now) }
 {
-    for branch in row {
+    for at in 0..row.len() {
+        let Branch { position, entered } = row[at];
         let clock = Clock {
-            entered: branch.entered,
+            branch: at,
+            entered,
             ticks,
-            now,
+            bus: now,
         };
-        look_at(alloc, code, branch.position, clock, base, &None, found)?;
+        look_at(alloc, code, position, &clock, base, &None, found)?;
     }
     Ok(())
 }
 
 /// Drops what was found, and keeps the memory.
-pub(crate) fn empty(found: &mut Items<Found>)
+pub(crate) fn empty(found: &mut Items<Sight>)
     ensures { found.new ≡ [] }
 {
     while let Some(one) = found.pop() {
@@ -56,71 +59,143 @@ pub(crate) fn empty(found: &mut Items<Found>)
     }
 }
 
-/// Adds what the part at a position may do next, in text order.
+/// Adds what the part at a position may do next, in text order. Tests and settings have functions of
+/// their own, since a function pays at entry for all that it may hold.
 #[cycle(look_at)]
 fn look_at(
     alloc: Global,
     code: &Code,
     at: usize,
-    clock: Clock,
+    clock: &Clock,
     base: &Store,
     own: &Option<Store>,
-    found: &mut Items<Found>,
+    found: &mut Items<Sight>,
 ) -> Result<(), NoMemory>
     requires { at < size (fresh code.now.body.tree) }
-    ensures { OnOk result (map (shown base.now) found.new
-        ≡ map (shown base.now) found.old
-        ++ offer_views code.now.body.atoms clock.now (term_at (fresh code.now.body.tree) clock.ticks (branch at clock.entered)) (or_own own.now base.now)) }
+    ensures { OnOk result (map (sighted base.now) found.new
+        ≡ map (sighted base.now) found.old
+        ++ sightings (looking code.now.body.atoms clock.now) at (part (fresh code.now.body.tree) at) (or_own own.now base.now)) }
 {
     let first = code.first(at);
     match &code.node(at).op {
-        Op::At(atom) => look_atom(alloc, code, *atom, clock, base, own, found),
+        Op::At(atom) => look_atom(alloc, code, at, *atom, clock, base, own, found),
         Op::Seq(_) => look_at(alloc, code, first, clock, base, own, found),
         Op::Alt(right) | Op::Star(right) | Op::Par(right) => {
             look_at(alloc, code, first, clock, base, own, found)?;
             look_at(alloc, code, *right, clock, base, own, found)
         }
-        Op::If(test, right) => match tested(alloc, store_of(base, own), test)? {
-            Some(true) => look_at(alloc, code, first, clock, base, own, found),
-            Some(false) => look_at(alloc, code, *right, clock, base, own, found),
-            None => Ok(()),
-        },
-        Op::When(test) => match tested(alloc, store_of(base, own), test)? {
-            Some(true) => look_at(alloc, code, first, clock, base, own, found),
-            Some(false) => Ok(()),
-            None => Ok(()),
-        },
-        Op::Let(settings) => match with_settings(alloc, store_of(base, own), settings)? {
-            Some(store) => {
-                let own = Some(store);
-                look_at(alloc, code, first, clock, base, &own, found)
-            }
-            None => Ok(()),
-        },
+        Op::If(test, right) => look_side(alloc, code, at, test, *right, clock, base, own, found),
+        Op::When(test) => look_if_true(alloc, code, at, test, clock, base, own, found),
+        Op::Let(settings) => look_with(alloc, code, at, settings, clock, base, own, found),
+    }
+}
+
+/// What may be next is that of the side that the test chooses now.
+#[cycle(look_at)]
+#[inline(never)]
+fn look_side(
+    alloc: Global,
+    code: &Code,
+    at: usize,
+    test: &Expr,
+    right: usize,
+    clock: &Clock,
+    base: &Store,
+    own: &Option<Store>,
+    found: &mut Items<Sight>,
+) -> Result<(), NoMemory>
+    requires { IsTwo (fresh code.now.body.tree) (If test.now) at right }
+    ensures { OnOk result (map (sighted base.now) found.new
+        ≡ map (sighted base.now) found.old
+        ++ sightings (looking code.now.body.atoms clock.now) at (part (fresh code.now.body.tree) at) (or_own own.now base.now)) }
+{
+    match tested(alloc, store_of(base, own), test)? {
+        Some(true) => look_at(alloc, code, code.first(at), clock, base, own, found),
+        Some(false) => look_at(alloc, code, right, clock, base, own, found),
+        None => Ok(()),
+    }
+}
+
+/// Nothing may be next where the test is not true.
+#[cycle(look_at)]
+#[inline(never)]
+fn look_if_true(
+    alloc: Global,
+    code: &Code,
+    at: usize,
+    test: &Expr,
+    clock: &Clock,
+    base: &Store,
+    own: &Option<Store>,
+    found: &mut Items<Sight>,
+) -> Result<(), NoMemory>
+    requires { IsOne (fresh code.now.body.tree) (When test.now) at }
+    ensures { OnOk result (map (sighted base.now) found.new
+        ≡ map (sighted base.now) found.old
+        ++ sightings (looking code.now.body.atoms clock.now) at (part (fresh code.now.body.tree) at) (or_own own.now base.now)) }
+{
+    match tested(alloc, store_of(base, own), test)? {
+        Some(true) => look_at(alloc, code, code.first(at), clock, base, own, found),
+        Some(false) => Ok(()),
+        None => Ok(()),
+    }
+}
+
+/// What may be next in the store with the settings made.
+#[cycle(look_at)]
+#[inline(never)]
+fn look_with(
+    alloc: Global,
+    code: &Code,
+    at: usize,
+    settings: &Settings,
+    clock: &Clock,
+    base: &Store,
+    own: &Option<Store>,
+    found: &mut Items<Sight>,
+) -> Result<(), NoMemory>
+    requires { IsOne (fresh code.now.body.tree) (Let settings.now) at }
+    ensures { OnOk result (map (sighted base.now) found.new
+        ≡ map (sighted base.now) found.old
+        ++ sightings (looking code.now.body.atoms clock.now) at (part (fresh code.now.body.tree) at) (or_own own.now base.now)) }
+{
+    match with_settings(alloc, store_of(base, own), settings)? {
+        Some(store) => {
+            let own = Some(store);
+            look_at(alloc, code, code.first(at), clock, base, &own, found)
+        }
+        None => Ok(()),
     }
 }
 
 fn look_atom(
     alloc: Global,
     code: &Code,
+    position: usize,
     atom: u32,
-    clock: Clock,
+    clock: &Clock,
     base: &Store,
     own: &Option<Store>,
-    found: &mut Items<Found>,
+    found: &mut Items<Sight>,
 ) -> Result<(), NoMemory>
-    ensures { OnOk result (map (shown base.now) found.new
-        ≡ map (shown base.now) found.old ++ record {
-          atom = atom;
-          age = clock.ticks - clock.entered;
-          ready = is_ready (or_own own.now base.now) (clock.ticks - clock.entered) clock.now (times_of code.now.body.atoms atom);
-          store = or_own own.now base.now;
+    ensures { OnOk result (map (sighted base.now) found.new
+        ≡ map (sighted base.now) found.old ++ record {
+          branch = clock.now.branch;
+          position = position;
+          seen = record {
+            atom = atom;
+            age = clock.now.ticks - clock.now.entered;
+            ready = is_ready (or_own own.now base.now) (clock.now.ticks - clock.now.entered) clock.now.bus (times_of code.now.body.atoms atom);
+            store = or_own own.now base.now;
+          };
         } ∷ []) }
 {
     let age = clock.ticks.saturating_sub(clock.entered);
-    let ready = is_atom_ready(alloc, code, store_of(base, own), atom, age, clock.now)?;
+    let ready = is_atom_ready(alloc, code, store_of(base, own), atom, age, clock.bus)?;
     let own = copy_own(alloc, own)?;
-    found.push(Found {
+    found.push(Sight {
+        branch: clock.branch,
+        position,
         atom,
         age,
         ready,

@@ -3,9 +3,8 @@ ghost use Rattle.std.specs.Option.{option_to_list};
 ghost use Rattle.tb_algebra.specs.Processes.{fresh};
 ghost use Rattle.tb_code.specs.Positions.{positions, size, part};
 ghost use Rattle.tb_walk.specs.Helpers.Reads.{any_inside, bound_of, entered_behind, is_inside, next_of};
-ghost use Rattle.tb_walk.specs.Helpers.Takings.{IsSettled, IsBehind, IsWithin, row_after, row_of};
+ghost use Rattle.tb_walk.specs.Helpers.Takings.{IsSettled, IsBehind, IsWithin, row_after};
 
-use crate::going::Going;
 use crate::{Branch, Row};
 use std::alloc::Global;
 use tb_code::{Code, Op};
@@ -22,34 +21,8 @@ pub enum Step {
     Part(Row),
 }
 
-/// What becomes of a row where this takes the place of the branch at the index.
-pub(crate) fn settled(
-    alloc: Global,
-    code: &Code,
-    row: &[Branch],
-    ticks: u64,
-    at: usize,
-    going: Going,
-) -> Result<Step, NoMemory>
-    requires within { at < length row.now }
-    requires there { (branch : Branch) → slice_get row.now at ≡ Some branch → branch.position < size (fresh code.now.body.tree) }
-    ensures { IfOk result (IsSettled (fresh code.now.body.tree) ticks row.now at (row_of going)) }
-{
-    match going {
-        Going::Away => Ok(left_by(code, row, ticks, at)),
-        Going::On(branch) => Ok(Step::Put(at, branch)),
-        Going::Many(inside) => {
-            if inside.is_empty() {
-                Ok(left_by(code, row, ticks, at))
-            } else {
-                Ok(Step::Part(spliced(alloc, row, at, inside)?))
-            }
-        }
-    }
-}
-
 /// What becomes of a row where the branch at the index has ended.
-fn left_by(code: &Code, row: &[Branch], ticks: u64, at: usize) -> Step
+pub(crate) fn left_by(code: &Code, row: &[Branch], ticks: u64, at: usize) -> Step
     requires within { at < length row.now }
     requires there { (branch : Branch) → slice_get row.now at ≡ Some branch → branch.position < size (fresh code.now.body.tree) }
     ensures { IsSettled (fresh code.now.body.tree) ticks row.now at [] result }
@@ -165,7 +138,12 @@ fn any_inside(row: &[Branch], at: usize, bound: usize) -> bool
 }
 
 /// The row with these branches in the place of one.
-fn spliced(alloc: Global, row: &[Branch], at: usize, inside: Row) -> Result<Row, NoMemory>
+pub(crate) fn spliced(
+    alloc: Global,
+    row: &[Branch],
+    at: usize,
+    inside: Row,
+) -> Result<Row, NoMemory>
     requires { at < length row.now }
     ensures { IfOk result (λ whole. whole ≡ take at row.now ++ (inside ++ drop (suc at) row.now)) }
 {

@@ -1,263 +1,199 @@
-ghost use Rattle.std.specs.Prelude.{◌≡◌, ◌≤◌, ◌<◌, ℕ, List, None, IfOk};
-ghost use Rattle.tb_algebra.specs.Processes.{fresh, Seq, Alt, Star, Par, If, When, Let};
-ghost use Rattle.tb_algebra.specs.Helpers.OfferViews.{or_own};
-ghost use Rattle.tb_code.specs.Positions.{size, IsTwo, IsOne};
-ghost use Rattle.tb_walk.specs.Helpers.Reads.{branch};
-ghost use Rattle.tb_walk.specs.Helpers.Takings.{IsAtomFound, IsFound};
+ghost use Rattle.std.specs.Prelude.{◌≡◌, ◌<◌, ◌++◌, ◌∷◌, [], Some, IfOk, OnOk, length, nat_lt, slice_get, if◌then◌else◌};
+ghost use Rattle.tb_algebra.specs.Processes.{fresh, Par};
+ghost use Rattle.tb_code.specs.Positions.{size, part, IsTwo};
+ghost use Rattle.tb_walk.specs.Helpers.Reads.{branch, or_entered};
+ghost use Rattle.tb_walk.specs.Helpers.Sights.{GoesOn, branch_by, row_by};
+ghost use Rattle.tb_walk.specs.Helpers.Takings.{IsSettled};
 
-use crate::Branch;
-use crate::going::{Going, Search};
+use crate::settle::{Step, left_by, spliced};
+use crate::{Branch, Row};
 use std::alloc::Global;
-use tb_algebra::{copy_own, store_of, tested, with_settings};
-use tb_body::Settings;
 use tb_code::{Code, Op};
-use tb_func::Store;
-use tb_terms::{Expr, NoMemory};
+use tb_terms::{Items, NoMemory};
+
+/// What comes of a part of which an atom happens.
+#[derive(Clone, Copy, Drop)]
+pub enum Behind {
+    /// It has ended.
+    Ended,
+    /// This position is entered instead.
+    Entered(usize),
+    /// A merge is parted.
+    Parted,
+}
+
+/// What becomes of a row where this atom happens, which stands in the part of the branch at the index.
+pub(crate) fn step_by(
+    alloc: Global,
+    code: &Code,
+    row: &[Branch],
+    ticks: u64,
+    at: usize,
+    atom: usize,
+) -> Result<Step, NoMemory>
+    requires within { at < length row.now }
+    requires there { (branch : Branch) → slice_get row.now at ≡ Some branch → branch.position < size (fresh code.now.body.tree) }
+    ensures { (branch : Branch) → slice_get row.now at ≡ Some branch →
+        IfOk result (IsSettled (fresh code.now.body.tree) ticks row.now at (branch_by (fresh code.now.body.tree) ticks branch atom)) }
+{
+    match comes_of(code, row[at].position, atom, Behind::Ended) {
+        Behind::Ended => Ok(left_by(code, row, ticks, at)),
+        Behind::Entered(position) => Ok(Step::Put(
+            at,
+            Branch {
+                position,
+                entered: ticks,
+            },
+        )),
+        Behind::Parted => parted(alloc, code, row, ticks, at, atom),
+    }
+}
+
+/// What comes of the part at a position where its atom happens. It is known what comes once the part has
+/// ended.
+#[cycle(comes_of)]
+fn comes_of(code: &Code, at: usize, atom: usize, so_far: Behind) -> Behind
+    requires { at < size (fresh code.now.body.tree) }
+    ensures { GoesOn (fresh code.now.body.tree) at atom so_far result }
+{
+    let first = code.first(at);
+    match &code.node(at).op {
+        Op::At(_) => so_far,
+        Op::Seq(right) => comes_of(code, first, atom, Behind::Entered(*right)),
+        Op::Alt(right) => comes_of(code, side(first, *right, atom), atom, so_far),
+        Op::Star(right) => {
+            if atom < *right {
+                comes_of(code, first, atom, Behind::Entered(at))
+            } else {
+                comes_of(code, *right, atom, so_far)
+            }
+        }
+        Op::Par(_) => Behind::Parted,
+        Op::If(_, right) => comes_of(code, side(first, *right, atom), atom, so_far),
+        Op::When(_) => comes_of(code, first, atom, so_far),
+        Op::Let(_) => comes_of(code, first, atom, so_far),
+    }
+}
+
+/// The side of an operator in which the atom stands.
+fn side(first: usize, right: usize, atom: usize) -> usize
+    ensures { result ≡ (if nat_lt atom right then first else right) }
+{
+    if atom < right { first } else { right }
+}
+
+/// What becomes of the row where a merge is parted.
+#[inline(never)]
+fn parted(
+    alloc: Global,
+    code: &Code,
+    row: &[Branch],
+    ticks: u64,
+    at: usize,
+    atom: usize,
+) -> Result<Step, NoMemory>
+    requires within { at < length row.now }
+    requires there { (branch : Branch) → slice_get row.now at ≡ Some branch → branch.position < size (fresh code.now.body.tree) }
+    ensures { (branch : Branch) → slice_get row.now at ≡ Some branch →
+        IfOk result (IsSettled (fresh code.now.body.tree) ticks row.now at (branch_by (fresh code.now.body.tree) ticks branch atom)) }
+{
+    let Branch { position, entered } = row[at];
+    let since = Since { entered, ticks };
+    let mut inside = Items::new(alloc);
+    part_at(code, position, atom, since, &mut inside)?;
+    if inside.is_empty() {
+        Ok(left_by(code, row, ticks, at))
+    } else {
+        Ok(Step::Part(spliced(alloc, row, at, inside)?))
+    }
+}
 
 /// When a branch was entered, and how many ticks the process has seen.
 #[derive(Clone, Copy)]
-pub(crate) struct Since {
-    pub entered: u64,
-    pub ticks: u64,
+struct Since {
+    entered: u64,
+    ticks: u64,
 }
 
-/// Searches for the offer with this index among those of the part at a position. Each operator has a
-/// function of its own, since a function pays at entry for all that it may hold.
-#[cycle(find_at)]
-pub(crate) fn find_at(
-    alloc: Global,
-    code: &Code,
-    at: usize,
-    since: Since,
-    base: &Store,
-    own: &Option<Store>,
-    k: usize,
-) -> Result<Search, NoMemory>
-    requires there { at < size (fresh code.now.body.tree) }
-    requires entered { since.entered ≤ since.ticks }
-    ensures { IfOk result (IsFound (fresh code.now.body.tree) since.ticks at since.entered base.now (or_own own.now base.now) k) }
+/// Adds the branches that are left of the part at a position.
+#[cycle(part_at)]
+fn part_at(code: &Code, at: usize, atom: usize, since: Since, row: &mut Row) -> Result<(), NoMemory>
+    requires { at < size (fresh code.now.body.tree) }
+    ensures { OnOk result (row.new ≡ row.old ++ row_by since.ticks since.entered at (part (fresh code.now.body.tree) at) atom) }
 {
+    let first = code.first(at);
     match &code.node(at).op {
-        Op::At(_) => find_atom(alloc, own, k),
-        Op::Seq(right) => find_in_sequence(alloc, code, at, *right, since, base, own, k),
-        Op::Alt(right) => find_in_choice(alloc, code, at, *right, since, base, own, k),
-        Op::Star(right) => find_in_star(alloc, code, at, *right, since, base, own, k),
-        Op::Par(right) => find_in_merge(alloc, code, at, *right, since, base, own, k),
-        Op::If(test, right) => find_in_side(alloc, code, at, test, *right, since, base, own, k),
-        Op::When(test) => find_if_true(alloc, code, at, test, since, base, own, k),
-        Op::Let(settings) => find_with_settings(alloc, code, at, settings, since, base, own, k),
-    }
-}
-
-/// Behind the first part of a sequence its second one is entered.
-#[cycle(find_at)]
-fn find_in_sequence(
-    alloc: Global,
-    code: &Code,
-    at: usize,
-    right: usize,
-    since: Since,
-    base: &Store,
-    own: &Option<Store>,
-    k: usize,
-) -> Result<Search, NoMemory>
-    requires entered { since.entered ≤ since.ticks }
-    requires parts { IsTwo (fresh code.now.body.tree) Seq at right }
-    ensures { IfOk result (IsFound (fresh code.now.body.tree) since.ticks at since.entered base.now (or_own own.now base.now) k) }
-{
-    let first = code.first(at);
-    match find_at(alloc, code, first, since, base, own, k)? {
-        Search::Past(rest) => Ok(Search::Past(rest)),
-        Search::Taken(going, own) => {
-            let next = entered_now(right, since);
-            Ok(Search::Taken(going.or_entered(next), own))
-        }
-    }
-}
-
-#[cycle(find_at)]
-fn find_in_choice(
-    alloc: Global,
-    code: &Code,
-    at: usize,
-    right: usize,
-    since: Since,
-    base: &Store,
-    own: &Option<Store>,
-    k: usize,
-) -> Result<Search, NoMemory>
-    requires entered { since.entered ≤ since.ticks }
-    requires parts { IsTwo (fresh code.now.body.tree) Alt at right }
-    ensures { IfOk result (IsFound (fresh code.now.body.tree) since.ticks at since.entered base.now (or_own own.now base.now) k) }
-{
-    let first = code.first(at);
-    match find_at(alloc, code, first, since, base, own, k)? {
-        Search::Past(rest) => find_at(alloc, code, right, since, base, own, rest),
-        Search::Taken(going, own) => Ok(Search::Taken(going, own)),
-    }
-}
-
-/// Behind a turn the star is entered anew.
-#[cycle(find_at)]
-fn find_in_star(
-    alloc: Global,
-    code: &Code,
-    at: usize,
-    right: usize,
-    since: Since,
-    base: &Store,
-    own: &Option<Store>,
-    k: usize,
-) -> Result<Search, NoMemory>
-    requires entered { since.entered ≤ since.ticks }
-    requires parts { IsTwo (fresh code.now.body.tree) Star at right }
-    ensures { IfOk result (IsFound (fresh code.now.body.tree) since.ticks at since.entered base.now (or_own own.now base.now) k) }
-{
-    let first = code.first(at);
-    match find_at(alloc, code, first, since, base, own, k)? {
-        Search::Past(rest) => find_at(alloc, code, right, since, base, own, rest),
-        Search::Taken(going, own) => {
-            let again = entered_now(at, since);
-            Ok(Search::Taken(going.or_entered(again), own))
-        }
-    }
-}
-
-/// Parts a merge: the side whose offer it is goes on, and the other waits.
-#[cycle(find_at)]
-#[inline(never)]
-fn find_in_merge(
-    alloc: Global,
-    code: &Code,
-    at: usize,
-    right: usize,
-    since: Since,
-    base: &Store,
-    own: &Option<Store>,
-    k: usize,
-) -> Result<Search, NoMemory>
-    requires entered { since.entered ≤ since.ticks }
-    requires parts { IsTwo (fresh code.now.body.tree) Par at right }
-    ensures { IfOk result (IsFound (fresh code.now.body.tree) since.ticks at since.entered base.now (or_own own.now base.now) k) }
-{
-    let first = code.first(at);
-    match find_at(alloc, code, first, since, base, own, k)? {
-        Search::Past(rest) => match find_at(alloc, code, right, since, base, own, rest)? {
-            Search::Past(rest) => Ok(Search::Past(rest)),
-            Search::Taken(going, own) => {
-                let going = going.and_before(alloc, waiting(first, since))?;
-                Ok(Search::Taken(going, own))
+        Op::At(_) => Ok(()),
+        Op::Seq(right) => part_first(code, first, *right, atom, since, row),
+        Op::Alt(right) => part_at(code, side(first, *right, atom), atom, since, row),
+        Op::Star(right) => {
+            if atom < *right {
+                part_first(code, first, at, atom, since, row)
+            } else {
+                part_at(code, *right, atom, since, row)
             }
-        },
-        Search::Taken(going, own) => {
-            let going = going.and_behind(alloc, waiting(right, since))?;
-            Ok(Search::Taken(going, own))
         }
+        Op::Par(right) => part_merge(code, at, *right, atom, since, row),
+        Op::If(_, right) => part_at(code, side(first, *right, atom), atom, since, row),
+        Op::When(_) => part_at(code, first, atom, since, row),
+        Op::Let(_) => part_at(code, first, atom, since, row),
     }
 }
 
-/// The offers are those of the side that the test chooses now.
-#[cycle(find_at)]
-#[inline(never)]
-fn find_in_side(
-    alloc: Global,
+/// The same of a first part, or the position that is entered where it has ended.
+#[cycle(part_at)]
+fn part_first(
+    code: &Code,
+    first: usize,
+    next: usize,
+    atom: usize,
+    since: Since,
+    row: &mut Row,
+) -> Result<(), NoMemory>
+    requires { first < size (fresh code.now.body.tree) }
+    ensures { OnOk result (row.new ≡ row.old
+        ++ or_entered (row_by since.ticks since.entered first (part (fresh code.now.body.tree) first) atom) (branch next since.ticks ∷ [])) }
+{
+    let before = row.len();
+    part_at(code, first, atom, since, row)?;
+    if row.len() == before {
+        row.push(Branch {
+            position: next,
+            entered: since.ticks,
+        })?;
+    }
+    Ok(())
+}
+
+/// The same of a merge: its other side goes on waiting.
+#[cycle(part_at)]
+fn part_merge(
     code: &Code,
     at: usize,
-    test: &Expr,
     right: usize,
+    atom: usize,
     since: Since,
-    base: &Store,
-    own: &Option<Store>,
-    k: usize,
-) -> Result<Search, NoMemory>
-    requires entered { since.entered ≤ since.ticks }
-    requires parts { IsTwo (fresh code.now.body.tree) (If test.now) at right }
-    ensures { IfOk result (IsFound (fresh code.now.body.tree) since.ticks at since.entered base.now (or_own own.now base.now) k) }
+    row: &mut Row,
+) -> Result<(), NoMemory>
+    requires { IsTwo (fresh code.now.body.tree) Par at right }
+    ensures { OnOk result (row.new ≡ row.old ++ row_by since.ticks since.entered at (part (fresh code.now.body.tree) at) atom) }
 {
-    match tested(alloc, store_of(base, own), test)? {
-        Some(true) => find_at(alloc, code, code.first(at), since, base, own, k),
-        Some(false) => find_at(alloc, code, right, since, base, own, k),
-        None => Ok(Search::Past(k)),
+    let first = code.first(at);
+    if atom < right {
+        part_at(code, first, atom, since, row)?;
+        push_waiting(row, right, since)
+    } else {
+        push_waiting(row, first, since)?;
+        part_at(code, right, atom, since, row)
     }
 }
 
-/// A part has no offers where its test is not true.
-#[cycle(find_at)]
-#[inline(never)]
-fn find_if_true(
-    alloc: Global,
-    code: &Code,
-    at: usize,
-    test: &Expr,
-    since: Since,
-    base: &Store,
-    own: &Option<Store>,
-    k: usize,
-) -> Result<Search, NoMemory>
-    requires entered { since.entered ≤ since.ticks }
-    requires parts { IsOne (fresh code.now.body.tree) (When test.now) at }
-    ensures { IfOk result (IsFound (fresh code.now.body.tree) since.ticks at since.entered base.now (or_own own.now base.now) k) }
+fn push_waiting(row: &mut Row, position: usize, since: Since) -> Result<(), NoMemory>
+    ensures { OnOk result (row.new ≡ row.old ++ branch position since.entered ∷ []) }
 {
-    match tested(alloc, store_of(base, own), test)? {
-        Some(true) => find_at(alloc, code, code.first(at), since, base, own, k),
-        Some(false) => Ok(Search::Past(k)),
-        None => Ok(Search::Past(k)),
-    }
-}
-
-/// The offers are those of the part in the store with the settings made.
-#[cycle(find_at)]
-#[inline(never)]
-fn find_with_settings(
-    alloc: Global,
-    code: &Code,
-    at: usize,
-    settings: &Settings,
-    since: Since,
-    base: &Store,
-    own: &Option<Store>,
-    k: usize,
-) -> Result<Search, NoMemory>
-    requires entered { since.entered ≤ since.ticks }
-    requires parts { IsOne (fresh code.now.body.tree) (Let settings.now) at }
-    ensures { IfOk result (IsFound (fresh code.now.body.tree) since.ticks at since.entered base.now (or_own own.now base.now) k) }
-{
-    match with_settings(alloc, store_of(base, own), settings)? {
-        Some(store) => {
-            let own = Some(store);
-            find_at(alloc, code, code.first(at), since, base, &own, k)
-        }
-        None => Ok(Search::Past(k)),
-    }
-}
-
-/// An atom has one offer, and then its part has ended.
-fn find_atom(alloc: Global, own: &Option<Store>, k: usize) -> Result<Search, NoMemory>
-    ensures { IfOk result (IsAtomFound own.now k) }
-{
-    if k > 0 {
-        return Ok(Search::Past(k - 1));
-    }
-    let own = copy_own(alloc, own)?;
-    Ok(Search::Taken(Going::Away, own))
-}
-
-/// A branch that is entered as the offer is taken.
-fn entered_now(position: usize, since: Since) -> Branch
-    ensures { result ≡ branch position since.ticks }
-{
-    Branch {
-        position,
-        entered: since.ticks,
-    }
-}
-
-/// A side of a merge, which goes on waiting.
-fn waiting(position: usize, since: Since) -> Branch
-    ensures { result ≡ branch position since.entered }
-{
-    Branch {
+    row.push(Branch {
         position,
         entered: since.entered,
-    }
+    })?;
+    Ok(())
 }

@@ -1,14 +1,14 @@
 ghost use Rattle.std.specs.Prelude.{◌≡◌, length};
 
 use crate::look::{empty, look_row};
-use crate::pick::{Pick, search_row};
-use crate::settle::{Step, go_on, settled};
-use crate::{Branch, Row};
+use crate::settle::{Step, go_on};
+use crate::sight::copy_sights;
+use crate::taking::{take_unseen, taken_by};
+use crate::{Branch, Row, Sight};
 use std::alloc::Global;
 use std::mem::swap;
 use tb_algebra::{
-    Found, Offer, Walker, accepted_binds, copy_candidates, matched_patterns, sent_values,
-    set_binds, store_of,
+    Offer, Walker, accepted_binds, matched_patterns, sent_values, set_binds, store_of,
 };
 use tb_body::Body;
 use tb_code::{Code, compile};
@@ -24,11 +24,11 @@ pub struct Walk {
     pub(crate) store: Store,
     pub(crate) ticks: u64,
     /// What the last look found.
-    pub(crate) found: Items<Found>,
+    pub(crate) found: Items<Sight>,
     /// Nothing has happened since then.
     pub(crate) fresh: bool,
     /// Memory for the next look.
-    pub(crate) spare: Items<Found>,
+    pub(crate) spare: Items<Sight>,
     ghost spare_is_empty: { length spare ≡ 0 },
 }
 
@@ -148,16 +148,16 @@ impl Walker for Walk {
     }
 
     fn take(&self, alloc: Global, plan: &Code, k: usize) -> Result<Taken, NoMemory> {
-        let row = self.row.as_slice();
-        match search_row(alloc, plan, row, self.ticks, &self.store, k)? {
-            Pick::Taken(at, going, own) => {
-                let step = settled(alloc, plan, row, self.ticks, at, going)?;
-                Ok(Taken { step, own })
-            }
-            Pick::Past => Ok(Taken {
-                step: Step::Part(Items::new(alloc)),
-                own: None,
-            }),
+        if self.fresh {
+            taken_by(
+                alloc,
+                plan,
+                self.row.as_slice(),
+                self.ticks,
+                self.found.get(k),
+            )
+        } else {
+            take_unseen(alloc, plan, self, k)
         }
     }
 
@@ -184,7 +184,7 @@ impl Walker for Walk {
     fn copy(&self, alloc: Global) -> Result<Walk, NoMemory> {
         let row = Items::from_slice(alloc, self.row.as_slice())?;
         let store = self.store.copy(alloc)?;
-        let found = copy_candidates(alloc, &self.found)?;
+        let found = copy_sights(alloc, &self.found)?;
         Ok(Walk {
             row,
             store,

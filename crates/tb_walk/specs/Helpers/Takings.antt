@@ -1,44 +1,24 @@
 -- What comes of an offer of a branch that is taken: the row that is left of its part.
-use Rattle.std.specs.Prelude.{◌≡◌, ℕ, ◌+◌, List, [], ◌∷◌, ◌++◌, Option, Some, suc, slice_get, slice_set, take, drop, remove, ◌≤◌, ◌<◌, length, ⊤}
+use Rattle.std.specs.Prelude.{◌≡◌, ℕ, ◌+◌, List, ◌++◌, Option, Some, suc, slice_get, slice_set, take, drop, remove, ◌≤◌, ◌<◌, length, ⊤}
 use Rattle.tb_func.specs.declared.slot.Slot.{Slot}
-use Rattle.tb_algebra.specs.Helpers.Selections.{Past, On, selected}
+use Rattle.tb_algebra.specs.Helpers.Selections.{On, selected}
 use Rattle.tb_algebra.specs.Processes.{Process}
-use Rattle.tb_algebra.specs.Helpers.OfferViews.{or_own}
 use Rattle.tb_code.specs.Positions.{part, positions, size}
 use Rattle.tb_code.specs.declared.node.Node.{Node}
 use Rattle.tb_walk.specs.Helpers.Goings.{term_at, counted}
 use Rattle.tb_walk.specs.Helpers.Reads.{Reads, branch, entered_behind, or_entered}
+use Rattle.tb_walk.specs.Helpers.Sights.{branch_by}
 use Rattle.tb_walk.specs.declared.branch.Branch.{Branch}
-use Rattle.tb_walk.specs.declared.going.Going.{Going}
-use Rattle.tb_walk.specs.declared.going.Going.TheVariants as going
-use Rattle.tb_walk.specs.declared.going.Search.{Search}
-use Rattle.tb_walk.specs.declared.going.Search.TheVariants as search
-use Rattle.tb_walk.specs.declared.pick.Pick.{Pick}
-use Rattle.tb_walk.specs.declared.pick.Pick.TheVariants as pick
 use Rattle.tb_walk.specs.declared.settle.Step.{Step}
 use Rattle.tb_walk.specs.declared.settle.Step.TheVariants as step
-
--- the branches that take the place of one
-abbrev pub row_of : Going → List Branch
-row_of going.Away = []
-row_of (going.On branch) = branch ∷ []
-row_of (going.Many row) = row
+use Rattle.tb_walk.specs.declared.sight.Sight.{Sight}
+use Rattle.tb_walk.specs.declared.walk.Taken.{Taken}
 
 -- the offer at this position of the part that a branch stands for leaves this row of it, in this store
 pub record LeavesRow (whole : Process) (ticks at entered : ℕ) (store : List Slot) (k : ℕ) (row : List Branch) (own : List Slot) : Type 0 where
   pub left : Option Process
   pub selects : selected (term_at whole ticks (branch at entered)) store k ≡ On left own
   pub reads : Reads ticks at (part whole at) row left
-
--- what was found by a search for an offer: past the end, how far
-abbrev pub IsFound : Process → ℕ → ℕ → ℕ → List Slot → List Slot → ℕ → Search → Type 0
-IsFound whole ticks at entered base store k (search.Past rest) = selected (term_at whole ticks (branch at entered)) store k ≡ Past rest
-IsFound whole ticks at entered base store k (search.Taken going own) = LeavesRow whole ticks at entered store k (row_of going) (or_own own base)
-
--- what was found at an atom
-abbrev pub IsAtomFound : Option (List Slot) → ℕ → Search → Type 0
-IsAtomFound own k (search.Past rest) = k ≡ rest + 1
-IsAtomFound own k (search.Taken going taken) = (k ≡ 0) × ((row_of going ≡ []) × (taken ≡ own))
 
 -- the branches of a row stand at positions, and have been entered by now
 abbrev pub AreThere : Process → ℕ → List Branch → Type 0
@@ -51,10 +31,6 @@ pub record Picks (whole : Process) (ticks : ℕ) (row : List Branch) (store : Li
   pub rest : ℕ
   pub counts : k ≡ counted whole ticks store (take at row) + rest
   pub takes : LeavesRow whole ticks one.position one.entered store rest inside own
-
-abbrev pub IsPicked : Process → ℕ → List Branch → List Slot → ℕ → Pick → Type 0
-IsPicked whole ticks row store k pick.Past = counted whole ticks store row ≤ k
-IsPicked whole ticks row store k (pick.Taken at going own) = Picks whole ticks row store k at (row_of going) (or_own own store)
 
 -- the row after a step
 abbrev pub row_after : List Branch → Step → List Branch
@@ -75,3 +51,12 @@ IsBehind whole ticks row at next = (b : Branch) → (n : Node) → slice_get row
 pub record IsSettled (whole : Process) (ticks : ℕ) (row : List Branch) (at : ℕ) (inside : List Branch) (step : Step) : Type 0 where
   pub within : IsWithin row step
   pub after : (b : Branch) → (n : Node) → slice_get row at ≡ Some b → slice_get (positions whole) b.position ≡ Some n → row_after row step ≡ take at row ++ (or_entered inside (entered_behind whole ticks n.frame (take at row) (drop (suc at) row)) ++ drop (suc at) row)
+
+-- what was found stands in a branch of the row
+abbrev pub IsInRow : Process → List Branch → Sight → Type 0
+IsInRow whole row sight = (sight.branch < length row) × ((b : Branch) → slice_get row sight.branch ≡ Some b → b.position < size whole)
+
+-- It was taken: the store is its own, and the row goes on by its branch and its position.
+abbrev pub IsTakenBy : Process → ℕ → List Branch → Sight → Taken → Type 0
+IsTakenBy whole ticks row sight taken =
+    (taken.own ≡ sight.own) × ((b : Branch) → slice_get row sight.branch ≡ Some b → IsSettled whole ticks row sight.branch (branch_by whole ticks b sight.position) taken.step)

@@ -1,12 +1,9 @@
 use Rattle.std.proofs.Common.{List, Some, ap, sym, subst}
 use Rattle.tb_algebra.specs.Processes.{fresh}
-use Rattle.tb_algebra.specs.Walks.{offers_of}
-use Rattle.tb_algebra.proofs.RewriterLemmas.{found_kept, found_seen}
 use Rattle.tb_walk.specs.Lefts.{left}
 use Rattle.tb_walk.specs.Helpers.Takings.{AreThere}
-use Rattle.tb_walk.specs.WalkViews.{walking_of}
 use Rattle.tb_walk.specs.declared.branch.Branch.{Branch}
-use Rattle.tb_walk.proofs.WalkLemmas.{are_there, looked}
+use Rattle.tb_walk.proofs.WalkLemmas.{are_there, found_seen, looked}
 use Rattle.tb_walk.proofs.walk.WalkWalker.look.Goals as goal
 
 pub look_row-requires : goal.look_row-requires
@@ -17,16 +14,12 @@ look_row-requires c =
     (are_there walk.ticks whole walk.row (left walk.ticks walk.row 0 whole) c.requires.reads)
 
 pub returns-in-Ok-clause-on : goal.returns-in-Ok-clause-on
-returns-in-Ok-clause-on c =
-    let base = c.args.self.now.store in
-    let os = offers_of (walking_of c.args.plan.now c.args.self.now) in
-    record {
-      reads = c.requires.reads;
-      found = λ fresh. found_kept c.args.plan.now.body.atoms c.args.now base c.swap.new.x os (looked c.args.plan.now c.args.self.now c.args.now c.as_slice-row.result.now c.look_row.new.found c.swap.new.x c.requires c.args.self.now.spare_is_empty c.as_slice-row.ensures c.in-Ok.ensures c.swap.ensures.x_after);
-    }
+returns-in-Ok-clause-on c = record {
+  reads = c.requires.reads;
+  found = λ fresh. (c.args.now, looked c.args.plan.now c.args.self.now c.args.now c.as_slice-row.result.now c.look_row.new.found c.swap.new.x c.args.self.now.spare_is_empty c.as_slice-row.ensures c.in-Ok.ensures c.swap.ensures.x_after);
+}
 
 pub returns-in-Ok-clause-seen : goal.returns-in-Ok-clause-seen
 returns-in-Ok-clause-seen c =
-    let base = c.args.self.now.store in
-    let os = offers_of (walking_of c.args.plan.now c.args.self.now) in
-    ap Some (found_seen c.args.plan.now.body.atoms c.args.now base c.swap.new.x os (looked c.args.plan.now c.args.self.now c.args.now c.as_slice-row.result.now c.look_row.new.found c.swap.new.x c.requires c.args.self.now.spare_is_empty c.as_slice-row.ensures c.in-Ok.ensures c.swap.ensures.x_after))
+    ap Some (found_seen c.args.plan.now c.args.self.now c.requires c.args.now c.swap.new.x
+    (looked c.args.plan.now c.args.self.now c.args.now c.as_slice-row.result.now c.look_row.new.found c.swap.new.x c.args.self.now.spare_is_empty c.as_slice-row.ensures c.in-Ok.ensures c.swap.ensures.x_after))

@@ -1,55 +1,27 @@
-use Rattle.std.proofs.Common.{◌≤◌, List, sym, subst, arith}
-use Rattle.std.proofs.lemmas.Option.{slice_get_within}
+use Rattle.std.proofs.Common.{List, sym, subst, ◌∙◌}
+use Rattle.std.proofs.lemmas.Result.{IfOk-weaker}
 use Rattle.tb_algebra.specs.Processes.{fresh}
-use Rattle.tb_algebra.specs.Helpers.OfferViews.{or_own}
-use Rattle.tb_walk.specs.Helpers.Goings.{counted}
-use Rattle.tb_walk.specs.Lefts.{left}
-use Rattle.tb_walk.specs.Helpers.Takings.{AreThere, IsPicked, IsSettled, Picks, row_of}
+use Rattle.tb_walk.specs.Helpers.Takings.{IsInRow, IsTakenBy}
 use Rattle.tb_walk.specs.declared.branch.Branch.{Branch}
-use Rattle.tb_walk.proofs.SettleLemmas.{taken_left}
-use Rattle.tb_walk.proofs.WalkLemmas.{are_there, count_of}
+use Rattle.tb_walk.proofs.SettleLemmas.{taken_found}
+use Rattle.tb_walk.proofs.WalkLemmas.{is_in_row, one_found}
 use Rattle.tb_walk.proofs.walk.WalkWalker.take.Goals as goal
 
-pub search_row-requires : goal.search_row-requires
-search_row-requires c =
-    let walk = c.args.self.now in
-    let whole = fresh c.args.plan.now.body.tree in
-    subst (λ (row : List Branch). AreThere whole walk.ticks row) (sym c.as_slice-row.ensures)
-    (are_there walk.ticks whole walk.row (left walk.ticks walk.row 0 whole) c.requires.on.reads)
-
-pub settled-requires-clause-within : goal.settled-requires-clause-within
-settled-requires-clause-within c =
-    let walk = c.args.self.now in
-    let row = c.as_slice-row.result.now in
-    let picks : Picks (fresh c.args.plan.now.body.tree) walk.ticks row walk.store c.args.k c.in-Taken.at (row_of c.in-Taken.going) (or_own c.in-Taken.own walk.store) = subst (IsPicked (fresh c.args.plan.now.body.tree) walk.ticks row walk.store c.args.k) c.in-Taken.is c.in_ok-at.ensures in
-    slice_get_within row c.in-Taken.at picks.one picks.here
-
-pub settled-requires-clause-there : goal.settled-requires-clause-there
-settled-requires-clause-there c = λ branch here.
+pub taken_by-requires : goal.taken_by-requires
+taken_by-requires c = λ one e.
     (let walk = c.args.self.now in
-    let whole = fresh c.args.plan.now.body.tree in
-    let there : AreThere whole walk.ticks c.as_slice-row.result.now = subst (λ (row : List Branch). AreThere whole walk.ticks row) (sym c.as_slice-row.ensures) (are_there walk.ticks whole walk.row (left walk.ticks walk.row 0 whole) c.requires.on.reads) in
-    (there c.in-Taken.at branch here).0)
+    let all = c.requires.on.found c.if-self.true in
+    subst (λ (row : List Branch). IsInRow (fresh c.args.plan.now.body.tree) row one) (sym c.as_slice.ensures)
+    (is_in_row c.args.plan.now walk c.requires.on all.0 walk.found all.1 c.args.k one (sym c.get.ensures.value ∙ e)))
 
-pub returns-in_ok-step-in-Taken : goal.returns-in_ok-step-in-Taken
-returns-in_ok-step-in-Taken c =
+pub returns-then-self : goal.returns-then-self
+returns-then-self c =
     let walk = c.args.self.now in
-    let whole = fresh c.args.plan.now.body.tree in
-    let inside = row_of c.in-Taken.going in
-    let own = or_own c.in-Taken.own walk.store in
-    let picks : Picks whole walk.ticks c.as_slice-row.result.now walk.store c.args.k c.in-Taken.at inside own = subst (IsPicked whole walk.ticks c.as_slice-row.result.now walk.store c.args.k) c.in-Taken.is c.in_ok-at.ensures in
-    let picked : Picks whole walk.ticks walk.row walk.store c.args.k c.in-Taken.at inside own = subst (λ (row : List Branch). Picks whole walk.ticks row walk.store c.args.k c.in-Taken.at inside own) c.as_slice-row.ensures picks in
-    let settled : IsSettled whole walk.ticks walk.row c.in-Taken.at inside c.in_ok-step-in-Taken.step = subst (λ (row : List Branch). IsSettled whole walk.ticks row c.in-Taken.at inside c.in_ok-step-in-Taken.step) c.as_slice-row.ensures c.in_ok-step-in-Taken.ensures in
+    let all = c.requires.on.found c.if-self.true in
+    let one = one_found c.args.plan.now walk c.requires.on all.0 walk.found all.1 c.args.k c.requires.within in
     record {
-      taken = taken_left c.args.plan.now walk c.args.k c.in-Taken.at inside (record { step = c.in_ok-step-in-Taken.step; own = c.in-Taken.own }) c.requires.on picked settled;
+      taken = IfOk-weaker c.taken_by.result _ _
+          (λ taken t. taken_found c.args.plan.now walk c.requires.on all.0 walk.found all.1 c.args.k one.0 taken one.1
+          (subst (λ (row : List Branch). IsTakenBy (fresh c.args.plan.now.body.tree) walk.ticks row one.0 taken) c.as_slice.ensures t))
+          (c.taken_by.ensures one.0 (c.get.ensures.value ∙ one.1));
     }
-
-pub returns-in-Past : goal.returns-in-Past
-returns-in-Past c =
-    let walk = c.args.self.now in
-    let whole = fresh c.args.plan.now.body.tree in
-    let past : counted whole walk.ticks walk.store c.as_slice-row.result.now ≤ c.args.k = subst (IsPicked whole walk.ticks c.as_slice-row.result.now walk.store c.args.k) c.in-Past.is c.in_ok-at.ensures in
-    let all : counted whole walk.ticks walk.store walk.row ≤ c.args.k = subst (λ (row : List Branch). counted whole walk.ticks walk.store row ≤ c.args.k) c.as_slice-row.ensures past in
-    let count = count_of c.args.plan.now walk c.requires.on in
-    let within = c.requires.within in
-    absurd (omega arith)

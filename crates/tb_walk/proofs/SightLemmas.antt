@@ -1,0 +1,405 @@
+-- What is seen of a part's atoms are its offers, and what is left of the part where one of them happens.
+use Rattle.std.proofs.Common.{◌≡◌, ℕ, zero, suc, ◌+◌, ◌-◌, ◌<◌, ◌≤◌, Bool, true, false, nat_lt, List, [], ◌∷◌, ◌++◌, map, length, slice_get, Option, Some, None, refl, ap, sym, subst, ◌∙◌, arith, ◌⊎◌, inl, inr}
+use Rattle.std.proofs.lemmas.List.{map-append}
+use Rattle.tb_terms.specs.declared.expr.Expr.{Expr}
+use Rattle.tb_func.specs.declared.slot.Slot.{Slot}
+use Rattle.tb_body.specs.declared.atom.Atom.{Atom}
+use Rattle.tb_algebra.specs.Helpers.Selections.{Selected, On, selected_at, selected_with, or_past}
+use Rattle.tb_algebra.specs.Offers.{Offered, offers, before, on_the_left, on_the_right, offers_if, offers_after, followed, left_of, right_of}
+use Rattle.tb_algebra.specs.Processes.{Process, At, Seq, Alt, Star, Par, If, When, Let}
+use Rattle.tb_algebra.specs.Reached.{IsNew}
+use Rattle.tb_algebra.specs.Helpers.Runnings.{waited}
+use Rattle.tb_algebra.specs.Settings.{tested, with_settings}
+use Rattle.tb_algebra.specs.Helpers.OfferViews.{OfferView, offer_view, offer_views}
+use Rattle.tb_algebra.proofs.EntryLemmas.{waited-At, waited-Seq, waited-Alt, waited-Par, waited-When, waited-If, waited-Let, star-offers}
+use Rattle.tb_algebra.proofs.SelectedLemmas.{at-append, at-map, with_left, then as followed_by, beside, along}
+use Rattle.tb_algebra.proofs.OfferViewLemmas.{offer_views-Seq, offer_views-Alt, offer_views-Par}
+use Rattle.tb_code.specs.Positions.{size, part, of_two}
+use Rattle.tb_walk.specs.Lefts as lefts
+use Rattle.tb_walk.specs.Helpers.Reads.{branch, Passes, one, other, leaves, then_side, else_side, when, set, Follows, sequence, turn, Reads, ended, waits, passes, follows, both, or_entered}
+use Rattle.tb_walk.specs.Helpers.Sights.{Sighting, Looking, sightings, sightings_if, sightings_after, sighting_at, row_by}
+use Rattle.tb_walk.specs.declared.branch.Branch.{Branch}
+use Rattle.tb_walk.proofs.Contexts.{entered-next, beside-left, beside-right}
+use Rattle.tb_walk.proofs.ReadLemmas.{ends_together, EndsTogether, length-mapped}
+use Rattle.tb_walk.proofs.Steps.{at-skip}
+use Rattle.tb_walk.proofs.TakeLemmas.{on_first_side, on_second_side}
+
+-- ages are 0 in each part
+
+new-two : (s i : ℕ) (x y : Process) → IsNew x → IsNew y → IsNew (of_two s i x y)
+new-two s i x y h k = by_cases (nat_lt i s) refl
+  where
+    by_cases : (b : Bool) → nat_lt i s ≡ b → IsNew (of_two s i x y)
+    by_cases true e = rw e h
+    by_cases false e = rw e k
+
+pub new-part : (w : Process) (at : ℕ) → IsNew w → IsNew (part w at)
+new-part w zero h = h
+new-part (At atom age) (suc at) h = h
+new-part (Seq x y) (suc at) h = new-two (size x) at (part x at) (part y (at - size x)) (new-part x at h.0) (new-part y (at - size x) h.1)
+new-part (Alt x y) (suc at) h = new-two (size x) at (part x at) (part y (at - size x)) (new-part x at h.0) (new-part y (at - size x) h.1)
+new-part (Star x y) (suc at) h = new-two (size x) at (part x at) (part y (at - size x)) (new-part x at h.0) (new-part y (at - size x) h.1)
+new-part (Par x y) (suc at) h = new-two (size x) at (part x at) (part y (at - size x)) (new-part x at h.0) (new-part y (at - size x) h.1)
+new-part (If test x y) (suc at) h = new-two (size x) at (part x at) (part y (at - size x)) (new-part x at h.0) (new-part y (at - size x) h.1)
+new-part (When test x) (suc at) h = new-part x at h
+new-part (Let settings x) (suc at) h = new-part x at h
+
+aged-At : (n atom age : ℕ) → age ≤ 0 → waited n (At atom age) ≡ At atom n
+aged-At n atom age h =
+    let z : age ≡ 0 = omega arith in
+    ap (λ (a : ℕ). waited n (At atom a)) z ∙ waited-At n atom
+
+-- what is seen are the offers, but for what is left then
+
+abbrev pub seen_of : Sighting → OfferView
+seen_of sighting = sighting.seen
+
+module _ (by : Looking) where
+  abbrev views : List Offered → List OfferView
+  views os = map (offer_view by.atoms by.now) os
+
+  views-before : (y : Process) (os : List Offered) → views (map (before y) os) ≡ views os
+  views-before y [] = refl
+  views-before y (o ∷ os) = ap (λ (rest : List OfferView). offer_view by.atoms by.now o ∷ rest) (views-before y os)
+
+  pub seen-two : (xs ys : List Sighting) (os ps : List OfferView) → map seen_of xs ≡ os → map seen_of ys ≡ ps → map seen_of (xs ++ ys) ≡ os ++ ps
+  seen-two xs ys os ps e f = map-append seen_of xs ys ∙ ap (λ (l : List OfferView). l ++ map seen_of ys) e ∙ ap (λ (l : List OfferView). os ++ l) f
+
+  seen-if : (says : Option Bool) (xs ys : List Sighting) (os ps : List Offered) → map seen_of xs ≡ views os → map seen_of ys ≡ views ps → map seen_of (sightings_if says xs ys) ≡ views (offers_if says os ps)
+  seen-if (Some true) xs ys os ps e f = e
+  seen-if (Some false) xs ys os ps e f = f
+  seen-if None xs ys os ps e f = refl
+
+  seen-after : (after : Option (List Slot)) (f : List Slot → List Sighting) (g : List Slot → List Offered) → ((store : List Slot) → map seen_of (f store) ≡ views (g store)) → map seen_of (sightings_after after f) ≡ views (offers_after after g)
+  seen-after None f g e = refl
+  seen-after (Some store) f g e = e store
+
+  pub seen-sightings : (at : ℕ) (w : Process) (store : List Slot) → IsNew w → map seen_of (sightings by at w store) ≡ offer_views by.atoms by.now (waited by.age w) store
+  unfolding offer_views
+  seen-sightings at (At atom age) store new = sym (ap (λ (p : Process). views (offers p store)) (aged-At by.age atom age new))
+  seen-sightings at (Seq x y) store new =
+      seen-sightings (suc at) x store new.0
+      ∙ sym (offer_views-Seq by.atoms by.now (waited by.age x) y store)
+      ∙ sym (ap (λ (p : Process). offer_views by.atoms by.now p store) (waited-Seq by.age x y))
+  seen-sightings at (Alt x y) store new =
+      seen-two (sightings by (suc at) x store) (sightings by (suc at + size x) y store) _ _ (seen-sightings (suc at) x store new.0) (seen-sightings (suc at + size x) y store new.1)
+      ∙ sym (offer_views-Alt by.atoms by.now (waited by.age x) (waited by.age y) store)
+      ∙ sym (ap (λ (p : Process). offer_views by.atoms by.now p store) (waited-Alt by.age x y))
+  seen-sightings at (Star x y) store new =
+      let first = offers (waited by.age x) store in
+      let second = offers (waited by.age y) store in
+      seen-two (sightings by (suc at) x store) (sightings by (suc at + size x) y store) _ _ (seen-sightings (suc at) x store new.0) (seen-sightings (suc at + size x) y store new.1)
+      ∙ ap (λ (l : List OfferView). l ++ views second) (sym (views-before (Star x y) first))
+      ∙ sym (map-append (offer_view by.atoms by.now) (map (before (Star x y)) first) second)
+      ∙ sym (ap views (star-offers by.age x y store))
+  seen-sightings at (Par x y) store new =
+      seen-two (sightings by (suc at) x store) (sightings by (suc at + size x) y store) _ _ (seen-sightings (suc at) x store new.0) (seen-sightings (suc at + size x) y store new.1)
+      ∙ sym (offer_views-Par by.atoms by.now (waited by.age x) (waited by.age y) store)
+      ∙ sym (ap (λ (p : Process). offer_views by.atoms by.now p store) (waited-Par by.age x y))
+  seen-sightings at (If test x y) store new =
+      seen-if (tested store test) (sightings by (suc at) x store) (sightings by (suc at + size x) y store) (offers (waited by.age x) store) (offers (waited by.age y) store)
+      (seen-sightings (suc at) x store new.0) (seen-sightings (suc at + size x) y store new.1)
+      ∙ sym (ap (λ (p : Process). offer_views by.atoms by.now p store) (waited-If by.age test x y))
+  seen-sightings at (When test x) store new =
+      seen-if (tested store test) (sightings by (suc at) x store) [] (offers (waited by.age x) store) [] (seen-sightings (suc at) x store new) refl
+      ∙ sym (ap (λ (p : Process). offer_views by.atoms by.now p store) (waited-When by.age test x))
+  seen-sightings at (Let settings x) store new =
+      seen-after (with_settings store settings) (sightings by (suc at) x) (offers (waited by.age x)) (λ own. seen-sightings (suc at) x own new)
+      ∙ sym (ap (λ (p : Process). offer_views by.atoms by.now p store) (waited-Let by.age settings x))
+
+  pub length-sightings : (at : ℕ) (w : Process) (store : List Slot) → IsNew w → length (sightings by at w store) ≡ length (offers (waited by.age w) store)
+  unfolding offer_views
+  length-sightings at w store new =
+      sym (length-mapped seen_of (sightings by at w store))
+      ∙ ap length (seen-sightings at w store new)
+      ∙ length-mapped (offer_view by.atoms by.now) (offers (waited by.age w) store)
+
+-- one of several that were seen
+
+pub split_get : (xs ys : List Sighting) (j : ℕ) (s : Sighting) → slice_get (xs ++ ys) j ≡ Some s → (slice_get xs j ≡ Some s) ⊎ ((i : ℕ) × ((j ≡ length xs + i) × (slice_get ys i ≡ Some s)))
+split_get [] ys j s e = inr (j, (omega arith, e))
+split_get (x ∷ xs) ys zero s e = inl e
+split_get (x ∷ xs) ys (suc j) s e = later (split_get xs ys j s e)
+  where
+    later : (slice_get xs j ≡ Some s) ⊎ ((i : ℕ) × ((j ≡ length xs + i) × (slice_get ys i ≡ Some s))) → (slice_get (x ∷ xs) (suc j) ≡ Some s) ⊎ ((i : ℕ) × ((suc j ≡ suc (length xs) + i) × (slice_get ys i ≡ Some s)))
+    later (inl h) = inl h
+    later (inr h) = inr (h.0, (let k = h.1.0 in omega arith, h.1.1))
+
+nothing_there : {A : Type 0} (j : ℕ) (s : Sighting) → slice_get [] j ≡ Some s → A
+nothing_there j s e = (let t : ◌≡◌ {A = Option Sighting} None (Some s) = e in cc)
+
+abbrev IsOfSide : List Sighting → List Sighting → List Offered → List Offered → List Offered → ℕ → Sighting → Type 0
+IsOfSide xs ys os ps all j s = ((slice_get xs j ≡ Some s) × (all ≡ os)) ⊎ ((slice_get ys j ≡ Some s) × (all ≡ ps))
+
+get_if : (says : Option Bool) (xs ys : List Sighting) (os ps : List Offered) (j : ℕ) (s : Sighting) → slice_get (sightings_if says xs ys) j ≡ Some s → IsOfSide xs ys os ps (offers_if says os ps) j s
+get_if (Some true) xs ys os ps j s e = inl (e, refl)
+get_if (Some false) xs ys os ps j s e = inr (e, refl)
+get_if None xs ys os ps j s e = nothing_there j s e
+
+get_after : (after : Option (List Slot)) (f : List Slot → List Sighting) (g : List Slot → List Offered) (j : ℕ) (s : Sighting) → slice_get (sightings_after after f) j ≡ Some s → (own : List Slot) × ((slice_get (f own) j ≡ Some s) × (offers_after after g ≡ g own))
+get_after None f g j s e = nothing_there j s e
+get_after (Some own) f g j s e = (own, (e, refl))
+
+-- where it stands
+
+module _ (by : Looking) where
+  abbrev pub IsOf : ℕ → ℕ → Sighting → Type 0
+  IsOf low high s = ((low ≤ s.position) × (s.position < high)) × (s.branch ≡ by.branch)
+
+  of_wider : (low high lower higher : ℕ) (s : Sighting) → lower ≤ low → high ≤ higher → IsOf low high s → IsOf lower higher s
+  of_wider low high lower higher s h k r = (let a = r.0.0 in let b = r.0.1 in ((omega arith, omega arith), r.1))
+
+  of_either : (low middle high : ℕ) (xs ys : List Sighting) (j : ℕ) (s : Sighting) → suc low ≤ middle → middle ≤ high → ((i : ℕ) → slice_get xs i ≡ Some s → IsOf (suc low) middle s) → ((i : ℕ) → slice_get ys i ≡ Some s → IsOf middle high s) →
+      (slice_get xs j ≡ Some s) ⊎ ((i : ℕ) × ((j ≡ length xs + i) × (slice_get ys i ≡ Some s))) → IsOf low high s
+  of_either low middle high xs ys j s a b f g (inl h) = of_wider (suc low) middle low high s (omega arith) (omega arith) (f j h)
+  of_either low middle high xs ys j s a b f g (inr h) = of_wider middle high low high s (omega arith) (omega arith) (g h.0 h.1.1)
+
+  of_if : (low middle high : ℕ) (xs ys : List Sighting) (j : ℕ) (s : Sighting) → suc low ≤ middle → middle ≤ high → ((i : ℕ) → slice_get xs i ≡ Some s → IsOf (suc low) middle s) → ((i : ℕ) → slice_get ys i ≡ Some s → IsOf middle high s) →
+      IsOfSide xs ys [] [] [] j s → IsOf low high s
+  of_if low middle high xs ys j s a b f g (inl h) = of_wider (suc low) middle low high s (omega arith) (omega arith) (f j h.0)
+  of_if low middle high xs ys j s a b f g (inr h) = of_wider middle high low high s (omega arith) (omega arith) (g j h.0)
+
+  sides : (says : Option Bool) (xs ys : List Sighting) (j : ℕ) (s : Sighting) → slice_get (sightings_if says xs ys) j ≡ Some s → IsOfSide xs ys [] [] [] j s
+  sides (Some true) xs ys j s e = inl (e, refl)
+  sides (Some false) xs ys j s e = inr (e, refl)
+  sides None xs ys j s e = nothing_there j s e
+
+  pub is_of : (at : ℕ) (w : Process) (store : List Slot) (j : ℕ) (s : Sighting) → slice_get (sightings by at w store) j ≡ Some s → IsOf at (at + size w) s
+  is_of at (At atom age) store zero s e =
+      let same : sighting_at by at atom store ≡ s = (let t : ◌≡◌ {A = Option Sighting} (Some (sighting_at by at atom store)) (Some s) = e in cc) in
+      subst (IsOf at (at + 1)) same ((omega arith, omega arith), refl)
+  is_of at (At atom age) store (suc j) s e = nothing_there j s e
+  is_of at (Seq x y) store j s e = of_wider (suc at) (suc at + size x) at (at + size (Seq x y)) s (omega arith) (omega arith) (is_of (suc at) x store j s e)
+  is_of at (Alt x y) store j s e =
+      of_either at (suc at + size x) (at + size (Alt x y)) (sightings by (suc at) x store) (sightings by (suc at + size x) y store) j s (omega arith) (omega arith)
+      (λ i h. is_of (suc at) x store i s h) (λ i h. of_wider (suc at + size x) (suc at + size x + size y) (suc at + size x) (at + size (Alt x y)) s (omega arith) (omega arith) (is_of (suc at + size x) y store i s h))
+      (split_get (sightings by (suc at) x store) (sightings by (suc at + size x) y store) j s e)
+  is_of at (Star x y) store j s e =
+      of_either at (suc at + size x) (at + size (Star x y)) (sightings by (suc at) x store) (sightings by (suc at + size x) y store) j s (omega arith) (omega arith)
+      (λ i h. is_of (suc at) x store i s h) (λ i h. of_wider (suc at + size x) (suc at + size x + size y) (suc at + size x) (at + size (Star x y)) s (omega arith) (omega arith) (is_of (suc at + size x) y store i s h))
+      (split_get (sightings by (suc at) x store) (sightings by (suc at + size x) y store) j s e)
+  is_of at (Par x y) store j s e =
+      of_either at (suc at + size x) (at + size (Par x y)) (sightings by (suc at) x store) (sightings by (suc at + size x) y store) j s (omega arith) (omega arith)
+      (λ i h. is_of (suc at) x store i s h) (λ i h. of_wider (suc at + size x) (suc at + size x + size y) (suc at + size x) (at + size (Par x y)) s (omega arith) (omega arith) (is_of (suc at + size x) y store i s h))
+      (split_get (sightings by (suc at) x store) (sightings by (suc at + size x) y store) j s e)
+  is_of at (If test x y) store j s e =
+      of_if at (suc at + size x) (at + size (If test x y)) (sightings by (suc at) x store) (sightings by (suc at + size x) y store) j s (omega arith) (omega arith)
+      (λ i h. is_of (suc at) x store i s h) (λ i h. of_wider (suc at + size x) (suc at + size x + size y) (suc at + size x) (at + size (If test x y)) s (omega arith) (omega arith) (is_of (suc at + size x) y store i s h))
+      (sides (tested store test) (sightings by (suc at) x store) (sightings by (suc at + size x) y store) j s e)
+  is_of at (When test x) store j s e =
+      of_if at (suc at + size x) (at + size (When test x)) (sightings by (suc at) x store) [] j s (omega arith) (omega arith)
+      (λ i h. is_of (suc at) x store i s h) (λ i h. nothing_there i s h)
+      (sides (tested store test) (sightings by (suc at) x store) [] j s e)
+  is_of at (Let settings x) store j s e =
+      let g = get_after (with_settings store settings) (sightings by (suc at) x) (λ own. []) j s e in
+      of_wider (suc at) (suc at + size x) at (at + size (Let settings x)) s (omega arith) (omega arith) (is_of (suc at) x g.0 j s g.1.0)
+
+-- what is left where it happens
+
+pub record Leaving (ticks at : ℕ) (w : Process) (row : List Branch) (j : ℕ) (os : List Offered) (own : List Slot) : Type 0 where
+  pub left : Option Process
+  pub selects : selected_at j os ≡ On left own
+  pub reads : Reads ticks at w row left
+
+leaving_as : (ticks at : ℕ) (w : Process) (row new : List Branch) (j : ℕ) (os all : List Offered) (own : List Slot) → new ≡ row → all ≡ os → Leaving ticks at w row j os own → Leaving ticks at w new j all own
+leaving_as ticks at w row new j os all own e f l = rw (e, f) l
+
+module _ (ticks at : ℕ) where
+  -- a part that is all that is left
+  leaving_part : (w x : Process) (at-x : ℕ) (row : List Branch) (j k : ℕ) (os all : List Offered) (own : List Slot) → Passes at w at-x x → (l : Leaving ticks at-x x row j os own) → selected_at k all ≡ On l.left own → Leaving ticks at w row k all own
+  leaving_part w x at-x row j k os all own p l h = by_end l.left l.reads (ends_together ticks l.reads) h
+    where
+      by_end : (left : Option Process) → Reads ticks at-x x row left → EndsTogether ticks row left → selected_at k all ≡ On left own → Leaving ticks at w row k all own
+      by_end left r (inl e) h = record { left = None; selects = h ∙ ap (λ (o : Option Process). On o own) e.1; reads = rw e.0 ended }
+      by_end left r (inr e) h =
+          let u = e.1.1.1.0 in
+          let inside = subst (λ (o : Option Process). Reads ticks at-x x row o) e.1.1.1.1 r in
+          record { left = Some u; selects = h ∙ ap (λ (o : Option Process). On o own) e.1.1.1.1; reads = passes at-x x p inside }
+
+  -- a first part, behind which something follows
+  leaving_first : (w x z : Process) (at-z : ℕ) (row : List Branch) (j k : ℕ) (os all : List Offered) (own : List Slot) → Follows at w x at-z z → (l : Leaving ticks (suc at) x row j os own) → selected_at k all ≡ On (Some (followed l.left z)) own → Leaving ticks at w (or_entered row (branch at-z ticks ∷ [])) k all own
+  leaving_first w x z at-z row j k os all own p l h = by_end l.left l.reads (ends_together ticks l.reads) h
+    where
+      by_end : (left : Option Process) → Reads ticks (suc at) x row left → EndsTogether ticks row left → selected_at k all ≡ On (Some (followed left z)) own → Leaving ticks at w (or_entered row (branch at-z ticks ∷ [])) k all own
+      by_end left r (inl e) h =
+          let same : or_entered row (branch at-z ticks ∷ []) ≡ branch at-z ticks ∷ [] = ap (λ (l : List Branch). or_entered l (branch at-z ticks ∷ [])) e.0 in
+          record {
+            left = Some z;
+            selects = h ∙ ap (λ (o : Option Process). On (Some (followed o z)) own) e.1;
+            reads = subst (λ (l : List Branch). Reads ticks at w l (Some z)) (sym same) (entered-next w ticks p);
+          }
+      by_end left r (inr e) h =
+          let u = e.1.1.1.0 in
+          let inside = subst (λ (o : Option Process). Reads ticks (suc at) x row o) e.1.1.1.1 r in
+          let stays : or_entered row (branch at-z ticks ∷ []) ≡ row = rw e.1.1.0 refl in
+          record {
+            left = Some (Seq u z);
+            selects = h ∙ ap (λ (o : Option Process). On (Some (followed o z)) own) e.1.1.1.1;
+            reads = subst (λ (l : List Branch). Reads ticks at w l (Some (Seq u z))) (sym stays) (follows x at-z z p inside);
+          }
+
+  -- a side of a merge
+  module _ (x y : Process) (entered : ℕ) (le : entered ≤ ticks) where
+    leaving_left : (row : List Branch) (j k : ℕ) (os all : List Offered) (own : List Slot) → (l : Leaving ticks (suc at) x row j os own) → selected_at k all ≡ On (Some (left_of l.left (waited (ticks - entered) y))) own → Leaving ticks at (Par x y) (row ++ branch (suc at + size x) entered ∷ []) k all own
+    leaving_left row j k os all own l h =
+        record {
+          left = lefts.beside l.left (Some (waited (ticks - entered) y));
+          selects = h ∙ ap (λ (o : Option Process). On o own) (beside-left l.left (waited (ticks - entered) y));
+          reads = both l.reads (waits entered le);
+        }
+
+    leaving_right : (row : List Branch) (j k : ℕ) (os all : List Offered) (own : List Slot) → (l : Leaving ticks (suc at + size x) y row j os own) → selected_at k all ≡ On (Some (right_of (waited (ticks - entered) x) l.left)) own → Leaving ticks at (Par x y) (branch (suc at) entered ∷ row) k all own
+    leaving_right row j k os all own l h =
+        record {
+          left = lefts.beside (Some (waited (ticks - entered) x)) l.left;
+          selects = h ∙ ap (λ (o : Option Process). On o own) (beside-right (waited (ticks - entered) x) l.left);
+          reads = both (waits entered le) l.reads;
+        }
+
+-- one of the first offers, and one of those behind them
+
+at-first : (f : Option Process → Option Process) (j : ℕ) (os ps : List Offered) (left : Option Process) (own : List Slot) → selected_at j os ≡ On left own → selected_at j (map (with_left f) os ++ ps) ≡ On (f left) own
+at-first f j os ps left own h =
+    at-append j (map (with_left f) os) ps
+    ∙ ap (λ (g : Selected). or_past g (λ rest. selected_at rest ps)) (at-map f j os ∙ ap (selected_with f) h)
+
+plain-first : (j : ℕ) (os ps : List Offered) (left : Option Process) (own : List Slot) → selected_at j os ≡ On left own → selected_at j (os ++ ps) ≡ On left own
+plain-first j os ps left own h = at-append j os ps ∙ ap (λ (g : Selected). or_past g (λ rest. selected_at rest ps)) h
+
+behind-all : (j i n : ℕ) (os ps : List Offered) (left : Option Process) (own : List Slot) → j ≡ n + i → n ≡ length os → selected_at i ps ≡ On left own → selected_at j (os ++ ps) ≡ On left own
+behind-all j i n os ps left own e f h = (let k : j ≡ length os + i = omega arith in ap (λ (m : ℕ). selected_at m (os ++ ps)) k ∙ at-skip i os ps ∙ h)
+
+module _ (atoms : List Atom) (now index ticks entered : ℕ) (le : entered ≤ ticks) where
+  abbrev by : Looking
+  by = record { atoms = atoms; branch = index; age = ticks - entered; now = now }
+
+  abbrev aged : Process → Process
+  aged w = waited (ticks - entered) w
+
+  abbrev by_row : ℕ → Process → Sighting → List Branch
+  by_row at w s = row_by ticks entered at w s.position
+
+  abbrev Leaves : ℕ → Process → List Slot → ℕ → Sighting → Type 0
+  Leaves at w store j s = Leaving ticks at w (by_row at w s) j (offers (aged w) store) s.seen.store
+
+  abbrev Each : ℕ → Process → List Slot → Sighting → Type 0
+  Each at w store s = (i : ℕ) → slice_get (sightings by at w store) i ≡ Some s → Leaves at w store i s
+
+  abbrev Split : ℕ → Process → Process → List Slot → ℕ → Sighting → Type 0
+  Split at x y store j s =
+      (slice_get (sightings by (suc at) x store) j ≡ Some s)
+      ⊎ ((i : ℕ) × ((j ≡ length (sightings by (suc at) x store) + i) × (slice_get (sightings by (suc at + size x) y store) i ≡ Some s)))
+
+  leaving_alt : (at : ℕ) (x y : Process) (store : List Slot) (j : ℕ) (s : Sighting) → IsNew x → Each (suc at) x store s → Each (suc at + size x) y store s → Split at x y store j s → Leaves at (Alt x y) store j s
+  leaving_alt at x y store j s new f g (inl h) =
+      let l = f j h in
+      let all = offers (aged (Alt x y)) store in
+      leaving_as ticks at (Alt x y) (by_row (suc at) x s) (by_row at (Alt x y) s) j all all s.seen.store
+      (on_first_side s.position (suc at + size x) (by_row (suc at) x s) (by_row (suc at + size x) y s) (is_of by (suc at) x store j s h).0.1) refl
+      (leaving_part ticks at (Alt x y) x (suc at) (by_row (suc at) x s) j j (offers (aged x) store) all s.seen.store one l
+      (ap (λ (p : Process). selected_at j (offers p store)) (waited-Alt (ticks - entered) x y) ∙ plain-first j (offers (aged x) store) (offers (aged y) store) l.left s.seen.store l.selects))
+  leaving_alt at x y store j s new f g (inr h) =
+      let l = g h.0 h.1.1 in
+      let all = offers (aged (Alt x y)) store in
+      leaving_as ticks at (Alt x y) (by_row (suc at + size x) y s) (by_row at (Alt x y) s) j all all s.seen.store
+      (on_second_side s.position (suc at + size x) (by_row (suc at) x s) (by_row (suc at + size x) y s) (is_of by (suc at + size x) y store h.0 s h.1.1).0.0) refl
+      (leaving_part ticks at (Alt x y) y (suc at + size x) (by_row (suc at + size x) y s) h.0 j (offers (aged y) store) all s.seen.store other l
+      (ap (λ (p : Process). selected_at j (offers p store)) (waited-Alt (ticks - entered) x y)
+      ∙ behind-all j h.0 (length (sightings by (suc at) x store)) (offers (aged x) store) (offers (aged y) store) l.left s.seen.store h.1.0 (length-sightings by (suc at) x store new) l.selects))
+
+  leaving_star : (at : ℕ) (x y : Process) (store : List Slot) (j : ℕ) (s : Sighting) → IsNew x → Each (suc at) x store s → Each (suc at + size x) y store s → Split at x y store j s → Leaves at (Star x y) store j s
+  leaving_star at x y store j s new f g (inl h) =
+      let l = f j h in
+      let all = offers (aged (Star x y)) store in
+      leaving_as ticks at (Star x y) (or_entered (by_row (suc at) x s) (branch at ticks ∷ [])) (by_row at (Star x y) s) j all all s.seen.store
+      (on_first_side s.position (suc at + size x) (or_entered (by_row (suc at) x s) (branch at ticks ∷ [])) (by_row (suc at + size x) y s) (is_of by (suc at) x store j s h).0.1) refl
+      (leaving_first ticks at (Star x y) x (Star x y) at (by_row (suc at) x s) j j (offers (aged x) store) all s.seen.store turn l
+      (ap (selected_at j) (star-offers (ticks - entered) x y store) ∙ at-first (followed_by (Star x y)) j (offers (aged x) store) (offers (aged y) store) l.left s.seen.store l.selects))
+  leaving_star at x y store j s new f g (inr h) =
+      let l = g h.0 h.1.1 in
+      let all = offers (aged (Star x y)) store in
+      let first = map (before (Star x y)) (offers (aged x) store) in
+      leaving_as ticks at (Star x y) (by_row (suc at + size x) y s) (by_row at (Star x y) s) j all all s.seen.store
+      (on_second_side s.position (suc at + size x) (or_entered (by_row (suc at) x s) (branch at ticks ∷ [])) (by_row (suc at + size x) y s) (is_of by (suc at + size x) y store h.0 s h.1.1).0.0) refl
+      (leaving_part ticks at (Star x y) y (suc at + size x) (by_row (suc at + size x) y s) h.0 j (offers (aged y) store) all s.seen.store leaves l
+      (ap (selected_at j) (star-offers (ticks - entered) x y store)
+      ∙ behind-all j h.0 (length (sightings by (suc at) x store)) first (offers (aged y) store) l.left s.seen.store h.1.0
+      (length-sightings by (suc at) x store new ∙ sym (length-mapped (before (Star x y)) (offers (aged x) store))) l.selects))
+
+  leaving_par : (at : ℕ) (x y : Process) (store : List Slot) (j : ℕ) (s : Sighting) → IsNew x → Each (suc at) x store s → Each (suc at + size x) y store s → Split at x y store j s → Leaves at (Par x y) store j s
+  leaving_par at x y store j s new f g (inl h) =
+      let l = f j h in
+      let all = offers (aged (Par x y)) store in
+      let row = by_row (suc at) x s ++ branch (suc at + size x) entered ∷ [] in
+      leaving_as ticks at (Par x y) row (by_row at (Par x y) s) j all all s.seen.store
+      (on_first_side s.position (suc at + size x) row (branch (suc at) entered ∷ by_row (suc at + size x) y s) (is_of by (suc at) x store j s h).0.1) refl
+      (leaving_left ticks at x y entered le (by_row (suc at) x s) j j (offers (aged x) store) all s.seen.store l
+      (ap (λ (p : Process). selected_at j (offers p store)) (waited-Par (ticks - entered) x y)
+      ∙ at-first (beside (aged y)) j (offers (aged x) store) (map (on_the_right (aged x)) (offers (aged y) store)) l.left s.seen.store l.selects))
+  leaving_par at x y store j s new f g (inr h) =
+      let l = g h.0 h.1.1 in
+      let all = offers (aged (Par x y)) store in
+      let row = branch (suc at) entered ∷ by_row (suc at + size x) y s in
+      let first = map (on_the_left (aged y)) (offers (aged x) store) in
+      leaving_as ticks at (Par x y) row (by_row at (Par x y) s) j all all s.seen.store
+      (on_second_side s.position (suc at + size x) (by_row (suc at) x s ++ branch (suc at + size x) entered ∷ []) row (is_of by (suc at + size x) y store h.0 s h.1.1).0.0) refl
+      (leaving_right ticks at x y entered le (by_row (suc at + size x) y s) h.0 j (offers (aged y) store) all s.seen.store l
+      (ap (λ (p : Process). selected_at j (offers p store)) (waited-Par (ticks - entered) x y)
+      ∙ behind-all j h.0 (length (sightings by (suc at) x store)) first (map (on_the_right (aged x)) (offers (aged y) store)) (along (aged x) l.left) s.seen.store h.1.0
+      (length-sightings by (suc at) x store new ∙ sym (length-mapped (on_the_left (aged y)) (offers (aged x) store)))
+      (at-map (along (aged x)) h.0 (offers (aged y) store) ∙ ap (selected_with (along (aged x))) l.selects)))
+
+  leaving_if : (at : ℕ) (test : Expr) (x y : Process) (store : List Slot) (j : ℕ) (s : Sighting) → Each (suc at) x store s → Each (suc at + size x) y store s →
+      IsOfSide (sightings by (suc at) x store) (sightings by (suc at + size x) y store) (offers (aged x) store) (offers (aged y) store) (offers_if (tested store test) (offers (aged x) store) (offers (aged y) store)) j s → Leaves at (If test x y) store j s
+  leaving_if at test x y store j s f g (inl h) =
+      let l = f j h.0 in
+      let all = offers (aged (If test x y)) store in
+      leaving_as ticks at (If test x y) (by_row (suc at) x s) (by_row at (If test x y) s) j all all s.seen.store
+      (on_first_side s.position (suc at + size x) (by_row (suc at) x s) (by_row (suc at + size x) y s) (is_of by (suc at) x store j s h.0).0.1) refl
+      (leaving_part ticks at (If test x y) x (suc at) (by_row (suc at) x s) j j (offers (aged x) store) all s.seen.store then_side l
+      (ap (λ (p : Process). selected_at j (offers p store)) (waited-If (ticks - entered) test x y) ∙ ap (selected_at j) h.1 ∙ l.selects))
+  leaving_if at test x y store j s f g (inr h) =
+      let l = g j h.0 in
+      let all = offers (aged (If test x y)) store in
+      leaving_as ticks at (If test x y) (by_row (suc at + size x) y s) (by_row at (If test x y) s) j all all s.seen.store
+      (on_second_side s.position (suc at + size x) (by_row (suc at) x s) (by_row (suc at + size x) y s) (is_of by (suc at + size x) y store j s h.0).0.0) refl
+      (leaving_part ticks at (If test x y) y (suc at + size x) (by_row (suc at + size x) y s) j j (offers (aged y) store) all s.seen.store else_side l
+      (ap (λ (p : Process). selected_at j (offers p store)) (waited-If (ticks - entered) test x y) ∙ ap (selected_at j) h.1 ∙ l.selects))
+
+  leaving_when : (at : ℕ) (test : Expr) (x : Process) (store : List Slot) (j : ℕ) (s : Sighting) → Each (suc at) x store s →
+      IsOfSide (sightings by (suc at) x store) [] (offers (aged x) store) [] (offers_if (tested store test) (offers (aged x) store) []) j s → Leaves at (When test x) store j s
+  leaving_when at test x store j s f (inl h) =
+      let l = f j h.0 in
+      leaving_part ticks at (When test x) x (suc at) (by_row (suc at) x s) j j (offers (aged x) store) (offers (aged (When test x)) store) s.seen.store when l
+      (ap (λ (p : Process). selected_at j (offers p store)) (waited-When (ticks - entered) test x) ∙ ap (selected_at j) h.1 ∙ l.selects)
+  leaving_when at test x store j s f (inr h) = nothing_there j s h.0
+
+  pub leaving : (at : ℕ) (w : Process) (store : List Slot) (j : ℕ) (s : Sighting) → IsNew w → slice_get (sightings by at w store) j ≡ Some s → Leaves at w store j s
+  leaving at (At atom age) store zero s new e =
+      let same : sighting_at by at atom store ≡ s = (let t : ◌≡◌ {A = Option Sighting} (Some (sighting_at by at atom store)) (Some s) = e in cc) in
+      record {
+        left = None;
+        selects = ap (λ (p : Process). selected_at 0 (offers p store)) (aged-At (ticks - entered) atom age new) ∙ ap (λ (t : Sighting). On None t.seen.store) same;
+        reads = ended;
+      }
+  leaving at (At atom age) store (suc j) s new e = nothing_there j s e
+  leaving at (Seq x y) store j s new e =
+      let l = leaving (suc at) x store j s new.0 e in
+      leaving_first ticks at (Seq x y) x y (suc at + size x) (by_row (suc at) x s) j j (offers (aged x) store) (offers (aged (Seq x y)) store) s.seen.store sequence l
+      (ap (λ (p : Process). selected_at j (offers p store)) (waited-Seq (ticks - entered) x y) ∙ at-map (followed_by y) j (offers (aged x) store) ∙ ap (selected_with (followed_by y)) l.selects)
+  leaving at (Alt x y) store j s new e =
+      leaving_alt at x y store j s new.0 (λ i h. leaving (suc at) x store i s new.0 h) (λ i h. leaving (suc at + size x) y store i s new.1 h) (split_get (sightings by (suc at) x store) (sightings by (suc at + size x) y store) j s e)
+  leaving at (Star x y) store j s new e =
+      leaving_star at x y store j s new.0 (λ i h. leaving (suc at) x store i s new.0 h) (λ i h. leaving (suc at + size x) y store i s new.1 h) (split_get (sightings by (suc at) x store) (sightings by (suc at + size x) y store) j s e)
+  leaving at (Par x y) store j s new e =
+      leaving_par at x y store j s new.0 (λ i h. leaving (suc at) x store i s new.0 h) (λ i h. leaving (suc at + size x) y store i s new.1 h) (split_get (sightings by (suc at) x store) (sightings by (suc at + size x) y store) j s e)
+  leaving at (If test x y) store j s new e =
+      leaving_if at test x y store j s (λ i h. leaving (suc at) x store i s new.0 h) (λ i h. leaving (suc at + size x) y store i s new.1 h)
+      (get_if (tested store test) (sightings by (suc at) x store) (sightings by (suc at + size x) y store) (offers (aged x) store) (offers (aged y) store) j s e)
+  leaving at (When test x) store j s new e =
+      leaving_when at test x store j s (λ i h. leaving (suc at) x store i s new h) (get_if (tested store test) (sightings by (suc at) x store) [] (offers (aged x) store) [] j s e)
+  leaving at (Let settings x) store j s new e =
+      let g = get_after (with_settings store settings) (sightings by (suc at) x) (offers (aged x)) j s e in
+      let l = leaving (suc at) x g.0 j s new g.1.0 in
+      leaving_part ticks at (Let settings x) x (suc at) (by_row (suc at) x s) j j (offers (aged x) g.0) (offers (aged (Let settings x)) store) s.seen.store set l
+      (ap (λ (p : Process). selected_at j (offers p store)) (waited-Let (ticks - entered) settings x) ∙ ap (selected_at j) g.1.1 ∙ l.selects)

@@ -1,0 +1,109 @@
+-- What is seen of the atoms that may be next, each with its branch and the position of its atom; and the row that is left of a part by that position.
+use Rattle.std.specs.Prelude.{◌≡◌, ℕ, suc, ◌+◌, ◌-◌, Bool, true, false, nat_lt, List, [], ◌∷◌, ◌++◌, Option, Some, None, if◌then◌else◌, ⊤}
+use Rattle.tb_func.specs.declared.slot.Slot.{Slot}
+use Rattle.tb_body.specs.declared.atom.Atom.{Atom}
+use Rattle.tb_algebra.specs.Atoms.{is_ready, times_of}
+use Rattle.tb_algebra.specs.Processes.{Process, At, Seq, Alt, Star, Par, If, When, Let}
+use Rattle.tb_algebra.specs.Settings.{tested, with_settings}
+use Rattle.tb_algebra.specs.Helpers.OfferViews.{OfferView, or_own}
+use Rattle.tb_algebra.specs.declared.offer.Offer.{Offer}
+use Rattle.tb_code.specs.Positions.{size, part}
+use Rattle.tb_walk.specs.Helpers.Reads.{branch, or_entered}
+use Rattle.tb_walk.specs.declared.branch.Branch.{Branch}
+use Rattle.tb_walk.specs.declared.look.Clock.{Clock}
+use Rattle.tb_walk.specs.declared.sight.Sight.{Sight}
+use Rattle.tb_walk.specs.declared.take.Behind.{Behind}
+use Rattle.tb_walk.specs.declared.take.Behind.TheVariants as behind
+
+-- an offer, the index of its branch, and where its atom stands
+pub record Sighting : Type 0 where
+  pub branch : ℕ
+  pub position : ℕ
+  pub seen : OfferView
+
+abbrev pub offer_of : Sight → Offer
+offer_of sight = record { atom = sight.atom; age = sight.age; ready = sight.ready }
+
+-- what was found, in a process with this store
+abbrev pub sighted : List Slot → Sight → Sighting
+sighted base sight = record {
+  branch = sight.branch;
+  position = sight.position;
+  seen = record { atom = sight.atom; age = sight.age; ready = sight.ready; store = or_own sight.own base };
+}
+
+-- what a look goes by: the atoms, the index of the branch, how long it has waited, and the ticks of the bus
+pub record Looking : Type 0 where
+  pub atoms : List Atom
+  pub branch : ℕ
+  pub age : ℕ
+  pub now : ℕ
+
+abbrev pub looking : List Atom → Clock → Looking
+looking atoms clock = record { atoms = atoms; branch = clock.branch; age = clock.ticks - clock.entered; now = clock.bus }
+
+abbrev pub sighting_at : Looking → ℕ → ℕ → List Slot → Sighting
+sighting_at by at atom store = record {
+  branch = by.branch;
+  position = at;
+  seen = record { atom = atom; age = by.age; ready = is_ready store by.age by.now (times_of by.atoms atom); store = store };
+}
+
+abbrev pub sightings_if : Option Bool → List Sighting → List Sighting → List Sighting
+sightings_if (Some true) then_side else_side = then_side
+sightings_if (Some false) then_side else_side = else_side
+sightings_if None then_side else_side = []
+
+abbrev pub sightings_after : Option (List Slot) → (List Slot → List Sighting) → List Sighting
+sightings_after None f = []
+sightings_after (Some store) f = f store
+
+-- What is seen of a part that was entered as a whole and whose positions begin here.
+abbrev pub sightings : Looking → ℕ → Process → List Slot → List Sighting
+sightings by at (At atom age) store = sighting_at by at atom store ∷ []
+sightings by at (Seq x y) store = sightings by (suc at) x store
+sightings by at (Alt x y) store = sightings by (suc at) x store ++ sightings by (suc at + size x) y store
+sightings by at (Star x y) store = sightings by (suc at) x store ++ sightings by (suc at + size x) y store
+sightings by at (Par x y) store = sightings by (suc at) x store ++ sightings by (suc at + size x) y store
+sightings by at (If test x y) store = sightings_if (tested store test) (sightings by (suc at) x store) (sightings by (suc at + size x) y store)
+sightings by at (When test x) store = sightings_if (tested store test) (sightings by (suc at) x store) []
+sightings by at (Let settings x) store = sightings_after (with_settings store settings) (sightings by (suc at) x)
+
+abbrev pub branch_sightings : Process → List Atom → ℕ → ℕ → List Slot → ℕ → Branch → List Sighting
+branch_sightings whole atoms now ticks store at branch =
+    sightings (record { atoms = atoms; branch = at; age = ticks - branch.entered; now = now }) branch.position (part whole branch.position) store
+
+-- what is seen of a row's branches, whose first has this index
+abbrev pub row_sightings : Process → List Atom → ℕ → ℕ → List Slot → ℕ → List Branch → List Sighting
+row_sightings whole atoms now ticks store at [] = []
+row_sightings whole atoms now ticks store at (branch ∷ row) =
+    branch_sightings whole atoms now ticks store at branch ++ row_sightings whole atoms now ticks store (suc at) row
+
+-- The row that is left of a part that was entered as a whole, and whose positions begin here, where the atom at this position happens.
+-- What follows is entered now, and the other side of a merge goes on waiting.
+abbrev pub row_by : ℕ → ℕ → ℕ → Process → ℕ → List Branch
+row_by ticks entered at (At atom age) to = []
+row_by ticks entered at (Seq x y) to = or_entered (row_by ticks entered (suc at) x to) (branch (suc at + size x) ticks ∷ [])
+row_by ticks entered at (Alt x y) to = if nat_lt to (suc at + size x) then row_by ticks entered (suc at) x to else row_by ticks entered (suc at + size x) y to
+row_by ticks entered at (Star x y) to =
+    if nat_lt to (suc at + size x) then or_entered (row_by ticks entered (suc at) x to) (branch at ticks ∷ []) else row_by ticks entered (suc at + size x) y to
+row_by ticks entered at (Par x y) to =
+    if nat_lt to (suc at + size x) then row_by ticks entered (suc at) x to ++ branch (suc at + size x) entered ∷ [] else branch (suc at) entered ∷ row_by ticks entered (suc at + size x) y to
+row_by ticks entered at (If test x y) to = if nat_lt to (suc at + size x) then row_by ticks entered (suc at) x to else row_by ticks entered (suc at + size x) y to
+row_by ticks entered at (When test x) to = row_by ticks entered (suc at) x to
+row_by ticks entered at (Let settings x) to = row_by ticks entered (suc at) x to
+
+-- that of the part of a branch
+abbrev pub branch_by : Process → ℕ → Branch → ℕ → List Branch
+branch_by whole ticks branch to = row_by ticks branch.entered branch.position (part whole branch.position) to
+
+abbrev pub entering : ℕ → Behind → List Branch
+entering ticks behind.Ended = []
+entering ticks (behind.Entered position) = branch position ticks ∷ []
+entering ticks behind.Parted = []
+
+-- What comes of the part at a position, where it is known what comes once it has ended. A merge on the way may leave any row.
+abbrev pub GoesOn : Process → ℕ → ℕ → Behind → Behind → Type 0
+GoesOn whole at to so_far behind.Ended = (ticks entered : ℕ) → or_entered (row_by ticks entered at (part whole at) to) (entering ticks so_far) ≡ []
+GoesOn whole at to so_far (behind.Entered position) = (ticks entered : ℕ) → or_entered (row_by ticks entered at (part whole at) to) (entering ticks so_far) ≡ branch position ticks ∷ []
+GoesOn whole at to so_far behind.Parted = ⊤
