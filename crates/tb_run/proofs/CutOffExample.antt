@@ -61,9 +61,11 @@ use Rattle.tb_log.specs.LogText.{log_text}
 use Rattle.tb_core.specs.Cores.{says_quiet}
 use Rattle.tb_lock.specs.Histories.{IsSparse}
 use Rattle.tb_run.specs.Workers.{AreLines, cut_count}
-use Rattle.tb_run.specs.Clocks.{ClockRan, TimeIs}
-use Rattle.tb_run.specs.Outcomes.{LaneView, LaneRan, EachLane, IsDone}
-use Rattle.tb_run.proofs.Examples.{plain, root, seen, finish, tool, holding, Leads, stays, did, quiet, came, gave, sparse, from_start, empty-lane, idle, at_end, silent-lanes, one_lane, clock_of}
+use Rattle.tb_run.specs.Clocks.{ClockRan}
+use Rattle.tb_run.specs.declared.ends.RunWhy.TheVariants.{Ended}
+use Rattle.tb_core.specs.Cores.{CoreState}
+use Rattle.tb_run.specs.Outcomes.{LaneView, LaneRan, EachLane, IsDone, OutsideView, Runs}
+use Rattle.tb_run.proofs.Examples.{plain, root, seen, finish, tool, holding, Leads, stays, did, quiet, came, gave, sparse, from_start, empty-lane, idle, at_end, silent-lanes, one_lane, clock_of, before, afterwards, core_of, no-ticks, not-over}
 
 -- the name of the tool, and its command
 abbrev pub t : List ℕ
@@ -258,32 +260,85 @@ tool-ran = record {
 pub lanes-ran : EachLane (LaneRan cutting_log) 1 (one_lane idle idle) (one_lane tool_end (at_end [] [] 0))
 lanes-ran = (tool-ran, silent-lanes cutting_log 2 15 refl)
 
-no-ticks-come : TimeIs cutting_log
-no-ticks-come = record {
-  first = [];
-  tail = Fed input.NoTicks (Dropped why.Down) ∷ [];
-  is = refl;
-  ticks = tt;
-  last = inr (Dropped why.Down, refl);
-}
-
 pub clock-ran : ClockRan cutting_log 36000 (clock_of false) (clock_of true) ⊥
 clock-ran = record {
   ended = true;
   told = refl;
   within = omega arith;
-  time = no-ticks-come;
+  time = no-ticks cutting_log (Dropped why.Down) refl;
   why = inr (inl refl);
   end = inl (inl refl);
 }
 
+abbrev pub cutting_text : List ℕ
+cutting_text = codes "1 execute 1.1 t(1)\n2 out 1 start \"t\"\n3 snd-do 1.2 t(1),a\n4 out 1 rec-do(a)\n5 snd-do 1.3 t(1),b\n6 out 1 rec-do(b)\n7 cut 1\n8 out 1 end\n9 rec-disconnect 1.4 t(1)\n10 finish\n11 drop down gone 1\n12 drop down noticks\n"
+
+tool-text : term_text (tool t 1) ≡ codes "t(1)"
+unfolding digits
+tool-text = search (rules, term_lemmas)
+
+a-text : term_text (word (codes "a")) ≡ codes "a"
+a-text = search (rules, term_lemmas)
+
+b-text : term_text (word (codes "b")) ≡ codes "b"
+b-text = search (rules, term_lemmas)
+
+other-text : term_text (term.Appl (codes "rec-do") (word (codes "b") ∷ [])) ≡ codes "rec-do(b)"
+other-text = search (rules, term_lemmas)
+
+put-text : log_text cutting_log ≡ cutting_text
+unfolding digits
+put-text = simp (tool-text, a-text, b-text, do-text, other-text)
+
+-- the outside after the run, where the tool's lane shows this
+abbrev pub after_cut : LaneView → OutsideView
+after_cut lane = afterwards (one_lane lane (at_end [] [] 0)) cutting_text
+
+abbrev pub back : CoreState
+back = core_of cutting cutting_log
+
+-- such a run went to its end
+pub cutting-run : Runs 36000 before (after_cut tool_end) cutting back Ended
+cutting-run = record {
+  origin_is = refl;
+  history = record { trace = cutting-leads.trace; sparse = cutting-sparse };
+  within = omega arith;
+  outcome = (ap (λ (text : List ℕ). Some text) (sym put-text), lanes-ran, clock-ran, cutting-done);
+}
+
+abbrev uncut : List Taken
+uncut = taken.Start t ∷ taken.Line (codes "rec-do(a)") ∷ taken.Line (codes "rec-do(b)") ∷ taken.End ∷ []
+
 -- the outlet took what was cut off
-pub none-uncut : LaneRan cutting_log 1 idle (record tool_end { took = Some (taken.Start t ∷ taken.Line (codes "rec-do(a)") ∷ taken.Line (codes "rec-do(b)") ∷ taken.End ∷ []) }) → ⊥
-none-uncut ran =
-    let e : ◌≡◌ {A = Option (List Taken)} (Some (taken.Start t ∷ taken.Line (codes "rec-do(a)") ∷ taken.Line (codes "rec-do(b)") ∷ taken.End ∷ [])) (Some taken_by_tool) =
-        ran.took ∙ ap (λ (takes : List Taken). Some takes) taken-all in
+pub none-uncut : Runs 36000 before (after_cut (record tool_end { took = Some uncut })) cutting back Ended → ⊥
+none-uncut runs =
+    let e : ◌≡◌ {A = Option (List Taken)} (Some uncut) (Some taken_by_tool) = runs.outcome.1.0.took ∙ ap (λ (takes : List Taken). Some takes) taken-all in
     let same : ◌≡◌ {A = Taken} (taken.Line (codes "rec-do(b)")) taken.End = cc in cc
 
 -- its count of faults didn't rise
-pub none-unfailed : LaneRan cutting_log 1 idle (record tool_end { faults = 0 }) → ⊥
-none-unfailed ran = elim ran.cuts [ inl rose ↦ absurd (omega (arith, rose)) | inr last ↦ absurd (omega (arith, last)) ]
+pub none-unfailed : Runs 36000 before (after_cut (record tool_end { faults = 0 })) cutting back Ended → ⊥
+none-unfailed runs = elim runs.outcome.1.0.cuts [ inl rose ↦ absurd (omega (arith, rose)) | inr last ↦ absurd (omega (arith, last)) ]
+
+-- the log doesn't say that the line was cut off
+abbrev unsaid : List Entry
+unsaid =
+    Gave 1 (out.Start t)
+    ∷ Gave 1 (do_line (codes "a"))
+    ∷ Gave 1 (do_line (codes "b"))
+    ∷ Gave 1 out.End
+    ∷ Fed (input.Gone 1) (Dropped why.Down)
+    ∷ []
+
+unsaid-taken : map taken_of (sent unsaid 1) ≡ uncut
+unsaid-taken =
+    ap (λ (text : List ℕ). taken.Start t ∷ taken.Line text ∷ taken.Line (term_text (term.Appl (codes "rec-do") (word (codes "b") ∷ []))) ∷ taken.End ∷ []) do-text
+    ∙ ap (λ (text : List ℕ). taken.Start t ∷ taken.Line (codes "rec-do(a)") ∷ taken.Line text ∷ taken.End ∷ []) other-text
+
+pub none-unsaid : LaneRan unsaid 1 idle tool_end → ⊥
+none-unsaid ran =
+    let e : ◌≡◌ {A = Option (List Taken)} (Some taken_by_tool) (Some uncut) = ran.took ∙ ap (λ (takes : List Taken). Some takes) unsaid-taken in
+    let same : ◌≡◌ {A = Taken} taken.End (taken.Line (codes "rec-do(b)")) = cc in cc
+
+-- the inlet isn't over, and the log has nothing of it that was dropped since the bus was down
+pub none-unread : (gives : List Given) (takes : List Taken) (faults : ℕ) → LaneRan before_gone 1 idle (record { gave = Some (record { gave = gives; over = false }); took = Some takes; faults = faults }) → ⊥
+none-unread gives takes faults = not-over before_gone 1 gives takes faults refl

@@ -1,5 +1,5 @@
 -- A run that is worked out: two tools are asked beside each other, and answer.
-use Rattle.std.proofs.Common.{◌≡◌, ℕ, ◌≤◌, ◌++◌, pos, List, [], ◌∷◌, inl, inr, replicate, refl, ap, sym, ◌∙◌, subst, arith, codes, false, true, rules, Option, Some, None, Bool}
+use Rattle.std.proofs.Common.{◌≡◌, ℕ, ◌≤◌, ◌++◌, ℤ, pos, List, [], ◌∷◌, inl, inr, replicate, refl, ap, sym, ◌∙◌, subst, arith, codes, false, true, rules, Option, Some, None, Bool}
 use Rattle.std.specs.Prelude.{⊤, map}
 use Rattle.std.specs.Fmt.{digits}
 use Rattle.std.specs.List.{AllZip}
@@ -20,7 +20,7 @@ use Rattle.tb_read.specs.Spelling.{Reads}
 use Rattle.tb_read.proofs.Written.{written_reads}
 use Rattle.tb_lane.specs.ToolLines.{line_of, IsToolLine}
 use Rattle.tb_lane.specs.Sending.{taken_of}
-use Rattle.tb_lane.proofs.Lines.{read-line, faulty-line}
+use Rattle.tb_lane.proofs.Lines.{read-line, lines-same}
 use Rattle.tb_func.specs.declared.slot.Slot.{Slot}
 use Rattle.tb_body.specs.declared.tree.Tree.{Tree, the_lemmas as tree_lemmas}
 use Rattle.tb_body.specs.declared.tree.Tree.TheVariants as tree
@@ -68,9 +68,11 @@ use Rattle.tb_log.specs.LogText.{log_text}
 use Rattle.tb_core.specs.Cores.{says_quiet}
 use Rattle.tb_lock.specs.Histories.{IsSparse}
 use Rattle.tb_run.specs.Workers.{AreLines, cut_count}
-use Rattle.tb_run.specs.Clocks.{ClockRan, TimeIs}
-use Rattle.tb_run.specs.Outcomes.{LaneView, LaneRan, EachLane, IsDone}
-use Rattle.tb_run.proofs.Examples.{plain, root, seen, finish, tool, holding, Leads, stays, did, quiet, came, gave, sparse, empty-lane, idle, at_end, silent-lanes, clock_of}
+use Rattle.tb_run.specs.Clocks.{ClockRan}
+use Rattle.tb_run.specs.declared.ends.RunWhy.TheVariants.{Ended}
+use Rattle.tb_core.specs.Cores.{CoreState}
+use Rattle.tb_run.specs.Outcomes.{LaneView, LaneRan, EachLane, IsDone, Runs}
+use Rattle.tb_run.proofs.Examples.{plain, root, seen, finish, tool, holding, Leads, stays, did, quiet, came, gave, sparse, empty-lane, idle, at_end, silent-lanes, clock_of, before, afterwards, core_of, no-ticks, gave-all}
 
 -- the names of the tools, which are their commands
 abbrev pub a : List ℕ
@@ -382,6 +384,11 @@ answer-line : (number : ℕ) → line_of (answer number) ≡ line.Value (value n
 unfolding is_within_limits
 answer-line number = search (rules, term_lemmas)
 
+one-no_two : line.Value (value 1) ≡ line.Value (value 2) → ⊥
+one-no_two e =
+    let same : value 1 ≡ value 2 = cc in
+    let numbers : ◌≡◌ {A = ℤ} (pos 1) (pos 2) = search (rules, term_lemmas) in cc
+
 one-put : IsToolLine (codes "snd-value(1)") (line.Value (value 1))
 one-put = subst (IsToolLine (codes "snd-value(1)")) (answer-line 1) (read-line (codes "snd-value(1)") (answer 1) (omega arith) one-read)
 
@@ -439,35 +446,77 @@ lanes_after =
     ∷ at_end (given.Line (codes "snd-value(2)") ∷ []) (taken_by b (codes "rec-eval(two)")) 0
     ∷ replicate 14 (at_end [] [] 0)
 
-pub lanes-ran : EachLane (LaneRan asking_log) 1 (idle ∷ idle ∷ replicate 14 idle) lanes_after
+pub lanes-ran : EachLane (LaneRan asking_log) 1 (replicate 16 idle) lanes_after
 lanes-ran = (one-ran, (two-ran, silent-lanes asking_log 3 14 refl))
-
-no-ticks-come : TimeIs asking_log
-no-ticks-come = record {
-  first = [];
-  tail = Fed input.NoTicks (Dropped why.Down) ∷ [];
-  is = refl;
-  ticks = tt;
-  last = inr (Dropped why.Down, refl);
-}
 
 pub clock-ran : ClockRan asking_log 36000 (clock_of false) (clock_of true) ⊥
 clock-ran = record {
   ended = true;
   told = refl;
   within = omega arith;
-  time = no-ticks-come;
+  time = no-ticks asking_log (Dropped why.Down) refl;
   why = inr (inl refl);
   end = inl (inl refl);
 }
 
--- lane 1's tool is asked and answers, and the log hasn't its line
-pub none-unheard : LaneRan asking_log 1 idle (at_end [] (taken_by a (codes "rec-eval(one)")) 0) → ⊥
-none-unheard ran =
-    let e : ◌≡◌ {A = Option InletView} (Some (record { gave = []; over = true })) (Some (record { gave = ran.given; over = ran.over })) = ran.gave in
-    let same : [] ≡ ran.given = ap gave_of e in
-    subst (λ (gives : List Given). AreLines 1 gives (inputs asking_log 1)) (sym same) ran.lines
-  where
-    gave_of : Option InletView → List Given
-    gave_of None = []
-    gave_of (Some view) = view.gave
+abbrev pub asking_text : List ℕ
+asking_text = codes "1 execute 1.1 a(1)\n2 execute 2.1 b(2)\n3 snd-eval 1.2 a(1),one\n4 snd-eval 2.2 b(2),two\n5 quiet\n6 out 1 start \"a\"\n7 out 2 start \"b\"\n8 out 1 rec-eval(one)\n9 out 2 rec-eval(two)\n10 line 1 snd-value(1)\n11 rec-value 1.3 a(1),1\n12 line 2 snd-value(2)\n13 rec-value 2.3 b(2),2\n14 finish\n15 out 1 rec-terminate(finish)\n16 out 1 end\n17 out 2 rec-terminate(finish)\n18 out 2 end\n19 drop down noticks\n"
+
+a-text : term_text (tool a 1) ≡ codes "a(1)"
+unfolding digits
+a-text = search (rules, term_lemmas)
+
+b-text : term_text (tool b 2) ≡ codes "b(2)"
+unfolding digits
+b-text = search (rules, term_lemmas)
+
+one-word : term_text (word (codes "one")) ≡ codes "one"
+one-word = search (rules, term_lemmas)
+
+two-word : term_text (word (codes "two")) ≡ codes "two"
+two-word = search (rules, term_lemmas)
+
+one-value : term_text (value 1) ≡ codes "1"
+unfolding digits
+one-value = search (rules, term_lemmas)
+
+two-value : term_text (value 2) ≡ codes "2"
+unfolding digits
+two-value = search (rules, term_lemmas)
+
+put-text : log_text asking_log ≡ asking_text
+unfolding digits
+put-text = simp (a-text, b-text, one-word, two-word, one-value, two-value, one-text, two-text, last-text)
+
+abbrev pub asked_lanes : List Given → List Taken → List LaneView
+asked_lanes gives takes = at_end gives takes 0 ∷ at_end (given.Line (codes "snd-value(2)") ∷ []) (taken_by b (codes "rec-eval(two)")) 0 ∷ replicate 14 (at_end [] [] 0)
+
+abbrev pub back : CoreState
+back = core_of asking asking_log
+
+-- such a run went to its end
+pub asking-run : Runs 36000 before (afterwards (asked_lanes (given.Line (codes "snd-value(1)") ∷ []) (taken_by a (codes "rec-eval(one)"))) asking_text) asking back Ended
+asking-run = record {
+  origin_is = refl;
+  history = record { trace = asking-leads.trace; sparse = asking-sparse };
+  within = omega arith;
+  outcome = (ap (λ (text : List ℕ). Some text) (sym put-text), lanes-ran, clock-ran, asking-done);
+}
+
+-- the log has an answer that the first tool's inlet didn't give
+pub none-made_up : (takes : List Taken) (text : List ℕ) → Runs 36000 before (afterwards (asked_lanes [] takes) text) asking back Ended → ⊥
+none-made_up takes text runs = gave-all asking_log 1 [] takes 0 runs.outcome.1.0
+
+-- the inlet gave another one
+pub none-other : (takes : List Taken) (text : List ℕ) → Runs 36000 before (afterwards (asked_lanes (given.Line (codes "snd-value(2)") ∷ []) takes) text) asking back Ended → ⊥
+none-other takes text runs =
+    let lines = gave-all asking_log 1 (given.Line (codes "snd-value(2)") ∷ []) takes 0 runs.outcome.1.0 in
+    let same : line.Value (value 1) ≡ line.Value (value 2) = lines-same (codes "snd-value(2)") (line.Value (value 1)) (line.Value (value 2)) lines.0.1 two-put in
+    one-no_two same
+
+-- the first outlet wasn't told that the bus went down
+pub none-undismissed : (gives : List Given) (text : List ℕ) → Runs 36000 before (afterwards (asked_lanes gives (taken.Start a ∷ taken.Line (codes "rec-eval(one)") ∷ taken.End ∷ [])) text) asking back Ended → ⊥
+none-undismissed gives text runs =
+    let e : ◌≡◌ {A = Option (List Taken)} (Some (taken.Start a ∷ taken.Line (codes "rec-eval(one)") ∷ taken.End ∷ [])) (Some (taken_by a (codes "rec-eval(one)"))) =
+        runs.outcome.1.0.took ∙ ap (λ (takes : List Taken). Some takes) one-taken in
+    let same : ◌≡◌ {A = Taken} taken.End (taken.Line (codes "rec-terminate(finish)")) = cc in cc
