@@ -1,6 +1,7 @@
 -- A run that is worked out: the third call of an outlet fails, and what it was handed is cut off.
-use Rattle.std.proofs.Common.{◌≡◌, ℕ, ◌≤◌, ◌++◌, pos, List, [], ◌∷◌, inl, inr, replicate, refl, ap, sym, ◌∙◌, subst, arith, codes, false, true, rules, Option, Some, None, Bool}
+use Rattle.std.proofs.Common.{length, length-append, ◌+◌, ◌≡◌, ℕ, ◌≤◌, ◌++◌, pos, List, [], ◌∷◌, inl, inr, replicate, refl, ap, sym, ◌∙◌, subst, arith, codes, false, true, rules, Option, Some, None, Bool}
 use Rattle.std.specs.Prelude.{⊤, map}
+use Rattle.std.proofs.lemmas.List.{length-map}
 use Rattle.std.specs.Fmt.{digits}
 use Rattle.std.specs.List.{AllZip}
 use Rattle.tb_terms.specs.declared.expr.Expr.{the_lemmas as expr_lemmas}
@@ -64,7 +65,7 @@ use Rattle.tb_run.specs.Workers.{AreLines, cut_count}
 use Rattle.tb_run.specs.Clocks.{ClockRan}
 use Rattle.tb_run.specs.declared.ends.RunWhy.TheVariants.{Ended}
 use Rattle.tb_core.specs.Cores.{CoreState}
-use Rattle.tb_run.specs.Outcomes.{LaneView, LaneRan, EachLane, IsDone, OutsideView, Runs}
+use Rattle.tb_run.specs.Outcomes.{LaneView, LaneRan, LaneStopped, EachLane, IsDone, OutsideView, Runs}
 use Rattle.tb_run.proofs.Examples.{plain, root, seen, finish, tool, holding, Leads, stays, did, quiet, came, gave, sparse, from_start, empty-lane, idle, at_end, silent-lanes, one_lane, clock_of, before, afterwards, core_of, no-ticks, not-over}
 
 -- the name of the tool, and its command
@@ -342,3 +343,56 @@ none-unsaid ran =
 -- the inlet isn't over, and the log has nothing of it that was dropped since the bus was down
 pub none-unread : (gives : List Given) (takes : List Taken) (faults : ℕ) → LaneRan before_gone 1 idle (record { gave = Some (record { gave = gives; over = false }); took = Some takes; faults = faults }) → ⊥
 none-unread gives takes faults = not-over before_gone 1 gives takes faults refl
+
+-- a run that was stopped before it was said that the line was cut off: the outlet lacks the line
+abbrev cut_short : List Entry
+cut_short = Gave 1 (out.Start t) ∷ Gave 1 (do_line (codes "a")) ∷ Gave 1 (do_line (codes "b")) ∷ []
+
+abbrev short_end : List Taken → ℕ → LaneView
+short_end takes faults = record { gave = Some (record { gave = []; over = false }); took = Some takes; faults = faults }
+
+tool-stopped : LaneStopped cut_short 1 idle (short_end (taken.Start t ∷ taken.Line (codes "rec-do(a)") ∷ []) 1)
+tool-stopped = record {
+  fed = [];
+  last = [];
+  over = false;
+  gave = refl;
+  lines = tt;
+  one = omega arith;
+  put = out.Start t ∷ do_line (codes "a") ∷ [];
+  lost = do_line (codes "b") ∷ [];
+  handed = refl;
+  took = ap (λ (text : List ℕ). Some (taken.Start t ∷ taken.Line text ∷ [])) (sym do-text);
+  one_lost = omega arith;
+  failed = inr (inl (omega arith));
+  cuts = inl (omega arith);
+}
+
+abbrev took_of : Option (List Taken) → List Taken
+took_of None = []
+took_of (Some takes) = takes
+
+-- how many items an outlet lacks
+lacked : (log : List Entry) (takes : List Taken) (faults : ℕ) (ran : LaneStopped log 1 idle (short_end takes faults)) → length (sent log 1) ≡ length takes + length ran.lost
+lacked log takes faults ran =
+    let put : length takes ≡ length (map taken_of ran.put) = ap (λ (o : Option (List Taken)). length (took_of o)) ran.took in
+    let as_many : length (map taken_of ran.put) ≡ length ran.put = length-map ran.put taken_of in
+    let all : length (sent log 1) ≡ length ran.put + length ran.lost = ap length ran.handed ∙ length-append ran.put ran.lost in
+    omega (arith, put, as_many, all)
+
+-- two items are lacking
+none-two : (faults : ℕ) → LaneStopped cut_short 1 idle (short_end (taken.Start t ∷ []) faults) → ⊥
+none-two faults ran =
+    let all : 3 ≡ 1 + length ran.lost = lacked cut_short (taken.Start t ∷ []) faults ran in
+    absurd (omega (arith, all, ran.one_lost))
+
+-- one is, though the outlet didn't fail
+none-unfailing : (takes : List Taken) → length takes ≡ 2 → LaneStopped cut_short 1 idle (short_end takes 0) → ⊥
+none-unfailing takes two ran = elim ran.failed [
+  | inl none ↦
+      let all : 3 ≡ length takes + length ran.lost = lacked cut_short takes 0 ran in
+      let nothing : length ran.lost ≡ 0 = ap length none in
+      absurd (omega (arith, all, two, nothing))
+  | inr (inl less) ↦ absurd (omega (arith, less))
+  | inr (inr last) ↦ absurd (omega (arith, last))
+]

@@ -26,4 +26,5 @@ mod BadLinesExample
 mod CutOffExample
 mod Examples
 mod SendLemmas
+mod TimeExample
 mod TwoToolsExample
