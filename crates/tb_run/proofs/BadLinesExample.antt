@@ -1,8 +1,7 @@
 -- A run that is worked out: a tool that puts three bad lines and ends.
-use Rattle.std.proofs.Common.{◌≡◌, ℕ, ◌≤◌, ◌++◌, pos, List, [], ◌∷◌, inl, inr, replicate, take, refl, ap, sym, ◌∙◌, subst, arith, codes, false, true, rules, Option, Some, None, Bool}
-use Rattle.std.specs.Prelude.{⊤, map}
+use Rattle.std.proofs.Common.{◌≡◌, ℕ, ◌≤◌, ◌++◌, List, [], ◌∷◌, inl, inr, replicate, take, refl, ap, sym, ◌∙◌, subst, arith, codes, false, true, rules, Option, Some, None, Bool}
+use Rattle.std.specs.Prelude.{map}
 use Rattle.std.specs.Fmt.{digits}
-use Rattle.std.specs.List.{AllZip}
 use Rattle.tb_terms.specs.declared.expr.Expr.{the_lemmas as expr_lemmas}
 use Rattle.tb_terms.specs.declared.term.Term.{Term, the_lemmas as term_lemmas}
 use Rattle.tb_terms.specs.declared.term.Term.TheVariants as term
@@ -18,10 +17,8 @@ use Rattle.tb_read.proofs.Written.{written_reads}
 use Rattle.tb_lane.specs.ToolLines.{line_of, IsToolLine}
 use Rattle.tb_lane.specs.Sending.{taken_of}
 use Rattle.tb_lane.proofs.Lines.{read-line, faulty-line}
-use Rattle.tb_func.specs.declared.slot.Slot.{Slot}
 use Rattle.tb_body.specs.declared.tree.Tree.{the_lemmas as tree_lemmas}
 use Rattle.tb_body.specs.declared.tree.Tree.TheVariants as tree
-use Rattle.tb_body.specs.declared.tree.Setting.{Setting}
 use Rattle.tb_body.specs.declared.act.Act.TheVariants as act
 use Rattle.tb_body.specs.declared.atom.Atom.{Atom}
 use Rattle.tb_body.specs.declared.body.Body.{Body}
@@ -31,7 +28,7 @@ use Rattle.tb_body.specs.Programs.{is_program_in_range}
 use Rattle.tb_algebra.specs.Processes.{Process, At, Seq, Let, fresh}
 use Rattle.tb_algebra.specs.Settings.{with_settings}
 use Rattle.tb_notes.specs.Inboxes.{nothing}
-use Rattle.tb_tools.specs.Lanes.{Lane, unused, new_tool, opening}
+use Rattle.tb_tools.specs.Lanes.{Lane, unused, new_tool}
 use Rattle.tb_tools.specs.declared.stage.Stage.TheVariants as stage
 use Rattle.tb_bus.specs.declared.origin.Origin.{Origin}
 use Rattle.tb_bus.specs.Buses.{Bus, Proc, start}
@@ -44,8 +41,7 @@ use Rattle.tb_edge.specs.declared.given.Given.{Given}
 use Rattle.tb_edge.specs.declared.given.Given.TheVariants as given
 use Rattle.tb_edge.specs.declared.given.Taken.{Taken}
 use Rattle.tb_edge.specs.declared.given.Taken.TheVariants as taken
-use Rattle.tb_edge.specs.Ends.{InletView, ClockView}
-use Rattle.tb_log.specs.declared.entry.Input.{Input}
+use Rattle.tb_edge.specs.Ends.{ClockView}
 use Rattle.tb_log.specs.declared.entry.Input.TheVariants as input
 use Rattle.tb_log.specs.declared.entry.ToolLine.TheVariants as line
 use Rattle.tb_log.specs.declared.entry.Reply.TheVariants.{Took, Dropped}
@@ -60,9 +56,8 @@ use Rattle.tb_log.specs.Lanes.{inputs, sent}
 use Rattle.tb_log.specs.LogText.{log_text}
 use Rattle.tb_log.specs.Limits.{log_size}
 use Rattle.tb_edge.specs.Faults.{Rose}
-use Rattle.tb_core.specs.Cores.{says_quiet}
 use Rattle.tb_lock.specs.Histories.{IsSparse}
-use Rattle.tb_run.specs.Workers.{AreLines, cut_count}
+use Rattle.tb_run.specs.Workers.{AreLines}
 use Rattle.tb_run.specs.Clocks.{ClockRan, ClockStopped, TimeIs}
 use Rattle.tb_run.specs.declared.ends.RunWhy.{RunWhy}
 use Rattle.tb_run.specs.declared.ends.RunWhy.TheVariants.{Ended, Crew, Clock, Events, NoMemory}

@@ -1,9 +1,8 @@
 -- A run that is worked out: the third call of an outlet fails, and what it was handed is cut off.
-use Rattle.std.proofs.Common.{length, length-append, ◌+◌, ◌≡◌, ℕ, ◌≤◌, ◌++◌, pos, List, [], ◌∷◌, inl, inr, replicate, refl, ap, sym, ◌∙◌, subst, arith, codes, false, true, rules, Option, Some, None, Bool}
-use Rattle.std.specs.Prelude.{⊤, map}
+use Rattle.std.proofs.Common.{length, length-append, ◌+◌, ◌≡◌, ℕ, ◌++◌, List, [], ◌∷◌, inl, inr, replicate, refl, ap, sym, ◌∙◌, subst, arith, codes, false, true, rules, Option, Some, None, Bool}
+use Rattle.std.specs.Prelude.{map}
 use Rattle.std.proofs.lemmas.List.{length-map}
 use Rattle.std.specs.Fmt.{digits}
-use Rattle.std.specs.List.{AllZip}
 use Rattle.tb_terms.specs.declared.expr.Expr.{the_lemmas as expr_lemmas}
 use Rattle.tb_terms.specs.declared.expr.Expr.TheVariants as expr
 use Rattle.tb_terms.specs.contracts.term.Term as term_row
@@ -16,16 +15,9 @@ use Rattle.tb_terms.specs.declared.sort.Sort.TheVariants as sort
 use Rattle.tb_terms.specs.Sizes.{is_within_limits}
 use Rattle.tb_terms.specs.Sorts.{has_sort, initial_value}
 use Rattle.tb_terms.specs.Texts.{term_text}
-use Rattle.tb_read.specs.declared.fault.TermFault.TheVariants as fault
-use Rattle.tb_read.specs.Spelling.{Reads}
-use Rattle.tb_read.proofs.Written.{written_reads}
-use Rattle.tb_lane.specs.ToolLines.{line_of, IsToolLine}
 use Rattle.tb_lane.specs.Sending.{taken_of}
-use Rattle.tb_lane.proofs.Lines.{read-line, faulty-line}
-use Rattle.tb_func.specs.declared.slot.Slot.{Slot}
 use Rattle.tb_body.specs.declared.tree.Tree.{Tree, the_lemmas as tree_lemmas}
 use Rattle.tb_body.specs.declared.tree.Tree.TheVariants as tree
-use Rattle.tb_body.specs.declared.tree.Setting.{Setting}
 use Rattle.tb_body.specs.declared.act.Act.TheVariants as act
 use Rattle.tb_body.specs.declared.atom.Atom.{Atom}
 use Rattle.tb_body.specs.declared.body.Body.{Body}
@@ -36,7 +28,7 @@ use Rattle.tb_algebra.specs.Processes.{Process, At, Seq, Let, fresh}
 use Rattle.tb_algebra.specs.Atoms.{values_together}
 use Rattle.tb_algebra.specs.Settings.{with_settings}
 use Rattle.tb_notes.specs.Inboxes.{nothing}
-use Rattle.tb_tools.specs.Lanes.{Lane, unused, new_tool, opening}
+use Rattle.tb_tools.specs.Lanes.{Lane, unused, new_tool}
 use Rattle.tb_tools.specs.declared.stage.Stage.TheVariants as stage
 use Rattle.tb_bus.specs.declared.origin.Origin.{Origin}
 use Rattle.tb_bus.specs.Buses.{Bus, Proc, start}
@@ -46,27 +38,22 @@ use Rattle.tb_edge.specs.declared.given.Given.{Given}
 use Rattle.tb_edge.specs.declared.given.Given.TheVariants as given
 use Rattle.tb_edge.specs.declared.given.Taken.{Taken}
 use Rattle.tb_edge.specs.declared.given.Taken.TheVariants as taken
-use Rattle.tb_edge.specs.Ends.{InletView, ClockView}
-use Rattle.tb_log.specs.declared.entry.Input.{Input}
 use Rattle.tb_log.specs.declared.entry.Input.TheVariants as input
-use Rattle.tb_log.specs.declared.entry.ToolLine.TheVariants as line
 use Rattle.tb_log.specs.declared.entry.Reply.TheVariants.{Took, Dropped}
 use Rattle.tb_log.specs.declared.entry.Why.TheVariants as why
 use Rattle.tb_log.specs.declared.entry.Out.{Out}
 use Rattle.tb_log.specs.declared.entry.Out.TheVariants as out
 use Rattle.tb_log.specs.declared.entry.Entry.{Entry}
-use Rattle.tb_log.specs.declared.entry.Entry.TheVariants.{Did, Quiet, Fed, Gave}
+use Rattle.tb_log.specs.declared.entry.Entry.TheVariants.{Did, Fed, Gave}
 use Rattle.tb_log.specs.declared.entry.LabelKind.TheVariants as kind
-use Rattle.tb_log.specs.Lanes.{inputs, handed, sent, is_cut_off}
+use Rattle.tb_log.specs.Lanes.{handed, sent, is_cut_off}
 use Rattle.tb_log.specs.LogText.{log_text}
-use Rattle.tb_core.specs.Cores.{says_quiet}
 use Rattle.tb_lock.specs.Histories.{IsSparse}
-use Rattle.tb_run.specs.Workers.{AreLines, cut_count}
 use Rattle.tb_run.specs.Clocks.{ClockRan}
 use Rattle.tb_run.specs.declared.ends.RunWhy.TheVariants.{Ended}
 use Rattle.tb_core.specs.Cores.{CoreState}
 use Rattle.tb_run.specs.Outcomes.{LaneView, LaneRan, LaneStopped, EachLane, IsDone, OutsideView, Runs}
-use Rattle.tb_run.proofs.Examples.{plain, root, seen, finish, tool, holding, Leads, stays, did, quiet, came, gave, sparse, from_start, empty-lane, idle, at_end, silent-lanes, one_lane, clock_of, before, afterwards, core_of, no-ticks, not-over}
+use Rattle.tb_run.proofs.Examples.{plain, root, seen, finish, tool, holding, Leads, stays, did, came, gave, sparse, from_start, empty-lane, idle, at_end, silent-lanes, one_lane, clock_of, before, afterwards, core_of, no-ticks, not-over}
 
 -- the name of the tool, and its command
 abbrev pub t : List ℕ

@@ -1,19 +1,14 @@
 -- Worked runs, computed from the definitions alone: what they share.
-use Rattle.std.proofs.Common.{length-append, ◌≡◌, ℕ, ◌≤◌, pos, List, [], ◌∷◌, replicate, inl, map, refl, ap, sym, ◌∙◌, subst, arith, codes, false, true, rules, Option, Some, None, Bool, not, ◌&&◌, ◌+◌, ◌-◌, ◌++◌, suc, zero, length, Contains, inr, slice_get}
+use Rattle.std.proofs.Common.{length-append, ◌≡◌, ℕ, ◌≤◌, List, [], ◌∷◌, replicate, inl, map, refl, ap, sym, ◌∙◌, subst, arith, false, true, Option, Some, None, Bool, not, ◌&&◌, ◌+◌, ◌-◌, ◌++◌, suc, zero, length, Contains, inr, slice_get}
 use Rattle.std.specs.Prelude.{nat_eq, slice_index_or, filter, ◌⊎◌}
 use Rattle.std.proofs.lemmas.Bool.{and_parts, and_right, eqb-true}
-use Rattle.tb_terms.specs.declared.term.Term.{Term, the_lemmas as term_lemmas}
-use Rattle.tb_terms.specs.declared.term.Term.TheVariants as term
-use Rattle.tb_terms.specs.declared.sort.Sort.{the_lemmas as sort_lemmas}
+use Rattle.tb_terms.specs.declared.term.Term.{Term}
 use Rattle.tb_terms.specs.declared.sort.Sort.TheVariants as sort
-use Rattle.tb_terms.specs.Sizes.{is_within_limits}
-use Rattle.tb_terms.specs.Sorts.{has_sort, initial_value}
 use Rattle.tb_func.specs.declared.slot.Slot.{Slot}
 use Rattle.tb_body.specs.declared.tree.Setting.{Setting}
 use Rattle.tb_body.specs.declared.act.Act.{Act}
 use Rattle.tb_body.specs.declared.atom.Atom.{Atom}
 use Rattle.tb_body.specs.declared.program.Root.{Root}
-use Rattle.tb_algebra.specs.Settings.{with_settings}
 use Rattle.tb_log.specs.Shapes.{IsInputInShape, IsLane}
 use Rattle.tb_log.specs.declared.entry.Input.{Input}
 use Rattle.tb_log.specs.declared.entry.Input.TheVariants as input_of

@@ -1,5 +1,5 @@
 -- What a run may say of time, worked out on small logs.
-use Rattle.std.proofs.Common.{◌≡◌, ℕ, List, [], ◌∷◌, ◌++◌, ◌⊎◌, inl, inr, refl, ap, sym, ◌∙◌, subst, arith, false, true, Option, Some, None, Bool, ◌+◌}
+use Rattle.std.proofs.Common.{◌≡◌, ℕ, List, [], ◌∷◌, ◌++◌, inl, inr, refl, ap, sym, ◌∙◌, subst, arith, false, true, Option, Some, None, Bool, ◌+◌}
 use Rattle.tb_edge.specs.Ends.{ClockView}
 use Rattle.tb_log.specs.declared.entry.Input.TheVariants.{Tick, NoTicks}
 use Rattle.tb_log.specs.declared.entry.Reply.{Reply}
@@ -8,9 +8,8 @@ use Rattle.tb_log.specs.declared.entry.Why.TheVariants.{Down}
 use Rattle.tb_log.specs.declared.entry.Entry.{Entry}
 use Rattle.tb_log.specs.declared.entry.Entry.TheVariants.{Fed}
 use Rattle.tb_log.specs.Lanes.{ticks, is_tick_input}
-use Rattle.tb_run.specs.Workers.{AreTicks, IsNoTicks}
-use Rattle.tb_run.specs.Clocks.{is_time, TimeIs, WhyNoTicks, ClockRan, ClockStopped}
-use Rattle.tb_run.specs.Dropping.{HasDropped}
+use Rattle.tb_run.specs.Workers.{AreTicks}
+use Rattle.tb_run.specs.Clocks.{WhyNoTicks, ClockRan, ClockStopped}
 use Rattle.tb_run.proofs.Examples.{no-ticks, not-dropped}
 
 -- a clock that gave so many ticks, and has ended or not

@@ -1,8 +1,7 @@
 -- A run that is worked out: two tools are asked beside each other, and answer.
-use Rattle.std.proofs.Common.{◌≡◌, ℕ, ◌≤◌, ◌++◌, ℤ, pos, List, [], ◌∷◌, inl, inr, replicate, refl, ap, sym, ◌∙◌, subst, arith, codes, false, true, rules, Option, Some, None, Bool}
-use Rattle.std.specs.Prelude.{⊤, map}
+use Rattle.std.proofs.Common.{◌≡◌, ℕ, ℤ, pos, List, [], ◌∷◌, inl, inr, replicate, refl, ap, sym, ◌∙◌, subst, arith, codes, false, true, rules, Option, Some, None, Bool}
+use Rattle.std.specs.Prelude.{map}
 use Rattle.std.specs.Fmt.{digits}
-use Rattle.std.specs.List.{AllZip}
 use Rattle.tb_terms.specs.declared.expr.Expr.{the_lemmas as expr_lemmas}
 use Rattle.tb_terms.specs.declared.expr.Expr.TheVariants as expr
 use Rattle.tb_terms.specs.contracts.term.Term as term_row
@@ -15,7 +14,6 @@ use Rattle.tb_terms.specs.declared.sort.Sort.TheVariants as sort
 use Rattle.tb_terms.specs.Sizes.{IsWithinLimits, is_within_limits, term_size, term_levels}
 use Rattle.tb_terms.specs.Sorts.{has_sort, initial_value}
 use Rattle.tb_terms.specs.Texts.{term_text}
-use Rattle.tb_read.specs.declared.fault.TermFault.TheVariants as fault
 use Rattle.tb_read.specs.Spelling.{Reads}
 use Rattle.tb_read.proofs.Written.{written_reads}
 use Rattle.tb_lane.specs.ToolLines.{line_of, IsToolLine}
@@ -33,14 +31,13 @@ use Rattle.tb_body.specs.InRange.{is_body_in_range}
 use Rattle.tb_body.specs.Programs.{is_program_in_range}
 use Rattle.tb_algebra.specs.Processes.{Process, At, Seq, Let, fresh}
 use Rattle.tb_algebra.specs.Atoms.{values_together, patterns_of}
-use Rattle.tb_match.specs.declared.bind.Bind.{Bind}
 use Rattle.tb_match.specs.Matches.{match_list, match_term}
-use Rattle.tb_terms.specs.declared.pattern.Pattern.{Pattern, the_lemmas as pattern_lemmas}
+use Rattle.tb_terms.specs.declared.pattern.Pattern.{the_lemmas as pattern_lemmas}
 use Rattle.tb_terms.specs.declared.pattern.Pattern.TheVariants as pattern
 use Rattle.std.proofs.lemmas.Bool.{false_from_ne_true}
 use Rattle.tb_algebra.specs.Settings.{with_settings}
 use Rattle.tb_notes.specs.Inboxes.{nothing}
-use Rattle.tb_tools.specs.Lanes.{Lane, unused, new_tool, opening}
+use Rattle.tb_tools.specs.Lanes.{Lane, unused, new_tool}
 use Rattle.tb_tools.specs.declared.stage.Stage.TheVariants as stage
 use Rattle.tb_tools.specs.declared.stage.Eval.{Eval}
 use Rattle.tb_tools.specs.declared.stage.Eval.TheVariants as eval
@@ -52,8 +49,6 @@ use Rattle.tb_edge.specs.declared.given.Given.{Given}
 use Rattle.tb_edge.specs.declared.given.Given.TheVariants as given
 use Rattle.tb_edge.specs.declared.given.Taken.{Taken}
 use Rattle.tb_edge.specs.declared.given.Taken.TheVariants as taken
-use Rattle.tb_edge.specs.Ends.{InletView, ClockView}
-use Rattle.tb_log.specs.declared.entry.Input.{Input}
 use Rattle.tb_log.specs.declared.entry.Input.TheVariants as input
 use Rattle.tb_log.specs.declared.entry.ToolLine.TheVariants as line
 use Rattle.tb_log.specs.declared.entry.Reply.TheVariants.{Took, Dropped}
@@ -63,11 +58,9 @@ use Rattle.tb_log.specs.declared.entry.Out.TheVariants as out
 use Rattle.tb_log.specs.declared.entry.Entry.{Entry}
 use Rattle.tb_log.specs.declared.entry.Entry.TheVariants.{Did, Quiet, Fed, Gave}
 use Rattle.tb_log.specs.declared.entry.LabelKind.TheVariants as kind
-use Rattle.tb_log.specs.Lanes.{inputs, handed, sent, is_cut_off}
+use Rattle.tb_log.specs.Lanes.{sent}
 use Rattle.tb_log.specs.LogText.{log_text}
-use Rattle.tb_core.specs.Cores.{says_quiet}
 use Rattle.tb_lock.specs.Histories.{IsSparse}
-use Rattle.tb_run.specs.Workers.{AreLines, cut_count}
 use Rattle.tb_run.specs.Clocks.{ClockRan}
 use Rattle.tb_run.specs.declared.ends.RunWhy.TheVariants.{Ended}
 use Rattle.tb_core.specs.Cores.{CoreState}
@@ -343,10 +336,10 @@ leads =
 -- the bus that the program opens with, where both bodies are entered so and the variables begin with these
 abbrev with_terms : Process → Term → Term → Term → Bus
 with_terms term one two any = bus_of (
-  record { number = 1; body = 0; term = term; store = record { sort = sort.Tool a; value = one } ∷ record { sort = sort.Any; value = any } ∷ []; inbox = nothing }
-  ∷ record { number = 2; body = 1; term = term; store = record { sort = sort.Tool b; value = two } ∷ record { sort = sort.Any; value = any } ∷ []; inbox = nothing }
-  ∷ []
-) 0 false 1 unused unused
+    record { number = 1; body = 0; term = term; store = record { sort = sort.Tool a; value = one } ∷ record { sort = sort.Any; value = any } ∷ []; inbox = nothing }
+    ∷ record { number = 2; body = 1; term = term; store = record { sort = sort.Tool b; value = two } ∷ record { sort = sort.Any; value = any } ∷ []; inbox = nothing }
+    ∷ []
+    ) 0 false 1 unused unused
 
 pub asking-leads : Leads (start asking) asking_log (over [] [])
 asking-leads =
@@ -518,5 +511,5 @@ none-other takes text runs =
 pub none-undismissed : (gives : List Given) (text : List ℕ) → Runs 36000 before (afterwards (asked_lanes gives (taken.Start a ∷ taken.Line (codes "rec-eval(one)") ∷ taken.End ∷ [])) text) asking back Ended → ⊥
 none-undismissed gives text runs =
     let e : ◌≡◌ {A = Option (List Taken)} (Some (taken.Start a ∷ taken.Line (codes "rec-eval(one)") ∷ taken.End ∷ [])) (Some (taken_by a (codes "rec-eval(one)"))) =
-        runs.outcome.1.0.took ∙ ap (λ (takes : List Taken). Some takes) one-taken in
+    runs.outcome.1.0.took ∙ ap (λ (takes : List Taken). Some takes) one-taken in
     let same : ◌≡◌ {A = Taken} taken.End (taken.Line (codes "rec-terminate(finish)")) = cc in cc
