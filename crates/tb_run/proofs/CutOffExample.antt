@@ -227,7 +227,7 @@ do-text = search (rules, term_lemmas)
 abbrev pub taken_by_tool : List Taken
 taken_by_tool = taken.Start t ∷ taken.Line (codes "rec-do(a)") ∷ taken.End ∷ []
 
-taken-all : map taken_of (sent cutting_log 1) ≡ taken_by_tool
+pub taken-all : map taken_of (sent cutting_log 1) ≡ taken_by_tool
 taken-all = ap (λ (text : List ℕ). taken.Start t ∷ taken.Line text ∷ taken.End ∷ []) do-text
 
 -- the inlet gave its end, and wasn't read to the end, since the bus was down; the outlet failed once

@@ -28,3 +28,4 @@ mod Examples
 mod SendLemmas
 mod TimeExample
 mod TwoToolsExample
+mod WorkersExample
