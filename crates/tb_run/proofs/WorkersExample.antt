@@ -1,11 +1,8 @@
 -- What each of four workers may say of itself, worked out on the logs of two runs.
-use Rattle.std.proofs.Common.{◌≡◌, ℕ, ◌+◌, List, [], ◌∷◌, ◌++◌, length, map, inl, inr, replicate, refl, ap, sym, ◌∙◌, subst, arith, codes, false, true, Option, Some, None, Bool}
+use Rattle.std.proofs.Common.{◌≡◌, ℕ, List, [], ◌∷◌, ◌++◌, map, inl, inr, replicate, refl, ap, sym, ◌∙◌, subst, arith, codes, false, true, Option, Some, None, Bool}
 use Rattle.tb_edge.specs.declared.given.Given.{Given}
-use Rattle.tb_edge.specs.declared.given.Given.TheVariants as given
 use Rattle.tb_edge.specs.declared.given.Taken.{Taken}
-use Rattle.tb_edge.specs.declared.given.Taken.TheVariants as taken
-use Rattle.tb_edge.specs.Ends.{InletView, ClockView}
-use Rattle.tb_lane.specs.Sending.{taken_of}
+use Rattle.tb_edge.specs.Ends.{InletView}
 use Rattle.tb_log.specs.declared.entry.Input.{Input}
 use Rattle.tb_log.specs.declared.entry.Input.TheVariants as input
 use Rattle.tb_log.specs.declared.entry.Reply.TheVariants.{Took, Dropped}
@@ -13,8 +10,7 @@ use Rattle.tb_log.specs.declared.entry.Why.TheVariants as why
 use Rattle.tb_log.specs.declared.entry.Out.TheVariants as out
 use Rattle.tb_log.specs.declared.entry.Entry.{Entry}
 use Rattle.tb_log.specs.declared.entry.Entry.TheVariants.{Fed, Gave}
-use Rattle.tb_log.specs.Lanes.{given_on, sent}
-use Rattle.tb_tools.specs.declared.stage.LaneState.{LaneState}
+use Rattle.tb_log.specs.Lanes.{given_on}
 use Rattle.tb_tools.specs.declared.stage.LaneState.TheVariants as state
 use Rattle.tb_tools.specs.Lanes.{lane_at, lane_state}
 use Rattle.tb_bus.specs.declared.origin.Origin.{Origin}
@@ -26,9 +22,8 @@ use Rattle.tb_lock.specs.Seats.{SeatView, Idle, no_bus}
 use Rattle.tb_lock.specs.Calls.{AreStates}
 use Rattle.tb_run.specs.declared.ends.WorkEnd.{WorkEnd}
 use Rattle.tb_run.specs.declared.ends.WorkEnd.TheVariants as end
-use Rattle.tb_run.specs.Seats.{Adds, EndsWith}
+use Rattle.tb_run.specs.Seats.{Adds}
 use Rattle.tb_run.specs.Workers.{ReadsLane, WritesLane, TicksBus, StepsBus}
-use Rattle.tb_run.proofs.Examples.{Leads}
 use Rattle.tb_run.proofs.BadLinesExample.{bad, departing, departing_log, departing-leads, departing-sparse, put_by_tool, put-lines}
 use Rattle.tb_run.proofs.CutOffExample.{t, do_line, cutting, cutting_log, cutting-leads, cutting-sparse, cutting-done, taken_by_tool, taken-all, back}
 
