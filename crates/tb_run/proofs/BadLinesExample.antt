@@ -1,14 +1,13 @@
 -- A run that is worked out: a tool that puts three bad lines and ends.
-use Rattle.std.proofs.Common.{◌≡◌, ℕ, ◌≤◌, ◌++◌, pos, List, [], ◌∷◌, inl, inr, replicate, take, refl, ap, sym, ◌∙◌, subst, arith, codes, false, true, rules, Option, Some, None, Bool}
-use Rattle.std.specs.Prelude.{⊤, map}
+use Rattle.std.proofs.Common.{◌≡◌, ℕ, ◌≤◌, ◌++◌, List, [], ◌∷◌, inl, inr, replicate, take, refl, ap, sym, ◌∙◌, subst, arith, codes, false, true, rules, Option, Some, None, Bool}
+use Rattle.std.specs.Prelude.{map}
 use Rattle.std.specs.Fmt.{digits}
-use Rattle.std.specs.List.{AllZip}
 use Rattle.tb_terms.specs.declared.expr.Expr.{the_lemmas as expr_lemmas}
 use Rattle.tb_terms.specs.declared.term.Term.{Term, the_lemmas as term_lemmas}
 use Rattle.tb_terms.specs.declared.term.Term.TheVariants as term
 use Rattle.tb_terms.specs.declared.sort.Sort.{the_lemmas as sort_lemmas}
 use Rattle.tb_terms.specs.declared.sort.Sort.TheVariants as sort
-use Rattle.tb_terms.specs.Sizes.{is_within_limits}
+use Rattle.tb_terms.specs.Sizes.{is_within_limits, term_size}
 use Rattle.tb_terms.specs.Sorts.{has_sort, initial_value}
 use Rattle.tb_terms.specs.Texts.{term_text}
 use Rattle.tb_read.specs.declared.fault.TermFault.TheVariants as fault
@@ -18,10 +17,8 @@ use Rattle.tb_read.proofs.Written.{written_reads}
 use Rattle.tb_lane.specs.ToolLines.{line_of, IsToolLine}
 use Rattle.tb_lane.specs.Sending.{taken_of}
 use Rattle.tb_lane.proofs.Lines.{read-line, faulty-line}
-use Rattle.tb_func.specs.declared.slot.Slot.{Slot}
 use Rattle.tb_body.specs.declared.tree.Tree.{the_lemmas as tree_lemmas}
 use Rattle.tb_body.specs.declared.tree.Tree.TheVariants as tree
-use Rattle.tb_body.specs.declared.tree.Setting.{Setting}
 use Rattle.tb_body.specs.declared.act.Act.TheVariants as act
 use Rattle.tb_body.specs.declared.atom.Atom.{Atom}
 use Rattle.tb_body.specs.declared.body.Body.{Body}
@@ -31,7 +28,7 @@ use Rattle.tb_body.specs.Programs.{is_program_in_range}
 use Rattle.tb_algebra.specs.Processes.{Process, At, Seq, Let, fresh}
 use Rattle.tb_algebra.specs.Settings.{with_settings}
 use Rattle.tb_notes.specs.Inboxes.{nothing}
-use Rattle.tb_tools.specs.Lanes.{Lane, unused, new_tool, opening}
+use Rattle.tb_tools.specs.Lanes.{Lane, unused, new_tool}
 use Rattle.tb_tools.specs.declared.stage.Stage.TheVariants as stage
 use Rattle.tb_bus.specs.declared.origin.Origin.{Origin}
 use Rattle.tb_bus.specs.Buses.{Bus, Proc, start}
@@ -44,8 +41,7 @@ use Rattle.tb_edge.specs.declared.given.Given.{Given}
 use Rattle.tb_edge.specs.declared.given.Given.TheVariants as given
 use Rattle.tb_edge.specs.declared.given.Taken.{Taken}
 use Rattle.tb_edge.specs.declared.given.Taken.TheVariants as taken
-use Rattle.tb_edge.specs.Ends.{InletView, ClockView}
-use Rattle.tb_log.specs.declared.entry.Input.{Input}
+use Rattle.tb_edge.specs.Ends.{ClockView}
 use Rattle.tb_log.specs.declared.entry.Input.TheVariants as input
 use Rattle.tb_log.specs.declared.entry.ToolLine.TheVariants as line
 use Rattle.tb_log.specs.declared.entry.Reply.TheVariants.{Took, Dropped}
@@ -58,14 +54,15 @@ use Rattle.tb_log.specs.declared.entry.Label.{Label}
 use Rattle.tb_log.specs.declared.entry.LabelKind.TheVariants as kind
 use Rattle.tb_log.specs.Lanes.{inputs, sent}
 use Rattle.tb_log.specs.LogText.{log_text}
-use Rattle.tb_core.specs.Cores.{says_quiet}
+use Rattle.tb_log.specs.Limits.{log_size}
+use Rattle.tb_edge.specs.Faults.{Rose}
 use Rattle.tb_lock.specs.Histories.{IsSparse}
-use Rattle.tb_run.specs.Workers.{AreLines, cut_count}
-use Rattle.tb_run.specs.Clocks.{ClockRan, TimeIs}
+use Rattle.tb_run.specs.Workers.{AreLines}
+use Rattle.tb_run.specs.Clocks.{ClockRan, ClockStopped, TimeIs}
 use Rattle.tb_run.specs.declared.ends.RunWhy.{RunWhy}
-use Rattle.tb_run.specs.declared.ends.RunWhy.TheVariants.{Ended, Crew, Clock, NoMemory}
-use Rattle.tb_run.specs.Outcomes.{LaneView, LaneRan, EachLane, IsDone, OutsideView, Runs}
-use Rattle.tb_run.proofs.Examples.{plain, root, seen, finish, tool, holding, Leads, stays, did, quiet, came, gave, sparse, from_start, empty-lane, idle, at_end, silent-lanes, one_lane, clock_of, before, afterwards, core_of, no-ticks, not-twice, not-behind, not-quiet, not-made, gave-all, gave-most}
+use Rattle.tb_run.specs.declared.ends.RunWhy.TheVariants.{Ended, Crew, Clock, Events, NoMemory}
+use Rattle.tb_run.specs.Outcomes.{LaneView, LaneRan, LaneStopped, EachLane, outside_of, IsDone, OutsideView, Runs}
+use Rattle.tb_run.proofs.Examples.{plain, root, seen, finish, tool, holding, Leads, stays, did, quiet, came, gave, sparse, from_start, empty-lane, idle, at_end, silent-lanes, one_lane, clock_of, before, afterwards, core_of, no-ticks, not-twice, not-behind, not-quiet, not-made, gave-all, gave-most, unmoved-lanes}
 
 -- the name of the tool, and its command
 abbrev pub t : List ℕ
@@ -360,3 +357,62 @@ none-twice = not-twice (departing_log ++ Fed input.NoTicks (Dropped why.Down) �
 
 pub none-behind : TimeIs (departing_log ++ Fed input.Tick (Dropped why.Down) ∷ []) → ⊥
 none-behind = not-behind (departing_log ++ Fed input.Tick (Dropped why.Down) ∷ []) (Dropped why.Down) (Dropped why.Down) refl
+
+-- the log isn't full
+tool-size : term_size (tool t 1) ≡ 3
+tool-size = search (rules, term_lemmas)
+
+log-size : log_size departing_log ≡ 8
+log-size = simp tool-size
+
+pub none-full : (new : OutsideView) → Runs 36000 before new departing back Events → ⊥
+none-full new runs = elim runs.outcome.3 [ inl count ↦ absurd (omega (arith, count)) | inr size ↦ absurd (omega (arith, size, log-size)) ]
+
+-- a run of the same program whose log may have two entries, and is full: the inlet gave a line that it lacks
+abbrev pub short : Origin
+short = record departing { limit = 2 }
+
+abbrev pub stopped : OutsideView
+stopped = outside_of
+    (one_lane (record { gave = Some (record { gave = given.Long ∷ []; over = false }); took = Some (taken.Start t ∷ []); faults = 0 }) idle)
+    (clock_of false) 0 0 (Some (codes "1 execute 1.1 t(1)\n2 out 1 start \"t\"\n")) 0
+
+early-text : log_text early ≡ codes "1 execute 1.1 t(1)\n2 out 1 start \"t\"\n"
+unfolding digits
+early-text = simp tool-text
+
+tool-stopped : LaneStopped early 1 idle (record { gave = Some (record { gave = given.Long ∷ []; over = false }); took = Some (taken.Start t ∷ []); faults = 0 })
+tool-stopped = record {
+  fed = [];
+  last = given.Long ∷ [];
+  over = false;
+  gave = refl;
+  lines = tt;
+  one = omega arith;
+  put = out.Start t ∷ [];
+  lost = [];
+  handed = refl;
+  took = refl;
+  one_lost = omega arith;
+  failed = inl refl;
+  cuts = inl (omega arith);
+}
+
+clock-stopped : ClockStopped early 36000 (clock_of false) (clock_of false) (Rose 0 0)
+clock-stopped = record {
+  last = 0;
+  ended = false;
+  told = refl;
+  one = omega arith;
+  within = omega arith;
+  time = record { first = []; tail = []; is = refl; ticks = tt; last = inl refl };
+  why = inl refl;
+}
+
+pub stopped-run : Runs 36000 before stopped short (core_of short early) Events
+stopped-run = record {
+  origin_is = refl;
+  history = record { trace = (opens (λ bus. Leads bus early (waits (live []))) starts).trace; sparse = sparse early refl };
+  within = omega arith;
+  outcome = (ap (λ (text : List ℕ). Some text) (sym early-text), (tool-stopped, unmoved-lanes early 2 15 refl), clock-stopped, inl refl);
+}

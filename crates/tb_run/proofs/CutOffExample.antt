@@ -1,8 +1,8 @@
 -- A run that is worked out: the third call of an outlet fails, and what it was handed is cut off.
-use Rattle.std.proofs.Common.{◌≡◌, ℕ, ◌≤◌, ◌++◌, pos, List, [], ◌∷◌, inl, inr, replicate, refl, ap, sym, ◌∙◌, subst, arith, codes, false, true, rules, Option, Some, None, Bool}
-use Rattle.std.specs.Prelude.{⊤, map}
+use Rattle.std.proofs.Common.{length, length-append, ◌+◌, ◌≡◌, ℕ, ◌++◌, List, [], ◌∷◌, inl, inr, replicate, refl, ap, sym, ◌∙◌, subst, arith, codes, false, true, rules, Option, Some, None, Bool}
+use Rattle.std.specs.Prelude.{map}
+use Rattle.std.proofs.lemmas.List.{length-map}
 use Rattle.std.specs.Fmt.{digits}
-use Rattle.std.specs.List.{AllZip}
 use Rattle.tb_terms.specs.declared.expr.Expr.{the_lemmas as expr_lemmas}
 use Rattle.tb_terms.specs.declared.expr.Expr.TheVariants as expr
 use Rattle.tb_terms.specs.contracts.term.Term as term_row
@@ -15,16 +15,9 @@ use Rattle.tb_terms.specs.declared.sort.Sort.TheVariants as sort
 use Rattle.tb_terms.specs.Sizes.{is_within_limits}
 use Rattle.tb_terms.specs.Sorts.{has_sort, initial_value}
 use Rattle.tb_terms.specs.Texts.{term_text}
-use Rattle.tb_read.specs.declared.fault.TermFault.TheVariants as fault
-use Rattle.tb_read.specs.Spelling.{Reads}
-use Rattle.tb_read.proofs.Written.{written_reads}
-use Rattle.tb_lane.specs.ToolLines.{line_of, IsToolLine}
 use Rattle.tb_lane.specs.Sending.{taken_of}
-use Rattle.tb_lane.proofs.Lines.{read-line, faulty-line}
-use Rattle.tb_func.specs.declared.slot.Slot.{Slot}
 use Rattle.tb_body.specs.declared.tree.Tree.{Tree, the_lemmas as tree_lemmas}
 use Rattle.tb_body.specs.declared.tree.Tree.TheVariants as tree
-use Rattle.tb_body.specs.declared.tree.Setting.{Setting}
 use Rattle.tb_body.specs.declared.act.Act.TheVariants as act
 use Rattle.tb_body.specs.declared.atom.Atom.{Atom}
 use Rattle.tb_body.specs.declared.body.Body.{Body}
@@ -35,7 +28,7 @@ use Rattle.tb_algebra.specs.Processes.{Process, At, Seq, Let, fresh}
 use Rattle.tb_algebra.specs.Atoms.{values_together}
 use Rattle.tb_algebra.specs.Settings.{with_settings}
 use Rattle.tb_notes.specs.Inboxes.{nothing}
-use Rattle.tb_tools.specs.Lanes.{Lane, unused, new_tool, opening}
+use Rattle.tb_tools.specs.Lanes.{Lane, unused, new_tool}
 use Rattle.tb_tools.specs.declared.stage.Stage.TheVariants as stage
 use Rattle.tb_bus.specs.declared.origin.Origin.{Origin}
 use Rattle.tb_bus.specs.Buses.{Bus, Proc, start}
@@ -45,25 +38,22 @@ use Rattle.tb_edge.specs.declared.given.Given.{Given}
 use Rattle.tb_edge.specs.declared.given.Given.TheVariants as given
 use Rattle.tb_edge.specs.declared.given.Taken.{Taken}
 use Rattle.tb_edge.specs.declared.given.Taken.TheVariants as taken
-use Rattle.tb_edge.specs.Ends.{InletView, ClockView}
-use Rattle.tb_log.specs.declared.entry.Input.{Input}
 use Rattle.tb_log.specs.declared.entry.Input.TheVariants as input
-use Rattle.tb_log.specs.declared.entry.ToolLine.TheVariants as line
 use Rattle.tb_log.specs.declared.entry.Reply.TheVariants.{Took, Dropped}
 use Rattle.tb_log.specs.declared.entry.Why.TheVariants as why
 use Rattle.tb_log.specs.declared.entry.Out.{Out}
 use Rattle.tb_log.specs.declared.entry.Out.TheVariants as out
 use Rattle.tb_log.specs.declared.entry.Entry.{Entry}
-use Rattle.tb_log.specs.declared.entry.Entry.TheVariants.{Did, Quiet, Fed, Gave}
+use Rattle.tb_log.specs.declared.entry.Entry.TheVariants.{Did, Fed, Gave}
 use Rattle.tb_log.specs.declared.entry.LabelKind.TheVariants as kind
-use Rattle.tb_log.specs.Lanes.{inputs, handed, sent, is_cut_off}
+use Rattle.tb_log.specs.Lanes.{handed, sent, is_cut_off}
 use Rattle.tb_log.specs.LogText.{log_text}
-use Rattle.tb_core.specs.Cores.{says_quiet}
 use Rattle.tb_lock.specs.Histories.{IsSparse}
-use Rattle.tb_run.specs.Workers.{AreLines, cut_count}
-use Rattle.tb_run.specs.Clocks.{ClockRan, TimeIs}
-use Rattle.tb_run.specs.Outcomes.{LaneView, LaneRan, EachLane, IsDone}
-use Rattle.tb_run.proofs.Examples.{plain, root, seen, finish, tool, holding, Leads, stays, did, quiet, came, gave, sparse, from_start, empty-lane, idle, at_end, silent-lanes, one_lane, clock_of}
+use Rattle.tb_run.specs.Clocks.{ClockRan}
+use Rattle.tb_run.specs.declared.ends.RunWhy.TheVariants.{Ended}
+use Rattle.tb_core.specs.Cores.{CoreState}
+use Rattle.tb_run.specs.Outcomes.{LaneView, LaneRan, LaneStopped, EachLane, IsDone, OutsideView, Runs}
+use Rattle.tb_run.proofs.Examples.{plain, root, seen, finish, tool, holding, Leads, stays, did, came, gave, sparse, from_start, empty-lane, idle, at_end, silent-lanes, one_lane, clock_of, before, afterwards, core_of, no-ticks, not-over}
 
 -- the name of the tool, and its command
 abbrev pub t : List ℕ
@@ -237,7 +227,7 @@ do-text = search (rules, term_lemmas)
 abbrev pub taken_by_tool : List Taken
 taken_by_tool = taken.Start t ∷ taken.Line (codes "rec-do(a)") ∷ taken.End ∷ []
 
-taken-all : map taken_of (sent cutting_log 1) ≡ taken_by_tool
+pub taken-all : map taken_of (sent cutting_log 1) ≡ taken_by_tool
 taken-all = ap (λ (text : List ℕ). taken.Start t ∷ taken.Line text ∷ taken.End ∷ []) do-text
 
 -- the inlet gave its end, and wasn't read to the end, since the bus was down; the outlet failed once
@@ -258,32 +248,138 @@ tool-ran = record {
 pub lanes-ran : EachLane (LaneRan cutting_log) 1 (one_lane idle idle) (one_lane tool_end (at_end [] [] 0))
 lanes-ran = (tool-ran, silent-lanes cutting_log 2 15 refl)
 
-no-ticks-come : TimeIs cutting_log
-no-ticks-come = record {
-  first = [];
-  tail = Fed input.NoTicks (Dropped why.Down) ∷ [];
-  is = refl;
-  ticks = tt;
-  last = inr (Dropped why.Down, refl);
-}
-
 pub clock-ran : ClockRan cutting_log 36000 (clock_of false) (clock_of true) ⊥
 clock-ran = record {
   ended = true;
   told = refl;
   within = omega arith;
-  time = no-ticks-come;
+  time = no-ticks cutting_log (Dropped why.Down) refl;
   why = inr (inl refl);
   end = inl (inl refl);
 }
 
+abbrev pub cutting_text : List ℕ
+cutting_text = codes "1 execute 1.1 t(1)\n2 out 1 start \"t\"\n3 snd-do 1.2 t(1),a\n4 out 1 rec-do(a)\n5 snd-do 1.3 t(1),b\n6 out 1 rec-do(b)\n7 cut 1\n8 out 1 end\n9 rec-disconnect 1.4 t(1)\n10 finish\n11 drop down gone 1\n12 drop down noticks\n"
+
+tool-text : term_text (tool t 1) ≡ codes "t(1)"
+unfolding digits
+tool-text = search (rules, term_lemmas)
+
+a-text : term_text (word (codes "a")) ≡ codes "a"
+a-text = search (rules, term_lemmas)
+
+b-text : term_text (word (codes "b")) ≡ codes "b"
+b-text = search (rules, term_lemmas)
+
+other-text : term_text (term.Appl (codes "rec-do") (word (codes "b") ∷ [])) ≡ codes "rec-do(b)"
+other-text = search (rules, term_lemmas)
+
+put-text : log_text cutting_log ≡ cutting_text
+unfolding digits
+put-text = simp (tool-text, a-text, b-text, do-text, other-text)
+
+-- the outside after the run, where the tool's lane shows this
+abbrev pub after_cut : LaneView → OutsideView
+after_cut lane = afterwards (one_lane lane (at_end [] [] 0)) cutting_text
+
+abbrev pub back : CoreState
+back = core_of cutting cutting_log
+
+-- such a run went to its end
+pub cutting-run : Runs 36000 before (after_cut tool_end) cutting back Ended
+cutting-run = record {
+  origin_is = refl;
+  history = record { trace = cutting-leads.trace; sparse = cutting-sparse };
+  within = omega arith;
+  outcome = (ap (λ (text : List ℕ). Some text) (sym put-text), lanes-ran, clock-ran, cutting-done);
+}
+
+abbrev uncut : List Taken
+uncut = taken.Start t ∷ taken.Line (codes "rec-do(a)") ∷ taken.Line (codes "rec-do(b)") ∷ taken.End ∷ []
+
 -- the outlet took what was cut off
-pub none-uncut : LaneRan cutting_log 1 idle (record tool_end { took = Some (taken.Start t ∷ taken.Line (codes "rec-do(a)") ∷ taken.Line (codes "rec-do(b)") ∷ taken.End ∷ []) }) → ⊥
-none-uncut ran =
-    let e : ◌≡◌ {A = Option (List Taken)} (Some (taken.Start t ∷ taken.Line (codes "rec-do(a)") ∷ taken.Line (codes "rec-do(b)") ∷ taken.End ∷ [])) (Some taken_by_tool) =
-        ran.took ∙ ap (λ (takes : List Taken). Some takes) taken-all in
+pub none-uncut : Runs 36000 before (after_cut (record tool_end { took = Some uncut })) cutting back Ended → ⊥
+none-uncut runs =
+    let e : ◌≡◌ {A = Option (List Taken)} (Some uncut) (Some taken_by_tool) = runs.outcome.1.0.took ∙ ap (λ (takes : List Taken). Some takes) taken-all in
     let same : ◌≡◌ {A = Taken} (taken.Line (codes "rec-do(b)")) taken.End = cc in cc
 
 -- its count of faults didn't rise
-pub none-unfailed : LaneRan cutting_log 1 idle (record tool_end { faults = 0 }) → ⊥
-none-unfailed ran = elim ran.cuts [ inl rose ↦ absurd (omega (arith, rose)) | inr last ↦ absurd (omega (arith, last)) ]
+pub none-unfailed : Runs 36000 before (after_cut (record tool_end { faults = 0 })) cutting back Ended → ⊥
+none-unfailed runs = elim runs.outcome.1.0.cuts [ inl rose ↦ absurd (omega (arith, rose)) | inr last ↦ absurd (omega (arith, last)) ]
+
+-- the log doesn't say that the line was cut off
+abbrev unsaid : List Entry
+unsaid =
+    Gave 1 (out.Start t)
+    ∷ Gave 1 (do_line (codes "a"))
+    ∷ Gave 1 (do_line (codes "b"))
+    ∷ Gave 1 out.End
+    ∷ Fed (input.Gone 1) (Dropped why.Down)
+    ∷ []
+
+unsaid-taken : map taken_of (sent unsaid 1) ≡ uncut
+unsaid-taken =
+    ap (λ (text : List ℕ). taken.Start t ∷ taken.Line text ∷ taken.Line (term_text (term.Appl (codes "rec-do") (word (codes "b") ∷ []))) ∷ taken.End ∷ []) do-text
+    ∙ ap (λ (text : List ℕ). taken.Start t ∷ taken.Line (codes "rec-do(a)") ∷ taken.Line text ∷ taken.End ∷ []) other-text
+
+pub none-unsaid : LaneRan unsaid 1 idle tool_end → ⊥
+none-unsaid ran =
+    let e : ◌≡◌ {A = Option (List Taken)} (Some taken_by_tool) (Some uncut) = ran.took ∙ ap (λ (takes : List Taken). Some takes) unsaid-taken in
+    let same : ◌≡◌ {A = Taken} taken.End (taken.Line (codes "rec-do(b)")) = cc in cc
+
+-- the inlet isn't over, and the log has nothing of it that was dropped since the bus was down
+pub none-unread : (gives : List Given) (takes : List Taken) (faults : ℕ) → LaneRan before_gone 1 idle (record { gave = Some (record { gave = gives; over = false }); took = Some takes; faults = faults }) → ⊥
+none-unread gives takes faults = not-over before_gone 1 gives takes faults refl
+
+-- a run that was stopped before it was said that the line was cut off: the outlet lacks the line
+abbrev cut_short : List Entry
+cut_short = Gave 1 (out.Start t) ∷ Gave 1 (do_line (codes "a")) ∷ Gave 1 (do_line (codes "b")) ∷ []
+
+abbrev short_end : List Taken → ℕ → LaneView
+short_end takes faults = record { gave = Some (record { gave = []; over = false }); took = Some takes; faults = faults }
+
+tool-stopped : LaneStopped cut_short 1 idle (short_end (taken.Start t ∷ taken.Line (codes "rec-do(a)") ∷ []) 1)
+tool-stopped = record {
+  fed = [];
+  last = [];
+  over = false;
+  gave = refl;
+  lines = tt;
+  one = omega arith;
+  put = out.Start t ∷ do_line (codes "a") ∷ [];
+  lost = do_line (codes "b") ∷ [];
+  handed = refl;
+  took = ap (λ (text : List ℕ). Some (taken.Start t ∷ taken.Line text ∷ [])) (sym do-text);
+  one_lost = omega arith;
+  failed = inr (inl (omega arith));
+  cuts = inl (omega arith);
+}
+
+abbrev took_of : Option (List Taken) → List Taken
+took_of None = []
+took_of (Some takes) = takes
+
+-- how many items an outlet lacks
+lacked : (log : List Entry) (takes : List Taken) (faults : ℕ) (ran : LaneStopped log 1 idle (short_end takes faults)) → length (sent log 1) ≡ length takes + length ran.lost
+lacked log takes faults ran =
+    let put : length takes ≡ length (map taken_of ran.put) = ap (λ (o : Option (List Taken)). length (took_of o)) ran.took in
+    let as_many : length (map taken_of ran.put) ≡ length ran.put = length-map ran.put taken_of in
+    let all : length (sent log 1) ≡ length ran.put + length ran.lost = ap length ran.handed ∙ length-append ran.put ran.lost in
+    omega (arith, put, as_many, all)
+
+-- two items are lacking
+none-two : (faults : ℕ) → LaneStopped cut_short 1 idle (short_end (taken.Start t ∷ []) faults) → ⊥
+none-two faults ran =
+    let all : 3 ≡ 1 + length ran.lost = lacked cut_short (taken.Start t ∷ []) faults ran in
+    absurd (omega (arith, all, ran.one_lost))
+
+-- one is, though the outlet didn't fail
+none-unfailing : (takes : List Taken) → length takes ≡ 2 → LaneStopped cut_short 1 idle (short_end takes 0) → ⊥
+none-unfailing takes two ran = elim ran.failed [
+  | inl none ↦
+      let all : 3 ≡ length takes + length ran.lost = lacked cut_short takes 0 ran in
+      let nothing : length ran.lost ≡ 0 = ap length none in
+      absurd (omega (arith, all, two, nothing))
+  | inr (inl less) ↦ absurd (omega (arith, less))
+  | inr (inr last) ↦ absurd (omega (arith, last))
+]

@@ -1,23 +1,21 @@
 -- Worked runs, computed from the definitions alone: what they share.
-use Rattle.std.proofs.Common.{length-append, ◌≡◌, ℕ, ◌≤◌, pos, List, [], ◌∷◌, replicate, inl, map, refl, ap, sym, ◌∙◌, subst, arith, codes, false, true, rules, Option, Some, None, Bool, not, ◌&&◌, ◌+◌, ◌-◌, ◌++◌, suc, zero, length, Contains, inr, slice_get}
+use Rattle.std.proofs.Common.{length-append, ◌≡◌, ℕ, ◌≤◌, List, [], ◌∷◌, replicate, inl, map, refl, ap, sym, ◌∙◌, subst, arith, false, true, Option, Some, None, Bool, not, ◌&&◌, ◌+◌, ◌-◌, ◌++◌, suc, zero, length, Contains, inr, slice_get}
 use Rattle.std.specs.Prelude.{nat_eq, slice_index_or, filter, ◌⊎◌}
-use Rattle.std.proofs.lemmas.Bool.{and_parts, eqb-true}
-use Rattle.tb_terms.specs.declared.term.Term.{Term, the_lemmas as term_lemmas}
-use Rattle.tb_terms.specs.declared.term.Term.TheVariants as term
-use Rattle.tb_terms.specs.declared.sort.Sort.{the_lemmas as sort_lemmas}
+use Rattle.std.proofs.lemmas.Bool.{and_parts, and_right, eqb-true}
+use Rattle.tb_terms.specs.declared.term.Term.{Term}
 use Rattle.tb_terms.specs.declared.sort.Sort.TheVariants as sort
-use Rattle.tb_terms.specs.Sizes.{is_within_limits}
-use Rattle.tb_terms.specs.Sorts.{has_sort, initial_value}
 use Rattle.tb_func.specs.declared.slot.Slot.{Slot}
 use Rattle.tb_body.specs.declared.tree.Setting.{Setting}
 use Rattle.tb_body.specs.declared.act.Act.{Act}
 use Rattle.tb_body.specs.declared.atom.Atom.{Atom}
 use Rattle.tb_body.specs.declared.program.Root.{Root}
-use Rattle.tb_algebra.specs.Settings.{with_settings}
 use Rattle.tb_log.specs.Shapes.{IsInputInShape, IsLane}
 use Rattle.tb_log.specs.declared.entry.Input.{Input}
 use Rattle.tb_log.specs.declared.entry.Input.TheVariants as input_of
 use Rattle.tb_log.specs.declared.entry.Reply.{Reply}
+use Rattle.tb_log.specs.declared.entry.Reply.TheVariants.{Took, Dropped}
+use Rattle.tb_log.specs.declared.entry.Why.{Why}
+use Rattle.tb_log.specs.declared.entry.Why.TheVariants as why
 use Rattle.tb_log.specs.declared.entry.Out.{Out}
 use Rattle.tb_log.specs.declared.entry.Entry.{Entry}
 use Rattle.tb_log.specs.declared.entry.Entry.TheVariants.{Did, Quiet, Fed, Gave}
@@ -41,7 +39,8 @@ use Rattle.tb_core.specs.Cores.{CoreState, says_quiet}
 use Rattle.tb_lock.specs.Histories.{IsSparse}
 use Rattle.tb_run.specs.Workers.{AreLines, AreTicks, IsNoTicks, cut_count}
 use Rattle.tb_run.specs.Clocks.{is_time, TimeIs}
-use Rattle.tb_run.specs.Outcomes.{LaneView, LaneRan, LaneStopped, EachLane, OutsideView, outside_of}
+use Rattle.tb_run.specs.Dropping.{HasDropped}
+use Rattle.tb_run.specs.Outcomes.{LaneView, LaneRan, LaneStopped, EachLane, OutsideView, outside_of, is_of}
 
 -- an atom that has no times
 abbrev pub plain : Act → Atom
@@ -174,6 +173,36 @@ silent-lanes log lane (suc count) e =
     let both = and_parts (is_silent log lane) (are_silent log (lane + 1) count) e in
     (silent-lane log lane both.0, silent-lanes log (lane + 1) count both.1)
 
+-- nothing has happened on it when a run is stopped
+unmoved : (log : List Entry) (lane : ℕ) → inputs log lane ≡ [] → sent log lane ≡ [] → cut_count lane log ≡ 0 → LaneStopped log lane idle idle
+unmoved log lane none nothing never = record {
+  fed = [];
+  last = [];
+  over = false;
+  gave = refl;
+  lines = subst (AreLines lane []) (sym none) tt;
+  one = omega arith;
+  put = [];
+  lost = [];
+  handed = nothing;
+  took = refl;
+  one_lost = omega arith;
+  failed = inl refl;
+  cuts = inl (omega (arith, never));
+}
+
+silent-stopped : (log : List Entry) (lane : ℕ) → is_silent log lane ≡ true → LaneStopped log lane idle idle
+silent-stopped log lane e =
+    let first = and_parts (is_empty (inputs log lane)) (is_empty (sent log lane) && nat_eq (cut_count lane log) 0) e in
+    let second = and_parts (is_empty (sent log lane)) (nat_eq (cut_count lane log) 0) first.1 in
+    unmoved log lane (none-of (inputs log lane) first.0) (none-of (sent log lane) second.0) (eqb-true (cut_count lane log) 0 second.1)
+
+pub unmoved-lanes : (log : List Entry) (lane count : ℕ) → are_silent log lane count ≡ true → EachLane (LaneStopped log) lane (replicate count idle) (replicate count idle)
+unmoved-lanes log lane zero e = tt
+unmoved-lanes log lane (suc count) e =
+    let both = and_parts (is_silent log lane) (are_silent log (lane + 1) count) e in
+    (silent-stopped log lane both.0, unmoved-lanes log (lane + 1) count both.1)
+
 -- a clock that gave no tick, before and after
 abbrev pub clock_of : Bool → Option ClockView
 clock_of ended = Some (record { ticks = 0; ended = ended })
@@ -275,3 +304,45 @@ gave-most log lane gives takes faults ran =
     let heard : length ran.fed ≡ length (inputs log lane) = lines-length lane ran.fed (inputs log lane) ran.lines in
     let all : length gives ≡ length ran.fed + length ran.last = ap length same ∙ length-append ran.fed ran.last in
     omega (arith, heard, all, ran.one)
+
+-- an input that was dropped since the bus was down
+abbrev drops_by : Why → Bool
+drops_by why.Unasked = false
+drops_by why.NotLive = false
+drops_by why.Named = false
+drops_by why.Stranger = false
+drops_by why.Bad = false
+drops_by why.Down = true
+
+abbrev drops_so : Reply → Bool
+drops_so Took = false
+drops_so (Dropped why) = drops_by why
+
+abbrev is_dropped : Entry → Bool
+is_dropped (Did label) = false
+is_dropped Quiet = false
+is_dropped (Fed input reply) = drops_so reply
+is_dropped (Gave lane out) = false
+
+abbrev pub none_dropped : List Entry → Bool
+none_dropped [] = true
+none_dropped (entry ∷ log) = not (is_dropped entry) && none_dropped log
+
+one-dropped : (front : List Entry) (it : Input) (rest : List Entry) → none_dropped (front ++ Fed it (Dropped why.Down) ∷ rest) ≡ false
+one-dropped [] it rest = refl
+one-dropped (entry ∷ front) it rest = and_right (not (is_dropped entry)) (none_dropped (front ++ Fed it (Dropped why.Down) ∷ rest)) (one-dropped front it rest)
+
+pub not-dropped : (test : Input → Bool) (log : List Entry) → none_dropped log ≡ true → HasDropped test log → ⊥
+not-dropped test log none h = let e : ◌≡◌ {A = Bool} true false = sym none ∙ ap none_dropped h.4 ∙ one-dropped h.0 h.1 h.2 in cc
+
+abbrev is_over : Option InletView → Bool
+is_over None = false
+is_over (Some view) = view.over
+
+-- an inlet isn't over, and nothing of it was dropped since the bus was down
+pub not-over : (log : List Entry) (lane : ℕ) (gives : List Given) (takes : List Taken) (faults : ℕ) → none_dropped log ≡ true →
+    LaneRan log lane idle (record { gave = Some (record { gave = gives; over = false }); took = Some takes; faults = faults }) → ⊥
+not-over log lane gives takes faults none ran = elim ran.end [
+  | inl over ↦ let same : ◌≡◌ {A = Bool} false true = ap is_over ran.gave ∙ over in cc
+  | inr dropped ↦ not-dropped (is_of lane) log none dropped
+]

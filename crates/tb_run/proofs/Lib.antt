@@ -26,4 +26,6 @@ mod BadLinesExample
 mod CutOffExample
 mod Examples
 mod SendLemmas
+mod TimeExample
 mod TwoToolsExample
+mod WorkersExample

@@ -1,8 +1,7 @@
 -- A run that is worked out: two tools are asked beside each other, and answer.
-use Rattle.std.proofs.Common.{◌≡◌, ℕ, ◌≤◌, ◌++◌, pos, List, [], ◌∷◌, inl, inr, replicate, refl, ap, sym, ◌∙◌, subst, arith, codes, false, true, rules, Option, Some, None, Bool}
-use Rattle.std.specs.Prelude.{⊤, map}
+use Rattle.std.proofs.Common.{◌≡◌, ℕ, ℤ, pos, List, [], ◌∷◌, inl, inr, replicate, refl, ap, sym, ◌∙◌, subst, arith, codes, false, true, rules, Option, Some, None, Bool}
+use Rattle.std.specs.Prelude.{map}
 use Rattle.std.specs.Fmt.{digits}
-use Rattle.std.specs.List.{AllZip}
 use Rattle.tb_terms.specs.declared.expr.Expr.{the_lemmas as expr_lemmas}
 use Rattle.tb_terms.specs.declared.expr.Expr.TheVariants as expr
 use Rattle.tb_terms.specs.contracts.term.Term as term_row
@@ -15,12 +14,11 @@ use Rattle.tb_terms.specs.declared.sort.Sort.TheVariants as sort
 use Rattle.tb_terms.specs.Sizes.{IsWithinLimits, is_within_limits, term_size, term_levels}
 use Rattle.tb_terms.specs.Sorts.{has_sort, initial_value}
 use Rattle.tb_terms.specs.Texts.{term_text}
-use Rattle.tb_read.specs.declared.fault.TermFault.TheVariants as fault
 use Rattle.tb_read.specs.Spelling.{Reads}
 use Rattle.tb_read.proofs.Written.{written_reads}
 use Rattle.tb_lane.specs.ToolLines.{line_of, IsToolLine}
 use Rattle.tb_lane.specs.Sending.{taken_of}
-use Rattle.tb_lane.proofs.Lines.{read-line, faulty-line}
+use Rattle.tb_lane.proofs.Lines.{read-line, lines-same}
 use Rattle.tb_func.specs.declared.slot.Slot.{Slot}
 use Rattle.tb_body.specs.declared.tree.Tree.{Tree, the_lemmas as tree_lemmas}
 use Rattle.tb_body.specs.declared.tree.Tree.TheVariants as tree
@@ -33,14 +31,13 @@ use Rattle.tb_body.specs.InRange.{is_body_in_range}
 use Rattle.tb_body.specs.Programs.{is_program_in_range}
 use Rattle.tb_algebra.specs.Processes.{Process, At, Seq, Let, fresh}
 use Rattle.tb_algebra.specs.Atoms.{values_together, patterns_of}
-use Rattle.tb_match.specs.declared.bind.Bind.{Bind}
 use Rattle.tb_match.specs.Matches.{match_list, match_term}
-use Rattle.tb_terms.specs.declared.pattern.Pattern.{Pattern, the_lemmas as pattern_lemmas}
+use Rattle.tb_terms.specs.declared.pattern.Pattern.{the_lemmas as pattern_lemmas}
 use Rattle.tb_terms.specs.declared.pattern.Pattern.TheVariants as pattern
 use Rattle.std.proofs.lemmas.Bool.{false_from_ne_true}
 use Rattle.tb_algebra.specs.Settings.{with_settings}
 use Rattle.tb_notes.specs.Inboxes.{nothing}
-use Rattle.tb_tools.specs.Lanes.{Lane, unused, new_tool, opening}
+use Rattle.tb_tools.specs.Lanes.{Lane, unused, new_tool}
 use Rattle.tb_tools.specs.declared.stage.Stage.TheVariants as stage
 use Rattle.tb_tools.specs.declared.stage.Eval.{Eval}
 use Rattle.tb_tools.specs.declared.stage.Eval.TheVariants as eval
@@ -52,8 +49,6 @@ use Rattle.tb_edge.specs.declared.given.Given.{Given}
 use Rattle.tb_edge.specs.declared.given.Given.TheVariants as given
 use Rattle.tb_edge.specs.declared.given.Taken.{Taken}
 use Rattle.tb_edge.specs.declared.given.Taken.TheVariants as taken
-use Rattle.tb_edge.specs.Ends.{InletView, ClockView}
-use Rattle.tb_log.specs.declared.entry.Input.{Input}
 use Rattle.tb_log.specs.declared.entry.Input.TheVariants as input
 use Rattle.tb_log.specs.declared.entry.ToolLine.TheVariants as line
 use Rattle.tb_log.specs.declared.entry.Reply.TheVariants.{Took, Dropped}
@@ -63,14 +58,14 @@ use Rattle.tb_log.specs.declared.entry.Out.TheVariants as out
 use Rattle.tb_log.specs.declared.entry.Entry.{Entry}
 use Rattle.tb_log.specs.declared.entry.Entry.TheVariants.{Did, Quiet, Fed, Gave}
 use Rattle.tb_log.specs.declared.entry.LabelKind.TheVariants as kind
-use Rattle.tb_log.specs.Lanes.{inputs, handed, sent, is_cut_off}
+use Rattle.tb_log.specs.Lanes.{sent}
 use Rattle.tb_log.specs.LogText.{log_text}
-use Rattle.tb_core.specs.Cores.{says_quiet}
 use Rattle.tb_lock.specs.Histories.{IsSparse}
-use Rattle.tb_run.specs.Workers.{AreLines, cut_count}
-use Rattle.tb_run.specs.Clocks.{ClockRan, TimeIs}
-use Rattle.tb_run.specs.Outcomes.{LaneView, LaneRan, EachLane, IsDone}
-use Rattle.tb_run.proofs.Examples.{plain, root, seen, finish, tool, holding, Leads, stays, did, quiet, came, gave, sparse, empty-lane, idle, at_end, silent-lanes, clock_of}
+use Rattle.tb_run.specs.Clocks.{ClockRan}
+use Rattle.tb_run.specs.declared.ends.RunWhy.TheVariants.{Ended}
+use Rattle.tb_core.specs.Cores.{CoreState}
+use Rattle.tb_run.specs.Outcomes.{LaneView, LaneRan, EachLane, IsDone, Runs}
+use Rattle.tb_run.proofs.Examples.{plain, root, seen, finish, tool, holding, Leads, stays, did, quiet, came, gave, sparse, empty-lane, idle, at_end, silent-lanes, clock_of, before, afterwards, core_of, no-ticks, gave-all}
 
 -- the names of the tools, which are their commands
 abbrev pub a : List ℕ
@@ -341,10 +336,10 @@ leads =
 -- the bus that the program opens with, where both bodies are entered so and the variables begin with these
 abbrev with_terms : Process → Term → Term → Term → Bus
 with_terms term one two any = bus_of (
-  record { number = 1; body = 0; term = term; store = record { sort = sort.Tool a; value = one } ∷ record { sort = sort.Any; value = any } ∷ []; inbox = nothing }
-  ∷ record { number = 2; body = 1; term = term; store = record { sort = sort.Tool b; value = two } ∷ record { sort = sort.Any; value = any } ∷ []; inbox = nothing }
-  ∷ []
-) 0 false 1 unused unused
+    record { number = 1; body = 0; term = term; store = record { sort = sort.Tool a; value = one } ∷ record { sort = sort.Any; value = any } ∷ []; inbox = nothing }
+    ∷ record { number = 2; body = 1; term = term; store = record { sort = sort.Tool b; value = two } ∷ record { sort = sort.Any; value = any } ∷ []; inbox = nothing }
+    ∷ []
+    ) 0 false 1 unused unused
 
 pub asking-leads : Leads (start asking) asking_log (over [] [])
 asking-leads =
@@ -381,6 +376,11 @@ two-read =
 answer-line : (number : ℕ) → line_of (answer number) ≡ line.Value (value number)
 unfolding is_within_limits
 answer-line number = search (rules, term_lemmas)
+
+one-no_two : line.Value (value 1) ≡ line.Value (value 2) → ⊥
+one-no_two e =
+    let same : value 1 ≡ value 2 = cc in
+    let numbers : ◌≡◌ {A = ℤ} (pos 1) (pos 2) = search (rules, term_lemmas) in cc
 
 one-put : IsToolLine (codes "snd-value(1)") (line.Value (value 1))
 one-put = subst (IsToolLine (codes "snd-value(1)")) (answer-line 1) (read-line (codes "snd-value(1)") (answer 1) (omega arith) one-read)
@@ -439,35 +439,77 @@ lanes_after =
     ∷ at_end (given.Line (codes "snd-value(2)") ∷ []) (taken_by b (codes "rec-eval(two)")) 0
     ∷ replicate 14 (at_end [] [] 0)
 
-pub lanes-ran : EachLane (LaneRan asking_log) 1 (idle ∷ idle ∷ replicate 14 idle) lanes_after
+pub lanes-ran : EachLane (LaneRan asking_log) 1 (replicate 16 idle) lanes_after
 lanes-ran = (one-ran, (two-ran, silent-lanes asking_log 3 14 refl))
-
-no-ticks-come : TimeIs asking_log
-no-ticks-come = record {
-  first = [];
-  tail = Fed input.NoTicks (Dropped why.Down) ∷ [];
-  is = refl;
-  ticks = tt;
-  last = inr (Dropped why.Down, refl);
-}
 
 pub clock-ran : ClockRan asking_log 36000 (clock_of false) (clock_of true) ⊥
 clock-ran = record {
   ended = true;
   told = refl;
   within = omega arith;
-  time = no-ticks-come;
+  time = no-ticks asking_log (Dropped why.Down) refl;
   why = inr (inl refl);
   end = inl (inl refl);
 }
 
--- lane 1's tool is asked and answers, and the log hasn't its line
-pub none-unheard : LaneRan asking_log 1 idle (at_end [] (taken_by a (codes "rec-eval(one)")) 0) → ⊥
-none-unheard ran =
-    let e : ◌≡◌ {A = Option InletView} (Some (record { gave = []; over = true })) (Some (record { gave = ran.given; over = ran.over })) = ran.gave in
-    let same : [] ≡ ran.given = ap gave_of e in
-    subst (λ (gives : List Given). AreLines 1 gives (inputs asking_log 1)) (sym same) ran.lines
-  where
-    gave_of : Option InletView → List Given
-    gave_of None = []
-    gave_of (Some view) = view.gave
+abbrev pub asking_text : List ℕ
+asking_text = codes "1 execute 1.1 a(1)\n2 execute 2.1 b(2)\n3 snd-eval 1.2 a(1),one\n4 snd-eval 2.2 b(2),two\n5 quiet\n6 out 1 start \"a\"\n7 out 2 start \"b\"\n8 out 1 rec-eval(one)\n9 out 2 rec-eval(two)\n10 line 1 snd-value(1)\n11 rec-value 1.3 a(1),1\n12 line 2 snd-value(2)\n13 rec-value 2.3 b(2),2\n14 finish\n15 out 1 rec-terminate(finish)\n16 out 1 end\n17 out 2 rec-terminate(finish)\n18 out 2 end\n19 drop down noticks\n"
+
+a-text : term_text (tool a 1) ≡ codes "a(1)"
+unfolding digits
+a-text = search (rules, term_lemmas)
+
+b-text : term_text (tool b 2) ≡ codes "b(2)"
+unfolding digits
+b-text = search (rules, term_lemmas)
+
+one-word : term_text (word (codes "one")) ≡ codes "one"
+one-word = search (rules, term_lemmas)
+
+two-word : term_text (word (codes "two")) ≡ codes "two"
+two-word = search (rules, term_lemmas)
+
+one-value : term_text (value 1) ≡ codes "1"
+unfolding digits
+one-value = search (rules, term_lemmas)
+
+two-value : term_text (value 2) ≡ codes "2"
+unfolding digits
+two-value = search (rules, term_lemmas)
+
+put-text : log_text asking_log ≡ asking_text
+unfolding digits
+put-text = simp (a-text, b-text, one-word, two-word, one-value, two-value, one-text, two-text, last-text)
+
+abbrev pub asked_lanes : List Given → List Taken → List LaneView
+asked_lanes gives takes = at_end gives takes 0 ∷ at_end (given.Line (codes "snd-value(2)") ∷ []) (taken_by b (codes "rec-eval(two)")) 0 ∷ replicate 14 (at_end [] [] 0)
+
+abbrev pub back : CoreState
+back = core_of asking asking_log
+
+-- such a run went to its end
+pub asking-run : Runs 36000 before (afterwards (asked_lanes (given.Line (codes "snd-value(1)") ∷ []) (taken_by a (codes "rec-eval(one)"))) asking_text) asking back Ended
+asking-run = record {
+  origin_is = refl;
+  history = record { trace = asking-leads.trace; sparse = asking-sparse };
+  within = omega arith;
+  outcome = (ap (λ (text : List ℕ). Some text) (sym put-text), lanes-ran, clock-ran, asking-done);
+}
+
+-- the log has an answer that the first tool's inlet didn't give
+pub none-made_up : (takes : List Taken) (text : List ℕ) → Runs 36000 before (afterwards (asked_lanes [] takes) text) asking back Ended → ⊥
+none-made_up takes text runs = gave-all asking_log 1 [] takes 0 runs.outcome.1.0
+
+-- the inlet gave another one
+pub none-other : (takes : List Taken) (text : List ℕ) → Runs 36000 before (afterwards (asked_lanes (given.Line (codes "snd-value(2)") ∷ []) takes) text) asking back Ended → ⊥
+none-other takes text runs =
+    let lines = gave-all asking_log 1 (given.Line (codes "snd-value(2)") ∷ []) takes 0 runs.outcome.1.0 in
+    let same : line.Value (value 1) ≡ line.Value (value 2) = lines-same (codes "snd-value(2)") (line.Value (value 1)) (line.Value (value 2)) lines.0.1 two-put in
+    one-no_two same
+
+-- the first outlet wasn't told that the bus went down
+pub none-undismissed : (gives : List Given) (text : List ℕ) → Runs 36000 before (afterwards (asked_lanes gives (taken.Start a ∷ taken.Line (codes "rec-eval(one)") ∷ taken.End ∷ [])) text) asking back Ended → ⊥
+none-undismissed gives text runs =
+    let e : ◌≡◌ {A = Option (List Taken)} (Some (taken.Start a ∷ taken.Line (codes "rec-eval(one)") ∷ taken.End ∷ [])) (Some (taken_by a (codes "rec-eval(one)"))) =
+    runs.outcome.1.0.took ∙ ap (λ (takes : List Taken). Some takes) one-taken in
+    let same : ◌≡◌ {A = Taken} taken.End (taken.Line (codes "rec-terminate(finish)")) = cc in cc
