@@ -3,7 +3,7 @@ use Rattle.std.proofs.Common.{◌≡◌, ◌≢◌, ◌<◌, ◌≤◌, ◌+◌,
 use Rattle.std.specs.List.{All}
 use Rattle.std.proofs.lemmas.Bool.{false≢true}
 use Rattle.std.proofs.lemmas.Option.{none-some, same_Some}
-use Rattle.std.proofs.lemmas.List.{take_more}
+use Rattle.std.proofs.lemmas.List.{take_all, take_more}
 use Rattle.std.proofs.lemmas.List.Elements.{All-cons, All-head, All-nil, All-push, All-same, All-tail, All-weaker}
 use Rattle.tb_index.specs.Indexes.{HasRoom, IndexState, IsCleared, IsEmpty, IsSet, IsTurned, SameIndex, is_awake, receives, sends}
 use Rattle.tb_index.specs.Marks.{has_mark, is_mark}
@@ -58,7 +58,7 @@ keeps-turned old new number awake turned other ne = record {
   room = turned.same_room other;
 }
 
-kept-nothing : (old new : IndexState) (number : ℕ) → KeepsOf old new number → HasNothing old number → HasNothing new number
+pub kept-nothing : (old new : IndexState) (number : ℕ) → KeepsOf old new number → HasNothing old number → HasNothing new number
 kept-nothing old new number k h = record { sent = λ mark. k.kept.sent mark ∙ h.sent mark; received = λ mark. k.kept.received mark ∙ h.received mark }
 
 kept-row : (old new : IndexState) (row : Row) → KeepsOf old new row.number → IsIndexed old row → IsIndexed new row
@@ -192,6 +192,20 @@ noted-opened {W = W} index next all seen named numbers h room e f g u = record {
   each = each-begins index all h (subst (All (HasRoom index)) (e ∙ f ∙ ap (map (λ (living : Living W). living.number)) g) room) u;
   later = λ number le. h number;
 }
+
+room-more : (old new : IndexState) (numbers : List ℕ) (at : ℕ) → at < length numbers → ((number : ℕ) → HasRoom old number → HasRoom new number) → HasRoom new (get_or numbers at 0) → All (HasRoom old) (take at numbers) → All (HasRoom new) (take (at + 1) numbers)
+room-more old new numbers at within kept here h =
+    All-same (HasRoom new) (take (at + 1) numbers) (take at numbers ++ get_or numbers at 0 ∷ []) (take_more numbers at 0 within)
+    (All-push (HasRoom new) (take at numbers) (get_or numbers at 0) (All-weaker (HasRoom old) (HasRoom new) kept (take at numbers) h) here)
+
+-- with room for one more an index still has nothing
+pub roomier : (old new : IndexState) (numbers : List ℕ) (at : ℕ) → at < length numbers → SameIndex old new → HasRoom new (get_or numbers at 0) → ((number : ℕ) → HasNothing old number) → All (HasRoom old) (take at numbers) →
+    ((number : ℕ) → HasNothing new number) × All (HasRoom new) (take (at + 1) numbers)
+roomier old new numbers at within same here h room =
+    ((λ number. kept-nothing old new number (keeps-same old new same number) (h number)), room-more old new numbers at within same.same_room here room)
+
+pub room-all : (index : IndexState) (numbers : List ℕ) (at : ℕ) → length numbers ≤ at → All (HasRoom index) (take at numbers) → All (HasRoom index) numbers
+room-all index numbers at past h = All-same (HasRoom index) numbers (take at numbers) (sym (take_all at numbers past)) h
 
 -- what a search wants of the index
 
