@@ -1,4 +1,4 @@
-use Rattle.std.proofs.Common.{◌≡◌, false, arith, refl, sym, subst, ap, ◌∙◌, inl, Some}
+use Rattle.std.proofs.Common.{◌≡◌, true, false, arith, rules, refl, sym, subst, ap, ◌∙◌, inl, Some, OnOk}
 use Rattle.std.specs.Vec.{with_item}
 use Rattle.tb_bus.specs.Buses.{Proc}
 use Rattle.tb_bus.specs.declared.living.Living.{Living}
@@ -77,6 +77,11 @@ returns-in_err-look-clause-same g c =
     stands-set g.W.Walker.view bus (with_item bus.living c.args.at one) bus.index bus.looked c.args.at living one it c.requires.sound refl
     (in-place g.W.Walker.view bus c.index-as_slice-living.result it.plan living one plan c.look.ensures.live c.look.ensures.same named)
     (λ other ne. keeps-self bus.index other) (looked-noted g (goal.at.returns-in_err-look-clause-same g c).After-look)
+
+pub returns-in_err-look-clause-set : goal.returns-in_err-look-clause-set
+returns-in_err-look-clause-set g c =
+    let nothing : OnOk c.from_residual.result (c.look.new.living.fresh ≡ true) = search rules in
+    (c.look.new.living, refl, nothing)
 
 pub returns-clause-same : goal.returns-clause-same
 returns-clause-same g c =
