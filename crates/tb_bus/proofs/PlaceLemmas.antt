@@ -1,5 +1,5 @@
 -- Places of rows that stand by their numbers, and searches that pass those who lead to nothing.
-use Rattle.std.proofs.Common.{◌≡◌, ℕ, ◌+◌, ◌-◌, ◌<◌, ◌≤◌, zero, suc, List, [], ◌∷◌, ◌++◌, take, drop, length, refl, ap, sym, ◌∙◌, arith, rules, Option, Some, None, Bool, true, false, nat_lt, get_or, ⊎_elim}
+use Rattle.std.proofs.Common.{◌≡◌, ℕ, ◌+◌, ◌-◌, ◌^◌, ◌<◌, ◌≤◌, zero, suc, List, [], ◌∷◌, ◌++◌, take, drop, length, refl, ap, sym, ◌∙◌, arith, rules, Option, Some, None, Bool, true, false, nat_lt, get_or, ⊎_elim}
 use Rattle.std.proofs.lemmas.Bool.{ltb-true, ltb-false, lt-ltb, and_from, cases_lt}
 use Rattle.std.proofs.lemmas.List.{length-map, get_or-map, drop_more, drop_all}
 use Rattle.std.specs.List.{AllWithin}
@@ -81,11 +81,23 @@ point-of-rows all number place some most h =
           omega (arith, is, large),
     )
 
+-- what is read of a process that is alive is its row
+pub row-is : {W : Type 0} (all : List (Living W)) (place : ℕ) (living : Living W) → place < length all → living ≡ get_or all place living → row_at (rows_of all) place ≡ row_of living
+row-is all place living within is = get_or-map row_of all place living no_row within ∙ ap row_of (sym is)
+
+pub row-read : {W : Type 0} (all : List (Living W)) (place : ℕ) (some : Living W) → place < length all → row_at (rows_of all) place ≡ row_of (get_or all place some)
+row-read all place some within = get_or-map row_of all place some no_row within
+
+pub last-read : {W : Type 0} (all : List (Living W)) (some : Living W) → 0 < length all → (row_at (rows_of all) (length (rows_of all) - 1)).number ≡ (get_or all (length all - 1) some).number
+last-read all some within =
+    ap (λ (n : ℕ). (row_at (rows_of all) (n - 1)).number) (length-map all row_of)
+    ∙ ap (λ (row : Row). row.number) (row-read all (length all - 1) some (omega (arith, within)))
+
 -- where those for whom it doesn't hold lead to nothing
 pub next-of : {A : Type 0} (holds : ℕ → Bool) (leads : ℕ → Row → List A) (rows : List Row) (from : ℕ) →
     ((place : ℕ) → place < length rows → holds (row_at rows place).number ≡ false → leads place (row_at rows place) ≡ []) →
     (result : Option ℕ) → IsNextPlace holds rows from result → IsNextOf leads rows from result
-next-of holds leads rows from nothing None h place low within = nothing place within (h place low within)
+next-of holds leads rows from nothing None h = λ place low within. nothing place within (h place low within)
 next-of holds leads rows from nothing (Some found) h =
     (h.0, h.1, λ place low less. let within = h.1 in nothing place (omega (arith, less, within)) (h.2 place low less))
 

@@ -84,8 +84,9 @@ pub(crate) fn first_partner<W>(
     ensures { IfOk result (λ found. found ≡ first (partners number terms.now 0 (rows_of all.now))) }
 {
     let mark = sent_mark(terms);
+    let end = all.len();
     let mut at = 0;
-    while at < all.len() {
+    while at < end {
         match next_receiver(all, index, at, mark) {
             Some(place) => match partner(alloc, place, &all[place], number, terms)? {
                 Some(partner) => return Ok(Some(partner)),
