@@ -1,5 +1,5 @@
 -- Whom an index doesn't name leads to nothing: no partner receives what is sent, and no starter begins anything.
-use Rattle.std.proofs.Common.{◌≡◌, ℕ, ◌+◌, ◌<◌, ◌==◌, ◌&&◌, ◌||◌, zero, suc, List, [], ◌∷◌, ◌++◌, map, length, refl, ap, sym, subst, ◌∙◌, arith, Option, Some, None, Bool, true, false, get_or, ⊎_elim}
+use Rattle.std.proofs.Common.{◌≡◌, ℕ, ◌+◌, ◌<◌, ◌==◌, ◌||◌, zero, suc, List, [], ◌∷◌, ◌++◌, map, length, refl, ap, subst, ◌∙◌, arith, Option, Some, None, true, false, get_or, ⊎_elim}
 use Rattle.std.proofs.lemmas.Bool.{both_ways, and_parts, and_from, or_cases, or_left, or_right, eqb-true, eq-eqb, cases_Bool}
 use Rattle.std.proofs.lemmas.List.{length-append, get_or_append_left, get_or-append-add}
 use Rattle.std.proofs.lemmas.List.Elements.{All-head, All-tail, All-get_or}
@@ -42,11 +42,11 @@ meeting index received sent proc m h =
     let many : received.count ≡ sent.count = eqb-true received.count sent.count t.0 in
     ⊎_elim
     (λ (e : (received.head == open_head) ≡ true).
-        let same : received ≡ wide sent = mark-of received.count received.head sent.count open_head many (eqb-true received.head open_head e) in
-        or_right (receives index sent proc) (receives index (wide sent) proc) (subst (λ mark. receives index mark proc ≡ true) same h))
+    let same : received ≡ wide sent = mark-of received.count received.head sent.count open_head many (eqb-true received.head open_head e) in
+    or_right (receives index sent proc) (receives index (wide sent) proc) (subst (λ mark. receives index mark proc ≡ true) same h))
     (λ (e : (received.head == sent.head) ≡ true).
-        let same : received ≡ sent = mark-of received.count received.head sent.count sent.head many (eqb-true received.head sent.head e) in
-        or_left (receives index sent proc) (receives index (wide sent) proc) (subst (λ mark. receives index mark proc ≡ true) same h))
+    let same : received ≡ sent = mark-of received.count received.head sent.count sent.head many (eqb-true received.head sent.head e) in
+    or_left (receives index sent proc) (receives index (wide sent) proc) (subst (λ mark. receives index mark proc ≡ true) same h))
     (or_cases (received.head == open_head) (received.head == sent.head) t.1)
 
 module _ (index : IndexState) (terms : List Term) where
@@ -116,9 +116,9 @@ module _ (index : IndexState) (scene : Scene) (each : All (IsIndexed index) scen
     pub of-calm : (at : ℕ) → IsIndexed index row → candidates_of scene at row ≡ []
     of-calm at h =
         let asleep : is_awake index row.number ≡ false = ⊎_elim
-            (λ (e : is_awake index row.number ≡ true). absurd (both_ways (starts index row.number) rests (awake row.number e)))
-            (λ (e : is_awake index row.number ≡ false). e)
-            (cases_Bool (is_awake index row.number)) in
+        (λ (e : is_awake index row.number ≡ true). absurd (both_ways (starts index row.number) rests (awake row.number e)))
+        (λ (e : is_awake index row.number ≡ false). e)
+        (cases_Bool (is_awake index row.number)) in
         among-calm at 0 row.ready (h.calm asleep) h.sent
 
 -- each of the rows is indexed

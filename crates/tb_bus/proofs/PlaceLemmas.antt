@@ -1,8 +1,7 @@
 -- Places of rows that stand by their numbers, and searches that pass those who lead to nothing.
-use Rattle.std.proofs.Common.{◌≡◌, ℕ, ◌+◌, ◌-◌, ◌^◌, ◌<◌, ◌≤◌, zero, suc, List, [], ◌∷◌, ◌++◌, take, drop, length, refl, ap, sym, ◌∙◌, arith, rules, Option, Some, None, Bool, true, false, nat_lt, get_or, ⊎_elim}
+use Rattle.std.proofs.Common.{◌≡◌, ℕ, ◌+◌, ◌-◌, ◌^◌, ◌<◌, ◌≤◌, zero, suc, List, [], ◌∷◌, ◌++◌, take, drop, length, refl, ap, sym, ◌∙◌, arith, Option, Some, None, Bool, true, false, nat_lt, get_or, ⊎_elim}
 use Rattle.std.proofs.lemmas.Bool.{ltb-true, ltb-false, lt-ltb, and_from, cases_lt}
 use Rattle.std.proofs.lemmas.List.{length-map, get_or-map, drop_more, drop_all}
-use Rattle.std.specs.List.{AllWithin}
 use Rattle.std.specs.List.Sorted.{IsPartitionedBy, IsPartitionPoint}
 use Rattle.tb_index.specs.Pairs.{IsNext}
 use Rattle.tb_bus.specs.Helpers.Candidates.{Row, first, no_row, row_at, ascend, row_of, rows_of}
@@ -57,12 +56,12 @@ module _ (holds : ℕ → Bool) (rows : List Row) (from : ℕ) (a : ascend 0 row
         IsNext holds (row_at rows from).number (Some number) → IsNextPlace holds rows from (Some place)
     place-found number place upto most below above h =
         let within : place < length rows = ⊎_elim (λ (l : place < length rows). l)
-            (λ (l : length rows ≤ place). let less = below (length rows - 1) (omega (arith, l, w)) in absurd (omega (arith, less, is, upto)))
-            (cases_lt place (length rows)) in
+        (λ (l : length rows ≤ place). let less = below (length rows - 1) (omega (arith, l, w)) in absurd (omega (arith, less, is, upto)))
+        (cases_lt place (length rows)) in
         let behind : from ≤ place = ⊎_elim
-            (λ (l : place < from). let one = above place (omega arith) within in let two = ascend-less 0 rows place from no_row a l w in let three = h.0 in absurd (omega (arith, one, two, three)))
-            (λ (l : from ≤ place). l)
-            (cases_lt place from) in
+        (λ (l : place < from). let one = above place (omega arith) within in let two = ascend-less 0 rows place from no_row a l w in let three = h.0 in absurd (omega (arith, one, two, three)))
+        (λ (l : from ≤ place). l)
+        (cases_lt place from) in
         (behind, within, λ k low less. h.2 (row_at rows k).number (ascend-upto 0 rows from k no_row a low (omega (arith, less, within))) (below k less))
 
 -- the point between those below a number and the others, of rows

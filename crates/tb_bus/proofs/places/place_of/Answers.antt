@@ -1,4 +1,4 @@
-use Rattle.std.proofs.Common.{◌≡◌, ℕ, Option, ◌<◌, ◌≤◌, ◌-◌, ◌^◌, length, get_or, subst, arith, rules, nat_lt}
+use Rattle.std.proofs.Common.{◌-◌, length, get_or, subst, arith, rules, nat_lt}
 use Rattle.std.proofs.lemmas.List.{length-map}
 use Rattle.std.proofs.lemmas.List.Sorted.{IsPartitionPoint-from_clause}
 use Rattle.tb_index.specs.Pairs.{IsNext}
@@ -19,7 +19,7 @@ returns-then-number-last g c = λ holds next.
     let upto = c.if-number-last.true in
     let most = c.partition_point.ensures.bound in
     let point = IsPartitionPoint-from_clause (λ living. nat_lt living.number number) all place c.partition_point.ensures.partitioned
-        (partitioned-below_number all number c.requires.ascend) (λ a r f h. search rules) in
+    (partitioned-below_number all number c.requires.ascend) (λ a r f h. search rules) in
     let parts = point-of-rows all number place any (omega (arith, most)) point in
     place-found holds rows c.args.from c.requires.ascend (omega (arith, many, some)) last (last-read all any (omega (arith, some)))
     number place (omega (arith, upto)) (omega (arith, many, most)) parts.0 parts.1

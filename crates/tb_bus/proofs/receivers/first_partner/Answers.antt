@@ -1,4 +1,4 @@
-use Rattle.std.proofs.Common.{◌≡◌, ◌<◌, ◌+◌, ◌∙◌, length, ap, sym, subst, refl, arith, Some, None}
+use Rattle.std.proofs.Common.{◌∙◌, ap, sym, subst, refl, arith}
 use Rattle.std.proofs.lemmas.List.{length-map}
 use Rattle.tb_bus.specs.Helpers.Candidates.{Row, first, partner_in, partners, row_of, rows_of}
 use Rattle.tb_bus.specs.Helpers.Indexed.{IsNextOf}

@@ -14,8 +14,8 @@ returns g c = λ number terms same.
     let from = c.args.from in
     let mark = c.args.mark in
     let next = subst (λ (row : Row). IsNext (is_receiver index mark) row.number c.next_receiver-found.result)
-        (sym (row-read all from c.index-all-from.result c.requires.within)) c.next_receiver-found.ensures in
+    (sym (row-read all from c.index-all-from.result c.requires.within)) c.next_receiver-found.ensures in
     next-of (is_receiver index mark) (partner_in number terms) rows from
     (λ place within deaf. partner-deaf index terms number place (row_at rows place) (indexed-at index rows place c.requires.index.each within)
-        (subst (λ m. is_receiver index m (row_at rows place).number ≡ false) same deaf))
+    (subst (λ m. is_receiver index m (row_at rows place).number ≡ false) same deaf))
     c.place_of.result (c.place_of.ensures (is_receiver index mark) next)

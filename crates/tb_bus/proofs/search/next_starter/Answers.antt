@@ -1,5 +1,5 @@
-use Rattle.std.proofs.Common.{◌<◌, subst, sym, take, length, arith, IsTrue}
-use Rattle.std.proofs.lemmas.List.{length-map, length-take-le, take-map}
+use Rattle.std.proofs.Common.{subst, sym, take, arith, IsTrue}
+use Rattle.std.proofs.lemmas.List.{length-take-le, take-map}
 use Rattle.std.proofs.lemmas.List.Elements.{All-take}
 use Rattle.std.specs.List.{All}
 use Rattle.tb_index.specs.Pairs.{IsNext}
@@ -26,10 +26,10 @@ returns g c =
     let many = length-take-le c.args.end all c.requires.within in
     let same = take-map row_of c.args.end all in
     let next = subst (λ (row : Row). IsNext (starts index) row.number c.next_starter-found.result)
-        (sym (row-read asked from c.index-asked-from.result (omega (arith, many, some)))) c.next_starter-found.ensures.next in
+    (sym (row-read asked from c.index-asked-from.result (omega (arith, many, some)))) c.next_starter-found.ensures.next in
     let each = subst (λ rows. All (IsIndexed index) rows) same (All-take (IsIndexed index) c.args.end (rows_of all) c.requires.index.each) in
     subst (λ rows. IsNextOf (candidates_of scene) rows from c.place_of.result) (sym same)
     (next-of (starts index) (candidates_of scene) (rows_of asked) from
-        (λ place within rests. of-calm index scene c.requires.index.each c.next_starter-found.ensures.awake c.next_starter-found.ensures.heard
-            (row_at (rows_of asked) place) rests place (indexed-at index (rows_of asked) place each within))
-        c.place_of.result (c.place_of.ensures (starts index) next))
+    (λ place within rests. of-calm index scene c.requires.index.each c.next_starter-found.ensures.awake c.next_starter-found.ensures.heard
+    (row_at (rows_of asked) place) rests place (indexed-at index (rows_of asked) place each within))
+    c.place_of.result (c.place_of.ensures (starts index) next))
