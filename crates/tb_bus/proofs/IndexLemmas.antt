@@ -2,7 +2,7 @@
 use Rattle.std.proofs.Common.{◌≡◌, ℕ, ◌+◌, ◌<◌, ◌==◌, ◌||◌, zero, suc, List, [], ◌∷◌, ◌++◌, map, length, refl, ap, subst, ◌∙◌, arith, Option, Some, None, true, false, get_or, ⊎_elim}
 use Rattle.std.proofs.lemmas.Bool.{both_ways, and_parts, and_from, or_cases, or_left, or_right, eqb-true, eq-eqb, cases_Bool}
 use Rattle.std.proofs.lemmas.List.{length-append, get_or_append_left, get_or-append-add}
-use Rattle.std.proofs.lemmas.List.Elements.{All-head, All-tail, All-get_or}
+use Rattle.std.proofs.lemmas.List.Elements.{All-nil, All-same, All-head, All-tail, All-get_or}
 use Rattle.std.specs.List.{All}
 use Rattle.tb_terms.specs.declared.term.Term.{Term}
 use Rattle.tb_terms.specs.declared.pattern.Pattern.{Pattern}
@@ -139,4 +139,12 @@ indexed-by index row sent received calm = record {
   sent = λ k d l. sent (get_or (sent_marks row.ready) k d) ∙ has-own (sent_marks row.ready) k d l;
   received = λ k d l. received (get_or (received_marks row.ready) k d) ∙ has-own (received_marks row.ready) k d l;
   calm = calm;
+}
+
+-- so is one that is awake, and is ready neither to send nor to receive
+pub indexed-alone : (index : IndexState) (row : Row) → is_awake index row.number ≡ true → sent_marks row.ready ≡ [] → received_marks row.ready ≡ [] → IsIndexed index row
+indexed-alone index row awake sent received = record {
+  sent = All-same (λ (mark : Mark). sends index mark row.number ≡ true) (sent_marks row.ready) [] sent (All-nil (λ (mark : Mark). sends index mark row.number ≡ true));
+  received = All-same (λ (mark : Mark). receives index mark row.number ≡ true) (received_marks row.ready) [] received (All-nil (λ (mark : Mark). receives index mark row.number ≡ true));
+  calm = λ asleep. absurd (both_ways (is_awake index row.number) asleep awake);
 }
