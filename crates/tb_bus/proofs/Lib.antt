@@ -20,5 +20,7 @@ pub mod ChangeLemmas
 pub mod TickLemmas
 pub mod ReachedLemmas
 pub mod ReceiverLemmas
+pub mod PlaceLemmas
+pub mod IndexLemmas
 pub mod ApartLemmas
 pub mod Rows

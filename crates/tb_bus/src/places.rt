@@ -1,0 +1,26 @@
+ghost use Rattle.std.specs.Prelude.{◌≡◌, ℕ, ◌<◌, Bool, length, IsTrue};
+ghost use Rattle.tb_index.specs.Pairs.{IsNext};
+ghost use Rattle.tb_bus.specs.Helpers.Candidates.{ascend, row_at, rows_of};
+ghost use Rattle.tb_bus.specs.Helpers.Indexed.{IsNextPlace};
+
+use crate::living::Living;
+
+/// The place of the process with the number that an index found from one place on. Where none that is alive
+/// has it, that of the next behind it.
+pub(crate) fn place_of<W>(all: &[Living<W>], from: usize, found: Option<u32>) -> Option<usize>
+    requires ascend { IsTrue (ascend 0 (rows_of all.now)) }
+    requires within { from < length all.now }
+    ensures { (holds : ℕ → Bool) → IsNext holds (row_at (rows_of all.now) from).number found → IsNextPlace holds (rows_of all.now) from result }
+{
+    let last = all[all.len() - 1].number;
+    match found {
+        Some(number) => {
+            if number <= last {
+                Some(all.partition_point(|living| living.number < number))
+            } else {
+                None
+            }
+        }
+        None => None,
+    }
+}
