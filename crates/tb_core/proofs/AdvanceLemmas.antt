@@ -1,5 +1,5 @@
 -- A process that goes on among the others: it is put in its place, or taken away.
-use Rattle.std.proofs.Common.{◌≡◌, ◌≢◌, ℕ, ◌<◌, ◌≤◌, ◌==◌, ◌&&◌, zero, suc, List, [], ◌∷◌, ◌++◌, length, refl, ap, sym, subst, ◌∙◌, arith, Option, Some, None, Bool, true, false, Contains, slice_get, slice_set, remove, get_or, take, drop, nat_lt, if◌then◌else◌, eq-eqb, inr, map, option_map, unwrap_or}
+use Rattle.std.proofs.Common.{◌≡◌, ℕ, ◌<◌, ◌≤◌, ◌==◌, ◌&&◌, zero, suc, List, [], ◌∷◌, ◌++◌, length, refl, ap, sym, subst, ◌∙◌, arith, Option, Some, None, Bool, true, false, Contains, slice_get, slice_set, remove, get_or, take, drop, nat_lt, if◌then◌else◌, eq-eqb, inr, map, option_map, unwrap_or}
 use Rattle.std.proofs.lemmas.Bool.{lt-ltb, eqb-true, false_from_ne_true}
 use Rattle.std.proofs.lemmas.Option.{slice_get-map, unwrap_or-slice_get}
 use Rattle.std.proofs.lemmas.List.Elements.{All-set, All-append, All-take, All-drop}
@@ -14,14 +14,14 @@ use Rattle.tb_algebra.specs.Walks.{Walking, is_end, fired, sorts_of}
 use Rattle.tb_algebra.specs.WalkerViews.{View}
 use Rattle.tb_algebra.proofs.Sorts.{sorts-with_binds}
 use Rattle.tb_notes.specs.Inboxes.{Contents}
-use Rattle.tb_index.specs.Indexes.{IndexState}
+use Rattle.tb_index.specs.Indexes.{IndexState, IsCleared}
 use Rattle.tb_bus.specs.Buses.{Bus, Proc, proc_left}
 use Rattle.tb_bus.specs.Steps.{advance}
 use Rattle.tb_bus.specs.Helpers.Candidates.{row_at, row_of, rows_of, no_row, ascend, Row}
 use Rattle.tb_bus.specs.Helpers.Views.{proc_at, no_proc}
 use Rattle.tb_bus.specs.declared.living.Living.{Living}
 use Rattle.tb_bus.proofs.TurnLemmas.{ascend-first}
-use Rattle.tb_core.specs.Helpers.Indexes.{IsNoted, KeepsOf}
+use Rattle.tb_core.specs.Helpers.Indexes.{IsNoted}
 use Rattle.tb_core.specs.Helpers.Lives.{IsBelow, IsLive, term_in, proc_by, proc_in, procs_of}
 use Rattle.tb_core.specs.Helpers.LiveBuses.{IsSound, IsFreshOr, IsAdvanced, AreAdvanced, Leaves, CanAdvance, bus_of, procs_in}
 use Rattle.tb_core.specs.declared.bus.LiveBus.{LiveBus}
@@ -271,7 +271,7 @@ advanced-set view bus at before plan offered binds after over living sound read 
         live = subst (All (IsLive view bus.plans bus.ticks)) (sym e) (All-set (IsLive view bus.plans bus.ticks) bus.living.items at after (went-live view bus at before offered binds after it goes sorts lives) sound.live);
         fresh = λ young. subst (All (IsFreshOr bus.stale.items)) (sym e) (All-set (IsFreshOr bus.stale.items) bus.living.items at after
             (inr (subst (Contains bus.stale.items) (sym went.number) (named view bus at before it stale))) (sound.fresh young));
-        noted = noted-set bus.index bus.index bus.marks.next_number bus.living.items living.items at before after e sound.in_order it.here (all-there (IsBelow bus.marks.next_number) bus.living.items at before sound.below it.here)
+        noted = noted-set bus.index bus.index bus.living.items living.items at before after e sound.in_order it.here went.number
             (λ other ne. keeps-self bus.index other) (stale-noted bus.index before after went.number went.marks went.stale (all-there (IsNoted bus.index) bus.living.items at before sound.noted.each it.here)) sound.noted;
       };
       bus = moved view bus at before offered binds (procs_of view bus.plans living.items) it
@@ -288,8 +288,8 @@ ended-none (Some term) e = cc
 -- The process at an index is gone, where it has ended.
 pub advanced-removed : {W P T : Type 0} (view : View P W T) (bus : LiveBus W P T) (at : ℕ) (before : Living W) (plan : P) (offered : Offered) (binds : List Bind) (after : Living W) (over : Bool) (living : Vec (Living W)) (index : IndexState) → IsSound view bus →
     ReadAt view bus at before plan → Went view plan before offered binds after → over ≡ is_end (view.walking plan after.walker).term → over ≡ true → living.items ≡ remove (slice_set bus.living.items at after) at →
-    ((other : ℕ) → other ≢ after.number → KeepsOf bus.index index other) → IsAdvanced view bus at offered binds (record bus { living = living; index = index })
-advanced-removed view bus at before plan offered binds after over living index sound read went ends ended put kept =
+    IsCleared bus.index index after.number → IsAdvanced view bus at offered binds (record bus { living = living; index = index })
+advanced-removed view bus at before plan offered binds after over living index sound read went ends ended put cleared =
     let e : living.items ≡ remove bus.living.items at = put ∙ remove-set bus.living.items at after in
     let left = ended-none offered.residual (ap (λ (v : Walking). is_end v.term) (sym went.goes) ∙ sym ends ∙ ended) in
     record {
@@ -300,8 +300,7 @@ advanced-removed view bus at before plan offered binds after over living index s
         lanes = sound.lanes;
         live = subst (All (IsLive view bus.plans bus.ticks)) (sym e) (All-removed (IsLive view bus.plans bus.ticks) bus.living.items at sound.live);
         fresh = λ young. subst (All (IsFreshOr bus.stale.items)) (sym e) (All-removed (IsFreshOr bus.stale.items) bus.living.items at (sound.fresh young));
-        noted = noted-removed bus.index index bus.marks.next_number bus.living.items living.items at before e sound.in_order read.it.here
-            (all-there (IsBelow bus.marks.next_number) bus.living.items at before sound.below read.it.here) (λ other ne. kept other (λ same. ne (same ∙ went.number))) sound.noted;
+        noted = noted-removed bus.index index bus.living.items living.items at before e sound.in_order read.it.here (subst (IsCleared bus.index index) went.number cleared) sound.noted;
       };
       bus = moved view bus at before offered binds (procs_of view bus.plans living.items) read.it
           (ap (procs_of view bus.plans) e ∙ procs-removed view bus.plans 0 bus.living.items at before offered binds sound.in_order read.it.here left);

@@ -65,7 +65,7 @@ module _ {W P T : Type 0} (view : View P W T) (bus : LiveBus W P T) (at : ℕ) (
               (All-same (IsFreshOr (bus.stale.items ++ next ∷ [])) all.items (bus.living.items ++ living ∷ []) e
               (All-push (IsFreshOr (bus.stale.items ++ next ∷ [])) bus.living.items living (fresh-more bus.stale.items (next ∷ []) bus.living.items (sound.fresh young))
               (inr (subst (Contains (bus.stale.items ++ next ∷ [])) (sym number) (Contains-push bus.stale.items next)))));
-          noted = noted-pushed index next bus.living.items all.items living e number unmarked room (all-kept bus.index index next bus.living.items kept sound.noted);
+          noted = noted-pushed index bus.living.items all.items living e below_it unmarked (subst (HasRoom index) (sym number) room) (all-kept bus.index index bus.living.items kept sound.noted);
         };
         bus = ap (λ (ps : List Proc). let b : Bus = record (bus_of view bus) { procs = ps; next_number = next + 1 } in b)
             (ap (procs_of view bus.plans) e ∙ map-append (proc_in view bus.plans) bus.living.items (living ∷ []) ∙ ap (λ ps. procs_in view bus ++ ps) procs);

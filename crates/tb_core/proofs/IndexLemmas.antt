@@ -1,85 +1,145 @@
 -- The index holds what it has to, wherever one of the living changes.
-use Rattle.std.proofs.Common.{◌≡◌, ◌≢◌, ◌<◌, ◌≤◌, ◌+◌, ◌++◌, ◌||◌, ◌&&◌, ◌==◌, ℕ, zero, suc, List, [], ◌∷◌, length, take, map, append-nil, append_assoc, refl, ap, sym, subst, ◌∙◌, arith, Some, Bool, true, false, not, get_or, slice_get, slice_set, remove, eq-eqb}
+use Rattle.std.proofs.Common.{◌≡◌, ◌≢◌, ◌<◌, ◌≤◌, ◌+◌, ◌++◌, ◌||◌, ◌==◌, ℕ, zero, suc, List, [], ◌∷◌, length, take, map, append-nil, append_assoc, refl, ap, sym, subst, ◌∙◌, arith, Some, Bool, true, false, not, get_or, slice_get, slice_set, remove, eq-eqb}
 use Rattle.std.specs.List.{All}
-use Rattle.std.proofs.lemmas.Bool.{false≢true}
+use Rattle.std.proofs.lemmas.Bool.{eqb-true, false_from_ne_true, false≢true}
 use Rattle.std.proofs.lemmas.Option.{none-some, same_Some}
 use Rattle.std.proofs.lemmas.List.{take_all, take_more}
 use Rattle.std.proofs.lemmas.List.Elements.{All-cons, All-head, All-nil, All-push, All-same, All-tail, All-weaker}
 use Rattle.tb_index.specs.Indexes.{HasRoom, IndexState, IsCleared, IsEmpty, IsSet, IsTurned, SameIndex, is_awake, receives, sends}
-use Rattle.tb_index.specs.Marks.{has_mark, is_mark}
+use Rattle.tb_index.specs.Marks.{has_mark}
 use Rattle.tb_index.specs.declared.mark.Mark.{Mark}
 use Rattle.tb_bus.specs.Helpers.Candidates.{Row, ascend, row_of, rows_of}
 use Rattle.tb_bus.specs.Helpers.Indexed.{IsIndexed, IsIndexFor, are_calm, received_by, received_marks, sent_by, sent_marks}
 use Rattle.tb_bus.specs.declared.living.Living.{Living}
 use Rattle.tb_bus.specs.declared.living.Ready.{Ready}
+use Rattle.tb_bus.proofs.IndexLemmas.{indexed-by}
 use Rattle.tb_bus.proofs.TurnLemmas.{ascend-first}
-use Rattle.tb_core.specs.Helpers.Holdings.{bare}
-use Rattle.tb_core.specs.Helpers.Indexes.{AreNoted, HasNothing, IsNoted, IsUnmarked, KeepsMarks, KeepsOf}
+use Rattle.tb_core.specs.Helpers.Holdings.{bare, bares_of}
+use Rattle.tb_core.specs.Helpers.Indexes.{AreNoted, HasNothing, IsNoted, IsUnmarked, KeepsOf, is_alive}
+use Rattle.tb_core.specs.Helpers.Lives.{IsBelow}
 use Rattle.tb_core.specs.Helpers.LiveBuses.{AreFresh}
 use Rattle.tb_core.proofs.ReadLemmas.{above-there}
+
+-- who is alive
+
+or-true : (b : Bool) → (b || true) ≡ true
+or-true true = refl
+or-true false = refl
+
+or-first : (b rest : Bool) → b ≡ true → (b || rest) ≡ true
+or-first true rest e = refl
+or-first false rest e = cc
+
+neither : (a b : Bool) → (a || b) ≡ false → (a ≡ false) × (b ≡ false)
+neither true b h = absurd (false≢true (sym h))
+neither false b h = (refl, h)
+
+alive-here : {W : Type 0} (all : List (Living W)) (at : ℕ) (living : Living W) → slice_get all at ≡ Some living → is_alive living.number all ≡ true
+alive-here [] at living here = absurd (none-some living here)
+alive-here (first ∷ all) zero living here =
+    or-first (first.number == living.number) (is_alive living.number all) (eq-eqb first.number living.number (ap (λ (l : Living _). l.number) (same_Some first living here)))
+alive-here (first ∷ all) (suc at) living here = ap (λ rest. (first.number == living.number) || rest) (alive-here all at living here) ∙ or-true (first.number == living.number)
+
+alive-set : {W : Type 0} (number : ℕ) (all : List (Living W)) (at : ℕ) (before after : Living W) → slice_get all at ≡ Some before → after.number ≡ before.number → is_alive number (slice_set all at after) ≡ is_alive number all
+alive-set number [] at before after here same = refl
+alive-set number (first ∷ all) zero before after here same = ap (λ n. (n == number) || is_alive number all) (same ∙ ap (λ (l : Living _). l.number) (sym (same_Some first before here)))
+alive-set number (first ∷ all) (suc at) before after here same = ap (λ rest. (first.number == number) || rest) (alive-set number all at before after here same)
+
+alive-removed : {W : Type 0} (number : ℕ) (all : List (Living W)) (at : ℕ) (before : Living W) → slice_get all at ≡ Some before → (before.number == number) ≡ false → is_alive number (remove all at) ≡ false → is_alive number all ≡ false
+alive-removed number [] at before here other h = refl
+alive-removed number (first ∷ all) zero before here other h =
+    ap (λ b. b || is_alive number all) (ap (λ (l : Living _). l.number == number) (same_Some first before here) ∙ other) ∙ h
+alive-removed number (first ∷ all) (suc at) before here other h =
+    let parts = neither (first.number == number) (is_alive number (remove all at)) h in
+    ap (λ b. b || is_alive number all) parts.0 ∙ alive-removed number all at before here other parts.1
+
+alive-pushed : {W : Type 0} (number : ℕ) (all : List (Living W)) (living : Living W) → is_alive number (all ++ living ∷ []) ≡ false → is_alive number all ≡ false
+alive-pushed number [] living h = refl
+alive-pushed number (first ∷ all) living h =
+    let parts = neither (first.number == number) (is_alive number (all ++ living ∷ [])) h in
+    ap (λ b. b || is_alive number all) parts.0 ∙ alive-pushed number all living parts.1
+
+alive-below : {W : Type 0} (number : ℕ) (all : List (Living W)) → All (IsBelow number) all → is_alive number all ≡ false
+alive-below number [] below = refl
+alive-below number (living ∷ all) below =
+    let less : living.number < number = All-head (IsBelow number) living all below in
+    let other : (living.number == number) ≡ false = false_from_ne_true (living.number == number) (λ e. let same = eqb-true living.number number e in omega arith) in
+    ap (λ b. b || is_alive number all) other ∙ alive-below number all (All-tail (IsBelow number) living all below)
+
+alive-bare : {W : Type 0} (number : ℕ) (all : List (Living W)) → is_alive number (bares_of all) ≡ is_alive number all
+alive-bare number [] = refl
+alive-bare number (living ∷ all) = ap (λ rest. (living.number == number) || rest) (alive-bare number all)
+
+pub alive-bares : {W : Type 0} (number : ℕ) (old new : List (Living W)) → bares_of new ≡ bares_of old → is_alive number old ≡ is_alive number new
+alive-bares number old new e = sym (alive-bare number old) ∙ ap (is_alive number) (sym e) ∙ alive-bare number new
 
 -- what an index keeps
 
 pub keeps-self : (index : IndexState) (number : ℕ) → KeepsOf index index number
-keeps-self index number = record { kept = record { sent = λ mark. refl; received = λ mark. refl }; awake = refl; room = λ h. h }
+keeps-self index number = record { sent = λ mark. refl; received = λ mark. refl; awake = refl; room = λ h. h }
 
 pub keeps-then : (old middle new : IndexState) (number : ℕ) → KeepsOf old middle number → KeepsOf middle new number → KeepsOf old new number
 keeps-then old middle new number one other = record {
-  kept = record { sent = λ mark. other.kept.sent mark ∙ one.kept.sent mark; received = λ mark. other.kept.received mark ∙ one.kept.received mark };
+  sent = λ mark. other.sent mark ∙ one.sent mark;
+  received = λ mark. other.received mark ∙ one.received mark;
   awake = other.awake ∙ one.awake;
   room = λ h. other.room (one.room h);
 }
 
 pub keeps-same : (old new : IndexState) → SameIndex old new → (number : ℕ) → KeepsOf old new number
 keeps-same old new same number = record {
-  kept = record { sent = λ mark. same.same_sends mark number; received = λ mark. same.same_receives mark number };
+  sent = λ mark. same.same_sends mark number;
+  received = λ mark. same.same_receives mark number;
   awake = same.same_awake number;
   room = same.same_room number;
 }
 
 pub keeps-set : (old new : IndexState) (number : ℕ) (sent received : List Mark) → IsSet old new number sent received → (other : ℕ) → other ≢ number → KeepsOf old new other
 keeps-set old new number sent received set other ne = record {
-  kept = record { sent = λ mark. set.other_sends mark other ne; received = λ mark. set.other_receives mark other ne };
+  sent = λ mark. set.other_sends mark other ne;
+  received = λ mark. set.other_receives mark other ne;
   awake = set.same_awake other;
   room = set.same_room other;
 }
 
 pub keeps-cleared : (old new : IndexState) (number : ℕ) → IsCleared old new number → (other : ℕ) → other ≢ number → KeepsOf old new other
 keeps-cleared old new number cleared other ne = record {
-  kept = record { sent = λ mark. cleared.other_sends mark other ne; received = λ mark. cleared.other_receives mark other ne };
+  sent = λ mark. cleared.other_sends mark other ne;
+  received = λ mark. cleared.other_receives mark other ne;
   awake = cleared.other_awake other ne;
   room = cleared.same_room other;
 }
 
 pub keeps-turned : (old new : IndexState) (number : ℕ) (awake : Bool) → IsTurned old new number awake → (other : ℕ) → other ≢ number → KeepsOf old new other
 keeps-turned old new number awake turned other ne = record {
-  kept = record { sent = λ mark. turned.same_sends mark other; received = λ mark. turned.same_receives mark other };
+  sent = λ mark. turned.same_sends mark other;
+  received = λ mark. turned.same_receives mark other;
   awake = turned.other_awake other ne;
   room = turned.same_room other;
 }
 
 pub kept-nothing : (old new : IndexState) (number : ℕ) → KeepsOf old new number → HasNothing old number → HasNothing new number
-kept-nothing old new number k h = record { sent = λ mark. k.kept.sent mark ∙ h.sent mark; received = λ mark. k.kept.received mark ∙ h.received mark }
+kept-nothing old new number k h = record { sent = λ mark. k.sent mark ∙ h.sent mark; received = λ mark. k.received mark ∙ h.received mark; asleep = k.awake ∙ h.asleep }
 
 kept-row : (old new : IndexState) (row : Row) → KeepsOf old new row.number → IsIndexed old row → IsIndexed new row
 kept-row old new row k h = record {
-  sent = All-weaker (λ (mark : Mark). sends old mark row.number ≡ true) (λ (mark : Mark). sends new mark row.number ≡ true) (λ mark e. k.kept.sent mark ∙ e) (sent_marks row.ready) h.sent;
-  received = All-weaker (λ (mark : Mark). receives old mark row.number ≡ true) (λ (mark : Mark). receives new mark row.number ≡ true) (λ mark e. k.kept.received mark ∙ e) (received_marks row.ready) h.received;
+  sent = All-weaker (λ (mark : Mark). sends old mark row.number ≡ true) (λ (mark : Mark). sends new mark row.number ≡ true) (λ mark e. k.sent mark ∙ e) (sent_marks row.ready) h.sent;
+  received = All-weaker (λ (mark : Mark). receives old mark row.number ≡ true) (λ (mark : Mark). receives new mark row.number ≡ true) (λ mark e. k.received mark ∙ e) (received_marks row.ready) h.received;
   calm = λ e. h.calm (sym k.awake ∙ e);
 }
 
 pub kept-noted : {W : Type 0} (old new : IndexState) (living : Living W) → KeepsOf old new living.number → IsNoted old living → IsNoted new living
 kept-noted old new living k h = record {
-  sent = λ mark. k.kept.sent mark ∙ h.sent mark;
-  received = λ mark. k.kept.received mark ∙ h.received mark;
+  sent = λ mark. k.sent mark ∙ h.sent mark;
+  received = λ mark. k.received mark ∙ h.received mark;
   room = k.room h.room;
   fresh = λ e. kept-row old new (row_of living) k (h.fresh e);
 }
 
-pub all-kept : {W : Type 0} (old new : IndexState) (next : ℕ) (all : List (Living W)) → ((number : ℕ) → KeepsOf old new number) → AreNoted old next all → AreNoted new next all
-all-kept old new next all k h = record {
+pub all-kept : {W : Type 0} (old new : IndexState) (all : List (Living W)) → ((number : ℕ) → KeepsOf old new number) → AreNoted old all → AreNoted new all
+all-kept old new all k h = record {
   each = All-weaker (IsNoted old) (IsNoted new) (λ living it. kept-noted old new living (k living.number) it) all h.each;
-  later = λ number le. kept-nothing old new number (k number) (h.later number le);
+  others = λ number absent. kept-nothing old new number (k number) (h.others number absent);
 }
 
 -- another in the place of one of the living
@@ -146,21 +206,28 @@ each-removed old new below (living ∷ all) (suc at) before order here k h =
     All-cons (IsNoted new) living (remove all at) (kept-noted old new living (k living.number (λ e. omega arith)) (All-head (IsNoted old) living all h))
     (each-removed old new living.number all at before t.1 here k (All-tail (IsNoted old) living all h))
 
-later-kept : (old new : IndexState) (next number : ℕ) → number < next → ((other : ℕ) → other ≢ number → KeepsOf old new other) → ((later : ℕ) → next ≤ later → HasNothing old later) → (later : ℕ) → next ≤ later → HasNothing new later
-later-kept old new next number less k h later le = kept-nothing old new later (k later (λ e. omega arith)) (h later le)
-
-pub noted-set : {W : Type 0} (old new : IndexState) (next : ℕ) (all set : List (Living W)) (at : ℕ) (before after : Living W) → set ≡ slice_set all at after → ascend 0 (rows_of all) ≡ true → slice_get all at ≡ Some before → before.number < next →
-    ((other : ℕ) → other ≢ before.number → KeepsOf old new other) → IsNoted new after → AreNoted old next all → AreNoted new next set
-noted-set old new next all set at before after e order here less k it h = record {
+pub noted-set : {W : Type 0} (old new : IndexState) (all set : List (Living W)) (at : ℕ) (before after : Living W) → set ≡ slice_set all at after → ascend 0 (rows_of all) ≡ true → slice_get all at ≡ Some before → after.number ≡ before.number →
+    ((other : ℕ) → other ≢ before.number → KeepsOf old new other) → IsNoted new after → AreNoted old all → AreNoted new set
+noted-set old new all set at before after e order here number k it h = record {
   each = subst (All (IsNoted new)) (sym e) (each-set old new 0 all at before after order here k it h.each);
-  later = later-kept old new next before.number less k h.later;
+  others = λ other absent.
+      let gone : is_alive other all ≡ false = sym (alive-set other all at before after here number) ∙ ap (is_alive other) (sym e) ∙ absent in
+      kept-nothing old new other (k other (λ same. false≢true (sym gone ∙ ap (λ n. is_alive n all) same ∙ alive-here all at before here))) (h.others other gone);
 }
 
-pub noted-removed : {W : Type 0} (old new : IndexState) (next : ℕ) (all left : List (Living W)) (at : ℕ) (before : Living W) → left ≡ remove all at → ascend 0 (rows_of all) ≡ true → slice_get all at ≡ Some before → before.number < next →
-    ((other : ℕ) → other ≢ before.number → KeepsOf old new other) → AreNoted old next all → AreNoted new next left
-noted-removed old new next all left at before e order here less k h = record {
-  each = subst (All (IsNoted new)) (sym e) (each-removed old new 0 all at before order here k h.each);
-  later = later-kept old new next before.number less k h.later;
+others-removed : {W : Type 0} (old new : IndexState) (all : List (Living W)) (at : ℕ) (before : Living W) (other : ℕ) (b : Bool) → (before.number == other) ≡ b → slice_get all at ≡ Some before → IsCleared old new before.number →
+    ((number : ℕ) → is_alive number all ≡ false → HasNothing old number) → is_alive other (remove all at) ≡ false → HasNothing new other
+others-removed old new all at before other true same here cleared h absent =
+    subst (HasNothing new) (eqb-true before.number other same) (record { sent = cleared.own_sends; received = cleared.own_receives; asleep = cleared.own_awake })
+others-removed old new all at before other false differ here cleared h absent =
+    kept-nothing old new other (keeps-cleared old new before.number cleared other (λ same. false≢true (sym differ ∙ eq-eqb before.number other (sym same))))
+    (h other (alive-removed other all at before here differ absent))
+
+pub noted-removed : {W : Type 0} (old new : IndexState) (all left : List (Living W)) (at : ℕ) (before : Living W) → left ≡ remove all at → ascend 0 (rows_of all) ≡ true → slice_get all at ≡ Some before →
+    IsCleared old new before.number → AreNoted old all → AreNoted new left
+noted-removed old new all left at before e order here cleared h = record {
+  each = subst (All (IsNoted new)) (sym e) (each-removed old new 0 all at before order here (keeps-cleared old new before.number cleared) h.each);
+  others = λ other absent. others-removed old new all at before other (before.number == other) refl here cleared h.others (ap (is_alive other) (sym e) ∙ absent);
 }
 
 -- those that begin
@@ -173,11 +240,11 @@ unmarked-noted index living u h room = record {
   fresh = λ e. absurd (false≢true (sym u.stale ∙ e));
 }
 
-pub noted-pushed : {W : Type 0} (index : IndexState) (next : ℕ) (all pushed : List (Living W)) (living : Living W) → pushed ≡ all ++ living ∷ [] → living.number ≡ next → IsUnmarked living → HasRoom index next → AreNoted index next all → AreNoted index (next + 1) pushed
-noted-pushed index next all pushed living e number u room h = record {
+pub noted-pushed : {W : Type 0} (index : IndexState) (all pushed : List (Living W)) (living : Living W) → pushed ≡ all ++ living ∷ [] → All (IsBelow living.number) all → IsUnmarked living → HasRoom index living.number → AreNoted index all → AreNoted index pushed
+noted-pushed index all pushed living e below u room h = record {
   each = All-same (IsNoted index) pushed (all ++ living ∷ []) e
-      (All-push (IsNoted index) all living h.each (unmarked-noted index living u (subst (HasNothing index) (sym number) (h.later next (omega arith))) (subst (HasRoom index) (sym number) room)));
-  later = λ later le. h.later later (omega arith);
+      (All-push (IsNoted index) all living h.each (unmarked-noted index living u (h.others living.number (alive-below living.number all below)) room));
+  others = λ other absent. h.others other (alive-pushed other all living (ap (is_alive other) (sym e) ∙ absent));
 }
 
 each-begins : {W : Type 0} (index : IndexState) (all : List (Living W)) → ((number : ℕ) → HasNothing index number) → All (HasRoom index) (map (λ living. living.number) all) → All IsUnmarked all → All (IsNoted index) all
@@ -187,10 +254,10 @@ each-begins index (living ∷ all) h room u =
     (unmarked-noted index living (All-head IsUnmarked living all u) (h living.number) (All-head (HasRoom index) living.number (map (λ living. living.number) all) room))
     (each-begins index all h (All-tail (HasRoom index) living.number (map (λ living. living.number) all) room) (All-tail IsUnmarked living all u))
 
-pub noted-opened : {W : Type 0} (index : IndexState) (next : ℕ) (all seen : List (Living W)) (named numbers : List ℕ) → ((number : ℕ) → HasNothing index number) → All (HasRoom index) named → named ≡ numbers → numbers ≡ map (λ living. living.number) seen → seen ≡ all → All IsUnmarked all → AreNoted index next all
-noted-opened {W = W} index next all seen named numbers h room e f g u = record {
+pub noted-opened : {W : Type 0} (index : IndexState) (all seen : List (Living W)) (named numbers : List ℕ) → ((number : ℕ) → HasNothing index number) → All (HasRoom index) named → named ≡ numbers → numbers ≡ map (λ living. living.number) seen → seen ≡ all → All IsUnmarked all → AreNoted index all
+noted-opened {W = W} index all seen named numbers h room e f g u = record {
   each = each-begins index all h (subst (All (HasRoom index)) (e ∙ f ∙ ap (map (λ (living : Living W). living.number)) g) room) u;
-  later = λ number le. h number;
+  others = λ number absent. h number;
 }
 
 room-more : (old new : IndexState) (numbers : List ℕ) (at : ℕ) → at < length numbers → ((number : ℕ) → HasRoom old number → HasRoom new number) → HasRoom new (get_or numbers at 0) → All (HasRoom old) (take at numbers) → All (HasRoom new) (take (at + 1) numbers)
@@ -216,8 +283,8 @@ each-row index (living ∷ all) h fresh =
     ((All-head (IsNoted index) living all h).fresh (All-head (λ living. living.fresh ≡ true) living all fresh))
     (each-row index all (All-tail (IsNoted index) living all h) (All-tail (λ living. living.fresh ≡ true) living all fresh))
 
-pub noted-rows : {W : Type 0} (index : IndexState) (next : ℕ) (all seen : List (Living W)) → seen ≡ all → AreNoted index next all → AreFresh all → IsIndexFor index (rows_of seen)
-noted-rows index next all seen e h fresh = subst (λ xs. IsIndexFor index (rows_of xs)) (sym e) (record { each = each-row index all h.each fresh })
+pub noted-rows : {W : Type 0} (index : IndexState) (all seen : List (Living W)) → seen ≡ all → AreNoted index all → AreFresh all → IsIndexFor index (rows_of seen)
+noted-rows index all seen e h fresh = subst (λ xs. IsIndexFor index (rows_of xs)) (sym e) (record { each = each-row index all h.each fresh })
 
 -- the marks of one action more
 
@@ -239,22 +306,6 @@ received-more actions at ready marks pushed within is e h =
 
 -- one that was looked at
 
-or-true : (b : Bool) → (b || true) ≡ true
-or-true true = refl
-or-true false = refl
-
-has-this : (mark : Mark) (b c : Bool) (rest : Bool) → b ≡ true → c ≡ true → ((b && c) || rest) ≡ true
-has-this mark true true rest e f = refl
-has-this mark true false rest e f = cc
-has-this mark false c rest e f = cc
-
-has-there : (marks : List Mark) (k : ℕ) (d : Mark) → k < length marks → has_mark marks (get_or marks k d) ≡ true
-has-there [] k d within = absurd (omega arith)
-has-there (mark ∷ marks) zero d within =
-    has-this mark (mark.count == mark.count) (mark.head == mark.head) (has_mark marks mark) (eq-eqb mark.count mark.count refl) (eq-eqb mark.head mark.head refl)
-has-there (mark ∷ marks) (suc k) d within =
-    ap (λ rest. is_mark (get_or marks k d) mark || rest) (has-there marks k d (omega arith)) ∙ or-true (is_mark (get_or marks k d) mark)
-
 calm-by : (index : IndexState) (number : ℕ) (b : Bool) → is_awake index number ≡ not b → is_awake index number ≡ false → b ≡ true
 calm-by index number true turned asleep = refl
 calm-by index number false turned asleep = absurd (false≢true (sym asleep ∙ turned))
@@ -262,8 +313,5 @@ calm-by index number false turned asleep = absurd (false≢true (sym asleep ∙ 
 -- the index has its marks now, and it is awake unless it is calm
 pub looked-row : (index : IndexState) (row : Row) (sent received : List Mark) (calm : Bool) → sent ≡ sent_marks row.ready → received ≡ received_marks row.ready → calm ≡ are_calm row.ready →
     ((mark : Mark) → sends index mark row.number ≡ has_mark sent mark) → ((mark : Mark) → receives index mark row.number ≡ has_mark received mark) → is_awake index row.number ≡ not calm → IsIndexed index row
-looked-row index row sent received calm s r c has_sent has_received wakes = record {
-  sent = subst (All (λ (mark : Mark). sends index mark row.number ≡ true)) s (λ k d within. has_sent (get_or sent k d) ∙ has-there sent k d within);
-  received = subst (All (λ (mark : Mark). receives index mark row.number ≡ true)) r (λ k d within. has_received (get_or received k d) ∙ has-there received k d within);
-  calm = λ asleep. sym c ∙ calm-by index row.number calm wakes asleep;
-}
+looked-row index row sent received calm s r c has_sent has_received turned =
+    indexed-by index row (λ mark. has_sent mark ∙ ap (λ ms. has_mark ms mark) s) (λ mark. has_received mark ∙ ap (λ ms. has_mark ms mark) r) (λ asleep. sym c ∙ calm-by index row.number calm turned asleep)

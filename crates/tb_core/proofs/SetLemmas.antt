@@ -70,7 +70,7 @@ same-procs view bus at living one it h =
     (same-proc view bus.plans it.plan living one it.planned h.proc ∙ ap (proc_in view bus.plans) (sym (get_or_from_slice_get bus.living.items at living living it.here)))
 
 sound-set : {W P T : Type 0} (view : View P W T) (bus : LiveBus W P T) (all : Vec (Living W)) (index : IndexState) (looked : KeptMarks) (at : ℕ) (living one : Living W) (it : LiveAt view bus at living) → IsSound view bus → all.items ≡ slice_set bus.living.items at one →
-    IsInPlace view bus it.plan living one → AreNoted index bus.marks.next_number all.items → IsSound view (record bus { living = all; index = index; looked = looked })
+    IsInPlace view bus it.plan living one → AreNoted index all.items → IsSound view (record bus { living = all; index = index; looked = looked })
 sound-set view bus all index looked at living one it sound e h noted = record {
   in_order = ap (λ xs. ascend 0 (rows_of xs)) e ∙ ascend-set 0 bus.living.items at living one it.here (ap (λ (p : Proc). p.number) h.proc) ∙ sound.in_order;
   below = subst (All (IsBelow bus.marks.next_number)) (sym e)
@@ -89,7 +89,7 @@ pub stands-set : {W P T : Type 0} (view : View P W T) (bus : LiveBus W P T) (all
     IsInPlace view bus it.plan living one → ((other : ℕ) → other ≢ living.number → KeepsOf bus.index index other) → IsNoted index one → StandsAs view bus (record bus { living = all; index = index; looked = looked })
 stands-set view bus all index looked at living one it sound e h kept noted = record {
   sound = sound-set view bus all index looked at living one it sound e h
-      (noted-set bus.index index bus.marks.next_number bus.living.items all.items at living one e sound.in_order it.here (all-there (IsBelow bus.marks.next_number) bus.living.items at living sound.below it.here) kept noted sound.noted);
+      (noted-set bus.index index bus.living.items all.items at living one e sound.in_order it.here (ap (λ (p : Proc). p.number) h.proc) kept noted sound.noted);
   bus = ap (λ (procs : List Proc). let b : Bus = record (bus_of view bus) { procs = procs } in b) (ap (map (proc_in view bus.plans)) e ∙ same-procs view bus at living one it h);
   origin = refl;
   plans = refl;
@@ -107,7 +107,7 @@ stands-moved view bus all stale index sound e f kept = record {
     live = subst (λ xs. All (IsLive view bus.plans bus.ticks) xs) (sym e) sound.live;
     fresh = λ young. subst (λ (numbers : List ℕ). All (IsFreshOr numbers) all.items) (sym f) (subst (λ xs. All (IsFreshOr bus.stale.items) xs) (sym e) (sound.fresh young));
     lanes = sound.lanes;
-    noted = subst (λ xs. AreNoted index bus.marks.next_number xs) (sym e) (all-kept bus.index index bus.marks.next_number bus.living.items kept sound.noted);
+    noted = subst (λ xs. AreNoted index xs) (sym e) (all-kept bus.index index bus.living.items kept sound.noted);
   };
   bus = ap (λ (procs : List Proc). let b : Bus = record (bus_of view bus) { procs = procs } in b) (ap (map (proc_in view bus.plans)) e);
   origin = refl;

@@ -1,5 +1,5 @@
 -- A tick for the living, one after another, and the bus for which they stand then.
-use Rattle.std.proofs.Common.{◌≡◌, ◌<◌, ◌+◌, ◌⊎◌, ◌&&◌, ℕ, zero, suc, List, [], ◌∷◌, ◌++◌, append-nil, length, map, drop, take, get_or, refl, ap, sym, subst, ◌∙◌, arith, inl, inr, Option, Some, None, Bool, true, false, not, nat_lt, option_map, slice_get, slice_set}
+use Rattle.std.proofs.Common.{◌≡◌, ◌<◌, ◌+◌, ◌⊎◌, ◌&&◌, ◌||◌, ◌==◌, ℕ, zero, suc, List, [], ◌∷◌, ◌++◌, append-nil, length, map, drop, take, get_or, refl, ap, sym, subst, ◌∙◌, arith, inl, inr, Option, Some, None, Bool, true, false, not, nat_lt, option_map, slice_get, slice_set}
 use Rattle.std.specs.Bool.{⊤}
 use Rattle.std.specs.Global.{Vec}
 use Rattle.std.specs.List.{All}
@@ -26,7 +26,7 @@ use Rattle.tb_bus.specs.Traces.{aged_proc}
 use Rattle.tb_bus.specs.declared.action.Action.{Action}
 use Rattle.tb_bus.specs.declared.living.Living.{Living}
 use Rattle.tb_bus.specs.declared.living.Ready.{Ready}
-use Rattle.tb_core.specs.Helpers.Indexes.{IsNoted}
+use Rattle.tb_core.specs.Helpers.Indexes.{IsNoted, is_alive}
 use Rattle.tb_core.specs.Helpers.Lives.{IsBelow, IsFreshFor, IsLive, IsLiveOn, IsTimeless, proc_by, proc_in, proc_of, procs_of, term_in}
 use Rattle.tb_core.specs.Helpers.LiveBuses.{AreFresh, IsFreshOr, IsSound, StandsAs, bus_of, procs_in}
 use Rattle.tb_core.specs.Helpers.Ticking.{AreTicked, CanTick, HasTicked, IsTicked}
@@ -199,6 +199,13 @@ live-few view plans now few living h = (h.0, h.1, record { is_on = h.2.is_on; fe
 pub all-few : {W P T : Type 0} (view : View P W T) (bus : LiveBus W P T) → IsSound view bus → bus.ticks < 4000000 → All (CanTick view bus.plans) bus.living.items
 all-few view bus sound few = All-weaker (IsLive view bus.plans bus.ticks) (CanTick view bus.plans) (live-few view bus.plans bus.ticks few) bus.living.items sound.live
 
+ticked-alive : {W P T : Type 0} (view : View P W T) (plans : List P) (number : ℕ) (olds news : List (Living W)) → AreTicked view plans olds news → is_alive number olds ≡ is_alive number news
+ticked-alive view plans number [] [] h = refl
+ticked-alive view plans number [] (new ∷ news) h = absurd h
+ticked-alive view plans number (old ∷ olds) [] h = absurd h
+ticked-alive view plans number (old ∷ olds) (new ∷ news) h =
+    ap (λ n. (n == number) || is_alive number olds) (sym h.0.2.number) ∙ ap (λ rest. (new.number == number) || rest) (ticked-alive view plans number olds news h.1)
+
 -- of one that ticked the index has what it had
 ticked-noted : {W P T : Type 0} (view : View P W T) (index : IndexState) (plan : P) (old new : Living W) → HasTicked view plan old new → IsNoted index old → IsNoted index new
 ticked-noted view index plan old new t h =
@@ -216,7 +223,7 @@ sound-ticked view bus living sound h = record {
   lanes = sound.lanes;
   noted = record {
     each = ticked-by view bus.plans (IsNoted bus.index) (IsNoted bus.index) bus.living.items living.items (λ old new t. ticked-noted view bus.index t.0 old new t.2) h sound.noted.each;
-    later = sound.noted.later;
+    others = λ number absent. sound.noted.others number (ticked-alive view bus.plans number bus.living.items living.items h ∙ absent);
   };
 }
 

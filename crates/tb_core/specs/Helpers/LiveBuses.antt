@@ -64,7 +64,7 @@ pub record IsSound {W P T : Type 0} (view : View P W T) (bus : LiveBus W P T) : 
   pub live : All (IsLive view bus.plans bus.ticks) bus.living.items
   pub fresh : bus.aged ≡ false → All (IsFreshOr bus.stale.items) bus.living.items
   pub lanes : HasLanes bus.bench
-  pub noted : AreNoted bus.index bus.marks.next_number bus.living.items
+  pub noted : AreNoted bus.index bus.living.items
 
 -- the fields stand for the same bus as before
 pub record StandsAs {W P T : Type 0} (view : View P W T) (old new : LiveBus W P T) : Type 0 where

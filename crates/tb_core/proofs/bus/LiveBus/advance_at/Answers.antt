@@ -5,7 +5,7 @@ use Rattle.tb_core.specs.Helpers.LiveBuses.{procs_in}
 use Rattle.tb_core.proofs.AdvanceLemmas.{Went, read-at, leaves-there, advanced-set, advanced-removed, set-before, gone-before, sorts-once}
 use Rattle.tb_core.specs.Helpers.Indexes.{IsNoted}
 use Rattle.tb_core.proofs.ReadLemmas.{all-there, read-there}
-use Rattle.tb_core.proofs.IndexLemmas.{keeps-cleared, stale-noted}
+use Rattle.tb_core.proofs.IndexLemmas.{stale-noted}
 use Rattle.tb_core.proofs.bus.LiveBus.advance_at.Given.{Over}
 use Rattle.tb_core.proofs.bus.LiveBus.advance_at.Goals.{After-go_on}
 use Rattle.tb_core.proofs.bus.LiveBus.advance_at.Goals as goal
@@ -53,8 +53,7 @@ returns-then-go_on-clause-advanced g c offered leaves =
       stale = c.go_on.ensures.stale;
       marks = c.go_on.ensures.marks;
     } in
-    advanced-removed g.W.Walker.view bus c.args.at before plan offered c.args.binds after c.go_on.result c.remove.new.self c.clear.new.self c.requires.sound read went c.go_on.ensures.ended c.if-go_on.true c.remove.ensures.items
-    (keeps-cleared bus.index c.clear.new.self after.number c.clear.ensures)
+    advanced-removed g.W.Walker.view bus c.args.at before plan offered c.args.binds after c.go_on.result c.remove.new.self c.clear.new.self c.requires.sound read went c.go_on.ensures.ended c.if-go_on.true c.remove.ensures.items c.clear.ensures
 
 pub returns-then-go_on-clause-before : goal.returns-then-go_on-clause-before
 returns-then-go_on-clause-before g c other l = gone-before c.args.self.now.living.items c.remove.new.self.items c.args.at c.go_on.new.living other c.remove.ensures.items l

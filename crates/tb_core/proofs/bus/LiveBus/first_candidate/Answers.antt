@@ -13,7 +13,7 @@ use Rattle.tb_core.proofs.bus.LiveBus.first_candidate.Goals as goal
 pub first_candidate-requires-clause-index : goal.first_candidate-requires-clause-index
 first_candidate-requires-clause-index g c =
     let fields = c.args.self.now in
-    noted-rows fields.index fields.marks.next_number fields.living.items c.as_slice.result.now c.as_slice.ensures.value c.requires.sound.noted c.requires.fresh
+    noted-rows fields.index fields.living.items c.as_slice.result.now c.as_slice.ensures.value c.requires.sound.noted c.requires.fresh
 
 pub returns-clause-found : goal.returns-clause-found
 returns-clause-found g c =

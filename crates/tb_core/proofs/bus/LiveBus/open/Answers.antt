@@ -13,7 +13,7 @@ returns-clause-sound g c = record {
   live = c.in_ok-living.ensures.live;
   fresh = λ young. all-named c.in_ok-living.living.items c.as_slice-2.result.now c.in_ok-stale.stale.items c.as_slice-2.ensures.value c.in_ok-stale.ensures;
   lanes = c.show_lanes.ensures;
-  noted = noted-opened c.in_ok-index.index (c.len.result + 1) c.in_ok-living.living.items c.as_slice-2.result.now c.as_slice-3.result.now c.in_ok-stale.stale.items
+  noted = noted-opened c.in_ok-index.index c.in_ok-living.living.items c.as_slice-2.result.now c.as_slice-3.result.now c.in_ok-stale.stale.items
       c.in_ok-index.ensures.nothing c.in_ok-index.ensures.room c.as_slice-3.ensures.value c.in_ok-stale.ensures c.as_slice-2.ensures.value c.in_ok-living.ensures.unmarked;
 }
 
