@@ -5,9 +5,10 @@ use Rattle.std.proofs.lemmas.Bool.{eqb-true, false_from_ne_true, false≢true}
 use Rattle.std.proofs.lemmas.Option.{none-some, same_Some}
 use Rattle.std.proofs.lemmas.List.{take_all, take_more}
 use Rattle.std.proofs.lemmas.List.Elements.{All-cons, All-head, All-nil, All-push, All-same, All-tail, All-weaker}
-use Rattle.tb_index.specs.Indexes.{HasRoom, IndexState, IsCleared, IsEmpty, IsSet, IsTurned, SameIndex, is_awake, receives, sends}
+use Rattle.tb_index.specs.Indexes.{HasRoom, IndexState, IsCleared, IsSet, IsTurned, SameIndex, is_awake, receives, sends}
 use Rattle.tb_index.specs.Marks.{has_mark}
 use Rattle.tb_index.specs.declared.mark.Mark.{Mark}
+use Rattle.tb_index.specs.declared.mark.Marks.{Marks}
 use Rattle.tb_bus.specs.Helpers.Candidates.{Row, ascend, row_of, rows_of}
 use Rattle.tb_bus.specs.Helpers.Indexed.{IsIndexed, IsIndexFor, are_calm, received_by, received_marks, sent_by, sent_marks}
 use Rattle.tb_bus.specs.declared.living.Living.{Living}
@@ -310,8 +311,16 @@ calm-by : (index : IndexState) (number : ℕ) (b : Bool) → is_awake index numb
 calm-by index number true turned asleep = refl
 calm-by index number false turned asleep = absurd (false≢true (sym asleep ∙ turned))
 
--- the index has its marks now, and it is awake unless it is calm
-pub looked-row : (index : IndexState) (row : Row) (sent received : List Mark) (calm : Bool) → sent ≡ sent_marks row.ready → received ≡ received_marks row.ready → calm ≡ are_calm row.ready →
-    ((mark : Mark) → sends index mark row.number ≡ has_mark sent mark) → ((mark : Mark) → receives index mark row.number ≡ has_mark received mark) → is_awake index row.number ≡ not calm → IsIndexed index row
-looked-row index row sent received calm s r c has_sent has_received turned =
-    indexed-by index row (λ mark. has_sent mark ∙ ap (λ ms. has_mark ms mark) s) (λ mark. has_received mark ∙ ap (λ ms. has_mark ms mark) r) (λ asleep. sym c ∙ calm-by index row.number calm turned asleep)
+-- the index has the marks of what it is ready for now, and it is awake unless that is calm
+pub looked-noted : {W : Type 0} (old set new : IndexState) (living : Living W) (looked marks : Marks) (calm : Bool) → IsNoted old living → IsSet old set living.number looked.sends.items looked.receives.items → IsTurned set new living.number (not calm) →
+    looked.sends.items ≡ sent_marks living.ready.items → looked.receives.items ≡ received_marks living.ready.items → calm ≡ are_calm living.ready.items → marks ≡ looked → IsNoted new (record living { marks = marks; fresh = true })
+looked-noted old set new living looked marks calm h is turned sent received rests same =
+    let sends_it : (mark : Mark) → sends new mark living.number ≡ has_mark looked.sends.items mark = λ mark. turned.same_sends mark living.number ∙ is.own_sends mark in
+    let receives_it : (mark : Mark) → receives new mark living.number ≡ has_mark looked.receives.items mark = λ mark. turned.same_receives mark living.number ∙ is.own_receives mark in
+    record {
+      sent = λ mark. sends_it mark ∙ ap (λ (ms : Marks). has_mark ms.sends.items mark) (sym same);
+      received = λ mark. receives_it mark ∙ ap (λ (ms : Marks). has_mark ms.receives.items mark) (sym same);
+      room = turned.same_room living.number (is.same_room living.number h.room);
+      fresh = λ e. indexed-by new (row_of living) (λ mark. sends_it mark ∙ ap (λ ms. has_mark ms mark) sent) (λ mark. receives_it mark ∙ ap (λ ms. has_mark ms mark) received)
+          (λ asleep. sym rests ∙ calm-by new living.number calm turned.own_awake asleep);
+    }

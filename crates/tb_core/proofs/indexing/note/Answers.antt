@@ -1,9 +1,6 @@
-use Rattle.std.proofs.Common.{◌∙◌, ap, sym}
-use Rattle.tb_index.specs.Marks.{has_mark}
-use Rattle.tb_index.specs.declared.mark.Marks.{Marks}
-use Rattle.tb_bus.specs.Helpers.Candidates.{row_of}
+use Rattle.std.proofs.Common.{◌∙◌, ap}
 use Rattle.tb_bus.specs.Helpers.Indexed.{are_calm, received_marks, sent_marks}
-use Rattle.tb_core.proofs.IndexLemmas.{keeps-self, keeps-same, keeps-set, keeps-then, keeps-turned, kept-noted, looked-row}
+use Rattle.tb_core.proofs.IndexLemmas.{keeps-self, keeps-same, keeps-set, keeps-then, keeps-turned, kept-noted, looked-noted}
 use Rattle.tb_core.proofs.indexing.note.Goals as goal
 
 pub returns-in_err-fill_marks-clause-others : goal.returns-in_err-fill_marks-clause-others
@@ -18,19 +15,9 @@ returns-in_err-set-clause-others g c other ne = keeps-same c.args.index.now c.se
 
 pub returns-clause-noted : goal.returns-clause-noted
 returns-clause-noted g c =
-    let living = c.args.living.now in
-    let looked = c.fill_marks.new.marks in
-    let new = c.rouse.new.index in
-    let set = c.in_ok-set.ensures.ok in
-    let turned = c.rouse.ensures in
-    record {
-      sent = λ mark. turned.same_sends mark living.number ∙ set.own_sends mark ∙ ap (λ (ms : Marks). has_mark ms.sends.items mark) (sym c.swap.ensures.x_after);
-      received = λ mark. turned.same_receives mark living.number ∙ set.own_receives mark ∙ ap (λ (ms : Marks). has_mark ms.receives.items mark) (sym c.swap.ensures.x_after);
-      room = turned.same_room living.number (set.same_room living.number c.requires.noted.room);
-      fresh = λ e. looked-row new (row_of living) looked.sends.items looked.receives.items c.are_calm.result
-          (c.in_ok-fill_marks.ensures.sends ∙ ap sent_marks c.as_slice.ensures.value) (c.in_ok-fill_marks.ensures.receives ∙ ap received_marks c.as_slice.ensures.value) (c.are_calm.ensures ∙ ap are_calm c.as_slice-2.ensures.value)
-          (λ mark. turned.same_sends mark living.number ∙ set.own_sends mark) (λ mark. turned.same_receives mark living.number ∙ set.own_receives mark) turned.own_awake;
-    }
+    looked-noted c.args.index.now c.set.new.self c.rouse.new.index c.args.living.now c.fill_marks.new.marks c.swap.new.x c.are_calm.result c.requires.noted c.in_ok-set.ensures.ok c.rouse.ensures
+    (c.in_ok-fill_marks.ensures.sends ∙ ap sent_marks c.as_slice.ensures.value) (c.in_ok-fill_marks.ensures.receives ∙ ap received_marks c.as_slice.ensures.value)
+    (c.are_calm.ensures ∙ ap are_calm c.as_slice-2.ensures.value) c.swap.ensures.x_after
 
 pub returns-clause-others : goal.returns-clause-others
 returns-clause-others g c other ne =
