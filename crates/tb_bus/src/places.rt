@@ -5,8 +5,8 @@ ghost use Rattle.tb_bus.specs.Helpers.Indexed.{IsNextPlace};
 
 use crate::living::Living;
 
-/// Where those begin that have this number or a larger one. Mostly nobody between it and the place asked from has
-/// left.
+/// Where those begin that have this number or a larger one. Seldom has anybody left who stood between it and the
+/// place that is asked from.
 fn first_from<W>(all: &[Living<W>], from: usize, number: u32) -> usize
     requires ascend { IsTrue (ascend 0 (rows_of all.now)) }
     requires within { from < length all.now }
