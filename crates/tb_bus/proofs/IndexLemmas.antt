@@ -1,14 +1,14 @@
 -- Whom an index doesn't name leads to nothing: no partner receives what is sent, and no starter begins anything.
-use Rattle.std.proofs.Common.{◌≡◌, ℕ, ◌+◌, ◌<◌, ◌==◌, ◌||◌, zero, suc, List, [], ◌∷◌, ◌++◌, map, length, refl, ap, subst, ◌∙◌, arith, Option, Some, None, true, false, get_or, ⊎_elim}
-use Rattle.std.proofs.lemmas.Bool.{both_ways, and_parts, and_from, or_cases, or_left, or_right, eqb-true, eq-eqb, cases_Bool}
+use Rattle.std.proofs.Common.{◌≡◌, ℕ, ◌+◌, ◌<◌, ◌==◌, ◌||◌, List, [], ◌∷◌, ◌++◌, map, length, refl, ap, subst, ◌∙◌, arith, Option, Some, None, Bool, true, false, if◌then◌else◌, ⊎_elim}
+use Rattle.std.proofs.lemmas.Bool.{both_ways, and_parts, or_cases, or_left, or_right, eqb-true, cases_Bool}
 use Rattle.std.proofs.lemmas.List.{length-append, get_or_append_left, get_or-append-add}
-use Rattle.std.proofs.lemmas.List.Elements.{All-nil, All-same, All-head, All-tail, All-get_or}
+use Rattle.std.proofs.lemmas.List.Elements.{All-head, All-tail, All-get_or}
 use Rattle.std.specs.List.{All}
 use Rattle.tb_terms.specs.declared.term.Term.{Term}
 use Rattle.tb_terms.specs.declared.pattern.Pattern.{Pattern}
 use Rattle.tb_match.specs.declared.bind.Bind.{Bind}
 use Rattle.tb_match.specs.Matches.{match_list}
-use Rattle.tb_index.specs.Marks.{sent_mark, received_mark, is_mark, has_mark, meets, wide, open_head}
+use Rattle.tb_index.specs.Marks.{sent_mark, received_mark, meets, wide, open_head}
 use Rattle.tb_index.specs.Indexes.{IndexState, sends, receives, is_receiver, is_awake, starts}
 use Rattle.tb_index.specs.declared.mark.Mark.{Mark}
 use Rattle.tb_index.proofs.MarkLemmas.{matched-meets}
@@ -17,9 +17,10 @@ use Rattle.tb_bus.specs.Helpers.Indexed.{is_calm, are_calm, sent_by, received_by
 use Rattle.tb_bus.specs.declared.action.Action.{Action}
 use Rattle.tb_bus.specs.declared.action.Action.TheVariants as action
 use Rattle.tb_bus.specs.declared.candidate.Candidate.TheVariants as candidate
+use Rattle.tb_bus.specs.declared.candidate.Received.{Received}
 use Rattle.tb_bus.specs.declared.living.Ready.{Ready}
 use Rattle.tb_bus.proofs.PartLemmas.{both-append}
-use Rattle.tb_bus.proofs.ReceiverLemmas.{partner-none}
+use Rattle.tb_bus.proofs.RowLemmas.{partner_at}
 
 all-left : {A : Type 0} (P : A → Type 0) (xs ys : List A) → All P (xs ++ ys) → All P xs
 all-left P xs ys h k d l =
@@ -71,6 +72,10 @@ module _ (index : IndexState) (terms : List Term) where
         both-append (reception terms at ready.action) [] (receptions terms (at + 1) others) []
         (reception-deaf at ready.action (all-left (λ (mark : Mark). receives index mark proc ≡ true) (received_by ready.action) (received_marks others) h))
         (receptions-deaf (at + 1) others (all-right (λ (mark : Mark). receives index mark proc ≡ true) (received_by ready.action) (received_marks others) h))
+
+  partner-none : (at : ℕ) (b : Bool) (found : List Received) → found ≡ [] → (if b then [] else map (partner_at at) found) ≡ []
+  partner-none at true found e = refl
+  partner-none at false found e = ap (map (partner_at at)) e
 
   -- who isn't named as a receiver is nobody's partner
   pub partner-deaf : (number at : ℕ) (row : Row) → IsIndexed index row → is_receiver index (sent_mark terms) row.number ≡ false → partner_in number terms at row ≡ []
@@ -124,27 +129,3 @@ module _ (index : IndexState) (scene : Scene) (each : All (IsIndexed index) scen
 -- each of the rows is indexed
 pub indexed-at : (index : IndexState) (rows : List Row) (place : ℕ) → All (IsIndexed index) rows → place < length rows → IsIndexed index (row_at rows place)
 indexed-at index rows place h within = All-get_or (IsIndexed index) rows place no_row within h
-
-has-own : (marks : List Mark) (k : ℕ) (d : Mark) → k < length marks → has_mark marks (get_or marks k d) ≡ true
-has-own [] k d l = absurd (omega arith)
-has-own (mark ∷ marks) zero d l =
-    or_left (is_mark mark mark) (has_mark marks mark) (and_from (mark.count == mark.count) (mark.head == mark.head) (eq-eqb mark.count mark.count refl) (eq-eqb mark.head mark.head refl))
-has-own (mark ∷ marks) (suc k) d l =
-    or_right (is_mark (get_or marks k d) mark) (has_mark marks (get_or marks k d)) (has-own marks k d (omega arith))
-
--- a process is indexed where the index has just its marks, and it is awake or calm
-pub indexed-by : (index : IndexState) (row : Row) → ((mark : Mark) → sends index mark row.number ≡ has_mark (sent_marks row.ready) mark) →
-    ((mark : Mark) → receives index mark row.number ≡ has_mark (received_marks row.ready) mark) → (is_awake index row.number ≡ false → are_calm row.ready ≡ true) → IsIndexed index row
-indexed-by index row sent received calm = record {
-  sent = λ k d l. sent (get_or (sent_marks row.ready) k d) ∙ has-own (sent_marks row.ready) k d l;
-  received = λ k d l. received (get_or (received_marks row.ready) k d) ∙ has-own (received_marks row.ready) k d l;
-  calm = calm;
-}
-
--- so is one that is awake, and is ready neither to send nor to receive
-pub indexed-alone : (index : IndexState) (row : Row) → is_awake index row.number ≡ true → sent_marks row.ready ≡ [] → received_marks row.ready ≡ [] → IsIndexed index row
-indexed-alone index row awake sent received = record {
-  sent = All-same (λ (mark : Mark). sends index mark row.number ≡ true) (sent_marks row.ready) [] sent (All-nil (λ (mark : Mark). sends index mark row.number ≡ true));
-  received = All-same (λ (mark : Mark). receives index mark row.number ≡ true) (received_marks row.ready) [] received (All-nil (λ (mark : Mark). receives index mark row.number ≡ true));
-  calm = λ asleep. absurd (both_ways (is_awake index row.number) asleep awake);
-}

@@ -19,7 +19,6 @@ pub mod OrderLemmas
 pub mod ChangeLemmas
 pub mod TickLemmas
 pub mod ReachedLemmas
-pub mod ReceiverLemmas
 pub mod PlaceLemmas
 pub mod IndexLemmas
 pub mod ApartLemmas

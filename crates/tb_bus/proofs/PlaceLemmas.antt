@@ -64,6 +64,14 @@ module _ (holds : ℕ → Bool) (rows : List Row) (from : ℕ) (a : ascend 0 row
         (cases_lt place from) in
         (behind, within, λ k low less. h.2 (row_at rows k).number (ascend-upto 0 rows from k no_row a low (omega (arith, less, within))) (below k less))
 
+-- the place of a number that somebody has
+pub place-exact : (rows : List Row) (number place : ℕ) → ascend 0 rows ≡ true → place < length rows → (row_at rows place).number ≡ number →
+    ((k : ℕ) → k < place → (row_at rows k).number < number) × ((k : ℕ) → place ≤ k → k < length rows → number ≤ (row_at rows k).number)
+place-exact rows number place a within is = (
+  λ k less. let small = ascend-less 0 rows k place no_row a less within in omega (arith, small, is),
+  λ k low in-rows. let large = ascend-upto 0 rows place k no_row a low in-rows in omega (arith, large, is),
+)
+
 -- the point between those below a number and the others, of rows
 pub point-of-rows : {W : Type 0} (all : List (Living W)) (number place : ℕ) (some : Living W) → place ≤ length all →
     IsPartitionPoint (λ living. nat_lt living.number number ≡ true) (λ living. nat_lt living.number number ≡ false) all place →
