@@ -21,13 +21,13 @@ use Rattle.tb_bus.specs.Helpers.Candidates.{row_at, row_of, rows_of, no_row, asc
 use Rattle.tb_bus.specs.Helpers.Views.{proc_at, no_proc}
 use Rattle.tb_bus.specs.declared.living.Living.{Living}
 use Rattle.tb_bus.proofs.TurnLemmas.{ascend-first}
-use Rattle.tb_core.specs.Helpers.Indexes.{IsNoted}
+use Rattle.tb_core.specs.Helpers.Indexes.{IsRightFor}
 use Rattle.tb_core.specs.Helpers.Lives.{IsBelow, IsLive, term_in, proc_by, proc_in, procs_of}
 use Rattle.tb_core.specs.Helpers.LiveBuses.{IsSound, IsFreshOr, IsAdvanced, AreAdvanced, Leaves, CanAdvance, bus_of, procs_in}
 use Rattle.tb_core.specs.declared.bus.LiveBus.{LiveBus}
 use Rattle.tb_core.proofs.ReadLemmas.{LiveAt, above-there, all-there, live-at, proc-number, read-is}
 use Rattle.tb_core.proofs.SetLemmas.{ascend-set, set-other}
-use Rattle.tb_core.proofs.IndexLemmas.{keeps-self, noted-removed, noted-set, stale-noted}
+use Rattle.tb_core.proofs.IndexLemmas.{keeps-self, right-removed, right-set, stale-right}
 
 goes-by : (number : ℕ) (offered : Offered) (binds : List Bind) (proc : Proc) (rest : List Proc) (b : Bool) → b ≡ true →
     (if b then proc_left proc (with_binds offered.store binds) offered.residual else proc ∷ []) ++ rest ≡ proc_left proc (with_binds offered.store binds) offered.residual ++ rest
@@ -271,8 +271,8 @@ advanced-set view bus at before plan offered binds after over living sound read 
         live = subst (All (IsLive view bus.plans bus.ticks)) (sym e) (All-set (IsLive view bus.plans bus.ticks) bus.living.items at after (went-live view bus at before offered binds after it goes sorts lives) sound.live);
         fresh = λ young. subst (All (IsFreshOr bus.stale.items)) (sym e) (All-set (IsFreshOr bus.stale.items) bus.living.items at after
             (inr (subst (Contains bus.stale.items) (sym went.number) (named view bus at before it stale))) (sound.fresh young));
-        noted = noted-set bus.index bus.index bus.living.items living.items at before after e sound.in_order it.here went.number
-            (λ other ne. keeps-self bus.index other) (stale-noted bus.index before after went.number went.marks went.stale (all-there (IsNoted bus.index) bus.living.items at before sound.noted.each it.here)) sound.noted;
+        indexed = right-set bus.index bus.index bus.living.items living.items at before after e sound.in_order it.here went.number
+            (λ other ne. keeps-self bus.index other) (stale-right bus.index before after went.number went.marks went.stale (all-there (IsRightFor bus.index) bus.living.items at before sound.indexed.each it.here)) sound.indexed;
       };
       bus = moved view bus at before offered binds (procs_of view bus.plans living.items) it
           (ap (procs_of view bus.plans) e ∙ procs-set view bus.plans it.plan 0 bus.living.items at before offered binds after sound.in_order it.here goes it.planned lives);
@@ -300,7 +300,7 @@ advanced-removed view bus at before plan offered binds after over living index s
         lanes = sound.lanes;
         live = subst (All (IsLive view bus.plans bus.ticks)) (sym e) (All-removed (IsLive view bus.plans bus.ticks) bus.living.items at sound.live);
         fresh = λ young. subst (All (IsFreshOr bus.stale.items)) (sym e) (All-removed (IsFreshOr bus.stale.items) bus.living.items at (sound.fresh young));
-        noted = noted-removed bus.index index bus.living.items living.items at before e sound.in_order read.it.here (subst (IsCleared bus.index index) went.number cleared) sound.noted;
+        indexed = right-removed bus.index index bus.living.items living.items at before e sound.in_order read.it.here (subst (IsCleared bus.index index) went.number cleared) sound.indexed;
       };
       bus = moved view bus at before offered binds (procs_of view bus.plans living.items) read.it
           (ap (procs_of view bus.plans) e ∙ procs-removed view bus.plans 0 bus.living.items at before offered binds sound.in_order read.it.here left);

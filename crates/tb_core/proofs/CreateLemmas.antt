@@ -18,7 +18,7 @@ use Rattle.tb_core.specs.Helpers.Lives.{IsBelow, IsLive, proc_in, procs_of}
 use Rattle.tb_core.specs.Helpers.LiveBuses.{IsChanged, IsFreshOr, IsSound, bus_of, procs_in}
 use Rattle.tb_core.specs.declared.bus.LiveBus.{LiveBus}
 use Rattle.tb_core.proofs.ReadLemmas.{above-there, all-there, some-at}
-use Rattle.tb_core.proofs.IndexLemmas.{all-kept, noted-pushed}
+use Rattle.tb_core.proofs.IndexLemmas.{all-kept, right-pushed}
 
 ascend-push : {W : Type 0} (below : ℕ) (all : List (Living W)) (living : Living W) → ascend below (rows_of all) ≡ true → All (IsBelow living.number) all → below < living.number → ascend below (rows_of (all ++ living ∷ [])) ≡ true
 ascend-push below [] living h k l = rw (lt-ltb below living.number l) refl
@@ -65,7 +65,7 @@ module _ {W P T : Type 0} (view : View P W T) (bus : LiveBus W P T) (at : ℕ) (
               (All-same (IsFreshOr (bus.stale.items ++ next ∷ [])) all.items (bus.living.items ++ living ∷ []) e
               (All-push (IsFreshOr (bus.stale.items ++ next ∷ [])) bus.living.items living (fresh-more bus.stale.items (next ∷ []) bus.living.items (sound.fresh young))
               (inr (subst (Contains (bus.stale.items ++ next ∷ [])) (sym number) (Contains-push bus.stale.items next)))));
-          noted = noted-pushed index bus.living.items all.items living e below_it unmarked (subst (HasRoom index) (sym number) room) (all-kept bus.index index bus.living.items kept sound.noted);
+          indexed = right-pushed index bus.living.items all.items living e below_it unmarked (subst (HasRoom index) (sym number) room) (all-kept bus.index index bus.living.items kept sound.indexed);
         };
         bus = ap (λ (ps : List Proc). let b : Bus = record (bus_of view bus) { procs = ps; next_number = next + 1 } in b)
             (ap (procs_of view bus.plans) e ∙ map-append (proc_in view bus.plans) bus.living.items (living ∷ []) ∙ ap (λ ps. procs_in view bus ++ ps) procs);

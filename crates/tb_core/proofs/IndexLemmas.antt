@@ -16,7 +16,7 @@ use Rattle.tb_bus.specs.declared.living.Ready.{Ready}
 use Rattle.tb_bus.proofs.IndexLemmas.{indexed-by}
 use Rattle.tb_bus.proofs.TurnLemmas.{ascend-first}
 use Rattle.tb_core.specs.Helpers.Holdings.{bare, bares_of}
-use Rattle.tb_core.specs.Helpers.Indexes.{AreNoted, HasNothing, IsNoted, IsUnmarked, KeepsOf, is_alive}
+use Rattle.tb_core.specs.Helpers.Indexes.{IsRightForAll, HasNothing, IsRightFor, IsUnmarked, KeepsOf, is_alive}
 use Rattle.tb_core.specs.Helpers.Lives.{IsBelow}
 use Rattle.tb_core.specs.Helpers.LiveBuses.{AreFresh}
 use Rattle.tb_core.proofs.ReadLemmas.{above-there}
@@ -129,17 +129,17 @@ kept-row old new row k h = record {
   calm = λ e. h.calm (sym k.awake ∙ e);
 }
 
-pub kept-noted : {W : Type 0} (old new : IndexState) (living : Living W) → KeepsOf old new living.number → IsNoted old living → IsNoted new living
-kept-noted old new living k h = record {
+pub kept-right : {W : Type 0} (old new : IndexState) (living : Living W) → KeepsOf old new living.number → IsRightFor old living → IsRightFor new living
+kept-right old new living k h = record {
   sent = λ mark. k.sent mark ∙ h.sent mark;
   received = λ mark. k.received mark ∙ h.received mark;
   room = k.room h.room;
   fresh = λ e. kept-row old new (row_of living) k (h.fresh e);
 }
 
-pub all-kept : {W : Type 0} (old new : IndexState) (all : List (Living W)) → ((number : ℕ) → KeepsOf old new number) → AreNoted old all → AreNoted new all
+pub all-kept : {W : Type 0} (old new : IndexState) (all : List (Living W)) → ((number : ℕ) → KeepsOf old new number) → IsRightForAll old all → IsRightForAll new all
 all-kept old new all k h = record {
-  each = All-weaker (IsNoted old) (IsNoted new) (λ living it. kept-noted old new living (k living.number) it) all h.each;
+  each = All-weaker (IsRightFor old) (IsRightFor new) (λ living it. kept-right old new living (k living.number) it) all h.each;
   others = λ number absent. kept-nothing old new number (k number) (h.others number absent);
 }
 
@@ -155,62 +155,62 @@ same-row index one other number ready h = record {
 }
 
 -- with the same marks, and fresh only where that one was, with the same that it is ready for
-pub same-noted : {W : Type 0} (index : IndexState) (before after : Living W) → after.number ≡ before.number → after.marks ≡ before.marks → (after.fresh ≡ true → (before.fresh ≡ true) × (after.ready ≡ before.ready)) → IsNoted index before → IsNoted index after
-same-noted {W = W} index before after number marks fresh h = record {
+pub same-right : {W : Type 0} (index : IndexState) (before after : Living W) → after.number ≡ before.number → after.marks ≡ before.marks → (after.fresh ≡ true → (before.fresh ≡ true) × (after.ready ≡ before.ready)) → IsRightFor index before → IsRightFor index after
+same-right {W = W} index before after number marks fresh h = record {
   sent = λ mark. ap (sends index mark) number ∙ h.sent mark ∙ ap (λ ms. has_mark ms.sends.items mark) (sym marks);
   received = λ mark. ap (receives index mark) number ∙ h.received mark ∙ ap (λ ms. has_mark ms.receives.items mark) (sym marks);
   room = subst (HasRoom index) (sym number) h.room;
   fresh = λ e. let was = fresh e in same-row index (row_of before) (row_of after) number (ap (λ v. v.items) was.1) (h.fresh was.0);
 }
 
-pub stale-noted : {W : Type 0} (index : IndexState) (before after : Living W) → after.number ≡ before.number → after.marks ≡ before.marks → after.fresh ≡ false → IsNoted index before → IsNoted index after
-stale-noted index before after number marks stale h = same-noted index before after number marks (λ e. absurd (false≢true (sym stale ∙ e))) h
+pub stale-right : {W : Type 0} (index : IndexState) (before after : Living W) → after.number ≡ before.number → after.marks ≡ before.marks → after.fresh ≡ false → IsRightFor index before → IsRightFor index after
+stale-right index before after number marks stale h = same-right index before after number marks (λ e. absurd (false≢true (sym stale ∙ e))) h
 
-pub bare-noted : {W : Type 0} (index : IndexState) (living : Living W) → IsNoted index living → IsNoted index (bare living)
-bare-noted index living h = same-noted index living (bare living) refl refl (λ e. (e, refl)) h
+pub bare-right : {W : Type 0} (index : IndexState) (living : Living W) → IsRightFor index living → IsRightFor index (bare living)
+bare-right index living h = same-right index living (bare living) refl refl (λ e. (e, refl)) h
 
-pub filled-noted : {W : Type 0} (index : IndexState) (living : Living W) → IsNoted index (bare living) → IsNoted index living
-filled-noted index living h = same-noted index (bare living) living refl refl (λ e. (e, refl)) h
+pub filled-right : {W : Type 0} (index : IndexState) (living : Living W) → IsRightFor index (bare living) → IsRightFor index living
+filled-right index living h = same-right index (bare living) living refl refl (λ e. (e, refl)) h
 
 -- those behind one, where the index keeps what it has of all but this
-noted-above : {W : Type 0} (old new : IndexState) (number below : ℕ) (all : List (Living W)) → number ≤ below → ascend below (rows_of all) ≡ true → ((other : ℕ) → other ≢ number → KeepsOf old new other) → All (IsNoted old) all → All (IsNoted new) all
-noted-above old new number below [] le order k h = All-nil (IsNoted new)
-noted-above old new number below (living ∷ all) le order k h =
+right-above : {W : Type 0} (old new : IndexState) (number below : ℕ) (all : List (Living W)) → number ≤ below → ascend below (rows_of all) ≡ true → ((other : ℕ) → other ≢ number → KeepsOf old new other) → All (IsRightFor old) all → All (IsRightFor new) all
+right-above old new number below [] le order k h = All-nil (IsRightFor new)
+right-above old new number below (living ∷ all) le order k h =
     let t = ascend-first below (row_of living) (rows_of all) order in
     let above : below < living.number = t.0 in
-    All-cons (IsNoted new) living all (kept-noted old new living (k living.number (λ e. omega arith)) (All-head (IsNoted old) living all h))
-    (noted-above old new number living.number all (omega arith) t.1 k (All-tail (IsNoted old) living all h))
+    All-cons (IsRightFor new) living all (kept-right old new living (k living.number (λ e. omega arith)) (All-head (IsRightFor old) living all h))
+    (right-above old new number living.number all (omega arith) t.1 k (All-tail (IsRightFor old) living all h))
 
 each-set : {W : Type 0} (old new : IndexState) (below : ℕ) (all : List (Living W)) (at : ℕ) (before after : Living W) → ascend below (rows_of all) ≡ true → slice_get all at ≡ Some before → ((other : ℕ) → other ≢ before.number → KeepsOf old new other) →
-    IsNoted new after → All (IsNoted old) all → All (IsNoted new) (slice_set all at after)
+    IsRightFor new after → All (IsRightFor old) all → All (IsRightFor new) (slice_set all at after)
 each-set old new below [] at before after order here k it h = absurd (none-some before here)
 each-set old new below (living ∷ all) zero before after order here k it h =
     let t = ascend-first below (row_of living) (rows_of all) order in
     let number : before.number ≡ living.number = ap (λ (l : Living _). l.number) (sym (same_Some living before here)) in
-    All-cons (IsNoted new) after all it (noted-above old new before.number living.number all (omega arith) t.1 k (All-tail (IsNoted old) living all h))
+    All-cons (IsRightFor new) after all it (right-above old new before.number living.number all (omega arith) t.1 k (All-tail (IsRightFor old) living all h))
 each-set old new below (living ∷ all) (suc at) before after order here k it h =
     let t = ascend-first below (row_of living) (rows_of all) order in
     let less : living.number < before.number = above-there living.number all at before t.1 here in
-    All-cons (IsNoted new) living (slice_set all at after) (kept-noted old new living (k living.number (λ e. omega arith)) (All-head (IsNoted old) living all h))
-    (each-set old new living.number all at before after t.1 here k it (All-tail (IsNoted old) living all h))
+    All-cons (IsRightFor new) living (slice_set all at after) (kept-right old new living (k living.number (λ e. omega arith)) (All-head (IsRightFor old) living all h))
+    (each-set old new living.number all at before after t.1 here k it (All-tail (IsRightFor old) living all h))
 
 each-removed : {W : Type 0} (old new : IndexState) (below : ℕ) (all : List (Living W)) (at : ℕ) (before : Living W) → ascend below (rows_of all) ≡ true → slice_get all at ≡ Some before → ((other : ℕ) → other ≢ before.number → KeepsOf old new other) →
-    All (IsNoted old) all → All (IsNoted new) (remove all at)
+    All (IsRightFor old) all → All (IsRightFor new) (remove all at)
 each-removed old new below [] at before order here k h = absurd (none-some before here)
 each-removed old new below (living ∷ all) zero before order here k h =
     let t = ascend-first below (row_of living) (rows_of all) order in
     let number : before.number ≡ living.number = ap (λ (l : Living _). l.number) (sym (same_Some living before here)) in
-    noted-above old new before.number living.number all (omega arith) t.1 k (All-tail (IsNoted old) living all h)
+    right-above old new before.number living.number all (omega arith) t.1 k (All-tail (IsRightFor old) living all h)
 each-removed old new below (living ∷ all) (suc at) before order here k h =
     let t = ascend-first below (row_of living) (rows_of all) order in
     let less : living.number < before.number = above-there living.number all at before t.1 here in
-    All-cons (IsNoted new) living (remove all at) (kept-noted old new living (k living.number (λ e. omega arith)) (All-head (IsNoted old) living all h))
-    (each-removed old new living.number all at before t.1 here k (All-tail (IsNoted old) living all h))
+    All-cons (IsRightFor new) living (remove all at) (kept-right old new living (k living.number (λ e. omega arith)) (All-head (IsRightFor old) living all h))
+    (each-removed old new living.number all at before t.1 here k (All-tail (IsRightFor old) living all h))
 
-pub noted-set : {W : Type 0} (old new : IndexState) (all set : List (Living W)) (at : ℕ) (before after : Living W) → set ≡ slice_set all at after → ascend 0 (rows_of all) ≡ true → slice_get all at ≡ Some before → after.number ≡ before.number →
-    ((other : ℕ) → other ≢ before.number → KeepsOf old new other) → IsNoted new after → AreNoted old all → AreNoted new set
-noted-set old new all set at before after e order here number k it h = record {
-  each = subst (All (IsNoted new)) (sym e) (each-set old new 0 all at before after order here k it h.each);
+pub right-set : {W : Type 0} (old new : IndexState) (all set : List (Living W)) (at : ℕ) (before after : Living W) → set ≡ slice_set all at after → ascend 0 (rows_of all) ≡ true → slice_get all at ≡ Some before → after.number ≡ before.number →
+    ((other : ℕ) → other ≢ before.number → KeepsOf old new other) → IsRightFor new after → IsRightForAll old all → IsRightForAll new set
+right-set old new all set at before after e order here number k it h = record {
+  each = subst (All (IsRightFor new)) (sym e) (each-set old new 0 all at before after order here k it h.each);
   others = λ other absent.
       let gone : is_alive other all ≡ false = sym (alive-set other all at before after here number) ∙ ap (is_alive other) (sym e) ∙ absent in
       kept-nothing old new other (k other (λ same. false≢true (sym gone ∙ ap (λ n. is_alive n all) same ∙ alive-here all at before here))) (h.others other gone);
@@ -224,39 +224,39 @@ others-removed old new all at before other false differ here cleared h absent =
     kept-nothing old new other (keeps-cleared old new before.number cleared other (λ same. false≢true (sym differ ∙ eq-eqb before.number other (sym same))))
     (h other (alive-removed other all at before here differ absent))
 
-pub noted-removed : {W : Type 0} (old new : IndexState) (all left : List (Living W)) (at : ℕ) (before : Living W) → left ≡ remove all at → ascend 0 (rows_of all) ≡ true → slice_get all at ≡ Some before →
-    IsCleared old new before.number → AreNoted old all → AreNoted new left
-noted-removed old new all left at before e order here cleared h = record {
-  each = subst (All (IsNoted new)) (sym e) (each-removed old new 0 all at before order here (keeps-cleared old new before.number cleared) h.each);
+pub right-removed : {W : Type 0} (old new : IndexState) (all left : List (Living W)) (at : ℕ) (before : Living W) → left ≡ remove all at → ascend 0 (rows_of all) ≡ true → slice_get all at ≡ Some before →
+    IsCleared old new before.number → IsRightForAll old all → IsRightForAll new left
+right-removed old new all left at before e order here cleared h = record {
+  each = subst (All (IsRightFor new)) (sym e) (each-removed old new 0 all at before order here (keeps-cleared old new before.number cleared) h.each);
   others = λ other absent. others-removed old new all at before other (before.number == other) refl here cleared h.others (ap (is_alive other) (sym e) ∙ absent);
 }
 
 -- those that begin
 
-unmarked-noted : {W : Type 0} (index : IndexState) (living : Living W) → IsUnmarked living → HasNothing index living.number → HasRoom index living.number → IsNoted index living
-unmarked-noted index living u h room = record {
+unmarked-right : {W : Type 0} (index : IndexState) (living : Living W) → IsUnmarked living → HasNothing index living.number → HasRoom index living.number → IsRightFor index living
+unmarked-right index living u h room = record {
   sent = λ mark. h.sent mark ∙ sym (ap (λ ms. has_mark ms mark) u.sends);
   received = λ mark. h.received mark ∙ sym (ap (λ ms. has_mark ms mark) u.receives);
   room = room;
   fresh = λ e. absurd (false≢true (sym u.stale ∙ e));
 }
 
-pub noted-pushed : {W : Type 0} (index : IndexState) (all pushed : List (Living W)) (living : Living W) → pushed ≡ all ++ living ∷ [] → All (IsBelow living.number) all → IsUnmarked living → HasRoom index living.number → AreNoted index all → AreNoted index pushed
-noted-pushed index all pushed living e below u room h = record {
-  each = All-same (IsNoted index) pushed (all ++ living ∷ []) e
-      (All-push (IsNoted index) all living h.each (unmarked-noted index living u (h.others living.number (alive-below living.number all below)) room));
+pub right-pushed : {W : Type 0} (index : IndexState) (all pushed : List (Living W)) (living : Living W) → pushed ≡ all ++ living ∷ [] → All (IsBelow living.number) all → IsUnmarked living → HasRoom index living.number → IsRightForAll index all → IsRightForAll index pushed
+right-pushed index all pushed living e below u room h = record {
+  each = All-same (IsRightFor index) pushed (all ++ living ∷ []) e
+      (All-push (IsRightFor index) all living h.each (unmarked-right index living u (h.others living.number (alive-below living.number all below)) room));
   others = λ other absent. h.others other (alive-pushed other all living (ap (is_alive other) (sym e) ∙ absent));
 }
 
-each-begins : {W : Type 0} (index : IndexState) (all : List (Living W)) → ((number : ℕ) → HasNothing index number) → All (HasRoom index) (map (λ living. living.number) all) → All IsUnmarked all → All (IsNoted index) all
-each-begins index [] h room u = All-nil (IsNoted index)
+each-begins : {W : Type 0} (index : IndexState) (all : List (Living W)) → ((number : ℕ) → HasNothing index number) → All (HasRoom index) (map (λ living. living.number) all) → All IsUnmarked all → All (IsRightFor index) all
+each-begins index [] h room u = All-nil (IsRightFor index)
 each-begins index (living ∷ all) h room u =
-    All-cons (IsNoted index) living all
-    (unmarked-noted index living (All-head IsUnmarked living all u) (h living.number) (All-head (HasRoom index) living.number (map (λ living. living.number) all) room))
+    All-cons (IsRightFor index) living all
+    (unmarked-right index living (All-head IsUnmarked living all u) (h living.number) (All-head (HasRoom index) living.number (map (λ living. living.number) all) room))
     (each-begins index all h (All-tail (HasRoom index) living.number (map (λ living. living.number) all) room) (All-tail IsUnmarked living all u))
 
-pub noted-opened : {W : Type 0} (index : IndexState) (all seen : List (Living W)) (named numbers : List ℕ) → ((number : ℕ) → HasNothing index number) → All (HasRoom index) named → named ≡ numbers → numbers ≡ map (λ living. living.number) seen → seen ≡ all → All IsUnmarked all → AreNoted index all
-noted-opened {W = W} index all seen named numbers h room e f g u = record {
+pub right-opened : {W : Type 0} (index : IndexState) (all seen : List (Living W)) (named numbers : List ℕ) → ((number : ℕ) → HasNothing index number) → All (HasRoom index) named → named ≡ numbers → numbers ≡ map (λ living. living.number) seen → seen ≡ all → All IsUnmarked all → IsRightForAll index all
+right-opened {W = W} index all seen named numbers h room e f g u = record {
   each = each-begins index all h (subst (All (HasRoom index)) (e ∙ f ∙ ap (map (λ (living : Living W). living.number)) g) room) u;
   others = λ number absent. h number;
 }
@@ -277,15 +277,15 @@ room-all index numbers at past h = All-same (HasRoom index) numbers (take at num
 
 -- what a search wants of the index
 
-each-row : {W : Type 0} (index : IndexState) (all : List (Living W)) → All (IsNoted index) all → AreFresh all → All (IsIndexed index) (rows_of all)
+each-row : {W : Type 0} (index : IndexState) (all : List (Living W)) → All (IsRightFor index) all → AreFresh all → All (IsIndexed index) (rows_of all)
 each-row index [] h fresh = All-nil (IsIndexed index)
 each-row index (living ∷ all) h fresh =
     All-cons (IsIndexed index) (row_of living) (rows_of all)
-    ((All-head (IsNoted index) living all h).fresh (All-head (λ living. living.fresh ≡ true) living all fresh))
-    (each-row index all (All-tail (IsNoted index) living all h) (All-tail (λ living. living.fresh ≡ true) living all fresh))
+    ((All-head (IsRightFor index) living all h).fresh (All-head (λ living. living.fresh ≡ true) living all fresh))
+    (each-row index all (All-tail (IsRightFor index) living all h) (All-tail (λ living. living.fresh ≡ true) living all fresh))
 
-pub noted-rows : {W : Type 0} (index : IndexState) (all seen : List (Living W)) → seen ≡ all → AreNoted index all → AreFresh all → IsIndexFor index (rows_of seen)
-noted-rows index all seen e h fresh = subst (λ xs. IsIndexFor index (rows_of xs)) (sym e) (record { each = each-row index all h.each fresh })
+pub right-rows : {W : Type 0} (index : IndexState) (all seen : List (Living W)) → seen ≡ all → IsRightForAll index all → AreFresh all → IsIndexFor index (rows_of seen)
+right-rows index all seen e h fresh = subst (λ xs. IsIndexFor index (rows_of xs)) (sym e) (record { each = each-row index all h.each fresh })
 
 -- the marks of one action more
 
@@ -312,9 +312,9 @@ calm-by index number true turned asleep = refl
 calm-by index number false turned asleep = absurd (false≢true (sym asleep ∙ turned))
 
 -- the index has the marks of what it is ready for now, and it is awake unless that is calm
-pub looked-noted : {W : Type 0} (old set new : IndexState) (living : Living W) (looked marks : Marks) (calm : Bool) → IsNoted old living → IsSet old set living.number looked.sends.items looked.receives.items → IsTurned set new living.number (not calm) →
-    looked.sends.items ≡ sent_marks living.ready.items → looked.receives.items ≡ received_marks living.ready.items → calm ≡ are_calm living.ready.items → marks ≡ looked → IsNoted new (record living { marks = marks; fresh = true })
-looked-noted old set new living looked marks calm h is turned sent received rests same =
+pub looked-right : {W : Type 0} (old set new : IndexState) (living : Living W) (looked marks : Marks) (calm : Bool) → IsRightFor old living → IsSet old set living.number looked.sends.items looked.receives.items → IsTurned set new living.number (not calm) →
+    looked.sends.items ≡ sent_marks living.ready.items → looked.receives.items ≡ received_marks living.ready.items → calm ≡ are_calm living.ready.items → marks ≡ looked → IsRightFor new (record living { marks = marks; fresh = true })
+looked-right old set new living looked marks calm h is turned sent received rests same =
     let sends_it : (mark : Mark) → sends new mark living.number ≡ has_mark looked.sends.items mark = λ mark. turned.same_sends mark living.number ∙ is.own_sends mark in
     let receives_it : (mark : Mark) → receives new mark living.number ≡ has_mark looked.receives.items mark = λ mark. turned.same_receives mark living.number ∙ is.own_receives mark in
     record {

@@ -26,13 +26,13 @@ use Rattle.tb_bus.specs.Traces.{aged_proc}
 use Rattle.tb_bus.specs.declared.action.Action.{Action}
 use Rattle.tb_bus.specs.declared.living.Living.{Living}
 use Rattle.tb_bus.specs.declared.living.Ready.{Ready}
-use Rattle.tb_core.specs.Helpers.Indexes.{IsNoted, is_alive}
+use Rattle.tb_core.specs.Helpers.Indexes.{IsRightFor, is_alive}
 use Rattle.tb_core.specs.Helpers.Lives.{IsBelow, IsFreshFor, IsLive, IsLiveOn, IsTimeless, proc_by, proc_in, proc_of, procs_of, term_in}
 use Rattle.tb_core.specs.Helpers.LiveBuses.{AreFresh, IsFreshOr, IsSound, StandsAs, bus_of, procs_in}
 use Rattle.tb_core.specs.Helpers.Ticking.{AreTicked, CanTick, HasTicked, IsTicked}
 use Rattle.tb_core.specs.declared.bus.LiveBus.{LiveBus}
 use Rattle.tb_core.proofs.ReadLemmas.{all-there}
-use Rattle.tb_core.proofs.IndexLemmas.{same-noted}
+use Rattle.tb_core.proofs.IndexLemmas.{same-right}
 use Rattle.tb_core.proofs.SetLemmas.{set-other, set-there}
 
 -- those in front of an index are a tick older, and the others are as they were
@@ -207,9 +207,9 @@ ticked-alive view plans number (old ∷ olds) (new ∷ news) h =
     ap (λ n. (n == number) || is_alive number olds) (sym h.0.2.number) ∙ ap (λ rest. (new.number == number) || rest) (ticked-alive view plans number olds news h.1)
 
 -- of one that ticked the index has what it had
-ticked-noted : {W P T : Type 0} (view : View P W T) (index : IndexState) (plan : P) (old new : Living W) → HasTicked view plan old new → IsNoted index old → IsNoted index new
-ticked-noted view index plan old new t h =
-    same-noted index old new t.number t.marks (λ e. ((and_parts old.fresh (not old.timed) (sym t.fresh ∙ e)).0, t.ready)) h
+ticked-right : {W P T : Type 0} (view : View P W T) (index : IndexState) (plan : P) (old new : Living W) → HasTicked view plan old new → IsRightFor index old → IsRightFor index new
+ticked-right view index plan old new t h =
+    same-right index old new t.number t.marks (λ e. ((and_parts old.fresh (not old.timed) (sym t.fresh ∙ e)).0, t.ready)) h
 
 -- a bus a tick later
 pub sound-ticked : {W P T : Type 0} (view : View P W T) (bus : LiveBus W P T) (living : Vec (Living W)) → IsSound view bus → AreTicked view bus.plans bus.living.items living.items → IsSound view (record bus { living = living; ticks = bus.ticks + 1; aged = true })
@@ -221,9 +221,9 @@ sound-ticked view bus living sound h = record {
   live = ticked-by view bus.plans (IsLive view bus.plans bus.ticks) (IsLive view bus.plans (bus.ticks + 1)) bus.living.items living.items (ticked-live view bus.plans bus.ticks) h sound.live;
   fresh = λ young. cc;
   lanes = sound.lanes;
-  noted = record {
-    each = ticked-by view bus.plans (IsNoted bus.index) (IsNoted bus.index) bus.living.items living.items (λ old new t. ticked-noted view bus.index t.0 old new t.2) h sound.noted.each;
-    others = λ number absent. sound.noted.others number (ticked-alive view bus.plans number bus.living.items living.items h ∙ absent);
+  indexed = record {
+    each = ticked-by view bus.plans (IsRightFor bus.index) (IsRightFor bus.index) bus.living.items living.items (λ old new t. ticked-right view bus.index t.0 old new t.2) h sound.indexed.each;
+    others = λ number absent. sound.indexed.others number (ticked-alive view bus.plans number bus.living.items living.items h ∙ absent);
   };
 }
 
@@ -262,7 +262,7 @@ none-stale view old bus stale same fresh = record {
     live = same.sound.live;
     fresh = λ young. All-weaker (λ living. living.fresh ≡ true) (IsFreshOr stale.items) (λ living e. inl e) bus.living.items fresh;
     lanes = same.sound.lanes;
-    noted = same.sound.noted;
+    indexed = same.sound.indexed;
   };
   bus = same.bus;
   origin = same.origin;

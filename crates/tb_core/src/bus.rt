@@ -7,7 +7,7 @@ use crate::acting::{
     Done, NOWHERE, created, end_label, finish_reason, halt_reason, kind_alone, printed, shut_down,
 };
 use crate::inboxes::{hand_out, subscribe_at, take_note_at, unsubscribe_at};
-use crate::indexing::{index_of, no_marks, note};
+use crate::indexing::{index_of, no_marks, update};
 use crate::looking::{go_on, look};
 use crate::opening::{numbers_of, open_all, open_at, plan_all};
 use crate::speaking::{is_declared, seen_size, speak};
@@ -125,7 +125,7 @@ impl<W: Walker> LiveBus<W> {
         let plan = &self.plans.as_slice()[living.body as usize];
         let body = &program.bodies.as_slice()[living.body as usize];
         look(alloc, plan, body, living, self.ticks)?;
-        note(&mut self.index, &mut self.looked, living)
+        update(&mut self.index, &mut self.looked, living)
     }
 
     /// Looks at the process with this number anew, where it is there and has to be.

@@ -2,7 +2,7 @@ ghost use Rattle.std.specs.Prelude.{◌≡◌, ◌≢◌, ◌++◌, ℕ, [], IfO
 ghost use Rattle.std.specs.List.{All};
 ghost use Rattle.tb_index.specs.Indexes.{HasRoom, IsTurned};
 ghost use Rattle.tb_bus.specs.Helpers.Indexed.{are_calm, is_calm, received_by, received_marks, sent_by, sent_marks};
-ghost use Rattle.tb_core.specs.Helpers.Indexes.{HasNothing, IsNoted, KeepsOf};
+ghost use Rattle.tb_core.specs.Helpers.Indexes.{HasNothing, IsRightFor, KeepsOf};
 
 use std::alloc::Global;
 use std::mem;
@@ -94,14 +94,14 @@ fn rouse(index: &mut Index, number: u32, calm: bool)
 }
 
 /// The index has from now on what a process that was looked at is ready for. Then the process is fresh.
-pub fn note<W>(
+pub fn update<W>(
     index: &mut Index,
     looked: &mut Marks,
     living: &mut Living<W>,
 ) -> Result<(), NoMemory>
-    requires noted { IsNoted index.old living.old }
+    requires right { IsRightFor index.old living.old }
     requires stale { living.old.fresh ≡ false }
-    ensures noted { IsNoted index.new living.new }
+    ensures right { IsRightFor index.new living.new }
     ensures others { (other : ℕ) → other ≢ living.old.number → KeepsOf index.old index.new other }
     ensures same { living.new ≡ record living.old { marks = living.new.marks; fresh = living.new.fresh } }
     ensures fresh { OnOk result (living.new.fresh ≡ true) }

@@ -308,7 +308,7 @@ fn is_timed<W: Walker>(atoms: &Atoms, walker: &W) -> bool
     false
 }
 
-/// Looks anew what a process is ready to do, on a bus that has seen so many ticks. It isn't fresh before that is noted.
+/// Looks anew what a process is ready to do, on a bus that has seen so many ticks. It isn't fresh before the index has that.
 pub fn look<W: Walker>(
     alloc: Global,
     plan: &W::Plan,

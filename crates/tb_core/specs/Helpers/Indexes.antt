@@ -1,4 +1,4 @@
--- What an index has to hold of the living.
+-- When an index is right for the living.
 use Rattle.std.specs.Prelude.{◌≡◌, ◌==◌, ◌||◌, ℕ, List, [], ◌∷◌, Bool, true, false}
 use Rattle.std.specs.List.{All}
 use Rattle.tb_index.specs.Indexes.{HasRoom, IndexState, is_awake, receives, sends}
@@ -22,7 +22,7 @@ pub record HasNothing (index : IndexState) (number : ℕ) : Type 0 where
   pub asleep : is_awake index number ≡ false
 
 -- The index has the marks of one of the living, and room for it. Where that one is fresh, these are the marks of what it is ready for.
-pub record IsNoted {W : Type 0} (index : IndexState) (living : Living W) : Type 0 where
+pub record IsRightFor {W : Type 0} (index : IndexState) (living : Living W) : Type 0 where
   pub sent : (mark : Mark) → sends index mark living.number ≡ has_mark living.marks.sends.items mark
   pub received : (mark : Mark) → receives index mark living.number ≡ has_mark living.marks.receives.items mark
   pub room : HasRoom index living.number
@@ -34,8 +34,8 @@ is_alive number [] = false
 is_alive number (living ∷ all) = (living.number == number) || is_alive number all
 
 -- so of each of them, and nothing of any other
-pub record AreNoted {W : Type 0} (index : IndexState) (all : List (Living W)) : Type 0 where
-  pub each : All (IsNoted index) all
+pub record IsRightForAll {W : Type 0} (index : IndexState) (all : List (Living W)) : Type 0 where
+  pub each : All (IsRightFor index) all
   pub others : (number : ℕ) → is_alive number all ≡ false → HasNothing index number
 
 -- one that was never looked at

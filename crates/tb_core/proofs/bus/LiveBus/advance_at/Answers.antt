@@ -3,9 +3,9 @@ use Rattle.std.specs.Vec.{with_item}
 use Rattle.tb_bus.specs.Helpers.Views.{proc_at}
 use Rattle.tb_core.specs.Helpers.LiveBuses.{procs_in}
 use Rattle.tb_core.proofs.AdvanceLemmas.{Went, read-at, leaves-there, advanced-set, advanced-removed, set-before, gone-before, sorts-once}
-use Rattle.tb_core.specs.Helpers.Indexes.{IsNoted}
+use Rattle.tb_core.specs.Helpers.Indexes.{IsRightFor}
 use Rattle.tb_core.proofs.ReadLemmas.{all-there, read-there}
-use Rattle.tb_core.proofs.IndexLemmas.{stale-noted}
+use Rattle.tb_core.proofs.IndexLemmas.{stale-right}
 use Rattle.tb_core.proofs.bus.LiveBus.advance_at.Given.{Over}
 use Rattle.tb_core.proofs.bus.LiveBus.advance_at.Goals.{After-go_on}
 use Rattle.tb_core.proofs.bus.LiveBus.advance_at.Goals as goal
@@ -24,18 +24,18 @@ go_on-requires-clause-taken g c =
     let can = c.requires.taken in
     (can.0, leaves-there g.W.Walker.view c.args.self.now c.args.at before plan c.args.taken can.0 read can.1, can.3)
 
-noted-then : (g : Over) (c : After-go_on g) → IsNoted c.args.self.now.index c.go_on.new.living
-noted-then g c =
+right-then : (g : Over) (c : After-go_on g) → IsRightFor c.args.self.now.index c.go_on.new.living
+right-then g c =
     let bus = c.args.self.now in
     let before = c.index_mut-living.result.now in
     let here = read-there bus.living.items c.args.at before c.requires.within c.index_mut-living.ensures.value in
-    stale-noted bus.index before c.go_on.new.living c.go_on.ensures.number c.go_on.ensures.marks c.go_on.ensures.stale (all-there (IsNoted bus.index) bus.living.items c.args.at before c.requires.sound.noted.each here)
+    stale-right bus.index before c.go_on.new.living c.go_on.ensures.number c.go_on.ensures.marks c.go_on.ensures.stale (all-there (IsRightFor bus.index) bus.living.items c.args.at before c.requires.sound.indexed.each here)
 
 pub clear-requires-clause-sends : goal.clear-requires-clause-sends
-clear-requires-clause-sends g c = (noted-then g (goal.at.clear-requires-clause-sends g c).After-go_on).sent
+clear-requires-clause-sends g c = (right-then g (goal.at.clear-requires-clause-sends g c).After-go_on).sent
 
 pub clear-requires-clause-receives : goal.clear-requires-clause-receives
-clear-requires-clause-receives g c = (noted-then g (goal.at.clear-requires-clause-receives g c).After-go_on).received
+clear-requires-clause-receives g c = (right-then g (goal.at.clear-requires-clause-receives g c).After-go_on).received
 
 pub returns-then-go_on-clause-advanced : goal.returns-then-go_on-clause-advanced
 returns-then-go_on-clause-advanced g c offered leaves =

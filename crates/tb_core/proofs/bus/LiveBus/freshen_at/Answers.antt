@@ -2,12 +2,12 @@ use Rattle.std.proofs.Common.{◌≡◌, true, false, arith, rules, refl, sym, s
 use Rattle.std.specs.Vec.{with_item}
 use Rattle.tb_bus.specs.Buses.{Proc}
 use Rattle.tb_bus.specs.declared.living.Living.{Living}
-use Rattle.tb_core.specs.Helpers.Indexes.{IsNoted}
+use Rattle.tb_core.specs.Helpers.Indexes.{IsRightFor}
 use Rattle.tb_core.specs.Helpers.Lives.{IsLiveOn, proc_by}
 use Rattle.tb_core.specs.Helpers.LiveBuses.{IsFreshOr}
 use Rattle.tb_core.proofs.ReadLemmas.{live-at, all-there, read-there, plan-within, body-within, read-is, body-is}
-use Rattle.tb_core.proofs.IndexLemmas.{keeps-self, stale-noted}
-use Rattle.tb_core.proofs.SetLemmas.{in-place, named-as, noted-live, stands-set}
+use Rattle.tb_core.proofs.IndexLemmas.{keeps-self, stale-right}
+use Rattle.tb_core.proofs.SetLemmas.{in-place, named-as, updated-live, stands-set}
 use Rattle.tb_core.proofs.bus.LiveBus.freshen_at.Given.{Over}
 use Rattle.tb_core.proofs.bus.LiveBus.freshen_at.Goals.{After-look}
 use Rattle.tb_core.proofs.bus.LiveBus.freshen_at.Goals as goal
@@ -19,7 +19,7 @@ returns-then-living-clause-same g c =
     let it = live-at g.W.Walker.view bus c.args.at living c.requires.sound c.requires.within c.index_mut-living.ensures.value in
     stands-set g.W.Walker.view bus (with_item bus.living c.args.at living) bus.index bus.looked c.args.at living living it c.requires.sound refl
     (in-place g.W.Walker.view bus it.plan it.plan living living refl it.live refl (λ young. inl c.if-living.true))
-    (λ other ne. keeps-self bus.index other) (all-there (IsNoted bus.index) bus.living.items c.args.at living c.requires.sound.noted.each it.here)
+    (λ other ne. keeps-self bus.index other) (all-there (IsRightFor bus.index) bus.living.items c.args.at living c.requires.sound.indexed.each it.here)
 
 pub bounds-as_slice-living : goal.bounds-as_slice-living
 bounds-as_slice-living g c =
@@ -55,16 +55,16 @@ look-requires-clause-live g c =
     subst (λ p. IsLiveOn g.W.Walker.view p bus.ticks living) (sym plan) it.live
 
 -- the index has what it has to of the one that was looked at, which isn't fresh
-looked-noted : (g : Over) (c : After-look g) → IsNoted c.args.self.now.index c.look.new.living
-looked-noted g c =
+looked-right : (g : Over) (c : After-look g) → IsRightFor c.args.self.now.index c.look.new.living
+looked-right g c =
     let bus = c.args.self.now in
     let living = c.index_mut-living.result.now in
     let here = read-there bus.living.items c.args.at living c.requires.within c.index_mut-living.ensures.value in
-    stale-noted bus.index living c.look.new.living (ap (λ (p : Proc). p.number) c.look.ensures.same) c.look.ensures.marks c.look.ensures.stale
-    (all-there (IsNoted bus.index) bus.living.items c.args.at living c.requires.sound.noted.each here)
+    stale-right bus.index living c.look.new.living (ap (λ (p : Proc). p.number) c.look.ensures.same) c.look.ensures.marks c.look.ensures.stale
+    (all-there (IsRightFor bus.index) bus.living.items c.args.at living c.requires.sound.indexed.each here)
 
-pub note-requires-clause-noted : goal.note-requires-clause-noted
-note-requires-clause-noted g c = looked-noted g (goal.at.note-requires-clause-noted g c).After-look
+pub update-requires-clause-right : goal.update-requires-clause-right
+update-requires-clause-right g c = looked-right g (goal.at.update-requires-clause-right g c).After-look
 
 pub returns-in_err-look-clause-same : goal.returns-in_err-look-clause-same
 returns-in_err-look-clause-same g c =
@@ -76,7 +76,7 @@ returns-in_err-look-clause-same g c =
     let named = λ (young : bus.aged ≡ false). named-as bus.stale.items living one (all-there (IsFreshOr bus.stale.items) bus.living.items c.args.at living (c.requires.sound.fresh young) it.here) c.if-living.false (ap (λ (p : Proc). p.number) c.look.ensures.same) in
     stands-set g.W.Walker.view bus (with_item bus.living c.args.at one) bus.index bus.looked c.args.at living one it c.requires.sound refl
     (in-place g.W.Walker.view bus c.index-as_slice-living.result it.plan living one plan c.look.ensures.live c.look.ensures.same named)
-    (λ other ne. keeps-self bus.index other) (looked-noted g (goal.at.returns-in_err-look-clause-same g c).After-look)
+    (λ other ne. keeps-self bus.index other) (looked-right g (goal.at.returns-in_err-look-clause-same g c).After-look)
 
 pub returns-in_err-look-clause-set : goal.returns-in_err-look-clause-set
 returns-in_err-look-clause-set g c =
@@ -89,13 +89,13 @@ returns-clause-same g c =
     let view = g.W.Walker.view in
     let living = c.index_mut-living.result.now in
     let middle = c.look.new.living in
-    let one = c.note.new.living in
+    let one = c.update.new.living in
     let it = live-at view bus c.args.at living c.requires.sound c.requires.within c.index_mut-living.ensures.value in
     let read = c.index-as_slice-living.result in
     let plan = read-is bus.plans c.as_slice.result.now living.body read it.plan c.as_slice.ensures it.planned c.index-as_slice-living.is in
-    let number : one.number ≡ living.number = ap (λ (l : Living _). l.number) c.note.ensures.same ∙ ap (λ (p : Proc). p.number) c.look.ensures.same in
+    let number : one.number ≡ living.number = ap (λ (l : Living _). l.number) c.update.ensures.same ∙ ap (λ (p : Proc). p.number) c.look.ensures.same in
     let named = λ (young : bus.aged ≡ false). named-as bus.stale.items living one (all-there (IsFreshOr bus.stale.items) bus.living.items c.args.at living (c.requires.sound.fresh young) it.here) c.if-living.false number in
-    stands-set view bus (with_item bus.living c.args.at one) c.note.new.index c.note.new.looked c.args.at living one it c.requires.sound refl
-    (in-place view bus read it.plan living one plan (noted-live view read bus.ticks middle one c.look.ensures.live c.in_ok-look.ensures.looked c.note.ensures.same)
-    (ap (proc_by view (Some read)) c.note.ensures.same ∙ c.look.ensures.same) named)
-    (λ other ne. c.note.ensures.others other (λ e. ne (e ∙ ap (λ (p : Proc). p.number) c.look.ensures.same))) c.note.ensures.noted
+    stands-set view bus (with_item bus.living c.args.at one) c.update.new.index c.update.new.looked c.args.at living one it c.requires.sound refl
+    (in-place view bus read it.plan living one plan (updated-live view read bus.ticks middle one c.look.ensures.live c.in_ok-look.ensures.looked c.update.ensures.same)
+    (ap (proc_by view (Some read)) c.update.ensures.same ∙ c.look.ensures.same) named)
+    (λ other ne. c.update.ensures.others other (λ e. ne (e ∙ ap (λ (p : Proc). p.number) c.look.ensures.same))) c.update.ensures.right
