@@ -39,7 +39,7 @@ returns-in-TakeNote g c =
     let here = read-there all c.in-TakeNote.at living (omega (arith, it.0.0)) c.index.ensures in
     c.total_size.ensures
     ∙ ap (λ terms. min (terms_size terms) MAX)
-    (c.as_slice.ensures ∙ note-there living.inbox.held found.place c.update.result.now c.update.ensures ∙ ap (λ (h : Held). note_at h found.place) (sym (held-there all c.in-TakeNote.at living here))
+    (c.as_slice.ensures ∙ note-there living.inbox.held found.place c.note.result.now c.note.ensures ∙ ap (λ (h : Held). note_at h found.place) (sym (held-there all c.in-TakeNote.at living here))
     ∙ shown-taking g.W.Walker.view bus c.in-TakeNote.at c.in-TakeNote.field-1 found c.requires.sound c.requires.fresh it
     ∙ ap (λ x. (label_of (move_in g.W.Walker.view bus x)).terms) (sym c.in-TakeNote.is))
 
