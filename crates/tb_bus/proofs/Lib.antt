@@ -19,6 +19,7 @@ pub mod OrderLemmas
 pub mod ChangeLemmas
 pub mod TickLemmas
 pub mod ReachedLemmas
-pub mod ReceiverLemmas
+pub mod PlaceLemmas
+pub mod IndexLemmas
 pub mod ApartLemmas
 pub mod Rows

@@ -24,7 +24,7 @@ ascend-above below (row ∷ rows) (suc k) d h l =
     let above = ascend-above row.number rows k d t.1 (omega arith) in
     omega arith
 
-ascend-upto : (below : ℕ) (rows : List Row) (i j : ℕ) (d : Row) → ascend below rows ≡ true → i ≤ j → j < length rows → (get_or rows i d).number ≤ (get_or rows j d).number
+pub ascend-upto : (below : ℕ) (rows : List Row) (i j : ℕ) (d : Row) → ascend below rows ≡ true → i ≤ j → j < length rows → (get_or rows i d).number ≤ (get_or rows j d).number
 ascend-upto below [] i j d h l m = absurd (omega arith)
 ascend-upto below (row ∷ rows) zero zero d h l m = omega arith
 ascend-upto below (row ∷ rows) (suc i) zero d h l m = absurd (omega arith)

@@ -1,3 +1,4 @@
 -- Definitions that proofs and private functions need, and that nobody has to believe who believes the program's call.
 pub mod Candidates
 pub mod Views
+pub mod Indexed

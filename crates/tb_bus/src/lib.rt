@@ -11,6 +11,7 @@ mod laws;
 mod living;
 mod marks;
 mod origin;
+mod places;
 mod receivers;
 mod search;
 mod shapes;

@@ -1,4 +1,5 @@
 use crate::action::Action;
+use tb_index::Marks;
 use tb_notes::Inbox;
 
 /// An offer of a process that is ready for an action: its index among the offers, and its atom.
@@ -24,6 +25,8 @@ pub struct Living<W> {
     pub ready: Vec<Ready>,
     /// Whether `ready` says what it is ready to do now.
     pub fresh: bool,
+    /// What an index keeps of it: the marks of what it sends and receives.
+    pub marks: Marks,
     /// Whether an atom with times may be next, so that a tick may change what it is ready to do.
     pub timed: bool,
 }

@@ -1,12 +1,17 @@
-ghost use Rattle.std.specs.Prelude.{◌≡◌, Some, IfOk};
-ghost use Rattle.tb_bus.specs.Helpers.Candidates.{first, reception, receptions, partner_in, partners, has_receive, receivers, AreKnown, row_of, rows_of};
+ghost use Rattle.std.specs.Prelude.{◌≡◌, ℕ, ◌<◌, List, length, IfOk, IsTrue};
+ghost use Rattle.tb_terms.specs.declared.term.Term.{Term as Sent};
+ghost use Rattle.tb_index.specs.Marks.{sent_mark};
+ghost use Rattle.tb_bus.specs.Helpers.Candidates.{first, reception, receptions, partner_in, partners, ascend, row_of, rows_of};
+ghost use Rattle.tb_bus.specs.Helpers.Indexed.{IsIndexFor, IsNextOf};
 
 use crate::action::Action;
 use crate::candidate::{Partner, Received};
 use crate::living::{Living, Ready};
+use crate::places::place_of;
 use std::alloc::Global;
+use tb_index::{Index, Mark, sent_mark};
 use tb_match::match_list;
-use tb_terms::{Items, NoMemory, Terms};
+use tb_terms::{NoMemory, Terms};
 
 /// Whether an action receives the terms, and what they bind then.
 fn receive(
@@ -50,95 +55,39 @@ fn first_received(
     Ok(None)
 }
 
-/// Whether one of the actions receives anything.
-fn has_receive(actions: &[Ready]) -> bool
-    ensures { result ≡ has_receive actions.now }
+/// The place of the next process, from one place on, that receives what has this mark.
+fn next_receiver<W>(all: &[Living<W>], index: &Index, from: usize, mark: Mark) -> Option<usize>
+    requires ascend { IsTrue (ascend 0 (rows_of all.now)) }
+    requires index { IsIndexFor index.now (rows_of all.now) }
+    requires within { from < length all.now }
+    ensures { (number : ℕ) (terms : List Sent) → mark ≡ sent_mark terms → IsNextOf (partner_in number terms) (rows_of all.now) from result }
 {
-    for ready in actions {
-        match ready.action {
-            Action::Receive(_) => return true,
-            Action::Own(_)
-            | Action::Send(_)
-            | Action::Notify(_)
-            | Action::TakeNote(_)
-            | Action::Speak(_) => {}
-        }
-    }
-    false
+    let found = index.next_receiver(mark, all[from].number);
+    place_of(all, from, found)
 }
 
-/// The indices of the processes that receive anything.
-fn look_up<W>(alloc: Global, all: &[Living<W>]) -> Result<Items<usize>, NoMemory>
-    ensures { IfOk result (λ indices. indices ≡ receivers 0 (rows_of all.now)) }
-{
-    let mut indices = Items::new(alloc);
-    for (index, living) in all.iter().enumerate() {
-        if has_receive(living.ready.as_slice()) {
-            indices.push(index)?;
-        }
-    }
-    Ok(indices)
-}
-
-/// The first process, another than the one with this number, that receives the terms. Where none does, the
-/// receivers are known from then on, and only these are asked.
-#[tactic(auto, using(crate::proofs::ReceiverLemmas::known_by))]
+/// The first process, another than the one with this number, that receives the terms.
 pub(crate) fn first_partner<W>(
     alloc: Global,
     all: &[Living<W>],
-    known: &mut Option<Items<usize>>,
+    index: &Index,
     number: u32,
     terms: &Terms,
 ) -> Result<Option<Partner>, NoMemory>
-    requires { AreKnown known.old (rows_of all.now) }
-    ensures found { IfOk result (λ found. found ≡ first (partners number terms.now 0 (rows_of all.now))) }
-    ensures known { AreKnown known.new (rows_of all.now) }
-{
-    match known {
-        Some(indices) => return first_among(alloc, all, indices.as_slice(), number, terms),
-        None => {}
-    }
-    match first_of_all(alloc, all, number, terms)? {
-        Some(partner) => return Ok(Some(partner)),
-        None => {}
-    }
-    *known = Some(look_up(alloc, all)?);
-    Ok(None)
-}
-
-/// The first among the receivers.
-#[tactic(auto, using(crate::proofs::ReceiverLemmas::known_decide))]
-fn first_among<W>(
-    alloc: Global,
-    all: &[Living<W>],
-    indices: &[usize],
-    number: u32,
-    terms: &Terms,
-) -> Result<Option<Partner>, NoMemory>
-    requires { AreKnown (Some indices.now) (rows_of all.now) }
+    requires ascend { IsTrue (ascend 0 (rows_of all.now)) }
+    requires index { IsIndexFor index.now (rows_of all.now) }
     ensures { IfOk result (λ found. found ≡ first (partners number terms.now 0 (rows_of all.now))) }
 {
-    for index in indices {
-        match partner(alloc, *index, &all[*index], number, terms)? {
-            Some(partner) => return Ok(Some(partner)),
-            None => {}
-        }
-    }
-    Ok(None)
-}
-
-fn first_of_all<W>(
-    alloc: Global,
-    all: &[Living<W>],
-    number: u32,
-    terms: &Terms,
-) -> Result<Option<Partner>, NoMemory>
-    ensures { IfOk result (λ found. found ≡ first (partners number terms.now 0 (rows_of all.now))) }
-{
-    for (index, living) in all.iter().enumerate() {
-        match partner(alloc, index, living, number, terms)? {
-            Some(partner) => return Ok(Some(partner)),
-            None => {}
+    let mark = sent_mark(terms);
+    let end = all.len();
+    let mut at = 0;
+    while at < end {
+        match next_receiver(all, index, at, mark) {
+            Some(place) => match partner(alloc, place, &all[place], number, terms)? {
+                Some(partner) => return Ok(Some(partner)),
+                None => at = place + 1,
+            },
+            None => return Ok(None),
         }
     }
     Ok(None)

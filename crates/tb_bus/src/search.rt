@@ -1,9 +1,10 @@
-ghost use Rattle.std.specs.Prelude.{◌≡◌, ◌+◌, ◌≤◌, [], length, option_map, IfOk, IfSome, IsTrue};
+ghost use Rattle.std.specs.Prelude.{◌≡◌, ◌≤◌, ◌<◌, [], length, take, drop, option_map, IfOk, IfSome, IsTrue};
 ghost use Rattle.tb_bus.specs.Buses.{Bus};
 ghost use Rattle.tb_bus.specs.Steps.{moves};
 ghost use Rattle.tb_bus.specs.Helpers.Views.{IsSearchedFor, IsCandidateIn, move_of};
+ghost use Rattle.tb_bus.specs.Helpers.Indexed.{IsIndexFor, IsNextOf};
 ghost use Rattle.tb_bus.specs.Exchanges.{exchange_for};
-ghost use Rattle.tb_bus.specs.Helpers.Candidates.{first, AreKnown, may_happen, setting_in, candidates_by, candidates_of, candidates_from, candidates_in_turn, all_candidates, candidates_or_halt, up_to, ascend, row_of, rows_of, scene_of};
+ghost use Rattle.tb_bus.specs.Helpers.Candidates.{first, may_happen, setting_in, candidates_by, candidates_of, candidates_from, candidates_in_turn, all_candidates, candidates_or_halt, up_to, ascend, row_of, rows_of, scene_of};
 
 use crate::action::{Action, OwnAction, ToolAction};
 use crate::candidate::Candidate;
@@ -12,11 +13,13 @@ use crate::exchange::Exchange;
 use crate::exchanging::{Speaker, exchange_for};
 use crate::living::Living;
 use crate::marks::Marks;
+use crate::places::place_of;
 use crate::receivers::first_partner;
 use crate::wanting::wanting;
 use std::alloc::Global;
 use tb_body::Program;
-use tb_terms::{Items, NoMemory};
+use tb_index::Index;
+use tb_terms::NoMemory;
 use tb_tools::Bench;
 
 /// What a search goes through.
@@ -26,6 +29,7 @@ pub(crate) struct Searched<'a, W> {
     pub bench: &'a Bench,
     pub all: &'a [Living<W>],
     pub marks: Marks,
+    pub index: &'a Index,
 }
 
 /// Whether an action of a process by itself may happen.
@@ -77,15 +81,14 @@ fn exchange<W>(
 fn first_by<W>(
     alloc: Global,
     searched: &Searched<W>,
-    known: &mut Option<Items<usize>>,
     at: usize,
     living: &Living<W>,
     index: usize,
     action: &Action,
 ) -> Result<Option<Candidate>, NoMemory>
-    requires { AreKnown known.old (rows_of searched.now.all.now) }
-    ensures known { AreKnown known.new (rows_of searched.now.all.now) }
-    ensures found { IfOk result (λ found. found ≡ first (candidates_by (scene_of searched.now.program.now.bodies searched.now.program.now.tools searched.now.bench.now (rows_of searched.now.all.now) searched.now.marks) at (row_of living.now) index action.now)) }
+    requires ascend { IsTrue (ascend 0 (rows_of searched.now.all.now)) }
+    requires index { IsIndexFor searched.now.index.now (rows_of searched.now.all.now) }
+    ensures { IfOk result (λ found. found ≡ first (candidates_by (scene_of searched.now.program.now.bodies searched.now.program.now.tools searched.now.bench.now (rows_of searched.now.all.now) searched.now.marks) at (row_of living.now) index action.now)) }
 {
     match action {
         Action::Own(own) => {
@@ -96,7 +99,7 @@ fn first_by<W>(
             }
         }
         Action::Send(terms) => {
-            match first_partner(alloc, searched.all, known, living.number, terms)? {
+            match first_partner(alloc, searched.all, searched.index, living.number, terms)? {
                 Some(partner) => Ok(Some(Candidate::Handshake(at, index, partner))),
                 None => Ok(None),
             }
@@ -121,16 +124,15 @@ fn first_by<W>(
 fn first_of<W>(
     alloc: Global,
     searched: &Searched<W>,
-    known: &mut Option<Items<usize>>,
     at: usize,
     living: &Living<W>,
 ) -> Result<Option<Candidate>, NoMemory>
-    requires { AreKnown known.old (rows_of searched.now.all.now) }
-    ensures known { AreKnown known.new (rows_of searched.now.all.now) }
-    ensures found { IfOk result (λ found. found ≡ first (candidates_of (scene_of searched.now.program.now.bodies searched.now.program.now.tools searched.now.bench.now (rows_of searched.now.all.now) searched.now.marks) at (row_of living.now))) }
+    requires ascend { IsTrue (ascend 0 (rows_of searched.now.all.now)) }
+    requires index { IsIndexFor searched.now.index.now (rows_of searched.now.all.now) }
+    ensures { IfOk result (λ found. found ≡ first (candidates_of (scene_of searched.now.program.now.bodies searched.now.program.now.tools searched.now.bench.now (rows_of searched.now.all.now) searched.now.marks) at (row_of living.now))) }
 {
     for (index, ready) in living.ready.as_slice().iter().enumerate() {
-        match first_by(alloc, searched, known, at, living, index, &ready.action)? {
+        match first_by(alloc, searched, at, living, index, &ready.action)? {
             Some(found) => return Ok(Some(found)),
             None => {}
         }
@@ -138,23 +140,39 @@ fn first_of<W>(
     Ok(None)
 }
 
-/// What these processes do first, of which the first has an index among all.
-fn first_from<W>(
+/// The place of the next process, from one place on and before another, that may begin anything.
+fn next_starter<W>(searched: &Searched<W>, from: usize, end: usize) -> Option<usize>
+    requires ascend { IsTrue (ascend 0 (rows_of searched.now.all.now)) }
+    requires index { IsIndexFor searched.now.index.now (rows_of searched.now.all.now) }
+    requires some { from < end }
+    requires within { end ≤ length searched.now.all.now }
+    ensures { IsNextOf (candidates_of (scene_of searched.now.program.now.bodies searched.now.program.now.tools searched.now.bench.now (rows_of searched.now.all.now) searched.now.marks)) (take end (rows_of searched.now.all.now)) from result }
+{
+    let asked = &searched.all[..end];
+    let found = searched.index.next_starter(asked[from].number);
+    place_of(asked, from, found)
+}
+
+/// What the processes from one place on and before another do first.
+fn first_between<W>(
     alloc: Global,
     searched: &Searched<W>,
-    known: &mut Option<Items<usize>>,
     start: usize,
-    asked: &[Living<W>],
+    end: usize,
 ) -> Result<Option<Candidate>, NoMemory>
-    requires within { start + length asked.now ≤ length searched.now.all.now }
-    requires known { AreKnown known.old (rows_of searched.now.all.now) }
-    ensures known { AreKnown known.new (rows_of searched.now.all.now) }
-    ensures found { IfOk result (λ found. found ≡ first (candidates_from (scene_of searched.now.program.now.bodies searched.now.program.now.tools searched.now.bench.now (rows_of searched.now.all.now) searched.now.marks) start (rows_of asked.now))) }
+    requires ascend { IsTrue (ascend 0 (rows_of searched.now.all.now)) }
+    requires index { IsIndexFor searched.now.index.now (rows_of searched.now.all.now) }
+    requires within { end ≤ length searched.now.all.now }
+    ensures { IfOk result (λ found. found ≡ first (candidates_from (scene_of searched.now.program.now.bodies searched.now.program.now.tools searched.now.bench.now (rows_of searched.now.all.now) searched.now.marks) start (drop start (take end (rows_of searched.now.all.now))))) }
 {
-    for (offset, living) in asked.iter().enumerate() {
-        match first_of(alloc, searched, known, start + offset, living)? {
-            Some(found) => return Ok(Some(found)),
-            None => {}
+    let mut at = start;
+    while at < end {
+        match next_starter(searched, at, end) {
+            Some(place) => match first_of(alloc, searched, place, &searched.all[place])? {
+                Some(found) => return Ok(Some(found)),
+                None => at = place + 1,
+            },
+            None => return Ok(None),
         }
     }
     Ok(None)
@@ -169,32 +187,19 @@ fn turn_start<W>(all: &[Living<W>], last: u32) -> usize
     all.partition_point(|living| living.number <= last)
 }
 
-/// What the processes do first, asked in turn.
+/// What the processes do first, asked in turn: those after the last starter, and then the others.
 pub(crate) fn first_in_turn<W>(
     alloc: Global,
     searched: &Searched<W>,
 ) -> Result<Option<Candidate>, NoMemory>
-    requires { IsTrue (ascend 0 (rows_of searched.now.all.now)) }
-    ensures { IfOk result (λ found. found ≡ first (candidates_in_turn (scene_of searched.now.program.now.bodies searched.now.program.now.tools searched.now.bench.now (rows_of searched.now.all.now) searched.now.marks) searched.now.marks.last_starter)) }
-{
-    let mut known = None;
-    first_after(alloc, searched, &mut known)
-}
-
-/// Those after the last starter are asked first, and then the others.
-fn first_after<W>(
-    alloc: Global,
-    searched: &Searched<W>,
-    known: &mut Option<Items<usize>>,
-) -> Result<Option<Candidate>, NoMemory>
     requires ascend { IsTrue (ascend 0 (rows_of searched.now.all.now)) }
-    requires known { AreKnown known.old (rows_of searched.now.all.now) }
+    requires index { IsIndexFor searched.now.index.now (rows_of searched.now.all.now) }
     ensures { IfOk result (λ found. found ≡ first (candidates_in_turn (scene_of searched.now.program.now.bodies searched.now.program.now.tools searched.now.bench.now (rows_of searched.now.all.now) searched.now.marks) searched.now.marks.last_starter)) }
 {
     let start = turn_start(searched.all, searched.marks.last_starter);
-    match first_from(alloc, searched, known, start, &searched.all[start..])? {
+    match first_between(alloc, searched, start, searched.all.len())? {
         Some(found) => Ok(Some(found)),
-        None => first_from(alloc, searched, known, 0, &searched.all[..start]),
+        None => first_between(alloc, searched, 0, start),
     }
 }
 
@@ -209,15 +214,18 @@ fn halt_if(no_ticks: bool) -> Option<Candidate>
     }
 }
 
-/// What may happen first, of all that may; None where nothing may, or the bus is down.
+/// What may happen first, of all that may; None where nothing may, or the bus is down. Only those are asked whom
+/// the index names.
 pub fn first_candidate<W>(
     alloc: Global,
     program: &Program,
     bench: &Bench,
     all: &[Living<W>],
     marks: Marks,
+    index: &Index,
 ) -> Result<Option<Candidate>, NoMemory>
-    requires { IsTrue (ascend 0 (rows_of all.now)) }
+    requires ascend { IsTrue (ascend 0 (rows_of all.now)) }
+    requires index { IsIndexFor index.now (rows_of all.now) }
     ensures found { IfOk result (λ found. found ≡ first (all_candidates (scene_of program.now.bodies program.now.tools bench.now (rows_of all.now) marks) marks)) }
     ensures on_bus { IfOk result (λ found. (bus : Bus) → IsSearchedFor bus (scene_of program.now.bodies program.now.tools bench.now (rows_of all.now) marks) marks → option_map (move_of bus (rows_of all.now)) found ≡ first (moves bus)) }
     ensures stands { IfOk result (λ found. IfSome found (IsCandidateIn (scene_of program.now.bodies program.now.tools bench.now (rows_of all.now) marks))) }
@@ -233,6 +241,7 @@ pub fn first_candidate<W>(
         bench,
         all,
         marks,
+        index,
     };
     match first_in_turn(alloc, &searched)? {
         Some(found) => Ok(Some(found)),

@@ -1,11 +1,14 @@
 //! Actions that no script has, since its checks refuse them: the search finds none of them possible.
-ghost use Rattle.std.specs.Prelude.{◌≡◌, IfOk};
+ghost use Rattle.std.specs.Prelude.{◌≡◌, IfOk, [], true};
 ghost use Rattle.tb_log.specs.Shapes.{IsLane};
+ghost use Rattle.tb_index.specs.Indexes.{is_awake};
+ghost use Rattle.tb_bus.specs.Helpers.Indexed.{sent_by, received_by};
 
 use std::alloc::Global;
 use std::test::Fail;
 use tb_body::Program;
 use tb_bus::{Action, Candidate, Living, Marks, OwnAction, Ready, ToolAction, first_candidate};
+use tb_index::Index;
 use tb_log::ToolLine;
 use tb_notes::Inbox;
 use tb_script::load;
@@ -54,7 +57,10 @@ static WISHES: [(Wish, bool); 20] = [
     (Wish::LetsGo(1, 1), false),
 ];
 
-fn action(alloc: Global, wish: Wish) -> Result<Action, NoMemory> {
+fn action(alloc: Global, wish: Wish) -> Result<Action, NoMemory>
+    ensures sent { IfOk result (λ does. sent_by does ≡ []) }
+    ensures received { IfOk result (λ does. received_by does ≡ []) }
+{
     match wish {
         Wish::Creates(body, actuals, slot) => {
             let mut terms = Items::new(alloc);
@@ -85,6 +91,16 @@ fn bench(alloc: Global) -> Result<Bench, Fail> {
     Ok(bench)
 }
 
+/// An index in which the first process is awake.
+fn index_of_one(alloc: Global) -> Result<Index, NoMemory>
+    ensures { IfOk result (λ index. is_awake index 1 ≡ true) }
+{
+    let mut index = Index::new(alloc);
+    index.make_room(1)?;
+    index.wake(1);
+    Ok(index)
+}
+
 /// Whether a process that is ready for this alone goes on.
 fn comes_true(alloc: Global, program: &Program, bench: &Bench, wish: Wish) -> Result<bool, Fail> {
     let action = action(alloc, wish)?;
@@ -100,6 +116,10 @@ fn comes_true(alloc: Global, program: &Program, bench: &Bench, wish: Wish) -> Re
         inbox: Inbox::new(alloc),
         ready: vec![in alloc; ready]?,
         fresh: true,
+        marks: tb_index::Marks {
+            sends: Vec::new(alloc),
+            receives: Vec::new(alloc),
+        },
         timed: false,
     };
     let marks = Marks {
@@ -109,7 +129,8 @@ fn comes_true(alloc: Global, program: &Program, bench: &Bench, wish: Wish) -> Re
         down: false,
     };
     let all = [living];
-    let found = first_candidate(alloc, program, bench, &all, marks)?;
+    let index = index_of_one(alloc)?;
+    let found = first_candidate(alloc, program, bench, &all, marks, &index)?;
     Ok(matches!(
         found,
         Some(Candidate::Own(0, 0) | Candidate::Speak(0, 0, _))

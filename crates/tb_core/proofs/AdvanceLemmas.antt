@@ -14,17 +14,20 @@ use Rattle.tb_algebra.specs.Walks.{Walking, is_end, fired, sorts_of}
 use Rattle.tb_algebra.specs.WalkerViews.{View}
 use Rattle.tb_algebra.proofs.Sorts.{sorts-with_binds}
 use Rattle.tb_notes.specs.Inboxes.{Contents}
+use Rattle.tb_index.specs.Indexes.{IndexState, IsCleared}
 use Rattle.tb_bus.specs.Buses.{Bus, Proc, proc_left}
 use Rattle.tb_bus.specs.Steps.{advance}
 use Rattle.tb_bus.specs.Helpers.Candidates.{row_at, row_of, rows_of, no_row, ascend, Row}
 use Rattle.tb_bus.specs.Helpers.Views.{proc_at, no_proc}
 use Rattle.tb_bus.specs.declared.living.Living.{Living}
 use Rattle.tb_bus.proofs.TurnLemmas.{ascend-first}
+use Rattle.tb_core.specs.Helpers.Indexes.{IsRightFor}
 use Rattle.tb_core.specs.Helpers.Lives.{IsBelow, IsLive, term_in, proc_by, proc_in, procs_of}
 use Rattle.tb_core.specs.Helpers.LiveBuses.{IsSound, IsFreshOr, IsAdvanced, AreAdvanced, Leaves, CanAdvance, bus_of, procs_in}
 use Rattle.tb_core.specs.declared.bus.LiveBus.{LiveBus}
 use Rattle.tb_core.proofs.ReadLemmas.{LiveAt, above-there, all-there, live-at, proc-number, read-is}
 use Rattle.tb_core.proofs.SetLemmas.{ascend-set, set-other}
+use Rattle.tb_core.proofs.IndexLemmas.{keeps-self, right-removed, right-set, stale-right}
 
 goes-by : (number : ℕ) (offered : Offered) (binds : List Bind) (proc : Proc) (rest : List Proc) (b : Bool) → b ≡ true →
     (if b then proc_left proc (with_binds offered.store binds) offered.residual else proc ∷ []) ++ rest ≡ proc_left proc (with_binds offered.store binds) offered.residual ++ rest
@@ -104,6 +107,7 @@ pub record Went {W P T : Type 0} (view : View P W T) (plan : P) (before : Living
   pub body : after.body ≡ before.body
   pub inbox : after.inbox ≡ before.inbox
   pub stale : after.fresh ≡ false
+  pub marks : after.marks ≡ before.marks
 
 -- what is left of the process is what the one that went on stands for
 left-moved : {W P T : Type 0} (view : View P W T) (plans : List P) (plan : P) (before : Living W) (offered : Offered) (binds : List Bind) (after : Living W) →
@@ -267,6 +271,8 @@ advanced-set view bus at before plan offered binds after over living sound read 
         live = subst (All (IsLive view bus.plans bus.ticks)) (sym e) (All-set (IsLive view bus.plans bus.ticks) bus.living.items at after (went-live view bus at before offered binds after it goes sorts lives) sound.live);
         fresh = λ young. subst (All (IsFreshOr bus.stale.items)) (sym e) (All-set (IsFreshOr bus.stale.items) bus.living.items at after
             (inr (subst (Contains bus.stale.items) (sym went.number) (named view bus at before it stale))) (sound.fresh young));
+        indexed = right-set bus.index bus.index bus.living.items living.items at before after e sound.in_order it.here went.number
+            (λ other ne. keeps-self bus.index other) (stale-right bus.index before after went.number went.marks went.stale (all-there (IsRightFor bus.index) bus.living.items at before sound.indexed.each it.here)) sound.indexed;
       };
       bus = moved view bus at before offered binds (procs_of view bus.plans living.items) it
           (ap (procs_of view bus.plans) e ∙ procs-set view bus.plans it.plan 0 bus.living.items at before offered binds after sound.in_order it.here goes it.planned lives);
@@ -280,10 +286,10 @@ ended-none None e = refl
 ended-none (Some term) e = cc
 
 -- The process at an index is gone, where it has ended.
-pub advanced-removed : {W P T : Type 0} (view : View P W T) (bus : LiveBus W P T) (at : ℕ) (before : Living W) (plan : P) (offered : Offered) (binds : List Bind) (after : Living W) (over : Bool) (living : Vec (Living W)) → IsSound view bus →
+pub advanced-removed : {W P T : Type 0} (view : View P W T) (bus : LiveBus W P T) (at : ℕ) (before : Living W) (plan : P) (offered : Offered) (binds : List Bind) (after : Living W) (over : Bool) (living : Vec (Living W)) (index : IndexState) → IsSound view bus →
     ReadAt view bus at before plan → Went view plan before offered binds after → over ≡ is_end (view.walking plan after.walker).term → over ≡ true → living.items ≡ remove (slice_set bus.living.items at after) at →
-    IsAdvanced view bus at offered binds (record bus { living = living })
-advanced-removed view bus at before plan offered binds after over living sound read went ends ended put =
+    IsCleared bus.index index after.number → IsAdvanced view bus at offered binds (record bus { living = living; index = index })
+advanced-removed view bus at before plan offered binds after over living index sound read went ends ended put cleared =
     let e : living.items ≡ remove bus.living.items at = put ∙ remove-set bus.living.items at after in
     let left = ended-none offered.residual (ap (λ (v : Walking). is_end v.term) (sym went.goes) ∙ sym ends ∙ ended) in
     record {
@@ -294,6 +300,7 @@ advanced-removed view bus at before plan offered binds after over living sound r
         lanes = sound.lanes;
         live = subst (All (IsLive view bus.plans bus.ticks)) (sym e) (All-removed (IsLive view bus.plans bus.ticks) bus.living.items at sound.live);
         fresh = λ young. subst (All (IsFreshOr bus.stale.items)) (sym e) (All-removed (IsFreshOr bus.stale.items) bus.living.items at (sound.fresh young));
+        indexed = right-removed bus.index index bus.living.items living.items at before e sound.in_order read.it.here (subst (IsCleared bus.index index) went.number cleared) sound.indexed;
       };
       bus = moved view bus at before offered binds (procs_of view bus.plans living.items) read.it
           (ap (procs_of view bus.plans) e ∙ procs-removed view bus.plans 0 bus.living.items at before offered binds sound.in_order read.it.here left);

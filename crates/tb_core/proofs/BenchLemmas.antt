@@ -20,10 +20,10 @@ use Rattle.tb_core.specs.declared.bus.LiveBus.{LiveBus}
 use Rattle.tb_core.proofs.MakeLemmas.{IsActed, acted-speak, kept-same, kept-within, speak-at}
 
 sound-bench : {W P T : Type 0} (view : View P W T) (bus : LiveBus W P T) (bench : BenchState) → IsSound view bus → length bench.lanes ≡ 16 → IsSound view (record bus { bench = bench })
-sound-bench view bus bench sound long = record { in_order = sound.in_order; below = sound.below; planned = sound.planned; live = sound.live; fresh = sound.fresh; lanes = long }
+sound-bench view bus bench sound long = record { in_order = sound.in_order; below = sound.below; planned = sound.planned; live = sound.live; fresh = sound.fresh; lanes = long; indexed = sound.indexed }
 
 pub sound-down : {W P T : Type 0} (view : View P W T) (bus : LiveBus W P T) (bench : BenchState) → IsSound view bus → length bench.lanes ≡ 16 → IsSound view (record bus { bench = bench; marks = record bus.marks { down = true } })
-sound-down view bus bench sound long = record { in_order = sound.in_order; below = sound.below; planned = sound.planned; live = sound.live; fresh = sound.fresh; lanes = long }
+sound-down view bus bench sound long = record { in_order = sound.in_order; below = sound.below; planned = sound.planned; live = sound.live; fresh = sound.fresh; lanes = long; indexed = sound.indexed }
 
 -- it stands for the same bus where the lanes are the same
 pub stands-bench : {W P T : Type 0} (view : View P W T) (bus : LiveBus W P T) (bench : BenchState) → IsSound view bus → bench ≡ bus.bench → StandsAs view bus (record bus { bench = bench })

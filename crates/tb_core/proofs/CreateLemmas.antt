@@ -7,15 +7,18 @@ use Rattle.std.proofs.lemmas.List.{map-append}
 use Rattle.std.proofs.lemmas.List.Elements.{All-head, All-push, All-same, All-tail, Contains-append_left, Contains-push}
 use Rattle.tb_terms.specs.declared.term.Term.{Term}
 use Rattle.tb_algebra.specs.WalkerViews.{View}
+use Rattle.tb_index.specs.Indexes.{HasRoom, IndexState}
 use Rattle.tb_bus.specs.Buses.{Bus, Proc, opened_one}
 use Rattle.tb_bus.specs.Effects.{creation}
 use Rattle.tb_bus.specs.Helpers.Candidates.{ascend, row_of, rows_of}
 use Rattle.tb_bus.specs.declared.living.Living.{Living}
 use Rattle.tb_bus.proofs.TurnLemmas.{ascend-first}
+use Rattle.tb_core.specs.Helpers.Indexes.{IsUnmarked, KeepsOf}
 use Rattle.tb_core.specs.Helpers.Lives.{IsBelow, IsLive, proc_in, procs_of}
 use Rattle.tb_core.specs.Helpers.LiveBuses.{IsChanged, IsFreshOr, IsSound, bus_of, procs_in}
 use Rattle.tb_core.specs.declared.bus.LiveBus.{LiveBus}
 use Rattle.tb_core.proofs.ReadLemmas.{above-there, all-there, some-at}
+use Rattle.tb_core.proofs.IndexLemmas.{all-kept, right-pushed}
 
 ascend-push : {W : Type 0} (below : ℕ) (all : List (Living W)) (living : Living W) → ascend below (rows_of all) ≡ true → All (IsBelow living.number) all → below < living.number → ascend below (rows_of (all ++ living ∷ [])) ≡ true
 ascend-push below [] living h k l = rw (lt-ltb below living.number l) refl
@@ -39,11 +42,12 @@ fresh-more : {W : Type 0} (stale more : List ℕ) (all : List (Living W)) → Al
 fresh-more stale more all h k d l = fresh-by stale more (get_or all k d) (h k d l)
 
 -- the bus with one more process, whose number is noted
-module _ {W P T : Type 0} (view : View P W T) (bus : LiveBus W P T) (at : ℕ) (process : ℕ) (actuals : List Term) (slot : ℕ) (living : Living W) (all : Vec (Living W)) (stale : Vec ℕ) where
+module _ {W P T : Type 0} (view : View P W T) (bus : LiveBus W P T) (at : ℕ) (process : ℕ) (actuals : List Term) (slot : ℕ) (living : Living W) (all : Vec (Living W)) (stale : Vec ℕ) (index : IndexState) where
   pub created-changed : IsSound view bus → at < length bus.living.items → all.items ≡ bus.living.items ++ living ∷ [] → stale.items ≡ bus.stale.items ++ bus.marks.next_number ∷ [] → living.number ≡ bus.marks.next_number →
       ((now : ℕ) → IsLive view bus.plans now living) → procs_of view bus.plans (living ∷ []) ≡ opened_one bus.marks.next_number process actuals (slice_get bus.origin.program.bodies process) →
-      IsChanged view bus at (creation bus.marks.next_number process actuals slot) (record bus { living = all; stale = stale; marks = record bus.marks { next_number = bus.marks.next_number + 1 } })
-  created-changed sound within e f number live procs =
+      IsUnmarked living → ((other : ℕ) → KeepsOf bus.index index other) → HasRoom index bus.marks.next_number →
+      IsChanged view bus at (creation bus.marks.next_number process actuals slot) (record bus { living = all; stale = stale; index = index; marks = record bus.marks { next_number = bus.marks.next_number + 1 } })
+  created-changed sound within e f number live procs unmarked kept room =
       let next : ℕ = bus.marks.next_number in
       let before = some-at bus.living.items at within in
       let above = above-there 0 bus.living.items at before.0 sound.in_order before.1 in
@@ -61,6 +65,7 @@ module _ {W P T : Type 0} (view : View P W T) (bus : LiveBus W P T) (at : ℕ) (
               (All-same (IsFreshOr (bus.stale.items ++ next ∷ [])) all.items (bus.living.items ++ living ∷ []) e
               (All-push (IsFreshOr (bus.stale.items ++ next ∷ [])) bus.living.items living (fresh-more bus.stale.items (next ∷ []) bus.living.items (sound.fresh young))
               (inr (subst (Contains (bus.stale.items ++ next ∷ [])) (sym number) (Contains-push bus.stale.items next)))));
+          indexed = right-pushed index bus.living.items all.items living e below_it unmarked (subst (HasRoom index) (sym number) room) (all-kept bus.index index bus.living.items kept sound.indexed);
         };
         bus = ap (λ (ps : List Proc). let b : Bus = record (bus_of view bus) { procs = ps; next_number = next + 1 } in b)
             (ap (procs_of view bus.plans) e ∙ map-append (proc_in view bus.plans) bus.living.items (living ∷ []) ∙ ap (λ ps. procs_in view bus ++ ps) procs);

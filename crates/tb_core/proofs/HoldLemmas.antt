@@ -16,11 +16,13 @@ use Rattle.tb_bus.specs.Helpers.Candidates.{Row, ascend, row_at, row_of, rows_of
 use Rattle.tb_bus.specs.declared.living.Living.{Living}
 use Rattle.tb_bus.proofs.TurnLemmas.{ascend-first}
 use Rattle.tb_core.specs.Helpers.Lives.{IsBelow, IsLive, proc_by, proc_in, procs_of}
+use Rattle.tb_core.specs.Helpers.Indexes.{IsRightFor}
 use Rattle.tb_core.specs.Helpers.Holdings.{helds_of, held_at, spares_of, spare_at, bare, bares_of, IsHeldAt, HoldTheSame, with_given}
 use Rattle.tb_core.specs.Helpers.Makings.{noting}
 use Rattle.tb_core.specs.Helpers.LiveBuses.{IsChanged, IsFreshOr, IsKept, IsSound, StandsAs, bus_of, procs_in}
 use Rattle.tb_core.specs.declared.bus.LiveBus.{LiveBus}
 use Rattle.tb_core.proofs.ReadLemmas.{above-there, map-there, proc-number}
+use Rattle.tb_core.proofs.IndexLemmas.{alive-bares, bare-right, filled-right}
 
 -- what the row at an index shows is held there
 pub row-held : {W : Type 0} (all : List (Living W)) (at : ℕ) → (row_at (rows_of all) at).inbox ≡ held_at all at
@@ -98,6 +100,7 @@ sound-bares view bus living e sound = record {
   lanes = sound.lanes;
   live = all-bares (IsLive view bus.plans bus.ticks) bus.living.items living.items (live-bare view bus.plans bus.ticks) (live-filled view bus.plans bus.ticks) e sound.live;
   fresh = λ young. all-bares (IsFreshOr bus.stale.items) bus.living.items living.items (λ l h. h) (λ l h. h) e (sound.fresh young);
+  indexed = record { each = all-bares (IsRightFor bus.index) bus.living.items living.items (bare-right bus.index) (filled-right bus.index) e sound.indexed.each; others = λ number absent. sound.indexed.others number (alive-bares number bus.living.items living.items e ∙ absent) };
 }
 
 -- one at an index is as it was, but for its inbox

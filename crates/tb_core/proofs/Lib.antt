@@ -3,6 +3,7 @@ pub mod AdvanceLemmas
 pub mod CreateLemmas
 pub mod FreshLemmas
 pub mod HoldLemmas
+pub mod IndexLemmas
 pub mod MakeLemmas
 pub mod NoteLemmas
 pub mod NumberLemmas

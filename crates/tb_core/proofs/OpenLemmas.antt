@@ -26,6 +26,7 @@ use Rattle.tb_bus.specs.Buses.{Proc, with_values, opening_store, opened_one, ope
 use Rattle.tb_bus.specs.Slots.{fits_formals}
 use Rattle.tb_bus.specs.Helpers.Candidates.{ascend, rows_of}
 use Rattle.tb_bus.specs.declared.living.Living.{Living}
+use Rattle.tb_core.specs.Helpers.Indexes.{IsUnmarked}
 use Rattle.tb_core.specs.Helpers.Lives.{Begins, IsBelow, IsLive, IsLiveOn, proc_of, proc_by, proc_in, procs_of}
 use Rattle.tb_core.specs.Helpers.LiveBuses.{IsFreshOr}
 
@@ -255,14 +256,15 @@ pub record AreOpened {W P T : Type 0} (view : View P W T) (plans : List P) (bodi
   pub long : length all ≡ at
   pub numbered : AreNumbered 1 all
   pub live : All (IsLive view plans 0) all
+  pub unmarked : All IsUnmarked all
   pub procs : procs_of view plans all ++ opened bodies (at + 1) (drop at roots) ≡ opened bodies 1 roots
 
 -- and one more
 pub opened-next : {W P T : Type 0} (view : View P W T) (plans : List P) (bodies : List Body) (roots : List Root) (at : ℕ) (all pushed : List (Living W)) (living : Living W) →
     AreOpened view plans bodies roots at all → at < length roots → living.number ≡ at + 1 → ((now : ℕ) → IsLive view plans now living) →
-    ForSome (slice_get roots at) (λ root. procs_of view plans (living ∷ []) ≡ opened_one (at + 1) root.process root.actuals (slice_get bodies root.process)) → pushed ≡ all ++ living ∷ [] →
+    ForSome (slice_get roots at) (λ root. procs_of view plans (living ∷ []) ≡ opened_one (at + 1) root.process root.actuals (slice_get bodies root.process)) → IsUnmarked living → pushed ≡ all ++ living ∷ [] →
     AreOpened view plans bodies roots (at + 1) pushed
-opened-next {W = W} view plans bodies roots at all pushed living kept within number live procs e =
+opened-next {W = W} view plans bodies roots at all pushed living kept within number live procs unmarked e =
     let nothing : Root = record { process = 0; actuals = [] } in
     let root : Root = get_or roots at nothing in
     let here : slice_get roots at ≡ Some root = slice_get-get_or roots at nothing within in
@@ -272,6 +274,7 @@ opened-next {W = W} view plans bodies roots at all pushed living kept within num
       long = ap (λ (xs : List (Living W)). length xs) e ∙ length_push all living ∙ ap (λ n. n + 1) kept.long;
       numbered = subst (AreNumbered 1) (sym e) (numbered-more 1 all living kept.numbered next);
       live = All-same (IsLive view plans 0) pushed (all ++ living ∷ []) e (All-push (IsLive view plans 0) all living kept.live (live 0));
+      unmarked = All-same IsUnmarked pushed (all ++ living ∷ []) e (All-push IsUnmarked all living kept.unmarked unmarked);
       procs = ap (λ xs. procs_of view plans xs ++ rest) e
           ∙ ap (λ ps. ps ++ rest) (map-append (proc_in view plans) all (living ∷ []))
           ∙ opened-more bodies at roots root (procs_of view plans all) (procs_of view plans (living ∷ [])) here (procs root here)

@@ -6,13 +6,17 @@ use Rattle.std.proofs.Math.Seq.{map-set_same}
 use Rattle.std.proofs.lemmas.Option.{get_or_from_slice_get, same_Some}
 use Rattle.std.proofs.lemmas.List.Elements.{All-set}
 use Rattle.tb_algebra.specs.WalkerViews.{View}
+use Rattle.tb_index.specs.Indexes.{IndexState}
+use Rattle.tb_index.specs.declared.mark.Marks.{Marks as KeptMarks}
 use Rattle.tb_bus.specs.Buses.{Bus, Proc}
 use Rattle.tb_bus.specs.Helpers.Candidates.{ascend, rows_of}
 use Rattle.tb_bus.specs.declared.living.Living.{Living}
-use Rattle.tb_core.specs.Helpers.Lives.{IsBelow, IsLive, IsLiveOn, proc_by, proc_in}
+use Rattle.tb_core.specs.Helpers.Indexes.{IsRightForAll, IsRightFor, KeepsOf}
+use Rattle.tb_core.specs.Helpers.Lives.{IsBelow, IsFreshFor, IsLive, IsLiveOn, proc_by, proc_in}
 use Rattle.tb_core.specs.Helpers.LiveBuses.{IsFreshOr, IsSound, StandsAs, bus_of, procs_in}
 use Rattle.tb_core.specs.declared.bus.LiveBus.{LiveBus}
 use Rattle.tb_core.proofs.ReadLemmas.{LiveAt, all-there}
+use Rattle.tb_core.proofs.IndexLemmas.{all-kept, right-set}
 
 -- what was set at an index stands there
 pub set-there : {A : Type 0} (xs : List A) (at : ℕ) (x y : A) → slice_get xs at ≡ Some x → slice_get (slice_set xs at y) at ≡ Some y
@@ -49,6 +53,11 @@ pub named-as : {W : Type 0} (stale : List ℕ) (living one : Living W) → IsFre
 named-as stale living one (inl fresh) e number = cc
 named-as stale living one (inr named) e number = inr (subst (Contains stale) (sym number) named)
 
+-- one that was looked at lives, also once the index has that
+pub updated-live : {W P T : Type 0} (view : View P W T) (plan : P) (now : ℕ) (looked one : Living W) → IsLiveOn view plan now looked → IsFreshFor (view.body_of plan) now (view.walking plan looked.walker) looked.timed looked.ready.items →
+    one ≡ record looked { marks = one.marks; fresh = one.fresh } → IsLiveOn view plan now one
+updated-live view plan now looked one live fresh e = subst (IsLiveOn view plan now) (sym e) (record { is_on = live.is_on; alive = live.alive; sorts = live.sorts; ticks = live.ticks; ready = λ is. fresh })
+
 same-proc : {W P T : Type 0} (view : View P W T) (plans : List P) (plan : P) (living one : Living W) → slice_get plans living.body ≡ Some plan → proc_by view (Some plan) one ≡ proc_by view (Some plan) living → proc_in view plans one ≡ proc_in view plans living
 same-proc view plans plan living one planned same =
     ap (λ body. proc_by view (slice_get plans body) one) (ap (λ (p : Proc). p.body) same)
@@ -60,9 +69,9 @@ same-procs view bus at living one it h =
     map-set_same (proc_in view bus.plans) bus.living.items at one living
     (same-proc view bus.plans it.plan living one it.planned h.proc ∙ ap (proc_in view bus.plans) (sym (get_or_from_slice_get bus.living.items at living living it.here)))
 
-sound-set : {W P T : Type 0} (view : View P W T) (bus : LiveBus W P T) (all : Vec (Living W)) (at : ℕ) (living one : Living W) (it : LiveAt view bus at living) → IsSound view bus → all.items ≡ slice_set bus.living.items at one → IsInPlace view bus it.plan living one →
-    IsSound view (record bus { living = all })
-sound-set view bus all at living one it sound e h = record {
+sound-set : {W P T : Type 0} (view : View P W T) (bus : LiveBus W P T) (all : Vec (Living W)) (index : IndexState) (looked : KeptMarks) (at : ℕ) (living one : Living W) (it : LiveAt view bus at living) → IsSound view bus → all.items ≡ slice_set bus.living.items at one →
+    IsInPlace view bus it.plan living one → IsRightForAll index all.items → IsSound view (record bus { living = all; index = index; looked = looked })
+sound-set view bus all index looked at living one it sound e h right = record {
   in_order = ap (λ xs. ascend 0 (rows_of xs)) e ∙ ascend-set 0 bus.living.items at living one it.here (ap (λ (p : Proc). p.number) h.proc) ∙ sound.in_order;
   below = subst (All (IsBelow bus.marks.next_number)) (sym e)
       (All-set (IsBelow bus.marks.next_number) bus.living.items at one
@@ -73,21 +82,24 @@ sound-set view bus all at living one it sound e h = record {
   fresh = λ young. subst (λ (xs : List (Living _)). (k : ℕ) (d : Living _) → k < length xs → IsFreshOr bus.stale.items (get_or xs k d)) (sym e)
       (All-set (IsFreshOr bus.stale.items) bus.living.items at one (h.fresh young) (sound.fresh young));
   lanes = sound.lanes;
+  indexed = right;
 }
 
-pub stands-set : {W P T : Type 0} (view : View P W T) (bus : LiveBus W P T) (all : Vec (Living W)) (at : ℕ) (living one : Living W) (it : LiveAt view bus at living) → IsSound view bus → all.items ≡ slice_set bus.living.items at one → IsInPlace view bus it.plan living one →
-    StandsAs view bus (record bus { living = all })
-stands-set view bus all at living one it sound e h = record {
-  sound = sound-set view bus all at living one it sound e h;
+pub stands-set : {W P T : Type 0} (view : View P W T) (bus : LiveBus W P T) (all : Vec (Living W)) (index : IndexState) (looked : KeptMarks) (at : ℕ) (living one : Living W) (it : LiveAt view bus at living) → IsSound view bus → all.items ≡ slice_set bus.living.items at one →
+    IsInPlace view bus it.plan living one → ((other : ℕ) → other ≢ living.number → KeepsOf bus.index index other) → IsRightFor index one → StandsAs view bus (record bus { living = all; index = index; looked = looked })
+stands-set view bus all index looked at living one it sound e h kept right = record {
+  sound = sound-set view bus all index looked at living one it sound e h
+      (right-set bus.index index bus.living.items all.items at living one e sound.in_order it.here (ap (λ (p : Proc). p.number) h.proc) kept right sound.indexed);
   bus = ap (λ (procs : List Proc). let b : Bus = record (bus_of view bus) { procs = procs } in b) (ap (map (proc_in view bus.plans)) e ∙ same-procs view bus at living one it h);
   origin = refl;
   plans = refl;
   marks = refl;
 }
 
--- with the same living and the same numbers named it stands for the same bus, wherever they are kept
-pub stands-moved : {W P T : Type 0} (view : View P W T) (bus : LiveBus W P T) (all : Vec (Living W)) (stale : Vec ℕ) → IsSound view bus → all.items ≡ bus.living.items → stale.items ≡ bus.stale.items → StandsAs view bus (record bus { living = all; stale = stale })
-stands-moved view bus all stale sound e f = record {
+-- with the same living, the same numbers named and the same index it stands for the same bus, wherever they are kept
+pub stands-moved : {W P T : Type 0} (view : View P W T) (bus : LiveBus W P T) (all : Vec (Living W)) (stale : Vec ℕ) (index : IndexState) → IsSound view bus → all.items ≡ bus.living.items → stale.items ≡ bus.stale.items → ((number : ℕ) → KeepsOf bus.index index number) →
+    StandsAs view bus (record bus { living = all; stale = stale; index = index })
+stands-moved view bus all stale index sound e f kept = record {
   sound = record {
     in_order = ap (λ xs. ascend 0 (rows_of xs)) e ∙ sound.in_order;
     below = subst (λ xs. All (IsBelow bus.marks.next_number) xs) (sym e) sound.below;
@@ -95,6 +107,7 @@ stands-moved view bus all stale sound e f = record {
     live = subst (λ xs. All (IsLive view bus.plans bus.ticks) xs) (sym e) sound.live;
     fresh = λ young. subst (λ (numbers : List ℕ). All (IsFreshOr numbers) all.items) (sym f) (subst (λ xs. All (IsFreshOr bus.stale.items) xs) (sym e) (sound.fresh young));
     lanes = sound.lanes;
+    indexed = subst (λ xs. IsRightForAll index xs) (sym e) (all-kept bus.index index bus.living.items kept sound.indexed);
   };
   bus = ap (λ (procs : List Proc). let b : Bus = record (bus_of view bus) { procs = procs } in b) (ap (map (proc_in view bus.plans)) e);
   origin = refl;

@@ -1,5 +1,5 @@
 -- A tick for the living, one after another, and the bus for which they stand then.
-use Rattle.std.proofs.Common.{◌≡◌, ◌<◌, ◌+◌, ◌⊎◌, ◌&&◌, ℕ, zero, suc, List, [], ◌∷◌, ◌++◌, append-nil, length, map, drop, take, get_or, refl, ap, sym, subst, ◌∙◌, arith, inl, inr, Option, Some, None, Bool, true, false, not, nat_lt, option_map, slice_get, slice_set}
+use Rattle.std.proofs.Common.{◌≡◌, ◌<◌, ◌+◌, ◌⊎◌, ◌&&◌, ◌||◌, ◌==◌, ℕ, zero, suc, List, [], ◌∷◌, ◌++◌, append-nil, length, map, drop, take, get_or, refl, ap, sym, subst, ◌∙◌, arith, inl, inr, Option, Some, None, Bool, true, false, not, nat_lt, option_map, slice_get, slice_set}
 use Rattle.std.specs.Bool.{⊤}
 use Rattle.std.specs.Global.{Vec}
 use Rattle.std.specs.List.{All}
@@ -18,6 +18,7 @@ use Rattle.tb_algebra.specs.Processes.{Process, aged}
 use Rattle.tb_algebra.specs.Walks.{Walking, is_end, offers_of, sorts_of, ticked}
 use Rattle.tb_algebra.specs.WalkerViews.{View}
 use Rattle.tb_algebra.proofs.AgedOffers.{is_end-ticked, offers_of-age, ready-aged}
+use Rattle.tb_index.specs.Indexes.{IndexState}
 use Rattle.tb_bus.specs.Buses.{Bus, Proc}
 use Rattle.tb_bus.specs.Actions.{action_if, action_of}
 use Rattle.tb_bus.specs.Helpers.Candidates.{ascend, readies, ready_one, rows_of}
@@ -25,11 +26,13 @@ use Rattle.tb_bus.specs.Traces.{aged_proc}
 use Rattle.tb_bus.specs.declared.action.Action.{Action}
 use Rattle.tb_bus.specs.declared.living.Living.{Living}
 use Rattle.tb_bus.specs.declared.living.Ready.{Ready}
+use Rattle.tb_core.specs.Helpers.Indexes.{IsRightFor, is_alive}
 use Rattle.tb_core.specs.Helpers.Lives.{IsBelow, IsFreshFor, IsLive, IsLiveOn, IsTimeless, proc_by, proc_in, proc_of, procs_of, term_in}
 use Rattle.tb_core.specs.Helpers.LiveBuses.{AreFresh, IsFreshOr, IsSound, StandsAs, bus_of, procs_in}
 use Rattle.tb_core.specs.Helpers.Ticking.{AreTicked, CanTick, HasTicked, IsTicked}
 use Rattle.tb_core.specs.declared.bus.LiveBus.{LiveBus}
 use Rattle.tb_core.proofs.ReadLemmas.{all-there}
+use Rattle.tb_core.proofs.IndexLemmas.{same-right}
 use Rattle.tb_core.proofs.SetLemmas.{set-other, set-there}
 
 -- those in front of an index are a tick older, and the others are as they were
@@ -196,6 +199,18 @@ live-few view plans now few living h = (h.0, h.1, record { is_on = h.2.is_on; fe
 pub all-few : {W P T : Type 0} (view : View P W T) (bus : LiveBus W P T) → IsSound view bus → bus.ticks < 4000000 → All (CanTick view bus.plans) bus.living.items
 all-few view bus sound few = All-weaker (IsLive view bus.plans bus.ticks) (CanTick view bus.plans) (live-few view bus.plans bus.ticks few) bus.living.items sound.live
 
+ticked-alive : {W P T : Type 0} (view : View P W T) (plans : List P) (number : ℕ) (olds news : List (Living W)) → AreTicked view plans olds news → is_alive number olds ≡ is_alive number news
+ticked-alive view plans number [] [] h = refl
+ticked-alive view plans number [] (new ∷ news) h = absurd h
+ticked-alive view plans number (old ∷ olds) [] h = absurd h
+ticked-alive view plans number (old ∷ olds) (new ∷ news) h =
+    ap (λ n. (n == number) || is_alive number olds) (sym h.0.2.number) ∙ ap (λ rest. (new.number == number) || rest) (ticked-alive view plans number olds news h.1)
+
+-- of one that ticked the index has what it had
+ticked-right : {W P T : Type 0} (view : View P W T) (index : IndexState) (plan : P) (old new : Living W) → HasTicked view plan old new → IsRightFor index old → IsRightFor index new
+ticked-right view index plan old new t h =
+    same-right index old new t.number t.marks (λ e. ((and_parts old.fresh (not old.timed) (sym t.fresh ∙ e)).0, t.ready)) h
+
 -- a bus a tick later
 pub sound-ticked : {W P T : Type 0} (view : View P W T) (bus : LiveBus W P T) (living : Vec (Living W)) → IsSound view bus → AreTicked view bus.plans bus.living.items living.items → IsSound view (record bus { living = living; ticks = bus.ticks + 1; aged = true })
 sound-ticked view bus living sound h = record {
@@ -206,6 +221,10 @@ sound-ticked view bus living sound h = record {
   live = ticked-by view bus.plans (IsLive view bus.plans bus.ticks) (IsLive view bus.plans (bus.ticks + 1)) bus.living.items living.items (ticked-live view bus.plans bus.ticks) h sound.live;
   fresh = λ young. cc;
   lanes = sound.lanes;
+  indexed = record {
+    each = ticked-by view bus.plans (IsRightFor bus.index) (IsRightFor bus.index) bus.living.items living.items (λ old new t. ticked-right view bus.index t.0 old new t.2) h sound.indexed.each;
+    others = λ number absent. sound.indexed.others number (ticked-alive view bus.plans number bus.living.items living.items h ∙ absent);
+  };
 }
 
 pub bus-ticked : {W P T : Type 0} (view : View P W T) (bus : LiveBus W P T) (living : Vec (Living W)) → IsSound view bus → AreTicked view bus.plans bus.living.items living.items →
@@ -243,6 +262,7 @@ none-stale view old bus stale same fresh = record {
     live = same.sound.live;
     fresh = λ young. All-weaker (λ living. living.fresh ≡ true) (IsFreshOr stale.items) (λ living e. inl e) bus.living.items fresh;
     lanes = same.sound.lanes;
+    indexed = same.sound.indexed;
   };
   bus = same.bus;
   origin = same.origin;

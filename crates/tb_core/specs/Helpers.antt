@@ -2,6 +2,7 @@
 pub mod Lives
 pub mod Makings
 pub mod Holdings
+pub mod Indexes
 pub mod LiveBuses
 pub mod Ticking
 pub mod Spoken

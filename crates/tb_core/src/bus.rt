@@ -7,6 +7,7 @@ use crate::acting::{
     Done, NOWHERE, created, end_label, finish_reason, halt_reason, kind_alone, printed, shut_down,
 };
 use crate::inboxes::{hand_out, subscribe_at, take_note_at, unsubscribe_at};
+use crate::indexing::{index_of, no_marks, update};
 use crate::looking::{go_on, look};
 use crate::opening::{numbers_of, open_all, open_at, plan_all};
 use crate::speaking::{is_declared, seen_size, speak};
@@ -17,6 +18,7 @@ use tb_bus::{
     Action, Candidate, Exchange, Living, Marks, Origin, OwnAction, Partner, Ready, Received,
     first_candidate,
 };
+use tb_index::{Index, Marks as KeptMarks};
 use tb_log::{Input, Label, LabelKind, Place, Reply, ToolLine, Why, total_size};
 use tb_match::Binds;
 use tb_notes::Found;
@@ -40,6 +42,10 @@ pub struct LiveBus<W: Walker> {
     pub marks: Marks,
     /// The lanes, with the tools that stand on them.
     pub bench: Bench,
+    /// Who sends what, who receives it, and who is awake, of those that are alive.
+    pub index: Index,
+    /// Where the marks of a process are put together, before the index has them.
+    pub looked: KeptMarks,
 }
 
 /// What a process does, and where it stands.
@@ -80,6 +86,7 @@ impl<W: Walker> LiveBus<W> {
         let plans = plan_all::<W>(alloc, origin.program.bodies.as_slice())?;
         let living = open_all::<W>(alloc, &origin.program, &plans)?;
         let stale = numbers_of(alloc, living.as_slice())?;
+        let index = index_of(alloc, stale.as_slice())?;
         let next_number = origin.program.roots.len() as u32 + 1;
         let bench = Bench::new(alloc, &origin.connects)?;
         bench.show_lanes();
@@ -97,6 +104,8 @@ impl<W: Walker> LiveBus<W> {
                 down: false,
             },
             bench,
+            index,
+            looked: no_marks(alloc),
         })
     }
 
@@ -115,7 +124,8 @@ impl<W: Walker> LiveBus<W> {
         let program = &self.origin.program;
         let plan = &self.plans.as_slice()[living.body as usize];
         let body = &program.bodies.as_slice()[living.body as usize];
-        look(alloc, plan, body, living, self.ticks)
+        look(alloc, plan, body, living, self.ticks)?;
+        update(&mut self.index, &mut self.looked, living)
     }
 
     /// Looks at the process with this number anew, where it is there and has to be.
@@ -188,6 +198,7 @@ impl<W: Walker> LiveBus<W> {
             &self.bench,
             self.living.as_slice(),
             self.marks,
+            &self.index,
         )
     }
 
@@ -236,6 +247,7 @@ impl<W: Walker> LiveBus<W> {
         let living = &mut self.living[at];
         let plan = &self.plans.as_slice()[living.body as usize];
         if go_on(plan, living, taken, binds) {
+            self.index.clear(living.number, &living.marks);
             self.living.remove(at);
         }
     }
@@ -496,6 +508,7 @@ impl<W: Walker> LiveBus<W> {
         let bodies = program.bodies.as_slice();
         let living = open_at::<W>(alloc, bodies, &self.plans, number, process, actuals)?;
         self.stale.reserve(1)?;
+        self.index.make_room(number)?;
         self.living.push(living)?;
         self.stale.push_reserved(number);
         self.marks.next_number = number + 1;

@@ -5,6 +5,7 @@ mod acting;
 mod answers;
 mod bus;
 mod inboxes;
+mod indexing;
 mod laws;
 mod looking;
 mod machine;

@@ -9,7 +9,7 @@ ghost use Rattle.tb_algebra.specs.Walks.{Walking, fired, is_end, offers_of, seen
 ghost use Rattle.tb_func.specs.Printing.{printf_of};
 ghost use Rattle.tb_bus.specs.Actions.{action_in, action_of, create_action, print_action, set_action, shutdown_action, speak_about};
 ghost use Rattle.tb_bus.specs.Helpers.Candidates.{ready_one, readies};
-ghost use Rattle.tb_core.specs.Helpers.Lives.{IsLiveOn, IsTimeless, proc_by};
+ghost use Rattle.tb_core.specs.Helpers.Lives.{IsFreshFor, IsLiveOn, IsTimeless, proc_by};
 
 use std::alloc::Global;
 use tb_algebra::{Offer, Walker};
@@ -308,7 +308,7 @@ fn is_timed<W: Walker>(atoms: &Atoms, walker: &W) -> bool
     false
 }
 
-/// Looks anew what a process is ready to do, on a bus that has seen so many ticks.
+/// Looks anew what a process is ready to do, on a bus that has seen so many ticks. It isn't fresh before the index has that.
 pub fn look<W: Walker>(
     alloc: Global,
     plan: &W::Plan,
@@ -320,13 +320,14 @@ pub fn look<W: Walker>(
     requires live { IsLiveOn W.view plan.now now living.old }
     ensures live { IsLiveOn W.view plan.now now living.new }
     ensures same { proc_by W.view (Some plan.now) living.new ≡ proc_by W.view (Some plan.now) living.old }
-    ensures fresh { OnOk result (living.new.fresh ≡ true) }
+    ensures looked { OnOk result (IsFreshFor (W.view.body_of plan.now) now (W.view.walking plan.now living.new.walker) living.new.timed living.new.ready.items) }
+    ensures stale { living.new.fresh ≡ false }
+    ensures marks { living.new.marks ≡ living.old.marks }
 {
     living.fresh = false;
     living.walker.look(alloc, plan, now)?;
     fill(alloc, plan, body, &living.walker, &mut living.ready)?;
     living.timed = is_timed(&body.atoms, &living.walker);
-    living.fresh = true;
     Ok(())
 }
 
@@ -347,6 +348,7 @@ pub fn go_on<W: Walker>(
     ensures body { living.new.body ≡ living.old.body }
     ensures inbox { living.new.inbox ≡ living.old.inbox }
     ensures stale { living.new.fresh ≡ false }
+    ensures marks { living.new.marks ≡ living.old.marks }
 {
     living.fresh = false;
     living.walker.advance(plan, taken, binds);

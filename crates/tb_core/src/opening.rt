@@ -4,8 +4,10 @@ ghost use Rattle.std.specs.List.{All};
 ghost use Rattle.tb_bus.specs.Buses.{opening_store, opened, opened_one};
 ghost use Rattle.tb_bus.specs.Slots.{fits_formals};
 ghost use Rattle.tb_bus.specs.Helpers.Candidates.{ascend, rows_of};
+ghost use Rattle.tb_core.specs.Helpers.Indexes.{IsUnmarked};
 ghost use Rattle.tb_core.specs.Helpers.Lives.{Begins, IsBelow, IsLive, procs_of};
 
+use crate::indexing::no_marks;
 use std::alloc::Global;
 use tb_algebra::Walker;
 use tb_body::{Body, Program};
@@ -61,6 +63,7 @@ fn open_one<W: Walker>(
         inbox: Inbox::new(alloc),
         ready: Vec::new(alloc),
         fresh: false,
+        marks: no_marks(alloc),
         timed: false,
     })
 }
@@ -79,6 +82,7 @@ pub fn open_at<W: Walker>(
     ensures number { IfOk result (λ living. living.number ≡ number) }
     ensures live { IfOk result (λ living. (now : ℕ) → IsLive W.view plans.now now living) }
     ensures procs { IfOk result (λ living. procs_of W.view plans.now (living ∷ []) ≡ opened_one number process actuals (slice_get bodies.now process)) }
+    ensures unmarked { IfOk result IsUnmarked }
 {
     let place = process as usize;
     let plan = &plans.as_slice()[place];
@@ -98,6 +102,7 @@ fn open_root<W: Walker>(
     ensures live { IfOk result (λ living. (now : ℕ) → IsLive W.view plans.now now living) }
     ensures procs { ForSome (slice_get program.now.roots at) (λ root. IfOk result (λ living.
         procs_of W.view plans.now (living ∷ []) ≡ opened_one (at + 1) root.process root.actuals (slice_get program.now.bodies root.process))) }
+    ensures unmarked { IfOk result IsUnmarked }
 {
     let root = &program.roots.as_slice()[at];
     let actuals = copy_terms(alloc, &root.actuals)?;
@@ -116,6 +121,7 @@ pub fn open_all<W: Walker>(
     ensures below { IfOk result (λ all. All (IsBelow (length program.now.roots + 1)) all.items) }
     ensures live { IfOk result (λ all. All (IsLive W.view plans.now 0) all.items) }
     ensures procs { IfOk result (λ all. procs_of W.view plans.now all.items ≡ opened program.now.bodies 1 program.now.roots) }
+    ensures unmarked { IfOk result (λ all. All IsUnmarked all.items) }
 {
     let mut all = Vec::new(alloc);
     for at in 0..program.roots.len() {

@@ -1,6 +1,6 @@
 -- What the code's search goes through: for each process that is alive its actions, by indices alone.
-use Rattle.std.specs.Prelude.{◌≡◌, ℕ, ◌+◌, ◌<◌, ◌&&◌, ◌||◌, ◌==◌, nat_lt, nat_le, List, [], ◌∷◌, ◌++◌, map, take, drop, length, Bool, true, false, if◌then◌else◌, Option, Some, None, is_some, not, option_to_list, slice_index_or, ⊤}
-use Rattle.std.specs.List.{All, flat_map, list_all}
+use Rattle.std.specs.Prelude.{ℕ, ◌+◌, ◌&&◌, ◌==◌, nat_lt, nat_le, List, [], ◌∷◌, ◌++◌, map, take, drop, length, Bool, true, if◌then◌else◌, Option, Some, None, is_some, not, option_to_list, slice_index_or}
+use Rattle.std.specs.List.{list_all}
 use Rattle.tb_terms.specs.declared.term.Term.{Term}
 use Rattle.tb_match.specs.declared.bind.Bind.{Bind}
 use Rattle.tb_match.specs.Matches.{match_list}
@@ -84,32 +84,6 @@ partner_in number terms index row = if row.number == number then [] else map (λ
 abbrev pub partners : ℕ → List Term → ℕ → List Row → List Partner
 partners number terms index [] = []
 partners number terms index (row ∷ rows) = partner_in number terms index row ++ partners number terms (index + 1) rows
-
-abbrev pub is_receive : Action → Bool
-is_receive (action.Own own) = false
-is_receive (action.Send terms) = false
-is_receive (action.Receive patterns) = true
-is_receive (action.Notify terms) = false
-is_receive (action.TakeNote patterns) = false
-is_receive (action.Speak does) = false
-
-abbrev pub has_receive : List Ready → Bool
-has_receive [] = false
-has_receive (ready ∷ others) = is_receive ready.action || has_receive others
-
--- the indices of the processes that receive anything, where the first of all has this index
-abbrev pub receivers : ℕ → List Row → List ℕ
-receivers index [] = []
-receivers index (row ∷ rows) = if has_receive row.ready then index ∷ receivers (index + 1) rows else receivers (index + 1) rows
-
--- the partners among the processes at these indices
-abbrev pub partners_among : ℕ → List Term → List Row → List ℕ → List Partner
-partners_among number terms rows indices = flat_map (λ index. partner_in number terms index (row_at rows index)) indices
-
--- where the receivers were looked up, these are they
-abbrev pub AreKnown : Option (List ℕ) → List Row → Type 0
-AreKnown None rows = ⊤
-AreKnown (Some indices) rows = (indices ≡ receivers 0 rows) × All (λ index. index < length rows) indices
 
 -- what a search goes through: the bodies, the kinds of tools, the lanes, the number of the next process, and the rows
 pub record Scene : Type 0 where

@@ -17,6 +17,7 @@ use Rattle.tb_bus.specs.Helpers.Candidates.{Scene, ascend, row_at, rows_of, scen
 use Rattle.tb_bus.specs.declared.living.Living.{Living}
 use Rattle.tb_bus.specs.declared.candidate.Candidate.{Candidate}
 use Rattle.tb_core.specs.Cores.{most_entries}
+use Rattle.tb_core.specs.Helpers.Indexes.{IsRightForAll}
 use Rattle.tb_core.specs.Helpers.Lives.{IsBelow, IsLive, procs_of}
 use Rattle.tb_core.specs.declared.acting.Done.{Done}
 use Rattle.tb_core.specs.declared.bus.LiveBus.{LiveBus}
@@ -54,7 +55,8 @@ abbrev pub IsFreshOr : {W : Type 0} → List ℕ → Living W → Type 0
 IsFreshOr stale living = (living.fresh ≡ true) ⊎ Contains stale living.number
 
 -- The plans are those of the bodies, the living stand by their numbers, which are below that of the next, each lives
--- by its plan, those that have to be looked at anew are named, unless a tick has passed, and all lanes are there.
+-- by its plan, those that have to be looked at anew are named, unless a tick has passed, all lanes are there, and the index
+-- is right for the living.
 pub record IsSound {W P T : Type 0} (view : View P W T) (bus : LiveBus W P T) : Type 0 where
   pub in_order : ascend 0 (rows_of bus.living.items) ≡ true
   pub below : All (IsBelow bus.marks.next_number) bus.living.items
@@ -62,6 +64,7 @@ pub record IsSound {W P T : Type 0} (view : View P W T) (bus : LiveBus W P T) : 
   pub live : All (IsLive view bus.plans bus.ticks) bus.living.items
   pub fresh : bus.aged ≡ false → All (IsFreshOr bus.stale.items) bus.living.items
   pub lanes : HasLanes bus.bench
+  pub indexed : IsRightForAll bus.index bus.living.items
 
 -- the fields stand for the same bus as before
 pub record StandsAs {W P T : Type 0} (view : View P W T) (old new : LiveBus W P T) : Type 0 where

@@ -14,6 +14,7 @@ use Rattle.tb_bus.specs.Buses.{Proc}
 use Rattle.tb_bus.specs.Helpers.Candidates.{readies}
 use Rattle.tb_bus.specs.declared.living.Ready.{Ready}
 use Rattle.tb_bus.specs.declared.living.Living.{Living}
+use Rattle.tb_core.specs.Helpers.Indexes.{IsUnmarked}
 
 -- its atom has no times
 abbrev pub IsTimeless : List Atom → Offered → Type 0
@@ -69,3 +70,4 @@ pub record Begins {W P T : Type 0} (view : View P W T) (plan : P) (from process 
   pub inbox : living.inbox.held ≡ nothing
   pub walking : view.walking plan living.walker ≡ entering (view.body_of plan) store
   pub live : (now : ℕ) → IsLiveOn view plan now living
+  pub unmarked : IsUnmarked living

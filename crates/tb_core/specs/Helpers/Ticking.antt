@@ -23,6 +23,7 @@ pub record HasTicked {W P T : Type 0} (view : View P W T) (plan : P) (old new : 
   pub ready : new.ready ≡ old.ready
   pub fresh : new.fresh ≡ (old.fresh && not old.timed)
   pub timed : new.timed ≡ old.timed
+  pub marks : new.marks ≡ old.marks
 
 -- by the plan of its body
 abbrev pub IsTicked : {W P T : Type 0} → View P W T → List P → Living W → Living W → Type 0

@@ -12,7 +12,7 @@ returns-then-marks g c =
     let e = first_all-down scene marks c.if-marks.true in
     record {
       found = e;
-      on_bus = move_first scene marks None c.requires e;
+      on_bus = move_first scene marks None c.requires.ascend e;
       stands = stands_first scene marks None e;
     }
 
@@ -23,7 +23,7 @@ returns-then-is_empty g c =
     let e = first_all-finish scene marks c.if-marks.false (nobody-is c.args.all.now ∙ sym c.is_empty.ensures ∙ c.if-is_empty.true) in
     record {
       found = e;
-      on_bus = move_first scene marks (Some Finish) c.requires e;
+      on_bus = move_first scene marks (Some Finish) c.requires.ascend e;
       stands = stands_first scene marks (Some Finish) e;
     }
 
@@ -34,7 +34,7 @@ returns-in-Some g c =
     let e = first_all-some scene marks c.in-Some.found c.if-marks.false (nobody-is c.args.all.now ∙ sym c.is_empty.ensures ∙ c.if-is_empty.false) (sym c.in-Some.is ∙ c.in_ok-found.ensures) in
     record {
       found = e;
-      on_bus = move_first scene marks (Some c.in-Some.found) c.requires e;
+      on_bus = move_first scene marks (Some c.in-Some.found) c.requires.ascend e;
       stands = stands_first scene marks (Some c.in-Some.found) e;
     }
 
@@ -45,6 +45,6 @@ returns-in-None g c =
     let e = c.halt_if.ensures ∙ first_all-none scene marks c.if-marks.false (nobody-is c.args.all.now ∙ sym c.is_empty.ensures ∙ c.if-is_empty.false) (sym c.in-None.is ∙ c.in_ok-found.ensures) in
     record {
       found = e;
-      on_bus = move_first scene marks c.halt_if.result c.requires e;
+      on_bus = move_first scene marks c.halt_if.result c.requires.ascend e;
       stands = stands_first scene marks c.halt_if.result e;
     }

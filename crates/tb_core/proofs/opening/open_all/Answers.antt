@@ -7,7 +7,7 @@ loop-at-preserved g c =
     let program = c.args.program.now in
     let within : c.loop-at.at < length program.roots = let t = c.loop-at-test.true in let e = c.len-at-end.ensures in omega arith in
     opened-next g.W.Walker.view c.args.plans.now program.bodies program.roots c.loop-at.at c.loop-at.all.items c.push.new.self.items c.in_ok-open_root.field-0
-    c.loop-at.invariant within c.in_ok-open_root.ensures.number c.in_ok-open_root.ensures.live c.in_ok-open_root.ensures.procs c.in_ok-push.ensures.items
+    c.loop-at.invariant within c.in_ok-open_root.ensures.number c.in_ok-open_root.ensures.live c.in_ok-open_root.ensures.procs c.in_ok-open_root.ensures.unmarked c.in_ok-push.ensures.items
 
 pub returns-clause-in_order : goal.returns-clause-in_order
 returns-clause-in_order g c = numbered-ascend 0 1 c.loop-at.all.items (omega arith) c.loop-at.invariant.numbered

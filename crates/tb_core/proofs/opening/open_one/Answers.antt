@@ -21,4 +21,5 @@ returns g c =
       inbox = c.new.ensures;
       walking = walking;
       live = entered-live view plan store _ c.in_ok-walker.ensures.on walking sorts refl;
+      unmarked = record { sends = c.no_marks.ensures.sends; receives = c.no_marks.ensures.receives; stale = refl };
     }

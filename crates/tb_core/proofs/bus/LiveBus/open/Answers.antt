@@ -2,6 +2,7 @@ use Rattle.std.proofs.Common.{◌∙◌, ◌+◌, arith, subst, sym}
 use Rattle.std.specs.List.{All}
 use Rattle.tb_core.specs.Helpers.Lives.{IsBelow}
 use Rattle.tb_core.proofs.OpenLemmas.{all-named, few-roots}
+use Rattle.tb_core.proofs.IndexLemmas.{right-opened}
 use Rattle.tb_core.proofs.bus.LiveBus.open.Goals as goal
 
 pub returns-clause-sound : goal.returns-clause-sound
@@ -12,6 +13,8 @@ returns-clause-sound g c = record {
   live = c.in_ok-living.ensures.live;
   fresh = λ young. all-named c.in_ok-living.living.items c.as_slice-2.result.now c.in_ok-stale.stale.items c.as_slice-2.ensures.value c.in_ok-stale.ensures;
   lanes = c.show_lanes.ensures;
+  indexed = right-opened c.in_ok-index.index c.in_ok-living.living.items c.as_slice-2.result.now c.as_slice-3.result.now c.in_ok-stale.stale.items
+      c.in_ok-index.ensures.nothing c.in_ok-index.ensures.room c.as_slice-3.ensures.value c.in_ok-stale.ensures c.as_slice-2.ensures.value c.in_ok-living.ensures.unmarked;
 }
 
 pub overflow_cast-next_number : goal.overflow_cast-next_number

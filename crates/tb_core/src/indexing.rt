@@ -1,0 +1,115 @@
+ghost use Rattle.std.specs.Prelude.{◌≡◌, ◌≢◌, ◌++◌, ℕ, [], IfOk, OnOk, not, true, false};
+ghost use Rattle.std.specs.List.{All};
+ghost use Rattle.tb_index.specs.Indexes.{HasRoom, IsTurned};
+ghost use Rattle.tb_bus.specs.Helpers.Indexed.{are_calm, is_calm, received_by, received_marks, sent_by, sent_marks};
+ghost use Rattle.tb_core.specs.Helpers.Indexes.{HasNothing, IsRightFor, KeepsOf};
+
+use std::alloc::Global;
+use std::mem;
+use tb_bus::{Action, Living, Ready};
+use tb_index::{Index, Marks, received_mark, sent_mark};
+use tb_terms::NoMemory;
+
+/// No marks.
+pub fn no_marks(alloc: Global) -> Marks
+    ensures sends { result.sends.items ≡ [] }
+    ensures receives { result.receives.items ≡ [] }
+{
+    Marks {
+        sends: Vec::new(alloc),
+        receives: Vec::new(alloc),
+    }
+}
+
+/// An index that has nothing of any process, and room for those with these numbers.
+pub fn index_of(alloc: Global, numbers: &[u32]) -> Result<Index, NoMemory>
+    ensures nothing { IfOk result (λ index. (number : ℕ) → HasNothing index number) }
+    ensures room { IfOk result (λ index. All (HasRoom index) numbers.now) }
+{
+    let mut index = Index::new(alloc);
+    for number in numbers {
+        index.make_room(*number)?;
+    }
+    Ok(index)
+}
+
+/// Adds the mark of what an action sends or receives.
+fn push_mark(marks: &mut Marks, action: &Action) -> Result<(), NoMemory>
+    ensures sends { OnOk result (marks.new.sends.items ≡ marks.old.sends.items ++ sent_by action.now) }
+    ensures receives { OnOk result (marks.new.receives.items ≡ marks.old.receives.items ++ received_by action.now) }
+{
+    match action {
+        Action::Send(terms) => marks.sends.push(sent_mark(terms))?,
+        Action::Receive(patterns) => marks.receives.push(received_mark(patterns))?,
+        Action::Own(_) | Action::Notify(_) | Action::TakeNote(_) | Action::Speak(_) => {}
+    }
+    Ok(())
+}
+
+/// Puts together the marks of what these actions send and receive.
+fn fill_marks(marks: &mut Marks, actions: &[Ready]) -> Result<(), NoMemory>
+    ensures sends { OnOk result (marks.new.sends.items ≡ sent_marks actions.now) }
+    ensures receives { OnOk result (marks.new.receives.items ≡ received_marks actions.now) }
+{
+    marks.sends.clear();
+    marks.receives.clear();
+    for ready in actions {
+        push_mark(marks, &ready.action)?;
+    }
+    Ok(())
+}
+
+/// Whether an action waits for another process.
+fn is_calm(action: &Action) -> bool
+    ensures { result ≡ is_calm action.now }
+{
+    match action {
+        Action::Send(_) | Action::Receive(_) => true,
+        Action::Own(_) | Action::Notify(_) | Action::TakeNote(_) | Action::Speak(_) => false,
+    }
+}
+
+/// Whether each of these actions does.
+fn are_calm(actions: &[Ready]) -> bool
+    ensures { result ≡ are_calm actions.now }
+{
+    for ready in actions {
+        if !is_calm(&ready.action) {
+            return false;
+        }
+    }
+    true
+}
+
+/// A process sleeps where all that it is ready for waits for another.
+fn rouse(index: &mut Index, number: u32, calm: bool)
+    requires { HasRoom index.old number }
+    ensures { IsTurned index.old index.new number (not calm) }
+{
+    if calm {
+        index.let_sleep(number);
+    } else {
+        index.wake(number);
+    }
+}
+
+/// The index has from now on what a process that was looked at is ready for. Then the process is fresh.
+pub fn update<W>(
+    index: &mut Index,
+    looked: &mut Marks,
+    living: &mut Living<W>,
+) -> Result<(), NoMemory>
+    requires right { IsRightFor index.old living.old }
+    requires stale { living.old.fresh ≡ false }
+    ensures right { IsRightFor index.new living.new }
+    ensures others { (other : ℕ) → other ≢ living.old.number → KeepsOf index.old index.new other }
+    ensures same { living.new ≡ record living.old { marks = living.new.marks; fresh = living.new.fresh } }
+    ensures fresh { OnOk result (living.new.fresh ≡ true) }
+{
+    fill_marks(looked, living.ready.as_slice())?;
+    index.set(living.number, &living.marks, looked)?;
+    rouse(index, living.number, are_calm(living.ready.as_slice()));
+    mem::swap(&mut living.marks, looked);
+    living.fresh = true;
+    Ok(())
+}

@@ -1,0 +1,4 @@
+pub mod MarkLemmas
+mod PairLemmas
+mod BitLemmas
+mod IndexLemmas

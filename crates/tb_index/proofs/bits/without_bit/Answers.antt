@@ -1,0 +1,13 @@
+use Rattle.std.proofs.Common.{w64}
+use Rattle.std.proofs.lemmas.Nat.Bits.{bit_at_clear_same, bit_at_clear_other}
+use Rattle.std.proofs.lemmas.Nat.{and_le_l}
+use Rattle.tb_index.proofs.bits.without_bit.Goals as goal
+
+pub returns-clause-here : goal.returns-clause-here
+returns-clause-here c = bit_at_clear_same w64 c.args.word c.args.bit c.requires
+
+pub returns-clause-others : goal.returns-clause-others
+returns-clause-others c = λ i l other. bit_at_clear_other w64 c.args.word c.args.bit c.requires i l other
+
+pub returns-clause-less : goal.returns-clause-less
+returns-clause-less c = and_le_l _ _

@@ -1,0 +1,24 @@
+use Rattle.std.proofs.Common.{◌≡◌, ℕ, Bool, true, false, refl, ap, sym, ◌∙◌, subst, arith, ◌==◌, ◌<◌, ◌/◌, length, List, []}
+use Rattle.std.specs.List.{list_any}
+use Rattle.tb_index.specs.Indexes.{IndexState, HasRoom, IsTurned, IsSet, IsCleared, SameIndex, sends, receives, is_receiver, is_awake, starts}
+use Rattle.tb_index.specs.Pairs.{IsNext, IsFirst, has, earlier, AreAdded, AreRemoved}
+use Rattle.tb_index.specs.Marks.{has_mark}
+use Rattle.tb_index.specs.declared.mark.Mark.{Mark}
+use Rattle.tb_index.proofs.IndexLemmas as indexes
+use Rattle.tb_index.proofs.index.Index.clear.Goals as goal
+
+pub invariant_of-self : goal.invariant_of-self
+invariant_of-self c = indexes.cleared-sent c.self.inside.sending.set c.self.inside.receiving.set c.self.inside.awake c.self.inside.active.items
+    c.remove_but.new.self.set c.remove_but-2.new.self.set c.remove.new.self c.args.proc c.as_slice.result.now c.self.invariant c.remove_but.ensures
+
+pub returns : goal.returns
+returns c = subst (λ old. IsCleared old (indexes.state c.remove_but.new.self.set c.remove_but-2.new.self.set c.remove.new.self c.self.inside.active.items) c.args.proc) c.self.view_is
+    (indexes.cleared c.self.inside.sending.set c.self.inside.receiving.set c.self.inside.awake c.self.inside.active.items
+    c.remove_but.new.self.set c.remove_but-2.new.self.set c.remove.new.self c.args.proc c.args.old.now.sends.items c.args.old.now.receives.items
+    (indexes.own-sends c.self.inside.sending.set c.self.inside.receiving.set c.self.inside.awake c.self.inside.active.items c.args.proc c.args.old.now.sends.items
+    (subst (λ index. (m : Mark) → sends index m c.args.proc ≡ has_mark c.args.old.now.sends.items m) (sym c.self.view_is) c.requires.sends))
+    (indexes.own-receives c.self.inside.sending.set c.self.inside.receiving.set c.self.inside.awake c.self.inside.active.items c.args.proc c.args.old.now.receives.items
+    (subst (λ index. (m : Mark) → receives index m c.args.proc ≡ has_mark c.args.old.now.receives.items m) (sym c.self.view_is) c.requires.receives))
+    (subst (λ marks. AreRemoved c.self.inside.sending.set c.remove_but.new.self.set marks [] c.args.proc) c.as_slice.ensures.value c.remove_but.ensures)
+    (subst (λ marks. AreRemoved c.self.inside.receiving.set c.remove_but-2.new.self.set marks [] c.args.proc) c.as_slice-2.ensures.value c.remove_but-2.ensures)
+    c.remove.ensures.here c.remove.ensures.others c.remove.ensures.long)

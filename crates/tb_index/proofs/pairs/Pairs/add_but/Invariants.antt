@@ -1,0 +1,8 @@
+use Rattle.std.proofs.Common.{◌≡◌, ℕ, ◌&&◌, ◌||◌, ◌==◌, take}
+use Rattle.tb_index.specs.declared.mark.Mark.{Mark}
+use Rattle.tb_index.specs.Marks.{has_mark}
+use Rattle.tb_index.specs.Pairs.{has}
+use Rattle.tb_index.proofs.pairs.Pairs.add_but.Given as goal
+
+abbrev pub invariant-loop-mark : goal.invariant-loop-mark
+invariant-loop-mark l = (mark : Mark) (its : ℕ) → has l.self.set mark its ≡ (has l.initial.self.set mark its || (has_mark (take l.mark-index l.marks) mark && (its == l.proc)))
