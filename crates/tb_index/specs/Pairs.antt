@@ -5,7 +5,7 @@ use Rattle.std.specs.declared.cmp.Ordering.{Ordering}
 use Rattle.std.specs.BTreeSet as set
 use Rattle.std.specs.BTreeSet.{BTreeSet}
 use Rattle.tb_index.specs.declared.mark.Mark.{Mark}
-use Rattle.tb_index.specs.Marks.{is_mark, has_mark}
+use Rattle.tb_index.specs.Marks.{is_mark, has_mark, wide, meets}
 
 abbrev pub is_pair : Mark → ℕ → Mark → ℕ → Bool
 is_pair mark proc other its = is_mark other mark && (its == proc)
@@ -33,6 +33,43 @@ AreAdded old new marks proc = (mark : Mark) (its : ℕ) →
 abbrev pub AreRemoved : BTreeSet (ℕ × ℕ × ℕ) → BTreeSet (ℕ × ℕ × ℕ) → List Mark → List Mark → ℕ → Type 0
 AreRemoved old new marks others proc = (mark : Mark) (its : ℕ) →
     has new mark its ≡ (has old mark its && not ((has_mark marks mark && not (has_mark others mark)) && (its == proc)))
+
+-- who sends under a mark is counted under as many, whatever the first begins with
+abbrev pub AreCounted : BTreeSet (ℕ × ℕ × ℕ) → BTreeSet (ℕ × ℕ × ℕ) → Type 0
+AreCounted sending counted = (mark : Mark) (proc : ℕ) → has sending mark proc ≡ true → has counted (wide mark) proc ≡ true
+
+-- all but one process are counted as before, and that one where it has the mark
+abbrev pub AreCountedStill : BTreeSet (ℕ × ℕ × ℕ) → BTreeSet (ℕ × ℕ × ℕ) → List Mark → ℕ → Type 0
+AreCountedStill old new marks proc = (mark : Mark) (its : ℕ) → has old (wide mark) its ≡ true →
+    (its ≡ proc → has_mark marks mark ≡ true) → has new (wide mark) its ≡ true
+
+-- a mark under which somebody receives what somebody sends is active
+abbrev pub AreHeard : BTreeSet (ℕ × ℕ × ℕ) → BTreeSet (ℕ × ℕ × ℕ) → List Mark → Type 0
+AreHeard sending receiving active = (received sent : Mark) (proc other : ℕ) →
+    has sending sent proc ≡ true → has receiving received other ≡ true → meets received sent ≡ true → has_mark active received ≡ true
+
+-- so is each under which somebody receives what is sent under these, but for the others
+abbrev pub SentAreHeard : List Mark → List Mark → BTreeSet (ℕ × ℕ × ℕ) → List Mark → Type 0
+SentAreHeard marks others receiving active = (received sent : Mark) (other : ℕ) → has_mark marks sent ≡ true → has_mark others sent ≡ false →
+    has receiving received other ≡ true → meets received sent ≡ true → has_mark active received ≡ true
+
+-- so is each of these but for the others, where somebody sends what is received under it
+abbrev pub ReceivedAreHeard : List Mark → List Mark → BTreeSet (ℕ × ℕ × ℕ) → List Mark → Type 0
+ReceivedAreHeard marks others sending active = (received sent : Mark) (proc : ℕ) → has_mark marks received ≡ true → has_mark others received ≡ false →
+    has sending sent proc ≡ true → meets received sent ≡ true → has_mark active received ≡ true
+
+abbrev pub AreKept : List Mark → List Mark → Type 0
+AreKept old new = (mark : Mark) → has_mark old mark ≡ true → has_mark new mark ≡ true
+
+-- but for those under which nobody receives what is sent
+abbrev pub SentAreKept : List Mark → List Mark → BTreeSet (ℕ × ℕ × ℕ) → Type 0
+SentAreKept old new sending = (received sent : Mark) (proc : ℕ) → has_mark old received ≡ true →
+    has sending sent proc ≡ true → meets received sent ≡ true → has_mark new received ≡ true
+
+-- but for those under which nobody receives
+abbrev pub ReceivedAreKept : List Mark → List Mark → BTreeSet (ℕ × ℕ × ℕ) → Type 0
+ReceivedAreKept old new receiving = (received : Mark) (other : ℕ) → has_mark old received ≡ true →
+    has receiving received other ≡ true → has_mark new received ≡ true
 
 -- the first number at or behind one for which it holds
 abbrev pub IsFirst : (ℕ → Bool) → ℕ → Option ℕ → Type 0

@@ -2,7 +2,9 @@
 //! begin a move, and who may be its partner, without asking all.
 #![tactic(auto)]
 
+mod active;
 mod bits;
+mod coming;
 mod index;
 mod mark;
 mod pairs;

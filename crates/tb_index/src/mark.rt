@@ -1,6 +1,6 @@
 ghost use Rattle.std.specs.Prelude.{◌≡◌, ℕ, length, fold, take};
 ghost use Rattle.std.specs.Int.{w64, cast_unsigned};
-ghost use Rattle.tb_index.specs.Marks.{mixed, number_head, name_head, term_head, pattern_head, first_term_head, first_pattern_head, sent_mark, received_mark, wide, has_mark};
+ghost use Rattle.tb_index.specs.Marks.{mixed, number_head, name_head, term_head, pattern_head, first_term_head, first_pattern_head, sent_mark, received_mark, wide, has_mark, has_count};
 
 use tb_terms::{Name, Pattern, Patterns, Term, Terms};
 
@@ -125,6 +125,18 @@ pub(crate) fn has_mark(marks: &[Mark], mark: Mark) -> bool
 {
     for other in marks {
         if mark.count == other.count && mark.head == other.head {
+            return true;
+        }
+    }
+    false
+}
+
+/// Whether one of the marks is of as many.
+pub(crate) fn has_count(marks: &[Mark], count: usize) -> bool
+    ensures { result ≡ has_count marks.now count }
+{
+    for other in marks {
+        if count == other.count {
             return true;
         }
     }

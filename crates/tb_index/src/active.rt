@@ -1,0 +1,248 @@
+ghost use Rattle.std.specs.Prelude.{◌≡◌, ◌||◌, ℕ, true, false, [], ◌∷◌, OnOk};
+ghost use Rattle.std.specs.List.{list_any};
+ghost use Rattle.tb_index.specs.declared.mark.Mark.{Mark as TheMark};
+ghost use Rattle.tb_index.specs.Marks.{has_mark, is_mark};
+ghost use Rattle.tb_index.specs.Pairs.{has, AreCounted, SentAreHeard, ReceivedAreHeard, SentAreKept, ReceivedAreKept, AreKept, IsFirst};
+
+use crate::mark::{Mark, Marks, has_mark, wide};
+use crate::pairs::{Pairs, earlier};
+use tb_terms::NoMemory;
+
+/// What a process now sends and receives under the new marks makes these active, where somebody
+/// receives it or sends it.
+pub(crate) fn activate(
+    active: &mut Vec<Mark>,
+    sending: &Pairs,
+    receiving: &Pairs,
+    counted: &Pairs,
+    old: &Marks,
+    new: &Marks,
+) -> Result<(), NoMemory>
+    requires { AreCounted sending.now.set counted.now.set }
+    ensures kept { AreKept active.old.items active.new.items }
+    ensures sends { OnOk result (SentAreHeard new.now.sends.items old.now.sends.items receiving.now.set active.new.items) }
+    ensures receives { OnOk result (ReceivedAreHeard new.now.receives.items old.now.receives.items sending.now.set active.new.items) }
+{
+    match activate_sent(
+        active,
+        receiving,
+        new.sends.as_slice(),
+        old.sends.as_slice(),
+    ) {
+        Ok(()) => {}
+        Err(error) => return Err(error),
+    }
+    match activate_received(
+        active,
+        sending,
+        counted,
+        new.receives.as_slice(),
+        old.receives.as_slice(),
+    ) {
+        Ok(()) => Ok(()),
+        Err(error) => Err(error),
+    }
+}
+
+fn activate_sent(
+    active: &mut Vec<Mark>,
+    receiving: &Pairs,
+    marks: &[Mark],
+    but: &[Mark],
+) -> Result<(), NoMemory>
+    ensures kept { AreKept active.old.items active.new.items }
+    ensures all { OnOk result (SentAreHeard marks.now but.now receiving.now.set active.new.items) }
+{
+    for mark in marks {
+        activate_one_sent(active, receiving, *mark, but)?;
+    }
+    Ok(())
+}
+
+fn activate_one_sent(
+    active: &mut Vec<Mark>,
+    receiving: &Pairs,
+    mark: Mark,
+    but: &[Mark],
+) -> Result<(), NoMemory>
+    ensures kept { AreKept active.old.items active.new.items }
+    ensures all { OnOk result (SentAreHeard (mark ∷ []) but.now receiving.now.set active.new.items) }
+{
+    if has_mark(but, mark) {
+        return Ok(());
+    }
+    match activate_where(active, receiving, mark) {
+        Ok(()) => {}
+        Err(error) => return Err(error),
+    }
+    match activate_where(active, receiving, wide(mark)) {
+        Ok(()) => Ok(()),
+        Err(error) => Err(error),
+    }
+}
+
+fn activate_received(
+    active: &mut Vec<Mark>,
+    sending: &Pairs,
+    counted: &Pairs,
+    marks: &[Mark],
+    but: &[Mark],
+) -> Result<(), NoMemory>
+    requires { AreCounted sending.now.set counted.now.set }
+    ensures kept { AreKept active.old.items active.new.items }
+    ensures all { OnOk result (ReceivedAreHeard marks.now but.now sending.now.set active.new.items) }
+{
+    for mark in marks {
+        activate_one_received(active, sending, counted, *mark, but)?;
+    }
+    Ok(())
+}
+
+fn activate_one_received(
+    active: &mut Vec<Mark>,
+    sending: &Pairs,
+    counted: &Pairs,
+    mark: Mark,
+    but: &[Mark],
+) -> Result<(), NoMemory>
+    requires { AreCounted sending.now.set counted.now.set }
+    ensures kept { AreKept active.old.items active.new.items }
+    ensures all { OnOk result (ReceivedAreHeard (mark ∷ []) but.now sending.now.set active.new.items) }
+{
+    if has_mark(but, mark) {
+        return Ok(());
+    }
+    match activate_where(active, sending, mark) {
+        Ok(()) => {}
+        Err(error) => return Err(error),
+    }
+    match activate_where(active, counted, mark) {
+        Ok(()) => Ok(()),
+        Err(error) => Err(error),
+    }
+}
+
+/// The mark is active where somebody has it.
+fn activate_where(active: &mut Vec<Mark>, pairs: &Pairs, mark: Mark) -> Result<(), NoMemory>
+    ensures kept { AreKept active.old.items active.new.items }
+    ensures here { OnOk result ((its : ℕ) → has pairs.now.set mark its ≡ true
+        → has_mark active.new.items mark ≡ true) }
+{
+    if pairs.has_nobody(mark) {
+        return Ok(());
+    }
+    match activate_one(active, mark) {
+        Ok(()) => Ok(()),
+        Err(error) => Err(error),
+    }
+}
+
+fn activate_one(active: &mut Vec<Mark>, mark: Mark) -> Result<(), NoMemory>
+    ensures kept { AreKept active.old.items active.new.items }
+    ensures here { OnOk result (has_mark active.new.items mark ≡ true) }
+{
+    if !has_mark(active.as_slice(), mark) {
+        active.push(mark)?;
+    }
+    Ok(())
+}
+
+/// What is received under one of these marks but for the others is no longer active, where nobody
+/// sends it any more.
+pub(crate) fn quiet_sent(
+    active: &mut Vec<Mark>,
+    sending: &Pairs,
+    counted: &Pairs,
+    marks: &[Mark],
+    but: &[Mark],
+)
+    requires { AreCounted sending.now.set counted.now.set }
+    ensures { SentAreKept active.old.items active.new.items sending.now.set }
+{
+    for mark in marks {
+        quiet_one_sent(active, sending, counted, *mark, but);
+    }
+}
+
+fn quiet_one_sent(
+    active: &mut Vec<Mark>,
+    sending: &Pairs,
+    counted: &Pairs,
+    mark: Mark,
+    but: &[Mark],
+)
+    requires { AreCounted sending.now.set counted.now.set }
+    ensures { SentAreKept active.old.items active.new.items sending.now.set }
+{
+    if !has_mark(but, mark) {
+        quiet_unsent(active, sending, counted, mark);
+        quiet_unsent(active, sending, counted, wide(mark));
+    }
+}
+
+fn quiet_unsent(active: &mut Vec<Mark>, sending: &Pairs, counted: &Pairs, mark: Mark)
+    requires { AreCounted sending.now.set counted.now.set }
+    ensures { SentAreKept active.old.items active.new.items sending.now.set }
+{
+    if sending.has_nobody(mark) {
+        if counted.has_nobody(mark) {
+            drop_mark(active, mark);
+        }
+    }
+}
+
+/// These marks but for the others are no longer active, where nobody receives under them any more.
+pub(crate) fn quiet_received(
+    active: &mut Vec<Mark>,
+    receiving: &Pairs,
+    marks: &[Mark],
+    but: &[Mark],
+)
+    ensures { ReceivedAreKept active.old.items active.new.items receiving.now.set }
+{
+    for mark in marks {
+        quiet_one_received(active, receiving, *mark, but);
+    }
+}
+
+fn quiet_one_received(active: &mut Vec<Mark>, receiving: &Pairs, mark: Mark, but: &[Mark])
+    ensures { ReceivedAreKept active.old.items active.new.items receiving.now.set }
+{
+    if !has_mark(but, mark) {
+        if receiving.has_nobody(mark) {
+            drop_mark(active, mark);
+        }
+    }
+}
+
+/// All but this mark are kept.
+fn drop_mark(active: &mut Vec<Mark>, mark: Mark)
+    ensures { (other : TheMark) → is_mark other mark ≡ false → has_mark active.old.items other ≡ true
+        → has_mark active.new.items other ≡ true }
+{
+    for place in 0..active.len() {
+        let there = active[place];
+        if there.count == mark.count && there.head == mark.head {
+            active.remove(place);
+            return;
+        }
+    }
+}
+
+/// The first process at or behind one that sends under one of the marks.
+pub(crate) fn next_sender(
+    sending: &Pairs,
+    counted: &Pairs,
+    marks: &[Mark],
+    from: u32,
+) -> Option<u32>
+    ensures { IsFirst (λ proc. list_any (λ mark. has sending.now.set mark proc || has counted.now.set mark proc) marks.now) from result }
+{
+    let mut found = None;
+    for mark in marks {
+        let just = sending.next(*mark, from);
+        let counted = counted.next(*mark, from);
+        found = earlier(found, earlier(just, counted));
+    }
+    found
+}
