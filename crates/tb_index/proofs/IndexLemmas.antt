@@ -90,6 +90,17 @@ module _ (s r c : Triples) (a : List ℕ) (l : List Mark) where
     same_room = λ o room. room;
   }
 
+  pub unchanged : (p : ℕ) (old new gone came : List Mark) → AreOf s old p → AreOf r gone p → old ≡ new → gone ≡ came → IsSet (state s r c a l) (state s r c a l) p new came
+  unfolding sends receives is_awake HasRoom
+  unchanged p old new gone came own its same equal = record {
+    own_sends = λ m. own m ∙ ap (λ (marks : List Mark). has_mark marks m) same;
+    own_receives = λ m. its m ∙ ap (λ (marks : List Mark). has_mark marks m) equal;
+    other_sends = λ m o apart. refl;
+    other_receives = λ m o apart. refl;
+    same_awake = λ o. refl;
+    same_room = λ o room. room;
+  }
+
   module _ (s1 r1 s2 r2 c2 : Triples) (l2 : List Mark) (p : ℕ) (old new gone came : List Mark) where
     pub is-set : AreOf s old p → AreOf r gone p → AreAdded s s1 new p → AreAdded r r1 came p → AreRemoved s1 s2 old new p → AreRemoved r1 r2 gone came p →
         IsSet (state s r c a l) (state s2 r2 c2 a l2) p new came

@@ -7,7 +7,7 @@ ghost use Rattle.tb_index.specs.Indexes.{sends, receives, is_receiver, is_awake,
 use crate::active::{next_sender, quiet_received, quiet_sent};
 use crate::bits::Bits;
 use crate::coming::{come, uncount};
-use crate::mark::{Mark, Marks, wide};
+use crate::mark::{Mark, Marks, are_same, wide};
 use crate::pairs::{Pairs, earlier, remove_both};
 use std::alloc::Global;
 use std::marker::Model;
@@ -74,6 +74,9 @@ impl Index {
         ensures ok { OnOk result (IsSet self.old self.new proc new.now.sends.items new.now.receives.items) }
         ensures err { OnErr result (SameIndex self.old self.new) }
     {
+        if are_unchanged(old, new) {
+            return Ok(());
+        }
         match come(
             &mut self.sending,
             &mut self.receiving,
@@ -170,5 +173,16 @@ impl Index {
         let awake = self.awake.next_number(from);
         let sender = next_sender(&self.sending, &self.counted, self.active.as_slice(), from);
         earlier(awake, sender)
+    }
+}
+
+fn are_unchanged(old: &Marks, new: &Marks) -> bool
+    ensures sends { result ≡ true → old.now.sends.items ≡ new.now.sends.items }
+    ensures receives { result ≡ true → old.now.receives.items ≡ new.now.receives.items }
+{
+    if are_same(old.sends.as_slice(), new.sends.as_slice()) {
+        are_same(old.receives.as_slice(), new.receives.as_slice())
+    } else {
+        false
     }
 }

@@ -1,6 +1,6 @@
-ghost use Rattle.std.specs.Prelude.{◌≡◌, ℕ, length, fold, take};
+ghost use Rattle.std.specs.Prelude.{◌≡◌, ℕ, true, length, fold, take};
 ghost use Rattle.std.specs.Int.{w64, cast_unsigned};
-ghost use Rattle.tb_index.specs.Marks.{mixed, number_head, name_head, term_head, pattern_head, first_term_head, first_pattern_head, sent_mark, received_mark, wide, has_mark, has_count};
+ghost use Rattle.tb_index.specs.Marks.{mixed, number_head, name_head, term_head, pattern_head, first_term_head, first_pattern_head, sent_mark, received_mark, wide, is_mark, has_mark, has_count};
 
 use tb_terms::{Name, Pattern, Patterns, Term, Terms};
 
@@ -141,4 +141,25 @@ pub(crate) fn has_count(marks: &[Mark], count: usize) -> bool
         }
     }
     false
+}
+
+/// Whether two lists of marks are the same.
+pub(crate) fn are_same(one: &[Mark], other: &[Mark]) -> bool
+    ensures { result ≡ true → one.now ≡ other.now }
+{
+    if one.len() != other.len() {
+        return false;
+    }
+    for place in 0..one.len() {
+        if !is_same(one[place], other[place]) {
+            return false;
+        }
+    }
+    true
+}
+
+fn is_same(one: Mark, other: Mark) -> bool
+    ensures { result ≡ is_mark one other }
+{
+    one.count == other.count && one.head == other.head
 }
