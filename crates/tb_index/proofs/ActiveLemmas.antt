@@ -48,6 +48,17 @@ meets-cases k m e =
     (λ (same : (k.head == m.head) ≡ true). let heads : k.head ≡ m.head = eqb-true k.head m.head same in inr (λ i. record { count = counts i; head = heads i }))
     (or-cases (k.head == open_head) (k.head == m.head) (pairs.both-right (k.count == m.count) ((k.head == open_head) || (k.head == m.head)) e))
 
+pub open-meets : (k m : Mark) → k.head ≡ open_head → meets k m ≡ true → k ≡ wide m
+open-meets k m is_open e =
+    let counts : k.count ≡ m.count = eqb-true k.count m.count (pairs.both-left (k.count == m.count) ((k.head == open_head) || (k.head == m.head)) e) in
+    λ i. record { count = counts i; head = is_open i }
+
+pub closed-meets : (k m : Mark) → (k.head ≡ open_head → ⊥) → meets k m ≡ true → k ≡ m
+closed-meets k m closed e = ⊎_elim
+    (λ (open_one : k ≡ wide m). absurd (closed (ap (λ (mark : Mark). mark.head) open_one)))
+    (λ (same : k ≡ m). same)
+    (meets-cases k m e)
+
 only-mark : (x k : Mark) → has_mark (x ∷ []) k ≡ true → k ≡ x
 only-mark x k e = ⊎_elim (λ (same : is_mark k x ≡ true). pairs.same-mark k x same) (λ (no : false ≡ true). absurd (cc)) (or-cases (is_mark k x) false e)
 
@@ -77,14 +88,15 @@ module _ (s : Triples) (but : List Mark) where
   pub received-skipped : (x : Mark) (a : List Mark) → has_mark but x ≡ true → ReceivedAreHeard (x ∷ []) but s a
   received-skipped x a t = λ received sent proc e f h m. absurd (not-both (has_mark but received) (ap (has_mark but) (only-mark x received e) ∙ t) f)
 
-  pub received-checked : (c : Triples) (x : Mark) (a : List Mark) → AreCounted s c → ((its : ℕ) → has s x its ≡ true → has_mark a x ≡ true) → ((its : ℕ) → has c x its ≡ true → has_mark a x ≡ true) →
-      ReceivedAreHeard (x ∷ []) but s a
-  received-checked c x a counted just many = λ received sent proc e f h m.
+  pub received-open : (c : Triples) (x : Mark) (a : List Mark) → x.head ≡ open_head → AreCounted s c → ((its : ℕ) → has c x its ≡ true → has_mark a x ≡ true) → ReceivedAreHeard (x ∷ []) but s a
+  received-open c x a is_open counted many = λ received sent proc e f h m.
       let same : received ≡ x = only-mark x received e in
-      ap (has_mark a) same ∙ ⊎_elim
-      (λ (open_one : x ≡ wide sent). many proc (ap (λ (k : Mark). has c k proc) open_one ∙ counted sent proc h))
-      (λ (equal : x ≡ sent). just proc (ap (λ (k : Mark). has s k proc) equal ∙ h))
-      (meets-cases x sent (ap (λ (k : Mark). meets k sent) (sym same) ∙ m))
+      ap (has_mark a) same ∙ many proc (ap (λ (k : Mark). has c k proc) (open-meets x sent is_open (ap (λ (k : Mark). meets k sent) (sym same) ∙ m)) ∙ counted sent proc h)
+
+  pub received-closed : (x : Mark) (a : List Mark) → (x.head ≡ open_head → ⊥) → ((its : ℕ) → has s x its ≡ true → has_mark a x ≡ true) → ReceivedAreHeard (x ∷ []) but s a
+  received-closed x a closed just = λ received sent proc e f h m.
+      let same : received ≡ x = only-mark x received e in
+      ap (has_mark a) same ∙ just proc (ap (λ (k : Mark). has s k proc) (closed-meets x sent closed (ap (λ (k : Mark). meets k sent) (sym same) ∙ m)) ∙ h)
 
   pub received-none : (a : List Mark) → ReceivedAreHeard [] but s a
   received-none a = λ received sent proc e f h m. absurd (let t : false ≡ true = e in cc)
@@ -97,16 +109,24 @@ module _ (s : Triples) (but : List Mark) where
       (λ (t : has_mark (get_or marks i d ∷ []) received ≡ true). here received sent proc t f h m)
       (or-cases (has_mark (take i marks) received) (has_mark (get_or marks i d ∷ []) received) (sym (list_any-append (is_mark received) (take i marks) (get_or marks i d ∷ [])) ∙ e)))
 
--- a mark that nobody sends may go
-pub unsent : (s c : Triples) (x : Mark) (a a2 : List Mark) → AreCounted s c → ((its : ℕ) → has s x its ≡ false) → ((its : ℕ) → has c x its ≡ false) →
+-- nobody sends what is received under the mark
+pub unsent-open : (s c : Triples) (x : Mark) → x.head ≡ open_head → AreCounted s c → ((its : ℕ) → has c x its ≡ false) → (sent : Mark) (proc : ℕ) → has s sent proc ≡ true → meets x sent ≡ false
+unsent-open s c x is_open counted nobody sent proc h = ⊎_elim
+    (λ (m : meets x sent ≡ true). absurd (not-both (has c x proc) (ap (λ (k : Mark). has c k proc) (open-meets x sent is_open m) ∙ counted sent proc h) (nobody proc)))
+    (λ (apart : meets x sent ≡ false). apart)
+    (bool-cases (meets x sent))
+
+pub unsent-closed : (s : Triples) (x : Mark) → (x.head ≡ open_head → ⊥) → ((its : ℕ) → has s x its ≡ false) → (sent : Mark) (proc : ℕ) → has s sent proc ≡ true → meets x sent ≡ false
+unsent-closed s x closed nobody sent proc h = ⊎_elim
+    (λ (m : meets x sent ≡ true). absurd (not-both (has s x proc) (ap (λ (k : Mark). has s k proc) (closed-meets x sent closed m) ∙ h) (nobody proc)))
+    (λ (apart : meets x sent ≡ false). apart)
+    (bool-cases (meets x sent))
+
+-- so it may go
+pub unsent : (s : Triples) (x : Mark) (a a2 : List Mark) → ((sent : Mark) (proc : ℕ) → has s sent proc ≡ true → meets x sent ≡ false) →
     ((k : Mark) → is_mark k x ≡ false → has_mark a k ≡ true → has_mark a2 k ≡ true) → SentAreKept a a2 s
-unsent s c x a a2 counted nobody none others = λ received sent proc e h m. ⊎_elim
-    (λ (same : is_mark received x ≡ true).
-    let equal : x ≡ received = sym (pairs.same-mark received x same) in
-    absurd (⊎_elim
-    (λ (open_one : x ≡ wide sent). not-both (has c x proc) (ap (λ (k : Mark). has c k proc) open_one ∙ counted sent proc h) (none proc))
-    (λ (just : x ≡ sent). not-both (has s x proc) (ap (λ (k : Mark). has s k proc) just ∙ h) (nobody proc))
-    (meets-cases x sent (ap (λ (k : Mark). meets k sent) equal ∙ m))))
+unsent s x a a2 nobody others = λ received sent proc e h m. ⊎_elim
+    (λ (same : is_mark received x ≡ true). absurd (not-both (meets x sent) (ap (λ (k : Mark). meets k sent) (sym (pairs.same-mark received x same)) ∙ m) (nobody sent proc h)))
     (λ (apart : is_mark received x ≡ false). others received apart e)
     (bool-cases (is_mark received x))
 

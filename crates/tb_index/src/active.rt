@@ -1,10 +1,10 @@
 ghost use Rattle.std.specs.Prelude.{◌≡◌, ◌||◌, ℕ, true, false, [], ◌∷◌, OnOk};
 ghost use Rattle.std.specs.List.{list_any};
 ghost use Rattle.tb_index.specs.declared.mark.Mark.{Mark as TheMark};
-ghost use Rattle.tb_index.specs.Marks.{has_mark, is_mark};
+ghost use Rattle.tb_index.specs.Marks.{has_mark, is_mark, meets};
 ghost use Rattle.tb_index.specs.Pairs.{has, AreCounted, SentAreHeard, ReceivedAreHeard, SentAreKept, ReceivedAreKept, AreKept, IsFirst};
 
-use crate::mark::{Mark, Marks, has_mark, wide};
+use crate::mark::{Mark, Marks, OPEN_HEAD, has_mark, wide};
 use crate::pairs::{Pairs, earlier};
 use tb_terms::NoMemory;
 
@@ -112,11 +112,12 @@ fn activate_one_received(
     if has_mark(but, mark) {
         return Ok(());
     }
-    match activate_where(active, sending, mark) {
-        Ok(()) => {}
-        Err(error) => return Err(error),
-    }
-    match activate_where(active, counted, mark) {
+    let pairs = if mark.head == OPEN_HEAD {
+        counted
+    } else {
+        sending
+    };
+    match activate_where(active, pairs, mark) {
         Ok(()) => Ok(()),
         Err(error) => Err(error),
     }
@@ -128,22 +129,13 @@ fn activate_where(active: &mut Vec<Mark>, pairs: &Pairs, mark: Mark) -> Result<(
     ensures here { OnOk result ((its : ℕ) → has pairs.now.set mark its ≡ true
         → has_mark active.new.items mark ≡ true) }
 {
+    if has_mark(active.as_slice(), mark) {
+        return Ok(());
+    }
     if pairs.has_nobody(mark) {
         return Ok(());
     }
-    match activate_one(active, mark) {
-        Ok(()) => Ok(()),
-        Err(error) => Err(error),
-    }
-}
-
-fn activate_one(active: &mut Vec<Mark>, mark: Mark) -> Result<(), NoMemory>
-    ensures kept { AreKept active.old.items active.new.items }
-    ensures here { OnOk result (has_mark active.new.items mark ≡ true) }
-{
-    if !has_mark(active.as_slice(), mark) {
-        active.push(mark)?;
-    }
+    active.push(mark)?;
     Ok(())
 }
 
@@ -184,10 +176,22 @@ fn quiet_unsent(active: &mut Vec<Mark>, sending: &Pairs, counted: &Pairs, mark: 
     requires { AreCounted sending.now.set counted.now.set }
     ensures { SentAreKept active.old.items active.new.items sending.now.set }
 {
-    if sending.has_nobody(mark) {
-        if counted.has_nobody(mark) {
+    if has_mark(active.as_slice(), mark) {
+        if is_unsent(sending, counted, mark) {
             drop_mark(active, mark);
         }
+    }
+}
+
+/// Whether nobody sends what is received under the mark.
+fn is_unsent(sending: &Pairs, counted: &Pairs, mark: Mark) -> bool
+    requires { AreCounted sending.now.set counted.now.set }
+    ensures { result ≡ true → (sent : TheMark) (proc : ℕ) → has sending.now.set sent proc ≡ true → meets mark sent ≡ false }
+{
+    if mark.head == OPEN_HEAD {
+        counted.has_nobody(mark)
+    } else {
+        sending.has_nobody(mark)
     }
 }
 
@@ -209,6 +213,14 @@ fn quiet_one_received(active: &mut Vec<Mark>, receiving: &Pairs, mark: Mark, but
     ensures { ReceivedAreKept active.old.items active.new.items receiving.now.set }
 {
     if !has_mark(but, mark) {
+        quiet_unreceived(active, receiving, mark);
+    }
+}
+
+fn quiet_unreceived(active: &mut Vec<Mark>, receiving: &Pairs, mark: Mark)
+    ensures { ReceivedAreKept active.old.items active.new.items receiving.now.set }
+{
+    if has_mark(active.as_slice(), mark) {
         if receiving.has_nobody(mark) {
             drop_mark(active, mark);
         }

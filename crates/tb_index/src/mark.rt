@@ -5,7 +5,7 @@ ghost use Rattle.tb_index.specs.Marks.{mixed, number_head, name_head, term_head,
 use tb_terms::{Name, Pattern, Patterns, Term, Terms};
 
 /// The head of a first pattern that is open, and of nothing.
-const OPEN_HEAD: u64 = 0;
+pub(crate) const OPEN_HEAD: u64 = 0;
 
 const TEXT_HEAD: u64 = 1;
 
