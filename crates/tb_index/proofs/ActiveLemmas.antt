@@ -1,14 +1,15 @@
 -- Marks that meet, and which of them are active.
-use Rattle.std.proofs.Common.{◌≡◌, ◌≢◌, ℕ, ◌<◌, ◌+◌, ◌++◌, Bool, true, false, not, ◌&&◌, ◌||◌, ◌==◌, List, [], ◌∷◌, length, take, drop, refl, ap, sym, ◌∙◌, subst, arith, rules, ◌⊎◌, inl, inr, ⊎_elim, get_or, zero, suc}
+use Rattle.std.proofs.Common.{◌≡◌, ◌≢◌, ℕ, ◌<◌, ◌+◌, ◌++◌, Bool, true, false, not, ◌&&◌, ◌||◌, ◌==◌, List, [], ◌∷◌, length, take, drop, refl, ap, sym, ◌∙◌, subst, arith, rules, ◌⊎◌, inl, inr, ⊎_elim, get_or, zero, suc, cond}
 use Rattle.std.proofs.lemmas.Bool.{eqb-true}
 use Rattle.std.proofs.lemmas.Bool.Decides.{nat_tests}
 use Rattle.std.proofs.lemmas.List.{take_more}
-use Rattle.std.proofs.lemmas.List.Folds.{list_any-append, list_any_more}
+use Rattle.std.proofs.lemmas.List.Folds.{list_any-append, list_any_more, list_any_at}
 use Rattle.std.specs.List.{list_any}
+use Rattle.std.specs.BTreeMap.{is_at}
 use Rattle.std.specs.BTreeSet.{BTreeSet}
 use Rattle.tb_index.specs.declared.mark.Mark.{Mark}
-use Rattle.tb_index.specs.Marks.{is_mark, has_mark, has_count, wide, meets, open_head}
-use Rattle.tb_index.specs.Pairs.{has, is_pair, AreOf, AreAdded, AreRemoved, AreCounted, AreCountedStill, AreHeard, SentAreHeard, ReceivedAreHeard, AreKept, SentAreKept, ReceivedAreKept, SamePairs}
+use Rattle.tb_index.specs.Marks.{is_mark, has_mark, has_count, has_open, wide, meets, open_head}
+use Rattle.tb_index.specs.Pairs.{has, is_pair, is_sender, triple_cmp, AreOpened, AllOpened, AreCountedIf, AreOf, AreAdded, AreRemoved, AreCounted, AreCountedStill, AreHeard, SentAreHeard, ReceivedAreHeard, AreKept, SentAreKept, ReceivedAreKept, SamePairs}
 use Rattle.tb_index.proofs.PairLemmas as pairs
 
 abbrev pub Triples : Type 0
@@ -242,3 +243,32 @@ pub dropped : (xs ys : List Mark) (place : ℕ) (x there : Mark) → place < len
 dropped xs ys place x there less read counts heads left other apart e =
     let same : is_mark other there ≡ is_mark other x = ap (λ n. (other.count == n) && (other.head == there.head)) counts ∙ ap (λ n. (other.count == x.count) && (other.head == n)) heads in
     ap (λ (zs : List Mark). has_mark zs other) left ∙ any-without (is_mark other) xs place there less (ap (is_mark other) (sym read) ∙ same ∙ apart) ∙ e
+
+pub counted-pair : (c : Triples) (m : Mark) (p : ℕ) (t : ℕ × ℕ × ℕ) → is_at (triple_cmp (m.count, m.head, p)) t ≡ true → has c (record { count = t.0; head = open_head }) t.2 ≡ true → has c (wide m) p ≡ true
+counted-pair c m p t e h =
+    let same : (((t.0 == m.count) && (t.1 == m.head)) && (t.2 == p)) ≡ true = sym (pairs.same-triple m.count m.head p t.0 t.1 t.2) ∙ e in
+    let proc : t.2 ≡ p = eqb-true t.2 p (pairs.both-right ((t.0 == m.count) && (t.1 == m.head)) (t.2 == p) same) in
+    let count : t.0 ≡ m.count = eqb-true t.0 m.count (pairs.both-left (t.0 == m.count) (t.1 == m.head) (pairs.both-left ((t.0 == m.count) && (t.1 == m.head)) (t.2 == p) same)) in
+    ap (λ n. has c (record { count = n; head = open_head }) p) (sym count) ∙ ap (has c (record { count = t.0; head = open_head })) (sym proc) ∙ h
+
+-- where none is open, each that is open is told
+pub none-open : (opened : Bool) (marks : List Mark) → has_open marks ≡ false → AreOpened opened marks
+none-open opened marks none = λ mark e is_open. absurd (not-both (has_open marks)
+    (pairs.any-marked (λ (m : Mark). m.head == open_head) marks mark e (ap (λ n. n == open_head) is_open)) none)
+
+-- nobody receives under an open mark that isn't told
+pub come-opened : (o o2 : Bool) (r0 r1 : Triples) (p : ℕ) (new : List Mark) → AllOpened o r0 → (o ≡ true → o2 ≡ true) → AreOpened o2 new → AreAdded r0 r1 new p → AllOpened o2 r1
+come-opened o o2 r0 r1 p new all kept marks more = λ mark proc e is_open. ⊎_elim
+    (λ (before : has r0 mark proc ≡ true). kept (all mark proc before is_open))
+    (λ (there : (has_mark new mark && (proc == p)) ≡ true). marks mark (pairs.both-left (has_mark new mark) (proc == p) there) is_open)
+    (or-cases (has r0 mark proc) (has_mark new mark && (proc == p)) (sym (more mark proc) ∙ e))
+
+pub sender-open : (s c : Triples) (m : Mark) (p : ℕ) → m.head ≡ open_head → is_sender s c m p ≡ has c m p
+sender-open s c m p is_open = ap (λ n. cond (n == open_head) (has c m p) (has s m p)) is_open
+
+pub sender-closed : (s c : Triples) (m : Mark) (p : ℕ) → (m.head ≡ open_head → ⊥) → is_sender s c m p ≡ has s m p
+sender-closed s c m p closed = ap (λ b. cond b (has c m p) (has s m p)) (apart-number m.head open_head closed)
+
+pub mark-at : (marks : List Mark) (i : ℕ) (d : Mark) → i < length marks → has_mark marks (get_or marks i d) ≡ true
+mark-at marks i d less = list_any_at (is_mark (get_or marks i d)) marks i d less
+    (both (_ == _) (_ == _) (same-number (get_or marks i d).count) (same-number (get_or marks i d).head))

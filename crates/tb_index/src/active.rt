@@ -1,9 +1,10 @@
-ghost use Rattle.std.specs.Prelude.{◌≡◌, ◌||◌, ℕ, true, false, [], ◌∷◌, OnOk};
+ghost use Rattle.std.specs.Prelude.{◌≡◌, ℕ, true, false, [], ◌∷◌, OnOk};
 ghost use Rattle.std.specs.List.{list_any};
 ghost use Rattle.tb_index.specs.declared.mark.Mark.{Mark as TheMark};
-ghost use Rattle.tb_index.specs.Marks.{has_mark, is_mark, meets};
-ghost use Rattle.tb_index.specs.Pairs.{has, AreCounted, SentAreHeard, ReceivedAreHeard, SentAreKept, ReceivedAreKept, AreKept, IsFirst};
+ghost use Rattle.tb_index.specs.Marks.{has_mark, is_mark, meets, open_head};
+ghost use Rattle.tb_index.specs.Pairs.{has, AreCountedIf, AreOpened, SentAreHeard, ReceivedAreHeard, SentAreKept, ReceivedAreKept, AreKept, IsFirst, is_sender};
 
+use crate::counts::Counts;
 use crate::mark::{Mark, Marks, OPEN_HEAD, has_mark, wide};
 use crate::pairs::{Pairs, earlier};
 use tb_terms::NoMemory;
@@ -14,11 +15,12 @@ pub(crate) fn activate(
     active: &mut Vec<Mark>,
     sending: &Pairs,
     receiving: &Pairs,
-    counted: &Pairs,
+    counts: &Counts,
     old: &Marks,
     new: &Marks,
 ) -> Result<(), NoMemory>
-    requires { AreCounted sending.now.set counted.now.set }
+    requires counted { AreCountedIf counts.now.opened sending.now.set counts.now.pairs.set }
+    requires opened { AreOpened counts.now.opened new.now.receives.items }
     ensures kept { AreKept active.old.items active.new.items }
     ensures sends { OnOk result (SentAreHeard new.now.sends.items old.now.sends.items receiving.now.set active.new.items) }
     ensures receives { OnOk result (ReceivedAreHeard new.now.receives.items old.now.receives.items sending.now.set active.new.items) }
@@ -35,7 +37,7 @@ pub(crate) fn activate(
     match activate_received(
         active,
         sending,
-        counted,
+        counts,
         new.receives.as_slice(),
         old.receives.as_slice(),
     ) {
@@ -84,16 +86,17 @@ fn activate_one_sent(
 fn activate_received(
     active: &mut Vec<Mark>,
     sending: &Pairs,
-    counted: &Pairs,
+    counts: &Counts,
     marks: &[Mark],
     but: &[Mark],
 ) -> Result<(), NoMemory>
-    requires { AreCounted sending.now.set counted.now.set }
+    requires counted { AreCountedIf counts.now.opened sending.now.set counts.now.pairs.set }
+    requires opened { AreOpened counts.now.opened marks.now }
     ensures kept { AreKept active.old.items active.new.items }
     ensures all { OnOk result (ReceivedAreHeard marks.now but.now sending.now.set active.new.items) }
 {
     for mark in marks {
-        activate_one_received(active, sending, counted, *mark, but)?;
+        activate_one_received(active, sending, counts, *mark, but)?;
     }
     Ok(())
 }
@@ -101,26 +104,24 @@ fn activate_received(
 fn activate_one_received(
     active: &mut Vec<Mark>,
     sending: &Pairs,
-    counted: &Pairs,
+    counts: &Counts,
     mark: Mark,
     but: &[Mark],
 ) -> Result<(), NoMemory>
-    requires { AreCounted sending.now.set counted.now.set }
+    requires counted { AreCountedIf counts.now.opened sending.now.set counts.now.pairs.set }
+    requires opened { mark.head ≡ open_head → counts.now.opened ≡ true }
     ensures kept { AreKept active.old.items active.new.items }
     ensures all { OnOk result (ReceivedAreHeard (mark ∷ []) but.now sending.now.set active.new.items) }
 {
     if has_mark(but, mark) {
         return Ok(());
     }
-    let pairs = if mark.head == OPEN_HEAD {
-        counted
-    } else {
-        sending
-    };
-    match activate_where(active, pairs, mark) {
-        Ok(()) => Ok(()),
-        Err(error) => Err(error),
+    if mark.head == OPEN_HEAD {
+        activate_where(active, &counts.pairs, mark)?;
+        return Ok(());
     }
+    activate_where(active, sending, mark)?;
+    Ok(())
 }
 
 /// The mark is active where somebody has it.
@@ -144,54 +145,57 @@ fn activate_where(active: &mut Vec<Mark>, pairs: &Pairs, mark: Mark) -> Result<(
 pub(crate) fn quiet_sent(
     active: &mut Vec<Mark>,
     sending: &Pairs,
-    counted: &Pairs,
+    counts: &Counts,
     marks: &[Mark],
     but: &[Mark],
 )
-    requires { AreCounted sending.now.set counted.now.set }
+    requires { AreCountedIf counts.now.opened sending.now.set counts.now.pairs.set }
     ensures { SentAreKept active.old.items active.new.items sending.now.set }
 {
     for mark in marks {
-        quiet_one_sent(active, sending, counted, *mark, but);
+        quiet_one_sent(active, sending, counts, *mark, but);
     }
 }
 
 fn quiet_one_sent(
     active: &mut Vec<Mark>,
     sending: &Pairs,
-    counted: &Pairs,
+    counts: &Counts,
     mark: Mark,
     but: &[Mark],
 )
-    requires { AreCounted sending.now.set counted.now.set }
+    requires { AreCountedIf counts.now.opened sending.now.set counts.now.pairs.set }
     ensures { SentAreKept active.old.items active.new.items sending.now.set }
 {
     if !has_mark(but, mark) {
-        quiet_unsent(active, sending, counted, mark);
-        quiet_unsent(active, sending, counted, wide(mark));
+        quiet_unsent(active, sending, counts, mark);
+        quiet_unsent(active, sending, counts, wide(mark));
     }
 }
 
-fn quiet_unsent(active: &mut Vec<Mark>, sending: &Pairs, counted: &Pairs, mark: Mark)
-    requires { AreCounted sending.now.set counted.now.set }
+fn quiet_unsent(active: &mut Vec<Mark>, sending: &Pairs, counts: &Counts, mark: Mark)
+    requires { AreCountedIf counts.now.opened sending.now.set counts.now.pairs.set }
     ensures { SentAreKept active.old.items active.new.items sending.now.set }
 {
     if has_mark(active.as_slice(), mark) {
-        if is_unsent(sending, counted, mark) {
+        if is_unsent(sending, counts, mark) {
             drop_mark(active, mark);
         }
     }
 }
 
 /// Whether nobody sends what is received under the mark.
-fn is_unsent(sending: &Pairs, counted: &Pairs, mark: Mark) -> bool
-    requires { AreCounted sending.now.set counted.now.set }
+fn is_unsent(sending: &Pairs, counts: &Counts, mark: Mark) -> bool
+    requires { AreCountedIf counts.now.opened sending.now.set counts.now.pairs.set }
     ensures { result ≡ true → (sent : TheMark) (proc : ℕ) → has sending.now.set sent proc ≡ true → meets mark sent ≡ false }
 {
-    if mark.head == OPEN_HEAD {
-        counted.has_nobody(mark)
+    if mark.head != OPEN_HEAD {
+        return sending.has_nobody(mark);
+    }
+    if counts.opened {
+        counts.pairs.has_nobody(mark)
     } else {
-        sending.has_nobody(mark)
+        false
     }
 }
 
@@ -241,20 +245,28 @@ fn drop_mark(active: &mut Vec<Mark>, mark: Mark)
     }
 }
 
-/// The first process at or behind one that sends under one of the marks.
+/// The first process at or behind one that sends what is received under one of the marks.
 pub(crate) fn next_sender(
     sending: &Pairs,
     counted: &Pairs,
     marks: &[Mark],
     from: u32,
 ) -> Option<u32>
-    ensures { IsFirst (λ proc. list_any (λ mark. has sending.now.set mark proc || has counted.now.set mark proc) marks.now) from result }
+    ensures { IsFirst (λ proc. list_any (λ mark. is_sender sending.now.set counted.now.set mark proc) marks.now) from result }
 {
     let mut found = None;
     for mark in marks {
-        let just = sending.next(*mark, from);
-        let counted = counted.next(*mark, from);
-        found = earlier(found, earlier(just, counted));
+        found = earlier(found, next_of_mark(sending, counted, *mark, from));
     }
     found
+}
+
+fn next_of_mark(sending: &Pairs, counted: &Pairs, mark: Mark, from: u32) -> Option<u32>
+    ensures { IsFirst (is_sender sending.now.set counted.now.set mark) from result }
+{
+    if mark.head == OPEN_HEAD {
+        counted.next(mark, from)
+    } else {
+        sending.next(mark, from)
+    }
 }

@@ -6,7 +6,8 @@ ghost use Rattle.tb_index.specs.Indexes.{sends, receives, is_receiver, is_awake,
 
 use crate::active::{next_sender, quiet_received, quiet_sent};
 use crate::bits::Bits;
-use crate::coming::{come, uncount};
+use crate::coming::come;
+use crate::counts::{Counts, open_up, uncount};
 use crate::mark::{Mark, Marks, are_same, wide};
 use crate::pairs::{Pairs, earlier, remove_both};
 use std::alloc::Global;
@@ -18,7 +19,7 @@ use tb_terms::NoMemory;
 pub struct Index {
     sending: Pairs,
     receiving: Pairs,
-    counted: Pairs,
+    counts: Counts,
     awake: Bits,
     active: Vec<Mark>,
 }
@@ -31,7 +32,8 @@ impl Model for Index {
     ghost view = { λ index. record {
       sending = index.sending.set;
       receiving = index.receiving.set;
-      counted = index.counted.set;
+      opened = index.counts.opened;
+      counted = index.counts.pairs.set;
       awake = index.awake;
       active = index.active.items;
     } };
@@ -39,7 +41,8 @@ impl Model for Index {
     ghost invariant = { λ index. IsTied (record {
       sending = index.sending.set;
       receiving = index.receiving.set;
-      counted = index.counted.set;
+      opened = index.counts.opened;
+      counted = index.counts.pairs.set;
       awake = index.awake;
       active = index.active.items;
     }) };
@@ -53,7 +56,10 @@ impl Index {
         Index {
             sending: Pairs::new(alloc),
             receiving: Pairs::new(alloc),
-            counted: Pairs::new(alloc),
+            counts: Counts {
+                opened: false,
+                pairs: Pairs::new(alloc),
+            },
             awake: Bits::new(alloc),
             active: Vec::new(alloc),
         }
@@ -77,10 +83,14 @@ impl Index {
         if are_unchanged(old, new) {
             return Ok(());
         }
+        match open_up(&mut self.counts, &self.sending, new.receives.as_slice()) {
+            Ok(()) => {}
+            Err(error) => return Err(error),
+        }
         match come(
             &mut self.sending,
             &mut self.receiving,
-            &mut self.counted,
+            &mut self.counts,
             &mut self.active,
             proc,
             old,
@@ -91,7 +101,7 @@ impl Index {
         }
         remove_both(&mut self.sending, &mut self.receiving, proc, old, new);
         uncount(
-            &mut self.counted,
+            &mut self.counts,
             old.sends.as_slice(),
             new.sends.as_slice(),
             proc,
@@ -99,7 +109,7 @@ impl Index {
         quiet_sent(
             &mut self.active,
             &self.sending,
-            &self.counted,
+            &self.counts,
             old.sends.as_slice(),
             new.sends.as_slice(),
         );
@@ -121,11 +131,11 @@ impl Index {
         self.sending.remove_but(old.sends.as_slice(), &[], proc);
         self.receiving
             .remove_but(old.receives.as_slice(), &[], proc);
-        uncount(&mut self.counted, old.sends.as_slice(), &[], proc);
+        uncount(&mut self.counts, old.sends.as_slice(), &[], proc);
         quiet_sent(
             &mut self.active,
             &self.sending,
-            &self.counted,
+            &self.counts,
             old.sends.as_slice(),
             &[],
         );
@@ -171,7 +181,12 @@ impl Index {
             → is_receiver self.now mark other ≡ true → starts self.now proc ≡ true }
     {
         let awake = self.awake.next_number(from);
-        let sender = next_sender(&self.sending, &self.counted, self.active.as_slice(), from);
+        let sender = next_sender(
+            &self.sending,
+            &self.counts.pairs,
+            self.active.as_slice(),
+            from,
+        );
         earlier(awake, sender)
     }
 }

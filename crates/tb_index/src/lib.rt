@@ -5,6 +5,7 @@
 mod active;
 mod bits;
 mod coming;
+mod counts;
 mod index;
 mod mark;
 mod pairs;

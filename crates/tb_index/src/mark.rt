@@ -1,6 +1,6 @@
 ghost use Rattle.std.specs.Prelude.{◌≡◌, ℕ, true, length, fold, take};
 ghost use Rattle.std.specs.Int.{w64, cast_unsigned};
-ghost use Rattle.tb_index.specs.Marks.{mixed, number_head, name_head, term_head, pattern_head, first_term_head, first_pattern_head, sent_mark, received_mark, wide, is_mark, has_mark, has_count};
+ghost use Rattle.tb_index.specs.Marks.{mixed, number_head, name_head, term_head, pattern_head, first_term_head, first_pattern_head, sent_mark, received_mark, wide, is_mark, has_mark, has_count, has_open};
 
 use tb_terms::{Name, Pattern, Patterns, Term, Terms};
 
@@ -137,6 +137,18 @@ pub(crate) fn has_count(marks: &[Mark], count: usize) -> bool
 {
     for other in marks {
         if count == other.count {
+            return true;
+        }
+    }
+    false
+}
+
+/// Whether one of the marks is open.
+pub(crate) fn has_open(marks: &[Mark]) -> bool
+    ensures { result ≡ has_open marks.now }
+{
+    for other in marks {
+        if other.head == OPEN_HEAD {
             return true;
         }
     }

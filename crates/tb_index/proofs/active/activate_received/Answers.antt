@@ -15,3 +15,6 @@ loop-mark-preserved c = (
 pub returns-clause-all : goal.returns-clause-all
 returns-clause-all c = subst (λ (marks : List Mark). ReceivedAreHeard marks c.args.but.now c.args.sending.now.set c.loop-mark.active.items)
     (take_all c.loop-mark.mark-index c.args.marks.now (omega (arith, c.loop-mark-test.false))) c.loop-mark.invariant.1
+
+pub activate_one_received-requires-clause-opened : goal.activate_one_received-requires-clause-opened
+activate_one_received-requires-clause-opened c = λ is_open. c.requires.opened _ (active.mark-at c.args.marks.now c.loop-mark.mark-index _ c.loop-mark-test.true) is_open

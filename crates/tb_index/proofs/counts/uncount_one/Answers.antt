@@ -2,7 +2,7 @@ use Rattle.std.proofs.Common.{◌≡◌, ◌∙◌, ◌&&◌, ℕ, not, sym, sub
 use Rattle.tb_index.specs.declared.mark.Mark.{Mark}
 use Rattle.tb_index.specs.Pairs.{has, is_pair}
 use Rattle.tb_index.proofs.ActiveLemmas as active
-use Rattle.tb_index.proofs.coming.uncount_one.Goals as goal
+use Rattle.tb_index.proofs.counts.uncount_one.Goals as goal
 
 pub returns-then-not-has_count : goal.returns-then-not-has_count
 returns-then-not-has_count c = active.count-kept c.args.counted.now.set c.remove.new.self.set c.args.mark c.args.others.now c.args.proc (sym c.has_count.ensures ∙ c.if-not-has_count.true)

@@ -1,5 +1,5 @@
 use Rattle.tb_index.proofs.ActiveLemmas as active
-use Rattle.tb_index.proofs.coming.count.Goals as goal
+use Rattle.tb_index.proofs.counts.count_marks.Goals as goal
 
 pub loop-mark-preserved : goal.loop-mark-preserved
 loop-mark-preserved c = (
