@@ -74,6 +74,10 @@ module _ (r : Triples) (but : List Mark) where
       (λ (same : received ≡ x). ap (has_mark a) same ∙ just other (ap (λ (k : Mark). has r k other) (sym same) ∙ h))
       (meets-cases received x (ap (λ (k : Mark). meets received k) (sym (only-mark x sent e)) ∙ m))
 
+  -- where no open mark is told, nobody receives under one
+  pub sent-untold : (x : Mark) (a : List Mark) (opened : Bool) → AllOpened opened r → opened ≡ false → ((its : ℕ) → has r x its ≡ true → has_mark a x ≡ true) → SentAreHeard (x ∷ []) but r a
+  sent-untold x a opened told none just = sent-checked x a just (λ its h. absurd (not-both opened (told (wide x) its h refl) none))
+
   pub sent-none : (a : List Mark) → SentAreHeard [] but r a
   sent-none a = λ received sent other e f h m. absurd (let t : false ≡ true = e in cc)
 

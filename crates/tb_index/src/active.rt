@@ -2,7 +2,7 @@ ghost use Rattle.std.specs.Prelude.{◌≡◌, ℕ, true, false, [], ◌∷◌, 
 ghost use Rattle.std.specs.List.{list_any};
 ghost use Rattle.tb_index.specs.declared.mark.Mark.{Mark as TheMark};
 ghost use Rattle.tb_index.specs.Marks.{has_mark, is_mark, meets, open_head};
-ghost use Rattle.tb_index.specs.Pairs.{has, AreCountedIf, AreOpened, SentAreHeard, ReceivedAreHeard, SentAreKept, ReceivedAreKept, AreKept, IsFirst, is_sender};
+ghost use Rattle.tb_index.specs.Pairs.{has, AreCountedIf, AreOpened, AllOpened, SentAreHeard, ReceivedAreHeard, SentAreKept, ReceivedAreKept, AreKept, IsFirst, is_sender};
 
 use crate::counts::Counts;
 use crate::mark::{Mark, Marks, OPEN_HEAD, has_mark, wide};
@@ -19,6 +19,7 @@ pub(crate) fn activate(
     old: &Marks,
     new: &Marks,
 ) -> Result<(), NoMemory>
+    requires told { AllOpened counts.now.opened receiving.now.set }
     requires counted { AreCountedIf counts.now.opened sending.now.set counts.now.pairs.set }
     requires opened { AreOpened counts.now.opened new.now.receives.items }
     ensures kept { AreKept active.old.items active.new.items }
@@ -28,35 +29,36 @@ pub(crate) fn activate(
     match activate_sent(
         active,
         receiving,
+        counts.opened,
         new.sends.as_slice(),
         old.sends.as_slice(),
     ) {
         Ok(()) => {}
         Err(error) => return Err(error),
     }
-    match activate_received(
+    activate_received(
         active,
         sending,
         counts,
         new.receives.as_slice(),
         old.receives.as_slice(),
-    ) {
-        Ok(()) => Ok(()),
-        Err(error) => Err(error),
-    }
+    )?;
+    Ok(())
 }
 
 fn activate_sent(
     active: &mut Vec<Mark>,
     receiving: &Pairs,
+    opened: bool,
     marks: &[Mark],
     but: &[Mark],
 ) -> Result<(), NoMemory>
+    requires { AllOpened opened receiving.now.set }
     ensures kept { AreKept active.old.items active.new.items }
     ensures all { OnOk result (SentAreHeard marks.now but.now receiving.now.set active.new.items) }
 {
     for mark in marks {
-        activate_one_sent(active, receiving, *mark, but)?;
+        activate_one_sent(active, receiving, opened, *mark, but)?;
     }
     Ok(())
 }
@@ -64,9 +66,11 @@ fn activate_sent(
 fn activate_one_sent(
     active: &mut Vec<Mark>,
     receiving: &Pairs,
+    opened: bool,
     mark: Mark,
     but: &[Mark],
 ) -> Result<(), NoMemory>
+    requires { AllOpened opened receiving.now.set }
     ensures kept { AreKept active.old.items active.new.items }
     ensures all { OnOk result (SentAreHeard (mark ∷ []) but.now receiving.now.set active.new.items) }
 {
@@ -76,6 +80,9 @@ fn activate_one_sent(
     match activate_where(active, receiving, mark) {
         Ok(()) => {}
         Err(error) => return Err(error),
+    }
+    if !opened {
+        return Ok(());
     }
     match activate_where(active, receiving, wide(mark)) {
         Ok(()) => Ok(()),

@@ -1,5 +1,5 @@
 ghost use Rattle.std.specs.Prelude.{◌≡◌, OnOk, OnErr};
-ghost use Rattle.tb_index.specs.Pairs.{AreOf, AreAdded, AreCountedIf, AreOpened, AreHeard, SamePairs};
+ghost use Rattle.tb_index.specs.Pairs.{AreOf, AreAdded, AreCountedIf, AreOpened, AllOpened, AreHeard, SamePairs};
 
 use crate::active::activate;
 use crate::counts::{Counts, count};
@@ -20,6 +20,7 @@ pub(crate) fn come(
     requires sends { AreOf sending.old.set old.now.sends.items proc }
     requires receives { AreOf receiving.old.set old.now.receives.items proc }
     requires counted { AreCountedIf counts.old.opened sending.old.set counts.old.pairs.set }
+    requires told { AllOpened counts.old.opened receiving.old.set }
     requires opened { AreOpened counts.old.opened new.now.receives.items }
     requires heard { AreHeard sending.old.set receiving.old.set active.old.items }
     ensures sends { OnOk result (AreAdded sending.old.set sending.new.set new.now.sends.items proc) }

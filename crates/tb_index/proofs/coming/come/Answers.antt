@@ -30,3 +30,7 @@ returns-in-Err-activate-clause-counted c = λ t. active.same-counted c.args.send
     (indexes.undone-pairs c.args.sending.now.set c.add_both.new.sending.set c.remove_both.new.sending.set c.args.proc c.args.old.now.sends.items c.args.new.now.sends.items
     c.requires.sends c.in-Ok-add_both.ensures.sends c.remove_both.ensures.sends)
     (c.requires.counted (sym c.count.ensures.opened ∙ t)) c.count.ensures.kept
+
+pub activate-requires-clause-told : goal.activate-requires-clause-told
+activate-requires-clause-told c = active.come-opened c.args.counts.now.opened c.count.new.counts.opened c.args.receiving.now.set c.add_both.new.receiving.set c.args.proc c.args.new.now.receives.items
+    c.requires.told (λ t. c.count.ensures.opened ∙ t) (λ mark e is_open. c.count.ensures.opened ∙ c.requires.opened mark e is_open) c.in-Ok-add_both.ensures.receives
