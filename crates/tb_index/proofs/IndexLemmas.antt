@@ -7,30 +7,23 @@ use Rattle.std.proofs.lemmas.Nat.Bits.{bit_at-zero}
 use Rattle.std.specs.List.{list_any}
 use Rattle.std.specs.BTreeSet.{BTreeSet}
 use Rattle.tb_index.specs.declared.mark.Mark.{Mark}
-use Rattle.tb_index.specs.Marks.{is_mark, has_mark, wide}
-use Rattle.tb_index.specs.Pairs.{has, AreOf, AreAdded, AreRemoved, SamePairs, IsFirst, IsNext, earlier}
+use Rattle.tb_index.specs.Marks.{is_mark, has_mark, wide, meets, open_head}
+use Rattle.tb_index.specs.Pairs.{has, is_sender, AreOf, AreAdded, AreRemoved, SamePairs, IsFirst, IsNext, earlier}
 use Rattle.tb_index.specs.Bits.{bit_in}
-use Rattle.tb_index.specs.Indexes.{IndexState, sends, receives, is_receiver, is_awake, starts, HasRoom, IsEmpty, SameIndex, IsSet, IsCleared, IsTurned, AllSent}
+use Rattle.tb_index.specs.Indexes.{IndexState, sends, receives, is_receiver, is_awake, starts, HasRoom, IsEmpty, SameIndex, IsSet, IsCleared, IsTurned, IsTied}
+use Rattle.tb_index.proofs.ActiveLemmas as active
+use Rattle.tb_index.proofs.ActiveLemmas.{Triples, same-number, apart-number}
 use Rattle.tb_index.proofs.PairLemmas as pairs
 
-abbrev pub Triples : Type 0
-Triples = BTreeSet (ℕ × ℕ × ℕ)
-
-abbrev pub state : Triples → Triples → List ℕ → List Mark → IndexState
-state sending receiving awake active = record { sending = sending; receiving = receiving; awake = awake; active = active }
-
-same-number : (p : ℕ) → (p == p) ≡ true
-same-number p = grind (arith, nat_tests)
-
-apart-number : (o p : ℕ) → o ≢ p → (o == p) ≡ false
-apart-number o p apart = grind (arith, nat_tests)
+abbrev pub state : Triples → Triples → Bool → Triples → List ℕ → List Mark → IndexState
+state sending receiving opened counted awake active = record { sending = sending; receiving = receiving; opened = opened; counted = counted; awake = awake; active = active }
 
 pub undone-pairs : (s s1 s2 : Triples) (p : ℕ) (old new : List Mark) → AreOf s old p → AreAdded s s1 new p → AreRemoved s1 s2 new old p → SamePairs s s2
 undone-pairs s s1 s2 p old new own more less = λ m o. pairs.undone (has s2 m o) (has s1 m o) (has s m o) (has_mark new m) (has_mark new m) (has_mark old m) (o == p)
     (less m o) (more m o) (λ e. ap (has s m) (eqb-true o p e) ∙ own m) (λ e. e)
 
-module _ (s r : Triples) (a : List ℕ) (l : List Mark) where
-  pub empty : ((m : Mark) (p : ℕ) → has s m p ≡ false) → ((m : Mark) (p : ℕ) → has r m p ≡ false) → a ≡ [] → IsEmpty (state s r a l)
+module _ (s r : Triples) (q : Bool) (c : Triples) (a : List ℕ) (l : List Mark) where
+  pub empty : ((m : Mark) (p : ℕ) → has s m p ≡ false) → ((m : Mark) (p : ℕ) → has r m p ≡ false) → a ≡ [] → IsEmpty (state s r q c a l)
   unfolding sends receives is_awake
   empty none nobody e = record {
     no_sends = none;
@@ -38,16 +31,12 @@ module _ (s r : Triples) (a : List ℕ) (l : List Mark) where
     none_awake = λ p. ap (λ (words : List ℕ). bit_in words p == 1) e ∙ ap (λ n. n == 1) (bit_at-zero _);
   }
 
-  pub empty-sent : ((m : Mark) (p : ℕ) → has s m p ≡ false) → AllSent (state s r a l)
-  unfolding sends
-  empty-sent none m p e = absurd (let t : has s m p ≡ true = e in let f = none m p in cc)
-
-  pub roomy : (p : ℕ) → HasRoom (state s r a l) p → p / 64 < length a
+  pub roomy : (p : ℕ) → HasRoom (state s r q c a l) p → p / 64 < length a
   unfolding HasRoom
   roomy p room = room
 
   pub turned : (bits : List ℕ) (p : ℕ) (b : Bool) → (bit_in bits p == 1) ≡ b → ((k : ℕ) → k ≢ p → bit_in bits k ≡ bit_in a k) → length bits ≡ length a →
-      IsTurned (state s r a l) (state s r bits l) p b
+      IsTurned (state s r q c a l) (state s r q c bits l) p b
   unfolding sends receives is_awake HasRoom
   turned bits p b here others long = record {
     same_sends = λ m o. refl;
@@ -57,7 +46,7 @@ module _ (s r : Triples) (a : List ℕ) (l : List Mark) where
     same_room = λ o room. let fits : o / 64 < length a = room in omega arith;
   }
 
-  pub grown : (bits : List ℕ) → ((k : ℕ) → bit_in bits k ≡ bit_in a k) → length a ≤ length bits → SameIndex (state s r a l) (state s r bits l)
+  pub grown : (bits : List ℕ) → ((k : ℕ) → bit_in bits k ≡ bit_in a k) → length a ≤ length bits → SameIndex (state s r q c a l) (state s r q c bits l)
   unfolding sends receives is_awake HasRoom
   grown bits same long = record {
     same_sends = λ m o. refl;
@@ -66,43 +55,49 @@ module _ (s r : Triples) (a : List ℕ) (l : List Mark) where
     same_room = λ o room. let fits : o / 64 < length a = room in omega arith;
   }
 
-  pub has-room : (p : ℕ) → p / 64 < length a → HasRoom (state s r a l) p
+  pub has-room : (p : ℕ) → p / 64 < length a → HasRoom (state s r q c a l) p
   unfolding HasRoom
   has-room p fits = fits
 
-  pub room-made : {X E : Type 0} (p : ℕ) (result : Result X E) → OnOk result (p / 64 < length a) → OnOk result (HasRoom (state s r a l) p)
+  pub room-made : {X E : Type 0} (p : ℕ) (result : Result X E) → OnOk result (p / 64 < length a) → OnOk result (HasRoom (state s r q c a l) p)
   unfolding HasRoom
   room-made p result room = room
 
-  -- what the bits are says nothing of who sends
-  pub sent-still : (bits : List ℕ) → AllSent (state s r a l) → AllSent (state s r bits l)
-  unfolding sends
-  sent-still bits all = all
+  -- what the bits are says nothing of the rest
+  pub tied-still : (bits : List ℕ) → IsTied (state s r q c a l) → IsTied (state s r q c bits l)
+  tied-still bits tied = record { opened = tied.opened; counted = tied.counted; heard = tied.heard }
 
-  pub own-sends : (p : ℕ) (marks : List Mark) → ((m : Mark) → sends (state s r a l) m p ≡ has_mark marks m) → AreOf s marks p
+  pub own-sends : (p : ℕ) (marks : List Mark) → ((m : Mark) → sends (state s r q c a l) m p ≡ has_mark marks m) → AreOf s marks p
   unfolding sends
   own-sends p marks own = own
 
-  pub own-receives : (p : ℕ) (marks : List Mark) → ((m : Mark) → receives (state s r a l) m p ≡ has_mark marks m) → AreOf r marks p
+  pub own-receives : (p : ℕ) (marks : List Mark) → ((m : Mark) → receives (state s r q c a l) m p ≡ has_mark marks m) → AreOf r marks p
   unfolding receives
   own-receives p marks own = own
 
-  pub same-pairs : (s2 r2 : Triples) (l2 : List Mark) → SamePairs s s2 → SamePairs r r2 → SameIndex (state s r a l) (state s2 r2 a l2)
+  pub same-pairs : (s2 r2 : Triples) (q2 : Bool) (c2 : Triples) (l2 : List Mark) → SamePairs s s2 → SamePairs r r2 → SameIndex (state s r q c a l) (state s2 r2 q2 c2 a l2)
   unfolding sends receives is_awake HasRoom
-  same-pairs s2 r2 l2 sent received = record {
+  same-pairs s2 r2 q2 c2 l2 sent received = record {
     same_sends = sent;
     same_receives = received;
     same_awake = λ o. refl;
     same_room = λ o room. room;
   }
 
-  pub still-sent : (s2 r2 : Triples) (l2 : List Mark) → AllSent (state s r a l) → SamePairs s s2 → ((m : Mark) → has_mark l m ≡ true → has_mark l2 m ≡ true) → AllSent (state s2 r2 a l2)
-  unfolding sends
-  still-sent s2 r2 l2 all same kept = λ m p e. kept m (all m p (sym (same m p) ∙ e))
+  pub unchanged : (p : ℕ) (old new gone came : List Mark) → AreOf s old p → AreOf r gone p → old ≡ new → gone ≡ came → IsSet (state s r q c a l) (state s r q c a l) p new came
+  unfolding sends receives is_awake HasRoom
+  unchanged p old new gone came own its same equal = record {
+    own_sends = λ m. own m ∙ ap (λ (marks : List Mark). has_mark marks m) same;
+    own_receives = λ m. its m ∙ ap (λ (marks : List Mark). has_mark marks m) equal;
+    other_sends = λ m o apart. refl;
+    other_receives = λ m o apart. refl;
+    same_awake = λ o. refl;
+    same_room = λ o room. room;
+  }
 
-  module _ (s1 r1 s2 r2 : Triples) (l2 : List Mark) (p : ℕ) (old new gone came : List Mark) where
+  module _ (s1 r1 s2 r2 : Triples) (q2 : Bool) (c2 : Triples) (l2 : List Mark) (p : ℕ) (old new gone came : List Mark) where
     pub is-set : AreOf s old p → AreOf r gone p → AreAdded s s1 new p → AreAdded r r1 came p → AreRemoved s1 s2 old new p → AreRemoved r1 r2 gone came p →
-        IsSet (state s r a l) (state s2 r2 a l2) p new came
+        IsSet (state s r q c a l) (state s2 r2 q2 c2 a l2) p new came
     unfolding sends receives is_awake HasRoom
     is-set own its more others less fewer = record {
       own_sends = λ m. pairs.set-own (has s2 m p) (has s1 m p) (has s m p) (has_mark new m) (has_mark old m) (p == p) (less m p) (more m p) (same-number p) (own m);
@@ -113,18 +108,10 @@ module _ (s r : Triples) (a : List ℕ) (l : List Mark) where
       same_room = λ o room. room;
     }
 
-    pub set-sent : AllSent (state s r a l) → AreAdded s s1 new p → AreRemoved s1 s2 old new p →
-        ((m : Mark) → has_mark l m ≡ true → has_mark l2 m ≡ true) → ((m : Mark) → has_mark new m ≡ true → has_mark l2 m ≡ true) → AllSent (state s2 r2 a l2)
-    unfolding sends
-    set-sent all more less kept active = λ m o e. ⊎_elim
-        (λ (before : has s m o ≡ true). kept m (all m o before))
-        (λ (there : has_mark new m ≡ true). active m there)
-        (pairs.set-less (has s2 m o) (has s1 m o) (has s m o) (has_mark new m) (has_mark old m) (o == p) (less m o) (more m o) e)
-
-  pub cleared : (s2 r2 : Triples) (bits : List ℕ) (p : ℕ) (old gone : List Mark) → AreOf s old p → AreOf r gone p → AreRemoved s s2 old [] p → AreRemoved r r2 gone [] p →
-      bit_in bits p ≡ 0 → ((k : ℕ) → k ≢ p → bit_in bits k ≡ bit_in a k) → length bits ≡ length a → IsCleared (state s r a l) (state s2 r2 bits l) p
+  pub cleared : (s2 r2 : Triples) (q2 : Bool) (c2 : Triples) (bits : List ℕ) (l2 : List Mark) (p : ℕ) (old gone : List Mark) → AreOf s old p → AreOf r gone p → AreRemoved s s2 old [] p → AreRemoved r r2 gone [] p →
+      bit_in bits p ≡ 0 → ((k : ℕ) → k ≢ p → bit_in bits k ≡ bit_in a k) → length bits ≡ length a → IsCleared (state s r q c a l) (state s2 r2 q2 c2 bits l2) p
   unfolding sends receives is_awake HasRoom
-  cleared s2 r2 bits p old gone own its less fewer here others long = record {
+  cleared s2 r2 q2 c2 bits l2 p old gone own its less fewer here others long = record {
     own_sends = λ m. pairs.gone-own (has s2 m p) (has s m p) (has_mark old m) (p == p) (less m p) (same-number p) (own m);
     own_receives = λ m. pairs.gone-own (has r2 m p) (has r m p) (has_mark gone m) (p == p) (fewer m p) (same-number p) (its m);
     own_awake = ap (λ n. n == 1) here;
@@ -134,24 +121,34 @@ module _ (s r : Triples) (a : List ℕ) (l : List Mark) where
     same_room = λ o room. let fits : o / 64 < length a = room in omega arith;
   }
 
-  pub cleared-sent : (s2 r2 : Triples) (bits : List ℕ) (p : ℕ) (old : List Mark) → AllSent (state s r a l) → AreRemoved s s2 old [] p → AllSent (state s2 r2 bits l)
-  unfolding sends
-  cleared-sent s2 r2 bits p old all less = λ m o e. all m o (pairs.gone-less (has s2 m o) (has s m o) ((has_mark old m && not false) && (o == p)) (less m o) e)
-
   pub next-receiver : (m : Mark) (from : ℕ) (just open_ones : Option ℕ) → IsFirst (has r m) from just → IsFirst (has r (wide m)) from open_ones →
-      IsNext (is_receiver (state s r a l) m) from (earlier just open_ones)
+      IsNext (is_receiver (state s r q c a l) m) from (earlier just open_ones)
   unfolding receives
   next-receiver m from just open_ones h g = pairs.first-next _ from (earlier just open_ones) (pairs.first-both (has r m) (has r (wide m)) from just open_ones h g)
 
-  pub next-starter : (from : ℕ) (one other : Option ℕ) → IsFirst (λ n. bit_in a n == 1) from one → IsFirst (λ p. list_any (λ (m : Mark). has s m p) l) from other →
-      IsNext (starts (state s r a l)) from (earlier one other)
-  unfolding sends is_awake starts
-  next-starter from one other h g = pairs.first-next _ from (earlier one other) (pairs.first-both (λ n. bit_in a n == 1) (λ p. list_any (λ (m : Mark). has s m p) l) from one other h g)
+  pub next-starter : (from : ℕ) (one other : Option ℕ) → IsFirst (λ n. bit_in a n == 1) from one →
+      IsFirst (λ p. list_any (λ (m : Mark). is_sender s c m p) l) from other → IsNext (starts (state s r q c a l)) from (earlier one other)
+  unfolding is_awake starts
+  next-starter from one other h g = pairs.first-next _ from (earlier one other) (pairs.first-both (λ n. bit_in a n == 1) (λ p. list_any (λ (m : Mark). is_sender s c m p) l) from one other h g)
 
-  pub awake-starts : (p : ℕ) → is_awake (state s r a l) p ≡ true → starts (state s r a l) p ≡ true
+  pub awake-starts : (p : ℕ) → is_awake (state s r q c a l) p ≡ true → starts (state s r q c a l) p ≡ true
   unfolding starts
-  awake-starts p e = ap (λ b. b || list_any (λ (m : Mark). sends (state s r a l) m p) l) e
+  awake-starts p e = ap (λ b. b || list_any (λ (m : Mark). is_sender s c m p) l) e
 
-  pub sent-starts : (m : Mark) (p : ℕ) → has_mark l m ≡ true → sends (state s r a l) m p ≡ true → starts (state s r a l) p ≡ true
-  unfolding sends starts
-  sent-starts m p active e = pairs.or-right (is_awake (state s r a l) p) (list_any (λ (k : Mark). has s k p) l) (pairs.any-marked s p l m active e)
+  sender-heard : IsTied (state s r q c a l) → (m k : Mark) (p o : ℕ) → has s m p ≡ true → has r k o ≡ true → meets k m ≡ true → is_sender s c k p ≡ true
+  sender-heard tied m k p o e f met = ⊎_elim
+      (λ (is_open : (k.head == open_head) ≡ true).
+      let head : k.head ≡ open_head = eqb-true k.head open_head is_open in
+      active.sender-open s c k p head ∙ ap (λ (mark : Mark). has c mark p) (active.open-meets k m head met) ∙ tied.counted (tied.opened k o f head) m p e)
+      (λ (closed : (k.head == open_head) ≡ false).
+      let apart : k.head ≡ open_head → ⊥ = λ head. active.not-both (k.head == open_head) (ap (λ n. n == open_head) head) closed in
+      active.sender-closed s c k p apart ∙ ap (λ (mark : Mark). has s mark p) (active.closed-meets k m apart met) ∙ e)
+      (active.bool-cases (k.head == open_head))
+
+  -- who sends what somebody receives is asked
+  pub heard-starts : IsTied (state s r q c a l) → (m : Mark) (p o : ℕ) → sends (state s r q c a l) m p ≡ true → is_receiver (state s r q c a l) m o ≡ true → starts (state s r q c a l) p ≡ true
+  unfolding sends receives starts
+  heard-starts tied m p o e f = pairs.or-right (is_awake (state s r q c a l) p) (list_any (λ (k : Mark). is_sender s c k p) l) (⊎_elim
+      (λ (just : has r m o ≡ true). pairs.any-marked (λ (k : Mark). is_sender s c k p) l m (tied.heard m m p o e just (active.meets-self m)) (sender-heard tied m m p o e just (active.meets-self m)))
+      (λ (open_one : has r (wide m) o ≡ true). pairs.any-marked (λ (k : Mark). is_sender s c k p) l (wide m) (tied.heard (wide m) m p o e open_one (active.meets-wide m)) (sender-heard tied m (wide m) p o e open_one (active.meets-wide m)))
+      (active.or-cases (has r m o) (has r (wide m) o) f))

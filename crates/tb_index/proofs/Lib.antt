@@ -1,4 +1,5 @@
 pub mod MarkLemmas
 mod PairLemmas
 mod BitLemmas
+mod ActiveLemmas
 mod IndexLemmas

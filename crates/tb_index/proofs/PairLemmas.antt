@@ -39,7 +39,7 @@ and-false : (b : Bool) → (b && false) ≡ false
 and-false true = refl
 and-false false = refl
 
-and-true : (b : Bool) → (b && true) ≡ b
+pub and-true : (b : Bool) → (b && true) ≡ b
 and-true true = refl
 and-true false = refl
 
@@ -200,34 +200,34 @@ any-take p zero (x ∷ xs) e = cc
 any-take p (suc n) [] e = e
 any-take p (suc n) (x ∷ xs) e = or-more (p x) (list_any p (take n xs)) (list_any p xs) (any-take p n xs) e
 
-both-left : (a b : Bool) → (a && b) ≡ true → a ≡ true
+pub both-left : (a b : Bool) → (a && b) ≡ true → a ≡ true
 both-left true b e = refl
 both-left false b e = e
 
-both-right : (a b : Bool) → (a && b) ≡ true → b ≡ true
+pub both-right : (a b : Bool) → (a && b) ≡ true → b ≡ true
 both-right true b e = e
 both-right false b e = absurd (let t : false ≡ true = e in cc)
 
-same-mark : (m k : Mark) → is_mark m k ≡ true → m ≡ k
+pub same-mark : (m k : Mark) → is_mark m k ≡ true → m ≡ k
 same-mark m k e =
     let counts : m.count ≡ k.count = eqb-true m.count k.count (both-left (m.count == k.count) (m.head == k.head) e) in
     let heads : m.head ≡ k.head = eqb-true m.head k.head (both-right (m.count == k.count) (m.head == k.head) e) in
     λ i. record { count = counts i; head = heads i }
 
-any-marked-by : (set : BTreeSet (ℕ × ℕ × ℕ)) (p : ℕ) (k : Mark) (l : List Mark) (m : Mark) → has set m p ≡ true → (b : Bool) → is_mark m k ≡ b →
-    (b || has_mark l m) ≡ true → (has_mark l m ≡ true → list_any (λ (k : Mark). has set k p) l ≡ true) → (has set k p || list_any (λ (k : Mark). has set k p) l) ≡ true
-any-marked-by set p k l m e true f t rest = or-left (has set k p) _ (ap (λ (other : Mark). has set other p) (sym (same-mark m k f)) ∙ e)
-any-marked-by set p k l m e false f t rest = or-right (has set k p) _ (rest t)
+any-marked-by : (holds : Mark → Bool) (k : Mark) (l : List Mark) (m : Mark) → holds m ≡ true → (b : Bool) → is_mark m k ≡ b →
+    (b || has_mark l m) ≡ true → (has_mark l m ≡ true → list_any holds l ≡ true) → (holds k || list_any holds l) ≡ true
+any-marked-by holds k l m e true f t rest = or-left (holds k) _ (ap holds (sym (same-mark m k f)) ∙ e)
+any-marked-by holds k l m e false f t rest = or-right (holds k) _ (rest t)
 
-pub any-marked : (set : BTreeSet (ℕ × ℕ × ℕ)) (p : ℕ) (l : List Mark) (m : Mark) → has_mark l m ≡ true → has set m p ≡ true → list_any (λ (k : Mark). has set k p) l ≡ true
-any-marked set p [] m t e = t
-any-marked set p (k ∷ l) m t e = any-marked-by set p k l m e (is_mark m k) refl t (λ more. any-marked set p l m more e)
+pub any-marked : (holds : Mark → Bool) (l : List Mark) (m : Mark) → has_mark l m ≡ true → holds m ≡ true → list_any holds l ≡ true
+any-marked holds [] m t e = t
+any-marked holds (k ∷ l) m t e = any-marked-by holds k l m e (is_mark m k) refl t (λ more. any-marked holds l m more e)
 
 -- the first of the marks up to one more
-pub first-more : (set : BTreeSet (ℕ × ℕ × ℕ)) (l : List Mark) (i : ℕ) (d : Mark) (from : ℕ) (one other : Option ℕ) → i < length l →
-    IsFirst (λ p. list_any (λ (k : Mark). has set k p) (take i l)) from one → IsFirst (has set (get_or l i d)) from other →
-    IsFirst (λ p. list_any (λ (k : Mark). has set k p) (take (i + 1) l)) from (earlier one other)
-first-more set l i d from one other less h g =
-    first-same (λ p. list_any (λ (k : Mark). has set k p) (take i l) || has set (get_or l i d) p) (λ p. list_any (λ (k : Mark). has set k p) (take (i + 1) l)) from (earlier one other)
-    (λ p. list_any_more (λ (k : Mark). has set k p) l i d less)
-    (first-both (λ p. list_any (λ (k : Mark). has set k p) (take i l)) (has set (get_or l i d)) from one other h g)
+pub first-more : (holds : Mark → ℕ → Bool) (l : List Mark) (i : ℕ) (d : Mark) (from : ℕ) (one other : Option ℕ) → i < length l →
+    IsFirst (λ p. list_any (λ (k : Mark). holds k p) (take i l)) from one → IsFirst (holds (get_or l i d)) from other →
+    IsFirst (λ p. list_any (λ (k : Mark). holds k p) (take (i + 1) l)) from (earlier one other)
+first-more holds l i d from one other less h g =
+    first-same (λ p. list_any (λ (k : Mark). holds k p) (take i l) || holds (get_or l i d) p) (λ p. list_any (λ (k : Mark). holds k p) (take (i + 1) l)) from (earlier one other)
+    (λ p. list_any_more (λ (k : Mark). holds k p) l i d less)
+    (first-both (λ p. list_any (λ (k : Mark). holds k p) (take i l)) (holds (get_or l i d)) from one other h g)

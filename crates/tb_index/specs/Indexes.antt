@@ -4,13 +4,15 @@ use Rattle.std.specs.List.{list_any}
 use Rattle.std.specs.BTreeSet.{BTreeSet}
 use Rattle.tb_index.specs.declared.mark.Mark.{Mark}
 use Rattle.tb_index.specs.Marks.{has_mark, wide}
-use Rattle.tb_index.specs.Pairs.{has}
+use Rattle.tb_index.specs.Pairs.{has, is_sender, AllOpened, AreCountedIf, AreHeard}
 use Rattle.tb_index.specs.Bits.{bit_in}
 
--- under an active mark somebody sends and somebody receives; there may be more of them
+-- what is active are marks under which somebody receives what somebody sends; there may be more of them
 pub record IndexState : Type 0 where
   pub sending : BTreeSet (ℕ × ℕ × ℕ)
   pub receiving : BTreeSet (ℕ × ℕ × ℕ)
+  pub opened : Bool
+  pub counted : BTreeSet (ℕ × ℕ × ℕ)
   pub awake : List ℕ
   pub active : List Mark
 
@@ -29,9 +31,9 @@ is_receiver index mark proc = receives index mark proc || receives index (wide m
 unfoldable pub is_awake : IndexState → ℕ → Bool
 is_awake index proc = bit_in index.awake proc == 1
 
--- whether it is to be asked: it is awake, or sends under an active mark
+-- whether it is to be asked: it is awake, or sends what is received under an active mark
 unfoldable pub starts : IndexState → ℕ → Bool
-starts index proc = is_awake index proc || list_any (λ mark. sends index mark proc) index.active
+starts index proc = is_awake index proc || list_any (λ mark. is_sender index.sending index.counted mark proc) index.active
 
 -- there is memory to let the process be awake
 unfoldable pub HasRoom : IndexState → ℕ → Type 0
@@ -77,6 +79,8 @@ pub record IsTurned (old new : IndexState) (proc : ℕ) (awake : Bool) : Type 0 
   pub other_awake : (other : ℕ) → other ≢ proc → is_awake new other ≡ is_awake old other
   pub same_room : (other : ℕ) → HasRoom old other → HasRoom new other
 
--- each mark under which somebody sends is active
-abbrev pub AllSent : IndexState → Type 0
-AllSent index = (mark : Mark) (proc : ℕ) → sends index mark proc ≡ true → has_mark index.active mark ≡ true
+-- of every index
+pub record IsTied (index : IndexState) : Type 0 where
+  pub opened : AllOpened index.opened index.receiving
+  pub counted : AreCountedIf index.opened index.sending index.counted
+  pub heard : AreHeard index.sending index.receiving index.active

@@ -1,13 +1,15 @@
-ghost use Rattle.std.specs.List.{list_any};
-ghost use Rattle.std.specs.Prelude.{◌≡◌, ◌&&◌, ◌||◌, ◌==◌, ℕ, true, false, not, take, OnOk, OnErr};
+ghost use Rattle.std.specs.Prelude.{◌≡◌, ℕ, true, false, OnOk, OnErr};
 ghost use Rattle.tb_index.specs.declared.mark.Mark.{Mark as TheMark};
 ghost use Rattle.tb_index.specs.Marks.{has_mark};
-ghost use Rattle.tb_index.specs.Pairs.{has, AreOf, AreAdded, AreRemoved, SamePairs, IsFirst, IsNext};
+ghost use Rattle.tb_index.specs.Pairs.{IsNext};
 ghost use Rattle.tb_index.specs.Indexes.{sends, receives, is_receiver, is_awake, starts, HasRoom, IsEmpty, SameIndex, IsSet, IsCleared, IsTurned};
 
+use crate::active::{next_sender, quiet_received, quiet_sent};
 use crate::bits::Bits;
-use crate::mark::{Mark, Marks, has_mark, wide};
-use crate::pairs::{Pairs, earlier};
+use crate::coming::come;
+use crate::counts::{Counts, open_up, uncount};
+use crate::mark::{Mark, Marks, are_same, wide};
+use crate::pairs::{Pairs, earlier, remove_both};
 use std::alloc::Global;
 use std::marker::Model;
 use tb_terms::NoMemory;
@@ -17,25 +19,30 @@ use tb_terms::NoMemory;
 pub struct Index {
     sending: Pairs,
     receiving: Pairs,
+    counts: Counts,
     awake: Bits,
     active: Vec<Mark>,
 }
 
 impl Model for Index {
-    ghost use Rattle.tb_index.specs.Indexes.{IndexState, AllSent};
+    ghost use Rattle.tb_index.specs.Indexes.{IndexState, IsTied};
 
     ghost Value = { IndexState };
 
     ghost view = { λ index. record {
       sending = index.sending.set;
       receiving = index.receiving.set;
+      opened = index.counts.opened;
+      counted = index.counts.pairs.set;
       awake = index.awake;
       active = index.active.items;
     } };
 
-    ghost invariant = { λ index. AllSent (record {
+    ghost invariant = { λ index. IsTied (record {
       sending = index.sending.set;
       receiving = index.receiving.set;
+      opened = index.counts.opened;
+      counted = index.counts.pairs.set;
       awake = index.awake;
       active = index.active.items;
     }) };
@@ -49,6 +56,10 @@ impl Index {
         Index {
             sending: Pairs::new(alloc),
             receiving: Pairs::new(alloc),
+            counts: Counts {
+                opened: false,
+                pairs: Pairs::new(alloc),
+            },
             awake: Bits::new(alloc),
             active: Vec::new(alloc),
         }
@@ -69,18 +80,45 @@ impl Index {
         ensures ok { OnOk result (IsSet self.old self.new proc new.now.sends.items new.now.receives.items) }
         ensures err { OnErr result (SameIndex self.old self.new) }
     {
-        match add_both(&mut self.sending, &mut self.receiving, proc, old, new) {
+        if are_unchanged(old, new) {
+            return Ok(());
+        }
+        match open_up(&mut self.counts, &self.sending, new.receives.as_slice()) {
             Ok(()) => {}
             Err(error) => return Err(error),
         }
-        match activate(&mut self.active, new.sends.as_slice()) {
+        match come(
+            &mut self.sending,
+            &mut self.receiving,
+            &mut self.counts,
+            &mut self.active,
+            proc,
+            old,
+            new,
+        ) {
             Ok(()) => {}
-            Err(error) => {
-                remove_both(&mut self.sending, &mut self.receiving, proc, new, old);
-                return Err(error);
-            }
+            Err(error) => return Err(error),
         }
         remove_both(&mut self.sending, &mut self.receiving, proc, old, new);
+        uncount(
+            &mut self.counts,
+            old.sends.as_slice(),
+            new.sends.as_slice(),
+            proc,
+        );
+        quiet_sent(
+            &mut self.active,
+            &self.sending,
+            &self.counts,
+            old.sends.as_slice(),
+            new.sends.as_slice(),
+        );
+        quiet_received(
+            &mut self.active,
+            &self.receiving,
+            old.receives.as_slice(),
+            new.receives.as_slice(),
+        );
         Ok(())
     }
 
@@ -93,6 +131,20 @@ impl Index {
         self.sending.remove_but(old.sends.as_slice(), &[], proc);
         self.receiving
             .remove_but(old.receives.as_slice(), &[], proc);
+        uncount(&mut self.counts, old.sends.as_slice(), &[], proc);
+        quiet_sent(
+            &mut self.active,
+            &self.sending,
+            &self.counts,
+            old.sends.as_slice(),
+            &[],
+        );
+        quiet_received(
+            &mut self.active,
+            &self.receiving,
+            old.receives.as_slice(),
+            &[],
+        );
         self.awake.remove(proc as usize);
     }
 
@@ -129,73 +181,23 @@ impl Index {
             → is_receiver self.now mark other ≡ true → starts self.now proc ≡ true }
     {
         let awake = self.awake.next_number(from);
-        let sender = next_sender(&self.sending, self.active.as_slice(), from);
+        let sender = next_sender(
+            &self.sending,
+            &self.counts.pairs,
+            self.active.as_slice(),
+            from,
+        );
         earlier(awake, sender)
     }
 }
 
-/// A process has the new marks beside the old ones. After want of memory all is as before.
-fn add_both(
-    sending: &mut Pairs,
-    receiving: &mut Pairs,
-    proc: u32,
-    old: &Marks,
-    new: &Marks,
-) -> Result<(), NoMemory>
-    requires sends { AreOf sending.old.set old.now.sends.items proc }
-    requires receives { AreOf receiving.old.set old.now.receives.items proc }
-    ensures sends { OnOk result (AreAdded sending.old.set sending.new.set new.now.sends.items proc) }
-    ensures receives { OnOk result (AreAdded receiving.old.set receiving.new.set new.now.receives.items proc) }
-    ensures same_sends { OnErr result (SamePairs sending.old.set sending.new.set) }
-    ensures same_receives { OnErr result (SamePairs receiving.old.set receiving.new.set) }
+fn are_unchanged(old: &Marks, new: &Marks) -> bool
+    ensures sends { result ≡ true → old.now.sends.items ≡ new.now.sends.items }
+    ensures receives { result ≡ true → old.now.receives.items ≡ new.now.receives.items }
 {
-    sending.add_but(new.sends.as_slice(), old.sends.as_slice(), proc)?;
-    match receiving.add_but(new.receives.as_slice(), old.receives.as_slice(), proc) {
-        Ok(()) => Ok(()),
-        Err(error) => {
-            sending.remove_but(new.sends.as_slice(), old.sends.as_slice(), proc);
-            Err(error)
-        }
+    if are_same(old.sends.as_slice(), new.sends.as_slice()) {
+        are_same(old.receives.as_slice(), new.receives.as_slice())
+    } else {
+        false
     }
-}
-
-/// A process no longer has those of these marks that aren't among `but`.
-fn remove_both(sending: &mut Pairs, receiving: &mut Pairs, proc: u32, marks: &Marks, but: &Marks)
-    ensures sends { AreRemoved sending.old.set sending.new.set marks.now.sends.items but.now.sends.items proc }
-    ensures receives { AreRemoved receiving.old.set receiving.new.set marks.now.receives.items but.now.receives.items proc }
-{
-    sending.remove_but(marks.sends.as_slice(), but.sends.as_slice(), proc);
-    receiving.remove_but(marks.receives.as_slice(), but.receives.as_slice(), proc);
-}
-
-/// The first process at or behind one that sends under one of the marks.
-fn next_sender(sending: &Pairs, marks: &[Mark], from: u32) -> Option<u32>
-    ensures { IsFirst (λ proc. list_any (λ mark. has sending.now.set mark proc) marks.now) from result }
-{
-    let mut found = None;
-    for mark in marks {
-        found = earlier(found, sending.next(*mark, from));
-    }
-    found
-}
-
-/// These marks are among the active ones.
-fn activate(active: &mut Vec<Mark>, marks: &[Mark]) -> Result<(), NoMemory>
-    ensures kept { (mark : TheMark) → has_mark active.old.items mark ≡ true → has_mark active.new.items mark ≡ true }
-    ensures all { OnOk result ((mark : TheMark) → has_mark marks.now mark ≡ true → has_mark active.new.items mark ≡ true) }
-{
-    for mark in marks {
-        activate_one(active, *mark)?;
-    }
-    Ok(())
-}
-
-fn activate_one(active: &mut Vec<Mark>, mark: Mark) -> Result<(), NoMemory>
-    ensures kept { (other : TheMark) → has_mark active.old.items other ≡ true → has_mark active.new.items other ≡ true }
-    ensures here { OnOk result (has_mark active.new.items mark ≡ true) }
-{
-    if !has_mark(active.as_slice(), mark) {
-        active.push(mark)?;
-    }
-    Ok(())
 }

@@ -2,7 +2,10 @@
 //! begin a move, and who may be its partner, without asking all.
 #![tactic(auto)]
 
+mod active;
 mod bits;
+mod coming;
+mod counts;
 mod index;
 mod mark;
 mod pairs;

@@ -1,11 +1,11 @@
-ghost use Rattle.std.specs.Prelude.{◌≡◌, ℕ, length, fold, take};
+ghost use Rattle.std.specs.Prelude.{◌≡◌, ℕ, true, length, fold, take};
 ghost use Rattle.std.specs.Int.{w64, cast_unsigned};
-ghost use Rattle.tb_index.specs.Marks.{mixed, number_head, name_head, term_head, pattern_head, first_term_head, first_pattern_head, sent_mark, received_mark, wide, has_mark};
+ghost use Rattle.tb_index.specs.Marks.{mixed, number_head, name_head, term_head, pattern_head, first_term_head, first_pattern_head, sent_mark, received_mark, wide, is_mark, has_mark, has_count, has_open};
 
 use tb_terms::{Name, Pattern, Patterns, Term, Terms};
 
 /// The head of a first pattern that is open, and of nothing.
-const OPEN_HEAD: u64 = 0;
+pub(crate) const OPEN_HEAD: u64 = 0;
 
 const TEXT_HEAD: u64 = 1;
 
@@ -129,4 +129,49 @@ pub(crate) fn has_mark(marks: &[Mark], mark: Mark) -> bool
         }
     }
     false
+}
+
+/// Whether one of the marks is of as many.
+pub(crate) fn has_count(marks: &[Mark], count: usize) -> bool
+    ensures { result ≡ has_count marks.now count }
+{
+    for other in marks {
+        if count == other.count {
+            return true;
+        }
+    }
+    false
+}
+
+/// Whether one of the marks is open.
+pub(crate) fn has_open(marks: &[Mark]) -> bool
+    ensures { result ≡ has_open marks.now }
+{
+    for other in marks {
+        if other.head == OPEN_HEAD {
+            return true;
+        }
+    }
+    false
+}
+
+/// Whether two lists of marks are the same.
+pub(crate) fn are_same(one: &[Mark], other: &[Mark]) -> bool
+    ensures { result ≡ true → one.now ≡ other.now }
+{
+    if one.len() != other.len() {
+        return false;
+    }
+    for place in 0..one.len() {
+        if !is_same(one[place], other[place]) {
+            return false;
+        }
+    }
+    true
+}
+
+fn is_same(one: Mark, other: Mark) -> bool
+    ensures { result ≡ is_mark one other }
+{
+    one.count == other.count && one.head == other.head
 }

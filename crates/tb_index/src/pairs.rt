@@ -3,7 +3,7 @@ ghost use Rattle.tb_index.specs.declared.mark.Mark.{Mark as TheMark};
 ghost use Rattle.tb_index.specs.Marks.{has_mark};
 ghost use Rattle.tb_index.specs.Pairs.{has, is_pair, AreOf, AreAdded, AreRemoved, SamePairs, IsFirst, earlier};
 
-use crate::mark::{Mark, has_mark};
+use crate::mark::{Mark, Marks, has_mark};
 use std::alloc::Global;
 use std::collections::BTreeSet;
 use tb_terms::NoMemory;
@@ -23,7 +23,7 @@ impl Pairs {
         }
     }
 
-    fn add(&mut self, mark: Mark, proc: u32) -> Result<(), NoMemory>
+    pub(crate) fn add(&mut self, mark: Mark, proc: u32) -> Result<(), NoMemory>
         ensures added { OnOk result ((other : TheMark) (its : ℕ)
             → has self.new.set other its ≡ has self.old.set other its || is_pair mark proc other its) }
         ensures err { OnErr result (SamePairs self.old.set self.new.set) }
@@ -32,7 +32,7 @@ impl Pairs {
         Ok(())
     }
 
-    fn remove(&mut self, mark: Mark, proc: u32)
+    pub(crate) fn remove(&mut self, mark: Mark, proc: u32)
         ensures { (other : TheMark) (its : ℕ)
             → has self.new.set other its ≡ has self.old.set other its && not (is_pair mark proc other its) }
     {
@@ -52,6 +52,16 @@ impl Pairs {
                 }
             }
             None => None,
+        }
+    }
+
+    /// Whether nobody has the mark.
+    pub(crate) fn has_nobody(&self, mark: Mark) -> bool
+        ensures { result ≡ true → (its : ℕ) → has self.now.set mark its ≡ false }
+    {
+        match self.next(mark, 0) {
+            Some(_) => false,
+            None => true,
         }
     }
 
@@ -118,4 +128,44 @@ pub(crate) fn earlier(one: Option<u32>, other: Option<u32>) -> Option<u32>
         (Some(a), None) => Some(a),
         (None, b) => b,
     }
+}
+
+/// A process has the new marks beside the old ones. After want of memory all is as before.
+pub(crate) fn add_both(
+    sending: &mut Pairs,
+    receiving: &mut Pairs,
+    proc: u32,
+    old: &Marks,
+    new: &Marks,
+) -> Result<(), NoMemory>
+    requires sends { AreOf sending.old.set old.now.sends.items proc }
+    requires receives { AreOf receiving.old.set old.now.receives.items proc }
+    ensures sends { OnOk result (AreAdded sending.old.set sending.new.set new.now.sends.items proc) }
+    ensures receives { OnOk result (AreAdded receiving.old.set receiving.new.set new.now.receives.items proc) }
+    ensures same_sends { OnErr result (SamePairs sending.old.set sending.new.set) }
+    ensures same_receives { OnErr result (SamePairs receiving.old.set receiving.new.set) }
+{
+    sending.add_but(new.sends.as_slice(), old.sends.as_slice(), proc)?;
+    match receiving.add_but(new.receives.as_slice(), old.receives.as_slice(), proc) {
+        Ok(()) => Ok(()),
+        Err(error) => {
+            sending.remove_but(new.sends.as_slice(), old.sends.as_slice(), proc);
+            Err(error)
+        }
+    }
+}
+
+/// A process no longer has those of these marks that aren't among `but`.
+pub(crate) fn remove_both(
+    sending: &mut Pairs,
+    receiving: &mut Pairs,
+    proc: u32,
+    marks: &Marks,
+    but: &Marks,
+)
+    ensures sends { AreRemoved sending.old.set sending.new.set marks.now.sends.items but.now.sends.items proc }
+    ensures receives { AreRemoved receiving.old.set receiving.new.set marks.now.receives.items but.now.receives.items proc }
+{
+    sending.remove_but(marks.sends.as_slice(), but.sends.as_slice(), proc);
+    receiving.remove_but(marks.receives.as_slice(), but.receives.as_slice(), proc);
 }

@@ -1,8 +1,0 @@
-use Rattle.std.proofs.Common.{take}
-use Rattle.std.specs.List.{list_any}
-use Rattle.tb_index.specs.declared.mark.Mark.{Mark}
-use Rattle.tb_index.specs.Pairs.{has, IsFirst}
-use Rattle.tb_index.proofs.index.next_sender.Given as goal
-
-abbrev pub invariant-loop-mark : goal.invariant-loop-mark
-invariant-loop-mark l = IsFirst (λ proc. list_any (λ (mark : Mark). has l.sending.set mark proc) (take l.mark-index l.marks)) l.from l.found

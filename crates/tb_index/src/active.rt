@@ -1,0 +1,279 @@
+ghost use Rattle.std.specs.Prelude.{◌≡◌, ℕ, true, false, [], ◌∷◌, OnOk};
+ghost use Rattle.std.specs.List.{list_any};
+ghost use Rattle.tb_index.specs.declared.mark.Mark.{Mark as TheMark};
+ghost use Rattle.tb_index.specs.Marks.{has_mark, is_mark, meets, open_head};
+ghost use Rattle.tb_index.specs.Pairs.{has, AreCountedIf, AreOpened, AllOpened, SentAreHeard, ReceivedAreHeard, SentAreKept, ReceivedAreKept, AreKept, IsFirst, is_sender};
+
+use crate::counts::Counts;
+use crate::mark::{Mark, Marks, OPEN_HEAD, has_mark, wide};
+use crate::pairs::{Pairs, earlier};
+use tb_terms::NoMemory;
+
+/// What a process now sends and receives under the new marks makes these active, where somebody
+/// receives it or sends it.
+pub(crate) fn activate(
+    active: &mut Vec<Mark>,
+    sending: &Pairs,
+    receiving: &Pairs,
+    counts: &Counts,
+    old: &Marks,
+    new: &Marks,
+) -> Result<(), NoMemory>
+    requires told { AllOpened counts.now.opened receiving.now.set }
+    requires counted { AreCountedIf counts.now.opened sending.now.set counts.now.pairs.set }
+    requires opened { AreOpened counts.now.opened new.now.receives.items }
+    ensures kept { AreKept active.old.items active.new.items }
+    ensures sends { OnOk result (SentAreHeard new.now.sends.items old.now.sends.items receiving.now.set active.new.items) }
+    ensures receives { OnOk result (ReceivedAreHeard new.now.receives.items old.now.receives.items sending.now.set active.new.items) }
+{
+    match activate_sent(
+        active,
+        receiving,
+        counts.opened,
+        new.sends.as_slice(),
+        old.sends.as_slice(),
+    ) {
+        Ok(()) => {}
+        Err(error) => return Err(error),
+    }
+    activate_received(
+        active,
+        sending,
+        counts,
+        new.receives.as_slice(),
+        old.receives.as_slice(),
+    )?;
+    Ok(())
+}
+
+fn activate_sent(
+    active: &mut Vec<Mark>,
+    receiving: &Pairs,
+    opened: bool,
+    marks: &[Mark],
+    but: &[Mark],
+) -> Result<(), NoMemory>
+    requires { AllOpened opened receiving.now.set }
+    ensures kept { AreKept active.old.items active.new.items }
+    ensures all { OnOk result (SentAreHeard marks.now but.now receiving.now.set active.new.items) }
+{
+    for mark in marks {
+        activate_one_sent(active, receiving, opened, *mark, but)?;
+    }
+    Ok(())
+}
+
+fn activate_one_sent(
+    active: &mut Vec<Mark>,
+    receiving: &Pairs,
+    opened: bool,
+    mark: Mark,
+    but: &[Mark],
+) -> Result<(), NoMemory>
+    requires { AllOpened opened receiving.now.set }
+    ensures kept { AreKept active.old.items active.new.items }
+    ensures all { OnOk result (SentAreHeard (mark ∷ []) but.now receiving.now.set active.new.items) }
+{
+    if has_mark(but, mark) {
+        return Ok(());
+    }
+    match activate_where(active, receiving, mark) {
+        Ok(()) => {}
+        Err(error) => return Err(error),
+    }
+    if !opened {
+        return Ok(());
+    }
+    match activate_where(active, receiving, wide(mark)) {
+        Ok(()) => Ok(()),
+        Err(error) => Err(error),
+    }
+}
+
+fn activate_received(
+    active: &mut Vec<Mark>,
+    sending: &Pairs,
+    counts: &Counts,
+    marks: &[Mark],
+    but: &[Mark],
+) -> Result<(), NoMemory>
+    requires counted { AreCountedIf counts.now.opened sending.now.set counts.now.pairs.set }
+    requires opened { AreOpened counts.now.opened marks.now }
+    ensures kept { AreKept active.old.items active.new.items }
+    ensures all { OnOk result (ReceivedAreHeard marks.now but.now sending.now.set active.new.items) }
+{
+    for mark in marks {
+        activate_one_received(active, sending, counts, *mark, but)?;
+    }
+    Ok(())
+}
+
+fn activate_one_received(
+    active: &mut Vec<Mark>,
+    sending: &Pairs,
+    counts: &Counts,
+    mark: Mark,
+    but: &[Mark],
+) -> Result<(), NoMemory>
+    requires counted { AreCountedIf counts.now.opened sending.now.set counts.now.pairs.set }
+    requires opened { mark.head ≡ open_head → counts.now.opened ≡ true }
+    ensures kept { AreKept active.old.items active.new.items }
+    ensures all { OnOk result (ReceivedAreHeard (mark ∷ []) but.now sending.now.set active.new.items) }
+{
+    if has_mark(but, mark) {
+        return Ok(());
+    }
+    if mark.head == OPEN_HEAD {
+        activate_where(active, &counts.pairs, mark)?;
+        return Ok(());
+    }
+    activate_where(active, sending, mark)?;
+    Ok(())
+}
+
+/// The mark is active where somebody has it.
+fn activate_where(active: &mut Vec<Mark>, pairs: &Pairs, mark: Mark) -> Result<(), NoMemory>
+    ensures kept { AreKept active.old.items active.new.items }
+    ensures here { OnOk result ((its : ℕ) → has pairs.now.set mark its ≡ true
+        → has_mark active.new.items mark ≡ true) }
+{
+    if has_mark(active.as_slice(), mark) {
+        return Ok(());
+    }
+    if pairs.has_nobody(mark) {
+        return Ok(());
+    }
+    active.push(mark)?;
+    Ok(())
+}
+
+/// What is received under one of these marks but for the others is no longer active, where nobody
+/// sends it any more.
+pub(crate) fn quiet_sent(
+    active: &mut Vec<Mark>,
+    sending: &Pairs,
+    counts: &Counts,
+    marks: &[Mark],
+    but: &[Mark],
+)
+    requires { AreCountedIf counts.now.opened sending.now.set counts.now.pairs.set }
+    ensures { SentAreKept active.old.items active.new.items sending.now.set }
+{
+    for mark in marks {
+        quiet_one_sent(active, sending, counts, *mark, but);
+    }
+}
+
+fn quiet_one_sent(
+    active: &mut Vec<Mark>,
+    sending: &Pairs,
+    counts: &Counts,
+    mark: Mark,
+    but: &[Mark],
+)
+    requires { AreCountedIf counts.now.opened sending.now.set counts.now.pairs.set }
+    ensures { SentAreKept active.old.items active.new.items sending.now.set }
+{
+    if !has_mark(but, mark) {
+        quiet_unsent(active, sending, counts, mark);
+        quiet_unsent(active, sending, counts, wide(mark));
+    }
+}
+
+fn quiet_unsent(active: &mut Vec<Mark>, sending: &Pairs, counts: &Counts, mark: Mark)
+    requires { AreCountedIf counts.now.opened sending.now.set counts.now.pairs.set }
+    ensures { SentAreKept active.old.items active.new.items sending.now.set }
+{
+    if has_mark(active.as_slice(), mark) {
+        if is_unsent(sending, counts, mark) {
+            drop_mark(active, mark);
+        }
+    }
+}
+
+/// Whether nobody sends what is received under the mark.
+fn is_unsent(sending: &Pairs, counts: &Counts, mark: Mark) -> bool
+    requires { AreCountedIf counts.now.opened sending.now.set counts.now.pairs.set }
+    ensures { result ≡ true → (sent : TheMark) (proc : ℕ) → has sending.now.set sent proc ≡ true → meets mark sent ≡ false }
+{
+    if mark.head != OPEN_HEAD {
+        return sending.has_nobody(mark);
+    }
+    if counts.opened {
+        counts.pairs.has_nobody(mark)
+    } else {
+        false
+    }
+}
+
+/// These marks but for the others are no longer active, where nobody receives under them any more.
+pub(crate) fn quiet_received(
+    active: &mut Vec<Mark>,
+    receiving: &Pairs,
+    marks: &[Mark],
+    but: &[Mark],
+)
+    ensures { ReceivedAreKept active.old.items active.new.items receiving.now.set }
+{
+    for mark in marks {
+        quiet_one_received(active, receiving, *mark, but);
+    }
+}
+
+fn quiet_one_received(active: &mut Vec<Mark>, receiving: &Pairs, mark: Mark, but: &[Mark])
+    ensures { ReceivedAreKept active.old.items active.new.items receiving.now.set }
+{
+    if !has_mark(but, mark) {
+        quiet_unreceived(active, receiving, mark);
+    }
+}
+
+fn quiet_unreceived(active: &mut Vec<Mark>, receiving: &Pairs, mark: Mark)
+    ensures { ReceivedAreKept active.old.items active.new.items receiving.now.set }
+{
+    if has_mark(active.as_slice(), mark) {
+        if receiving.has_nobody(mark) {
+            drop_mark(active, mark);
+        }
+    }
+}
+
+/// All but this mark are kept.
+fn drop_mark(active: &mut Vec<Mark>, mark: Mark)
+    ensures { (other : TheMark) → is_mark other mark ≡ false → has_mark active.old.items other ≡ true
+        → has_mark active.new.items other ≡ true }
+{
+    for place in 0..active.len() {
+        let there = active[place];
+        if there.count == mark.count && there.head == mark.head {
+            active.remove(place);
+            return;
+        }
+    }
+}
+
+/// The first process at or behind one that sends what is received under one of the marks.
+pub(crate) fn next_sender(
+    sending: &Pairs,
+    counted: &Pairs,
+    marks: &[Mark],
+    from: u32,
+) -> Option<u32>
+    ensures { IsFirst (λ proc. list_any (λ mark. is_sender sending.now.set counted.now.set mark proc) marks.now) from result }
+{
+    let mut found = None;
+    for mark in marks {
+        found = earlier(found, next_of_mark(sending, counted, *mark, from));
+    }
+    found
+}
+
+fn next_of_mark(sending: &Pairs, counted: &Pairs, mark: Mark, from: u32) -> Option<u32>
+    ensures { IsFirst (is_sender sending.now.set counted.now.set mark) from result }
+{
+    if mark.head == OPEN_HEAD {
+        counted.next(mark, from)
+    } else {
+        sending.next(mark, from)
+    }
+}

@@ -1,0 +1,49 @@
+ghost use Rattle.std.specs.Prelude.{◌≡◌, OnOk, OnErr};
+ghost use Rattle.tb_index.specs.Pairs.{AreOf, AreAdded, AreCountedIf, AreOpened, AllOpened, AreHeard, SamePairs};
+
+use crate::active::activate;
+use crate::counts::{Counts, count};
+use crate::mark::{Mark, Marks};
+use crate::pairs::{Pairs, add_both, remove_both};
+use tb_terms::NoMemory;
+
+/// A process has the new marks beside the old ones. After want of memory its marks are as before.
+pub(crate) fn come(
+    sending: &mut Pairs,
+    receiving: &mut Pairs,
+    counts: &mut Counts,
+    active: &mut Vec<Mark>,
+    proc: u32,
+    old: &Marks,
+    new: &Marks,
+) -> Result<(), NoMemory>
+    requires sends { AreOf sending.old.set old.now.sends.items proc }
+    requires receives { AreOf receiving.old.set old.now.receives.items proc }
+    requires counted { AreCountedIf counts.old.opened sending.old.set counts.old.pairs.set }
+    requires told { AllOpened counts.old.opened receiving.old.set }
+    requires opened { AreOpened counts.old.opened new.now.receives.items }
+    requires heard { AreHeard sending.old.set receiving.old.set active.old.items }
+    ensures sends { OnOk result (AreAdded sending.old.set sending.new.set new.now.sends.items proc) }
+    ensures receives { OnOk result (AreAdded receiving.old.set receiving.new.set new.now.receives.items proc) }
+    ensures same_sends { OnErr result (SamePairs sending.old.set sending.new.set) }
+    ensures same_receives { OnErr result (SamePairs receiving.old.set receiving.new.set) }
+    ensures counted { AreCountedIf counts.new.opened sending.new.set counts.new.pairs.set }
+    ensures opened { counts.new.opened ≡ counts.old.opened }
+    ensures heard { AreHeard sending.new.set receiving.new.set active.new.items }
+{
+    match count(counts, new.sends.as_slice(), old.sends.as_slice(), proc) {
+        Ok(()) => {}
+        Err(error) => return Err(error),
+    }
+    match add_both(sending, receiving, proc, old, new) {
+        Ok(()) => {}
+        Err(error) => return Err(error),
+    }
+    match activate(active, sending, receiving, counts, old, new) {
+        Ok(()) => Ok(()),
+        Err(error) => {
+            remove_both(sending, receiving, proc, new, old);
+            Err(error)
+        }
+    }
+}
