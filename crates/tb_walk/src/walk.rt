@@ -4,12 +4,11 @@ use crate::look::{empty, look_row};
 use crate::settle::{Step, go_on};
 use crate::sight::copy_sights;
 use crate::taking::{take_unseen, taken_by};
+use crate::values::sent_terms;
 use crate::{Branch, Row, Sight};
 use std::alloc::Global;
 use std::mem::swap;
-use tb_algebra::{
-    Offer, Walker, accepted_binds, matched_patterns, sent_values, set_binds, store_of,
-};
+use tb_algebra::{Offer, Walker, accepted_binds, matched_patterns, set_binds, store_of};
 use tb_body::Body;
 use tb_code::{Code, compile};
 use tb_func::Store;
@@ -115,7 +114,7 @@ impl Walker for Walk {
         match self.found.get(k) {
             Some(found) => {
                 let store = store_of(&self.store, &found.own);
-                Ok(sent_values(alloc, store, plan.atom(found.atom))?)
+                Ok(sent_terms(alloc, store, plan.atom(found.atom))?)
             }
             None => Ok(None),
         }
