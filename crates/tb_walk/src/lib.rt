@@ -5,6 +5,7 @@ mod branch;
 mod laws;
 mod look;
 mod number;
+mod patterns;
 mod settle;
 mod sight;
 mod take;

@@ -24,7 +24,8 @@ pub(crate) fn number(expr: &Expr, store: &Store) -> Option<i64>
     }
 }
 
-fn variable(slot: u32, store: &Store) -> Option<i64>
+/// The number that a variable is.
+pub(crate) fn variable(slot: u32, store: &Store) -> Option<i64>
     ensures { IfSome result (λ number. value_at store.now slot ≡ Some (term.Int number)) }
 {
     match store.get(slot) {

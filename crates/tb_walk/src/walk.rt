@@ -1,6 +1,7 @@
 ghost use Rattle.std.specs.Prelude.{◌≡◌, length};
 
 use crate::look::{empty, look_row};
+use crate::patterns::patterns_by;
 use crate::settle::{Step, go_on};
 use crate::sight::copy_sights;
 use crate::taking::{take_unseen, taken_by};
@@ -8,7 +9,7 @@ use crate::values::sent_terms;
 use crate::{Branch, Row, Sight};
 use std::alloc::Global;
 use std::mem::swap;
-use tb_algebra::{Offer, Walker, accepted_binds, matched_patterns, set_binds, store_of};
+use tb_algebra::{Offer, Walker, accepted_binds, set_binds, store_of};
 use tb_body::Body;
 use tb_code::{Code, compile};
 use tb_func::Store;
@@ -124,7 +125,7 @@ impl Walker for Walk {
         match self.found.get(k) {
             Some(found) => {
                 let store = store_of(&self.store, &found.own);
-                Ok(matched_patterns(alloc, store, plan.atom(found.atom))?)
+                Ok(patterns_by(alloc, store, plan.atom(found.atom))?)
             }
             None => Ok(None),
         }
