@@ -6,7 +6,6 @@ use Rattle.tb_terms.specs.declared.expr.Expr.{Expr}
 use Rattle.tb_terms.specs.declared.expr.Func.{Func}
 use Rattle.tb_terms.specs.declared.expr.Func.TheVariants.{Equal, NotEqual, Not, And, Or, Add, Sub, Mul, Div, Mod, Less, LessEqual, Greater, GreaterEqual, Size, First, Next, Join, Member, Index, Msec, Sec, Min, Hour}
 use Rattle.tb_terms.specs.Sizes.{size_step, levels_step, is_within_limits}
-use Rattle.tb_terms.specs.Sorts.{is_word}
 use Rattle.tb_terms.proofs.Induction.{fold-Int, fold-Appl}
 use Rattle.tb_func.specs.declared.slot.Slot.{Slot}
 use Rattle.tb_func.specs.Apply.{apply_of, two_given}

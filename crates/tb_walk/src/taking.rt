@@ -1,5 +1,6 @@
-ghost use Rattle.std.specs.Prelude.{◌≡◌, ◌<◌, length, slice_get, Some, IfOk};
+ghost use Rattle.std.specs.Prelude.{◌≡◌, ◌<◌, length, slice_get, Some, IfOk, IsTrue};
 ghost use Rattle.std.specs.Option.{ForSome, option_copied};
+ghost use Rattle.tb_algebra.specs.Binds.{takes_binds, with_binds};
 ghost use Rattle.tb_algebra.specs.Processes.{fresh};
 ghost use Rattle.tb_algebra.specs.Walks.{offers_of};
 ghost use Rattle.tb_walk.specs.Helpers.Takings.{IsInRow, IsTakenBy};
@@ -11,8 +12,10 @@ use crate::take::step_by;
 use crate::walk::Taken;
 use crate::{Branch, Sight, Walk};
 use std::alloc::Global;
-use tb_algebra::copy_own;
+use tb_algebra::{copy_own, set_binds};
 use tb_code::Code;
+use tb_func::Store;
+use tb_match::Binds;
 use tb_terms::{Items, NoMemory};
 
 /// Takes the offer at this position where nobody has looked since something happened.
@@ -54,5 +57,15 @@ pub(crate) fn taken_by(
             step: Step::Part(Items::new(alloc)),
             own: None,
         }),
+    }
+}
+
+/// Sets the binds one after another. Most steps have none.
+pub(crate) fn set_all(store: &mut Store, binds: Binds)
+    requires { IsTrue (takes_binds store.old binds) }
+    ensures { store.new ≡ with_binds store.old binds }
+{
+    if !binds.is_empty() {
+        set_binds(store, binds);
     }
 }

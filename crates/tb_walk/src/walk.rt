@@ -4,12 +4,12 @@ use crate::look::{empty, look_row};
 use crate::patterns::patterns_by;
 use crate::settle::{Step, go_on};
 use crate::sight::copy_sights;
-use crate::taking::{take_unseen, taken_by};
+use crate::taking::{set_all, take_unseen, taken_by};
 use crate::values::sent_terms;
 use crate::{Branch, Row, Sight};
 use std::alloc::Global;
 use std::mem::swap;
-use tb_algebra::{Offer, Walker, accepted_binds, set_binds, store_of};
+use tb_algebra::{Offer, Walker, accepted_binds, store_of};
 use tb_body::Body;
 use tb_code::{Code, compile};
 use tb_func::Store;
@@ -167,7 +167,7 @@ impl Walker for Walk {
             Some(store) => self.store = store,
             None => {}
         }
-        set_binds(&mut self.store, binds);
+        set_all(&mut self.store, binds);
         go_on(&mut self.row, step);
         self.fresh = false;
     }
