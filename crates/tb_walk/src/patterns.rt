@@ -12,8 +12,8 @@ use tb_body::{Act, Atom};
 use tb_func::{Store, pattern};
 use tb_terms::{Expr, Items, NoMemory, Pattern, Patterns, Term};
 
-/// The patterns of an act, as `matched_patterns` has them. Those of a message have a path of their own,
-/// on which a number costs little.
+/// The patterns of an act, as `matched_patterns` has them. Those of messages and notes have a
+/// path of their own, on which a number costs little.
 pub(crate) fn patterns_by(
     alloc: Global,
     store: &Store,
@@ -24,6 +24,7 @@ pub(crate) fn patterns_by(
     match atom {
         Some(one) => match &one.act {
             Act::RecMsg(exprs) => Ok(message(alloc, store, exprs.as_slice())?),
+            Act::RecNote(exprs) => Ok(message(alloc, store, exprs.as_slice())?),
             _ => Ok(matched_patterns(alloc, store, atom)?),
         },
         None => Ok(matched_patterns(alloc, store, atom)?),

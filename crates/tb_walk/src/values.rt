@@ -23,8 +23,8 @@ pub(crate) fn says(alloc: Global, store: &Store, test: &Expr) -> Result<Option<b
     }
 }
 
-/// The values that the act sends or looks at, as `sent_values` has them. Those of a message have a path
-/// of their own, on which a number costs little.
+/// The values that the act sends or looks at, as `sent_values` has them. Those of messages and notes have
+/// a path of their own, on which a number costs little.
 pub(crate) fn sent_terms(
     alloc: Global,
     store: &Store,
@@ -35,6 +35,7 @@ pub(crate) fn sent_terms(
     match atom {
         Some(one) => match &one.act {
             Act::SndMsg(exprs) => Ok(message(alloc, store, exprs.as_slice())?),
+            Act::SndNote(exprs) => Ok(message(alloc, store, exprs.as_slice())?),
             _ => Ok(sent_values(alloc, store, atom)?),
         },
         None => Ok(sent_values(alloc, store, atom)?),
