@@ -9,4 +9,5 @@ pub mod LookLemmas
 pub mod PickLemmas
 pub mod WalkLemmas
 pub mod SettleLemmas
+pub mod NumberLemmas
 pub mod SendLemmas

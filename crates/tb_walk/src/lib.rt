@@ -4,10 +4,13 @@
 mod branch;
 mod laws;
 mod look;
+mod number;
+mod patterns;
 mod settle;
 mod sight;
 mod take;
 mod taking;
+mod values;
 mod walk;
 
 pub use branch::{Branch, Row};

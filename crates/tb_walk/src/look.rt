@@ -6,9 +6,10 @@ ghost use Rattle.tb_code.specs.Positions.{size, part, IsTwo, IsOne};
 ghost use Rattle.tb_walk.specs.Helpers.Sights.{Sighting, sighted, sightings, looking, row_sightings};
 ghost use Rattle.tb_walk.specs.Helpers.Takings.{AreThere};
 
+use crate::values::says;
 use crate::{Branch, Sight};
 use std::alloc::Global;
-use tb_algebra::{copy_own, is_ready, store_of, tested, with_settings};
+use tb_algebra::{copy_own, is_ready, store_of, with_settings};
 use tb_body::Settings;
 use tb_code::{Code, Op};
 use tb_func::Store;
@@ -109,7 +110,7 @@ fn look_side(
         ≡ map (sighted base.now) found.old
         ++ sightings (looking code.now.body.atoms clock.now) at (part (fresh code.now.body.tree) at) (or_own own.now base.now)) }
 {
-    match tested(alloc, store_of(base, own), test)? {
+    match says(alloc, store_of(base, own), test)? {
         Some(true) => look_at(alloc, code, code.first(at), clock, base, own, found),
         Some(false) => look_at(alloc, code, right, clock, base, own, found),
         None => Ok(()),
@@ -134,7 +135,7 @@ fn look_if_true(
         ≡ map (sighted base.now) found.old
         ++ sightings (looking code.now.body.atoms clock.now) at (part (fresh code.now.body.tree) at) (or_own own.now base.now)) }
 {
-    match tested(alloc, store_of(base, own), test)? {
+    match says(alloc, store_of(base, own), test)? {
         Some(true) => look_at(alloc, code, code.first(at), clock, base, own, found),
         Some(false) => Ok(()),
         None => Ok(()),
@@ -215,7 +216,12 @@ fn is_atom_ready(
     ensures { IfOk result (λ ready. ready ≡ is_ready store.now age now (times_of code.now.body.atoms atom)) }
 {
     match code.atom(atom) {
-        Some(atom) => Ok(is_ready(alloc, store, age, now, &atom.times)?),
+        Some(atom) => {
+            if atom.times.is_empty() {
+                return Ok(true);
+            }
+            Ok(is_ready(alloc, store, age, now, &atom.times)?)
+        }
         None => Ok(true),
     }
 }

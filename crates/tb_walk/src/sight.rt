@@ -13,8 +13,8 @@ pub struct Sight {
     pub branch: usize,
     /// Where it stands in the code.
     pub position: usize,
-    pub atom: u32,
     pub age: u64,
+    pub atom: u32,
     pub ready: bool,
     pub own: Option<Store>,
 }

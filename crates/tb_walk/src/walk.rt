@@ -1,15 +1,15 @@
 ghost use Rattle.std.specs.Prelude.{◌≡◌, length};
 
 use crate::look::{empty, look_row};
+use crate::patterns::patterns_by;
 use crate::settle::{Step, go_on};
 use crate::sight::copy_sights;
-use crate::taking::{take_unseen, taken_by};
+use crate::taking::{set_all, take_unseen, taken_by};
+use crate::values::sent_terms;
 use crate::{Branch, Row, Sight};
 use std::alloc::Global;
 use std::mem::swap;
-use tb_algebra::{
-    Offer, Walker, accepted_binds, matched_patterns, sent_values, set_binds, store_of,
-};
+use tb_algebra::{Offer, Walker, accepted_binds, store_of};
 use tb_body::Body;
 use tb_code::{Code, compile};
 use tb_func::Store;
@@ -115,7 +115,7 @@ impl Walker for Walk {
         match self.found.get(k) {
             Some(found) => {
                 let store = store_of(&self.store, &found.own);
-                Ok(sent_values(alloc, store, plan.atom(found.atom))?)
+                Ok(sent_terms(alloc, store, plan.atom(found.atom))?)
             }
             None => Ok(None),
         }
@@ -125,7 +125,7 @@ impl Walker for Walk {
         match self.found.get(k) {
             Some(found) => {
                 let store = store_of(&self.store, &found.own);
-                Ok(matched_patterns(alloc, store, plan.atom(found.atom))?)
+                Ok(patterns_by(alloc, store, plan.atom(found.atom))?)
             }
             None => Ok(None),
         }
@@ -167,7 +167,7 @@ impl Walker for Walk {
             Some(store) => self.store = store,
             None => {}
         }
-        set_binds(&mut self.store, binds);
+        set_all(&mut self.store, binds);
         go_on(&mut self.row, step);
         self.fresh = false;
     }

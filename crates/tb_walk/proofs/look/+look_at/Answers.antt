@@ -34,36 +34,36 @@ look_at-returns-in_ok-look_at-in-Alt t c =
 
 pub look_side-returns-in-Some-true : goal.look_side-returns-in-Some-true
 look_side-returns-in-Some-true t c =
-    let says : ◌≡◌ {A = Option Bool} (tested (or_own c.args.own.now c.args.base.now) c.args.test.now) (Some true) = ap (λ (s : List Slot). tested s c.args.test.now) (sym c.store_of.ensures) ∙ sym c.in_ok-tested.ensures ∙ c.in-Some-true.is ∙ ap Some c.in-Some-true.field-0-test in
-    let e = look_true (fresh c.args.code.now.body.tree) c.args.at c.first.result c.first.ensures (looking c.args.code.now.body.atoms c.args.clock.now) c.args.test.now c.args.right (or_own c.args.own.now c.args.base.now) c.requires says in
+    let it_says : ◌≡◌ {A = Option Bool} (tested (or_own c.args.own.now c.args.base.now) c.args.test.now) (Some true) = ap (λ (s : List Slot). tested s c.args.test.now) (sym c.store_of.ensures) ∙ sym c.in_ok-says.ensures ∙ c.in-Some-true.is ∙ ap Some c.in-Some-true.field-0-test in
+    let e = look_true (fresh c.args.code.now.body.tree) c.args.at c.first.result c.first.ensures (looking c.args.code.now.body.atoms c.args.clock.now) c.args.test.now c.args.right (or_own c.args.own.now c.args.base.now) c.requires it_says in
     subst (λ (l : List Sighting). OnOk c.look_at.result (map (sighted c.args.base.now) c.look_at.new.found ≡ map (sighted c.args.base.now) c.args.found.now ++ l)) (sym (e)) c.look_at.ensures
 
 pub look_side-returns-in-Some-false : goal.look_side-returns-in-Some-false
 look_side-returns-in-Some-false t c =
-    let says : ◌≡◌ {A = Option Bool} (tested (or_own c.args.own.now c.args.base.now) c.args.test.now) (Some false) = ap (λ (s : List Slot). tested s c.args.test.now) (sym c.store_of.ensures) ∙ sym c.in_ok-tested.ensures ∙ c.in-Some-false.is ∙ ap Some c.in-Some-false.field-0-test in
-    let e = look_false (fresh c.args.code.now.body.tree) c.args.at (suc c.args.at) refl (looking c.args.code.now.body.atoms c.args.clock.now) c.args.test.now c.args.right (or_own c.args.own.now c.args.base.now) c.requires says in
+    let it_says : ◌≡◌ {A = Option Bool} (tested (or_own c.args.own.now c.args.base.now) c.args.test.now) (Some false) = ap (λ (s : List Slot). tested s c.args.test.now) (sym c.store_of.ensures) ∙ sym c.in_ok-says.ensures ∙ c.in-Some-false.is ∙ ap Some c.in-Some-false.field-0-test in
+    let e = look_false (fresh c.args.code.now.body.tree) c.args.at (suc c.args.at) refl (looking c.args.code.now.body.atoms c.args.clock.now) c.args.test.now c.args.right (or_own c.args.own.now c.args.base.now) c.requires it_says in
     subst (λ (l : List Sighting). OnOk c.look_at-in-Some-false.result (map (sighted c.args.base.now) c.look_at-in-Some-false.new.found ≡ map (sighted c.args.base.now) c.args.found.now ++ l)) (sym (e)) c.look_at-in-Some-false.ensures
 
 pub look_side-returns-in-None : goal.look_side-returns-in-None
 look_side-returns-in-None t c =
-    let says : ◌≡◌ {A = Option Bool} (tested (or_own c.args.own.now c.args.base.now) c.args.test.now) (None) = ap (λ (s : List Slot). tested s c.args.test.now) (sym c.store_of.ensures) ∙ sym c.in_ok-tested.ensures ∙ c.in-None.is in
-    nothing_more (map (sighted c.args.base.now) c.args.found.now) _ (look_untold (fresh c.args.code.now.body.tree) c.args.at (suc c.args.at) refl (looking c.args.code.now.body.atoms c.args.clock.now) c.args.test.now c.args.right (or_own c.args.own.now c.args.base.now) c.requires says)
+    let it_says : ◌≡◌ {A = Option Bool} (tested (or_own c.args.own.now c.args.base.now) c.args.test.now) (None) = ap (λ (s : List Slot). tested s c.args.test.now) (sym c.store_of.ensures) ∙ sym c.in_ok-says.ensures ∙ c.in-None.is in
+    nothing_more (map (sighted c.args.base.now) c.args.found.now) _ (look_untold (fresh c.args.code.now.body.tree) c.args.at (suc c.args.at) refl (looking c.args.code.now.body.atoms c.args.clock.now) c.args.test.now c.args.right (or_own c.args.own.now c.args.base.now) c.requires it_says)
 
 pub look_if_true-returns-in-Some-true : goal.look_if_true-returns-in-Some-true
 look_if_true-returns-in-Some-true t c =
-    let says : ◌≡◌ {A = Option Bool} (tested (or_own c.args.own.now c.args.base.now) c.args.test.now) (Some true) = ap (λ (s : List Slot). tested s c.args.test.now) (sym c.store_of.ensures) ∙ sym c.in_ok-tested.ensures ∙ c.in-Some-true.is ∙ ap Some c.in-Some-true.field-0-test in
-    let e = look_when (fresh c.args.code.now.body.tree) c.args.at c.first.result c.first.ensures (looking c.args.code.now.body.atoms c.args.clock.now) c.args.test.now (or_own c.args.own.now c.args.base.now) c.requires says in
+    let it_says : ◌≡◌ {A = Option Bool} (tested (or_own c.args.own.now c.args.base.now) c.args.test.now) (Some true) = ap (λ (s : List Slot). tested s c.args.test.now) (sym c.store_of.ensures) ∙ sym c.in_ok-says.ensures ∙ c.in-Some-true.is ∙ ap Some c.in-Some-true.field-0-test in
+    let e = look_when (fresh c.args.code.now.body.tree) c.args.at c.first.result c.first.ensures (looking c.args.code.now.body.atoms c.args.clock.now) c.args.test.now (or_own c.args.own.now c.args.base.now) c.requires it_says in
     subst (λ (l : List Sighting). OnOk c.look_at.result (map (sighted c.args.base.now) c.look_at.new.found ≡ map (sighted c.args.base.now) c.args.found.now ++ l)) (sym (e)) c.look_at.ensures
 
 pub look_if_true-returns-in-Some-false : goal.look_if_true-returns-in-Some-false
 look_if_true-returns-in-Some-false t c =
-    let says : ◌≡◌ {A = Option Bool} (tested (or_own c.args.own.now c.args.base.now) c.args.test.now) (Some false) = ap (λ (s : List Slot). tested s c.args.test.now) (sym c.store_of.ensures) ∙ sym c.in_ok-tested.ensures ∙ c.in-Some-false.is ∙ ap Some c.in-Some-false.field-0-test in
-    nothing_more (map (sighted c.args.base.now) c.args.found.now) _ (look_unless (fresh c.args.code.now.body.tree) c.args.at (suc c.args.at) refl (looking c.args.code.now.body.atoms c.args.clock.now) c.args.test.now (or_own c.args.own.now c.args.base.now) c.requires says)
+    let it_says : ◌≡◌ {A = Option Bool} (tested (or_own c.args.own.now c.args.base.now) c.args.test.now) (Some false) = ap (λ (s : List Slot). tested s c.args.test.now) (sym c.store_of.ensures) ∙ sym c.in_ok-says.ensures ∙ c.in-Some-false.is ∙ ap Some c.in-Some-false.field-0-test in
+    nothing_more (map (sighted c.args.base.now) c.args.found.now) _ (look_unless (fresh c.args.code.now.body.tree) c.args.at (suc c.args.at) refl (looking c.args.code.now.body.atoms c.args.clock.now) c.args.test.now (or_own c.args.own.now c.args.base.now) c.requires it_says)
 
 pub look_if_true-returns-in-None : goal.look_if_true-returns-in-None
 look_if_true-returns-in-None t c =
-    let says : ◌≡◌ {A = Option Bool} (tested (or_own c.args.own.now c.args.base.now) c.args.test.now) (None) = ap (λ (s : List Slot). tested s c.args.test.now) (sym c.store_of.ensures) ∙ sym c.in_ok-tested.ensures ∙ c.in-None.is in
-    nothing_more (map (sighted c.args.base.now) c.args.found.now) _ (look_unsaid (fresh c.args.code.now.body.tree) c.args.at (suc c.args.at) refl (looking c.args.code.now.body.atoms c.args.clock.now) c.args.test.now (or_own c.args.own.now c.args.base.now) c.requires says)
+    let it_says : ◌≡◌ {A = Option Bool} (tested (or_own c.args.own.now c.args.base.now) c.args.test.now) (None) = ap (λ (s : List Slot). tested s c.args.test.now) (sym c.store_of.ensures) ∙ sym c.in_ok-says.ensures ∙ c.in-None.is in
+    nothing_more (map (sighted c.args.base.now) c.args.found.now) _ (look_unsaid (fresh c.args.code.now.body.tree) c.args.at (suc c.args.at) refl (looking c.args.code.now.body.atoms c.args.clock.now) c.args.test.now (or_own c.args.own.now c.args.base.now) c.requires it_says)
 
 pub look_with-returns-in-Some : goal.look_with-returns-in-Some
 look_with-returns-in-Some t c =

@@ -8,13 +8,13 @@ use Rattle.tb_algebra.specs.Helpers.OfferViews.{or_own}
 use Rattle.tb_walk.proofs.WalkLemmas.{by_found, is_found}
 use Rattle.tb_walk.proofs.walk.WalkWalker.patterns.Goals as goal
 
-pub returns-in_ok-matched_patterns-in-Some : goal.returns-in_ok-matched_patterns-in-Some
-returns-in_ok-matched_patterns-in-Some c =
+pub returns-in_ok-patterns_by-in-Some : goal.returns-in_ok-patterns_by-in-Some
+returns-in_ok-patterns_by-in-Some c =
     let atoms = c.args.plan.now.body.atoms in
     let found = c.in-Some.found.now in
-    let given : Option (List Pattern) = c.in_ok-matched_patterns-in-Some.field-0 in
+    let given : Option (List Pattern) = c.in_ok-patterns_by-in-Some.field-0 in
     let is = sym c.get.ensures.value ∙ ap option_copied c.in-Some.is in
-    let value : given ≡ patterns_of c.store_of-store.result.now (matched_exprs (act_in (option_copied c.atom.result))) = c.in_ok-matched_patterns-in-Some.ensures in
+    let value : given ≡ patterns_of c.store_of-store.result.now (matched_exprs (act_in (option_copied c.atom.result))) = c.in_ok-patterns_by-in-Some.ensures in
     value
     ∙ ap (λ (s : List Slot). patterns_of s (matched_exprs (act_in (option_copied c.atom.result)))) c.store_of-store.ensures
     ∙ ap (λ (a : Option Atom). patterns_of (or_own found.own c.args.self.now.store) (matched_exprs (act_in a))) c.atom.ensures

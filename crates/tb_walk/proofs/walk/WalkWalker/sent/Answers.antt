@@ -8,13 +8,13 @@ use Rattle.tb_algebra.specs.Helpers.OfferViews.{or_own}
 use Rattle.tb_walk.proofs.WalkLemmas.{by_found, is_found}
 use Rattle.tb_walk.proofs.walk.WalkWalker.sent.Goals as goal
 
-pub returns-in_ok-sent_values-in-Some : goal.returns-in_ok-sent_values-in-Some
-returns-in_ok-sent_values-in-Some c =
+pub returns-in_ok-sent_terms-in-Some : goal.returns-in_ok-sent_terms-in-Some
+returns-in_ok-sent_terms-in-Some c =
     let atoms = c.args.plan.now.body.atoms in
     let found = c.in-Some.found.now in
-    let given : Option (List Term) = c.in_ok-sent_values-in-Some.field-0 in
+    let given : Option (List Term) = c.in_ok-sent_terms-in-Some.field-0 in
     let is = sym c.get.ensures.value ∙ ap option_copied c.in-Some.is in
-    let value : given ≡ values_together c.store_of-store.result.now (sent_exprs (act_in (option_copied c.atom.result))) = c.in_ok-sent_values-in-Some.ensures in
+    let value : given ≡ values_together c.store_of-store.result.now (sent_exprs (act_in (option_copied c.atom.result))) = c.in_ok-sent_terms-in-Some.ensures in
     value
     ∙ ap (λ (s : List Slot). values_together s (sent_exprs (act_in (option_copied c.atom.result)))) c.store_of-store.ensures
     ∙ ap (λ (a : Option Atom). values_together (or_own found.own c.args.self.now.store) (sent_exprs (act_in a))) c.atom.ensures

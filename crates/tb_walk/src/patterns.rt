@@ -1,0 +1,94 @@
+ghost use Rattle.std.specs.Prelude.{◌≡◌, ◌∷◌, [], ◌++◌, Some, None, IfOk, OnOk, option_map, if◌then◌else◌};
+ghost use Rattle.std.specs.Option.{option_copied};
+ghost use Rattle.tb_terms.specs.declared.pattern.Pattern.TheVariants as pattern;
+ghost use Rattle.tb_terms.specs.declared.term.Term.TheVariants as term;
+ghost use Rattle.tb_func.specs.Patterns.{pattern_of};
+ghost use Rattle.tb_algebra.specs.Atoms.{act_in, matched_exprs, patterns_of};
+
+use crate::number::variable;
+use std::alloc::Global;
+use tb_algebra::matched_patterns;
+use tb_body::{Act, Atom};
+use tb_func::{Store, pattern};
+use tb_terms::{Expr, Items, NoMemory, Pattern, Patterns, Term};
+
+/// The patterns of an act, as `matched_patterns` has them. Those of messages and notes have a
+/// path of their own, on which a number costs little.
+pub(crate) fn patterns_by(
+    alloc: Global,
+    store: &Store,
+    atom: Option<&Atom>,
+) -> Result<Option<Patterns>, NoMemory>
+    ensures { IfOk result (λ patterns. patterns ≡ patterns_of store.now (matched_exprs (act_in (option_copied atom.entry)))) }
+{
+    match atom {
+        Some(one) => match &one.act {
+            Act::RecMsg(exprs) => Ok(message(alloc, store, exprs.as_slice())?),
+            Act::RecNote(exprs) => Ok(message(alloc, store, exprs.as_slice())?),
+            _ => Ok(matched_patterns(alloc, store, atom)?),
+        },
+        None => Ok(matched_patterns(alloc, store, atom)?),
+    }
+}
+
+fn message(alloc: Global, store: &Store, exprs: &[Expr]) -> Result<Option<Patterns>, NoMemory>
+    ensures { IfOk result (λ patterns. patterns ≡ patterns_of store.now exprs.now) }
+{
+    let mut patterns = Items::from_vec(Vec::with_capacity(alloc, exprs.len())?);
+    for expr in exprs {
+        if !push_pattern(alloc, store, expr, &mut patterns)? {
+            return Ok(None);
+        }
+    }
+    Ok(Some(patterns))
+}
+
+/// Adds the pattern of an expression, and says whether there is one.
+fn push_pattern(
+    alloc: Global,
+    store: &Store,
+    expr: &Expr,
+    patterns: &mut Patterns,
+) -> Result<bool, NoMemory>
+    ensures { IfOk result (λ is_there. option_map (λ one. patterns.old ++ one ∷ []) (pattern_of store.now expr.now) ≡ (if is_there then Some patterns.new else None)) }
+{
+    match expr {
+        Expr::Int(number) => {
+            push_number(*number, patterns)?;
+            Ok(true)
+        }
+        Expr::Var(slot) => match variable(*slot, store) {
+            Some(number) => {
+                push_number(number, patterns)?;
+                Ok(true)
+            }
+            None => push_other(alloc, store, expr, patterns),
+        },
+        _ => push_other(alloc, store, expr, patterns),
+    }
+}
+
+fn push_number(number: i64, patterns: &mut Patterns) -> Result<(), NoMemory>
+    ensures { OnOk result (patterns.new ≡ patterns.old ++ pattern.Fixed (term.Int number) ∷ []) }
+{
+    patterns.push(Pattern::Fixed(Term::Int(number)))?;
+    Ok(())
+}
+
+#[inline(never)]
+fn push_other(
+    alloc: Global,
+    store: &Store,
+    expr: &Expr,
+    patterns: &mut Patterns,
+) -> Result<bool, NoMemory>
+    ensures { IfOk result (λ is_there. option_map (λ one. patterns.old ++ one ∷ []) (pattern_of store.now expr.now) ≡ (if is_there then Some patterns.new else None)) }
+{
+    match pattern(alloc, expr, store)? {
+        Some(one) => {
+            patterns.push(one)?;
+            Ok(true)
+        }
+        None => Ok(false),
+    }
+}

@@ -1,0 +1,130 @@
+ghost use Rattle.std.specs.Prelude.{◌≡◌, ◌∷◌, [], ◌++◌, Some, None, IfOk, min, map, sum, option_map, if◌then◌else◌};
+ghost use Rattle.std.specs.Option.{option_copied};
+ghost use Rattle.std.below.core.specs.declared.int.usize.TheConstants.{MAX};
+ghost use Rattle.tb_terms.specs.Sizes.{term_size};
+ghost use Rattle.tb_func.specs.Values.{all_of, value_of};
+ghost use Rattle.tb_algebra.specs.Atoms.{act_in, limited_together, sent_exprs, values_together};
+ghost use Rattle.tb_algebra.specs.Settings.{tested};
+
+use crate::number::{comparison, number};
+use std::alloc::Global;
+use tb_algebra::{sent_values, tested};
+use tb_body::{Act, Atom};
+use tb_func::{Store, eval};
+use tb_terms::{Expr, Items, MOST_TERM_SIZE, NoMemory, Term, Terms, size};
+
+/// What the test says now. Numbers are compared without a term.
+pub(crate) fn says(alloc: Global, store: &Store, test: &Expr) -> Result<Option<bool>, NoMemory>
+    ensures { IfOk result (λ says. says ≡ tested store.now test.now) }
+{
+    match comparison(test, store) {
+        Some(is_true) => Ok(Some(is_true)),
+        None => Ok(tested(alloc, store, test)?),
+    }
+}
+
+/// The values that the act sends or looks at, as `sent_values` has them. Those of messages and notes have
+/// a path of their own, on which a number costs little.
+pub(crate) fn sent_terms(
+    alloc: Global,
+    store: &Store,
+    atom: Option<&Atom>,
+) -> Result<Option<Terms>, NoMemory>
+    ensures { IfOk result (λ terms. terms ≡ values_together store.now (sent_exprs (act_in (option_copied atom.entry)))) }
+{
+    match atom {
+        Some(one) => match &one.act {
+            Act::SndMsg(exprs) => Ok(message(alloc, store, exprs.as_slice())?),
+            Act::SndNote(exprs) => Ok(message(alloc, store, exprs.as_slice())?),
+            _ => Ok(sent_values(alloc, store, atom)?),
+        },
+        None => Ok(sent_values(alloc, store, atom)?),
+    }
+}
+
+fn message(alloc: Global, store: &Store, exprs: &[Expr]) -> Result<Option<Terms>, NoMemory>
+    ensures { IfOk result (λ terms. terms ≡ values_together store.now exprs.now) }
+{
+    match values(alloc, store, exprs)? {
+        Some(terms) => Ok(limited_together(terms)),
+        None => Ok(None),
+    }
+}
+
+fn values(alloc: Global, store: &Store, exprs: &[Expr]) -> Result<Option<Terms>, NoMemory>
+    ensures { IfOk result (λ terms. terms ≡ all_of (map (value_of store.now) exprs.now)) }
+{
+    let mut terms = Items::from_vec(Vec::with_capacity(alloc, exprs.len())?);
+    for expr in exprs {
+        if !push_value(alloc, store, expr, &mut terms)? {
+            return Ok(None);
+        }
+    }
+    Ok(Some(terms))
+}
+
+/// Adds the value of an expression, and says whether there is one.
+fn push_value(
+    alloc: Global,
+    store: &Store,
+    expr: &Expr,
+    terms: &mut Terms,
+) -> Result<bool, NoMemory>
+    ensures { IfOk result (λ is_there. option_map (λ value. terms.old ++ value ∷ []) (value_of store.now expr.now) ≡ (if is_there then Some terms.new else None)) }
+{
+    match number(expr, store) {
+        Some(number) => {
+            terms.push(Term::Int(number))?;
+            Ok(true)
+        }
+        None => push_other(alloc, store, expr, terms),
+    }
+}
+
+#[inline(never)]
+fn push_other(
+    alloc: Global,
+    store: &Store,
+    expr: &Expr,
+    terms: &mut Terms,
+) -> Result<bool, NoMemory>
+    ensures { IfOk result (λ is_there. option_map (λ value. terms.old ++ value ∷ []) (value_of store.now expr.now) ≡ (if is_there then Some terms.new else None)) }
+{
+    match eval(alloc, expr, store)? {
+        Some(value) => {
+            terms.push(value)?;
+            Ok(true)
+        }
+        None => Ok(false),
+    }
+}
+
+/// The terms, where they are together no larger than a term may be.
+fn limited_together(terms: Terms) -> Option<Terms>
+    ensures { result ≡ limited_together terms }
+{
+    if total_size(terms.as_slice()) <= MOST_TERM_SIZE {
+        Some(terms)
+    } else {
+        None
+    }
+}
+
+fn total_size(terms: &[Term]) -> usize
+    ensures { result ≡ min (sum (map term_size terms.now)) MAX }
+{
+    let mut total: usize = 0;
+    for term in terms {
+        total = total.saturating_add(weight(term));
+    }
+    total
+}
+
+fn weight(term: &Term) -> usize
+    ensures { result ≡ min (term_size term.now) MAX }
+{
+    match term {
+        Term::Int(_) => 1,
+        _ => size(term),
+    }
+}
