@@ -1,5 +1,5 @@
 -- What an index is after a change of its parts.
-use Rattle.std.proofs.Common.{◌≡◌, ◌≢◌, ℕ, ◌<◌, ◌≤◌, ◌/◌, ◌+◌, Bool, true, false, not, ◌&&◌, ◌||◌, ◌==◌, List, [], ◌∷◌, length, take, Option, Some, None, refl, ap, sym, ◌∙◌, arith, rules, ◌⊎◌, inl, inr, ⊎_elim, get_or, Result, OnOk}
+use Rattle.std.proofs.Common.{◌≡◌, ◌≢◌, ℕ, ◌<◌, ◌≤◌, ◌/◌, ◌+◌, Bool, true, false, not, ◌&&◌, ◌||◌, ◌==◌, List, [], ◌∷◌, length, take, Option, Some, None, refl, ap, sym, ◌∙◌, arith, rules, ◌⊎◌, inl, inr, ⊎_elim, get_or, Result, Ok, Err, OnOk, OnErr}
 use Rattle.std.proofs.lemmas.Bool.{eqb-true}
 use Rattle.std.proofs.lemmas.Bool.Decides.{nat_tests}
 use Rattle.std.proofs.lemmas.List.Folds.{list_any_more}
@@ -17,6 +17,10 @@ use Rattle.tb_index.proofs.PairLemmas as pairs
 
 abbrev pub state : Triples → Triples → Bool → Triples → List ℕ → List Mark → IndexState
 state sending receiving opened counted awake active = record { sending = sending; receiving = receiving; opened = opened; counted = counted; awake = awake; active = active }
+
+pub on-err : {X E : Type 0} {P : Type 0} (result : Result X E) → P → OnErr result P
+on-err (Ok value) p = tt
+on-err (Err error) p = p
 
 pub undone-pairs : (s s1 s2 : Triples) (p : ℕ) (old new : List Mark) → AreOf s old p → AreAdded s s1 new p → AreRemoved s1 s2 new old p → SamePairs s s2
 undone-pairs s s1 s2 p old new own more less = λ m o. pairs.undone (has s2 m o) (has s1 m o) (has s m o) (has_mark new m) (has_mark new m) (has_mark old m) (o == p)

@@ -25,9 +25,6 @@ between a b p c d q m low high = (grind (arith, nat_tests), grind (arith, nat_te
 pub from : (a b p q : ℕ) → p ≤ q → is_gt (triple_cmp (a, b, p) (a, b, q)) ≡ false
 from a b p q l = grind (arith, nat_tests)
 
-pub upto : (a b p q : ℕ) → is_gt (triple_cmp (a, b, p) (a, b, q)) ≡ false → p ≤ q
-upto a b p q l = grind (arith, nat_tests)
-
 -- what an update says of one process
 pub added-by : (now old at pair : Bool) → now ≡ cond at true old → at ≡ pair → now ≡ (old || pair)
 added-by now true true pair e f = e

@@ -23,8 +23,10 @@ pub(crate) fn activate(
     requires counted { AreCountedIf counts.now.opened sending.now.set counts.now.pairs.set }
     requires opened { AreOpened counts.now.opened new.now.receives.items }
     ensures kept { AreKept active.old.items active.new.items }
-    ensures sends { OnOk result (SentAreHeard new.now.sends.items old.now.sends.items receiving.now.set active.new.items) }
-    ensures receives { OnOk result (ReceivedAreHeard new.now.receives.items old.now.receives.items sending.now.set active.new.items) }
+    ensures sends { OnOk result (SentAreHeard
+        new.now.sends.items old.now.sends.items receiving.now.set active.new.items) }
+    ensures receives { OnOk result (ReceivedAreHeard
+        new.now.receives.items old.now.receives.items sending.now.set active.new.items) }
 {
     match activate_sent(
         active,
@@ -194,7 +196,8 @@ fn quiet_unsent(active: &mut Vec<Mark>, sending: &Pairs, counts: &Counts, mark: 
 /// Whether nobody sends what is received under the mark.
 fn is_unsent(sending: &Pairs, counts: &Counts, mark: Mark) -> bool
     requires { AreCountedIf counts.now.opened sending.now.set counts.now.pairs.set }
-    ensures { result ≡ true → (sent : TheMark) (proc : ℕ) → has sending.now.set sent proc ≡ true → meets mark sent ≡ false }
+    ensures { result ≡ true → (sent : TheMark) (proc : ℕ)
+        → has sending.now.set sent proc ≡ true → meets mark sent ≡ false }
 {
     if mark.head != OPEN_HEAD {
         return sending.has_nobody(mark);
@@ -259,7 +262,8 @@ pub(crate) fn next_sender(
     marks: &[Mark],
     from: u32,
 ) -> Option<u32>
-    ensures { IsFirst (λ proc. list_any (λ mark. is_sender sending.now.set counted.now.set mark proc) marks.now) from result }
+    ensures { IsFirst
+        (λ proc. list_any (λ mark. is_sender sending.now.set counted.now.set mark proc) marks.now) from result }
 {
     let mut found = None;
     for mark in marks {

@@ -101,7 +101,8 @@ fn set_bit(words: &mut Vec<u64>, n: usize)
     ensures here { bit_in words.new.items n ≡ 1 }
     ensures others { (k : ℕ) → k ≢ n → bit_in words.new.items k ≡ bit_in words.old.items k }
     ensures long { length words.new.items ≡ length words.old.items }
-    ensures apart { (word : ℕ) → word ≢ n / 64 → slice_index words.new.items word ≡ slice_index words.old.items word }
+    ensures apart { (word : ℕ) → word ≢ n / 64
+        → slice_index words.new.items word ≡ slice_index words.old.items word }
     ensures filled { 0 < slice_index words.new.items (n / 64) }
 {
     let word = words[n / 64];
@@ -114,7 +115,8 @@ fn clear_bit(words: &mut Vec<u64>, n: usize)
     ensures here { bit_in words.new.items n ≡ 0 }
     ensures others { (k : ℕ) → k ≢ n → bit_in words.new.items k ≡ bit_in words.old.items k }
     ensures long { length words.new.items ≡ length words.old.items }
-    ensures apart { (word : ℕ) → word ≢ n / 64 → slice_index words.new.items word ≡ slice_index words.old.items word }
+    ensures apart { (word : ℕ) → word ≢ n / 64
+        → slice_index words.new.items word ≡ slice_index words.old.items word }
     ensures less { slice_index words.new.items (n / 64) ≤ slice_index words.old.items (n / 64) }
 {
     let word = words[n / 64];

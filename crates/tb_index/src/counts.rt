@@ -71,9 +71,10 @@ pub(crate) fn uncount(counts: &mut Counts, marks: &[Mark], others: &[Mark], proc
 }
 
 fn count_marks(counted: &mut Pairs, marks: &[Mark], but: &[Mark], proc: u32) -> Result<(), NoMemory>
-    ensures kept { (mark : TheMark) (its : ℕ) → has counted.old.set mark its ≡ true → has counted.new.set mark its ≡ true }
-    ensures all { OnOk result ((mark : TheMark) → has_mark marks.now mark ≡ true → has_mark but.now mark ≡ false
-        → has counted.new.set (wide mark) proc ≡ true) }
+    ensures kept { (mark : TheMark) (its : ℕ) → has counted.old.set mark its ≡ true
+        → has counted.new.set mark its ≡ true }
+    ensures all { OnOk result ((mark : TheMark) → has_mark marks.now mark ≡ true
+        → has_mark but.now mark ≡ false → has counted.new.set (wide mark) proc ≡ true) }
 {
     for mark in marks {
         count_one(counted, *mark, but, proc)?;
@@ -82,8 +83,10 @@ fn count_marks(counted: &mut Pairs, marks: &[Mark], but: &[Mark], proc: u32) -> 
 }
 
 fn count_one(counted: &mut Pairs, mark: Mark, but: &[Mark], proc: u32) -> Result<(), NoMemory>
-    ensures kept { (other : TheMark) (its : ℕ) → has counted.old.set other its ≡ true → has counted.new.set other its ≡ true }
-    ensures here { OnOk result (has_mark but.now mark ≡ false → has counted.new.set (wide mark) proc ≡ true) }
+    ensures kept { (other : TheMark) (its : ℕ) → has counted.old.set other its ≡ true
+        → has counted.new.set other its ≡ true }
+    ensures here { OnOk result (has_mark but.now mark ≡ false
+        → has counted.new.set (wide mark) proc ≡ true) }
 {
     if has_mark(but, mark) {
         return Ok(());

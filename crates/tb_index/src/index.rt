@@ -76,18 +76,16 @@ impl Index {
     /// What a process sends and receives from now on; `old` is what is kept of it.
     pub fn set(&mut self, proc: u32, old: &Marks, new: &Marks) -> Result<(), NoMemory>
         requires sends { (mark : TheMark) → sends self.old mark proc ≡ has_mark old.now.sends.items mark }
-        requires receives { (mark : TheMark) → receives self.old mark proc ≡ has_mark old.now.receives.items mark }
+        requires receives { (mark : TheMark)
+            → receives self.old mark proc ≡ has_mark old.now.receives.items mark }
         ensures ok { OnOk result (IsSet self.old self.new proc new.now.sends.items new.now.receives.items) }
         ensures err { OnErr result (SameIndex self.old self.new) }
     {
         if are_unchanged(old, new) {
             return Ok(());
         }
-        match open_up(&mut self.counts, &self.sending, new.receives.as_slice()) {
-            Ok(()) => {}
-            Err(error) => return Err(error),
-        }
-        match come(
+        open_up(&mut self.counts, &self.sending, new.receives.as_slice())?;
+        come(
             &mut self.sending,
             &mut self.receiving,
             &mut self.counts,
@@ -95,10 +93,7 @@ impl Index {
             proc,
             old,
             new,
-        ) {
-            Ok(()) => {}
-            Err(error) => return Err(error),
-        }
+        )?;
         remove_both(&mut self.sending, &mut self.receiving, proc, old, new);
         uncount(
             &mut self.counts,
@@ -125,7 +120,8 @@ impl Index {
     /// A process has left: nothing is kept of it. `old` is what was kept.
     pub fn clear(&mut self, proc: u32, old: &Marks)
         requires sends { (mark : TheMark) → sends self.old mark proc ≡ has_mark old.now.sends.items mark }
-        requires receives { (mark : TheMark) → receives self.old mark proc ≡ has_mark old.now.receives.items mark }
+        requires receives { (mark : TheMark)
+            → receives self.old mark proc ≡ has_mark old.now.receives.items mark }
         ensures { IsCleared self.old self.new proc }
     {
         self.sending.remove_but(old.sends.as_slice(), &[], proc);

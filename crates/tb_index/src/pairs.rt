@@ -163,8 +163,10 @@ pub(crate) fn remove_both(
     marks: &Marks,
     but: &Marks,
 )
-    ensures sends { AreRemoved sending.old.set sending.new.set marks.now.sends.items but.now.sends.items proc }
-    ensures receives { AreRemoved receiving.old.set receiving.new.set marks.now.receives.items but.now.receives.items proc }
+    ensures sends { AreRemoved
+        sending.old.set sending.new.set marks.now.sends.items but.now.sends.items proc }
+    ensures receives { AreRemoved
+        receiving.old.set receiving.new.set marks.now.receives.items but.now.receives.items proc }
 {
     sending.remove_but(marks.sends.as_slice(), but.sends.as_slice(), proc);
     receiving.remove_but(marks.receives.as_slice(), but.receives.as_slice(), proc);
