@@ -2,7 +2,7 @@ ghost use Rattle.std.specs.Prelude.{◌≡◌, ◌<◌, ◌++◌, ◌∷◌, [],
 ghost use Rattle.tb_algebra.specs.Processes.{fresh, Par};
 ghost use Rattle.tb_code.specs.Positions.{size, part, IsTwo};
 ghost use Rattle.tb_walk.specs.Helpers.Reads.{branch, or_entered};
-ghost use Rattle.tb_walk.specs.Helpers.Sights.{GoesOn, row_by};
+ghost use Rattle.tb_walk.specs.Helpers.Partings.{GoesOn, row_by};
 ghost use Rattle.tb_walk.specs.Helpers.Takings.{IsTakenAt};
 
 use crate::settle::{Step, left_by, spliced};

@@ -7,7 +7,7 @@ use Rattle.tb_code.specs.Positions.{part, positions, size}
 use Rattle.tb_code.specs.declared.node.Node.{Node}
 use Rattle.tb_walk.specs.Helpers.Goings.{term_at, counted}
 use Rattle.tb_walk.specs.Helpers.Reads.{Reads, branch, entered_behind, or_entered}
-use Rattle.tb_walk.specs.Helpers.Sights.{branch_by}
+use Rattle.tb_walk.specs.Helpers.Partings.{branch_by}
 use Rattle.tb_walk.specs.declared.branch.Branch.{Branch}
 use Rattle.tb_walk.specs.declared.settle.Step.{Step}
 use Rattle.tb_walk.specs.declared.settle.Step.TheVariants as step

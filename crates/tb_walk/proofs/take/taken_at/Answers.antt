@@ -2,7 +2,7 @@ use Rattle.std.proofs.Common.{◌≡◌, List, [], ◌∷◌, Option, Some, get_
 use Rattle.std.proofs.lemmas.Option.{slice_get-get_or}
 use Rattle.tb_algebra.specs.Processes.{fresh}
 use Rattle.tb_walk.specs.Helpers.Reads.{branch}
-use Rattle.tb_walk.specs.Helpers.Sights.{branch_by}
+use Rattle.tb_walk.specs.Helpers.Partings.{branch_by}
 use Rattle.tb_walk.specs.Helpers.Takings.{IsSettled}
 use Rattle.tb_walk.specs.declared.branch.Branch.{Branch}
 use Rattle.tb_walk.specs.declared.settle.Step.TheVariants as step
