@@ -3,6 +3,7 @@ ghost use Rattle.std.specs.Option.{option_copied};
 ghost use Rattle.tb_terms.specs.declared.pattern.Pattern.TheVariants as pattern;
 ghost use Rattle.tb_terms.specs.declared.term.Term.TheVariants as term;
 ghost use Rattle.tb_func.specs.Patterns.{pattern_of};
+ghost use Rattle.tb_func.specs.Stores.{sort_at};
 ghost use Rattle.tb_algebra.specs.Atoms.{act_in, matched_exprs, patterns_of};
 
 use crate::number::variable;
@@ -64,6 +65,7 @@ fn push_pattern(
             }
             None => push_other(alloc, store, expr, patterns),
         },
+        Expr::Result(slot) => push_result(alloc, store, *slot, patterns),
         _ => push_other(alloc, store, expr, patterns),
     }
 }
@@ -73,6 +75,24 @@ fn push_number(number: i64, patterns: &mut Patterns) -> Result<(), NoMemory>
 {
     patterns.push(Pattern::Fixed(Term::Int(number)))?;
     Ok(())
+}
+
+fn push_result(
+    alloc: Global,
+    store: &Store,
+    slot: u32,
+    patterns: &mut Patterns,
+) -> Result<bool, NoMemory>
+    ensures { IfOk result (λ is_there. option_map (λ one. patterns.old ++ one ∷ []) (option_map (pattern.Result slot) (sort_at store.now slot)) ≡ (if is_there then Some patterns.new else None)) }
+{
+    match store.get_sort(slot) {
+        Some(sort) => {
+            let sort = sort.copy(alloc)?;
+            patterns.push(Pattern::Result(slot, sort))?;
+            Ok(true)
+        }
+        None => Ok(false),
+    }
 }
 
 #[inline(never)]
