@@ -24,8 +24,9 @@ pub(crate) fn patterns_by(
 {
     match atom {
         Some(one) => match &one.act {
-            Act::RecMsg(exprs) => Ok(message(alloc, store, exprs.as_slice())?),
-            Act::RecNote(exprs) => Ok(message(alloc, store, exprs.as_slice())?),
+            Act::RecMsg(exprs) | Act::RecNote(exprs) => {
+                Ok(message(alloc, store, exprs.as_slice())?)
+            }
             _ => Ok(matched_patterns(alloc, store, atom)?),
         },
         None => Ok(matched_patterns(alloc, store, atom)?),
