@@ -9,7 +9,8 @@ use Rattle.tb_algebra.specs.Reached.{IsNew}
 use Rattle.tb_algebra.specs.Helpers.OfferViews.{offer_views}
 use Rattle.tb_code.specs.Positions.{part}
 use Rattle.tb_walk.specs.Helpers.Goings.{term_at, counted, row_sights}
-use Rattle.tb_walk.specs.Helpers.Sights.{Sighting, branch_sightings, row_sightings, branch_by}
+use Rattle.tb_walk.specs.Helpers.Partings.{branch_by}
+use Rattle.tb_walk.specs.Helpers.Sights.{Sighting, branch_sightings, row_sightings}
 use Rattle.tb_walk.specs.Helpers.Takings.{AreThere, LeavesRow, Picks}
 use Rattle.tb_walk.specs.declared.branch.Branch.{Branch}
 use Rattle.tb_walk.proofs.SightLemmas.{leaving, seen_of, seen-sightings, length-sightings, is_of, new-part, split_get, seen-two}

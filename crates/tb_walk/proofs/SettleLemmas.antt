@@ -17,7 +17,8 @@ use Rattle.tb_code.specs.declared.node.Op.TheVariants as op
 use Rattle.tb_code.proofs.Parts.{length-positions}
 use Rattle.tb_walk.specs.Lefts.{left}
 use Rattle.tb_walk.specs.Helpers.Reads.{Reads, bound_of, next_of, entered_behind}
-use Rattle.tb_walk.specs.Helpers.Sights.{sighted, branch_by}
+use Rattle.tb_walk.specs.Helpers.Partings.{branch_by}
+use Rattle.tb_walk.specs.Helpers.Sights.{sighted}
 use Rattle.tb_walk.specs.Helpers.Takings.{Picks, IsBehind, IsSettled, IsTakenBy, row_after}
 use Rattle.tb_walk.specs.WalkViews.{walking_of, IsOnCode, IsLeft}
 use Rattle.tb_walk.specs.declared.branch.Branch.{Branch}

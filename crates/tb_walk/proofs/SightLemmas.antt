@@ -17,7 +17,8 @@ use Rattle.tb_algebra.proofs.OfferViewLemmas.{offer_views-Seq, offer_views-Alt, 
 use Rattle.tb_code.specs.Positions.{size, part, of_two}
 use Rattle.tb_walk.specs.Lefts as lefts
 use Rattle.tb_walk.specs.Helpers.Reads.{branch, Passes, one, other, leaves, then_side, else_side, when, set, Follows, sequence, turn, Reads, ended, waits, passes, follows, both, or_entered}
-use Rattle.tb_walk.specs.Helpers.Sights.{Sighting, Looking, sightings, sightings_if, sightings_after, sighting_at, row_by}
+use Rattle.tb_walk.specs.Helpers.Partings.{row_by}
+use Rattle.tb_walk.specs.Helpers.Sights.{Sighting, Looking, sightings, sightings_if, sightings_after, sighting_at}
 use Rattle.tb_walk.specs.declared.branch.Branch.{Branch}
 use Rattle.tb_walk.proofs.Contexts.{entered-next, beside-left, beside-right}
 use Rattle.tb_walk.proofs.ReadLemmas.{ends_together, EndsTogether, length-mapped}

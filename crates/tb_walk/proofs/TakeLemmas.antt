@@ -7,7 +7,7 @@ use Rattle.tb_body.specs.declared.tree.Setting.{Setting}
 use Rattle.tb_algebra.specs.Processes.{Process, At, Seq, Alt, Star, Par, If, When, Let}
 use Rattle.tb_code.specs.Positions.{size, part, IsTwo, IsOne}
 use Rattle.tb_walk.specs.Helpers.Reads.{branch, or_entered}
-use Rattle.tb_walk.specs.Helpers.Sights.{row_by, branch_by, entering, GoesOn}
+use Rattle.tb_walk.specs.Helpers.Partings.{row_by, branch_by, entering, GoesOn}
 use Rattle.tb_walk.specs.declared.branch.Branch.{Branch}
 use Rattle.tb_walk.specs.declared.take.Behind.{Behind}
 use Rattle.tb_walk.specs.declared.take.Behind.TheVariants as behind

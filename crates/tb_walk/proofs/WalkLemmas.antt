@@ -20,7 +20,8 @@ use Rattle.tb_code.proofs.Parts.{stands_whole}
 use Rattle.tb_walk.specs.Helpers.Goings.{counted, row_sights}
 use Rattle.tb_walk.specs.Lefts.{beside, left}
 use Rattle.tb_walk.specs.Helpers.Reads.{branch, Reads, ended, waits, passes, follows, both}
-use Rattle.tb_walk.specs.Helpers.Sights.{Sighting, offer_of, sighted, row_sightings, branch_by}
+use Rattle.tb_walk.specs.Helpers.Partings.{branch_by}
+use Rattle.tb_walk.specs.Helpers.Sights.{Sighting, offer_of, sighted, row_sightings}
 use Rattle.tb_walk.specs.Helpers.Takings.{AreThere, IsInRow, Picks}
 use Rattle.tb_walk.specs.WalkViews.{walking_of, seen_of, IsOnCode}
 use Rattle.tb_walk.specs.declared.branch.Branch.{Branch}

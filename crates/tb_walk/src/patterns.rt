@@ -3,6 +3,7 @@ ghost use Rattle.std.specs.Option.{option_copied};
 ghost use Rattle.tb_terms.specs.declared.pattern.Pattern.TheVariants as pattern;
 ghost use Rattle.tb_terms.specs.declared.term.Term.TheVariants as term;
 ghost use Rattle.tb_func.specs.Patterns.{pattern_of};
+ghost use Rattle.tb_func.specs.Stores.{sort_at};
 ghost use Rattle.tb_algebra.specs.Atoms.{act_in, matched_exprs, patterns_of};
 
 use crate::number::variable;
@@ -23,8 +24,9 @@ pub(crate) fn patterns_by(
 {
     match atom {
         Some(one) => match &one.act {
-            Act::RecMsg(exprs) => Ok(message(alloc, store, exprs.as_slice())?),
-            Act::RecNote(exprs) => Ok(message(alloc, store, exprs.as_slice())?),
+            Act::RecMsg(exprs) | Act::RecNote(exprs) => {
+                Ok(message(alloc, store, exprs.as_slice())?)
+            }
             _ => Ok(matched_patterns(alloc, store, atom)?),
         },
         None => Ok(matched_patterns(alloc, store, atom)?),
@@ -64,6 +66,7 @@ fn push_pattern(
             }
             None => push_other(alloc, store, expr, patterns),
         },
+        Expr::Result(slot) => push_result(alloc, store, *slot, patterns),
         _ => push_other(alloc, store, expr, patterns),
     }
 }
@@ -73,6 +76,24 @@ fn push_number(number: i64, patterns: &mut Patterns) -> Result<(), NoMemory>
 {
     patterns.push(Pattern::Fixed(Term::Int(number)))?;
     Ok(())
+}
+
+fn push_result(
+    alloc: Global,
+    store: &Store,
+    slot: u32,
+    patterns: &mut Patterns,
+) -> Result<bool, NoMemory>
+    ensures { IfOk result (λ is_there. option_map (λ one. patterns.old ++ one ∷ []) (option_map (pattern.Result slot) (sort_at store.now slot)) ≡ (if is_there then Some patterns.new else None)) }
+{
+    match store.get_sort(slot) {
+        Some(sort) => {
+            let sort = sort.copy(alloc)?;
+            patterns.push(Pattern::Result(slot, sort))?;
+            Ok(true)
+        }
+        None => Ok(false),
+    }
 }
 
 #[inline(never)]

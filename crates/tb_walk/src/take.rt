@@ -1,12 +1,11 @@
-ghost use Rattle.std.specs.Prelude.{◌≡◌, ◌<◌, ◌++◌, ◌∷◌, [], Some, None, IfOk, OnOk, length, nat_lt, slice_get, if◌then◌else◌};
+ghost use Rattle.std.specs.Prelude.{◌≡◌, ◌<◌, ◌++◌, ◌∷◌, [], Some, IfOk, OnOk, length, nat_lt, slice_get, if◌then◌else◌};
 ghost use Rattle.tb_algebra.specs.Processes.{fresh, Par};
 ghost use Rattle.tb_code.specs.Positions.{size, part, IsTwo};
 ghost use Rattle.tb_walk.specs.Helpers.Reads.{branch, or_entered};
-ghost use Rattle.tb_walk.specs.Helpers.Sights.{GoesOn, row_by};
-ghost use Rattle.tb_walk.specs.Helpers.Takings.{IsTakenAt};
+ghost use Rattle.tb_walk.specs.Helpers.Partings.{GoesOn, branch_by, row_by};
+ghost use Rattle.tb_walk.specs.Helpers.Takings.{IsSettled};
 
 use crate::settle::{Step, left_by, spliced};
-use crate::walk::Taken;
 use crate::{Branch, Row};
 use std::alloc::Global;
 use tb_code::{Code, Op};
@@ -23,35 +22,29 @@ pub enum Behind {
     Parted,
 }
 
-/// What is taken where this atom happens in the store of the process. It stands in the part of the
-/// branch at the index.
-pub(crate) fn taken_at(
+/// What becomes of a row where this atom happens, which stands in the part of the branch at the index.
+pub(crate) fn step_by(
     alloc: Global,
     code: &Code,
     row: &[Branch],
     ticks: u64,
     at: usize,
     atom: usize,
-) -> Result<Taken, NoMemory>
+) -> Result<Step, NoMemory>
     requires within { at < length row.now }
     requires there { (branch : Branch) → slice_get row.now at ≡ Some branch → branch.position < size (fresh code.now.body.tree) }
-    ensures { IfOk result (IsTakenAt (fresh code.now.body.tree) ticks row.now at atom None) }
+    ensures { (branch : Branch) → slice_get row.now at ≡ Some branch →
+        IfOk result (IsSettled (fresh code.now.body.tree) ticks row.now at (branch_by (fresh code.now.body.tree) ticks branch atom)) }
 {
     match comes_of(code, row[at].position, atom, Behind::Ended) {
-        Behind::Ended => Ok(Taken {
-            step: left_by(code, row, ticks, at),
-            own: None,
-        }),
-        Behind::Entered(position) => Ok(Taken {
-            step: Step::Put(
-                at,
-                Branch {
-                    position,
-                    entered: ticks,
-                },
-            ),
-            own: None,
-        }),
+        Behind::Ended => Ok(left_by(code, row, ticks, at)),
+        Behind::Entered(position) => Ok(Step::Put(
+            at,
+            Branch {
+                position,
+                entered: ticks,
+            },
+        )),
         Behind::Parted => parted(alloc, code, row, ticks, at, atom),
     }
 }
@@ -89,7 +82,7 @@ fn side(first: usize, right: usize, atom: usize) -> usize
     if atom < right { first } else { right }
 }
 
-/// The same where a merge is parted.
+/// What becomes of the row where a merge is parted.
 #[inline(never)]
 fn parted(
     alloc: Global,
@@ -98,21 +91,21 @@ fn parted(
     ticks: u64,
     at: usize,
     atom: usize,
-) -> Result<Taken, NoMemory>
+) -> Result<Step, NoMemory>
     requires within { at < length row.now }
     requires there { (branch : Branch) → slice_get row.now at ≡ Some branch → branch.position < size (fresh code.now.body.tree) }
-    ensures { IfOk result (IsTakenAt (fresh code.now.body.tree) ticks row.now at atom None) }
+    ensures { (branch : Branch) → slice_get row.now at ≡ Some branch →
+        IfOk result (IsSettled (fresh code.now.body.tree) ticks row.now at (branch_by (fresh code.now.body.tree) ticks branch atom)) }
 {
     let Branch { position, entered } = row[at];
     let since = Since { entered, ticks };
     let mut inside = Items::new(alloc);
     part_at(code, position, atom, since, &mut inside)?;
-    let step = if inside.is_empty() {
-        left_by(code, row, ticks, at)
+    if inside.is_empty() {
+        Ok(left_by(code, row, ticks, at))
     } else {
-        Step::Part(spliced(alloc, row, at, inside)?)
-    };
-    Ok(Taken { step, own: None })
+        Ok(Step::Part(spliced(alloc, row, at, inside)?))
+    }
 }
 
 /// When a branch was entered, and how many ticks the process has seen.

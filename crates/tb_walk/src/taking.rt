@@ -3,16 +3,16 @@ ghost use Rattle.std.specs.Option.{ForSome, option_copied};
 ghost use Rattle.tb_algebra.specs.Binds.{takes_binds, with_binds};
 ghost use Rattle.tb_algebra.specs.Processes.{fresh};
 ghost use Rattle.tb_algebra.specs.Walks.{offers_of};
-ghost use Rattle.tb_walk.specs.Helpers.Takings.{IsInRow, IsTakenAt, IsTakenBy};
+ghost use Rattle.tb_walk.specs.Helpers.Takings.{IsInRow, IsTakenBy};
 ghost use Rattle.tb_walk.specs.WalkViews.{walking_of, IsOnCode, IsLeft};
 
 use crate::look::look_row;
 use crate::settle::Step;
-use crate::take::taken_at;
+use crate::take::step_by;
 use crate::walk::Taken;
 use crate::{Branch, Sight, Walk};
 use std::alloc::Global;
-use tb_algebra::set_binds;
+use tb_algebra::{copy_own, set_binds};
 use tb_code::Code;
 use tb_func::Store;
 use tb_match::Binds;
@@ -48,36 +48,16 @@ pub(crate) fn taken_by(
     ensures { (one : Sight) → option_copied sight.entry ≡ Some one → IfOk result (IsTakenBy (fresh code.now.body.tree) ticks row.now one) }
 {
     match sight {
-        Some(sight) => match &sight.own {
-            None => taken_at(alloc, code, row, ticks, sight.branch, sight.position),
-            Some(own) => taken_with(alloc, code, row, ticks, sight, own),
-        },
+        Some(sight) => {
+            let own = copy_own(alloc, &sight.own)?;
+            let step = step_by(alloc, code, row, ticks, sight.branch, sight.position)?;
+            Ok(Taken { step, own })
+        }
         None => Ok(Taken {
             step: Step::Part(Items::new(alloc)),
             own: None,
         }),
     }
-}
-
-/// The same in the store that a `let` made.
-#[inline(never)]
-fn taken_with(
-    alloc: Global,
-    code: &Code,
-    row: &[Branch],
-    ticks: u64,
-    sight: &Sight,
-    own: &Store,
-) -> Result<Taken, NoMemory>
-    requires { IsInRow (fresh code.now.body.tree) row.now sight.now }
-    ensures { IfOk result (IsTakenAt (fresh code.now.body.tree) ticks row.now sight.now.branch sight.now.position (Some own.now)) }
-{
-    let own = own.copy(alloc)?;
-    let taken = taken_at(alloc, code, row, ticks, sight.branch, sight.position)?;
-    Ok(Taken {
-        step: taken.step,
-        own: Some(own),
-    })
 }
 
 /// Sets the binds one after another. Most steps have none.

@@ -34,8 +34,9 @@ pub(crate) fn sent_terms(
 {
     match atom {
         Some(one) => match &one.act {
-            Act::SndMsg(exprs) => Ok(message(alloc, store, exprs.as_slice())?),
-            Act::SndNote(exprs) => Ok(message(alloc, store, exprs.as_slice())?),
+            Act::SndMsg(exprs) | Act::SndNote(exprs) => {
+                Ok(message(alloc, store, exprs.as_slice())?)
+            }
             _ => Ok(sent_values(alloc, store, atom)?),
         },
         None => Ok(sent_values(alloc, store, atom)?),

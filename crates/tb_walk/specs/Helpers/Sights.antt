@@ -1,5 +1,5 @@
--- What is seen of the atoms that may be next, each with its branch and the position of its atom; and the row that is left of a part by that position.
-use Rattle.std.specs.Prelude.{◌≡◌, ℕ, suc, ◌+◌, ◌-◌, Bool, true, false, nat_lt, List, [], ◌∷◌, ◌++◌, Option, Some, None, if◌then◌else◌, ⊤}
+-- What is seen of the atoms that may be next, each with its branch and its position.
+use Rattle.std.specs.Prelude.{ℕ, suc, ◌+◌, ◌-◌, Bool, true, false, List, [], ◌∷◌, ◌++◌, Option, Some, None}
 use Rattle.tb_func.specs.declared.slot.Slot.{Slot}
 use Rattle.tb_body.specs.declared.atom.Atom.{Atom}
 use Rattle.tb_algebra.specs.Atoms.{is_ready, times_of}
@@ -8,12 +8,9 @@ use Rattle.tb_algebra.specs.Settings.{tested, with_settings}
 use Rattle.tb_algebra.specs.Helpers.OfferViews.{OfferView, or_own}
 use Rattle.tb_algebra.specs.declared.offer.Offer.{Offer}
 use Rattle.tb_code.specs.Positions.{size, part}
-use Rattle.tb_walk.specs.Helpers.Reads.{branch, or_entered}
 use Rattle.tb_walk.specs.declared.branch.Branch.{Branch}
 use Rattle.tb_walk.specs.declared.look.Clock.{Clock}
 use Rattle.tb_walk.specs.declared.sight.Sight.{Sight}
-use Rattle.tb_walk.specs.declared.take.Behind.{Behind}
-use Rattle.tb_walk.specs.declared.take.Behind.TheVariants as behind
 
 -- an offer, the index of its branch, and where its atom stands
 pub record Sighting : Type 0 where
@@ -78,32 +75,3 @@ abbrev pub row_sightings : Process → List Atom → ℕ → ℕ → List Slot �
 row_sightings whole atoms now ticks store at [] = []
 row_sightings whole atoms now ticks store at (branch ∷ row) =
     branch_sightings whole atoms now ticks store at branch ++ row_sightings whole atoms now ticks store (suc at) row
-
--- The row that is left of a part that was entered as a whole, and whose positions begin here, where the atom at this position happens.
--- What follows is entered now, and the other side of a merge goes on waiting.
-abbrev pub row_by : ℕ → ℕ → ℕ → Process → ℕ → List Branch
-row_by ticks entered at (At atom age) to = []
-row_by ticks entered at (Seq x y) to = or_entered (row_by ticks entered (suc at) x to) (branch (suc at + size x) ticks ∷ [])
-row_by ticks entered at (Alt x y) to = if nat_lt to (suc at + size x) then row_by ticks entered (suc at) x to else row_by ticks entered (suc at + size x) y to
-row_by ticks entered at (Star x y) to =
-    if nat_lt to (suc at + size x) then or_entered (row_by ticks entered (suc at) x to) (branch at ticks ∷ []) else row_by ticks entered (suc at + size x) y to
-row_by ticks entered at (Par x y) to =
-    if nat_lt to (suc at + size x) then row_by ticks entered (suc at) x to ++ branch (suc at + size x) entered ∷ [] else branch (suc at) entered ∷ row_by ticks entered (suc at + size x) y to
-row_by ticks entered at (If test x y) to = if nat_lt to (suc at + size x) then row_by ticks entered (suc at) x to else row_by ticks entered (suc at + size x) y to
-row_by ticks entered at (When test x) to = row_by ticks entered (suc at) x to
-row_by ticks entered at (Let settings x) to = row_by ticks entered (suc at) x to
-
--- that of the part of a branch
-abbrev pub branch_by : Process → ℕ → Branch → ℕ → List Branch
-branch_by whole ticks branch to = row_by ticks branch.entered branch.position (part whole branch.position) to
-
-abbrev pub entering : ℕ → Behind → List Branch
-entering ticks behind.Ended = []
-entering ticks (behind.Entered position) = branch position ticks ∷ []
-entering ticks behind.Parted = []
-
--- What comes of the part at a position, where it is known what comes once it has ended. A merge on the way may leave any row.
-abbrev pub GoesOn : Process → ℕ → ℕ → Behind → Behind → Type 0
-GoesOn whole at to so_far behind.Ended = (ticks entered : ℕ) → or_entered (row_by ticks entered at (part whole at) to) (entering ticks so_far) ≡ []
-GoesOn whole at to so_far (behind.Entered position) = (ticks entered : ℕ) → or_entered (row_by ticks entered at (part whole at) to) (entering ticks so_far) ≡ branch position ticks ∷ []
-GoesOn whole at to so_far behind.Parted = ⊤

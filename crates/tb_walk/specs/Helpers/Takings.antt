@@ -7,7 +7,7 @@ use Rattle.tb_code.specs.Positions.{part, positions, size}
 use Rattle.tb_code.specs.declared.node.Node.{Node}
 use Rattle.tb_walk.specs.Helpers.Goings.{term_at, counted}
 use Rattle.tb_walk.specs.Helpers.Reads.{Reads, branch, entered_behind, or_entered}
-use Rattle.tb_walk.specs.Helpers.Sights.{branch_by}
+use Rattle.tb_walk.specs.Helpers.Partings.{branch_by}
 use Rattle.tb_walk.specs.declared.branch.Branch.{Branch}
 use Rattle.tb_walk.specs.declared.settle.Step.{Step}
 use Rattle.tb_walk.specs.declared.settle.Step.TheVariants as step
@@ -56,10 +56,7 @@ pub record IsSettled (whole : Process) (ticks : ℕ) (row : List Branch) (at : �
 abbrev pub IsInRow : Process → List Branch → Sight → Type 0
 IsInRow whole row sight = (sight.branch < length row) × ((b : Branch) → slice_get row sight.branch ≡ Some b → b.position < size whole)
 
--- The atom at this position happens in the part of the branch at this index: the row goes on so, and this store is the process's then.
-abbrev pub IsTakenAt : Process → ℕ → List Branch → ℕ → ℕ → Option (List Slot) → Taken → Type 0
-IsTakenAt whole ticks row at atom own taken = (taken.own ≡ own) × ((b : Branch) → slice_get row at ≡ Some b → IsSettled whole ticks row at (branch_by whole ticks b atom) taken.step)
-
--- what was found was taken
+-- It was taken: the store is its own, and the row goes on by its branch and its position.
 abbrev pub IsTakenBy : Process → ℕ → List Branch → Sight → Taken → Type 0
-IsTakenBy whole ticks row sight taken = IsTakenAt whole ticks row sight.branch sight.position sight.own taken
+IsTakenBy whole ticks row sight taken =
+    (taken.own ≡ sight.own) × ((b : Branch) → slice_get row sight.branch ≡ Some b → IsSettled whole ticks row sight.branch (branch_by whole ticks b sight.position) taken.step)
