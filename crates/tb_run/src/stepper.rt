@@ -35,7 +35,7 @@ pub fn step_worker<W: Walker, R: Wait>(
     unreachable!()
 }
 
-/// Makes some steps, or waits where there is none; says why the worker ends, where it does.
+/// Makes some steps, and waits where there is none; says why the worker ends, where it does.
 fn step_some<W: Walker, R: Wait>(
     rt: &R,
     shared: &Shared<W>,
@@ -89,7 +89,8 @@ fn step_one<W: Walker, R: Wait>(
     }
 }
 
-/// Where steps were made, the others are told. Else the worker waits until it is told that something came.
+/// Tells the others what there is, and then waits until this worker is told that something came: what came since it was told
+/// last isn't slept past.
 fn rest<W: Walker, R: Wait>(
     rt: &R,
     shared: &Shared<W>,
@@ -101,11 +102,19 @@ fn rest<W: Walker, R: Wait>(
     requires own { seat.old.bus ≡ shared.now }
     ensures { Steps seat.old seat.new }
 {
+    tell(rt, shared, bells, seat, done);
+    *heard = bells.wait_past(rt, Sleeper::Stepper, *heard);
+}
+
+/// Where steps were made, tells who may have something to do; else only who writes the log, since quiet may have been said.
+fn tell<W: Walker, R: Wait>(rt: &R, shared: &Shared<W>, bells: &Bells, seat: &mut Seat, done: u32)
+    requires own { seat.old.bus ≡ shared.now }
+    ensures { Steps seat.old seat.new }
+{
     if done > 0 {
         tell_lanes(rt, shared, bells, seat);
     } else {
         bells.ring(Sleeper::Log);
-        *heard = bells.wait_past(rt, Sleeper::Stepper, *heard);
     }
 }
 
