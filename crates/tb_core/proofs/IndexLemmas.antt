@@ -1,25 +1,40 @@
 -- The index holds what it has to, wherever one of the living changes.
 use Rattle.std.proofs.Common.{◌≡◌, ◌≢◌, ◌<◌, ◌≤◌, ◌+◌, ◌++◌, ◌||◌, ◌==◌, ℕ, zero, suc, List, [], ◌∷◌, length, take, map, append-nil, append_assoc, refl, ap, sym, subst, ◌∙◌, arith, Some, Bool, true, false, not, get_or, slice_get, slice_set, remove, eq-eqb}
 use Rattle.std.specs.List.{All}
-use Rattle.std.proofs.lemmas.Bool.{eqb-true, false_from_ne_true, false≢true}
+use Rattle.std.proofs.lemmas.Bool.{and_from, eqb-true, false_from_ne_true, false≢true, or_left, or_right}
 use Rattle.std.proofs.lemmas.Option.{none-some, same_Some}
 use Rattle.std.proofs.lemmas.List.{take_all, take_more}
 use Rattle.std.proofs.lemmas.List.Elements.{All-cons, All-head, All-nil, All-push, All-same, All-tail, All-weaker}
 use Rattle.tb_index.specs.Indexes.{HasRoom, IndexState, IsCleared, IsSet, IsTurned, SameIndex, is_awake, receives, sends}
-use Rattle.tb_index.specs.Marks.{has_mark}
+use Rattle.tb_index.specs.Marks.{has_mark, is_mark}
 use Rattle.tb_index.specs.declared.mark.Mark.{Mark}
 use Rattle.tb_index.specs.declared.mark.Marks.{Marks}
 use Rattle.tb_bus.specs.Helpers.Candidates.{Row, ascend, row_of, rows_of}
 use Rattle.tb_bus.specs.Helpers.Indexed.{IsIndexed, IsIndexFor, are_calm, received_by, received_marks, sent_by, sent_marks}
 use Rattle.tb_bus.specs.declared.living.Living.{Living}
 use Rattle.tb_bus.specs.declared.living.Ready.{Ready}
-use Rattle.tb_bus.proofs.IndexLemmas.{indexed-by}
 use Rattle.tb_bus.proofs.TurnLemmas.{ascend-first}
 use Rattle.tb_core.specs.Helpers.Holdings.{bare, bares_of}
 use Rattle.tb_core.specs.Helpers.Indexes.{IsRightForAll, HasNothing, IsRightFor, IsUnmarked, KeepsOf, is_alive}
 use Rattle.tb_core.specs.Helpers.Lives.{IsBelow}
 use Rattle.tb_core.specs.Helpers.LiveBuses.{AreFresh}
 use Rattle.tb_core.proofs.ReadLemmas.{above-there}
+
+has-own : (marks : List Mark) (k : ℕ) (d : Mark) → k < length marks → has_mark marks (get_or marks k d) ≡ true
+has-own [] k d l = absurd (omega arith)
+has-own (mark ∷ marks) zero d l =
+    or_left (is_mark mark mark) (has_mark marks mark) (and_from (mark.count == mark.count) (mark.head == mark.head) (eq-eqb mark.count mark.count refl) (eq-eqb mark.head mark.head refl))
+has-own (mark ∷ marks) (suc k) d l =
+    or_right (is_mark (get_or marks k d) mark) (has_mark marks (get_or marks k d)) (has-own marks k d (omega arith))
+
+-- a process is indexed where the index has just its marks, and it is awake or calm
+indexed-by : (index : IndexState) (row : Row) → ((mark : Mark) → sends index mark row.number ≡ has_mark (sent_marks row.ready) mark) →
+    ((mark : Mark) → receives index mark row.number ≡ has_mark (received_marks row.ready) mark) → (is_awake index row.number ≡ false → are_calm row.ready ≡ true) → IsIndexed index row
+indexed-by index row sent received calm = record {
+  sent = λ k d l. sent (get_or (sent_marks row.ready) k d) ∙ has-own (sent_marks row.ready) k d l;
+  received = λ k d l. received (get_or (received_marks row.ready) k d) ∙ has-own (received_marks row.ready) k d l;
+  calm = calm;
+}
 
 -- who is alive
 
