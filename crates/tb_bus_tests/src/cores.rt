@@ -36,7 +36,7 @@ type Row = (u8, Call, &'static str, LaneState);
 /// A script, whose first lane is started with `ui`; how many entries its log may have; the calls; and the log.
 type Calls = (&'static str, u32, &'static [Row], &'static str);
 
-static CALLS: [Calls; 7] = [
+static CALLS: [Calls; 8] = [
     (
         "tool calc is { command = \"calc\" } tool ui is { } \
          process P is let C : calc, U : ui, V : int in execute(calc, C?) . snd-eval(C, 7) . \
@@ -166,6 +166,23 @@ static CALLS: [Calls; 7] = [
             (1, Take, "nothing", Unnamed),
         ],
         "1 execute 1.1 calc(1)\n2 out 1 start \"ui\"\n",
+    ),
+    // A core that was refused is used on: it refuses again for the same reason, until another comes before that.
+    (
+        "process P is tau * delta toolbus(P)",
+        5,
+        &[
+            (2, Step, "did", Free),
+            (2, Step, "did", Free),
+            (2, Step, "did", Free),
+            (2, Step, "did", Free),
+            (2, Step, "did", Free),
+            (2, Step, "full", Free),
+            (2, Step, "full", Free),
+            (2, Stop, "none", Free),
+            (2, Step, "stopped", Free),
+        ],
+        "1 tau 1.1\n2 tau 1.1\n3 tau 1.1\n4 tau 1.1\n5 tau 1.1\n",
     ),
     // A core that was stopped refuses each call.
     (
