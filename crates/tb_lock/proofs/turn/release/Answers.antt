@@ -1,4 +1,5 @@
-use Rattle.std.proofs.Common.{arith, ap, sym, subst, ◌∙◌}
+use Rattle.std.proofs.Common.{[], arith, ap, sym, subst, ◌∙◌}
+use Rattle.tb_lock.specs.Seats.{Idle}
 use Rattle.tb_lock.specs.Helpers.Plays.{HolderState, Adds}
 use Rattle.tb_lock.proofs.NoteLemmas.{notes}
 use Rattle.tb_lock.proofs.TurnLemmas.{put_back, noted, may_pass_noted}
@@ -21,3 +22,10 @@ pass-requires-clause-may g c =
     let back = put_back c.args.holder.now.me c.exchange-empty.new.seat.me c.args.core may.slot c.exchange-empty.ensures.3 in
     may_pass_noted c.load.new.seat.me c.args.holder.now.me.0 c.args.core may.ticket may.entries may.stage may.adds
     (noted c.exchange-empty.new.seat.me c.load.new.seat.me c.load.result c.args.holder.now.me.0 c.args.core may.entries back may.adds.log c.load.ensures.2)
+
+pub returns-clause-releases : goal.returns-clause-releases
+returns-clause-releases g c = λ entries log_is.
+    let back = put_back c.args.holder.now.me c.exchange-empty.new.seat.me c.args.core c.requires.may.slot c.exchange-empty.ensures.3 in
+    c.pass.ensures.passes
+    ∙ ap (λ (m : HolderState). (record m.0 { stage = Idle }, []))
+    (noted c.exchange-empty.new.seat.me c.load.new.seat.me c.load.result c.args.holder.now.me.0 c.args.core entries back log_is c.load.ensures.2)
