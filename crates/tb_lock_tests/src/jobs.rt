@@ -38,7 +38,7 @@ impl<'a> Job for Waiting<'a> {
     }
 }
 
-fn waiting(begun: &AtomicU32) -> Waiting {
+fn new_job(begun: &AtomicU32) -> Waiting {
     Waiting {
         begun,
         has_met_all: false,
@@ -50,14 +50,14 @@ fn all_jobs_are_done_beside_each_other(rt: HostRuntime) -> Result<(), Fail> {
     let begun = AtomicU32::new(0);
     let mut jobs = Vec::new(rt.alloc());
     for _ in 1..JOBS {
-        jobs.push(waiting(&begun))?;
+        jobs.push(new_job(&begun))?;
     }
-    let mut lent = waiting(&begun);
-    let mut own = waiting(&begun);
-    let mut met = 0;
+    let mut lent = new_job(&begun);
+    let mut own = new_job(&begun);
+    let mut met: u32 = 0;
     if let Ok(done) = ThreadCrew::new().beside(&rt, jobs, &mut lent, &mut own) {
         for job in &done {
-            met += u32::from(job.has_met_all);
+            met = u32::from(job.has_met_all).saturating_add(met);
         }
     }
     assert_eq!(rt;
