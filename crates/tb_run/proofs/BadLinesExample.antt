@@ -389,6 +389,7 @@ tool-stopped = record {
   gave = refl;
   lines = tt;
   one = omega arith;
+  whole = λ over. cc;
   put = out.Start t ∷ [];
   lost = [];
   handed = refl;

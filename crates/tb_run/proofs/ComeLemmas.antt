@@ -326,7 +326,7 @@ module _ (first_law : FirstLaw) (second_law : SecondLaw) (down_law : DownLaw) (e
           full_kept s.0 last (s.2 ∙ sym last_origin) s.3 s.1
 
       go : (it : WorkEnd) → TickerEndsOf it → (is_full_end it || list_any is_full_end (map ended ys)) ≡ true → WasFull last
-      go end.Full t h = full_kept tick_done last (c.ticks.adds.origin ∙ (tick_origin ∙ sym last_origin)) kept.1.0 t.1
+      go end.Full t h = full_kept tick_done last (c.ticks.adds.origin ∙ (tick_origin ∙ sym last_origin)) kept.1.0 t.1.was
       go end.Over t h = others h
       go end.Down t h = others h
       go end.Stopped t h = others h

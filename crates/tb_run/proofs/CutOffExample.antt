@@ -346,6 +346,7 @@ tool-stopped = record {
   gave = refl;
   lines = tt;
   one = omega arith;
+  whole = λ over. refl;
   put = out.Start t ∷ do_line (codes "a") ∷ [];
   lost = do_line (codes "b") ∷ [];
   handed = refl;

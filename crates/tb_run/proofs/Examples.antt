@@ -182,6 +182,7 @@ unmoved log lane none nothing never = record {
   gave = refl;
   lines = subst (AreLines lane []) (sym none) tt;
   one = omega arith;
+  whole = λ over. refl;
   put = [];
   lost = [];
   handed = nothing;

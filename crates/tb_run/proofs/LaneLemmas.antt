@@ -86,6 +86,14 @@ module _ (lane : ℕ) (last : SeatView) (old new : LaneView) (read_begun read_do
   at_most_one end.Full xs m = m
   at_most_one end.NoMemory xs m = m
 
+  whole_where_over : {A : Type 0} (it : WorkEnd) (xs : List A) → MayLack it (length xs) → ends_over it ≡ true → xs ≡ []
+  whole_where_over end.Over xs m e = nil_from_length xs m
+  whole_where_over end.Down xs m e = nil_from_length xs m
+  whole_where_over end.Failed xs m e = nil_from_length xs m
+  whole_where_over end.Stopped xs m e = cc
+  whole_where_over end.Full xs m e = cc
+  whole_where_over end.NoMemory xs m e = cc
+
   pub lane_stopped : has read_begun.rights (In lane) ≡ true → has write_begun.rights (Outs lane) ≡ true → read_begun.seen ≡ [] → write_begun.seen ≡ [] → Kept last read_done → Kept last write_done → LaneStopped last.seen lane old new
   lane_stopped in_right out_right read_fresh write_fresh read_kept write_kept =
       let reads : own read_begun.rights last.seen ≡ read.more = own_is read_begun read_done last read.more read_fresh read.adds read_kept in
@@ -100,6 +108,7 @@ module _ (lane : ℕ) (last : SeatView) (old new : LaneView) (read_begun read_do
         gave = read.told;
         lines = subst (AreLines lane read.fed) (sym gave) read.lines;
         one = at_most_one read_end read.last read.lacks;
+        whole = whole_where_over read_end read.last read.lacks;
         put = write.put;
         lost = write.last;
         handed = went;

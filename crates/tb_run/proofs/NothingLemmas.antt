@@ -45,6 +45,7 @@ lane_same lane view = record {
   gave = sym (and_given_none view.gave);
   lines = tt;
   one = omega arith;
+  whole = λ over. refl;
   put = [];
   lost = [];
   handed = refl;

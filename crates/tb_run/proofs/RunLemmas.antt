@@ -101,9 +101,9 @@ module _ {X I O : Type 0} (seat : X → SeatView) (ended : X → WorkEnd) (work 
   marks_of old new it Steps (Writes lane' o') d = absurd d
 
   full_of : (old new : SeatView) (w w' : Work I O) → Does old new end.Full w w' → WasFull new
-  full_of old new (Reads lane i) (Reads lane' i') d = d.1.ends
-  full_of old new (Writes lane o) (Writes lane' o') d = d.1.ends
-  full_of old new Steps Steps d = d.ends
+  full_of old new (Reads lane i) (Reads lane' i') d = d.1.ends.was
+  full_of old new (Writes lane o) (Writes lane' o') d = d.1.ends.was
+  full_of old new Steps Steps d = d.ends.was
   full_of old new (Reads lane i) (Writes lane' o') d = absurd d
   full_of old new (Reads lane i) Steps d = absurd d
   full_of old new (Writes lane o) (Reads lane' i') d = absurd d

@@ -20,7 +20,7 @@ use Rattle.tb_lock.specs.Histories.{IsSparse}
 use Rattle.tb_lock.specs.Calls.{Meets, Called, StopsBus, IsReply, noted, added}
 use Rattle.tb_run.specs.declared.ends.WorkEnd.{WorkEnd}
 use Rattle.tb_run.specs.declared.ends.WorkEnd.TheVariants as end
-use Rattle.tb_run.specs.Seats.{Adds, Stops, SeesTrace, WasFull, EndsWith, Ends, Hands, end_of}
+use Rattle.tb_run.specs.Seats.{Adds, FoundFull, Stops, SeesTrace, EndsWith, Ends, Hands, end_of}
 
 -- the laws of the shared bus
 abbrev pub SeenLaw : Type 0
@@ -101,10 +101,10 @@ adds_stop seen_law old new c =
     }
 
 pub stops_by : SeenLaw → (old new : SeatView) → StopsBus old new → Stops old new
-stops_by seen_law old new c = record { adds = adds_stop seen_law old new c; called = ap (λ (s : SeatView). s.called) c.seat }
+stops_by seen_law old new c = record { adds = adds_stop seen_law old new c; called = ap (λ (s : SeatView). s.called) c.seat; told = ap (λ (s : SeatView). s.told) c.seat }
 
 pub stops_on : (a b c : SeatView) → Adds a b [] → Stops b c → Stops a c
-stops_on a b c adds stops = record { adds = adds_on a b c [] [] adds stops.adds; called = stops.called }
+stops_on a b c adds stops = record { adds = adds_on a b c [] [] adds stops.adds; called = stops.called; told = stops.told }
 
 -- an input that was handed in
 module _ (seen_law : SeenLaw) (added_law : AddedLaw) (input : Input) (old new : SeatView) where
@@ -132,7 +132,7 @@ module _ (seen_law : SeenLaw) (added_law : AddedLaw) (input : Input) (old new : 
 -- what is left of a worker after a call that was refused, and after it stopped the bus
 abbrev pub Refused : SeatView → SeatView → WorkEnd → Type 0
 Refused old new end.Stopped = Adds old new [] × (new.called ≡ old.called) × (new.told ≡ true)
-Refused old new end.Full = Stops old new × WasFull new
+Refused old new end.Full = Stops old new × FoundFull new
 Refused old new end.NoMemory = Stops old new
 Refused old new end.Over = ⊥
 Refused old new end.Down = ⊥
@@ -148,14 +148,17 @@ refused_by seen_law added_law finds call old mid new fault.Stopped it may right 
     let told : mid.told ≡ true = ap (λ (s : SeatView). s.told) c.seat ∙ (ap (λ (b : Bool). old.told || b) (c.stopped.0 refl) ∙ or_true old.told) in
     subst (Refused old new) (sym e.0) (subst (λ (n : SeatView). Refused old n end.Stopped) (sym e.1) (adds_call seen_law added_law finds call old mid (Err fault.Stopped) right c, called, told))
 refused_by seen_law added_law finds call old mid new fault.Full it may right c e =
-    let full : WasFull new = record {
-      core = c.core;
-      call = call;
-      may = may;
-      rest = e.1.adds.rest;
-      origin = c.meets.origin ∙ sym (e.1.adds.origin ∙ ap (λ (s : SeatView). s.origin) c.seat);
-      seen = e.1.adds.seen ∙ ap (λ (s : List Entry). s ++ e.1.adds.rest) (ap (λ (s : SeatView). s.seen) c.seat ∙ append-nil c.core.log);
-      full = c.full refl;
+    let full : FoundFull new = record {
+      was = record {
+        core = c.core;
+        call = call;
+        may = may;
+        rest = e.1.adds.rest;
+        origin = c.meets.origin ∙ sym (e.1.adds.origin ∙ ap (λ (s : SeatView). s.origin) c.seat);
+        seen = e.1.adds.seen ∙ ap (λ (s : List Entry). s ++ e.1.adds.rest) (ap (λ (s : SeatView). s.seen) c.seat ∙ append-nil c.core.log);
+        full = c.full refl;
+      };
+      right = subst (λ (r : Rights). has r (right_to call) ≡ true) (sym (e.1.adds.rights ∙ ap (λ (s : SeatView). s.rights) c.seat)) right;
     } in
     subst (Refused old new) (sym e.0) (stops_on old mid new (adds_call seen_law added_law finds call old mid (Err fault.Full) right c) e.1, full)
 refused_by seen_law added_law finds call old mid new fault.NoMemory it may right c e =

@@ -81,6 +81,8 @@ pub record LaneStopped (log : List Entry) (lane : ℕ) (old new : LaneView) : Ty
   pub gave : new.gave ≡ and_given old.gave (fed ++ last) over
   pub lines : AreLines lane fed (inputs log lane)
   pub one : length last ≤ 1
+  -- where it was read to the end, the log lacks nothing of it
+  pub whole : over ≡ true → last ≡ []
   pub put : List Out
   pub lost : List Out
   pub handed : sent log lane ≡ put ++ lost

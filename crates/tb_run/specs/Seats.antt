@@ -12,7 +12,7 @@ use Rattle.tb_core.specs.declared.answers.CoreFault.{CoreFault}
 use Rattle.tb_core.specs.declared.answers.CoreFault.TheVariants as fault
 use Rattle.tb_core.specs.Cores.{CoreState, Call, is_full}
 use Rattle.tb_core.specs.Full.{MayCall}
-use Rattle.tb_lock.specs.Rights.{own}
+use Rattle.tb_lock.specs.Rights.{has, own, right_to}
 use Rattle.tb_lock.specs.Histories.{IsSparse}
 use Rattle.tb_lock.specs.Seats.{SeatView}
 use Rattle.tb_run.specs.declared.ends.WorkEnd.{WorkEnd}
@@ -45,6 +45,11 @@ pub record WasFull (seat : SeatView) : Type 0 where
   pub seen : seat.seen ≡ core.log ++ rest
   pub full : is_full core call ≡ true
 
+-- and it is a call that the seat may make
+pub record FoundFull (seat : SeatView) : Type 0 where
+  pub was : WasFull seat
+  pub right : has seat.rights (right_to was.call) ≡ true
+
 -- the last entry that the seat has seen
 abbrev pub EndsWith : SeatView → Entry → Type 0
 EndsWith seat entry = (before : List Entry) × (seat.seen ≡ before ++ entry ∷ [])
@@ -53,6 +58,7 @@ EndsWith seat entry = (before : List Entry) × (seat.seen ≡ before ++ entry �
 pub record Stops (old new : SeatView) : Type 0 where
   pub adds : Adds old new []
   pub called : new.called ≡ true
+  pub told : new.told ≡ true
 
 -- What a worker's end says of the marks of its seat: it calls `stop` where it ends for want of room or of memory, and nowhere else.
 abbrev pub Marks : SeatView → SeatView → WorkEnd → Type 0
@@ -87,7 +93,7 @@ Hands input old new None = (reply : Reply) × Adds old new (Fed input reply ∷ 
 Hands input old new (Some end.Down) = Adds old new (Fed input (Dropped why.Down) ∷ []) × (new.called ≡ old.called) × EndsWith new (Fed input (Dropped why.Down))
 -- it was refused
 Hands input old new (Some end.Stopped) = Adds old new [] × (new.called ≡ old.called) × (new.told ≡ true)
-Hands input old new (Some end.Full) = Stops old new × WasFull new
+Hands input old new (Some end.Full) = Stops old new × FoundFull new
 Hands input old new (Some end.NoMemory) = Stops old new
 Hands input old new (Some end.Over) = ⊥
 Hands input old new (Some end.Failed) = ⊥

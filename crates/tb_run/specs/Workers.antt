@@ -24,7 +24,7 @@ use Rattle.tb_lane.specs.Sending.{taken_of}
 use Rattle.tb_lock.specs.Seats.{SeatView}
 use Rattle.tb_run.specs.declared.ends.WorkEnd.{WorkEnd}
 use Rattle.tb_run.specs.declared.ends.WorkEnd.TheVariants as end
-use Rattle.tb_run.specs.Seats.{Adds, Stops, Marks, EndsWith, WasFull}
+use Rattle.tb_run.specs.Seats.{Adds, Stops, Marks, EndsWith, FoundFull}
 
 -- the input that stands for what the inlet of a lane gave
 abbrev pub IsInputFor : ℕ → Given → Input → Type 0
@@ -69,7 +69,7 @@ ReaderEnds lane new end.Over = Unit {0}
 -- the last entry is an input of the lane that was dropped since the bus is down
 ReaderEnds lane new end.Down = (it : Input) × (given_on lane it ≡ Some it) × EndsWith new (Fed it (Dropped why.Down))
 ReaderEnds lane new end.Stopped = Unit {0}
-ReaderEnds lane new end.Full = WasFull new
+ReaderEnds lane new end.Full = FoundFull new
 ReaderEnds lane new end.Failed = ⊥
 ReaderEnds lane new end.NoMemory = Unit {0}
 
@@ -124,7 +124,7 @@ WriterEnds lane new end.Over = ⊥
 -- the bus is down, and nothing is left to be handed out
 WriterEnds lane new end.Down = (next_out lane (bus_of new).bench ≡ None) × ((bus_of new).down ≡ true)
 WriterEnds lane new end.Stopped = Unit {0}
-WriterEnds lane new end.Full = WasFull new
+WriterEnds lane new end.Full = FoundFull new
 WriterEnds lane new end.Failed = ⊥
 WriterEnds lane new end.NoMemory = Unit {0}
 
@@ -172,7 +172,7 @@ TickerEnds Enough tail new count faults_old faults_new ended end.Over = IsNoTick
 TickerEnds Enough tail new count faults_old faults_new ended end.Failed = IsNoTicks tail × Rose faults_old faults_new
 -- the last entry is a tick that was dropped since the bus is down
 TickerEnds Enough tail new count faults_old faults_new ended end.Down = (tail ≡ []) × EndsWith new (Fed input.Tick (Dropped why.Down))
-TickerEnds Enough tail new count faults_old faults_new ended end.Full = (tail ≡ []) × WasFull new
+TickerEnds Enough tail new count faults_old faults_new ended end.Full = (tail ≡ []) × FoundFull new
 TickerEnds Enough tail new count faults_old faults_new ended end.Stopped = tail ≡ []
 TickerEnds Enough tail new count faults_old faults_new ended end.NoMemory = tail ≡ []
 
@@ -196,7 +196,7 @@ abbrev pub StepperEnds : SeatView → WorkEnd → Type 0
 StepperEnds new end.Over = ⊥
 StepperEnds new end.Down = (bus_of new).down ≡ true
 StepperEnds new end.Stopped = Unit {0}
-StepperEnds new end.Full = WasFull new
+StepperEnds new end.Full = FoundFull new
 StepperEnds new end.Failed = ⊥
 StepperEnds new end.NoMemory = Unit {0}
 
@@ -227,7 +227,7 @@ going_on (Some end.NoMemory) = Some end.NoMemory
 abbrev pub CutsOff : ℕ → SeatView → SeatView → Option WorkEnd → Type 0
 CutsOff lane old new None = (reply : Reply) × Adds old new (Fed (input.Cut lane) reply ∷ []) × (new.called ≡ old.called)
 CutsOff lane old new (Some end.Stopped) = Adds old new [] × (new.called ≡ old.called) × (new.told ≡ true)
-CutsOff lane old new (Some end.Full) = Stops old new × WasFull new
+CutsOff lane old new (Some end.Full) = Stops old new × FoundFull new
 CutsOff lane old new (Some end.NoMemory) = Stops old new
 CutsOff lane old new (Some end.Over) = ⊥
 CutsOff lane old new (Some end.Down) = ⊥
