@@ -31,7 +31,7 @@ pub use living::{Living, Ready};
 pub use marks::Marks;
 pub use origin::Origin;
 pub use places::place_of;
-pub use resting::{TOOL_MARK, all_rest};
+pub use resting::all_rest;
 pub use search::first_candidate;
 pub use shapes::{
     commands_are_the_origins, entries_are_in_shape, entries_are_limited,

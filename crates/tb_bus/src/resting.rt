@@ -2,23 +2,16 @@
 
 ghost use Rattle.std.specs.Prelude.{◌≡◌, IfOk, is_some, not};
 ghost use Rattle.tb_bus.specs.Exchanges.{exchange_for, setting_by};
-ghost use Rattle.tb_bus.specs.Helpers.Indexed.{all_rest, own_rests, rests, tool_mark};
+ghost use Rattle.tb_bus.specs.Helpers.Indexed.{all_rest, own_rests, rests};
 
 use crate::action::{Action, OwnAction, ToolAction};
 use crate::exchanging::{Speaker, exchange_for};
 use crate::living::Living;
 use std::alloc::Global;
 use tb_body::Program;
-use tb_index::Mark;
 use tb_notes::Inbox;
 use tb_terms::NoMemory;
 use tb_tools::Bench;
-
-/// The mark of whoever speaks with tools. No message has as many terms.
-pub const TOOL_MARK: Mark = Mark {
-    count: usize::MAX,
-    head: 1,
-};
 
 fn own_rests(inbox: &Inbox, own: &OwnAction) -> Result<bool, NoMemory>
     ensures { IfOk result (λ rest. rest ≡ own_rests inbox.now.held own.now) }
@@ -59,7 +52,15 @@ fn rests_alone<W>(
         Action::TakeNote(patterns) => Ok(living.inbox.find(patterns)?.is_none()),
         Action::Speak(does) => {
             let body = living.body;
-            is_silent(alloc, &Speaker { program, bench, body }, does)
+            is_silent(
+                alloc,
+                &Speaker {
+                    program,
+                    bench,
+                    body,
+                },
+                does,
+            )
         }
     }
 }

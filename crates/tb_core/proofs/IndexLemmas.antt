@@ -10,14 +10,13 @@ use Rattle.tb_index.specs.Marks.{has_mark, is_mark}
 use Rattle.tb_index.specs.declared.mark.Mark.{Mark}
 use Rattle.tb_index.specs.declared.mark.Marks.{Marks}
 use Rattle.tb_bus.specs.Helpers.Candidates.{Row, ascend, row_of, rows_of}
-use Rattle.tb_bus.specs.Helpers.Indexed.{IsIndexed, received_by, received_marks, sent_by, sent_marks}
+use Rattle.tb_bus.specs.Helpers.Indexed.{sent_by, sent_marks}
 use Rattle.tb_bus.specs.declared.living.Living.{Living}
 use Rattle.tb_bus.specs.declared.living.Ready.{Ready}
 use Rattle.tb_bus.proofs.TurnLemmas.{ascend-first}
 use Rattle.tb_core.specs.Helpers.Holdings.{bare, bares_of}
-use Rattle.tb_core.specs.Helpers.Indexes.{IsRightForAll, HasNothing, IsRightFor, IsUnmarked, KeepsOf, is_alive}
+use Rattle.tb_core.specs.Helpers.Indexes.{IsMarked, IsRightForAll, HasNothing, IsRightFor, IsUnmarked, KeepsOf, found_by, found_marks, is_alive}
 use Rattle.tb_core.specs.Helpers.Lives.{IsBelow}
-use Rattle.tb_core.specs.Helpers.LiveBuses.{AreFresh}
 use Rattle.tb_core.proofs.ReadLemmas.{above-there}
 
 has-own : (marks : List Mark) (k : ℕ) (d : Mark) → k < length marks → has_mark marks (get_or marks k d) ≡ true
@@ -29,10 +28,10 @@ has-own (mark ∷ marks) (suc k) d l =
 
 -- a process is indexed where the index has just its marks
 indexed-by : (index : IndexState) (row : Row) → ((mark : Mark) → sends index mark row.number ≡ has_mark (sent_marks row.ready) mark) →
-    ((mark : Mark) → receives index mark row.number ≡ has_mark (received_marks row.ready) mark) → IsIndexed index row
+    ((mark : Mark) → receives index mark row.number ≡ has_mark (found_marks row.ready) mark) → IsMarked index row
 indexed-by index row sent received = record {
   sent = λ k d l. sent (get_or (sent_marks row.ready) k d) ∙ has-own (sent_marks row.ready) k d l;
-  received = λ k d l. received (get_or (received_marks row.ready) k d) ∙ has-own (received_marks row.ready) k d l;
+  received = λ k d l. received (get_or (found_marks row.ready) k d) ∙ has-own (found_marks row.ready) k d l;
 }
 
 -- who is alive
@@ -136,10 +135,10 @@ keeps-turned old new number awake turned other ne = record {
 pub kept-nothing : (old new : IndexState) (number : ℕ) → KeepsOf old new number → HasNothing old number → HasNothing new number
 kept-nothing old new number k h = record { sent = λ mark. k.sent mark ∙ h.sent mark; received = λ mark. k.received mark ∙ h.received mark; asleep = k.awake ∙ h.asleep }
 
-kept-row : (old new : IndexState) (row : Row) → KeepsOf old new row.number → IsIndexed old row → IsIndexed new row
+kept-row : (old new : IndexState) (row : Row) → KeepsOf old new row.number → IsMarked old row → IsMarked new row
 kept-row old new row k h = record {
   sent = All-weaker (λ (mark : Mark). sends old mark row.number ≡ true) (λ (mark : Mark). sends new mark row.number ≡ true) (λ mark e. k.sent mark ∙ e) (sent_marks row.ready) h.sent;
-  received = All-weaker (λ (mark : Mark). receives old mark row.number ≡ true) (λ (mark : Mark). receives new mark row.number ≡ true) (λ mark e. k.received mark ∙ e) (received_marks row.ready) h.received;
+  received = All-weaker (λ (mark : Mark). receives old mark row.number ≡ true) (λ (mark : Mark). receives new mark row.number ≡ true) (λ mark e. k.received mark ∙ e) (found_marks row.ready) h.received;
 }
 
 pub kept-right : {W : Type 0} (old new : IndexState) (living : Living W) → KeepsOf old new living.number → IsRightFor old living → IsRightFor new living
@@ -158,12 +157,12 @@ all-kept old new all k h = record {
 
 -- another in the place of one of the living
 
-same-row : (index : IndexState) (one other : Row) → other.number ≡ one.number → other.ready ≡ one.ready → IsIndexed index one → IsIndexed index other
+same-row : (index : IndexState) (one other : Row) → other.number ≡ one.number → other.ready ≡ one.ready → IsMarked index one → IsMarked index other
 same-row index one other number ready h = record {
   sent = subst (λ (rs : List Ready). All (λ (mark : Mark). sends index mark other.number ≡ true) (sent_marks rs)) (sym ready)
       (subst (λ n. All (λ (mark : Mark). sends index mark n ≡ true) (sent_marks one.ready)) (sym number) h.sent);
-  received = subst (λ (rs : List Ready). All (λ (mark : Mark). receives index mark other.number ≡ true) (received_marks rs)) (sym ready)
-      (subst (λ n. All (λ (mark : Mark). receives index mark n ≡ true) (received_marks one.ready)) (sym number) h.received);
+  received = subst (λ (rs : List Ready). All (λ (mark : Mark). receives index mark other.number ≡ true) (found_marks rs)) (sym ready)
+      (subst (λ n. All (λ (mark : Mark). receives index mark n ≡ true) (found_marks one.ready)) (sym number) h.received);
 }
 
 -- with the same marks, and fresh only where that one was, with the same that it is ready for
@@ -295,23 +294,23 @@ sent-append : (actions : List Ready) (ready : Ready) → sent_marks (actions ++ 
 sent-append [] ready = append-nil (sent_by ready.action)
 sent-append (first ∷ actions) ready = ap (λ ms. sent_by first.action ++ ms) (sent-append actions ready) ∙ sym (append_assoc (sent_by first.action) (sent_marks actions) (sent_by ready.action))
 
-received-append : (actions : List Ready) (ready : Ready) → received_marks (actions ++ ready ∷ []) ≡ received_marks actions ++ received_by ready.action
-received-append [] ready = append-nil (received_by ready.action)
-received-append (first ∷ actions) ready = ap (λ ms. received_by first.action ++ ms) (received-append actions ready) ∙ sym (append_assoc (received_by first.action) (received_marks actions) (received_by ready.action))
+received-append : (actions : List Ready) (ready : Ready) → found_marks (actions ++ ready ∷ []) ≡ found_marks actions ++ found_by ready.action
+received-append [] ready = append-nil (found_by ready.action)
+received-append (first ∷ actions) ready = ap (λ ms. found_by first.action ++ ms) (received-append actions ready) ∙ sym (append_assoc (found_by first.action) (found_marks actions) (found_by ready.action))
 
 pub sent-more : (actions : List Ready) (at : ℕ) (ready : Ready) (marks pushed : List Mark) → at < length actions → ready ≡ get_or actions at ready → pushed ≡ marks ++ sent_by ready.action → marks ≡ sent_marks (take at actions) → pushed ≡ sent_marks (take (at + 1) actions)
 sent-more actions at ready marks pushed within is e h =
     e ∙ ap (λ ms. ms ++ sent_by ready.action) h ∙ sym (sent-append (take at actions) ready) ∙ ap (λ r. sent_marks (take at actions ++ r ∷ [])) is ∙ ap sent_marks (sym (take_more actions at ready within))
 
-pub received-more : (actions : List Ready) (at : ℕ) (ready : Ready) (marks pushed : List Mark) → at < length actions → ready ≡ get_or actions at ready → pushed ≡ marks ++ received_by ready.action → marks ≡ received_marks (take at actions) → pushed ≡ received_marks (take (at + 1) actions)
+pub received-more : (actions : List Ready) (at : ℕ) (ready : Ready) (marks pushed : List Mark) → at < length actions → ready ≡ get_or actions at ready → pushed ≡ marks ++ found_by ready.action → marks ≡ found_marks (take at actions) → pushed ≡ found_marks (take (at + 1) actions)
 received-more actions at ready marks pushed within is e h =
-    e ∙ ap (λ ms. ms ++ received_by ready.action) h ∙ sym (received-append (take at actions) ready) ∙ ap (λ r. received_marks (take at actions ++ r ∷ [])) is ∙ ap received_marks (sym (take_more actions at ready within))
+    e ∙ ap (λ ms. ms ++ found_by ready.action) h ∙ sym (received-append (take at actions) ready) ∙ ap (λ r. found_marks (take at actions ++ r ∷ [])) is ∙ ap found_marks (sym (take_more actions at ready within))
 
 -- one that was looked at
 
 -- the index has the marks of what it is ready for now
 pub looked-right : {W : Type 0} (old set new : IndexState) (living : Living W) (looked marks : Marks) (awake : Bool) → IsRightFor old living → IsSet old set living.number looked.sends.items looked.receives.items → IsTurned set new living.number awake →
-    looked.sends.items ≡ sent_marks living.ready.items → looked.receives.items ≡ received_marks living.ready.items → marks ≡ looked → IsRightFor new (record living { marks = marks; fresh = true })
+    looked.sends.items ≡ sent_marks living.ready.items → looked.receives.items ≡ found_marks living.ready.items → marks ≡ looked → IsRightFor new (record living { marks = marks; fresh = true })
 looked-right old set new living looked marks awake h is turned sent received same =
     let sends_it : (mark : Mark) → sends new mark living.number ≡ has_mark looked.sends.items mark = λ mark. turned.same_sends mark living.number ∙ is.own_sends mark in
     let receives_it : (mark : Mark) → receives new mark living.number ≡ has_mark looked.receives.items mark = λ mark. turned.same_receives mark living.number ∙ is.own_receives mark in
@@ -324,10 +323,10 @@ looked-right old set new living looked marks awake h is turned sent received sam
 
 -- one that wakes or falls asleep
 
-turned-row : (old new : IndexState) (number : ℕ) (awake : Bool) (row : Row) → IsTurned old new number awake → IsIndexed old row → IsIndexed new row
+turned-row : (old new : IndexState) (number : ℕ) (awake : Bool) (row : Row) → IsTurned old new number awake → IsMarked old row → IsMarked new row
 turned-row old new number awake row turned h = record {
   sent = All-weaker (λ (mark : Mark). sends old mark row.number ≡ true) (λ (mark : Mark). sends new mark row.number ≡ true) (λ mark e. turned.same_sends mark row.number ∙ e) (sent_marks row.ready) h.sent;
-  received = All-weaker (λ (mark : Mark). receives old mark row.number ≡ true) (λ (mark : Mark). receives new mark row.number ≡ true) (λ mark e. turned.same_receives mark row.number ∙ e) (received_marks row.ready) h.received;
+  received = All-weaker (λ (mark : Mark). receives old mark row.number ≡ true) (λ (mark : Mark). receives new mark row.number ≡ true) (λ mark e. turned.same_receives mark row.number ∙ e) (found_marks row.ready) h.received;
 }
 
 turned-right : {W : Type 0} (old new : IndexState) (number : ℕ) (awake : Bool) (living : Living W) → IsTurned old new number awake → IsRightFor old living → IsRightFor new living

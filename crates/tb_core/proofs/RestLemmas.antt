@@ -10,11 +10,11 @@ use Rattle.std.proofs.Math.ListN.{get_or-map}
 use Rattle.tb_terms.specs.declared.term.Term.{Term}
 use Rattle.tb_notes.specs.Inboxes.{Held, first_match, nothing, wants, with_note}
 use Rattle.tb_index.specs.Indexes.{IndexState, IsTurned, is_awake, is_receiver, receives}
-use Rattle.tb_index.specs.Marks.{wide}
+use Rattle.tb_index.specs.Marks.{received_mark, wide}
 use Rattle.tb_index.specs.declared.mark.Mark.{Mark}
 use Rattle.tb_bus.specs.Exchanges.{Setting}
 use Rattle.tb_bus.specs.Helpers.Candidates.{Row, ascend, row_at, row_of, rows_of, wanting}
-use Rattle.tb_bus.specs.Helpers.Indexed.{IsIndexed, IsIndexFor, IsNextPlace, SleepsAtRest, all_rest, own_rests, received_by, received_marks, rests, tool_mark}
+use Rattle.tb_bus.specs.Helpers.Indexed.{IsIndexed, IsIndexFor, IsNextPlace, SleepsAtRest, all_rest, own_rests, received_by, received_marks, rests}
 use Rattle.tb_bus.specs.declared.action.Action.{Action}
 use Rattle.tb_bus.specs.declared.action.Action.TheVariants as action
 use Rattle.tb_bus.specs.declared.action.OwnAction.{OwnAction}
@@ -24,7 +24,7 @@ use Rattle.tb_bus.specs.declared.living.Ready.{Ready}
 use Rattle.tb_bus.proofs.IndexLemmas.{all-left, all-right}
 use Rattle.tb_bus.proofs.PlaceLemmas.{ascend-less, row-read}
 use Rattle.tb_core.specs.Helpers.Holdings.{bare, bares_of, helds_of, held_at, IsHeldAt, with_given}
-use Rattle.tb_core.specs.Helpers.Indexes.{AreStillAwake, IsAwakeAt, IsRested, IsRightFor, IsRightForAll, KeepsOf, rest_among, rest_with, rests_among, rests_with}
+use Rattle.tb_core.specs.Helpers.Indexes.{AreStillAwake, IsAwakeAt, IsRested, IsRightFor, IsMarked, IsRightForAll, KeepsOf, found_by, found_marks, rest_among, rest_with, rests_among, rests_with, tool_mark}
 use Rattle.tb_core.specs.Helpers.LiveBuses.{AreFresh}
 use Rattle.tb_core.proofs.IndexLemmas.{keeps-turned, neither}
 
@@ -130,7 +130,7 @@ module _ {W : Type 0} (settings : ℕ → Setting) (stirred : Bool) where
   pub rested-turned : (old new : IndexState) (living : Living W) (rest : Bool) → IsTurned old new living.number (not rest) → rest ≡ all_rest (settings living.body) living.inbox.held living.ready.items → IsRested settings stirred new living
   rested-turned old new living rest turned is =
       let both = λ (asleep : is_awake new living.number ≡ false).
-          all-parts (settings living.body) living.inbox.held living.ready.items (sym is ∙ asleep-by new living.number rest turned.own_awake asleep) in
+      all-parts (settings living.body) living.inbox.held living.ready.items (sym is ∙ asleep-by new living.number rest turned.own_awake asleep) in
       record {
         queue = λ fresh asleep. (both asleep).0;
         tools = λ calm fresh asleep. (both asleep).1;
@@ -281,7 +281,7 @@ module _ {W : Type 0} (all : List (Living W)) (order : ascend 0 (rows_of all) �
 
 -- those that speak with tools
 
-among-unheard : (setting : Setting) (index : IndexState) (proc : ℕ) (does : Action) → receives index tool_mark proc ≡ false → All (λ (mark : Mark). receives index mark proc ≡ true) (received_by does) → rests_among setting does ≡ true
+among-unheard : (setting : Setting) (index : IndexState) (proc : ℕ) (does : Action) → receives index tool_mark proc ≡ false → All (λ (mark : Mark). receives index mark proc ≡ true) (found_by does) → rests_among setting does ≡ true
 among-unheard setting index proc (action.Own does) deaf h = refl
 among-unheard setting index proc (action.Send terms) deaf h = refl
 among-unheard setting index proc (action.Receive patterns) deaf h = refl
@@ -289,12 +289,12 @@ among-unheard setting index proc (action.Notify terms) deaf h = refl
 among-unheard setting index proc (action.TakeNote patterns) deaf h = refl
 among-unheard setting index proc (action.Speak does) deaf h = absurd (false≢true (sym deaf ∙ All-head (λ (mark : Mark). receives index mark proc ≡ true) tool_mark [] h))
 
-all-unheard : (setting : Setting) (index : IndexState) (proc : ℕ) (some : List Ready) → receives index tool_mark proc ≡ false → All (λ (mark : Mark). receives index mark proc ≡ true) (received_marks some) → rest_among setting some ≡ true
+all-unheard : (setting : Setting) (index : IndexState) (proc : ℕ) (some : List Ready) → receives index tool_mark proc ≡ false → All (λ (mark : Mark). receives index mark proc ≡ true) (found_marks some) → rest_among setting some ≡ true
 all-unheard setting index proc [] deaf h = refl
 all-unheard setting index proc (ready ∷ others) deaf h =
     and_from (rests_among setting ready.action) (rest_among setting others)
-    (among-unheard setting index proc ready.action deaf (all-left (λ (mark : Mark). receives index mark proc ≡ true) (received_by ready.action) (received_marks others) h))
-    (all-unheard setting index proc others deaf (all-right (λ (mark : Mark). receives index mark proc ≡ true) (received_by ready.action) (received_marks others) h))
+    (among-unheard setting index proc ready.action deaf (all-left (λ (mark : Mark). receives index mark proc ≡ true) (found_by ready.action) (found_marks others) h))
+    (all-unheard setting index proc others deaf (all-right (λ (mark : Mark). receives index mark proc ≡ true) (found_by ready.action) (found_marks others) h))
 
 -- whom the index doesn't name speaks with none, so that nothing of them keeps it awake
 pub rested-unheard : {W : Type 0} (settings : ℕ → Setting) (stirred : Bool) (index : IndexState) (living : Living W) → IsRightFor index living → is_receiver index tool_mark living.number ≡ false → IsRested settings stirred index living → IsRested settings false index living
@@ -341,11 +341,28 @@ settled-end settings index all at past h k d within = h k d (omega arith) within
 row-asleep : {W : Type 0} (settings : ℕ → Setting) (index : IndexState) (living : Living W) → living.fresh ≡ true → IsRested settings false index living → SleepsAtRest settings index (row_of living)
 row-asleep settings index living fresh h asleep = all-whole (settings living.body) living.inbox.held living.ready.items (h.queue fresh asleep) (h.tools refl fresh asleep)
 
+-- who is found under all its marks is so under those of what it receives
+
+found-one : (P : Mark → Type 0) (does : Action) (more less : List Mark) → (All P more → All P less) → All P (found_by does ++ more) → All P (received_by does ++ less)
+found-one P (action.Own does) more less to h = to h
+found-one P (action.Send terms) more less to h = to h
+found-one P (action.Receive patterns) more less to h = All-cons P (received_mark patterns) less (All-head P (received_mark patterns) more h) (to (All-tail P (received_mark patterns) more h))
+found-one P (action.Notify terms) more less to h = to h
+found-one P (action.TakeNote patterns) more less to h = to h
+found-one P (action.Speak does) more less to h = to (All-tail P tool_mark more h)
+
+found-received : (P : Mark → Type 0) (some : List Ready) → All P (found_marks some) → All P (received_marks some)
+found-received P [] h = h
+found-received P (ready ∷ others) h = found-one P ready.action (found_marks others) (received_marks others) (found-received P others) h
+
+row-indexed : (index : IndexState) (row : Row) → IsMarked index row → IsIndexed index row
+row-indexed index row h = record { sent = h.sent; received = found-received (λ (mark : Mark). receives index mark row.number ≡ true) row.ready h.received }
+
 rows-indexed : {W : Type 0} (index : IndexState) (all : List (Living W)) → All (IsRightFor index) all → AreFresh all → All (IsIndexed index) (rows_of all)
 rows-indexed index [] h fresh = All-nil (IsIndexed index)
 rows-indexed index (living ∷ all) h fresh =
     All-cons (IsIndexed index) (row_of living) (rows_of all)
-    ((All-head (IsRightFor index) living all h).fresh (All-head (λ living. living.fresh ≡ true) living all fresh))
+    (row-indexed index (row_of living) ((All-head (IsRightFor index) living all h).fresh (All-head (λ living. living.fresh ≡ true) living all fresh)))
     (rows-indexed index all (All-tail (IsRightFor index) living all h) (All-tail (λ living. living.fresh ≡ true) living all fresh))
 
 rows-asleep : {W : Type 0} (settings : ℕ → Setting) (index : IndexState) (all : List (Living W)) → All (IsRested settings false index) all → AreFresh all → All (SleepsAtRest settings index) (rows_of all)

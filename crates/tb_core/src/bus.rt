@@ -7,7 +7,7 @@ use crate::acting::{
     Done, NOWHERE, created, end_label, finish_reason, halt_reason, kind_alone, printed, shut_down,
 };
 use crate::inboxes::{hand_out, subscribe_at, take_note_at, unsubscribe_at};
-use crate::indexing::{index_of, no_marks, turn, update};
+use crate::indexing::{TOOL_MARK, index_of, no_marks, turn, update};
 use crate::looking::{go_on, look};
 use crate::opening::{numbers_of, open_all, open_at, plan_all};
 use crate::speaking::{is_declared, seen_size, speak};
@@ -16,7 +16,7 @@ use std::alloc::Global;
 use tb_algebra::Walker;
 use tb_bus::{
     Action, Candidate, Exchange, Living, Marks, Origin, OwnAction, Partner, Ready, Received,
-    TOOL_MARK, all_rest, first_candidate, place_of,
+    all_rest, first_candidate, place_of,
 };
 use tb_index::{Index, Marks as KeptMarks};
 use tb_log::{Input, Label, LabelKind, Place, Reply, ToolLine, Why, total_size};
@@ -77,8 +77,8 @@ impl<W: Walker> LiveBus<W> {
     ghost use Rattle.tb_bus.specs.Helpers.Candidates.{first, row_at, rows_of};
     ghost use Rattle.tb_bus.specs.Helpers.Views.{ready_at, offer_of, proc_at, IsCandidateIn};
     ghost use Rattle.tb_index.specs.Indexes.{is_awake, is_receiver};
-    ghost use Rattle.tb_bus.specs.Helpers.Indexed.{IsNextPlace, tool_mark};
-    ghost use Rattle.tb_core.specs.Helpers.Indexes.{AreStillAwake, IsAwakeAt};
+    ghost use Rattle.tb_bus.specs.Helpers.Indexed.{IsNextPlace};
+    ghost use Rattle.tb_core.specs.Helpers.Indexes.{AreStillAwake, IsAwakeAt, tool_mark};
     ghost use Rattle.tb_core.specs.Cores.{takes_memory};
     ghost use Rattle.tb_core.specs.Helpers.Makings.{effect_by, IsPlainIn};
     ghost use Rattle.tb_core.specs.Helpers.LiveBuses.{bus_of, procs_in, scene_in, move_in, AreFresh, AreSettled, IsFreshOr, IsSettledAt, IsSound, IsStaleAt, IsSetAt, StandsAs, Leaves, CanAdvance, IsAdvanced, AreAdvanced, IsKept, IsDone, IsChanged, HasGone, IsMade};
@@ -230,7 +230,9 @@ impl<W: Walker> LiveBus<W> {
         requires within { from < length self.now.living.items }
         ensures { IsNextPlace (is_receiver self.now.index tool_mark) (rows_of self.now.living.items) from result }
     {
-        let found = self.index.next_receiver(TOOL_MARK, self.living[from].number);
+        let found = self
+            .index
+            .next_receiver(TOOL_MARK, self.living[from].number);
         place_of(self.living.as_slice(), from, found)
     }
 

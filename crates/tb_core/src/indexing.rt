@@ -1,17 +1,23 @@
 ghost use Rattle.std.specs.Prelude.{◌≡◌, ◌≢◌, ◌++◌, ℕ, [], Bool, IfOk, OnOk, not, true, false};
 ghost use Rattle.std.specs.List.{All};
 ghost use Rattle.tb_index.specs.Indexes.{HasRoom, IsTurned};
-ghost use Rattle.tb_bus.specs.Helpers.Indexed.{received_by, received_marks, sent_by, sent_marks, tool_mark};
+ghost use Rattle.tb_bus.specs.Helpers.Indexed.{sent_by, sent_marks};
 ghost use Rattle.tb_bus.specs.Exchanges.{setting_by};
-ghost use Rattle.tb_core.specs.Helpers.Indexes.{HasNothing, IsRested, IsRightFor, KeepsOf};
+ghost use Rattle.tb_core.specs.Helpers.Indexes.{HasNothing, IsRested, IsRightFor, KeepsOf, found_by, found_marks, tool_mark};
 
 use std::alloc::Global;
 use std::mem;
 use tb_body::Program;
-use tb_bus::{Action, Living, Ready, TOOL_MARK, all_rest};
-use tb_index::{Index, Marks, received_mark, sent_mark};
+use tb_bus::{Action, Living, Ready, all_rest};
+use tb_index::{Index, Mark, Marks, received_mark, sent_mark};
 use tb_terms::NoMemory;
 use tb_tools::Bench;
+
+/// The mark of whoever speaks with tools. No message has as many terms.
+pub const TOOL_MARK: Mark = Mark {
+    count: usize::MAX,
+    head: 1,
+};
 
 /// No marks.
 pub fn no_marks(alloc: Global) -> Marks
@@ -36,10 +42,10 @@ pub fn index_of(alloc: Global, numbers: &[u32]) -> Result<Index, NoMemory>
     Ok(index)
 }
 
-/// Adds the mark of what an action sends or receives.
+/// Adds the mark of what an action sends or receives, or that of tools.
 fn push_mark(marks: &mut Marks, action: &Action) -> Result<(), NoMemory>
     ensures sends { OnOk result (marks.new.sends.items ≡ marks.old.sends.items ++ sent_by action.now) }
-    ensures receives { OnOk result (marks.new.receives.items ≡ marks.old.receives.items ++ received_by action.now) }
+    ensures receives { OnOk result (marks.new.receives.items ≡ marks.old.receives.items ++ found_by action.now) }
 {
     match action {
         Action::Send(terms) => marks.sends.push(sent_mark(terms))?,
@@ -53,7 +59,7 @@ fn push_mark(marks: &mut Marks, action: &Action) -> Result<(), NoMemory>
 /// Puts together the marks of what these actions send and receive.
 fn fill_marks(marks: &mut Marks, actions: &[Ready]) -> Result<(), NoMemory>
     ensures sends { OnOk result (marks.new.sends.items ≡ sent_marks actions.now) }
-    ensures receives { OnOk result (marks.new.receives.items ≡ received_marks actions.now) }
+    ensures receives { OnOk result (marks.new.receives.items ≡ found_marks actions.now) }
 {
     marks.sends.clear();
     marks.receives.clear();

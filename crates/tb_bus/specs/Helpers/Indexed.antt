@@ -13,10 +13,6 @@ use Rattle.tb_bus.specs.declared.action.OwnAction.{OwnAction}
 use Rattle.tb_bus.specs.declared.action.OwnAction.TheVariants as own
 use Rattle.tb_bus.specs.declared.living.Ready.{Ready}
 
--- The mark of whoever speaks with tools, beside those of messages: under it all of these are found once a lane has changed.
-abbrev pub tool_mark : Mark
-tool_mark = record { count = 18446744073709551615; head = 1 }
-
 -- the mark of what an action sends, and of what it receives
 abbrev pub sent_by : Action → List Mark
 sent_by (action.Own own) = []
@@ -32,7 +28,7 @@ received_by (action.Send terms) = []
 received_by (action.Receive patterns) = received_mark patterns ∷ []
 received_by (action.Notify terms) = []
 received_by (action.TakeNote patterns) = []
-received_by (action.Speak does) = tool_mark ∷ []
+received_by (action.Speak does) = []
 
 -- the marks of all that a process is ready to send, and to receive
 abbrev pub sent_marks : List Ready → List Mark

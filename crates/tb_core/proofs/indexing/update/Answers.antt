@@ -1,5 +1,6 @@
 use Rattle.std.proofs.Common.{◌∙◌, ap, not, true}
-use Rattle.tb_bus.specs.Helpers.Indexed.{received_marks, sent_marks}
+use Rattle.tb_bus.specs.Helpers.Indexed.{sent_marks}
+use Rattle.tb_core.specs.Helpers.Indexes.{found_marks}
 use Rattle.tb_bus.specs.Exchanges.{setting_by}
 use Rattle.tb_core.proofs.IndexLemmas.{keeps-self, keeps-same, keeps-set, keeps-then, keeps-turned, kept-right, looked-right}
 use Rattle.tb_core.proofs.RestLemmas.{rested-stale, rested-turned}
@@ -18,7 +19,7 @@ returns-in_err-set-clause-others g c other ne = keeps-same c.args.index.now c.se
 pub returns-clause-right : goal.returns-clause-right
 returns-clause-right g c =
     looked-right c.args.index.now c.set.new.self c.turn.new.index c.args.living.now c.fill_marks.new.marks c.swap.new.x (not c.in_ok-rest.rest) c.requires.right c.in_ok-set.ensures.ok c.turn.ensures
-    (c.in_ok-fill_marks.ensures.sends ∙ ap sent_marks c.as_slice.ensures.value) (c.in_ok-fill_marks.ensures.receives ∙ ap received_marks c.as_slice.ensures.value) c.swap.ensures.x_after
+    (c.in_ok-fill_marks.ensures.sends ∙ ap sent_marks c.as_slice.ensures.value) (c.in_ok-fill_marks.ensures.receives ∙ ap found_marks c.as_slice.ensures.value) c.swap.ensures.x_after
 
 pub returns-in_err-all_rest-clause-rested : goal.returns-in_err-all_rest-clause-rested
 returns-in_err-all_rest-clause-rested g c stirred =
