@@ -178,7 +178,7 @@ module _ {W : Type 0} (index : IndexState) (old new : List (Living W)) (long : l
   pub stays-unheld : helds_of new ≡ helds_of old → (k : ℕ) (d : Living W) → k < length old →
       ((get_or new k d).inbox.held.notes ≡ (get_or old k d).inbox.held.notes) ⊎ (((get_or old k d).fresh ≡ false) ⊎ (is_awake index (get_or old k d).number ≡ true))
   stays-unheld e k d within =
-      inl (ap (λ (h : Held). h.notes) (sym (held-of new k d (omega arith)) ∙ ap (λ (hs : List Held). get_or hs k nothing) e ∙ held-of old k d within))
+      inl (ap (λ (h : Held). h.notes) (sym (held-of new k d (omega (arith, long, within))) ∙ ap (λ (hs : List Held). get_or hs k nothing) e ∙ held-of old k d within))
 
   -- another at one index
   module _ (at : ℕ) (before : Living W) (held : Held) (here : slice_get old at ≡ Some before) (changed : IsHeldAt old at held new) where
@@ -190,15 +190,15 @@ module _ {W : Type 0} (index : IndexState) (old new : List (Living W)) (long : l
         let many = length-map old (λ (l : Living W). l.inbox.held) in
         let is : before ≡ get_or old k d = sym (get_or_from_slice_get old at before d here) ∙ ap (λ (n : ℕ). get_or old n d) (sym e) in
         inl (ap (λ (h : Held). h.notes)
-        (sym (held-of new k d (omega arith)) ∙ ap (λ (hs : List Held). get_or hs k nothing) changed.helds ∙ ap (λ (n : ℕ). get_or (slice_set (helds_of old) at held) n nothing) e
-        ∙ get_or-set_same (helds_of old) at held nothing (omega arith)) ∙ notes ∙ ap (λ (l : Living W). l.inbox.held.notes) is)
+        (sym (held-of new k d (omega (arith, long, within))) ∙ ap (λ (hs : List Held). get_or hs k nothing) changed.helds ∙ ap (λ (n : ℕ). get_or (slice_set (helds_of old) at held) n nothing) e
+        ∙ get_or-set_same (helds_of old) at held nothing (omega (arith, many, within, e))) ∙ notes ∙ ap (λ (l : Living W). l.inbox.held.notes) is)
 
     pub stays-held : (held.notes ≡ before.inbox.held.notes) ⊎ (before.fresh ≡ false) → (k : ℕ) (d : Living W) → k < length old →
         ((get_or new k d).inbox.held.notes ≡ (get_or old k d).inbox.held.notes) ⊎ (((get_or old k d).fresh ≡ false) ⊎ (is_awake index (get_or old k d).number ≡ true))
     stays-held h k d within = ⊎_elim
         (λ (e : k ≡ at). stays-at k d within e h)
         (λ (ne : k ≡ at → ⊥). inl (ap (λ (h : Held). h.notes)
-        (sym (held-of new k d (omega arith)) ∙ ap (λ (hs : List Held). get_or hs k nothing) changed.helds ∙ get_or-set_other (helds_of old) at k held nothing ne ∙ held-of old k d within)))
+        (sym (held-of new k d (omega (arith, long, within))) ∙ ap (λ (hs : List Held). get_or hs k nothing) changed.helds ∙ get_or-set_other (helds_of old) at k held nothing ne ∙ held-of old k d within)))
         (cases_eq k at)
 
   -- a note for each that wants it and is awake
@@ -215,7 +215,7 @@ module _ {W : Type 0} (index : IndexState) (old new : List (Living W)) (long : l
         let many = length-map old (λ (l : Living W). l.inbox.held) in
         let now : (get_or new k d).inbox.held ≡ with_given note was.inbox.held =
         sym (get_or-map (λ (l : Living W). l.inbox.held) new k d) ∙ ap (λ (hs : List Held). get_or hs k d.inbox.held) e
-        ∙ mapped-at (with_given note) (helds_of old) k d.inbox.held d.inbox.held (omega arith) ∙ ap (with_given note) (get_or-map (λ (l : Living W). l.inbox.held) old k d) in
+        ∙ mapped-at (with_given note) (helds_of old) k d.inbox.held d.inbox.held (omega (arith, many, within)) ∙ ap (with_given note) (get_or-map (λ (l : Living W). l.inbox.held) old k d) in
         given-notes was (get_or new k d).inbox.held (wants was.inbox.held note) refl now (λ w. awake k d within w)
 
 -- those that want a note
@@ -243,8 +243,9 @@ pub wanting-awake : {W : Type 0} (index : IndexState) (note : List Term) (all : 
 wanting-awake index note all indices e h k d within w =
     let many = length-map all row_of in
     let row = row-read all k d within in
+    let same : 0 + k ≡ k = omega arith in
     ap (λ (r : Row). is_awake index r.number) (sym row)
-    ∙ wanted-each (IsAwakeAt index all) note 0 (rows_of all) k (subst (All (IsAwakeAt index all)) e h) (omega arith) (ap (λ (r : Row). wants r.inbox note) row ∙ w)
+    ∙ subst (IsAwakeAt index all) same (wanted-each (IsAwakeAt index all) note 0 (rows_of all) k (subst (All (IsAwakeAt index all)) e h) (omega arith) (ap (λ (r : Row). wants r.inbox note) row ∙ w))
 
 -- one more is awake
 pub awake-more : {W : Type 0} (old new : IndexState) (all : List (Living W)) (indices : List ℕ) (so_far at : ℕ) → so_far < length indices → at ≡ get_or indices so_far at → AreStillAwake old new → IsAwakeAt new all at →

@@ -21,12 +21,12 @@ returns-clause-right g c =
     looked-right c.args.index.now c.set.new.self c.turn.new.index c.args.living.now c.fill_marks.new.marks c.swap.new.x (not c.in_ok-rest.rest) c.requires.right c.in_ok-set.ensures.ok c.turn.ensures
     (c.in_ok-fill_marks.ensures.sends ∙ ap sent_marks c.as_slice.ensures.value) (c.in_ok-fill_marks.ensures.receives ∙ ap found_marks c.as_slice.ensures.value) c.swap.ensures.x_after
 
-pub returns-in_err-all_rest-clause-rested : goal.returns-in_err-all_rest-clause-rested
-returns-in_err-all_rest-clause-rested g c stirred =
+pub returns-in_err-rest-clause-rested : goal.returns-in_err-rest-clause-rested
+returns-in_err-rest-clause-rested g c stirred =
     rested-stale (setting_by c.args.program.now.bodies c.args.program.now.tools c.args.bench.now) stirred c.args.index.now c.args.living.now c.requires.stale
 
-pub returns-in_err-all_rest-clause-others : goal.returns-in_err-all_rest-clause-others
-returns-in_err-all_rest-clause-others g c other ne = keeps-self c.args.index.now other
+pub returns-in_err-rest-clause-others : goal.returns-in_err-rest-clause-others
+returns-in_err-rest-clause-others g c other ne = keeps-self c.args.index.now other
 
 pub returns-in_err-fill_marks-clause-rested : goal.returns-in_err-fill_marks-clause-rested
 returns-in_err-fill_marks-clause-rested g c stirred =
