@@ -2,6 +2,7 @@
 
 ghost use Rattle.std.specs.Prelude.{◌≡◌, IfOk, is_some, not};
 ghost use Rattle.tb_bus.specs.Exchanges.{exchange_for, setting_by};
+ghost use Rattle.tb_notes.specs.Inboxes.{oldest_match};
 ghost use Rattle.tb_bus.specs.Helpers.Indexed.{all_rest, own_rests, rests};
 
 use crate::action::{Action, OwnAction, ToolAction};
@@ -10,14 +11,22 @@ use crate::living::Living;
 use std::alloc::Global;
 use tb_body::Program;
 use tb_notes::Inbox;
-use tb_terms::NoMemory;
+use tb_terms::{NoMemory, Patterns};
 use tb_tools::Bench;
+
+/// Whether a note in the queue matches.
+#[inline(never)]
+fn has_note(inbox: &Inbox, patterns: &Patterns) -> Result<bool, NoMemory>
+    ensures { IfOk result (λ there. there ≡ is_some (oldest_match patterns.now inbox.now.held)) }
+{
+    Ok(inbox.find(patterns)?.is_some())
+}
 
 fn own_rests(inbox: &Inbox, own: &OwnAction) -> Result<bool, NoMemory>
     ensures { IfOk result (λ rest. rest ≡ own_rests inbox.now.held own.now) }
 {
     match own {
-        OwnAction::NoNote(patterns) => Ok(inbox.find(patterns)?.is_some()),
+        OwnAction::NoNote(patterns) => has_note(inbox, patterns),
         OwnAction::Tau
         | OwnAction::Set(_, _)
         | OwnAction::Print(_)
@@ -28,15 +37,28 @@ fn own_rests(inbox: &Inbox, own: &OwnAction) -> Result<bool, NoMemory>
     }
 }
 
-fn is_silent(alloc: Global, speaker: &Speaker, does: &ToolAction) -> Result<bool, NoMemory>
-    ensures { IfOk result (λ rest. rest ≡ not (is_some (exchange_for (setting_by speaker.now.program.now.bodies speaker.now.program.now.tools speaker.now.bench.now speaker.now.body) does.now))) }
+/// Whether an action that speaks with a tool can't happen.
+#[inline(never)]
+fn is_silent(
+    alloc: Global,
+    program: &Program,
+    bench: &Bench,
+    body: u32,
+    does: &ToolAction,
+) -> Result<bool, NoMemory>
+    ensures { IfOk result (λ silent. silent ≡ not (is_some (exchange_for (setting_by program.now.bodies program.now.tools bench.now body) does.now))) }
 {
-    Ok(exchange_for(alloc, speaker, does)?.is_none())
+    let speaker = Speaker {
+        program,
+        bench,
+        body,
+    };
+    Ok(exchange_for(alloc, &speaker, does)?.is_none())
 }
 
-/// Whether an action rests that doesn't wait for a message.
-#[inline(never)]
-fn rests_alone<W>(
+/// Whether an action of a process begins nothing as things stand, but for what it sends. What takes memory stands
+/// apart, since a function pays at entry for all that it may hold.
+fn rests<W>(
     alloc: Global,
     program: &Program,
     bench: &Bench,
@@ -49,37 +71,8 @@ fn rests_alone<W>(
         Action::Own(own) => own_rests(&living.inbox, own),
         Action::Send(_) | Action::Receive(_) => Ok(true),
         Action::Notify(_) => Ok(false),
-        Action::TakeNote(patterns) => Ok(living.inbox.find(patterns)?.is_none()),
-        Action::Speak(does) => {
-            let body = living.body;
-            is_silent(
-                alloc,
-                &Speaker {
-                    program,
-                    bench,
-                    body,
-                },
-                does,
-            )
-        }
-    }
-}
-
-/// Whether an action of a process begins nothing as things stand, but for what it sends.
-fn rests<W>(
-    alloc: Global,
-    program: &Program,
-    bench: &Bench,
-    living: &Living<W>,
-    action: &Action,
-) -> Result<bool, NoMemory>
-    ensures { IfOk result (λ rest. rest ≡ rests (setting_by program.now.bodies program.now.tools bench.now living.now.body) living.now.inbox.held action.now) }
-{
-    match action {
-        Action::Send(_) | Action::Receive(_) => Ok(true),
-        Action::Own(_) | Action::Notify(_) | Action::TakeNote(_) | Action::Speak(_) => {
-            rests_alone(alloc, program, bench, living, action)
-        }
+        Action::TakeNote(patterns) => Ok(!has_note(&living.inbox, patterns)?),
+        Action::Speak(does) => is_silent(alloc, program, bench, living.body, does),
     }
 }
 

@@ -282,7 +282,6 @@ advanced-set view bus at before plan offered binds after over living sound read 
       origin = refl;
       plans = refl;
       marks = refl;
-      calm = λ e. e;
     }
 
 ended-none : (term : Option Process) → is_end term ≡ true → term ≡ None
@@ -314,7 +313,6 @@ advanced-removed view bus at before plan offered binds after over living index s
       origin = refl;
       plans = refl;
       marks = refl;
-      calm = λ e. e;
     }
 
 -- all that was taken leads to one store

@@ -95,7 +95,7 @@ live-filled : {W P T : Type 0} (view : View P W T) (plans : List P) (now : ℕ) 
 live-filled view plans now living h = (h.0, h.1, record { is_on = h.2.is_on; alive = h.2.alive; sorts = h.2.sorts; ticks = h.2.ticks; ready = h.2.ready })
 
 -- what the inbox of each lets rest it lets rest after a change too
-abbrev Stays : {W P T : Type 0} → LiveBus W P T → List (Living W) → Type 0
+abbrev pub Stays : {W P T : Type 0} → LiveBus W P T → List (Living W) → Type 0
 Stays {W = W} bus new = (k : ℕ) (d : Living W) → k < length bus.living.items →
     ((get_or new k d).inbox.held.notes ≡ (get_or bus.living.items k d).inbox.held.notes)
     ⊎ (((get_or bus.living.items k d).fresh ≡ false) ⊎ (is_awake bus.index (get_or bus.living.items k d).number ≡ true))

@@ -1,5 +1,5 @@
 -- Whoever sleeps rests, whatever changes: what it is ready for, its queue, the tools, and who else is awake.
-use Rattle.std.proofs.Common.{◌≡◌, ◌≢◌, ◌<◌, ◌≤◌, ◌+◌, ◌⊎◌, inl, inr, ⊎_elim, ℕ, zero, suc, List, [], ◌∷◌, ◌++◌, length, take, map, refl, ap, sym, subst, ◌∙◌, arith, Some, Bool, true, false, not, is_some, option_map, ◌&&◌, get_or, slice_get, slice_set, remove, if◌then◌else◌}
+use Rattle.std.proofs.Common.{◌≡◌, ◌≢◌, ◌<◌, ◌≤◌, ◌+◌, ◌⊎◌, inl, inr, ⊎_elim, ℕ, zero, suc, List, [], ◌∷◌, ◌++◌, length, take, map, refl, ap, sym, subst, ◌∙◌, arith, Some, None, Bool, true, false, not, is_some, option_map, ◌&&◌, get_or, slice_get, slice_set, remove, if◌then◌else◌}
 use Rattle.std.specs.Global.{Vec}
 use Rattle.std.specs.List.{All}
 use Rattle.std.proofs.lemmas.Bool.{and_from, and_parts, cases_Bool, cases_eq, cases_lt, false≢true}
@@ -248,11 +248,11 @@ wanting-awake index note all indices e h k d within w =
     ∙ subst (IsAwakeAt index all) same (wanted-each (IsAwakeAt index all) note 0 (rows_of all) k (subst (All (IsAwakeAt index all)) e h) (omega arith) (ap (λ (r : Row). wants r.inbox note) row ∙ w))
 
 -- one more is awake
-pub awake-more : {W : Type 0} (old new : IndexState) (all : List (Living W)) (indices : List ℕ) (so_far at : ℕ) → so_far < length indices → at ≡ get_or indices so_far at → AreStillAwake old new → IsAwakeAt new all at →
+pub awake-more : {W : Type 0} (old new : IndexState) (all : List (Living W)) (indices : List ℕ) (so_far : ℕ) → so_far < length indices → AreStillAwake old new → IsAwakeAt new all (get_or indices so_far 0) →
     All (IsAwakeAt old all) (take so_far indices) → All (IsAwakeAt new all) (take (so_far + 1) indices)
-awake-more old new all indices so_far at within is still here h =
-    All-same (IsAwakeAt new all) (take (so_far + 1) indices) (take so_far indices ++ at ∷ []) (take_more indices so_far at within ∙ ap (λ n. take so_far indices ++ n ∷ []) (sym is))
-    (All-push (IsAwakeAt new all) (take so_far indices) at
+awake-more old new all indices so_far within still here h =
+    All-same (IsAwakeAt new all) (take (so_far + 1) indices) (take so_far indices ++ get_or indices so_far 0 ∷ []) (take_more indices so_far 0 within)
+    (All-push (IsAwakeAt new all) (take so_far indices) (get_or indices so_far 0)
     (All-weaker (IsAwakeAt old all) (IsAwakeAt new all) (λ n e. still (row_at (rows_of all) n).number e) (take so_far indices) h) here)
 
 pub awake-all : {W : Type 0} (index : IndexState) (all : List (Living W)) (indices : List ℕ) (so_far : ℕ) → length indices ≤ so_far → All (IsAwakeAt index all) (take so_far indices) → All (IsAwakeAt index all) indices

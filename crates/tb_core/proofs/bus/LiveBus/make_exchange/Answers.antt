@@ -1,4 +1,4 @@
-use Rattle.std.proofs.Common.{◌≡◌, ◌∙◌, sym}
+use Rattle.std.proofs.Common.{◌≡◌, ◌∙◌, sym, true}
 use Rattle.tb_bus.specs.Helpers.Candidates.{rows_of}
 use Rattle.tb_bus.specs.Effects.{speaking}
 use Rattle.tb_bus.specs.Helpers.Views.{offer_of, ready_at}

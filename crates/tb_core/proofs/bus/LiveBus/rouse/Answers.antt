@@ -1,4 +1,4 @@
-use Rattle.std.proofs.Common.{◌∙◌, ◌<◌, List, arith, ap, length, subst, sym}
+use Rattle.std.proofs.Common.{◌∙◌, ◌<◌, List, arith, ap, get_or, length, subst, sym}
 use Rattle.tb_bus.specs.declared.living.Living.{Living}
 use Rattle.tb_core.specs.Helpers.Indexes.{IsAwakeAt}
 use Rattle.tb_core.specs.declared.bus.LiveBus.{LiveBus}
@@ -10,8 +10,7 @@ pub rouse_at-requires-clause-within : goal.rouse_at-requires-clause-within
 rouse_at-requires-clause-within g c =
     let living = ap (λ (b : LiveBus _ _ _). b.living.items) c.loop-at.invariant.alone in
     let at = c.loop-at.at-index in
-    subst (λ (xs : List (Living _)). c.at-item.result.now < length xs) (sym living)
-    (subst (λ n. n < length c.args.self.now.living.items) (sym c.at-item.is) (c.requires.within at _ (omega arith)))
+    subst (λ (xs : List (Living _)). get_or c.args.indices.now at 0 < length xs) (sym living) (c.requires.within at 0 (omega arith))
 
 pub loop-at-preserved : goal.loop-at-preserved
 loop-at-preserved g c =
@@ -22,8 +21,8 @@ loop-at-preserved g c =
     record {
       same = stands-then g.W.Walker.view old bus new c.loop-at.invariant.same c.rouse_at.ensures.same;
       alone = c.rouse_at.ensures.alone ∙ ap (λ (b : LiveBus _ _ _). let one : LiveBus _ _ _ = record b { index = new.index; roused = new.roused } in one) c.loop-at.invariant.alone;
-      awake = awake-more bus.index new.index old.living.items c.args.indices.now c.loop-at.at-index c.at-item.result.now (omega arith) c.at-item.is c.rouse_at.ensures.kept
-          (subst (λ (xs : List (Living _)). IsAwakeAt new.index xs c.at-item.result.now) living c.in_ok-rouse_at.ensures.awake) c.loop-at.invariant.awake;
+      awake = awake-more bus.index new.index old.living.items c.args.indices.now c.loop-at.at-index (omega arith) c.rouse_at.ensures.kept
+          (subst (λ (xs : List (Living _)). IsAwakeAt new.index xs (get_or c.args.indices.now c.loop-at.at-index 0)) living c.in_ok-rouse_at.ensures.awake) c.loop-at.invariant.awake;
     }
 
 pub returns-in_err-rouse_at-clause-same : goal.returns-in_err-rouse_at-clause-same

@@ -10,7 +10,7 @@ loop-index-preserved g c = record {
 }
 
 pub returns-in_err-settle_number : goal.returns-in_err-settle_number
-returns-in_err-settle_number g c = stands-then g.W.Walker.view c.args.self.now c.loop-index.self c.settle_number.new.self c.loop-index.invariant.same c.settle_number.ensures.same
+returns-in_err-settle_number g c = record { same = stands-then g.W.Walker.view c.args.self.now c.loop-index.self c.settle_number.new.self c.loop-index.invariant.same c.settle_number.ensures.same }
 
 pub returns : goal.returns
-returns g c = stands-roused g.W.Walker.view c.args.self.now c.loop-index.self c.clear.new.self c.loop-index.invariant.same
+returns g c = record { same = stands-roused g.W.Walker.view c.args.self.now c.loop-index.self c.clear.new.self c.loop-index.invariant.same }
