@@ -271,13 +271,11 @@ impl<W: Walker> LiveBus<W> {
     }
 
     /// Looks at all processes that have to be looked at.
-    pub fn freshen(&mut self, alloc: Global) -> Result<(), NoMemory>
+    fn look_anew(&mut self, alloc: Global) -> Result<(), NoMemory>
         requires { IsSound W.view self.old }
         ensures same { StandsAs W.view self.old self.new }
         ensures fresh { OnOk result (AreFresh self.new.living.items) }
-        ensures settled { OnOk result (self.new.stirred ≡ false) }
     {
-        self.settle(alloc)?;
         if self.aged {
             self.freshen_all(alloc)?;
         } else {
@@ -286,6 +284,17 @@ impl<W: Walker> LiveBus<W> {
         self.stale.clear();
         self.aged = false;
         Ok(())
+    }
+
+    /// What each process is ready to do is known from then on, and whoever sleeps rests.
+    pub fn freshen(&mut self, alloc: Global) -> Result<(), NoMemory>
+        requires { IsSound W.view self.old }
+        ensures same { StandsAs W.view self.old self.new }
+        ensures fresh { OnOk result (AreFresh self.new.living.items) }
+        ensures settled { OnOk result (self.new.stirred ≡ false) }
+    {
+        self.settle(alloc)?;
+        self.look_anew(alloc)
     }
 
     /// The first of all moves.
