@@ -13,7 +13,7 @@ pub wake-requires : goal.wake-requires
 wake-requires g c =
     let bus = c.args.self.now in
     let living = c.index.result.now in
-    (all-there (IsRightFor bus.index) bus.living.items c.args.at living c.requires.sound.indexed.each (read-there bus.living.items c.args.at living c.requires.within c.index.ensures)).room
+    record { room = (all-there (IsRightFor bus.index) bus.living.items c.args.at living c.requires.sound.indexed.each (read-there bus.living.items c.args.at living c.requires.within c.index.ensures)).room }
 
 pub returns-clause-same : goal.returns-clause-same
 returns-clause-same g c =
