@@ -193,6 +193,9 @@ impl<W: Walker> LiveBus<W> {
         ensures settled { OnOk result (IsSettledAt self.old self.new at) }
     {
         let living = &self.living[at];
+        if !living.fresh {
+            return Ok(());
+        }
         let rest = all_rest(alloc, &self.origin.program, &self.bench, living)?;
         turn(&mut self.index, living.number, rest);
         Ok(())
