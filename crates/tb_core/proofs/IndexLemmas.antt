@@ -1,11 +1,11 @@
 -- The index holds what it has to, wherever one of the living changes.
-use Rattle.std.proofs.Common.{◌≡◌, ◌≢◌, ◌<◌, ◌≤◌, ◌+◌, ◌++◌, ◌||◌, ◌==◌, ℕ, zero, suc, List, [], ◌∷◌, length, take, map, append-nil, append_assoc, refl, ap, sym, subst, ◌∙◌, arith, Some, Bool, true, false, not, get_or, slice_get, slice_set, remove, eq-eqb}
+use Rattle.std.proofs.Common.{◌≡◌, ◌≢◌, ◌<◌, ◌≤◌, ◌+◌, ◌++◌, ◌||◌, ◌==◌, ℕ, zero, suc, List, [], ◌∷◌, length, take, map, append-nil, append_assoc, refl, ap, sym, subst, ◌∙◌, arith, Some, Bool, true, false, get_or, slice_get, slice_set, remove, eq-eqb}
 use Rattle.std.specs.List.{All}
 use Rattle.std.proofs.lemmas.Bool.{and_from, eqb-true, false_from_ne_true, false≢true, or_left, or_right}
 use Rattle.std.proofs.lemmas.Option.{none-some, same_Some}
 use Rattle.std.proofs.lemmas.List.{take_all, take_more}
 use Rattle.std.proofs.lemmas.List.Elements.{All-cons, All-head, All-nil, All-push, All-same, All-tail, All-weaker}
-use Rattle.tb_index.specs.Indexes.{HasRoom, IndexState, IsCleared, IsSet, IsTurned, SameIndex, is_awake, receives, sends}
+use Rattle.tb_index.specs.Indexes.{HasRoom, IndexState, IsCleared, IsSet, IsTurned, SameIndex, receives, sends}
 use Rattle.tb_index.specs.Marks.{has_mark, is_mark}
 use Rattle.tb_index.specs.declared.mark.Mark.{Mark}
 use Rattle.tb_index.specs.declared.mark.Marks.{Marks}

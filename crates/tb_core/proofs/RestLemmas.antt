@@ -1,8 +1,8 @@
 -- Whoever sleeps rests, whatever changes: what it is ready for, its queue, the tools, and who else is awake.
-use Rattle.std.proofs.Common.{◌≡◌, ◌≢◌, ◌<◌, ◌≤◌, ◌+◌, ◌⊎◌, inl, inr, ⊎_elim, ℕ, zero, suc, List, [], ◌∷◌, ◌++◌, length, take, map, refl, ap, sym, subst, ◌∙◌, arith, Some, None, Bool, true, false, not, is_some, option_map, ◌&&◌, get_or, slice_get, slice_set, remove, if◌then◌else◌}
+use Rattle.std.proofs.Common.{◌≡◌, ◌≢◌, ◌<◌, ◌≤◌, ◌+◌, ◌⊎◌, inl, inr, ⊎_elim, ℕ, zero, suc, List, [], ◌∷◌, ◌++◌, length, take, map, refl, ap, sym, subst, ◌∙◌, arith, Some, None, Bool, true, false, not, is_some, option_map, ◌&&◌, get_or, slice_get, slice_set, if◌then◌else◌}
 use Rattle.std.specs.Global.{Vec}
 use Rattle.std.specs.List.{All}
-use Rattle.std.proofs.lemmas.Bool.{and_from, and_parts, cases_Bool, cases_eq, cases_lt, false≢true}
+use Rattle.std.proofs.lemmas.Bool.{and_from, and_parts, cases_eq, cases_lt, false≢true}
 use Rattle.std.proofs.lemmas.Option.{get_or_from_slice_get, slice_get-map, slice_get_within, slice_get-get_or}
 use Rattle.std.proofs.lemmas.List.{length-map, get_or-map as mapped-at, take_all, take_more, get_or-set_other, get_or-set_same}
 use Rattle.std.proofs.lemmas.List.Elements.{All-cons, All-head, All-nil, All-push, All-same, All-tail, All-weaker}
@@ -26,7 +26,7 @@ use Rattle.tb_bus.proofs.PlaceLemmas.{ascend-less, row-read}
 use Rattle.tb_core.specs.Helpers.Holdings.{bare, bares_of, helds_of, held_at, IsHeldAt, with_given}
 use Rattle.tb_core.specs.Helpers.Indexes.{AreStillAwake, IsAwakeAt, IsRested, IsRightFor, IsMarked, IsRightForAll, KeepsOf, found_by, found_marks, rest_among, rest_with, rests_among, rests_with, tool_mark}
 use Rattle.tb_core.specs.Helpers.LiveBuses.{AreFresh}
-use Rattle.tb_core.proofs.IndexLemmas.{keeps-turned, neither}
+use Rattle.tb_core.proofs.IndexLemmas.{neither}
 
 -- by the queue and by the tools
 

@@ -1,7 +1,7 @@
-use Rattle.std.proofs.Common.{List, IsTrue, ap, subst, sym}
+use Rattle.std.proofs.Common.{List, subst, sym}
 use Rattle.tb_index.specs.Indexes.{is_receiver}
 use Rattle.tb_index.specs.Pairs.{IsNext}
-use Rattle.tb_bus.specs.Helpers.Candidates.{Row, ascend, row_at, row_of, rows_of}
+use Rattle.tb_bus.specs.Helpers.Candidates.{Row, row_at, rows_of}
 use Rattle.tb_bus.specs.Helpers.Indexed.{IsNextPlace}
 use Rattle.tb_core.specs.Helpers.Indexes.{tool_mark}
 use Rattle.tb_bus.specs.declared.living.Living.{Living}

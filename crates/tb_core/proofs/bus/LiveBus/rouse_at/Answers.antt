@@ -1,4 +1,4 @@
-use Rattle.std.proofs.Common.{◌∙◌, ap, sym, true}
+use Rattle.std.proofs.Common.{◌∙◌, ap, true}
 use Rattle.tb_index.specs.Indexes.{is_awake}
 use Rattle.tb_bus.specs.Helpers.Candidates.{Row}
 use Rattle.tb_bus.proofs.PlaceLemmas.{row-is}
