@@ -5,5 +5,5 @@ use Rattle.tb_index.specs.Pairs.{has}
 use Rattle.tb_index.proofs.pairs.Pairs.remove_but.Given as goal
 
 abbrev pub invariant-loop-mark : goal.invariant-loop-mark
-invariant-loop-mark l = (mark : Mark) (its : ℕ) → has l.self.set mark its
-    ≡ (has l.initial.self.set mark its && not ((has_mark (take l.mark-index l.marks) mark && not (has_mark l.but mark)) && (its == l.proc)))
+invariant-loop-mark l = (mark : Mark) (its : ℕ) → has l.self mark its
+    ≡ (has l.initial.self mark its && not ((has_mark (take l.mark-index l.marks) mark && not (has_mark l.but mark)) && (its == l.proc)))

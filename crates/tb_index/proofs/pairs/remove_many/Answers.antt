@@ -1,0 +1,8 @@
+use Rattle.std.proofs.Common.{rules, ◌≡◌, ◌&&◌, ◌||◌, ◌==◌, ℕ, not, Option, Some, None, ◌<◌, ◌≤◌, Bool, true, false, arith, refl, ap, sym, ◌∙◌, IsTrue}
+use Rattle.std.proofs.lemmas.Grind.{common_steps}
+use Rattle.tb_index.specs.Pairs.{in_many, is_pair, IsNext}
+use Rattle.tb_index.proofs.PairLemmas as pairs
+use Rattle.tb_index.proofs.pairs.remove_many.Goals as goal
+
+pub returns : goal.returns
+returns c = λ other its. pairs.removed-by _ _ _ _ (c.remove.ensures.updates.0 (other.count, other.head, its)) (pairs.same-triple c.args.mark.count c.args.mark.head c.args.proc other.count other.head its)
