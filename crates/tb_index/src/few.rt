@@ -6,7 +6,7 @@ use crate::mark::{Mark, mixed};
 use crate::slot::Slot;
 use tb_terms::NoMemory;
 
-/// How many slots there are. Those of a bus take some 40 KB, and 10,000 marks still find room in them.
+/// How many slots there are: they take 24 KB, and 10,000 marks that fall evenly still have room in them.
 const SLOTS: usize = 1024;
 
 /// The slot for the pairs of a mark.
@@ -34,7 +34,9 @@ fn fill(few: &mut Vec<Slot>) -> Result<(), NoMemory>
     ensures ok { OnOk result (slots ≤ length few.new.items) }
 {
     let alloc = *few.allocator();
-    for _ in 0..SLOTS.saturating_sub(few.len()) {
+    let more = SLOTS.saturating_sub(few.len());
+    few.reserve(more)?;
+    for _ in 0..more {
         few.push(Slot::new(alloc))?;
     }
     Ok(())
