@@ -1,5 +1,5 @@
 -- Marks that meet, and which of them are active.
-use Rattle.std.proofs.Common.{◌≡◌, ◌≢◌, ℕ, ◌<◌, ◌+◌, ◌++◌, Bool, true, false, not, ◌&&◌, ◌||◌, ◌==◌, List, [], ◌∷◌, length, take, drop, refl, ap, sym, ◌∙◌, subst, arith, rules, ◌⊎◌, inl, inr, ⊎_elim, get_or, zero, suc, cond}
+use Rattle.std.proofs.Common.{◌≡◌, ◌≢◌, ℕ, ◌<◌, ◌+◌, ◌++◌, Bool, true, false, not, ◌&&◌, ◌||◌, ◌==◌, List, [], ◌∷◌, length, take, drop, refl, ap, sym, ◌∙◌, subst, arith, ◌⊎◌, inl, inr, ⊎_elim, get_or, zero, suc, cond}
 use Rattle.std.proofs.lemmas.Bool.{eqb-true}
 use Rattle.std.proofs.lemmas.Bool.Decides.{nat_tests}
 use Rattle.std.proofs.lemmas.List.{take_more}
@@ -9,7 +9,7 @@ use Rattle.std.specs.BTreeMap.{is_at}
 use Rattle.tb_index.specs.declared.pairs.Pairs.{Pairs}
 use Rattle.tb_index.specs.declared.mark.Mark.{Mark}
 use Rattle.tb_index.specs.Marks.{is_mark, has_mark, has_count, has_open, wide, meets, open_head}
-use Rattle.tb_index.specs.Pairs.{has, is_pair, is_sender, triple_cmp, AreOpened, AllOpened, AreCountedIf, AreOf, AreAdded, AreRemoved, AreCounted, AreCountedStill, AreHeard, SentAreHeard, ReceivedAreHeard, AreKept, SentAreKept, ReceivedAreKept, SamePairs}
+use Rattle.tb_index.specs.Pairs.{has, is_pair, is_sender, triple_cmp, AreOpened, AllOpened, AreOf, AreAdded, AreRemoved, AreCounted, AreCountedStill, AreHeard, SentAreHeard, ReceivedAreHeard, AreKept, SentAreKept, ReceivedAreKept, SamePairs}
 use Rattle.tb_index.proofs.PairLemmas as pairs
 
 pub same-number : (p : ℕ) → (p == p) ≡ true
@@ -213,6 +213,10 @@ same-heard s0 s2 r0 r2 l l2 same equal heard kept = λ received sent proc other 
 
 pub same-counted : (s0 s2 c c2 : Pairs) → SamePairs s0 s2 → AreCounted s0 c → ((k : Mark) (i : ℕ) → has c k i ≡ true → has c2 k i ≡ true) → AreCounted s2 c2
 same-counted s0 s2 c c2 same counted kept = λ k i h. kept (wide k) i (counted k i (sym (same k i) ∙ h))
+
+-- where there are no marks none is removed
+pub none-removed : (s : Pairs) (marks others : List Mark) (p : ℕ) → marks ≡ [] → AreRemoved s s marks others p
+none-removed s marks others p e = λ k i. sym (pairs.and-true (has s k i)) ∙ ap (λ (some : List Mark). has s k i && not ((has_mark some k && not (has_mark others k)) && (i == p))) (sym e)
 
 -- where marks were removed
 module _ (s1 s2 : Pairs) (p : ℕ) (marks others : List Mark) (less : AreRemoved s1 s2 marks others p) where

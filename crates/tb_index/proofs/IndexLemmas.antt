@@ -1,13 +1,11 @@
 -- What an index is after a change of its parts.
-use Rattle.std.proofs.Common.{◌≡◌, ◌≢◌, ℕ, ◌<◌, ◌≤◌, ◌/◌, ◌+◌, Bool, true, false, not, ◌&&◌, ◌||◌, ◌==◌, List, [], ◌∷◌, length, take, Option, Some, None, refl, ap, sym, ◌∙◌, arith, rules, ◌⊎◌, inl, inr, ⊎_elim, get_or, Result, Ok, Err, OnOk, OnErr}
+use Rattle.std.proofs.Common.{◌≡◌, ◌≢◌, ℕ, ◌<◌, ◌≤◌, ◌/◌, Bool, true, false, ◌||◌, ◌==◌, List, [], length, Option, refl, ap, ◌∙◌, arith, ⊎_elim, Result, Ok, Err, OnOk, OnErr}
 use Rattle.std.proofs.lemmas.Bool.{eqb-true}
-use Rattle.std.proofs.lemmas.Bool.Decides.{nat_tests}
-use Rattle.std.proofs.lemmas.List.Folds.{list_any_more}
 use Rattle.std.proofs.lemmas.Nat.Bits.{bit_at-zero}
 use Rattle.std.specs.List.{list_any}
 use Rattle.tb_index.specs.declared.pairs.Pairs.{Pairs}
 use Rattle.tb_index.specs.declared.mark.Mark.{Mark}
-use Rattle.tb_index.specs.Marks.{is_mark, has_mark, wide, meets, open_head}
+use Rattle.tb_index.specs.Marks.{has_mark, wide, meets, open_head}
 use Rattle.tb_index.specs.Pairs.{has, is_sender, AreOf, AreAdded, AreRemoved, SamePairs, IsFirst, IsNext, earlier}
 use Rattle.tb_index.specs.Bits.{bit_in}
 use Rattle.tb_index.specs.Indexes.{IndexState, sends, receives, is_receiver, is_awake, starts, HasRoom, IsEmpty, SameIndex, IsSet, IsCleared, IsTurned, IsTied}

@@ -1,18 +1,15 @@
 -- Triples in order.
-use Rattle.std.proofs.Common.{◌≡◌, ◌≢◌, ℕ, ◌<◌, ◌≤◌, Bool, true, false, not, cond, nat_le, if◌then◌else◌, ◌+◌, ◌&&◌, ◌||◌, ◌==◌, refl, ap, sym, ◌∙◌, subst, arith, rules, IsTrue, nat_lt, List, Some, None, Option, IfSome, [], ◌∷◌, ⊎_elim, ◌⊎◌, inl, inr, take, zero, suc, get_or, length}
-use Rattle.std.proofs.lemmas.Grind.{common_steps}
+use Rattle.std.proofs.Common.{◌≡◌, ℕ, ◌<◌, ◌≤◌, Bool, true, false, not, cond, nat_le, if◌then◌else◌, ◌+◌, ◌&&◌, ◌||◌, ◌==◌, refl, ap, sym, ◌∙◌, subst, arith, rules, List, Some, None, Option, [], ◌∷◌, ◌⊎◌, inl, inr, take, zero, suc, get_or, length}
 use Rattle.std.proofs.lemmas.Bool.Decides.{nat_tests}
 use Rattle.std.proofs.lemmas.List.Folds.{list_any_more}
 use Rattle.std.specs.List.{list_any}
-use Rattle.std.specs.Ordering.{nat_cmp, ordering_then, is_eq, is_gt}
-use Rattle.std.specs.declared.cmp.Ordering.{Ordering}
+use Rattle.std.specs.Ordering.{is_eq, is_gt}
 use Rattle.tb_index.specs.declared.mark.Mark.{Mark}
 use Rattle.std.specs.BTreeSet.{BTreeSet, IsKeyRangeOf, contains}
-use Rattle.std.specs.declared.ops.Bound.{Bound}
 use Rattle.std.specs.declared.ops.Bound.TheVariants.{Included, Unbounded}
-use Rattle.std.proofs.lemmas.Bool.{cases_Bool, cases_eq, eqb-true, le-leb, leb-true, cases_lt}
+use Rattle.std.proofs.lemmas.Bool.{eqb-true, leb-true}
 use Rattle.tb_index.specs.Marks.{is_mark, has_mark}
-use Rattle.tb_index.specs.Pairs.{is_pair, is_of, is_in, in_few, in_many, slot_of, triple_cmp, has, IsFirst, IsNext, earlier}
+use Rattle.tb_index.specs.Pairs.{in_many, triple_cmp, IsFirst, IsNext, earlier}
 
 -- triples are the same where their parts are
 pub same-triple : (a b p c d q : ℕ) → is_eq (triple_cmp (a, b, p) (c, d, q)) ≡ ((c == a) && (d == b)) && (q == p)

@@ -1,5 +1,5 @@
 -- What an index holds: who sends and who receives under which marks, who is awake, and who may begin.
-use Rattle.std.specs.Prelude.{◌≡◌, ◌≢◌, ℕ, ◌<◌, ◌/◌, ◌==◌, ◌&&◌, ◌||◌, Bool, true, false, List, length}
+use Rattle.std.specs.Prelude.{◌≡◌, ◌≢◌, ℕ, ◌<◌, ◌/◌, ◌==◌, ◌||◌, Bool, false, List, length}
 use Rattle.std.specs.List.{list_any}
 use Rattle.tb_index.specs.declared.mark.Mark.{Mark}
 use Rattle.tb_index.specs.declared.pairs.Pairs.{Pairs}

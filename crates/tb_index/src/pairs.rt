@@ -122,6 +122,15 @@ impl Pairs {
     pub(crate) fn remove_but(&mut self, marks: &[Mark], but: &[Mark], proc: u32)
         ensures { AreRemoved self.old self.new marks.now but.now proc }
     {
+        if marks.is_empty() {
+            return;
+        }
+        self.remove_some(marks, but, proc);
+    }
+
+    fn remove_some(&mut self, marks: &[Mark], but: &[Mark], proc: u32)
+        ensures { AreRemoved self.old self.new marks.now but.now proc }
+    {
         for mark in marks {
             self.remove_one_but(*mark, but, proc);
         }

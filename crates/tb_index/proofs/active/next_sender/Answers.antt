@@ -1,4 +1,4 @@
-use Rattle.std.proofs.Common.{◌≡◌, ℕ, ◌+◌, ◌||◌, List, take, sym, subst, arith, get_or}
+use Rattle.std.proofs.Common.{◌+◌, List, take, sym, subst, arith}
 use Rattle.std.proofs.lemmas.List.{take_all}
 use Rattle.std.specs.List.{list_any}
 use Rattle.tb_index.specs.declared.mark.Mark.{Mark}

@@ -1,4 +1,4 @@
-use Rattle.std.proofs.Common.{◌≡◌, ℕ, true, false, List, subst, sym, ◌∙◌}
+use Rattle.std.proofs.Common.{◌≡◌, true, false, List, subst, sym, ◌∙◌}
 use Rattle.tb_index.specs.declared.mark.Mark.{Mark}
 use Rattle.tb_index.specs.Marks.{has_mark, wide}
 use Rattle.tb_index.specs.Pairs.{has}

@@ -1,4 +1,3 @@
-use Rattle.std.proofs.Common.{◌≡◌, true}
 use Rattle.tb_index.proofs.SlotLemmas as slots
 use Rattle.tb_index.proofs.counts.count_slot.Goals as goal
 

@@ -1,6 +1,3 @@
-use Rattle.std.proofs.Common.{rules, ◌≡◌, ◌&&◌, ◌||◌, ◌==◌, ℕ, not, Option, Some, None, ◌<◌, ◌≤◌, Bool, true, false, arith, refl, ap, sym, ◌∙◌, IsTrue}
-use Rattle.std.proofs.lemmas.Grind.{common_steps}
-use Rattle.tb_index.specs.Pairs.{in_many, is_pair, IsNext}
 use Rattle.tb_index.proofs.PairLemmas as pairs
 use Rattle.tb_index.proofs.pairs.add_many.Goals as goal
 

@@ -1,4 +1,4 @@
-use Rattle.std.proofs.Common.{◌≡◌, ℕ, ◌+◌, List, take, sym, subst}
+use Rattle.std.proofs.Common.{◌+◌, take, sym, subst}
 use Rattle.tb_index.specs.declared.slot.Pair.{Pair}
 use Rattle.tb_index.specs.Pairs.{is_in, is_of, IsFirst}
 use Rattle.tb_index.proofs.PairLemmas as pairs

@@ -1,7 +1,6 @@
-use Rattle.std.proofs.Common.{◌≡◌, ℕ, Bool, true, false, refl, ap, sym, ◌∙◌, subst, arith, ◌==◌, ◌<◌, ◌/◌, ◌||◌, length, List, []}
-use Rattle.std.specs.List.{list_any}
-use Rattle.tb_index.specs.Indexes.{IndexState, HasRoom, IsTurned, IsSet, IsCleared, IsTied, SameIndex, sends, receives, is_receiver, is_awake, starts}
-use Rattle.tb_index.specs.Pairs.{IsNext, IsFirst, has, earlier, AreAdded, AreRemoved, AreCounted, AreCountedStill, SentAreKept, ReceivedAreKept}
+use Rattle.std.proofs.Common.{◌≡◌, ap, sym, ◌∙◌, subst, ◌==◌, List, []}
+use Rattle.tb_index.specs.Indexes.{IsCleared, sends, receives}
+use Rattle.tb_index.specs.Pairs.{has, AreRemoved}
 use Rattle.tb_index.specs.Marks.{has_mark}
 use Rattle.tb_index.specs.declared.mark.Mark.{Mark}
 use Rattle.tb_index.proofs.ActiveLemmas as active

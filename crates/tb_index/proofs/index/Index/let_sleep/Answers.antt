@@ -1,11 +1,5 @@
-use Rattle.std.proofs.Common.{◌≡◌, ℕ, Bool, true, false, refl, ap, sym, ◌∙◌, subst, arith, ◌==◌, ◌<◌, ◌/◌, ◌||◌, length, List, []}
-use Rattle.std.specs.List.{list_any}
-use Rattle.tb_index.specs.Indexes.{IndexState, HasRoom, IsTurned, IsSet, IsCleared, IsTied, SameIndex, sends, receives, is_receiver, is_awake, starts}
-use Rattle.tb_index.specs.Pairs.{IsNext, IsFirst, has, is_sender, earlier, AreAdded, AreRemoved, AreCounted, AreCountedStill, SentAreKept, ReceivedAreKept}
-use Rattle.tb_index.specs.Marks.{has_mark}
-use Rattle.tb_index.specs.declared.mark.Mark.{Mark}
-use Rattle.tb_index.proofs.ActiveLemmas as active
-use Rattle.tb_index.proofs.PairLemmas as pairs
+use Rattle.std.proofs.Common.{false, ap, subst, ◌==◌}
+use Rattle.tb_index.specs.Indexes.{IsTurned}
 use Rattle.tb_index.proofs.IndexLemmas as indexes
 use Rattle.tb_index.proofs.index.Index.let_sleep.Goals as goal
 

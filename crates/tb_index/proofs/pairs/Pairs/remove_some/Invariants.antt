@@ -1,8 +1,8 @@
-use Rattle.std.proofs.Common.{◌≡◌, ℕ, ◌&&◌, ◌||◌, ◌==◌, take, not}
+use Rattle.std.proofs.Common.{◌≡◌, ℕ, ◌&&◌, ◌==◌, take, not}
 use Rattle.tb_index.specs.declared.mark.Mark.{Mark}
 use Rattle.tb_index.specs.Marks.{has_mark}
 use Rattle.tb_index.specs.Pairs.{has}
-use Rattle.tb_index.proofs.pairs.Pairs.remove_but.Given as goal
+use Rattle.tb_index.proofs.pairs.Pairs.remove_some.Given as goal
 
 abbrev pub invariant-loop-mark : goal.invariant-loop-mark
 invariant-loop-mark l = (mark : Mark) (its : ℕ) → has l.self mark its
