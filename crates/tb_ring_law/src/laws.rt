@@ -1,0 +1,4 @@
+//! What holds of the ring.
+
+/// Nothing yet.
+pub fn nothing_yet() {}

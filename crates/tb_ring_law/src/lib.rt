@@ -1,0 +1,4 @@
+//! A law of the ring: its script is accepted, and its simulation ends with the bus down.
+#![tactic(auto)]
+
+mod laws;
