@@ -1,0 +1,137 @@
+-- What the ring's processes become: its program.
+use Rattle.std.proofs.Common.{◌≡◌, ℕ, zero, suc, ◌+◌, ◌-◌, ◌*◌, ◌≤◌, ◌<◌, pos, Bool, true, false, List, [], ◌∷◌, ◌++◌, length, map, Option, Some, None, refl, ap, sym, ◌∙◌, subst, arith, rules, codes}
+use Rattle.std.specs.List.{Contains, AllZip}
+use Rattle.tb_terms.specs.declared.term.Term.{Term, the_lemmas as term_lemmas}
+use Rattle.tb_terms.specs.declared.expr.Expr.{Expr, the_lemmas as expr_lemmas}
+use Rattle.tb_terms.specs.declared.sort.Sort.TheVariants as sort
+use Rattle.tb_body.specs.declared.atom.Atom.{Atom}
+use Rattle.tb_body.specs.declared.act.Act.TheVariants as does
+use Rattle.tb_body.specs.declared.body.Body.{Body}
+use Rattle.tb_body.specs.declared.program.Program.{Program}
+use Rattle.tb_body.specs.declared.tree.Tree.{the_lemmas as tree_lemmas}
+use Rattle.tb_syntax.specs.declared.ast.Ast.{Ast}
+use Rattle.tb_syntax.specs.declared.ast.AstKind.{the_lemmas as ast_lemmas}
+use Rattle.tb_syntax.specs.declared.ast.AstKind.TheVariants as ast
+use Rattle.tb_syntax.specs.declared.proc.ActDef.TheVariants as act
+use Rattle.tb_syntax.specs.declared.proc.AtomDef.{AtomDef}
+use Rattle.tb_syntax.specs.declared.proc.Proc.{Proc}
+use Rattle.tb_syntax.specs.declared.script.ProcDef.{ProcDef}
+use Rattle.tb_syntax.specs.declared.script.Script.{Script}
+use Rattle.tb_types.specs.Values.{closed_value}
+use Rattle.tb_expand.specs.declared.seen.Seen.{Seen}
+use Rattle.tb_expand.specs.Scopes.{Scope}
+use Rattle.tb_expand.specs.Acts.{atom_of}
+use Rattle.tb_expand.specs.Exprs.{expr_of}
+use Rattle.tb_expand.specs.Cycles.{called, called_step, Calls, IsCallPath, IsCycle}
+use Rattle.tb_expand.specs.Expansion.{Part, Expands, expands, expands_with, proc_step, expansion_of, is_too_large}
+use Rattle.tb_expand.specs.Faults.{HasNoCycle, IsExpansion}
+use Rattle.tb_expand.proofs.KindExprs.{expr_of_number, expr_of_appl, expr_of_var, expr_of_result}
+use Rattle.tb_script.specs.Programs.{IsRootOf, IsProgramOf, first_too_large, declared_tool}
+use Rattle.tb_ring_law.specs.Helpers.Pieces.{Link, links, ring_links}
+use Rattle.tb_ring_law.specs.Helpers.Trees.{at, number_at, var_at, result_at, add_at, less_at, atom_at, var_t, int_formal, node_body, node_def, test_part, first_body, first_def, first_call, node_call, link_call, ring_script}
+use Rattle.tb_ring_law.specs.Helpers.Bodies.{number, worth, plain, one_more, node_tree, node_receives, node_sends, node_atoms, node_sorts, first_tree, first_test, first_begins, first_receives, first_sends, done, first_atoms, int_sorts, first_root, link_root, ring_roots}
+use Rattle.tb_ring_law.proofs.Programs.{node_code, first_code, ring_bodies}
+use Rattle.tb_ring_law.proofs.Folds.{fold-node, fold-first}
+
+abbrev seen : List ℕ → ℕ → Seen
+seen name slot = record { name = name; slot = slot; sort = sort.Int }
+
+-- what is seen within Node, and within First
+abbrev in_node : Scope
+in_node = seen (codes "T") 2 ∷ seen (codes "I") 0 ∷ seen (codes "J") 1 ∷ []
+
+abbrev in_first : Scope
+in_first = seen (codes "T") 0 ∷ []
+
+abbrev atom_def : ℕ → List ℕ → List Ast → AtomDef
+atom_def token word arguments = record { act = act.Named word arguments; times = []; token = token }
+
+module _ (script : Script) where
+  one-more-node : (token : ℕ) → expr_of in_node (add_at token) ≡ one_more 2
+  one-more-node token = search (rules, expr_of_appl, expr_of_var, expr_of_number)
+
+  one-more-first : (token : ℕ) → expr_of in_first (add_at token) ≡ one_more 0
+  one-more-first token = search (rules, expr_of_appl, expr_of_var, expr_of_number)
+
+  less-messages : (token messages : ℕ) → expr_of in_first (less_at token messages) ≡ first_test messages
+  less-messages token messages = search (rules, expr_of_appl, expr_of_var, expr_of_number)
+
+  node-receives : atom_of script in_node (atom_def 18 (codes "rec-msg") (var_at 20 (codes "I") ∷ result_at 22 ∷ [])) ≡ plain (does.RecMsg node_receives)
+  node-receives = search (rules, expr_of_var, expr_of_result)
+
+  node-sends : atom_of script in_node (atom_def 26 (codes "snd-msg") (var_at 28 (codes "J") ∷ add_at 30 ∷ [])) ≡ plain (does.SndMsg node_sends)
+  node-sends = search (rules, expr_of_var, one-more-node)
+
+  first-begins : atom_of script in_first (atom_def 49 (codes "snd-msg") (number_at 51 2 ∷ number_at 53 1 ∷ [])) ≡ plain (does.SndMsg first_begins)
+  first-begins = search (rules, expr_of_number)
+
+  first-receives : atom_of script in_first (atom_def 57 (codes "rec-msg") (number_at 59 1 ∷ result_at 61 ∷ [])) ≡ plain (does.RecMsg first_receives)
+  first-receives = search (rules, expr_of_number, expr_of_result)
+
+  first-sends : atom_of script in_first (atom_def 73 (codes "snd-msg") (number_at 75 2 ∷ add_at 77 ∷ [])) ≡ plain (does.SndMsg first_sends)
+  first-sends = search (rules, expr_of_number, one-more-first)
+
+  first-ends : atom_of script in_first (atom_def 85 (codes "shutdown") (at 87 (ast.Appl (codes "done") []) ∷ [])) ≡ plain (does.Shutdown done)
+  first-ends = search (rules, expr_of_appl)
+
+module _ (n messages : ℕ) where
+  abbrev script : Script
+  script = ring_script n messages
+
+  node-part : expansion_of script node_def ≡ record { tree = node_tree; atoms = node_atoms; sorts = node_sorts }
+  node-part = ?
+
+  first-part : expansion_of script (first_def messages) ≡ record { tree = first_tree messages; atoms = first_atoms; sorts = int_sorts }
+  first-part = ?
+
+  node-calls : called node_body ≡ []
+  node-calls = fold-node (List (List ℕ)) called_step _ _ _ _
+
+  first-calls : called (first_body messages) ≡ []
+  first-calls = fold-first (List (List ℕ)) called_step _ _ _ _ _ _ _
+
+  none-called : (names : List (List ℕ)) (name : List ℕ) → names ≡ [] → Contains names name → ⊥
+  none-called names name none (k, within, is) = let short : length names ≡ 0 = ap (λ (ns : List (List ℕ)). length ns) none in omega (arith, short, within)
+
+  nothing-called : (caller name : List ℕ) → Calls script caller name → ⊥
+  nothing-called caller name (d, (zero, within, is), named, calls) = none-called (called d.body) name (ap (λ (e : ProcDef). called e.body) (sym is) ∙ node-calls) calls
+  nothing-called caller name (d, (suc zero, within, is), named, calls) = none-called (called d.body) name (ap (λ (e : ProcDef). called e.body) (sym is) ∙ first-calls) calls
+  nothing-called caller name (d, (suc (suc k), within, is), named, calls) = omega (arith, within)
+
+  no-path : (back caller : List ℕ) (names : List (List ℕ)) → IsCallPath script back caller names → ⊥
+  no-path back caller [] path = nothing-called caller back path
+  no-path back caller (name ∷ names) path = nothing-called caller name path.0
+
+  pub no-cycle : HasNoCycle script
+  no-cycle names cycle = no-path cycle.first cycle.first cycle.others cycle.call_path
+
+  node-small : is_too_large (expansion_of script node_def) ≡ false
+  node-small = ap is_too_large node-part ∙ search (rules, tree_lemmas)
+
+  first-small : is_too_large (expansion_of script (first_def messages)) ≡ false
+  first-small = ap is_too_large first-part ∙ search (rules, tree_lemmas)
+
+  pub all-small : first_too_large script ≡ None
+  all-small = rw node-small (rw first-small refl)
+
+  node-expands : IsExpansion script node_def node_code
+  node-expands = let part = sym node-part in record { tree = ap (λ (p : Part). p.tree) part; atoms = ap (λ (p : Part). p.atoms) part; sorts = ap (λ (p : Part). p.sorts) part; formals = refl }
+
+  first-expands : IsExpansion script (first_def messages) (first_code messages)
+  first-expands = let part = sym first-part in record { tree = ap (λ (p : Part). p.tree) part; atoms = ap (λ (p : Part). p.atoms) part; sorts = ap (λ (p : Part). p.sorts) part; formals = refl }
+
+  pub bodies-are : AllZip (IsExpansion script) script.procs (ring_bodies messages)
+  bodies-are = (node-expands, (first-expands, tt))
+
+  actual-value : (token i : ℕ) → closed_value (number_at token i) ≡ Some (worth i)
+  actual-value token i = search (rules, ast_lemmas, expr_lemmas)
+
+  root-is : (link : Link) → IsRootOf script (link_call link) (link_root link)
+  root-is link = record { process = refl; actuals = rw (actual-value (7 * link.process + 84 + 2) link.process) (rw (actual-value (7 * link.process + 84 + 4) link.next) refl) }
+
+  roots-of : (row : List Link) → AllZip (IsRootOf script) (map link_call row) (map link_root row)
+  roots-of [] = tt
+  roots-of (link ∷ row) = (root-is link, roots-of row)
+
+  pub roots-are : AllZip (IsRootOf script) script.roots (ring_roots n)
+  roots-are = (record { process = refl; actuals = refl }, roots-of (ring_links n))
