@@ -1,14 +1,16 @@
 -- What the ring's processes become: its program.
-use Rattle.std.proofs.Common.{◌≡◌, ℕ, zero, suc, ◌+◌, ◌-◌, ◌*◌, ◌≤◌, ◌<◌, pos, Bool, true, false, List, [], ◌∷◌, ◌++◌, length, map, Option, Some, None, refl, ap, sym, ◌∙◌, subst, arith, rules, codes}
+use Rattle.std.proofs.Common.{◌≡◌, ℕ, zero, suc, ◌+◌, ◌-◌, ◌*◌, ◌≤◌, ◌<◌, pos, Bool, true, false, ltb, ◌||◌, List, [], ◌∷◌, ◌++◌, length, map, Option, Some, None, refl, ap, sym, ◌∙◌, subst, arith, rules, codes}
 use Rattle.std.specs.List.{Contains, AllZip}
 use Rattle.tb_terms.specs.declared.term.Term.{Term, the_lemmas as term_lemmas}
 use Rattle.tb_terms.specs.declared.expr.Expr.{Expr, the_lemmas as expr_lemmas}
+use Rattle.tb_terms.specs.declared.sort.Sort.{Sort}
 use Rattle.tb_terms.specs.declared.sort.Sort.TheVariants as sort
 use Rattle.tb_body.specs.declared.atom.Atom.{Atom}
 use Rattle.tb_body.specs.declared.act.Act.TheVariants as does
 use Rattle.tb_body.specs.declared.body.Body.{Body}
 use Rattle.tb_body.specs.declared.program.Program.{Program}
 use Rattle.tb_body.specs.declared.tree.Tree.{the_lemmas as tree_lemmas}
+use Rattle.tb_body.specs.declared.tree.Tree.TheVariants as tree
 use Rattle.tb_syntax.specs.declared.ast.Ast.{Ast}
 use Rattle.tb_syntax.specs.declared.ast.AstKind.{the_lemmas as ast_lemmas}
 use Rattle.tb_syntax.specs.declared.ast.AstKind.TheVariants as ast
@@ -19,7 +21,7 @@ use Rattle.tb_syntax.specs.declared.script.ProcDef.{ProcDef}
 use Rattle.tb_syntax.specs.declared.script.Script.{Script}
 use Rattle.tb_types.specs.Values.{closed_value}
 use Rattle.tb_expand.specs.declared.seen.Seen.{Seen}
-use Rattle.tb_expand.specs.Scopes.{Scope}
+use Rattle.tb_expand.specs.Scopes.{Scope, formals_seen}
 use Rattle.tb_expand.specs.Acts.{atom_of}
 use Rattle.tb_expand.specs.Exprs.{expr_of}
 use Rattle.tb_expand.specs.Cycles.{called, called_step, Calls, IsCallPath, IsCycle}
@@ -29,8 +31,8 @@ use Rattle.tb_expand.proofs.KindExprs.{expr_of_number, expr_of_appl, expr_of_var
 use Rattle.tb_script.specs.Programs.{IsRootOf, IsProgramOf, first_too_large, declared_tool}
 use Rattle.tb_ring_law.specs.Helpers.Pieces.{Link, links, ring_links}
 use Rattle.tb_ring_law.specs.Helpers.Trees.{at, number_at, var_at, result_at, add_at, less_at, atom_at, var_t, int_formal, node_body, node_def, test_part, first_body, first_def, first_call, node_call, link_call, ring_script}
-use Rattle.tb_ring_law.specs.Helpers.Bodies.{number, worth, plain, one_more, node_tree, node_receives, node_sends, node_atoms, node_sorts, first_tree, first_test, first_begins, first_receives, first_sends, done, first_atoms, int_sorts, first_root, link_root, ring_roots}
-use Rattle.tb_ring_law.proofs.Programs.{node_code, first_code, ring_bodies}
+use Rattle.tb_ring_law.specs.Helpers.Bodies.{number, worth, plain, setting, one_more, node_tree, node_receives, node_sends, node_atoms, node_sorts, first_tree, first_test, first_begins, first_receives, first_sends, done, first_atoms, int_sorts, first_root, link_root, ring_roots}
+use Rattle.tb_ring_law.proofs.Programs.{node_code, first_code, ring_bodies, node-levels, first-levels}
 use Rattle.tb_ring_law.proofs.Folds.{fold-node, fold-first}
 
 abbrev seen : List ℕ → ℕ → Seen
@@ -78,11 +80,34 @@ module _ (n messages : ℕ) where
   abbrev script : Script
   script = ring_script n messages
 
+  abbrev with_sorts : List Sort → Part → Part
+  with_sorts sorts part = record { tree = part.tree; atoms = part.atoms; sorts = sorts ++ part.sorts }
+
   node-part : expansion_of script node_def ≡ record { tree = node_tree; atoms = node_atoms; sorts = node_sorts }
-  node-part = ?
+  node-part =
+      let folded = fold-node Expands (proc_step script (expands script 1)) (var_t 13 ∷ [])
+        (atom_def 18 (codes "rec-msg") (var_at 20 (codes "I") ∷ result_at 22 ∷ [])) (atom_def 26 (codes "snd-msg") (var_at 28 (codes "J") ∷ add_at 30 ∷ [])) (atom_def 39 (codes "delta") []) in
+      let receives = node-receives script in
+      let sends = node-sends script in
+      ap (λ (e : Expands). with_sorts (sort.Int ∷ sort.Int ∷ []) (e (formals_seen 0 node_def.formals) 1 2)) folded
+      ∙ (λ i. record { tree = node_tree; atoms = receives i ∷ sends i ∷ plain does.Delta ∷ []; sorts = node_sorts })
 
   first-part : expansion_of script (first_def messages) ≡ record { tree = first_tree messages; atoms = first_atoms; sorts = int_sorts }
-  first-part = ?
+  first-part =
+      let folded = fold-first Expands (proc_step script (expands script 1)) (var_t 45 ∷ []) (atom_def 49 (codes "snd-msg") (number_at 51 2 ∷ number_at 53 1 ∷ []))
+        (atom_def 57 (codes "rec-msg") (number_at 59 1 ∷ result_at 61 ∷ [])) (less_at 66 messages)
+        (atom_def 73 (codes "snd-msg") (number_at 75 2 ∷ add_at 77 ∷ [])) (atom_def 85 (codes "shutdown") (at 87 (ast.Appl (codes "done") []) ∷ [])) (atom_def 92 (codes "delta") []) in
+      let test = less-messages script 66 messages in
+      let begins = first-begins script in
+      let receives = first-receives script in
+      let sends = first-sends script in
+      let ends = first-ends script in
+      ap (λ (e : Expands). with_sorts [] (e [] 1 0)) folded
+      ∙ (λ i. record {
+        tree = tree.Let (setting 0) (tree.Seq (tree.At 1) (tree.Star (tree.Seq (tree.At 2) (tree.If (test i) (tree.At 3) (Some (tree.At 4)))) (tree.At 5)));
+        atoms = begins i ∷ receives i ∷ sends i ∷ ends i ∷ plain does.Delta ∷ [];
+        sorts = int_sorts;
+      })
 
   node-calls : called node_body ≡ []
   node-calls = fold-node (List (List ℕ)) called_step _ _ _ _
@@ -105,11 +130,14 @@ module _ (n messages : ℕ) where
   pub no-cycle : HasNoCycle script
   no-cycle names cycle = no-path cycle.first cycle.first cycle.others cycle.call_path
 
+  abbrev is_over : ℕ → ℕ → Bool
+  is_over atoms levels = ltb 20000 atoms || ltb 1000 levels
+
   node-small : is_too_large (expansion_of script node_def) ≡ false
-  node-small = ap is_too_large node-part ∙ search (rules, tree_lemmas)
+  node-small = ap is_too_large node-part ∙ ap (λ (levels : ℕ). is_over 3 levels) node-levels
 
   first-small : is_too_large (expansion_of script (first_def messages)) ≡ false
-  first-small = ap is_too_large first-part ∙ search (rules, tree_lemmas)
+  first-small = ap is_too_large first-part ∙ ap (λ (levels : ℕ). is_over 5 levels) (first-levels messages)
 
   pub all-small : first_too_large script ≡ None
   all-small = rw node-small (rw first-small refl)

@@ -36,10 +36,11 @@ module _ (A : Type 0) (step : Proc-F A → A) where
   pub fold-node : (vars : List Var) (x y z : AtomDef) → fold-Proc A step (tree.Let vars (tree.Star (tree.Seq (tree.Atom x) (tree.Atom y)) (tree.Atom z)))
       ≡ step (layer.Let vars (step (layer.Star (step (layer.Seq (step (layer.Atom x)) (step (layer.Atom y)))) (step (layer.Atom z)))))
   fold-node vars x y z =
-      fold-Let vars (tree.Star (tree.Seq (tree.Atom x) (tree.Atom y)) (tree.Atom z))
-      ∙ ap (λ (a : A). step (layer.Let vars a))
-      (fold-Star (tree.Seq (tree.Atom x) (tree.Atom y)) (tree.Atom z)
-      ∙ (λ i. step (layer.Star ((fold-Seq (tree.Atom x) (tree.Atom y) ∙ (λ j. step (layer.Seq (fold-Atom x j) (fold-Atom y j)))) i) (fold-Atom z i))))
+      let turn = tree.Seq (tree.Atom x) (tree.Atom y) in
+      let loop = tree.Star turn (tree.Atom z) in
+      let turned : fold-Proc A step turn ≡ step (layer.Seq (step (layer.Atom x)) (step (layer.Atom y))) = fold-Seq (tree.Atom x) (tree.Atom y) ∙ (λ i. step (layer.Seq (fold-Atom x i) (fold-Atom y i))) in
+      let looped : fold-Proc A step loop ≡ step (layer.Star (step (layer.Seq (step (layer.Atom x)) (step (layer.Atom y)))) (step (layer.Atom z))) = fold-Star turn (tree.Atom z) ∙ (λ i. step (layer.Star (turned i) (fold-Atom z i))) in
+      fold-Let vars loop ∙ ap (λ (a : A). step (layer.Let vars a)) looped
 
   pub fold-first : (vars : List Var) (v x : AtomDef) (test : Ast) (y z w : AtomDef)
       → fold-Proc A step (tree.Let vars (tree.Seq (tree.Atom v) (tree.Star (tree.Seq (tree.Atom x) (tree.If test (tree.Atom y) (Some (tree.Atom z)))) (tree.Atom w))))
@@ -51,5 +52,7 @@ module _ (A : Type 0) (step : Proc-F A → A) where
       let tested : fold-Proc A step tests ≡ step (layer.If test (step (layer.Atom y)) (Some (step (layer.Atom z)))) = fold-If test (tree.Atom y) (tree.Atom z) ∙ (λ i. step (layer.If test (fold-Atom y i) (Some (fold-Atom z i)))) in
       let turned : fold-Proc A step turn ≡ step (layer.Seq (step (layer.Atom x)) (step (layer.If test (step (layer.Atom y)) (Some (step (layer.Atom z)))))) = fold-Seq (tree.Atom x) tests ∙ (λ i. step (layer.Seq (fold-Atom x i) (tested i))) in
       let looped : fold-Proc A step loop ≡ step (layer.Star (step (layer.Seq (step (layer.Atom x)) (step (layer.If test (step (layer.Atom y)) (Some (step (layer.Atom z))))))) (step (layer.Atom w))) = fold-Star turn (tree.Atom w) ∙ (λ i. step (layer.Star (turned i) (fold-Atom w i))) in
-      fold-Let vars (tree.Seq (tree.Atom v) loop)
-      ∙ ap (λ (a : A). step (layer.Let vars a)) (fold-Seq (tree.Atom v) loop ∙ (λ i. step (layer.Seq (fold-Atom v i) (looped i))))
+      let all : fold-Proc A step (tree.Seq (tree.Atom v) loop)
+        ≡ step (layer.Seq (step (layer.Atom v)) (step (layer.Star (step (layer.Seq (step (layer.Atom x)) (step (layer.If test (step (layer.Atom y)) (Some (step (layer.Atom z))))))) (step (layer.Atom w))))) =
+      fold-Seq (tree.Atom v) loop ∙ (λ i. step (layer.Seq (fold-Atom v i) (looped i))) in
+      fold-Let vars (tree.Seq (tree.Atom v) loop) ∙ ap (λ (a : A). step (layer.Let vars a)) all

@@ -21,5 +21,6 @@ ring-goes-down n k least most positive few =
       program = program;
       found = ring-found n k least most few;
       log = down.0;
+      entries = down.2;
       ends = subst (λ (ps : List Proc). IsSim limits (sim_at program (ps ++ nodes) 0 [] 0) down.0 Down) (sym (first-opened (n * k))) down.1;
     }

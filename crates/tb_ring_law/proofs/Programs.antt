@@ -36,8 +36,10 @@ fold-first A step messages =
     fold-Seq A step (tree.At 2) tests ∙ (λ i. step (layer.Seq (fold-At A step 2 i) (tested i))) in
     let looped : fold-Tree A step loop ≡ step (layer.Star (step (layer.Seq (step (layer.At 2)) (step (layer.If (first_test messages) (step (layer.At 3)) (Some (step (layer.At 4))))))) (step (layer.At 5))) =
     fold-Star A step turn (tree.At 5) ∙ (λ i. step (layer.Star (turned i) (fold-At A step 5 i))) in
-    fold-Let A step (setting 0) (tree.Seq (tree.At 1) loop)
-    ∙ ap (λ (a : A). step (layer.Let (setting 0) a)) (fold-Seq A step (tree.At 1) loop ∙ (λ i. step (layer.Seq (fold-At A step 1 i) (looped i))))
+    let all : fold-Tree A step (tree.Seq (tree.At 1) loop)
+      ≡ step (layer.Seq (step (layer.At 1)) (step (layer.Star (step (layer.Seq (step (layer.At 2)) (step (layer.If (first_test messages) (step (layer.At 3)) (Some (step (layer.At 4))))))) (step (layer.At 5))))) =
+    fold-Seq A step (tree.At 1) loop ∙ (λ i. step (layer.Seq (fold-At A step 1 i) (looped i))) in
+    fold-Let A step (setting 0) (tree.Seq (tree.At 1) loop) ∙ ap (λ (a : A). step (layer.Let (setting 0) a)) all
 
 first-numbers : (messages : ℕ) → tree_atoms (first_tree messages) ≡ 1 ∷ 2 ∷ 3 ∷ 4 ∷ 5 ∷ []
 first-numbers messages = fold-first (List ℕ) atoms_step messages
@@ -79,3 +81,6 @@ node-enters = search (rules, tree_lemmas)
 
 pub first-enters : (messages : ℕ) → fresh (first_tree messages) ≡ first_begins_with messages
 first-enters messages = fold-first Process fresh_step messages
+
+pub node-levels : tree_levels node_tree ≡ 4
+node-levels = search (rules, tree_lemmas)

@@ -17,6 +17,8 @@ use Rattle.tb_log.specs.declared.entry.Entry.{Entry}
 use Rattle.tb_log.specs.declared.entry.Entry.TheVariants.{Did}
 use Rattle.tb_sim.specs.Simulation.{Limits, Sim, Turn, Ends, Makes, turn, step_turn, makes, IsSim, limits_of, sim_start}
 use Rattle.tb_sim.specs.declared.ends.SimEnd.TheVariants.{Down, Steps, Events}
+use Rattle.tb_log.specs.declared.entry.LabelKind.TheVariants as kind
+use Rattle.tb_ring_law.specs.Ends.{step_kind, messages_then_end}
 use Rattle.tb_ring_law.specs.Helpers.Pieces.{Link, links, ring_links}
 use Rattle.tb_ring_law.specs.Helpers.Bodies.{worth, first_root, link_root, ring_roots}
 use Rattle.tb_ring_law.specs.Helpers.Buses.{slot, node_loop, node_waits, node_holds, first_loop, first_begins_with, first_holds, next_of, node_at, first_at, bus_of, Waits, AllWait}
@@ -205,7 +207,7 @@ module _ (n messages : ℕ) (program : Program) (bodies : program.bodies ≡ rin
       subst (λ (ps : List Proc). GoesOn made ps starter) (sym h.are) (first-goes-on made h.rounds starter h.nodes h.last less h.to_come h.waits)
 
   -- the last message has come round
-  ends : (nodes : List Proc) (log : List Entry) → AllWait n 2 (n + 1) nodes → Kept log messages → (more : List Entry) × IsSim limits (sim_at program (first_at (first_holds messages) messages ∷ nodes) n log messages) more Down
+  ends : (nodes : List Proc) (log : List Entry) → AllWait n 2 (n + 1) nodes → Kept log messages → (more : List Entry) × IsSim limits (sim_at program (first_at (first_holds messages) messages ∷ nodes) n log messages) more Down × (map step_kind more ≡ Some kind.Shutdown ∷ [])
   ends nodes log waits kept =
       let first = first_at (first_holds messages) messages in
       let here = bus_of program (first ∷ nodes) n in
@@ -215,10 +217,10 @@ module _ (n messages : ℕ) (program : Program) (bodies : program.bodies ≡ rin
       let entry = Did (label_of move) in
       let size : entry_size entry ≡ 5 = rw done-size refl in
       let made = turn-step program (first ∷ nodes) n log messages (label_of move) (apply here move) step.0 step.1 most (room log messages entry most (omega (arith, size)) kept) in
-      (entry ∷ [], (record { bus = apply here move; log = log ++ entry ∷ []; steps_made = messages + 1; quiet = false; left = [] }, made, refl))
+      (entry ∷ [], (record { bus = apply here move; log = log ++ entry ∷ []; steps_made = messages + 1; quiet = false; left = [] }, made, refl), refl)
 
   -- so many messages are to come
-  runs : (left made : ℕ) (procs : List Proc) (starter : ℕ) (log : List Entry) → made + left ≡ messages → Holds made procs starter → Kept log made → (more : List Entry) × IsSim limits (sim_at program procs starter log made) more Down
+  runs : (left made : ℕ) (procs : List Proc) (starter : ℕ) (log : List Entry) → made + left ≡ messages → Holds made procs starter → Kept log made → (more : List Entry) × IsSim limits (sim_at program procs starter log made) more Down × (map step_kind more ≡ messages_then_end left)
   runs zero made procs starter log none (inl h) kept = let less = wait-le n (h.holder + 1) (n + 1) h.behind h.waits_behind in absurd (omega (arith, none, h.to_come, h.count, less))
   runs zero made procs starter log none (inr h) kept =
       let same : made ≡ messages = omega (arith, none) in
@@ -226,12 +228,12 @@ module _ (n messages : ℕ) (program : Program) (bodies : program.bodies ≡ rin
       let are : procs ≡ first_at (first_holds messages) messages ∷ h.nodes = h.are ∙ ap (λ (m : ℕ). first_at (first_holds messages) m ∷ h.nodes) same in
       (last.0, subst (λ (ps : List Proc). IsSim limits (sim_at program ps starter log made) last.0 Down) (sym are)
       (subst (λ (s : ℕ). IsSim limits (sim_at program (first_at (first_holds messages) messages ∷ h.nodes) s log made) last.0 Down) (sym h.last)
-      (subst (λ (m : ℕ). IsSim limits (sim_at program (first_at (first_holds messages) messages ∷ h.nodes) n log m) last.0 Down) (sym same) last.1)))
+      (subst (λ (m : ℕ). IsSim limits (sim_at program (first_at (first_holds messages) messages ∷ h.nodes) n log m) last.0 Down) (sym same) last.1)), last.2)
   runs (suc left) made procs starter log some holds kept =
       let on = goes-on made procs starter (omega (arith, some)) holds in
       let entry = Did on.hands.label in
       let rest = runs left (made + 1) on.after on.next (log ++ entry ∷ []) (omega (arith, some)) on.holds (kept-more log made entry on.hands.size kept) in
-      (entry ∷ rest.0, (sim_at program on.after on.next (log ++ entry ∷ []) (made + 1), turn-hands program procs starter log made on.after on.next on.hands (omega (arith, some, most)) kept, rest.1))
+      (entry ∷ rest.0, (sim_at program on.after on.next (log ++ entry ∷ []) (made + 1), turn-hands program procs starter log made on.after on.next on.hands (omega (arith, some, most)) kept, rest.1), (λ i. Some (on.hands.kind i) ∷ rest.2 i))
 
   -- the first message is sent
   first-message : (rounds : ℕ) (nodes : List Proc) → n * (rounds + 1) ≡ messages → AllWait n 2 (n + 1) nodes → GoesOn 0 (first_at (first_begins_with messages) 0 ∷ nodes) 0
@@ -250,13 +252,14 @@ module _ (n messages : ℕ) (program : Program) (bodies : program.bodies ≡ rin
 
   -- from the first process, with all others as they begin, the bus goes down
   pub goes-down : (rounds : ℕ) (nodes : List Proc) → n * (rounds + 1) ≡ messages → AllWait n 2 (n + 1) nodes
-      → (log : List Entry) × IsSim limits (sim_at program (first_at (first_begins_with messages) 0 ∷ nodes) 0 [] 0) log Down
+      → (log : List Entry) × IsSim limits (sim_at program (first_at (first_begins_with messages) 0 ∷ nodes) 0 [] 0) log Down × (map step_kind log ≡ messages_then_end messages)
   goes-down rounds nodes to_come waits =
       let on = first-message rounds nodes to_come waits in
       let entry = Did on.hands.label in
+      let all : suc (messages - 1) ≡ messages = omega (arith, to_come, low) in
       let kept : Kept [] 0 = record { long = refl; large = refl } in
       let rest = runs (messages - 1) 1 on.after on.next (entry ∷ []) (omega (arith, to_come, low)) on.holds (kept-more [] 0 entry on.hands.size kept) in
-      (entry ∷ rest.0, (sim_at program on.after on.next (entry ∷ []) 1, turn-hands program (first_at (first_begins_with messages) 0 ∷ nodes) 0 [] 0 on.after on.next on.hands (omega arith) kept, rest.1))
+      (entry ∷ rest.0, (sim_at program on.after on.next (entry ∷ []) 1, turn-hands program (first_at (first_begins_with messages) 0 ∷ nodes) 0 [] 0 on.after on.next on.hands (omega arith) kept, rest.1), (λ i. Some (on.hands.kind i) ∷ rest.2 i) ∙ ap messages_then_end all)
 
 -- The opening bus.
 

@@ -13,6 +13,7 @@ use Rattle.tb_bus.specs.Buses.{Bus, Proc, proc_left}
 use Rattle.tb_bus.specs.Steps.{Move, Own, Handshake, Step, steps, step_of, label_of, apply, moves, moves_of_all, moves_of, moves_or_halt, in_turn, others, handshakes, handshakes_with, advance}
 use Rattle.tb_log.specs.Limits.{terms_size}
 use Rattle.tb_log.specs.declared.entry.Label.{Label}
+use Rattle.tb_log.specs.declared.entry.LabelKind.TheVariants as kind
 use Rattle.tb_ring_law.specs.Helpers.Buses.{node_loop, node_waits, node_holds, first_loop, first_begins_with, first_holds, next_of, node_at, first_at, bus_of, Waits, AllWait, first_store}
 use Rattle.tb_ring_law.proofs.Programs.{ring_bodies}
 use Rattle.tb_ring_law.proofs.Values.{number-size}
@@ -25,6 +26,7 @@ message-size target t = rw (number-size target) (rw (number-size t) refl)
 -- the bus after these processes, of which this one began the last step, hands a message on first of all, and comes to those
 pub record Hands (program : Program) (procs : List Proc) (starter : ℕ) (after : List Proc) (next : ℕ) : Type 0 where
   pub label : Label
+  pub kind : label.kind ≡ kind.Msg
   pub size : terms_size label.terms ≡ 2
   pub rest : List Step
   pub is : steps (bus_of program procs starter) ≡ record { label = label; bus = bus_of program after next } ∷ rest
@@ -49,7 +51,6 @@ module _ (n messages : ℕ) (program : Program) (bodies : program.bodies ≡ rin
       → (more : List Proc) × (in_turn (bus_of program (first_at term t ∷ nodes) starter) ≡ first_at term t ∷ more)
   first-in-turn term t nodes starter (inl none) waits =
       let first = first_at term t in
-      let after = λ (s : ℕ) (p : Proc). ltb s p.number in
       subst (λ (s : ℕ). (more : List Proc) × (in_turn (bus_of program (first ∷ nodes) s) ≡ first ∷ more)) (sym none) (_, refl)
   first-in-turn term t nodes starter (inr last) waits =
       let first = first_at term t in
@@ -93,6 +94,7 @@ module _ (n messages : ℕ) (program : Program) (bodies : program.bodies ≡ rin
       node-goes n 2 3 (n + 1) 2 (node_receiving n 2 (kept fresh u)) (bind_of 2 v) (first_at (first_loop messages) kept_t) [] second (node_at n node_holds 2 v) behind refl (omega arith) refl (omega arith) refl refl waits (omega arith) in
       record {
         label = label_of move;
+        kind = refl;
         size = message-size 2 v;
         rest = step.0;
         is = step.1 ∙ ap (λ (ps : List Proc). record { label = label_of move; bus = bus_of program ps 1 } ∷ step.0) (ap (advance 2 (node_receiving n 2 (kept fresh u)) (bind_of 2 v)) sent ∙ received);
@@ -167,6 +169,7 @@ module _ (n messages : ℕ) (program : Program) (bodies : program.bodies ≡ rin
       node-goes n (h + 1) (h + 1 + 1) (n + 1) (h + 1) (node_receiving n (h + 1) (kept fresh u)) (bind_of 2 (m + 1)) first (before ++ left ∷ []) second holds behind refl (omega (arith, least)) waits_left (omega arith) refl refl waits_behind (omega arith) in
       record {
         label = label_of move;
+        kind = refl;
         size = message-size (h + 1) (m + 1);
         rest = step.0;
         is = step.1
@@ -211,6 +214,7 @@ module _ (n messages : ℕ) (program : Program) (bodies : program.bodies ≡ rin
       first-goes n (n + 1) (first_receiving messages t) (bind_of 0 (m + 1)) first (first_at (first_holds messages) (m + 1)) (before ++ left ∷ []) refl refl waits_left in
       record {
         label = label_of move;
+        kind = refl;
         size = message-size 1 (m + 1);
         rest = step.0;
         is = step.1 ∙ ap (λ (ps : List Proc). record { label = label_of move; bus = bus_of program ps n } ∷ step.0) (ap goes sent ∙ received);

@@ -8,7 +8,7 @@ use Rattle.tb_body.specs.declared.program.Program.{Program}
 use Rattle.tb_algebra.specs.Offers.{Offered}
 use Rattle.tb_algebra.specs.Binds.{with_binds}
 use Rattle.tb_bus.specs.Buses.{Bus, Proc, proc_left}
-use Rattle.tb_bus.specs.Steps.{advance, handshakes_with}
+use Rattle.tb_bus.specs.Steps.{Move, advance, handshakes_with}
 use Rattle.tb_ring_law.specs.Helpers.Buses.{node_waits, node_at, bus_of, Waits, AllWait}
 use Rattle.tb_ring_law.proofs.Programs.{ring_bodies}
 use Rattle.tb_ring_law.proofs.Moves.{message, node-ignores}
@@ -48,7 +48,7 @@ module _ (messages : ℕ) (program : Program) (bodies : program.bodies ≡ ring_
     kept_or_not : handshakes_with (bus_of program procs starter) sender sent (message target v) proc ≡ [] → (b : Bool)
         → flat_map (handshakes_with (bus_of program procs starter) sender sent (message target v)) (cond b (proc ∷ filter keeps (before ++ rest)) (filter keeps (before ++ rest)))
         ≡ flat_map (handshakes_with (bus_of program procs starter) sender sent (message target v)) (filter keeps (before ++ rest))
-    kept_or_not nothing true = ap (λ (ms : List _). ms ++ flat_map (handshakes_with (bus_of program procs starter) sender sent (message target v)) (filter keeps (before ++ rest))) nothing
+    kept_or_not nothing true = ap (λ (ms : List Move). ms ++ flat_map (handshakes_with (bus_of program procs starter) sender sent (message target v)) (filter keeps (before ++ rest))) nothing
     kept_or_not nothing false = refl
 
 -- this one goes on
