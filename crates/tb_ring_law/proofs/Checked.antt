@@ -93,8 +93,8 @@ module _ (n messages : ℕ) where
 
   node-fine : process_faults script node_def ≡ []
   node-fine =
-      let receives = two-received script in_node 18 _ _ (var-i script) (result-t script 22 _) in
-      let sends = two-sent script in_node 26 _ _ (var-j script) (add-t script 30 _) in
+      let receives = two-received script in_node 18 (var_at 20 (codes "I")) (result_at 22) (var-i script) (result-t script 22 (int_known (codes "I") ∷ int_known (codes "J") ∷ [])) in
+      let sends = two-sent script in_node 26 (var_at 28 (codes "J")) (add_at 30) (var-j script) (add-t script 30 (int_known (codes "I") ∷ int_known (codes "J") ∷ [])) in
       let delta = delta-fine script in_node 39 in
       let folded = fold-node Found (proc_step script) (var_t 13 ∷ []) (atom_def 18 (codes "rec-msg") (var_at 20 (codes "I") ∷ result_at 22 ∷ [])) (atom_def 26 (codes "snd-msg") (var_at 28 (codes "J") ∷ add_at 30 ∷ [])) (atom_def 39 (codes "delta") []) in
       ap (λ (f : Found). [] ++ f (map known_formal node_def.formals)) folded
@@ -102,10 +102,10 @@ module _ (n messages : ℕ) where
 
   first-fine : process_faults script (first_def messages) ≡ []
   first-fine =
-      let begins = two-sent script in_first 49 _ _ (number-fine script in_first 51 2) (number-fine script in_first 53 1) in
-      let receives = two-received script in_first 57 _ _ (number-received script in_first 59 1) (result-t script 61 _) in
-      let sends = two-sent script in_first 73 _ _ (number-fine script in_first 75 2) (add-t script 77 _) in
-      let ends = shutdown-fine script in_first 85 _ (done-fine script in_first 87) in
+      let begins = two-sent script in_first 49 (number_at 51 2) (number_at 53 1) (number-fine script in_first 51 2) (number-fine script in_first 53 1) in
+      let receives = two-received script in_first 57 (number_at 59 1) (result_at 61) (number-received script in_first 59 1) (result-t script 61 []) in
+      let sends = two-sent script in_first 73 (number_at 75 2) (add_at 77) (number-fine script in_first 75 2) (add-t script 77 []) in
+      let ends = shutdown-fine script in_first 85 (at 87 (ast.Appl (codes "done") [])) (done-fine script in_first 87) in
       let delta = delta-fine script in_first 92 in
       let test = less-t script 66 messages [] in
       let folded = fold-first Found (proc_step script) (var_t 45 ∷ []) (atom_def 49 (codes "snd-msg") (number_at 51 2 ∷ number_at 53 1 ∷ []))

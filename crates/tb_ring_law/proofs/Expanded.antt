@@ -20,8 +20,7 @@ use Rattle.tb_syntax.specs.declared.proc.Proc.{Proc}
 use Rattle.tb_syntax.specs.declared.script.ProcDef.{ProcDef}
 use Rattle.tb_syntax.specs.declared.script.Script.{Script}
 use Rattle.tb_types.specs.Values.{closed_value}
-use Rattle.tb_expand.specs.declared.seen.Seen.{Seen}
-use Rattle.tb_expand.specs.Scopes.{Scope, formals_seen}
+use Rattle.tb_expand.specs.Scopes.{Scope, declared, formals_seen}
 use Rattle.tb_expand.specs.Acts.{atom_of}
 use Rattle.tb_expand.specs.Exprs.{expr_of}
 use Rattle.tb_expand.specs.Cycles.{called, called_step, Calls, IsCallPath, IsCycle}
@@ -35,15 +34,12 @@ use Rattle.tb_ring_law.specs.Helpers.Bodies.{number, worth, plain, setting, one_
 use Rattle.tb_ring_law.proofs.Programs.{node_code, first_code, ring_bodies, node-levels, first-levels}
 use Rattle.tb_ring_law.proofs.Folds.{fold-node, fold-first}
 
-abbrev seen : List ℕ → ℕ → Seen
-seen name slot = record { name = name; slot = slot; sort = sort.Int }
-
 -- what is seen within Node, and within First
 abbrev in_node : Scope
-in_node = seen (codes "T") 2 ∷ seen (codes "I") 0 ∷ seen (codes "J") 1 ∷ []
+in_node = declared 2 (var_t 13 ∷ []) ++ formals_seen 0 node_def.formals
 
 abbrev in_first : Scope
-in_first = seen (codes "T") 0 ∷ []
+in_first = declared 0 (var_t 45 ∷ []) ++ []
 
 abbrev atom_def : ℕ → List ℕ → List Ast → AtomDef
 atom_def token word arguments = record { act = act.Named word arguments; times = []; token = token }

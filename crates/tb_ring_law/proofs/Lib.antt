@@ -9,5 +9,7 @@ pub mod Values
 pub mod Moves
 pub mod Waiting
 pub mod Steps
+pub mod Runs
 pub mod Expanded
 pub mod Accepted
+pub mod GoesDown

@@ -1,19 +1,23 @@
 -- What each process of the ring may do, by where it stands.
-use Rattle.std.proofs.Common.{◌≡◌, ◌≢◌, ℕ, ◌+◌, ◌≤◌, ◌<◌, pos, Bool, true, false, List, [], ◌∷◌, ◌++◌, Option, Some, None, refl, ap, sym, ◌∙◌, subst, arith, rules, codes}
+use Rattle.std.proofs.Common.{◌≡◌, ◌≢◌, ℕ, ◌+◌, ◌≤◌, ◌<◌, pos, Bool, true, false, List, [], ◌∷◌, ◌++◌, map, Option, Some, None, option_map, option_and_then, refl, ap, sym, ◌∙◌, subst, arith, rules, codes}
 use Rattle.std.specs.List.{flat_map}
 use Rattle.tb_terms.specs.declared.term.Term.{Term}
 use Rattle.tb_func.specs.declared.slot.Slot.{Slot}
 use Rattle.tb_match.specs.declared.bind.Bind.{Bind}
+use Rattle.tb_body.specs.declared.body.Body.{Body}
 use Rattle.tb_body.specs.declared.program.Program.{Program}
 use Rattle.tb_algebra.specs.Processes.{Process, At, Seq, Star, If, Let}
-use Rattle.tb_algebra.specs.Offers.{Offered, offers}
+use Rattle.tb_algebra.specs.Offers.{Offered, offers, offers_if, offers_after, before}
+use Rattle.tb_algebra.specs.Settings.{tested}
+use Rattle.tb_bus.specs.declared.action.Action.{Action}
 use Rattle.tb_bus.specs.declared.action.Action.TheVariants as action
 use Rattle.tb_bus.specs.declared.action.OwnAction.TheVariants as own
-use Rattle.tb_bus.specs.Buses.{Bus, Proc}
+use Rattle.tb_bus.specs.Actions.{action_of, shutdown_action}
+use Rattle.tb_bus.specs.Buses.{Bus, Proc, atoms_of}
 use Rattle.tb_bus.specs.Effects.{Effect, GoesDown}
-use Rattle.tb_bus.specs.Steps.{Move, Own, Handshake, action_by, handshakes_with, handshakes, moves_of}
+use Rattle.tb_bus.specs.Steps.{Move, Own, Handshake, action_by, moves_by, handshakes_with, handshakes, moves_of}
 use Rattle.tb_log.specs.declared.entry.LabelKind.TheVariants as kind
-use Rattle.tb_ring_law.specs.Helpers.Bodies.{worth}
+use Rattle.tb_ring_law.specs.Helpers.Bodies.{worth, first_test}
 use Rattle.tb_ring_law.specs.Helpers.Buses.{node_store, first_store, node_loop, node_waits, node_holds, first_loop, first_begins_with, first_holds, next_of, node_at, first_at, bus_of}
 use Rattle.tb_ring_law.proofs.Programs.{ring_bodies}
 use Rattle.tb_ring_law.proofs.Values.{node-begins, first-begins, node-sent, first-sent, first-sent-once, done_term, done-sent, test-less, test-done, node-wanted, first-wanted, matches, misses}
@@ -85,18 +89,36 @@ module _ (messages : ℕ) (program : Program) (bodies : program.bodies ≡ ring_
 
   -- what a process has that holds a message
 
-  pub node-moves : (n i t : ℕ) → t ≤ 1000000 → moves_of here (node_at n node_holds i t) ≡ handshakes here (node_at n node_holds i t) (node_sending n i t) (message (next_of n i) (t + 1)) ++ []
+  acts : (proc : Proc) (offered : Offered) → action_by here proc offered ≡ action_of (atoms_of (ring_bodies messages) proc.body) 0 offered
+  acts proc offered = ap (λ (bs : List Body). action_of (atoms_of bs proc.body) 0 offered) bodies
+
+  -- its only offer
+  moves-once : (proc : Proc) (offered : Offered) (does : Option Action) → offers proc.term proc.store ≡ offered ∷ [] → action_of (atoms_of (ring_bodies messages) proc.body) 0 offered ≡ does → moves_of here proc ≡ moves_by here proc offered does ++ []
   unfolding moves_of
-  node-moves n i t most = rw bodies (rw (node-sent i (next_of n i) t most) refl)
+  moves-once proc offered does one is =
+      ap (flat_map (λ (o : Offered). moves_by here proc o (action_by here proc o))) one
+      ∙ ap (λ (a : Option Action). moves_by here proc offered a ++ []) (acts proc offered ∙ is)
+
+  pub node-moves : (n i t : ℕ) → t ≤ 1000000 → moves_of here (node_at n node_holds i t) ≡ handshakes here (node_at n node_holds i t) (node_sending n i t) (message (next_of n i) (t + 1)) ++ []
+  node-moves n i t most =
+      moves-once (node_at n node_holds i t) (node_sending n i t) (Some (action.Send (message (next_of n i) (t + 1)))) refl (ap (option_map action.Send) (node-sent i (next_of n i) t most))
+
+  first-offers-once : (t : ℕ) → offers (first_begins_with messages) (first_store t) ≡ first_beginning messages ∷ []
+  first-offers-once t = ap (λ (o : Option (List Slot)). offers_after o (offers (Seq (At 1 0) (first_loop messages)))) (first-begins t)
 
   pub first-moves-once : (t : ℕ) → moves_of here (first_at (first_begins_with messages) t) ≡ handshakes here (first_at (first_begins_with messages) t) (first_beginning messages) (message 2 1) ++ []
-  unfolding moves_of
-  first-moves-once t = rw (first-begins t) (rw bodies (rw (first-sent-once 0) refl))
+  first-moves-once t =
+      moves-once (first_at (first_begins_with messages) t) (first_beginning messages) (Some (action.Send (message 2 1))) (first-offers-once t) (ap (option_map action.Send) (first-sent-once 0))
+
+  first-offers : (t : ℕ) (b : Bool) → tested (first_store t) (first_test messages) ≡ Some b
+      → offers (first_holds messages) (first_store t) ≡ map (before (first_loop messages)) (offers_if (Some b) (offers (At 3 0) (first_store t)) (offers (At 4 0) (first_store t)))
+  first-offers t b is = ap (λ (o : Option Bool). map (before (first_loop messages)) (offers_if o (offers (At 3 0) (first_store t)) (offers (At 4 0) (first_store t)))) is
 
   pub first-moves : (t : ℕ) → t < messages → t ≤ 1000000 → moves_of here (first_at (first_holds messages) t) ≡ handshakes here (first_at (first_holds messages) t) (first_sending messages t) (message 2 (t + 1)) ++ []
-  unfolding moves_of
-  first-moves t less most = rw (test-less t messages less) (rw bodies (rw (first-sent t most) refl))
+  first-moves t less most =
+      moves-once (first_at (first_holds messages) t) (first_sending messages t) (Some (action.Send (message 2 (t + 1)))) (first-offers t true (test-less t messages less)) (ap (option_map action.Send) (first-sent t most))
 
   pub first-ends : moves_of here (first_at (first_holds messages) messages) ≡ Own (first_at (first_holds messages) messages) (first_ending messages messages) down_effect ∷ []
-  unfolding moves_of
-  first-ends = rw (test-done messages) (rw bodies (rw (done-sent messages) refl))
+  first-ends =
+      moves-once (first_at (first_holds messages) messages) (first_ending messages messages) (Some (action.Own (own.Shutdown done_term))) (first-offers messages false (test-done messages))
+      (ap (option_and_then shutdown_action) (done-sent messages))
