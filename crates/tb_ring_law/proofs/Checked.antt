@@ -21,7 +21,11 @@ use Rattle.tb_types.specs.declared.positions.Position.TheVariants.{Sent, Receive
 use Rattle.tb_types.specs.Atoms.{atom_faults}
 use Rattle.tb_types.specs.Bodies.{proc_step, proc_faults, process_faults, root_faults, script_faults}
 use Rattle.tb_types.specs.ExpectedSorts.{site_faults, plain, tested, rooted, of_sort}
+use Rattle.tb_types.specs.declared.violation.Rule.TheVariants.{NoTool}
 use Rattle.tb_types.specs.Conditions.{IsIn, Proper}
+use Rattle.tb_types.specs.Definitions.{formals_faults, vars_faults}
+use Rattle.tb_types.specs.Names.{is_unknown_sort}
+use Rattle.tb_types.specs.Violation.{noted_if}
 use Rattle.tb_types.specs.Scopes.{known_formal, known_var}
 use Rattle.tb_ring_law.proofs.Folds.{fold-node, fold-first}
 use Rattle.tb_ring_law.specs.Helpers.Pieces.{Link, links, ring_links}
@@ -91,14 +95,23 @@ module _ (n messages : ℕ) where
   abbrev script : Script
   script = ring_script n messages
 
+  known-sort : is_unknown_sort [] sort.Int ≡ false
+  known-sort = search (rules, sort_lemmas)
+
+  formals-fine : formals_faults [] node_def.formals ≡ []
+  formals-fine = λ i. [] ++ (noted_if (known-sort i) NoTool 5 ++ (noted_if (known-sort i) NoTool 9 ++ []))
+
+  vars-fine : (token : ℕ) → vars_faults [] (var_t token ∷ []) ≡ []
+  vars-fine token = λ i. [] ++ (noted_if (known-sort i) NoTool (token + 2) ++ [])
+
   node-fine : process_faults script node_def ≡ []
   node-fine =
       let receives = two-received script in_node 18 (var_at 20 (codes "I")) (result_at 22) (var-i script) (result-t script 22 (int_known (codes "I") ∷ int_known (codes "J") ∷ [])) in
       let sends = two-sent script in_node 26 (var_at 28 (codes "J")) (add_at 30) (var-j script) (add-t script 30 (int_known (codes "I") ∷ int_known (codes "J") ∷ [])) in
       let delta = delta-fine script in_node 39 in
       let folded = fold-node Found (proc_step script) (var_t 13 ∷ []) (atom_def 18 (codes "rec-msg") (var_at 20 (codes "I") ∷ result_at 22 ∷ [])) (atom_def 26 (codes "snd-msg") (var_at 28 (codes "J") ∷ add_at 30 ∷ [])) (atom_def 39 (codes "delta") []) in
-      ap (λ (f : Found). [] ++ f (map known_formal node_def.formals)) folded
-      ∙ (λ i. [] ++ ([] ++ ((receives i ++ sends i) ++ delta i)))
+      ap (λ (f : Found). formals_faults [] node_def.formals ++ f (map known_formal node_def.formals)) folded
+      ∙ (λ i. formals-fine i ++ (vars-fine 13 i ++ ((receives i ++ sends i) ++ delta i)))
 
   first-fine : process_faults script (first_def messages) ≡ []
   first-fine =
@@ -112,7 +125,7 @@ module _ (n messages : ℕ) where
         (atom_def 57 (codes "rec-msg") (number_at 59 1 ∷ result_at 61 ∷ [])) (less_at 66 messages)
         (atom_def 73 (codes "snd-msg") (number_at 75 2 ∷ add_at 77 ∷ [])) (atom_def 85 (codes "shutdown") (at 87 (ast.Appl (codes "done") []) ∷ [])) (atom_def 92 (codes "delta") []) in
       ap (λ (f : Found). [] ++ f []) folded
-      ∙ (λ i. [] ++ ([] ++ (begins i ++ ((receives i ++ (test i ++ sends i ++ ends i)) ++ delta i))))
+      ∙ (λ i. [] ++ (vars-fine 45 i ++ (begins i ++ ((receives i ++ (test i ++ sends i ++ ends i)) ++ delta i))))
 
   call-fine : (link : Link) → root_faults script (link_call link) ≡ []
   call-fine link = λ i. ([] ++ []) ++ (number-rooted script (7 * link.process + 84 + 2) link.process i ++ (number-rooted script (7 * link.process + 84 + 4) link.next i ++ []))

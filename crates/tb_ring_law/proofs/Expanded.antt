@@ -1,8 +1,10 @@
 -- What the ring's processes become: its program.
-use Rattle.std.proofs.Common.{◌≡◌, ℕ, zero, suc, ◌+◌, ◌-◌, ◌*◌, ◌≤◌, ◌<◌, pos, Bool, true, false, ltb, ◌||◌, List, [], ◌∷◌, ◌++◌, length, map, Option, Some, None, refl, ap, sym, ◌∙◌, subst, arith, rules, codes}
+use Rattle.std.proofs.Common.{◌≡◌, ℕ, zero, suc, ◌+◌, ◌-◌, ◌*◌, ◌≤◌, ◌<◌, pos, Bool, true, false, ltb, ◌||◌, List, [], ◌∷◌, ◌++◌, length, map, Option, Some, None, option_map, cond, refl, ap, sym, ◌∙◌, subst, arith, rules, codes}
 use Rattle.std.specs.List.{Contains, AllZip}
 use Rattle.tb_terms.specs.declared.term.Term.{Term, the_lemmas as term_lemmas}
 use Rattle.tb_terms.specs.declared.expr.Expr.{Expr, the_lemmas as expr_lemmas}
+use Rattle.tb_terms.specs.declared.expr.Expr.TheVariants as expr
+use Rattle.tb_terms.specs.declared.expr.Func.TheVariants.{Add, Less}
 use Rattle.tb_terms.specs.declared.sort.Sort.{Sort}
 use Rattle.tb_terms.specs.declared.sort.Sort.TheVariants as sort
 use Rattle.tb_body.specs.declared.atom.Atom.{Atom}
@@ -46,31 +48,37 @@ atom_def token word arguments = record { act = act.Named word arguments; times =
 
 module _ (script : Script) where
   one-more-node : (token : ℕ) → expr_of in_node (add_at token) ≡ one_more 2
-  one-more-node token = search (rules, expr_of_appl, expr_of_var, expr_of_number)
+  one-more-node token =
+      expr_of_appl in_node (codes "add") (var_at (token + 2) (codes "T") ∷ number_at (token + 4) 1 ∷ [])
+      ∙ (λ i. expr.Call Add (expr_of_var in_node (codes "T") i ∷ expr_of_number in_node (pos 1) i ∷ []))
 
   one-more-first : (token : ℕ) → expr_of in_first (add_at token) ≡ one_more 0
-  one-more-first token = search (rules, expr_of_appl, expr_of_var, expr_of_number)
+  one-more-first token =
+      expr_of_appl in_first (codes "add") (var_at (token + 2) (codes "T") ∷ number_at (token + 4) 1 ∷ [])
+      ∙ (λ i. expr.Call Add (expr_of_var in_first (codes "T") i ∷ expr_of_number in_first (pos 1) i ∷ []))
 
   less-messages : (token messages : ℕ) → expr_of in_first (less_at token messages) ≡ first_test messages
-  less-messages token messages = search (rules, expr_of_appl, expr_of_var, expr_of_number)
+  less-messages token messages =
+      expr_of_appl in_first (codes "less") (var_at (token + 2) (codes "T") ∷ number_at (token + 4) messages ∷ [])
+      ∙ (λ i. expr.Call Less (expr_of_var in_first (codes "T") i ∷ expr_of_number in_first (pos messages) i ∷ []))
 
   node-receives : atom_of script in_node (atom_def 18 (codes "rec-msg") (var_at 20 (codes "I") ∷ result_at 22 ∷ [])) ≡ plain (does.RecMsg node_receives)
-  node-receives = search (rules, expr_of_var, expr_of_result)
+  node-receives = λ i. plain (does.RecMsg (expr_of_var in_node (codes "I") i ∷ expr_of_result in_node (codes "T") i ∷ []))
 
   node-sends : atom_of script in_node (atom_def 26 (codes "snd-msg") (var_at 28 (codes "J") ∷ add_at 30 ∷ [])) ≡ plain (does.SndMsg node_sends)
-  node-sends = search (rules, expr_of_var, one-more-node)
+  node-sends = λ i. plain (does.SndMsg (expr_of_var in_node (codes "J") i ∷ one-more-node 30 i ∷ []))
 
   first-begins : atom_of script in_first (atom_def 49 (codes "snd-msg") (number_at 51 2 ∷ number_at 53 1 ∷ [])) ≡ plain (does.SndMsg first_begins)
-  first-begins = search (rules, expr_of_number)
+  first-begins = λ i. plain (does.SndMsg (expr_of_number in_first (pos 2) i ∷ expr_of_number in_first (pos 1) i ∷ []))
 
   first-receives : atom_of script in_first (atom_def 57 (codes "rec-msg") (number_at 59 1 ∷ result_at 61 ∷ [])) ≡ plain (does.RecMsg first_receives)
-  first-receives = search (rules, expr_of_number, expr_of_result)
+  first-receives = λ i. plain (does.RecMsg (expr_of_number in_first (pos 1) i ∷ expr_of_result in_first (codes "T") i ∷ []))
 
   first-sends : atom_of script in_first (atom_def 73 (codes "snd-msg") (number_at 75 2 ∷ add_at 77 ∷ [])) ≡ plain (does.SndMsg first_sends)
-  first-sends = search (rules, expr_of_number, one-more-first)
+  first-sends = λ i. plain (does.SndMsg (expr_of_number in_first (pos 2) i ∷ one-more-first 77 i ∷ []))
 
   first-ends : atom_of script in_first (atom_def 85 (codes "shutdown") (at 87 (ast.Appl (codes "done") []) ∷ [])) ≡ plain (does.Shutdown done)
-  first-ends = search (rules, expr_of_appl)
+  first-ends = λ i. plain (does.Shutdown (expr_of_appl in_first (codes "done") [] i))
 
 module _ (n messages : ℕ) where
   abbrev script : Script
@@ -136,7 +144,7 @@ module _ (n messages : ℕ) where
   first-small = ap is_too_large first-part ∙ ap (λ (levels : ℕ). is_over 5 levels) (first-levels messages)
 
   pub all-small : first_too_large script ≡ None
-  all-small = rw node-small (rw first-small refl)
+  all-small = λ i. option_map (λ (d : ProcDef). d.name) (cond (node-small i) (Some node_def) (cond (first-small i) (Some (first_def messages)) None))
 
   node-expands : IsExpansion script node_def node_code
   node-expands = let part = sym node-part in record { tree = ap (λ (p : Part). p.tree) part; atoms = ap (λ (p : Part). p.atoms) part; sorts = ap (λ (p : Part). p.sorts) part; formals = refl }
@@ -151,7 +159,7 @@ module _ (n messages : ℕ) where
   actual-value token i = search (rules, ast_lemmas, expr_lemmas)
 
   root-is : (link : Link) → IsRootOf script (link_call link) (link_root link)
-  root-is link = record { process = refl; actuals = rw (actual-value (7 * link.process + 84 + 2) link.process) (rw (actual-value (7 * link.process + 84 + 4) link.next) refl) }
+  root-is link = record { process = refl; actuals = λ i. sym (actual-value (7 * link.process + 84 + 2) link.process) i ∷ sym (actual-value (7 * link.process + 84 + 4) link.next) i ∷ [] }
 
   roots-of : (row : List Link) → AllZip (IsRootOf script) (map link_call row) (map link_root row)
   roots-of [] = tt

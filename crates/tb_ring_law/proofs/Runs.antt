@@ -42,7 +42,11 @@ record Kept (log : List Entry) (made : ℕ) : Type 0 where
 
 size-push : (log : List Entry) (entry : Entry) → log_size (log ++ entry ∷ []) ≡ log_size log + entry_size entry
 size-push [] entry = omega arith
-size-push (first ∷ log) entry = let behind = size-push log entry in omega (arith, behind)
+size-push (first ∷ log) entry =
+    let behind = size-push log entry in
+    let old : log_size (first ∷ log) ≡ entry_size first + log_size log = refl in
+    let new : log_size (first ∷ (log ++ entry ∷ [])) ≡ entry_size first + log_size (log ++ entry ∷ []) = refl in
+    omega (arith, behind, old, new)
 
 kept-more : (log : List Entry) (made : ℕ) (entry : Entry) → entry_size entry ≡ 2 → Kept log made → Kept (log ++ entry ∷ []) (made + 1)
 kept-more log made entry two kept =
@@ -73,44 +77,44 @@ module _ (program : Program) where
       let size = hands.size in
       turn-step procs starter log made hands.label (bus_of program after next) hands.rest hands.is most (room log made (Did hands.label) most (omega (arith, size)) kept)
 
+-- A node holds a message: so many others are to get it in this round, the first process last, and so many rounds come then.
+record NodeHolds (n messages made : ℕ) (procs : List Proc) (starter : ℕ) : Type 0 where
+  holder : ℕ
+  others : ℕ
+  rounds : ℕ
+  t : ℕ
+  before : List Proc
+  behind : List Proc
+  least : 2 ≤ holder
+  last : starter + 1 ≡ holder
+  count : holder + others ≡ n + 1
+  to_come : made + others + n * rounds ≡ messages
+  waits_before : AllWait n 2 holder before
+  waits_behind : AllWait n (holder + 1) (n + 1) behind
+  are : procs ≡ first_at (first_loop messages) t ∷ (before ++ (node_at n node_holds holder made ∷ behind))
+
+-- the first process holds it, after the last node
+record FirstHolds (n messages made : ℕ) (procs : List Proc) (starter : ℕ) : Type 0 where
+  rounds : ℕ
+  nodes : List Proc
+  last : starter ≡ n
+  to_come : made + n * rounds ≡ messages
+  waits : AllWait n 2 (n + 1) nodes
+  are : procs ≡ first_at (first_holds messages) made ∷ nodes
+
+abbrev Holds : ℕ → ℕ → ℕ → List Proc → ℕ → Type 0
+Holds n messages made procs starter = NodeHolds n messages made procs starter ⊎ FirstHolds n messages made procs starter
+
+-- a message goes on, and another process holds it
+record GoesOn (n messages : ℕ) (program : Program) (made : ℕ) (procs : List Proc) (starter : ℕ) : Type 0 where
+  after : List Proc
+  next : ℕ
+  hands : Hands program procs starter after next
+  holds : Holds n messages (made + 1) after next
+
 module _ (n messages : ℕ) (program : Program) (bodies : program.bodies ≡ ring_bodies messages) (low : 2 ≤ n) (most : messages ≤ 1000000) where
-  -- A node holds a message: so many others are to get it in this round, the first process last, and so many rounds come then.
-  record NodeHolds (made : ℕ) (procs : List Proc) (starter : ℕ) : Type 0 where
-    holder : ℕ
-    others : ℕ
-    rounds : ℕ
-    t : ℕ
-    before : List Proc
-    behind : List Proc
-    least : 2 ≤ holder
-    last : starter + 1 ≡ holder
-    count : holder + others ≡ n + 1
-    to_come : made + others + n * rounds ≡ messages
-    waits_before : AllWait n 2 holder before
-    waits_behind : AllWait n (holder + 1) (n + 1) behind
-    are : procs ≡ first_at (first_loop messages) t ∷ (before ++ (node_at n node_holds holder made ∷ behind))
-
-  -- the first process holds it, after the last node
-  record FirstHolds (made : ℕ) (procs : List Proc) (starter : ℕ) : Type 0 where
-    rounds : ℕ
-    nodes : List Proc
-    last : starter ≡ n
-    to_come : made + n * rounds ≡ messages
-    waits : AllWait n 2 (n + 1) nodes
-    are : procs ≡ first_at (first_holds messages) made ∷ nodes
-
-  abbrev Holds : ℕ → List Proc → ℕ → Type 0
-  Holds made procs starter = NodeHolds made procs starter ⊎ FirstHolds made procs starter
-
-  -- a message goes on, and another process holds it
-  record GoesOn (made : ℕ) (procs : List Proc) (starter : ℕ) : Type 0 where
-    after : List Proc
-    next : ℕ
-    hands : Hands program procs starter after next
-    holds : Holds (made + 1) after next
-
   node-goes-on : (made holder others rounds t : ℕ) (before behind : List Proc) (starter : ℕ) → 2 ≤ holder → starter + 1 ≡ holder → holder + others ≡ n + 1 → made + others + n * rounds ≡ messages
-      → AllWait n 2 holder before → AllWait n (holder + 1) (n + 1) behind → GoesOn made (first_at (first_loop messages) t ∷ (before ++ (node_at n node_holds holder made ∷ behind))) starter
+      → AllWait n 2 holder before → AllWait n (holder + 1) (n + 1) behind → GoesOn n messages program made (first_at (first_loop messages) t ∷ (before ++ (node_at n node_holds holder made ∷ behind))) starter
   node-goes-on made holder others rounds t before [] starter least last count to_come waits_before end =
       let same : holder ≡ n = omega (arith, end) in
       let within : made ≤ 1000000 = omega (arith, to_come, most) in
@@ -165,7 +169,7 @@ module _ (n messages : ℕ) (program : Program) (bodies : program.bodies ≡ rin
 
   -- the second process holds a message
   second-holds : (made t rounds : ℕ) (behind : List Proc) → made + n * (rounds + 1) ≡ messages → AllWait n 3 (n + 1) behind
-      → NodeHolds (made + 1) (first_at (first_loop messages) t ∷ (node_at n node_holds 2 (made + 1) ∷ behind)) 1
+      → NodeHolds n messages (made + 1) (first_at (first_loop messages) t ∷ (node_at n node_holds 2 (made + 1) ∷ behind)) 1
   second-holds made t rounds behind to_come waits = record {
     holder = 2;
     others = n - 1;
@@ -182,7 +186,7 @@ module _ (n messages : ℕ) (program : Program) (bodies : program.bodies ≡ rin
     are = refl;
   }
 
-  first-goes-on : (made rounds starter : ℕ) (nodes : List Proc) → starter ≡ n → made < messages → made + n * rounds ≡ messages → AllWait n 2 (n + 1) nodes → GoesOn made (first_at (first_holds messages) made ∷ nodes) starter
+  first-goes-on : (made rounds starter : ℕ) (nodes : List Proc) → starter ≡ n → made < messages → made + n * rounds ≡ messages → AllWait n 2 (n + 1) nodes → GoesOn n messages program made (first_at (first_holds messages) made ∷ nodes) starter
   first-goes-on made zero starter nodes last less to_come waits = absurd (omega (arith, less, to_come))
   first-goes-on made (suc rounds) starter [] last less to_come waits = absurd (omega (arith, waits, low))
   first-goes-on made (suc rounds) starter (second ∷ behind) last less to_come ((fresh, u, e), waits) =
@@ -199,12 +203,12 @@ module _ (n messages : ℕ) (program : Program) (bodies : program.bodies ≡ rin
         holds = inl (second-holds made made rounds behind (omega (arith, to_come)) waits);
       }
 
-  goes-on : (made : ℕ) (procs : List Proc) (starter : ℕ) → made < messages → Holds made procs starter → GoesOn made procs starter
+  goes-on : (made : ℕ) (procs : List Proc) (starter : ℕ) → made < messages → Holds n messages made procs starter → GoesOn n messages program made procs starter
   goes-on made procs starter less (inl h) =
-      subst (λ (ps : List Proc). GoesOn made ps starter) (sym h.are)
+      subst (λ (ps : List Proc). GoesOn n messages program made ps starter) (sym h.are)
       (node-goes-on made h.holder h.others h.rounds h.t h.before h.behind starter h.least h.last h.count h.to_come h.waits_before h.waits_behind)
   goes-on made procs starter less (inr h) =
-      subst (λ (ps : List Proc). GoesOn made ps starter) (sym h.are) (first-goes-on made h.rounds starter h.nodes h.last less h.to_come h.waits)
+      subst (λ (ps : List Proc). GoesOn n messages program made ps starter) (sym h.are) (first-goes-on made h.rounds starter h.nodes h.last less h.to_come h.waits)
 
   -- the last message has come round
   ends : (nodes : List Proc) (log : List Entry) → AllWait n 2 (n + 1) nodes → Kept log messages → (more : List Entry) × IsSim limits (sim_at program (first_at (first_holds messages) messages ∷ nodes) n log messages) more Down × (map step_kind more ≡ Some kind.Shutdown ∷ [])
@@ -220,7 +224,7 @@ module _ (n messages : ℕ) (program : Program) (bodies : program.bodies ≡ rin
       (entry ∷ [], (record { bus = apply here move; log = log ++ entry ∷ []; steps_made = messages + 1; quiet = false; left = [] }, made, refl), refl)
 
   -- so many messages are to come
-  runs : (left made : ℕ) (procs : List Proc) (starter : ℕ) (log : List Entry) → made + left ≡ messages → Holds made procs starter → Kept log made → (more : List Entry) × IsSim limits (sim_at program procs starter log made) more Down × (map step_kind more ≡ messages_then_end left)
+  runs : (left made : ℕ) (procs : List Proc) (starter : ℕ) (log : List Entry) → made + left ≡ messages → Holds n messages made procs starter → Kept log made → (more : List Entry) × IsSim limits (sim_at program procs starter log made) more Down × (map step_kind more ≡ messages_then_end left)
   runs zero made procs starter log none (inl h) kept = let less = wait-le n (h.holder + 1) (n + 1) h.behind h.waits_behind in absurd (omega (arith, none, h.to_come, h.count, less))
   runs zero made procs starter log none (inr h) kept =
       let same : made ≡ messages = omega (arith, none) in
@@ -233,10 +237,10 @@ module _ (n messages : ℕ) (program : Program) (bodies : program.bodies ≡ rin
       let on = goes-on made procs starter (omega (arith, some)) holds in
       let entry = Did on.hands.label in
       let rest = runs left (made + 1) on.after on.next (log ++ entry ∷ []) (omega (arith, some)) on.holds (kept-more log made entry on.hands.size kept) in
-      (entry ∷ rest.0, (sim_at program on.after on.next (log ++ entry ∷ []) (made + 1), turn-hands program procs starter log made on.after on.next on.hands (omega (arith, some, most)) kept, rest.1), (λ i. Some (on.hands.kind i) ∷ rest.2 i))
+      (entry ∷ rest.0, (sim_at program on.after on.next (log ++ entry ∷ []) (made + 1), turn-hands program procs starter log made on.after on.next on.hands (omega (arith, some, most)) kept, rest.1), (λ i. Some (on.hands.sends i) ∷ rest.2 i))
 
   -- the first message is sent
-  first-message : (rounds : ℕ) (nodes : List Proc) → n * (rounds + 1) ≡ messages → AllWait n 2 (n + 1) nodes → GoesOn 0 (first_at (first_begins_with messages) 0 ∷ nodes) 0
+  first-message : (rounds : ℕ) (nodes : List Proc) → n * (rounds + 1) ≡ messages → AllWait n 2 (n + 1) nodes → GoesOn n messages program 0 (first_at (first_begins_with messages) 0 ∷ nodes) 0
   first-message rounds [] to_come waits = absurd (omega (arith, waits, low))
   first-message rounds (second ∷ behind) to_come ((fresh, u, e), waits) =
       let first = first_at (first_begins_with messages) 0 in
@@ -259,7 +263,7 @@ module _ (n messages : ℕ) (program : Program) (bodies : program.bodies ≡ rin
       let all : suc (messages - 1) ≡ messages = omega (arith, to_come, low) in
       let kept : Kept [] 0 = record { long = refl; large = refl } in
       let rest = runs (messages - 1) 1 on.after on.next (entry ∷ []) (omega (arith, to_come, low)) on.holds (kept-more [] 0 entry on.hands.size kept) in
-      (entry ∷ rest.0, (sim_at program on.after on.next (entry ∷ []) 1, turn-hands program (first_at (first_begins_with messages) 0 ∷ nodes) 0 [] 0 on.after on.next on.hands (omega arith) kept, rest.1), (λ i. Some (on.hands.kind i) ∷ rest.2 i) ∙ ap messages_then_end all)
+      (entry ∷ rest.0, (sim_at program on.after on.next (entry ∷ []) 1, turn-hands program (first_at (first_begins_with messages) 0 ∷ nodes) 0 [] 0 on.after on.next on.hands (omega arith) kept, rest.1), (λ i. Some (on.hands.sends i) ∷ rest.2 i) ∙ ap messages_then_end all)
 
 -- The opening bus.
 

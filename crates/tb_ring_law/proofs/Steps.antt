@@ -26,13 +26,13 @@ message-size target t = rw (number-size target) (rw (number-size t) refl)
 -- the bus after these processes, of which this one began the last step, hands a message on first of all, and comes to those
 pub record Hands (program : Program) (procs : List Proc) (starter : ℕ) (after : List Proc) (next : ℕ) : Type 0 where
   pub label : Label
-  pub kind : label.kind ≡ kind.Msg
+  pub sends : label.kind ≡ kind.Msg
   pub size : terms_size label.terms ≡ 2
   pub rest : List Step
   pub is : steps (bus_of program procs starter) ≡ record { label = label; bus = bus_of program after next } ∷ rest
 
 -- somebody is asked first, and has a move
-first-step : (program : Program) (proc : Proc) (procs : List Proc) (starter : ℕ) (asked : Proc) (more : List Proc) (move : Move) (rest : List Move)
+pub first-step : (program : Program) (proc : Proc) (procs : List Proc) (starter : ℕ) (asked : Proc) (more : List Proc) (move : Move) (rest : List Move)
     → in_turn (bus_of program (proc ∷ procs) starter) ≡ asked ∷ more → moves_of (bus_of program (proc ∷ procs) starter) asked ≡ move ∷ rest
     → (others : List Step) × (steps (bus_of program (proc ∷ procs) starter) ≡ step_of (bus_of program (proc ∷ procs) starter) move ∷ others)
 unfolding steps moves moves_of_all
@@ -47,7 +47,7 @@ first-step program proc procs starter asked more move rest turn has =
 module _ (n messages : ℕ) (program : Program) (bodies : program.bodies ≡ ring_bodies messages) (low : 2 ≤ n) where
   -- the first process, in turn
 
-  first-in-turn : (term : Process) (t : ℕ) (nodes : List Proc) (starter : ℕ) → (starter ≡ 0) ⊎ (starter ≡ n) → AllWait n 2 (n + 1) nodes
+  pub first-in-turn : (term : Process) (t : ℕ) (nodes : List Proc) (starter : ℕ) → (starter ≡ 0) ⊎ (starter ≡ n) → AllWait n 2 (n + 1) nodes
       → (more : List Proc) × (in_turn (bus_of program (first_at term t ∷ nodes) starter) ≡ first_at term t ∷ more)
   first-in-turn term t nodes starter (inl none) waits =
       let first = first_at term t in
@@ -69,7 +69,7 @@ module _ (n messages : ℕ) (program : Program) (bodies : program.bodies ≡ rin
 
   -- the first process sends to the second
 
-  first-hands : (term : Process) (t v kept_t starter : ℕ) (offered : Offered) (fresh : Bool) (u : ℕ) (behind : List Proc)
+  pub first-hands : (term : Process) (t v kept_t starter : ℕ) (offered : Offered) (fresh : Bool) (u : ℕ) (behind : List Proc)
       → (starter ≡ 0) ⊎ (starter ≡ n) → AllWait n 3 (n + 1) behind
       → offered.residual ≡ Some (first_loop messages) → offered.store ≡ first_store kept_t
       → moves_of (bus_of program (first_at term t ∷ node_at n (node_waits fresh) 2 u ∷ behind) starter) (first_at term t)
@@ -94,7 +94,7 @@ module _ (n messages : ℕ) (program : Program) (bodies : program.bodies ≡ rin
       node-goes n 2 3 (n + 1) 2 (node_receiving n 2 (kept fresh u)) (bind_of 2 v) (first_at (first_loop messages) kept_t) [] second (node_at n node_holds 2 v) behind refl (omega arith) refl (omega arith) refl refl waits (omega arith) in
       record {
         label = label_of move;
-        kind = refl;
+        sends = refl;
         size = message-size 2 v;
         rest = step.0;
         is = step.1 ∙ ap (λ (ps : List Proc). record { label = label_of move; bus = bus_of program ps 1 } ∷ step.0) (ap (advance 2 (node_receiving n 2 (kept fresh u)) (bind_of 2 v)) sent ∙ received);
@@ -121,7 +121,7 @@ module _ (n messages : ℕ) (program : Program) (bodies : program.bodies ≡ rin
 
   -- a node sends to the next
 
-  node-hands : (t h m u : ℕ) (fresh : Bool) (before behind : List Proc) (starter : ℕ) → 2 ≤ h → h < n → m ≤ 1000000 → starter + 1 ≡ h → AllWait n 2 h before → AllWait n (h + 1 + 1) (n + 1) behind
+  pub node-hands : (t h m u : ℕ) (fresh : Bool) (before behind : List Proc) (starter : ℕ) → 2 ≤ h → h < n → m ≤ 1000000 → starter + 1 ≡ h → AllWait n 2 h before → AllWait n (h + 1 + 1) (n + 1) behind
       → Hands program (first_at (first_loop messages) t ∷ (before ++ (node_at n node_holds h m ∷ node_at n (node_waits fresh) (h + 1) u ∷ behind))) starter
       (first_at (first_loop messages) t ∷ (before ++ (node_at n node_loop h m ∷ node_at n node_holds (h + 1) (m + 1) ∷ behind))) h
   unfolding handshakes
@@ -169,7 +169,7 @@ module _ (n messages : ℕ) (program : Program) (bodies : program.bodies ≡ rin
       node-goes n (h + 1) (h + 1 + 1) (n + 1) (h + 1) (node_receiving n (h + 1) (kept fresh u)) (bind_of 2 (m + 1)) first (before ++ left ∷ []) second holds behind refl (omega (arith, least)) waits_left (omega arith) refl refl waits_behind (omega arith) in
       record {
         label = label_of move;
-        kind = refl;
+        sends = refl;
         size = message-size (h + 1) (m + 1);
         rest = step.0;
         is = step.1
@@ -179,7 +179,7 @@ module _ (n messages : ℕ) (program : Program) (bodies : program.bodies ≡ rin
 
   -- the last node sends to the first process
 
-  last-hands : (t m : ℕ) (before : List Proc) (starter : ℕ) → m ≤ 1000000 → starter + 1 ≡ n → AllWait n 2 n before
+  pub last-hands : (t m : ℕ) (before : List Proc) (starter : ℕ) → m ≤ 1000000 → starter + 1 ≡ n → AllWait n 2 n before
       → Hands program (first_at (first_loop messages) t ∷ (before ++ (node_at n node_holds n m ∷ []))) starter (first_at (first_holds messages) (m + 1) ∷ (before ++ (node_at n node_loop n m ∷ []))) n
   unfolding handshakes
   last-hands t m before starter most last waits =
@@ -214,7 +214,7 @@ module _ (n messages : ℕ) (program : Program) (bodies : program.bodies ≡ rin
       first-goes n (n + 1) (first_receiving messages t) (bind_of 0 (m + 1)) first (first_at (first_holds messages) (m + 1)) (before ++ left ∷ []) refl refl waits_left in
       record {
         label = label_of move;
-        kind = refl;
+        sends = refl;
         size = message-size 1 (m + 1);
         rest = step.0;
         is = step.1 ∙ ap (λ (ps : List Proc). record { label = label_of move; bus = bus_of program ps n } ∷ step.0) (ap goes sent ∙ received);
