@@ -3,6 +3,7 @@ use Rattle.std.proofs.Common.{◌≡◌, ◌≢◌, ℕ, zero, suc, ◌+◌, ◌
 use Rattle.std.specs.List.{slice_get}
 use Rattle.std.proofs.lemmas.Bool.{and_from, le-leb, lt-leb, eq-eqb, ne_eqb}
 use Rattle.std.proofs.lemmas.List.{length-append}
+use Rattle.std.proofs.lemmas.List.Sums.{sum-map, sum_by_push}
 use Rattle.tb_terms.specs.declared.sort.Sort.TheVariants as sort
 use Rattle.tb_body.specs.declared.program.Program.{Program}
 use Rattle.tb_algebra.specs.Processes.{Process}
@@ -41,12 +42,7 @@ record Kept (log : List Entry) (made : ℕ) : Type 0 where
   large : log_size log ≡ 2 * made
 
 size-push : (log : List Entry) (entry : Entry) → log_size (log ++ entry ∷ []) ≡ log_size log + entry_size entry
-size-push [] entry = omega arith
-size-push (first ∷ log) entry =
-    let behind = size-push log entry in
-    let old : log_size (first ∷ log) ≡ entry_size first + log_size log = refl in
-    let new : log_size (first ∷ (log ++ entry ∷ [])) ≡ entry_size first + log_size (log ++ entry ∷ []) = refl in
-    omega (arith, behind, old, new)
+size-push log entry = sum-map entry_size (log ++ entry ∷ []) ∙ sum_by_push entry_size log entry ∙ ap (λ (size : ℕ). size + entry_size entry) (sym (sum-map entry_size log))
 
 kept-more : (log : List Entry) (made : ℕ) (entry : Entry) → entry_size entry ≡ 2 → Kept log made → Kept (log ++ entry ∷ []) (made + 1)
 kept-more log made entry two kept =
