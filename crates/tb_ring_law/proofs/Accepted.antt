@@ -1,12 +1,10 @@
 -- The ring's script is accepted.
-use Rattle.std.proofs.Common.{◌≡◌, ℕ, zero, suc, ◌+◌, ◌-◌, ◌*◌, ◌≤◌, ◌<◌, List, [], ◌∷◌, length, map, refl, ap, sym, ◌∙◌, subst, arith, ◌⊎◌, inl, true, Result, Ok}
+use Rattle.std.proofs.Common.{◌≡◌, ℕ, zero, suc, ◌+◌, ◌-◌, ◌*◌, ◌≤◌, List, [], length, map, refl, sym, subst, arith, true}
 use Rattle.tb_body.specs.declared.program.Program.{Program}
 use Rattle.tb_body.specs.Programs.{is_program_in_range}
 use Rattle.tb_lex.specs.Tokens.{Lexes}
 use Rattle.tb_lex.specs.declared.token.Token.{Token}
 use Rattle.tb_lex.specs.declared.kind.TokenKind.{TokenKind}
-use Rattle.tb_lex.specs.declared.fault.LexFault.{LexFault}
-use Rattle.tb_lex.specs.declared.fault.LexFault.TheVariants as lex
 use Rattle.tb_lex.proofs.Runs.{lexes_one, no_fault}
 use Rattle.tb_syntax.specs.Spelling.{kinds_of, Spells}
 use Rattle.tb_syntax.specs.declared.script.Script.{Script}
@@ -14,13 +12,12 @@ use Rattle.tb_parse.specs.Faults.{IsScriptOf, HasFault as HasParseFault}
 use Rattle.tb_parse.proofs.Outcomes.{script_has_none}
 use Rattle.tb_parse.proofs.ReadScripts.{unique}
 use Rattle.tb_gen.specs.Ring.{ring_text}
-use Rattle.tb_types.specs.Conditions.{Proper}
-use Rattle.tb_script.specs.Programs.{HasTokens, IsTextOf, IsProgramOf}
+use Rattle.tb_script.specs.Programs.{HasTokens, IsProgramOf}
 use Rattle.tb_script.specs.Findings.{IsFound, Program'}
 use Rattle.tb_script.specs.Helpers.Making.{HasOnlyTokens, IsOnlyScript}
 use Rattle.tb_script.proofs.ProgramRanges.{program_in_range}
 use Rattle.tb_script.proofs.Findings.{program_found}
-use Rattle.tb_ring_law.specs.Helpers.Pieces.{Link, links, ring_links, ring_kinds}
+use Rattle.tb_ring_law.specs.Helpers.Pieces.{links, ring_kinds}
 use Rattle.tb_ring_law.specs.Helpers.Trees.{link_call, ring_script}
 use Rattle.tb_ring_law.specs.Helpers.Bodies.{ring_roots}
 use Rattle.tb_ring_law.proofs.Programs.{ring_bodies}
@@ -53,9 +50,6 @@ module _ (n k : ℕ) (least : 2 ≤ n) (most : n ≤ 10000) (few : n * k ≤ 100
 
   lexed : (tokens : List Token) × Lexes text tokens × (kinds_of tokens ≡ ring_kinds n (n * k))
   lexed = lex-ring n k least most few
-
-
-
 
   kinds : kinds_of lexed.0 ≡ ring_kinds n (n * k)
   kinds = lexed.2

@@ -1,35 +1,31 @@
 -- The nine conditions hold of the ring's script.
-use Rattle.std.proofs.Common.{◌≡◌, ℕ, zero, suc, ◌+◌, ◌-◌, ◌*◌, pos, Bool, true, false, List, [], ◌∷◌, ◌++◌, length, map, Option, Some, None, refl, ap, sym, ◌∙◌, subst, arith, rules, codes}
+use Rattle.std.proofs.Common.{◌≡◌, ℕ, ◌+◌, ◌*◌, false, List, [], ◌∷◌, ◌++◌, map, refl, ap, ◌∙◌, subst, rules, codes}
 use Rattle.std.specs.List.{flat_map}
 use Rattle.tb_terms.specs.declared.term.Term.{the_lemmas as term_lemmas}
 use Rattle.tb_terms.specs.declared.expr.Expr.{the_lemmas as expr_lemmas}
-use Rattle.tb_terms.specs.declared.sort.Sort.{Sort, the_lemmas as sort_lemmas}
+use Rattle.tb_terms.specs.declared.sort.Sort.{the_lemmas as sort_lemmas}
 use Rattle.tb_terms.specs.declared.sort.Sort.TheVariants as sort
 use Rattle.tb_syntax.specs.declared.ast.Ast.{Ast}
 use Rattle.tb_syntax.specs.declared.ast.AstKind.{the_lemmas as ast_lemmas}
 use Rattle.tb_syntax.specs.declared.ast.AstKind.TheVariants as ast
 use Rattle.tb_syntax.specs.declared.proc.ActDef.TheVariants as act
 use Rattle.tb_syntax.specs.declared.proc.AtomDef.{AtomDef}
-use Rattle.tb_syntax.specs.declared.proc.Proc.{Proc}
 use Rattle.tb_syntax.specs.declared.script.Script.{Script}
-use Rattle.tb_syntax.specs.declared.script.ProcDef.{ProcDef}
-use Rattle.tb_syntax.specs.declared.proc.Call.{Call}
 use Rattle.tb_types.specs.declared.violation.Violation.{Violation}
-use Rattle.tb_types.specs.declared.violation.Rule.{Rule}
 use Rattle.tb_types.specs.declared.scope.Known.{Known}
 use Rattle.tb_types.specs.declared.positions.Position.TheVariants.{Sent, Received}
 use Rattle.tb_types.specs.Atoms.{atom_faults}
-use Rattle.tb_types.specs.Bodies.{proc_step, proc_faults, process_faults, root_faults, script_faults}
-use Rattle.tb_types.specs.ExpectedSorts.{site_faults, plain, tested, rooted, of_sort}
+use Rattle.tb_types.specs.Bodies.{proc_step, process_faults, root_faults, script_faults}
+use Rattle.tb_types.specs.ExpectedSorts.{site_faults, plain, tested, rooted}
 use Rattle.tb_types.specs.declared.violation.Rule.TheVariants.{NoTool}
 use Rattle.tb_types.specs.Conditions.{IsIn, Proper}
 use Rattle.tb_types.specs.Definitions.{formals_faults, vars_faults}
 use Rattle.tb_types.specs.Names.{is_unknown_sort}
 use Rattle.tb_types.specs.Violation.{noted_if}
-use Rattle.tb_types.specs.Scopes.{known_formal, known_var}
+use Rattle.tb_types.specs.Scopes.{known_formal}
 use Rattle.tb_ring_law.proofs.Folds.{fold-node, fold-first}
-use Rattle.tb_ring_law.specs.Helpers.Pieces.{Link, links, ring_links}
-use Rattle.tb_ring_law.specs.Helpers.Trees.{at, number_at, var_at, result_at, add_at, less_at, atom_at, var_t, int_formal, node_body, node_def, test_part, first_body, first_def, first_call, node_call, link_call, ring_script}
+use Rattle.tb_ring_law.specs.Helpers.Pieces.{Link, ring_links}
+use Rattle.tb_ring_law.specs.Helpers.Trees.{at, number_at, var_at, result_at, add_at, less_at, var_t, node_def, first_def, link_call, ring_script}
 
 -- where nothing is violated, the script is proper
 proper-from : (script : Script) → script_faults script ≡ [] → Proper script
@@ -122,8 +118,8 @@ module _ (n messages : ℕ) where
       let delta = delta-fine script in_first 92 in
       let test = less-t script 66 messages [] in
       let folded = fold-first Found (proc_step script) (var_t 45 ∷ []) (atom_def 49 (codes "snd-msg") (number_at 51 2 ∷ number_at 53 1 ∷ []))
-        (atom_def 57 (codes "rec-msg") (number_at 59 1 ∷ result_at 61 ∷ [])) (less_at 66 messages)
-        (atom_def 73 (codes "snd-msg") (number_at 75 2 ∷ add_at 77 ∷ [])) (atom_def 85 (codes "shutdown") (at 87 (ast.Appl (codes "done") []) ∷ [])) (atom_def 92 (codes "delta") []) in
+      (atom_def 57 (codes "rec-msg") (number_at 59 1 ∷ result_at 61 ∷ [])) (less_at 66 messages)
+      (atom_def 73 (codes "snd-msg") (number_at 75 2 ∷ add_at 77 ∷ [])) (atom_def 85 (codes "shutdown") (at 87 (ast.Appl (codes "done") []) ∷ [])) (atom_def 92 (codes "delta") []) in
       ap (λ (f : Found). [] ++ f []) folded
       ∙ (λ i. [] ++ (vars-fine 45 i ++ (begins i ++ ((receives i ++ (test i ++ sends i ++ ends i)) ++ delta i))))
 

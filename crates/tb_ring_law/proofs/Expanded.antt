@@ -1,38 +1,32 @@
 -- What the ring's processes become: its program.
-use Rattle.std.proofs.Common.{◌≡◌, ℕ, zero, suc, ◌+◌, ◌-◌, ◌*◌, ◌≤◌, ◌<◌, pos, Bool, true, false, ltb, ◌||◌, List, [], ◌∷◌, ◌++◌, length, map, Option, Some, None, option_map, cond, refl, ap, sym, ◌∙◌, subst, arith, rules, codes}
+use Rattle.std.proofs.Common.{◌≡◌, ℕ, zero, suc, ◌+◌, ◌*◌, pos, Bool, false, ltb, ◌||◌, List, [], ◌∷◌, ◌++◌, length, map, Some, None, option_map, cond, refl, ap, sym, ◌∙◌, arith, rules, codes}
 use Rattle.std.specs.List.{Contains, AllZip}
-use Rattle.tb_terms.specs.declared.term.Term.{Term, the_lemmas as term_lemmas}
-use Rattle.tb_terms.specs.declared.expr.Expr.{Expr, the_lemmas as expr_lemmas}
+use Rattle.tb_terms.specs.declared.expr.Expr.{the_lemmas as expr_lemmas}
 use Rattle.tb_terms.specs.declared.expr.Expr.TheVariants as expr
 use Rattle.tb_terms.specs.declared.expr.Func.TheVariants.{Add, Less}
 use Rattle.tb_terms.specs.declared.sort.Sort.{Sort}
 use Rattle.tb_terms.specs.declared.sort.Sort.TheVariants as sort
-use Rattle.tb_body.specs.declared.atom.Atom.{Atom}
 use Rattle.tb_body.specs.declared.act.Act.TheVariants as does
-use Rattle.tb_body.specs.declared.body.Body.{Body}
-use Rattle.tb_body.specs.declared.program.Program.{Program}
-use Rattle.tb_body.specs.declared.tree.Tree.{the_lemmas as tree_lemmas}
 use Rattle.tb_body.specs.declared.tree.Tree.TheVariants as tree
 use Rattle.tb_syntax.specs.declared.ast.Ast.{Ast}
 use Rattle.tb_syntax.specs.declared.ast.AstKind.{the_lemmas as ast_lemmas}
 use Rattle.tb_syntax.specs.declared.ast.AstKind.TheVariants as ast
 use Rattle.tb_syntax.specs.declared.proc.ActDef.TheVariants as act
 use Rattle.tb_syntax.specs.declared.proc.AtomDef.{AtomDef}
-use Rattle.tb_syntax.specs.declared.proc.Proc.{Proc}
 use Rattle.tb_syntax.specs.declared.script.ProcDef.{ProcDef}
 use Rattle.tb_syntax.specs.declared.script.Script.{Script}
 use Rattle.tb_types.specs.Values.{closed_value}
 use Rattle.tb_expand.specs.Scopes.{Scope, declared, formals_seen}
 use Rattle.tb_expand.specs.Acts.{atom_of}
 use Rattle.tb_expand.specs.Exprs.{expr_of}
-use Rattle.tb_expand.specs.Cycles.{called, called_step, Calls, IsCallPath, IsCycle}
-use Rattle.tb_expand.specs.Expansion.{Part, Expands, expands, expands_with, proc_step, expansion_of, is_too_large}
+use Rattle.tb_expand.specs.Cycles.{called, called_step, Calls, IsCallPath}
+use Rattle.tb_expand.specs.Expansion.{Part, Expands, expands, proc_step, expansion_of, is_too_large}
 use Rattle.tb_expand.specs.Faults.{HasNoCycle, IsExpansion}
 use Rattle.tb_expand.proofs.KindExprs.{expr_of_number, expr_of_appl, expr_of_var, expr_of_result}
-use Rattle.tb_script.specs.Programs.{IsRootOf, IsProgramOf, first_too_large, declared_tool}
-use Rattle.tb_ring_law.specs.Helpers.Pieces.{Link, links, ring_links}
-use Rattle.tb_ring_law.specs.Helpers.Trees.{at, number_at, var_at, result_at, add_at, less_at, atom_at, var_t, int_formal, node_body, node_def, test_part, first_body, first_def, first_call, node_call, link_call, ring_script}
-use Rattle.tb_ring_law.specs.Helpers.Bodies.{number, worth, plain, setting, one_more, node_tree, node_receives, node_sends, node_atoms, node_sorts, first_tree, first_test, first_begins, first_receives, first_sends, done, first_atoms, int_sorts, first_root, link_root, ring_roots}
+use Rattle.tb_script.specs.Programs.{IsRootOf, first_too_large}
+use Rattle.tb_ring_law.specs.Helpers.Pieces.{Link, ring_links}
+use Rattle.tb_ring_law.specs.Helpers.Trees.{at, number_at, var_at, result_at, add_at, less_at, var_t, node_body, node_def, first_body, first_def, link_call, ring_script}
+use Rattle.tb_ring_law.specs.Helpers.Bodies.{worth, plain, setting, one_more, node_tree, node_receives, node_sends, node_atoms, node_sorts, first_tree, first_test, first_begins, first_receives, first_sends, done, first_atoms, int_sorts, link_root, ring_roots}
 use Rattle.tb_ring_law.proofs.Programs.{node_code, first_code, ring_bodies, node-levels, first-levels}
 use Rattle.tb_ring_law.proofs.Folds.{fold-node, fold-first}
 
@@ -90,7 +84,7 @@ module _ (n messages : ℕ) where
   node-part : expansion_of script node_def ≡ record { tree = node_tree; atoms = node_atoms; sorts = node_sorts }
   node-part =
       let folded = fold-node Expands (proc_step script (expands script 1)) (var_t 13 ∷ [])
-        (atom_def 18 (codes "rec-msg") (var_at 20 (codes "I") ∷ result_at 22 ∷ [])) (atom_def 26 (codes "snd-msg") (var_at 28 (codes "J") ∷ add_at 30 ∷ [])) (atom_def 39 (codes "delta") []) in
+      (atom_def 18 (codes "rec-msg") (var_at 20 (codes "I") ∷ result_at 22 ∷ [])) (atom_def 26 (codes "snd-msg") (var_at 28 (codes "J") ∷ add_at 30 ∷ [])) (atom_def 39 (codes "delta") []) in
       let receives = node-receives script in
       let sends = node-sends script in
       ap (λ (e : Expands). with_sorts (sort.Int ∷ sort.Int ∷ []) (e (formals_seen 0 node_def.formals) 1 2)) folded
@@ -99,8 +93,8 @@ module _ (n messages : ℕ) where
   first-part : expansion_of script (first_def messages) ≡ record { tree = first_tree messages; atoms = first_atoms; sorts = int_sorts }
   first-part =
       let folded = fold-first Expands (proc_step script (expands script 1)) (var_t 45 ∷ []) (atom_def 49 (codes "snd-msg") (number_at 51 2 ∷ number_at 53 1 ∷ []))
-        (atom_def 57 (codes "rec-msg") (number_at 59 1 ∷ result_at 61 ∷ [])) (less_at 66 messages)
-        (atom_def 73 (codes "snd-msg") (number_at 75 2 ∷ add_at 77 ∷ [])) (atom_def 85 (codes "shutdown") (at 87 (ast.Appl (codes "done") []) ∷ [])) (atom_def 92 (codes "delta") []) in
+      (atom_def 57 (codes "rec-msg") (number_at 59 1 ∷ result_at 61 ∷ [])) (less_at 66 messages)
+      (atom_def 73 (codes "snd-msg") (number_at 75 2 ∷ add_at 77 ∷ [])) (atom_def 85 (codes "shutdown") (at 87 (ast.Appl (codes "done") []) ∷ [])) (atom_def 92 (codes "delta") []) in
       let test = less-messages script 66 messages in
       let begins = first-begins script in
       let receives = first-receives script in

@@ -53,6 +53,6 @@ module _ (A : Type 0) (step : Proc-F A → A) where
       let turned : fold-Proc A step turn ≡ step (layer.Seq (step (layer.Atom x)) (step (layer.If test (step (layer.Atom y)) (Some (step (layer.Atom z)))))) = fold-Seq (tree.Atom x) tests ∙ (λ i. step (layer.Seq (fold-Atom x i) (tested i))) in
       let looped : fold-Proc A step loop ≡ step (layer.Star (step (layer.Seq (step (layer.Atom x)) (step (layer.If test (step (layer.Atom y)) (Some (step (layer.Atom z))))))) (step (layer.Atom w))) = fold-Star turn (tree.Atom w) ∙ (λ i. step (layer.Star (turned i) (fold-Atom w i))) in
       let all : fold-Proc A step (tree.Seq (tree.Atom v) loop)
-        ≡ step (layer.Seq (step (layer.Atom v)) (step (layer.Star (step (layer.Seq (step (layer.Atom x)) (step (layer.If test (step (layer.Atom y)) (Some (step (layer.Atom z))))))) (step (layer.Atom w))))) =
+      ≡ step (layer.Seq (step (layer.Atom v)) (step (layer.Star (step (layer.Seq (step (layer.Atom x)) (step (layer.If test (step (layer.Atom y)) (Some (step (layer.Atom z))))))) (step (layer.Atom w))))) =
       fold-Seq (tree.Atom v) loop ∙ (λ i. step (layer.Seq (fold-Atom v i) (looped i))) in
       fold-Let vars (tree.Seq (tree.Atom v) loop) ∙ ap (λ (a : A). step (layer.Let vars a)) all

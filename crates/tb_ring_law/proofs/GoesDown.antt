@@ -1,8 +1,8 @@
 -- The ring goes down.
-use Rattle.std.proofs.Common.{◌≡◌, ℕ, ◌+◌, ◌-◌, ◌*◌, ◌≤◌, List, [], ◌∷◌, ◌++◌, map, refl, ap, sym, ◌∙◌, subst, arith}
+use Rattle.std.proofs.Common.{◌≡◌, ℕ, ◌+◌, ◌-◌, ◌*◌, ◌≤◌, List, [], ◌++◌, map, refl, ap, sym, subst, arith}
 use Rattle.tb_body.specs.declared.program.Program.{Program}
 use Rattle.tb_bus.specs.Buses.{Proc, opened}
-use Rattle.tb_sim.specs.Simulation.{Limits, Sim, IsSim}
+use Rattle.tb_sim.specs.Simulation.{IsSim}
 use Rattle.tb_sim.specs.declared.ends.SimEnd.TheVariants.{Down}
 use Rattle.tb_ring_law.specs.Ends.{GoesDown}
 use Rattle.tb_ring_law.specs.Helpers.Pieces.{ring_links}

@@ -1,14 +1,13 @@
 -- Which tokens a row of pieces has.
-use Rattle.std.proofs.Common.{◌≡◌, ℕ, suc, ◌+◌, ◌≤◌, Bool, true, false, not, cond, eqb, List, [], ◌∷◌, ◌++◌, length, refl, ap, sym, ◌∙◌, subst, inl, inr, arith, append_assoc}
+use Rattle.std.proofs.Common.{◌≡◌, ℕ, ◌+◌, Bool, true, false, not, eqb, List, [], ◌∷◌, ◌++◌, length, refl, ap, sym, inl, arith, append_assoc}
 use Rattle.std.proofs.lemmas.Bool.{and_parts}
 use Rattle.std.specs.List.{prefix_len}
 use Rattle.tb_terms.specs.Names.{is_digit, is_name, is_ident, is_name_byte}
-use Rattle.tb_terms.specs.Proper.{has_64_bits}
 use Rattle.tb_read.specs.Positions.{HasPoint}
 use Rattle.tb_read.proofs.Written.{number_spelled}
 use Rattle.tb_lex.specs.Gaps.{IsGap, IsLast}
 use Rattle.tb_lex.specs.Helpers.Scanning.{begins_with}
-use Rattle.tb_lex.specs.Tokens.{symbol_text, SpellsKind, IsLongest, IsWhole, IsToken, TokensThen, Lexes}
+use Rattle.tb_lex.specs.Tokens.{SpellsKind, TokensThen}
 use Rattle.tb_lex.specs.declared.symbol.Symbol.{Symbol}
 use Rattle.tb_lex.specs.declared.symbol.Symbol.TheVariants as sign
 use Rattle.tb_lex.specs.declared.token.Token.{Token}
@@ -78,11 +77,17 @@ lex-one piece rest kinds is wide lexed position =
     let from = position + length (gap_text piece.gap) in
     let to = from + length (text_of piece.kind) in
     let token : Token = record { kind = piece.kind; from = from; to = to } in
-    let behind = lexed to in
-    (
+    let behind = lexed to in (
       token ∷ behind.0,
-      (gap_text piece.gap, text_of piece.kind, rest, sym (append_assoc (gap_text piece.gap) (text_of piece.kind) rest), is_gap piece.gap,
-       token_apart from token (text_of piece.kind) rest (spelled piece.kind rest is wide) (apart piece.kind rest is) refl refl, behind.1),
+      (
+        gap_text piece.gap,
+        text_of piece.kind,
+        rest,
+        sym (append_assoc (gap_text piece.gap) (text_of piece.kind) rest),
+        is_gap piece.gap,
+        token_apart from token (text_of piece.kind) rest (spelled piece.kind rest is wide) (apart piece.kind rest is) refl refl,
+        behind.1,
+      ),
       ap (λ (ks : List TokenKind). piece.kind ∷ ks) behind.2,
     )
 

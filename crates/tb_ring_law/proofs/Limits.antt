@@ -1,14 +1,14 @@
 -- The ring's script is within the limits of tokens, open brackets and heights.
-use Rattle.std.proofs.Common.{◌≡◌, ℕ, zero, suc, ◌+◌, ◌-◌, ◌*◌, ◌≤◌, ◌<◌, pos, Bool, true, false, ◌&&◌, List, [], ◌∷◌, ◌++◌, length, take, fold, map, None, refl, ap, sym, ◌∙◌, subst, arith, rules, add-one, leb}
+use Rattle.std.proofs.Common.{◌≡◌, ℕ, zero, suc, ◌+◌, ◌-◌, ◌*◌, ◌≤◌, ◌<◌, Bool, true, ◌&&◌, List, [], ◌∷◌, ◌++◌, length, take, fold, None, refl, ap, sym, ◌∙◌, subst, arith, rules, add-one, leb}
 use Rattle.std.proofs.lemmas.Bool.{and_parts, leb-true}
 use Rattle.std.proofs.lemmas.List.{length-map, length-append}
 use Rattle.tb_lex.specs.declared.token.Token.{Token}
 use Rattle.tb_lex.specs.declared.kind.TokenKind.{TokenKind}
-use Rattle.tb_syntax.specs.declared.proc.Proc.{Proc, the_lemmas as proc_lemmas}
-use Rattle.tb_syntax.specs.Limits.{open_step, open_brackets, height, is_too_high, first_too_high}
+use Rattle.tb_syntax.specs.declared.proc.Proc.{the_lemmas as proc_lemmas}
+use Rattle.tb_syntax.specs.Limits.{open_step, open_brackets, height, first_too_high}
 use Rattle.tb_syntax.specs.Spelling.{kinds_of}
 use Rattle.tb_parse.specs.Faults.{NoneTooDeep, IsScriptOf}
-use Rattle.tb_ring_law.specs.Helpers.Pieces.{kinds_in, front_pieces, call_pieces, links, ring_links, links_kinds, ring_kinds, right}
+use Rattle.tb_ring_law.specs.Helpers.Pieces.{kinds_in, front_pieces, links, ring_links, links_kinds, ring_kinds, right}
 use Rattle.tb_ring_law.specs.Helpers.Trees.{node_body, first_body, ring_script}
 use Rattle.tb_ring_law.proofs.Spelt.{ring-spelt}
 

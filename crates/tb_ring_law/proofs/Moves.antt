@@ -1,12 +1,12 @@
 -- What each process of the ring may do, by where it stands.
-use Rattle.std.proofs.Common.{◌≡◌, ◌≢◌, ℕ, ◌+◌, ◌≤◌, ◌<◌, pos, Bool, true, false, List, [], ◌∷◌, ◌++◌, map, Option, Some, None, option_map, option_and_then, refl, ap, sym, ◌∙◌, subst, arith, rules, codes}
+use Rattle.std.proofs.Common.{◌≡◌, ◌≢◌, ℕ, ◌+◌, ◌≤◌, ◌<◌, Bool, true, false, List, [], ◌∷◌, ◌++◌, map, Option, Some, None, option_map, option_and_then, refl, ap, ◌∙◌}
 use Rattle.std.specs.List.{flat_map}
 use Rattle.tb_terms.specs.declared.term.Term.{Term}
 use Rattle.tb_func.specs.declared.slot.Slot.{Slot}
 use Rattle.tb_match.specs.declared.bind.Bind.{Bind}
 use Rattle.tb_body.specs.declared.body.Body.{Body}
 use Rattle.tb_body.specs.declared.program.Program.{Program}
-use Rattle.tb_algebra.specs.Processes.{Process, At, Seq, Star, If, Let}
+use Rattle.tb_algebra.specs.Processes.{At, Seq}
 use Rattle.tb_algebra.specs.Offers.{Offered, offers, offers_if, offers_after, before}
 use Rattle.tb_algebra.specs.Settings.{tested}
 use Rattle.tb_bus.specs.declared.action.Action.{Action}
@@ -15,7 +15,7 @@ use Rattle.tb_bus.specs.declared.action.OwnAction.TheVariants as own
 use Rattle.tb_bus.specs.Actions.{action_of, shutdown_action}
 use Rattle.tb_bus.specs.Buses.{Bus, Proc, atoms_of}
 use Rattle.tb_bus.specs.Effects.{Effect, GoesDown}
-use Rattle.tb_bus.specs.Steps.{Move, Own, Handshake, action_by, moves_by, handshakes_with, handshakes, moves_of}
+use Rattle.tb_bus.specs.Steps.{Own, Handshake, action_by, moves_by, handshakes_with, handshakes, moves_of}
 use Rattle.tb_log.specs.declared.entry.LabelKind.TheVariants as kind
 use Rattle.tb_ring_law.specs.Helpers.Bodies.{worth, first_test}
 use Rattle.tb_ring_law.specs.Helpers.Buses.{node_store, first_store, node_loop, node_waits, node_holds, first_loop, first_begins_with, first_holds, next_of, node_at, first_at, bus_of}

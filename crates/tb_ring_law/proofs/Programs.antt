@@ -1,10 +1,8 @@
 -- The ring's bodies are in range, and how its processes begin.
-use Rattle.std.proofs.Common.{◌≡◌, ℕ, true, Bool, ◌&&◌, ◌==◌, nat_le, List, [], ◌∷◌, Some, length, refl, ap, ◌∙◌, rules}
+use Rattle.std.proofs.Common.{◌≡◌, ℕ, true, Bool, ◌&&◌, ◌==◌, nat_le, List, [], ◌∷◌, Some, length, ap, ◌∙◌, rules}
 use Rattle.std.specs.List.{list_all}
-use Rattle.tb_terms.specs.declared.expr.Expr.{Expr, the_lemmas as expr_lemmas}
-use Rattle.tb_terms.specs.declared.sort.Sort.TheVariants as sort
-use Rattle.tb_body.specs.declared.tree.Setting.{Setting}
-use Rattle.tb_body.specs.declared.tree.Tree.{Tree, the_lemmas as tree_lemmas}
+use Rattle.tb_terms.specs.declared.expr.Expr.{the_lemmas as expr_lemmas}
+use Rattle.tb_body.specs.declared.tree.Tree.{the_lemmas as tree_lemmas}
 use Rattle.tb_body.specs.declared.tree.Tree.TheVariants as tree
 use Rattle.tb_body.specs.declared.tree.Tree.TheOpen as layer
 use Rattle.tb_body.specs.declared.tree.Tree.TheOpen.{Tree-F}
@@ -14,7 +12,7 @@ use Rattle.tb_body.specs.Acts.{is_atom_in_body}
 use Rattle.tb_body.specs.Exprs.{is_value}
 use Rattle.tb_body.specs.InRange.{is_body_in_range, is_tree_in_range, ascends_by_one, tree_step}
 use Rattle.tb_body.specs.Trees.{tree_atoms, tree_levels, atoms_step, levels_step}
-use Rattle.tb_algebra.specs.Processes.{Process, At, Seq, Star, If, Let, fresh, fresh_step}
+use Rattle.tb_algebra.specs.Processes.{Process, fresh, fresh_step}
 use Rattle.tb_expand.proofs.TreeFolds.{fold-At, fold-Seq, fold-Star, fold-IfElse, fold-Let}
 use Rattle.tb_ring_law.specs.Helpers.Bodies.{setting, first_test, node_tree, node_atoms, node_sorts, first_tree, first_atoms, int_sorts}
 use Rattle.tb_ring_law.specs.Helpers.Buses.{node_waits, first_begins_with}
@@ -37,7 +35,7 @@ fold-first A step messages =
     let looped : fold-Tree A step loop ≡ step (layer.Star (step (layer.Seq (step (layer.At 2)) (step (layer.If (first_test messages) (step (layer.At 3)) (Some (step (layer.At 4))))))) (step (layer.At 5))) =
     fold-Star A step turn (tree.At 5) ∙ (λ i. step (layer.Star (turned i) (fold-At A step 5 i))) in
     let all : fold-Tree A step (tree.Seq (tree.At 1) loop)
-      ≡ step (layer.Seq (step (layer.At 1)) (step (layer.Star (step (layer.Seq (step (layer.At 2)) (step (layer.If (first_test messages) (step (layer.At 3)) (Some (step (layer.At 4))))))) (step (layer.At 5))))) =
+    ≡ step (layer.Seq (step (layer.At 1)) (step (layer.Star (step (layer.Seq (step (layer.At 2)) (step (layer.If (first_test messages) (step (layer.At 3)) (Some (step (layer.At 4))))))) (step (layer.At 5))))) =
     fold-Seq A step (tree.At 1) loop ∙ (λ i. step (layer.Seq (fold-At A step 1 i) (looped i))) in
     fold-Let A step (setting 0) (tree.Seq (tree.At 1) loop) ∙ ap (λ (a : A). step (layer.Let (setting 0) a)) all
 

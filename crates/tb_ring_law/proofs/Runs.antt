@@ -1,30 +1,27 @@
 -- The ring's simulation: message after message goes round, and then the bus goes down.
-use Rattle.std.proofs.Common.{◌≡◌, ◌≢◌, ℕ, zero, suc, ◌+◌, ◌-◌, ◌*◌, ◌≤◌, ◌<◌, Bool, true, false, cond, eqb, leb, List, [], ◌∷◌, ◌++◌, map, sum, length, Option, Some, None, refl, ap, sym, ◌∙◌, subst, arith, ◌⊎◌, inl, inr, append_assoc}
+use Rattle.std.proofs.Common.{◌≡◌, ℕ, zero, suc, ◌+◌, ◌-◌, ◌*◌, ◌≤◌, ◌<◌, Bool, true, false, cond, List, [], ◌∷◌, ◌++◌, map, length, Some, refl, ap, sym, ◌∙◌, subst, arith, ◌⊎◌, inl, inr, append_assoc}
 use Rattle.std.specs.List.{slice_get}
 use Rattle.std.proofs.lemmas.Bool.{and_from, le-leb, lt-leb, eq-eqb, ne_eqb}
 use Rattle.std.proofs.lemmas.List.{length-append}
 use Rattle.std.proofs.lemmas.List.Sums.{sum-map, sum_by_push}
 use Rattle.tb_terms.specs.declared.sort.Sort.TheVariants as sort
 use Rattle.tb_body.specs.declared.program.Program.{Program}
-use Rattle.tb_algebra.specs.Processes.{Process}
-use Rattle.tb_algebra.specs.Offers.{Offered}
 use Rattle.tb_notes.specs.Inboxes.{nothing}
-use Rattle.tb_bus.specs.Buses.{Bus, Proc, opened, opened_one, origin_of, start}
-use Rattle.tb_bus.specs.Effects.{Effect}
-use Rattle.tb_bus.specs.Steps.{Move, Own, Step, steps, step_of, label_of, apply}
-use Rattle.tb_log.specs.Limits.{terms_size, entry_size, log_size, has_room}
+use Rattle.tb_bus.specs.Buses.{Bus, Proc, opened, opened_one}
+use Rattle.tb_bus.specs.Steps.{Own, Step, steps, label_of, apply}
+use Rattle.tb_log.specs.Limits.{entry_size, log_size, has_room}
 use Rattle.tb_log.specs.declared.entry.Label.{Label}
 use Rattle.tb_log.specs.declared.entry.Entry.{Entry}
 use Rattle.tb_log.specs.declared.entry.Entry.TheVariants.{Did}
-use Rattle.tb_sim.specs.Simulation.{Limits, Sim, Turn, Ends, Makes, turn, step_turn, makes, IsSim, limits_of, sim_start}
+use Rattle.tb_sim.specs.Simulation.{Limits, Sim, Ends, Makes, turn, step_turn, makes, IsSim}
 use Rattle.tb_sim.specs.declared.ends.SimEnd.TheVariants.{Down, Steps, Events}
 use Rattle.tb_log.specs.declared.entry.LabelKind.TheVariants as kind
 use Rattle.tb_ring_law.specs.Ends.{step_kind, messages_then_end}
-use Rattle.tb_ring_law.specs.Helpers.Pieces.{Link, links, ring_links}
-use Rattle.tb_ring_law.specs.Helpers.Bodies.{worth, first_root, link_root, ring_roots}
-use Rattle.tb_ring_law.specs.Helpers.Buses.{slot, node_loop, node_waits, node_holds, first_loop, first_begins_with, first_holds, next_of, node_at, first_at, bus_of, Waits, AllWait}
+use Rattle.tb_ring_law.specs.Helpers.Pieces.{links}
+use Rattle.tb_ring_law.specs.Helpers.Bodies.{worth, link_root}
+use Rattle.tb_ring_law.specs.Helpers.Buses.{slot, node_loop, node_waits, node_holds, first_loop, first_begins_with, first_holds, next_of, node_at, first_at, bus_of, AllWait}
 use Rattle.tb_ring_law.proofs.Programs.{ring_bodies, node-enters, first-enters}
-use Rattle.tb_ring_law.proofs.Values.{begins-zero, done_term, done-size}
+use Rattle.tb_ring_law.proofs.Values.{begins-zero, done-size}
 use Rattle.tb_ring_law.proofs.Moves.{first_beginning, first_sending, first_ending, first-moves-once, first-moves, first-ends, down_effect}
 use Rattle.tb_ring_law.proofs.Waiting.{wait-le, wait-append}
 use Rattle.tb_ring_law.proofs.Steps.{Hands, first-step, first-in-turn, first-hands, node-hands, last-hands}
@@ -225,10 +222,13 @@ module _ (n messages : ℕ) (program : Program) (bodies : program.bodies ≡ rin
   runs zero made procs starter log none (inr h) kept =
       let same : made ≡ messages = omega (arith, none) in
       let last = ends h.nodes log h.waits (subst (λ (m : ℕ). Kept log m) same kept) in
-      let are : procs ≡ first_at (first_holds messages) messages ∷ h.nodes = h.are ∙ ap (λ (m : ℕ). first_at (first_holds messages) m ∷ h.nodes) same in
-      (last.0, subst (λ (ps : List Proc). IsSim limits (sim_at program ps starter log made) last.0 Down) (sym are)
-      (subst (λ (s : ℕ). IsSim limits (sim_at program (first_at (first_holds messages) messages ∷ h.nodes) s log made) last.0 Down) (sym h.last)
-      (subst (λ (m : ℕ). IsSim limits (sim_at program (first_at (first_holds messages) messages ∷ h.nodes) n log m) last.0 Down) (sym same) last.1)), last.2)
+      let are : procs ≡ first_at (first_holds messages) messages ∷ h.nodes = h.are ∙ ap (λ (m : ℕ). first_at (first_holds messages) m ∷ h.nodes) same in (
+        last.0,
+        subst (λ (ps : List Proc). IsSim limits (sim_at program ps starter log made) last.0 Down) (sym are)
+            (subst (λ (s : ℕ). IsSim limits (sim_at program (first_at (first_holds messages) messages ∷ h.nodes) s log made) last.0 Down) (sym h.last)
+            (subst (λ (m : ℕ). IsSim limits (sim_at program (first_at (first_holds messages) messages ∷ h.nodes) n log m) last.0 Down) (sym same) last.1)),
+        last.2,
+      )
   runs (suc left) made procs starter log some holds kept =
       let on = goes-on made procs starter (omega (arith, some)) holds in
       let entry = Did on.hands.label in

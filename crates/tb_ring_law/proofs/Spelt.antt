@@ -1,24 +1,17 @@
 -- The ring's tokens spell its tree.
-use Rattle.std.proofs.Common.{◌≡◌, ℕ, zero, suc, ◌+◌, ◌-◌, ◌*◌, pos, true, List, [], ◌∷◌, ◌++◌, length, map, Some, refl, ap, sym, ◌∙◌, subst, arith, append_assoc, codes}
-use Rattle.tb_terms.specs.declared.sort.Sort.TheVariants as sort
+use Rattle.std.proofs.Common.{◌≡◌, ℕ, zero, suc, ◌+◌, ◌-◌, ◌*◌, pos, true, List, [], ◌∷◌, ◌++◌, length, map, refl, ap, sym, subst, arith, codes}
 use Rattle.tb_lex.specs.declared.kind.TokenKind.{TokenKind}
-use Rattle.tb_lex.specs.declared.kind.TokenKind.TheVariants.{Int, Str, Lower, Upper, Symbol as Sign}
+use Rattle.tb_lex.specs.declared.kind.TokenKind.TheVariants.{Int, Lower, Upper, Symbol as Sign}
 use Rattle.tb_lex.specs.declared.symbol.Symbol.TheVariants as sign
 use Rattle.tb_syntax.specs.declared.level.Level.TheVariants as level
 use Rattle.tb_syntax.specs.declared.ast.Ast.{Ast}
 use Rattle.tb_syntax.specs.declared.ast.AstKind.TheVariants as ast
-use Rattle.tb_syntax.specs.declared.proc.ActDef.TheVariants as act
-use Rattle.tb_syntax.specs.declared.proc.AtomDef.{AtomDef}
 use Rattle.tb_syntax.specs.declared.proc.Call.{Call}
 use Rattle.tb_syntax.specs.declared.proc.Proc.{Proc}
 use Rattle.tb_syntax.specs.declared.proc.Proc.TheVariants as tree
-use Rattle.tb_syntax.specs.declared.proc.Var.{Var}
-use Rattle.tb_syntax.specs.declared.script.Formal.{Formal}
-use Rattle.tb_syntax.specs.declared.script.ProcDef.{ProcDef}
-use Rattle.tb_syntax.specs.declared.script.Script.{Script}
-use Rattle.tb_syntax.specs.Spelling.{in_parens, word, Parted, InRow, InParens, IsSortWord, SpellsSort, SpellsKind, SpellsExpr, SpellsArguments, SpellsExprs, SpellsCall, SpellsAct, SpellsAtom, SpellsVar, SpellsProc, SpellsFormal, SpellsProcDef, SpellsDefinitions, SpellsRoots, Spells}
+use Rattle.tb_syntax.specs.Spelling.{in_parens, word, Parted, InRow, InParens, IsSortWord, SpellsSort, SpellsKind, SpellsExpr, SpellsArguments, SpellsExprs, SpellsCall, SpellsAct, SpellsVar, SpellsProc, SpellsFormal, SpellsProcDef, SpellsDefinitions, SpellsRoots, Spells}
 use Rattle.tb_syntax.specs.Words.{is_free, is_atom_word}
-use Rattle.tb_ring_law.specs.Helpers.Pieces.{Piece, kinds_in, front_pieces, node_pieces, first_pieces, start_pieces, call_pieces, Link, links, ring_links, links_kinds, ring_kinds, right}
+use Rattle.tb_ring_law.specs.Helpers.Pieces.{kinds_in, node_pieces, first_pieces, links, ring_links, links_kinds, ring_kinds}
 use Rattle.tb_ring_law.specs.Helpers.Trees.{at, number_at, var_at, result_at, add_at, less_at, atom_at, var_t, int_formal, node_body, node_def, test_part, first_body, first_def, first_call, node_call, link_call, ring_script}
 
 abbrev comma : TokenKind
@@ -61,9 +54,9 @@ of-t-spelt token n name free =
 atom-spelt : (token : ℕ) (name : List ℕ) (arguments : List Ast) (ks : Kinds) → is_atom_word name ≡ true → SpellsArguments (token + 1) arguments ks → SpellsProc level.Prim token (atom_at token name arguments) (Lower name ∷ ks)
 atom-spelt token name arguments ks e s =
     SpellsProc.atom (record { position = refl; act = Lower name ∷ ks; is_act = SpellsAct.named name e s; times = []; are_times = InRow.none _; is = sym (append-nil' (Lower name ∷ ks)) }) where
-  append-nil' : (xs : Kinds) → xs ++ [] ≡ xs
-  append-nil' [] = refl
-  append-nil' (x ∷ xs) = ap (λ (ys : Kinds). x ∷ ys) (append-nil' xs)
+      append-nil' : (xs : Kinds) → xs ++ [] ≡ xs
+      append-nil' [] = refl
+      append-nil' (x ∷ xs) = ap (λ (ys : Kinds). x ∷ ys) (append-nil' xs)
 
 abbrev delta : Kinds
 delta = Lower (codes "delta") ∷ []

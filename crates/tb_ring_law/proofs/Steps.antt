@@ -1,24 +1,22 @@
 -- The first step of the ring's bus, wherever the message is.
-use Rattle.std.proofs.Common.{◌≡◌, ◌≢◌, ℕ, suc, ◌+◌, ◌*◌, ◌≤◌, ◌<◌, Bool, true, false, not, cond, eqb, ltb, leb, List, [], ◌∷◌, ◌++◌, filter, map, length, Option, Some, None, refl, ap, sym, ◌∙◌, subst, arith, append_assoc, ◌⊎◌, inl, inr}
+use Rattle.std.proofs.Common.{◌≡◌, ℕ, ◌+◌, ◌≤◌, ◌<◌, Bool, true, false, not, cond, eqb, ltb, leb, List, [], ◌∷◌, ◌++◌, filter, map, Some, refl, ap, sym, ◌∙◌, subst, arith, append_assoc, ◌⊎◌, inl, inr}
 use Rattle.std.specs.List.{flat_map}
 use Rattle.std.proofs.lemmas.Bool.{le-ltb, lt-ltb, le-leb, ne_eqb, eq-eqb}
 use Rattle.std.proofs.lemmas.List.{append-nil}
-use Rattle.tb_terms.specs.declared.term.Term.{Term}
 use Rattle.tb_body.specs.declared.program.Program.{Program}
-use Rattle.tb_match.specs.declared.bind.Bind.{Bind}
 use Rattle.tb_algebra.specs.Processes.{Process}
 use Rattle.tb_algebra.specs.Offers.{Offered}
 use Rattle.tb_func.specs.declared.slot.Slot.{Slot}
-use Rattle.tb_bus.specs.Buses.{Bus, Proc, proc_left}
-use Rattle.tb_bus.specs.Steps.{Move, Own, Handshake, Step, steps, step_of, label_of, apply, moves, moves_of_all, moves_of, moves_or_halt, in_turn, others, handshakes, handshakes_with, advance}
+use Rattle.tb_bus.specs.Buses.{Proc, proc_left}
+use Rattle.tb_bus.specs.Steps.{Move, Handshake, Step, steps, step_of, label_of, moves, moves_of_all, moves_of, moves_or_halt, in_turn, handshakes, handshakes_with, advance}
 use Rattle.tb_log.specs.Limits.{terms_size}
 use Rattle.tb_log.specs.declared.entry.Label.{Label}
 use Rattle.tb_log.specs.declared.entry.LabelKind.TheVariants as kind
-use Rattle.tb_ring_law.specs.Helpers.Buses.{node_loop, node_waits, node_holds, first_loop, first_begins_with, first_holds, next_of, node_at, first_at, bus_of, Waits, AllWait, first_store}
+use Rattle.tb_ring_law.specs.Helpers.Buses.{node_loop, node_waits, node_holds, first_loop, first_holds, next_of, node_at, first_at, bus_of, AllWait, first_store}
 use Rattle.tb_ring_law.proofs.Programs.{ring_bodies}
 use Rattle.tb_ring_law.proofs.Values.{number-size}
-use Rattle.tb_ring_law.proofs.Moves.{kept, message, bind_of, node_receiving, node_sending, first_beginning, first_receiving, first_sending, first_ending, node-takes, first-ignores, first-takes, node-moves, first-moves-once, first-moves, first-ends, down_effect}
-use Rattle.tb_ring_law.proofs.Waiting.{wait-le, wait-append, none-after, goes-past, node-goes, first-goes}
+use Rattle.tb_ring_law.proofs.Moves.{kept, message, bind_of, node_receiving, node_sending, first_receiving, node-takes, first-ignores, first-takes, node-moves}
+use Rattle.tb_ring_law.proofs.Waiting.{wait-append, none-after, goes-past, node-goes, first-goes}
 
 message-size : (target t : ℕ) → terms_size (message target t) ≡ 2
 message-size target t = rw (number-size target) (rw (number-size t) refl)
@@ -37,11 +35,10 @@ pub first-step : (program : Program) (proc : Proc) (procs : List Proc) (starter 
     → (others : List Step) × (steps (bus_of program (proc ∷ procs) starter) ≡ step_of (bus_of program (proc ∷ procs) starter) move ∷ others)
 unfolding steps moves moves_of_all
 first-step program proc procs starter asked more move rest turn has =
-    let here = bus_of program (proc ∷ procs) starter in
-    (
+    let here = bus_of program (proc ∷ procs) starter in (
       map (step_of here) (rest ++ flat_map (moves_of here) more),
       ap (λ (ps : List Proc). map (step_of here) (moves_or_halt false (flat_map (moves_of here) ps))) turn
-      ∙ ap (λ (ms : List Move). map (step_of here) (moves_or_halt false (ms ++ flat_map (moves_of here) more))) has,
+          ∙ ap (λ (ms : List Move). map (step_of here) (moves_or_halt false (ms ++ flat_map (moves_of here) more))) has,
     )
 
 module _ (n messages : ℕ) (program : Program) (bodies : program.bodies ≡ ring_bodies messages) (low : 2 ≤ n) where
@@ -59,12 +56,11 @@ module _ (n messages : ℕ) (program : Program) (bodies : program.bodies ≡ rin
       let none : filter (λ (p : Proc). ltb n p.number) nodes ≡ [] =
       ap (filter (λ (p : Proc). ltb n p.number)) (sym (append-nil nodes)) ∙ none-after n n 2 (n + 1) nodes [] waits (omega arith) in
       let later = filter (λ (p : Proc). leb p.number n) nodes in
-      subst (λ (s : ℕ). (more : List Proc) × (in_turn (bus_of program (first ∷ nodes) s) ≡ first ∷ more)) (sym last)
-      (
+      subst (λ (s : ℕ). (more : List Proc) × (in_turn (bus_of program (first ∷ nodes) s) ≡ first ∷ more)) (sym last) (
         later,
         ap (λ (b : Bool). cond b (first ∷ filter (λ (p : Proc). ltb n p.number) nodes) (filter (λ (p : Proc). ltb n p.number) nodes) ++ cond (leb 1 n) (first ∷ later) later) not_after
-        ∙ ap (λ (ps : List Proc). ps ++ cond (leb 1 n) (first ∷ later) later) none
-        ∙ ap (λ (b : Bool). cond b (first ∷ later) later) before,
+            ∙ ap (λ (ps : List Proc). ps ++ cond (leb 1 n) (first ∷ later) later) none
+            ∙ ap (λ (b : Bool). cond b (first ∷ later) later) before,
       )
 
   -- the first process sends to the second
@@ -111,12 +107,11 @@ module _ (n messages : ℕ) (program : Program) (bodies : program.bodies ≡ rin
       let after = filter (λ (p : Proc). ltb starter p.number) behind in
       let earlier = filter (λ (p : Proc). leb p.number starter) (first ∷ procs) in
       let not_after : ltb starter 1 ≡ false = le-ltb starter 1 (omega (arith, least, last)) in
-      let next : ltb starter h ≡ true = lt-ltb starter h (omega (arith, last)) in
-      (
+      let next : ltb starter h ≡ true = lt-ltb starter h (omega (arith, last)) in (
         after ++ earlier,
         ap (λ (b : Bool). cond b (first ∷ filter (λ (p : Proc). ltb starter p.number) procs) (filter (λ (p : Proc). ltb starter p.number) procs) ++ earlier) not_after
-        ∙ ap (λ (ps : List Proc). ps ++ earlier) (none-after n starter 2 h before (holder ∷ behind) waits (omega (arith, last)))
-        ∙ ap (λ (b : Bool). cond b (holder ∷ after) after ++ earlier) next,
+            ∙ ap (λ (ps : List Proc). ps ++ earlier) (none-after n starter 2 h before (holder ∷ behind) waits (omega (arith, last)))
+            ∙ ap (λ (b : Bool). cond b (holder ∷ after) after ++ earlier) next,
       )
 
   -- a node sends to the next

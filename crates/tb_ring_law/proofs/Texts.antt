@@ -1,15 +1,15 @@
 -- The ring's text is its pieces, and which tokens it has.
-use Rattle.std.proofs.Common.{◌≡◌, ℕ, zero, suc, ◌+◌, ◌-◌, ◌*◌, ◌≤◌, ◌<◌, ◌^◌, pos, Bool, true, false, List, [], ◌∷◌, ◌++◌, length, refl, ap, sym, ◌∙◌, subst, inl, inr, arith, append_assoc, codes, rules}
-use Rattle.std.proofs.lemmas.Bool.{and_parts, and_from}
+use Rattle.std.proofs.Common.{◌≡◌, ℕ, zero, suc, ◌+◌, ◌-◌, ◌*◌, ◌≤◌, pos, true, List, [], ◌∷◌, ◌++◌, refl, ap, sym, ◌∙◌, subst, inl, arith, append_assoc, codes}
+use Rattle.std.proofs.lemmas.Bool.{and_from}
 use Rattle.std.specs.Fmt.{decimal, digits}
 use Rattle.tb_terms.specs.Proper.{has_64_bits}
-use Rattle.tb_lex.specs.Gaps.{IsGap, IsLast}
+use Rattle.tb_lex.specs.Gaps.{IsLast}
 use Rattle.tb_lex.specs.Tokens.{Lexes}
 use Rattle.tb_lex.specs.declared.token.Token.{Token}
 use Rattle.tb_lex.specs.declared.kind.TokenKind.{TokenKind}
 use Rattle.tb_syntax.specs.Spelling.{kinds_of}
-use Rattle.tb_gen.specs.Ring.{node_line, first_line, node, later, nodes_text, toolbus_line, ring_text}
-use Rattle.tb_ring_law.specs.Helpers.Pieces.{Piece, pieces_text, kinds_in, are_apart, are_wide, front_pieces, node_pieces, first_pieces, start_pieces, call_pieces, links, ring_links, links_kinds, ring_kinds, right}
+use Rattle.tb_gen.specs.Ring.{node_line, first_line, node, later, nodes_text, ring_text}
+use Rattle.tb_ring_law.specs.Helpers.Pieces.{pieces_text, kinds_in, are_apart, are_wide, front_pieces, call_pieces, links, links_kinds, ring_kinds, right}
 use Rattle.tb_ring_law.proofs.Lexing.{Lexed, lex-pieces}
 
 wide : (n : ℕ) → n ≤ 1000000 → has_64_bits (pos n) ≡ true

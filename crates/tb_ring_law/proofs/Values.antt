@@ -1,5 +1,5 @@
 -- What the ring's atoms send, test and receive.
-use Rattle.std.proofs.Common.{◌≡◌, ◌≢◌, ℕ, ◌+◌, ◌≤◌, ◌<◌, ◌^◌, pos, ℤ, Bool, true, false, List, [], ◌∷◌, map, Option, Some, None, option_map, option_and_then, refl, ap, sym, ◌∙◌, subst, arith, rules, codes, cond}
+use Rattle.std.proofs.Common.{◌≡◌, ◌≢◌, ℕ, ◌+◌, ◌≤◌, ◌<◌, pos, ℤ, Bool, true, false, List, [], ◌∷◌, map, Option, Some, None, option_map, option_and_then, refl, ap, ◌∙◌, arith, rules, codes, cond}
 use Rattle.std.specs.Prelude.{int_lt}
 use Rattle.std.proofs.lemmas.Bool.{false_from_ne_true}
 use Rattle.tb_terms.specs.declared.term.Term.{Term, the_lemmas as term_lemmas}
@@ -27,7 +27,6 @@ use Rattle.tb_func.specs.Arguments.{bool_of, int_of, bool_term, of_both}
 use Rattle.tb_func.specs.Numbers.{arithmetic, order}
 use Rattle.tb_func.specs.Stores.{value_at}
 use Rattle.tb_func.specs.Values.{value_of, value_step, all_of}
-use Rattle.tb_match.specs.declared.bind.Bind.{Bind}
 use Rattle.tb_match.specs.Matches.{match_list, match_term}
 use Rattle.tb_algebra.specs.Atoms.{limited_together, values_together, patterns_of}
 use Rattle.tb_algebra.specs.Settings.{with_settings, tested}

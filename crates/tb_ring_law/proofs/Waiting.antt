@@ -1,15 +1,15 @@
 -- Rows of processes that wait: they neither move nor take another's message.
-use Rattle.std.proofs.Common.{◌≡◌, ◌≢◌, ℕ, ◌+◌, ◌≤◌, ◌<◌, Bool, true, false, not, cond, eqb, ltb, leb, List, [], ◌∷◌, ◌++◌, filter, Option, Some, None, refl, ap, sym, ◌∙◌, subst, arith, append_assoc, ◌⊎◌, inl, inr}
+use Rattle.std.proofs.Common.{◌≡◌, ℕ, ◌+◌, ◌≤◌, ◌<◌, Bool, true, false, cond, eqb, ltb, List, [], ◌∷◌, ◌++◌, filter, refl, ap, sym, ◌∙◌, subst, arith, ◌⊎◌, inl, inr}
 use Rattle.std.specs.List.{flat_map}
-use Rattle.std.proofs.lemmas.Bool.{le-ltb, lt-ltb, ne_eqb, eq-eqb}
+use Rattle.std.proofs.lemmas.Bool.{le-ltb, ne_eqb, eq-eqb}
 use Rattle.std.proofs.lemmas.Grind.{flat_map-append}
 use Rattle.tb_match.specs.declared.bind.Bind.{Bind}
 use Rattle.tb_body.specs.declared.program.Program.{Program}
 use Rattle.tb_algebra.specs.Offers.{Offered}
 use Rattle.tb_algebra.specs.Binds.{with_binds}
-use Rattle.tb_bus.specs.Buses.{Bus, Proc, proc_left}
+use Rattle.tb_bus.specs.Buses.{Proc, proc_left}
 use Rattle.tb_bus.specs.Steps.{Move, advance, handshakes_with}
-use Rattle.tb_ring_law.specs.Helpers.Buses.{node_waits, node_at, bus_of, Waits, AllWait}
+use Rattle.tb_ring_law.specs.Helpers.Buses.{bus_of, Waits, AllWait}
 use Rattle.tb_ring_law.proofs.Programs.{ring_bodies}
 use Rattle.tb_ring_law.proofs.Moves.{message, node-ignores}
 
@@ -45,11 +45,11 @@ module _ (messages : ℕ) (program : Program) (bodies : program.bodies ≡ ring_
       let nothing : handshakes_with (bus_of program procs starter) sender sent (message target v) proc ≡ [] =
       ap (handshakes_with (bus_of program procs starter) sender sent (message target v)) e ∙ node-ignores messages program bodies procs starter sender sent n from t target v fresh (omega (arith, less, most)) in
       kept_or_not nothing (keeps proc) ∙ goes-past sender sent keeps n (from + 1) to target v before rest behind most where
-    kept_or_not : handshakes_with (bus_of program procs starter) sender sent (message target v) proc ≡ [] → (b : Bool)
-        → flat_map (handshakes_with (bus_of program procs starter) sender sent (message target v)) (cond b (proc ∷ filter keeps (before ++ rest)) (filter keeps (before ++ rest)))
-        ≡ flat_map (handshakes_with (bus_of program procs starter) sender sent (message target v)) (filter keeps (before ++ rest))
-    kept_or_not nothing true = ap (λ (ms : List Move). ms ++ flat_map (handshakes_with (bus_of program procs starter) sender sent (message target v)) (filter keeps (before ++ rest))) nothing
-    kept_or_not nothing false = refl
+        kept_or_not : handshakes_with (bus_of program procs starter) sender sent (message target v) proc ≡ [] → (b : Bool)
+            → flat_map (handshakes_with (bus_of program procs starter) sender sent (message target v)) (cond b (proc ∷ filter keeps (before ++ rest)) (filter keeps (before ++ rest)))
+            ≡ flat_map (handshakes_with (bus_of program procs starter) sender sent (message target v)) (filter keeps (before ++ rest))
+        kept_or_not nothing true = ap (λ (ms : List Move). ms ++ flat_map (handshakes_with (bus_of program procs starter) sender sent (message target v)) (filter keeps (before ++ rest))) nothing
+        kept_or_not nothing false = refl
 
 -- this one goes on
 abbrev goes : ℕ → Offered → List Bind → Proc → List Proc
@@ -65,12 +65,13 @@ stays n from to number offered binds (proc ∷ procs) (here, behind) far =
     let other : eqb proc.number number ≡ false = ne_eqb proc.number number (differs from less is far) in
     ap (λ (b : Bool). cond b (proc_left proc (with_binds offered.store binds) offered.residual) (proc ∷ []) ++ advance number offered binds procs) other
     ∙ ap (λ (ps : List Proc). proc ∷ ps) (stays n (from + 1) to number offered binds procs behind (further far)) where
-  differs : (i : ℕ) → i + 1 ≤ to → proc.number ≡ i → (number < i) ⊎ (to ≤ number) → proc.number ≡ number → ⊥
-  differs i less is (inl below) e = omega (arith, less, is, below, e)
-  differs i less is (inr above) e = omega (arith, less, is, above, e)
-  further : (number < from) ⊎ (to ≤ number) → (number < from + 1) ⊎ (to ≤ number)
-  further (inl below) = inl (omega (arith, below))
-  further (inr above) = inr above
+      differs : (i : ℕ) → i + 1 ≤ to → proc.number ≡ i → (number < i) ⊎ (to ≤ number) → proc.number ≡ number → ⊥
+      differs i less is (inl below) e = omega (arith, less, is, below, e)
+      differs i less is (inr above) e = omega (arith, less, is, above, e)
+
+      further : (number < from) ⊎ (to ≤ number) → (number < from + 1) ⊎ (to ≤ number)
+      further (inl below) = inl (omega (arith, below))
+      further (inr above) = inr above
 
 -- one process goes on, between those that wait
 pub node-goes : (n mid from to number : ℕ) (offered : Offered) (binds : List Bind) (first : Proc) (before : List Proc) (proc now : Proc) (behind : List Proc)

@@ -1,6 +1,6 @@
-ghost use Rattle.std.specs.Prelude.{◌≡◌, ◌≢◌, ◌≤◌, ◌⊎◌, ℕ, List, Option, Ok, Some, length};
+ghost use Rattle.std.specs.Prelude.{◌≡◌, ◌≢◌, ◌≤◌, ◌*◌, ◌⊎◌, ℕ, List, Option, Ok, Some, length};
 ghost use Rattle.tb_body.specs.declared.program.Program.{Program};
-ghost use Rattle.tb_cli.specs.declared.command.Command.TheVariants.{Check, Run, Sim};
+ghost use Rattle.tb_cli.specs.declared.command.Command.TheVariants.{Check, Ring, Run, Sim};
 ghost use Rattle.tb_edge.specs.Faults.{Rose};
 ghost use Rattle.tb_run.specs.declared.ends.RunWhy.TheVariants as why;
 ghost use Rattle.tb_script.specs.Findings.{IsFound, Program'};
@@ -28,6 +28,13 @@ pub fn a_simulation_that_ends_is_put()
         (Rose old.file_faults new.file_faults → ⊥) → (Rose old.outside.out_faults new.outside.out_faults → ⊥) → (status ≡ Status.Outside Edge.Err → ⊥) →
         Reported {A = Unit {0}} (Comes (Ok (Sim request.script request.feed request.connects request.steps request.events)) old new) told more status →
         (status ≡ Status.Ended) ⊎ (status ≡ Status.NoMemory) }
+{}
+
+/// The same of `ring`, for the numbers that the words may give: its script is accepted, and its simulation ends by its own.
+pub fn a_ring_is_put()
+    ensures { (n k : ℕ) (old new : Seen) (told more : Option (List ℕ)) (status : Status) → 2 ≤ n → n ≤ 10000 → 1 ≤ k → n * k ≤ 1000000 →
+        (Rose old.outside.out_faults new.outside.out_faults → ⊥) → (status ≡ Status.Outside Edge.Err → ⊥) →
+        Reported {A = Unit {0}} (Comes (Ok (Ring n k)) old new) told more status → (status ≡ Status.Ended) ⊎ (status ≡ Status.NoMemory) }
 {}
 
 /// The same of `run` of a script that is accepted, where neither the clock nor the crew fails, unless the log is full: then

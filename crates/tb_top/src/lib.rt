@@ -13,6 +13,6 @@ mod status;
 mod top;
 
 pub use fault::Fault;
-pub use laws::{a_simulation_that_ends_is_put, an_accepted_script_is_told};
+pub use laws::{a_ring_is_put, a_simulation_that_ends_is_put, an_accepted_script_is_told};
 pub use status::{Bound, Edge, Status};
 pub use top::toolbus;

@@ -1,5 +1,5 @@
 -- The ring's bodies and roots.
-use Rattle.std.specs.Prelude.{ℕ, pos, List, [], ◌∷◌, map, Option, Some, None, codes}
+use Rattle.std.specs.Prelude.{ℕ, pos, List, [], ◌∷◌, map, Some, None, codes}
 use Rattle.tb_terms.specs.declared.term.Term.{Term}
 use Rattle.tb_terms.specs.declared.term.Term.TheVariants as term
 use Rattle.tb_terms.specs.declared.expr.Expr.{Expr}

@@ -1,5 +1,5 @@
 -- The ring's text in pieces: each token with the blanks in front of it.
-use Rattle.std.specs.Prelude.{ℕ, zero, suc, ◌-◌, ℤ, pos, Bool, true, false, not, ◌&&◌, ◌==◌, List, [], ◌∷◌, ◌++◌, map, codes, ◌+◌}
+use Rattle.std.specs.Prelude.{ℕ, zero, suc, ◌-◌, pos, Bool, true, false, not, ◌&&◌, ◌==◌, List, [], ◌∷◌, ◌++◌, map, codes, ◌+◌}
 use Rattle.std.specs.List.{list_all, flat_map, prefix_len}
 use Rattle.std.specs.Fmt.{signed_decimal}
 use Rattle.tb_terms.specs.Names.{is_digit, is_name, is_ident, is_name_byte}
