@@ -240,14 +240,14 @@ run-completes A request bytes program old new told more it holds few found file 
     (clock-stays old new answer clock comes.caused) (crew-stays old new answer crew comes.caused) comes.outcome)
     err reports
 
--- the simulation of a ring that goes down ends so
-ring-ends : (n k : ℕ) (log : List Entry) (last : SimEnd) → GoesDown n k → IsRingOf n k log last → last ≡ sim.Down
+-- the simulation of a ring that goes down is that one
+pub ring-ends : (n k : ℕ) (log : List Entry) (last : SimEnd) (down : GoesDown n k) → IsRingOf n k log last → (log ≡ down.log) × (last ≡ sim.Down)
 ring-ends n k log last down is =
     let same : Program' is.program ≡ Program' down.program = down.found.only (Program' is.program) is.found.holds in
     let one : is.program ≡ down.program = cc in
     let moved : IsSim (limits_of most_of_ring (ring_origin down.program)) (sim_start (start (ring_origin down.program)) []) log last =
     subst (λ (q : Program). IsSim (limits_of most_of_ring (ring_origin q)) (sim_start (start (ring_origin q)) []) log last) one is.simulated in
-    (one-sim (limits_of most_of_ring (ring_origin down.program)) (sim_start (start (ring_origin down.program)) []) log down.log last sim.Down moved down.ends).1
+    one-sim (limits_of most_of_ring (ring_origin down.program)) (sim_start (start (ring_origin down.program)) []) log down.log last sim.Down moved down.ends
 
 -- `ring` of a ring that goes down
 ring-well : {A : Type 0} (n k : ℕ) (old new : Option (List ℕ)) (answer : Result A Fault) → GoesDown n k → (answer ≡ Err Out → ⊥) → RingOutcome n k old new answer → IsWell answer
@@ -255,8 +255,8 @@ ring-well n k old new (Ok done) down out h = tt
 ring-well n k old new (Err NoMemory) down out h = tt
 ring-well n k old new (Err Out) down out h = absurd (out refl)
 ring-well n k old new (Err (Script fault)) down out h = absurd (not-refused (ring_text n k) down.program fault down.found h.0)
-ring-well n k old new (Err (Limit bound.Steps)) down out (log, is, put) = let e : sim.Steps ≡ sim.Down = ring-ends n k log sim.Steps down is in cc
-ring-well n k old new (Err (Limit bound.Events)) down out (log, is, put) = let e : sim.Events ≡ sim.Down = ring-ends n k log sim.Events down is in cc
+ring-well n k old new (Err (Limit bound.Steps)) down out (log, is, put) = let e : sim.Steps ≡ sim.Down = (ring-ends n k log sim.Steps down is).1 in cc
+ring-well n k old new (Err (Limit bound.Events)) down out (log, is, put) = let e : sim.Events ≡ sim.Down = (ring-ends n k log sim.Events down is).1 in cc
 ring-well n k old new (Err File) down out h = absurd h
 ring-well n k old new (Err Clock) down out h = absurd h
 ring-well n k old new (Err Crew) down out h = absurd h
