@@ -1,5 +1,5 @@
 -- Whom an index doesn't name leads to nothing: no partner receives what is sent, and no starter begins anything.
-use Rattle.std.proofs.Common.{◌≡◌, ℕ, ◌+◌, ◌<◌, ◌==◌, ◌||◌, List, [], ◌∷◌, ◌++◌, map, length, refl, ap, subst, ◌∙◌, arith, Option, Some, None, Bool, true, false, if◌then◌else◌, ⊎_elim}
+use Rattle.std.proofs.Common.{◌≡◌, ℕ, ◌+◌, ◌<◌, ◌==◌, ◌||◌, List, [], ◌∷◌, ◌++◌, map, length, refl, ap, subst, ◌∙◌, arith, Option, Some, None, Bool, true, false, not, is_some, option_to_list, if◌then◌else◌, ⊎_elim}
 use Rattle.std.proofs.lemmas.Bool.{both_ways, and_parts, or_cases, or_left, or_right, eqb-true, cases_Bool}
 use Rattle.std.proofs.lemmas.List.{length-append, get_or_append_left, get_or-append-add}
 use Rattle.std.proofs.lemmas.List.Elements.{All-head, All-tail, All-get_or}
@@ -12,22 +12,27 @@ use Rattle.tb_index.specs.Marks.{sent_mark, received_mark, meets, wide, open_hea
 use Rattle.tb_index.specs.Indexes.{IndexState, sends, receives, is_receiver, is_awake, starts}
 use Rattle.tb_index.specs.declared.mark.Mark.{Mark}
 use Rattle.tb_index.proofs.MarkLemmas.{matched-meets}
-use Rattle.tb_bus.specs.Helpers.Candidates.{Row, Scene, no_row, row_at, received_if, reception, receptions, partner_in, partners, candidates_by, candidates_among, candidates_of}
-use Rattle.tb_bus.specs.Helpers.Indexed.{is_calm, are_calm, sent_by, received_by, sent_marks, received_marks, IsIndexed}
+use Rattle.tb_bus.specs.Helpers.Candidates.{Row, Scene, no_row, row_at, received_if, reception, receptions, partner_in, partners, may_happen, setting_in, candidates_by, candidates_among, candidates_of}
+use Rattle.tb_bus.specs.Helpers.Indexed.{sent_by, received_by, sent_marks, received_marks, IsIndexed, SleepsAtRest, all_rest, own_rests, rests}
+use Rattle.tb_notes.specs.Inboxes.{oldest_match}
+use Rattle.tb_bus.specs.Exchanges.{Setting, exchange_for, setting_by}
 use Rattle.tb_bus.specs.declared.action.Action.{Action}
 use Rattle.tb_bus.specs.declared.action.Action.TheVariants as action
+use Rattle.tb_bus.specs.declared.action.OwnAction.{OwnAction}
+use Rattle.tb_bus.specs.declared.action.OwnAction.TheVariants as own
+use Rattle.tb_bus.specs.declared.candidate.Candidate.{Candidate}
 use Rattle.tb_bus.specs.declared.candidate.Candidate.TheVariants as candidate
 use Rattle.tb_bus.specs.declared.candidate.Received.{Received}
 use Rattle.tb_bus.specs.declared.living.Ready.{Ready}
 use Rattle.tb_bus.proofs.PartLemmas.{both-append}
 use Rattle.tb_bus.proofs.RowLemmas.{partner_at}
 
-all-left : {A : Type 0} (P : A → Type 0) (xs ys : List A) → All P (xs ++ ys) → All P xs
+pub all-left : {A : Type 0} (P : A → Type 0) (xs ys : List A) → All P (xs ++ ys) → All P xs
 all-left P xs ys h k d l =
     let many = length-append xs ys in
     subst P (get_or_append_left xs ys d k l) (h k d (omega (arith, many, l)))
 
-all-right : {A : Type 0} (P : A → Type 0) (xs ys : List A) → All P (xs ++ ys) → All P ys
+pub all-right : {A : Type 0} (P : A → Type 0) (xs ys : List A) → All P (xs ++ ys) → All P ys
 all-right P xs ys h k d l =
     let many = length-append xs ys in
     subst P (get_or-append-add xs ys k d) (h (length xs + k) d (omega (arith, many, l)))
@@ -89,43 +94,67 @@ module _ (index : IndexState) (terms : List Term) where
       (partner-deaf number at row (All-head (IsIndexed index) row rows h) (deaf row.number))
       (partners-deaf number (at + 1) rows (All-tail (IsIndexed index) row rows h) deaf)
 
+-- what isn't found leads nowhere
+led-nowhere : {A B : Type 0} (f : A → B) (found : Option A) → not (is_some found) ≡ true → map f (option_to_list found) ≡ []
+led-nowhere f None e = refl
+led-nowhere f (Some x) e = cc
+
+happens-not : (there : Bool) (found : Candidate) → there ≡ true → (if not there then found ∷ [] else []) ≡ []
+happens-not true found e = refl
+happens-not false found e = cc
+
+-- what rests by the own queue doesn't happen
+own-rest : (scene : Scene) (row : Row) (at place : ℕ) (does : OwnAction) → own_rests row.inbox does ≡ true → (if may_happen scene row does then candidate.Own at place ∷ [] else []) ≡ []
+own-rest scene row at place own.Tau c = cc
+own-rest scene row at place (own.Set values binds) c = cc
+own-rest scene row at place (own.Print text) c = cc
+own-rest scene row at place (own.NoNote patterns) c = happens-not (is_some (oldest_match patterns row.inbox)) (candidate.Own at place) c
+own-rest scene row at place (own.Subscribe patterns) c = cc
+own-rest scene row at place (own.Unsubscribe patterns) c = cc
+own-rest scene row at place (own.Create process actuals slot) c = cc
+own-rest scene row at place (own.Shutdown reason) c = cc
+
 module _ (index : IndexState) (scene : Scene) (each : All (IsIndexed index) scene.rows)
     (awake : (proc : ℕ) → is_awake index proc ≡ true → starts index proc ≡ true)
     (heard : (mark : Mark) (sender receiver : ℕ) → sends index mark sender ≡ true → is_receiver index mark receiver ≡ true → starts index sender ≡ true) where
-  module _ (row : Row) (rests : starts index row.number ≡ false) where
+  module _ (row : Row) (unnamed : starts index row.number ≡ false) where
     unheard : (terms : List Term) → sends index (sent_mark terms) row.number ≡ true → (proc : ℕ) → is_receiver index (sent_mark terms) proc ≡ false
     unheard terms h proc = ⊎_elim
-        (λ (e : is_receiver index (sent_mark terms) proc ≡ true). absurd (both_ways (starts index row.number) rests (heard (sent_mark terms) row.number proc h e)))
+        (λ (e : is_receiver index (sent_mark terms) proc ≡ true). absurd (both_ways (starts index row.number) unnamed (heard (sent_mark terms) row.number proc h e)))
         (λ (e : is_receiver index (sent_mark terms) proc ≡ false). e)
         (cases_Bool (is_receiver index (sent_mark terms) proc))
 
-    by-calm : (at place : ℕ) (does : Action) → is_calm does ≡ true → All (λ (mark : Mark). sends index mark row.number ≡ true) (sent_by does) → candidates_by scene at row place does ≡ []
-    by-calm at place (action.Own own) c h = cc
-    by-calm at place (action.Send terms) c h =
+    by-rest : (at place : ℕ) (does : Action) → rests (setting_in scene row) row.inbox does ≡ true → All (λ (mark : Mark). sends index mark row.number ≡ true) (sent_by does) → candidates_by scene at row place does ≡ []
+    by-rest at place (action.Own own) c h = own-rest scene row at place own c
+    by-rest at place (action.Send terms) c h =
         ap (map (candidate.Handshake at place))
         (partners-deaf index terms row.number 0 scene.rows each (unheard terms (All-head (λ (mark : Mark). sends index mark row.number ≡ true) (sent_mark terms) [] h)))
-    by-calm at place (action.Receive patterns) c h = refl
-    by-calm at place (action.Notify terms) c h = cc
-    by-calm at place (action.TakeNote patterns) c h = cc
-    by-calm at place (action.Speak does) c h = cc
+    by-rest at place (action.Receive patterns) c h = refl
+    by-rest at place (action.Notify terms) c h = cc
+    by-rest at place (action.TakeNote patterns) c h = led-nowhere (candidate.TakeNote at place) (oldest_match patterns row.inbox) c
+    by-rest at place (action.Speak does) c h = led-nowhere (candidate.Speak at place) (exchange_for (setting_in scene row) does) c
 
-    among-calm : (at place : ℕ) (some : List Ready) → are_calm some ≡ true → All (λ (mark : Mark). sends index mark row.number ≡ true) (sent_marks some) → candidates_among scene at row place some ≡ []
-    among-calm at place [] c h = refl
-    among-calm at place (ready ∷ others) c h =
-        let t = and_parts (is_calm ready.action) (are_calm others) c in
+    among-rest : (at place : ℕ) (some : List Ready) → all_rest (setting_in scene row) row.inbox some ≡ true → All (λ (mark : Mark). sends index mark row.number ≡ true) (sent_marks some) → candidates_among scene at row place some ≡ []
+    among-rest at place [] c h = refl
+    among-rest at place (ready ∷ others) c h =
+        let t = and_parts (rests (setting_in scene row) row.inbox ready.action) (all_rest (setting_in scene row) row.inbox others) c in
         both-append (candidates_by scene at row place ready.action) [] (candidates_among scene at row (place + 1) others) []
-        (by-calm at place ready.action t.0 (all-left (λ (mark : Mark). sends index mark row.number ≡ true) (sent_by ready.action) (sent_marks others) h))
-        (among-calm at (place + 1) others t.1 (all-right (λ (mark : Mark). sends index mark row.number ≡ true) (sent_by ready.action) (sent_marks others) h))
+        (by-rest at place ready.action t.0 (all-left (λ (mark : Mark). sends index mark row.number ≡ true) (sent_by ready.action) (sent_marks others) h))
+        (among-rest at (place + 1) others t.1 (all-right (λ (mark : Mark). sends index mark row.number ≡ true) (sent_by ready.action) (sent_marks others) h))
 
     -- who isn't named as a starter begins nothing
-    pub of-calm : (at : ℕ) → IsIndexed index row → candidates_of scene at row ≡ []
-    of-calm at h =
+    pub of-asleep : (at : ℕ) → IsIndexed index row → SleepsAtRest (setting_by scene.bodies scene.kinds scene.bench) index row → candidates_of scene at row ≡ []
+    of-asleep at h sleeps =
         let asleep : is_awake index row.number ≡ false = ⊎_elim
-        (λ (e : is_awake index row.number ≡ true). absurd (both_ways (starts index row.number) rests (awake row.number e)))
+        (λ (e : is_awake index row.number ≡ true). absurd (both_ways (starts index row.number) unnamed (awake row.number e)))
         (λ (e : is_awake index row.number ≡ false). e)
         (cases_Bool (is_awake index row.number)) in
-        among-calm at 0 row.ready (h.calm asleep) h.sent
+        among-rest at 0 row.ready (sleeps asleep) h.sent
 
--- each of the rows is indexed
+-- each of the rows sleeps at rest
+pub asleep-at : (settings : ℕ → Setting) (index : IndexState) (rows : List Row) (place : ℕ) → All (SleepsAtRest settings index) rows → place < length rows → SleepsAtRest settings index (row_at rows place)
+asleep-at settings index rows place h within = All-get_or (SleepsAtRest settings index) rows place no_row within h
+
+-- and is indexed
 pub indexed-at : (index : IndexState) (rows : List Row) (place : ℕ) → All (IsIndexed index) rows → place < length rows → IsIndexed index (row_at rows place)
 indexed-at index rows place h within = All-get_or (IsIndexed index) rows place no_row within h

@@ -10,7 +10,7 @@ use Rattle.tb_bus.specs.declared.living.Living.{Living}
 use Rattle.tb_bus.proofs.TurnLemmas.{ascend-first, ascend-above, ascend-upto}
 
 -- who stands behind another has a larger number
-ascend-less : (below : ℕ) (rows : List Row) (i j : ℕ) (d : Row) → ascend below rows ≡ true → i < j → j < length rows → (get_or rows i d).number < (get_or rows j d).number
+pub ascend-less : (below : ℕ) (rows : List Row) (i j : ℕ) (d : Row) → ascend below rows ≡ true → i < j → j < length rows → (get_or rows i d).number < (get_or rows j d).number
 ascend-less below [] i j d h l m = absurd (omega arith)
 ascend-less below (row ∷ rows) i zero d h l m = absurd (omega arith)
 ascend-less below (row ∷ rows) zero (suc j) d h l m = ascend-above row.number rows j d (ascend-first below row rows h).1 (omega arith)

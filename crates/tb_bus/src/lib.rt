@@ -13,6 +13,7 @@ mod marks;
 mod origin;
 mod places;
 mod receivers;
+mod resting;
 mod search;
 mod shapes;
 mod slots;
@@ -29,6 +30,8 @@ pub use laws::{
 pub use living::{Living, Ready};
 pub use marks::Marks;
 pub use origin::Origin;
+pub use places::place_of;
+pub use resting::all_rest;
 pub use search::first_candidate;
 pub use shapes::{
     commands_are_the_origins, entries_are_in_shape, entries_are_limited,

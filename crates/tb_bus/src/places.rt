@@ -23,7 +23,7 @@ fn first_from<W>(all: &[Living<W>], from: usize, number: u32) -> usize
 
 /// The place of the process with the number that an index found from one place on. Where none that is alive
 /// has it, that of the next behind it.
-pub(crate) fn place_of<W>(all: &[Living<W>], from: usize, found: Option<u32>) -> Option<usize>
+pub fn place_of<W>(all: &[Living<W>], from: usize, found: Option<u32>) -> Option<usize>
     requires ascend { IsTrue (ascend 0 (rows_of all.now)) }
     requires within { from < length all.now }
     ensures { (holds : ℕ → Bool) → IsNext holds (row_at (rows_of all.now) from).number found → IsNextPlace holds (rows_of all.now) from result }

@@ -2,7 +2,7 @@ ghost use Rattle.std.specs.Prelude.{◌≡◌, ℕ, ◌<◌, List, length, IfOk,
 ghost use Rattle.tb_terms.specs.declared.term.Term.{Term as Sent};
 ghost use Rattle.tb_index.specs.Marks.{sent_mark};
 ghost use Rattle.tb_bus.specs.Helpers.Candidates.{first, reception, receptions, partner_in, partners, ascend, row_of, rows_of};
-ghost use Rattle.tb_bus.specs.Helpers.Indexed.{IsIndexFor, IsNextOf};
+ghost use Rattle.tb_bus.specs.Helpers.Indexed.{AreIndexed, IsNextOf};
 
 use crate::action::Action;
 use crate::candidate::{Partner, Received};
@@ -58,7 +58,7 @@ fn first_received(
 /// The place of the next process, from one place on, that receives what has this mark.
 fn next_receiver<W>(all: &[Living<W>], index: &Index, from: usize, mark: Mark) -> Option<usize>
     requires ascend { IsTrue (ascend 0 (rows_of all.now)) }
-    requires index { IsIndexFor index.now (rows_of all.now) }
+    requires index { AreIndexed index.now (rows_of all.now) }
     requires within { from < length all.now }
     ensures { (number : ℕ) (terms : List Sent) → mark ≡ sent_mark terms → IsNextOf (partner_in number terms) (rows_of all.now) from result }
 {
@@ -75,7 +75,7 @@ pub(crate) fn first_partner<W>(
     terms: &Terms,
 ) -> Result<Option<Partner>, NoMemory>
     requires ascend { IsTrue (ascend 0 (rows_of all.now)) }
-    requires index { IsIndexFor index.now (rows_of all.now) }
+    requires index { AreIndexed index.now (rows_of all.now) }
     ensures { IfOk result (λ found. found ≡ first (partners number terms.now 0 (rows_of all.now))) }
 {
     let mark = sent_mark(terms);

@@ -3,7 +3,7 @@ ghost use Rattle.tb_bus.specs.Buses.{Bus};
 ghost use Rattle.tb_bus.specs.Steps.{moves};
 ghost use Rattle.tb_bus.specs.Helpers.Views.{IsSearchedFor, IsCandidateIn, move_of};
 ghost use Rattle.tb_bus.specs.Helpers.Indexed.{IsIndexFor, IsNextOf};
-ghost use Rattle.tb_bus.specs.Exchanges.{exchange_for};
+ghost use Rattle.tb_bus.specs.Exchanges.{exchange_for, setting_by};
 ghost use Rattle.tb_bus.specs.Helpers.Candidates.{first, may_happen, setting_in, candidates_by, candidates_of, candidates_from, candidates_in_turn, all_candidates, candidates_or_halt, up_to, ascend, row_of, rows_of, scene_of};
 
 use crate::action::{Action, OwnAction, ToolAction};
@@ -87,7 +87,7 @@ fn first_by<W>(
     action: &Action,
 ) -> Result<Option<Candidate>, NoMemory>
     requires ascend { IsTrue (ascend 0 (rows_of searched.now.all.now)) }
-    requires index { IsIndexFor searched.now.index.now (rows_of searched.now.all.now) }
+    requires index { IsIndexFor (setting_by searched.now.program.now.bodies searched.now.program.now.tools searched.now.bench.now) searched.now.index.now (rows_of searched.now.all.now) }
     ensures { IfOk result (λ found. found ≡ first (candidates_by (scene_of searched.now.program.now.bodies searched.now.program.now.tools searched.now.bench.now (rows_of searched.now.all.now) searched.now.marks) at (row_of living.now) index action.now)) }
 {
     match action {
@@ -128,7 +128,7 @@ fn first_of<W>(
     living: &Living<W>,
 ) -> Result<Option<Candidate>, NoMemory>
     requires ascend { IsTrue (ascend 0 (rows_of searched.now.all.now)) }
-    requires index { IsIndexFor searched.now.index.now (rows_of searched.now.all.now) }
+    requires index { IsIndexFor (setting_by searched.now.program.now.bodies searched.now.program.now.tools searched.now.bench.now) searched.now.index.now (rows_of searched.now.all.now) }
     ensures { IfOk result (λ found. found ≡ first (candidates_of (scene_of searched.now.program.now.bodies searched.now.program.now.tools searched.now.bench.now (rows_of searched.now.all.now) searched.now.marks) at (row_of living.now))) }
 {
     for (index, ready) in living.ready.as_slice().iter().enumerate() {
@@ -143,7 +143,7 @@ fn first_of<W>(
 /// The place of the next process, from one place on and before another, that may begin anything.
 fn next_starter<W>(searched: &Searched<W>, from: usize, end: usize) -> Option<usize>
     requires ascend { IsTrue (ascend 0 (rows_of searched.now.all.now)) }
-    requires index { IsIndexFor searched.now.index.now (rows_of searched.now.all.now) }
+    requires index { IsIndexFor (setting_by searched.now.program.now.bodies searched.now.program.now.tools searched.now.bench.now) searched.now.index.now (rows_of searched.now.all.now) }
     requires some { from < end }
     requires within { end ≤ length searched.now.all.now }
     ensures { IsNextOf (candidates_of (scene_of searched.now.program.now.bodies searched.now.program.now.tools searched.now.bench.now (rows_of searched.now.all.now) searched.now.marks)) (take end (rows_of searched.now.all.now)) from result }
@@ -161,7 +161,7 @@ fn first_between<W>(
     end: usize,
 ) -> Result<Option<Candidate>, NoMemory>
     requires ascend { IsTrue (ascend 0 (rows_of searched.now.all.now)) }
-    requires index { IsIndexFor searched.now.index.now (rows_of searched.now.all.now) }
+    requires index { IsIndexFor (setting_by searched.now.program.now.bodies searched.now.program.now.tools searched.now.bench.now) searched.now.index.now (rows_of searched.now.all.now) }
     requires within { end ≤ length searched.now.all.now }
     ensures { IfOk result (λ found. found ≡ first (candidates_from (scene_of searched.now.program.now.bodies searched.now.program.now.tools searched.now.bench.now (rows_of searched.now.all.now) searched.now.marks) start (drop start (take end (rows_of searched.now.all.now))))) }
 {
@@ -193,7 +193,7 @@ pub(crate) fn first_in_turn<W>(
     searched: &Searched<W>,
 ) -> Result<Option<Candidate>, NoMemory>
     requires ascend { IsTrue (ascend 0 (rows_of searched.now.all.now)) }
-    requires index { IsIndexFor searched.now.index.now (rows_of searched.now.all.now) }
+    requires index { IsIndexFor (setting_by searched.now.program.now.bodies searched.now.program.now.tools searched.now.bench.now) searched.now.index.now (rows_of searched.now.all.now) }
     ensures { IfOk result (λ found. found ≡ first (candidates_in_turn (scene_of searched.now.program.now.bodies searched.now.program.now.tools searched.now.bench.now (rows_of searched.now.all.now) searched.now.marks) searched.now.marks.last_starter)) }
 {
     let start = turn_start(searched.all, searched.marks.last_starter);
@@ -225,7 +225,7 @@ pub fn first_candidate<W>(
     index: &Index,
 ) -> Result<Option<Candidate>, NoMemory>
     requires ascend { IsTrue (ascend 0 (rows_of all.now)) }
-    requires index { IsIndexFor index.now (rows_of all.now) }
+    requires index { IsIndexFor (setting_by program.now.bodies program.now.tools bench.now) index.now (rows_of all.now) }
     ensures found { IfOk result (λ found. found ≡ first (all_candidates (scene_of program.now.bodies program.now.tools bench.now (rows_of all.now) marks) marks)) }
     ensures on_bus { IfOk result (λ found. (bus : Bus) → IsSearchedFor bus (scene_of program.now.bodies program.now.tools bench.now (rows_of all.now) marks) marks → option_map (move_of bus (rows_of all.now)) found ≡ first (moves bus)) }
     ensures stands { IfOk result (λ found. IfSome found (IsCandidateIn (scene_of program.now.bodies program.now.tools bench.now (rows_of all.now) marks))) }

@@ -1,5 +1,6 @@
 -- A process that goes on among the others: it is put in its place, or taken away.
 use Rattle.std.proofs.Common.{◌≡◌, ℕ, ◌<◌, ◌≤◌, ◌==◌, ◌&&◌, zero, suc, List, [], ◌∷◌, ◌++◌, length, refl, ap, sym, subst, ◌∙◌, arith, Option, Some, None, Bool, true, false, Contains, slice_get, slice_set, remove, get_or, take, drop, nat_lt, if◌then◌else◌, eq-eqb, inr, map, option_map, unwrap_or}
+use Rattle.tb_core.proofs.RestLemmas.{rested-kept, rested-stale}
 use Rattle.std.proofs.lemmas.Bool.{lt-ltb, eqb-true, false_from_ne_true}
 use Rattle.std.proofs.lemmas.Option.{slice_get-map, unwrap_or-slice_get}
 use Rattle.std.proofs.lemmas.List.Elements.{All-set, All-append, All-take, All-drop}
@@ -21,13 +22,13 @@ use Rattle.tb_bus.specs.Helpers.Candidates.{row_at, row_of, rows_of, no_row, asc
 use Rattle.tb_bus.specs.Helpers.Views.{proc_at, no_proc}
 use Rattle.tb_bus.specs.declared.living.Living.{Living}
 use Rattle.tb_bus.proofs.TurnLemmas.{ascend-first}
-use Rattle.tb_core.specs.Helpers.Indexes.{IsRightFor}
+use Rattle.tb_core.specs.Helpers.Indexes.{IsRightFor, IsRested}
 use Rattle.tb_core.specs.Helpers.Lives.{IsBelow, IsLive, term_in, proc_by, proc_in, procs_of}
-use Rattle.tb_core.specs.Helpers.LiveBuses.{IsSound, IsFreshOr, IsAdvanced, AreAdvanced, Leaves, CanAdvance, bus_of, procs_in}
+use Rattle.tb_core.specs.Helpers.LiveBuses.{IsSound, IsFreshOr, IsAdvanced, AreAdvanced, Leaves, CanAdvance, bus_of, procs_in, settings_in}
 use Rattle.tb_core.specs.declared.bus.LiveBus.{LiveBus}
 use Rattle.tb_core.proofs.ReadLemmas.{LiveAt, above-there, all-there, live-at, proc-number, read-is}
 use Rattle.tb_core.proofs.SetLemmas.{ascend-set, set-other}
-use Rattle.tb_core.proofs.IndexLemmas.{keeps-self, right-removed, right-set, stale-right}
+use Rattle.tb_core.proofs.IndexLemmas.{keeps-self, right-removed, right-set, stale-right, each-removed, keeps-cleared}
 
 goes-by : (number : ℕ) (offered : Offered) (binds : List Bind) (proc : Proc) (rest : List Proc) (b : Bool) → b ≡ true →
     (if b then proc_left proc (with_binds offered.store binds) offered.residual else proc ∷ []) ++ rest ≡ proc_left proc (with_binds offered.store binds) offered.residual ++ rest
@@ -273,6 +274,8 @@ advanced-set view bus at before plan offered binds after over living sound read 
             (inr (subst (Contains bus.stale.items) (sym went.number) (named view bus at before it stale))) (sound.fresh young));
         indexed = right-set bus.index bus.index bus.living.items living.items at before after e sound.in_order it.here went.number
             (λ other ne. keeps-self bus.index other) (stale-right bus.index before after went.number went.marks went.stale (all-there (IsRightFor bus.index) bus.living.items at before sound.indexed.each it.here)) sound.indexed;
+        rested = subst (All (IsRested (settings_in bus) bus.stirred bus.index)) (sym e)
+            (All-set (IsRested (settings_in bus) bus.stirred bus.index) bus.living.items at after (rested-stale (settings_in bus) bus.stirred bus.index after went.stale) sound.rested);
       };
       bus = moved view bus at before offered binds (procs_of view bus.plans living.items) it
           (ap (procs_of view bus.plans) e ∙ procs-set view bus.plans it.plan 0 bus.living.items at before offered binds after sound.in_order it.here goes it.planned lives);
@@ -301,6 +304,9 @@ advanced-removed view bus at before plan offered binds after over living index s
         live = subst (All (IsLive view bus.plans bus.ticks)) (sym e) (All-removed (IsLive view bus.plans bus.ticks) bus.living.items at sound.live);
         fresh = λ young. subst (All (IsFreshOr bus.stale.items)) (sym e) (All-removed (IsFreshOr bus.stale.items) bus.living.items at (sound.fresh young));
         indexed = right-removed bus.index index bus.living.items living.items at before e sound.in_order read.it.here (subst (IsCleared bus.index index) went.number cleared) sound.indexed;
+        rested = subst (All (IsRested (settings_in bus) bus.stirred index)) (sym e)
+            (each-removed (IsRested (settings_in bus) bus.stirred) (rested-kept (settings_in bus) bus.stirred) bus.index index 0 bus.living.items at before sound.in_order read.it.here
+            (keeps-cleared bus.index index before.number (subst (IsCleared bus.index index) went.number cleared)) sound.rested);
       };
       bus = moved view bus at before offered binds (procs_of view bus.plans living.items) read.it
           (ap (procs_of view bus.plans) e ∙ procs-removed view bus.plans 0 bus.living.items at before offered binds sound.in_order read.it.here left);

@@ -14,30 +14,53 @@ use Rattle.tb_bus.specs.declared.exchange.Exchange.{Exchange}
 use Rattle.tb_bus.specs.declared.candidate.Candidate.TheVariants as candidate
 use Rattle.tb_bus.specs.Helpers.Candidates.{row_at, rows_of}
 use Rattle.tb_core.specs.Helpers.Spoken.{around}
-use Rattle.tb_core.specs.Helpers.LiveBuses.{AreFresh, IsChanged, IsDone, IsKept, IsSound, Leaves, StandsAs, bus_of, procs_in, scene_in}
+use Rattle.tb_core.specs.Helpers.LiveBuses.{AreFresh, IsChanged, IsDone, IsKept, IsSound, Leaves, StandsAs, bus_of, procs_in, scene_in, settings_in}
+use Rattle.tb_core.proofs.RestLemmas.{rested-stirred}
 use Rattle.tb_core.specs.declared.acting.Done.{Done}
 use Rattle.tb_core.specs.declared.bus.LiveBus.{LiveBus}
 use Rattle.tb_core.proofs.MakeLemmas.{IsActed, acted-speak, kept-same, kept-within, speak-at}
 
-sound-bench : {W P T : Type 0} (view : View P W T) (bus : LiveBus W P T) (bench : BenchState) → IsSound view bus → length bench.lanes ≡ 16 → IsSound view (record bus { bench = bench })
-sound-bench view bus bench sound long = record { in_order = sound.in_order; below = sound.below; planned = sound.planned; live = sound.live; fresh = sound.fresh; lanes = long; indexed = sound.indexed }
+-- once its lanes have changed
+pub sound-bench : {W P T : Type 0} (view : View P W T) (bus : LiveBus W P T) (bench : BenchState) → IsSound view bus → length bench.lanes ≡ 16 → IsSound view (record bus { bench = bench; stirred = true })
+sound-bench view bus bench sound long = record {
+  in_order = sound.in_order;
+  below = sound.below;
+  planned = sound.planned;
+  live = sound.live;
+  fresh = sound.fresh;
+  lanes = long;
+  indexed = sound.indexed;
+  rested = rested-stirred (settings_in bus) (settings_in (record bus { bench = bench })) bus.stirred bus.index bus.living.items sound.rested;
+}
 
-pub sound-down : {W P T : Type 0} (view : View P W T) (bus : LiveBus W P T) (bench : BenchState) → IsSound view bus → length bench.lanes ≡ 16 → IsSound view (record bus { bench = bench; marks = record bus.marks { down = true } })
-sound-down view bus bench sound long = record { in_order = sound.in_order; below = sound.below; planned = sound.planned; live = sound.live; fresh = sound.fresh; lanes = long; indexed = sound.indexed }
+pub sound-down : {W P T : Type 0} (view : View P W T) (bus : LiveBus W P T) (bench : BenchState) → IsSound view bus → length bench.lanes ≡ 16 → IsSound view (record bus { bench = bench; stirred = true; marks = record bus.marks { down = true } })
+sound-down view bus bench sound long =
+    let still = sound-bench view bus bench sound long in
+    record {
+      in_order = still.in_order;
+      below = still.below;
+      planned = still.planned;
+      live = still.live;
+      fresh = still.fresh;
+      lanes = still.lanes;
+      indexed = still.indexed;
+      rested = still.rested;
+    }
 
 -- it stands for the same bus where the lanes are the same
 pub stands-bench : {W P T : Type 0} (view : View P W T) (bus : LiveBus W P T) (bench : BenchState) → IsSound view bus → bench ≡ bus.bench → StandsAs view bus (record bus { bench = bench })
 stands-bench view bus bench sound e = record {
-  sound = sound-bench view bus bench sound (ap (λ (b : BenchState). length b.lanes) e ∙ sound.lanes);
+  sound = subst (λ (b : BenchState). IsSound view (record bus { bench = b })) (sym e) sound;
   bus = ap (λ (b : BenchState). let same : Bus = record (bus_of view bus) { bench = b } in same) e;
   origin = refl;
   plans = refl;
   marks = refl;
+  calm = λ e. e;
 }
 
 -- the change of an effect that sets the lanes was made
 pub bench-changed : {W P T : Type 0} (view : View P W T) (bus : LiveBus W P T) (at : ℕ) (bench : BenchState) (effect : Effect) → IsSound view bus → at < length bus.living.items → length bench.lanes ≡ 16 → effect.change ≡ SetsBench bench →
-    IsChanged view bus at effect (record bus { bench = bench })
+    IsChanged view bus at effect (record bus { bench = bench; stirred = true })
 bench-changed view bus at bench effect sound within long e = record {
   sound = sound-bench view bus bench sound long;
   bus = sym (ap (λ (c : Change). changed c (row_at (rows_of bus.living.items) at).number (bus_of view bus)) e);
@@ -66,11 +89,11 @@ module _ {W P T : Type 0} (view : View P W T) (old begun : LiveBus W P T) (at in
 
   pub acted-exchange : IsSound view old → AreFresh old.living.items → IsCandidateIn (scene_in old) (candidate.Speak at index exchange) → Leaves view old at taken (offer_of (procs_in view old) (rows_of old.living.items) at index) →
       (ready_at (rows_of old.living.items) at index).action ≡ action.Speak does → StandsAs view old begun → IsKept old.living.items begun.living.items at → Contains begun.stale.items (row_at (rows_of old.living.items) at).number →
-      kinds ≡ begun.origin.program.tools → bench ≡ bench_after (around kinds begun.bench) does exchange → length bench.lanes ≡ 16 → IsActed view old begun (record begun { bench = bench }) at index spoken
+      kinds ≡ begun.origin.program.tools → bench ≡ bench_after (around kinds begun.bench) does exchange → length bench.lanes ≡ 16 → IsActed view old begun (record begun { bench = bench; stirred = true }) at index spoken
   acted-exchange sound fresh found leaves is same kept named tools after long =
       let it = speak-at view old begun at index taken does exchange sound fresh found leaves is same in
       let set : spoken.change ≡ SetsBench bench = ap SetsBench (sym (after ∙ ap (λ ks. bench_after (around ks begun.bench) does exchange) tools)) in
-      acted-speak view old begun (record begun { bench = bench }) at index does exchange it same kept named
+      acted-speak view old begun (record begun { bench = bench; stirred = true }) at index does exchange it same kept named
       (bench-changed view begun at bench spoken same.sound (kept-within old.living.items begun.living.items at kept) long set)
 
   pub done-exchange : (done : Done) → kinds ≡ begun.origin.program.tools → IsDone (speaking (around kinds begun.bench) does exchange) done → IsDone spoken done

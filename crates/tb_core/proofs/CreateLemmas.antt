@@ -1,10 +1,11 @@
 -- A process that is created stands behind all others.
 use Rattle.std.proofs.Common.{◌≡◌, ℕ, ◌+◌, ◌<◌, zero, suc, List, [], ◌∷◌, ◌++◌, length, refl, ap, sym, subst, ◌∙◌, arith, Some, true, slice_get, get_or, inl, inr, Contains}
+use Rattle.tb_core.proofs.RestLemmas.{rested-kept, rested-stale}
 use Rattle.std.specs.Global.{Vec}
 use Rattle.std.specs.List.{All}
 use Rattle.std.proofs.lemmas.Bool.{lt-ltb}
 use Rattle.std.proofs.lemmas.List.{map-append}
-use Rattle.std.proofs.lemmas.List.Elements.{All-head, All-push, All-same, All-tail, Contains-append_left, Contains-push}
+use Rattle.std.proofs.lemmas.List.Elements.{All-head, All-push, All-same, All-tail, Contains-append_left, Contains-push, All-weaker}
 use Rattle.tb_terms.specs.declared.term.Term.{Term}
 use Rattle.tb_algebra.specs.WalkerViews.{View}
 use Rattle.tb_index.specs.Indexes.{HasRoom, IndexState}
@@ -13,9 +14,9 @@ use Rattle.tb_bus.specs.Effects.{creation}
 use Rattle.tb_bus.specs.Helpers.Candidates.{ascend, row_of, rows_of}
 use Rattle.tb_bus.specs.declared.living.Living.{Living}
 use Rattle.tb_bus.proofs.TurnLemmas.{ascend-first}
-use Rattle.tb_core.specs.Helpers.Indexes.{IsUnmarked, KeepsOf}
+use Rattle.tb_core.specs.Helpers.Indexes.{IsUnmarked, KeepsOf, IsRested}
 use Rattle.tb_core.specs.Helpers.Lives.{IsBelow, IsLive, proc_in, procs_of}
-use Rattle.tb_core.specs.Helpers.LiveBuses.{IsChanged, IsFreshOr, IsSound, bus_of, procs_in}
+use Rattle.tb_core.specs.Helpers.LiveBuses.{IsChanged, IsFreshOr, IsSound, bus_of, procs_in, settings_in}
 use Rattle.tb_core.specs.declared.bus.LiveBus.{LiveBus}
 use Rattle.tb_core.proofs.ReadLemmas.{above-there, all-there, some-at}
 use Rattle.tb_core.proofs.IndexLemmas.{all-kept, right-pushed}
@@ -66,6 +67,11 @@ module _ {W P T : Type 0} (view : View P W T) (bus : LiveBus W P T) (at : ℕ) (
               (All-push (IsFreshOr (bus.stale.items ++ next ∷ [])) bus.living.items living (fresh-more bus.stale.items (next ∷ []) bus.living.items (sound.fresh young))
               (inr (subst (Contains (bus.stale.items ++ next ∷ [])) (sym number) (Contains-push bus.stale.items next)))));
           indexed = right-pushed index bus.living.items all.items living e below_it unmarked (subst (HasRoom index) (sym number) room) (all-kept bus.index index bus.living.items kept sound.indexed);
+          rested = All-same (IsRested (settings_in bus) bus.stirred index) all.items (bus.living.items ++ living ∷ []) e
+              (All-push (IsRested (settings_in bus) bus.stirred index) bus.living.items living
+              (All-weaker (IsRested (settings_in bus) bus.stirred bus.index) (IsRested (settings_in bus) bus.stirred index)
+              (λ l it. rested-kept (settings_in bus) bus.stirred bus.index index l (kept l.number) it) bus.living.items sound.rested)
+              (rested-stale (settings_in bus) bus.stirred index living unmarked.stale));
         };
         bus = ap (λ (ps : List Proc). let b : Bus = record (bus_of view bus) { procs = ps; next_number = next + 1 } in b)
             (ap (procs_of view bus.plans) e ∙ map-append (proc_in view bus.plans) bus.living.items (living ∷ []) ∙ ap (λ ps. procs_in view bus ++ ps) procs);

@@ -1,5 +1,5 @@
 -- What the living hold, where one inbox after another changes: the other parts of each stay, and so does what rests on them.
-use Rattle.std.proofs.Common.{◌≡◌, ◌≢◌, ℕ, ◌<◌, ◌≤◌, zero, suc, List, [], ◌∷◌, length, map, refl, ap, sym, subst, ◌∙◌, arith, Option, Some, None, Bool, true, false, slice_get, slice_set, get_or, option_map, nat_lt, ◌&&◌, ◌==◌, if◌then◌else◌, eq-eqb}
+use Rattle.std.proofs.Common.{◌≡◌, ◌≢◌, ℕ, ◌<◌, ◌≤◌, ◌⊎◌, zero, suc, List, [], ◌∷◌, length, map, refl, ap, sym, subst, ◌∙◌, arith, Option, Some, None, Bool, true, false, slice_get, slice_set, get_or, option_map, nat_lt, ◌&&◌, ◌==◌, if◌then◌else◌, eq-eqb}
 use Rattle.std.specs.Global.{Vec}
 use Rattle.std.specs.List.{All}
 use Rattle.std.proofs.lemmas.Bool.{eqb-true, false_from_ne_true}
@@ -19,10 +19,12 @@ use Rattle.tb_core.specs.Helpers.Lives.{IsBelow, IsLive, proc_by, proc_in, procs
 use Rattle.tb_core.specs.Helpers.Indexes.{IsRightFor}
 use Rattle.tb_core.specs.Helpers.Holdings.{helds_of, held_at, spares_of, spare_at, bare, bares_of, IsHeldAt, HoldTheSame, with_given}
 use Rattle.tb_core.specs.Helpers.Makings.{noting}
-use Rattle.tb_core.specs.Helpers.LiveBuses.{IsChanged, IsFreshOr, IsKept, IsSound, StandsAs, bus_of, procs_in}
+use Rattle.tb_core.specs.Helpers.LiveBuses.{IsChanged, IsFreshOr, IsKept, IsSound, StandsAs, bus_of, procs_in, settings_in}
 use Rattle.tb_core.specs.declared.bus.LiveBus.{LiveBus}
 use Rattle.tb_core.proofs.ReadLemmas.{above-there, map-there, proc-number}
 use Rattle.tb_core.proofs.IndexLemmas.{alive-bares, bare-right, filled-right}
+use Rattle.tb_core.proofs.RestLemmas.{rested-bares, stays-given, stays-held, stays-unheld}
+use Rattle.tb_index.specs.Indexes.{is_awake}
 
 -- what the row at an index shows is held there
 pub row-held : {W : Type 0} (all : List (Living W)) (at : ℕ) → (row_at (rows_of all) at).inbox ≡ held_at all at
@@ -92,8 +94,14 @@ live-bare view plans now living h = (h.0, h.1, record { is_on = h.2.is_on; alive
 live-filled : {W P T : Type 0} (view : View P W T) (plans : List P) (now : ℕ) (living : Living W) → IsLive view plans now (bare living) → IsLive view plans now living
 live-filled view plans now living h = (h.0, h.1, record { is_on = h.2.is_on; alive = h.2.alive; sorts = h.2.sorts; ticks = h.2.ticks; ready = h.2.ready })
 
-pub sound-bares : {W P T : Type 0} (view : View P W T) (bus : LiveBus W P T) (living : Vec (Living W)) → bares_of living.items ≡ bares_of bus.living.items → IsSound view bus → IsSound view (record bus { living = living })
-sound-bares view bus living e sound = record {
+-- what the inbox of each lets rest it lets rest after a change too
+abbrev pub Stays : {W P T : Type 0} → LiveBus W P T → List (Living W) → Type 0
+Stays {W = W} bus new = (k : ℕ) (d : Living W) → k < length bus.living.items →
+    ((get_or new k d).inbox.held.notes ≡ (get_or bus.living.items k d).inbox.held.notes)
+    ⊎ (((get_or bus.living.items k d).fresh ≡ false) ⊎ (is_awake bus.index (get_or bus.living.items k d).number ≡ true))
+
+pub sound-bares : {W P T : Type 0} (view : View P W T) (bus : LiveBus W P T) (living : Vec (Living W)) → bares_of living.items ≡ bares_of bus.living.items → Stays bus living.items → IsSound view bus → IsSound view (record bus { living = living })
+sound-bares view bus living e stays sound = record {
   in_order = sym (ascend-bares 0 living.items) ∙ ap (λ all. ascend 0 (rows_of all)) e ∙ ascend-bares 0 bus.living.items ∙ sound.in_order;
   below = all-bares (IsBelow bus.marks.next_number) bus.living.items living.items (λ l h. h) (λ l h. h) e sound.below;
   planned = sound.planned;
@@ -101,6 +109,7 @@ sound-bares view bus living e sound = record {
   live = all-bares (IsLive view bus.plans bus.ticks) bus.living.items living.items (live-bare view bus.plans bus.ticks) (live-filled view bus.plans bus.ticks) e sound.live;
   fresh = λ young. all-bares (IsFreshOr bus.stale.items) bus.living.items living.items (λ l h. h) (λ l h. h) e (sound.fresh young);
   indexed = record { each = all-bares (IsRightFor bus.index) bus.living.items living.items (bare-right bus.index) (filled-right bus.index) e sound.indexed.each; others = λ number absent. sound.indexed.others number (alive-bares number bus.living.items living.items e ∙ absent) };
+  rested = rested-bares (settings_in bus) bus.stirred bus.index bus.living.items living.items e (same-long bus.living.items living.items e) stays sound.rested;
 }
 
 -- one at an index is as it was, but for its inbox
@@ -283,14 +292,16 @@ nothing-changed view bus at before effect sound here e = record {
 -- one inbox
 pub held-changed : {W P T : Type 0} (view : View P W T) (bus : LiveBus W P T) (at : ℕ) (before : Living W) (effect : Effect) (change : Held → Held) (living : Vec (Living W)) → IsSound view bus → slice_get bus.living.items at ≡ Some before →
     IsHeldAt bus.living.items at (change (held_at bus.living.items at)) living.items →
+    (((change (held_at bus.living.items at)).notes ≡ before.inbox.held.notes) ⊎ (before.fresh ≡ false)) →
     ((number : ℕ) → changed effect.change number (bus_of view bus) ≡ record (bus_of view bus) { procs = map (with_inbox number change) (procs_in view bus) }) → IsChanged view bus at effect (record bus { living = living })
-held-changed view bus at before effect change living sound here held e =
+held-changed view bus at before effect change living sound here held rests e =
     let all = bus.living.items in
     let procs = procs-held view bus.plans all living.items (with_inbox before.number change) (with-bare before.number change) held.bares
     (held.helds ∙ ap (λ h. slice_set (helds_of all) at (change h)) (held-there all at before here) ∙ sym (helds-changed view bus.plans 0 change all at before sound.in_order here)) in
     let number : (row_at (rows_of all) at).number ≡ before.number = ap (λ (r : Row). r.number) (map-there row_of all at before no_row here) in
     record {
-      sound = sound-bares view bus living held.bares sound;
+      sound = sound-bares view bus living held.bares
+          (stays-held bus.index all living.items (same-long all living.items held.bares) at before (change (held_at all at)) here held rests) sound;
       bus = ap (λ (ps : List Proc). let b : Bus = record (bus_of view bus) { procs = ps } in b) procs ∙ sym (e before.number) ∙ ap (λ n. changed effect.change n (bus_of view bus)) (sym number);
       origin = refl;
       plans = refl;
@@ -300,13 +311,15 @@ held-changed view bus at before effect change living sound here held e =
 
 -- the inboxes of those that want a note
 pub noted-changed : {W P T : Type 0} (view : View P W T) (bus : LiveBus W P T) (at : ℕ) (before : Living W) (note : List Term) (living : Vec (Living W)) → IsSound view bus → slice_get bus.living.items at ≡ Some before →
-    bares_of living.items ≡ bares_of bus.living.items → helds_of living.items ≡ map (with_given note) (helds_of bus.living.items) → IsChanged view bus at (noting note) (record bus { living = living })
-noted-changed view bus at before note living sound here bares helds =
+    bares_of living.items ≡ bares_of bus.living.items → helds_of living.items ≡ map (with_given note) (helds_of bus.living.items) →
+    ((k : ℕ) (d : Living W) → k < length bus.living.items → wants (get_or bus.living.items k d).inbox.held note ≡ true → is_awake bus.index (get_or bus.living.items k d).number ≡ true) →
+    IsChanged view bus at (noting note) (record bus { living = living })
+noted-changed view bus at before note living sound here bares helds awake =
     let all = bus.living.items in
     let procs = procs-held view bus.plans all living.items (given note) (given-bare note) bares
     (helds ∙ ap (map (with_given note)) (sym (inbox-procs view bus.plans all)) ∙ sym (given-inboxes note (procs_in view bus))) in
     record {
-      sound = sound-bares view bus living bares sound;
+      sound = sound-bares view bus living bares (stays-given bus.index all living.items (same-long all living.items bares) note helds awake) sound;
       bus = ap (λ (ps : List Proc). let b : Bus = record (bus_of view bus) { procs = ps } in b) procs;
       origin = refl;
       plans = refl;
@@ -317,9 +330,10 @@ noted-changed view bus at before note living sound here bares helds =
 -- the same is held, and it stands for the same bus
 pub stands-held : {W P T : Type 0} (view : View P W T) (bus : LiveBus W P T) (living : Vec (Living W)) → IsSound view bus → HoldTheSame bus.living.items living.items → StandsAs view bus (record bus { living = living })
 stands-held view bus living sound same = record {
-  sound = sound-bares view bus living same.bares sound;
+  sound = sound-bares view bus living same.bares (stays-unheld bus.index bus.living.items living.items (same-long bus.living.items living.items same.bares) same.helds) sound;
   bus = ap (λ (ps : List Proc). let b : Bus = record (bus_of view bus) { procs = ps } in b) (procs-unheld view bus.plans bus.living.items living.items same);
   origin = refl;
   plans = refl;
   marks = refl;
+  calm = λ e. e;
 }

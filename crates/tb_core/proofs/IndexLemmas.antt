@@ -10,14 +10,13 @@ use Rattle.tb_index.specs.Marks.{has_mark, is_mark}
 use Rattle.tb_index.specs.declared.mark.Mark.{Mark}
 use Rattle.tb_index.specs.declared.mark.Marks.{Marks}
 use Rattle.tb_bus.specs.Helpers.Candidates.{Row, ascend, row_of, rows_of}
-use Rattle.tb_bus.specs.Helpers.Indexed.{IsIndexed, IsIndexFor, are_calm, received_by, received_marks, sent_by, sent_marks}
+use Rattle.tb_bus.specs.Helpers.Indexed.{sent_by, sent_marks}
 use Rattle.tb_bus.specs.declared.living.Living.{Living}
 use Rattle.tb_bus.specs.declared.living.Ready.{Ready}
 use Rattle.tb_bus.proofs.TurnLemmas.{ascend-first}
 use Rattle.tb_core.specs.Helpers.Holdings.{bare, bares_of}
-use Rattle.tb_core.specs.Helpers.Indexes.{IsRightForAll, HasNothing, IsRightFor, IsUnmarked, KeepsOf, is_alive}
+use Rattle.tb_core.specs.Helpers.Indexes.{IsMarked, IsRightForAll, HasNothing, IsRightFor, IsUnmarked, KeepsOf, found_by, found_marks, is_alive}
 use Rattle.tb_core.specs.Helpers.Lives.{IsBelow}
-use Rattle.tb_core.specs.Helpers.LiveBuses.{AreFresh}
 use Rattle.tb_core.proofs.ReadLemmas.{above-there}
 
 has-own : (marks : List Mark) (k : ℕ) (d : Mark) → k < length marks → has_mark marks (get_or marks k d) ≡ true
@@ -27,13 +26,12 @@ has-own (mark ∷ marks) zero d l =
 has-own (mark ∷ marks) (suc k) d l =
     or_right (is_mark (get_or marks k d) mark) (has_mark marks (get_or marks k d)) (has-own marks k d (omega arith))
 
--- a process is indexed where the index has just its marks, and it is awake or calm
+-- a process is indexed where the index has just its marks
 indexed-by : (index : IndexState) (row : Row) → ((mark : Mark) → sends index mark row.number ≡ has_mark (sent_marks row.ready) mark) →
-    ((mark : Mark) → receives index mark row.number ≡ has_mark (received_marks row.ready) mark) → (is_awake index row.number ≡ false → are_calm row.ready ≡ true) → IsIndexed index row
-indexed-by index row sent received calm = record {
+    ((mark : Mark) → receives index mark row.number ≡ has_mark (found_marks row.ready) mark) → IsMarked index row
+indexed-by index row sent received = record {
   sent = λ k d l. sent (get_or (sent_marks row.ready) k d) ∙ has-own (sent_marks row.ready) k d l;
-  received = λ k d l. received (get_or (received_marks row.ready) k d) ∙ has-own (received_marks row.ready) k d l;
-  calm = calm;
+  received = λ k d l. received (get_or (found_marks row.ready) k d) ∙ has-own (found_marks row.ready) k d l;
 }
 
 -- who is alive
@@ -46,7 +44,7 @@ or-first : (b rest : Bool) → b ≡ true → (b || rest) ≡ true
 or-first true rest e = refl
 or-first false rest e = cc
 
-neither : (a b : Bool) → (a || b) ≡ false → (a ≡ false) × (b ≡ false)
+pub neither : (a b : Bool) → (a || b) ≡ false → (a ≡ false) × (b ≡ false)
 neither true b h = absurd (false≢true (sym h))
 neither false b h = (refl, h)
 
@@ -137,11 +135,10 @@ keeps-turned old new number awake turned other ne = record {
 pub kept-nothing : (old new : IndexState) (number : ℕ) → KeepsOf old new number → HasNothing old number → HasNothing new number
 kept-nothing old new number k h = record { sent = λ mark. k.sent mark ∙ h.sent mark; received = λ mark. k.received mark ∙ h.received mark; asleep = k.awake ∙ h.asleep }
 
-kept-row : (old new : IndexState) (row : Row) → KeepsOf old new row.number → IsIndexed old row → IsIndexed new row
+kept-row : (old new : IndexState) (row : Row) → KeepsOf old new row.number → IsMarked old row → IsMarked new row
 kept-row old new row k h = record {
   sent = All-weaker (λ (mark : Mark). sends old mark row.number ≡ true) (λ (mark : Mark). sends new mark row.number ≡ true) (λ mark e. k.sent mark ∙ e) (sent_marks row.ready) h.sent;
-  received = All-weaker (λ (mark : Mark). receives old mark row.number ≡ true) (λ (mark : Mark). receives new mark row.number ≡ true) (λ mark e. k.received mark ∙ e) (received_marks row.ready) h.received;
-  calm = λ e. h.calm (sym k.awake ∙ e);
+  received = All-weaker (λ (mark : Mark). receives old mark row.number ≡ true) (λ (mark : Mark). receives new mark row.number ≡ true) (λ mark e. k.received mark ∙ e) (found_marks row.ready) h.received;
 }
 
 pub kept-right : {W : Type 0} (old new : IndexState) (living : Living W) → KeepsOf old new living.number → IsRightFor old living → IsRightFor new living
@@ -160,13 +157,12 @@ all-kept old new all k h = record {
 
 -- another in the place of one of the living
 
-same-row : (index : IndexState) (one other : Row) → other.number ≡ one.number → other.ready ≡ one.ready → IsIndexed index one → IsIndexed index other
+same-row : (index : IndexState) (one other : Row) → other.number ≡ one.number → other.ready ≡ one.ready → IsMarked index one → IsMarked index other
 same-row index one other number ready h = record {
   sent = subst (λ (rs : List Ready). All (λ (mark : Mark). sends index mark other.number ≡ true) (sent_marks rs)) (sym ready)
       (subst (λ n. All (λ (mark : Mark). sends index mark n ≡ true) (sent_marks one.ready)) (sym number) h.sent);
-  received = subst (λ (rs : List Ready). All (λ (mark : Mark). receives index mark other.number ≡ true) (received_marks rs)) (sym ready)
-      (subst (λ n. All (λ (mark : Mark). receives index mark n ≡ true) (received_marks one.ready)) (sym number) h.received);
-  calm = λ e. ap are_calm ready ∙ h.calm (ap (is_awake index) (sym number) ∙ e);
+  received = subst (λ (rs : List Ready). All (λ (mark : Mark). receives index mark other.number ≡ true) (found_marks rs)) (sym ready)
+      (subst (λ n. All (λ (mark : Mark). receives index mark n ≡ true) (found_marks one.ready)) (sym number) h.received);
 }
 
 -- with the same marks, and fresh only where that one was, with the same that it is ready for
@@ -187,45 +183,47 @@ bare-right index living h = same-right index living (bare living) refl refl (λ 
 pub filled-right : {W : Type 0} (index : IndexState) (living : Living W) → IsRightFor index (bare living) → IsRightFor index living
 filled-right index living h = same-right index (bare living) living refl refl (λ e. (e, refl)) h
 
--- those behind one, where the index keeps what it has of all but this
-right-above : {W : Type 0} (old new : IndexState) (number below : ℕ) (all : List (Living W)) → number ≤ below → ascend below (rows_of all) ≡ true → ((other : ℕ) → other ≢ number → KeepsOf old new other) → All (IsRightFor old) all → All (IsRightFor new) all
-right-above old new number below [] le order k h = All-nil (IsRightFor new)
-right-above old new number below (living ∷ all) le order k h =
-    let t = ascend-first below (row_of living) (rows_of all) order in
-    let above : below < living.number = t.0 in
-    All-cons (IsRightFor new) living all (kept-right old new living (k living.number (λ e. omega arith)) (All-head (IsRightFor old) living all h))
-    (right-above old new number living.number all (omega arith) t.1 k (All-tail (IsRightFor old) living all h))
+-- what holds of one of the living by what an index keeps of it
+module _ {W : Type 0} (P : IndexState → Living W → Type 0) (kept : (old new : IndexState) (living : Living W) → KeepsOf old new living.number → P old living → P new living) where
+  -- those behind one, where the index keeps what it has of all but this
+  above : (old new : IndexState) (number below : ℕ) (all : List (Living W)) → number ≤ below → ascend below (rows_of all) ≡ true → ((other : ℕ) → other ≢ number → KeepsOf old new other) → All (P old) all → All (P new) all
+  above old new number below [] le order k h = All-nil (P new)
+  above old new number below (living ∷ all) le order k h =
+      let t = ascend-first below (row_of living) (rows_of all) order in
+      let larger : below < living.number = t.0 in
+      All-cons (P new) living all (kept old new living (k living.number (λ e. omega arith)) (All-head (P old) living all h))
+      (above old new number living.number all (omega arith) t.1 k (All-tail (P old) living all h))
 
-each-set : {W : Type 0} (old new : IndexState) (below : ℕ) (all : List (Living W)) (at : ℕ) (before after : Living W) → ascend below (rows_of all) ≡ true → slice_get all at ≡ Some before → ((other : ℕ) → other ≢ before.number → KeepsOf old new other) →
-    IsRightFor new after → All (IsRightFor old) all → All (IsRightFor new) (slice_set all at after)
-each-set old new below [] at before after order here k it h = absurd (none-some before here)
-each-set old new below (living ∷ all) zero before after order here k it h =
-    let t = ascend-first below (row_of living) (rows_of all) order in
-    let number : before.number ≡ living.number = ap (λ (l : Living _). l.number) (sym (same_Some living before here)) in
-    All-cons (IsRightFor new) after all it (right-above old new before.number living.number all (omega arith) t.1 k (All-tail (IsRightFor old) living all h))
-each-set old new below (living ∷ all) (suc at) before after order here k it h =
-    let t = ascend-first below (row_of living) (rows_of all) order in
-    let less : living.number < before.number = above-there living.number all at before t.1 here in
-    All-cons (IsRightFor new) living (slice_set all at after) (kept-right old new living (k living.number (λ e. omega arith)) (All-head (IsRightFor old) living all h))
-    (each-set old new living.number all at before after t.1 here k it (All-tail (IsRightFor old) living all h))
+  pub each-set : (old new : IndexState) (below : ℕ) (all : List (Living W)) (at : ℕ) (before after : Living W) → ascend below (rows_of all) ≡ true → slice_get all at ≡ Some before → ((other : ℕ) → other ≢ before.number → KeepsOf old new other) →
+      P new after → All (P old) all → All (P new) (slice_set all at after)
+  each-set old new below [] at before after order here k it h = absurd (none-some before here)
+  each-set old new below (living ∷ all) zero before after order here k it h =
+      let t = ascend-first below (row_of living) (rows_of all) order in
+      let number : before.number ≡ living.number = ap (λ (l : Living _). l.number) (sym (same_Some living before here)) in
+      All-cons (P new) after all it (above old new before.number living.number all (omega arith) t.1 k (All-tail (P old) living all h))
+  each-set old new below (living ∷ all) (suc at) before after order here k it h =
+      let t = ascend-first below (row_of living) (rows_of all) order in
+      let less : living.number < before.number = above-there living.number all at before t.1 here in
+      All-cons (P new) living (slice_set all at after) (kept old new living (k living.number (λ e. omega arith)) (All-head (P old) living all h))
+      (each-set old new living.number all at before after t.1 here k it (All-tail (P old) living all h))
 
-each-removed : {W : Type 0} (old new : IndexState) (below : ℕ) (all : List (Living W)) (at : ℕ) (before : Living W) → ascend below (rows_of all) ≡ true → slice_get all at ≡ Some before → ((other : ℕ) → other ≢ before.number → KeepsOf old new other) →
-    All (IsRightFor old) all → All (IsRightFor new) (remove all at)
-each-removed old new below [] at before order here k h = absurd (none-some before here)
-each-removed old new below (living ∷ all) zero before order here k h =
-    let t = ascend-first below (row_of living) (rows_of all) order in
-    let number : before.number ≡ living.number = ap (λ (l : Living _). l.number) (sym (same_Some living before here)) in
-    right-above old new before.number living.number all (omega arith) t.1 k (All-tail (IsRightFor old) living all h)
-each-removed old new below (living ∷ all) (suc at) before order here k h =
-    let t = ascend-first below (row_of living) (rows_of all) order in
-    let less : living.number < before.number = above-there living.number all at before t.1 here in
-    All-cons (IsRightFor new) living (remove all at) (kept-right old new living (k living.number (λ e. omega arith)) (All-head (IsRightFor old) living all h))
-    (each-removed old new living.number all at before t.1 here k (All-tail (IsRightFor old) living all h))
+  pub each-removed : (old new : IndexState) (below : ℕ) (all : List (Living W)) (at : ℕ) (before : Living W) → ascend below (rows_of all) ≡ true → slice_get all at ≡ Some before → ((other : ℕ) → other ≢ before.number → KeepsOf old new other) →
+      All (P old) all → All (P new) (remove all at)
+  each-removed old new below [] at before order here k h = absurd (none-some before here)
+  each-removed old new below (living ∷ all) zero before order here k h =
+      let t = ascend-first below (row_of living) (rows_of all) order in
+      let number : before.number ≡ living.number = ap (λ (l : Living _). l.number) (sym (same_Some living before here)) in
+      above old new before.number living.number all (omega arith) t.1 k (All-tail (P old) living all h)
+  each-removed old new below (living ∷ all) (suc at) before order here k h =
+      let t = ascend-first below (row_of living) (rows_of all) order in
+      let less : living.number < before.number = above-there living.number all at before t.1 here in
+      All-cons (P new) living (remove all at) (kept old new living (k living.number (λ e. omega arith)) (All-head (P old) living all h))
+      (each-removed old new living.number all at before t.1 here k (All-tail (P old) living all h))
 
 pub right-set : {W : Type 0} (old new : IndexState) (all set : List (Living W)) (at : ℕ) (before after : Living W) → set ≡ slice_set all at after → ascend 0 (rows_of all) ≡ true → slice_get all at ≡ Some before → after.number ≡ before.number →
     ((other : ℕ) → other ≢ before.number → KeepsOf old new other) → IsRightFor new after → IsRightForAll old all → IsRightForAll new set
 right-set old new all set at before after e order here number k it h = record {
-  each = subst (All (IsRightFor new)) (sym e) (each-set old new 0 all at before after order here k it h.each);
+  each = subst (All (IsRightFor new)) (sym e) (each-set IsRightFor kept-right old new 0 all at before after order here k it h.each);
   others = λ other absent.
       let gone : is_alive other all ≡ false = sym (alive-set other all at before after here number) ∙ ap (is_alive other) (sym e) ∙ absent in
       kept-nothing old new other (k other (λ same. false≢true (sym gone ∙ ap (λ n. is_alive n all) same ∙ alive-here all at before here))) (h.others other gone);
@@ -242,7 +240,7 @@ others-removed old new all at before other false differ here cleared h absent =
 pub right-removed : {W : Type 0} (old new : IndexState) (all left : List (Living W)) (at : ℕ) (before : Living W) → left ≡ remove all at → ascend 0 (rows_of all) ≡ true → slice_get all at ≡ Some before →
     IsCleared old new before.number → IsRightForAll old all → IsRightForAll new left
 right-removed old new all left at before e order here cleared h = record {
-  each = subst (All (IsRightFor new)) (sym e) (each-removed old new 0 all at before order here (keeps-cleared old new before.number cleared) h.each);
+  each = subst (All (IsRightFor new)) (sym e) (each-removed IsRightFor kept-right old new 0 all at before order here (keeps-cleared old new before.number cleared) h.each);
   others = λ other absent. others-removed old new all at before other (before.number == other) refl here cleared h.others (ap (is_alive other) (sym e) ∙ absent);
 }
 
@@ -290,52 +288,59 @@ roomier old new numbers at within same here h room =
 pub room-all : (index : IndexState) (numbers : List ℕ) (at : ℕ) → length numbers ≤ at → All (HasRoom index) (take at numbers) → All (HasRoom index) numbers
 room-all index numbers at past h = All-same (HasRoom index) numbers (take at numbers) (sym (take_all at numbers past)) h
 
--- what a search wants of the index
-
-each-row : {W : Type 0} (index : IndexState) (all : List (Living W)) → All (IsRightFor index) all → AreFresh all → All (IsIndexed index) (rows_of all)
-each-row index [] h fresh = All-nil (IsIndexed index)
-each-row index (living ∷ all) h fresh =
-    All-cons (IsIndexed index) (row_of living) (rows_of all)
-    ((All-head (IsRightFor index) living all h).fresh (All-head (λ living. living.fresh ≡ true) living all fresh))
-    (each-row index all (All-tail (IsRightFor index) living all h) (All-tail (λ living. living.fresh ≡ true) living all fresh))
-
-pub right-rows : {W : Type 0} (index : IndexState) (all seen : List (Living W)) → seen ≡ all → IsRightForAll index all → AreFresh all → IsIndexFor index (rows_of seen)
-right-rows index all seen e h fresh = subst (λ xs. IsIndexFor index (rows_of xs)) (sym e) (record { each = each-row index all h.each fresh })
-
 -- the marks of one action more
 
 sent-append : (actions : List Ready) (ready : Ready) → sent_marks (actions ++ ready ∷ []) ≡ sent_marks actions ++ sent_by ready.action
 sent-append [] ready = append-nil (sent_by ready.action)
 sent-append (first ∷ actions) ready = ap (λ ms. sent_by first.action ++ ms) (sent-append actions ready) ∙ sym (append_assoc (sent_by first.action) (sent_marks actions) (sent_by ready.action))
 
-received-append : (actions : List Ready) (ready : Ready) → received_marks (actions ++ ready ∷ []) ≡ received_marks actions ++ received_by ready.action
-received-append [] ready = append-nil (received_by ready.action)
-received-append (first ∷ actions) ready = ap (λ ms. received_by first.action ++ ms) (received-append actions ready) ∙ sym (append_assoc (received_by first.action) (received_marks actions) (received_by ready.action))
+received-append : (actions : List Ready) (ready : Ready) → found_marks (actions ++ ready ∷ []) ≡ found_marks actions ++ found_by ready.action
+received-append [] ready = append-nil (found_by ready.action)
+received-append (first ∷ actions) ready = ap (λ ms. found_by first.action ++ ms) (received-append actions ready) ∙ sym (append_assoc (found_by first.action) (found_marks actions) (found_by ready.action))
 
 pub sent-more : (actions : List Ready) (at : ℕ) (ready : Ready) (marks pushed : List Mark) → at < length actions → ready ≡ get_or actions at ready → pushed ≡ marks ++ sent_by ready.action → marks ≡ sent_marks (take at actions) → pushed ≡ sent_marks (take (at + 1) actions)
 sent-more actions at ready marks pushed within is e h =
     e ∙ ap (λ ms. ms ++ sent_by ready.action) h ∙ sym (sent-append (take at actions) ready) ∙ ap (λ r. sent_marks (take at actions ++ r ∷ [])) is ∙ ap sent_marks (sym (take_more actions at ready within))
 
-pub received-more : (actions : List Ready) (at : ℕ) (ready : Ready) (marks pushed : List Mark) → at < length actions → ready ≡ get_or actions at ready → pushed ≡ marks ++ received_by ready.action → marks ≡ received_marks (take at actions) → pushed ≡ received_marks (take (at + 1) actions)
+pub received-more : (actions : List Ready) (at : ℕ) (ready : Ready) (marks pushed : List Mark) → at < length actions → ready ≡ get_or actions at ready → pushed ≡ marks ++ found_by ready.action → marks ≡ found_marks (take at actions) → pushed ≡ found_marks (take (at + 1) actions)
 received-more actions at ready marks pushed within is e h =
-    e ∙ ap (λ ms. ms ++ received_by ready.action) h ∙ sym (received-append (take at actions) ready) ∙ ap (λ r. received_marks (take at actions ++ r ∷ [])) is ∙ ap received_marks (sym (take_more actions at ready within))
+    e ∙ ap (λ ms. ms ++ found_by ready.action) h ∙ sym (received-append (take at actions) ready) ∙ ap (λ r. found_marks (take at actions ++ r ∷ [])) is ∙ ap found_marks (sym (take_more actions at ready within))
 
 -- one that was looked at
 
-calm-by : (index : IndexState) (number : ℕ) (b : Bool) → is_awake index number ≡ not b → is_awake index number ≡ false → b ≡ true
-calm-by index number true turned asleep = refl
-calm-by index number false turned asleep = absurd (false≢true (sym asleep ∙ turned))
-
--- the index has the marks of what it is ready for now, and it is awake unless that is calm
-pub looked-right : {W : Type 0} (old set new : IndexState) (living : Living W) (looked marks : Marks) (calm : Bool) → IsRightFor old living → IsSet old set living.number looked.sends.items looked.receives.items → IsTurned set new living.number (not calm) →
-    looked.sends.items ≡ sent_marks living.ready.items → looked.receives.items ≡ received_marks living.ready.items → calm ≡ are_calm living.ready.items → marks ≡ looked → IsRightFor new (record living { marks = marks; fresh = true })
-looked-right old set new living looked marks calm h is turned sent received rests same =
+-- the index has the marks of what it is ready for now
+pub looked-right : {W : Type 0} (old set new : IndexState) (living : Living W) (looked marks : Marks) (awake : Bool) → IsRightFor old living → IsSet old set living.number looked.sends.items looked.receives.items → IsTurned set new living.number awake →
+    looked.sends.items ≡ sent_marks living.ready.items → looked.receives.items ≡ found_marks living.ready.items → marks ≡ looked → IsRightFor new (record living { marks = marks; fresh = true })
+looked-right old set new living looked marks awake h is turned sent received same =
     let sends_it : (mark : Mark) → sends new mark living.number ≡ has_mark looked.sends.items mark = λ mark. turned.same_sends mark living.number ∙ is.own_sends mark in
     let receives_it : (mark : Mark) → receives new mark living.number ≡ has_mark looked.receives.items mark = λ mark. turned.same_receives mark living.number ∙ is.own_receives mark in
     record {
       sent = λ mark. sends_it mark ∙ ap (λ (ms : Marks). has_mark ms.sends.items mark) (sym same);
       received = λ mark. receives_it mark ∙ ap (λ (ms : Marks). has_mark ms.receives.items mark) (sym same);
       room = turned.same_room living.number (is.same_room living.number h.room);
-      fresh = λ e. indexed-by new (row_of living) (λ mark. sends_it mark ∙ ap (λ ms. has_mark ms mark) sent) (λ mark. receives_it mark ∙ ap (λ ms. has_mark ms mark) received)
-          (λ asleep. sym rests ∙ calm-by new living.number calm turned.own_awake asleep);
+      fresh = λ e. indexed-by new (row_of living) (λ mark. sends_it mark ∙ ap (λ ms. has_mark ms mark) sent) (λ mark. receives_it mark ∙ ap (λ ms. has_mark ms mark) received);
     }
+
+-- one that wakes or falls asleep
+
+turned-row : (old new : IndexState) (number : ℕ) (awake : Bool) (row : Row) → IsTurned old new number awake → IsMarked old row → IsMarked new row
+turned-row old new number awake row turned h = record {
+  sent = All-weaker (λ (mark : Mark). sends old mark row.number ≡ true) (λ (mark : Mark). sends new mark row.number ≡ true) (λ mark e. turned.same_sends mark row.number ∙ e) (sent_marks row.ready) h.sent;
+  received = All-weaker (λ (mark : Mark). receives old mark row.number ≡ true) (λ (mark : Mark). receives new mark row.number ≡ true) (λ mark e. turned.same_receives mark row.number ∙ e) (found_marks row.ready) h.received;
+}
+
+turned-right : {W : Type 0} (old new : IndexState) (number : ℕ) (awake : Bool) (living : Living W) → IsTurned old new number awake → IsRightFor old living → IsRightFor new living
+turned-right old new number awake living turned h = record {
+  sent = λ mark. turned.same_sends mark living.number ∙ h.sent mark;
+  received = λ mark. turned.same_receives mark living.number ∙ h.received mark;
+  room = turned.same_room living.number h.room;
+  fresh = λ e. turned-row old new number awake (row_of living) turned (h.fresh e);
+}
+
+pub all-turned : {W : Type 0} (old new : IndexState) (awake : Bool) (all : List (Living W)) (at : ℕ) (living : Living W) → slice_get all at ≡ Some living → IsTurned old new living.number awake → IsRightForAll old all → IsRightForAll new all
+all-turned old new awake all at living here turned h = record {
+  each = All-weaker (IsRightFor old) (IsRightFor new) (λ l it. turned-right old new living.number awake l turned it) all h.each;
+  others = λ other absent. kept-nothing old new other
+      (keeps-turned old new living.number awake turned other (λ same. false≢true (sym absent ∙ ap (λ n. is_alive n all) same ∙ alive-here all at living here)))
+      (h.others other absent);
+}

@@ -10,6 +10,7 @@ pub mod NumberLemmas
 pub mod OpenLemmas
 pub mod PlainLemmas
 pub mod ReadLemmas
+pub mod RestLemmas
 pub mod RowsLemmas
 pub mod SetLemmas
 pub mod TickLemmas

@@ -1,22 +1,23 @@
 -- One of the living is replaced by another that stands for the same process.
-use Rattle.std.proofs.Common.{◌≡◌, ◌+◌, drop, drop-cons, add-one, ◌<◌, ◌≢◌, ◌&&◌, ℕ, zero, suc, List, [], ◌∷◌, length, map, refl, ap, sym, subst, ◌∙◌, Some, nat_lt, slice_get, slice_set, get_or, Contains, false, inl, inr}
+use Rattle.std.proofs.Common.{◌≡◌, ◌+◌, drop, drop-cons, add-one, ◌<◌, ◌≢◌, ◌&&◌, ℕ, zero, suc, List, [], ◌∷◌, length, map, refl, ap, sym, subst, ◌∙◌, Some, nat_lt, slice_get, slice_set, get_or, Contains, false, inl, inr, Bool}
+use Rattle.tb_core.proofs.RestLemmas.{rested-kept, rested-one}
 use Rattle.std.specs.Global.{Vec}
 use Rattle.std.specs.List.{All}
 use Rattle.std.proofs.Math.Seq.{map-set_same}
 use Rattle.std.proofs.lemmas.Option.{get_or_from_slice_get, same_Some}
-use Rattle.std.proofs.lemmas.List.Elements.{All-set}
+use Rattle.std.proofs.lemmas.List.Elements.{All-set, All-weaker}
 use Rattle.tb_algebra.specs.WalkerViews.{View}
-use Rattle.tb_index.specs.Indexes.{IndexState}
+use Rattle.tb_index.specs.Indexes.{IndexState, IsTurned}
 use Rattle.tb_index.specs.declared.mark.Marks.{Marks as KeptMarks}
 use Rattle.tb_bus.specs.Buses.{Bus, Proc}
 use Rattle.tb_bus.specs.Helpers.Candidates.{ascend, rows_of}
 use Rattle.tb_bus.specs.declared.living.Living.{Living}
-use Rattle.tb_core.specs.Helpers.Indexes.{IsRightForAll, IsRightFor, KeepsOf}
+use Rattle.tb_core.specs.Helpers.Indexes.{IsRightForAll, IsRightFor, KeepsOf, IsRested}
 use Rattle.tb_core.specs.Helpers.Lives.{IsBelow, IsFreshFor, IsLive, IsLiveOn, proc_by, proc_in}
-use Rattle.tb_core.specs.Helpers.LiveBuses.{IsFreshOr, IsSound, StandsAs, bus_of, procs_in}
+use Rattle.tb_core.specs.Helpers.LiveBuses.{IsFreshOr, IsSound, StandsAs, bus_of, procs_in, AreSettled, IsKept, settings_in}
 use Rattle.tb_core.specs.declared.bus.LiveBus.{LiveBus}
 use Rattle.tb_core.proofs.ReadLemmas.{LiveAt, all-there}
-use Rattle.tb_core.proofs.IndexLemmas.{all-kept, right-set}
+use Rattle.tb_core.proofs.IndexLemmas.{all-kept, right-set, all-turned, each-set, keeps-turned}
 
 -- what was set at an index stands there
 pub set-there : {A : Type 0} (xs : List A) (at : ℕ) (x y : A) → slice_get xs at ≡ Some x → slice_get (slice_set xs at y) at ≡ Some y
@@ -70,8 +71,8 @@ same-procs view bus at living one it h =
     (same-proc view bus.plans it.plan living one it.planned h.proc ∙ ap (proc_in view bus.plans) (sym (get_or_from_slice_get bus.living.items at living living it.here)))
 
 sound-set : {W P T : Type 0} (view : View P W T) (bus : LiveBus W P T) (all : Vec (Living W)) (index : IndexState) (looked : KeptMarks) (at : ℕ) (living one : Living W) (it : LiveAt view bus at living) → IsSound view bus → all.items ≡ slice_set bus.living.items at one →
-    IsInPlace view bus it.plan living one → IsRightForAll index all.items → IsSound view (record bus { living = all; index = index; looked = looked })
-sound-set view bus all index looked at living one it sound e h right = record {
+    IsInPlace view bus it.plan living one → IsRightForAll index all.items → All (IsRested (settings_in bus) bus.stirred index) all.items → IsSound view (record bus { living = all; index = index; looked = looked })
+sound-set view bus all index looked at living one it sound e h right rested = record {
   in_order = ap (λ xs. ascend 0 (rows_of xs)) e ∙ ascend-set 0 bus.living.items at living one it.here (ap (λ (p : Proc). p.number) h.proc) ∙ sound.in_order;
   below = subst (All (IsBelow bus.marks.next_number)) (sym e)
       (All-set (IsBelow bus.marks.next_number) bus.living.items at one
@@ -83,17 +84,21 @@ sound-set view bus all index looked at living one it sound e h right = record {
       (All-set (IsFreshOr bus.stale.items) bus.living.items at one (h.fresh young) (sound.fresh young));
   lanes = sound.lanes;
   indexed = right;
+  rested = rested;
 }
 
 pub stands-set : {W P T : Type 0} (view : View P W T) (bus : LiveBus W P T) (all : Vec (Living W)) (index : IndexState) (looked : KeptMarks) (at : ℕ) (living one : Living W) (it : LiveAt view bus at living) → IsSound view bus → all.items ≡ slice_set bus.living.items at one →
-    IsInPlace view bus it.plan living one → ((other : ℕ) → other ≢ living.number → KeepsOf bus.index index other) → IsRightFor index one → StandsAs view bus (record bus { living = all; index = index; looked = looked })
-stands-set view bus all index looked at living one it sound e h kept right = record {
+    IsInPlace view bus it.plan living one → ((other : ℕ) → other ≢ living.number → KeepsOf bus.index index other) → IsRightFor index one → IsRested (settings_in bus) bus.stirred index one → StandsAs view bus (record bus { living = all; index = index; looked = looked })
+stands-set view bus all index looked at living one it sound e h kept right rested = record {
   sound = sound-set view bus all index looked at living one it sound e h
-      (right-set bus.index index bus.living.items all.items at living one e sound.in_order it.here (ap (λ (p : Proc). p.number) h.proc) kept right sound.indexed);
+      (right-set bus.index index bus.living.items all.items at living one e sound.in_order it.here (ap (λ (p : Proc). p.number) h.proc) kept right sound.indexed)
+      (subst (All (IsRested (settings_in bus) bus.stirred index)) (sym e)
+      (each-set (IsRested (settings_in bus) bus.stirred) (rested-kept (settings_in bus) bus.stirred) bus.index index 0 bus.living.items at living one sound.in_order it.here kept rested sound.rested));
   bus = ap (λ (procs : List Proc). let b : Bus = record (bus_of view bus) { procs = procs } in b) (ap (map (proc_in view bus.plans)) e ∙ same-procs view bus at living one it h);
   origin = refl;
   plans = refl;
   marks = refl;
+  calm = λ e. e;
 }
 
 -- with the same living, the same numbers named and the same index it stands for the same bus, wherever they are kept
@@ -108,16 +113,88 @@ stands-moved view bus all stale index sound e f kept = record {
     fresh = λ young. subst (λ (numbers : List ℕ). All (IsFreshOr numbers) all.items) (sym f) (subst (λ xs. All (IsFreshOr bus.stale.items) xs) (sym e) (sound.fresh young));
     lanes = sound.lanes;
     indexed = subst (λ xs. IsRightForAll index xs) (sym e) (all-kept bus.index index bus.living.items kept sound.indexed);
+    rested = subst (All (IsRested (settings_in bus) bus.stirred index)) (sym e)
+        (All-weaker (IsRested (settings_in bus) bus.stirred bus.index) (IsRested (settings_in bus) bus.stirred index)
+        (λ living it. rested-kept (settings_in bus) bus.stirred bus.index index living (kept living.number) it) bus.living.items sound.rested);
   };
   bus = ap (λ (procs : List Proc). let b : Bus = record (bus_of view bus) { procs = procs } in b) (ap (map (proc_in view bus.plans)) e);
   origin = refl;
   plans = refl;
   marks = refl;
+  calm = λ e. e;
+}
+
+-- with one of them woken or asleep too
+pub stands-turned : {W P T : Type 0} (view : View P W T) (bus : LiveBus W P T) (index : IndexState) (roused : Vec ℕ) (at : ℕ) (living : Living W) (awake : Bool) → IsSound view bus → slice_get bus.living.items at ≡ Some living → IsTurned bus.index index living.number awake →
+    IsRested (settings_in bus) bus.stirred index living → StandsAs view bus (record bus { index = index; roused = roused })
+stands-turned view bus index roused at living awake sound here turned rested = record {
+  sound = record {
+    in_order = sound.in_order;
+    below = sound.below;
+    planned = sound.planned;
+    live = sound.live;
+    fresh = sound.fresh;
+    lanes = sound.lanes;
+    indexed = all-turned bus.index index awake bus.living.items at living here turned sound.indexed;
+    rested = rested-one bus.living.items sound.in_order at living here (settings_in bus) bus.stirred bus.index index (keeps-turned bus.index index living.number awake turned) rested sound.rested;
+  };
+  bus = refl;
+  origin = refl;
+  plans = refl;
+  marks = refl;
+  calm = λ e. e;
+}
+
+-- who stands at an index is the same where others were woken, and the same numbers are named
+pub roused-kept : {W P T : Type 0} (bus roused : LiveBus W P T) (old : List (Living W)) (at : ℕ) → roused ≡ record bus { index = roused.index; roused = roused.roused } → IsKept old bus.living.items at → IsKept old roused.living.items at
+roused-kept bus roused old at e h = subst (λ (b : LiveBus _ _ _). IsKept old b.living.items at) (sym e) h
+
+pub roused-named : {W P T : Type 0} (bus roused : LiveBus W P T) (number : ℕ) → roused ≡ record bus { index = roused.index; roused = roused.roused } → Contains bus.stale.items number → Contains roused.stale.items number
+roused-named bus roused number e h = subst (λ (b : LiveBus _ _ _). Contains b.stale.items number) (sym e) h
+
+-- whoever is to sleep again is named elsewhere
+pub stands-roused : {W P T : Type 0} (view : View P W T) (old bus : LiveBus W P T) (roused : Vec ℕ) → StandsAs view old bus → StandsAs view old (record bus { roused = roused })
+stands-roused view old bus roused same = record {
+  sound = record {
+    in_order = same.sound.in_order;
+    below = same.sound.below;
+    planned = same.sound.planned;
+    live = same.sound.live;
+    fresh = same.sound.fresh;
+    lanes = same.sound.lanes;
+    indexed = same.sound.indexed;
+    rested = same.sound.rested;
+  };
+  bus = same.bus;
+  origin = same.origin;
+  plans = same.plans;
+  marks = same.marks;
+  calm = same.calm;
+}
+
+-- and whoever sleeps rests by the tools as they are now
+pub stands-settled : {W P T : Type 0} (view : View P W T) (old bus : LiveBus W P T) → StandsAs view old bus → AreSettled bus → StandsAs view old (record bus { stirred = false })
+stands-settled view old bus same settled = record {
+  sound = record {
+    in_order = same.sound.in_order;
+    below = same.sound.below;
+    planned = same.sound.planned;
+    live = same.sound.live;
+    fresh = same.sound.fresh;
+    lanes = same.sound.lanes;
+    indexed = same.sound.indexed;
+    rested = settled;
+  };
+  bus = same.bus;
+  origin = same.origin;
+  plans = same.plans;
+  marks = same.marks;
+  calm = λ e. refl;
 }
 
 -- the same bus as one that stands for the same bus
 pub stands-then : {W P T : Type 0} (view : View P W T) (old bus new : LiveBus W P T) → StandsAs view old bus → StandsAs view bus new → StandsAs view old new
-stands-then view old bus new first then = record { sound = then.sound; bus = then.bus ∙ first.bus; origin = then.origin ∙ first.origin; plans = then.plans ∙ first.plans; marks = then.marks ∙ first.marks }
+stands-then view old bus new first then = record { sound = then.sound; bus = then.bus ∙ first.bus; origin = then.origin ∙ first.origin; plans = then.plans ∙ first.plans; marks = then.marks ∙ first.marks; calm = λ e. then.calm (first.calm e) }
 
 -- what was named from an index on is the number there, or named behind it
 pub named-from : {W : Type 0} (stale : List ℕ) (index number : ℕ) (all : List (Living W)) → index < length stale → number ≡ get_or stale index number → All (IsFreshOr (drop index stale)) all → All (IsFreshOr (number ∷ drop (index + 1) stale)) all

@@ -1,5 +1,8 @@
 -- A tick for the living, one after another, and the bus for which they stand then.
 use Rattle.std.proofs.Common.{◌≡◌, ◌<◌, ◌+◌, ◌⊎◌, ◌&&◌, ◌||◌, ◌==◌, ℕ, zero, suc, List, [], ◌∷◌, ◌++◌, append-nil, length, map, drop, take, get_or, refl, ap, sym, subst, ◌∙◌, arith, inl, inr, Option, Some, None, Bool, true, false, not, nat_lt, option_map, slice_get, slice_set}
+use Rattle.tb_bus.specs.Exchanges.{Setting}
+use Rattle.tb_notes.specs.Inboxes.{Contents}
+use Rattle.tb_core.proofs.RestLemmas.{rested-same}
 use Rattle.std.specs.Bool.{⊤}
 use Rattle.std.specs.Global.{Vec}
 use Rattle.std.specs.List.{All}
@@ -26,9 +29,9 @@ use Rattle.tb_bus.specs.Traces.{aged_proc}
 use Rattle.tb_bus.specs.declared.action.Action.{Action}
 use Rattle.tb_bus.specs.declared.living.Living.{Living}
 use Rattle.tb_bus.specs.declared.living.Ready.{Ready}
-use Rattle.tb_core.specs.Helpers.Indexes.{IsRightFor, is_alive}
+use Rattle.tb_core.specs.Helpers.Indexes.{IsRightFor, is_alive, IsRested}
 use Rattle.tb_core.specs.Helpers.Lives.{IsBelow, IsFreshFor, IsLive, IsLiveOn, IsTimeless, proc_by, proc_in, proc_of, procs_of, term_in}
-use Rattle.tb_core.specs.Helpers.LiveBuses.{AreFresh, IsFreshOr, IsSound, StandsAs, bus_of, procs_in}
+use Rattle.tb_core.specs.Helpers.LiveBuses.{AreFresh, IsFreshOr, IsSound, StandsAs, bus_of, procs_in, settings_in}
 use Rattle.tb_core.specs.Helpers.Ticking.{AreTicked, CanTick, HasTicked, IsTicked}
 use Rattle.tb_core.specs.declared.bus.LiveBus.{LiveBus}
 use Rattle.tb_core.proofs.ReadLemmas.{all-there}
@@ -211,6 +214,10 @@ ticked-right : {W P T : Type 0} (view : View P W T) (index : IndexState) (plan :
 ticked-right view index plan old new t h =
     same-right index old new t.number t.marks (λ e. ((and_parts old.fresh (not old.timed) (sym t.fresh ∙ e)).0, t.ready)) h
 
+ticked-rested : {W P T : Type 0} (view : View P W T) (settings : ℕ → Setting) (stirred : Bool) (index : IndexState) (plan : P) (old new : Living W) → HasTicked view plan old new → IsRested settings stirred index old → IsRested settings stirred index new
+ticked-rested view settings stirred index plan old new t h =
+    rested-same settings stirred index old new t.number t.body (λ e. ((and_parts old.fresh (not old.timed) (sym t.fresh ∙ e)).0, t.ready)) (ap (λ (i : Contents). i.held.notes) t.inbox) h
+
 -- a bus a tick later
 pub sound-ticked : {W P T : Type 0} (view : View P W T) (bus : LiveBus W P T) (living : Vec (Living W)) → IsSound view bus → AreTicked view bus.plans bus.living.items living.items → IsSound view (record bus { living = living; ticks = bus.ticks + 1; aged = true })
 sound-ticked view bus living sound h = record {
@@ -225,6 +232,8 @@ sound-ticked view bus living sound h = record {
     each = ticked-by view bus.plans (IsRightFor bus.index) (IsRightFor bus.index) bus.living.items living.items (λ old new t. ticked-right view bus.index t.0 old new t.2) h sound.indexed.each;
     others = λ number absent. sound.indexed.others number (ticked-alive view bus.plans number bus.living.items living.items h ∙ absent);
   };
+  rested = ticked-by view bus.plans (IsRested (settings_in bus) bus.stirred bus.index) (IsRested (settings_in bus) bus.stirred bus.index) bus.living.items living.items
+      (λ old new t. ticked-rested view (settings_in bus) bus.stirred bus.index t.0 old new t.2) h sound.rested;
 }
 
 pub bus-ticked : {W P T : Type 0} (view : View P W T) (bus : LiveBus W P T) (living : Vec (Living W)) → IsSound view bus → AreTicked view bus.plans bus.living.items living.items →
@@ -263,9 +272,11 @@ none-stale view old bus stale same fresh = record {
     fresh = λ young. All-weaker (λ living. living.fresh ≡ true) (IsFreshOr stale.items) (λ living e. inl e) bus.living.items fresh;
     lanes = same.sound.lanes;
     indexed = same.sound.indexed;
+    rested = same.sound.rested;
   };
   bus = same.bus;
   origin = same.origin;
   plans = same.plans;
   marks = same.marks;
+  calm = same.calm;
 }

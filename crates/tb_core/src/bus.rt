@@ -8,7 +8,7 @@ use crate::acting::{
     Done, NOWHERE, created, end_label, finish_reason, halt_reason, kind_alone, printed, shut_down,
 };
 use crate::inboxes::{hand_out, subscribe_at, take_note_at, unsubscribe_at};
-use crate::indexing::{index_of, no_marks, update};
+use crate::indexing::{TOOL_MARK, index_of, no_marks, turn, update};
 use crate::looking::{go_on, look, point_of};
 use crate::opening::{numbers_of, open_all, open_at, plan_all};
 use crate::speaking::{is_declared, seen_size, speak};
@@ -18,7 +18,7 @@ use std::mem::swap;
 use tb_algebra::Walker;
 use tb_bus::{
     Action, Candidate, Exchange, Living, Marks, Origin, OwnAction, Partner, Ready, Received,
-    first_candidate,
+    all_rest, first_candidate, place_of,
 };
 use tb_index::{Index, Marks as KeptMarks};
 use tb_log::{Input, Label, LabelKind, Place, Reply, ToolLine, Why, total_size};
@@ -48,6 +48,10 @@ pub struct LiveBus<W: Walker> {
     pub index: Index,
     /// Where the marks of a process are put together, before the index has them.
     pub looked: KeptMarks,
+    /// The numbers of those that were woken by a note, and may sleep again; some of these may be gone.
+    pub roused: Vec<u32>,
+    /// A lane has changed: who speaks with tools may sleep though a tool would answer.
+    pub stirred: bool,
 }
 
 /// What a process does, and where it stands.
@@ -74,9 +78,12 @@ impl<W: Walker> LiveBus<W> {
     ghost use Rattle.tb_bus.specs.Traces.{aged_proc, fed, took, taken_out};
     ghost use Rattle.tb_bus.specs.Helpers.Candidates.{first, row_at, rows_of};
     ghost use Rattle.tb_bus.specs.Helpers.Views.{ready_at, offer_of, proc_at, sent_in, IsCandidateIn};
+    ghost use Rattle.tb_index.specs.Indexes.{is_awake, is_receiver};
+    ghost use Rattle.tb_bus.specs.Helpers.Indexed.{IsNextPlace};
+    ghost use Rattle.tb_core.specs.Helpers.Indexes.{AreStillAwake, IsAwakeAt, tool_mark};
     ghost use Rattle.tb_core.specs.Cores.{takes_memory};
     ghost use Rattle.tb_core.specs.Helpers.Makings.{effect_by, IsPlainIn};
-    ghost use Rattle.tb_core.specs.Helpers.LiveBuses.{bus_of, procs_in, scene_in, move_in, AreFresh, IsFreshOr, IsSound, IsSetAt, StandsAs, Leaves, CanAdvance, IsAdvanced, AreAdvanced, IsKept, IsDone, IsChanged, HasGone, IsMade};
+    ghost use Rattle.tb_core.specs.Helpers.LiveBuses.{bus_of, procs_in, scene_in, move_in, AreFresh, AreSettled, IsFreshOr, IsSettledAt, IsSound, IsStaleAt, IsSetAt, StandsAs, Leaves, CanAdvance, IsAdvanced, AreAdvanced, IsKept, IsDone, IsChanged, HasGone, IsMade};
 
     /// The bus that a program opens with. Its processes are looked at later.
     pub fn open(alloc: Global, origin: Origin) -> Result<LiveBus<W>, NoMemory>
@@ -108,6 +115,8 @@ impl<W: Walker> LiveBus<W> {
             bench,
             index,
             looked: no_marks(alloc),
+            roused: Vec::new(alloc),
+            stirred: false,
         })
     }
 
@@ -127,7 +136,14 @@ impl<W: Walker> LiveBus<W> {
         let plan = &self.plans.as_slice()[living.body as usize];
         let body = &program.bodies.as_slice()[living.body as usize];
         look(alloc, plan, body, living, self.ticks)?;
-        update(&mut self.index, &mut self.looked, living)
+        update(
+            alloc,
+            program,
+            &self.bench,
+            &mut self.index,
+            &mut self.looked,
+            living,
+        )
     }
 
     /// Looks at the process with this number anew, where it is there and has to be.
@@ -170,8 +186,97 @@ impl<W: Walker> LiveBus<W> {
         Ok(())
     }
 
+    /// The process at an index sleeps where all that it is ready for rests, as its notes and the tools are now.
+    fn settle_at(&mut self, alloc: Global, at: usize) -> Result<(), NoMemory>
+        requires sound { IsSound W.view self.old }
+        requires within { at < length self.old.living.items }
+        ensures same { StandsAs W.view self.old self.new }
+        ensures alone { self.new ≡ record self.old { index = self.new.index } }
+        ensures settled { OnOk result (IsSettledAt self.old self.new at) }
+    {
+        let living = &self.living[at];
+        if !living.fresh {
+            return Ok(());
+        }
+        let rest = all_rest(alloc, &self.origin.program, &self.bench, living)?;
+        turn(&mut self.index, living.number, rest);
+        Ok(())
+    }
+
+    /// The one with this number sleeps or wakes, where it is there.
+    fn settle_number(&mut self, alloc: Global, number: u32) -> Result<(), NoMemory>
+        requires { IsSound W.view self.old }
+        ensures same { StandsAs W.view self.old self.new }
+        ensures alone { self.new ≡ record self.old { index = self.new.index } }
+    {
+        let at = self.living.partition_point(|living| living.number < number);
+        if at < self.living.len() {
+            self.settle_at(alloc, at)?;
+        }
+        Ok(())
+    }
+
+    /// So do those that were woken by notes.
+    fn settle_roused(&mut self, alloc: Global) -> Result<(), NoMemory>
+        requires { IsSound W.view self.old }
+        ensures same { StandsAs W.view self.old self.new }
+    {
+        for index in 0..self.roused.len() {
+            let number = self.roused[index];
+            self.settle_number(alloc, number)?;
+        }
+        self.roused.clear();
+        Ok(())
+    }
+
+    /// The next process, from one index on, that may speak with tools.
+    fn next_speaker(&self, from: usize) -> Option<usize>
+        requires sound { IsSound W.view self.now }
+        requires within { from < length self.now.living.items }
+        ensures { IsNextPlace (is_receiver self.now.index tool_mark) (rows_of self.now.living.items) from result }
+    {
+        let found = self
+            .index
+            .next_receiver(TOOL_MARK, self.living[from].number);
+        place_of(self.living.as_slice(), from, found)
+    }
+
+    /// So do those that may speak with tools.
+    fn settle_speakers(&mut self, alloc: Global) -> Result<(), NoMemory>
+        requires { IsSound W.view self.old }
+        ensures same { StandsAs W.view self.old self.new }
+        ensures settled { OnOk result (AreSettled self.new) }
+    {
+        let mut at = 0;
+        while at < self.living.len() {
+            match self.next_speaker(at) {
+                Some(place) => {
+                    self.settle_at(alloc, place)?;
+                    at = place + 1;
+                }
+                None => return Ok(()),
+            }
+        }
+        Ok(())
+    }
+
+    /// Whoever sleeps has nothing to begin alone from then on, with the notes and the tools that there are.
+    fn settle(&mut self, alloc: Global) -> Result<(), NoMemory>
+        requires { IsSound W.view self.old }
+        ensures same { StandsAs W.view self.old self.new }
+        ensures settled { OnOk result (self.new.stirred ≡ false) }
+    {
+        self.settle_roused(alloc)?;
+        if !self.stirred {
+            return Ok(());
+        }
+        self.settle_speakers(alloc)?;
+        self.stirred = false;
+        Ok(())
+    }
+
     /// Looks at all processes that have to be looked at.
-    pub fn freshen(&mut self, alloc: Global) -> Result<(), NoMemory>
+    fn look_anew(&mut self, alloc: Global) -> Result<(), NoMemory>
         requires { IsSound W.view self.old }
         ensures same { StandsAs W.view self.old self.new }
         ensures fresh { OnOk result (AreFresh self.new.living.items) }
@@ -186,10 +291,22 @@ impl<W: Walker> LiveBus<W> {
         Ok(())
     }
 
+    /// What each process is ready to do is known from then on, and whoever sleeps rests.
+    pub fn freshen(&mut self, alloc: Global) -> Result<(), NoMemory>
+        requires { IsSound W.view self.old }
+        ensures same { StandsAs W.view self.old self.new }
+        ensures fresh { OnOk result (AreFresh self.new.living.items) }
+        ensures settled { OnOk result (self.new.stirred ≡ false) }
+    {
+        self.settle(alloc)?;
+        self.look_anew(alloc)
+    }
+
     /// The first of all moves.
     pub fn first_candidate(&self, alloc: Global) -> Result<Option<Candidate>, NoMemory>
         requires sound { IsSound W.view self.now }
         requires fresh { AreFresh self.now.living.items }
+        requires settled { self.now.stirred ≡ false }
         ensures found { IfOk result (λ found. option_map (move_in W.view self.now) found ≡ first (moves (bus_of W.view self.now))) }
         ensures stands { IfOk result (λ found. IfSome found (IsCandidateIn (scene_in self.now))) }
     {
@@ -229,6 +346,7 @@ impl<W: Walker> LiveBus<W> {
         ensures kept { IsKept self.old.living.items self.new.living.items at }
         ensures others { (other : ℕ) → other ≢ at → slice_get self.new.living.items other ≡ slice_get self.old.living.items other }
         ensures long { length self.new.living.items ≡ length self.old.living.items }
+        ensures idle { IsStaleAt self.new.living.items at }
     {
         let living = &mut self.living[at];
         living.fresh = false;
@@ -435,6 +553,7 @@ impl<W: Walker> LiveBus<W> {
         ensures action { IfOk result (λ begun. begun.action ≡ (ready_at (rows_of self.old.living.items) at index).action) }
         ensures kept { IsKept self.old.living.items self.new.living.items at }
         ensures named { OnOk result (Contains self.new.stale.items (row_at (rows_of self.old.living.items) at).number) }
+        ensures idle { OnOk result (IsStaleAt self.new.living.items at) }
     {
         let from = self.place_at(at, index);
         self.stale.push(from.proc)?;
@@ -495,6 +614,35 @@ impl<W: Walker> LiveBus<W> {
         Ok(self.finish(at, taken, from, done))
     }
 
+    /// The process at an index is asked at the next step, and may sleep again after that.
+    fn rouse_at(&mut self, at: usize) -> Result<(), NoMemory>
+        requires sound { IsSound W.view self.old }
+        requires within { at < length self.old.living.items }
+        ensures same { StandsAs W.view self.old self.new }
+        ensures alone { self.new ≡ record self.old { index = self.new.index; roused = self.new.roused } }
+        ensures kept { AreStillAwake self.old.index self.new.index }
+        ensures awake { OnOk result (is_awake self.new.index (row_at (rows_of self.old.living.items) at).number ≡ true) }
+    {
+        let number = self.living[at].number;
+        self.roused.push(number)?;
+        self.index.wake(number);
+        Ok(())
+    }
+
+    /// So are those at these indices.
+    fn rouse(&mut self, indices: &[usize]) -> Result<(), NoMemory>
+        requires sound { IsSound W.view self.old }
+        requires within { All (λ at. at < length self.old.living.items) indices.now }
+        ensures same { StandsAs W.view self.old self.new }
+        ensures alone { self.new ≡ record self.old { index = self.new.index; roused = self.new.roused } }
+        ensures awake { OnOk result (All (IsAwakeAt self.new.index self.old.living.items) indices.now) }
+    {
+        for at in indices {
+            self.rouse_at(*at)?;
+        }
+        Ok(())
+    }
+
     /// A process sends a note to these, which want it.
     fn make_note(
         &mut self,
@@ -515,6 +663,7 @@ impl<W: Walker> LiveBus<W> {
         let Action::Notify(shown) = action else {
             unreachable!()
         };
+        self.rouse(indices.as_slice())?;
         hand_out(alloc, &mut self.living, indices.as_slice(), &shown)?;
         let done = Done {
             kind: LabelKind::SndNote,
@@ -579,6 +728,7 @@ impl<W: Walker> LiveBus<W> {
             does,
             exchange,
         )?;
+        self.stirred = true;
         self.bench.show_lanes();
         Ok(self.finish(at, taken, from, done))
     }
@@ -751,6 +901,7 @@ impl<W: Walker> LiveBus<W> {
         ensures err { OnErr result (StandsAs W.view self.old self.new) }
     {
         self.bench.down(reason)?;
+        self.stirred = true;
         self.bench.show_lanes();
         self.marks.down = true;
         Ok(())
@@ -840,6 +991,7 @@ impl<W: Walker> LiveBus<W> {
         let declared = is_declared(self.origin.program.tools.as_slice(), line);
         let line = line.copy(alloc)?;
         let reply = self.bench.line(lane, line, declared)?;
+        self.stirred = true;
         self.bench.show_lanes();
         Ok(reply)
     }
@@ -854,6 +1006,7 @@ impl<W: Walker> LiveBus<W> {
         ensures bus { bus_of W.view self.new ≡ (took (bus_of W.view self.old) (Input.Gone lane)).bus }
     {
         let reply = self.bench.gone(lane);
+        self.stirred = true;
         self.bench.show_lanes();
         reply
     }
@@ -868,6 +1021,7 @@ impl<W: Walker> LiveBus<W> {
         ensures bus { bus_of W.view self.new ≡ (took (bus_of W.view self.old) (Input.Cut lane)).bus }
     {
         let reply = self.bench.cut(lane);
+        self.stirred = true;
         self.bench.show_lanes();
         reply
     }
@@ -884,6 +1038,7 @@ impl<W: Walker> LiveBus<W> {
         ensures bus { bus_of W.view self.new ≡ taken_out lane (bus_of W.view self.old) }
     {
         let handout = self.bench.take_handout(lane);
+        self.stirred = true;
         self.bench.show_lanes();
         handout
     }

@@ -1,14 +1,23 @@
-ghost use Rattle.std.specs.Prelude.{◌≡◌, ◌≢◌, ◌++◌, ℕ, [], IfOk, OnOk, not, true, false};
+ghost use Rattle.std.specs.Prelude.{◌≡◌, ◌≢◌, ◌++◌, ℕ, [], Bool, IfOk, OnOk, not, true, false};
 ghost use Rattle.std.specs.List.{All};
 ghost use Rattle.tb_index.specs.Indexes.{HasRoom, IsTurned};
-ghost use Rattle.tb_bus.specs.Helpers.Indexed.{are_calm, is_calm, received_by, received_marks, sent_by, sent_marks};
-ghost use Rattle.tb_core.specs.Helpers.Indexes.{HasNothing, IsRightFor, KeepsOf};
+ghost use Rattle.tb_bus.specs.Helpers.Indexed.{sent_by, sent_marks};
+ghost use Rattle.tb_bus.specs.Exchanges.{setting_by};
+ghost use Rattle.tb_core.specs.Helpers.Indexes.{HasNothing, IsRested, IsRightFor, KeepsOf, found_by, found_marks, tool_mark};
 
 use std::alloc::Global;
 use std::mem;
-use tb_bus::{Action, Living, Ready};
-use tb_index::{Index, Marks, received_mark, sent_mark};
+use tb_body::Program;
+use tb_bus::{Action, Living, Ready, all_rest};
+use tb_index::{Index, Mark, Marks, received_mark, sent_mark};
 use tb_terms::NoMemory;
+use tb_tools::Bench;
+
+/// The mark of whoever speaks with tools. No message has as many terms.
+pub const TOOL_MARK: Mark = Mark {
+    count: usize::MAX,
+    head: 1,
+};
 
 /// No marks.
 pub fn no_marks(alloc: Global) -> Marks
@@ -33,15 +42,16 @@ pub fn index_of(alloc: Global, numbers: &[u32]) -> Result<Index, NoMemory>
     Ok(index)
 }
 
-/// Adds the mark of what an action sends or receives.
+/// Adds the mark of what an action sends or receives, or that of tools.
 fn push_mark(marks: &mut Marks, action: &Action) -> Result<(), NoMemory>
     ensures sends { OnOk result (marks.new.sends.items ≡ marks.old.sends.items ++ sent_by action.now) }
-    ensures receives { OnOk result (marks.new.receives.items ≡ marks.old.receives.items ++ received_by action.now) }
+    ensures receives { OnOk result (marks.new.receives.items ≡ marks.old.receives.items ++ found_by action.now) }
 {
     match action {
         Action::Send(terms) => marks.sends.push(sent_mark(terms))?,
         Action::Receive(patterns) => marks.receives.push(received_mark(patterns))?,
-        Action::Own(_) | Action::Notify(_) | Action::TakeNote(_) | Action::Speak(_) => {}
+        Action::Speak(_) => marks.receives.push(TOOL_MARK)?,
+        Action::Own(_) | Action::Notify(_) | Action::TakeNote(_) => {}
     }
     Ok(())
 }
@@ -49,7 +59,7 @@ fn push_mark(marks: &mut Marks, action: &Action) -> Result<(), NoMemory>
 /// Puts together the marks of what these actions send and receive.
 fn fill_marks(marks: &mut Marks, actions: &[Ready]) -> Result<(), NoMemory>
     ensures sends { OnOk result (marks.new.sends.items ≡ sent_marks actions.now) }
-    ensures receives { OnOk result (marks.new.receives.items ≡ received_marks actions.now) }
+    ensures receives { OnOk result (marks.new.receives.items ≡ found_marks actions.now) }
 {
     marks.sends.clear();
     marks.receives.clear();
@@ -59,34 +69,12 @@ fn fill_marks(marks: &mut Marks, actions: &[Ready]) -> Result<(), NoMemory>
     Ok(())
 }
 
-/// Whether an action waits for another process.
-fn is_calm(action: &Action) -> bool
-    ensures { result ≡ is_calm action.now }
-{
-    match action {
-        Action::Send(_) | Action::Receive(_) => true,
-        Action::Own(_) | Action::Notify(_) | Action::TakeNote(_) | Action::Speak(_) => false,
-    }
-}
-
-/// Whether each of these actions does.
-fn are_calm(actions: &[Ready]) -> bool
-    ensures { result ≡ are_calm actions.now }
-{
-    for ready in actions {
-        if !is_calm(&ready.action) {
-            return false;
-        }
-    }
-    true
-}
-
-/// A process sleeps where all that it is ready for waits for another.
-fn rouse(index: &mut Index, number: u32, calm: bool)
+/// A process sleeps where all that it is ready for rests, and is awake where not.
+pub fn turn(index: &mut Index, number: u32, rest: bool)
     requires { HasRoom index.old number }
-    ensures { IsTurned index.old index.new number (not calm) }
+    ensures { IsTurned index.old index.new number (not rest) }
 {
-    if calm {
+    if rest {
         index.let_sleep(number);
     } else {
         index.wake(number);
@@ -95,6 +83,9 @@ fn rouse(index: &mut Index, number: u32, calm: bool)
 
 /// The index has from now on what a process that was looked at is ready for. Then the process is fresh.
 pub fn update<W>(
+    alloc: Global,
+    program: &Program,
+    bench: &Bench,
     index: &mut Index,
     looked: &mut Marks,
     living: &mut Living<W>,
@@ -102,13 +93,15 @@ pub fn update<W>(
     requires right { IsRightFor index.old living.old }
     requires stale { living.old.fresh ≡ false }
     ensures right { IsRightFor index.new living.new }
+    ensures rested { (stirred : Bool) → IsRested (setting_by program.now.bodies program.now.tools bench.now) stirred index.new living.new }
     ensures others { (other : ℕ) → other ≢ living.old.number → KeepsOf index.old index.new other }
     ensures same { living.new ≡ record living.old { marks = living.new.marks; fresh = living.new.fresh } }
     ensures fresh { OnOk result (living.new.fresh ≡ true) }
 {
+    let rest = all_rest(alloc, program, bench, living)?;
     fill_marks(looked, living.ready.as_slice())?;
     index.set(living.number, &living.marks, looked)?;
-    rouse(index, living.number, are_calm(living.ready.as_slice()));
+    turn(index, living.number, rest);
     mem::swap(&mut living.marks, looked);
     living.fresh = true;
     Ok(())

@@ -1,11 +1,16 @@
 -- When an index is right for the living.
-use Rattle.std.specs.Prelude.{◌≡◌, ◌==◌, ◌||◌, ℕ, List, [], ◌∷◌, Bool, true, false}
+use Rattle.std.specs.Prelude.{◌≡◌, ◌==◌, ◌||◌, ◌&&◌, ℕ, List, [], ◌∷◌, ◌++◌, Bool, true, false, not, is_some}
 use Rattle.std.specs.List.{All}
 use Rattle.tb_index.specs.Indexes.{HasRoom, IndexState, is_awake, receives, sends}
-use Rattle.tb_index.specs.Marks.{has_mark}
+use Rattle.tb_index.specs.Marks.{has_mark, received_mark}
 use Rattle.tb_index.specs.declared.mark.Mark.{Mark}
-use Rattle.tb_bus.specs.Helpers.Candidates.{row_of}
-use Rattle.tb_bus.specs.Helpers.Indexed.{IsIndexed}
+use Rattle.tb_notes.specs.Inboxes.{Held, oldest_match}
+use Rattle.tb_bus.specs.Exchanges.{Setting, exchange_for}
+use Rattle.tb_bus.specs.Helpers.Candidates.{Row, row_at, row_of, rows_of}
+use Rattle.tb_bus.specs.Helpers.Indexed.{own_rests, sent_marks}
+use Rattle.tb_bus.specs.declared.action.Action.{Action}
+use Rattle.tb_bus.specs.declared.action.Action.TheVariants as action
+use Rattle.tb_bus.specs.declared.living.Ready.{Ready}
 use Rattle.tb_bus.specs.declared.living.Living.{Living}
 
 -- all is the same for the process with a number
@@ -21,12 +26,72 @@ pub record HasNothing (index : IndexState) (number : ℕ) : Type 0 where
   pub received : (mark : Mark) → receives index mark number ≡ false
   pub asleep : is_awake index number ≡ false
 
+-- The mark of whoever speaks with tools, beside those of messages: under it all of these are found once a lane has changed.
+abbrev pub tool_mark : Mark
+tool_mark = record { count = 18446744073709551615; head = 1 }
+
+-- under which marks an action is found: those of what it receives, and that of tools
+abbrev pub found_by : Action → List Mark
+found_by (action.Own own) = []
+found_by (action.Send terms) = []
+found_by (action.Receive patterns) = received_mark patterns ∷ []
+found_by (action.Notify terms) = []
+found_by (action.TakeNote patterns) = []
+found_by (action.Speak does) = tool_mark ∷ []
+
+abbrev pub found_marks : List Ready → List Mark
+found_marks [] = []
+found_marks (ready ∷ others) = found_by ready.action ++ found_marks others
+
+-- the index has these marks of a process
+pub record IsMarked (index : IndexState) (row : Row) : Type 0 where
+  pub sent : All (λ (mark : Mark). sends index mark row.number ≡ true) (sent_marks row.ready)
+  pub received : All (λ (mark : Mark). receives index mark row.number ≡ true) (found_marks row.ready)
+
 -- The index has the marks of one of the living, and room for it. Where that one is fresh, these are the marks of what it is ready for.
 pub record IsRightFor {W : Type 0} (index : IndexState) (living : Living W) : Type 0 where
   pub sent : (mark : Mark) → sends index mark living.number ≡ has_mark living.marks.sends.items mark
   pub received : (mark : Mark) → receives index mark living.number ≡ has_mark living.marks.receives.items mark
   pub room : HasRoom index living.number
-  pub fresh : living.fresh ≡ true → IsIndexed index (row_of living)
+  pub fresh : living.fresh ≡ true → IsMarked index (row_of living)
+
+-- whether an action rests as far as the queue of its process says, and as far as the tools do
+abbrev pub rests_with : Held → Action → Bool
+rests_with held (action.Own own) = own_rests held own
+rests_with held (action.Send terms) = true
+rests_with held (action.Receive patterns) = true
+rests_with held (action.Notify terms) = false
+rests_with held (action.TakeNote patterns) = not (is_some (oldest_match patterns held))
+rests_with held (action.Speak does) = true
+
+abbrev pub rests_among : Setting → Action → Bool
+rests_among setting (action.Own own) = true
+rests_among setting (action.Send terms) = true
+rests_among setting (action.Receive patterns) = true
+rests_among setting (action.Notify terms) = true
+rests_among setting (action.TakeNote patterns) = true
+rests_among setting (action.Speak does) = not (is_some (exchange_for setting does))
+
+abbrev pub rest_with : Held → List Ready → Bool
+rest_with held [] = true
+rest_with held (ready ∷ others) = rests_with held ready.action && rest_with held others
+
+abbrev pub rest_among : Setting → List Ready → Bool
+rest_among setting [] = true
+rest_among setting (ready ∷ others) = rests_among setting ready.action && rest_among setting others
+
+-- One of the living that is fresh and not awake rests: by its own queue, and by the tools too, unless these have changed since.
+pub record IsRested {W : Type 0} (settings : ℕ → Setting) (stirred : Bool) (index : IndexState) (living : Living W) : Type 0 where
+  pub queue : living.fresh ≡ true → is_awake index living.number ≡ false → rest_with living.inbox.held living.ready.items ≡ true
+  pub tools : stirred ≡ false → living.fresh ≡ true → is_awake index living.number ≡ false → rest_among (settings living.body) living.ready.items ≡ true
+
+-- whoever was awake is so still
+abbrev pub AreStillAwake : IndexState → IndexState → Type 0
+AreStillAwake old new = (number : ℕ) → is_awake old number ≡ true → is_awake new number ≡ true
+
+-- the one at an index is awake
+abbrev pub IsAwakeAt : {W : Type 0} → IndexState → List (Living W) → ℕ → Type 0
+IsAwakeAt index all at = is_awake index (row_at (rows_of all) at).number ≡ true
 
 -- whether one of them has this number
 abbrev pub is_alive : {W : Type 0} → ℕ → List (Living W) → Bool

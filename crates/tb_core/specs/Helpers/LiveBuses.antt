@@ -1,5 +1,5 @@
 -- The bus for which the fields of a core stand, and when they stand for what contracts see of it.
-use Rattle.std.specs.Prelude.{◌≡◌, ◌≤◌, ◌+◌, ◌⊎◌, ℕ, List, [], map, length, true, false, IsTrue, Some, slice_get, slice_set, Contains}
+use Rattle.std.specs.Prelude.{◌≡◌, ◌≢◌, ◌≤◌, ◌+◌, ◌⊎◌, ℕ, List, [], map, length, true, false, IsTrue, Some, slice_get, slice_set, Contains}
 use Rattle.std.specs.List.{All}
 use Rattle.tb_match.specs.declared.bind.Bind.{Bind}
 use Rattle.tb_algebra.specs.Binds.{takes_binds}
@@ -10,6 +10,7 @@ use Rattle.tb_log.specs.Logs.{LogState}
 use Rattle.tb_tools.specs.Lanes.{HasLanes}
 use Rattle.tb_bus.specs.Buses.{Bus, Proc, start}
 use Rattle.tb_bus.specs.Effects.{Effect, changed}
+use Rattle.tb_bus.specs.Exchanges.{Setting, setting_by}
 use Rattle.tb_bus.specs.Steps.{Move, advance, apply}
 use Rattle.tb_bus.specs.Helpers.Views.{move_of, proc_at}
 use Rattle.tb_bus.specs.Traces.{IsTrace, replay}
@@ -17,7 +18,7 @@ use Rattle.tb_bus.specs.Helpers.Candidates.{Scene, ascend, row_at, rows_of, scen
 use Rattle.tb_bus.specs.declared.living.Living.{Living}
 use Rattle.tb_bus.specs.declared.candidate.Candidate.{Candidate}
 use Rattle.tb_core.specs.Cores.{most_entries}
-use Rattle.tb_core.specs.Helpers.Indexes.{IsRightForAll}
+use Rattle.tb_core.specs.Helpers.Indexes.{IsRested, IsRightForAll, KeepsOf}
 use Rattle.tb_core.specs.Helpers.Lives.{IsBelow, IsLive, procs_of}
 use Rattle.tb_core.specs.declared.acting.Done.{Done}
 use Rattle.tb_core.specs.declared.bus.LiveBus.{LiveBus}
@@ -54,9 +55,13 @@ AreFresh all = All (λ living. living.fresh ≡ true) all
 abbrev pub IsFreshOr : {W : Type 0} → List ℕ → Living W → Type 0
 IsFreshOr stale living = (living.fresh ≡ true) ⊎ Contains stale living.number
 
+-- where a process of each body speaks with tools
+abbrev pub settings_in : {W P T : Type 0} → LiveBus W P T → ℕ → Setting
+settings_in bus = setting_by bus.origin.program.bodies bus.origin.program.tools bus.bench
+
 -- The plans are those of the bodies, the living stand by their numbers, which are below that of the next, each lives
--- by its plan, those that have to be looked at anew are named, unless a tick has passed, all lanes are there, and the index
--- is right for the living.
+-- by its plan, those that have to be looked at anew are named, unless a tick has passed, all lanes are there, the index
+-- is right for the living, and whoever sleeps rests.
 pub record IsSound {W P T : Type 0} (view : View P W T) (bus : LiveBus W P T) : Type 0 where
   pub in_order : ascend 0 (rows_of bus.living.items) ≡ true
   pub below : All (IsBelow bus.marks.next_number) bus.living.items
@@ -65,6 +70,20 @@ pub record IsSound {W P T : Type 0} (view : View P W T) (bus : LiveBus W P T) : 
   pub fresh : bus.aged ≡ false → All (IsFreshOr bus.stale.items) bus.living.items
   pub lanes : HasLanes bus.bench
   pub indexed : IsRightForAll bus.index bus.living.items
+  pub rested : All (IsRested (settings_in bus) bus.stirred bus.index) bus.living.items
+
+-- Whoever sleeps rests by the tools as they are now.
+abbrev pub AreSettled : {W P T : Type 0} → LiveBus W P T → Type 0
+AreSettled bus = All (IsRested (settings_in bus) false bus.index) bus.living.items
+
+-- So does the one at an index, and of the others the index keeps what it has.
+abbrev pub IsSettledAt : {W P T : Type 0} → LiveBus W P T → LiveBus W P T → ℕ → Type 0
+IsSettledAt {W = W} old new at = (living : Living W) × (slice_get old.living.items at ≡ Some living)
+    × IsRested (settings_in old) false new.index living × ((other : ℕ) → other ≢ living.number → KeepsOf old.index new.index other)
+
+-- the one at an index has to be looked at anew
+abbrev pub IsStaleAt : {W : Type 0} → List (Living W) → ℕ → Type 0
+IsStaleAt {W = W} all at = (living : Living W) → slice_get all at ≡ Some living → living.fresh ≡ false
 
 -- the fields stand for the same bus as before
 pub record StandsAs {W P T : Type 0} (view : View P W T) (old new : LiveBus W P T) : Type 0 where
@@ -73,6 +92,7 @@ pub record StandsAs {W P T : Type 0} (view : View P W T) (old new : LiveBus W P 
   pub origin : new.origin ≡ old.origin
   pub plans : new.plans ≡ old.plans
   pub marks : new.marks ≡ old.marks
+  pub calm : old.stirred ≡ false → new.stirred ≡ false
 
 -- one of the living was changed to one of which this holds
 abbrev pub IsSetAt : {X : Type 0} → List X → ℕ → (X → Type 0) → List X → Type 0

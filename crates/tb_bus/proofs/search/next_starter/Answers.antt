@@ -5,9 +5,10 @@ use Rattle.std.specs.List.{All}
 use Rattle.tb_index.specs.Pairs.{IsNext}
 use Rattle.tb_index.specs.Indexes.{starts}
 use Rattle.tb_bus.specs.Helpers.Candidates.{Row, ascend, candidates_of, scene_of, row_at, row_of, rows_of}
-use Rattle.tb_bus.specs.Helpers.Indexed.{IsIndexed, IsNextOf}
+use Rattle.tb_bus.specs.Helpers.Indexed.{IsIndexed, IsNextOf, SleepsAtRest}
+use Rattle.tb_bus.specs.Exchanges.{setting_by}
 use Rattle.tb_bus.proofs.PlaceLemmas.{ascend-take, row-read, next-of}
-use Rattle.tb_bus.proofs.IndexLemmas.{of-calm, indexed-at}
+use Rattle.tb_bus.proofs.IndexLemmas.{of-asleep, indexed-at, asleep-at}
 use Rattle.tb_bus.proofs.search.next_starter.Goals as goal
 
 pub place_of-requires-clause-ascend : goal.place_of-requires-clause-ascend
@@ -27,9 +28,11 @@ returns g c =
     let same = take-map row_of c.args.end all in
     let next = subst (λ (row : Row). IsNext (starts index) row.number c.next_starter-found.result)
     (sym (row-read asked from c.index-asked-from.result (omega (arith, many, some)))) c.next_starter-found.ensures.next in
+    let settings = setting_by scene.bodies scene.kinds scene.bench in
     let each = subst (λ rows. All (IsIndexed index) rows) same (All-take (IsIndexed index) c.args.end (rows_of all) c.requires.index.each) in
+    let asleep = subst (λ rows. All (SleepsAtRest settings index) rows) same (All-take (SleepsAtRest settings index) c.args.end (rows_of all) c.requires.index.asleep) in
     subst (λ rows. IsNextOf (candidates_of scene) rows from c.place_of.result) (sym same)
     (next-of (starts index) (candidates_of scene) (rows_of asked) from
-    (λ place within rests. of-calm index scene c.requires.index.each c.next_starter-found.ensures.awake c.next_starter-found.ensures.heard
-    (row_at (rows_of asked) place) rests place (indexed-at index (rows_of asked) place each within))
+    (λ place within unnamed. of-asleep index scene c.requires.index.each c.next_starter-found.ensures.awake c.next_starter-found.ensures.heard
+    (row_at (rows_of asked) place) unnamed place (indexed-at index (rows_of asked) place each within) (asleep-at settings index (rows_of asked) place asleep within))
     c.place_of.result (c.place_of.ensures (starts index) next))

@@ -1,13 +1,13 @@
-use Rattle.std.proofs.Common.{◌≡◌, ◌∙◌, ◌∷◌, [], List, ap, get_or}
+use Rattle.std.proofs.Common.{◌≡◌, ◌∙◌, ◌∷◌, [], List, ap, get_or, inl}
 use Rattle.tb_terms.specs.declared.term.Term.{Term}
-use Rattle.tb_notes.specs.Inboxes.{subscribed, unsubscribed}
+use Rattle.tb_notes.specs.Inboxes.{Held, subscribed, unsubscribed}
 use Rattle.tb_bus.specs.Effects.{changed, went_down}
 use Rattle.tb_core.specs.Helpers.LiveBuses.{bus_of}
 use Rattle.tb_core.specs.Helpers.Makings.{effect_by}
 use Rattle.tb_core.specs.declared.acting.Done.{Done}
 use Rattle.tb_core.proofs.BenchLemmas.{down-changed}
 use Rattle.tb_core.proofs.ReadLemmas.{on-err, on-ok, some-at}
-use Rattle.tb_core.proofs.HoldLemmas.{held-changed, nothing-changed, stands-held}
+use Rattle.tb_core.proofs.HoldLemmas.{held-changed, held-there, nothing-changed, stands-held}
 use Rattle.tb_core.proofs.bus.LiveBus.act.Goals as goal
 
 pub returns-in-Tau-clause-changed : goal.returns-in-Tau-clause-changed
@@ -43,7 +43,7 @@ returns-in-Subscribe-clause-changed g c =
     let bus = c.args.self.now in
     let next = bus.marks.next_number in
     let before = some-at bus.living.items c.args.at c.requires.within in
-    held-changed g.W.Walker.view bus c.args.at before.0 (effect_by next c.args.own) (subscribed c.in-Subscribe.patterns) c.subscribe_at.new.all c.requires.sound before.1 c.in_ok-subscribe_at-in-Subscribe.ensures.ok
+    held-changed g.W.Walker.view bus c.args.at before.0 (effect_by next c.args.own) (subscribed c.in-Subscribe.patterns) c.subscribe_at.new.all c.requires.sound before.1 c.in_ok-subscribe_at-in-Subscribe.ensures.ok (inl (ap (λ (h : Held). h.notes) (held-there bus.living.items c.args.at before.0 before.1)))
     (λ number. ap (λ own. changed (effect_by next own).change number (bus_of g.W.Walker.view bus)) c.in-Subscribe.is)
 
 pub returns-in-Unsubscribe-clause-changed : goal.returns-in-Unsubscribe-clause-changed
@@ -51,7 +51,7 @@ returns-in-Unsubscribe-clause-changed g c =
     let bus = c.args.self.now in
     let next = bus.marks.next_number in
     let before = some-at bus.living.items c.args.at c.requires.within in
-    held-changed g.W.Walker.view bus c.args.at before.0 (effect_by next c.args.own) (unsubscribed c.in-Unsubscribe.patterns) c.unsubscribe_at.new.all c.requires.sound before.1 c.unsubscribe_at.ensures
+    held-changed g.W.Walker.view bus c.args.at before.0 (effect_by next c.args.own) (unsubscribed c.in-Unsubscribe.patterns) c.unsubscribe_at.new.all c.requires.sound before.1 c.unsubscribe_at.ensures (inl (ap (λ (h : Held). h.notes) (held-there bus.living.items c.args.at before.0 before.1)))
     (λ number. ap (λ own. changed (effect_by next own).change number (bus_of g.W.Walker.view bus)) c.in-Unsubscribe.is)
 
 pub returns-clause-changed : goal.returns-clause-changed

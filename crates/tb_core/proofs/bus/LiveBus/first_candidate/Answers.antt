@@ -5,15 +5,15 @@ use Rattle.tb_bus.specs.Steps.{moves}
 use Rattle.tb_bus.specs.Helpers.Candidates.{first, rows_of, scene_of}
 use Rattle.tb_bus.specs.Helpers.Views.{IsCandidateIn, IsSearchedFor, move_of}
 use Rattle.tb_bus.specs.declared.living.Living.{Living}
-use Rattle.tb_core.specs.Helpers.LiveBuses.{bus_of}
+use Rattle.tb_core.specs.Helpers.LiveBuses.{bus_of, settings_in}
 use Rattle.tb_core.proofs.RowsLemmas.{searched-for}
-use Rattle.tb_core.proofs.IndexLemmas.{right-rows}
+use Rattle.tb_core.proofs.RestLemmas.{right-rows}
 use Rattle.tb_core.proofs.bus.LiveBus.first_candidate.Goals as goal
 
 pub first_candidate-requires-clause-index : goal.first_candidate-requires-clause-index
 first_candidate-requires-clause-index g c =
     let fields = c.args.self.now in
-    right-rows fields.index fields.living.items c.as_slice.result.now c.as_slice.ensures.value c.requires.sound.indexed c.requires.fresh
+    right-rows (settings_in fields) fields.stirred fields.index fields.living.items c.as_slice.result.now c.as_slice.ensures.value c.requires.settled c.requires.sound.indexed c.requires.sound.rested c.requires.fresh
 
 pub returns-clause-found : goal.returns-clause-found
 returns-clause-found g c =

@@ -2,11 +2,12 @@ use Rattle.std.proofs.Common.{◌≡◌, true, false, arith, rules, refl, sym, s
 use Rattle.std.specs.Vec.{with_item}
 use Rattle.tb_bus.specs.Buses.{Proc}
 use Rattle.tb_bus.specs.declared.living.Living.{Living}
-use Rattle.tb_core.specs.Helpers.Indexes.{IsRightFor}
+use Rattle.tb_core.specs.Helpers.Indexes.{IsRested, IsRightFor}
 use Rattle.tb_core.specs.Helpers.Lives.{IsLiveOn, proc_by}
-use Rattle.tb_core.specs.Helpers.LiveBuses.{IsFreshOr}
+use Rattle.tb_core.specs.Helpers.LiveBuses.{IsFreshOr, settings_in}
 use Rattle.tb_core.proofs.ReadLemmas.{live-at, all-there, read-there, plan-within, body-within, read-is, body-is}
 use Rattle.tb_core.proofs.IndexLemmas.{keeps-self, stale-right}
+use Rattle.tb_core.proofs.RestLemmas.{rested-stale}
 use Rattle.tb_core.proofs.SetLemmas.{in-place, named-as, updated-live, stands-set}
 use Rattle.tb_core.proofs.bus.LiveBus.freshen_at.Given.{Over}
 use Rattle.tb_core.proofs.bus.LiveBus.freshen_at.Goals.{After-look}
@@ -20,6 +21,7 @@ returns-then-living-clause-same g c =
     stands-set g.W.Walker.view bus (with_item bus.living c.args.at living) bus.index bus.looked c.args.at living living it c.requires.sound refl
     (in-place g.W.Walker.view bus it.plan it.plan living living refl it.live refl (λ young. inl c.if-living.true))
     (λ other ne. keeps-self bus.index other) (all-there (IsRightFor bus.index) bus.living.items c.args.at living c.requires.sound.indexed.each it.here)
+    (all-there (IsRested (settings_in bus) bus.stirred bus.index) bus.living.items c.args.at living c.requires.sound.rested it.here)
 
 pub bounds-as_slice-living : goal.bounds-as_slice-living
 bounds-as_slice-living g c =
@@ -77,6 +79,7 @@ returns-in_err-look-clause-same g c =
     stands-set g.W.Walker.view bus (with_item bus.living c.args.at one) bus.index bus.looked c.args.at living one it c.requires.sound refl
     (in-place g.W.Walker.view bus c.index-as_slice-living.result it.plan living one plan c.look.ensures.live c.look.ensures.same named)
     (λ other ne. keeps-self bus.index other) (looked-right g (goal.at.returns-in_err-look-clause-same g c).After-look)
+    (rested-stale (settings_in bus) bus.stirred bus.index one c.look.ensures.stale)
 
 pub returns-in_err-look-clause-set : goal.returns-in_err-look-clause-set
 returns-in_err-look-clause-set g c =
@@ -98,4 +101,4 @@ returns-clause-same g c =
     stands-set view bus (with_item bus.living c.args.at one) c.update.new.index c.update.new.looked c.args.at living one it c.requires.sound refl
     (in-place view bus read it.plan living one plan (updated-live view read bus.ticks middle one c.look.ensures.live c.in_ok-look.ensures.looked c.update.ensures.same)
     (ap (proc_by view (Some read)) c.update.ensures.same ∙ c.look.ensures.same) named)
-    (λ other ne. c.update.ensures.others other (λ e. ne (e ∙ ap (λ (p : Proc). p.number) c.look.ensures.same))) c.update.ensures.right
+    (λ other ne. c.update.ensures.others other (λ e. ne (e ∙ ap (λ (p : Proc). p.number) c.look.ensures.same))) c.update.ensures.right (c.update.ensures.rested bus.stirred)

@@ -1,4 +1,4 @@
-use Rattle.std.proofs.Common.{◌≡◌, ◌∙◌, sym}
+use Rattle.std.proofs.Common.{◌≡◌, ◌∙◌, sym, true}
 use Rattle.tb_bus.specs.Helpers.Candidates.{rows_of}
 use Rattle.tb_bus.specs.Effects.{speaking}
 use Rattle.tb_bus.specs.Helpers.Views.{offer_of, ready_at}
@@ -14,7 +14,7 @@ finish-requires-clause-named g c =
     let old = c.args.self.now in
     let begun = c.begin.new.self in
     let does : (ready_at (rows_of old.living.items) c.args.at c.args.index).action ≡ action.Speak c.in-Speak.does = sym c.in_ok-from.ensures.action ∙ c.in-Speak.is in
-    let mid = record begun { bench = c.speak.new.bench } in
+    let mid = record begun { bench = c.speak.new.bench; stirred = true } in
     let effect = speaking (around begun.origin.program.tools begun.bench) c.in-Speak.does c.args.exchange in
     let acted = acted-exchange g.W.Walker.view old begun c.args.at c.args.index c.in_ok-taken.taken c.in-Speak.does c.args.exchange c.as_slice.result.now c.speak.new.bench
     c.requires.sound c.requires.fresh c.requires.found c.in_ok-taken.ensures does c.begin.ensures.same c.begin.ensures.kept c.in_ok-from.ensures.named c.as_slice.ensures c.in_ok-done.ensures.ok c.show_lanes.ensures in
@@ -25,7 +25,7 @@ finish-requires-clause-taken g c =
     let old = c.args.self.now in
     let begun = c.begin.new.self in
     let does : (ready_at (rows_of old.living.items) c.args.at c.args.index).action ≡ action.Speak c.in-Speak.does = sym c.in_ok-from.ensures.action ∙ c.in-Speak.is in
-    let mid = record begun { bench = c.speak.new.bench } in
+    let mid = record begun { bench = c.speak.new.bench; stirred = true } in
     let effect = speaking (around begun.origin.program.tools begun.bench) c.in-Speak.does c.args.exchange in
     let acted = acted-exchange g.W.Walker.view old begun c.args.at c.args.index c.in_ok-taken.taken c.in-Speak.does c.args.exchange c.as_slice.result.now c.speak.new.bench
     c.requires.sound c.requires.fresh c.requires.found c.in_ok-taken.ensures does c.begin.ensures.same c.begin.ensures.kept c.in_ok-from.ensures.named c.as_slice.ensures c.in_ok-done.ensures.ok c.show_lanes.ensures in
@@ -37,7 +37,7 @@ returns-clause-made g c =
     let old = c.args.self.now in
     let begun = c.begin.new.self in
     let does : (ready_at (rows_of old.living.items) c.args.at c.args.index).action ≡ action.Speak c.in-Speak.does = sym c.in_ok-from.ensures.action ∙ c.in-Speak.is in
-    let mid = record begun { bench = c.speak.new.bench } in
+    let mid = record begun { bench = c.speak.new.bench; stirred = true } in
     let effect = speaking (around begun.origin.program.tools begun.bench) c.in-Speak.does c.args.exchange in
     let acted = acted-exchange g.W.Walker.view old begun c.args.at c.args.index c.in_ok-taken.taken c.in-Speak.does c.args.exchange c.as_slice.result.now c.speak.new.bench
     c.requires.sound c.requires.fresh c.requires.found c.in_ok-taken.ensures does c.begin.ensures.same c.begin.ensures.kept c.in_ok-from.ensures.named c.as_slice.ensures c.in_ok-done.ensures.ok c.show_lanes.ensures in
@@ -55,7 +55,7 @@ returns-clause-label g c =
     let old = c.args.self.now in
     let begun = c.begin.new.self in
     let does : (ready_at (rows_of old.living.items) c.args.at c.args.index).action ≡ action.Speak c.in-Speak.does = sym c.in_ok-from.ensures.action ∙ c.in-Speak.is in
-    let mid = record begun { bench = c.speak.new.bench } in
+    let mid = record begun { bench = c.speak.new.bench; stirred = true } in
     let effect = speaking (around begun.origin.program.tools begun.bench) c.in-Speak.does c.args.exchange in
     let acted = acted-exchange g.W.Walker.view old begun c.args.at c.args.index c.in_ok-taken.taken c.in-Speak.does c.args.exchange c.as_slice.result.now c.speak.new.bench
     c.requires.sound c.requires.fresh c.requires.found c.in_ok-taken.ensures does c.begin.ensures.same c.begin.ensures.kept c.in_ok-from.ensures.named c.as_slice.ensures c.in_ok-done.ensures.ok c.show_lanes.ensures in

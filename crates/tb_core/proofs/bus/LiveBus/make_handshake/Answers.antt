@@ -67,7 +67,7 @@ returns-clause-made g c =
     let went = c.advance_both.ensures offer received (kept-leaves g.W.Walker.view old taken c.args.at c.args.sent offer c.take_sent-terms.ensures.kept c.take_sent-terms.ensures.same.plans c.requires.sent)
     (leaves-kept g.W.Walker.view old taken partner.living c.args.received received kept c.take_sent-terms.ensures.same.plans c.requires.received) in
     record {
-      sound = record { in_order = went.sound.in_order; below = went.sound.below; planned = went.sound.planned; live = went.sound.live; fresh = went.sound.fresh; lanes = went.sound.lanes; indexed = went.sound.indexed };
+      sound = record { in_order = went.sound.in_order; below = went.sound.below; planned = went.sound.planned; live = went.sound.live; fresh = went.sound.fresh; lanes = went.sound.lanes; indexed = went.sound.indexed; rested = went.sound.rested };
       bus = handshake-made g.W.Walker.view old taken new c.args.at c.args.index partner.living partner.received.action partner.received.binds c.place_at-from.result.proc is its c.take_sent-terms.ensures.same.bus
           (kept-number old.living.items taken.living.items c.args.at c.take_sent-terms.ensures.kept) (number-kept old.living.items taken.living.items partner.living kept) went c.place_at-from.ensures.proc;
       origin = went.origin ∙ c.take_sent-terms.ensures.same.origin;

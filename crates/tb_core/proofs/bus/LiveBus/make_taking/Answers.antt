@@ -1,4 +1,4 @@
-use Rattle.std.proofs.Common.{◌≡◌, ◌<◌, ◌∙◌, length, refl, sym, subst, ap}
+use Rattle.std.proofs.Common.{◌≡◌, ◌<◌, ◌∙◌, length, refl, sym, subst, ap, inr}
 use Rattle.tb_bus.specs.Helpers.Candidates.{row_at, rows_of}
 use Rattle.tb_bus.specs.Helpers.Views.{offer_of}
 use Rattle.tb_log.specs.declared.entry.LabelKind.TheVariants as kind
@@ -30,7 +30,7 @@ finish-requires-clause-sound g c =
     let held : held_at begun.living.items c.args.at ≡ (row_at (rows_of old.living.items) c.args.at).inbox = held-same g.W.Walker.view old begun c.args.at c.begin.ensures.same ∙ sym (row-held old.living.items c.args.at) in
     let effect = taking (row_at (rows_of old.living.items) c.args.at).inbox found in
     let before = some-at begun.living.items c.args.at (kept-within old.living.items begun.living.items c.args.at c.begin.ensures.kept) in
-    let change = held-changed g.W.Walker.view begun c.args.at before.0 effect (without_note found.place) c.take_note_at.new.all c.begin.ensures.same.sound before.1 c.take_note_at.ensures.held (λ number. refl) in
+    let change = held-changed g.W.Walker.view begun c.args.at before.0 effect (without_note found.place) c.take_note_at.new.all c.begin.ensures.same.sound before.1 c.take_note_at.ensures.held (inr (c.in_ok-from.ensures.idle before.0 before.1)) (λ number. refl) in
     let mid = record begun { living = c.take_note_at.new.all } in
     let acted = acted-taking g.W.Walker.view old begun mid c.args.at c.args.index found c.in_ok-taken.taken c.requires.sound c.requires.fresh c.requires.found c.in_ok-taken.ensures c.begin.ensures.same c.begin.ensures.kept c.in_ok-from.ensures.named change in
     change.sound
@@ -43,7 +43,7 @@ finish-requires-clause-within g c =
     let held : held_at begun.living.items c.args.at ≡ (row_at (rows_of old.living.items) c.args.at).inbox = held-same g.W.Walker.view old begun c.args.at c.begin.ensures.same ∙ sym (row-held old.living.items c.args.at) in
     let effect = taking (row_at (rows_of old.living.items) c.args.at).inbox found in
     let before = some-at begun.living.items c.args.at (kept-within old.living.items begun.living.items c.args.at c.begin.ensures.kept) in
-    let change = held-changed g.W.Walker.view begun c.args.at before.0 effect (without_note found.place) c.take_note_at.new.all c.begin.ensures.same.sound before.1 c.take_note_at.ensures.held (λ number. refl) in
+    let change = held-changed g.W.Walker.view begun c.args.at before.0 effect (without_note found.place) c.take_note_at.new.all c.begin.ensures.same.sound before.1 c.take_note_at.ensures.held (inr (c.in_ok-from.ensures.idle before.0 before.1)) (λ number. refl) in
     let mid = record begun { living = c.take_note_at.new.all } in
     let acted = acted-taking g.W.Walker.view old begun mid c.args.at c.args.index found c.in_ok-taken.taken c.requires.sound c.requires.fresh c.requires.found c.in_ok-taken.ensures c.begin.ensures.same c.begin.ensures.kept c.in_ok-from.ensures.named change in
     acted-within g.W.Walker.view old begun mid c.args.at c.args.index effect acted
@@ -56,7 +56,7 @@ finish-requires-clause-named g c =
     let held : held_at begun.living.items c.args.at ≡ (row_at (rows_of old.living.items) c.args.at).inbox = held-same g.W.Walker.view old begun c.args.at c.begin.ensures.same ∙ sym (row-held old.living.items c.args.at) in
     let effect = taking (row_at (rows_of old.living.items) c.args.at).inbox found in
     let before = some-at begun.living.items c.args.at (kept-within old.living.items begun.living.items c.args.at c.begin.ensures.kept) in
-    let change = held-changed g.W.Walker.view begun c.args.at before.0 effect (without_note found.place) c.take_note_at.new.all c.begin.ensures.same.sound before.1 c.take_note_at.ensures.held (λ number. refl) in
+    let change = held-changed g.W.Walker.view begun c.args.at before.0 effect (without_note found.place) c.take_note_at.new.all c.begin.ensures.same.sound before.1 c.take_note_at.ensures.held (inr (c.in_ok-from.ensures.idle before.0 before.1)) (λ number. refl) in
     let mid = record begun { living = c.take_note_at.new.all } in
     let acted = acted-taking g.W.Walker.view old begun mid c.args.at c.args.index found c.in_ok-taken.taken c.requires.sound c.requires.fresh c.requires.found c.in_ok-taken.ensures c.begin.ensures.same c.begin.ensures.kept c.in_ok-from.ensures.named change in
     acted-named g.W.Walker.view old begun mid c.args.at c.args.index effect acted
@@ -69,7 +69,7 @@ finish-requires-clause-taken g c =
     let held : held_at begun.living.items c.args.at ≡ (row_at (rows_of old.living.items) c.args.at).inbox = held-same g.W.Walker.view old begun c.args.at c.begin.ensures.same ∙ sym (row-held old.living.items c.args.at) in
     let effect = taking (row_at (rows_of old.living.items) c.args.at).inbox found in
     let before = some-at begun.living.items c.args.at (kept-within old.living.items begun.living.items c.args.at c.begin.ensures.kept) in
-    let change = held-changed g.W.Walker.view begun c.args.at before.0 effect (without_note found.place) c.take_note_at.new.all c.begin.ensures.same.sound before.1 c.take_note_at.ensures.held (λ number. refl) in
+    let change = held-changed g.W.Walker.view begun c.args.at before.0 effect (without_note found.place) c.take_note_at.new.all c.begin.ensures.same.sound before.1 c.take_note_at.ensures.held (inr (c.in_ok-from.ensures.idle before.0 before.1)) (λ number. refl) in
     let mid = record begun { living = c.take_note_at.new.all } in
     let acted = acted-taking g.W.Walker.view old begun mid c.args.at c.args.index found c.in_ok-taken.taken c.requires.sound c.requires.fresh c.requires.found c.in_ok-taken.ensures c.begin.ensures.same c.begin.ensures.kept c.in_ok-from.ensures.named change in
     acted-advance g.W.Walker.view old begun mid c.args.at c.args.index effect acted c.in_ok-taken.taken found.binds c.in_ok-taken.ensures refl
@@ -82,7 +82,7 @@ returns-clause-made g c =
     let held : held_at begun.living.items c.args.at ≡ (row_at (rows_of old.living.items) c.args.at).inbox = held-same g.W.Walker.view old begun c.args.at c.begin.ensures.same ∙ sym (row-held old.living.items c.args.at) in
     let effect = taking (row_at (rows_of old.living.items) c.args.at).inbox found in
     let before = some-at begun.living.items c.args.at (kept-within old.living.items begun.living.items c.args.at c.begin.ensures.kept) in
-    let change = held-changed g.W.Walker.view begun c.args.at before.0 effect (without_note found.place) c.take_note_at.new.all c.begin.ensures.same.sound before.1 c.take_note_at.ensures.held (λ number. refl) in
+    let change = held-changed g.W.Walker.view begun c.args.at before.0 effect (without_note found.place) c.take_note_at.new.all c.begin.ensures.same.sound before.1 c.take_note_at.ensures.held (inr (c.in_ok-from.ensures.idle before.0 before.1)) (λ number. refl) in
     let mid = record begun { living = c.take_note_at.new.all } in
     let acted = acted-taking g.W.Walker.view old begun mid c.args.at c.args.index found c.in_ok-taken.taken c.requires.sound c.requires.fresh c.requires.found c.in_ok-taken.ensures c.begin.ensures.same c.begin.ensures.kept c.in_ok-from.ensures.named change in
     let offer = offer_of (procs_in g.W.Walker.view old) (rows_of old.living.items) c.args.at c.args.index in
@@ -101,7 +101,7 @@ returns-clause-label g c =
     let held : held_at begun.living.items c.args.at ≡ (row_at (rows_of old.living.items) c.args.at).inbox = held-same g.W.Walker.view old begun c.args.at c.begin.ensures.same ∙ sym (row-held old.living.items c.args.at) in
     let effect = taking (row_at (rows_of old.living.items) c.args.at).inbox found in
     let before = some-at begun.living.items c.args.at (kept-within old.living.items begun.living.items c.args.at c.begin.ensures.kept) in
-    let change = held-changed g.W.Walker.view begun c.args.at before.0 effect (without_note found.place) c.take_note_at.new.all c.begin.ensures.same.sound before.1 c.take_note_at.ensures.held (λ number. refl) in
+    let change = held-changed g.W.Walker.view begun c.args.at before.0 effect (without_note found.place) c.take_note_at.new.all c.begin.ensures.same.sound before.1 c.take_note_at.ensures.held (inr (c.in_ok-from.ensures.idle before.0 before.1)) (λ number. refl) in
     let mid = record begun { living = c.take_note_at.new.all } in
     let acted = acted-taking g.W.Walker.view old begun mid c.args.at c.args.index found c.in_ok-taken.taken c.requires.sound c.requires.fresh c.requires.found c.in_ok-taken.ensures c.begin.ensures.same c.begin.ensures.kept c.in_ok-from.ensures.named change in
     let note = note-there (held_at begun.living.items c.args.at) found.place c.take_note_at.result c.take_note_at.ensures.note ∙ ap (λ (h : Held). note_at h found.place) held in

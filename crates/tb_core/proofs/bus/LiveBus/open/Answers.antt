@@ -2,7 +2,12 @@ use Rattle.std.proofs.Common.{◌∙◌, ◌+◌, arith, subst, sym}
 use Rattle.std.specs.List.{All}
 use Rattle.tb_core.specs.Helpers.Lives.{IsBelow}
 use Rattle.tb_core.proofs.OpenLemmas.{all-named, few-roots}
+use Rattle.std.proofs.Common.{false}
+use Rattle.std.proofs.lemmas.List.Elements.{All-weaker}
+use Rattle.tb_bus.specs.Exchanges.{setting_by}
+use Rattle.tb_core.specs.Helpers.Indexes.{IsRested, IsUnmarked}
 use Rattle.tb_core.proofs.IndexLemmas.{right-opened}
+use Rattle.tb_core.proofs.RestLemmas.{rested-stale}
 use Rattle.tb_core.proofs.bus.LiveBus.open.Goals as goal
 
 pub returns-clause-sound : goal.returns-clause-sound
@@ -15,6 +20,9 @@ returns-clause-sound g c = record {
   lanes = c.show_lanes.ensures;
   indexed = right-opened c.in_ok-index.index c.in_ok-living.living.items c.as_slice-2.result.now c.as_slice-3.result.now c.in_ok-stale.stale.items
       c.in_ok-index.ensures.nothing c.in_ok-index.ensures.room c.as_slice-3.ensures.value c.in_ok-stale.ensures c.as_slice-2.ensures.value c.in_ok-living.ensures.unmarked;
+  rested = All-weaker IsUnmarked (IsRested (setting_by c.args.origin.program.bodies c.args.origin.program.tools c.in_ok-bench.bench) false c.in_ok-index.index)
+      (λ living unmarked. rested-stale (setting_by c.args.origin.program.bodies c.args.origin.program.tools c.in_ok-bench.bench) false c.in_ok-index.index living unmarked.stale)
+      c.in_ok-living.living.items c.in_ok-living.ensures.unmarked;
 }
 
 pub overflow_cast-next_number : goal.overflow_cast-next_number

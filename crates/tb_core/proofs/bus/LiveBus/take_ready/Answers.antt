@@ -1,9 +1,13 @@
-use Rattle.std.proofs.Common.{refl, subst, inr, false, Contains}
+use Rattle.std.proofs.Common.{ap, refl, subst, sym, ◌∙◌, inr, false, Contains}
+use Rattle.std.proofs.lemmas.Option.{same_Some}
+use Rattle.tb_bus.specs.declared.living.Living.{Living}
 use Rattle.std.specs.Vec.{with_item}
 use Rattle.tb_core.specs.Helpers.Indexes.{IsRightFor}
 use Rattle.tb_core.proofs.ReadLemmas.{all-there, live-at}
 use Rattle.tb_core.proofs.SetLemmas.{stands-set, set-there, set-other}
+use Rattle.tb_core.specs.Helpers.LiveBuses.{settings_in}
 use Rattle.tb_core.proofs.IndexLemmas.{keeps-self, stale-right}
+use Rattle.tb_core.proofs.RestLemmas.{rested-stale}
 use Rattle.tb_core.proofs.bus.LiveBus.take_ready.Goals as goal
 
 pub returns-clause-same : goal.returns-clause-same
@@ -17,7 +21,7 @@ returns-clause-same g c =
       live = record { is_on = it.live.is_on; alive = it.live.alive; sorts = it.live.sorts; ticks = it.live.ticks; ready = λ e. cc };
       proc = refl;
       fresh = λ young. inr (subst (λ row. Contains bus.stale.items row.number) it.row c.requires.named);
-    }) (λ other ne. keeps-self bus.index other) (stale-right bus.index living one refl refl refl right)
+    }) (λ other ne. keeps-self bus.index other) (stale-right bus.index living one refl refl refl right) (rested-stale (settings_in bus) bus.stirred bus.index one refl)
 
 pub returns-clause-kept : goal.returns-clause-kept
 returns-clause-kept g c =
@@ -34,6 +38,14 @@ returns-clause-kept g c =
       body = refl;
       walker = refl;
     }
+
+pub returns-clause-idle : goal.returns-clause-idle
+returns-clause-idle g c other there =
+    let bus = c.args.self.now in
+    let living = c.index_mut-living.result.now in
+    let one = record living { ready = c.swap_remove.new.self; fresh = false } in
+    let it = live-at g.W.Walker.view bus c.args.at living c.requires.sound c.requires.within c.index_mut-living.ensures.value in
+    ap (λ (l : Living _). l.fresh) (sym (same_Some one other (sym (set-there bus.living.items c.args.at living one it.here) ∙ there)))
 
 pub returns-clause-others : goal.returns-clause-others
 returns-clause-others g c other ne = set-other c.args.self.now.living.items c.args.at other _ ne

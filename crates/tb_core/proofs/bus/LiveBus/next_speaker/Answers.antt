@@ -1,0 +1,19 @@
+use Rattle.std.proofs.Common.{List, IsTrue, ap, subst, sym}
+use Rattle.tb_index.specs.Indexes.{is_receiver}
+use Rattle.tb_index.specs.Pairs.{IsNext}
+use Rattle.tb_bus.specs.Helpers.Candidates.{Row, ascend, row_at, row_of, rows_of}
+use Rattle.tb_bus.specs.Helpers.Indexed.{IsNextPlace}
+use Rattle.tb_core.specs.Helpers.Indexes.{tool_mark}
+use Rattle.tb_bus.specs.declared.living.Living.{Living}
+use Rattle.tb_bus.proofs.PlaceLemmas.{row-is}
+use Rattle.tb_core.proofs.bus.LiveBus.next_speaker.Goals as goal
+
+pub returns : goal.returns
+returns g c =
+    let bus = c.args.self.now in
+    let all = bus.living.items in
+    let row = row-is all c.args.from c.index.result.now c.requires.within c.index.ensures in
+    let next = subst (λ (r : Row). IsNext (is_receiver bus.index tool_mark) r.number c.next_receiver-found.result) (sym row) c.next_receiver-found.ensures in
+    subst (λ (xs : List (Living _)). IsNextPlace (is_receiver bus.index tool_mark) (rows_of xs) c.args.from c.place_of.result) c.as_slice.ensures.value
+    (c.place_of.ensures (is_receiver bus.index tool_mark)
+    (subst (λ (xs : List (Living _)). IsNext (is_receiver bus.index tool_mark) (row_at (rows_of xs) c.args.from).number c.next_receiver-found.result) (sym c.as_slice.ensures.value) next))
