@@ -1,5 +1,5 @@
 -- How the offers that were seen give what is ready.
-use Rattle.std.proofs.Common.{◌≡◌, ℕ, ◌+◌, ◌<◌, ◌≤◌, List, [], ◌∷◌, ◌++◌, length, take, ap, subst, sym, ◌∙◌, arith, Option, Some, None, slice_get, option_map, append-nil, append_assoc, get_or}
+use Rattle.std.proofs.Common.{◌≡◌, ℕ, ◌+◌, ◌<◌, ◌≤◌, List, [], ◌∷◌, ◌++◌, length, take, ap, subst, sym, ◌∙◌, arith, Option, Some, None, slice_get, option_map, option_and_then, append-nil, append_assoc, get_or}
 use Rattle.std.specs.List.{All}
 use Rattle.std.specs.Option.{ForSome}
 use Rattle.std.proofs.lemmas.Option.{slice_get-map, slice_get-get_or}
@@ -8,19 +8,23 @@ use Rattle.std.proofs.lemmas.List.Elements.{All-more}
 use Rattle.tb_terms.specs.declared.sort.Sort.{Sort}
 use Rattle.tb_body.specs.declared.atom.Atom.{Atom}
 use Rattle.tb_algebra.specs.declared.offer.Offer.{Offer}
-use Rattle.tb_algebra.specs.Atoms.{times_of}
+use Rattle.tb_terms.specs.declared.expr.Expr.{Expr}
+use Rattle.tb_body.specs.declared.act.Act.{Act}
+use Rattle.tb_body.specs.declared.act.Act.TheVariants.{SndMsg, RecMsg}
+use Rattle.tb_algebra.specs.Atoms.{act_of, matched_exprs, patterns_of, sent_exprs, times_of, values_together}
 use Rattle.tb_algebra.specs.Offers.{Offered}
-use Rattle.tb_algebra.specs.Walks.{Walking, offers_of, seen, seen_offers, sorts_of}
+use Rattle.tb_algebra.specs.Walks.{Walking, offers_of, patterns_by, seen, seen_offers, sent_by, sorts_of}
 use Rattle.tb_algebra.proofs.Sorts.{offer_at-keeps}
 use Rattle.tb_bus.specs.declared.action.Action.{Action}
-use Rattle.tb_bus.specs.Actions.{action_of}
+use Rattle.tb_bus.specs.declared.action.Action.TheVariants as action
+use Rattle.tb_bus.specs.Actions.{action_in, action_of}
 use Rattle.tb_bus.specs.Helpers.Candidates.{ready_one, readies}
 use Rattle.tb_bus.specs.Helpers.Views.{no_offer}
 use Rattle.tb_bus.specs.declared.living.Ready.{Ready}
 use Rattle.tb_core.specs.Helpers.Lives.{IsTimeless}
 
 -- the offer that was seen at a position is that of the process there
-offer-seen : (atoms : List Atom) (now : ℕ) (walking : Walking) (looked : Option (List Offer)) (at : ℕ) (offered : Offered) (offer : Offer) →
+pub offer-seen : (atoms : List Atom) (now : ℕ) (walking : Walking) (looked : Option (List Offer)) (at : ℕ) (offered : Offered) (offer : Offer) →
     looked ≡ Some (seen_offers atoms now walking) → ForSome looked (λ offers. slice_get offers at ≡ Some offer) → slice_get (offers_of walking) at ≡ Some offered →
     offer ≡ seen atoms now offered
 offer-seen atoms now walking looked at offered offer e f h =
@@ -37,22 +41,39 @@ readies-more atoms now at (first ∷ before) offered =
     ap (λ rs. ready_one at first (action_of atoms now first) ++ rs) (readies-more atoms now (at + 1) before offered ∙ ap (λ n. readies atoms now (at + 1) before ++ ready_one n offered (action_of atoms now offered)) e)
     ∙ sym (append_assoc (ready_one at first (action_of atoms now first)) (readies atoms now (at + 1) before) (ready_one (at + length (first ∷ before)) offered (action_of atoms now offered)))
 
--- An offer that was looked at, with the action that was found for it: what is pushed for it, and where nothing is.
-module _ (atoms : List Atom) (now : ℕ) (walking : Walking) (looked : Option (List Offer)) (at : ℕ) (offered : Offered) (offer : Offer) (found : Option Action) (before : List Ready) where
-  pub ready-some : (action : Action) (after : List Ready) → looked ≡ Some (seen_offers atoms now walking) → ForSome looked (λ offers. slice_get offers at ≡ Some offer) → slice_get (offers_of walking) at ≡ Some offered →
-      (offer ≡ seen atoms now offered → found ≡ action_of atoms now offered) → found ≡ Some action → after ≡ before ++ record { offer = at; atom = offer.atom; action = action } ∷ [] →
-      after ≡ before ++ ready_one at offered (action_of atoms now offered)
-  ready-some action after saw there here finds e pushed =
-      let same = offer-seen atoms now walking looked at offered offer saw there here in
-      pushed
-      ∙ ap (λ (n : ℕ). let ready : Ready = record { offer = at; atom = n; action = action } in before ++ ready ∷ []) (ap (λ (o : Offer). o.atom) same)
-      ∙ ap (λ o. before ++ ready_one at offered o) (sym e ∙ finds same)
+-- an offer with an action is put at the end, and one without isn't
+pub ready-pushed : (at atom : ℕ) (offered : Offered) (action : Action) (wanted : Option Action) (before after : List Ready) → offered.atom ≡ atom → wanted ≡ Some action →
+    after ≡ before ++ record { offer = at; atom = atom; action = action } ∷ [] → after ≡ before ++ ready_one at offered wanted
+ready-pushed at atom offered action wanted before after same e pushed =
+    pushed
+    ∙ ap (λ (n : ℕ). let ready : Ready = record { offer = at; atom = n; action = action } in before ++ ready ∷ []) (sym same)
+    ∙ ap (λ found. before ++ ready_one at offered found) (sym e)
 
-  pub ready-none : looked ≡ Some (seen_offers atoms now walking) → ForSome looked (λ offers. slice_get offers at ≡ Some offer) → slice_get (offers_of walking) at ≡ Some offered →
-      (offer ≡ seen atoms now offered → found ≡ action_of atoms now offered) → found ≡ None → before ≡ before ++ ready_one at offered (action_of atoms now offered)
-  ready-none saw there here finds e =
-      let same = offer-seen atoms now walking looked at offered offer saw there here in
-      sym (append-nil before) ∙ ap (λ o. before ++ ready_one at offered o) (sym e ∙ finds same)
+pub ready-unpushed : (at : ℕ) (offered : Offered) (wanted : Option Action) (before : List Ready) → wanted ≡ None → before ≡ before ++ ready_one at offered wanted
+ready-unpushed at offered wanted before e = sym (append-nil before) ∙ ap (λ found. before ++ ready_one at offered found) (sym e)
+
+-- what an atom sends, or receives, was found and is put at the end
+pub found-pushed : {A : Type 0} (make : A → Action) (by : Offered → Option A) (offers : List Offered) (at atom : ℕ) (offered : Offered) (found : Option A) (value : A) (before after : List Ready) →
+    found ≡ option_and_then by (slice_get offers at) → found ≡ Some value → slice_get offers at ≡ Some offered → offered.atom ≡ atom →
+    after ≡ before ++ record { offer = at; atom = atom; action = make value } ∷ [] → after ≡ before ++ ready_one at offered (option_map make (by offered))
+found-pushed make by offers at atom offered found value before after finds is here same pushed =
+    ready-pushed at atom offered (make value) (option_map make (by offered)) before after same
+    (ap (option_map make) (sym (ap (option_and_then by) here) ∙ sym finds ∙ is)) pushed
+
+pub found-unpushed : {A : Type 0} (make : A → Action) (by : Offered → Option A) (offers : List Offered) (at : ℕ) (offered : Offered) (found : Option A) (before : List Ready) →
+    found ≡ option_and_then by (slice_get offers at) → found ≡ None → slice_get offers at ≡ Some offered → before ≡ before ++ ready_one at offered (option_map make (by offered))
+found-unpushed make by offers at offered found before finds is here =
+    ready-unpushed at offered (option_map make (by offered)) before (ap (option_map make) (sym (ap (option_and_then by) here) ∙ sym finds ∙ is))
+
+-- that is the action of an atom that sends,
+pub sends-in : (atoms : List Atom) (offered : Offered) (act : Act) (exprs : List Expr) → act_of atoms offered.atom ≡ act → act ≡ SndMsg exprs → option_map action.Send (sent_by atoms offered) ≡ action_in offered.store act
+sends-in atoms offered act exprs e f =
+    ap (λ a. option_map action.Send (values_together offered.store (sent_exprs a))) (e ∙ f) ∙ ap (action_in offered.store) (sym f)
+
+-- and of one that receives
+pub receives-in : (atoms : List Atom) (offered : Offered) (act : Act) (exprs : List Expr) → act_of atoms offered.atom ≡ act → act ≡ RecMsg exprs → option_map action.Receive (patterns_by atoms offered) ≡ action_in offered.store act
+receives-in atoms offered act exprs e f =
+    ap (λ a. option_map action.Receive (patterns_of offered.store (matched_exprs a))) (e ∙ f) ∙ ap (action_in offered.store) (sym f)
 
 -- what is ready of the offers up to a position, and of the one there
 readies-step : (atoms : List Atom) (now at : ℕ) (offers : List Offered) (d : Offered) → at < length offers →

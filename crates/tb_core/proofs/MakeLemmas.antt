@@ -58,7 +58,7 @@ use Rattle.tb_core.specs.declared.acting.Done.{Done}
 use Rattle.tb_core.specs.declared.bus.LiveBus.{LiveBus}
 use Rattle.tb_core.proofs.ReadLemmas.{body-there, live-there, map-there, some-at}
 use Rattle.tb_core.proofs.FreshLemmas.{ActionFits, OwnFits, action-at, fits-at}
-use Rattle.tb_core.proofs.HoldLemmas.{row-held}
+use Rattle.tb_core.proofs.HoldLemmas.{nothing-changed, row-held}
 use Rattle.tb_core.proofs.RowsLemmas.{searched-for}
 use Rattle.tb_core.proofs.SpokenLemmas.{speaking-around}
 
@@ -338,6 +338,14 @@ acted-own view old begun mid at index own it same kept named change = record {
   takes = it.takes;
 }
 
+-- what is seen by its kind alone changes nothing
+pub acted-tau : {W P T : Type 0} (view : View P W T) (old begun : LiveBus W P T) (at index : ℕ) (taken : T) → IsSound view old → AreFresh old.living.items → IsCandidateIn (scene_in old) (candidate.Own at index) →
+    Leaves view old at taken (offer_of (procs_in view old) (rows_of old.living.items) at index) → (ready_at (rows_of old.living.items) at index).action ≡ action.Own own.Tau → StandsAs view old begun → IsKept old.living.items begun.living.items at →
+    Contains begun.stale.items (row_at (rows_of old.living.items) at).number → IsActed view old begun begun at index (effect_by begun.marks.next_number own.Tau)
+acted-tau view old begun at index taken sound fresh found leaves e same kept named =
+    acted-own view old begun begun at index own.Tau (own-at view old begun at index taken own.Tau sound fresh found leaves e same) same kept named
+    (nothing-changed view begun at kept.after (effect_by begun.marks.next_number own.Tau) same.sound kept.there refl)
+
 -- a note that is sent
 pub acted-note : {W P T : Type 0} (view : View P W T) (old begun mid : LiveBus W P T) (at index : ℕ) (indices : List ℕ) (taken : T) (note : List Term) → IsSound view old → AreFresh old.living.items → IsCandidateIn (scene_in old) (candidate.Notify at index indices) →
     Leaves view old at taken (offer_of (procs_in view old) (rows_of old.living.items) at index) → (ready_at (rows_of old.living.items) at index).action ≡ action.Notify note → StandsAs view old begun → IsKept old.living.items begun.living.items at →
@@ -514,10 +522,6 @@ handshake-made view old taken new at index other action binds last is its same n
     ∙ ap (λ (n : ℕ). let after : Bus = record (bus_of view old) { procs = advance n received binds (advance (row_at (rows_of taken.living.items) at).number offer [] procs); last_starter = last } in after) (number_its ∙ its.number)
     ∙ ap (λ (n : ℕ). let after : Bus = record (bus_of view old) { procs = advance receiver received binds (advance n offer [] procs); last_starter = last } in after) (number ∙ is.number)
     ∙ ap (λ (n : ℕ). let after : Bus = record (bus_of view old) { procs = advance receiver received binds (advance sender offer [] procs); last_starter = n } in after) (g ∙ is.number)
-
--- the terms that were taken are those that are sent
-pub sent-is : (taken ready : Ready) (read terms : List Term) → taken ≡ ready → taken.action ≡ action.Send terms → read ≡ terms → read ≡ sent_in ready.action
-sent-is taken ready read terms e f g = g ∙ sym (ap (λ (r : Ready). sent_in r.action) (sym e) ∙ ap sent_in f)
 
 -- what is seen of it
 pub handshake-label : (from to : Place) (sender : Proc) (sent : Offered) (receiver : Proc) (received : Offered) (shown terms : List Term) (binds : List Bind) → from ≡ place_of sender sent → to ≡ place_of receiver received → shown ≡ terms →

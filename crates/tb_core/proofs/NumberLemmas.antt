@@ -1,13 +1,15 @@
 -- The living stand by their numbers, so the only one with a number stands where those with smaller numbers end.
 use Rattle.std.proofs.Common.{◌≡◌, ◌<◌, ◌≤◌, ◌⊎◌, ℕ, zero, suc, List, [], ◌∷◌, length, sym, ap, subst, ◌∙◌, arith, true, false, nat_lt, get_or, slice_set, Contains, inl, inr}
-use Rattle.std.proofs.lemmas.Bool.{ltb-true, ltb-false, cases_lt, cases_eq}
+use Rattle.std.proofs.lemmas.Bool.{ltb-true, ltb-false, lt-ltb, le-ltb, cases_lt, cases_eq}
+use Rattle.std.proofs.lemmas.Option.{get_or_from_slice_get, slice_get-get_or}
 use Rattle.std.proofs.lemmas.List.{get_or-set_same, get_or-set_other, length-set}
 use Rattle.std.specs.List.{All}
-use Rattle.std.specs.List.Sorted.{IsNonDecreasingBy, IsPartitionPoint, IsPartitionedBy}
+use Rattle.std.specs.List.Sorted.{IsNonDecreasingBy, IsPartitionedBy}
 use Rattle.std.proofs.lemmas.List.Sorted.{IsPartitionedBy-ltb}
 use Rattle.tb_bus.specs.Helpers.Candidates.{ascend, row_of, rows_of}
 use Rattle.tb_bus.specs.declared.living.Living.{Living}
 use Rattle.tb_bus.proofs.TurnLemmas.{ascend-first}
+use Rattle.tb_core.specs.Helpers.Lives.{IsWhere}
 use Rattle.tb_core.specs.Helpers.LiveBuses.{IsFreshOr}
 
 -- each number is above the bound
@@ -36,9 +38,18 @@ numbers-between all i j d (inr ne) h le within =
 pub numbers-rise : {W : Type 0} (all : List (Living W)) → ascend 0 (rows_of all) ≡ true → IsNonDecreasingBy (λ (living : Living W). living.number) all
 numbers-rise all h i j d le within = numbers-between all i j d (cases_eq i j) h le within
 
--- the index where those with smaller numbers end
-abbrev pub IsWhere : {W : Type 0} → ℕ → List (Living W) → ℕ → Type 0
-IsWhere number all at = IsPartitionPoint (λ living. nat_lt living.number number ≡ true) (λ living. nat_lt living.number number ≡ false) all at
+-- the one with the number stands there
+pub where-exact : {W : Type 0} (number at : ℕ) (all : List (Living W)) (some : Living W) → ascend 0 (rows_of all) ≡ true → at < length all → (get_or all at some).number ≡ number → IsWhere number all at
+where-exact {W = W} number at all some h within is = (
+  λ k d low less.
+      let there = ap (λ (l : Living W). l.number) (get_or_from_slice_get all at (get_or all at some) d (slice_get-get_or all at some within)) ∙ is in
+      let small = numbers-ascend 0 all k at d h less within in
+      lt-ltb (get_or all k d).number number (omega (arith, small, there)),
+  λ k d low long.
+      let there = ap (λ (l : Living W). l.number) (get_or_from_slice_get all at (get_or all at some) d (slice_get-get_or all at some within)) ∙ is in
+      let large = numbers-between all at k d (cases_eq at k) h low long in
+      le-ltb (get_or all k d).number number (omega (arith, large, there)),
+)
 
 pub partitioned-below : {W : Type 0} (number : ℕ) (all read : List (Living W)) → read ≡ all → ascend 0 (rows_of all) ≡ true → IsPartitionedBy (λ living. nat_lt living.number number) read
 partitioned-below number all read e h = subst (λ xs. IsPartitionedBy (λ living. nat_lt living.number number) xs) (sym e) (IsPartitionedBy-ltb (λ living. living.number) all number (numbers-rise all h))

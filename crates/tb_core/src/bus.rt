@@ -1,6 +1,7 @@
 ghost use Rattle.std.specs.Prelude.{◌≡◌, ℕ, min};
 ghost use Rattle.std.below.core.specs.declared.int.usize.TheConstants.{MAX};
 ghost use Rattle.tb_log.specs.Limits.{terms_size};
+ghost use Rattle.tb_bus.specs.Helpers.Views.{sent_in};
 ghost use Rattle.tb_core.specs.Helpers.Makings.{effect_by, shown_in};
 
 use crate::acting::{
@@ -8,11 +9,12 @@ use crate::acting::{
 };
 use crate::inboxes::{hand_out, subscribe_at, take_note_at, unsubscribe_at};
 use crate::indexing::{TOOL_MARK, index_of, no_marks, turn, update};
-use crate::looking::{go_on, look};
+use crate::looking::{go_on, look, point_of};
 use crate::opening::{numbers_of, open_all, open_at, plan_all};
 use crate::speaking::{is_declared, seen_size, speak};
 use crate::ticking::tick_all;
 use std::alloc::Global;
+use std::mem::swap;
 use tb_algebra::Walker;
 use tb_bus::{
     Action, Candidate, Exchange, Living, Marks, Origin, OwnAction, Partner, Ready, Received,
@@ -75,7 +77,7 @@ impl<W: Walker> LiveBus<W> {
     ghost use Rattle.tb_bus.specs.Steps.{moves, apply, label_of, nowhere, finish_reason, halt_reason};
     ghost use Rattle.tb_bus.specs.Traces.{aged_proc, fed, took, taken_out};
     ghost use Rattle.tb_bus.specs.Helpers.Candidates.{first, row_at, rows_of};
-    ghost use Rattle.tb_bus.specs.Helpers.Views.{ready_at, offer_of, proc_at, IsCandidateIn};
+    ghost use Rattle.tb_bus.specs.Helpers.Views.{ready_at, offer_of, proc_at, sent_in, IsCandidateIn};
     ghost use Rattle.tb_index.specs.Indexes.{is_awake, is_receiver};
     ghost use Rattle.tb_bus.specs.Helpers.Indexed.{IsNextPlace};
     ghost use Rattle.tb_core.specs.Helpers.Indexes.{AreStillAwake, IsAwakeAt, tool_mark};
@@ -151,7 +153,7 @@ impl<W: Walker> LiveBus<W> {
         ensures stale { self.new.stale ≡ self.old.stale }
         ensures fresh { (others : List ℕ) → All (IsFreshOr (number ∷ others)) self.old.living.items → OnOk result (All (IsFreshOr others) self.new.living.items) }
     {
-        let at = self.living.partition_point(|living| living.number < number);
+        let at = point_of(self.living.as_slice(), number);
         if at < self.living.len() {
             self.freshen_at(alloc, at)?;
         }
@@ -351,6 +353,36 @@ impl<W: Walker> LiveBus<W> {
         living.ready.swap_remove(index)
     }
 
+    /// A process has to be looked at anew from then on.
+    fn outdate(&mut self, at: usize)
+        requires sound { IsSound W.view self.old }
+        requires within { at < length self.old.living.items }
+        requires named { Contains self.old.stale.items (row_at (rows_of self.old.living.items) at).number }
+        ensures same { StandsAs W.view self.old self.new }
+        ensures stale { self.new.stale ≡ self.old.stale }
+        ensures kept { IsKept self.old.living.items self.new.living.items at }
+    {
+        self.living[at].fresh = false;
+    }
+
+    /// What one of the actions of a process sends. The process has to be looked at anew from then on.
+    fn take_sent(&mut self, alloc: Global, at: usize, index: usize) -> Terms
+        requires sound { IsSound W.view self.old }
+        requires within { at < length self.old.living.items }
+        requires index_within { index < length (row_at (rows_of self.old.living.items) at).ready }
+        requires named { Contains self.old.stale.items (row_at (rows_of self.old.living.items) at).number }
+        ensures sent { result ≡ sent_in (ready_at (rows_of self.old.living.items) at index).action }
+        ensures same { StandsAs W.view self.old self.new }
+        ensures stale { self.new.stale ≡ self.old.stale }
+        ensures kept { IsKept self.old.living.items self.new.living.items at }
+        ensures others { (other : ℕ) → other ≢ at → slice_get self.new.living.items other ≡ slice_get self.old.living.items other }
+        ensures long { length self.new.living.items ≡ length self.old.living.items }
+    {
+        let living = &mut self.living[at];
+        living.fresh = false;
+        sent_of(alloc, &mut living.ready[index].action)
+    }
+
     /// A process goes on with what was taken of it, and is gone where nothing is left.
     fn advance_at(&mut self, at: usize, taken: W::Taken, binds: Binds)
         requires sound { IsSound W.view self.old }
@@ -412,12 +444,28 @@ impl<W: Walker> LiveBus<W> {
     {
         match candidate {
             Candidate::Own(at, index) => self.make_own(alloc, at, index),
-            Candidate::Handshake(at, index, partner) => {
-                self.stale.reserve(2)?;
-                let sent = self.take_at(alloc, at, index)?;
-                let received = self.take_at(alloc, partner.living, partner.received.action)?;
-                Ok(self.make_handshake(alloc, at, index, sent, partner, received))
-            }
+            Candidate::Handshake(at, index, partner) => self.shake(alloc, at, index, partner),
+            other => self.make_seldom(alloc, other),
+        }
+    }
+
+    /// Likewise one that is seldom made, apart from the others since a function pays at entry for all that it may hold.
+    #[inline(never)]
+    fn make_seldom(&mut self, alloc: Global, candidate: Candidate) -> Result<Label, NoMemory>
+        requires sound { IsSound W.view self.old }
+        requires fresh { AreFresh self.old.living.items }
+        requires next { self.old.marks.next_number < 4294967295 }
+        requires tools { self.old.bench.next_tool ≤ most_tools }
+        requires found { IsCandidateIn (scene_in self.old) candidate }
+        ensures sound { IsSound W.view self.new }
+        ensures origin { self.new.origin ≡ self.old.origin }
+        ensures label { IfOk result (λ label. label ≡ label_of (move_in W.view self.old candidate)) }
+        ensures bus { OnOk result (bus_of W.view self.new ≡ apply (bus_of W.view self.old) (move_in W.view self.old candidate)) }
+        ensures err { OnErr result (bus_of W.view self.new ≡ bus_of W.view self.old) }
+    {
+        match candidate {
+            Candidate::Own(at, index) => self.make_own(alloc, at, index),
+            Candidate::Handshake(at, index, partner) => self.shake(alloc, at, index, partner),
             Candidate::Notify(at, index, indices) => self.make_note(alloc, at, index, &indices),
             Candidate::TakeNote(at, index, found) => self.make_taking(alloc, at, index, found),
             Candidate::Speak(at, index, exchange) => {
@@ -426,6 +474,30 @@ impl<W: Walker> LiveBus<W> {
             Candidate::Finish => self.finish_bus(alloc),
             Candidate::Halt => self.halt_bus(alloc),
         }
+    }
+
+    /// A process sends, and another receives, as was found.
+    #[inline(never)]
+    fn shake(
+        &mut self,
+        alloc: Global,
+        at: usize,
+        index: usize,
+        partner: Partner,
+    ) -> Result<Label, NoMemory>
+        requires sound { IsSound W.view self.old }
+        requires fresh { AreFresh self.old.living.items }
+        requires found { IsCandidateIn (scene_in self.old) (Candidate.Handshake at index partner) }
+        ensures sound { IsSound W.view self.new }
+        ensures origin { self.new.origin ≡ self.old.origin }
+        ensures label { IfOk result (λ label. label ≡ label_of (move_in W.view self.old (Candidate.Handshake at index partner))) }
+        ensures bus { OnOk result (bus_of W.view self.new ≡ apply (bus_of W.view self.old) (move_in W.view self.old (Candidate.Handshake at index partner))) }
+        ensures err { OnErr result (bus_of W.view self.new ≡ bus_of W.view self.old) }
+    {
+        self.stale.reserve(2)?;
+        let sent = self.take_at(alloc, at, index)?;
+        let received = self.take_at(alloc, partner.living, partner.received.action)?;
+        Ok(self.make_handshake(alloc, at, index, sent, partner, received))
     }
 
     fn place_at(&self, at: usize, index: usize) -> Place
@@ -439,6 +511,35 @@ impl<W: Walker> LiveBus<W> {
             proc: living.number,
             atom: living.ready[index].atom,
         }
+    }
+
+    /// Whether one of the actions of a process is seen by its kind alone, and changes nothing.
+    fn is_tau(&self, at: usize, index: usize) -> bool
+        requires within { at < length self.now.living.items }
+        requires index_within { index < length (row_at (rows_of self.now.living.items) at).ready }
+        ensures { result ≡ true → (ready_at (rows_of self.now.living.items) at index).action ≡ Action.Own OwnAction.Tau }
+    {
+        match &self.living[at].ready[index].action {
+            Action::Own(OwnAction::Tau) => true,
+            _ => false,
+        }
+    }
+
+    /// Where one of the actions of a process stands. The process has to be looked at anew from then on.
+    fn leave(&mut self, at: usize, index: usize) -> Result<Place, NoMemory>
+        requires sound { IsSound W.view self.old }
+        requires within { at < length self.old.living.items }
+        requires index_within { index < length (row_at (rows_of self.old.living.items) at).ready }
+        ensures same { StandsAs W.view self.old self.new }
+        ensures number { IfOk result (λ from. from.proc ≡ (row_at (rows_of self.old.living.items) at).number) }
+        ensures atom { IfOk result (λ from. from.atom ≡ (ready_at (rows_of self.old.living.items) at index).atom) }
+        ensures kept { IsKept self.old.living.items self.new.living.items at }
+        ensures named { OnOk result (Contains self.new.stale.items (row_at (rows_of self.old.living.items) at).number) }
+    {
+        let from = self.place_at(at, index);
+        self.stale.push(from.proc)?;
+        self.outdate(at);
+        Ok(from)
     }
 
     /// One of the actions of a process, which has to be looked at anew from then on.
@@ -462,6 +563,40 @@ impl<W: Walker> LiveBus<W> {
 
     /// A process goes on by itself.
     fn make_own(&mut self, alloc: Global, at: usize, index: usize) -> Result<Label, NoMemory>
+        requires sound { IsSound W.view self.old }
+        requires fresh { AreFresh self.old.living.items }
+        requires next { self.old.marks.next_number < 4294967295 }
+        requires found { IsCandidateIn (scene_in self.old) (Candidate.Own at index) }
+        ensures made { OnOk result (IsMade W.view self.old (Candidate.Own at index) self.new) }
+        ensures label { IfOk result (λ label. label ≡ label_of (move_in W.view self.old (Candidate.Own at index))) }
+        ensures err { OnErr result (StandsAs W.view self.old self.new) }
+    {
+        if self.is_tau(at, index) {
+            self.make_tau(alloc, at, index)
+        } else {
+            self.make_act(alloc, at, index)
+        }
+    }
+
+    /// A process goes on by itself, and nothing is seen of it.
+    #[inline(never)]
+    fn make_tau(&mut self, alloc: Global, at: usize, index: usize) -> Result<Label, NoMemory>
+        requires sound { IsSound W.view self.old }
+        requires fresh { AreFresh self.old.living.items }
+        requires found { IsCandidateIn (scene_in self.old) (Candidate.Own at index) }
+        requires tau { (ready_at (rows_of self.old.living.items) at index).action ≡ Action.Own OwnAction.Tau }
+        ensures made { OnOk result (IsMade W.view self.old (Candidate.Own at index) self.new) }
+        ensures label { IfOk result (λ label. label ≡ label_of (move_in W.view self.old (Candidate.Own at index))) }
+        ensures err { OnErr result (StandsAs W.view self.old self.new) }
+    {
+        let taken = self.take_at(alloc, at, index)?;
+        let from = self.leave(at, index)?;
+        Ok(self.finish(at, taken, from, kind_alone(alloc, LabelKind::Tau)))
+    }
+
+    /// A process goes on by itself, as one of its actions says.
+    #[inline(never)]
+    fn make_act(&mut self, alloc: Global, at: usize, index: usize) -> Result<Label, NoMemory>
         requires sound { IsSound W.view self.old }
         requires fresh { AreFresh self.old.living.items }
         requires next { self.old.marks.next_number < 4294967295 }
@@ -712,9 +847,7 @@ impl<W: Walker> LiveBus<W> {
         let to = self.place_at(other, action);
         self.stale.push_reserved(from.proc);
         self.stale.push_reserved(to.proc);
-        let Action::Send(terms) = self.take_ready(at, index).action else {
-            unreachable!()
-        };
+        let terms = self.take_sent(alloc, at, index);
         self.advance_both(alloc, at, sent, other, received, binds);
         self.marks.last_starter = from.proc;
         Label {
@@ -909,6 +1042,18 @@ impl<W: Walker> LiveBus<W> {
         self.bench.show_lanes();
         handout
     }
+}
+
+/// Takes the terms that an action sends. It sends none from then on.
+fn sent_of(alloc: Global, action: &mut Action) -> Terms
+    ensures { result ≡ sent_in action.old }
+{
+    let mut sent = Items::new(alloc);
+    match action {
+        Action::Send(terms) | Action::Notify(terms) => swap(terms, &mut sent),
+        Action::Own(_) | Action::Receive(_) | Action::TakeNote(_) | Action::Speak(_) => {}
+    }
+    sent
 }
 
 /// How large the terms are that are seen of an action.

@@ -1,19 +1,19 @@
-ghost use Rattle.std.specs.Prelude.{◌≡◌, ◌<◌, ◌++◌, ℕ, List, [], length, slice_get, IfOk, IsTrue, OnOk, OnErr, Some, is_some, option_and_then, option_map, true, false};
+ghost use Rattle.std.specs.Prelude.{◌≡◌, ◌<◌, ◌++◌, ◌∷◌, ℕ, List, [], length, slice_get, IfOk, IsTrue, OnOk, OnErr, Some, is_some, option_and_then, option_map, true, false};
 ghost use Rattle.std.specs.List.{All};
 ghost use Rattle.std.specs.Option.{ForSome};
 ghost use Rattle.tb_func.specs.declared.slot.Slot.{Slot};
 ghost use Rattle.tb_algebra.specs.Atoms.{act_of, times_of};
 ghost use Rattle.tb_algebra.specs.Binds.{has_slot_sort, takes_binds};
 ghost use Rattle.tb_algebra.specs.Offers.{Offered};
-ghost use Rattle.tb_algebra.specs.Walks.{Walking, fired, is_end, offers_of, seen, seen_offers, sorts_of};
+ghost use Rattle.tb_algebra.specs.Walks.{fired, is_end, offers_of, patterns_by, seen, seen_offers, sent_by, sorts_of};
 ghost use Rattle.tb_func.specs.Printing.{printf_of};
 ghost use Rattle.tb_bus.specs.Actions.{action_in, action_of, create_action, print_action, set_action, shutdown_action, speak_about};
-ghost use Rattle.tb_bus.specs.Helpers.Candidates.{ready_one, readies};
-ghost use Rattle.tb_core.specs.Helpers.Lives.{IsFreshFor, IsLiveOn, IsTimeless, proc_by};
+ghost use Rattle.tb_bus.specs.Helpers.Candidates.{ascend, ready_one, readies, rows_of};
+ghost use Rattle.tb_core.specs.Helpers.Lives.{IsFreshFor, IsLiveOn, IsTimeless, IsWhere, proc_by};
 
 use std::alloc::Global;
 use tb_algebra::{Offer, Walker};
-use tb_body::{Act, Atoms, Body};
+use tb_body::{Act, Atom, Body};
 use tb_bus::{Action, Living, OwnAction, Ready, ToolAction};
 use tb_func::printf_text;
 use tb_match::{Bind, Binds};
@@ -101,58 +101,21 @@ fn shutdown_action(reasons: Option<Terms>) -> Option<Action>
     }
 }
 
+/// Puts an action at the end of what is ready.
+fn push(offer: usize, atom: u32, action: Action, ready: &mut Vec<Ready>) -> Result<(), NoMemory>
+    ensures { OnOk result (ready.new.items ≡ ready.old.items ++ record { offer = offer; atom = atom; action = action } ∷ []) }
+{
+    ready.push(Ready {
+        offer,
+        atom,
+        action,
+    })?;
+    Ok(())
+}
+
 /// The action of an offered atom, where its arguments have values.
+#[inline(never)]
 fn action_in<W: Walker>(
-    alloc: Global,
-    plan: &W::Plan,
-    body: &Body,
-    walker: &W,
-    k: usize,
-    act: &Act,
-) -> Result<Option<Action>, NoMemory>
-    requires on { W.view.is_on plan.now walker.now }
-    requires fresh { IsTrue (is_some (W.view.seen walker.now)) }
-    requires within { ForSome (W.view.seen walker.now) (λ offers. k < length offers) }
-    requires body { W.view.body_of plan.now ≡ body.now }
-    ensures { (offered : Offered) → slice_get (offers_of (W.view.walking plan.now walker.now)) k ≡ Some offered →
-        act_of body.now.atoms offered.atom ≡ act.now → sorts_of offered.store ≡ body.now.sorts →
-        IfOk result (λ action. action ≡ action_in offered.store act.now) }
-{
-    match act {
-        Act::Delta => Ok(None),
-        Act::Tau => Ok(Some(Action::Own(OwnAction::Tau))),
-        _ => message_action(alloc, plan, body, walker, k, act),
-    }
-}
-
-/// The same, and apart from it, since a function pays at entry for all that it may hold.
-#[inline(never)]
-fn message_action<W: Walker>(
-    alloc: Global,
-    plan: &W::Plan,
-    body: &Body,
-    walker: &W,
-    k: usize,
-    act: &Act,
-) -> Result<Option<Action>, NoMemory>
-    requires on { W.view.is_on plan.now walker.now }
-    requires fresh { IsTrue (is_some (W.view.seen walker.now)) }
-    requires within { ForSome (W.view.seen walker.now) (λ offers. k < length offers) }
-    requires body { W.view.body_of plan.now ≡ body.now }
-    ensures { (offered : Offered) → slice_get (offers_of (W.view.walking plan.now walker.now)) k ≡ Some offered →
-        act_of body.now.atoms offered.atom ≡ act.now → sorts_of offered.store ≡ body.now.sorts →
-        IfOk result (λ action. action ≡ action_in offered.store act.now) }
-{
-    match act {
-        Act::SndMsg(_) => Ok(walker.sent(alloc, plan, k)?.map(Action::Send)),
-        Act::RecMsg(_) => Ok(walker.patterns(alloc, plan, k)?.map(Action::Receive)),
-        _ => action_with(alloc, plan, body, walker, k, act),
-    }
-}
-
-/// The same once more, for every act.
-#[inline(never)]
-fn action_with<W: Walker>(
     alloc: Global,
     plan: &W::Plan,
     body: &Body,
@@ -201,111 +164,190 @@ fn action_with<W: Walker>(
     }
 }
 
-/// The action of an offer, where it is ready for one.
-fn action_of<W: Walker>(
+/// Puts what an offered atom sends at the end of what is ready, where its values are there. What is found is
+/// written in place, here and below, since each function that hands it on costs as much as the finding.
+fn push_send<W: Walker>(
     alloc: Global,
     plan: &W::Plan,
-    body: &Body,
     walker: &W,
     k: usize,
-    offer: Offer,
-) -> Result<Option<Action>, NoMemory>
-    requires on { W.view.is_on plan.now walker.now }
-    requires fresh { IsTrue (is_some (W.view.seen walker.now)) }
-    requires within { ForSome (W.view.seen walker.now) (λ offers. k < length offers) }
-    requires body { W.view.body_of plan.now ≡ body.now }
-    ensures { (now : ℕ) (offered : Offered) → slice_get (offers_of (W.view.walking plan.now walker.now)) k ≡ Some offered →
-        offer ≡ seen body.now.atoms now offered → sorts_of offered.store ≡ body.now.sorts →
-        IfOk result (λ action. action ≡ action_of body.now.atoms now offered) }
-{
-    if !offer.ready {
-        return Ok(None);
-    }
-    let place = (offer.atom as usize).saturating_sub(1);
-    match body.atoms.get(place) {
-        Some(atom) => action_in(alloc, plan, body, walker, k, &atom.act),
-        None => Ok(None),
-    }
-}
-
-/// Puts an offer at the end of what is ready, where it is ready for an action.
-fn push_ready<W: Walker>(
-    alloc: Global,
-    plan: &W::Plan,
-    body: &Body,
-    walker: &W,
-    at: usize,
+    atom: u32,
     ready: &mut Vec<Ready>,
 ) -> Result<(), NoMemory>
     requires on { W.view.is_on plan.now walker.now }
     requires fresh { IsTrue (is_some (W.view.seen walker.now)) }
-    requires within { ForSome (W.view.seen walker.now) (λ offers. at < length offers) }
-    requires body { W.view.body_of plan.now ≡ body.now }
-    ensures { (now : ℕ) (offered : Offered) → slice_get (offers_of (W.view.walking plan.now walker.now)) at ≡ Some offered →
-        W.view.seen walker.now ≡ Some (seen_offers body.now.atoms now (W.view.walking plan.now walker.now)) →
-        sorts_of offered.store ≡ body.now.sorts →
-        OnOk result (ready.new.items ≡ ready.old.items ++ ready_one at offered (action_of body.now.atoms now offered)) }
+    requires within { ForSome (W.view.seen walker.now) (λ offers. k < length offers) }
+    ensures { (offered : Offered) → slice_get (offers_of (W.view.walking plan.now walker.now)) k ≡ Some offered → offered.atom ≡ atom →
+        OnOk result (ready.new.items ≡ ready.old.items ++ ready_one k offered (option_map Action.Send (sent_by (W.view.body_of plan.now).atoms offered))) }
 {
-    let offer = walker.offer(at);
-    let atom = offer.atom;
-    match action_of(alloc, plan, body, walker, at, offer)? {
-        Some(action) => {
-            ready.push(Ready {
-                offer: at,
-                atom,
-                action,
-            })?;
+    match walker.sent(alloc, plan, k)? {
+        Some(terms) => {
+            push(k, atom, Action::Send(terms), ready)?;
             Ok(())
         }
         None => Ok(()),
     }
 }
 
-/// Fills what the process that was looked at is ready to do.
+/// Likewise what it receives, where its patterns are there.
+fn push_receive<W: Walker>(
+    alloc: Global,
+    plan: &W::Plan,
+    walker: &W,
+    k: usize,
+    atom: u32,
+    ready: &mut Vec<Ready>,
+) -> Result<(), NoMemory>
+    requires on { W.view.is_on plan.now walker.now }
+    requires fresh { IsTrue (is_some (W.view.seen walker.now)) }
+    requires within { ForSome (W.view.seen walker.now) (λ offers. k < length offers) }
+    ensures { (offered : Offered) → slice_get (offers_of (W.view.walking plan.now walker.now)) k ≡ Some offered → offered.atom ≡ atom →
+        OnOk result (ready.new.items ≡ ready.old.items ++ ready_one k offered (option_map Action.Receive (patterns_by (W.view.body_of plan.now).atoms offered))) }
+{
+    match walker.patterns(alloc, plan, k)? {
+        Some(patterns) => {
+            push(k, atom, Action::Receive(patterns), ready)?;
+            Ok(())
+        }
+        None => Ok(()),
+    }
+}
+
+/// Likewise any action.
+#[inline(never)]
+fn push_any<W: Walker>(
+    alloc: Global,
+    plan: &W::Plan,
+    body: &Body,
+    walker: &W,
+    k: usize,
+    atom: &Atom,
+    number: u32,
+    ready: &mut Vec<Ready>,
+) -> Result<(), NoMemory>
+    requires on { W.view.is_on plan.now walker.now }
+    requires fresh { IsTrue (is_some (W.view.seen walker.now)) }
+    requires within { ForSome (W.view.seen walker.now) (λ offers. k < length offers) }
+    requires body { W.view.body_of plan.now ≡ body.now }
+    ensures { (offered : Offered) → slice_get (offers_of (W.view.walking plan.now walker.now)) k ≡ Some offered → offered.atom ≡ number →
+        act_of body.now.atoms offered.atom ≡ atom.now.act → sorts_of offered.store ≡ body.now.sorts →
+        OnOk result (ready.new.items ≡ ready.old.items ++ ready_one k offered (action_in offered.store atom.now.act)) }
+{
+    match action_in(alloc, plan, body, walker, k, &atom.act)? {
+        Some(action) => {
+            push(k, number, action, ready)?;
+            Ok(())
+        }
+        None => Ok(()),
+    }
+}
+
+/// Likewise that of an atom whose times hold.
+fn push_action<W: Walker>(
+    alloc: Global,
+    plan: &W::Plan,
+    body: &Body,
+    walker: &W,
+    k: usize,
+    atom: &Atom,
+    number: u32,
+    ready: &mut Vec<Ready>,
+) -> Result<(), NoMemory>
+    requires on { W.view.is_on plan.now walker.now }
+    requires fresh { IsTrue (is_some (W.view.seen walker.now)) }
+    requires within { ForSome (W.view.seen walker.now) (λ offers. k < length offers) }
+    requires body { W.view.body_of plan.now ≡ body.now }
+    ensures { (offered : Offered) → slice_get (offers_of (W.view.walking plan.now walker.now)) k ≡ Some offered → offered.atom ≡ number →
+        act_of body.now.atoms offered.atom ≡ atom.now.act → sorts_of offered.store ≡ body.now.sorts →
+        OnOk result (ready.new.items ≡ ready.old.items ++ ready_one k offered (action_in offered.store atom.now.act)) }
+{
+    match &atom.act {
+        Act::Delta => Ok(()),
+        Act::Tau => push(k, number, Action::Own(OwnAction::Tau), ready),
+        Act::SndMsg(_) => push_send(alloc, plan, walker, k, number, ready),
+        Act::RecMsg(_) => push_receive(alloc, plan, walker, k, number, ready),
+        _ => push_any(alloc, plan, body, walker, k, atom, number, ready),
+    }
+}
+
+/// Whether an atom has times, or one before it has.
+fn any_times(before: bool, atom: &Atom) -> bool
+    ensures { result ≡ false → (before ≡ false) × (atom.now.times ≡ []) }
+{
+    if before {
+        return true;
+    }
+    !atom.times.is_empty()
+}
+
+/// Puts an offer at the end of what is ready, where it is ready for an action; whether its atom has times, or one before
+/// it has.
+fn push_ready<W: Walker>(
+    alloc: Global,
+    plan: &W::Plan,
+    body: &Body,
+    walker: &W,
+    k: usize,
+    offer: Offer,
+    before: bool,
+    ready: &mut Vec<Ready>,
+) -> Result<bool, NoMemory>
+    requires on { W.view.is_on plan.now walker.now }
+    requires fresh { IsTrue (is_some (W.view.seen walker.now)) }
+    requires within { ForSome (W.view.seen walker.now) (λ offers. k < length offers) }
+    requires body { W.view.body_of plan.now ≡ body.now }
+    ensures ready { (now : ℕ) (offered : Offered) → slice_get (offers_of (W.view.walking plan.now walker.now)) k ≡ Some offered →
+        offer ≡ seen body.now.atoms now offered → sorts_of offered.store ≡ body.now.sorts →
+        OnOk result (ready.new.items ≡ ready.old.items ++ ready_one k offered (action_of body.now.atoms now offered)) }
+    ensures timed { IfOk result (λ timed. timed ≡ false → (before ≡ false) × (times_of body.now.atoms offer.atom ≡ [])) }
+{
+    let place = (offer.atom as usize).saturating_sub(1);
+    let Some(atom) = body.atoms.get(place) else {
+        return Ok(before);
+    };
+    if !offer.ready {
+        return Ok(any_times(before, atom));
+    }
+    push_action(alloc, plan, body, walker, k, atom, offer.atom, ready)?;
+    Ok(any_times(before, atom))
+}
+
+/// Fills what the process that was looked at is ready to do; whether an atom with times is among its offers.
 fn fill<W: Walker>(
     alloc: Global,
     plan: &W::Plan,
     body: &Body,
     walker: &W,
     ready: &mut Vec<Ready>,
-) -> Result<(), NoMemory>
+) -> Result<bool, NoMemory>
     requires on { W.view.is_on plan.now walker.now }
     requires fresh { IsTrue (is_some (W.view.seen walker.now)) }
     requires body { W.view.body_of plan.now ≡ body.now }
     requires sorts { sorts_of (W.view.walking plan.now walker.now).store ≡ body.now.sorts }
-    ensures { (now : ℕ) → W.view.seen walker.now ≡ Some (seen_offers body.now.atoms now (W.view.walking plan.now walker.now)) →
+    ensures ready { (now : ℕ) → W.view.seen walker.now ≡ Some (seen_offers body.now.atoms now (W.view.walking plan.now walker.now)) →
         OnOk result (ready.new.items ≡ readies body.now.atoms now 0 (offers_of (W.view.walking plan.now walker.now))) }
+    ensures timed { (now : ℕ) → W.view.seen walker.now ≡ Some (seen_offers body.now.atoms now (W.view.walking plan.now walker.now)) →
+        IfOk result (λ timed. timed ≡ false → All (IsTimeless body.now.atoms) (offers_of (W.view.walking plan.now walker.now))) }
 {
     ready.clear();
+    let mut timed = false;
     for at in 0..walker.offer_count() {
-        push_ready(alloc, plan, body, walker, at, ready)?;
+        let offer = walker.offer(at);
+        timed = push_ready(alloc, plan, body, walker, at, offer, timed, ready)?;
     }
-    Ok(())
+    Ok(timed)
 }
 
-/// Whether an atom has times, by its number.
-fn has_times(atoms: &Atoms, number: u32) -> bool
-    ensures { result ≡ false → times_of atoms.now number ≡ [] }
+/// Where those end whose numbers are smaller. Seldom has anybody left who stood before the one with the number.
+pub fn point_of<W>(all: &[Living<W>], number: u32) -> usize
+    requires { IsTrue (ascend 0 (rows_of all.now)) }
+    ensures { IsWhere number all.now result }
 {
-    let place = (number as usize).saturating_sub(1);
-    match atoms.get(place) {
-        Some(atom) => !atom.times.is_empty(),
-        None => false,
+    let guess = (number as usize).saturating_sub(1);
+    if guess < all.len() && all[guess].number == number {
+        return guess;
     }
-}
-
-/// Whether an atom with times is among the offers of a process that was looked at.
-fn is_timed<W: Walker>(atoms: &Atoms, walker: &W) -> bool
-    requires { IsTrue (is_some (W.view.seen walker.now)) }
-    ensures { (now : ℕ) (walking : Walking) → W.view.seen walker.now ≡ Some (seen_offers atoms.now now walking) →
-        result ≡ false → All (IsTimeless atoms.now) (offers_of walking) }
-{
-    for at in 0..walker.offer_count() {
-        if has_times(atoms, walker.offer(at).atom) {
-            return true;
-        }
-    }
-    false
+    all.partition_point(|living| living.number < number)
 }
 
 /// Looks anew what a process is ready to do, on a bus that has seen so many ticks. It isn't fresh before the index has that.
@@ -326,8 +368,7 @@ pub fn look<W: Walker>(
 {
     living.fresh = false;
     living.walker.look(alloc, plan, now)?;
-    fill(alloc, plan, body, &living.walker, &mut living.ready)?;
-    living.timed = is_timed(&body.atoms, &living.walker);
+    living.timed = fill(alloc, plan, body, &living.walker, &mut living.ready)?;
     Ok(())
 }
 

@@ -1,19 +1,16 @@
 -- Marks that meet, and which of them are active.
-use Rattle.std.proofs.Common.{◌≡◌, ◌≢◌, ℕ, ◌<◌, ◌+◌, ◌++◌, Bool, true, false, not, ◌&&◌, ◌||◌, ◌==◌, List, [], ◌∷◌, length, take, drop, refl, ap, sym, ◌∙◌, subst, arith, rules, ◌⊎◌, inl, inr, ⊎_elim, get_or, zero, suc, cond}
+use Rattle.std.proofs.Common.{◌≡◌, ◌≢◌, ℕ, ◌<◌, ◌+◌, ◌++◌, Bool, true, false, not, ◌&&◌, ◌||◌, ◌==◌, List, [], ◌∷◌, length, take, drop, refl, ap, sym, ◌∙◌, subst, arith, ◌⊎◌, inl, inr, ⊎_elim, get_or, zero, suc, cond}
 use Rattle.std.proofs.lemmas.Bool.{eqb-true}
 use Rattle.std.proofs.lemmas.Bool.Decides.{nat_tests}
 use Rattle.std.proofs.lemmas.List.{take_more}
 use Rattle.std.proofs.lemmas.List.Folds.{list_any-append, list_any_more, list_any_at}
 use Rattle.std.specs.List.{list_any}
 use Rattle.std.specs.BTreeMap.{is_at}
-use Rattle.std.specs.BTreeSet.{BTreeSet}
+use Rattle.tb_index.specs.declared.pairs.Pairs.{Pairs}
 use Rattle.tb_index.specs.declared.mark.Mark.{Mark}
 use Rattle.tb_index.specs.Marks.{is_mark, has_mark, has_count, has_open, wide, meets, open_head}
-use Rattle.tb_index.specs.Pairs.{has, is_pair, is_sender, triple_cmp, AreOpened, AllOpened, AreCountedIf, AreOf, AreAdded, AreRemoved, AreCounted, AreCountedStill, AreHeard, SentAreHeard, ReceivedAreHeard, AreKept, SentAreKept, ReceivedAreKept, SamePairs}
+use Rattle.tb_index.specs.Pairs.{has, is_pair, is_sender, triple_cmp, AreOpened, AllOpened, AreOf, AreAdded, AreRemoved, AreCounted, AreCountedStill, AreHeard, SentAreHeard, ReceivedAreHeard, AreKept, SentAreKept, ReceivedAreKept, SamePairs}
 use Rattle.tb_index.proofs.PairLemmas as pairs
-
-abbrev pub Triples : Type 0
-Triples = BTreeSet (ℕ × ℕ × ℕ)
 
 pub same-number : (p : ℕ) → (p == p) ≡ true
 same-number p = grind (arith, nat_tests)
@@ -63,7 +60,7 @@ closed-meets k m closed e = ⊎_elim
 only-mark : (x k : Mark) → has_mark (x ∷ []) k ≡ true → k ≡ x
 only-mark x k e = ⊎_elim (λ (same : is_mark k x ≡ true). pairs.same-mark k x same) (λ (no : false ≡ true). absurd (cc)) (or-cases (is_mark k x) false e)
 
-module _ (r : Triples) (but : List Mark) where
+module _ (r : Pairs) (but : List Mark) where
   pub sent-skipped : (x : Mark) (a : List Mark) → has_mark but x ≡ true → SentAreHeard (x ∷ []) but r a
   sent-skipped x a t = λ received sent other e f h m. absurd (not-both (has_mark but sent) (ap (has_mark but) (only-mark x sent e) ∙ t) f)
 
@@ -89,11 +86,11 @@ module _ (r : Triples) (but : List Mark) where
       (λ (t : has_mark (get_or marks i d ∷ []) sent ≡ true). here received sent other t f h m)
       (or-cases (has_mark (take i marks) sent) (has_mark (get_or marks i d ∷ []) sent) (sym (list_any-append (is_mark sent) (take i marks) (get_or marks i d ∷ [])) ∙ e)))
 
-module _ (s : Triples) (but : List Mark) where
+module _ (s : Pairs) (but : List Mark) where
   pub received-skipped : (x : Mark) (a : List Mark) → has_mark but x ≡ true → ReceivedAreHeard (x ∷ []) but s a
   received-skipped x a t = λ received sent proc e f h m. absurd (not-both (has_mark but received) (ap (has_mark but) (only-mark x received e) ∙ t) f)
 
-  pub received-open : (c : Triples) (x : Mark) (a : List Mark) → x.head ≡ open_head → AreCounted s c → ((its : ℕ) → has c x its ≡ true → has_mark a x ≡ true) → ReceivedAreHeard (x ∷ []) but s a
+  pub received-open : (c : Pairs) (x : Mark) (a : List Mark) → x.head ≡ open_head → AreCounted s c → ((its : ℕ) → has c x its ≡ true → has_mark a x ≡ true) → ReceivedAreHeard (x ∷ []) but s a
   received-open c x a is_open counted many = λ received sent proc e f h m.
       let same : received ≡ x = only-mark x received e in
       ap (has_mark a) same ∙ many proc (ap (λ (k : Mark). has c k proc) (open-meets x sent is_open (ap (λ (k : Mark). meets k sent) (sym same) ∙ m)) ∙ counted sent proc h)
@@ -115,27 +112,27 @@ module _ (s : Triples) (but : List Mark) where
       (or-cases (has_mark (take i marks) received) (has_mark (get_or marks i d ∷ []) received) (sym (list_any-append (is_mark received) (take i marks) (get_or marks i d ∷ [])) ∙ e)))
 
 -- nobody sends what is received under the mark
-pub unsent-open : (s c : Triples) (x : Mark) → x.head ≡ open_head → AreCounted s c → ((its : ℕ) → has c x its ≡ false) → (sent : Mark) (proc : ℕ) → has s sent proc ≡ true → meets x sent ≡ false
+pub unsent-open : (s c : Pairs) (x : Mark) → x.head ≡ open_head → AreCounted s c → ((its : ℕ) → has c x its ≡ false) → (sent : Mark) (proc : ℕ) → has s sent proc ≡ true → meets x sent ≡ false
 unsent-open s c x is_open counted nobody sent proc h = ⊎_elim
     (λ (m : meets x sent ≡ true). absurd (not-both (has c x proc) (ap (λ (k : Mark). has c k proc) (open-meets x sent is_open m) ∙ counted sent proc h) (nobody proc)))
     (λ (apart : meets x sent ≡ false). apart)
     (bool-cases (meets x sent))
 
-pub unsent-closed : (s : Triples) (x : Mark) → (x.head ≡ open_head → ⊥) → ((its : ℕ) → has s x its ≡ false) → (sent : Mark) (proc : ℕ) → has s sent proc ≡ true → meets x sent ≡ false
+pub unsent-closed : (s : Pairs) (x : Mark) → (x.head ≡ open_head → ⊥) → ((its : ℕ) → has s x its ≡ false) → (sent : Mark) (proc : ℕ) → has s sent proc ≡ true → meets x sent ≡ false
 unsent-closed s x closed nobody sent proc h = ⊎_elim
     (λ (m : meets x sent ≡ true). absurd (not-both (has s x proc) (ap (λ (k : Mark). has s k proc) (closed-meets x sent closed m) ∙ h) (nobody proc)))
     (λ (apart : meets x sent ≡ false). apart)
     (bool-cases (meets x sent))
 
 -- so it may go
-pub unsent : (s : Triples) (x : Mark) (a a2 : List Mark) → ((sent : Mark) (proc : ℕ) → has s sent proc ≡ true → meets x sent ≡ false) →
+pub unsent : (s : Pairs) (x : Mark) (a a2 : List Mark) → ((sent : Mark) (proc : ℕ) → has s sent proc ≡ true → meets x sent ≡ false) →
     ((k : Mark) → is_mark k x ≡ false → has_mark a k ≡ true → has_mark a2 k ≡ true) → SentAreKept a a2 s
 unsent s x a a2 nobody others = λ received sent proc e h m. ⊎_elim
     (λ (same : is_mark received x ≡ true). absurd (not-both (meets x sent) (ap (λ (k : Mark). meets k sent) (sym (pairs.same-mark received x same)) ∙ m) (nobody sent proc h)))
     (λ (apart : is_mark received x ≡ false). others received apart e)
     (bool-cases (is_mark received x))
 
-pub unreceived : (r : Triples) (x : Mark) (a a2 : List Mark) → ((its : ℕ) → has r x its ≡ false) →
+pub unreceived : (r : Pairs) (x : Mark) (a a2 : List Mark) → ((its : ℕ) → has r x its ≡ false) →
     ((k : Mark) → is_mark k x ≡ false → has_mark a k ≡ true → has_mark a2 k ≡ true) → ReceivedAreKept a a2 r
 unreceived r x a a2 nobody others = λ received other e h. ⊎_elim
     (λ (same : is_mark received x ≡ true). absurd (not-both (has r x other) (ap (λ (k : Mark). has r k other) (sym (pairs.same-mark received x same)) ∙ h) (nobody other)))
@@ -154,7 +151,7 @@ any-without p (x ∷ xs) (suc i) d l e =
 has-count : (marks : List Mark) (k : Mark) → has_mark marks k ≡ true → has_count marks k.count ≡ true
 has-count marks k e = pairs.any-marked (λ (m : Mark). k.count == m.count) marks k e (same-number k.count)
 
-pub count-kept : (c c2 : Triples) (x : Mark) (marks : List Mark) (p : ℕ) → has_count marks x.count ≡ false →
+pub count-kept : (c c2 : Pairs) (x : Mark) (marks : List Mark) (p : ℕ) → has_count marks x.count ≡ false →
     ((k : Mark) (its : ℕ) → has c2 k its ≡ (has c k its && not (is_pair (wide x) p k its))) → AreCountedStill c c2 marks p
 count-kept c c2 x marks p none says = λ k its e own. ⊎_elim
     (λ (gone : is_pair (wide x) p (wide k) its ≡ true).
@@ -164,15 +161,15 @@ count-kept c c2 x marks p none says = λ k its e own. ⊎_elim
     (λ (stays : is_pair (wide x) p (wide k) its ≡ false). says (wide k) its ∙ ap (λ b. has c (wide k) its && not b) stays ∙ pairs.and-true (has c (wide k) its) ∙ e)
     (bool-cases (is_pair (wide x) p (wide k) its))
 
-pub counted-one : (c c2 : Triples) (x : Mark) (p : ℕ) → ((k : Mark) (its : ℕ) → has c2 k its ≡ (has c k its || is_pair x p k its)) → has c2 x p ≡ true
+pub counted-one : (c c2 : Pairs) (x : Mark) (p : ℕ) → ((k : Mark) (its : ℕ) → has c2 k its ≡ (has c k its || is_pair x p k its)) → has c2 x p ≡ true
 counted-one c c2 x p says = says x p ∙ pairs.or-right (has c x p) (is_pair x p x p)
     (both (is_mark x x) (p == p) (both (x.count == x.count) (x.head == x.head) (same-number x.count) (same-number x.head)) (same-number p))
 
-pub counted-kept : (c c2 : Triples) (x : Mark) (p : ℕ) → ((k : Mark) (its : ℕ) → has c2 k its ≡ (has c k its || is_pair x p k its)) → (k : Mark) (its : ℕ) → has c k its ≡ true → has c2 k its ≡ true
+pub counted-kept : (c c2 : Pairs) (x : Mark) (p : ℕ) → ((k : Mark) (its : ℕ) → has c2 k its ≡ (has c k its || is_pair x p k its)) → (k : Mark) (its : ℕ) → has c k its ≡ true → has c2 k its ≡ true
 counted-kept c c2 x p says k its e = says k its ∙ ap (λ b. b || is_pair x p k its) e
 
 -- what a process has once marks were added to it
-module _ (s0 s1 : Triples) (p : ℕ) (old new : List Mark) (own : AreOf s0 old p) (more : AreAdded s0 s1 new p) where
+module _ (s0 s1 : Pairs) (p : ℕ) (old new : List Mark) (own : AreOf s0 old p) (more : AreAdded s0 s1 new p) where
   pub added-cases : (k : Mark) (i : ℕ) → has s1 k i ≡ true → (has s0 k i ≡ true) ⊎ ((has_mark new k ≡ true) × (i ≡ p))
   added-cases k i e = ⊎_elim
       (λ (before : has s0 k i ≡ true). inl before)
@@ -189,7 +186,7 @@ module _ (s0 s1 : Triples) (p : ℕ) (old new : List Mark) (own : AreOf s0 old p
       (bool-cases (has_mark old k)))
       (added-cases k i e)
 
-  pub come-counted : (c0 c1 : Triples) → AreCounted s0 c0 → ((k : Mark) (i : ℕ) → has c0 k i ≡ true → has c1 k i ≡ true) →
+  pub come-counted : (c0 c1 : Pairs) → AreCounted s0 c0 → ((k : Mark) (i : ℕ) → has c0 k i ≡ true → has c1 k i ≡ true) →
       ((k : Mark) → has_mark new k ≡ true → has_mark old k ≡ false → has c1 (wide k) p ≡ true) → AreCounted s1 c1
   come-counted c0 c1 counted kept all = λ k i e. ⊎_elim
       (λ (before : has s0 k i ≡ true). kept (wide k) i (counted k i before))
@@ -199,7 +196,7 @@ module _ (s0 s1 : Triples) (p : ℕ) (old new : List Mark) (own : AreOf s0 old p
       (bool-cases (has_mark old k)))
       (added-cases k i e)
 
-pub come-heard : (s0 s1 r0 r1 : Triples) (p : ℕ) (old new gone came l l2 : List Mark) → AreOf s0 old p → AreOf r0 gone p → AreAdded s0 s1 new p → AreAdded r0 r1 came p →
+pub come-heard : (s0 s1 r0 r1 : Pairs) (p : ℕ) (old new gone came l l2 : List Mark) → AreOf s0 old p → AreOf r0 gone p → AreAdded s0 s1 new p → AreAdded r0 r1 came p →
     AreHeard s0 r0 l → AreKept l l2 → SentAreHeard new old r1 l2 → ReceivedAreHeard came gone s1 l2 → AreHeard s1 r1 l2
 come-heard s0 s1 r0 r1 p old new gone came l l2 own its more others heard kept sent_heard received_heard = λ received sent proc other h g m. ⊎_elim
     (λ (was : (j : ℕ) × (has s0 sent j ≡ true)). ⊎_elim
@@ -210,28 +207,32 @@ come-heard s0 s1 r0 r1 p old new gone came l l2 own its more others heard kept s
     (old-or-new s0 s1 p old new own more sent proc h)
 
 -- the same pairs are heard and counted alike
-pub same-heard : (s0 s2 r0 r2 : Triples) (l l2 : List Mark) → SamePairs s0 s2 → SamePairs r0 r2 → AreHeard s0 r0 l → AreKept l l2 → AreHeard s2 r2 l2
+pub same-heard : (s0 s2 r0 r2 : Pairs) (l l2 : List Mark) → SamePairs s0 s2 → SamePairs r0 r2 → AreHeard s0 r0 l → AreKept l l2 → AreHeard s2 r2 l2
 same-heard s0 s2 r0 r2 l l2 same equal heard kept = λ received sent proc other h g m.
     kept received (heard received sent proc other (sym (same sent proc) ∙ h) (sym (equal received other) ∙ g) m)
 
-pub same-counted : (s0 s2 c c2 : Triples) → SamePairs s0 s2 → AreCounted s0 c → ((k : Mark) (i : ℕ) → has c k i ≡ true → has c2 k i ≡ true) → AreCounted s2 c2
+pub same-counted : (s0 s2 c c2 : Pairs) → SamePairs s0 s2 → AreCounted s0 c → ((k : Mark) (i : ℕ) → has c k i ≡ true → has c2 k i ≡ true) → AreCounted s2 c2
 same-counted s0 s2 c c2 same counted kept = λ k i h. kept (wide k) i (counted k i (sym (same k i) ∙ h))
 
+-- where there are no marks none is removed
+pub none-removed : (s : Pairs) (marks others : List Mark) (p : ℕ) → marks ≡ [] → AreRemoved s s marks others p
+none-removed s marks others p e = λ k i. sym (pairs.and-true (has s k i)) ∙ ap (λ (some : List Mark). has s k i && not ((has_mark some k && not (has_mark others k)) && (i == p))) (sym e)
+
 -- where marks were removed
-module _ (s1 s2 : Triples) (p : ℕ) (marks others : List Mark) (less : AreRemoved s1 s2 marks others p) where
+module _ (s1 s2 : Pairs) (p : ℕ) (marks others : List Mark) (less : AreRemoved s1 s2 marks others p) where
   pub left : (k : Mark) (i : ℕ) → has s2 k i ≡ true → has s1 k i ≡ true
   left k i e = pairs.gone-less (has s2 k i) (has s1 k i) ((has_mark marks k && not (has_mark others k)) && (i == p)) (less k i) e
 
-  pub left-counted : (c1 c2 : Triples) → AreCounted s1 c1 → AreCountedStill c1 c2 others p → ((k : Mark) → has s2 k p ≡ true → has_mark others k ≡ true) → AreCounted s2 c2
+  pub left-counted : (c1 c2 : Pairs) → AreCounted s1 c1 → AreCountedStill c1 c2 others p → ((k : Mark) → has s2 k p ≡ true → has_mark others k ≡ true) → AreCounted s2 c2
   left-counted c1 c2 counted still own = λ k i h. still k i (counted k i (left k i h)) (λ (same : i ≡ p). own k (ap (has s2 k) (sym same) ∙ h))
 
-pub left-heard : (s1 s2 r1 r2 : Triples) (l1 l2 l3 : List Mark) → AreHeard s1 r1 l1 → ((k : Mark) (i : ℕ) → has s2 k i ≡ true → has s1 k i ≡ true) → ((k : Mark) (i : ℕ) → has r2 k i ≡ true → has r1 k i ≡ true) →
+pub left-heard : (s1 s2 r1 r2 : Pairs) (l1 l2 l3 : List Mark) → AreHeard s1 r1 l1 → ((k : Mark) (i : ℕ) → has s2 k i ≡ true → has s1 k i ≡ true) → ((k : Mark) (i : ℕ) → has r2 k i ≡ true → has r1 k i ≡ true) →
     SentAreKept l1 l2 s2 → ReceivedAreKept l2 l3 r2 → AreHeard s2 r2 l3
 left-heard s1 s2 r1 r2 l1 l2 l3 heard sent_left received_left sent_kept received_kept = λ received sent proc other h g m.
     received_kept received other (sent_kept received sent proc (heard received sent proc other (sent_left sent proc h) (received_left received other g) m) h m) g
 
 -- one mark more is counted
-pub count-more : (marks but : List Mark) (i : ℕ) (d : Mark) (c c2 : Triples) (p : ℕ) → i < length marks →
+pub count-more : (marks but : List Mark) (i : ℕ) (d : Mark) (c c2 : Pairs) (p : ℕ) → i < length marks →
     ((m : Mark) → has_mark (take i marks) m ≡ true → has_mark but m ≡ false → has c (wide m) p ≡ true) → ((k : Mark) (its : ℕ) → has c k its ≡ true → has c2 k its ≡ true) →
     (has_mark but (get_or marks i d) ≡ false → has c2 (wide (get_or marks i d)) p ≡ true) →
     (m : Mark) → has_mark (take (i + 1) marks) m ≡ true → has_mark but m ≡ false → has c2 (wide m) p ≡ true
@@ -248,7 +249,7 @@ dropped xs ys place x there less read counts heads left other apart e =
     let same : is_mark other there ≡ is_mark other x = ap (λ n. (other.count == n) && (other.head == there.head)) counts ∙ ap (λ n. (other.count == x.count) && (other.head == n)) heads in
     ap (λ (zs : List Mark). has_mark zs other) left ∙ any-without (is_mark other) xs place there less (ap (is_mark other) (sym read) ∙ same ∙ apart) ∙ e
 
-pub counted-pair : (c : Triples) (m : Mark) (p : ℕ) (t : ℕ × ℕ × ℕ) → is_at (triple_cmp (m.count, m.head, p)) t ≡ true → has c (record { count = t.0; head = open_head }) t.2 ≡ true → has c (wide m) p ≡ true
+pub counted-pair : (c : Pairs) (m : Mark) (p : ℕ) (t : ℕ × ℕ × ℕ) → is_at (triple_cmp (m.count, m.head, p)) t ≡ true → has c (record { count = t.0; head = open_head }) t.2 ≡ true → has c (wide m) p ≡ true
 counted-pair c m p t e h =
     let same : (((t.0 == m.count) && (t.1 == m.head)) && (t.2 == p)) ≡ true = sym (pairs.same-triple m.count m.head p t.0 t.1 t.2) ∙ e in
     let proc : t.2 ≡ p = eqb-true t.2 p (pairs.both-right ((t.0 == m.count) && (t.1 == m.head)) (t.2 == p) same) in
@@ -261,16 +262,16 @@ none-open opened marks none = λ mark e is_open. absurd (not-both (has_open mark
     (pairs.any-marked (λ (m : Mark). m.head == open_head) marks mark e (ap (λ n. n == open_head) is_open)) none)
 
 -- nobody receives under an open mark that isn't told
-pub come-opened : (o o2 : Bool) (r0 r1 : Triples) (p : ℕ) (new : List Mark) → AllOpened o r0 → (o ≡ true → o2 ≡ true) → AreOpened o2 new → AreAdded r0 r1 new p → AllOpened o2 r1
+pub come-opened : (o o2 : Bool) (r0 r1 : Pairs) (p : ℕ) (new : List Mark) → AllOpened o r0 → (o ≡ true → o2 ≡ true) → AreOpened o2 new → AreAdded r0 r1 new p → AllOpened o2 r1
 come-opened o o2 r0 r1 p new all kept marks more = λ mark proc e is_open. ⊎_elim
     (λ (before : has r0 mark proc ≡ true). kept (all mark proc before is_open))
     (λ (there : (has_mark new mark && (proc == p)) ≡ true). marks mark (pairs.both-left (has_mark new mark) (proc == p) there) is_open)
     (or-cases (has r0 mark proc) (has_mark new mark && (proc == p)) (sym (more mark proc) ∙ e))
 
-pub sender-open : (s c : Triples) (m : Mark) (p : ℕ) → m.head ≡ open_head → is_sender s c m p ≡ has c m p
+pub sender-open : (s c : Pairs) (m : Mark) (p : ℕ) → m.head ≡ open_head → is_sender s c m p ≡ has c m p
 sender-open s c m p is_open = ap (λ n. cond (n == open_head) (has c m p) (has s m p)) is_open
 
-pub sender-closed : (s c : Triples) (m : Mark) (p : ℕ) → (m.head ≡ open_head → ⊥) → is_sender s c m p ≡ has s m p
+pub sender-closed : (s c : Pairs) (m : Mark) (p : ℕ) → (m.head ≡ open_head → ⊥) → is_sender s c m p ≡ has s m p
 sender-closed s c m p closed = ap (λ b. cond b (has c m p) (has s m p)) (apart-number m.head open_head closed)
 
 pub mark-at : (marks : List Mark) (i : ℕ) (d : Mark) → i < length marks → has_mark marks (get_or marks i d) ≡ true

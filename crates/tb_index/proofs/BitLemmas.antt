@@ -1,12 +1,11 @@
 -- Bits of words.
-use Rattle.std.proofs.Common.{◌≡◌, ◌≢◌, ℕ, ◌+◌, ◌-◌, ◌*◌, ◌/◌, ◌%◌, ◌^◌, ◌<◌, ◌≤◌, List, [], ◌∷◌, length, slice_index, slice_set, refl, ap, sym, ◌∙◌, arith, rules, Some, None, Option, bit_or, bit_and, w64, ◌⊎◌, inl, inr, ⊎_elim, pow-add, get_or, zero, suc, Bool, true, false}
+use Rattle.std.proofs.Common.{◌≡◌, ◌≢◌, ℕ, ◌+◌, ◌-◌, ◌*◌, ◌/◌, ◌%◌, ◌^◌, ◌<◌, ◌≤◌, List, [], ◌∷◌, length, slice_index, slice_set, ap, sym, ◌∙◌, arith, Some, None, Option, ◌⊎◌, inl, inr, ⊎_elim, pow-add, get_or, zero, suc}
 use Rattle.std.proofs.lemmas.Bool.{cases_eq, cases_lt}
-use Rattle.std.proofs.lemmas.Grind.{common_steps}
 use Rattle.std.proofs.lemmas.List.{get_or-set_other, get_or-set_same, get_or_past}
-use Rattle.std.proofs.lemmas.Nat.Bits.{bit_at-trailing_zeros, bit_at_set_same, bit_at_set_other, bit_at_clear_same, bit_at_clear_other, bit_at_above, bit_at-zero, bit_at-lt}
+use Rattle.std.proofs.lemmas.Nat.Bits.{bit_at_above, bit_at-zero}
 use Rattle.std.proofs.Math.Nat.{div-div-eq-div-mul}
-use Rattle.std.specs.Int.{bit_at, bit_not, trailing_zeros}
-use Rattle.tb_index.specs.Bits.{bit_in, IsNextBit, IsTwoRows, most_words}
+use Rattle.std.specs.Int.{bit_at}
+use Rattle.tb_index.specs.Bits.{bit_in, IsNextBit, IsTwoRows}
 
 -- a word that is written is read there
 pub bit_in-written : (words : List ℕ) (n v : ℕ) → n / 64 < length words → bit_in (slice_set words (n / 64) v) n ≡ bit_at v (n % 64)

@@ -1,32 +1,30 @@
 -- What an index is after a change of its parts.
-use Rattle.std.proofs.Common.{◌≡◌, ◌≢◌, ℕ, ◌<◌, ◌≤◌, ◌/◌, ◌+◌, Bool, true, false, not, ◌&&◌, ◌||◌, ◌==◌, List, [], ◌∷◌, length, take, Option, Some, None, refl, ap, sym, ◌∙◌, arith, rules, ◌⊎◌, inl, inr, ⊎_elim, get_or, Result, Ok, Err, OnOk, OnErr}
+use Rattle.std.proofs.Common.{◌≡◌, ◌≢◌, ℕ, ◌<◌, ◌≤◌, ◌/◌, Bool, true, false, ◌||◌, ◌==◌, List, [], length, Option, refl, ap, ◌∙◌, arith, ⊎_elim, Result, Ok, Err, OnOk, OnErr}
 use Rattle.std.proofs.lemmas.Bool.{eqb-true}
-use Rattle.std.proofs.lemmas.Bool.Decides.{nat_tests}
-use Rattle.std.proofs.lemmas.List.Folds.{list_any_more}
 use Rattle.std.proofs.lemmas.Nat.Bits.{bit_at-zero}
 use Rattle.std.specs.List.{list_any}
-use Rattle.std.specs.BTreeSet.{BTreeSet}
+use Rattle.tb_index.specs.declared.pairs.Pairs.{Pairs}
 use Rattle.tb_index.specs.declared.mark.Mark.{Mark}
-use Rattle.tb_index.specs.Marks.{is_mark, has_mark, wide, meets, open_head}
+use Rattle.tb_index.specs.Marks.{has_mark, wide, meets, open_head}
 use Rattle.tb_index.specs.Pairs.{has, is_sender, AreOf, AreAdded, AreRemoved, SamePairs, IsFirst, IsNext, earlier}
 use Rattle.tb_index.specs.Bits.{bit_in}
 use Rattle.tb_index.specs.Indexes.{IndexState, sends, receives, is_receiver, is_awake, starts, HasRoom, IsEmpty, SameIndex, IsSet, IsCleared, IsTurned, IsTied}
 use Rattle.tb_index.proofs.ActiveLemmas as active
-use Rattle.tb_index.proofs.ActiveLemmas.{Triples, same-number, apart-number}
+use Rattle.tb_index.proofs.ActiveLemmas.{same-number, apart-number}
 use Rattle.tb_index.proofs.PairLemmas as pairs
 
-abbrev pub state : Triples → Triples → Bool → Triples → List ℕ → List Mark → IndexState
+abbrev pub state : Pairs → Pairs → Bool → Pairs → List ℕ → List Mark → IndexState
 state sending receiving opened counted awake active = record { sending = sending; receiving = receiving; opened = opened; counted = counted; awake = awake; active = active }
 
 pub on-err : {X E : Type 0} {P : Type 0} (result : Result X E) → P → OnErr result P
 on-err (Ok value) p = tt
 on-err (Err error) p = p
 
-pub undone-pairs : (s s1 s2 : Triples) (p : ℕ) (old new : List Mark) → AreOf s old p → AreAdded s s1 new p → AreRemoved s1 s2 new old p → SamePairs s s2
+pub undone-pairs : (s s1 s2 : Pairs) (p : ℕ) (old new : List Mark) → AreOf s old p → AreAdded s s1 new p → AreRemoved s1 s2 new old p → SamePairs s s2
 undone-pairs s s1 s2 p old new own more less = λ m o. pairs.undone (has s2 m o) (has s1 m o) (has s m o) (has_mark new m) (has_mark new m) (has_mark old m) (o == p)
     (less m o) (more m o) (λ e. ap (has s m) (eqb-true o p e) ∙ own m) (λ e. e)
 
-module _ (s r : Triples) (q : Bool) (c : Triples) (a : List ℕ) (l : List Mark) where
+module _ (s r : Pairs) (q : Bool) (c : Pairs) (a : List ℕ) (l : List Mark) where
   pub empty : ((m : Mark) (p : ℕ) → has s m p ≡ false) → ((m : Mark) (p : ℕ) → has r m p ≡ false) → a ≡ [] → IsEmpty (state s r q c a l)
   unfolding sends receives is_awake
   empty none nobody e = record {
@@ -79,7 +77,7 @@ module _ (s r : Triples) (q : Bool) (c : Triples) (a : List ℕ) (l : List Mark)
   unfolding receives
   own-receives p marks own = own
 
-  pub same-pairs : (s2 r2 : Triples) (q2 : Bool) (c2 : Triples) (l2 : List Mark) → SamePairs s s2 → SamePairs r r2 → SameIndex (state s r q c a l) (state s2 r2 q2 c2 a l2)
+  pub same-pairs : (s2 r2 : Pairs) (q2 : Bool) (c2 : Pairs) (l2 : List Mark) → SamePairs s s2 → SamePairs r r2 → SameIndex (state s r q c a l) (state s2 r2 q2 c2 a l2)
   unfolding sends receives is_awake HasRoom
   same-pairs s2 r2 q2 c2 l2 sent received = record {
     same_sends = sent;
@@ -99,7 +97,7 @@ module _ (s r : Triples) (q : Bool) (c : Triples) (a : List ℕ) (l : List Mark)
     same_room = λ o room. room;
   }
 
-  module _ (s1 r1 s2 r2 : Triples) (q2 : Bool) (c2 : Triples) (l2 : List Mark) (p : ℕ) (old new gone came : List Mark) where
+  module _ (s1 r1 s2 r2 : Pairs) (q2 : Bool) (c2 : Pairs) (l2 : List Mark) (p : ℕ) (old new gone came : List Mark) where
     pub is-set : AreOf s old p → AreOf r gone p → AreAdded s s1 new p → AreAdded r r1 came p → AreRemoved s1 s2 old new p → AreRemoved r1 r2 gone came p →
         IsSet (state s r q c a l) (state s2 r2 q2 c2 a l2) p new came
     unfolding sends receives is_awake HasRoom
@@ -112,7 +110,7 @@ module _ (s r : Triples) (q : Bool) (c : Triples) (a : List ℕ) (l : List Mark)
       same_room = λ o room. room;
     }
 
-  pub cleared : (s2 r2 : Triples) (q2 : Bool) (c2 : Triples) (bits : List ℕ) (l2 : List Mark) (p : ℕ) (old gone : List Mark) → AreOf s old p → AreOf r gone p → AreRemoved s s2 old [] p → AreRemoved r r2 gone [] p →
+  pub cleared : (s2 r2 : Pairs) (q2 : Bool) (c2 : Pairs) (bits : List ℕ) (l2 : List Mark) (p : ℕ) (old gone : List Mark) → AreOf s old p → AreOf r gone p → AreRemoved s s2 old [] p → AreRemoved r r2 gone [] p →
       bit_in bits p ≡ 0 → ((k : ℕ) → k ≢ p → bit_in bits k ≡ bit_in a k) → length bits ≡ length a → IsCleared (state s r q c a l) (state s2 r2 q2 c2 bits l2) p
   unfolding sends receives is_awake HasRoom
   cleared s2 r2 q2 c2 bits l2 p old gone own its less fewer here others long = record {
@@ -129,6 +127,15 @@ module _ (s r : Triples) (q : Bool) (c : Triples) (a : List ℕ) (l : List Mark)
       IsNext (is_receiver (state s r q c a l) m) from (earlier just open_ones)
   unfolding receives
   next-receiver m from just open_ones h g = pairs.first-next _ from (earlier just open_ones) (pairs.first-both (has r m) (has r (wide m)) from just open_ones h g)
+
+  -- where no open mark is told, nobody receives under one
+  pub next-closed : IsTied (state s r q c a l) → q ≡ false → (m : Mark) (from : ℕ) (just : Option ℕ) → IsFirst (has r m) from just → IsNext (is_receiver (state s r q c a l) m) from just
+  unfolding receives
+  next-closed tied none m from just h = pairs.first-next _ from just (pairs.first-same (has r m) (λ p. has r m p || has r (wide m) p) from just
+      (λ p. ap (λ b. has r m p || b) (⊎_elim
+      (λ (told : has r (wide m) p ≡ true). absurd (active.not-both q (tied.opened (wide m) p told refl) none))
+      (λ (nobody : has r (wide m) p ≡ false). nobody)
+      (active.bool-cases (has r (wide m) p))) ∙ pairs.or-false (has r m p)) h)
 
   pub next-starter : (from : ℕ) (one other : Option ℕ) → IsFirst (λ n. bit_in a n == 1) from one →
       IsFirst (λ p. list_any (λ (m : Mark). is_sender s c m p) l) from other → IsNext (starts (state s r q c a l)) from (earlier one other)

@@ -3,3 +3,4 @@ mod PairLemmas
 mod BitLemmas
 mod ActiveLemmas
 mod IndexLemmas
+mod SlotLemmas

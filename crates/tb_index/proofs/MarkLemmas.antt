@@ -1,5 +1,5 @@
 -- What matches has as many, and heads that meet.
-use Rattle.std.proofs.Common.{◌≡◌, ℕ, ◌+◌, List, [], ◌∷◌, map, length, Bool, true, false, Option, Some, None, refl, ap, sym, ◌∙◌, arith, ◌⊎◌, inl, inr, if◌then◌else◌, slice_get}
+use Rattle.std.proofs.Common.{◌≡◌, ℕ, List, [], ◌∷◌, map, length, Bool, true, false, Option, Some, None, refl, ap, sym, ◌∙◌, arith, ◌⊎◌, inl, inr, if◌then◌else◌, slice_get}
 use Rattle.std.proofs.lemmas.List.{length-map}
 use Rattle.std.specs.Str.{bytes_eq}
 use Rattle.tb_terms.specs.declared.term.Term.{Term, Term-F, out-Term}
@@ -11,13 +11,11 @@ use Rattle.std.proofs.lemmas.Bool.Decides.{nat_tests}
 use Rattle.tb_terms.specs.declared.pattern.Pattern.{Pattern, Pattern-F, map-Pattern, out-Pattern, fold_out-Pattern}
 use Rattle.tb_terms.specs.declared.pattern.Pattern.TheOpen as pattern
 use Rattle.tb_terms.specs.Same.{is_same_term}
-use Rattle.tb_terms.specs.Sorts.{has_sort}
 use Rattle.tb_terms.proofs.SameLemmas.{is_same-sound}
 use Rattle.tb_match.specs.declared.bind.Bind.{Bind}
 use Rattle.tb_match.specs.Joining.{both}
 use Rattle.tb_match.specs.Matches.{Matching, match_all, match_appl, match_members, binds_if, match_step, match_term, match_list}
-use Rattle.tb_index.specs.declared.mark.Mark.{Mark}
-use Rattle.tb_index.specs.Marks.{open_head, row_head, name_head, term_head_in, term_head, pattern_head_in, pattern_head, first_term_head, first_pattern_head, sent_mark, received_mark, is_mark, wide, meets}
+use Rattle.tb_index.specs.Marks.{open_head, row_head, name_head, term_head_in, term_head, pattern_head_in, pattern_head, first_term_head, first_pattern_head, sent_mark, received_mark, meets}
 
 both-first : (a b : Option (List Bind)) (c : List Bind) → both a b ≡ Some c → (binds : List Bind) × (a ≡ Some binds)
 both-first None b c e = cc

@@ -1,18 +1,15 @@
 -- Triples in order.
-use Rattle.std.proofs.Common.{◌≡◌, ◌≢◌, ℕ, ◌<◌, ◌≤◌, Bool, true, false, not, cond, nat_le, if◌then◌else◌, ◌+◌, ◌&&◌, ◌||◌, ◌==◌, refl, ap, sym, ◌∙◌, subst, arith, rules, IsTrue, nat_lt, List, Some, None, Option, IfSome, [], ◌∷◌, ⊎_elim, ◌⊎◌, inl, inr, take, zero, suc, get_or, length}
-use Rattle.std.proofs.lemmas.Grind.{common_steps}
+use Rattle.std.proofs.Common.{◌≡◌, ℕ, ◌<◌, ◌≤◌, Bool, true, false, not, cond, nat_le, if◌then◌else◌, ◌+◌, ◌&&◌, ◌||◌, ◌==◌, refl, ap, sym, ◌∙◌, subst, arith, rules, List, Some, None, Option, [], ◌∷◌, ◌⊎◌, inl, inr, take, zero, suc, get_or, length}
 use Rattle.std.proofs.lemmas.Bool.Decides.{nat_tests}
 use Rattle.std.proofs.lemmas.List.Folds.{list_any_more}
 use Rattle.std.specs.List.{list_any}
-use Rattle.std.specs.Ordering.{nat_cmp, ordering_then, is_eq, is_gt}
-use Rattle.std.specs.declared.cmp.Ordering.{Ordering}
+use Rattle.std.specs.Ordering.{is_eq, is_gt}
 use Rattle.tb_index.specs.declared.mark.Mark.{Mark}
 use Rattle.std.specs.BTreeSet.{BTreeSet, IsKeyRangeOf, contains}
-use Rattle.std.specs.declared.ops.Bound.{Bound}
 use Rattle.std.specs.declared.ops.Bound.TheVariants.{Included, Unbounded}
-use Rattle.std.proofs.lemmas.Bool.{cases_Bool, cases_eq, eqb-true, le-leb, leb-true, cases_lt}
+use Rattle.std.proofs.lemmas.Bool.{eqb-true, leb-true}
 use Rattle.tb_index.specs.Marks.{is_mark, has_mark}
-use Rattle.tb_index.specs.Pairs.{is_pair, triple_cmp, has, IsFirst, IsNext, earlier}
+use Rattle.tb_index.specs.Pairs.{in_many, triple_cmp, IsFirst, IsNext, earlier}
 
 -- triples are the same where their parts are
 pub same-triple : (a b p c d q : ℕ) → is_eq (triple_cmp (a, b, p) (c, d, q)) ≡ ((c == a) && (d == b)) && (q == p)
@@ -32,7 +29,7 @@ added-by now true false pair e f = e
 added-by now false true pair e f = e ∙ f
 added-by now false false pair e f = e ∙ f
 
-and-false : (b : Bool) → (b && false) ≡ false
+pub and-false : (b : Bool) → (b && false) ≡ false
 and-false true = refl
 and-false false = refl
 
@@ -54,32 +51,32 @@ module _ (set : BTreeSet (ℕ × ℕ × ℕ)) (mark : Mark) (start : ℕ) where
   IsRange triples = IsKeyRangeOf triple_cmp (Included (mark.count, mark.head, start)) Unbounded set triples
 
   not-before : (found : ℕ × ℕ × ℕ) (rest : List (ℕ × ℕ × ℕ)) (proc : ℕ) → IsRange (found ∷ rest) →
-      start ≤ proc → (is_gt (triple_cmp (found.0, found.1, found.2) (mark.count, mark.head, proc)) ≡ false → ⊥) → (b : Bool) → has set mark proc ≡ b → b ≡ false
+      start ≤ proc → (is_gt (triple_cmp (found.0, found.1, found.2) (mark.count, mark.head, proc)) ≡ false → ⊥) → (b : Bool) → in_many set mark proc ≡ b → b ≡ false
   not-before found rest proc range low apart true e =
       absurd (apart (range.2 (mark.count, mark.head, proc) (from mark.count mark.head start proc low, tt) (search (rules, e))))
   not-before found rest proc range low apart false e = refl
 
-  there : (found : ℕ × ℕ × ℕ) → found.0 ≡ mark.count → found.1 ≡ mark.head → contains triple_cmp set (found.0, found.1, found.2) ≡ true → has set mark found.2 ≡ true
+  there : (found : ℕ × ℕ × ℕ) → found.0 ≡ mark.count → found.1 ≡ mark.head → contains triple_cmp set (found.0, found.1, found.2) ≡ true → in_many set mark found.2 ≡ true
   there found c d e = rw (← c, ← d) e
 
-  pub next-found : (triples : List (ℕ × ℕ × ℕ)) (found : ℕ × ℕ × ℕ) (rest : List (ℕ × ℕ × ℕ)) → IsRange triples → triples ≡ found ∷ rest → found.0 ≡ mark.count → found.1 ≡ mark.head → IsFirst (has set mark) start (Some found.2)
+  pub next-found : (triples : List (ℕ × ℕ × ℕ)) (found : ℕ × ℕ × ℕ) (rest : List (ℕ × ℕ × ℕ)) → IsRange triples → triples ≡ found ∷ rest → found.0 ≡ mark.count → found.1 ≡ mark.head → IsFirst (in_many set mark) start (Some found.2)
   next-found triples found rest range e c d =
       let here : IsRange (found ∷ rest) = subst IsRange e range in
-      (low-by mark.count mark.head start found.0 found.1 found.2 c d here.1.0.0, there found c d (search (rules, here.1.1)), λ proc low less. not-before found rest proc here low (λ le. let behind = low-by found.0 found.1 found.2 mark.count mark.head proc (sym c) (sym d) le in omega arith) (has set mark proc) refl)
+      (low-by mark.count mark.head start found.0 found.1 found.2 c d here.1.0.0, there found c d (search (rules, here.1.1)), λ proc low less. not-before found rest proc here low (λ le. let behind = low-by found.0 found.1 found.2 mark.count mark.head proc (sym c) (sym d) le in omega arith) (in_many set mark proc) refl)
 
-  pub next-other : (triples : List (ℕ × ℕ × ℕ)) (found : ℕ × ℕ × ℕ) (rest : List (ℕ × ℕ × ℕ)) → IsRange triples → triples ≡ found ∷ rest → (found.0 ≡ mark.count → found.1 ≡ mark.head → ⊥) → IsFirst (has set mark) start None
+  pub next-other : (triples : List (ℕ × ℕ × ℕ)) (found : ℕ × ℕ × ℕ) (rest : List (ℕ × ℕ × ℕ)) → IsRange triples → triples ≡ found ∷ rest → (found.0 ≡ mark.count → found.1 ≡ mark.head → ⊥) → IsFirst (in_many set mark) start None
   next-other triples found rest range e apart =
       let here : IsRange (found ∷ rest) = subst IsRange e range in
-      λ proc low. not-before found rest proc here low (λ le. let same = between mark.count mark.head start found.0 found.1 found.2 proc here.1.0.0 le in apart same.0 same.1) (has set mark proc) refl
+      λ proc low. not-before found rest proc here low (λ le. let same = between mark.count mark.head start found.0 found.1 found.2 proc here.1.0.0 le in apart same.0 same.1) (in_many set mark proc) refl
 
-  pub next-none : (triples : List (ℕ × ℕ × ℕ)) → IsRange triples → triples ≡ [] → (proc : ℕ) → start ≤ proc → has set mark proc ≡ false
+  pub next-none : (triples : List (ℕ × ℕ × ℕ)) → IsRange triples → triples ≡ [] → (proc : ℕ) → start ≤ proc → in_many set mark proc ≡ false
   next-none triples range e proc low = range.5 e (mark.count, mark.head, proc) (from mark.count mark.head start proc low, tt)
 
-or-false : (b : Bool) → (b || false) ≡ b
+pub or-false : (b : Bool) → (b || false) ≡ b
 or-false true = refl
 or-false false = refl
 
-or-true : (b : Bool) → (b || true) ≡ true
+pub or-true : (b : Bool) → (b || true) ≡ true
 or-true true = refl
 or-true false = refl
 
@@ -220,11 +217,11 @@ pub any-marked : (holds : Mark → Bool) (l : List Mark) (m : Mark) → has_mark
 any-marked holds [] m t e = t
 any-marked holds (k ∷ l) m t e = any-marked-by holds k l m e (is_mark m k) refl t (λ more. any-marked holds l m more e)
 
--- the first of the marks up to one more
-pub first-more : (holds : Mark → ℕ → Bool) (l : List Mark) (i : ℕ) (d : Mark) (from : ℕ) (one other : Option ℕ) → i < length l →
-    IsFirst (λ p. list_any (λ (k : Mark). holds k p) (take i l)) from one → IsFirst (holds (get_or l i d)) from other →
-    IsFirst (λ p. list_any (λ (k : Mark). holds k p) (take (i + 1) l)) from (earlier one other)
-first-more holds l i d from one other less h g =
-    first-same (λ p. list_any (λ (k : Mark). holds k p) (take i l) || holds (get_or l i d) p) (λ p. list_any (λ (k : Mark). holds k p) (take (i + 1) l)) from (earlier one other)
-    (λ p. list_any_more (λ (k : Mark). holds k p) l i d less)
-    (first-both (λ p. list_any (λ (k : Mark). holds k p) (take i l)) (holds (get_or l i d)) from one other h g)
+-- the first of a list up to one more
+pub first-more : {X : Type 0} (holds : X → ℕ → Bool) (l : List X) (i : ℕ) (d : X) (from : ℕ) (one other : Option ℕ) → i < length l →
+    IsFirst (λ p. list_any (λ (k : X). holds k p) (take i l)) from one → IsFirst (holds (get_or l i d)) from other →
+    IsFirst (λ p. list_any (λ (k : X). holds k p) (take (i + 1) l)) from (earlier one other)
+first-more {X} holds l i d from one other less h g =
+    first-same (λ p. list_any (λ (k : X). holds k p) (take i l) || holds (get_or l i d) p) (λ p. list_any (λ (k : X). holds k p) (take (i + 1) l)) from (earlier one other)
+    (λ p. list_any_more (λ (k : X). holds k p) l i d less)
+    (first-both (λ p. list_any (λ (k : X). holds k p) (take i l)) (holds (get_or l i d)) from one other h g)

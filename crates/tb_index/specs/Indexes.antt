@@ -1,18 +1,18 @@
 -- What an index holds: who sends and who receives under which marks, who is awake, and who may begin.
-use Rattle.std.specs.Prelude.{◌≡◌, ◌≢◌, ℕ, ◌<◌, ◌/◌, ◌==◌, ◌&&◌, ◌||◌, Bool, true, false, List, length}
+use Rattle.std.specs.Prelude.{◌≡◌, ◌≢◌, ℕ, ◌<◌, ◌/◌, ◌==◌, ◌||◌, Bool, false, List, length}
 use Rattle.std.specs.List.{list_any}
-use Rattle.std.specs.BTreeSet.{BTreeSet}
 use Rattle.tb_index.specs.declared.mark.Mark.{Mark}
+use Rattle.tb_index.specs.declared.pairs.Pairs.{Pairs}
 use Rattle.tb_index.specs.Marks.{has_mark, wide}
 use Rattle.tb_index.specs.Pairs.{has, is_sender, AllOpened, AreCountedIf, AreHeard}
 use Rattle.tb_index.specs.Bits.{bit_in}
 
 -- what is active are marks under which somebody receives what somebody sends; there may be more of them
 pub record IndexState : Type 0 where
-  pub sending : BTreeSet (ℕ × ℕ × ℕ)
-  pub receiving : BTreeSet (ℕ × ℕ × ℕ)
+  pub sending : Pairs
+  pub receiving : Pairs
   pub opened : Bool
-  pub counted : BTreeSet (ℕ × ℕ × ℕ)
+  pub counted : Pairs
   pub awake : List ℕ
   pub active : List Mark
 

@@ -1,5 +1,5 @@
--- Which processes have which marks, in order.
-use Rattle.std.specs.Prelude.{◌≡◌, ℕ, ◌&&◌, ◌||◌, ◌==◌, not, List, ◌≤◌, ◌<◌, Bool, true, false, Option, Some, None, nat_le, if◌then◌else◌}
+-- Which processes have which marks: in slots, and in order those for which a slot had no room.
+use Rattle.std.specs.Prelude.{◌≡◌, ℕ, ◌&&◌, ◌||◌, ◌==◌, ◌%◌, not, List, [], slice_index_or, ◌≤◌, ◌<◌, Bool, true, false, Option, Some, None, nat_le, if◌then◌else◌}
 use Rattle.std.specs.Ordering.{nat_cmp, ordering_then}
 use Rattle.std.specs.declared.cmp.Ordering.{Ordering}
 use Rattle.std.specs.BTreeMap.{is_at}
@@ -7,7 +7,9 @@ use Rattle.std.specs.List.{list_any}
 use Rattle.std.specs.BTreeSet as set
 use Rattle.std.specs.BTreeSet.{BTreeSet}
 use Rattle.tb_index.specs.declared.mark.Mark.{Mark}
-use Rattle.tb_index.specs.Marks.{is_mark, has_mark, wide, meets, open_head}
+use Rattle.tb_index.specs.declared.slot.Pair.{Pair}
+use Rattle.tb_index.specs.declared.pairs.Pairs.{Pairs}
+use Rattle.tb_index.specs.Marks.{mixed, is_mark, has_mark, wide, meets, open_head}
 
 abbrev pub is_pair : Mark → ℕ → Mark → ℕ → Bool
 is_pair mark proc other its = is_mark other mark && (its == proc)
@@ -15,66 +17,90 @@ is_pair mark proc other its = is_mark other mark && (its == proc)
 abbrev pub triple_cmp : (ℕ × ℕ × ℕ) → (ℕ × ℕ × ℕ) → Ordering
 triple_cmp x y = ordering_then (ordering_then (nat_cmp x.0 y.0) (nat_cmp x.1 y.1)) (nat_cmp x.2 y.2)
 
+-- whether the process is in the tree with the mark
+abbrev pub in_many : BTreeSet (ℕ × ℕ × ℕ) → Mark → ℕ → Bool
+in_many pairs mark proc = set.contains triple_cmp pairs (mark.count, mark.head, proc)
+
+-- whether it is this process with this mark
+abbrev pub is_of : Mark → ℕ → Pair → Bool
+is_of mark proc pair = is_pair pair.mark pair.proc mark proc
+
+-- whether it is in a slot with the mark
+abbrev pub is_in : List Pair → Mark → ℕ → Bool
+is_in pairs mark proc = list_any (is_of mark proc) pairs
+
+-- how many slots there are
+abbrev pub slots : ℕ
+slots = 1024
+
+-- the slot for the pairs of a mark
+abbrev pub slot_of : Mark → ℕ
+slot_of mark = mixed mark.head mark.count % slots
+
+-- whether it is with the mark in the slot for this
+abbrev pub in_few : List (List Pair) → Mark → ℕ → Bool
+in_few few mark proc = is_in (slice_index_or few (slot_of mark) []) mark proc
+
 -- whether the process has the mark
-abbrev pub has : BTreeSet (ℕ × ℕ × ℕ) → Mark → ℕ → Bool
-has pairs mark proc = set.contains triple_cmp pairs (mark.count, mark.head, proc)
+unfoldable pub has : Pairs → Mark → ℕ → Bool
+has pairs mark proc = in_few pairs.few.items mark proc || in_many pairs.many mark proc
 
 -- whether the pair is among these
 abbrev pub is_among : Mark → ℕ → List (ℕ × ℕ × ℕ) → Bool
 is_among mark proc triples = list_any (is_at (triple_cmp (mark.count, mark.head, proc))) triples
 
 -- a process has just these marks
-abbrev pub AreOf : BTreeSet (ℕ × ℕ × ℕ) → List Mark → ℕ → Type 0
+abbrev pub AreOf : Pairs → List Mark → ℕ → Type 0
 AreOf pairs marks proc = (mark : Mark) → has pairs mark proc ≡ has_mark marks mark
 
-abbrev pub SamePairs : BTreeSet (ℕ × ℕ × ℕ) → BTreeSet (ℕ × ℕ × ℕ) → Type 0
+abbrev pub SamePairs : Pairs → Pairs → Type 0
 SamePairs old new = (mark : Mark) (its : ℕ) → has new mark its ≡ has old mark its
 
 -- a process has these marks too
-abbrev pub AreAdded : BTreeSet (ℕ × ℕ × ℕ) → BTreeSet (ℕ × ℕ × ℕ) → List Mark → ℕ → Type 0
+abbrev pub AreAdded : Pairs → Pairs → List Mark → ℕ → Type 0
 AreAdded old new marks proc = (mark : Mark) (its : ℕ) →
     has new mark its ≡ (has old mark its || (has_mark marks mark && (its == proc)))
 
 -- it no longer has those of these that aren't among the others
-abbrev pub AreRemoved : BTreeSet (ℕ × ℕ × ℕ) → BTreeSet (ℕ × ℕ × ℕ) → List Mark → List Mark → ℕ → Type 0
+abbrev pub AreRemoved : Pairs → Pairs → List Mark → List Mark → ℕ → Type 0
 AreRemoved old new marks others proc = (mark : Mark) (its : ℕ) →
     has new mark its ≡ (has old mark its && not ((has_mark marks mark && not (has_mark others mark)) && (its == proc)))
 
 -- who sends under a mark is counted under as many, whatever the first begins with
-abbrev pub AreCounted : BTreeSet (ℕ × ℕ × ℕ) → BTreeSet (ℕ × ℕ × ℕ) → Type 0
+abbrev pub AreCounted : Pairs → Pairs → Type 0
 AreCounted sending counted = (mark : Mark) (proc : ℕ) → has sending mark proc ≡ true → has counted (wide mark) proc ≡ true
 
-abbrev pub AreCountedIf : Bool → BTreeSet (ℕ × ℕ × ℕ) → BTreeSet (ℕ × ℕ × ℕ) → Type 0
+abbrev pub AreCountedIf : Bool → Pairs → Pairs → Type 0
 AreCountedIf opened sending counted = opened ≡ true → AreCounted sending counted
 
 abbrev pub AreOpened : Bool → List Mark → Type 0
 AreOpened opened marks = (mark : Mark) → has_mark marks mark ≡ true → mark.head ≡ open_head → opened ≡ true
 
 -- nobody receives under an open mark before it is told
-abbrev pub AllOpened : Bool → BTreeSet (ℕ × ℕ × ℕ) → Type 0
+abbrev pub AllOpened : Bool → Pairs → Type 0
 AllOpened opened receiving = (mark : Mark) (proc : ℕ) → has receiving mark proc ≡ true → mark.head ≡ open_head → opened ≡ true
 
 -- whether the process sends what is received under the mark
-abbrev pub is_sender : BTreeSet (ℕ × ℕ × ℕ) → BTreeSet (ℕ × ℕ × ℕ) → Mark → ℕ → Bool
+abbrev pub is_sender : Pairs → Pairs → Mark → ℕ → Bool
 is_sender sending counted mark proc = if mark.head == open_head then has counted mark proc else has sending mark proc
 
 -- all but one process are counted as before, and that one where it has the mark
-abbrev pub AreCountedStill : BTreeSet (ℕ × ℕ × ℕ) → BTreeSet (ℕ × ℕ × ℕ) → List Mark → ℕ → Type 0
+abbrev pub AreCountedStill : Pairs → Pairs → List Mark → ℕ → Type 0
 AreCountedStill old new marks proc = (mark : Mark) (its : ℕ) → has old (wide mark) its ≡ true →
     (its ≡ proc → has_mark marks mark ≡ true) → has new (wide mark) its ≡ true
 
 -- a mark under which somebody receives what somebody sends is active
-abbrev pub AreHeard : BTreeSet (ℕ × ℕ × ℕ) → BTreeSet (ℕ × ℕ × ℕ) → List Mark → Type 0
+abbrev pub AreHeard : Pairs → Pairs → List Mark → Type 0
 AreHeard sending receiving active = (received sent : Mark) (proc other : ℕ) →
     has sending sent proc ≡ true → has receiving received other ≡ true → meets received sent ≡ true → has_mark active received ≡ true
 
 -- so is each under which somebody receives what is sent under these, but for the others
-abbrev pub SentAreHeard : List Mark → List Mark → BTreeSet (ℕ × ℕ × ℕ) → List Mark → Type 0
+abbrev pub SentAreHeard : List Mark → List Mark → Pairs → List Mark → Type 0
 SentAreHeard marks others receiving active = (received sent : Mark) (other : ℕ) → has_mark marks sent ≡ true → has_mark others sent ≡ false →
     has receiving received other ≡ true → meets received sent ≡ true → has_mark active received ≡ true
 
 -- so is each of these but for the others, where somebody sends what is received under it
-abbrev pub ReceivedAreHeard : List Mark → List Mark → BTreeSet (ℕ × ℕ × ℕ) → List Mark → Type 0
+abbrev pub ReceivedAreHeard : List Mark → List Mark → Pairs → List Mark → Type 0
 ReceivedAreHeard marks others sending active = (received sent : Mark) (proc : ℕ) → has_mark marks received ≡ true → has_mark others received ≡ false →
     has sending sent proc ≡ true → meets received sent ≡ true → has_mark active received ≡ true
 
@@ -82,12 +108,12 @@ abbrev pub AreKept : List Mark → List Mark → Type 0
 AreKept old new = (mark : Mark) → has_mark old mark ≡ true → has_mark new mark ≡ true
 
 -- but for those under which nobody receives what is sent
-abbrev pub SentAreKept : List Mark → List Mark → BTreeSet (ℕ × ℕ × ℕ) → Type 0
+abbrev pub SentAreKept : List Mark → List Mark → Pairs → Type 0
 SentAreKept old new sending = (received sent : Mark) (proc : ℕ) → has_mark old received ≡ true →
     has sending sent proc ≡ true → meets received sent ≡ true → has_mark new received ≡ true
 
 -- but for those under which nobody receives
-abbrev pub ReceivedAreKept : List Mark → List Mark → BTreeSet (ℕ × ℕ × ℕ) → Type 0
+abbrev pub ReceivedAreKept : List Mark → List Mark → Pairs → Type 0
 ReceivedAreKept old new receiving = (received : Mark) (other : ℕ) → has_mark old received ≡ true →
     has receiving received other ≡ true → has_mark new received ≡ true
 

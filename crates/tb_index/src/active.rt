@@ -6,7 +6,8 @@ ghost use Rattle.tb_index.specs.Pairs.{has, AreCountedIf, AreOpened, AllOpened, 
 
 use crate::counts::Counts;
 use crate::mark::{Mark, Marks, OPEN_HEAD, has_mark, wide};
-use crate::pairs::{Pairs, earlier};
+use crate::pairs::Pairs;
+use crate::slot::earlier;
 use tb_terms::NoMemory;
 
 /// What a process now sends and receives under the new marks makes these active, where somebody
@@ -19,14 +20,14 @@ pub(crate) fn activate(
     old: &Marks,
     new: &Marks,
 ) -> Result<(), NoMemory>
-    requires told { AllOpened counts.now.opened receiving.now.set }
-    requires counted { AreCountedIf counts.now.opened sending.now.set counts.now.pairs.set }
+    requires told { AllOpened counts.now.opened receiving.now }
+    requires counted { AreCountedIf counts.now.opened sending.now counts.now.pairs }
     requires opened { AreOpened counts.now.opened new.now.receives.items }
     ensures kept { AreKept active.old.items active.new.items }
     ensures sends { OnOk result (SentAreHeard
-        new.now.sends.items old.now.sends.items receiving.now.set active.new.items) }
+        new.now.sends.items old.now.sends.items receiving.now active.new.items) }
     ensures receives { OnOk result (ReceivedAreHeard
-        new.now.receives.items old.now.receives.items sending.now.set active.new.items) }
+        new.now.receives.items old.now.receives.items sending.now active.new.items) }
 {
     match activate_sent(
         active,
@@ -55,9 +56,9 @@ fn activate_sent(
     marks: &[Mark],
     but: &[Mark],
 ) -> Result<(), NoMemory>
-    requires { AllOpened opened receiving.now.set }
+    requires { AllOpened opened receiving.now }
     ensures kept { AreKept active.old.items active.new.items }
-    ensures all { OnOk result (SentAreHeard marks.now but.now receiving.now.set active.new.items) }
+    ensures all { OnOk result (SentAreHeard marks.now but.now receiving.now active.new.items) }
 {
     for mark in marks {
         activate_one_sent(active, receiving, opened, *mark, but)?;
@@ -72,9 +73,9 @@ fn activate_one_sent(
     mark: Mark,
     but: &[Mark],
 ) -> Result<(), NoMemory>
-    requires { AllOpened opened receiving.now.set }
+    requires { AllOpened opened receiving.now }
     ensures kept { AreKept active.old.items active.new.items }
-    ensures all { OnOk result (SentAreHeard (mark ∷ []) but.now receiving.now.set active.new.items) }
+    ensures all { OnOk result (SentAreHeard (mark ∷ []) but.now receiving.now active.new.items) }
 {
     if has_mark(but, mark) {
         return Ok(());
@@ -99,10 +100,10 @@ fn activate_received(
     marks: &[Mark],
     but: &[Mark],
 ) -> Result<(), NoMemory>
-    requires counted { AreCountedIf counts.now.opened sending.now.set counts.now.pairs.set }
+    requires counted { AreCountedIf counts.now.opened sending.now counts.now.pairs }
     requires opened { AreOpened counts.now.opened marks.now }
     ensures kept { AreKept active.old.items active.new.items }
-    ensures all { OnOk result (ReceivedAreHeard marks.now but.now sending.now.set active.new.items) }
+    ensures all { OnOk result (ReceivedAreHeard marks.now but.now sending.now active.new.items) }
 {
     for mark in marks {
         activate_one_received(active, sending, counts, *mark, but)?;
@@ -117,10 +118,10 @@ fn activate_one_received(
     mark: Mark,
     but: &[Mark],
 ) -> Result<(), NoMemory>
-    requires counted { AreCountedIf counts.now.opened sending.now.set counts.now.pairs.set }
+    requires counted { AreCountedIf counts.now.opened sending.now counts.now.pairs }
     requires opened { mark.head ≡ open_head → counts.now.opened ≡ true }
     ensures kept { AreKept active.old.items active.new.items }
-    ensures all { OnOk result (ReceivedAreHeard (mark ∷ []) but.now sending.now.set active.new.items) }
+    ensures all { OnOk result (ReceivedAreHeard (mark ∷ []) but.now sending.now active.new.items) }
 {
     if has_mark(but, mark) {
         return Ok(());
@@ -136,7 +137,7 @@ fn activate_one_received(
 /// The mark is active where somebody has it.
 fn activate_where(active: &mut Vec<Mark>, pairs: &Pairs, mark: Mark) -> Result<(), NoMemory>
     ensures kept { AreKept active.old.items active.new.items }
-    ensures here { OnOk result ((its : ℕ) → has pairs.now.set mark its ≡ true
+    ensures here { OnOk result ((its : ℕ) → has pairs.now mark its ≡ true
         → has_mark active.new.items mark ≡ true) }
 {
     if has_mark(active.as_slice(), mark) {
@@ -158,8 +159,8 @@ pub(crate) fn quiet_sent(
     marks: &[Mark],
     but: &[Mark],
 )
-    requires { AreCountedIf counts.now.opened sending.now.set counts.now.pairs.set }
-    ensures { SentAreKept active.old.items active.new.items sending.now.set }
+    requires { AreCountedIf counts.now.opened sending.now counts.now.pairs }
+    ensures { SentAreKept active.old.items active.new.items sending.now }
 {
     for mark in marks {
         quiet_one_sent(active, sending, counts, *mark, but);
@@ -173,18 +174,20 @@ fn quiet_one_sent(
     mark: Mark,
     but: &[Mark],
 )
-    requires { AreCountedIf counts.now.opened sending.now.set counts.now.pairs.set }
-    ensures { SentAreKept active.old.items active.new.items sending.now.set }
+    requires { AreCountedIf counts.now.opened sending.now counts.now.pairs }
+    ensures { SentAreKept active.old.items active.new.items sending.now }
 {
     if !has_mark(but, mark) {
         quiet_unsent(active, sending, counts, mark);
-        quiet_unsent(active, sending, counts, wide(mark));
+        if counts.opened {
+            quiet_unsent(active, sending, counts, wide(mark));
+        }
     }
 }
 
 fn quiet_unsent(active: &mut Vec<Mark>, sending: &Pairs, counts: &Counts, mark: Mark)
-    requires { AreCountedIf counts.now.opened sending.now.set counts.now.pairs.set }
-    ensures { SentAreKept active.old.items active.new.items sending.now.set }
+    requires { AreCountedIf counts.now.opened sending.now counts.now.pairs }
+    ensures { SentAreKept active.old.items active.new.items sending.now }
 {
     if has_mark(active.as_slice(), mark) {
         if is_unsent(sending, counts, mark) {
@@ -195,9 +198,9 @@ fn quiet_unsent(active: &mut Vec<Mark>, sending: &Pairs, counts: &Counts, mark: 
 
 /// Whether nobody sends what is received under the mark.
 fn is_unsent(sending: &Pairs, counts: &Counts, mark: Mark) -> bool
-    requires { AreCountedIf counts.now.opened sending.now.set counts.now.pairs.set }
+    requires { AreCountedIf counts.now.opened sending.now counts.now.pairs }
     ensures { result ≡ true → (sent : TheMark) (proc : ℕ)
-        → has sending.now.set sent proc ≡ true → meets mark sent ≡ false }
+        → has sending.now sent proc ≡ true → meets mark sent ≡ false }
 {
     if mark.head != OPEN_HEAD {
         return sending.has_nobody(mark);
@@ -216,7 +219,7 @@ pub(crate) fn quiet_received(
     marks: &[Mark],
     but: &[Mark],
 )
-    ensures { ReceivedAreKept active.old.items active.new.items receiving.now.set }
+    ensures { ReceivedAreKept active.old.items active.new.items receiving.now }
 {
     for mark in marks {
         quiet_one_received(active, receiving, *mark, but);
@@ -224,7 +227,7 @@ pub(crate) fn quiet_received(
 }
 
 fn quiet_one_received(active: &mut Vec<Mark>, receiving: &Pairs, mark: Mark, but: &[Mark])
-    ensures { ReceivedAreKept active.old.items active.new.items receiving.now.set }
+    ensures { ReceivedAreKept active.old.items active.new.items receiving.now }
 {
     if !has_mark(but, mark) {
         quiet_unreceived(active, receiving, mark);
@@ -232,7 +235,7 @@ fn quiet_one_received(active: &mut Vec<Mark>, receiving: &Pairs, mark: Mark, but
 }
 
 fn quiet_unreceived(active: &mut Vec<Mark>, receiving: &Pairs, mark: Mark)
-    ensures { ReceivedAreKept active.old.items active.new.items receiving.now.set }
+    ensures { ReceivedAreKept active.old.items active.new.items receiving.now }
 {
     if has_mark(active.as_slice(), mark) {
         if receiving.has_nobody(mark) {
@@ -263,7 +266,7 @@ pub(crate) fn next_sender(
     from: u32,
 ) -> Option<u32>
     ensures { IsFirst
-        (λ proc. list_any (λ mark. is_sender sending.now.set counted.now.set mark proc) marks.now) from result }
+        (λ proc. list_any (λ mark. is_sender sending.now counted.now mark proc) marks.now) from result }
 {
     let mut found = None;
     for mark in marks {
@@ -273,7 +276,7 @@ pub(crate) fn next_sender(
 }
 
 fn next_of_mark(sending: &Pairs, counted: &Pairs, mark: Mark, from: u32) -> Option<u32>
-    ensures { IsFirst (is_sender sending.now.set counted.now.set mark) from result }
+    ensures { IsFirst (is_sender sending.now counted.now mark) from result }
 {
     if mark.head == OPEN_HEAD {
         counted.next(mark, from)

@@ -17,19 +17,19 @@ pub(crate) fn come(
     old: &Marks,
     new: &Marks,
 ) -> Result<(), NoMemory>
-    requires sends { AreOf sending.old.set old.now.sends.items proc }
-    requires receives { AreOf receiving.old.set old.now.receives.items proc }
-    requires counted { AreCountedIf counts.old.opened sending.old.set counts.old.pairs.set }
-    requires told { AllOpened counts.old.opened receiving.old.set }
+    requires sends { AreOf sending.old old.now.sends.items proc }
+    requires receives { AreOf receiving.old old.now.receives.items proc }
+    requires counted { AreCountedIf counts.old.opened sending.old counts.old.pairs }
+    requires told { AllOpened counts.old.opened receiving.old }
     requires opened { AreOpened counts.old.opened new.now.receives.items }
-    requires heard { AreHeard sending.old.set receiving.old.set active.old.items }
-    ensures sends { OnOk result (AreAdded sending.old.set sending.new.set new.now.sends.items proc) }
-    ensures receives { OnOk result (AreAdded receiving.old.set receiving.new.set new.now.receives.items proc) }
-    ensures same_sends { OnErr result (SamePairs sending.old.set sending.new.set) }
-    ensures same_receives { OnErr result (SamePairs receiving.old.set receiving.new.set) }
-    ensures counted { AreCountedIf counts.new.opened sending.new.set counts.new.pairs.set }
+    requires heard { AreHeard sending.old receiving.old active.old.items }
+    ensures sends { OnOk result (AreAdded sending.old sending.new new.now.sends.items proc) }
+    ensures receives { OnOk result (AreAdded receiving.old receiving.new new.now.receives.items proc) }
+    ensures same_sends { OnErr result (SamePairs sending.old sending.new) }
+    ensures same_receives { OnErr result (SamePairs receiving.old receiving.new) }
+    ensures counted { AreCountedIf counts.new.opened sending.new counts.new.pairs }
     ensures opened { counts.new.opened ≡ counts.old.opened }
-    ensures heard { AreHeard sending.new.set receiving.new.set active.new.items }
+    ensures heard { AreHeard sending.new receiving.new active.new.items }
 {
     match count(counts, new.sends.as_slice(), old.sends.as_slice(), proc) {
         Ok(()) => {}

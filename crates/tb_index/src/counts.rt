@@ -1,10 +1,12 @@
 ghost use Rattle.std.specs.Prelude.{◌≡◌, ℕ, true, false, OnOk};
 ghost use Rattle.tb_index.specs.declared.mark.Mark.{Mark as TheMark};
 ghost use Rattle.tb_index.specs.Marks.{has_mark, has_open, open_head, wide};
-ghost use Rattle.tb_index.specs.Pairs.{has, AreCounted, AreCountedIf, AreCountedStill, AreOpened};
+ghost use Rattle.tb_index.specs.Pairs.{has, in_few, in_many, is_in, AreCounted, AreCountedIf, AreCountedStill, AreOpened};
 
 use crate::mark::{Mark, OPEN_HEAD, has_count, has_mark, has_open, wide};
 use crate::pairs::Pairs;
+use crate::slot::{Pair, Slot};
+use std::collections::BTreeSet;
 use tb_terms::NoMemory;
 
 /// Who sends how many terms, whatever the first begins with. Nobody is counted before a process
@@ -17,8 +19,8 @@ pub(crate) struct Counts {
 
 /// Everybody is counted from now on, where one of these marks is open.
 pub(crate) fn open_up(counts: &mut Counts, sending: &Pairs, marks: &[Mark]) -> Result<(), NoMemory>
-    requires { AreCountedIf counts.old.opened sending.now.set counts.old.pairs.set }
-    ensures counted { AreCountedIf counts.new.opened sending.now.set counts.new.pairs.set }
+    requires { AreCountedIf counts.old.opened sending.now counts.old.pairs }
+    ensures counted { AreCountedIf counts.new.opened sending.now counts.new.pairs }
     ensures kept { counts.old.opened ≡ true → counts.new.opened ≡ true }
     ensures marks { OnOk result (AreOpened counts.new.opened marks.now) }
 {
@@ -45,10 +47,10 @@ pub(crate) fn count(
     proc: u32,
 ) -> Result<(), NoMemory>
     ensures opened { counts.new.opened ≡ counts.old.opened }
-    ensures kept { (mark : TheMark) (its : ℕ) → has counts.old.pairs.set mark its ≡ true
-        → has counts.new.pairs.set mark its ≡ true }
+    ensures kept { (mark : TheMark) (its : ℕ) → has counts.old.pairs mark its ≡ true
+        → has counts.new.pairs mark its ≡ true }
     ensures all { OnOk result (counts.old.opened ≡ true → (mark : TheMark) → has_mark marks.now mark ≡ true
-        → has_mark but.now mark ≡ false → has counts.new.pairs.set (wide mark) proc ≡ true) }
+        → has_mark but.now mark ≡ false → has counts.new.pairs (wide mark) proc ≡ true) }
 {
     if !counts.opened {
         return Ok(());
@@ -63,7 +65,7 @@ pub(crate) fn count(
 /// under the others.
 pub(crate) fn uncount(counts: &mut Counts, marks: &[Mark], others: &[Mark], proc: u32)
     ensures opened { counts.new.opened ≡ counts.old.opened }
-    ensures still { AreCountedStill counts.old.pairs.set counts.new.pairs.set others.now proc }
+    ensures still { AreCountedStill counts.old.pairs counts.new.pairs others.now proc }
 {
     if counts.opened {
         uncount_marks(&mut counts.pairs, marks, others, proc);
@@ -71,10 +73,10 @@ pub(crate) fn uncount(counts: &mut Counts, marks: &[Mark], others: &[Mark], proc
 }
 
 fn count_marks(counted: &mut Pairs, marks: &[Mark], but: &[Mark], proc: u32) -> Result<(), NoMemory>
-    ensures kept { (mark : TheMark) (its : ℕ) → has counted.old.set mark its ≡ true
-        → has counted.new.set mark its ≡ true }
+    ensures kept { (mark : TheMark) (its : ℕ) → has counted.old mark its ≡ true
+        → has counted.new mark its ≡ true }
     ensures all { OnOk result ((mark : TheMark) → has_mark marks.now mark ≡ true
-        → has_mark but.now mark ≡ false → has counted.new.set (wide mark) proc ≡ true) }
+        → has_mark but.now mark ≡ false → has counted.new (wide mark) proc ≡ true) }
 {
     for mark in marks {
         count_one(counted, *mark, but, proc)?;
@@ -83,10 +85,10 @@ fn count_marks(counted: &mut Pairs, marks: &[Mark], but: &[Mark], proc: u32) -> 
 }
 
 fn count_one(counted: &mut Pairs, mark: Mark, but: &[Mark], proc: u32) -> Result<(), NoMemory>
-    ensures kept { (other : TheMark) (its : ℕ) → has counted.old.set other its ≡ true
-        → has counted.new.set other its ≡ true }
+    ensures kept { (other : TheMark) (its : ℕ) → has counted.old other its ≡ true
+        → has counted.new other its ≡ true }
     ensures here { OnOk result (has_mark but.now mark ≡ false
-        → has counted.new.set (wide mark) proc ≡ true) }
+        → has counted.new (wide mark) proc ≡ true) }
 {
     if has_mark(but, mark) {
         return Ok(());
@@ -96,7 +98,7 @@ fn count_one(counted: &mut Pairs, mark: Mark, but: &[Mark], proc: u32) -> Result
 }
 
 fn uncount_marks(counted: &mut Pairs, marks: &[Mark], others: &[Mark], proc: u32)
-    ensures { AreCountedStill counted.old.set counted.new.set others.now proc }
+    ensures { AreCountedStill counted.old counted.new others.now proc }
 {
     for mark in marks {
         uncount_one(counted, *mark, others, proc);
@@ -104,7 +106,7 @@ fn uncount_marks(counted: &mut Pairs, marks: &[Mark], others: &[Mark], proc: u32
 }
 
 fn uncount_one(counted: &mut Pairs, mark: Mark, others: &[Mark], proc: u32)
-    ensures { AreCountedStill counted.old.set counted.new.set others.now proc }
+    ensures { AreCountedStill counted.old counted.new others.now proc }
 {
     if !has_count(others, mark.count) {
         counted.remove(wide(mark), proc);
@@ -112,19 +114,53 @@ fn uncount_one(counted: &mut Pairs, mark: Mark, others: &[Mark], proc: u32)
 }
 
 /// Everybody is counted for what is sent.
+#[inline(never)]
 fn count_all(counted: &mut Pairs, sending: &Pairs) -> Result<(), NoMemory>
-    ensures { OnOk result (AreCounted sending.now.set counted.new.set) }
+    ensures { OnOk result (AreCounted sending.now counted.new) }
 {
-    for pair in sending.set.iter() {
+    count_few(counted, sending.few.as_slice())?;
+    count_many(counted, &sending.many)?;
+    Ok(())
+}
+
+fn count_few(counted: &mut Pairs, few: &[Slot]) -> Result<(), NoMemory>
+    ensures { OnOk result ((mark : TheMark) (its : ℕ) → in_few few.now mark its ≡ true
+        → has counted.new (wide mark) its ≡ true) }
+{
+    for slot in few {
+        count_slot(counted, slot.pairs())?;
+    }
+    Ok(())
+}
+
+fn count_slot(counted: &mut Pairs, pairs: &[Pair]) -> Result<(), NoMemory>
+    ensures kept { (mark : TheMark) (its : ℕ) → has counted.old mark its ≡ true
+        → has counted.new mark its ≡ true }
+    ensures all { OnOk result ((mark : TheMark) (its : ℕ) → is_in pairs.now mark its ≡ true
+        → has counted.new (wide mark) its ≡ true) }
+{
+    for pair in pairs {
+        count_pair(counted, pair.mark.count, pair.proc)?;
+    }
+    Ok(())
+}
+
+fn count_many(counted: &mut Pairs, many: &BTreeSet<(usize, u64, u32)>) -> Result<(), NoMemory>
+    ensures kept { (mark : TheMark) (its : ℕ) → has counted.old mark its ≡ true
+        → has counted.new mark its ≡ true }
+    ensures all { OnOk result ((mark : TheMark) (its : ℕ) → in_many many.now mark its ≡ true
+        → has counted.new (wide mark) its ≡ true) }
+{
+    for pair in many.iter() {
         count_pair(counted, pair.0, pair.2)?;
     }
     Ok(())
 }
 
 fn count_pair(counted: &mut Pairs, count: usize, proc: u32) -> Result<(), NoMemory>
-    ensures kept { (mark : TheMark) (its : ℕ) → has counted.old.set mark its ≡ true
-        → has counted.new.set mark its ≡ true }
-    ensures here { OnOk result (has counted.new.set (record { count = count; head = open_head }) proc ≡ true) }
+    ensures kept { (mark : TheMark) (its : ℕ) → has counted.old mark its ≡ true
+        → has counted.new mark its ≡ true }
+    ensures here { OnOk result (has counted.new (record { count = count; head = open_head }) proc ≡ true) }
 {
     let mark = Mark {
         count,

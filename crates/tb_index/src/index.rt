@@ -9,7 +9,8 @@ use crate::bits::Bits;
 use crate::coming::come;
 use crate::counts::{Counts, open_up, uncount};
 use crate::mark::{Mark, Marks, are_same, wide};
-use crate::pairs::{Pairs, earlier, remove_both};
+use crate::pairs::{Pairs, remove_both};
+use crate::slot::earlier;
 use std::alloc::Global;
 use std::marker::Model;
 use tb_terms::NoMemory;
@@ -30,19 +31,19 @@ impl Model for Index {
     ghost Value = { IndexState };
 
     ghost view = { λ index. record {
-      sending = index.sending.set;
-      receiving = index.receiving.set;
+      sending = index.sending;
+      receiving = index.receiving;
       opened = index.counts.opened;
-      counted = index.counts.pairs.set;
+      counted = index.counts.pairs;
       awake = index.awake;
       active = index.active.items;
     } };
 
     ghost invariant = { λ index. IsTied (record {
-      sending = index.sending.set;
-      receiving = index.receiving.set;
+      sending = index.sending;
+      receiving = index.receiving;
       opened = index.counts.opened;
-      counted = index.counts.pairs.set;
+      counted = index.counts.pairs;
       awake = index.awake;
       active = index.active.items;
     }) };
@@ -164,6 +165,9 @@ impl Index {
         ensures { IsNext (is_receiver self.now mark) from result }
     {
         let just = self.receiving.next(mark, from);
+        if !self.counts.opened {
+            return just;
+        }
         let wide = self.receiving.next(wide(mark), from);
         earlier(just, wide)
     }

@@ -6,9 +6,11 @@ mod active;
 mod bits;
 mod coming;
 mod counts;
+mod few;
 mod index;
 mod mark;
 mod pairs;
+mod slot;
 
 pub use index::Index;
 pub use mark::{Mark, Marks, received_mark, sent_mark};

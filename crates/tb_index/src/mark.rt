@@ -26,7 +26,7 @@ pub struct Marks {
     pub receives: Vec<Mark>,
 }
 
-fn mixed(hash: u64, value: u64) -> u64
+pub(crate) fn mixed(hash: u64, value: u64) -> u64
     ensures { result ≡ mixed hash value }
 {
     hash.wrapping_mul(31).wrapping_add(value)
@@ -170,7 +170,7 @@ pub(crate) fn are_same(one: &[Mark], other: &[Mark]) -> bool
     true
 }
 
-fn is_same(one: Mark, other: Mark) -> bool
+pub(crate) fn is_same(one: Mark, other: Mark) -> bool
     ensures { result ≡ is_mark one other }
 {
     one.count == other.count && one.head == other.head

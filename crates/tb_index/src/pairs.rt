@@ -1,63 +1,81 @@
 ghost use Rattle.std.specs.Prelude.{◌≡◌, ◌&&◌, ◌||◌, ◌==◌, ℕ, true, false, not, OnOk, OnErr, Option, Some, None};
 ghost use Rattle.tb_index.specs.declared.mark.Mark.{Mark as TheMark};
 ghost use Rattle.tb_index.specs.Marks.{has_mark};
-ghost use Rattle.tb_index.specs.Pairs.{has, is_pair, AreOf, AreAdded, AreRemoved, SamePairs, IsFirst, earlier};
+ghost use Rattle.tb_index.specs.Pairs.{has, in_many, is_pair, AreOf, AreAdded, AreRemoved, SamePairs, IsFirst};
 
+use crate::few::{add_few, has_few, is_full, make_slots, next_few, remove_few};
 use crate::mark::{Mark, Marks, has_mark};
+use crate::slot::{Slot, earlier};
 use std::alloc::Global;
 use std::collections::BTreeSet;
 use tb_terms::NoMemory;
 
-/// Processes with marks. The processes of a mark stand beside each other.
+/// Processes with marks: in slots, and those for which a slot had no room in order.
 #[derive(Drop)]
 pub(crate) struct Pairs {
-    pub set: BTreeSet<(usize, u64, u32)>,
+    pub few: Vec<Slot>,
+    pub many: BTreeSet<(usize, u64, u32)>,
 }
 
 impl Pairs {
+    /// Takes no memory.
     pub(crate) fn new(alloc: Global) -> Pairs
-        ensures { (mark : TheMark) (proc : ℕ) → has result.set mark proc ≡ false }
+        ensures { (mark : TheMark) (proc : ℕ) → has result mark proc ≡ false }
     {
         Pairs {
-            set: BTreeSet::new(alloc),
+            few: Vec::new(alloc),
+            many: BTreeSet::new(alloc),
         }
     }
 
     pub(crate) fn add(&mut self, mark: Mark, proc: u32) -> Result<(), NoMemory>
         ensures added { OnOk result ((other : TheMark) (its : ℕ)
-            → has self.new.set other its ≡ has self.old.set other its || is_pair mark proc other its) }
-        ensures err { OnErr result (SamePairs self.old.set self.new.set) }
+            → has self.new other its ≡ has self.old other its || is_pair mark proc other its) }
+        ensures err { OnErr result (SamePairs self.old self.new) }
     {
-        self.set.insert((mark.count, mark.head, proc))?;
-        Ok(())
+        match make_slots(&mut self.few) {
+            Ok(()) => {}
+            Err(error) => return Err(error),
+        }
+        if has_few(self.few.as_slice(), mark, proc) {
+            return Ok(());
+        }
+        if is_full(self.few.as_slice(), mark) {
+            match add_many(&mut self.many, mark, proc) {
+                Ok(()) => return Ok(()),
+                Err(error) => return Err(error),
+            }
+        }
+        match add_few(&mut self.few, mark, proc) {
+            Ok(()) => Ok(()),
+            Err(error) => Err(error),
+        }
     }
 
     pub(crate) fn remove(&mut self, mark: Mark, proc: u32)
         ensures { (other : TheMark) (its : ℕ)
-            → has self.new.set other its ≡ has self.old.set other its && not (is_pair mark proc other its) }
+            → has self.new other its ≡ has self.old other its && not (is_pair mark proc other its) }
     {
-        self.set.remove(&(mark.count, mark.head, proc));
+        remove_few(&mut self.few, mark, proc);
+        if !self.many.is_empty() {
+            remove_many(&mut self.many, mark, proc);
+        }
     }
 
     /// The first process with the mark at or behind one.
     pub(crate) fn next(&self, mark: Mark, from: u32) -> Option<u32>
-        ensures { IsFirst (has self.now.set mark) from result }
+        ensures { IsFirst (has self.now mark) from result }
     {
-        match self.set.range((mark.count, mark.head, from)..).next() {
-            Some(found) => {
-                if found.0 == mark.count && found.1 == mark.head {
-                    Some(found.2)
-                } else {
-                    None
-                }
-            }
-            None => None,
+        let few = next_few(self.few.as_slice(), mark, from);
+        if self.many.is_empty() {
+            return few;
         }
+        earlier(few, next_many(&self.many, mark, from))
     }
 
     /// Whether nobody has the mark.
     pub(crate) fn has_nobody(&self, mark: Mark) -> bool
-        ensures { result ≡ true → (its : ℕ) → has self.now.set mark its ≡ false }
+        ensures { result ≡ true → (its : ℕ) → has self.now mark its ≡ false }
     {
         match self.next(mark, 0) {
             Some(_) => false,
@@ -72,9 +90,9 @@ impl Pairs {
         but: &[Mark],
         proc: u32,
     ) -> Result<(), NoMemory>
-        requires { AreOf self.old.set but.now proc }
-        ensures added { OnOk result (AreAdded self.old.set self.new.set marks.now proc) }
-        ensures err { OnErr result (SamePairs self.old.set self.new.set) }
+        requires { AreOf self.old but.now proc }
+        ensures added { OnOk result (AreAdded self.old self.new marks.now proc) }
+        ensures err { OnErr result (SamePairs self.old self.new) }
     {
         for mark in marks {
             match self.add_one_but(*mark, but, proc) {
@@ -89,10 +107,10 @@ impl Pairs {
     }
 
     fn add_one_but(&mut self, mark: Mark, but: &[Mark], proc: u32) -> Result<(), NoMemory>
-        requires { (other : TheMark) → has_mark but.now other ≡ true → has self.old.set other proc ≡ true }
+        requires { (other : TheMark) → has_mark but.now other ≡ true → has self.old other proc ≡ true }
         ensures added { OnOk result ((other : TheMark) (its : ℕ)
-            → has self.new.set other its ≡ has self.old.set other its || is_pair mark proc other its) }
-        ensures err { OnErr result (SamePairs self.old.set self.new.set) }
+            → has self.new other its ≡ has self.old other its || is_pair mark proc other its) }
+        ensures err { OnErr result (SamePairs self.old self.new) }
     {
         if has_mark(but, mark) {
             return Ok(());
@@ -102,7 +120,16 @@ impl Pairs {
 
     /// The process no longer has those of these marks that aren't among `but`.
     pub(crate) fn remove_but(&mut self, marks: &[Mark], but: &[Mark], proc: u32)
-        ensures { AreRemoved self.old.set self.new.set marks.now but.now proc }
+        ensures { AreRemoved self.old self.new marks.now but.now proc }
+    {
+        if marks.is_empty() {
+            return;
+        }
+        self.remove_some(marks, but, proc);
+    }
+
+    fn remove_some(&mut self, marks: &[Mark], but: &[Mark], proc: u32)
+        ensures { AreRemoved self.old self.new marks.now but.now proc }
     {
         for mark in marks {
             self.remove_one_but(*mark, but, proc);
@@ -110,8 +137,8 @@ impl Pairs {
     }
 
     fn remove_one_but(&mut self, mark: Mark, but: &[Mark], proc: u32)
-        ensures { (other : TheMark) (its : ℕ) → has self.new.set other its
-            ≡ has self.old.set other its && not (is_pair mark proc other its && not (has_mark but.now other)) }
+        ensures { (other : TheMark) (its : ℕ) → has self.new other its
+            ≡ has self.old other its && not (is_pair mark proc other its && not (has_mark but.now other)) }
     {
         if !has_mark(but, mark) {
             self.remove(mark, proc);
@@ -119,14 +146,37 @@ impl Pairs {
     }
 }
 
-/// The smaller of two numbers, where there are any.
-pub(crate) fn earlier(one: Option<u32>, other: Option<u32>) -> Option<u32>
-    ensures { result ≡ earlier one other }
+#[inline(never)]
+fn add_many(many: &mut BTreeSet<(usize, u64, u32)>, mark: Mark, proc: u32) -> Result<(), NoMemory>
+    ensures added { OnOk result ((other : TheMark) (its : ℕ)
+        → in_many many.new other its ≡ in_many many.old other its || is_pair mark proc other its) }
+    ensures err { OnErr result ((other : TheMark) (its : ℕ) → in_many many.new other its ≡ in_many many.old other its) }
 {
-    match (one, other) {
-        (Some(a), Some(b)) => { if a <= b { Some(a) } else { Some(b) } }
-        (Some(a), None) => Some(a),
-        (None, b) => b,
+    many.insert((mark.count, mark.head, proc))?;
+    Ok(())
+}
+
+#[inline(never)]
+fn remove_many(many: &mut BTreeSet<(usize, u64, u32)>, mark: Mark, proc: u32)
+    ensures { (other : TheMark) (its : ℕ)
+        → in_many many.new other its ≡ in_many many.old other its && not (is_pair mark proc other its) }
+{
+    many.remove(&(mark.count, mark.head, proc));
+}
+
+#[inline(never)]
+fn next_many(many: &BTreeSet<(usize, u64, u32)>, mark: Mark, from: u32) -> Option<u32>
+    ensures { IsFirst (in_many many.now mark) from result }
+{
+    match many.range((mark.count, mark.head, from)..).next() {
+        Some(found) => {
+            if found.0 == mark.count && found.1 == mark.head {
+                Some(found.2)
+            } else {
+                None
+            }
+        }
+        None => None,
     }
 }
 
@@ -138,12 +188,12 @@ pub(crate) fn add_both(
     old: &Marks,
     new: &Marks,
 ) -> Result<(), NoMemory>
-    requires sends { AreOf sending.old.set old.now.sends.items proc }
-    requires receives { AreOf receiving.old.set old.now.receives.items proc }
-    ensures sends { OnOk result (AreAdded sending.old.set sending.new.set new.now.sends.items proc) }
-    ensures receives { OnOk result (AreAdded receiving.old.set receiving.new.set new.now.receives.items proc) }
-    ensures same_sends { OnErr result (SamePairs sending.old.set sending.new.set) }
-    ensures same_receives { OnErr result (SamePairs receiving.old.set receiving.new.set) }
+    requires sends { AreOf sending.old old.now.sends.items proc }
+    requires receives { AreOf receiving.old old.now.receives.items proc }
+    ensures sends { OnOk result (AreAdded sending.old sending.new new.now.sends.items proc) }
+    ensures receives { OnOk result (AreAdded receiving.old receiving.new new.now.receives.items proc) }
+    ensures same_sends { OnErr result (SamePairs sending.old sending.new) }
+    ensures same_receives { OnErr result (SamePairs receiving.old receiving.new) }
 {
     sending.add_but(new.sends.as_slice(), old.sends.as_slice(), proc)?;
     match receiving.add_but(new.receives.as_slice(), old.receives.as_slice(), proc) {
@@ -164,9 +214,9 @@ pub(crate) fn remove_both(
     but: &Marks,
 )
     ensures sends { AreRemoved
-        sending.old.set sending.new.set marks.now.sends.items but.now.sends.items proc }
+        sending.old sending.new marks.now.sends.items but.now.sends.items proc }
     ensures receives { AreRemoved
-        receiving.old.set receiving.new.set marks.now.receives.items but.now.receives.items proc }
+        receiving.old receiving.new marks.now.receives.items but.now.receives.items proc }
 {
     sending.remove_but(marks.sends.as_slice(), but.sends.as_slice(), proc);
     receiving.remove_but(marks.receives.as_slice(), but.receives.as_slice(), proc);

@@ -1,5 +1,5 @@
 -- Where nothing of the outside fails, and no limit is met, a command ends well, or memory ran out.
-use Rattle.std.proofs.Common.{◌≡◌, ◌≢◌, ℕ, ◌<◌, ◌≤◌, Option, Some, None, List, [], ◌∷◌, Result, Ok, Err, refl, ap, sym, ◌∙◌, subst, length, inl, inr, ◌⊎◌, arith}
+use Rattle.std.proofs.Common.{◌≡◌, ◌≢◌, ℕ, ◌*◌, ◌<◌, ◌≤◌, Option, Some, None, List, [], ◌∷◌, Result, Ok, Err, refl, ap, sym, ◌∙◌, subst, length, inl, inr, ◌⊎◌, arith}
 use Rattle.tb_body.specs.declared.program.Program.{Program}
 use Rattle.tb_bus.specs.Buses.{start}
 use Rattle.tb_cli.specs.declared.command.Command.{Command}
@@ -15,6 +15,9 @@ use Rattle.tb_feed.specs.declared.fault.FeedFault.TheVariants as feed_fault
 use Rattle.tb_feed.proofs.FeedLemmas.{feed-fine, one-feed}
 use Rattle.tb_log.specs.declared.entry.Entry.{Entry}
 use Rattle.tb_log.specs.declared.entry.Input.{Input}
+use Rattle.tb_gen.specs.Ring.{ring_text}
+use Rattle.tb_ring_law.specs.Ends.{GoesDown}
+use Rattle.tb_ring_law.proofs.GoesDown.{ring-goes-down}
 use Rattle.tb_script.specs.Findings.{IsFound, NoTokens, NoScript, Improper, Recursive, Large, ManyRoots, Program'}
 use Rattle.tb_script.specs.declared.fault.ScriptFault.{ScriptFault}
 use Rattle.tb_script.specs.declared.fault.ScriptFault.TheVariants as script
@@ -28,6 +31,7 @@ use Rattle.tb_top.specs.Outcomes.{Comes}
 use Rattle.tb_top.specs.Causes.{IsCaused}
 use Rattle.tb_top.specs.Completeness.{MustEnd, Reads}
 use Rattle.tb_top.specs.Reporting.{Reported, Reports}
+use Rattle.tb_top.specs.Ring.{IsRingOf, RingOutcome, most_of_ring, ring_origin}
 use Rattle.tb_top.specs.Sim.{IsFed, IsFeedRefused, IsSimOf, Request, SimOutcome, origin_for}
 use Rattle.tb_top.specs.Views.{Seen}
 use Rattle.tb_top.specs.declared.fault.Fault.{Fault}
@@ -234,4 +238,35 @@ run-completes A request bytes program old new told more it holds few found file 
     reported-live old.held request old.outside new.outside answer told more it
     (run-well old.held request bytes program old.outside new.outside answer holds few found (file-stays old new answer file comes.caused) (out-stays old new answer out comes.caused)
     (clock-stays old new answer clock comes.caused) (crew-stays old new answer crew comes.caused) comes.outcome)
+    err reports
+
+-- the simulation of a ring that goes down is that one
+pub ring-ends : (n k : ℕ) (log : List Entry) (last : SimEnd) (down : GoesDown n k) → IsRingOf n k log last → (log ≡ down.log) × (last ≡ sim.Down)
+ring-ends n k log last down is =
+    let same : Program' is.program ≡ Program' down.program = down.found.only (Program' is.program) is.found.holds in
+    let one : is.program ≡ down.program = cc in
+    let moved : IsSim (limits_of most_of_ring (ring_origin down.program)) (sim_start (start (ring_origin down.program)) []) log last =
+    subst (λ (q : Program). IsSim (limits_of most_of_ring (ring_origin q)) (sim_start (start (ring_origin q)) []) log last) one is.simulated in
+    one-sim (limits_of most_of_ring (ring_origin down.program)) (sim_start (start (ring_origin down.program)) []) log down.log last sim.Down moved down.ends
+
+-- `ring` of a ring that goes down
+ring-well : {A : Type 0} (n k : ℕ) (old new : Option (List ℕ)) (answer : Result A Fault) → GoesDown n k → (answer ≡ Err Out → ⊥) → RingOutcome n k old new answer → IsWell answer
+ring-well n k old new (Ok done) down out h = tt
+ring-well n k old new (Err NoMemory) down out h = tt
+ring-well n k old new (Err Out) down out h = absurd (out refl)
+ring-well n k old new (Err (Script fault)) down out h = absurd (not-refused (ring_text n k) down.program fault down.found h.0)
+ring-well n k old new (Err (Limit bound.Steps)) down out (log, is, put) = let e : sim.Steps ≡ sim.Down = (ring-ends n k log sim.Steps down is).1 in cc
+ring-well n k old new (Err (Limit bound.Events)) down out (log, is, put) = let e : sim.Events ≡ sim.Down = (ring-ends n k log sim.Events down is).1 in cc
+ring-well n k old new (Err File) down out h = absurd h
+ring-well n k old new (Err Clock) down out h = absurd h
+ring-well n k old new (Err Crew) down out h = absurd h
+ring-well n k old new (Err (Feed fault)) down out h = absurd h
+ring-well n k old new (Err (Words fault)) down out h = absurd h
+
+pub ring-completes : (A : Type 0) (n k : ℕ) (old new : Seen) (told more : Option (List ℕ)) (it : Status) → 2 ≤ n → n ≤ 10000 → 1 ≤ k → n * k ≤ 1000000 →
+    (Rose old.outside.out_faults new.outside.out_faults → ⊥) → (it ≡ status.Outside edge.Err → ⊥) →
+    Reported {A = A} (Comes (Ok (command.Ring n k)) old new) told more it → (it ≡ status.Ended) ⊎ (it ≡ status.NoMemory)
+ring-completes A n k old new told more it least most positive few out err (answer, comes, reports) =
+    reported-well answer told more it
+    (ring-well n k old.outside.put new.outside.put answer (ring-goes-down n k least most positive few) (out-stays old new answer out comes.caused) comes.outcome.0)
     err reports

@@ -1,13 +1,18 @@
-ghost use Rattle.std.specs.Prelude.{◌≡◌, ◌≢◌, ◌≤◌, ◌⊎◌, ℕ, List, Option, Ok, Some, length};
+ghost use Rattle.std.specs.Prelude.{◌≡◌, ◌≢◌, ◌≤◌, ◌+◌, ◌*◌, ◌⊎◌, ◌++◌, ◌∷◌, [], ℕ, List, Option, Ok, Some, codes, length};
+ghost use Rattle.std.specs.Fmt.{decimal};
 ghost use Rattle.tb_body.specs.declared.program.Program.{Program};
-ghost use Rattle.tb_cli.specs.declared.command.Command.TheVariants.{Check, Run, Sim};
+ghost use Rattle.tb_cli.specs.declared.command.Command.TheVariants.{Check, Ring, Run, Sim};
 ghost use Rattle.tb_edge.specs.Faults.{Rose};
+ghost use Rattle.tb_log.specs.declared.entry.Entry.{Entry};
 ghost use Rattle.tb_run.specs.declared.ends.RunWhy.TheVariants as why;
 ghost use Rattle.tb_script.specs.Findings.{IsFound, Program'};
+ghost use Rattle.tb_sim.specs.declared.ends.SimEnd.{SimEnd};
+ghost use Rattle.tb_sim.specs.declared.ends.SimEnd.TheVariants.{Down};
 ghost use Rattle.tb_top.specs.Completeness.{MustEnd};
 ghost use Rattle.tb_top.specs.Loading.{most_bytes};
 ghost use Rattle.tb_top.specs.Outcomes.{Comes};
 ghost use Rattle.tb_top.specs.Reporting.{Reported};
+ghost use Rattle.tb_top.specs.Ring.{IsRingOf, summary};
 ghost use Rattle.tb_top.specs.Run.{IsRun, RunRequest};
 ghost use Rattle.tb_top.specs.Sim.{Request};
 ghost use Rattle.tb_top.specs.Views.{Seen};
@@ -28,6 +33,19 @@ pub fn a_simulation_that_ends_is_put()
         (Rose old.file_faults new.file_faults → ⊥) → (Rose old.outside.out_faults new.outside.out_faults → ⊥) → (status ≡ Status.Outside Edge.Err → ⊥) →
         Reported {A = Unit {0}} (Comes (Ok (Sim request.script request.feed request.connects request.steps request.events)) old new) told more status →
         (status ≡ Status.Ended) ⊎ (status ≡ Status.NoMemory) }
+{}
+
+/// The same of `ring`, for the numbers that the words may give: its script is accepted, and its simulation ends by its own.
+pub fn a_ring_is_put()
+    ensures { (n k : ℕ) (old new : Seen) (told more : Option (List ℕ)) (status : Status) → 2 ≤ n → n ≤ 10000 → 1 ≤ k → n * k ≤ 1000000 →
+        (Rose old.outside.out_faults new.outside.out_faults → ⊥) → (status ≡ Status.Outside Edge.Err → ⊥) →
+        Reported {A = Unit {0}} (Comes (Ok (Ring n k)) old new) told more status → (status ≡ Status.Ended) ⊎ (status ≡ Status.NoMemory) }
+{}
+
+/// What `ring` puts of a ring: there are n times k messages and the shutdown.
+pub fn a_ring_has_one_summary()
+    ensures { (n k : ℕ) (log : List Entry) (last : SimEnd) → 2 ≤ n → n ≤ 10000 → 1 ≤ k → n * k ≤ 1000000 → IsRingOf n k log last →
+        (last ≡ Down) × (summary n log ≡ codes "processes " ++ decimal n ++ codes " steps " ++ decimal (n * k + 1) ++ codes " end " ++ codes "shutdown" ++ 10 ∷ []) }
 {}
 
 /// The same of `run` of a script that is accepted, where neither the clock nor the crew fails, unless the log is full: then

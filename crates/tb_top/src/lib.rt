@@ -13,6 +13,9 @@ mod status;
 mod top;
 
 pub use fault::Fault;
-pub use laws::{a_simulation_that_ends_is_put, an_accepted_script_is_told};
+pub use laws::{
+    a_ring_has_one_summary, a_ring_is_put, a_simulation_that_ends_is_put,
+    an_accepted_script_is_told,
+};
 pub use status::{Bound, Edge, Status};
 pub use top::toolbus;

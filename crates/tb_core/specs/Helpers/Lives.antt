@@ -1,6 +1,7 @@
 -- The processes for which the living of the code stand, whatever their walkers are.
-use Rattle.std.specs.Prelude.{◌≡◌, ◌≤◌, ◌<◌, ℕ, List, [], map, Bool, true, false, Option, Some, None, slice_get}
+use Rattle.std.specs.Prelude.{◌≡◌, ◌≤◌, ◌<◌, ℕ, List, [], map, Bool, true, false, Option, Some, None, nat_lt, slice_get}
 use Rattle.std.specs.List.{All}
+use Rattle.std.specs.List.Sorted.{IsPartitionPoint}
 use Rattle.tb_body.specs.declared.atom.Atom.{Atom}
 use Rattle.tb_body.specs.declared.body.Body.{Body}
 use Rattle.tb_func.specs.declared.slot.Slot.{Slot}
@@ -42,6 +43,10 @@ IsLive {P = P} view plans now living = (plan : P) × (slice_get plans living.bod
 -- its number is below that of the next
 abbrev pub IsBelow : {W : Type 0} → ℕ → Living W → Type 0
 IsBelow next living = living.number < next
+
+-- the index where those with smaller numbers end
+abbrev pub IsWhere : {W : Type 0} → ℕ → List (Living W) → ℕ → Type 0
+IsWhere number all at = IsPartitionPoint (λ living. nat_lt living.number number ≡ true) (λ living. nat_lt living.number number ≡ false) all at
 
 -- a term that hasn't ended
 abbrev pub term_in : Option Process → Process

@@ -1,4 +1,4 @@
-use Rattle.std.proofs.Common.{◌≡◌, ◌++◌, ◌+◌, ◌<◌, ◌∙◌, List, take, drop, ap, sym, subst, length, get_or, arith}
+use Rattle.std.proofs.Common.{◌∙◌, List, ap, length, arith}
 use Rattle.tb_index.specs.declared.mark.Mark.{Mark}
 use Rattle.tb_index.specs.Marks.{has_mark}
 use Rattle.tb_index.proofs.ActiveLemmas as active

@@ -5,4 +5,4 @@ use Rattle.tb_index.specs.Pairs.{is_sender, IsFirst}
 use Rattle.tb_index.proofs.active.next_sender.Given as goal
 
 abbrev pub invariant-loop-mark : goal.invariant-loop-mark
-invariant-loop-mark l = IsFirst (λ proc. list_any (λ (mark : Mark). is_sender l.sending.set l.fn.counted.set mark proc) (take l.mark-index l.marks)) l.from l.found
+invariant-loop-mark l = IsFirst (λ proc. list_any (λ (mark : Mark). is_sender l.sending l.fn.counted mark proc) (take l.mark-index l.marks)) l.from l.found

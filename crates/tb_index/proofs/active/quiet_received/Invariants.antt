@@ -2,4 +2,4 @@ use Rattle.tb_index.specs.Pairs.{ReceivedAreKept}
 use Rattle.tb_index.proofs.active.quiet_received.Given as goal
 
 abbrev pub invariant-loop-mark : goal.invariant-loop-mark
-invariant-loop-mark l = ReceivedAreKept l.initial.active.items l.active.items l.receiving.set
+invariant-loop-mark l = ReceivedAreKept l.initial.active.items l.active.items l.receiving

@@ -2,4 +2,4 @@ use Rattle.tb_index.specs.Pairs.{SentAreKept}
 use Rattle.tb_index.proofs.active.quiet_sent.Given as goal
 
 abbrev pub invariant-loop-mark : goal.invariant-loop-mark
-invariant-loop-mark l = SentAreKept l.initial.active.items l.active.items l.sending.set
+invariant-loop-mark l = SentAreKept l.initial.active.items l.active.items l.sending

@@ -1,25 +1,12 @@
-use Rattle.std.proofs.Common.{◌≡◌, ℕ, Bool, true, false, ap, sym, ◌∙◌, ◌⊎◌, inl, inr, ⊎_elim}
-use Rattle.std.specs.BTreeMap.{is_at}
+use Rattle.std.proofs.Common.{◌≡◌, true, ⊎_elim, subst, sym}
 use Rattle.tb_index.specs.Marks.{wide}
-use Rattle.tb_index.specs.Pairs.{has, is_among, triple_cmp}
-use Rattle.tb_index.proofs.ActiveLemmas as active
+use Rattle.tb_index.specs.Pairs.{in_few, in_many}
+use Rattle.tb_index.proofs.SlotLemmas as slots
 use Rattle.tb_index.proofs.counts.count_all.Goals as goal
 
-pub loop-pair-init : goal.loop-pair-init
-loop-pair-init c = λ mark proc e. inl (ap (is_among mark proc) (c.into_iter-pair-iterator.ensures.into_iter_gives ∙ c.iter-pair-items.ensures.rest) ∙ e)
-
-pub loop-pair-preserved : goal.loop-pair-preserved
-loop-pair-preserved c = λ mark proc e. ⊎_elim
-    (λ (was : is_among mark proc c.loop-pair.pair-iterator ≡ true). ⊎_elim
-    (λ (here : is_at (triple_cmp (mark.count, mark.head, proc)) c.in-Some.pair.now ≡ true).
-    inr (active.counted-pair c.count_pair.new.counted.set mark proc c.in-Some.pair.now here c.in_ok-count_pair.ensures.here))
-    (λ (rest : is_among mark proc c.next.new.self ≡ true). inl rest)
-    (active.or-cases (is_at (triple_cmp (mark.count, mark.head, proc)) c.in-Some.pair.now) (is_among mark proc c.next.new.self) (sym (ap (is_among mark proc) c.in-Some.ensures.steps) ∙ was)))
-    (λ (there : has c.loop-pair.counted.set (wide mark) proc ≡ true). inr (c.count_pair.ensures.kept (wide mark) proc there))
-    (c.loop-pair.invariant mark proc e)
-
 pub returns : goal.returns
-returns c = λ mark proc e. ⊎_elim
-    (λ (was : is_among mark proc c.loop-pair.pair-iterator ≡ true). absurd (let t : false ≡ true = sym (ap (is_among mark proc) c.in-None.ensures.steps.0) ∙ was in cc))
-    (λ (there : has c.loop-pair.counted.set (wide mark) proc ≡ true). there)
-    (c.loop-pair.invariant mark proc e)
+returns c = λ mark its e. ⊎_elim
+    (λ (there : in_few c.args.sending.now.few.items mark its ≡ true). c.count_many.ensures.kept (wide mark) its
+    (c.in_ok-count_few.ensures mark its (subst (λ few. in_few few mark its ≡ true) (sym c.as_slice.ensures.value) there)))
+    (λ (there : in_many c.args.sending.now.many mark its ≡ true). c.in_ok-count_many.ensures.all mark its there)
+    (slots.has-cases c.args.sending.now mark its e)

@@ -6,5 +6,5 @@ use Rattle.tb_index.proofs.counts.count_marks.Given as goal
 
 abbrev pub invariant-loop-mark : goal.invariant-loop-mark
 invariant-loop-mark l =
-    ((mark : Mark) (its : ℕ) → has l.initial.counted.set mark its ≡ true → has l.counted.set mark its ≡ true)
-    × ((mark : Mark) → has_mark (take l.mark-index l.marks) mark ≡ true → has_mark l.but mark ≡ false → has l.counted.set (wide mark) l.proc ≡ true)
+    ((mark : Mark) (its : ℕ) → has l.initial.counted mark its ≡ true → has l.counted mark its ≡ true)
+    × ((mark : Mark) → has_mark (take l.mark-index l.marks) mark ≡ true → has_mark l.but mark ≡ false → has l.counted (wide mark) l.proc ≡ true)

@@ -3,4 +3,4 @@ use Rattle.tb_index.specs.Marks.{open_head}
 use Rattle.tb_index.proofs.counts.count_pair.Goals as goal
 
 pub returns-clause-here : goal.returns-clause-here
-returns-clause-here c = active.counted-one c.args.counted.now.set c.add.new.self.set (record { count = c.args.count; head = open_head }) c.args.proc c.in_ok-add.ensures.added
+returns-clause-here c = active.counted-one c.args.counted.now c.add.new.self (record { count = c.args.count; head = open_head }) c.args.proc c.in_ok-add.ensures.added

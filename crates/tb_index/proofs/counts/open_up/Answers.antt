@@ -1,4 +1,4 @@
-use Rattle.std.proofs.Common.{◌≡◌, ◌∙◌, sym}
+use Rattle.std.proofs.Common.{◌∙◌, sym}
 use Rattle.tb_index.proofs.ActiveLemmas as active
 use Rattle.tb_index.proofs.counts.open_up.Goals as goal
 

@@ -1,7 +1,6 @@
-use Rattle.std.proofs.Common.{◌≡◌, ℕ, Bool, true, false, refl, ap, sym, ◌∙◌, subst, arith, ◌==◌, ◌<◌, ◌/◌, ◌||◌, length, List, []}
-use Rattle.std.specs.List.{list_any}
-use Rattle.tb_index.specs.Indexes.{IndexState, HasRoom, IsTurned, IsSet, IsCleared, IsTied, SameIndex, sends, receives, is_receiver, is_awake, starts}
-use Rattle.tb_index.specs.Pairs.{IsNext, IsFirst, has, earlier, AreAdded, AreRemoved, AreCounted, AreCountedStill, SentAreKept, ReceivedAreKept}
+use Rattle.std.proofs.Common.{◌≡◌, ap, sym, ◌∙◌, subst, ◌==◌, List, []}
+use Rattle.tb_index.specs.Indexes.{IsCleared, sends, receives}
+use Rattle.tb_index.specs.Pairs.{has, AreRemoved}
 use Rattle.tb_index.specs.Marks.{has_mark}
 use Rattle.tb_index.specs.declared.mark.Mark.{Mark}
 use Rattle.tb_index.proofs.ActiveLemmas as active
@@ -10,40 +9,40 @@ use Rattle.tb_index.proofs.IndexLemmas as indexes
 use Rattle.tb_index.proofs.index.Index.clear.Goals as goal
 
 pub quiet_sent-requires : goal.quiet_sent-requires
-quiet_sent-requires c = λ t. active.left-counted c.self.inside.sending.set c.remove_but.new.self.set c.args.proc c.as_slice.result.now [] c.remove_but.ensures
-    c.self.inside.counts.pairs.set c.uncount.new.counts.pairs.set (c.self.invariant.counted (sym c.uncount.ensures.opened ∙ t)) c.uncount.ensures.still
-    (λ mark e. absurd (active.not-both (has c.remove_but.new.self.set mark c.args.proc) e
-    (pairs.gone-own (has c.remove_but.new.self.set mark c.args.proc) (has c.self.inside.sending.set mark c.args.proc) (has_mark c.as_slice.result.now mark) (c.args.proc == c.args.proc)
+quiet_sent-requires c = λ t. active.left-counted c.self.inside.sending c.remove_but.new.self c.args.proc c.as_slice.result.now [] c.remove_but.ensures
+    c.self.inside.counts.pairs c.uncount.new.counts.pairs (c.self.invariant.counted (sym c.uncount.ensures.opened ∙ t)) c.uncount.ensures.still
+    (λ mark e. absurd (active.not-both (has c.remove_but.new.self mark c.args.proc) e
+    (pairs.gone-own (has c.remove_but.new.self mark c.args.proc) (has c.self.inside.sending mark c.args.proc) (has_mark c.as_slice.result.now mark) (c.args.proc == c.args.proc)
     (c.remove_but.ensures mark c.args.proc) (active.same-number c.args.proc)
-    ((indexes.own-sends c.self.inside.sending.set c.self.inside.receiving.set c.self.inside.counts.opened c.self.inside.counts.pairs.set c.self.inside.awake c.self.inside.active.items c.args.proc c.args.old.now.sends.items
+    ((indexes.own-sends c.self.inside.sending c.self.inside.receiving c.self.inside.counts.opened c.self.inside.counts.pairs c.self.inside.awake c.self.inside.active.items c.args.proc c.args.old.now.sends.items
     (subst (λ index. (m : Mark) → sends index m c.args.proc ≡ has_mark c.args.old.now.sends.items m) (sym c.self.view_is) c.requires.sends)) mark ∙ ap (λ (marks : List Mark). has_mark marks mark) (sym c.as_slice.ensures.value)))))
 
 pub invariant_of-self : goal.invariant_of-self
 invariant_of-self c = record {
   opened = λ mark its e is_open. c.uncount.ensures.opened ∙ c.self.invariant.opened mark its
-      (active.left c.self.inside.receiving.set c.remove_but-2.new.self.set c.args.proc c.as_slice-2.result.now [] c.remove_but-2.ensures mark its e) is_open;
-  counted = λ t. (active.left-counted c.self.inside.sending.set c.remove_but.new.self.set c.args.proc c.as_slice.result.now [] c.remove_but.ensures
-      c.self.inside.counts.pairs.set c.uncount.new.counts.pairs.set (c.self.invariant.counted (sym c.uncount.ensures.opened ∙ t)) c.uncount.ensures.still
-      (λ mark e. absurd (active.not-both (has c.remove_but.new.self.set mark c.args.proc) e
-      (pairs.gone-own (has c.remove_but.new.self.set mark c.args.proc) (has c.self.inside.sending.set mark c.args.proc) (has_mark c.as_slice.result.now mark) (c.args.proc == c.args.proc)
+      (active.left c.self.inside.receiving c.remove_but-2.new.self c.args.proc c.as_slice-2.result.now [] c.remove_but-2.ensures mark its e) is_open;
+  counted = λ t. (active.left-counted c.self.inside.sending c.remove_but.new.self c.args.proc c.as_slice.result.now [] c.remove_but.ensures
+      c.self.inside.counts.pairs c.uncount.new.counts.pairs (c.self.invariant.counted (sym c.uncount.ensures.opened ∙ t)) c.uncount.ensures.still
+      (λ mark e. absurd (active.not-both (has c.remove_but.new.self mark c.args.proc) e
+      (pairs.gone-own (has c.remove_but.new.self mark c.args.proc) (has c.self.inside.sending mark c.args.proc) (has_mark c.as_slice.result.now mark) (c.args.proc == c.args.proc)
       (c.remove_but.ensures mark c.args.proc) (active.same-number c.args.proc)
-      ((indexes.own-sends c.self.inside.sending.set c.self.inside.receiving.set c.self.inside.counts.opened c.self.inside.counts.pairs.set c.self.inside.awake c.self.inside.active.items c.args.proc c.args.old.now.sends.items
+      ((indexes.own-sends c.self.inside.sending c.self.inside.receiving c.self.inside.counts.opened c.self.inside.counts.pairs c.self.inside.awake c.self.inside.active.items c.args.proc c.args.old.now.sends.items
       (subst (λ index. (m : Mark) → sends index m c.args.proc ≡ has_mark c.args.old.now.sends.items m) (sym c.self.view_is) c.requires.sends)) mark ∙ ap (λ (marks : List Mark). has_mark marks mark) (sym c.as_slice.ensures.value))))));
-  heard = active.left-heard c.self.inside.sending.set c.remove_but.new.self.set c.self.inside.receiving.set c.remove_but-2.new.self.set
+  heard = active.left-heard c.self.inside.sending c.remove_but.new.self c.self.inside.receiving c.remove_but-2.new.self
       c.self.inside.active.items c.quiet_sent.new.active.items c.quiet_received.new.active.items c.self.invariant.heard
-      (active.left c.self.inside.sending.set c.remove_but.new.self.set c.args.proc c.as_slice.result.now [] c.remove_but.ensures)
-      (active.left c.self.inside.receiving.set c.remove_but-2.new.self.set c.args.proc c.as_slice-2.result.now [] c.remove_but-2.ensures)
+      (active.left c.self.inside.sending c.remove_but.new.self c.args.proc c.as_slice.result.now [] c.remove_but.ensures)
+      (active.left c.self.inside.receiving c.remove_but-2.new.self c.args.proc c.as_slice-2.result.now [] c.remove_but-2.ensures)
       c.quiet_sent.ensures c.quiet_received.ensures;
 }
 
 pub returns : goal.returns
-returns c = subst (λ old. IsCleared old (indexes.state c.remove_but.new.self.set c.remove_but-2.new.self.set c.uncount.new.counts.opened c.uncount.new.counts.pairs.set c.remove.new.self c.quiet_received.new.active.items) c.args.proc) c.self.view_is
-    (indexes.cleared c.self.inside.sending.set c.self.inside.receiving.set c.self.inside.counts.opened c.self.inside.counts.pairs.set c.self.inside.awake c.self.inside.active.items c.remove_but.new.self.set c.remove_but-2.new.self.set c.uncount.new.counts.opened c.uncount.new.counts.pairs.set c.remove.new.self c.quiet_received.new.active.items
+returns c = subst (λ old. IsCleared old (indexes.state c.remove_but.new.self c.remove_but-2.new.self c.uncount.new.counts.opened c.uncount.new.counts.pairs c.remove.new.self c.quiet_received.new.active.items) c.args.proc) c.self.view_is
+    (indexes.cleared c.self.inside.sending c.self.inside.receiving c.self.inside.counts.opened c.self.inside.counts.pairs c.self.inside.awake c.self.inside.active.items c.remove_but.new.self c.remove_but-2.new.self c.uncount.new.counts.opened c.uncount.new.counts.pairs c.remove.new.self c.quiet_received.new.active.items
     c.args.proc c.args.old.now.sends.items c.args.old.now.receives.items
-    (indexes.own-sends c.self.inside.sending.set c.self.inside.receiving.set c.self.inside.counts.opened c.self.inside.counts.pairs.set c.self.inside.awake c.self.inside.active.items c.args.proc c.args.old.now.sends.items
+    (indexes.own-sends c.self.inside.sending c.self.inside.receiving c.self.inside.counts.opened c.self.inside.counts.pairs c.self.inside.awake c.self.inside.active.items c.args.proc c.args.old.now.sends.items
     (subst (λ index. (m : Mark) → sends index m c.args.proc ≡ has_mark c.args.old.now.sends.items m) (sym c.self.view_is) c.requires.sends))
-    (indexes.own-receives c.self.inside.sending.set c.self.inside.receiving.set c.self.inside.counts.opened c.self.inside.counts.pairs.set c.self.inside.awake c.self.inside.active.items c.args.proc c.args.old.now.receives.items
+    (indexes.own-receives c.self.inside.sending c.self.inside.receiving c.self.inside.counts.opened c.self.inside.counts.pairs c.self.inside.awake c.self.inside.active.items c.args.proc c.args.old.now.receives.items
     (subst (λ index. (m : Mark) → receives index m c.args.proc ≡ has_mark c.args.old.now.receives.items m) (sym c.self.view_is) c.requires.receives))
-    (subst (λ marks. AreRemoved c.self.inside.sending.set c.remove_but.new.self.set marks [] c.args.proc) c.as_slice.ensures.value c.remove_but.ensures)
-    (subst (λ marks. AreRemoved c.self.inside.receiving.set c.remove_but-2.new.self.set marks [] c.args.proc) c.as_slice-2.ensures.value c.remove_but-2.ensures)
+    (subst (λ marks. AreRemoved c.self.inside.sending c.remove_but.new.self marks [] c.args.proc) c.as_slice.ensures.value c.remove_but.ensures)
+    (subst (λ marks. AreRemoved c.self.inside.receiving c.remove_but-2.new.self marks [] c.args.proc) c.as_slice-2.ensures.value c.remove_but-2.ensures)
     c.remove.ensures.here c.remove.ensures.others c.remove.ensures.long)

@@ -1,4 +1,4 @@
-use Rattle.std.proofs.Common.{◌≡◌, ◌==◌, ℕ, take, ap, ◌∙◌}
+use Rattle.std.proofs.Common.{◌==◌, take, ap, ◌∙◌}
 use Rattle.std.proofs.lemmas.Bool.{eqb-true}
 use Rattle.tb_index.specs.Marks.{has_mark, is_mark}
 use Rattle.tb_index.specs.Pairs.{has}
@@ -9,5 +9,5 @@ pub returns-in-Err-clause-err : goal.returns-in-Err-clause-err
 returns-in-Err-clause-err c = λ mark its. pairs.undone _ _ _ (has_mark c.args.marks.now mark) (has_mark (take c.loop-mark.mark-index c.args.marks.now) mark) (has_mark c.args.but.now mark) (its == c.args.proc)
     (c.remove_but.ensures mark its)
     (c.in-Err.ensures.err mark its ∙ c.loop-mark.invariant mark its)
-    (λ e. ap (has c.args.self.now.set mark) (eqb-true its c.args.proc e) ∙ c.requires mark)
+    (λ e. ap (has c.args.self.now mark) (eqb-true its c.args.proc e) ∙ c.requires mark)
     (pairs.any-take (is_mark mark) c.loop-mark.mark-index c.args.marks.now)

@@ -5,4 +5,4 @@ use Rattle.tb_index.specs.Pairs.{has}
 use Rattle.tb_index.proofs.pairs.Pairs.add_but.Given as goal
 
 abbrev pub invariant-loop-mark : goal.invariant-loop-mark
-invariant-loop-mark l = (mark : Mark) (its : ℕ) → has l.self.set mark its ≡ (has l.initial.self.set mark its || (has_mark (take l.mark-index l.marks) mark && (its == l.proc)))
+invariant-loop-mark l = (mark : Mark) (its : ℕ) → has l.self mark its ≡ (has l.initial.self mark its || (has_mark (take l.mark-index l.marks) mark && (its == l.proc)))

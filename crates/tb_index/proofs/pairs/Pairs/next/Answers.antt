@@ -1,13 +1,15 @@
-use Rattle.tb_index.proofs.PairLemmas as pairs
+use Rattle.std.proofs.Common.{sym, subst}
+use Rattle.tb_index.specs.Pairs.{has, in_few, IsFirst}
+use Rattle.tb_index.proofs.SlotLemmas as slots
 use Rattle.tb_index.proofs.pairs.Pairs.next.Goals as goal
-use Rattle.tb_index.proofs.pairs.Pairs.next.Goals.{else-found-mark-via-then-found-mark+else-found-mark-2, else-found-mark-via-else-found-mark}
 
-pub returns-in-None : goal.returns-in-None
-returns-in-None c = λ proc low. pairs.next-none c.args.self.now.set c.args.mark c.args.from _ (c.range.ensures.in_range tt) c.in-None.ensures.steps.0 proc low
+pub returns-then-is_empty : goal.returns-then-is_empty
+returns-then-is_empty c = slots.next-few c.args.self.now c.args.mark c.args.from c.next_few-few.result
+    (subst (λ few. IsFirst (in_few few c.args.mark) c.args.from c.next_few-few.result) c.as_slice.ensures.value c.next_few-few.ensures)
+    (c.is_empty.ensures.0 c.if-is_empty.true)
 
-pub returns-then-found-mark-2 : goal.returns-then-found-mark-2
-returns-then-found-mark-2 c = pairs.next-found c.args.self.now.set c.args.mark c.args.from _ c.in-Some.found.now c.next.new.self (c.range.ensures.in_range tt) c.in-Some.ensures.steps c.if-found-mark.true c.if-found-mark-2.true
-
-pub returns-else-found-mark : goal.returns-else-found-mark
-returns-else-found-mark c = pairs.next-other c.args.self.now.set c.args.mark c.args.from _ c.in-Some.found.now c.next.new.self (c.range.ensures.in_range tt) c.in-Some.ensures.steps
-    (λ same as_well. elim c.else-found-mark.branch [ else-found-mark-via-then-found-mark+else-found-mark-2 w ↦ w.if-found-mark-2.false as_well | else-found-mark-via-else-found-mark w ↦ w.if-found-mark.false same ])
+pub returns : goal.returns
+returns c = subst (λ found. IsFirst (has c.args.self.now c.args.mark) c.args.from found) (sym c.earlier.ensures)
+    (slots.next-both c.args.self.now c.args.mark c.args.from c.next_few-few.result c.next_many.result
+    (subst (λ few. IsFirst (in_few few c.args.mark) c.args.from c.next_few-few.result) c.as_slice.ensures.value c.next_few-few.ensures)
+    c.next_many.ensures)

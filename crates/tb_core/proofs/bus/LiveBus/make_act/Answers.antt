@@ -5,7 +5,7 @@ use Rattle.tb_bus.specs.declared.action.Action.TheVariants as action
 use Rattle.tb_core.specs.Helpers.LiveBuses.{procs_in}
 use Rattle.tb_core.specs.Helpers.Makings.{effect_by}
 use Rattle.tb_core.proofs.MakeLemmas.{own-at, acted-own, acted-within, acted-named, acted-leaves, acted-advance, acted-made, acted-origin, acted-label}
-use Rattle.tb_core.proofs.bus.LiveBus.make_own.Goals as goal
+use Rattle.tb_core.proofs.bus.LiveBus.make_act.Goals as goal
 
 pub act-requires-clause-plain : goal.act-requires-clause-plain
 act-requires-clause-plain g c =

@@ -1,0 +1,15 @@
+pub mod Lexing
+pub mod Texts
+pub mod Spelt
+pub mod Limits
+pub mod Checked
+pub mod Folds
+pub mod Programs
+pub mod Values
+pub mod Moves
+pub mod Waiting
+pub mod Steps
+pub mod Runs
+pub mod Expanded
+pub mod Accepted
+pub mod GoesDown
