@@ -2,13 +2,15 @@
 use denote.Param.Send.{IsSend, sendable}
 use denote.Param.SendFields.{declared_send}
 use Rattle.std.proofs.Crossing.{crosses}
+use Rattle.sqlite_items.proofs.boxed.Boxed.TheSendSync.{the_send as boxed_send}
 use Rattle.sqlite_items.proofs.items.Items.TheSendSync.{the_send as items_send}
 use Rattle.tb_algebra.proofs.SendLemmas.{expr_row, setting_send, body_send, store_send}
 use Rattle.tb_code.specs.contracts.node.Node as node
 use Rattle.tb_code.specs.contracts.code.Code as code
 use Rattle.tb_walk.specs.contracts.branch.Branch as branch
 use Rattle.tb_walk.specs.contracts.sight.Sight as sight
-use Rattle.tb_walk.specs.contracts.walk.Taken as taken
+use Rattle.tb_walk.specs.contracts.taken.Outcome as outcome
+use Rattle.tb_walk.specs.contracts.taken.Taken as taken
 use Rattle.tb_walk.specs.contracts.walk.Walk as walk
 
 node_send : IsSend node.the_row
@@ -23,8 +25,11 @@ branch_send = search sendable depth 30
 sight_send : IsSend sight.the_row
 sight_send = search (sendable, crosses, store_send) depth 40
 
+outcome_send : IsSend outcome.the_row
+outcome_send = search (sendable, crosses, store_send) depth 40
+
 pub taken_send : IsSend taken.the_row
-taken_send = search (sendable, crosses, store_send) depth 40
+taken_send = search (sendable, crosses, boxed_send, outcome_send) depth 40
 
 pub walk_send : IsSend walk.the_row
 walk_send = search (sendable, crosses, items_send, branch_send, store_send, sight_send) depth 40
