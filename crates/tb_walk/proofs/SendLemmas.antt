@@ -7,6 +7,8 @@ use Rattle.sqlite_items.proofs.items.Items.TheSendSync.{the_send as items_send}
 use Rattle.tb_algebra.proofs.SendLemmas.{expr_row, setting_send, body_send, store_send}
 use Rattle.tb_code.specs.contracts.node.Node as node
 use Rattle.tb_code.specs.contracts.code.Code as code
+use Rattle.tb_code.specs.contracts.entry.Entry as entry
+use Rattle.tb_code.specs.contracts.entry.Span as span
 use Rattle.tb_walk.specs.contracts.branch.Branch as branch
 use Rattle.tb_walk.specs.contracts.sight.Sight as sight
 use Rattle.tb_walk.specs.contracts.taken.Outcome as outcome
@@ -16,8 +18,14 @@ use Rattle.tb_walk.specs.contracts.walk.Walk as walk
 node_send : IsSend node.the_row
 node_send = search (sendable, crosses, expr_row, setting_send) depth 40
 
+entry_send : IsSend entry.the_row
+entry_send = search sendable depth 30
+
+span_send : IsSend span.the_row
+span_send = search sendable depth 30
+
 pub code_send : IsSend code.the_row
-code_send = declared_send code.the_type (body_send, (items_send node.the_row node_send, tt))
+code_send = declared_send code.the_type (body_send, (items_send node.the_row node_send, (items_send entry.the_row entry_send, (items_send span.the_row span_send, tt))))
 
 branch_send : IsSend branch.the_row
 branch_send = search sendable depth 30
