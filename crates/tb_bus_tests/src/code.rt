@@ -2,7 +2,7 @@ use crate::bodies::{body, first_body, repeated};
 use std::alloc::Global;
 use std::test::Fail;
 use tb_body::{Act, Atom};
-use tb_code::{Node, Op, compile};
+use tb_code::{Entry, Node, Op, Span, compile};
 use tb_terms::NoMemory;
 
 /// A body, and what stands at each position, with its frame.
@@ -68,6 +68,83 @@ fn positions_are_numbered_in_text_order(rt: HostRuntime) -> Result<(), Fail> {
         let found = positions_text(rt.alloc(), code.nodes.as_slice())?;
         assert_eq!(rt; found.as_str(), *positions, "{text}");
     }
+    Ok(())
+}
+
+/// A body, and the list of each position: each atom's number and where it stands, with a bang where it has times.
+static LISTS: [(&str, &str); 6] = [
+    ("tau . tau", "1@1; 1@1; 2@2;"),
+    ("tau * tau delay(1)", "1@1 2@2!; 1@1; 2@2!;"),
+    (
+        "(tau || tau) . (tau + tau)",
+        "1@2 2@3; 1@2 2@3; 1@2; 2@3; 3@5 4@6; 3@5; 4@6;",
+    ),
+    ("(if equal(X, 0) then tau fi) * tau", "; ; 1@2; 2@3;"),
+    (
+        "tau + if equal(X, 0) then tau else tau fi",
+        "; 1@1; ; 2@3; 3@4;",
+    ),
+    (
+        "(let Z : int in tau . tau endlet) . tau",
+        "; ; 1@3; 1@3; 2@4; 3@5;",
+    ),
+];
+
+fn list_text(alloc: Global, entries: &[Entry], span: &Span) -> Result<String, NoMemory> {
+    let mut text = String::new(alloc);
+    for (at, entry) in entries.iter().skip(span.first).take(span.count).enumerate() {
+        let gap = if at > 0 { " " } else { "" };
+        let bang = if entry.timed { "!" } else { "" };
+        write!(text, "{gap}{}@{}{bang}", entry.atom, entry.position)?;
+    }
+    Ok(text)
+}
+
+fn lists_text(alloc: Global, entries: &[Entry], spans: &[Span]) -> Result<String, NoMemory> {
+    let mut text = String::new(alloc);
+    for (at, span) in spans.iter().enumerate() {
+        let list = list_text(alloc, entries, span)?;
+        let gap = if at > 0 { " " } else { "" };
+        write!(text, "{gap}{list};")?;
+    }
+    Ok(text)
+}
+
+#[test]
+fn lists_are_kept_in_text_order(rt: HostRuntime) -> Result<(), Fail> {
+    for (text, lists) in &LISTS {
+        let code = compile(rt.alloc(), &body(rt.alloc(), text)?)?;
+        let found = lists_text(rt.alloc(), code.entries.as_slice(), code.spans.as_slice())?;
+        assert_eq!(rt; found.as_str(), *lists, "{text}");
+    }
+    Ok(())
+}
+
+/// How many entries the list of a position has.
+fn list_count(spans: &[Span], at: usize) -> usize {
+    match spans.get(at) {
+        Some(span) => span.count,
+        None => 0,
+    }
+}
+
+/// A choice of 30 atoms within 300 stars has 659 positions, so all lists have at most 5,272 entries. The atoms have 330, the
+/// choices of 2 to 30 of them 464, and the stars from the inside to the outside 31, 32 and so on: 4,386 those of 68 stars.
+#[test]
+fn lists_are_kept_while_there_is_room(rt: HostRuntime) -> Result<(), Fail> {
+    let stars = repeated(rt.alloc(), 300, " * tau", "")?;
+    let one = choice(rt.alloc(), 30)?;
+    let script = format!(in rt.alloc(); "process P is {one}{stars} toolbus()")?;
+    let code = compile(rt.alloc(), &first_body(rt.alloc(), script.as_str())?)?;
+    let spans = code.spans.as_slice();
+    let found = (spans.len(), code.entries.len());
+    assert_eq!(rt; found, (659, 5_180));
+    let counts = [
+        list_count(spans, 231),
+        list_count(spans, 232),
+        list_count(spans, 299),
+    ];
+    assert_eq!(rt; counts, [0, 98, 31]);
     Ok(())
 }
 

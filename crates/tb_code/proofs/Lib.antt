@@ -1,3 +1,4 @@
+pub mod EntryLemmas
 pub mod Parts
 pub mod Rows
 pub mod Tables

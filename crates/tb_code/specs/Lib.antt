@@ -1,2 +1,3 @@
 pub mod Positions
+pub mod Entries
 pub mod Helpers

@@ -3,11 +3,14 @@ ghost use Rattle.std.specs.Coded.{codes, coded_list};
 ghost use Rattle.std.specs.Option.{option_copied};
 ghost use Rattle.tb_code.specs.contracts.node.Node as node_row;
 ghost use Rattle.tb_algebra.specs.Processes.{fresh};
-ghost use Rattle.tb_code.specs.Positions.{HasParts, positions, size, table, node};
+ghost use Rattle.std.proofs.Props.{props};
+ghost use Rattle.tb_code.specs.Entries.{AreLists, entries_of};
+ghost use Rattle.tb_code.specs.Positions.{HasParts, part, positions, size, table, node};
 ghost use Rattle.tb_code.specs.Helpers.Twos.{joined};
 
+use crate::lists::{add_lists, in_span, span_at};
 use crate::two::Two;
-use crate::{Node, Op};
+use crate::{Entry, Node, Op, Span};
 use std::alloc::Global;
 use tb_body::{Atom, Body, Tree, copy_settings};
 use tb_terms::{Items, NoMemory};
@@ -19,7 +22,12 @@ pub struct Code {
     pub body: Body,
     /// What stands at each position, in order.
     pub nodes: Items<Node>,
+    /// The entries of all lists that are kept.
+    pub entries: Items<Entry>,
+    /// Which of them the list of each position has.
+    pub spans: Items<Span>,
     ghost numbered: { nodes ≡ positions (fresh body.tree) } by { Prim.hlevel (codes, coded_list, node_row.the_row.coded) },
+    ghost listed: { AreLists body.atoms (fresh body.tree) entries spans } by { Prim.hlevel props },
 }
 
 /// Numbers the positions of a body.
@@ -28,8 +36,16 @@ pub fn compile(alloc: Global, body: &Body) -> Result<Code, NoMemory>
 {
     let mut nodes = Items::new(alloc);
     add_tree(alloc, &mut nodes, &body.tree, None)?;
+    let mut entries = Items::new(alloc);
+    let mut spans = Items::new(alloc);
+    add_lists(alloc, body, nodes.as_slice(), &mut entries, &mut spans)?;
     let body = body.copy(alloc)?;
-    Ok(Code { body, nodes })
+    Ok(Code {
+        body,
+        nodes,
+        entries,
+        spans,
+    })
 }
 
 impl Code {
@@ -50,6 +66,16 @@ impl Code {
     {
         let _positions = self.nodes.len();
         at + 1
+    }
+
+    /// The atoms that may come next at a position, in text order, where a list of them is kept. An
+    /// empty one says nothing.
+    pub fn list(&self, at: usize) -> &[Entry]
+        requires { at < size (fresh self.now.body.tree) }
+        ensures { 0 < length result.now → entries_of self.now.body.atoms at (part (fresh self.now.body.tree) at) ≡ Some result.now }
+    {
+        let span = span_at(self.spans.as_slice(), at);
+        in_span(self.entries.as_slice(), span)
     }
 
     fn node_of(&self, at: usize) -> &Node

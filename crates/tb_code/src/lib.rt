@@ -2,8 +2,11 @@
 #![tactic(auto)]
 
 mod code;
+mod entry;
+mod lists;
 mod node;
 mod two;
 
 pub use code::{Code, compile};
+pub use entry::{Entry, Span};
 pub use node::{Node, Op};

@@ -1,16 +1,20 @@
 -- What is seen of the part at a position, and where its parts stand, as the code names them.
-use Rattle.std.proofs.Common.{◌≡◌, ℕ, suc, ◌+◌, ◌-◌, ◌<◌, ◌≤◌, Bool, true, false, List, [], ◌∷◌, ◌++◌, Option, Some, None, refl, ap, sym, subst, ◌∙◌, arith, append_assoc, length, drop, get_or, ◌⊎◌, inl, inr}
-use Rattle.std.proofs.lemmas.List.{append-nil, drop_more, drop_all}
+use Rattle.std.proofs.Common.{◌≡◌, ◌==◌, ℕ, suc, ◌+◌, ◌-◌, ◌<◌, ◌≤◌, Bool, true, false, List, [], ◌∷◌, ◌++◌, Option, Some, None, refl, ap, sym, subst, ◌∙◌, arith, append_assoc, length, map, drop, get_or, if◌then◌else◌, ◌⊎◌, inl, inr}
+use Rattle.std.proofs.lemmas.List.{append-nil, drop_more, drop_all, map-append}
 use Rattle.tb_terms.specs.declared.expr.Expr.{Expr}
 use Rattle.tb_func.specs.declared.slot.Slot.{Slot}
 use Rattle.tb_body.specs.declared.atom.Atom.{Atom}
+use Rattle.tb_body.specs.declared.atom.Time.{Time}
 use Rattle.tb_body.specs.declared.tree.Setting.{Setting}
+use Rattle.tb_algebra.specs.Atoms.{is_ready, times_of}
 use Rattle.tb_algebra.specs.Processes.{Process, At, Seq, Alt, Star, Par, If, When, Let}
 use Rattle.tb_algebra.specs.Settings.{tested, with_settings}
+use Rattle.tb_code.specs.Entries.{entries_of, entry, in_both, is_timed}
 use Rattle.tb_code.specs.Positions.{size, part, IsTwo, IsOne, HasParts}
+use Rattle.tb_code.specs.declared.entry.Entry.{Entry}
 use Rattle.tb_code.specs.declared.node.Op.{Op}
 use Rattle.tb_code.specs.declared.node.Op.TheVariants as op
-use Rattle.tb_walk.specs.Helpers.Sights.{Sighting, Looking, sightings, sightings_if, sightings_after, sighting_at, branch_sightings, row_sightings}
+use Rattle.tb_walk.specs.Helpers.Sights.{Sighting, entry_sighting, Looking, sightings, sightings_if, sightings_after, sighting_at, branch_sightings, row_sightings}
 use Rattle.tb_walk.specs.declared.branch.Branch.{Branch}
 
 -- the part at a position stands behind the whole, and nearer to its end
@@ -131,3 +135,39 @@ pub row_all : (whole : Process) (atoms : List Atom) (now ticks : ℕ) (store : L
     found ++ row_sightings whole atoms now ticks store at (drop at row) ≡ all → found ≡ all
 row_all whole atoms now ticks store row at found all h inv =
     sym (append-nil found) ∙ sym (ap (λ (l : List Branch). found ++ row_sightings whole atoms now ticks store at l) (drop_all at row h)) ∙ inv
+
+-- a list shows what a look sees
+
+pub some_listed : (list : List Entry) → (length list == 0) ≡ false → 0 < length list
+some_listed [] h = (let no : true ≡ false = h in cc)
+some_listed (entry ∷ list) h = omega arith
+
+module _ (by : Looking) (store : List Slot) where
+  two_listed : (xs ys : Option (List Entry)) (s t : List Sighting) (list : List Entry) → ((l : List Entry) → xs ≡ Some l → s ≡ map (entry_sighting by store) l) → ((l : List Entry) → ys ≡ Some l → t ≡ map (entry_sighting by store) l) →
+      in_both xs ys ≡ Some list → s ++ t ≡ map (entry_sighting by store) list
+  two_listed None ys s t list f g e = (let no : ◌≡◌ {A = Option (List Entry)} None (Some list) = e in cc)
+  two_listed (Some l) None s t list f g e = (let no : ◌≡◌ {A = Option (List Entry)} None (Some list) = e in cc)
+  two_listed (Some l) (Some m) s t list f g e =
+      let same : l ++ m ≡ list = (let h : ◌≡◌ {A = Option (List Entry)} (Some (l ++ m)) (Some list) = e in cc) in
+      ap (λ (r : List Sighting). r ++ t) (f l refl) ∙ ap (λ (r : List Sighting). map (entry_sighting by store) l ++ r) (g m refl)
+      ∙ sym (map-append (entry_sighting by store) l m) ∙ ap (map (entry_sighting by store)) same
+
+  ready_so : (times : List Time) → is_ready store by.age by.now times ≡ (if is_timed times then is_ready store by.age by.now times else true)
+  ready_so [] = refl
+  ready_so (time ∷ times) = refl
+
+  one_listed : (at atom : ℕ) → sighting_at by at atom store ≡ entry_sighting by store (entry by.atoms at atom)
+  one_listed at atom =
+      ap (λ (b : Bool). let it : Sighting = record { branch = by.branch; position = at; seen = record { atom = atom; age = by.age; ready = b; store = store } } in it) (ready_so (times_of by.atoms atom))
+
+  pub listed : (at : ℕ) (x : Process) (list : List Entry) → entries_of by.atoms at x ≡ Some list → sightings by at x store ≡ map (entry_sighting by store) list
+  listed at (At atom age) list e =
+      let same : entry by.atoms at atom ∷ [] ≡ list = (let h : ◌≡◌ {A = Option (List Entry)} (Some (entry by.atoms at atom ∷ [])) (Some list) = e in cc) in
+      ap (λ (s : Sighting). s ∷ []) (one_listed at atom) ∙ ap (map (entry_sighting by store)) same
+  listed at (Seq x y) list e = listed (suc at) x list e
+  listed at (Alt x y) list e = two_listed (entries_of by.atoms (suc at) x) (entries_of by.atoms (suc at + size x) y) (sightings by (suc at) x store) (sightings by (suc at + size x) y store) list (λ l h. listed (suc at) x l h) (λ l h. listed (suc at + size x) y l h) e
+  listed at (Star x y) list e = two_listed (entries_of by.atoms (suc at) x) (entries_of by.atoms (suc at + size x) y) (sightings by (suc at) x store) (sightings by (suc at + size x) y store) list (λ l h. listed (suc at) x l h) (λ l h. listed (suc at + size x) y l h) e
+  listed at (Par x y) list e = two_listed (entries_of by.atoms (suc at) x) (entries_of by.atoms (suc at + size x) y) (sightings by (suc at) x store) (sightings by (suc at + size x) y store) list (λ l h. listed (suc at) x l h) (λ l h. listed (suc at + size x) y l h) e
+  listed at (If test x y) list e = (let no : ◌≡◌ {A = Option (List Entry)} None (Some list) = e in cc)
+  listed at (When test x) list e = (let no : ◌≡◌ {A = Option (List Entry)} None (Some list) = e in cc)
+  listed at (Let settings x) list e = (let no : ◌≡◌ {A = Option (List Entry)} None (Some list) = e in cc)

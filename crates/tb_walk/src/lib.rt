@@ -9,6 +9,7 @@ mod patterns;
 mod settle;
 mod sight;
 mod take;
+mod taken;
 mod taking;
 mod values;
 mod walk;

@@ -3,7 +3,7 @@ ghost use Rattle.tb_algebra.specs.Atoms.{is_ready, times_of};
 ghost use Rattle.tb_algebra.specs.Processes.{fresh, If, When, Let};
 ghost use Rattle.tb_algebra.specs.Helpers.OfferViews.{or_own};
 ghost use Rattle.tb_code.specs.Positions.{size, part, IsTwo, IsOne};
-ghost use Rattle.tb_walk.specs.Helpers.Sights.{Sighting, sighted, sightings, looking, row_sightings};
+ghost use Rattle.tb_walk.specs.Helpers.Sights.{Sighting, entry_ready, entry_sighting, sighted, sightings, looking, row_sightings};
 ghost use Rattle.tb_walk.specs.Helpers.Takings.{AreThere};
 
 use crate::values::says;
@@ -11,7 +11,7 @@ use crate::{Branch, Sight};
 use std::alloc::Global;
 use tb_algebra::{copy_own, is_ready, store_of, with_settings};
 use tb_body::Settings;
-use tb_code::{Code, Op};
+use tb_code::{Code, Entry, Op};
 use tb_func::Store;
 use tb_terms::{Expr, Items, NoMemory};
 
@@ -46,9 +46,88 @@ pub(crate) fn look_row(
             ticks,
             bus: now,
         };
-        look_at(alloc, code, position, &clock, base, &None, found)?;
+        look_branch(alloc, code, position, &clock, base, found)?;
     }
     Ok(())
+}
+
+/// Adds what the part at the position of a branch may do next: by its list, where one is kept.
+fn look_branch(
+    alloc: Global,
+    code: &Code,
+    at: usize,
+    clock: &Clock,
+    base: &Store,
+    found: &mut Items<Sight>,
+) -> Result<(), NoMemory>
+    requires { at < size (fresh code.now.body.tree) }
+    ensures { OnOk result (map (sighted base.now) found.new
+        ≡ map (sighted base.now) found.old ++ sightings (looking code.now.body.atoms clock.now) at (part (fresh code.now.body.tree) at) base.now) }
+{
+    let list = code.list(at);
+    if list.is_empty() {
+        look_at(alloc, code, at, clock, base, &None, found)
+    } else {
+        look_list(alloc, code, list, clock, base, found)
+    }
+}
+
+fn look_list(
+    alloc: Global,
+    code: &Code,
+    list: &[Entry],
+    clock: &Clock,
+    base: &Store,
+    found: &mut Items<Sight>,
+) -> Result<(), NoMemory>
+    ensures { OnOk result (map (sighted base.now) found.new
+        ≡ map (sighted base.now) found.old ++ map (entry_sighting (looking code.now.body.atoms clock.now) base.now) list.now) }
+{
+    for entry in list {
+        look_entry(alloc, code, entry, clock, base, found)?;
+    }
+    Ok(())
+}
+
+fn look_entry(
+    alloc: Global,
+    code: &Code,
+    entry: &Entry,
+    clock: &Clock,
+    base: &Store,
+    found: &mut Items<Sight>,
+) -> Result<(), NoMemory>
+    ensures { OnOk result (map (sighted base.now) found.new
+        ≡ map (sighted base.now) found.old ++ entry_sighting (looking code.now.body.atoms clock.now) base.now entry.now ∷ []) }
+{
+    let age = clock.ticks.saturating_sub(clock.entered);
+    let ready = is_entry_ready(alloc, code, base, entry, age, clock.bus)?;
+    found.push(Sight {
+        branch: clock.branch,
+        position: entry.position,
+        atom: entry.atom,
+        age,
+        ready,
+        own: None,
+    })?;
+    Ok(())
+}
+
+fn is_entry_ready(
+    alloc: Global,
+    code: &Code,
+    store: &Store,
+    entry: &Entry,
+    age: u64,
+    now: u64,
+) -> Result<bool, NoMemory>
+    ensures { IfOk result (λ ready. ready ≡ entry_ready code.now.body.atoms store.now age now entry.now) }
+{
+    if entry.timed {
+        Ok(is_atom_ready(alloc, code, store, entry.atom, age, now)?)
+    } else {
+        Ok(true)
+    }
 }
 
 /// Drops what was found, and keeps the memory.

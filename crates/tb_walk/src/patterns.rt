@@ -36,13 +36,13 @@ pub(crate) fn patterns_by(
 fn message(alloc: Global, store: &Store, exprs: &[Expr]) -> Result<Option<Patterns>, NoMemory>
     ensures { IfOk result (λ patterns. patterns ≡ patterns_of store.now exprs.now) }
 {
-    let mut patterns = Items::from_vec(Vec::with_capacity(alloc, exprs.len())?);
+    let mut patterns = Vec::with_capacity(alloc, exprs.len())?;
     for expr in exprs {
         if !push_pattern(alloc, store, expr, &mut patterns)? {
             return Ok(None);
         }
     }
-    Ok(Some(patterns))
+    Ok(Some(Items::from_vec(patterns)))
 }
 
 /// Adds the pattern of an expression, and says whether there is one.
@@ -50,9 +50,9 @@ fn push_pattern(
     alloc: Global,
     store: &Store,
     expr: &Expr,
-    patterns: &mut Patterns,
+    patterns: &mut Vec<Pattern>,
 ) -> Result<bool, NoMemory>
-    ensures { IfOk result (λ is_there. option_map (λ one. patterns.old ++ one ∷ []) (pattern_of store.now expr.now) ≡ (if is_there then Some patterns.new else None)) }
+    ensures { IfOk result (λ is_there. option_map (λ one. patterns.old.items ++ one ∷ []) (pattern_of store.now expr.now) ≡ (if is_there then Some patterns.new.items else None)) }
 {
     match expr {
         Expr::Int(number) => {
@@ -71,8 +71,8 @@ fn push_pattern(
     }
 }
 
-fn push_number(number: i64, patterns: &mut Patterns) -> Result<(), NoMemory>
-    ensures { OnOk result (patterns.new ≡ patterns.old ++ pattern.Fixed (term.Int number) ∷ []) }
+fn push_number(number: i64, patterns: &mut Vec<Pattern>) -> Result<(), NoMemory>
+    ensures { OnOk result (patterns.new.items ≡ patterns.old.items ++ pattern.Fixed (term.Int number) ∷ []) }
 {
     patterns.push(Pattern::Fixed(Term::Int(number)))?;
     Ok(())
@@ -82,9 +82,9 @@ fn push_result(
     alloc: Global,
     store: &Store,
     slot: u32,
-    patterns: &mut Patterns,
+    patterns: &mut Vec<Pattern>,
 ) -> Result<bool, NoMemory>
-    ensures { IfOk result (λ is_there. option_map (λ one. patterns.old ++ one ∷ []) (option_map (pattern.Result slot) (sort_at store.now slot)) ≡ (if is_there then Some patterns.new else None)) }
+    ensures { IfOk result (λ is_there. option_map (λ one. patterns.old.items ++ one ∷ []) (option_map (pattern.Result slot) (sort_at store.now slot)) ≡ (if is_there then Some patterns.new.items else None)) }
 {
     match store.get_sort(slot) {
         Some(sort) => {
@@ -101,9 +101,9 @@ fn push_other(
     alloc: Global,
     store: &Store,
     expr: &Expr,
-    patterns: &mut Patterns,
+    patterns: &mut Vec<Pattern>,
 ) -> Result<bool, NoMemory>
-    ensures { IfOk result (λ is_there. option_map (λ one. patterns.old ++ one ∷ []) (pattern_of store.now expr.now) ≡ (if is_there then Some patterns.new else None)) }
+    ensures { IfOk result (λ is_there. option_map (λ one. patterns.old.items ++ one ∷ []) (pattern_of store.now expr.now) ≡ (if is_there then Some patterns.new.items else None)) }
 {
     match pattern(alloc, expr, store)? {
         Some(one) => {

@@ -52,7 +52,7 @@ pub(crate) fn step_by(
 /// What comes of the part at a position where its atom happens. It is known what comes once the part has
 /// ended.
 #[cycle(comes_of)]
-fn comes_of(code: &Code, at: usize, atom: usize, so_far: Behind) -> Behind
+pub(crate) fn comes_of(code: &Code, at: usize, atom: usize, so_far: Behind) -> Behind
     requires { at < size (fresh code.now.body.tree) }
     ensures { GoesOn (fresh code.now.body.tree) at atom so_far result }
 {

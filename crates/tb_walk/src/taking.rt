@@ -1,5 +1,5 @@
-ghost use Rattle.std.specs.Prelude.{◌≡◌, ◌<◌, length, slice_get, Some, IfOk, IsTrue};
-ghost use Rattle.std.specs.Option.{ForSome, option_copied};
+ghost use Rattle.std.specs.Prelude.{◌≡◌, ◌<◌, length, slice_get, Some, IfOk, IsTrue, true};
+ghost use Rattle.std.specs.Option.{ForSome};
 ghost use Rattle.tb_algebra.specs.Binds.{takes_binds, with_binds};
 ghost use Rattle.tb_algebra.specs.Processes.{fresh};
 ghost use Rattle.tb_algebra.specs.Walks.{offers_of};
@@ -7,16 +7,37 @@ ghost use Rattle.tb_walk.specs.Helpers.Takings.{IsInRow, IsTakenBy};
 ghost use Rattle.tb_walk.specs.WalkViews.{walking_of, IsOnCode, IsLeft};
 
 use crate::look::look_row;
-use crate::settle::Step;
-use crate::take::step_by;
-use crate::walk::Taken;
+use crate::take::{Behind, comes_of, step_by};
+use crate::taken::{Outcome, Taken};
 use crate::{Branch, Sight, Walk};
 use std::alloc::Global;
 use tb_algebra::{copy_own, set_binds};
 use tb_code::Code;
 use tb_func::Store;
 use tb_match::Binds;
-use tb_terms::{Items, NoMemory};
+use tb_terms::{Boxed, Items, NoMemory};
+
+/// Takes the offer at this position, where nothing has happened since the walk was looked at.
+pub(crate) fn take_seen(
+    alloc: Global,
+    code: &Code,
+    walk: &Walk,
+    k: usize,
+) -> Result<Taken, NoMemory>
+    requires on { IsOnCode code.now walk.now }
+    requires seen { walk.now.fresh ≡ true }
+    requires within { k < length (offers_of (walking_of code.now walk.now)) }
+    ensures { IfOk result (λ taken. ForSome (slice_get (offers_of (walking_of code.now walk.now)) k) (IsLeft code.now walk.now taken)) }
+{
+    let row = walk.row.as_slice();
+    let sight = sight_at(walk.found.as_slice(), k);
+    let branch = branch_at(row, sight.branch);
+    match comes_of(code, branch.position, sight.position, Behind::Ended) {
+        Behind::Ended => Ok(Taken::Ended(k)),
+        Behind::Entered(position) => Ok(Taken::Entered(k, position)),
+        Behind::Parted => made(alloc, code, row, walk.ticks, sight),
+    }
+}
 
 /// Takes the offer at this position where nobody has looked since something happened.
 #[inline(never)]
@@ -33,31 +54,39 @@ pub(crate) fn take_unseen(
     let row = walk.row.as_slice();
     let mut found = Items::new(alloc);
     look_row(alloc, code, row, walk.ticks, 0, &walk.store, &mut found)?;
-    taken_by(alloc, code, row, walk.ticks, found.get(k))
+    let sight = sight_at(found.as_slice(), k);
+    made(alloc, code, row, walk.ticks, sight)
 }
 
-/// What comes of the atom that was found, where it happens.
-pub(crate) fn taken_by(
+fn sight_at(found: &[Sight], k: usize) -> &Sight
+    requires { k < length found.now }
+    ensures { slice_get found.now k ≡ Some result.now }
+{
+    &found[k]
+}
+
+fn branch_at(row: &[Branch], at: usize) -> Branch
+    requires { at < length row.now }
+    ensures { slice_get row.now at ≡ Some result }
+{
+    row[at]
+}
+
+/// What comes of the atom that was found, where it happens, in memory of its own.
+#[inline(never)]
+fn made(
     alloc: Global,
     code: &Code,
     row: &[Branch],
     ticks: u64,
-    sight: Option<&Sight>,
+    sight: &Sight,
 ) -> Result<Taken, NoMemory>
-    requires { (one : Sight) → option_copied sight ≡ Some one → IsInRow (fresh code.now.body.tree) row.now one }
-    ensures { (one : Sight) → option_copied sight.entry ≡ Some one → IfOk result (IsTakenBy (fresh code.now.body.tree) ticks row.now one) }
+    requires { IsInRow (fresh code.now.body.tree) row.now sight.now }
+    ensures { IfOk result (IsTakenBy (fresh code.now.body.tree) ticks row.now sight.now) }
 {
-    match sight {
-        Some(sight) => {
-            let own = copy_own(alloc, &sight.own)?;
-            let step = step_by(alloc, code, row, ticks, sight.branch, sight.position)?;
-            Ok(Taken { step, own })
-        }
-        None => Ok(Taken {
-            step: Step::Part(Items::new(alloc)),
-            own: None,
-        }),
-    }
+    let own = copy_own(alloc, &sight.own)?;
+    let step = step_by(alloc, code, row, ticks, sight.branch, sight.position)?;
+    Ok(Taken::Made(Boxed::new(alloc, Outcome { step, own })?))
 }
 
 /// Sets the binds one after another. Most steps have none.

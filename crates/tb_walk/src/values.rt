@@ -55,13 +55,13 @@ fn message(alloc: Global, store: &Store, exprs: &[Expr]) -> Result<Option<Terms>
 fn values(alloc: Global, store: &Store, exprs: &[Expr]) -> Result<Option<Terms>, NoMemory>
     ensures { IfOk result (λ terms. terms ≡ all_of (map (value_of store.now) exprs.now)) }
 {
-    let mut terms = Items::from_vec(Vec::with_capacity(alloc, exprs.len())?);
+    let mut terms = Vec::with_capacity(alloc, exprs.len())?;
     for expr in exprs {
         if !push_value(alloc, store, expr, &mut terms)? {
             return Ok(None);
         }
     }
-    Ok(Some(terms))
+    Ok(Some(Items::from_vec(terms)))
 }
 
 /// Adds the value of an expression, and says whether there is one.
@@ -69,9 +69,9 @@ fn push_value(
     alloc: Global,
     store: &Store,
     expr: &Expr,
-    terms: &mut Terms,
+    terms: &mut Vec<Term>,
 ) -> Result<bool, NoMemory>
-    ensures { IfOk result (λ is_there. option_map (λ value. terms.old ++ value ∷ []) (value_of store.now expr.now) ≡ (if is_there then Some terms.new else None)) }
+    ensures { IfOk result (λ is_there. option_map (λ value. terms.old.items ++ value ∷ []) (value_of store.now expr.now) ≡ (if is_there then Some terms.new.items else None)) }
 {
     match number(expr, store) {
         Some(number) => {
@@ -87,9 +87,9 @@ fn push_other(
     alloc: Global,
     store: &Store,
     expr: &Expr,
-    terms: &mut Terms,
+    terms: &mut Vec<Term>,
 ) -> Result<bool, NoMemory>
-    ensures { IfOk result (λ is_there. option_map (λ value. terms.old ++ value ∷ []) (value_of store.now expr.now) ≡ (if is_there then Some terms.new else None)) }
+    ensures { IfOk result (λ is_there. option_map (λ value. terms.old.items ++ value ∷ []) (value_of store.now expr.now) ≡ (if is_there then Some terms.new.items else None)) }
 {
     match eval(alloc, expr, store)? {
         Some(value) => {

@@ -2,9 +2,9 @@ ghost use Rattle.std.specs.Prelude.{◌≡◌, length};
 
 use crate::look::{empty, look_row};
 use crate::patterns::patterns_by;
-use crate::settle::{Step, go_on};
 use crate::sight::copy_sights;
-use crate::taking::{set_all, take_unseen, taken_by};
+use crate::taken::{Taken, settle};
+use crate::taking::{set_all, take_seen, take_unseen};
 use crate::values::sent_terms;
 use crate::{Branch, Row, Sight};
 use std::alloc::Global;
@@ -30,13 +30,6 @@ pub struct Walk {
     /// Memory for the next look.
     pub(crate) spare: Items<Sight>,
     ghost spare_is_empty: { length spare ≡ 0 },
-}
-
-/// What becomes of the row once an offer is taken, and the store that a `let` made.
-#[derive(Drop)]
-pub struct Taken {
-    pub(crate) step: Step,
-    pub(crate) own: Option<Store>,
 }
 
 impl Walker for Walk {
@@ -149,26 +142,15 @@ impl Walker for Walk {
 
     fn take(&self, alloc: Global, plan: &Code, k: usize) -> Result<Taken, NoMemory> {
         if self.fresh {
-            taken_by(
-                alloc,
-                plan,
-                self.row.as_slice(),
-                self.ticks,
-                self.found.get(k),
-            )
+            take_seen(alloc, plan, self, k)
         } else {
             take_unseen(alloc, plan, self, k)
         }
     }
 
-    fn advance(&mut self, _plan: &Code, taken: Taken, binds: Binds) {
-        let Taken { step, own } = taken;
-        match own {
-            Some(store) => self.store = store,
-            None => {}
-        }
+    fn advance(&mut self, plan: &Code, taken: Taken, binds: Binds) {
+        settle(plan, self, taken);
         set_all(&mut self.store, binds);
-        go_on(&mut self.row, step);
         self.fresh = false;
     }
 

@@ -1,5 +1,5 @@
 -- What is seen of the atoms that may be next, each with its branch and its position.
-use Rattle.std.specs.Prelude.{ℕ, suc, ◌+◌, ◌-◌, Bool, true, false, List, [], ◌∷◌, ◌++◌, Option, Some, None}
+use Rattle.std.specs.Prelude.{ℕ, suc, ◌+◌, ◌-◌, Bool, true, false, List, [], ◌∷◌, ◌++◌, Option, Some, None, if◌then◌else◌}
 use Rattle.tb_func.specs.declared.slot.Slot.{Slot}
 use Rattle.tb_body.specs.declared.atom.Atom.{Atom}
 use Rattle.tb_algebra.specs.Atoms.{is_ready, times_of}
@@ -8,6 +8,7 @@ use Rattle.tb_algebra.specs.Settings.{tested, with_settings}
 use Rattle.tb_algebra.specs.Helpers.OfferViews.{OfferView, or_own}
 use Rattle.tb_algebra.specs.declared.offer.Offer.{Offer}
 use Rattle.tb_code.specs.Positions.{size, part}
+use Rattle.tb_code.specs.declared.entry.Entry.{Entry}
 use Rattle.tb_walk.specs.declared.branch.Branch.{Branch}
 use Rattle.tb_walk.specs.declared.look.Clock.{Clock}
 use Rattle.tb_walk.specs.declared.sight.Sight.{Sight}
@@ -44,6 +45,17 @@ sighting_at by at atom store = record {
   branch = by.branch;
   position = at;
   seen = record { atom = atom; age = by.age; ready = is_ready store by.age by.now (times_of by.atoms atom); store = store };
+}
+
+-- an entry of a list: an atom without times is ready
+abbrev pub entry_ready : List Atom → List Slot → ℕ → ℕ → Entry → Bool
+entry_ready atoms store age now entry = if entry.timed then is_ready store age now (times_of atoms entry.atom) else true
+
+abbrev pub entry_sighting : Looking → List Slot → Entry → Sighting
+entry_sighting by store entry = record {
+  branch = by.branch;
+  position = entry.position;
+  seen = record { atom = entry.atom; age = by.age; ready = entry_ready by.atoms store by.age by.now entry; store = store };
 }
 
 abbrev pub sightings_if : Option Bool → List Sighting → List Sighting → List Sighting

@@ -12,7 +12,9 @@ use Rattle.tb_walk.specs.declared.branch.Branch.{Branch}
 use Rattle.tb_walk.specs.declared.settle.Step.{Step}
 use Rattle.tb_walk.specs.declared.settle.Step.TheVariants as step
 use Rattle.tb_walk.specs.declared.sight.Sight.{Sight}
-use Rattle.tb_walk.specs.declared.walk.Taken.{Taken}
+use Rattle.tb_walk.specs.declared.taken.Taken.{Taken}
+use Rattle.tb_walk.specs.declared.taken.Taken.TheVariants as taken
+use Rattle.tb_walk.specs.declared.taken.Outcome.{Outcome}
 
 -- the offer at this position of the part that a branch stands for leaves this row of it, in this store
 pub record LeavesRow (whole : Process) (ticks at entered : ℕ) (store : List Slot) (k : ℕ) (row : List Branch) (own : List Slot) : Type 0 where
@@ -47,16 +49,25 @@ IsWithin row (step.Part new) = ⊤
 abbrev pub IsBehind : Process → ℕ → List Branch → ℕ → List Branch → Type 0
 IsBehind whole ticks row at next = (b : Branch) → (n : Node) → slice_get row at ≡ Some b → slice_get (positions whole) b.position ≡ Some n → next ≡ entered_behind whole ticks n.frame (take at row) (drop (suc at) row)
 
--- The step puts these branches, or where there are none what is entered then, in the place of the one at this index.
+-- The new row has these branches, or where there are none what is entered then, in the place of the one at this index.
+abbrev pub SettlesTo : Process → ℕ → List Branch → ℕ → List Branch → List Branch → Type 0
+SettlesTo whole ticks row at inside new = (b : Branch) → (n : Node) → slice_get row at ≡ Some b → slice_get (positions whole) b.position ≡ Some n → new ≡ take at row ++ (or_entered inside (entered_behind whole ticks n.frame (take at row) (drop (suc at) row)) ++ drop (suc at) row)
+
+-- the step does this
 pub record IsSettled (whole : Process) (ticks : ℕ) (row : List Branch) (at : ℕ) (inside : List Branch) (step : Step) : Type 0 where
   pub within : IsWithin row step
-  pub after : (b : Branch) → (n : Node) → slice_get row at ≡ Some b → slice_get (positions whole) b.position ≡ Some n → row_after row step ≡ take at row ++ (or_entered inside (entered_behind whole ticks n.frame (take at row) (drop (suc at) row)) ++ drop (suc at) row)
+  pub after : SettlesTo whole ticks row at inside (row_after row step)
 
 -- what was found stands in a branch of the row
 abbrev pub IsInRow : Process → List Branch → Sight → Type 0
 IsInRow whole row sight = (sight.branch < length row) × ((b : Branch) → slice_get row sight.branch ≡ Some b → b.position < size whole)
 
--- It was taken: the store is its own, and the row goes on by its branch and its position.
+-- It was made: the store is its own, and the row goes on by its branch and its position.
+abbrev pub IsMadeBy : Process → ℕ → List Branch → Sight → Outcome → Type 0
+IsMadeBy whole ticks row sight outcome =
+    (outcome.own ≡ sight.own) × ((b : Branch) → slice_get row sight.branch ≡ Some b → IsSettled whole ticks row sight.branch (branch_by whole ticks b sight.position) outcome.step)
+
 abbrev pub IsTakenBy : Process → ℕ → List Branch → Sight → Taken → Type 0
-IsTakenBy whole ticks row sight taken =
-    (taken.own ≡ sight.own) × ((b : Branch) → slice_get row sight.branch ≡ Some b → IsSettled whole ticks row sight.branch (branch_by whole ticks b sight.position) taken.step)
+IsTakenBy whole ticks row sight (taken.Made outcome) = IsMadeBy whole ticks row sight outcome
+IsTakenBy whole ticks row sight (taken.Ended k) = ⊥
+IsTakenBy whole ticks row sight (taken.Entered k position) = ⊥

@@ -1,0 +1,150 @@
+-- What spans have of all entries, and which lists parts have.
+use Rattle.std.proofs.Common.{◌≡◌, ℕ, zero, suc, ◌+◌, ◌<◌, ◌≤◌, List, [], ◌∷◌, ◌++◌, length, map, take, drop, slice_get, slice_set, Option, Some, None, option_map, refl, ap, sym, subst, ◌∙◌, arith, ◌⊎◌, inl, inr, append_assoc, length-append}
+use Rattle.std.proofs.lemmas.List.{append-nil, drop-append-le, drop_at, length-drop, length-take-le, take-append-le, take_all}
+use Rattle.std.proofs.lemmas.Option.{slice_get-map}
+use Rattle.tb_body.specs.declared.atom.Atom.{Atom}
+use Rattle.tb_algebra.specs.Processes.{Process, At, Seq, Alt, Star, Par}
+use Rattle.tb_code.specs.Entries.{AreLists, Grows, HasList, entries_of, entry, in_both, in_span}
+use Rattle.tb_code.specs.Helpers.Blanks.{blank}
+use Rattle.tb_code.specs.Positions.{HasParts, IsTwo, part, size}
+use Rattle.tb_code.specs.declared.entry.Entry.{Entry}
+use Rattle.tb_code.specs.declared.entry.Span.{Span}
+use Rattle.tb_code.specs.declared.node.Node.{Node}
+use Rattle.tb_code.specs.declared.node.Op.{Op}
+use Rattle.tb_code.specs.declared.node.Op.TheVariants as op
+
+abbrev pub span : ℕ → ℕ → Span
+span first count = record { first = first; count = count }
+
+pub none_has : (all : List Entry) (list : Option (List Entry)) → HasList all (span 0 0) list
+none_has all list = (omega arith, λ h. absurd (omega arith))
+
+same_span : (old more : List Entry) (s : Span) → s.first + s.count ≤ length old → in_span (old ++ more) s ≡ in_span old s
+same_span old more s h =
+    let l = length-drop s.first old in
+    ap (take s.count) (drop-append-le s.first old more (omega arith)) ∙ take-append-le s.count (drop s.first old) more (omega arith)
+
+long_span : (all : List Entry) (s : Span) → s.first + s.count ≤ length all → length (in_span all s) ≡ s.count
+long_span all s h = (let l = length-drop s.first all in length-take-le s.count (drop s.first all) (omega arith))
+
+some_taken : (count : ℕ) (l : List Entry) → 0 < length (take count l) → 0 < count
+some_taken zero l h = h
+some_taken (suc count) l h = omega arith
+
+-- a span that has some has as many as it counts
+pub some_count : (all : List Entry) (s : Span) → 0 < length (in_span all s) → 0 < s.count
+some_count all s h = some_taken s.count (drop s.first all) h
+
+pub grows_not : (all : List Entry) → Grows all all
+grows_not all = ([], sym (append-nil all))
+
+-- what a span has stays when entries are added
+pub grown_has : (old new : List Entry) (s : Span) (list : Option (List Entry)) → Grows old new → HasList old s list → HasList new s list
+grown_has old new s list g h =
+    let long = length-append old g.0 in
+    let same = ap length g.1 in
+    let bound = h.0 in
+    (omega arith, λ some. h.1 some ∙ ap Some (sym (ap (λ (l : List Entry). in_span l s) g.1 ∙ same_span old g.0 s bound)))
+
+-- a list of one entry
+pub one_has : (old new : List Entry) (e : Entry) → new ≡ old ++ e ∷ [] → HasList new (span (length old) 1) (Some (e ∷ []))
+one_has old new e is =
+    let long = length-append old (e ∷ []) in
+    let same = ap length is in
+    (omega arith, λ some. sym (ap (λ (l : List Entry). Some (take 1 l)) (ap (drop (length old)) is ∙ drop_at old (e ∷ []) (length old) refl)))
+
+-- the lists of two spans, one behind the other
+pub both_have : (old middle new : List Entry) (x y : Span) (count : ℕ) (one other : Option (List Entry)) →
+    middle ≡ old ++ in_span old x → new ≡ middle ++ in_span middle y → count ≡ x.count + y.count → 0 < x.count → 0 < y.count →
+    HasList old x one → HasList old y other → HasList new (span (length old) count) (in_both one other)
+both_have old middle new x y count one other em en ec sx sy hx hy =
+    let xs = in_span old x in
+    let ys = in_span old y in
+    let second : in_span middle y ≡ ys = ap (λ (l : List Entry). in_span l y) em ∙ same_span old xs y hy.0 in
+    let all : new ≡ old ++ (xs ++ ys) = en ∙ ap (λ (l : List Entry). l ++ in_span middle y) em ∙ ap (λ (l : List Entry). (old ++ xs) ++ l) second ∙ append_assoc old xs ys in
+    let lx = long_span old x hx.0 in
+    let ly = long_span old y hy.0 in
+    let joined = length-append xs ys in
+    let long = length-append old (xs ++ ys) in
+    let same = ap length all in
+    let behind : drop (length old) new ≡ xs ++ ys = ap (drop (length old)) all ∙ drop_at old (xs ++ ys) (length old) refl in
+    let taken : take count (drop (length old) new) ≡ xs ++ ys = ap (take count) behind ∙ take_all count (xs ++ ys) (omega arith) in
+    let lists : in_both one other ≡ Some (xs ++ ys) = ap (λ (o : Option (List Entry)). in_both o other) (hx.1 sx) ∙ ap (in_both (Some xs)) (hy.1 sy) in
+    (omega arith, λ some. lists ∙ ap Some (sym taken))
+
+-- before any list is kept
+
+from_blank : (o : Option Node) (s : Span) → option_map blank o ≡ Some s → span 0 0 ≡ s
+from_blank None s h = (let t : ◌≡◌ {A = Option Span} None (Some s) = h in cc)
+from_blank (Some node) s h = (let t : ◌≡◌ {A = Option Span} (Some (span 0 0)) (Some s) = h in cc)
+
+length-blank : (nodes : List Node) → length (map blank nodes) ≡ length nodes
+length-blank [] = refl
+length-blank (node ∷ nodes) = ap suc (length-blank nodes)
+
+pub blank_lists : (atoms : List Atom) (whole : Process) (all : List Entry) (nodes : List Node) (old spans : List Span) → length nodes ≡ size whole → old ≡ [] → spans ≡ old ++ map blank nodes → AreLists atoms whole all spans
+blank_lists atoms whole all nodes old spans long none is =
+    let blanks : spans ≡ map blank nodes = is ∙ ap (λ (l : List Span). l ++ map blank nodes) none in (
+      ap length blanks ∙ length-blank nodes ∙ long,
+      λ at s h. subst (λ (t : Span). HasList all t (entries_of atoms at (part whole at)))
+          (from_blank (slice_get nodes at) s (sym (slice_get-map blank nodes at) ∙ ap (λ (l : List Span). slice_get l at) (sym blanks) ∙ h))
+          (none_has all (entries_of atoms at (part whole at))),
+    )
+
+-- a list more
+
+length-put : (spans : List Span) (at : ℕ) (s : Span) → length (slice_set spans at s) ≡ length spans
+length-put [] at s = refl
+length-put (t ∷ spans) zero s = refl
+length-put (t ∷ spans) (suc at) s = ap suc (length-put spans at s)
+
+get_put : (spans : List Span) (at i : ℕ) (s t : Span) → slice_get (slice_set spans at s) i ≡ Some t → ((i ≡ at) × (s ≡ t)) ⊎ (slice_get spans i ≡ Some t)
+get_put [] at i s t h = inr h
+get_put (u ∷ spans) zero zero s t h = inl (refl, (let e : ◌≡◌ {A = Option Span} (Some s) (Some t) = h in cc))
+get_put (u ∷ spans) zero (suc i) s t h = inr h
+get_put (u ∷ spans) (suc at) zero s t h = inr h
+get_put (u ∷ spans) (suc at) (suc i) s t h = by_rest (get_put spans at i s t h)
+  where
+    by_rest : ((i ≡ at) × (s ≡ t)) ⊎ (slice_get spans i ≡ Some t) → ((suc i ≡ suc at) × (s ≡ t)) ⊎ (slice_get spans i ≡ Some t)
+    by_rest (inl e) = inl (ap suc e.0, e.1)
+    by_rest (inr e) = inr e
+
+pub list_more : (atoms : List Atom) (whole : Process) (old new : List Entry) (spans later : List Span) (at : ℕ) (s : Span) →
+    AreLists atoms whole old spans → Grows old new → HasList new s (entries_of atoms at (part whole at)) → later ≡ slice_set spans at s → AreLists atoms whole new later
+list_more atoms whole old new spans later at s lists g has is =
+    (ap length is ∙ length-put spans at s ∙ lists.0, λ i t h. by_place i t (get_put spans at i s t (ap (λ (l : List Span). slice_get l i) (sym is) ∙ h)))
+  where
+    by_place : (i : ℕ) (t : Span) → ((i ≡ at) × (s ≡ t)) ⊎ (slice_get spans i ≡ Some t) → HasList new t (entries_of atoms i (part whole i))
+    by_place i t (inl e) = subst (λ (u : Span). HasList new u (entries_of atoms i (part whole i))) e.1 (subst (λ (n : ℕ). HasList new s (entries_of atoms n (part whole n))) (sym e.0) has)
+    by_place i t (inr h) = grown_has old new t (entries_of atoms i (part whole i)) g (lists.1 i t h)
+
+-- the list of a part, by those of its parts
+
+pub list_of_atom : (atoms : List Atom) (whole : Process) (at atom age : ℕ) (e : Entry) → part whole at ≡ At atom age → e ≡ entry atoms at atom → Some (e ∷ []) ≡ entries_of atoms at (part whole at)
+list_of_atom atoms whole at atom age e here is = ap (λ (one : Entry). Some (one ∷ [])) is ∙ sym (ap (entries_of atoms at) here)
+
+pub list_of_seq : (atoms : List Atom) (whole : Process) (at right first : ℕ) → first ≡ suc at → IsTwo whole Seq at right → entries_of atoms first (part whole first) ≡ entries_of atoms at (part whole at)
+list_of_seq atoms whole at right first f two = ap (λ (n : ℕ). entries_of atoms n (part whole n)) f ∙ sym (ap (entries_of atoms at) two.here)
+
+two_lists : (atoms : List Atom) (whole : Process) (make : Process → Process → Process) (at right first : ℕ) → first ≡ suc at →
+    ((x y : Process) → entries_of atoms at (make x y) ≡ in_both (entries_of atoms (suc at) x) (entries_of atoms (suc at + size x) y)) → IsTwo whole make at right →
+    in_both (entries_of atoms first (part whole first)) (entries_of atoms right (part whole right)) ≡ entries_of atoms at (part whole at)
+two_lists atoms whole make at right first f each two =
+    ap (λ (n : ℕ). in_both (entries_of atoms n (part whole n)) (entries_of atoms right (part whole right))) f
+    ∙ ap (λ (n : ℕ). in_both (entries_of atoms (suc at) (part whole (suc at))) (entries_of atoms n (part whole right))) two.behind
+    ∙ sym (each (part whole (suc at)) (part whole right))
+    ∙ sym (ap (entries_of atoms at) two.here)
+
+abbrev pub IsBoth : Op → ℕ → Type 0
+IsBoth o right = (o ≡ op.Alt right) ⊎ ((o ≡ op.Star right) ⊎ (o ≡ op.Par right))
+
+pub list_of_both : (atoms : List Atom) (whole : Process) (o : Op) (at right first : ℕ) → first ≡ suc at → IsBoth o right → HasParts whole at o →
+    in_both (entries_of atoms first (part whole first)) (entries_of atoms right (part whole right)) ≡ entries_of atoms at (part whole at)
+list_of_both atoms whole o at right first f (inl e) h = two_lists atoms whole Alt at right first f (λ x y. refl) (subst (HasParts whole at) e h)
+list_of_both atoms whole o at right first f (inr (inl e)) h = two_lists atoms whole Star at right first f (λ x y. refl) (subst (HasParts whole at) e h)
+list_of_both atoms whole o at right first f (inr (inr e)) h = two_lists atoms whole Par at right first f (λ x y. refl) (subst (HasParts whole at) e h)
+
+pub both_within : (whole : Process) (o : Op) (at right : ℕ) → IsBoth o right → HasParts whole at o → (suc at < size whole) × (right < size whole)
+both_within whole o at right (inl e) h = (let two : IsTwo whole Alt at right = subst (HasParts whole at) e h in (two.first, two.second))
+both_within whole o at right (inr (inl e)) h = (let two : IsTwo whole Star at right = subst (HasParts whole at) e h in (two.first, two.second))
+both_within whole o at right (inr (inr e)) h = (let two : IsTwo whole Par at right = subst (HasParts whole at) e h in (two.first, two.second))

@@ -1,0 +1,50 @@
+-- The atoms that may come next at a position, and which lists of them a code keeps.
+use Rattle.std.specs.Prelude.{◌≡◌, ◌<◌, ◌≤◌, ℕ, suc, ◌+◌, Bool, true, false, List, [], ◌∷◌, ◌++◌, length, take, drop, slice_get, Option, Some, None}
+use Rattle.tb_body.specs.declared.atom.Atom.{Atom}
+use Rattle.tb_body.specs.declared.atom.Time.{Time}
+use Rattle.tb_algebra.specs.Atoms.{times_of}
+use Rattle.tb_algebra.specs.Processes.{Process, At, Seq, Alt, Star, Par, If, When, Let}
+use Rattle.tb_code.specs.Positions.{size, part}
+use Rattle.tb_code.specs.declared.entry.Entry.{Entry}
+use Rattle.tb_code.specs.declared.entry.Span.{Span}
+
+abbrev pub is_timed : List Time → Bool
+is_timed [] = false
+is_timed (time ∷ times) = true
+
+abbrev pub entry : List Atom → ℕ → ℕ → Entry
+entry atoms position atom = record { position = position; atom = atom; timed = is_timed (times_of atoms atom) }
+
+-- the lists of two parts, one behind the other, where both have one
+abbrev pub in_both : Option (List Entry) → Option (List Entry) → Option (List Entry)
+in_both None ys = None
+in_both (Some xs) None = None
+in_both (Some xs) (Some ys) = Some (xs ++ ys)
+
+-- The list of a part whose positions begin here: its atoms that may come next, in text order. A part has none where a test
+-- or settings stand before one of them.
+abbrev pub entries_of : List Atom → ℕ → Process → Option (List Entry)
+entries_of atoms at (At atom age) = Some (entry atoms at atom ∷ [])
+entries_of atoms at (Seq x y) = entries_of atoms (suc at) x
+entries_of atoms at (Alt x y) = in_both (entries_of atoms (suc at) x) (entries_of atoms (suc at + size x) y)
+entries_of atoms at (Star x y) = in_both (entries_of atoms (suc at) x) (entries_of atoms (suc at + size x) y)
+entries_of atoms at (Par x y) = in_both (entries_of atoms (suc at) x) (entries_of atoms (suc at + size x) y)
+entries_of atoms at (If test x y) = None
+entries_of atoms at (When test x) = None
+entries_of atoms at (Let settings x) = None
+
+abbrev pub in_span : List Entry → Span → List Entry
+in_span all span = take span.count (drop span.first all)
+
+-- What a span has of all entries, if it has any, is the list.
+abbrev pub HasList : List Entry → Span → Option (List Entry) → Type 0
+HasList all span list = (span.first + span.count ≤ length all) × (0 < span.count → list ≡ Some (in_span all span))
+
+-- Each position has a span, and what that has, if any, is the list of the part there.
+abbrev pub AreLists : List Atom → Process → List Entry → List Span → Type 0
+AreLists atoms whole all spans =
+    (length spans ≡ size whole) × ((at : ℕ) (span : Span) → slice_get spans at ≡ Some span → HasList all span (entries_of atoms at (part whole at)))
+
+-- more entries are added behind
+abbrev pub Grows : List Entry → List Entry → Type 0
+Grows old new = (more : List Entry) × (new ≡ old ++ more)

@@ -1,0 +1,6 @@
+-- What is kept for a position before its list is.
+use Rattle.tb_code.specs.declared.entry.Span.{Span}
+use Rattle.tb_code.specs.declared.node.Node.{Node}
+
+abbrev pub blank : Node → Span
+blank node = record { first = 0; count = 0 }

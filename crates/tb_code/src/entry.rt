@@ -1,0 +1,16 @@
+/// An atom that may come next, and where it stands.
+#[derive(Clone, Copy)]
+pub struct Entry {
+    pub position: usize,
+    /// The number of the atom.
+    pub atom: u32,
+    /// Whether the atom has times.
+    pub timed: bool,
+}
+
+/// Which of all entries the list of a position has. None says nothing of it.
+#[derive(Clone, Copy)]
+pub struct Span {
+    pub first: usize,
+    pub count: usize,
+}

@@ -1,0 +1,202 @@
+ghost use Rattle.std.specs.Prelude.{◌≡◌, ◌<◌, ◌≤◌, ◌+◌, ◌++◌, ◌∷◌, [], List, Option, Some, IfOk, IfSome, OnOk, length, map, slice_get};
+ghost use Rattle.tb_algebra.specs.Atoms.{times_of};
+ghost use Rattle.tb_algebra.specs.Processes.{fresh};
+ghost use Rattle.tb_code.specs.Entries.{AreLists, Grows, HasList, entries_of, in_both, in_span, is_timed};
+ghost use Rattle.tb_code.specs.Helpers.Blanks.{blank};
+ghost use Rattle.tb_code.specs.Positions.{part, positions};
+ghost use Rattle.tb_code.specs.declared.entry.Entry.{Entry};
+
+use crate::{Entry, Node, Op, Span};
+use std::alloc::Global;
+use tb_body::Body;
+use tb_terms::{Items, NoMemory};
+
+/// How many entries all lists have together, for each position.
+const MOST_ENTRIES: usize = 8;
+
+const NOT_KEPT: Span = Span { first: 0, count: 0 };
+
+/// Keeps the list of each position, from the last one on, as long as there is room.
+pub(crate) fn add_lists(
+    alloc: Global,
+    body: &Body,
+    nodes: &[Node],
+    entries: &mut Items<Entry>,
+    spans: &mut Items<Span>,
+) -> Result<(), NoMemory>
+    requires numbered { nodes.now ≡ positions (fresh body.now.tree) }
+    requires empty { spans.old ≡ [] }
+    ensures { OnOk result (AreLists body.now.atoms (fresh body.now.tree) entries.new spans.new) }
+{
+    add_blanks(nodes, spans)?;
+    for back in 0..nodes.len() {
+        let at = nodes.len() - 1 - back;
+        add_list(alloc, body, nodes, at, entries, spans)?;
+    }
+    Ok(())
+}
+
+fn add_blanks(nodes: &[Node], spans: &mut Items<Span>) -> Result<(), NoMemory>
+    ensures { OnOk result (spans.new ≡ spans.old ++ map blank nodes.now) }
+{
+    for node in nodes {
+        spans.push(blank(node))?;
+    }
+    Ok(())
+}
+
+/// No list is kept yet of any position.
+fn blank(_node: &Node) -> Span
+    ensures { result ≡ blank _node.now }
+{
+    NOT_KEPT
+}
+
+/// Keeps the list of a position, where those of its parts are kept and there is room.
+fn add_list(
+    alloc: Global,
+    body: &Body,
+    nodes: &[Node],
+    at: usize,
+    entries: &mut Items<Entry>,
+    spans: &mut Items<Span>,
+) -> Result<(), NoMemory>
+    requires numbered { nodes.now ≡ positions (fresh body.now.tree) }
+    requires within { at < length nodes.now }
+    requires lists { AreLists body.now.atoms (fresh body.now.tree) entries.old spans.old }
+    ensures { OnOk result (AreLists body.now.atoms (fresh body.now.tree) entries.new spans.new) }
+{
+    let span = list_at(alloc, body, nodes, at, entries, spans.as_slice())?;
+    spans.set(at, span);
+    Ok(())
+}
+
+fn list_at(
+    alloc: Global,
+    body: &Body,
+    nodes: &[Node],
+    at: usize,
+    entries: &mut Items<Entry>,
+    spans: &[Span],
+) -> Result<Span, NoMemory>
+    requires numbered { nodes.now ≡ positions (fresh body.now.tree) }
+    requires within { at < length nodes.now }
+    requires lists { AreLists body.now.atoms (fresh body.now.tree) entries.old spans.now }
+    ensures list { IfOk result (λ span. HasList entries.new span (entries_of body.now.atoms at (part (fresh body.now.tree) at))) }
+    ensures grows { OnOk result (Grows entries.old entries.new) }
+{
+    let room = nodes.len().saturating_mul(MOST_ENTRIES);
+    match &node_at(nodes, at).op {
+        Op::At(atom) => {
+            let entry = Entry {
+                position: at,
+                atom: *atom,
+                timed: is_timed(body, *atom),
+            };
+            add_one(entries, room, entry)
+        }
+        Op::Seq(_) => Ok(span_at(spans, at + 1)),
+        Op::Alt(right) | Op::Star(right) | Op::Par(right) => {
+            let first = span_at(spans, at + 1);
+            let second = span_at(spans, *right);
+            add_both(alloc, entries, room, first, second)
+        }
+        Op::If(_, _) => Ok(NOT_KEPT),
+        Op::When(_) => Ok(NOT_KEPT),
+        Op::Let(_) => Ok(NOT_KEPT),
+    }
+}
+
+fn node_at(nodes: &[Node], at: usize) -> &Node
+    requires { at < length nodes.now }
+    ensures { slice_get nodes.now at ≡ Some result.now }
+{
+    &nodes[at]
+}
+
+pub(crate) fn span_at(spans: &[Span], at: usize) -> Span
+    requires { at < length spans.now }
+    ensures { slice_get spans.now at ≡ Some result }
+{
+    spans[at]
+}
+
+/// Whether the atom with this number has times.
+fn is_timed(body: &Body, number: u32) -> bool
+    ensures { result ≡ is_timed (times_of body.now.atoms number) }
+{
+    match body.atoms.get(number.saturating_sub(1) as usize) {
+        Some(atom) => !atom.times.is_empty(),
+        None => false,
+    }
+}
+
+/// A list with this entry alone.
+fn add_one(entries: &mut Items<Entry>, room: usize, entry: Entry) -> Result<Span, NoMemory>
+    ensures list { IfOk result (λ span. HasList entries.new span (Some (entry ∷ []))) }
+    ensures grows { OnOk result (Grows entries.old entries.new) }
+{
+    let first = entries.len();
+    if first >= room {
+        return Ok(NOT_KEPT);
+    }
+    entries.push(entry)?;
+    Ok(Span { first, count: 1 })
+}
+
+/// The lists of two spans, one behind the other.
+fn add_both(
+    alloc: Global,
+    entries: &mut Items<Entry>,
+    room: usize,
+    x: Span,
+    y: Span,
+) -> Result<Span, NoMemory>
+    requires x_within { x.first + x.count ≤ length entries.old }
+    requires y_within { y.first + y.count ≤ length entries.old }
+    ensures list { (one other : Option (List Entry)) → HasList entries.old x one → HasList entries.old y other
+        → IfOk result (λ span. HasList entries.new span (in_both one other)) }
+    ensures grows { OnOk result (Grows entries.old entries.new) }
+{
+    let first = entries.len();
+    match joint_count(x, y) {
+        Some(count) => {
+            if count > room.saturating_sub(first) {
+                return Ok(NOT_KEPT);
+            }
+            add_span(alloc, entries, x)?;
+            add_span(alloc, entries, y)?;
+            Ok(Span { first, count })
+        }
+        None => Ok(NOT_KEPT),
+    }
+}
+
+/// How many entries two lists have together, where both are kept.
+fn joint_count(x: Span, y: Span) -> Option<usize>
+    ensures { IfSome result (λ count. (count ≡ x.count + y.count) × (0 < x.count) × (0 < y.count)) }
+{
+    if x.count == 0 || y.count == 0 {
+        None
+    } else {
+        x.count.checked_add(y.count)
+    }
+}
+
+fn add_span(alloc: Global, entries: &mut Items<Entry>, span: Span) -> Result<(), NoMemory>
+    requires { span.first + span.count ≤ length entries.old }
+    ensures { OnOk result (entries.new ≡ entries.old ++ in_span entries.old span) }
+{
+    let list = Items::from_slice(alloc, in_span(entries.as_slice(), span))?;
+    entries.append(list)?;
+    Ok(())
+}
+
+/// What a span has of all entries.
+pub(crate) fn in_span(entries: &[Entry], span: Span) -> &[Entry]
+    requires { span.first + span.count ≤ length entries.now }
+    ensures { result.now ≡ in_span entries.now span }
+{
+    let rest = &entries[span.first..];
+    &rest[..span.count]
+}
