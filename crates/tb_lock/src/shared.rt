@@ -17,6 +17,7 @@ use std::marker::{Brand, Model};
 use std::mem::replace;
 use std::sync::Wait;
 use tb_algebra::Walker;
+use tb_bells::Turns;
 use tb_core::{Core, CoreFault, Stepped, TakeOut};
 use tb_log::{Entries, Input, Reply, piece};
 use tb_terms::NoMemory;
@@ -27,6 +28,7 @@ use tb_tools::LaneState;
 #[derive(Drop)]
 pub struct Shared<W: Walker> {
     table: Table<Option<Core<W>>, View, Core<W>, BusRule, Global>,
+    turns: Turns,
 }
 
 impl<W: Walker> Model for Shared<W> {
@@ -60,11 +62,12 @@ impl<W: Walker> Shared<W> {
         let Ok((table, mut holder)) = Table::vacant(alloc, &[1, 0], 1, &core) else {
             return Err(NoRoom { core });
         };
-        open(&table.shared, &mut holder, core);
+        let turns = Turns::new();
+        open(&table.shared, &turns, &mut holder, core);
         let seat = Seat {
             badge: holder.into_badge(),
         };
-        Ok((Shared { table }, seat))
+        Ok((Shared { table, turns }, seat))
     }
 
     /// Hands some of the seat's rights on to a new seat, with room for itself.
@@ -136,9 +139,9 @@ impl<W: Walker> Shared<W> {
         ensures { Observes (IsStateOf lane) seat.old seat.new result }
     {
         let mut holder = replace(&mut seat.badge, Badge::blank()).into_seat();
-        let core = acquire(rt, &self.table.shared, &mut holder);
+        let core = acquire(rt, &self.table.shared, &self.turns, &mut holder);
         let state = core.lane_state(lane);
-        release_unchanged(&self.table.shared, &mut holder, core);
+        release_unchanged(&self.table.shared, &self.turns, &mut holder, core);
         seat.badge = holder.into_badge();
         state
     }
@@ -149,9 +152,9 @@ impl<W: Walker> Shared<W> {
         ensures { Observes AreStates seat.old seat.new result }
     {
         let mut holder = replace(&mut seat.badge, Badge::blank()).into_seat();
-        let core = acquire(rt, &self.table.shared, &mut holder);
+        let core = acquire(rt, &self.table.shared, &self.turns, &mut holder);
         let states = states_of(&core);
-        release_unchanged(&self.table.shared, &mut holder, core);
+        release_unchanged(&self.table.shared, &self.turns, &mut holder, core);
         seat.badge = holder.into_badge();
         states
     }
@@ -171,9 +174,9 @@ impl<W: Walker> Shared<W> {
         ensures { Observes (IsPieceOf from most) seat.old seat.new result }
     {
         let mut holder = replace(&mut seat.badge, Badge::blank()).into_seat();
-        let core = acquire(rt, &self.table.shared, &mut holder);
+        let core = acquire(rt, &self.table.shared, &self.turns, &mut holder);
         let found = piece(alloc, core.log(), from, most);
-        release_unchanged(&self.table.shared, &mut holder, core);
+        release_unchanged(&self.table.shared, &self.turns, &mut holder, core);
         seat.badge = holder.into_badge();
         found
     }
@@ -191,9 +194,9 @@ impl<W: Walker> Shared<W> {
         ensures { Called (C.finds call) (C.call call) seat.old seat.new result }
     {
         let mut holder = replace(&mut seat.badge, Badge::blank()).into_seat();
-        let mut core = acquire(rt, &self.table.shared, &mut holder);
+        let mut core = acquire(rt, &self.table.shared, &self.turns, &mut holder);
         let answer = call.make(&mut core);
-        release(&self.table.shared, &mut holder, core);
+        release(&self.table.shared, &self.turns, &mut holder, core);
         seat.badge = holder.into_badge();
         answer
     }
@@ -204,9 +207,9 @@ impl<W: Walker> Shared<W> {
         ensures { StopsBus seat.old seat.new }
     {
         let mut holder = replace(&mut seat.badge, Badge::blank()).into_seat();
-        let mut core = acquire(rt, &self.table.shared, &mut holder);
+        let mut core = acquire(rt, &self.table.shared, &self.turns, &mut holder);
         core.stop();
-        release_stopped(&self.table.shared, &mut holder, core);
+        release_stopped(&self.table.shared, &self.turns, &mut holder, core);
         seat.badge = holder.into_badge();
     }
 
@@ -217,10 +220,10 @@ impl<W: Walker> Shared<W> {
         requires room { seat.room ≡ most_seats }
         ensures { Closes seat result }
     {
-        let Shared { table } = self;
+        let Shared { table, turns } = self;
         let Seat { badge } = seat;
         let mut holder = badge.into_seat();
-        acquire(rt, &table.shared, &mut holder)
+        acquire(rt, &table.shared, &turns, &mut holder)
     }
 }
 
