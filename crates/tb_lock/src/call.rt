@@ -1,6 +1,7 @@
 //! The calls of a core that may log an entry, all of one form.
+ghost use Rattle.std.specs.Prelude.{◌≡◌, IsTrue, Ok};
 ghost use Rattle.tb_lock.specs.Calls.{IsCallInShape};
-ghost use Rattle.tb_lock.specs.Helpers.Plays.{Answers};
+ghost use Rattle.tb_lock.specs.Helpers.Plays.{Answers, StepsInRow};
 
 use tb_algebra::Walker;
 use tb_core::{Core, CoreFault, Stepped, TakeOut};
@@ -82,5 +83,28 @@ impl<W: Walker> CoreCall<W> for TakingOut {
 
     fn make(self, core: &mut Core<W>) -> Result<TakeOut, CoreFault> {
         core.take_out(self.lane)
+    }
+}
+
+/// Makes steps, so many and one more at most, until one isn't answered by `Did`; gives the answer of the last.
+pub(crate) fn make_steps<W: Walker>(core: &mut Core<W>, more: u32) -> Result<Stepped, CoreFault>
+    ensures { StepsInRow more core.old core.new result }
+{
+    for done in 0..more {
+        let answer = Stepping.make(core);
+        if !did_step(&answer) {
+            return answer;
+        }
+    }
+    Stepping.make(core)
+}
+
+fn did_step(answer: &Result<Stepped, CoreFault>) -> bool
+    ensures { IsTrue result → answer.now ≡ Ok Stepped.Did }
+{
+    match answer {
+        Ok(Stepped::Did) => true,
+        Ok(Stepped::Quiet | Stepped::Down) => false,
+        Err(_) => false,
     }
 }

@@ -3,9 +3,10 @@ ghost use Rattle.tb_log.specs.Shapes.{IsInputInShape, IsLane};
 ghost use Rattle.tb_core.specs.Cores.{HandIn, MakeStep, HandOut, IsStep};
 ghost use Rattle.tb_lock.specs.Rights.{AreAmong, has, right_to, all_rights};
 ghost use Rattle.tb_lock.specs.Seats.{first_seat, kept_of, handed_on, most_seats};
-ghost use Rattle.tb_lock.specs.Calls.{IsCallInShape, Called, IsReply, IsTaken, Observes, IsStateOf, AreStates, IsPieceOf, StopsBus, Joins, Closes};
+ghost use Rattle.tb_lock.specs.Calls.{IsCallInShape, Called, IsReply, IsTaken, CalledInRow, Observes, IsStateOf, AreStates, IsPieceOf, StopsBus, Joins, Closes};
 
-use crate::call::{CoreCall, HandingIn, Stepping, TakingOut};
+use crate::call::{CoreCall, HandingIn, Stepping, TakingOut, make_steps};
+use crate::notices::Notices;
 use crate::plays::BusRule;
 use crate::rights::Rights;
 use crate::seat::{Seat, View};
@@ -29,6 +30,7 @@ use tb_tools::LaneState;
 pub struct Shared<W: Walker> {
     table: Table<Option<Core<W>>, View, Core<W>, BusRule, Global>,
     turns: Turns,
+    notices: Notices,
 }
 
 impl<W: Walker> Model for Shared<W> {
@@ -63,11 +65,17 @@ impl<W: Walker> Shared<W> {
             return Err(NoRoom { core });
         };
         let turns = Turns::new();
+        let notices = Notices::of(&core);
         open(&table.shared, &turns, &mut holder, core);
         let seat = Seat {
             badge: holder.into_badge(),
         };
-        Ok((Shared { table, turns }, seat))
+        let shared = Shared {
+            table,
+            turns,
+            notices,
+        };
+        Ok((shared, seat))
     }
 
     /// Hands some of the seat's rights on to a new seat, with room for itself.
@@ -120,6 +128,22 @@ impl<W: Walker> Shared<W> {
         ensures { Called IsStep MakeStep seat.old seat.new result }
     {
         self.call(rt, seat, Stepping)
+    }
+
+    /// Makes steps in one turn of the seat, so many and one more at most, until one isn't answered by `Did`; gives the answer of
+    /// the last.
+    pub fn steps<R: Wait>(&self, rt: &R, seat: &mut Seat, more: u32) -> Result<Stepped, CoreFault>
+        requires own { seat.old.bus ≡ self.now }
+        requires right { has seat.old.rights (right_to MakeStep) ≡ true }
+        ensures { CalledInRow more seat.old seat.new result }
+    {
+        let mut holder = replace(&mut seat.badge, Badge::blank()).into_seat();
+        let mut core = acquire(rt, &self.table.shared, &self.turns, &mut holder);
+        let answer = make_steps(&mut core, more);
+        self.notices.put(&core);
+        release(&self.table.shared, &self.turns, &mut holder, core);
+        seat.badge = holder.into_badge();
+        answer
     }
 
     /// Takes what is to be handed out next on a lane, in the seat's turn.
@@ -181,6 +205,12 @@ impl<W: Walker> Shared<W> {
         found
     }
 
+    /// Whether there is something for who takes out on this lane, as the last turn left the core: something is to be handed out,
+    /// or the bus is down, or was stopped. It takes no turn, and is a hint.
+    pub fn calls_for(&self, lane: u8) -> bool {
+        self.notices.has(lane)
+    }
+
     /// Makes a call of the core in the seat's turn.
     fn call<R: Wait, C: CoreCall<W>>(
         &self,
@@ -196,6 +226,7 @@ impl<W: Walker> Shared<W> {
         let mut holder = replace(&mut seat.badge, Badge::blank()).into_seat();
         let mut core = acquire(rt, &self.table.shared, &self.turns, &mut holder);
         let answer = call.make(&mut core);
+        self.notices.put(&core);
         release(&self.table.shared, &self.turns, &mut holder, core);
         seat.badge = holder.into_badge();
         answer
@@ -209,6 +240,7 @@ impl<W: Walker> Shared<W> {
         let mut holder = replace(&mut seat.badge, Badge::blank()).into_seat();
         let mut core = acquire(rt, &self.table.shared, &self.turns, &mut holder);
         core.stop();
+        self.notices.put(&core);
         release_stopped(&self.table.shared, &self.turns, &mut holder, core);
         seat.badge = holder.into_badge();
     }
@@ -220,7 +252,11 @@ impl<W: Walker> Shared<W> {
         requires room { seat.room ≡ most_seats }
         ensures { Closes seat result }
     {
-        let Shared { table, turns } = self;
+        let Shared {
+            table,
+            turns,
+            notices: _,
+        } = self;
         let Seat { badge } = seat;
         let mut holder = badge.into_seat();
         acquire(rt, &table.shared, &turns, &mut holder)

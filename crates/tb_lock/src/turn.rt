@@ -20,7 +20,12 @@ const LOOKS: u32 = 100;
 const NEAR: u64 = 2;
 
 /// The first turn of a new bus: the core is put in its slot.
-pub(crate) fn open<W: Walker>(board: &Board<W>, turns: &Turns, holder: &mut Holder<W>, core: Core<W>)
+pub(crate) fn open<W: Walker>(
+    board: &Board<W>,
+    turns: &Turns,
+    holder: &mut Holder<W>,
+    core: Core<W>,
+)
     requires board { IsBoard board.now.table_id }
     requires holder { holder.old.table_id ≡ board.now.table_id }
     requires first { holder.old.me ≡ (opening_seat core.origin, []) }
@@ -61,13 +66,7 @@ pub(crate) fn acquire<W: Walker, R: Wait>(
 
 /// Looks a few times whether it is the turn of this ticket, where few are before it, and then sleeps until somebody has rung for
 /// it.
-fn wait_for<W: Walker, R: Wait>(
-    rt: &R,
-    board: &Board<W>,
-    turns: &Turns,
-    ticket: u64,
-    serving: u64,
-)
+fn wait_for<W: Walker, R: Wait>(rt: &R, board: &Board<W>, turns: &Turns, ticket: u64, serving: u64)
     requires { IsBoard board.now.table_id }
 {
     if ticket.wrapping_sub(serving) <= NEAR && looks(board, ticket) {
@@ -93,7 +92,12 @@ fn looks<W: Walker>(board: &Board<W>, ticket: u64) -> bool
 }
 
 /// Puts the core back with what it has logged in this turn, and passes the turn on.
-pub(crate) fn release<W: Walker>(board: &Board<W>, turns: &Turns, holder: &mut Holder<W>, core: Core<W>)
+pub(crate) fn release<W: Walker>(
+    board: &Board<W>,
+    turns: &Turns,
+    holder: &mut Holder<W>,
+    core: Core<W>,
+)
     requires board { IsBoard board.now.table_id }
     requires holder { holder.old.table_id ≡ board.now.table_id }
     requires may { MayRelease holder.old.me core }
@@ -106,7 +110,12 @@ pub(crate) fn release<W: Walker>(board: &Board<W>, turns: &Turns, holder: &mut H
 }
 
 /// The same with a core that is as it was taken out: there is nothing to note.
-pub(crate) fn release_unchanged<W: Walker>(board: &Board<W>, turns: &Turns, holder: &mut Holder<W>, core: Core<W>)
+pub(crate) fn release_unchanged<W: Walker>(
+    board: &Board<W>,
+    turns: &Turns,
+    holder: &mut Holder<W>,
+    core: Core<W>,
+)
     requires board { IsBoard board.now.table_id }
     requires holder { holder.old.table_id ≡ board.now.table_id }
     requires may { MayReturn holder.old.me core }
@@ -118,7 +127,12 @@ pub(crate) fn release_unchanged<W: Walker>(board: &Board<W>, turns: &Turns, hold
 }
 
 /// The same with a core that was stopped in this turn, and has logged nothing.
-pub(crate) fn release_stopped<W: Walker>(board: &Board<W>, turns: &Turns, holder: &mut Holder<W>, core: Core<W>)
+pub(crate) fn release_stopped<W: Walker>(
+    board: &Board<W>,
+    turns: &Turns,
+    holder: &mut Holder<W>,
+    core: Core<W>,
+)
     requires board { IsBoard board.now.table_id }
     requires holder { holder.old.table_id ≡ board.now.table_id }
     requires may { MayStop holder.old.me core }

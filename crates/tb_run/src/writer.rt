@@ -84,6 +84,10 @@ fn write_one<W: Walker, R: Wait, O: Outlet>(
     ensures work { MatchOption result (Writes lane seat.old seat.new (O.told outlet.old) (O.told outlet.new) (O.faults outlet.old) (O.faults outlet.new)) (WritesLane lane seat.old seat.new (O.told outlet.old) (O.told outlet.new) (O.faults outlet.old) (O.faults outlet.new)) }
     ensures room { most_line_text ≤ vec_capacity buffer.new }
 {
+    if !shared.calls_for(lane) {
+        *heard = bells.wait_past(rt, Sleeper::Writer(lane), *heard);
+        return None;
+    }
     calls_add_their_own();
     entries_are_in_shape();
     match shared.take_out(rt, seat, lane) {
@@ -91,11 +95,7 @@ fn write_one<W: Walker, R: Wait, O: Outlet>(
             tell(bells, &out);
             put(rt, shared, bells, seat, outlet, &out, buffer, lane)
         }
-        Ok(TakeOut::Nothing) => {
-            bells.ring(Sleeper::Log);
-            *heard = bells.wait_past(rt, Sleeper::Writer(lane), *heard);
-            None
-        }
+        Ok(TakeOut::Nothing) => None,
         Ok(TakeOut::Closed) => Some(WorkEnd::Down),
         Err(fault) => Some(refused(rt, shared, bells, seat, fault)),
     }
