@@ -20,7 +20,7 @@ use Rattle.tb_lock.specs.Histories.{IsSparse}
 use Rattle.tb_lock.specs.Calls.{Meets, Called, StopsBus, IsReply, noted, added}
 use Rattle.tb_run.specs.declared.ends.WorkEnd.{WorkEnd}
 use Rattle.tb_run.specs.declared.ends.WorkEnd.TheVariants as end
-use Rattle.tb_run.specs.Seats.{Adds, FoundFull, Stops, SeesTrace, EndsWith, Ends, Hands, end_of}
+use Rattle.tb_run.specs.Seats.{Adds, FoundFull, WasFull, Stops, SeesTrace, EndsWith, Ends, Hands, end_of}
 
 -- the laws of the shared bus
 abbrev pub SeenLaw : Type 0
@@ -129,43 +129,59 @@ module _ (seen_law : SeenLaw) (added_law : AddedLaw) (input : Input) (old new : 
       go (Dropped why.Bad) a l = (Dropped why.Bad, a, called)
       go (Dropped why.Down) a l = (a, called, l)
 
+-- what was seen before is no more than before other calls
+pub found_on : (call : Call) (a b c : SeatView) (xs : List Entry) → Adds a b xs → FoundFull call b c → FoundFull call a c
+found_on call a b c xs adds full = record {
+  core = full.core;
+  may = full.may;
+  right = full.right;
+  origin = full.origin;
+  more = adds.rest ++ full.more;
+  behind = full.behind ∙ (ap (λ (s : List Entry). s ++ full.more) adds.seen ∙ append_assoc a.seen adds.rest full.more);
+  rest = full.rest;
+  seen = full.seen;
+  full = full.full;
+}
+
+pub was_full : (call : Call) (old new : SeatView) → FoundFull call old new → WasFull new
+was_full call old new full = record { core = full.core; call = call; may = full.may; rest = full.rest; origin = full.origin; seen = full.seen; full = full.full }
+
 -- what is left of a worker after a call that was refused, and after it stopped the bus
-abbrev pub Refused : SeatView → SeatView → WorkEnd → Type 0
-Refused old new end.Stopped = Adds old new [] × (new.called ≡ old.called) × (new.told ≡ true)
-Refused old new end.Full = Stops old new × FoundFull new
-Refused old new end.NoMemory = Stops old new
-Refused old new end.Over = ⊥
-Refused old new end.Down = ⊥
-Refused old new end.Failed = ⊥
+abbrev pub Refused : Call → SeatView → SeatView → WorkEnd → Type 0
+Refused call old new end.Stopped = Adds old new [] × (new.called ≡ old.called) × (new.told ≡ true)
+Refused call old new end.Full = Stops old new × FoundFull call old new
+Refused call old new end.NoMemory = Stops old new
+Refused call old new end.Over = ⊥
+Refused call old new end.Down = ⊥
+Refused call old new end.Failed = ⊥
 
 or_true : (b : Bool) → (b || true) ≡ true
 or_true true = refl
 or_true false = refl
 
-pub refused_by : SeenLaw → AddedLaw → {A : Type 0} (finds : CoreState → A → Type 0) (call : Call) (old mid new : SeatView) (f : CoreFault) (it : WorkEnd) → MayCall call → has old.rights (right_to call) ≡ true → Called finds call old mid (Err f) → Ends f mid new it → Refused old new it
+pub refused_by : SeenLaw → AddedLaw → {A : Type 0} (finds : CoreState → A → Type 0) (call : Call) (old mid new : SeatView) (f : CoreFault) (it : WorkEnd) → MayCall call → has old.rights (right_to call) ≡ true → Called finds call old mid (Err f) → Ends f mid new it → Refused call old new it
 refused_by seen_law added_law finds call old mid new fault.Stopped it may right c e =
     let called : mid.called ≡ old.called = ap (λ (s : SeatView). s.called) c.seat in
     let told : mid.told ≡ true = ap (λ (s : SeatView). s.told) c.seat ∙ (ap (λ (b : Bool). old.told || b) (c.stopped.0 refl) ∙ or_true old.told) in
-    subst (Refused old new) (sym e.0) (subst (λ (n : SeatView). Refused old n end.Stopped) (sym e.1) (adds_call seen_law added_law finds call old mid (Err fault.Stopped) right c, called, told))
+    subst (Refused call old new) (sym e.0) (subst (λ (n : SeatView). Refused call old n end.Stopped) (sym e.1) (adds_call seen_law added_law finds call old mid (Err fault.Stopped) right c, called, told))
 refused_by seen_law added_law finds call old mid new fault.Full it may right c e =
-    let full : FoundFull new = record {
-      was = record {
-        core = c.core;
-        call = call;
-        may = may;
-        rest = e.1.adds.rest;
-        origin = c.meets.origin ∙ sym (e.1.adds.origin ∙ ap (λ (s : SeatView). s.origin) c.seat);
-        seen = e.1.adds.seen ∙ ap (λ (s : List Entry). s ++ e.1.adds.rest) (ap (λ (s : SeatView). s.seen) c.seat ∙ append-nil c.core.log);
-        full = c.full refl;
-      };
+    let full : FoundFull call old new = record {
+      core = c.core;
+      may = may;
+      origin = c.meets.origin ∙ sym (e.1.adds.origin ∙ ap (λ (s : SeatView). s.origin) c.seat);
+      more = c.meets.grows.rest;
+      behind = c.meets.grows.is;
+      rest = e.1.adds.rest;
+      seen = e.1.adds.seen ∙ ap (λ (s : List Entry). s ++ e.1.adds.rest) (ap (λ (s : SeatView). s.seen) c.seat ∙ append-nil c.core.log);
+      full = c.full refl;
       right = subst (λ (r : Rights). has r (right_to call) ≡ true) (sym (e.1.adds.rights ∙ ap (λ (s : SeatView). s.rights) c.seat)) right;
     } in
-    subst (Refused old new) (sym e.0) (stops_on old mid new (adds_call seen_law added_law finds call old mid (Err fault.Full) right c) e.1, full)
+    subst (Refused call old new) (sym e.0) (stops_on old mid new (adds_call seen_law added_law finds call old mid (Err fault.Full) right c) e.1, full)
 refused_by seen_law added_law finds call old mid new fault.NoMemory it may right c e =
-    subst (Refused old new) (sym e.0) (stops_on old mid new (adds_call seen_law added_law finds call old mid (Err fault.NoMemory) right c) e.1)
+    subst (Refused call old new) (sym e.0) (stops_on old mid new (adds_call seen_law added_law finds call old mid (Err fault.NoMemory) right c) e.1)
 
 -- a refused worker as one that handed an input in
-pub hands_err : (input : Input) (old new : SeatView) (it : WorkEnd) → Refused old new it → Hands input old new (Some it)
+pub hands_err : (input : Input) (old new : SeatView) (it : WorkEnd) → Refused (HandIn input) old new it → Hands input old new (Some it)
 hands_err input old new end.Stopped r = r
 hands_err input old new end.Full r = r
 hands_err input old new end.NoMemory r = r

@@ -20,7 +20,7 @@ use Rattle.tb_bus.specs.declared.origin.Origin.{Origin}
 use Rattle.tb_tools.specs.Finding.{next_out}
 use Rattle.tb_core.specs.declared.answers.TakeOut.{TakeOut}
 use Rattle.tb_core.specs.declared.answers.TakeOut.TheVariants as taken
-use Rattle.tb_core.specs.Cores.{CoreState, HandOut, bus_now, entries_of, out_entry}
+use Rattle.tb_core.specs.Cores.{CoreState, HandIn, HandOut, bus_now, entries_of, out_entry}
 use Rattle.tb_core.specs.Cores as cores
 use Rattle.tb_lock.specs.Seats.{SeatView}
 use Rattle.tb_lock.specs.Rights.{has, right_to}
@@ -29,7 +29,7 @@ use Rattle.tb_run.specs.declared.ends.WorkEnd.{WorkEnd}
 use Rattle.tb_run.specs.declared.ends.WorkEnd.TheVariants as end
 use Rattle.tb_run.specs.Seats.{Adds, Marks, WasFull}
 use Rattle.tb_run.specs.Workers.{Writes, WritesLane, Counts, CountsTo, cut_count, is_cut, MayLack, WriterEnds, bus_of, CutsOff, Fails, PutsIt, Puts}
-use Rattle.tb_run.proofs.SeatLemmas.{SeenLaw, AddedLaw, Refused, adds_none, adds_on, adds_call, same_number}
+use Rattle.tb_run.proofs.SeatLemmas.{SeenLaw, AddedLaw, Refused, adds_none, adds_on, adds_call, found_on, same_number}
 
 -- what was taken in two parts
 pub and_taken_on : (told : Option (List Taken)) (xs ys : List Taken) → and_taken (and_taken told xs) ys ≡ and_taken told (xs ++ ys)
@@ -139,6 +139,15 @@ module _ (lane : ℕ) (a b c : SeatView) (told_a told_b told_c : Option (List Ta
   rose_on low (inl up) = inl (omega arith)
   rose_on low (inr top) = inr top
 
+  ends_on : (it : WorkEnd) (last : List Out) (xs : List Entry) → Adds a b xs → WriterEnds lane last b c it → WriterEnds lane last a c it
+  ends_on end.Over last xs adds e = e
+  ends_on end.Down last xs adds e = e
+  ends_on end.Stopped last xs adds e = e
+  ends_on end.Full last xs adds (inl e) = inl (e.0, found_on (HandOut lane) a b c xs adds e.1)
+  ends_on end.Full last xs adds (inr e) = inr (e.0, e.1, found_on (HandIn (input.Cut lane)) a b c xs adds e.2)
+  ends_on end.Failed last xs adds e = e
+  ends_on end.NoMemory last xs adds e = e
+
   pub writes_end : (it : WorkEnd) → Writes lane a b told_a told_b faults_a faults_b → WritesLane lane b c told_b told_c faults_b faults_c it → WritesLane lane a c told_a told_c faults_a faults_c it
   writes_end it one two = record {
     more = one.more ++ two.more;
@@ -155,7 +164,7 @@ module _ (lane : ℕ) (a b c : SeatView) (told_a told_b told_c : Option (List Ta
     rose = ⊎_elim (λ e. inl e) (λ r. inr (rose_on one.counts.never_falls r)) two.rose;
     counts = subst (Counts faults_a faults_c) (sym (cut_count_append lane one.more two.more)) (counts_on faults_a faults_b faults_c (cut_count lane one.more) (cut_count lane two.more) one.counts two.counts);
     marks = marks_on it one.called two.marks;
-    ends = two.ends;
+    ends = ends_on it two.last one.more one.adds two.ends;
   }
 
 -- what a call that takes from a lane has logged
@@ -216,9 +225,9 @@ module _ (lane : ℕ) (old new : SeatView) (told : Option (List Taken)) (faults 
         ends = (ap (λ (b : Bus). next_out lane b.bench) (sym is) ∙ c.finds.0, ap (λ (b : Bus). b.down) (sym is) ∙ c.finds.1);
       }
 
-  pub writes_refused : (it : WorkEnd) → Refused old new it → WritesLane lane old new told told faults faults it
+  pub writes_refused : (it : WorkEnd) → Refused (HandOut lane) old new it → WritesLane lane old new told told faults faults it
   writes_refused end.Stopped r = record { more = []; adds = r.0; put = []; last = []; handed = refl; told = sym (and_taken_none told); starts = refl; lacks = omega arith; rose = inl refl; counts = counts_none faults; marks = (r.1, r.2); ends = tt }
-  writes_refused end.Full r = record { more = []; adds = r.0.adds; put = []; last = []; handed = refl; told = sym (and_taken_none told); starts = refl; lacks = omega arith; rose = inl refl; counts = counts_none faults; marks = r.0.called; ends = r.1 }
+  writes_refused end.Full r = record { more = []; adds = r.0.adds; put = []; last = []; handed = refl; told = sym (and_taken_none told); starts = refl; lacks = omega arith; rose = inl refl; counts = counts_none faults; marks = r.0.called; ends = inl (refl, r.1) }
   writes_refused end.NoMemory r = record { more = []; adds = r.adds; put = []; last = []; handed = refl; told = sym (and_taken_none told); starts = refl; lacks = omega arith; rose = inl refl; counts = counts_none faults; marks = r.called; ends = tt }
   writes_refused end.Over r = absurd r
   writes_refused end.Down r = absurd r
@@ -248,7 +257,7 @@ module _ (lane : ℕ) (out : Out) (old mid new : SeatView) (told_old told_new : 
   })
 
   -- the item is lost, and that wasn't handed in
-  lost : (it : WorkEnd) (answer : Option WorkEnd) → Fails lane mid new told_old told_new faults_old faults_new answer → Adds mid new [] → MayLack it 1 → Marks old new it → WriterEnds lane new it → WritesLane lane old new told_old told_new faults_old faults_new it
+  lost : (it : WorkEnd) (answer : Option WorkEnd) → Fails lane mid new told_old told_new faults_old faults_new answer → Adds mid new [] → MayLack it 1 → Marks old new it → WriterEnds lane (out ∷ []) old new it → WritesLane lane old new told_old told_new faults_old faults_new it
   lost it answer f adds may marks ends = record {
     more = Gave lane out ∷ [];
     adds = adds_on old mid new (Gave lane out ∷ []) [] taken_out adds;
@@ -274,7 +283,7 @@ module _ (lane : ℕ) (out : Out) (old mid new : SeatView) (told_old told_new : 
     called = h.2 ∙ same;
   }
   fails (Some end.Stopped) f h = lost end.Stopped (Some end.Stopped) f h.0 (omega arith) (h.1 ∙ same, h.2) tt
-  fails (Some end.Full) f h = lost end.Full (Some end.Full) f h.0.adds (omega arith) h.0.called h.1
+  fails (Some end.Full) f h = lost end.Full (Some end.Full) f h.0.adds (omega arith) h.0.called (inr (out, refl, found_on (HandIn (input.Cut lane)) old mid new (Gave lane out ∷ []) taken_out h.1))
   fails (Some end.NoMemory) f h = lost end.NoMemory (Some end.NoMemory) f h.adds (omega arith) h.called tt
   fails (Some end.Over) f h = absurd h
   fails (Some end.Down) f h = absurd h

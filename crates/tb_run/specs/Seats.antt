@@ -10,7 +10,7 @@ use Rattle.tb_bus.specs.Buses.{start}
 use Rattle.tb_bus.specs.Traces.{IsTrace}
 use Rattle.tb_core.specs.declared.answers.CoreFault.{CoreFault}
 use Rattle.tb_core.specs.declared.answers.CoreFault.TheVariants as fault
-use Rattle.tb_core.specs.Cores.{CoreState, Call, is_full}
+use Rattle.tb_core.specs.Cores.{CoreState, Call, HandIn, is_full}
 use Rattle.tb_core.specs.Full.{MayCall}
 use Rattle.tb_lock.specs.Rights.{has, own, right_to}
 use Rattle.tb_lock.specs.Histories.{IsSparse}
@@ -45,10 +45,17 @@ pub record WasFull (seat : SeatView) : Type 0 where
   pub seen : seat.seen ≡ core.log ++ rest
   pub full : is_full core call ≡ true
 
--- and it is a call that the seat may make
-pub record FoundFull (seat : SeatView) : Type 0 where
-  pub was : WasFull seat
-  pub right : has seat.rights (right_to was.call) ≡ true
+-- This call, which the seat may make, found no room in the log, at some place behind what the seat had seen before.
+pub record FoundFull (call : Call) (old new : SeatView) : Type 0 where
+  pub core : CoreState
+  pub may : MayCall call
+  pub right : has new.rights (right_to call) ≡ true
+  pub origin : core.origin ≡ new.origin
+  pub more : List Entry
+  pub behind : core.log ≡ old.seen ++ more
+  pub rest : List Entry
+  pub seen : new.seen ≡ core.log ++ rest
+  pub full : is_full core call ≡ true
 
 -- the last entry that the seat has seen
 abbrev pub EndsWith : SeatView → Entry → Type 0
@@ -93,7 +100,7 @@ Hands input old new None = (reply : Reply) × Adds old new (Fed input reply ∷ 
 Hands input old new (Some end.Down) = Adds old new (Fed input (Dropped why.Down) ∷ []) × (new.called ≡ old.called) × EndsWith new (Fed input (Dropped why.Down))
 -- it was refused
 Hands input old new (Some end.Stopped) = Adds old new [] × (new.called ≡ old.called) × (new.told ≡ true)
-Hands input old new (Some end.Full) = Stops old new × FoundFull new
+Hands input old new (Some end.Full) = Stops old new × FoundFull (HandIn input) old new
 Hands input old new (Some end.NoMemory) = Stops old new
 Hands input old new (Some end.Over) = ⊥
 Hands input old new (Some end.Failed) = ⊥
