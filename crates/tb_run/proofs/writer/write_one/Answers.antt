@@ -1,9 +1,9 @@
-use Rattle.std.proofs.Common.{Ok, refl, subst}
+use Rattle.std.proofs.Common.{Ok, subst}
 use Rattle.tb_core.specs.declared.answers.TakeOut.TheVariants as taken
 use Rattle.tb_core.specs.Cores.{HandOut}
 use Rattle.tb_core.specs.declared.answers.TakeOut.{TakeOut}
 use Rattle.tb_lock.specs.Calls.{IsTaken, Called}
-use Rattle.tb_run.proofs.SeatLemmas.{adds_none, refused_by}
+use Rattle.tb_run.proofs.SeatLemmas.{refused_by}
 use Rattle.tb_run.proofs.WriteLemmas.{writes_none, writes_item, takes_out, called_same, closes, writes_refused}
 use Rattle.tb_run.proofs.writer.write_one.Goals as goal
 
