@@ -1,5 +1,4 @@
 //! The calls of a core that may log an entry, all of one form.
-ghost use Rattle.std.specs.Prelude.{◌≡◌, IsTrue, Ok};
 ghost use Rattle.tb_lock.specs.Calls.{IsCallInShape};
 ghost use Rattle.tb_lock.specs.Helpers.Plays.{Answers, StepsInRow};
 
@@ -91,20 +90,13 @@ pub(crate) fn make_steps<W: Walker>(core: &mut Core<W>, more: u32) -> Result<Ste
     ensures { StepsInRow more core.old core.new result }
 {
     for done in 0..more {
-        let answer = Stepping.make(core);
-        if !did_step(&answer) {
-            return answer;
+        match Stepping.make(core) {
+            Ok(Stepped::Did) => {}
+            Ok(Stepped::Quiet) => return Ok(Stepped::Quiet),
+            Ok(Stepped::Down) => return Ok(Stepped::Down),
+            Err(fault) => return Err(fault),
         }
     }
-    Stepping.make(core)
-}
-
-fn did_step(answer: &Result<Stepped, CoreFault>) -> bool
-    ensures { IsTrue result → answer.now ≡ Ok Stepped.Did }
-{
-    match answer {
-        Ok(Stepped::Did) => true,
-        Ok(Stepped::Quiet | Stepped::Down) => false,
-        Err(_) => false,
-    }
+    let last = Stepping.make(core);
+    last
 }
