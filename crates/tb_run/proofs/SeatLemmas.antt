@@ -20,7 +20,7 @@ use Rattle.tb_lock.specs.Histories.{IsSparse}
 use Rattle.tb_lock.specs.Calls.{Meets, Called, StopsBus, IsReply, noted, added}
 use Rattle.tb_run.specs.declared.ends.WorkEnd.{WorkEnd}
 use Rattle.tb_run.specs.declared.ends.WorkEnd.TheVariants as end
-use Rattle.tb_run.specs.Seats.{Adds, FoundFull, WasFull, Stops, SeesTrace, EndsWith, Ends, Hands, end_of}
+use Rattle.tb_run.specs.Seats.{Adds, FoundFull, WasFull, Marks, SameMarks, Stops, SeesTrace, EndsWith, Ends, Hands, end_of}
 
 -- the laws of the shared bus
 abbrev pub SeenLaw : Type 0
@@ -106,6 +106,32 @@ stops_by seen_law old new c = record { adds = adds_stop seen_law old new c; call
 pub stops_on : (a b c : SeatView) → Adds a b [] → Stops b c → Stops a c
 stops_on a b c adds stops = record { adds = adds_on a b c [] [] adds stops.adds; called = stops.called; told = stops.told }
 
+pub marks_none : (seat : SeatView) → SameMarks seat seat
+marks_none seat = (refl, refl)
+
+pub marks_both : (a b c : SeatView) → SameMarks a b → SameMarks b c → SameMarks a c
+marks_both a b c one two = (two.0 ∙ one.0, two.1 ∙ one.1)
+
+pub marks_on : (a b c : SeatView) (it : WorkEnd) → SameMarks a b → Marks b c it → Marks a c it
+marks_on a b c end.Over e m = (m.0 ∙ e.0, m.1 ∙ e.1)
+marks_on a b c end.Down e m = (m.0 ∙ e.0, m.1 ∙ e.1)
+marks_on a b c end.Stopped e m = (m.0 ∙ e.0, m.1)
+marks_on a b c end.Full e m = m
+marks_on a b c end.Failed e m = (m.0 ∙ e.0, m.1 ∙ e.1)
+marks_on a b c end.NoMemory e m = m
+
+-- a call that was answered meets a core that isn't stopped
+or_not : (a b : Bool) → (b ≡ true → ⊥) → (a || b) ≡ a
+or_not true b no = refl
+or_not false true no = absurd (no refl)
+or_not false false no = refl
+
+pub same_marks : {A : Type 0} (finds : CoreState → A → Type 0) (call : Call) (old new : SeatView) (answer : A) → Called finds call old new (Ok answer) → SameMarks old new
+same_marks finds call old new answer c = (ap (λ (s : SeatView). s.called) c.seat, ap (λ (s : SeatView). s.told) c.seat ∙ or_not old.told c.core.stopped (λ e. c.stopped.1 e))
+
+pub both_marks : (old new : SeatView) → Stops old new → (new.called ≡ true) × (new.told ≡ true)
+both_marks old new stops = (stops.called, stops.told)
+
 -- an input that was handed in
 module _ (seen_law : SeenLaw) (added_law : AddedLaw) (input : Input) (old new : SeatView) where
   pub hands_ok : (reply : Reply) → has old.rights (right_to (HandIn input)) ≡ true → Called (IsReply input) (HandIn input) old new (Ok reply) → Hands input old new (end_of reply)
@@ -114,8 +140,8 @@ module _ (seen_law : SeenLaw) (added_law : AddedLaw) (input : Input) (old new : 
       all : Adds old new (Fed input reply ∷ [])
       all = subst (λ (r : Reply). Adds old new (Fed input r ∷ [])) (sym c.finds) (adds_call seen_law added_law (IsReply input) (HandIn input) old new (Ok reply) right c)
 
-      called : new.called ≡ old.called
-      called = ap (λ (s : SeatView). s.called) c.seat
+      called : SameMarks old new
+      called = same_marks (IsReply input) (HandIn input) old new reply c
 
       last : EndsWith new (Fed input reply)
       last = (c.core.log, ap (λ (s : SeatView). s.seen) c.seat ∙ ap (λ (r : Reply). c.core.log ++ Fed input r ∷ []) (sym c.finds))

@@ -25,7 +25,7 @@ use Rattle.tb_core.specs.Cores.{HandIn, MakeStep, HandOut}
 use Rattle.tb_lock.specs.Seats.{SeatView}
 use Rattle.tb_run.specs.declared.ends.WorkEnd.{WorkEnd}
 use Rattle.tb_run.specs.declared.ends.WorkEnd.TheVariants as end
-use Rattle.tb_run.specs.Seats.{Adds, Stops, Marks, EndsWith, FoundFull}
+use Rattle.tb_run.specs.Seats.{Adds, Stops, Marks, SameMarks, EndsWith, FoundFull}
 
 -- the input that stands for what the inlet of a lane gave
 abbrev pub IsInputFor : ℕ → Given → Input → Type 0
@@ -68,7 +68,7 @@ pub record Reads (lane : ℕ) (old new : SeatView) (gave_old gave_new : Option I
   pub told : gave_new ≡ and_given gave_old fed false
   pub lines : AreLines lane fed (inputs more lane)
   pub none : was_over gave_old ≡ true → fed ≡ []
-  pub called : new.called ≡ old.called
+  pub marks : SameMarks old new
 
 -- why a reader may end so, which may have got something last and not handed it in
 abbrev pub ReaderEnds : ℕ → List Given → SeatView → SeatView → WorkEnd → Type 0
@@ -122,7 +122,7 @@ pub record Writes (lane : ℕ) (old new : SeatView) (took_old took_new : Option 
   pub told : took_new ≡ and_taken took_old (map taken_of (sent more lane))
   pub starts : is_cut_off more lane ≡ false
   pub counts : Counts faults_old faults_new (cut_count lane more)
-  pub called : new.called ≡ old.called
+  pub marks : SameMarks old new
 
 -- the bus at the end of what a seat has seen
 abbrev pub bus_of : SeatView → Bus
@@ -169,7 +169,7 @@ pub record Ticks (old new : SeatView) (told_old told_new : Option ClockView) (fa
   pub count : length more ≡ fed
   pub told : told_new ≡ and_ticked told_old fed false
   pub never_falls : faults_old ≤ faults_new
-  pub called : new.called ≡ old.called
+  pub marks : SameMarks old new
 
 -- that no more ticks come, whatever became of it
 abbrev pub IsNoTicks : List Entry → Type 0
@@ -219,7 +219,7 @@ StepperEnds old new end.NoMemory = Unit {0}
 pub record Steps (old new : SeatView) : Type 0 where
   pub more : List Entry
   pub adds : Adds old new more
-  pub called : new.called ≡ old.called
+  pub marks : SameMarks old new
 
 -- `step_worker`
 pub record StepsBus (old new : SeatView) (it : WorkEnd) : Type 0 where
@@ -240,7 +240,7 @@ going_on (Some end.NoMemory) = Some end.NoMemory
 
 -- what becomes of an item that was handed out and failed to be put
 abbrev pub CutsOff : ℕ → SeatView → SeatView → Option WorkEnd → Type 0
-CutsOff lane old new None = (reply : Reply) × Adds old new (Fed (input.Cut lane) reply ∷ []) × (new.called ≡ old.called)
+CutsOff lane old new None = (reply : Reply) × Adds old new (Fed (input.Cut lane) reply ∷ []) × SameMarks old new
 CutsOff lane old new (Some end.Stopped) = Adds old new [] × (new.called ≡ old.called) × (new.told ≡ true)
 CutsOff lane old new (Some end.Full) = Stops old new × FoundFull (HandIn (input.Cut lane)) old new
 CutsOff lane old new (Some end.NoMemory) = Stops old new
