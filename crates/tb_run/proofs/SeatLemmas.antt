@@ -20,6 +20,8 @@ use Rattle.tb_lock.specs.Histories.{IsSparse}
 use Rattle.tb_lock.specs.Calls.{Meets, Called, StopsBus, IsReply, noted, added}
 use Rattle.tb_run.specs.declared.ends.WorkEnd.{WorkEnd}
 use Rattle.tb_run.specs.declared.ends.WorkEnd.TheVariants as end
+use Rattle.tb_run.specs.Dropping.{AreLetIn}
+use Rattle.tb_run.specs.Workers.{LetIn}
 use Rattle.tb_run.specs.Seats.{Adds, FoundFull, WasFull, Marks, SameMarks, Stops, SeesTrace, EndsWith, Ends, Hands, end_of}
 
 -- the laws of the shared bus
@@ -132,6 +134,18 @@ same_marks finds call old new answer c = (ap (λ (s : SeatView). s.called) c.sea
 pub both_marks : (old new : SeatView) → Stops old new → (new.called ≡ true) × (new.told ≡ true)
 both_marks old new stops = (stops.called, stops.told)
 
+pub let_in_both : (xs ys : List Entry) → AreLetIn xs → AreLetIn ys → AreLetIn (xs ++ ys)
+let_in_both [] ys a b = b
+let_in_both (x ∷ xs) ys a b = (a.0, let_in_both xs ys a.1 b)
+
+pub let_in_on : (it : WorkEnd) (xs ys : List Entry) → AreLetIn xs → LetIn it ys → LetIn it (xs ++ ys)
+let_in_on end.Over xs ys a b = let_in_both xs ys a b
+let_in_on end.Down xs ys a b = (xs ++ b.0, b.1, ap (λ (s : List Entry). xs ++ s) b.2 ∙ sym (append_assoc xs b.0 (b.1 ∷ [])), let_in_both xs b.0 a b.3)
+let_in_on end.Stopped xs ys a b = let_in_both xs ys a b
+let_in_on end.Full xs ys a b = let_in_both xs ys a b
+let_in_on end.Failed xs ys a b = let_in_both xs ys a b
+let_in_on end.NoMemory xs ys a b = let_in_both xs ys a b
+
 -- an input that was handed in
 module _ (seen_law : SeenLaw) (added_law : AddedLaw) (input : Input) (old new : SeatView) where
   pub hands_ok : (reply : Reply) → has old.rights (right_to (HandIn input)) ≡ true → Called (IsReply input) (HandIn input) old new (Ok reply) → Hands input old new (end_of reply)
@@ -147,12 +161,12 @@ module _ (seen_law : SeenLaw) (added_law : AddedLaw) (input : Input) (old new : 
       last = (c.core.log, ap (λ (s : SeatView). s.seen) c.seat ∙ ap (λ (r : Reply). c.core.log ++ Fed input r ∷ []) (sym c.finds))
 
       go : (r : Reply) → Adds old new (Fed input r ∷ []) → EndsWith new (Fed input r) → Hands input old new (end_of r)
-      go Took a l = (Took, a, called)
-      go (Dropped why.Unasked) a l = (Dropped why.Unasked, a, called)
-      go (Dropped why.NotLive) a l = (Dropped why.NotLive, a, called)
-      go (Dropped why.Named) a l = (Dropped why.Named, a, called)
-      go (Dropped why.Stranger) a l = (Dropped why.Stranger, a, called)
-      go (Dropped why.Bad) a l = (Dropped why.Bad, a, called)
+      go Took a l = (Took, a, called, refl)
+      go (Dropped why.Unasked) a l = (Dropped why.Unasked, a, called, refl)
+      go (Dropped why.NotLive) a l = (Dropped why.NotLive, a, called, refl)
+      go (Dropped why.Named) a l = (Dropped why.Named, a, called, refl)
+      go (Dropped why.Stranger) a l = (Dropped why.Stranger, a, called, refl)
+      go (Dropped why.Bad) a l = (Dropped why.Bad, a, called, refl)
       go (Dropped why.Down) a l = (a, called, l)
 
 -- what was seen before is no more than before other calls

@@ -1,5 +1,5 @@
 -- How a seat of a run goes on, and what a worker that hands in an input comes to.
-use Rattle.std.specs.Prelude.{◌≡◌, Bool, true, List, [], ◌∷◌, ◌++◌, Option, Some, None}
+use Rattle.std.specs.Prelude.{◌≡◌, Bool, true, false, List, [], ◌∷◌, ◌++◌, Option, Some, None}
 use Rattle.tb_log.specs.declared.entry.Input.{Input}
 use Rattle.tb_log.specs.declared.entry.Reply.{Reply}
 use Rattle.tb_log.specs.declared.entry.Reply.TheVariants.{Took, Dropped}
@@ -17,6 +17,7 @@ use Rattle.tb_lock.specs.Histories.{IsSparse}
 use Rattle.tb_lock.specs.Seats.{SeatView}
 use Rattle.tb_run.specs.declared.ends.WorkEnd.{WorkEnd}
 use Rattle.tb_run.specs.declared.ends.WorkEnd.TheVariants as end
+use Rattle.tb_run.specs.Dropping.{is_down}
 
 -- what a seat has seen is a trace that says quiet once
 pub record SeesTrace (seat : SeatView) : Type 0 where
@@ -99,8 +100,8 @@ end_of (Dropped why.Down) = Some end.Down
 
 -- What becomes of an input that a worker hands in, and of the worker.
 abbrev pub Hands : Input → SeatView → SeatView → Option WorkEnd → Type 0
--- it goes on
-Hands input old new None = (reply : Reply) × Adds old new (Fed input reply ∷ []) × SameMarks old new
+-- it goes on, and the input wasn't dropped since the bus was down
+Hands input old new None = (reply : Reply) × Adds old new (Fed input reply ∷ []) × SameMarks old new × (is_down reply ≡ false)
 -- the bus is down, and dropped the input
 Hands input old new (Some end.Down) = Adds old new (Fed input (Dropped why.Down) ∷ []) × SameMarks old new × EndsWith new (Fed input (Dropped why.Down))
 -- it was refused
