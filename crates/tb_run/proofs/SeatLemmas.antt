@@ -1,5 +1,6 @@
 -- How seats go on over calls, one after another.
-use Rattle.std.proofs.Common.{◌≡◌, ◌==◌, ℕ, List, [], ◌∷◌, ◌++◌, Bool, true, false, ◌||◌, Option, Some, None, Result, Ok, Err, refl, sym, ap, ◌∙◌, subst, append_assoc, append-nil, arith}
+use Rattle.std.proofs.Common.{◌≡◌, ◌==◌, ℕ, List, [], ◌∷◌, ◌++◌, Bool, true, false, true≢false, ◌||◌, Option, Some, None, Result, Ok, Err, refl, sym, ap, ◌∙◌, subst, append_assoc, append-nil, arith}
+use Rattle.std.specs.Prelude.{is_ok}
 use Rattle.std.proofs.lemmas.Bool.Decides.{nat_tests}
 use Rattle.tb_log.specs.declared.entry.Input.{Input}
 use Rattle.tb_log.specs.declared.entry.Reply.{Reply}
@@ -15,6 +16,7 @@ use Rattle.tb_core.specs.Cores.{CoreState, Call, HandIn, entries_of}
 use Rattle.tb_core.specs.Full.{MayCall}
 use Rattle.tb_lock.specs.declared.rights.Rights.{Rights}
 use Rattle.tb_lock.specs.Rights.{AreAmong, has, own, right_to}
+use Rattle.tb_lock.proofs.OwnLemmas.{not_false}
 use Rattle.tb_lock.specs.Seats.{SeatView}
 use Rattle.tb_lock.specs.Histories.{IsSparse}
 use Rattle.tb_lock.specs.Calls.{Meets, Called, StopsBus, IsReply, noted, added}
@@ -125,11 +127,10 @@ marks_on a b c end.NoMemory e m = m
 -- a call that was answered meets a core that isn't stopped
 or_not : (a b : Bool) → (b ≡ true → ⊥) → (a || b) ≡ a
 or_not true b no = refl
-or_not false true no = absurd (no refl)
-or_not false false no = refl
+or_not false b no = not_false b no
 
 pub same_marks : {A : Type 0} (finds : CoreState → A → Type 0) (call : Call) (old new : SeatView) (answer : A) → Called finds call old new (Ok answer) → SameMarks old new
-same_marks finds call old new answer c = (ap (λ (s : SeatView). s.called) c.seat, ap (λ (s : SeatView). s.told) c.seat ∙ or_not old.told c.core.stopped (λ e. c.stopped.1 e))
+same_marks finds call old new answer c = (ap (λ (s : SeatView). s.called) c.seat, ap (λ (s : SeatView). s.told) c.seat ∙ or_not old.told c.core.stopped (λ e. true≢false (ap is_ok (c.stopped.1 e))))
 
 pub both_marks : (old new : SeatView) → Stops old new → (new.called ≡ true) × (new.told ≡ true)
 both_marks old new stops = (stops.called, stops.told)
