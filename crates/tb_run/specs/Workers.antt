@@ -25,7 +25,8 @@ use Rattle.tb_core.specs.Cores.{HandIn, MakeStep, HandOut}
 use Rattle.tb_lock.specs.Seats.{SeatView}
 use Rattle.tb_run.specs.declared.ends.WorkEnd.{WorkEnd}
 use Rattle.tb_run.specs.declared.ends.WorkEnd.TheVariants as end
-use Rattle.tb_run.specs.Seats.{Adds, Stops, Marks, EndsWith, FoundFull}
+use Rattle.tb_run.specs.Dropping.{AreLetIn}
+use Rattle.tb_run.specs.Seats.{Adds, Stops, Marks, SameMarks, EndsWith, FoundFull}
 
 -- the input that stands for what the inlet of a lane gave
 abbrev pub IsInputFor : ℕ → Given → Input → Type 0
@@ -55,6 +56,15 @@ ends_over end.Full = false
 ends_over end.Failed = false
 ends_over end.NoMemory = false
 
+-- of the entries of a worker none is an input that was dropped since the bus was down, but the last where it ends for that
+abbrev pub LetIn : WorkEnd → List Entry → Type 0
+LetIn end.Over log = AreLetIn log
+LetIn end.Down log = (before : List Entry) × (last : Entry) × (log ≡ before ++ last ∷ []) × AreLetIn before
+LetIn end.Stopped log = AreLetIn log
+LetIn end.Full log = AreLetIn log
+LetIn end.Failed log = AreLetIn log
+LetIn end.NoMemory log = AreLetIn log
+
 -- an inlet that tells that it is over
 abbrev pub was_over : Option InletView → Bool
 was_over None = false
@@ -68,7 +78,8 @@ pub record Reads (lane : ℕ) (old new : SeatView) (gave_old gave_new : Option I
   pub told : gave_new ≡ and_given gave_old fed false
   pub lines : AreLines lane fed (inputs more lane)
   pub none : was_over gave_old ≡ true → fed ≡ []
-  pub called : new.called ≡ old.called
+  pub let_in : AreLetIn more
+  pub marks : SameMarks old new
 
 -- why a reader may end so, which may have got something last and not handed it in
 abbrev pub ReaderEnds : ℕ → List Given → SeatView → SeatView → WorkEnd → Type 0
@@ -92,6 +103,7 @@ pub record ReadsLane (lane : ℕ) (old new : SeatView) (gave_old gave_new : Opti
   pub lacks : MayLack it (length last)
   -- an inlet that was over before gives nothing
   pub none : was_over gave_old ≡ true → fed ++ last ≡ []
+  pub let_in : LetIn it more
   pub marks : Marks old new it
   pub ends : ReaderEnds lane last old new it
 
@@ -122,7 +134,7 @@ pub record Writes (lane : ℕ) (old new : SeatView) (took_old took_new : Option 
   pub told : took_new ≡ and_taken took_old (map taken_of (sent more lane))
   pub starts : is_cut_off more lane ≡ false
   pub counts : Counts faults_old faults_new (cut_count lane more)
-  pub called : new.called ≡ old.called
+  pub marks : SameMarks old new
 
 -- the bus at the end of what a seat has seen
 abbrev pub bus_of : SeatView → Bus
@@ -166,10 +178,11 @@ pub record Ticks (old new : SeatView) (told_old told_new : Option ClockView) (fa
   pub more : List Entry
   pub adds : Adds old new more
   pub ticks : AreTicks more
+  pub let_in : AreLetIn more
   pub count : length more ≡ fed
   pub told : told_new ≡ and_ticked told_old fed false
   pub never_falls : faults_old ≤ faults_new
-  pub called : new.called ≡ old.called
+  pub marks : SameMarks old new
 
 -- that no more ticks come, whatever became of it
 abbrev pub IsNoTicks : List Entry → Type 0
@@ -195,6 +208,7 @@ pub record TicksBus (Enough : ℕ → Type 0) (most : ℕ) (old new : SeatView) 
   pub tail : List Entry
   pub adds : Adds old new (first ++ tail)
   pub ticks : AreTicks first
+  pub let_in : LetIn it first
   pub last : ℕ
   pub ended : Bool
   pub told : told_new ≡ and_ticked told_old (length first + last) ended
@@ -219,7 +233,7 @@ StepperEnds old new end.NoMemory = Unit {0}
 pub record Steps (old new : SeatView) : Type 0 where
   pub more : List Entry
   pub adds : Adds old new more
-  pub called : new.called ≡ old.called
+  pub marks : SameMarks old new
 
 -- `step_worker`
 pub record StepsBus (old new : SeatView) (it : WorkEnd) : Type 0 where
@@ -240,7 +254,7 @@ going_on (Some end.NoMemory) = Some end.NoMemory
 
 -- what becomes of an item that was handed out and failed to be put
 abbrev pub CutsOff : ℕ → SeatView → SeatView → Option WorkEnd → Type 0
-CutsOff lane old new None = (reply : Reply) × Adds old new (Fed (input.Cut lane) reply ∷ []) × (new.called ≡ old.called)
+CutsOff lane old new None = (reply : Reply) × Adds old new (Fed (input.Cut lane) reply ∷ []) × SameMarks old new
 CutsOff lane old new (Some end.Stopped) = Adds old new [] × (new.called ≡ old.called) × (new.told ≡ true)
 CutsOff lane old new (Some end.Full) = Stops old new × FoundFull (HandIn (input.Cut lane)) old new
 CutsOff lane old new (Some end.NoMemory) = Stops old new
