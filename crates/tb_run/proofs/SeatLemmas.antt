@@ -126,8 +126,8 @@ marks_on a b c end.NoMemory e m = m
 
 -- a call that was answered meets a core that isn't stopped
 or_not : (a b : Bool) → (b ≡ true → ⊥) → (a || b) ≡ a
-or_not true b no = refl
-or_not false b no = not_false b no
+or_not true b never = refl
+or_not false b never = not_false b never
 
 pub same_marks : {A : Type 0} (finds : CoreState → A → Type 0) (call : Call) (old new : SeatView) (answer : A) → Called finds call old new (Ok answer) → SameMarks old new
 same_marks finds call old new answer c = (ap (λ (s : SeatView). s.called) c.seat, ap (λ (s : SeatView). s.told) c.seat ∙ or_not old.told c.core.stopped (λ e. true≢false (ap is_ok (c.stopped.1 e))))

@@ -1,7 +1,8 @@
-use Rattle.std.proofs.Common.{Ok, subst}
+use Rattle.std.proofs.Common.{Ok, subst, ap, ◌∙◌}
 use Rattle.tb_core.specs.declared.answers.Stepped.{Stepped}
 use Rattle.tb_core.specs.declared.answers.Stepped.TheVariants as stepped
 use Rattle.tb_core.specs.Cores.{MakeStep, IsStep}
+use Rattle.tb_lock.specs.Seats.{SeatView}
 use Rattle.tb_lock.specs.Calls.{CalledInRow}
 use Rattle.tb_run.proofs.SeatLemmas.{refused_by}
 use Rattle.tb_run.proofs.StepLemmas.{last_of, steps_once, steps_down, steps_refused, steps_on, steps_end}
@@ -40,3 +41,9 @@ returns-in-Err g c =
     let l = last_of laws.seen laws.added 15 old mid _ c.requires.right c.in-Err.ensures in
     steps_end old l.mid new c.refused.result l.before
     (steps_refused l.mid new c.refused.result (refused_by laws.seen laws.added IsStep MakeStep l.mid mid new c.in-Err.fault c.refused.result tt l.right l.last c.refused.ensures))
+
+pub refused-requires : goal.refused-requires
+refused-requires g c =
+    let laws = c.calls_add_their_own.ensures in
+    let l = last_of laws.seen laws.added 15 c.args.seat.now c.steps.new.seat _ c.requires.right c.in-Err.ensures in
+    record { own = ap (λ (s : SeatView). s.bus) l.last.seat ∙ (l.before.adds.bus ∙ c.requires.own) }
