@@ -94,7 +94,7 @@ impl Bells {
     }
 }
 
-fn sixteen() -> [Bell; 16] {
+pub(crate) fn sixteen() -> [Bell; 16] {
     [
         Bell::new(),
         Bell::new(),

@@ -1,4 +1,4 @@
-ghost use Rattle.std.specs.Option.{ForSome};
+ghost use Rattle.std.specs.Option.{ForSome, is_some};
 ghost use Rattle.std.below.core.specs.declared.int.usize.TheConstants.{MAX};
 ghost use Rattle.std.specs.Prelude.{◌≡◌, IsSome, Some, min, ◌≤◌, ◌<◌, ◌+◌, ◌↔◌, ◌∷◌, [], ◌++◌, length, IsTrue, IfOk, OnOk, OnErr, IsErrOf, true, false, if◌then◌else◌};
 ghost use Rattle.tb_log.specs.Limits.{has_room, out_size};
@@ -199,6 +199,17 @@ impl<W: Walker> Core<W> {
         ensures { result ≡ lane_state (lane_at lane (bus_now self.now).bench) }
     {
         self.bus.bench.lane_state(lane)
+    }
+
+    /// Whether something is to be handed out on a lane.
+    pub fn has_out(&self, lane: u8) -> bool
+        requires { IsLane lane }
+        ensures { result ≡ is_some (next_out lane (bus_now self.now).bench) }
+    {
+        match self.bus.bench.next_out(lane) {
+            Some(_) => true,
+            None => false,
+        }
     }
 
     /// The lowest lane on which something is to be handed out.

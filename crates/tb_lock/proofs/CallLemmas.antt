@@ -104,7 +104,7 @@ of_added : {A : Type 0} (P : List Entry → Type 0) (result : Result A CoreFault
 of_added P (Ok answer) entries none all = all
 of_added P (Err refused) entries none all = none
 
-trace_from : (core : CoreState) (origin : Origin) (entries : List Entry) → core.origin ≡ origin → IsTrace (bus_now core) entries → IsTrace (replay (start origin) core.log) entries
+pub trace_from : (core : CoreState) (origin : Origin) (entries : List Entry) → core.origin ≡ origin → IsTrace (bus_now core) entries → IsTrace (replay (start origin) core.log) entries
 unfolding bus_now
 trace_from core origin entries is trace = subst (λ (o : Origin). IsTrace (replay (start o) core.log) entries) is trace
 

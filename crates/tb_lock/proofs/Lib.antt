@@ -12,4 +12,5 @@ pub mod NoteLemmas
 pub mod ShareLemmas
 pub mod TurnLemmas
 pub mod CallLemmas
+pub mod RowLemmas
 pub mod SendLemmas

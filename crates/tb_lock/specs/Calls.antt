@@ -1,5 +1,6 @@
 -- What the calls of a shared bus come to: those that wait for a turn are answered as by one core, whose log is the one history; and how seats join.
-use Rattle.std.specs.Prelude.{◌≡◌, ◌↔◌, ℕ, List, [], ◌∷◌, ◌++◌, map, length, take, drop, true, false, ◌||◌, IsTrue, Result, Ok, Err, IfOk, IsErrOf, ⊤}
+use Rattle.std.specs.Prelude.{◌≡◌, ◌↔◌, ℕ, zero, suc, ◌⊎◌, Bool, List, [], ◌∷◌, ◌++◌, map, length, take, drop, true, false, ◌||◌, IsTrue, Result, Ok, Err, IfOk, IsErrOf, ⊤}
+use Rattle.std.specs.Option.{is_some}
 use Rattle.tb_terms.specs.declared.memory.NoMemory.{NoMemory}
 use Rattle.tb_log.specs.declared.entry.Entry.{Entry}
 use Rattle.tb_log.specs.declared.entry.Input.{Input}
@@ -7,12 +8,15 @@ use Rattle.tb_log.specs.declared.entry.Reply.{Reply}
 use Rattle.tb_log.specs.Shapes.{IsInputInShape, IsLane}
 use Rattle.tb_tools.specs.declared.stage.LaneState.{LaneState}
 use Rattle.tb_tools.specs.Lanes.{lane_at, lane_state}
+use Rattle.tb_tools.specs.Finding.{next_out}
 use Rattle.tb_bus.specs.Buses.{start}
 use Rattle.tb_bus.specs.Traces.{IsTrace, fed}
 use Rattle.tb_core.specs.declared.answers.CoreFault.{CoreFault}
 use Rattle.tb_core.specs.declared.answers.CoreFault.TheVariants as fault
+use Rattle.tb_core.specs.declared.answers.Stepped.{Stepped}
+use Rattle.tb_core.specs.declared.answers.Stepped.TheVariants as stepped
 use Rattle.tb_core.specs.declared.answers.TakeOut.{TakeOut}
-use Rattle.tb_core.specs.Cores.{CoreState, Call, HandIn, MakeStep, HandOut, bus_now, entries_of, is_full, IsTakenOut}
+use Rattle.tb_core.specs.Cores.{CoreState, Call, HandIn, MakeStep, HandOut, bus_now, entries_of, is_full, IsStep, IsTakenOut}
 use Rattle.tb_lock.specs.Rights.{own, all_rights}
 use Rattle.tb_lock.specs.Histories.{Grows, IsSparse, indexed}
 use Rattle.tb_lock.specs.Seats.{SeatView, joined, most_seats}
@@ -67,6 +71,12 @@ pub record Called {A : Type 0} (Finds : CoreState → A → Type 0) (call : Call
   pub full : IsErrOf result fault.Full → is_full core call ≡ true
   pub room : IfOk result (λ _. is_full core call ≡ false)
 
+-- Steps that are made in one turn, so many and one more at most, each but the last answered that it did one: as the same calls
+-- made one after another.
+unfoldable pub CalledInRow : ℕ → SeatView → SeatView → Result Stepped CoreFault → Type 0
+CalledInRow zero old new result = Called IsStep MakeStep old new result
+CalledInRow (suc more) old new result = Called IsStep MakeStep old new result ⊎ ((mid : SeatView) × Called IsStep MakeStep old mid (Ok stepped.Did) × CalledInRow more mid new result)
+
 -- what becomes of an input
 abbrev pub IsReply : Input → CoreState → Reply → Type 0
 IsReply input core reply = reply ≡ (fed (bus_now core) input).reply
@@ -89,6 +99,10 @@ IsStateOf lane core state = state ≡ lane_state (lane_at lane (bus_now core).be
 -- the states of all lanes, in order
 abbrev pub AreStates : CoreState → List LaneState → Type 0
 AreStates core states = states ≡ map (λ lane. lane_state (lane_at lane (bus_now core).bench)) (1 ∷ 2 ∷ 3 ∷ 4 ∷ 5 ∷ 6 ∷ 7 ∷ 8 ∷ 9 ∷ 10 ∷ 11 ∷ 12 ∷ 13 ∷ 14 ∷ 15 ∷ 16 ∷ [])
+
+-- on which lanes something is to be handed out, in order
+abbrev pub AreOuts : CoreState → List Bool → Type 0
+AreOuts core outs = outs ≡ map (λ lane. is_some (next_out lane (bus_now core).bench)) (1 ∷ 2 ∷ 3 ∷ 4 ∷ 5 ∷ 6 ∷ 7 ∷ 8 ∷ 9 ∷ 10 ∷ 11 ∷ 12 ∷ 13 ∷ 14 ∷ 15 ∷ 16 ∷ [])
 
 -- the entries of the log behind the first so many, and of these so many at most
 abbrev pub IsPieceOf : ℕ → ℕ → CoreState → Result (List Entry) NoMemory → Type 0

@@ -4,6 +4,7 @@
 mod board;
 mod call;
 mod laws;
+mod notices;
 mod plays;
 mod rights;
 mod seat;

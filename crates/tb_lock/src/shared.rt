@@ -3,9 +3,10 @@ ghost use Rattle.tb_log.specs.Shapes.{IsInputInShape, IsLane};
 ghost use Rattle.tb_core.specs.Cores.{HandIn, MakeStep, HandOut, IsStep};
 ghost use Rattle.tb_lock.specs.Rights.{AreAmong, has, right_to, all_rights};
 ghost use Rattle.tb_lock.specs.Seats.{first_seat, kept_of, handed_on, most_seats};
-ghost use Rattle.tb_lock.specs.Calls.{IsCallInShape, Called, IsReply, IsTaken, Observes, IsStateOf, AreStates, IsPieceOf, StopsBus, Joins, Closes};
+ghost use Rattle.tb_lock.specs.Calls.{IsCallInShape, Called, IsReply, IsTaken, CalledInRow, Observes, IsStateOf, AreStates, IsPieceOf, StopsBus, Joins, Closes};
 
-use crate::call::{CoreCall, HandingIn, Stepping, TakingOut};
+use crate::call::{CoreCall, HandingIn, Stepping, TakingOut, make_steps};
+use crate::notices::Notices;
 use crate::plays::BusRule;
 use crate::rights::Rights;
 use crate::seat::{Seat, View};
@@ -17,6 +18,7 @@ use std::marker::{Brand, Model};
 use std::mem::replace;
 use std::sync::Wait;
 use tb_algebra::Walker;
+use tb_bells::Turns;
 use tb_core::{Core, CoreFault, Stepped, TakeOut};
 use tb_log::{Entries, Input, Reply, piece};
 use tb_terms::NoMemory;
@@ -27,6 +29,8 @@ use tb_tools::LaneState;
 #[derive(Drop)]
 pub struct Shared<W: Walker> {
     table: Table<Option<Core<W>>, View, Core<W>, BusRule, Global>,
+    turns: Turns,
+    notices: Notices,
 }
 
 impl<W: Walker> Model for Shared<W> {
@@ -60,11 +64,18 @@ impl<W: Walker> Shared<W> {
         let Ok((table, mut holder)) = Table::vacant(alloc, &[1, 0], 1, &core) else {
             return Err(NoRoom { core });
         };
-        open(&table.shared, &mut holder, core);
+        let turns = Turns::new();
+        let notices = Notices::of(&core);
+        open(&table.shared, &turns, &mut holder, core);
         let seat = Seat {
             badge: holder.into_badge(),
         };
-        Ok((Shared { table }, seat))
+        let shared = Shared {
+            table,
+            turns,
+            notices,
+        };
+        Ok((shared, seat))
     }
 
     /// Hands some of the seat's rights on to a new seat, with room for itself.
@@ -119,6 +130,22 @@ impl<W: Walker> Shared<W> {
         self.call(rt, seat, Stepping)
     }
 
+    /// Makes steps in one turn of the seat, so many and one more at most, until one isn't answered by `Did`; gives the answer of
+    /// the last.
+    pub fn steps<R: Wait>(&self, rt: &R, seat: &mut Seat, more: u32) -> Result<Stepped, CoreFault>
+        requires own { seat.old.bus ≡ self.now }
+        requires right { has seat.old.rights (right_to MakeStep) ≡ true }
+        ensures { CalledInRow more seat.old seat.new result }
+    {
+        let mut holder = replace(&mut seat.badge, Badge::blank()).into_seat();
+        let mut core = acquire(rt, &self.table.shared, &self.turns, &mut holder);
+        let answer = make_steps(&mut core, more);
+        self.notices.put(&core);
+        release(&self.table.shared, &self.turns, &mut holder, core);
+        seat.badge = holder.into_badge();
+        answer
+    }
+
     /// Takes what is to be handed out next on a lane, in the seat's turn.
     pub fn take_out<R: Wait>(&self, rt: &R, seat: &mut Seat, lane: u8) -> Result<TakeOut, CoreFault>
         requires own { seat.old.bus ≡ self.now }
@@ -136,9 +163,9 @@ impl<W: Walker> Shared<W> {
         ensures { Observes (IsStateOf lane) seat.old seat.new result }
     {
         let mut holder = replace(&mut seat.badge, Badge::blank()).into_seat();
-        let core = acquire(rt, &self.table.shared, &mut holder);
+        let core = acquire(rt, &self.table.shared, &self.turns, &mut holder);
         let state = core.lane_state(lane);
-        release_unchanged(&self.table.shared, &mut holder, core);
+        release_unchanged(&self.table.shared, &self.turns, &mut holder, core);
         seat.badge = holder.into_badge();
         state
     }
@@ -149,9 +176,9 @@ impl<W: Walker> Shared<W> {
         ensures { Observes AreStates seat.old seat.new result }
     {
         let mut holder = replace(&mut seat.badge, Badge::blank()).into_seat();
-        let core = acquire(rt, &self.table.shared, &mut holder);
+        let core = acquire(rt, &self.table.shared, &self.turns, &mut holder);
         let states = states_of(&core);
-        release_unchanged(&self.table.shared, &mut holder, core);
+        release_unchanged(&self.table.shared, &self.turns, &mut holder, core);
         seat.badge = holder.into_badge();
         states
     }
@@ -171,11 +198,17 @@ impl<W: Walker> Shared<W> {
         ensures { Observes (IsPieceOf from most) seat.old seat.new result }
     {
         let mut holder = replace(&mut seat.badge, Badge::blank()).into_seat();
-        let core = acquire(rt, &self.table.shared, &mut holder);
+        let core = acquire(rt, &self.table.shared, &self.turns, &mut holder);
         let found = piece(alloc, core.log(), from, most);
-        release_unchanged(&self.table.shared, &mut holder, core);
+        release_unchanged(&self.table.shared, &self.turns, &mut holder, core);
         seat.badge = holder.into_badge();
         found
+    }
+
+    /// Whether there is something for who takes out on this lane, as the last turn left the core: something is to be handed out,
+    /// or the bus is down, or was stopped. It takes no turn, and is a hint.
+    pub fn calls_for(&self, lane: u8) -> bool {
+        self.notices.has(lane)
     }
 
     /// Makes a call of the core in the seat's turn.
@@ -191,9 +224,10 @@ impl<W: Walker> Shared<W> {
         ensures { Called (C.finds call) (C.call call) seat.old seat.new result }
     {
         let mut holder = replace(&mut seat.badge, Badge::blank()).into_seat();
-        let mut core = acquire(rt, &self.table.shared, &mut holder);
+        let mut core = acquire(rt, &self.table.shared, &self.turns, &mut holder);
         let answer = call.make(&mut core);
-        release(&self.table.shared, &mut holder, core);
+        self.notices.put(&core);
+        release(&self.table.shared, &self.turns, &mut holder, core);
         seat.badge = holder.into_badge();
         answer
     }
@@ -204,9 +238,10 @@ impl<W: Walker> Shared<W> {
         ensures { StopsBus seat.old seat.new }
     {
         let mut holder = replace(&mut seat.badge, Badge::blank()).into_seat();
-        let mut core = acquire(rt, &self.table.shared, &mut holder);
+        let mut core = acquire(rt, &self.table.shared, &self.turns, &mut holder);
         core.stop();
-        release_stopped(&self.table.shared, &mut holder, core);
+        self.notices.put(&core);
+        release_stopped(&self.table.shared, &self.turns, &mut holder, core);
         seat.badge = holder.into_badge();
     }
 
@@ -217,10 +252,14 @@ impl<W: Walker> Shared<W> {
         requires room { seat.room ≡ most_seats }
         ensures { Closes seat result }
     {
-        let Shared { table } = self;
+        let Shared {
+            table,
+            turns,
+            notices: _,
+        } = self;
         let Seat { badge } = seat;
         let mut holder = badge.into_seat();
-        acquire(rt, &table.shared, &mut holder)
+        acquire(rt, &table.shared, &turns, &mut holder)
     }
 }
 

@@ -1,6 +1,6 @@
 use std::sync::Wait;
 use std::thread::join;
-use tb_bells::{Bell, Bells, Sleeper};
+use tb_bells::{Bell, Bells, Sleeper, Turns};
 
 /// How often two threads ring for each other.
 const ROUNDS: u64 = 1_000;
@@ -37,6 +37,20 @@ fn a_ring_counts_for_one_sleeper(rt: HostRuntime) {
     bells.ring_all();
     for (sleeper, rings) in RUNG {
         assert_eq!(rt; bells.wait_past(&rt, sleeper, 0), rings);
+    }
+}
+
+/// Tickets, and how often each was rung for: those that lie further by 16 have the same bell.
+static TICKETS: [(u64, u64); 5] = [(1, 2), (17, 2), (2, 0), (16, 1), (u64::MAX, 0)];
+
+#[test]
+fn a_ring_counts_for_one_ticket_of_sixteen(rt: HostRuntime) {
+    let turns = Turns::new();
+    turns.ring(1);
+    turns.ring(17);
+    turns.ring(0);
+    for (ticket, rings) in TICKETS {
+        assert_eq!(rt; turns.rings(ticket), rings);
     }
 }
 

@@ -103,3 +103,19 @@ fn what_is_to_be_handed_out_is_taken_once(rt: HostRuntime) -> Result<(), Fail> {
     assert_eq!(rt; found, (LaneState::Unnamed, true, false, 1));
     Ok(())
 }
+
+#[test]
+fn a_lane_calls_while_something_is_there_or_the_bus_is_stopped(
+    rt: HostRuntime,
+) -> Result<(), Fail> {
+    let (bus, mut seat) = shared::<Rewriter>(rt.alloc(), 10)?;
+    let begun = (bus.calls_for(1), bus.calls_for(2));
+    let taken = is_command(bus.take_out(&rt, &mut seat, 1));
+    let empty = (bus.calls_for(1), bus.calls_for(2));
+    bus.stop(&rt, &mut seat);
+    let stopped = (bus.calls_for(1), bus.calls_for(16));
+    bus.close(&rt, seat);
+    let wanted = ((true, false), true, (false, false), (true, true));
+    assert_eq!(rt; (begun, taken, empty, stopped), wanted);
+    Ok(())
+}

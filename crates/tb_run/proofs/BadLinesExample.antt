@@ -405,6 +405,7 @@ clock-stopped = record {
   ended = false;
   told = refl;
   one = omega arith;
+  whole = λ e. refl;
   within = omega arith;
   time = record { first = []; tail = []; is = refl; ticks = tt; last = inl refl };
   why = inl refl;

@@ -10,11 +10,13 @@ use Rattle.tb_edge.specs.declared.given.Taken.{Taken}
 use Rattle.tb_log.specs.LogText.{log_text, log_text_from}
 use Rattle.tb_log.specs.declared.entry.Entry.{Entry}
 use Rattle.tb_log.specs.Shapes.{IsLane}
+use Rattle.tb_log.specs.declared.entry.Input.TheVariants as input
+use Rattle.tb_log.specs.declared.entry.Out.{Out}
 use Rattle.tb_tools.specs.Finding.{next_out}
 use Rattle.tb_bus.specs.Buses.{start}
 use Rattle.tb_bus.specs.Traces.{IsTrace}
 use Rattle.tb_bus.specs.declared.origin.Origin.{Origin}
-use Rattle.tb_core.specs.Cores.{CoreState}
+use Rattle.tb_core.specs.Cores.{CoreState, HandIn}
 use Rattle.tb_lock.specs.declared.rights.Rights.{Rights}
 use Rattle.tb_lock.specs.Rights.{Ticks as ToTick, all_rights, no_rights, has, united, without}
 use Rattle.tb_lock.specs.Seats.{SeatView, first_seat, kept_of, handed_on, joined, most_seats}
@@ -39,11 +41,12 @@ use Rattle.tb_run.specs.Parting.{parted, left_after}
 use Rattle.tb_run.specs.Parts.{job_rights, to_tick, rights_left}
 use Rattle.tb_run.specs.Reasons.{reason_of, of_log, of_clock, is_no_memory, is_full_end}
 use Rattle.tb_run.specs.Running.{ComesTo, HasCome, HasRun, IsPut, IsStopped, PutsPrefix, RunsIfClosed}
-use Rattle.tb_run.specs.Seats.{Adds, SeesTrace, WasFull}
+use Rattle.tb_run.specs.Seats.{Adds, SeesTrace, WasFull, FoundFull}
 use Rattle.tb_run.specs.Workers.{TicksBus, TickerEnds, StepsBus, StepperEnds, WritesLane, WriterEnds, bus_of}
 use Rattle.tb_run.proofs.ClockLemmas.{clock_ran, clock_stopped, TickerWhole}
 use Rattle.tb_run.proofs.EndLemmas.{CameToEnd, AllCameToEnd, NoneRefused, ends_of, came_to_end}
 use Rattle.tb_run.proofs.JoinLemmas.{Kept, AllKept, FirstLaw, SecondLaw, own_each, rights_of_all, room_of_all}
+use Rattle.tb_run.proofs.SeatLemmas.{was_full}
 use Rattle.tb_run.proofs.LimitLemmas.{full_kept}
 use Rattle.tb_run.proofs.LogLemmas.{text_append}
 use Rattle.tb_run.proofs.MarkLemmas.{Worked, seats_of}
@@ -258,7 +261,7 @@ module _ (first_law : FirstLaw) (second_law : SecondLaw) (down_law : DownLaw) (e
     ticker_whole Failed fails end.Full e h = absurd h
     ticker_whole Failed fails end.NoMemory e h = absurd h
 
-    down_of : (stepper : StepperWent seat ended work gave took faults last begun CameToEnd) (it : WorkEnd) → CameToEnd it → StepperEnds stepper.done it → (bus_of stepper.done).down ≡ true
+    down_of : (stepper : StepperWent seat ended work gave took faults last begun CameToEnd) (it : WorkEnd) → CameToEnd it → StepperEnds stepper.begun stepper.done it → (bus_of stepper.done).down ≡ true
     down_of stepper end.Over h e = absurd e
     down_of stepper end.Down h e = e
     down_of stepper end.Failed h e = absurd e
@@ -269,13 +272,13 @@ module _ (first_law : FirstLaw) (second_law : SecondLaw) (down_law : DownLaw) (e
     same_origin : (done : SeatView) → done.origin ≡ begun.origin → done.origin ≡ last.origin
     same_origin done e = e ∙ sym last_origin
 
-    empty_of : (lane : ℕ) (done : SeatView) (it : WorkEnd) → CameToEnd it → WriterEnds lane done it → (next_out lane (bus_of done).bench ≡ None) × ((bus_of done).down ≡ true)
-    empty_of lane done end.Over h e = absurd e
-    empty_of lane done end.Down h e = e
-    empty_of lane done end.Failed h e = absurd e
-    empty_of lane done end.Stopped h e = absurd h
-    empty_of lane done end.Full h e = absurd h
-    empty_of lane done end.NoMemory h e = absurd h
+    empty_of : (lane : ℕ) (lost : List Out) (begun done : SeatView) (it : WorkEnd) → CameToEnd it → WriterEnds lane lost begun done it → (next_out lane (bus_of done).bench ≡ None) × ((bus_of done).down ≡ true)
+    empty_of lane lost begun done end.Over h e = absurd e
+    empty_of lane lost begun done end.Down h e = e
+    empty_of lane lost begun done end.Failed h e = absurd e
+    empty_of lane lost begun done end.Stopped h e = absurd h
+    empty_of lane lost begun done end.Full h e = absurd h
+    empty_of lane lost begun done end.NoMemory h e = absurd h
 
     bus_done : IsDone (bus_of last)
     bus_done =
@@ -285,7 +288,7 @@ module _ (first_law : FirstLaw) (second_law : SecondLaw) (down_law : DownLaw) (e
           empty = λ lane is.
               let at = lane_in (WriterWent seat ended work gave took faults last begun CameToEnd) 1 os os_new (writes CameToEnd meet_end) lane is.0 (let n = c.lanes in let high = is.1 in omega arith) in
               let s = at.2 in
-              let e = empty_of lane s.done s.it s.meets s.writes.ends in
+              let e = empty_of lane s.writes.last s.begun s.done s.it s.meets s.writes.ends in
               empty_to_end s.done last (same_origin s.done s.origin) sees.trace s.kept empty_law lane is e.1 e.0;
         }
 
@@ -315,7 +318,7 @@ module _ (first_law : FirstLaw) (second_law : SecondLaw) (down_law : DownLaw) (e
   puts_some l = prefix_of_put last.seen writer put_old put_new out_faults_old out_faults_new (is_put l)
 
   abbrev TickerEndsOf : WorkEnd → Type 0
-  TickerEndsOf it = TickerEnds (λ count. count ≡ most) c.ticks.tail tick_done (length c.ticks.first) clock_faults_old clock_faults_new c.ticks.ended it
+  TickerEndsOf it = TickerEnds (λ count. count ≡ most) c.ticks.tail c.ticks.last tick_begun tick_done (length c.ticks.first) clock_faults_old clock_faults_new c.ticks.ended it
 
   full_one : list_any is_full_end (tick_end ∷ map ended ys) ≡ true → WasFull last
   full_one e = go tick_end c.ticks.ends e
@@ -325,8 +328,12 @@ module _ (first_law : FirstLaw) (second_law : SecondLaw) (down_law : DownLaw) (e
           let s = some_full seat ended work gave took faults last begun xs ys zip new_seats kept.1.1 h in
           full_kept s.0 last (s.2 ∙ sym last_origin) s.3 s.1
 
+      tick_full : ((c.ticks.last ≡ 1) × FoundFull (HandIn input.Tick) tick_begun tick_done) ⊎ ((c.ticks.last ≡ 0) × FoundFull (HandIn input.NoTicks) tick_begun tick_done) → WasFull tick_done
+      tick_full (inl f) = was_full (HandIn input.Tick) tick_begun tick_done f.1
+      tick_full (inr f) = was_full (HandIn input.NoTicks) tick_begun tick_done f.1
+
       go : (it : WorkEnd) → TickerEndsOf it → (is_full_end it || list_any is_full_end (map ended ys)) ≡ true → WasFull last
-      go end.Full t h = full_kept tick_done last (c.ticks.adds.origin ∙ (tick_origin ∙ sym last_origin)) kept.1.0 t.1.was
+      go end.Full t h = full_kept tick_done last (c.ticks.adds.origin ∙ (tick_origin ∙ sym last_origin)) kept.1.0 (tick_full t.1)
       go end.Over t h = others h
       go end.Down t h = others h
       go end.Stopped t h = others h

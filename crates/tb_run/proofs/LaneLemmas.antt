@@ -1,5 +1,5 @@
 -- What a run says of a lane, from what its two workers have done and how their seats were joined.
-use Rattle.std.proofs.Common.{◌≡◌, ◌≤◌, ◌+◌, ◌⊎◌, ℕ, List, [], ◌∷◌, ◌++◌, map, length, Bool, true, false, ◌||◌, Option, Some, is_some, refl, sym, ap, ◌∙◌, subst, inl, inr, append_assoc, append-nil, arith}
+use Rattle.std.proofs.Common.{◌≡◌, ◌≤◌, ◌+◌, ◌⊎◌, ℕ, List, [], ◌∷◌, ◌++◌, map, length, Bool, true, false, ◌||◌, Option, Some, is_some, refl, sym, ap, ◌∙◌, subst, inl, inr, ⊎_elim, append_assoc, append-nil, arith}
 use Rattle.std.proofs.lemmas.List.{nil_from_length}
 use Rattle.tb_edge.specs.Ends.{and_given, and_taken}
 use Rattle.tb_edge.specs.declared.given.Given.{Given}
@@ -17,7 +17,7 @@ use Rattle.tb_lock.specs.Seats.{SeatView}
 use Rattle.tb_run.specs.declared.ends.WorkEnd.{WorkEnd}
 use Rattle.tb_run.specs.declared.ends.WorkEnd.TheVariants as end
 use Rattle.tb_run.specs.Seats.{Adds}
-use Rattle.tb_run.specs.Workers.{ReadsLane, WritesLane, AreLines, CountsTo, cut_count, ends_over, MayLack, ReaderEnds}
+use Rattle.tb_run.specs.Workers.{ReadsLane, WritesLane, AreLines, CountsTo, cut_count, ends_over, was_over, MayLack, ReaderEnds}
 use Rattle.tb_run.specs.Outcomes.{LaneView, LaneRan, LaneStopped, is_of}
 use Rattle.tb_run.specs.Dropping.{HasDropped}
 use Rattle.tb_run.proofs.JoinLemmas.{Kept}
@@ -28,6 +28,14 @@ pub own_is : (begun done last : SeatView) (more : List Entry) → begun.seen ≡
 own_is begun done last more fresh adds kept =
     kept.keeps begun.rights (λ right h. subst (λ (r : Rights). has r right ≡ true) (sym adds.rights) h)
     ∙ (adds.adds ∙ ap (λ (s : List Entry). own begun.rights s ++ more) fresh)
+
+or_cases : (a b : Bool) → (a || b) ≡ true → (a ≡ true) ⊎ (b ≡ true)
+or_cases true b e = inl refl
+or_cases false b e = inr e
+
+second_none : {A : Type 0} (xs ys : List A) → xs ++ ys ≡ [] → ys ≡ []
+second_none [] ys e = e
+second_none (x ∷ xs) ys e = absurd cc
 
 -- a worker that has come to the end of its work
 abbrev pub IsWhole : WorkEnd → Type 0
@@ -49,7 +57,7 @@ module _ (lane : ℕ) (last : SeatView) (old new : LaneView) (read_begun read_do
   nothing_lacks end.Failed xs w e = absurd w
   nothing_lacks end.NoMemory xs w e = absurd w
 
-  read_to_end : (it : WorkEnd) → IsWhole it → ReaderEnds lane read_done it → Kept last read_done → (ends_over it ≡ true) ⊎ HasDropped (is_of lane) last.seen
+  read_to_end : (it : WorkEnd) → IsWhole it → ReaderEnds lane read.last read_begun read_done it → Kept last read_done → (ends_over it ≡ true) ⊎ HasDropped (is_of lane) last.seen
   read_to_end end.Over w e kept = inl refl
   read_to_end end.Down w e kept =
       inr (e.2.0, e.0, kept.rest, ap is_some e.1, kept.begins ∙ (ap (λ (s : List Entry). s ++ kept.rest) e.2.1 ∙ append_assoc e.2.0 (Fed e.0 (Dropped why.Down) ∷ []) kept.rest))
@@ -108,7 +116,7 @@ module _ (lane : ℕ) (last : SeatView) (old new : LaneView) (read_begun read_do
         gave = read.told;
         lines = subst (AreLines lane read.fed) (sym gave) read.lines;
         one = at_most_one read_end read.last read.lacks;
-        whole = whole_where_over read_end read.last read.lacks;
+        whole = λ e. ⊎_elim (whole_where_over read_end read.last read.lacks) (λ was. second_none read.fed read.last (read.none was)) (or_cases (ends_over read_end) (was_over old.gave) e);
         put = write.put;
         lost = write.last;
         handed = went;

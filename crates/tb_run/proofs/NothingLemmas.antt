@@ -65,6 +65,7 @@ clock_same most clock Failed = record {
   ended = false;
   told = sym (ticked_none clock);
   one = omega arith;
+  whole = λ e. refl;
   within = omega arith;
   time = record { first = []; tail = []; is = refl; ticks = tt; last = inl refl };
   why = inl refl;

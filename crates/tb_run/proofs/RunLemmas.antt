@@ -4,12 +4,16 @@ use Rattle.std.specs.List.{All, AllZip, list_any, cons_option, filter_map}
 use Rattle.std.specs.Prelude.{⊤, slice_get}
 use Rattle.std.proofs.lemmas.Bool.{cases_lt}
 use Rattle.tb_edge.specs.Ends.{InletView}
+use Rattle.tb_edge.specs.declared.given.Given.{Given}
 use Rattle.tb_edge.specs.declared.given.Taken.{Taken}
+use Rattle.tb_log.specs.declared.entry.Input.TheVariants as input
+use Rattle.tb_log.specs.declared.entry.Out.{Out}
 use Rattle.tb_log.specs.declared.entry.Entry.{Entry}
 use Rattle.tb_log.specs.Shapes.{IsLane}
 use Rattle.tb_bus.specs.Buses.{start}
 use Rattle.tb_bus.specs.Traces.{IsTrace}
 use Rattle.tb_bus.specs.declared.origin.Origin.{Origin}
+use Rattle.tb_core.specs.Cores.{HandIn, HandOut, MakeStep}
 use Rattle.tb_lock.specs.declared.rights.Rights.{Rights}
 use Rattle.tb_lock.specs.Rights.{In, Out as Outs, has}
 use Rattle.tb_lock.specs.Seats.{SeatView}
@@ -28,8 +32,13 @@ use Rattle.tb_run.specs.Reasons.{is_full_end}
 use Rattle.tb_run.proofs.JoinLemmas.{Kept, AllKept}
 use Rattle.tb_run.proofs.MarkLemmas.{Worked, seats_of}
 use Rattle.tb_run.proofs.EndLemmas.{ends_of, CameToEnd, AllCameToEnd}
+use Rattle.tb_run.proofs.SeatLemmas.{was_full}
 use Rattle.tb_run.proofs.LaneLemmas.{IsWhole, lane_ran, lane_stopped}
 use Rattle.tb_run.proofs.WentLemmas.{after_readers, after_writers, each_view}
+
+writer_full : (lane : ℕ) (lost : List Out) (old new : SeatView) → WriterEnds lane lost old new end.Full → WasFull new
+writer_full lane lost old new (inl e) = was_full (HandOut lane) old new e.1
+writer_full lane lost old new (inr e) = was_full (HandIn (input.Cut lane)) old new e.2
 
 -- a seat that was handed out by the first of a bus, and has not been used
 pub record IsNew (first seat : SeatView) : Type 0 where
@@ -101,9 +110,9 @@ module _ {X I O : Type 0} (seat : X → SeatView) (ended : X → WorkEnd) (work 
   marks_of old new it Steps (Writes lane' o') d = absurd d
 
   full_of : (old new : SeatView) (w w' : Work I O) → Does old new end.Full w w' → WasFull new
-  full_of old new (Reads lane i) (Reads lane' i') d = d.1.ends.was
-  full_of old new (Writes lane o) (Writes lane' o') d = d.1.ends.was
-  full_of old new Steps Steps d = d.ends.was
+  full_of old new (Reads lane i) (Reads lane' i') d = was_full (HandIn d.1.ends.1) old new d.1.ends.4
+  full_of old new (Writes lane o) (Writes lane' o') d = writer_full lane d.1.last old new d.1.ends
+  full_of old new Steps Steps d = was_full MakeStep old new d.ends
   full_of old new (Reads lane i) (Writes lane' o') d = absurd d
   full_of old new (Reads lane i) Steps d = absurd d
   full_of old new (Writes lane o) (Reads lane' i') d = absurd d
@@ -314,26 +323,26 @@ module _ {X I O : Type 0} (seat : X → SeatView) (ended : X → WorkEnd) (work 
     each_stopped is is' os os' q s = each_view gave took faults ReaderWent WriterWent (LaneStopped last.seen) stopped 1 is is' os os' q s
 
     module _ (whole : (it : WorkEnd) → P it → CameToEnd it) where
-      reader_whole : (lane : ℕ) (done : SeatView) (it : WorkEnd) → CameToEnd it → ReaderEnds lane done it → IsWhole it
-      reader_whole lane done end.Over c e = tt
-      reader_whole lane done end.Down c e = tt
-      reader_whole lane done end.Failed c e = absurd e
-      reader_whole lane done end.Stopped c e = absurd c
-      reader_whole lane done end.Full c e = absurd c
-      reader_whole lane done end.NoMemory c e = absurd c
+      reader_whole : (lane : ℕ) (lost : List Given) (begun done : SeatView) (it : WorkEnd) → CameToEnd it → ReaderEnds lane lost begun done it → IsWhole it
+      reader_whole lane lost begun done end.Over c e = tt
+      reader_whole lane lost begun done end.Down c e = tt
+      reader_whole lane lost begun done end.Failed c e = absurd e
+      reader_whole lane lost begun done end.Stopped c e = absurd c
+      reader_whole lane lost begun done end.Full c e = absurd c
+      reader_whole lane lost begun done end.NoMemory c e = absurd c
 
-      writer_whole : (lane : ℕ) (done : SeatView) (it : WorkEnd) → CameToEnd it → WriterEnds lane done it → IsWhole it
-      writer_whole lane done end.Over c e = tt
-      writer_whole lane done end.Down c e = tt
-      writer_whole lane done end.Failed c e = absurd e
-      writer_whole lane done end.Stopped c e = absurd c
-      writer_whole lane done end.Full c e = absurd c
-      writer_whole lane done end.NoMemory c e = absurd c
+      writer_whole : (lane : ℕ) (lost : List Out) (begun done : SeatView) (it : WorkEnd) → CameToEnd it → WriterEnds lane lost begun done it → IsWhole it
+      writer_whole lane lost begun done end.Over c e = tt
+      writer_whole lane lost begun done end.Down c e = tt
+      writer_whole lane lost begun done end.Failed c e = absurd e
+      writer_whole lane lost begun done end.Stopped c e = absurd c
+      writer_whole lane lost begun done end.Full c e = absurd c
+      writer_whole lane lost begun done end.NoMemory c e = absurd c
 
       ran : (lane : ℕ) (i i' : I) (o o' : O) → ReaderWent lane i i' → WriterWent lane o o' → LaneRan last.seen lane (record { gave = gave i; took = took o; faults = faults o }) (record { gave = gave i'; took = took o'; faults = faults o' })
       ran lane i i' o o' q s =
           lane_ran lane last (record { gave = gave i; took = took o; faults = faults o }) (record { gave = gave i'; took = took o'; faults = faults o' }) q.begun q.done s.begun s.done q.it s.it q.reads s.writes
-          q.right s.right q.fresh s.fresh q.kept s.kept (reader_whole lane q.done q.it (whole q.it q.meets) q.reads.ends) (writer_whole lane s.done s.it (whole s.it s.meets) s.writes.ends)
+          q.right s.right q.fresh s.fresh q.kept s.kept (reader_whole lane q.reads.last q.begun q.done q.it (whole q.it q.meets) q.reads.ends) (writer_whole lane s.writes.last s.begun s.done s.it (whole s.it s.meets) s.writes.ends)
 
       pub each_ran : (is is' : List I) (os os' : List O) → EachLane ReaderWent 1 is is' → EachLane WriterWent 1 os os' → EachLane (LaneRan last.seen) 1 (views gave took faults is os) (views gave took faults is' os')
       each_ran is is' os os' q s = each_view gave took faults ReaderWent WriterWent (LaneRan last.seen) ran 1 is is' os os' q s

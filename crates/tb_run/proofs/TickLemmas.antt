@@ -1,5 +1,5 @@
 -- What a tick worker comes to, tick by tick.
-use Rattle.std.proofs.Common.{◌≡◌, ◌≤◌, ◌<◌, ◌+◌, ◌⊎◌, ℕ, List, [], ◌∷◌, ◌++◌, length, Bool, true, false, ◌||◌, Option, Some, None, MatchOption, refl, sym, ap, ◌∙◌, subst, inl, inr, append_assoc, append-nil, length-append, arith}
+use Rattle.std.proofs.Common.{◌≡◌, ◌≤◌, ◌<◌, ◌+◌, ◌⊎◌, ℕ, List, [], ◌∷◌, ◌++◌, length, Bool, true, false, true≢false, not, ◌||◌, Option, Some, None, MatchOption, refl, sym, ap, ◌∙◌, subst, inl, inr, append_assoc, append-nil, length-append, arith}
 use Rattle.std.proofs.Math.Bool.{or-false}
 use Rattle.tb_edge.specs.Faults.{Rose}
 use Rattle.tb_edge.specs.Ends.{ClockView, and_ticked}
@@ -9,13 +9,14 @@ use Rattle.tb_log.specs.declared.entry.Reply.TheVariants.{Dropped}
 use Rattle.tb_log.specs.declared.entry.Why.TheVariants as why
 use Rattle.tb_log.specs.declared.entry.Entry.{Entry}
 use Rattle.tb_log.specs.declared.entry.Entry.TheVariants.{Did, Quiet, Fed, Gave}
+use Rattle.tb_core.specs.Cores.{HandIn}
 use Rattle.tb_lock.specs.Seats.{SeatView}
 use Rattle.tb_run.specs.declared.ends.WorkEnd.{WorkEnd}
 use Rattle.tb_run.specs.declared.ends.WorkEnd.TheVariants as end
 use Rattle.tb_run.specs.Seats.{Adds, Hands, Marks, WasFull}
 use Rattle.tb_run.specs.Workers.{AreTicks, Ticks, TicksBus, TickerEnds, MayLack, IsNoTicks}
 use Rattle.tb_run.specs.Ticking.{EndsAll, IsRefused}
-use Rattle.tb_run.proofs.SeatLemmas.{adds_none, adds_on}
+use Rattle.tb_run.proofs.SeatLemmas.{let_in_both, let_in_on, marks_none, marks_both, marks_on, both_marks, adds_none, adds_on, found_on}
 
 pub ticked_on : (told : Option ClockView) (m n : ℕ) (ended : Bool) → and_ticked (and_ticked told m false) n ended ≡ and_ticked told (m + n) ended
 ticked_on None m n ended = refl
@@ -42,7 +43,7 @@ ticks_append (Quiet ∷ xs) ys a b = absurd a
 ticks_append (Gave at out ∷ xs) ys a b = absurd a
 
 pub ticks_none : (seat : SeatView) (told : Option ClockView) (faults : ℕ) → Ticks seat seat told told faults faults 0
-ticks_none seat told faults = record { more = []; adds = adds_none seat; ticks = tt; count = refl; told = sym (ticked_none told); never_falls = omega arith; called = refl }
+ticks_none seat told faults = record { more = []; adds = adds_none seat; ticks = tt; let_in = tt; count = refl; told = sym (ticked_none told); never_falls = omega arith; marks = marks_none seat }
 
 module _ (a b c : SeatView) (told_a told_b told_c : Option ClockView) (faults_a faults_b faults_c : ℕ) (m : ℕ) where
   pub ticks_on : (n : ℕ) → Ticks a b told_a told_b faults_a faults_b m → Ticks b c told_b told_c faults_b faults_c n → Ticks a c told_a told_c faults_a faults_c (m + n)
@@ -50,32 +51,26 @@ module _ (a b c : SeatView) (told_a told_b told_c : Option ClockView) (faults_a 
     more = one.more ++ two.more;
     adds = adds_on a b c one.more two.more one.adds two.adds;
     ticks = ticks_append one.more two.more one.ticks two.ticks;
+    let_in = let_in_both one.more two.more one.let_in two.let_in;
     count = let p = one.count in let q = two.count in omega (arith, length-append one.more two.more);
     told = two.told ∙ (ap (λ (t : Option ClockView). and_ticked t n false) one.told ∙ ticked_on told_a m n false);
     never_falls = let p = one.never_falls in let q = two.never_falls in omega arith;
-    called = two.called ∙ one.called;
+    marks = marks_both a b c one.marks two.marks;
   }
-
-  marks_on : (it : WorkEnd) → b.called ≡ a.called → Marks b c it → Marks a c it
-  marks_on end.Over e k = k ∙ e
-  marks_on end.Down e k = k ∙ e
-  marks_on end.Stopped e k = (k.0 ∙ e, k.1)
-  marks_on end.Full e k = k
-  marks_on end.Failed e k = k ∙ e
-  marks_on end.NoMemory e k = k
 
   rose_on : faults_a ≤ faults_b → Rose faults_b faults_c → Rose faults_a faults_c
   rose_on low (inl up) = inl (omega arith)
   rose_on low (inr top) = inr top
 
-  ends_on : (Enough Enough' : ℕ → Type 0) → ((k : ℕ) → Enough k → Enough' (m + k)) → (tail : List Entry) (k : ℕ) (ended : Bool) (it : WorkEnd) → faults_a ≤ faults_b → TickerEnds Enough tail c k faults_b faults_c ended it → TickerEnds Enough' tail c (m + k) faults_a faults_c ended it
-  ends_on Enough Enough' f tail k ended end.Over low (w, inl e) = (w, inl e)
-  ends_on Enough Enough' f tail k ended end.Over low (w, inr e) = (w, inr (f k e))
-  ends_on Enough Enough' f tail k ended end.Failed low e = (e.0, rose_on low e.1)
-  ends_on Enough Enough' f tail k ended end.Down low e = e
-  ends_on Enough Enough' f tail k ended end.Full low e = e
-  ends_on Enough Enough' f tail k ended end.Stopped low e = e
-  ends_on Enough Enough' f tail k ended end.NoMemory low e = e
+  ends_on : (Enough Enough' : ℕ → Type 0) → ((k : ℕ) → Enough k → Enough' (m + k)) → (tail : List Entry) (last : ℕ) (xs : List Entry) → Adds a b xs → (k : ℕ) (ended : Bool) (it : WorkEnd) → faults_a ≤ faults_b → TickerEnds Enough tail last b c k faults_b faults_c ended it → TickerEnds Enough' tail last a c (m + k) faults_a faults_c ended it
+  ends_on Enough Enough' f tail last xs adds k ended end.Over low (w, inl e) = (w, inl e)
+  ends_on Enough Enough' f tail last xs adds k ended end.Over low (w, inr e) = (w, inr (f k e))
+  ends_on Enough Enough' f tail last xs adds k ended end.Failed low e = (e.0, rose_on low e.1)
+  ends_on Enough Enough' f tail last xs adds k ended end.Down low e = e
+  ends_on Enough Enough' f tail last xs adds k ended end.Full low (w, inl e) = (w, inl (e.0, found_on (HandIn input.Tick) a b c xs adds e.1))
+  ends_on Enough Enough' f tail last xs adds k ended end.Full low (w, inr e) = (w, inr (e.0, found_on (HandIn input.NoTicks) a b c xs adds e.1))
+  ends_on Enough Enough' f tail last xs adds k ended end.Stopped low e = e
+  ends_on Enough Enough' f tail last xs adds k ended end.NoMemory low e = e
 
   pub ticks_end : (Enough Enough' : ℕ → Type 0) (room most : ℕ) → ((k : ℕ) → Enough k → Enough' (m + k)) → m + room ≤ most → (it : WorkEnd) → Ticks a b told_a told_b faults_a faults_b m → TicksBus Enough room b c told_b told_c faults_b faults_c it → TicksBus Enough' most a c told_a told_c faults_a faults_c it
   ticks_end Enough Enough' room most f low it one two =
@@ -86,34 +81,36 @@ module _ (a b c : SeatView) (told_a told_b told_c : Option ClockView) (faults_a 
         tail = two.tail;
         adds = subst (Adds a c) (sym (append_assoc one.more two.first two.tail)) (adds_on a b c one.more (two.first ++ two.tail) one.adds two.adds);
         ticks = ticks_append one.more two.first one.ticks two.ticks;
+        let_in = let_in_on it one.more two.first one.let_in two.let_in;
         last = two.last;
         ended = two.ended;
         told = two.told ∙ (ap (λ (t : Option ClockView). and_ticked t (length two.first + two.last) two.ended) one.told ∙ (ticked_on told_a m (length two.first + two.last) two.ended ∙ ap (λ (n : ℕ). and_ticked told_a n two.ended) all));
         within = let q = two.within in omega (arith, all);
         lacks = two.lacks;
-        marks = marks_on it one.called two.marks;
+        whole = two.whole;
+        marks = marks_on a b c it one.marks two.marks;
         never_falls = let p = one.never_falls in let q = two.never_falls in omega arith;
-        ends = subst (λ (n : ℕ). TickerEnds Enough' two.tail c n faults_a faults_c two.ended it) len (ends_on Enough Enough' f two.tail (length two.first) two.ended it one.never_falls two.ends);
+        ends = subst (λ (n : ℕ). TickerEnds Enough' two.tail two.last a c n faults_a faults_c two.ended it) len (ends_on Enough Enough' f two.tail two.last one.more one.adds (length two.first) two.ended it one.never_falls two.ends);
       }
 
 module _ (old new : SeatView) (told_old told_new : Option ClockView) (faults_old faults_new : ℕ) (low : faults_old ≤ faults_new) where
   -- a tick that was given
   pub ticks_hands : (answer : Option WorkEnd) → told_new ≡ and_ticked told_old 1 false → Hands input.Tick old new answer
       → MatchOption answer (Ticks old new told_old told_new faults_old faults_new 1) (TicksBus (λ count. ⊥) 1 old new told_old told_new faults_old faults_new)
-  ticks_hands None told h = record { more = Fed input.Tick h.0 ∷ []; adds = h.1; ticks = tt; count = refl; told = told; never_falls = low; called = h.2 }
-  ticks_hands (Some end.Down) told h = record { first = Fed input.Tick (Dropped why.Down) ∷ []; tail = []; adds = h.0; ticks = tt; last = 0; ended = false; told = told; within = omega arith; lacks = refl; marks = h.1; never_falls = low; ends = (refl, h.2) }
-  ticks_hands (Some end.Stopped) told h = record { first = []; tail = []; adds = h.0; ticks = tt; last = 1; ended = false; told = told; within = omega arith; lacks = omega arith; marks = (h.1, h.2); never_falls = low; ends = refl }
-  ticks_hands (Some end.Full) told h = record { first = []; tail = []; adds = h.0.adds; ticks = tt; last = 1; ended = false; told = told; within = omega arith; lacks = omega arith; marks = h.0.called; never_falls = low; ends = (refl, h.1) }
-  ticks_hands (Some end.NoMemory) told h = record { first = []; tail = []; adds = h.adds; ticks = tt; last = 1; ended = false; told = told; within = omega arith; lacks = omega arith; marks = h.called; never_falls = low; ends = refl }
+  ticks_hands None told h = record { more = Fed input.Tick h.0 ∷ []; adds = h.1; ticks = tt; let_in = (ap not h.3, tt); count = refl; told = told; never_falls = low; marks = h.2 }
+  ticks_hands (Some end.Down) told h = record { first = Fed input.Tick (Dropped why.Down) ∷ []; tail = []; adds = h.0; ticks = tt; let_in = ([], Fed input.Tick (Dropped why.Down), refl, tt); last = 0; ended = false; told = told; within = omega arith; lacks = refl; whole = λ e. refl; marks = h.1; never_falls = low; ends = (refl, h.2) }
+  ticks_hands (Some end.Stopped) told h = record { first = []; tail = []; adds = h.0; ticks = tt; let_in = tt; last = 1; ended = false; told = told; within = omega arith; lacks = omega arith; whole = λ e. absurd (true≢false (sym e)); marks = (h.1, h.2); never_falls = low; ends = refl }
+  ticks_hands (Some end.Full) told h = record { first = []; tail = []; adds = h.0.adds; ticks = tt; let_in = tt; last = 1; ended = false; told = told; within = omega arith; lacks = omega arith; whole = λ e. absurd (true≢false (sym e)); marks = both_marks old new h.0; never_falls = low; ends = (refl, inl (refl, h.1)) }
+  ticks_hands (Some end.NoMemory) told h = record { first = []; tail = []; adds = h.adds; ticks = tt; let_in = tt; last = 1; ended = false; told = told; within = omega arith; lacks = omega arith; whole = λ e. absurd (true≢false (sym e)); marks = both_marks old new h; never_falls = low; ends = refl }
   ticks_hands (Some end.Over) told h = absurd h
   ticks_hands (Some end.Failed) told h = absurd h
 
   -- no more come: the clock has ended, or failed, or there were enough
   module _ (Enough : ℕ → Type 0) (most : ℕ) (ended : Bool) (told : told_new ≡ and_ticked told_old 0 ended) where
     refused_all : (it : WorkEnd) → IsRefused old new it → TicksBus Enough most old new told_old told_new faults_old faults_new it
-    refused_all end.Stopped r = record { first = []; tail = []; adds = r.0; ticks = tt; last = 0; ended = ended; told = told; within = omega arith; lacks = omega arith; marks = (r.1, r.2); never_falls = low; ends = refl }
-    refused_all end.Full r = record { first = []; tail = []; adds = r.0.adds; ticks = tt; last = 0; ended = ended; told = told; within = omega arith; lacks = omega arith; marks = r.0.called; never_falls = low; ends = (refl, r.1) }
-    refused_all end.NoMemory r = record { first = []; tail = []; adds = r.adds; ticks = tt; last = 0; ended = ended; told = told; within = omega arith; lacks = omega arith; marks = r.called; never_falls = low; ends = refl }
+    refused_all end.Stopped r = record { first = []; tail = []; adds = r.0; ticks = tt; let_in = tt; last = 0; ended = ended; told = told; within = omega arith; lacks = omega arith; whole = λ e. refl; marks = (r.1, r.2); never_falls = low; ends = refl }
+    refused_all end.Full r = record { first = []; tail = []; adds = r.0.adds; ticks = tt; let_in = tt; last = 0; ended = ended; told = told; within = omega arith; lacks = omega arith; whole = λ e. refl; marks = both_marks old new r.0; never_falls = low; ends = (refl, inr (refl, r.1)) }
+    refused_all end.NoMemory r = record { first = []; tail = []; adds = r.adds; ticks = tt; let_in = tt; last = 0; ended = ended; told = told; within = omega arith; lacks = omega arith; whole = λ e. refl; marks = both_marks old new r; never_falls = low; ends = refl }
     refused_all end.Over r = absurd r
     refused_all end.Down r = absurd r
     refused_all end.Failed r = absurd r
@@ -124,11 +121,13 @@ module _ (old new : SeatView) (told_old told_new : Option ClockView) (faults_old
       tail = Fed input.NoTicks e.1.0 ∷ [];
       adds = e.1.1;
       ticks = tt;
+      let_in = tt;
       last = 0;
       ended = ended;
       told = told;
       within = omega arith;
       lacks = refl;
+      whole = λ e. refl;
       marks = e.1.2;
       never_falls = low;
       ends = ((e.1.0, refl), why);
@@ -141,11 +140,13 @@ module _ (old new : SeatView) (told_old told_new : Option ClockView) (faults_old
       tail = Fed input.NoTicks e.1.0 ∷ [];
       adds = e.1.1;
       ticks = tt;
+      let_in = tt;
       last = 0;
       ended = ended;
       told = told;
       within = omega arith;
       lacks = refl;
+      whole = λ e. refl;
       marks = e.1.2;
       never_falls = low;
       ends = ((e.1.0, refl), rose);

@@ -103,6 +103,7 @@ lacking = record {
   ended = false;
   told = refl;
   one = omega arith;
+  whole = λ e. cc;
   within = omega arith;
   time = record { first = []; tail = []; is = refl; ticks = tt; last = inl refl };
   why = inl refl;

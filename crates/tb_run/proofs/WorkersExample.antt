@@ -83,7 +83,9 @@ read = record {
   told = refl;
   lines = put-lines;
   lacks = refl;
-  marks = refl;
+  none = λ e. cc;
+  let_in = (refl, (refl, (refl, (refl, tt))));
+  marks = (refl, refl);
   ends = tt;
 }
 
@@ -120,17 +122,17 @@ none-failed gives over reads = reads.ends
 
 -- it says that the log was full or that there was no memory, and hasn't stopped the bus; or that it was stopped, and wasn't told so
 none-full : (gives : List Given) (over : Bool) → Read gives over end.Full → ⊥
-none-full gives over reads = let e : ◌≡◌ {A = Bool} false true = reads.marks in cc
+none-full gives over reads = let e : ◌≡◌ {A = Bool} false true = reads.marks.0 in cc
 
 none-lost : (gives : List Given) (over : Bool) → Read gives over end.NoMemory → ⊥
-none-lost gives over reads = let e : ◌≡◌ {A = Bool} false true = reads.marks in cc
+none-lost gives over reads = let e : ◌≡◌ {A = Bool} false true = reads.marks.0 in cc
 
 none-stopped : (gives : List Given) (over : Bool) → Read gives over end.Stopped → ⊥
 none-stopped gives over reads = let e : ◌≡◌ {A = Bool} false true = reads.marks.1 in cc
 
 -- it stopped the bus, though its inlet was over
 none-stops : ReadsLane 1 (new_seat departing (reader_rights 1)) (seat_of departing (reader_rights 1) departing_log true true) (told_of [] false) (told_of put_by_tool true) end.Over → ⊥
-none-stops reads = let e : ◌≡◌ {A = Bool} true false = reads.marks in cc
+none-stops reads = let e : ◌≡◌ {A = Bool} true false = reads.marks.0 in cc
 
 -- who writes the lane
 abbrev Write : List Taken → ℕ → WorkEnd → Type 0
@@ -152,7 +154,7 @@ written = record {
   lacks = refl;
   rose = inl refl;
   counts = record { cuts = inl (omega arith); never_falls = omega arith; fits = λ less. omega arith };
-  marks = refl;
+  marks = (refl, refl);
   ends = (cutting-done.empty 1 (omega arith, omega arith), cutting-done.down);
 }
 
@@ -174,12 +176,14 @@ ticked = record {
   tail = no_more;
   adds = departed-adds ticker_rights no_more refl;
   ticks = tt;
+  let_in = tt;
   last = 0;
   ended = true;
   told = refl;
   within = omega arith;
   lacks = refl;
-  marks = refl;
+  whole = λ e. refl;
+  marks = (refl, refl);
   never_falls = omega arith;
   ends = ((Dropped why.Down, refl), inl refl);
 }
@@ -191,12 +195,14 @@ ticked-failed = record {
   tail = no_more;
   adds = departed-adds ticker_rights no_more refl;
   ticks = tt;
+  let_in = tt;
   last = 0;
   ended = false;
   told = refl;
   within = omega arith;
   lacks = refl;
-  marks = refl;
+  whole = λ e. refl;
+  marks = (refl, refl);
   never_falls = omega arith;
   ends = ((Dropped why.Down, refl), inl (omega arith));
 }
@@ -209,7 +215,7 @@ stepped : StepsBus (new_seat departing stepper_rights) (departed stepper_rights)
 stepped = record {
   more = own stepper_rights departing_log;
   adds = departed-adds stepper_rights (own stepper_rights departing_log) refl;
-  marks = refl;
+  marks = (refl, refl);
   ends = subst (λ (bus : Bus). bus.down ≡ true) (sym departing-leads.is) refl;
 }
 

@@ -20,16 +20,16 @@ use Rattle.tb_bus.specs.declared.origin.Origin.{Origin}
 use Rattle.tb_tools.specs.Finding.{next_out}
 use Rattle.tb_core.specs.declared.answers.TakeOut.{TakeOut}
 use Rattle.tb_core.specs.declared.answers.TakeOut.TheVariants as taken
-use Rattle.tb_core.specs.Cores.{CoreState, HandOut, bus_now, entries_of, out_entry}
+use Rattle.tb_core.specs.Cores.{CoreState, HandIn, HandOut, bus_now, entries_of, out_entry}
 use Rattle.tb_core.specs.Cores as cores
 use Rattle.tb_lock.specs.Seats.{SeatView}
 use Rattle.tb_lock.specs.Rights.{has, right_to}
 use Rattle.tb_lock.specs.Calls.{Called, IsTaken, added}
 use Rattle.tb_run.specs.declared.ends.WorkEnd.{WorkEnd}
 use Rattle.tb_run.specs.declared.ends.WorkEnd.TheVariants as end
-use Rattle.tb_run.specs.Seats.{Adds, Marks, WasFull}
+use Rattle.tb_run.specs.Seats.{Adds, Marks, SameMarks, WasFull}
 use Rattle.tb_run.specs.Workers.{Writes, WritesLane, Counts, CountsTo, cut_count, is_cut, MayLack, WriterEnds, bus_of, CutsOff, Fails, PutsIt, Puts}
-use Rattle.tb_run.proofs.SeatLemmas.{SeenLaw, AddedLaw, Refused, adds_none, adds_on, adds_call, same_number}
+use Rattle.tb_run.proofs.SeatLemmas.{SeenLaw, AddedLaw, Refused, marks_both, marks_on, both_marks, same_marks, adds_none, adds_on, adds_call, found_on, same_number}
 
 -- what was taken in two parts
 pub and_taken_on : (told : Option (List Taken)) (xs ys : List Taken) → and_taken (and_taken told xs) ys ≡ and_taken told (xs ++ ys)
@@ -110,8 +110,8 @@ module _ (lane : ℕ) (out : Out) where
       go true = omega arith
       go false = omega arith
 
-pub writes_none : (lane : ℕ) (old new : SeatView) (told : Option (List Taken)) (faults : ℕ) → Adds old new [] → new.called ≡ old.called → Writes lane old new told told faults faults
-writes_none lane old new told faults adds called = record { more = []; adds = adds; told = sym (and_taken_none told); starts = refl; counts = counts_none faults; called = called }
+pub writes_none : (lane : ℕ) (old new : SeatView) (told : Option (List Taken)) (faults : ℕ) → Adds old new [] → SameMarks old new → Writes lane old new told told faults faults
+writes_none lane old new told faults adds marks = record { more = []; adds = adds; told = sym (and_taken_none told); starts = refl; counts = counts_none faults; marks = marks }
 
 module _ (lane : ℕ) (a b c : SeatView) (told_a told_b told_c : Option (List Taken)) (faults_a faults_b faults_c : ℕ) where
   pub writes_on : Writes lane a b told_a told_b faults_a faults_b → Writes lane b c told_b told_c faults_b faults_c → Writes lane a c told_a told_c faults_a faults_c
@@ -124,20 +124,21 @@ module _ (lane : ℕ) (a b c : SeatView) (told_a told_b told_c : Option (List Ta
         ∙ ap (and_taken told_a) (sym (map-append taken_of (sent one.more lane) (sent two.more lane)) ∙ ap (map taken_of) (sym (sent_append lane one.more two.more two.starts)))));
     starts = cut_off_append lane one.more two.more two.starts ∙ one.starts;
     counts = subst (Counts faults_a faults_c) (sym (cut_count_append lane one.more two.more)) (counts_on faults_a faults_b faults_c (cut_count lane one.more) (cut_count lane two.more) one.counts two.counts);
-    called = two.called ∙ one.called;
+    marks = marks_both a b c one.marks two.marks;
   }
-
-  marks_on : (it : WorkEnd) → b.called ≡ a.called → Marks b c it → Marks a c it
-  marks_on end.Over e m = m ∙ e
-  marks_on end.Down e m = m ∙ e
-  marks_on end.Stopped e m = (m.0 ∙ e, m.1)
-  marks_on end.Full e m = m
-  marks_on end.Failed e m = m ∙ e
-  marks_on end.NoMemory e m = m
 
   rose_on : faults_a ≤ faults_b → Rose faults_b faults_c → Rose faults_a faults_c
   rose_on low (inl up) = inl (omega arith)
   rose_on low (inr top) = inr top
+
+  ends_on : (it : WorkEnd) (last : List Out) (xs : List Entry) → Adds a b xs → WriterEnds lane last b c it → WriterEnds lane last a c it
+  ends_on end.Over last xs adds e = e
+  ends_on end.Down last xs adds e = e
+  ends_on end.Stopped last xs adds e = e
+  ends_on end.Full last xs adds (inl e) = inl (e.0, found_on (HandOut lane) a b c xs adds e.1)
+  ends_on end.Full last xs adds (inr e) = inr (e.0, e.1, found_on (HandIn (input.Cut lane)) a b c xs adds e.2)
+  ends_on end.Failed last xs adds e = e
+  ends_on end.NoMemory last xs adds e = e
 
   pub writes_end : (it : WorkEnd) → Writes lane a b told_a told_b faults_a faults_b → WritesLane lane b c told_b told_c faults_b faults_c it → WritesLane lane a c told_a told_c faults_a faults_c it
   writes_end it one two = record {
@@ -154,8 +155,8 @@ module _ (lane : ℕ) (a b c : SeatView) (told_a told_b told_c : Option (List Ta
     lacks = two.lacks;
     rose = ⊎_elim (λ e. inl e) (λ r. inr (rose_on one.counts.never_falls r)) two.rose;
     counts = subst (Counts faults_a faults_c) (sym (cut_count_append lane one.more two.more)) (counts_on faults_a faults_b faults_c (cut_count lane one.more) (cut_count lane two.more) one.counts two.counts);
-    marks = marks_on it one.called two.marks;
-    ends = two.ends;
+    marks = marks_on a b c it one.marks two.marks;
+    ends = ends_on it two.last one.more one.adds two.ends;
   }
 
 -- what a call that takes from a lane has logged
@@ -173,8 +174,8 @@ pub takes_out : SeenLaw → AddedLaw → (lane : ℕ) (old new : SeatView) (answ
 takes_out seen_law added_law lane old new answer right c =
     subst (Adds old new) (gave_by lane c.core answer c.finds) (adds_call seen_law added_law (IsTaken lane) (HandOut lane) old new (Ok answer) right c)
 
-pub called_same : (lane : ℕ) (old new : SeatView) (answer : TakeOut) → Called (IsTaken lane) (HandOut lane) old new (Ok answer) → new.called ≡ old.called
-called_same lane old new answer c = ap (λ (s : SeatView). s.called) c.seat
+pub called_same : (lane : ℕ) (old new : SeatView) (answer : TakeOut) → Called (IsTaken lane) (HandOut lane) old new (Ok answer) → SameMarks old new
+called_same lane old new answer c = same_marks (IsTaken lane) (HandOut lane) old new answer c
 
 -- what was handed out is in shape, as all entries of a trace are
 abbrev pub ShapeLaw : Type 0
@@ -216,10 +217,10 @@ module _ (lane : ℕ) (old new : SeatView) (told : Option (List Taken)) (faults 
         ends = (ap (λ (b : Bus). next_out lane b.bench) (sym is) ∙ c.finds.0, ap (λ (b : Bus). b.down) (sym is) ∙ c.finds.1);
       }
 
-  pub writes_refused : (it : WorkEnd) → Refused old new it → WritesLane lane old new told told faults faults it
+  pub writes_refused : (it : WorkEnd) → Refused (HandOut lane) old new it → WritesLane lane old new told told faults faults it
   writes_refused end.Stopped r = record { more = []; adds = r.0; put = []; last = []; handed = refl; told = sym (and_taken_none told); starts = refl; lacks = omega arith; rose = inl refl; counts = counts_none faults; marks = (r.1, r.2); ends = tt }
-  writes_refused end.Full r = record { more = []; adds = r.0.adds; put = []; last = []; handed = refl; told = sym (and_taken_none told); starts = refl; lacks = omega arith; rose = inl refl; counts = counts_none faults; marks = r.0.called; ends = r.1 }
-  writes_refused end.NoMemory r = record { more = []; adds = r.adds; put = []; last = []; handed = refl; told = sym (and_taken_none told); starts = refl; lacks = omega arith; rose = inl refl; counts = counts_none faults; marks = r.called; ends = tt }
+  writes_refused end.Full r = record { more = []; adds = r.0.adds; put = []; last = []; handed = refl; told = sym (and_taken_none told); starts = refl; lacks = omega arith; rose = inl refl; counts = counts_none faults; marks = both_marks old new r.0; ends = inl (refl, r.1) }
+  writes_refused end.NoMemory r = record { more = []; adds = r.adds; put = []; last = []; handed = refl; told = sym (and_taken_none told); starts = refl; lacks = omega arith; rose = inl refl; counts = counts_none faults; marks = both_marks old new r; ends = tt }
   writes_refused end.Over r = absurd r
   writes_refused end.Down r = absurd r
   writes_refused end.Failed r = absurd r
@@ -233,7 +234,7 @@ counts_less old new m n low (inl c) = inl (omega arith)
 counts_less old new m n low (inr top) = inr top
 
 -- an item that was handed out is put, or fails to be
-module _ (lane : ℕ) (out : Out) (old mid new : SeatView) (told_old told_new : Option (List Taken)) (faults_old faults_new : ℕ) (taken_out : Adds old mid (Gave lane out ∷ [])) (same : mid.called ≡ old.called) where
+module _ (lane : ℕ) (out : Out) (old mid new : SeatView) (told_old told_new : Option (List Taken)) (faults_old faults_new : ℕ) (taken_out : Adds old mid (Gave lane out ∷ [])) (same : SameMarks old mid) where
   abbrev Answers : Option WorkEnd → Type 0
   Answers answer = MatchOption answer (Writes lane old new told_old told_new faults_old faults_new) (WritesLane lane old new told_old told_new faults_old faults_new)
 
@@ -244,11 +245,11 @@ module _ (lane : ℕ) (out : Out) (old mid new : SeatView) (told_old told_new : 
     told = p.told ∙ ap (λ (s : List Out). and_taken told_old (map taken_of s)) (sym (sent_one lane out));
     starts = one_starts lane out;
     counts = record { cuts = inl (let low = p.never_falls in omega arith); never_falls = p.never_falls; fits = p.fits };
-    called = ap (λ (s : SeatView). s.called) p.same ∙ same;
+    marks = subst (SameMarks old) (sym p.same) same;
   })
 
   -- the item is lost, and that wasn't handed in
-  lost : (it : WorkEnd) (answer : Option WorkEnd) → Fails lane mid new told_old told_new faults_old faults_new answer → Adds mid new [] → MayLack it 1 → Marks old new it → WriterEnds lane new it → WritesLane lane old new told_old told_new faults_old faults_new it
+  lost : (it : WorkEnd) (answer : Option WorkEnd) → Fails lane mid new told_old told_new faults_old faults_new answer → Adds mid new [] → MayLack it 1 → Marks old new it → WriterEnds lane (out ∷ []) old new it → WritesLane lane old new told_old told_new faults_old faults_new it
   lost it answer f adds may marks ends = record {
     more = Gave lane out ∷ [];
     adds = adds_on old mid new (Gave lane out ∷ []) [] taken_out adds;
@@ -271,11 +272,11 @@ module _ (lane : ℕ) (out : Out) (old mid new : SeatView) (told_old told_new : 
     told = f.told ∙ (sym (and_taken_none told_old) ∙ ap (λ (s : List Out). and_taken told_old (map taken_of s)) (sym (sent_cut lane out h.0)));
     starts = cut_starts lane out h.0;
     counts = record { cuts = counts_less faults_old faults_new (cut_count lane (Gave lane out ∷ Fed (input.Cut lane) h.0 ∷ [])) 1 (one_cut lane out h.0) (rose_counts faults_old faults_new f.rose); never_falls = f.never_falls; fits = f.fits };
-    called = h.2 ∙ same;
+    marks = marks_both old mid new same h.2;
   }
-  fails (Some end.Stopped) f h = lost end.Stopped (Some end.Stopped) f h.0 (omega arith) (h.1 ∙ same, h.2) tt
-  fails (Some end.Full) f h = lost end.Full (Some end.Full) f h.0.adds (omega arith) h.0.called h.1
-  fails (Some end.NoMemory) f h = lost end.NoMemory (Some end.NoMemory) f h.adds (omega arith) h.called tt
+  fails (Some end.Stopped) f h = lost end.Stopped (Some end.Stopped) f h.0 (omega arith) (h.1 ∙ same.0, h.2) tt
+  fails (Some end.Full) f h = lost end.Full (Some end.Full) f h.0.adds (omega arith) (both_marks mid new h.0) (inr (out, refl, found_on (HandIn (input.Cut lane)) old mid new (Gave lane out ∷ []) taken_out h.1))
+  fails (Some end.NoMemory) f h = lost end.NoMemory (Some end.NoMemory) f h.adds (omega arith) (both_marks mid new h) tt
   fails (Some end.Over) f h = absurd h
   fails (Some end.Down) f h = absurd h
   fails (Some end.Failed) f h = absurd h

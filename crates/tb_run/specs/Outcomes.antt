@@ -1,5 +1,5 @@
 -- What a run has done once it ends: over the log of the core that it hands back, and what the outside gave and took in the call.
-use Rattle.std.specs.Prelude.{◌≡◌, ◌≤◌, ◌+◌, ◌⊎◌, ℕ, Bool, true, false, List, [], ◌∷◌, ◌++◌, length, map, Option, Some, None, is_some, ⊤}
+use Rattle.std.specs.Prelude.{◌≡◌, ◌≤◌, ◌+◌, ◌⊎◌, ℕ, Bool, true, false, ◌||◌, List, [], ◌∷◌, ◌++◌, length, map, Option, Some, None, is_some, ⊤}
 use Rattle.tb_edge.specs.Faults.{Rose}
 use Rattle.tb_edge.specs.Sinks.{Writes, WritesPrefix}
 use Rattle.tb_edge.specs.Ends.{InletView, ClockView, and_given, and_taken, and_ticked}
@@ -27,7 +27,7 @@ use Rattle.tb_lane.specs.Sending.{taken_of}
 use Rattle.tb_lock.specs.Histories.{IsSparse}
 use Rattle.tb_run.specs.Dropping.{HasDropped}
 use Rattle.tb_run.specs.Clocks.{ClockRan, ClockStopped}
-use Rattle.tb_run.specs.Workers.{AreLines, CountsTo, cut_count}
+use Rattle.tb_run.specs.Workers.{AreLines, CountsTo, cut_count, was_over}
 use Rattle.tb_run.specs.declared.ends.RunWhy.{RunWhy}
 use Rattle.tb_run.specs.declared.ends.RunWhy.TheVariants.{Ended, Crew, Clock, Out as Sink, Events, NoMemory}
 
@@ -81,8 +81,8 @@ pub record LaneStopped (log : List Entry) (lane : ℕ) (old new : LaneView) : Ty
   pub gave : new.gave ≡ and_given old.gave (fed ++ last) over
   pub lines : AreLines lane fed (inputs log lane)
   pub one : length last ≤ 1
-  -- where it was read to the end, the log lacks nothing of it
-  pub whole : over ≡ true → last ≡ []
+  -- where it was read to the end, in the call or before, the log lacks nothing of it
+  pub whole : (over || was_over old.gave) ≡ true → last ≡ []
   pub put : List Out
   pub lost : List Out
   pub handed : sent log lane ≡ put ++ lost

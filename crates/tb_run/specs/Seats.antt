@@ -1,5 +1,5 @@
 -- How a seat of a run goes on, and what a worker that hands in an input comes to.
-use Rattle.std.specs.Prelude.{◌≡◌, Bool, true, List, [], ◌∷◌, ◌++◌, Option, Some, None}
+use Rattle.std.specs.Prelude.{◌≡◌, Bool, true, false, List, [], ◌∷◌, ◌++◌, Option, Some, None}
 use Rattle.tb_log.specs.declared.entry.Input.{Input}
 use Rattle.tb_log.specs.declared.entry.Reply.{Reply}
 use Rattle.tb_log.specs.declared.entry.Reply.TheVariants.{Took, Dropped}
@@ -10,13 +10,14 @@ use Rattle.tb_bus.specs.Buses.{start}
 use Rattle.tb_bus.specs.Traces.{IsTrace}
 use Rattle.tb_core.specs.declared.answers.CoreFault.{CoreFault}
 use Rattle.tb_core.specs.declared.answers.CoreFault.TheVariants as fault
-use Rattle.tb_core.specs.Cores.{CoreState, Call, is_full}
+use Rattle.tb_core.specs.Cores.{CoreState, Call, HandIn, is_full}
 use Rattle.tb_core.specs.Full.{MayCall}
 use Rattle.tb_lock.specs.Rights.{has, own, right_to}
 use Rattle.tb_lock.specs.Histories.{IsSparse}
 use Rattle.tb_lock.specs.Seats.{SeatView}
 use Rattle.tb_run.specs.declared.ends.WorkEnd.{WorkEnd}
 use Rattle.tb_run.specs.declared.ends.WorkEnd.TheVariants as end
+use Rattle.tb_run.specs.Dropping.{is_down}
 
 -- what a seat has seen is a trace that says quiet once
 pub record SeesTrace (seat : SeatView) : Type 0 where
@@ -45,10 +46,17 @@ pub record WasFull (seat : SeatView) : Type 0 where
   pub seen : seat.seen ≡ core.log ++ rest
   pub full : is_full core call ≡ true
 
--- and it is a call that the seat may make
-pub record FoundFull (seat : SeatView) : Type 0 where
-  pub was : WasFull seat
-  pub right : has seat.rights (right_to was.call) ≡ true
+-- This call, which the seat may make, found no room in the log, at some place behind what the seat had seen before.
+pub record FoundFull (call : Call) (old new : SeatView) : Type 0 where
+  pub core : CoreState
+  pub may : MayCall call
+  pub right : has new.rights (right_to call) ≡ true
+  pub origin : core.origin ≡ new.origin
+  pub more : List Entry
+  pub behind : core.log ≡ old.seen ++ more
+  pub rest : List Entry
+  pub seen : new.seen ≡ core.log ++ rest
+  pub full : is_full core call ≡ true
 
 -- the last entry that the seat has seen
 abbrev pub EndsWith : SeatView → Entry → Type 0
@@ -60,14 +68,19 @@ pub record Stops (old new : SeatView) : Type 0 where
   pub called : new.called ≡ true
   pub told : new.told ≡ true
 
--- What a worker's end says of the marks of its seat: it calls `stop` where it ends for want of room or of memory, and nowhere else.
+-- the marks of a seat stay: it hasn't called `stop`, and wasn't told that the bus was stopped
+abbrev pub SameMarks : SeatView → SeatView → Type 0
+SameMarks old new = (new.called ≡ old.called) × (new.told ≡ old.told)
+
+-- What a worker's end says of the marks of its seat: it calls `stop` where it ends for want of room or of memory, and nowhere else,
+-- and is told that the bus was stopped there and where it ends for that, and nowhere else.
 abbrev pub Marks : SeatView → SeatView → WorkEnd → Type 0
-Marks old new end.Over = new.called ≡ old.called
-Marks old new end.Down = new.called ≡ old.called
+Marks old new end.Over = SameMarks old new
+Marks old new end.Down = SameMarks old new
 Marks old new end.Stopped = (new.called ≡ old.called) × (new.told ≡ true)
-Marks old new end.Full = new.called ≡ true
-Marks old new end.Failed = new.called ≡ old.called
-Marks old new end.NoMemory = new.called ≡ true
+Marks old new end.Full = (new.called ≡ true) × (new.told ≡ true)
+Marks old new end.Failed = SameMarks old new
+Marks old new end.NoMemory = (new.called ≡ true) × (new.told ≡ true)
 
 -- what a worker that was refused a call comes to: it stops the bus, unless it was told that it was stopped
 abbrev pub Ends : CoreFault → SeatView → SeatView → WorkEnd → Type 0
@@ -87,13 +100,13 @@ end_of (Dropped why.Down) = Some end.Down
 
 -- What becomes of an input that a worker hands in, and of the worker.
 abbrev pub Hands : Input → SeatView → SeatView → Option WorkEnd → Type 0
--- it goes on
-Hands input old new None = (reply : Reply) × Adds old new (Fed input reply ∷ []) × (new.called ≡ old.called)
+-- it goes on, and the input wasn't dropped since the bus was down
+Hands input old new None = (reply : Reply) × Adds old new (Fed input reply ∷ []) × SameMarks old new × (is_down reply ≡ false)
 -- the bus is down, and dropped the input
-Hands input old new (Some end.Down) = Adds old new (Fed input (Dropped why.Down) ∷ []) × (new.called ≡ old.called) × EndsWith new (Fed input (Dropped why.Down))
+Hands input old new (Some end.Down) = Adds old new (Fed input (Dropped why.Down) ∷ []) × SameMarks old new × EndsWith new (Fed input (Dropped why.Down))
 -- it was refused
 Hands input old new (Some end.Stopped) = Adds old new [] × (new.called ≡ old.called) × (new.told ≡ true)
-Hands input old new (Some end.Full) = Stops old new × FoundFull new
+Hands input old new (Some end.Full) = Stops old new × FoundFull (HandIn input) old new
 Hands input old new (Some end.NoMemory) = Stops old new
 Hands input old new (Some end.Over) = ⊥
 Hands input old new (Some end.Failed) = ⊥

@@ -21,10 +21,12 @@ use Rattle.tb_bus.specs.Traces.{replay}
 use Rattle.tb_tools.specs.Finding.{next_out}
 use Rattle.tb_lane.specs.ToolLines.{IsToolLine}
 use Rattle.tb_lane.specs.Sending.{taken_of}
+use Rattle.tb_core.specs.Cores.{HandIn, MakeStep, HandOut}
 use Rattle.tb_lock.specs.Seats.{SeatView}
 use Rattle.tb_run.specs.declared.ends.WorkEnd.{WorkEnd}
 use Rattle.tb_run.specs.declared.ends.WorkEnd.TheVariants as end
-use Rattle.tb_run.specs.Seats.{Adds, Stops, Marks, EndsWith, FoundFull}
+use Rattle.tb_run.specs.Dropping.{AreLetIn}
+use Rattle.tb_run.specs.Seats.{Adds, Stops, Marks, SameMarks, EndsWith, FoundFull}
 
 -- the input that stands for what the inlet of a lane gave
 abbrev pub IsInputFor : ℕ → Given → Input → Type 0
@@ -54,6 +56,20 @@ ends_over end.Full = false
 ends_over end.Failed = false
 ends_over end.NoMemory = false
 
+-- of the entries of a worker none is an input that was dropped since the bus was down, but the last where it ends for that
+abbrev pub LetIn : WorkEnd → List Entry → Type 0
+LetIn end.Over log = AreLetIn log
+LetIn end.Down log = (before : List Entry) × (last : Entry) × (log ≡ before ++ last ∷ []) × AreLetIn before
+LetIn end.Stopped log = AreLetIn log
+LetIn end.Full log = AreLetIn log
+LetIn end.Failed log = AreLetIn log
+LetIn end.NoMemory log = AreLetIn log
+
+-- an inlet that tells that it is over
+abbrev pub was_over : Option InletView → Bool
+was_over None = false
+was_over (Some view) = view.over
+
 -- a reader that goes on: all that was given was handed in
 pub record Reads (lane : ℕ) (old new : SeatView) (gave_old gave_new : Option InletView) : Type 0 where
   pub more : List Entry
@@ -61,17 +77,20 @@ pub record Reads (lane : ℕ) (old new : SeatView) (gave_old gave_new : Option I
   pub fed : List Given
   pub told : gave_new ≡ and_given gave_old fed false
   pub lines : AreLines lane fed (inputs more lane)
-  pub called : new.called ≡ old.called
+  pub none : was_over gave_old ≡ true → fed ≡ []
+  pub let_in : AreLetIn more
+  pub marks : SameMarks old new
 
--- why a reader may end so
-abbrev pub ReaderEnds : ℕ → SeatView → WorkEnd → Type 0
-ReaderEnds lane new end.Over = Unit {0}
+-- why a reader may end so, which may have got something last and not handed it in
+abbrev pub ReaderEnds : ℕ → List Given → SeatView → SeatView → WorkEnd → Type 0
+ReaderEnds lane last old new end.Over = Unit {0}
 -- the last entry is an input of the lane that was dropped since the bus is down
-ReaderEnds lane new end.Down = (it : Input) × (given_on lane it ≡ Some it) × EndsWith new (Fed it (Dropped why.Down))
-ReaderEnds lane new end.Stopped = Unit {0}
-ReaderEnds lane new end.Full = FoundFull new
-ReaderEnds lane new end.Failed = ⊥
-ReaderEnds lane new end.NoMemory = Unit {0}
+ReaderEnds lane last old new end.Down = (it : Input) × (given_on lane it ≡ Some it) × EndsWith new (Fed it (Dropped why.Down))
+ReaderEnds lane last old new end.Stopped = Unit {0}
+-- what it got last is an input that found no room
+ReaderEnds lane last old new end.Full = (it : Given) × (found : Input) × (last ≡ it ∷ []) × IsInputFor lane it found × FoundFull (HandIn found) old new
+ReaderEnds lane last old new end.Failed = ⊥
+ReaderEnds lane last old new end.NoMemory = Unit {0}
 
 -- `read_lane`: the inputs of the lane are what the inlet gave, but for the last item where it was stopped.
 pub record ReadsLane (lane : ℕ) (old new : SeatView) (gave_old gave_new : Option InletView) (it : WorkEnd) : Type 0 where
@@ -82,8 +101,11 @@ pub record ReadsLane (lane : ℕ) (old new : SeatView) (gave_old gave_new : Opti
   pub told : gave_new ≡ and_given gave_old (fed ++ last) (ends_over it)
   pub lines : AreLines lane fed (inputs more lane)
   pub lacks : MayLack it (length last)
+  -- an inlet that was over before gives nothing
+  pub none : was_over gave_old ≡ true → fed ++ last ≡ []
+  pub let_in : LetIn it more
   pub marks : Marks old new it
-  pub ends : ReaderEnds lane new it
+  pub ends : ReaderEnds lane last old new it
 
 -- so often a call failed at most, or the count stands at its last value
 abbrev pub CountsTo : ℕ → ℕ → ℕ → Type 0
@@ -112,21 +134,22 @@ pub record Writes (lane : ℕ) (old new : SeatView) (took_old took_new : Option 
   pub told : took_new ≡ and_taken took_old (map taken_of (sent more lane))
   pub starts : is_cut_off more lane ≡ false
   pub counts : Counts faults_old faults_new (cut_count lane more)
-  pub called : new.called ≡ old.called
+  pub marks : SameMarks old new
 
 -- the bus at the end of what a seat has seen
 abbrev pub bus_of : SeatView → Bus
 bus_of seat = replay (start seat.origin) seat.seen
 
--- why a writer may end so
-abbrev pub WriterEnds : ℕ → SeatView → WorkEnd → Type 0
-WriterEnds lane new end.Over = ⊥
+-- why a writer may end so, whose outlet may have failed to take something last
+abbrev pub WriterEnds : ℕ → List Out → SeatView → SeatView → WorkEnd → Type 0
+WriterEnds lane last old new end.Over = ⊥
 -- the bus is down, and nothing is left to be handed out
-WriterEnds lane new end.Down = (next_out lane (bus_of new).bench ≡ None) × ((bus_of new).down ≡ true)
-WriterEnds lane new end.Stopped = Unit {0}
-WriterEnds lane new end.Full = FoundFull new
-WriterEnds lane new end.Failed = ⊥
-WriterEnds lane new end.NoMemory = Unit {0}
+WriterEnds lane last old new end.Down = (next_out lane (bus_of new).bench ≡ None) × ((bus_of new).down ≡ true)
+WriterEnds lane last old new end.Stopped = Unit {0}
+-- what is to be handed out next found no room, or that the last failed to be taken
+WriterEnds lane last old new end.Full = ((last ≡ []) × FoundFull (HandOut lane) old new) ⊎ ((out : Out) × (last ≡ out ∷ []) × FoundFull (HandIn (input.Cut lane)) old new)
+WriterEnds lane last old new end.Failed = ⊥
+WriterEnds lane last old new end.NoMemory = Unit {0}
 
 -- `write_lane`: the outlet took what was handed out and not cut off, but for the last where it was stopped.
 pub record WritesLane (lane : ℕ) (old new : SeatView) (took_old took_new : Option (List Taken)) (faults_old faults_new : ℕ) (it : WorkEnd) : Type 0 where
@@ -142,7 +165,7 @@ pub record WritesLane (lane : ℕ) (old new : SeatView) (took_old took_new : Opt
   pub rose : (last ≡ []) ⊎ Rose faults_old faults_new
   pub counts : Counts faults_old faults_new (cut_count lane more)
   pub marks : Marks old new it
-  pub ends : WriterEnds lane new it
+  pub ends : WriterEnds lane last old new it
 
 -- ticks alone, whatever became of them
 abbrev pub AreTicks : List Entry → Type 0
@@ -155,26 +178,29 @@ pub record Ticks (old new : SeatView) (told_old told_new : Option ClockView) (fa
   pub more : List Entry
   pub adds : Adds old new more
   pub ticks : AreTicks more
+  pub let_in : AreLetIn more
   pub count : length more ≡ fed
   pub told : told_new ≡ and_ticked told_old fed false
   pub never_falls : faults_old ≤ faults_new
-  pub called : new.called ≡ old.called
+  pub marks : SameMarks old new
 
 -- that no more ticks come, whatever became of it
 abbrev pub IsNoTicks : List Entry → Type 0
 IsNoTicks tail = (reply : Reply) × (tail ≡ Fed input.NoTicks reply ∷ [])
 
--- What stands after the ticks, and why a tick worker may end so; `Enough` says which number of ticks is enough.
-abbrev pub TickerEnds : (ℕ → Type 0) → List Entry → SeatView → ℕ → ℕ → ℕ → Bool → WorkEnd → Type 0
+-- What stands after the ticks, and why a tick worker may end so, which may have got a tick last and not handed it in; `Enough`
+-- says which number of ticks is enough.
+abbrev pub TickerEnds : (ℕ → Type 0) → List Entry → ℕ → SeatView → SeatView → ℕ → ℕ → ℕ → Bool → WorkEnd → Type 0
 -- the clock has ended, or there were as many as there may be
-TickerEnds Enough tail new count faults_old faults_new ended end.Over = IsNoTicks tail × ((ended ≡ true) ⊎ Enough count)
+TickerEnds Enough tail last old new count faults_old faults_new ended end.Over = IsNoTicks tail × ((ended ≡ true) ⊎ Enough count)
 -- the clock failed
-TickerEnds Enough tail new count faults_old faults_new ended end.Failed = IsNoTicks tail × Rose faults_old faults_new
+TickerEnds Enough tail last old new count faults_old faults_new ended end.Failed = IsNoTicks tail × Rose faults_old faults_new
 -- the last entry is a tick that was dropped since the bus is down
-TickerEnds Enough tail new count faults_old faults_new ended end.Down = (tail ≡ []) × EndsWith new (Fed input.Tick (Dropped why.Down))
-TickerEnds Enough tail new count faults_old faults_new ended end.Full = (tail ≡ []) × FoundFull new
-TickerEnds Enough tail new count faults_old faults_new ended end.Stopped = tail ≡ []
-TickerEnds Enough tail new count faults_old faults_new ended end.NoMemory = tail ≡ []
+TickerEnds Enough tail last old new count faults_old faults_new ended end.Down = (tail ≡ []) × EndsWith new (Fed input.Tick (Dropped why.Down))
+-- a tick found no room, or the word that no more come
+TickerEnds Enough tail last old new count faults_old faults_new ended end.Full = (tail ≡ []) × (((last ≡ 1) × FoundFull (HandIn input.Tick) old new) ⊎ ((last ≡ 0) × FoundFull (HandIn input.NoTicks) old new))
+TickerEnds Enough tail last old new count faults_old faults_new ended end.Stopped = tail ≡ []
+TickerEnds Enough tail last old new count faults_old faults_new ended end.NoMemory = tail ≡ []
 
 -- `tick_worker`: the ticks are those that the clock gave, but for the last where it was stopped; then perhaps that no more come.
 pub record TicksBus (Enough : ℕ → Type 0) (most : ℕ) (old new : SeatView) (told_old told_new : Option ClockView) (faults_old faults_new : ℕ) (it : WorkEnd) : Type 0 where
@@ -182,36 +208,39 @@ pub record TicksBus (Enough : ℕ → Type 0) (most : ℕ) (old new : SeatView) 
   pub tail : List Entry
   pub adds : Adds old new (first ++ tail)
   pub ticks : AreTicks first
+  pub let_in : LetIn it first
   pub last : ℕ
   pub ended : Bool
   pub told : told_new ≡ and_ticked told_old (length first + last) ended
   pub within : length first + last ≤ most
   pub lacks : MayLack it last
+  -- where the clock has ended, all that it gave was handed in
+  pub whole : ended ≡ true → last ≡ 0
   pub marks : Marks old new it
   pub never_falls : faults_old ≤ faults_new
-  pub ends : TickerEnds Enough tail new (length first) faults_old faults_new ended it
+  pub ends : TickerEnds Enough tail last old new (length first) faults_old faults_new ended it
 
 -- why a step worker may end so
-abbrev pub StepperEnds : SeatView → WorkEnd → Type 0
-StepperEnds new end.Over = ⊥
-StepperEnds new end.Down = (bus_of new).down ≡ true
-StepperEnds new end.Stopped = Unit {0}
-StepperEnds new end.Full = FoundFull new
-StepperEnds new end.Failed = ⊥
-StepperEnds new end.NoMemory = Unit {0}
+abbrev pub StepperEnds : SeatView → SeatView → WorkEnd → Type 0
+StepperEnds old new end.Over = ⊥
+StepperEnds old new end.Down = (bus_of new).down ≡ true
+StepperEnds old new end.Stopped = Unit {0}
+StepperEnds old new end.Full = FoundFull MakeStep old new
+StepperEnds old new end.Failed = ⊥
+StepperEnds old new end.NoMemory = Unit {0}
 
 -- a step worker that goes on
 pub record Steps (old new : SeatView) : Type 0 where
   pub more : List Entry
   pub adds : Adds old new more
-  pub called : new.called ≡ old.called
+  pub marks : SameMarks old new
 
 -- `step_worker`
 pub record StepsBus (old new : SeatView) (it : WorkEnd) : Type 0 where
   pub more : List Entry
   pub adds : Adds old new more
   pub marks : Marks old new it
-  pub ends : StepperEnds new it
+  pub ends : StepperEnds old new it
 
 -- a writer goes on where the bus is down
 abbrev pub going_on : Option WorkEnd → Option WorkEnd
@@ -225,9 +254,9 @@ going_on (Some end.NoMemory) = Some end.NoMemory
 
 -- what becomes of an item that was handed out and failed to be put
 abbrev pub CutsOff : ℕ → SeatView → SeatView → Option WorkEnd → Type 0
-CutsOff lane old new None = (reply : Reply) × Adds old new (Fed (input.Cut lane) reply ∷ []) × (new.called ≡ old.called)
+CutsOff lane old new None = (reply : Reply) × Adds old new (Fed (input.Cut lane) reply ∷ []) × SameMarks old new
 CutsOff lane old new (Some end.Stopped) = Adds old new [] × (new.called ≡ old.called) × (new.told ≡ true)
-CutsOff lane old new (Some end.Full) = Stops old new × FoundFull new
+CutsOff lane old new (Some end.Full) = Stops old new × FoundFull (HandIn (input.Cut lane)) old new
 CutsOff lane old new (Some end.NoMemory) = Stops old new
 CutsOff lane old new (Some end.Over) = ⊥
 CutsOff lane old new (Some end.Down) = ⊥

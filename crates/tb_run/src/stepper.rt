@@ -9,10 +9,9 @@ use tb_algebra::Walker;
 use tb_bells::{Bells, Sleeper};
 use tb_core::Stepped;
 use tb_lock::{Seat, Shared, calls_add_their_own};
-use tb_tools::LaneState;
 
-/// How many steps are made before the others are told.
-const BURST: u32 = 64;
+/// How many steps but one are made in a turn before the others are told.
+const BURST: u32 = 15;
 
 /// Makes steps until the bus is down. Where there is none it waits until something comes.
 pub fn step_worker<W: Walker, R: Wait>(
@@ -35,7 +34,7 @@ pub fn step_worker<W: Walker, R: Wait>(
     unreachable!()
 }
 
-/// Makes some steps, and waits where there is none; says why the worker ends, where it does.
+/// Makes some steps, and waits where there is no further one; says why the worker ends, where it does.
 fn step_some<W: Walker, R: Wait>(
     rt: &R,
     shared: &Shared<W>,
@@ -47,38 +46,15 @@ fn step_some<W: Walker, R: Wait>(
     requires right { has seat.old.rights ToStep ≡ true }
     ensures { MatchOption result (Steps seat.old seat.new) (StepsBus seat.old seat.new) }
 {
-    let mut none = false;
-    for done in 0..BURST {
-        match step_one(rt, shared, bells, seat, &mut none) {
-            Some(end) => return Some(end),
-            None => {}
-        }
-        if none {
-            rest(rt, shared, bells, seat, done, heard);
-            return None;
-        }
-    }
-    tell_lanes(rt, shared, bells, seat);
-    None
-}
-
-/// Makes a step, and notes where there is none; says why the worker ends, where it does.
-fn step_one<W: Walker, R: Wait>(
-    rt: &R,
-    shared: &Shared<W>,
-    bells: &Bells,
-    seat: &mut Seat,
-    none: &mut bool,
-) -> Option<WorkEnd>
-    requires own { seat.old.bus ≡ shared.now }
-    requires right { has seat.old.rights ToStep ≡ true }
-    ensures { MatchOption result (Steps seat.old seat.new) (StepsBus seat.old seat.new) }
-{
     calls_add_their_own();
-    match shared.step(rt, seat) {
-        Ok(Stepped::Did) => None,
+    match shared.steps(rt, seat, BURST) {
+        Ok(Stepped::Did) => {
+            tell(shared, bells);
+            None
+        }
         Ok(Stepped::Quiet) => {
-            *none = true;
+            tell(shared, bells);
+            *heard = bells.wait_past(rt, Sleeper::Stepper, *heard);
             None
         }
         Ok(Stepped::Down) => {
@@ -89,47 +65,12 @@ fn step_one<W: Walker, R: Wait>(
     }
 }
 
-/// Tells the others what there is, and then waits until this worker is told that something came: what came since it was told
-/// last isn't slept past.
-fn rest<W: Walker, R: Wait>(
-    rt: &R,
-    shared: &Shared<W>,
-    bells: &Bells,
-    seat: &mut Seat,
-    done: u32,
-    heard: &mut u64,
-)
-    requires own { seat.old.bus ≡ shared.now }
-    ensures { Steps seat.old seat.new }
-{
-    tell(rt, shared, bells, seat, done);
-    *heard = bells.wait_past(rt, Sleeper::Stepper, *heard);
-}
-
-/// Where steps were made, tells who may have something to do; else only who writes the log, since quiet may have been said.
-fn tell<W: Walker, R: Wait>(rt: &R, shared: &Shared<W>, bells: &Bells, seat: &mut Seat, done: u32)
-    requires own { seat.old.bus ≡ shared.now }
-    ensures { Steps seat.old seat.new }
-{
-    if done > 0 {
-        tell_lanes(rt, shared, bells, seat);
-    } else {
-        bells.ring(Sleeper::Log);
-    }
-}
-
-/// Wakes who may have something to do after steps: who writes the log, and the writers of the lanes that aren't free. Nothing is
-/// to be handed out on a free lane.
-fn tell_lanes<W: Walker, R: Wait>(rt: &R, shared: &Shared<W>, bells: &Bells, seat: &mut Seat)
-    requires own { seat.old.bus ≡ shared.now }
-    ensures { Steps seat.old seat.new }
-{
-    calls_add_their_own();
+/// Wakes who may have something to do after steps: who writes the log, and the writers of the lanes on which there is something
+/// for them.
+fn tell<W: Walker>(shared: &Shared<W>, bells: &Bells) {
     bells.ring(Sleeper::Log);
-    let mut lane: u8 = 0;
-    for state in &shared.lane_states(rt, seat) {
-        lane = lane.wrapping_add(1);
-        if *state != LaneState::Free {
+    for lane in 1..=16u8 {
+        if shared.calls_for(lane) {
             bells.ring(Sleeper::Writer(lane));
         }
     }

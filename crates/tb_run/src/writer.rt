@@ -57,7 +57,8 @@ fn write_all<W: Walker, R: Wait, O: Outlet>(
 {
     let mut heard = 0;
     for _ in rt.forever() {
-        match write_one(rt, shared, bells, seat, outlet, buffer, lane, &mut heard) {
+        wait_for_call(rt, shared, bells, lane, &mut heard);
+        match write_one(rt, shared, bells, seat, outlet, buffer, lane) {
             Some(end) => return end,
             None => {}
         }
@@ -65,8 +66,23 @@ fn write_all<W: Walker, R: Wait, O: Outlet>(
     unreachable!()
 }
 
-/// Puts what is to be handed out next, or waits where nothing is; says why the worker ends, where it
-/// does.
+/// Sleeps while there is nothing for the writer of a lane: it is told how often was rung for it before it looks.
+fn wait_for_call<W: Walker, R: Wait>(
+    rt: &R,
+    shared: &Shared<W>,
+    bells: &Bells,
+    lane: u8,
+    heard: &mut u64,
+) {
+    for _ in rt.forever() {
+        if shared.calls_for(lane) {
+            return;
+        }
+        *heard = bells.wait_past(rt, Sleeper::Writer(lane), *heard);
+    }
+}
+
+/// Puts what is to be handed out next, where anything is; says why the worker ends, where it does.
 fn write_one<W: Walker, R: Wait, O: Outlet>(
     rt: &R,
     shared: &Shared<W>,
@@ -75,7 +91,6 @@ fn write_one<W: Walker, R: Wait, O: Outlet>(
     outlet: &mut O,
     buffer: &mut Vec<u8>,
     lane: u8,
-    heard: &mut u64,
 ) -> Option<WorkEnd>
     requires own { seat.old.bus ≡ shared.now }
     requires lane { IsLane lane }
@@ -91,11 +106,7 @@ fn write_one<W: Walker, R: Wait, O: Outlet>(
             tell(bells, &out);
             put(rt, shared, bells, seat, outlet, &out, buffer, lane)
         }
-        Ok(TakeOut::Nothing) => {
-            bells.ring(Sleeper::Log);
-            *heard = bells.wait_past(rt, Sleeper::Writer(lane), *heard);
-            None
-        }
+        Ok(TakeOut::Nothing) => None,
         Ok(TakeOut::Closed) => Some(WorkEnd::Down),
         Err(fault) => Some(refused(rt, shared, bells, seat, fault)),
     }

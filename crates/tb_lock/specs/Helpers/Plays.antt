@@ -1,5 +1,5 @@
 -- What each kind of atomic step tells the seat that makes it, and what the parts of a turn leave behind.
-use Rattle.std.specs.Prelude.{◌≡◌, ◌≢◌, ℕ, ◌%◌, ◌^◌, ◌<◌, List, [], ◌∷◌, ◌++◌, length, Bool, true, false, ◌||◌, Option, Some, None, IfSome, Result, IfOk, OnErr, IsErrOf, IsTrue, ◌↔◌}
+use Rattle.std.specs.Prelude.{◌≡◌, ◌≢◌, ℕ, zero, suc, ◌⊎◌, Ok, ◌%◌, ◌^◌, ◌<◌, List, [], ◌∷◌, ◌++◌, length, Bool, true, false, ◌||◌, Option, Some, None, IfSome, Result, IfOk, OnErr, IsErrOf, IsTrue, ◌↔◌}
 use Rattle.atomic_table.specs.Table.{Me}
 use Rattle.atomic_table.specs.Seated.{TableId}
 use Rattle.tb_log.specs.declared.entry.Entry.{Entry}
@@ -7,7 +7,9 @@ use Rattle.tb_bus.specs.Buses.{start}
 use Rattle.tb_bus.specs.Traces.{IsTrace, replay}
 use Rattle.tb_core.specs.declared.answers.CoreFault.{CoreFault}
 use Rattle.tb_core.specs.declared.answers.CoreFault.TheVariants as fault
-use Rattle.tb_core.specs.Cores.{CoreState, Call, entries_of, is_full, Logs, Stays}
+use Rattle.tb_core.specs.declared.answers.Stepped.{Stepped}
+use Rattle.tb_core.specs.declared.answers.Stepped.TheVariants as stepped
+use Rattle.tb_core.specs.Cores.{CoreState, Call, MakeStep, IsStep, entries_of, is_full, Logs, Stays}
 use Rattle.tb_lock.specs.declared.rights.Rights.{Rights}
 use Rattle.tb_lock.specs.Rights.{own, all_rights}
 use Rattle.tb_lock.specs.Histories.{Grows, IsSparse, indexed}
@@ -89,6 +91,11 @@ pub record Answers {A : Type 0} (Finds : CoreState → A → Type 0) (call : Cal
   pub full : IsErrOf result fault.Full → is_full old call ≡ true
   pub room : IfOk result (λ _. is_full old call ≡ false)
   pub stays : OnErr result (Stays old new)
+
+-- Steps of the core in hand, so many and one more at most, each but the last answered that it did one.
+unfoldable pub StepsInRow : ℕ → CoreState → CoreState → Result Stepped CoreFault → Type 0
+StepsInRow zero old new result = Answers IsStep MakeStep old new result
+StepsInRow (suc more) old new result = Answers IsStep MakeStep old new result ⊎ ((mid : CoreState) × Answers IsStep MakeStep old mid (Ok stepped.Did) × StepsInRow more mid new result)
 
 -- A seat whose turn is open may note these entries, which the core in hand has logged since it was taken.
 pub record Adds (seat : SeatView) (core : CoreState) (entries : List Entry) : Type 0 where

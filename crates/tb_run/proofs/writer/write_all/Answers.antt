@@ -4,7 +4,7 @@ use Rattle.tb_run.proofs.WriteLemmas.{writes_none, writes_on, writes_end}
 use Rattle.tb_run.proofs.writer.write_all.Goals as goal
 
 pub loop-init : goal.loop-init
-loop-init g c = (writes_none c.args.lane c.args.seat.now c.args.seat.now (g.O.Outlet.told c.args.outlet.now) (g.O.Outlet.faults c.args.outlet.now) (adds_none c.args.seat.now) refl, c.requires.room)
+loop-init g c = (writes_none c.args.lane c.args.seat.now c.args.seat.now (g.O.Outlet.told c.args.outlet.now) (g.O.Outlet.faults c.args.outlet.now) (adds_none c.args.seat.now) (refl, refl), c.requires.room)
 
 pub loop-preserved : goal.loop-preserved
 loop-preserved g c = (

@@ -1,0 +1,74 @@
+//! For whom there is something on a lane, as the last turn left the core. It is a hint, and no clause speaks of it.
+ghost use Rattle.tb_lock.specs.Calls.{AreOuts};
+
+use std::sync::atomic::{AtomicU32, Ordering};
+use tb_algebra::Walker;
+use tb_core::Core;
+
+/// A bit for each lane, from 1 to 16.
+#[derive(Drop)]
+pub(crate) struct Notices {
+    lanes: AtomicU32,
+}
+
+impl Notices {
+    pub(crate) fn of<W: Walker>(core: &Core<W>) -> Notices {
+        Notices {
+            lanes: AtomicU32::new(lanes_of(core)),
+        }
+    }
+
+    /// Says what a turn leaves, before it is passed on.
+    pub(crate) fn put<W: Walker>(&self, core: &Core<W>) {
+        self.lanes.store(lanes_of(core), Ordering::SeqCst);
+    }
+
+    pub(crate) fn has(&self, lane: u8) -> bool {
+        self.lanes.load(Ordering::SeqCst) & bit_of(lane) != 0
+    }
+}
+
+fn bit_of(lane: u8) -> u32 {
+    1u32.wrapping_shl(u32::from(lane))
+}
+
+/// The lanes on which a call to take out is not answered that there is nothing: where the core was stopped, or its bus is
+/// down, all of them.
+fn lanes_of<W: Walker>(core: &Core<W>) -> u32 {
+    if core.is_stopped() || core.is_down() {
+        return u32::MAX;
+    }
+    let mut lanes = 0;
+    let mut lane: u8 = 0;
+    for has in &outs_of(core) {
+        lane = lane.wrapping_add(1);
+        if *has {
+            lanes |= bit_of(lane);
+        }
+    }
+    lanes
+}
+
+/// On which lanes something is to be handed out, in order.
+fn outs_of<W: Walker>(core: &Core<W>) -> [bool; 16]
+    ensures { AreOuts core.now result }
+{
+    [
+        core.has_out(1),
+        core.has_out(2),
+        core.has_out(3),
+        core.has_out(4),
+        core.has_out(5),
+        core.has_out(6),
+        core.has_out(7),
+        core.has_out(8),
+        core.has_out(9),
+        core.has_out(10),
+        core.has_out(11),
+        core.has_out(12),
+        core.has_out(13),
+        core.has_out(14),
+        core.has_out(15),
+        core.has_out(16),
+    ]
+}
