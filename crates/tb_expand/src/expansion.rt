@@ -1,5 +1,6 @@
 ghost use Rattle.std.specs.Prelude.{◌≡◌, ◌<◌, Some, Contains, true, false, length, slice_get, IfOk, IfErr, OnOk};
 ghost use Rattle.std.proofs.Props.{props};
+ghost use Rattle.tb_body.specs.declared.body.Body.{Body};
 ghost use Rattle.tb_syntax.specs.declared.script.ProcDef.{ProcDef};
 ghost use Rattle.tb_types.specs.Conditions.{Proper};
 ghost use Rattle.tb_expand.specs.Expansion.{expansion_of, is_too_large};
@@ -26,31 +27,30 @@ const MOST_ATOMS: usize = 20_000;
 /// The expansions of a script's processes, each of which is built when it is asked for. How large they
 /// are is known beforehand, so none is begun that is too large.
 #[derive(Drop)]
-pub struct Expansions<'a> {
-    pub script: &'a Script,
-    names: Names<'a>,
+pub struct Expansions<'n, 's> {
+    pub script: &'s Script,
+    names: &'n Names<'s>,
     sizes: Items<Size>,
-    ghost same: { names.script.now ≡ script.now } by { Prim.hlevel props },
+    ghost same: { names.now.script.now ≡ script.now } by { Prim.hlevel props },
     ghost proper: { Proper script.now } by { Prim.hlevel props },
     ghost no_cycle: { HasNoCycle script.now } by { Prim.hlevel props },
     ghost whole: { AllWhole script.now } by { Prim.hlevel props },
     ghost sized: { AreSizes script.now sizes } by { Prim.hlevel props },
 }
 
-impl<'a> Expansions<'a> {
-    /// The expansions of a proper script, where no calls form a cycle. None is built yet.
+impl<'n, 's> Expansions<'n, 's> {
+    /// The expansions of a proper script, whose names these are, where no calls form a cycle. None is built yet.
     #[tactic(auto, using(crate::proofs::ProperCalls::names_differ))]
-    pub fn of(alloc: Global, script: &'a Script) -> Result<Expansions<'a>, ExpandFault>
-        requires { Proper script.now }
-        ensures script { IfOk result (λ expansions. expansions.script.now ≡ script.now) }
-        ensures no_cycle { OnOk result (HasNoCycle script.now) }
-        ensures fault { IfErr result (IsCallFault script.now) }
+    pub fn of(alloc: Global, names: &'n Names<'s>) -> Result<Expansions<'n, 's>, ExpandFault>
+        requires { Proper names.now.script.now }
+        ensures script { IfOk result (λ expansions. expansions.script.now ≡ names.now.script.now) }
+        ensures no_cycle { OnOk result (HasNoCycle names.now.script.now) }
+        ensures fault { IfErr result (IsCallFault names.now.script.now) }
     {
-        let names = Names::of(alloc, script)?;
-        let order = order_of(alloc, &names)?;
-        let sizes = sizes_of(alloc, &names, order.as_slice())?;
+        let order = order_of(alloc, names)?;
+        let sizes = sizes_of(alloc, names, order.as_slice())?;
         Ok(Expansions {
-            script,
+            script: names.script,
             names,
             sizes,
         })
@@ -66,7 +66,21 @@ impl<'a> Expansions<'a> {
         if self.is_too_large(position, def) {
             return Err(ExpandFault::TooLarge(def.name.copy(alloc)?));
         }
-        Ok(built(alloc, &self.names, def)?)
+        Ok(built(alloc, self.names, def)?)
+    }
+
+    /// Whether there is a body of the process at this position among the definitions; what `body` answers, but nothing
+    /// is built.
+    pub fn check_body(&self, alloc: Global, position: usize) -> Result<(), ExpandFault>
+        requires { position < length self.now.script.now.procs }
+        ensures body { (d : ProcDef) → slice_get self.now.script.now.procs position ≡ Some d → OnOk result ((body : Body) × IsBodyOf self.now.script.now d body) }
+        ensures fault { (d : ProcDef) → slice_get self.now.script.now.procs position ≡ Some d → IfErr result (IsBodyFault self.now.script.now d) }
+    {
+        let def = &self.script.procs.as_slice()[position];
+        if self.is_too_large(position, def) {
+            return Err(ExpandFault::TooLarge(def.name.copy(alloc)?));
+        }
+        Ok(())
     }
 
     /// Whether the expansion of the process at this position passes a limit.
@@ -111,6 +125,7 @@ pub fn expand(alloc: Global, s: &Script, root: usize) -> Result<Body, ExpandFaul
     ensures body { (d : ProcDef) → slice_get s.now.procs root ≡ Some d → IfOk result (IsBodyOf s.now d) }
     ensures fault { (d : ProcDef) → slice_get s.now.procs root ≡ Some d → IfErr result (HasFault s.now d) }
 {
-    let expansions = Expansions::of(alloc, s)?;
+    let names = Names::of(alloc, s)?;
+    let expansions = Expansions::of(alloc, &names)?;
     Ok(expansions.body(alloc, root)?)
 }

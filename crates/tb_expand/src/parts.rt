@@ -2,6 +2,7 @@ ghost use Rattle.std.specs.Prelude.{◌≡◌, ◌+◌, IfOk, length, option_map
 ghost use Rattle.std.specs.Option.{option_copied};
 ghost use Rattle.tb_body.specs.declared.tree.Tree.{Tree};
 ghost use Rattle.tb_types.specs.Names.{process_named};
+ghost use Rattle.tb_expand.specs.Scopes.{of_blocks};
 ghost use Rattle.tb_expand.specs.Expansion.{atom_only, expands, expands_with, both, block_of, call_of, test_of};
 ghost use Rattle.tb_expand.specs.Helpers.Building.{Adds, with_part};
 
@@ -181,9 +182,19 @@ pub(crate) fn body_part(
     if depth == 0 {
         return Ok(Tree::At(0));
     }
-    let mut blocks = Items::new(alloc);
-    blocks.push(block)?;
+    let mut blocks = opened(alloc, block)?;
     Ok(part_of(alloc, names, depth - 1, &mut blocks, built, body)?)
+}
+
+/// What is open where a block alone is seen; one with no variables takes no memory.
+fn opened(alloc: Global, block: Block) -> Result<Blocks, NoMemory>
+    ensures { IfOk result (λ blocks. of_blocks blocks ≡ block) }
+{
+    let mut blocks = Items::new(alloc);
+    if !block.is_empty() {
+        blocks.push(block)?;
+    }
+    Ok(blocks)
 }
 
 /// The definition of the process of this name.

@@ -1,5 +1,5 @@
 -- Where a token's text is the longest: what follows it doesn't go on with it.
-use Rattle.std.proofs.Common.{◌≡◌, ℕ, suc, ◌+◌, ◌≤◌, Bool, true, false, cond, eqb, List, [], ◌∷◌, ◌++◌, length, Some, refl, ap, sym, ◌∙◌, subst, inl, inr, arith, append_assoc}
+use Rattle.std.proofs.Common.{◌≡◌, ℕ, ◌+◌, Bool, true, false, cond, eqb, List, [], ◌∷◌, ◌++◌, length, Some, refl, ap, sym, ◌∙◌, subst, inl}
 use Rattle.std.specs.List.{prefix_len}
 use Rattle.tb_terms.specs.Names.{is_digit, is_name, is_ident, is_name_byte}
 use Rattle.tb_read.specs.Positions.{HasPoint}

@@ -16,7 +16,7 @@ use tb_terms::Items;
 const MOST_TOKENS: usize = 200_000;
 
 /// The tokens of a script's text, of which there are at most 200,000.
-pub fn lex(alloc: Global, bytes: &[u8]) -> Result<Tokens, LexFault>
+pub fn lex(alloc: Global, bytes: &[u8]) -> Result<Tokens<'_>, LexFault>
     ensures found { IfOk result (λ tokens. Lexes bytes.now tokens × (length tokens ≤ most_tokens)) }
 
     // Nothing else keeps a text from being cut into its tokens.
@@ -31,7 +31,7 @@ pub fn lex(alloc: Global, bytes: &[u8]) -> Result<Tokens, LexFault>
     scan(alloc, bytes)
 }
 
-fn scan(alloc: Global, bytes: &[u8]) -> Result<Tokens, LexFault>
+fn scan(alloc: Global, bytes: &[u8]) -> Result<Tokens<'_>, LexFault>
     ensures { HasScanned bytes.now result }
 {
     let mut tokens = Items::new(alloc);
@@ -53,7 +53,7 @@ fn next(
     count: usize,
     total: usize,
     bytes: &[u8],
-) -> Result<Option<(Token, &[u8])>, LexFault>
+) -> Result<Option<(Token<'_>, &[u8])>, LexFault>
     requires { length bytes.now ≤ total }
     ensures next { IsNext count total bytes.now result }
     ensures shorter { IfOk result (λ found. IfSome found (λ x. length x.1.now < length bytes.now)) }

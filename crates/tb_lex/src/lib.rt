@@ -12,6 +12,7 @@ mod piece;
 mod quote;
 mod symbol;
 mod token;
+mod word;
 
 pub use fault::LexFault;
 pub use kind::TokenKind;
@@ -21,3 +22,4 @@ pub use laws::{
 pub use lexer::lex;
 pub use symbol::Symbol;
 pub use token::{Token, Tokens};
+pub use word::{LowerWord, UpperWord};

@@ -7,7 +7,7 @@ use crate::{LexFault, TokenKind};
 use tb_read::{digits_len, digits_value, is_real, number_of};
 
 /// The number with whose sign or first digit the bytes begin, and the bytes behind it.
-pub(crate) fn number_at(total: usize, bytes: &[u8]) -> Result<(TokenKind, &[u8]), LexFault>
+pub(crate) fn number_at(total: usize, bytes: &[u8]) -> Result<(TokenKind<'_>, &[u8]), LexFault>
     requires { length bytes.now ≤ total }
     ensures number { Gives (λ x. (x.0, x.1.now)) result (number_at total bytes.now) }
     ensures shorter { IfOk result (λ x. length x.1.now < length bytes.now) }
@@ -39,7 +39,7 @@ fn number_from<'a>(
     negative: bool,
     digits: &[u8],
     rest: &'a [u8],
-) -> Result<(TokenKind, &'a [u8]), LexFault>
+) -> Result<(TokenKind<'a>, &'a [u8]), LexFault>
     ensures number { Gives (λ x. (x.0, x.1.now)) result (number_from from negative digits.now rest.now) }
     ensures some { IfOk result (λ x. (x.1.now ≡ rest.now) × (0 < length digits.now)) }
 {

@@ -1,4 +1,4 @@
-ghost use Rattle.std.specs.Prelude.{◌≡◌, ◌≤◌, ◌<◌, length, drop, IsTrue, IfOk};
+ghost use Rattle.std.specs.Prelude.{◌≡◌, ◌≤◌, ◌<◌, length, drop, IsTrue, IfOk, Ok};
 ghost use Rattle.std.specs.List.{prefix_len};
 ghost use Rattle.tb_terms.specs.Names.{is_name_byte};
 ghost use Rattle.tb_lex.specs.Helpers.Scanning.{has_head, lower_at, upper_at, symbol_at, piece_at};
@@ -8,10 +8,9 @@ use crate::head::Head;
 use crate::numeral::number_at;
 use crate::quote::string_at;
 use crate::symbol::{symbol_len, symbol_of};
-use crate::{LexFault, TokenKind};
+use crate::{LexFault, LowerWord, TokenKind, UpperWord};
 use std::alloc::Global;
 use tb_read::is_name_byte;
-use tb_terms::{Ident, Name};
 
 /// What the token is with which the bytes begin, and the bytes behind it. The first byte tells the head.
 pub(crate) fn piece_at(
@@ -19,15 +18,15 @@ pub(crate) fn piece_at(
     head: Head,
     total: usize,
     bytes: &[u8],
-) -> Result<(TokenKind, &[u8]), LexFault>
+) -> Result<(TokenKind<'_>, &[u8]), LexFault>
     requires head { IsTrue (has_head head bytes.now) }
     requires within { length bytes.now ≤ total }
     ensures piece { Gives (λ x. (x.0, x.1.now)) result (piece_at head total bytes.now) }
     ensures shorter { IfOk result (λ x. length x.1.now < length bytes.now) }
 {
     match head {
-        Head::Lower => lower_at(alloc, bytes),
-        Head::Upper => upper_at(alloc, bytes),
+        Head::Lower => Ok(lower_at(bytes)),
+        Head::Upper => Ok(upper_at(bytes)),
         Head::Quote => string_at(alloc, total, bytes),
         Head::Numeral => number_at(total, bytes),
         Head::Other => symbol_at(total, bytes),
@@ -35,23 +34,23 @@ pub(crate) fn piece_at(
 }
 
 /// The lower name with whose first letter the bytes begin, and the bytes behind it.
-fn lower_at(alloc: Global, bytes: &[u8]) -> Result<(TokenKind, &[u8]), LexFault>
+fn lower_at(bytes: &[u8]) -> (TokenKind<'_>, &[u8])
     requires { IsTrue (has_head Head.Lower bytes.now) }
-    ensures name { Gives (λ x. (x.0, x.1.now)) result (lower_at bytes.now) }
-    ensures shorter { IfOk result (λ x. length x.1.now < length bytes.now) }
+    ensures name { lower_at bytes.now ≡ Ok (result.0, result.1.now) }
+    ensures shorter { length result.1.now < length bytes.now }
 {
     let (name, rest) = bytes.split_at(name_len(bytes));
-    Ok((TokenKind::Lower(Name::new(alloc, name)?), rest))
+    (TokenKind::Lower(LowerWord::new(name)), rest)
 }
 
 /// The upper name with whose first letter the bytes begin, and the bytes behind it.
-fn upper_at(alloc: Global, bytes: &[u8]) -> Result<(TokenKind, &[u8]), LexFault>
+fn upper_at(bytes: &[u8]) -> (TokenKind<'_>, &[u8])
     requires { IsTrue (has_head Head.Upper bytes.now) }
-    ensures name { Gives (λ x. (x.0, x.1.now)) result (upper_at bytes.now) }
-    ensures shorter { IfOk result (λ x. length x.1.now < length bytes.now) }
+    ensures name { upper_at bytes.now ≡ Ok (result.0, result.1.now) }
+    ensures shorter { length result.1.now < length bytes.now }
 {
     let (name, rest) = bytes.split_at(name_len(bytes));
-    Ok((TokenKind::Upper(Ident::new(alloc, name)?), rest))
+    (TokenKind::Upper(UpperWord::new(name)), rest)
 }
 
 /// How many bytes come first that may stand in a name.
@@ -68,7 +67,7 @@ fn name_len(bytes: &[u8]) -> usize
 }
 
 /// The symbol with which the bytes begin, and the bytes behind it.
-fn symbol_at(total: usize, bytes: &[u8]) -> Result<(TokenKind, &[u8]), LexFault>
+fn symbol_at(total: usize, bytes: &[u8]) -> Result<(TokenKind<'_>, &[u8]), LexFault>
     requires { length bytes.now ≤ total }
     ensures symbol { Gives (λ x. (x.0, x.1.now)) result (symbol_at total bytes.now) }
     ensures shorter { IfOk result (λ x. length x.1.now < length bytes.now) }

@@ -13,7 +13,7 @@ pub(crate) fn string_at(
     alloc: Global,
     total: usize,
     bytes: &[u8],
-) -> Result<(TokenKind, &[u8]), LexFault>
+) -> Result<(TokenKind<'_>, &[u8]), LexFault>
     requires { length bytes.now ≤ total }
     ensures string { Gives (λ x. (x.0, x.1.now)) result (string_at total bytes.now) }
     ensures shorter { IfOk result (λ x. length x.1.now < length bytes.now) }

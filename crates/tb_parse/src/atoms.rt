@@ -15,7 +15,7 @@ use tb_terms::{Ident, Items};
 #[tactic(auto, unfolding(crate::specs::Helpers::Parsing::call_of))]
 pub(crate) fn call_of(
     alloc: Global,
-    reader: &mut Reader<'_>,
+    reader: &mut Reader<'_, '_>,
     room: usize,
     name: Ident,
     token: usize,
@@ -31,7 +31,11 @@ pub(crate) fn call_of(
 }
 
 #[tactic(auto, unfolding(crate::specs::Helpers::Parsing::call))]
-pub(crate) fn call(alloc: Global, reader: &mut Reader<'_>, room: usize) -> Result<Call, ParseFault>
+pub(crate) fn call(
+    alloc: Global,
+    reader: &mut Reader<'_, '_>,
+    room: usize,
+) -> Result<Call, ParseFault>
     ensures { Meets (runs (call room) reader.old) result reader.new }
 {
     let token = reader.position();
@@ -42,7 +46,7 @@ pub(crate) fn call(alloc: Global, reader: &mut Reader<'_>, room: usize) -> Resul
 /// Calls with a comma between each two.
 pub(crate) fn calls(
     alloc: Global,
-    reader: &mut Reader<'_>,
+    reader: &mut Reader<'_, '_>,
     room: usize,
 ) -> Result<Calls, ParseFault>
     ensures { Meets (runs (parted (call room) room) reader.old) result reader.new }
@@ -61,7 +65,7 @@ pub(crate) fn calls(
 #[tactic(auto, unfolding(crate::specs::Helpers::Parsing::create))]
 pub(crate) fn create(
     alloc: Global,
-    reader: &mut Reader<'_>,
+    reader: &mut Reader<'_, '_>,
     room: usize,
 ) -> Result<ActDef, ParseFault>
     ensures { Meets (runs (create room) reader.old) result reader.new }
@@ -75,7 +79,7 @@ pub(crate) fn create(
 }
 
 #[tactic(auto, unfolding(crate::specs::Helpers::Parsing::time))]
-fn time(alloc: Global, reader: &mut Reader<'_>, room: usize) -> Result<TimeDef, ParseFault>
+fn time(alloc: Global, reader: &mut Reader<'_, '_>, room: usize) -> Result<TimeDef, ParseFault>
     ensures { Meets (runs (time room) reader.old) result reader.new }
 {
     let token = reader.position();
@@ -89,7 +93,7 @@ fn time(alloc: Global, reader: &mut Reader<'_>, room: usize) -> Result<TimeDef, 
 /// The times that stand behind an atom.
 pub(crate) fn times(
     alloc: Global,
-    reader: &mut Reader<'_>,
+    reader: &mut Reader<'_, '_>,
     room: usize,
 ) -> Result<TimeDefs, ParseFault>
     ensures { Meets (runs (times room room) reader.old) result reader.new }
@@ -106,7 +110,11 @@ pub(crate) fn times(
 
 /// A variable with its sort.
 #[tactic(auto, unfolding(crate::specs::Helpers::Parsing::var))]
-pub(crate) fn var(alloc: Global, reader: &mut Reader<'_>, room: usize) -> Result<Var, ParseFault>
+pub(crate) fn var(
+    alloc: Global,
+    reader: &mut Reader<'_, '_>,
+    room: usize,
+) -> Result<Var, ParseFault>
     ensures { Meets (runs (var room) reader.old) result reader.new }
 {
     let token = reader.position();
@@ -122,7 +130,11 @@ pub(crate) fn var(alloc: Global, reader: &mut Reader<'_>, room: usize) -> Result
 }
 
 /// Variables with a comma between each two.
-pub(crate) fn vars(alloc: Global, reader: &mut Reader<'_>, room: usize) -> Result<Vars, ParseFault>
+pub(crate) fn vars(
+    alloc: Global,
+    reader: &mut Reader<'_, '_>,
+    room: usize,
+) -> Result<Vars, ParseFault>
     ensures { Meets (runs (parted (var room) room) reader.old) result reader.new }
 {
     let mut found = Items::new(alloc);

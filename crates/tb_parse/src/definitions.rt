@@ -15,7 +15,7 @@ use tb_terms::{Items, Text};
 /// The script that the reader has before it, with nothing behind it.
 pub(crate) fn script(
     alloc: Global,
-    reader: &mut Reader<'_>,
+    reader: &mut Reader<'_, '_>,
     room: usize,
 ) -> Result<Script, ParseFault>
     ensures { Judges (runs (script room) reader.old) result }
@@ -30,7 +30,7 @@ pub(crate) fn script(
     whole(defined, roots)
 }
 
-fn definitions(alloc: Global, reader: &mut Reader<'_>, room: usize) -> Result<Kept, ParseFault>
+fn definitions(alloc: Global, reader: &mut Reader<'_, '_>, room: usize) -> Result<Kept, ParseFault>
     ensures { Meets (runs (definitions_kept room room) reader.old) result reader.new }
 {
     let mut found = nothing(alloc);
@@ -45,7 +45,7 @@ fn definitions(alloc: Global, reader: &mut Reader<'_>, room: usize) -> Result<Ke
 /// Takes one definition more, if one comes next.
 fn define(
     alloc: Global,
-    reader: &mut Reader<'_>,
+    reader: &mut Reader<'_, '_>,
     room: usize,
     found: &mut Kept,
 ) -> Result<bool, ParseFault>
@@ -68,7 +68,7 @@ fn define(
 /// What stands behind the word `process`, which stands at this position.
 fn process(
     alloc: Global,
-    reader: &mut Reader<'_>,
+    reader: &mut Reader<'_, '_>,
     room: usize,
     token: usize,
 ) -> Result<Made, ParseFault>
@@ -83,7 +83,7 @@ fn process(
 
 /// Formals in parentheses, which are left out where there are none.
 #[tactic(auto, unfolding(crate::specs::Helpers::Parsing::in_parens))]
-fn formals(alloc: Global, reader: &mut Reader<'_>, room: usize) -> Result<Formals, ParseFault>
+fn formals(alloc: Global, reader: &mut Reader<'_, '_>, room: usize) -> Result<Formals, ParseFault>
     ensures { Meets (runs (in_parens (formal room) room) reader.old) result reader.new }
 {
     if !reader.eat_sign(Symbol::LeftParen) {
@@ -96,7 +96,7 @@ fn formals(alloc: Global, reader: &mut Reader<'_>, room: usize) -> Result<Formal
 
 fn parted_formals(
     alloc: Global,
-    reader: &mut Reader<'_>,
+    reader: &mut Reader<'_, '_>,
     room: usize,
 ) -> Result<Formals, ParseFault>
     ensures { Meets (runs (parted (formal room) room) reader.old) result reader.new }
@@ -112,7 +112,7 @@ fn parted_formals(
 }
 
 #[tactic(auto, unfolding(crate::specs::Helpers::Parsing::formal))]
-fn formal(alloc: Global, reader: &mut Reader<'_>, room: usize) -> Result<Formal, ParseFault>
+fn formal(alloc: Global, reader: &mut Reader<'_, '_>, room: usize) -> Result<Formal, ParseFault>
     ensures { Meets (runs (formal room) reader.old) result reader.new }
 {
     let Var {
@@ -133,7 +133,7 @@ fn formal(alloc: Global, reader: &mut Reader<'_>, room: usize) -> Result<Formal,
 
 /// What stands behind the word `tool`, which stands at this position.
 #[tactic(auto, unfolding(crate::specs::Helpers::Parsing::tool))]
-fn tool(alloc: Global, reader: &mut Reader<'_>, token: usize) -> Result<ToolDef, ParseFault>
+fn tool(alloc: Global, reader: &mut Reader<'_, '_>, token: usize) -> Result<ToolDef, ParseFault>
     ensures { Meets (runs (tool token) reader.old) result reader.new }
 {
     let name = reader.free_name(alloc)?;
@@ -149,7 +149,7 @@ fn tool(alloc: Global, reader: &mut Reader<'_>, token: usize) -> Result<ToolDef,
 }
 
 #[tactic(auto, unfolding(crate::specs::Helpers::Parsing::command))]
-fn command(alloc: Global, reader: &mut Reader<'_>) -> Result<Option<Text>, ParseFault>
+fn command(alloc: Global, reader: &mut Reader<'_, '_>) -> Result<Option<Text>, ParseFault>
     ensures { Meets (runs command reader.old) result reader.new }
 {
     if !reader.eat_word(b"command") {
@@ -161,7 +161,7 @@ fn command(alloc: Global, reader: &mut Reader<'_>) -> Result<Option<Text>, Parse
 
 /// The processes with which a script starts, behind the parenthesis.
 #[tactic(auto, unfolding(crate::specs::Helpers::Parsing::roots))]
-fn roots(alloc: Global, reader: &mut Reader<'_>, room: usize) -> Result<Calls, ParseFault>
+fn roots(alloc: Global, reader: &mut Reader<'_, '_>, room: usize) -> Result<Calls, ParseFault>
     ensures { Meets (runs (roots room) reader.old) result reader.new }
 {
     if reader.eat_sign(Symbol::RightParen) {

@@ -14,7 +14,11 @@ use tb_terms::{Ident, Items};
 /// An expression. The room bounds how deep expressions stand in each other.
 #[cycle(exprs)]
 #[tactic(auto, unfolding(crate::specs::Helpers::Parsing::expr))]
-pub(crate) fn expr(alloc: Global, reader: &mut Reader<'_>, room: usize) -> Result<Ast, ParseFault>
+pub(crate) fn expr(
+    alloc: Global,
+    reader: &mut Reader<'_, '_>,
+    room: usize,
+) -> Result<Ast, ParseFault>
     ensures { Meets (runs (expr room) reader.old) result reader.new }
 {
     let token = reader.position();
@@ -27,7 +31,7 @@ pub(crate) fn expr(alloc: Global, reader: &mut Reader<'_>, room: usize) -> Resul
 
 #[cycle(exprs)]
 #[tactic(auto, unfolding(crate::specs::Helpers::Parsing::kind))]
-fn kind(alloc: Global, reader: &mut Reader<'_>, room: usize) -> Result<AstKind, ParseFault>
+fn kind(alloc: Global, reader: &mut Reader<'_, '_>, room: usize) -> Result<AstKind, ParseFault>
     ensures { Meets (runs (kind (expr room) room) reader.old) result reader.new }
 {
     let at = reader.position();
@@ -63,7 +67,7 @@ fn variable(name: Ident, takes: bool) -> AstKind
 
 /// A placeholder behind its `<`.
 #[tactic(auto, unfolding(crate::specs::Helpers::Parsing::hole))]
-fn hole(alloc: Global, reader: &mut Reader<'_>) -> Result<AstKind, ParseFault>
+fn hole(alloc: Global, reader: &mut Reader<'_, '_>) -> Result<AstKind, ParseFault>
     ensures { Meets (runs hole reader.old) result reader.new }
 {
     let at = reader.position();
@@ -78,7 +82,7 @@ fn hole(alloc: Global, reader: &mut Reader<'_>) -> Result<AstKind, ParseFault>
 /// A list behind its `[`.
 #[cycle(exprs)]
 #[tactic(auto, unfolding(crate::specs::Helpers::Parsing::list))]
-fn list(alloc: Global, reader: &mut Reader<'_>, room: usize) -> Result<AstKind, ParseFault>
+fn list(alloc: Global, reader: &mut Reader<'_, '_>, room: usize) -> Result<AstKind, ParseFault>
     ensures { Meets (runs (list (expr room) room) reader.old) result reader.new }
 {
     if reader.eat_sign(Symbol::RightBracket) {
@@ -94,7 +98,7 @@ fn list(alloc: Global, reader: &mut Reader<'_>, room: usize) -> Result<AstKind, 
 #[tactic(auto, unfolding(crate::specs::Helpers::Parsing::in_parens))]
 pub(crate) fn arguments(
     alloc: Global,
-    reader: &mut Reader<'_>,
+    reader: &mut Reader<'_, '_>,
     room: usize,
 ) -> Result<Asts, ParseFault>
     ensures { Meets (runs (in_parens (expr room) room) reader.old) result reader.new }
@@ -109,7 +113,7 @@ pub(crate) fn arguments(
 
 /// Expressions with a comma between each two.
 #[cycle(exprs)]
-fn exprs(alloc: Global, reader: &mut Reader<'_>, room: usize) -> Result<Asts, ParseFault>
+fn exprs(alloc: Global, reader: &mut Reader<'_, '_>, room: usize) -> Result<Asts, ParseFault>
     ensures { Meets (runs (parted (expr room) room) reader.old) result reader.new }
 {
     let mut parts = Items::new(alloc);

@@ -10,13 +10,17 @@ use crate::built::{Built, Chain, either, joined, leaf, only, turn, within};
 use crate::exprs::{arguments, expr};
 use crate::reader::Reader;
 use std::alloc::Global;
-use tb_lex::{Symbol, TokenKind};
+use tb_lex::{LowerWord, Symbol, TokenKind};
 use tb_syntax::{ActDef, Ast, AtomDef, Proc, is_atom_word};
-use tb_terms::{Ident, Items, Name};
+use tb_terms::{Ident, Items};
 
 /// A whole process. The room bounds how deep processes stand in each other.
 #[tactic(auto, unfolding(crate::specs::Helpers::Parsing::proc))]
-pub(crate) fn proc(alloc: Global, reader: &mut Reader<'_>, room: usize) -> Result<Built, ParseFault>
+pub(crate) fn proc(
+    alloc: Global,
+    reader: &mut Reader<'_, '_>,
+    room: usize,
+) -> Result<Built, ParseFault>
     ensures { Meets (runs (as_built (proc room)) reader.old) result reader.new }
 {
     chain(alloc, reader, room, Chain::Par)
@@ -26,7 +30,7 @@ pub(crate) fn proc(alloc: Global, reader: &mut Reader<'_>, room: usize) -> Resul
 #[cycle(procs)]
 fn chain(
     alloc: Global,
-    reader: &mut Reader<'_>,
+    reader: &mut Reader<'_, '_>,
     room: usize,
     link: Chain,
 ) -> Result<Built, ParseFault>
@@ -58,7 +62,7 @@ fn sign_of(link: Chain) -> Symbol
 #[cycle(procs)]
 fn member(
     alloc: Global,
-    reader: &mut Reader<'_>,
+    reader: &mut Reader<'_, '_>,
     room: usize,
     link: Chain,
 ) -> Result<Built, ParseFault>
@@ -73,7 +77,7 @@ fn member(
 
 /// Processes with `*` between each two, joined from the left.
 #[cycle(procs)]
-fn turns(alloc: Global, reader: &mut Reader<'_>, room: usize) -> Result<Built, ParseFault>
+fn turns(alloc: Global, reader: &mut Reader<'_, '_>, room: usize) -> Result<Built, ParseFault>
     ensures { Meets (runs (as_built (turns (prim room) room)) reader.old) result reader.new }
 {
     let mut whole = prim(alloc, reader, room)?;
@@ -90,7 +94,7 @@ fn turns(alloc: Global, reader: &mut Reader<'_>, room: usize) -> Result<Built, P
 /// What stands by itself.
 #[tactic(auto, unfolding(crate::specs::Helpers::Parsing::prim))]
 #[cycle(procs)]
-fn prim(alloc: Global, reader: &mut Reader<'_>, room: usize) -> Result<Built, ParseFault>
+fn prim(alloc: Global, reader: &mut Reader<'_, '_>, room: usize) -> Result<Built, ParseFault>
     ensures { Meets (runs (as_built (prim room)) reader.old) result reader.new }
 {
     if room == 0 {
@@ -101,7 +105,7 @@ fn prim(alloc: Global, reader: &mut Reader<'_>, room: usize) -> Result<Built, Pa
 
 #[tactic(auto, unfolding(crate::specs::Helpers::Parsing::prim_of))]
 #[cycle(procs)]
-fn prim_of(alloc: Global, reader: &mut Reader<'_>, room: usize) -> Result<Built, ParseFault>
+fn prim_of(alloc: Global, reader: &mut Reader<'_, '_>, room: usize) -> Result<Built, ParseFault>
     ensures { Meets (runs (as_built (prim_of (merge (prim room) room) room)) reader.old) result reader.new }
 {
     let token = reader.position();
@@ -124,7 +128,7 @@ fn prim_of(alloc: Global, reader: &mut Reader<'_>, room: usize) -> Result<Built,
 #[tactic(auto, using(crate::proofs::Trees::built_call), unfolding(crate::specs::Helpers::Parsing::upper_proc))]
 fn upper_proc(
     alloc: Global,
-    reader: &mut Reader<'_>,
+    reader: &mut Reader<'_, '_>,
     room: usize,
     name: Ident,
     token: usize,
@@ -143,7 +147,7 @@ fn upper_proc(
 #[tactic(auto, using(crate::proofs::Trees::built_atom), unfolding(crate::specs::Helpers::Parsing::timed))]
 fn timed(
     alloc: Global,
-    reader: &mut Reader<'_>,
+    reader: &mut Reader<'_, '_>,
     room: usize,
     token: usize,
     act: ActDef,
@@ -158,7 +162,7 @@ fn timed(
 /// What stands behind the word `create`, which stands at this position.
 fn creation(
     alloc: Global,
-    reader: &mut Reader<'_>,
+    reader: &mut Reader<'_, '_>,
     room: usize,
     token: usize,
 ) -> Result<Built, ParseFault>
@@ -173,9 +177,9 @@ fn creation(
 #[cycle(procs)]
 fn lower_proc(
     alloc: Global,
-    reader: &mut Reader<'_>,
+    reader: &mut Reader<'_, '_>,
     room: usize,
-    name: &Name,
+    name: &LowerWord,
     token: usize,
 ) -> Result<Built, ParseFault>
     ensures { Meets (runs (as_built (lower_proc (merge (prim room) room) room name.now token)) reader.old) result reader.new }
@@ -201,7 +205,7 @@ fn lower_proc(
 /// What stands behind the word `let`.
 #[tactic(auto, unfolding(crate::specs::Helpers::Parsing::block))]
 #[cycle(procs)]
-fn block(alloc: Global, reader: &mut Reader<'_>, room: usize) -> Result<Built, ParseFault>
+fn block(alloc: Global, reader: &mut Reader<'_, '_>, room: usize) -> Result<Built, ParseFault>
     ensures { Meets (runs (as_built (block (merge (prim room) room) room)) reader.old) result reader.new }
 {
     let vars = vars(alloc, reader, room)?;
@@ -214,7 +218,7 @@ fn block(alloc: Global, reader: &mut Reader<'_>, room: usize) -> Result<Built, P
 /// What stands behind the word `if`.
 #[tactic(auto, unfolding(crate::specs::Helpers::Parsing::conditional))]
 #[cycle(procs)]
-fn test(alloc: Global, reader: &mut Reader<'_>, room: usize) -> Result<Built, ParseFault>
+fn test(alloc: Global, reader: &mut Reader<'_, '_>, room: usize) -> Result<Built, ParseFault>
     ensures { Meets (runs (as_built (conditional (merge (prim room) room) room)) reader.old) result reader.new }
 {
     let value = expr(alloc, reader, room)?;
@@ -228,7 +232,7 @@ fn test(alloc: Global, reader: &mut Reader<'_>, room: usize) -> Result<Built, Pa
 #[cycle(procs)]
 fn sides(
     alloc: Global,
-    reader: &mut Reader<'_>,
+    reader: &mut Reader<'_, '_>,
     room: usize,
     test: Ast,
     x: Built,

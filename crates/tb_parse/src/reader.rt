@@ -14,12 +14,12 @@ use tb_terms::{Ident, Name, Text};
 /// Tokens that are read from the left. Contracts see the position of the next token and what the
 /// tokens are from there.
 #[derive(Drop)]
-pub(crate) struct Reader<'a> {
-    rest: &'a [Token],
+pub(crate) struct Reader<'a, 't> {
+    rest: &'a [Token<'t>],
     at: usize,
 }
 
-impl<'a> Model for Reader<'a> {
+impl<'a, 't> Model for Reader<'a, 't> {
     ghost use Rattle.tb_parse.specs.Helpers.Reading.{Ahead};
 
     ghost Value = { Ahead };
@@ -32,8 +32,8 @@ impl<'a> Model for Reader<'a> {
     ghost invariant = { λ reader. reader.at + length reader.rest.now < 2 ^ 64 };
 }
 
-impl<'a> Reader<'a> {
-    pub(crate) fn new(tokens: &'a [Token]) -> Reader<'a>
+impl<'a, 't> Reader<'a, 't> {
+    pub(crate) fn new(tokens: &'a [Token<'t>]) -> Reader<'a, 't>
         ensures { result ≡ record { at = 0; kinds = kinds_of tokens.now } }
     {
         Reader {
@@ -57,14 +57,18 @@ impl<'a> Reader<'a> {
     }
 
     /// Takes the next token.
-    pub(crate) fn take(&mut self) -> Option<&'a TokenKind>
+    pub(crate) fn take(&mut self) -> Option<&'a TokenKind<'t>>
         ensures { MatchOption result ((self.old.kinds ≡ []) × (self.new ≡ self.old))
             (λ kind. (self.old.kinds ≡ kind.now ∷ self.new.kinds) × (self.new ≡ next self.old)) }
     {
-        let (first, rest) = self.rest.split_first()?;
-        self.rest = rest;
-        self.at += 1;
-        Some(&first.kind)
+        match self.rest {
+            [] => None,
+            [first, rest @ ..] => {
+                self.rest = rest;
+                self.at += 1;
+                Some(&first.kind)
+            }
+        }
     }
 
     pub(crate) fn is_sign(&self, sign: Symbol) -> bool

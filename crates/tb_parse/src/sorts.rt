@@ -12,7 +12,7 @@ use tb_terms::{Boxed, Name, NoMemory, Sort};
 #[tactic(auto, unfolding(crate::specs::Helpers::Parsing::sort))]
 pub(crate) fn sort(
     alloc: Global,
-    reader: &mut Reader<'_>,
+    reader: &mut Reader<'_, '_>,
     room: usize,
 ) -> Result<(Sort, usize), ParseFault>
     ensures { Meets (runs (sort room) reader.old) result reader.new }
@@ -31,7 +31,7 @@ pub(crate) fn sort(
 }
 
 /// Takes the parenthesis behind `list`, if it is this name and one comes next.
-fn eat_list(name: &Name, reader: &mut Reader<'_>) -> bool
+fn eat_list(name: &Name, reader: &mut Reader<'_, '_>) -> bool
     ensures found { result ≡ is_list name.now reader.old.kinds }
     ensures behind { reader.new ≡ (if is_list name.now reader.old.kinds then next reader.old else reader.old) }
 {

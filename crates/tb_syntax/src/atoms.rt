@@ -10,23 +10,23 @@ use std::alloc::Global;
 use tb_lex::{Symbol, TokenKind};
 use tb_terms::{Ident, Items, NoMemory};
 
-pub(crate) fn push_call(
+pub(crate) fn push_call<'a>(
     alloc: Global,
-    call: &Call,
-    into: &mut Items<TokenKind>,
+    call: &'a Call,
+    into: &mut Items<TokenKind<'a>>,
 ) -> Result<(), NoMemory>
     ensures { OnOk result (into.new ≡ into.old ++ call_tokens call.now) }
 {
-    push_ident(alloc, &call.name, into)?;
+    push_ident(&call.name, into)?;
     push_arguments(alloc, call.actuals.as_slice(), into)?;
     Ok(())
 }
 
 /// An atom with its times.
-pub(crate) fn push_atom(
+pub(crate) fn push_atom<'a>(
     alloc: Global,
-    atom: &AtomDef,
-    into: &mut Items<TokenKind>,
+    atom: &'a AtomDef,
+    into: &mut Items<TokenKind<'a>>,
 ) -> Result<(), NoMemory>
     ensures { OnOk result (into.new ≡ into.old ++ atom_tokens atom.now) }
 {
@@ -35,7 +35,11 @@ pub(crate) fn push_atom(
     Ok(())
 }
 
-fn push_act(alloc: Global, act: &ActDef, into: &mut Items<TokenKind>) -> Result<(), NoMemory>
+fn push_act<'a>(
+    alloc: Global,
+    act: &'a ActDef,
+    into: &mut Items<TokenKind<'a>>,
+) -> Result<(), NoMemory>
     ensures { OnOk result (into.new ≡ into.old ++ act_tokens act.now) }
 {
     match act {
@@ -54,29 +58,29 @@ fn push_act(alloc: Global, act: &ActDef, into: &mut Items<TokenKind>) -> Result<
     }
 }
 
-fn push_set(
+fn push_set<'a>(
     alloc: Global,
-    name: &Ident,
-    value: &Ast,
-    into: &mut Items<TokenKind>,
+    name: &'a Ident,
+    value: &'a Ast,
+    into: &mut Items<TokenKind<'a>>,
 ) -> Result<(), NoMemory>
     ensures { OnOk result (into.new ≡ into.old ++ set_tokens name.now value.now) }
 {
-    push_ident(alloc, name, into)?;
+    push_ident(name, into)?;
     push_symbol(Symbol::Assign, into)?;
     push_expr(alloc, value, into)?;
     Ok(())
 }
 
-fn push_create(
+fn push_create<'a>(
     alloc: Global,
-    call: &Call,
-    variable: &Ast,
-    into: &mut Items<TokenKind>,
+    call: &'a Call,
+    variable: &'a Ast,
+    into: &mut Items<TokenKind<'a>>,
 ) -> Result<(), NoMemory>
     ensures { OnOk result (into.new ≡ into.old ++ create_tokens call.now variable.now) }
 {
-    push_word(alloc, b"create", into)?;
+    push_word(b"create", into)?;
     push_symbol(Symbol::LeftParen, into)?;
     push_call(alloc, call, into)?;
     push_symbol(Symbol::Comma, into)?;
@@ -85,7 +89,11 @@ fn push_create(
     Ok(())
 }
 
-fn push_times(alloc: Global, times: &[TimeDef], into: &mut Items<TokenKind>) -> Result<(), NoMemory>
+fn push_times<'a>(
+    alloc: Global,
+    times: &'a [TimeDef],
+    into: &mut Items<TokenKind<'a>>,
+) -> Result<(), NoMemory>
     ensures { OnOk result (into.new ≡ into.old ++ flat_map time_tokens times.now) }
 {
     for time in times {
@@ -94,10 +102,14 @@ fn push_times(alloc: Global, times: &[TimeDef], into: &mut Items<TokenKind>) -> 
     Ok(())
 }
 
-fn push_time(alloc: Global, time: &TimeDef, into: &mut Items<TokenKind>) -> Result<(), NoMemory>
+fn push_time<'a>(
+    alloc: Global,
+    time: &'a TimeDef,
+    into: &mut Items<TokenKind<'a>>,
+) -> Result<(), NoMemory>
     ensures { OnOk result (into.new ≡ into.old ++ time_tokens time.now) }
 {
-    push_name(alloc, &time.name, into)?;
+    push_name(&time.name, into)?;
     push_symbol(Symbol::LeftParen, into)?;
     push_expr(alloc, &time.value, into)?;
     push_symbol(Symbol::RightParen, into)?;
@@ -105,25 +117,24 @@ fn push_time(alloc: Global, time: &TimeDef, into: &mut Items<TokenKind>) -> Resu
 }
 
 /// Variables with their sorts, with commas between them.
-pub(crate) fn push_vars(
-    alloc: Global,
-    vars: &[Var],
-    into: &mut Items<TokenKind>,
+pub(crate) fn push_vars<'a>(
+    vars: &'a [Var],
+    into: &mut Items<TokenKind<'a>>,
 ) -> Result<(), NoMemory>
     ensures { OnOk result (into.new ≡ into.old ++ parted (map var_tokens vars.now)) }
 {
     for (position, var) in vars.iter().enumerate() {
         push_comma(position, into)?;
-        push_var(alloc, var, into)?;
+        push_var(var, into)?;
     }
     Ok(())
 }
 
-fn push_var(alloc: Global, var: &Var, into: &mut Items<TokenKind>) -> Result<(), NoMemory>
+fn push_var<'a>(var: &'a Var, into: &mut Items<TokenKind<'a>>) -> Result<(), NoMemory>
     ensures { OnOk result (into.new ≡ into.old ++ var_tokens var.now) }
 {
-    push_ident(alloc, &var.name, into)?;
+    push_ident(&var.name, into)?;
     push_symbol(Symbol::Colon, into)?;
-    push_sort(alloc, &var.sort, into)?;
+    push_sort(&var.sort, into)?;
     Ok(())
 }

@@ -13,7 +13,7 @@ use tb_lex::{Symbol, TokenKind};
 use tb_terms::{Items, NoMemory, Text};
 
 /// The tokens that are printed for a script: its tools, its processes and its roots.
-pub(crate) fn tokens_of(alloc: Global, script: &Script) -> Result<Items<TokenKind>, NoMemory>
+pub(crate) fn tokens_of(alloc: Global, script: &Script) -> Result<Items<TokenKind<'_>>, NoMemory>
     ensures { IfOk result (λ tokens. tokens ≡ script_tokens script.now) }
 {
     let mut tokens = Items::new(alloc);
@@ -23,7 +23,11 @@ pub(crate) fn tokens_of(alloc: Global, script: &Script) -> Result<Items<TokenKin
     Ok(tokens)
 }
 
-fn push_tools(alloc: Global, tools: &[ToolDef], into: &mut Items<TokenKind>) -> Result<(), NoMemory>
+fn push_tools<'a>(
+    alloc: Global,
+    tools: &'a [ToolDef],
+    into: &mut Items<TokenKind<'a>>,
+) -> Result<(), NoMemory>
     ensures { OnOk result (into.new ≡ into.old ++ flat_map tool_tokens tools.now) }
 {
     for tool in tools {
@@ -32,12 +36,16 @@ fn push_tools(alloc: Global, tools: &[ToolDef], into: &mut Items<TokenKind>) -> 
     Ok(())
 }
 
-fn push_tool(alloc: Global, tool: &ToolDef, into: &mut Items<TokenKind>) -> Result<(), NoMemory>
+fn push_tool<'a>(
+    alloc: Global,
+    tool: &'a ToolDef,
+    into: &mut Items<TokenKind<'a>>,
+) -> Result<(), NoMemory>
     ensures { OnOk result (into.new ≡ into.old ++ tool_tokens tool.now) }
 {
-    push_word(alloc, b"tool", into)?;
-    push_name(alloc, &tool.name, into)?;
-    push_word(alloc, b"is", into)?;
+    push_word(b"tool", into)?;
+    push_name(&tool.name, into)?;
+    push_word(b"is", into)?;
     push_symbol(Symbol::LeftBrace, into)?;
     push_command(alloc, &tool.command, into)?;
     push_symbol(Symbol::RightBrace, into)?;
@@ -54,7 +62,7 @@ fn push_command(
     match command {
         None => Ok(()),
         Some(command) => {
-            push_word(alloc, b"command", into)?;
+            push_word(b"command", into)?;
             push_symbol(Symbol::Equals, into)?;
             into.push(TokenKind::Str(command.copy(alloc)?))?;
             Ok(())
@@ -62,10 +70,10 @@ fn push_command(
     }
 }
 
-fn push_processes(
+fn push_processes<'a>(
     alloc: Global,
-    processes: &[ProcDef],
-    into: &mut Items<TokenKind>,
+    processes: &'a [ProcDef],
+    into: &mut Items<TokenKind<'a>>,
 ) -> Result<(), NoMemory>
     ensures { OnOk result (into.new ≡ into.old ++ flat_map process_tokens processes.now) }
 {
@@ -75,58 +83,53 @@ fn push_processes(
     Ok(())
 }
 
-fn push_process(
+fn push_process<'a>(
     alloc: Global,
-    process: &ProcDef,
-    into: &mut Items<TokenKind>,
+    process: &'a ProcDef,
+    into: &mut Items<TokenKind<'a>>,
 ) -> Result<(), NoMemory>
     ensures { OnOk result (into.new ≡ into.old ++ process_tokens process.now) }
 {
-    push_word(alloc, b"process", into)?;
-    push_ident(alloc, &process.name, into)?;
-    push_formals(alloc, process.formals.as_slice(), into)?;
-    push_word(alloc, b"is", into)?;
+    push_word(b"process", into)?;
+    push_ident(&process.name, into)?;
+    push_formals(process.formals.as_slice(), into)?;
+    push_word(b"is", into)?;
     push_proc(alloc, &process.body, Level::Proc, into)?;
     Ok(())
 }
 
 /// Formals in parentheses, or nothing where there are none.
-fn push_formals(
-    alloc: Global,
-    formals: &[Formal],
-    into: &mut Items<TokenKind>,
-) -> Result<(), NoMemory>
+fn push_formals<'a>(formals: &'a [Formal], into: &mut Items<TokenKind<'a>>) -> Result<(), NoMemory>
     ensures { OnOk result (into.new ≡ into.old ++ optional (map formal_tokens formals.now)) }
 {
     if formals.is_empty() {
         return Ok(());
     }
     push_symbol(Symbol::LeftParen, into)?;
-    push_parted_formals(alloc, formals, into)?;
+    push_parted_formals(formals, into)?;
     push_symbol(Symbol::RightParen, into)?;
     Ok(())
 }
 
-fn push_parted_formals(
-    alloc: Global,
-    formals: &[Formal],
-    into: &mut Items<TokenKind>,
+fn push_parted_formals<'a>(
+    formals: &'a [Formal],
+    into: &mut Items<TokenKind<'a>>,
 ) -> Result<(), NoMemory>
     ensures { OnOk result (into.new ≡ into.old ++ parted (map formal_tokens formals.now)) }
 {
     for (position, formal) in formals.iter().enumerate() {
         push_comma(position, into)?;
-        push_formal(alloc, formal, into)?;
+        push_formal(formal, into)?;
     }
     Ok(())
 }
 
-fn push_formal(alloc: Global, formal: &Formal, into: &mut Items<TokenKind>) -> Result<(), NoMemory>
+fn push_formal<'a>(formal: &'a Formal, into: &mut Items<TokenKind<'a>>) -> Result<(), NoMemory>
     ensures { OnOk result (into.new ≡ into.old ++ formal_tokens formal.now) }
 {
-    push_ident(alloc, &formal.name, into)?;
+    push_ident(&formal.name, into)?;
     push_symbol(Symbol::Colon, into)?;
-    push_sort(alloc, &formal.sort, into)?;
+    push_sort(&formal.sort, into)?;
     push_mark(formal.result, into)?;
     Ok(())
 }
@@ -141,17 +144,25 @@ fn push_mark(is_result: bool, into: &mut Items<TokenKind>) -> Result<(), NoMemor
     Ok(())
 }
 
-fn push_roots(alloc: Global, roots: &[Call], into: &mut Items<TokenKind>) -> Result<(), NoMemory>
+fn push_roots<'a>(
+    alloc: Global,
+    roots: &'a [Call],
+    into: &mut Items<TokenKind<'a>>,
+) -> Result<(), NoMemory>
     ensures { OnOk result (into.new ≡ into.old ++ roots_tokens roots.now) }
 {
-    push_word(alloc, b"toolbus", into)?;
+    push_word(b"toolbus", into)?;
     push_symbol(Symbol::LeftParen, into)?;
     push_calls(alloc, roots, into)?;
     push_symbol(Symbol::RightParen, into)?;
     Ok(())
 }
 
-fn push_calls(alloc: Global, calls: &[Call], into: &mut Items<TokenKind>) -> Result<(), NoMemory>
+fn push_calls<'a>(
+    alloc: Global,
+    calls: &'a [Call],
+    into: &mut Items<TokenKind<'a>>,
+) -> Result<(), NoMemory>
     ensures { OnOk result (into.new ≡ into.old ++ parted (map call_tokens calls.now)) }
 {
     for (position, call) in calls.iter().enumerate() {

@@ -11,10 +11,10 @@ use tb_lex::{Symbol, TokenKind};
 use tb_terms::{Ident, Items, Name, NoMemory, Sort};
 
 #[cycle(exprs)]
-pub(crate) fn push_expr(
+pub(crate) fn push_expr<'a>(
     alloc: Global,
-    expr: &Ast,
-    into: &mut Items<TokenKind>,
+    expr: &'a Ast,
+    into: &mut Items<TokenKind<'a>>,
 ) -> Result<(), NoMemory>
     ensures { OnOk result (into.new ≡ into.old ++ expr_tokens expr.now) }
 {
@@ -24,7 +24,11 @@ pub(crate) fn push_expr(
 
 #[cycle(exprs)]
 #[tactic(auto, using(crate::proofs::KindTokens::tokens_of_appl))]
-fn push_kind(alloc: Global, kind: &AstKind, into: &mut Items<TokenKind>) -> Result<(), NoMemory>
+fn push_kind<'a>(
+    alloc: Global,
+    kind: &'a AstKind,
+    into: &mut Items<TokenKind<'a>>,
+) -> Result<(), NoMemory>
     ensures { OnOk result (into.new ≡ into.old ++ kind_tokens kind.now) }
 {
     match kind {
@@ -41,15 +45,15 @@ fn push_kind(alloc: Global, kind: &AstKind, into: &mut Items<TokenKind>) -> Resu
             Ok(())
         }
         AstKind::Var(name) => {
-            push_ident(alloc, name, into)?;
+            push_ident(name, into)?;
             Ok(())
         }
         AstKind::Result(name) => {
-            push_result(alloc, name, into)?;
+            push_result(name, into)?;
             Ok(())
         }
         AstKind::Hole(sort) => {
-            push_hole(alloc, sort, into)?;
+            push_hole(sort, into)?;
             Ok(())
         }
         AstKind::List(parts) => {
@@ -60,42 +64,42 @@ fn push_kind(alloc: Global, kind: &AstKind, into: &mut Items<TokenKind>) -> Resu
 }
 
 #[cycle(exprs)]
-pub(crate) fn push_appl(
+pub(crate) fn push_appl<'a>(
     alloc: Global,
-    name: &Name,
-    parts: &[Ast],
-    into: &mut Items<TokenKind>,
+    name: &'a Name,
+    parts: &'a [Ast],
+    into: &mut Items<TokenKind<'a>>,
 ) -> Result<(), NoMemory>
     ensures { OnOk result (into.new ≡ into.old ++ Lower name.now ∷ optional (map expr_tokens parts.now)) }
 {
-    push_name(alloc, name, into)?;
+    push_name(name, into)?;
     push_arguments(alloc, parts, into)?;
     Ok(())
 }
 
-fn push_result(alloc: Global, name: &Ident, into: &mut Items<TokenKind>) -> Result<(), NoMemory>
+fn push_result<'a>(name: &'a Ident, into: &mut Items<TokenKind<'a>>) -> Result<(), NoMemory>
     ensures { OnOk result (into.new ≡ into.old ++ Upper name.now ∷ Sign Question ∷ []) }
 {
-    push_ident(alloc, name, into)?;
+    push_ident(name, into)?;
     push_symbol(Symbol::Question, into)?;
     Ok(())
 }
 
-fn push_hole(alloc: Global, sort: &Sort, into: &mut Items<TokenKind>) -> Result<(), NoMemory>
+fn push_hole<'a>(sort: &'a Sort, into: &mut Items<TokenKind<'a>>) -> Result<(), NoMemory>
     ensures { OnOk result (into.new ≡ into.old ++ hole_tokens sort.now) }
 {
     push_symbol(Symbol::Less, into)?;
-    push_hole_word(alloc, sort, into)?;
+    push_hole_word(sort, into)?;
     push_symbol(Symbol::Greater, into)?;
     Ok(())
 }
 
 /// Arguments in parentheses, or nothing where there are none.
 #[cycle(exprs)]
-pub(crate) fn push_arguments(
+pub(crate) fn push_arguments<'a>(
     alloc: Global,
-    parts: &[Ast],
-    into: &mut Items<TokenKind>,
+    parts: &'a [Ast],
+    into: &mut Items<TokenKind<'a>>,
 ) -> Result<(), NoMemory>
     ensures { OnOk result (into.new ≡ into.old ++ optional (map expr_tokens parts.now)) }
 {
@@ -109,7 +113,11 @@ pub(crate) fn push_arguments(
 }
 
 #[cycle(exprs)]
-fn push_list(alloc: Global, parts: &[Ast], into: &mut Items<TokenKind>) -> Result<(), NoMemory>
+fn push_list<'a>(
+    alloc: Global,
+    parts: &'a [Ast],
+    into: &mut Items<TokenKind<'a>>,
+) -> Result<(), NoMemory>
     ensures { OnOk result (into.new ≡ into.old ++ list_expr_tokens (map expr_tokens parts.now)) }
 {
     push_symbol(Symbol::LeftBracket, into)?;
@@ -119,7 +127,11 @@ fn push_list(alloc: Global, parts: &[Ast], into: &mut Items<TokenKind>) -> Resul
 }
 
 #[cycle(exprs)]
-fn push_parted(alloc: Global, parts: &[Ast], into: &mut Items<TokenKind>) -> Result<(), NoMemory>
+fn push_parted<'a>(
+    alloc: Global,
+    parts: &'a [Ast],
+    into: &mut Items<TokenKind<'a>>,
+) -> Result<(), NoMemory>
     ensures { OnOk result (into.new ≡ into.old ++ parted (map expr_tokens parts.now)) }
 {
     for (position, part) in parts.iter().enumerate() {

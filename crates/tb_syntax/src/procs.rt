@@ -51,11 +51,11 @@ const PAR: Infix = Infix {
 
 /// The tokens of a process where it is bound as tightly as the level says.
 #[cycle(procs)]
-pub(crate) fn push_proc(
+pub(crate) fn push_proc<'a>(
     alloc: Global,
-    proc: &Proc,
+    proc: &'a Proc,
     at: Level,
-    into: &mut Items<TokenKind>,
+    into: &mut Items<TokenKind<'a>>,
 ) -> Result<(), NoMemory>
     ensures { OnOk result (into.new ≡ into.old ++ proc_tokens proc.now at) }
 {
@@ -98,13 +98,13 @@ pub(crate) fn push_proc(
 
 /// Two processes with an operator between them, in parentheses where the position wants them.
 #[cycle(procs)]
-fn push_placed(
+fn push_placed<'a>(
     alloc: Global,
-    x: &Proc,
+    x: &'a Proc,
     between: Infix,
-    y: &Proc,
+    y: &'a Proc,
     at: Level,
-    into: &mut Items<TokenKind>,
+    into: &mut Items<TokenKind<'a>>,
 ) -> Result<(), NoMemory>
     ensures { OnOk result (into.new ≡ into.old
         ++ placed between.level at (proc_tokens x.now between.left ++ Sign between.symbol ∷ proc_tokens y.now between.right)) }
@@ -120,12 +120,12 @@ fn push_placed(
 }
 
 #[cycle(procs)]
-fn push_infix(
+fn push_infix<'a>(
     alloc: Global,
-    x: &Proc,
+    x: &'a Proc,
     between: Infix,
-    y: &Proc,
-    into: &mut Items<TokenKind>,
+    y: &'a Proc,
+    into: &mut Items<TokenKind<'a>>,
 ) -> Result<(), NoMemory>
     ensures { OnOk result (into.new ≡ into.old
         ++ (proc_tokens x.now between.left ++ Sign between.symbol ∷ proc_tokens y.now between.right)) }
@@ -156,58 +156,58 @@ fn rank(level: Level) -> u8
 
 /// The test and the process for where it holds.
 #[cycle(procs)]
-fn push_then(
+fn push_then<'a>(
     alloc: Global,
-    test: &Ast,
-    x: &Proc,
-    into: &mut Items<TokenKind>,
+    test: &'a Ast,
+    x: &'a Proc,
+    into: &mut Items<TokenKind<'a>>,
 ) -> Result<(), NoMemory>
     ensures { OnOk result (into.new ≡ into.old ++ then_tokens (expr_tokens test.now) (proc_tokens x.now Whole)) }
 {
-    push_word(alloc, b"if", into)?;
+    push_word(b"if", into)?;
     push_expr(alloc, test, into)?;
-    push_word(alloc, b"then", into)?;
+    push_word(b"then", into)?;
     push_proc(alloc, x, Level::Proc, into)?;
     Ok(())
 }
 
 /// The process for where the test doesn't hold, if there is one, and the end.
 #[cycle(procs)]
-fn push_else(
+fn push_else<'a>(
     alloc: Global,
-    y: &Option<Boxed<Proc>>,
-    into: &mut Items<TokenKind>,
+    y: &'a Option<Boxed<Proc>>,
+    into: &mut Items<TokenKind<'a>>,
 ) -> Result<(), NoMemory>
     ensures { OnOk result (into.new ≡ into.old ++ else_tokens (option_map proc_tokens y.now)) }
 {
     match y {
         None => {
-            push_word(alloc, b"fi", into)?;
+            push_word(b"fi", into)?;
             Ok(())
         }
         Some(y) => {
-            push_word(alloc, b"else", into)?;
+            push_word(b"else", into)?;
             push_proc(alloc, y.get(), Level::Proc, into)?;
-            push_word(alloc, b"fi", into)?;
+            push_word(b"fi", into)?;
             Ok(())
         }
     }
 }
 
 #[cycle(procs)]
-fn push_let(
+fn push_let<'a>(
     alloc: Global,
-    vars: &[Var],
-    x: &Proc,
-    into: &mut Items<TokenKind>,
+    vars: &'a [Var],
+    x: &'a Proc,
+    into: &mut Items<TokenKind<'a>>,
 ) -> Result<(), NoMemory>
     ensures { OnOk result (into.new ≡ into.old
         ++ let_tokens (parted (map var_tokens vars.now)) (proc_tokens x.now Whole)) }
 {
-    push_word(alloc, b"let", into)?;
-    push_vars(alloc, vars, into)?;
-    push_word(alloc, b"in", into)?;
+    push_word(b"let", into)?;
+    push_vars(vars, into)?;
+    push_word(b"in", into)?;
     push_proc(alloc, x, Level::Proc, into)?;
-    push_word(alloc, b"endlet", into)?;
+    push_word(b"endlet", into)?;
     Ok(())
 }

@@ -3,8 +3,7 @@ ghost use Rattle.tb_terms.specs.Names.{is_name};
 ghost use Rattle.tb_lex.specs.declared.kind.TokenKind.TheVariants.{Lower, Upper, Symbol as Sign};
 ghost use Rattle.tb_syntax.specs.Helpers.Canonical.{comma_before};
 
-use std::alloc::Global;
-use tb_lex::{Symbol, TokenKind};
+use tb_lex::{LowerWord, Symbol, TokenKind, UpperWord};
 use tb_terms::{Ident, Items, Name, NoMemory};
 
 pub(crate) fn push_symbol(symbol: Symbol, into: &mut Items<TokenKind>) -> Result<(), NoMemory>
@@ -14,40 +13,28 @@ pub(crate) fn push_symbol(symbol: Symbol, into: &mut Items<TokenKind>) -> Result
     Ok(())
 }
 
-pub(crate) fn push_word(
-    alloc: Global,
-    word: &[u8],
-    into: &mut Items<TokenKind>,
-) -> Result<(), NoMemory>
+pub(crate) fn push_word<'a>(word: &'a [u8], into: &mut Items<TokenKind<'a>>) -> Result<(), NoMemory>
     requires { IsTrue (is_name word.now) }
     ensures { OnOk result (into.new ≡ into.old ++ Lower word.now ∷ []) }
 {
-    let word = Name::new(alloc, word)?;
-    into.push(TokenKind::Lower(word))?;
+    into.push(TokenKind::Lower(LowerWord::new(word)))?;
     Ok(())
 }
 
-pub(crate) fn push_name(
-    alloc: Global,
-    name: &Name,
-    into: &mut Items<TokenKind>,
-) -> Result<(), NoMemory>
+pub(crate) fn push_name<'a>(name: &'a Name, into: &mut Items<TokenKind<'a>>) -> Result<(), NoMemory>
     ensures { OnOk result (into.new ≡ into.old ++ Lower name.now ∷ []) }
 {
-    let name = name.copy(alloc)?;
-    into.push(TokenKind::Lower(name))?;
+    into.push(TokenKind::Lower(LowerWord::new(name.as_bytes())))?;
     Ok(())
 }
 
-pub(crate) fn push_ident(
-    alloc: Global,
-    ident: &Ident,
-    into: &mut Items<TokenKind>,
+pub(crate) fn push_ident<'a>(
+    ident: &'a Ident,
+    into: &mut Items<TokenKind<'a>>,
 ) -> Result<(), NoMemory>
     ensures { OnOk result (into.new ≡ into.old ++ Upper ident.now ∷ []) }
 {
-    let ident = ident.copy(alloc)?;
-    into.push(TokenKind::Upper(ident))?;
+    into.push(TokenKind::Upper(UpperWord::new(ident.as_bytes())))?;
     Ok(())
 }
 

@@ -5,42 +5,37 @@ ghost use Rattle.tb_syntax.specs.Spelling.{word, in_parens};
 ghost use Rattle.tb_syntax.specs.Helpers.Canonical.{sort_tokens, list_tokens, is_any, hole_word};
 
 use crate::push::{push_name, push_symbol, push_word};
-use std::alloc::Global;
 use tb_lex::{Symbol, TokenKind};
 use tb_terms::{Items, NoMemory, Sort};
 
 #[cycle(sorts)]
 #[tactic(auto, using(crate::proofs::SortTokens::tokens_of_bool, crate::proofs::SortTokens::tokens_of_int, crate::proofs::SortTokens::tokens_of_str, crate::proofs::SortTokens::tokens_of_any, crate::proofs::SortTokens::tokens_of_tool, crate::proofs::SortTokens::tokens_of_list))]
-pub(crate) fn push_sort(
-    alloc: Global,
-    sort: &Sort,
-    into: &mut Items<TokenKind>,
-) -> Result<(), NoMemory>
+pub(crate) fn push_sort<'a>(sort: &'a Sort, into: &mut Items<TokenKind<'a>>) -> Result<(), NoMemory>
     ensures { OnOk result (into.new ≡ into.old ++ sort_tokens sort.now) }
 {
     match sort {
         Sort::Bool => {
-            push_word(alloc, b"bool", into)?;
+            push_word(b"bool", into)?;
             Ok(())
         }
         Sort::Int => {
-            push_word(alloc, b"int", into)?;
+            push_word(b"int", into)?;
             Ok(())
         }
         Sort::Str => {
-            push_word(alloc, b"str", into)?;
+            push_word(b"str", into)?;
             Ok(())
         }
         Sort::List(members) => {
-            push_list(alloc, members.get(), into)?;
+            push_list(members.get(), into)?;
             Ok(())
         }
         Sort::Any => {
-            push_word(alloc, b"term", into)?;
+            push_word(b"term", into)?;
             Ok(())
         }
         Sort::Tool(name) => {
-            push_name(alloc, name, into)?;
+            push_name(name, into)?;
             Ok(())
         }
     }
@@ -48,16 +43,16 @@ pub(crate) fn push_sort(
 
 /// Lists of any terms are `list` alone.
 #[cycle(sorts)]
-fn push_list(alloc: Global, members: &Sort, into: &mut Items<TokenKind>) -> Result<(), NoMemory>
+fn push_list<'a>(members: &'a Sort, into: &mut Items<TokenKind<'a>>) -> Result<(), NoMemory>
     ensures { OnOk result (into.new
         ≡ into.old ++ list_tokens (is_any (out-Sort members.now)) (sort_tokens members.now)) }
 {
-    push_word(alloc, b"list", into)?;
+    push_word(b"list", into)?;
     if is_any(members) {
         return Ok(());
     }
     push_symbol(Symbol::LeftParen, into)?;
-    push_sort(alloc, members, into)?;
+    push_sort(members, into)?;
     push_symbol(Symbol::RightParen, into)?;
     Ok(())
 }
@@ -69,36 +64,35 @@ fn is_any(sort: &Sort) -> bool
 }
 
 /// The one word of a sort that a placeholder may have.
-pub(crate) fn push_hole_word(
-    alloc: Global,
-    sort: &Sort,
-    into: &mut Items<TokenKind>,
+pub(crate) fn push_hole_word<'a>(
+    sort: &'a Sort,
+    into: &mut Items<TokenKind<'a>>,
 ) -> Result<(), NoMemory>
     ensures { OnOk result (into.new ≡ into.old ++ Lower (hole_word (out-Sort sort.now)) ∷ []) }
 {
     match sort {
         Sort::Bool => {
-            push_word(alloc, b"bool", into)?;
+            push_word(b"bool", into)?;
             Ok(())
         }
         Sort::Int => {
-            push_word(alloc, b"int", into)?;
+            push_word(b"int", into)?;
             Ok(())
         }
         Sort::Str => {
-            push_word(alloc, b"str", into)?;
+            push_word(b"str", into)?;
             Ok(())
         }
         Sort::List(_) => {
-            push_word(alloc, b"list", into)?;
+            push_word(b"list", into)?;
             Ok(())
         }
         Sort::Any => {
-            push_word(alloc, b"term", into)?;
+            push_word(b"term", into)?;
             Ok(())
         }
         Sort::Tool(name) => {
-            push_name(alloc, name, into)?;
+            push_name(name, into)?;
             Ok(())
         }
     }

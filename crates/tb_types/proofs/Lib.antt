@@ -7,6 +7,7 @@ pub mod JudgedKinds
 pub mod MisplacedKinds
 pub mod Naming
 pub mod ProcFaults
+pub mod Repeats
 pub mod Scoping
 pub mod SeenLemmas
 pub mod ToolFits

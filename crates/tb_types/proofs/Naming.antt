@@ -77,21 +77,23 @@ kept_after old name other position h = step (bytes_eq name other) refl where
   step true e = ap (λ o. kept o true position) (sym (none_there (old name) h) ∙ ap old (same_name name other e))
   step false e = kept_other (old other) position
 
--- a name that has a position keeps it
-pub kept_there : (old : List ℕ → Option ℕ) (name other : List ℕ) (position : ℕ) → is_some (old name) ≡ true → old other ≡ kept (old other) (bytes_eq name other) position
-kept_there old name other position h = step (bytes_eq name other) refl where
-  known : (o : Option ℕ) → is_some o ≡ true → o ≡ kept o true position
-  known (Some old_position) e = refl
-  known None e = cc
-
-  step : (b : Bool) → bytes_eq name other ≡ b → old other ≡ kept (old other) b position
-  step true e = known (old other) (sym (ap (λ n. is_some (old n)) (same_name name other e)) ∙ h)
-  step false e = kept_other (old other) position
-
 pub kept_new : {S : Type 0} (name : List ℕ) (old new : HashMap (Bor (List ℕ)) ℕ S) (position : ℕ)
     → UpdatesBy (λ x y. bytes_eq x.now y.now) (λ key. bytes_eq name key.now) old new (Some position) → is_some (position_in old name) ≡ false
     → (other : List ℕ) → position_in new other ≡ kept (position_in old other) (bytes_eq name other) position
 kept_new name old new position updates h other = hash_map_updates_str name old new (Some position) updates other ∙ kept_after (position_in old) name other position h
+
+-- a name that has a position, and is given another and then its own again
+pub kept_again : {S : Type 0} (name : List ℕ) (old mid new : HashMap (Bor (List ℕ)) ℕ S) (position first : ℕ)
+    → UpdatesBy (λ x y. bytes_eq x.now y.now) (λ key. bytes_eq name key.now) old mid (Some position)
+    → UpdatesBy (λ x y. bytes_eq x.now y.now) (λ key. bytes_eq name key.now) mid new (Some first) → Some first ≡ position_in old name
+    → (other : List ℕ) → position_in new other ≡ kept (position_in old other) (bytes_eq name other) position
+kept_again name old mid new position first once again there other =
+    hash_map_updates_str name mid new (Some first) again other
+    ∙ ap (cond (bytes_eq name other) (Some first)) (hash_map_updates_str name old mid (Some position) once other)
+    ∙ step (bytes_eq name other) refl where
+      step : (b : Bool) → bytes_eq name other ≡ b → cond b (Some first) (cond b (Some position) (position_in old other)) ≡ kept (position_in old other) b position
+      step true e = ap (λ o. kept o true position) (there ∙ ap (position_in old) (same_name name other e))
+      step false e = kept_other (position_in old other) position
 
 -- what is found by its position
 pub found_by : {A : Type 0} (name_of : A → List ℕ) (xs : List A) (name : List ℕ) (o : Option ℕ) → o ≡ position_of (map name_of xs) name

@@ -44,7 +44,9 @@ pub enum Word {
 fn word_of(name: &[u8]) -> Word
     ensures { result ≡ word_of name.now }
 {
-    if is_among(&["printf"], name) {
+    if is_among(&["tau", "delta"], name) {
+        Word::Silent
+    } else if is_among(&["printf"], name) {
         Word::Print
     } else if is_among(&["snd-msg", "snd-note"], name) {
         Word::Send

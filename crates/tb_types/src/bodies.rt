@@ -1,4 +1,4 @@
-ghost use Rattle.std.specs.Prelude.{◌≡◌, ◌++◌, [], OnOk, map, option_map};
+ghost use Rattle.std.specs.Prelude.{◌≡◌, ◌++◌, [], IfOk, OnOk, map, option_map};
 ghost use Rattle.std.specs.List.{flat_map};
 ghost use Rattle.tb_types.specs.Bodies.{proc_faults, else_faults, process_faults, root_faults, script_faults};
 ghost use Rattle.tb_types.specs.Definitions.{none_seen, process_repeats, vars_faults};
@@ -6,28 +6,28 @@ ghost use Rattle.tb_types.specs.Scopes.{visible, known_formal, known_var};
 
 use crate::atoms::{push_atom, push_tested};
 use crate::calls::{Manner, push_call};
-use crate::definitions::{push_formals, push_process_repeats, push_tools, push_vars};
-use crate::names::Names;
+use crate::definitions::{push_formals, push_tools, push_vars};
+use crate::names::{Names, names_of};
 use crate::scope::Scope;
 use crate::violation::Violation;
 use std::alloc::Global;
 use tb_syntax::{Call, Proc, ProcDef, Script, Var};
 use tb_terms::{Boxed, Items, NoMemory, Sort};
 
-/// All that a script breaks.
-pub(crate) fn push_script(
+/// All that a script breaks, and the names that it defines.
+pub(crate) fn push_script<'a>(
     alloc: Global,
-    names: &Names,
+    script: &'a Script,
     into: &mut Items<Violation>,
-) -> Result<(), NoMemory>
-    ensures { OnOk result (into.new ≡ into.old ++ script_faults names.now.script.now) }
+) -> Result<Names<'a>, NoMemory>
+    ensures names { IfOk result (λ names. names.script.now ≡ script.now) }
+    ensures noted { OnOk result (into.new ≡ into.old ++ script_faults script.now) }
 {
-    let script = names.script;
     push_tools(alloc, script.tools.as_slice(), into)?;
-    push_process_repeats(alloc, script.procs.as_slice(), into)?;
-    push_processes(alloc, names, script.procs.as_slice(), into)?;
-    push_roots(alloc, names, script.roots.as_slice(), into)?;
-    Ok(())
+    let names = names_of(alloc, script, into)?;
+    push_processes(alloc, &names, script.procs.as_slice(), into)?;
+    push_roots(alloc, &names, script.roots.as_slice(), into)?;
+    Ok(names)
 }
 
 fn push_processes(

@@ -1,5 +1,4 @@
 ghost use Rattle.std.specs.Prelude.{◌≡◌, IfOk, IfErr, OnOk};
-ghost use Rattle.tb_types.specs.Bodies.{script_faults};
 ghost use Rattle.tb_types.specs.Conditions.{Proper, IsFault};
 ghost use Rattle.tb_types.specs.Helpers.Faults.{fault_of};
 
@@ -10,31 +9,35 @@ use crate::names::Names;
 use crate::violation::{Rule, Violation};
 use std::alloc::Global;
 use tb_syntax::Script;
-use tb_terms::{Items, NoMemory};
+use tb_terms::Items;
 
 /// Whether a script holds what it must beyond its grammar. A fault names the first of the nine
 /// conditions that it fails, and the first token at which it does.
-#[tactic(auto, using(crate::proofs::Firsts::first_none, crate::proofs::Firsts::first_some))]
 pub fn check(alloc: Global, s: &Script) -> Result<(), CheckFault>
     ensures proper { OnOk result (Proper s.now) }
     ensures fault { IfErr result (λ fault. IsFault s.now fault) }
 {
-    let Ok(violation) = violations_in(alloc, s) else {
-        return Err(CheckFault::NoMemory);
-    };
-    match first(violation.as_slice()) {
-        None => Ok(()),
-        Some(first) => Err(fault_of(first)),
+    match proper_names(alloc, s) {
+        Ok(_names) => Ok(()),
+        Err(fault) => Err(fault),
     }
 }
 
-fn violations_in(alloc: Global, script: &Script) -> Result<Items<Violation>, NoMemory>
-    ensures { IfOk result (λ violation. violation ≡ script_faults script.now) }
+/// The names of a script that holds what it must beyond its grammar, or the fault that `check` finds.
+#[tactic(auto, using(crate::proofs::Firsts::first_none, crate::proofs::Firsts::first_some))]
+pub fn proper_names(alloc: Global, s: &Script) -> Result<Names<'_>, CheckFault>
+    ensures names { IfOk result (λ names. names.script.now ≡ s.now) }
+    ensures proper { OnOk result (Proper s.now) }
+    ensures fault { IfErr result (λ fault. IsFault s.now fault) }
 {
-    let names = Names::of(alloc, script)?;
     let mut violation = Items::new(alloc);
-    push_script(alloc, &names, &mut violation)?;
-    Ok(violation)
+    let Ok(names) = push_script(alloc, s, &mut violation) else {
+        return Err(CheckFault::NoMemory);
+    };
+    match first(violation.as_slice()) {
+        None => Ok(names),
+        Some(first) => Err(fault_of(first)),
+    }
 }
 
 fn fault_of(violation: Violation) -> CheckFault

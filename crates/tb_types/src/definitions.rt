@@ -1,13 +1,13 @@
 ghost use Rattle.std.specs.Prelude.{◌≡◌, ◌++◌, OnOk};
 ghost use Rattle.std.specs.List.{flat_map};
 ghost use Rattle.tb_types.specs.Violation.{noted_if};
-ghost use Rattle.tb_types.specs.Definitions.{none_seen, or_seen, formal_repeats, var_repeats, process_repeats, tool_repeats, tool_faults, tools_faults, sort_faults, formal_faults, formals_faults, var_faults, vars_faults};
+ghost use Rattle.tb_types.specs.Definitions.{none_seen, or_seen, formal_repeats, var_repeats, tool_repeats, tool_faults, tools_faults, sort_faults, formal_faults, formals_faults, var_faults, vars_faults};
 
 use crate::names::{Names, is_unknown_sort};
 use crate::seen::{Seen, push_repeat};
 use crate::violation::{Rule, Violation, note_if};
 use std::alloc::Global;
-use tb_syntax::{Formal, ProcDef, ToolDef, Var, is_sort_word};
+use tb_syntax::{Formal, ToolDef, Var, is_sort_word};
 use tb_terms::{Items, NoMemory, Sort};
 
 /// The tools that are defined twice or have a sort's name.
@@ -47,21 +47,6 @@ fn push_sort_words(tools: &[ToolDef], into: &mut Items<Violation>) -> Result<(),
     Ok(())
 }
 
-/// The processes that are defined twice.
-pub(crate) fn push_process_repeats(
-    alloc: Global,
-    processes: &[ProcDef],
-    into: &mut Items<Violation>,
-) -> Result<(), NoMemory>
-    ensures { OnOk result (into.new ≡ into.old ++ process_repeats none_seen processes.now) }
-{
-    let mut seen = Seen::new(alloc);
-    for process in processes {
-        push_repeat(&mut seen, process.name.as_bytes(), process.token, into)?;
-    }
-    Ok(())
-}
-
 /// The formals that come twice or whose sort is none.
 pub(crate) fn push_formals(
     alloc: Global,
@@ -71,6 +56,9 @@ pub(crate) fn push_formals(
 ) -> Result<(), NoMemory>
     ensures { OnOk result (into.new ≡ into.old ++ formals_faults names.now.script.now.tools formals.now) }
 {
+    if formals.is_empty() {
+        return Ok(());
+    }
     push_formal_repeats(alloc, formals, into)?;
     push_formal_sorts(names, formals, into)?;
     Ok(())

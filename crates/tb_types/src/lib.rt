@@ -20,7 +20,7 @@ mod tools;
 mod values;
 mod violation;
 
-pub use checked::check;
+pub use checked::{check, proper_names};
 pub use fault::CheckFault;
 pub use laws::first_fault_is_one;
 pub use names::Names;

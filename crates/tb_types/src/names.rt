@@ -1,16 +1,18 @@
-ghost use Rattle.std.specs.Prelude.{◌≡◌, ℕ, List, map, IfOk, OnOk};
+ghost use Rattle.std.specs.Prelude.{◌≡◌, ◌++◌, ℕ, List, map, is_some, IfOk, OnOk};
 ghost use Rattle.std.specs.Option.{option_copied};
 ghost use Rattle.std.specs.Str.{bytes_eq};
 ghost use Rattle.std.proofs.Props.{props};
+ghost use Rattle.tb_types.specs.Definitions.{none_seen, process_repeats};
 ghost use Rattle.tb_types.specs.Names.{process_named, tool_named, is_unknown_sort, applied};
 ghost use Rattle.tb_types.specs.NamePositions.{position_in, position_of, kept, process_name, tool_name};
 
+use crate::violation::{Rule, Violation, note_if};
 use indexmap::IndexMap;
 use sqlite_items::at;
 use std::alloc::Global;
 use tb_func::function;
 use tb_syntax::{ProcDef, Script, ToolDef};
-use tb_terms::{Func, Ident, Name, NoMemory, Sort};
+use tb_terms::{Func, Ident, Items, Name, NoMemory, Sort};
 
 /// What the names of a script stand for: the processes and the tools by their positions among the
 /// definitions. Where one is defined twice, the first is known.
@@ -28,13 +30,8 @@ impl<'a> Names<'a> {
     pub fn of(alloc: Global, script: &'a Script) -> Result<Names<'a>, NoMemory>
         ensures { IfOk result (λ names. names.script.now ≡ script.now) }
     {
-        let processes = process_positions(alloc, script.procs.as_slice())?;
-        let tools = tool_positions(alloc, script.tools.as_slice())?;
-        Ok(Names {
-            script,
-            processes,
-            tools,
-        })
+        let mut repeats = Items::new(alloc);
+        Ok(names_of(alloc, script, &mut repeats)?)
     }
 
     /// The position, from 0, of the process of this name among the definitions; none where none has it.
@@ -58,15 +55,37 @@ impl<'a> Names<'a> {
     }
 }
 
+/// The names that a script defines. The processes that are defined twice are noted.
+pub(crate) fn names_of<'a>(
+    alloc: Global,
+    script: &'a Script,
+    into: &mut Items<Violation>,
+) -> Result<Names<'a>, NoMemory>
+    ensures names { IfOk result (λ names. names.script.now ≡ script.now) }
+    ensures noted { OnOk result (into.new ≡ into.old ++ process_repeats none_seen script.now.procs) }
+{
+    let processes = process_positions(alloc, script.procs.as_slice(), into)?;
+    let tools = tool_positions(alloc, script.tools.as_slice())?;
+    Ok(Names {
+        script,
+        processes,
+        tools,
+    })
+}
+
+/// The positions of the processes by their names. Those that are defined twice are noted.
 fn process_positions<'a>(
     alloc: Global,
     processes: &'a [ProcDef],
+    into: &mut Items<Violation>,
 ) -> Result<IndexMap<&'a [u8], usize>, NoMemory>
-    ensures { IfOk result (λ positions. (name : List ℕ) → position_in positions name ≡ position_of (map process_name processes.now) name) }
+    ensures kept { IfOk result (λ positions. (name : List ℕ) → position_in positions name ≡ position_of (map process_name processes.now) name) }
+    ensures noted { OnOk result (into.new ≡ into.old ++ process_repeats none_seen processes.now) }
 {
-    let mut positions = IndexMap::new(alloc);
+    let mut positions = IndexMap::with_capacity(alloc, processes.len())?;
     for (position, process) in processes.iter().enumerate() {
-        keep_position(&mut positions, process.name.as_bytes(), position)?;
+        let stood = keep_position(&mut positions, process.name.as_bytes(), position)?;
+        note_if(stood, Rule::Twice, process.token, into)?;
     }
     Ok(positions)
 }
@@ -84,19 +103,22 @@ fn tool_positions<'a>(
     Ok(positions)
 }
 
-/// Keeps the position of a name that has none so far.
+/// Keeps the position of a name that has none so far. The answer is whether it had one.
 fn keep_position<'a>(
     positions: &mut IndexMap<&'a [u8], usize>,
     name: &'a [u8],
     position: usize,
-) -> Result<(), NoMemory>
-    ensures { OnOk result ((other : List ℕ) → position_in positions.new other ≡ kept (position_in positions.old other) (bytes_eq name.now other) position) }
+) -> Result<bool, NoMemory>
+    ensures stood { IfOk result (λ stood. stood ≡ is_some (position_in positions.old name.now)) }
+    ensures kept { OnOk result ((other : List ℕ) → position_in positions.new other ≡ kept (position_in positions.old other) (bytes_eq name.now other) position) }
 {
-    if positions.contains_key(name) {
-        return Ok(());
+    match positions.insert(name, position)? {
+        None => Ok(false),
+        Some(first) => {
+            positions.insert(name, first)?;
+            Ok(true)
+        }
     }
-    positions.insert(name, position)?;
-    Ok(())
 }
 
 /// The process of this name.
