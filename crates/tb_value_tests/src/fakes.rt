@@ -1,12 +1,12 @@
 //! Pairs whose ends are boxed, driven by hand; and clocks that may go to another thread.
 
-use crate::{Cue, Fail, FakePair, FakePairs, fakes};
 use sqlite_items::Items;
 use std::alloc::Global;
 use std::test::Fail as TestFail;
 use tb_edge::{
     Beat, Bytes, Clock, Given, Got, Inlet, LanePair, MemClock, Outlet, RealClock, SureClock, Taken,
 };
+use tb_fake::{Cue, Fail, FakePair, FakePairs, fakes};
 
 /// What is done with the pair of lane 16, and what it answers. The watched outlet is that of lane 15.
 #[derive(Clone, Copy)]
