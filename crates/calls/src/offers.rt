@@ -3,7 +3,9 @@
 
 use crate::fault::Fault;
 use crate::shared::shared_body;
-use crate::texts::{first, found, number, one, said, term_text, terms, two, utf8, yes_or_no};
+use crate::texts::{
+    first, found, none, number, one, said, term, term_text, terms, two, utf8, yes_or_no,
+};
 use crate::walkers::{count_bound, explored, seen_after};
 use std::alloc::Global;
 use tb_algebra::{Rewriter, is_ready};
@@ -12,7 +14,7 @@ use tb_func::{Store, eval, pattern};
 use tb_match::{Binds, match_list, match_term};
 use tb_script::{ScriptFault, load};
 use tb_terms::{
-    Expr, Exprs, Items, NoMemory, Patterns, Sort, Term, Terms, has_sort, initial, write_term,
+    Expr, Exprs, Items, NoMemory, Patterns, Sort, Terms, has_sort, initial, write_term,
 };
 use tb_walk::Walk;
 
@@ -21,16 +23,48 @@ pub(crate) fn answer(
     name: &str,
     args: &[Vec<u8>],
 ) -> Result<Option<Vec<u8>>, Fault> {
+    if !is_call(name) {
+        return Ok(None);
+    }
+    let (text, others) = first(args)?;
+    let body = body_for(alloc, name, text)?;
+    over(alloc, name, &body, others)
+}
+
+fn is_call(name: &str) -> bool {
+    match name {
+        "offers" | "offers_shared" | "accepts" | "walkers_agree" | "is_ready" => true,
+        "eval" | "match_list" | "has_sort" | "initial" => true,
+        _ => false,
+    }
+}
+
+/// The body over which a call is made, of the call's first argument: a body, the name of one, times, or a sort.
+fn body_for(alloc: Global, name: &str, text: &[u8]) -> Result<Body, Fault> {
+    match name {
+        "offers_shared" => shared_body(alloc, text),
+        "is_ready" => timed_body(alloc, text),
+        "has_sort" | "initial" => sorted_body(alloc, text),
+        _ => body(alloc, text),
+    }
+}
+
+/// What a call answers over a body.
+fn over(
+    alloc: Global,
+    name: &str,
+    body: &Body,
+    args: &[Vec<u8>],
+) -> Result<Option<Vec<u8>>, Fault> {
     let found = match name {
-        "offers" => offers(alloc, args),
-        "offers_shared" => offers_shared(alloc, args),
-        "accepts" => accepted(alloc, args),
-        "walkers_agree" => agree(alloc, args),
-        "is_ready" => ready(alloc, args),
-        "eval" => evaluated(alloc, args),
-        "match_list" => matched(alloc, args),
-        "has_sort" => of_sort(alloc, args),
-        "initial" => initial_of(alloc, args),
+        "offers" | "offers_shared" => offers(alloc, body, args),
+        "accepts" => accepted(alloc, body, args),
+        "walkers_agree" => agree(alloc, body, args),
+        "is_ready" => ready(alloc, body, args),
+        "eval" => evaluated(alloc, body, args),
+        "match_list" => matched(alloc, body, args),
+        "has_sort" => of_sort(alloc, body, args),
+        "initial" => initial_of(alloc, body, args),
         _ => return Ok(None),
     };
     Ok(Some(found?))
@@ -74,20 +108,23 @@ fn body(alloc: Global, text: &[u8]) -> Result<Body, Fault> {
     first_body(alloc, script.as_str())
 }
 
-fn offers(alloc: Global, args: &[Vec<u8>]) -> Result<Vec<u8>, Fault> {
-    let (text, moves) = two(args)?;
-    let body = body(alloc, text)?;
-    offers_of(alloc, &body, moves)
+/// The body of an atom with these times.
+fn timed_body(alloc: Global, times: &[u8]) -> Result<Body, Fault> {
+    let times = utf8(times)?;
+    let text = format!(in alloc; "tau {times}")?;
+    body(alloc, text.as_bytes())
 }
 
-fn offers_shared(alloc: Global, args: &[Vec<u8>]) -> Result<Vec<u8>, Fault> {
-    let (text, moves) = two(args)?;
-    let body = shared_body(alloc, text)?;
-    offers_of(alloc, &body, moves)
+/// The body of an atom, with a variable of this sort.
+fn sorted_body(alloc: Global, sort: &[u8]) -> Result<Body, Fault> {
+    let sort = utf8(sort)?;
+    let script = format!(in alloc; "process P(X : {sort}) is tau {CALLED}")?;
+    first_body(alloc, script.as_str())
 }
 
 /// What a process may do next after these moves, over both kinds of walkers.
-fn offers_of(alloc: Global, body: &Body, moves: &[u8]) -> Result<Vec<u8>, Fault> {
+fn offers(alloc: Global, body: &Body, args: &[Vec<u8>]) -> Result<Vec<u8>, Fault> {
+    let moves = one(args)?;
     let rewritten = seen_after::<Rewriter>(alloc, body, moves)?;
     let walked = seen_after::<Walk>(alloc, body, moves)?;
     both_text(alloc, walked.as_str(), rewritten.as_str())
@@ -102,15 +139,9 @@ fn both_text(alloc: Global, walked: &str, rewritten: &str) -> Result<Vec<u8>, Fa
 }
 
 /// How many variables a process binds as it receives terms, where it may; its first offer receives.
-fn accepted(alloc: Global, args: &[Vec<u8>]) -> Result<Vec<u8>, Fault> {
-    let (text, others) = first(args)?;
-    let terms = terms(alloc, others)?;
-    counted_by(alloc, text, &terms)
-}
-
-fn counted_by(alloc: Global, text: &[u8], terms: &Terms) -> Result<Vec<u8>, Fault> {
-    let body = body(alloc, text)?;
-    counted(alloc, &body, terms)
+fn accepted(alloc: Global, body: &Body, args: &[Vec<u8>]) -> Result<Vec<u8>, Fault> {
+    let terms = terms(alloc, args)?;
+    counted(alloc, body, &terms)
 }
 
 fn counted(alloc: Global, body: &Body, terms: &Terms) -> Result<Vec<u8>, Fault> {
@@ -131,32 +162,21 @@ fn count_text(alloc: Global, count: Option<usize>) -> Result<Vec<u8>, Fault> {
 }
 
 /// Whether both kinds of walkers offer the same and send the same values, at first and after each list of up to four moves.
-fn agree(alloc: Global, args: &[Vec<u8>]) -> Result<Vec<u8>, Fault> {
-    let body = body(alloc, one(args)?)?;
-    let is_same = is_explored_alike(alloc, &body)?;
-    yes_or_no(alloc, is_same)
-}
-
-fn is_explored_alike(alloc: Global, body: &Body) -> Result<bool, Fault> {
+fn agree(alloc: Global, body: &Body, args: &[Vec<u8>]) -> Result<Vec<u8>, Fault> {
+    none(args)?;
     let rewritten = explored::<Rewriter>(alloc, body)?;
     let walked = explored::<Walk>(alloc, body)?;
     let offers = rewritten.offers.as_str() == walked.offers.as_str();
-    Ok(offers && rewritten.values.as_slice() == walked.values.as_slice())
+    yes_or_no(
+        alloc,
+        offers && rewritten.values.as_slice() == walked.values.as_slice(),
+    )
 }
 
-/// Whether an atom with these times is ready at an age and after so many ticks, as its process begins.
-fn ready(alloc: Global, args: &[Vec<u8>]) -> Result<Vec<u8>, Fault> {
-    let (times, others) = first(args)?;
-    let (age, now) = two(others)?;
+/// Whether the first atom of a body is ready at an age and after so many ticks, as its process begins.
+fn ready(alloc: Global, body: &Body, args: &[Vec<u8>]) -> Result<Vec<u8>, Fault> {
+    let (age, now) = two(args)?;
     let (age, now) = (number(age)?, number(now)?);
-    let times = utf8(times)?;
-    let text = format!(in alloc; "tau {times}")?;
-    let body = body(alloc, text.as_bytes())?;
-    ready_at(alloc, &body, age, now)
-}
-
-/// Whether the first atom of a body is ready.
-fn ready_at(alloc: Global, body: &Body, age: u64, now: u64) -> Result<Vec<u8>, Fault> {
     let Some(atom) = body.atoms.as_slice().first() else {
         return Err(Fault::Argument);
     };
@@ -177,12 +197,8 @@ fn sent(body: &Body) -> Result<&Exprs, Fault> {
 }
 
 /// The value of the first expression that a body's first atom sends.
-fn evaluated(alloc: Global, args: &[Vec<u8>]) -> Result<Vec<u8>, Fault> {
-    let body = body(alloc, one(args)?)?;
-    first_value(alloc, &body)
-}
-
-fn first_value(alloc: Global, body: &Body) -> Result<Vec<u8>, Fault> {
+fn evaluated(alloc: Global, body: &Body, args: &[Vec<u8>]) -> Result<Vec<u8>, Fault> {
+    none(args)?;
     match sent(body)?.as_slice().first() {
         Some(expr) => fresh_value(alloc, body, expr),
         None => Err(Fault::Argument),
@@ -224,16 +240,10 @@ fn received(body: &Body) -> Result<&Exprs, Fault> {
 }
 
 /// What terms bind where they match what a body's first atom receives. One term is matched by itself too.
-fn matched(alloc: Global, args: &[Vec<u8>]) -> Result<Vec<u8>, Fault> {
-    let (text, others) = first(args)?;
-    let terms = terms(alloc, others)?;
-    matched_by(alloc, text, &terms)
-}
-
-fn matched_by(alloc: Global, text: &[u8], terms: &Terms) -> Result<Vec<u8>, Fault> {
-    let body = body(alloc, text)?;
-    let patterns = patterns(alloc, &body)?;
-    both_matches(alloc, &patterns, terms)
+fn matched(alloc: Global, body: &Body, args: &[Vec<u8>]) -> Result<Vec<u8>, Fault> {
+    let patterns = patterns(alloc, body)?;
+    let terms = terms(alloc, args)?;
+    both_matches(alloc, &patterns, &terms)
 }
 
 fn both_matches(alloc: Global, patterns: &Patterns, terms: &Terms) -> Result<Vec<u8>, Fault> {
@@ -275,43 +285,24 @@ fn binds_text(alloc: Global, binds: &Binds) -> Result<Vec<u8>, Fault> {
     Ok(text)
 }
 
-/// The sort that this text has.
-fn sort(alloc: Global, text: &[u8]) -> Result<Sort, Fault> {
-    let text = utf8(text)?;
-    let script = format!(in alloc; "process P(X : {text}) is tau {CALLED}")?;
-    let body = first_body(alloc, script.as_str())?;
-    first_sort(alloc, &body)
-}
-
-fn first_sort(alloc: Global, body: &Body) -> Result<Sort, Fault> {
+/// The sort of a body's first variable.
+fn sort(body: &Body) -> Result<&Sort, Fault> {
     match body.sorts.as_slice().first() {
-        Some(sort) => Ok(sort.copy(alloc)?),
+        Some(sort) => Ok(sort),
         None => Err(Fault::Argument),
     }
 }
 
 /// The initial value of a sort.
-fn initial_of(alloc: Global, args: &[Vec<u8>]) -> Result<Vec<u8>, Fault> {
-    let sort = sort(alloc, one(args)?)?;
-    initial_text(alloc, &sort)
-}
-
-fn initial_text(alloc: Global, sort: &Sort) -> Result<Vec<u8>, Fault> {
-    let term = initial(alloc, sort)?;
+fn initial_of(alloc: Global, body: &Body, args: &[Vec<u8>]) -> Result<Vec<u8>, Fault> {
+    none(args)?;
+    let term = initial(alloc, sort(body)?)?;
     term_text(alloc, &term)
 }
 
 /// Whether a term has a sort.
-fn of_sort(alloc: Global, args: &[Vec<u8>]) -> Result<Vec<u8>, Fault> {
-    let (text, others) = first(args)?;
-    let terms = terms(alloc, others)?;
-    of_sort_named(alloc, text, terms.as_slice())
-}
-
-fn of_sort_named(alloc: Global, name: &[u8], terms: &[Term]) -> Result<Vec<u8>, Fault> {
-    let sort = sort(alloc, name)?;
-    match terms {
-        [term] => yes_or_no(alloc, has_sort(term, &sort)),
-        _ => Err(Fault::Line),
-    }
+fn of_sort(alloc: Global, body: &Body, args: &[Vec<u8>]) -> Result<Vec<u8>, Fault> {
+    let sort = sort(body)?;
+    let term = term(alloc, one(args)?)?;
+    yes_or_no(alloc, has_sort(&term, sort))
 }

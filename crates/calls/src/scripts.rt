@@ -8,6 +8,7 @@ use tb_expand::{ExpandFault, expand};
 use tb_lex::{Symbol, Token, TokenKind, Tokens, lex};
 use tb_parse::{ParseFault, parse};
 use tb_syntax::{Script, is_atom_word, is_reserved, is_sort_word, is_time_word, print_script};
+use tb_terms::NoMemory;
 use tb_types::check;
 
 pub(crate) fn answer(
@@ -139,13 +140,13 @@ fn printed(alloc: Global, text: &[u8]) -> Result<Vec<u8>, Fault> {
 
 fn print_tokens(alloc: Global, tokens: &Tokens) -> Result<Vec<u8>, Fault> {
     match parse(alloc, tokens) {
-        Ok(script) => print_parsed(alloc, &script),
+        Ok(script) => with_memory(print_script(alloc, &script)),
         Err(fault) => Err(Fault::from(fault)),
     }
 }
 
-fn print_parsed(alloc: Global, script: &Script) -> Result<Vec<u8>, Fault> {
-    Ok(print_script(alloc, script)?)
+fn with_memory(text: Result<Vec<u8>, NoMemory>) -> Result<Vec<u8>, Fault> {
+    Ok(text?)
 }
 
 /// Whether two texts have the same print.

@@ -9,6 +9,15 @@ use std::alloc::Global;
 use tb_read::{TermFault, read_term};
 use tb_terms::{Items, NoMemory, Term, Terms, write_term};
 
+/// That there are no further arguments.
+pub(crate) fn none(args: &[Vec<u8>]) -> Result<(), Fault> {
+    if args.is_empty() {
+        Ok(())
+    } else {
+        Err(Fault::Line)
+    }
+}
+
 /// The only argument.
 pub(crate) fn one(args: &[Vec<u8>]) -> Result<&[u8], Fault> {
     match args {

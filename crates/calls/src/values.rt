@@ -66,21 +66,18 @@ fn is_text_of(alloc: Global, text: &[u8], wanted: &Term) -> Result<bool, Fault> 
 fn read_in(alloc: Global, args: &[Vec<u8>]) -> Result<Vec<u8>, Fault> {
     let (of_size, others) = first(args)?;
     let (of_levels, text) = two(others)?;
-    let limits = limits(number(of_size)?, number(of_levels)?)?;
+    let (of_size, of_levels) = (number(of_size)?, number(of_levels)?);
+    if of_size > 65_536 || of_levels > 64 {
+        return Err(Fault::Argument);
+    }
+    let limits = Limits {
+        size: of_size as usize,
+        levels: of_levels as usize,
+    };
     match read_within(alloc, text, limits) {
         Ok(term) => term_text(alloc, &term),
         Err(fault) => fault_text(alloc, fault),
     }
-}
-
-fn limits(of_size: u64, of_levels: u64) -> Result<Limits, Fault> {
-    if of_size > 65_536 || of_levels > 64 {
-        return Err(Fault::Argument);
-    }
-    Ok(Limits {
-        size: of_size as usize,
-        levels: of_levels as usize,
-    })
 }
 
 /// The size and the levels of a term's copy, which is the same as the term.
