@@ -5,9 +5,9 @@ use crate::texts::{one, said};
 use std::alloc::Global;
 use tb_feed::{Feed, FeedFault, read_feed};
 use tb_lane::read_tool_line;
-use tb_log::{Entry, Reply, ToolLine, is_in_shape, write_entry};
-use tb_log_read::{LogFault, read_entry, read_log};
-use tb_terms::{write_term, write_terms};
+use tb_log::{Entry, Input, Reply, ToolLine, is_in_shape, write_entry};
+use tb_log_read::{LogFault, Numbered, read_entry, read_log};
+use tb_terms::{NoMemory, write_term, write_terms};
 
 pub(crate) fn answer(
     alloc: Global,
@@ -15,27 +15,32 @@ pub(crate) fn answer(
     args: &[Vec<u8>],
 ) -> Result<Option<Vec<u8>>, Fault> {
     let found = match name {
-        "read_tool_line" => tool_line(alloc, one(args)?)?,
-        "read_feed" => feed(alloc, one(args)?)?,
-        "count_feed" => count_feed(alloc, one(args)?)?,
-        "read_entry" => entry(alloc, one(args)?)?,
-        "read_log" => log(alloc, one(args)?)?,
+        "read_tool_line" => tool_line(alloc, args),
+        "read_feed" => feed(alloc, args),
+        "count_feed" => count_feed(alloc, args),
+        "read_entry" => entry(alloc, args),
+        "read_log" => log(alloc, args),
         _ => return Ok(None),
     };
-    Ok(Some(found))
+    Ok(Some(found?))
 }
 
 /// Which line of a tool the bytes are.
-fn tool_line(alloc: Global, bytes: &[u8]) -> Result<Vec<u8>, Fault> {
+fn tool_line(alloc: Global, args: &[Vec<u8>]) -> Result<Vec<u8>, Fault> {
+    let line = read_tool_line(alloc, one(args)?)?;
+    line_text(alloc, &line)
+}
+
+fn line_text(alloc: Global, line: &ToolLine) -> Result<Vec<u8>, Fault> {
     let mut text = Vec::new(alloc);
-    match read_tool_line(alloc, bytes)? {
+    match line {
         ToolLine::Value(term) => {
             text.extend_from_slice(b"value ")?;
-            write_term(&term, &mut text)?;
+            write_term(term, &mut text)?;
         }
         ToolLine::Event(terms) => {
             text.extend_from_slice(b"event ")?;
-            write_terms(&terms, &mut text)?;
+            write_terms(terms, &mut text)?;
         }
         ToolLine::Connect(name) => {
             text.extend_from_slice(b"connect ")?;
@@ -59,8 +64,8 @@ fn feed_fault(alloc: Global, fault: FeedFault) -> Result<Vec<u8>, Fault> {
 }
 
 /// The lines of a log where each input of a feed is taken.
-fn feed(alloc: Global, bytes: &[u8]) -> Result<Vec<u8>, Fault> {
-    match read_feed(alloc, bytes) {
+fn feed(alloc: Global, args: &[Vec<u8>]) -> Result<Vec<u8>, Fault> {
+    match read_feed(alloc, one(args)?) {
         Ok(feed) => log_of(alloc, &feed),
         Err(fault) => feed_fault(alloc, fault),
     }
@@ -69,51 +74,68 @@ fn feed(alloc: Global, bytes: &[u8]) -> Result<Vec<u8>, Fault> {
 fn log_of(alloc: Global, feed: &Feed) -> Result<Vec<u8>, Fault> {
     let mut log = Vec::new(alloc);
     for index in 0..feed.len() {
-        let entry = Entry::Fed(feed.input(index)?, Reply::Took);
-        write_entry(index as u64 + 1, &entry, &mut log)?;
+        write_taken(index as u64 + 1, feed.input(index)?, &mut log)?;
     }
     Ok(log)
 }
 
+/// Writes the line of an input that is taken.
+fn write_taken(number: u64, input: Input, log: &mut Vec<u8>) -> Result<(), NoMemory> {
+    let entry = Entry::Fed(input, Reply::Took);
+    write_entry(number, &entry, log)
+}
+
 /// How many inputs a feed has.
-fn count_feed(alloc: Global, bytes: &[u8]) -> Result<Vec<u8>, Fault> {
-    match read_feed(alloc, bytes) {
-        Ok(feed) => {
-            let text = format!(in alloc; "{} inputs", feed.len())?;
-            said(alloc, text.as_str())
-        }
+fn count_feed(alloc: Global, args: &[Vec<u8>]) -> Result<Vec<u8>, Fault> {
+    match read_feed(alloc, one(args)?) {
+        Ok(feed) => count_text(alloc, feed.len()),
         Err(fault) => feed_fault(alloc, fault),
     }
 }
 
+fn count_text(alloc: Global, inputs: usize) -> Result<Vec<u8>, Fault> {
+    let text = format!(in alloc; "{inputs} inputs")?;
+    said(alloc, text.as_str())
+}
+
 /// The line of a copy of the entry that the bytes are the line of, which is in shape.
-fn entry(alloc: Global, bytes: &[u8]) -> Result<Vec<u8>, Fault> {
-    match read_entry(alloc, bytes)? {
-        Some(numbered) if is_in_shape(&numbered.entry) => {
-            let copy = numbered.entry.copy(alloc)?;
-            let mut text = Vec::new(alloc);
-            write_entry(numbered.number, &copy, &mut text)?;
-            Ok(text)
-        }
-        Some(_) => said(alloc, "out of shape"),
+fn entry(alloc: Global, args: &[Vec<u8>]) -> Result<Vec<u8>, Fault> {
+    match read_entry(alloc, one(args)?)? {
+        Some(numbered) => copied_text(alloc, &numbered),
         None => said(alloc, "no entry"),
     }
 }
 
+fn copied_text(alloc: Global, numbered: &Numbered) -> Result<Vec<u8>, Fault> {
+    if !is_in_shape(&numbered.entry) {
+        return said(alloc, "out of shape");
+    }
+    let copy = numbered.entry.copy(alloc)?;
+    entry_text(alloc, numbered.number, &copy)
+}
+
+fn entry_text(alloc: Global, number: u64, entry: &Entry) -> Result<Vec<u8>, Fault> {
+    let mut text = Vec::new(alloc);
+    write_entry(number, entry, &mut text)?;
+    Ok(text)
+}
+
 /// The text of the log that the bytes are the text of.
-fn log(alloc: Global, bytes: &[u8]) -> Result<Vec<u8>, Fault> {
-    match read_log(alloc, bytes) {
-        Ok(log) => {
-            let mut text = Vec::new(alloc);
-            for (place, entry) in log.as_slice().iter().enumerate() {
-                write_entry((place as u64).saturating_add(1), entry, &mut text)?;
-            }
-            Ok(text)
-        }
+fn log(alloc: Global, args: &[Vec<u8>]) -> Result<Vec<u8>, Fault> {
+    match read_log(alloc, one(args)?) {
+        Ok(log) => log_text(alloc, log.as_slice()),
         Err(LogFault::Line(number)) => {
             let text = format!(in alloc; "line {number}")?;
             said(alloc, text.as_str())
         }
         Err(LogFault::NoMemory) => Err(Fault::NoMemory),
     }
+}
+
+fn log_text(alloc: Global, log: &[Entry]) -> Result<Vec<u8>, Fault> {
+    let mut text = Vec::new(alloc);
+    for (place, entry) in log.iter().enumerate() {
+        write_entry((place as u64).saturating_add(1), entry, &mut text)?;
+    }
+    Ok(text)
 }

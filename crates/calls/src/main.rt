@@ -51,24 +51,49 @@ fn run_file(rt: &HostRuntime, file: &str, tally: &mut Tally) -> io::Result<()> {
 fn difference(alloc: Global, line: &str) -> Result<Option<String>, Fault> {
     let (call, wanted) = line.rsplit_once(" ->").ok_or(Fault::Line)?;
     let found = called(alloc, call)?;
+    other_than(alloc, wanted, found.as_slice())
+}
+
+/// What was found, where it is none of the answers that are wanted.
+fn other_than(alloc: Global, wanted: &str, found: &[u8]) -> Result<Option<String>, Fault> {
     for one in wanted.split(" or ") {
-        let one = meant(alloc, one.trim())?.ok_or(Fault::Line)?;
-        if one.as_slice() == found.as_slice() {
+        if is_meant(alloc, one, found)? {
             return Ok(None);
         }
     }
-    let found = str::from_utf8(found.as_slice()).unwrap_or("(no text)");
+    let found = str::from_utf8(found).unwrap_or("(no text)");
     Ok(Some(String::from_str(alloc, found)?))
+}
+
+/// Whether the text means these bytes.
+fn is_meant(alloc: Global, text: &str, bytes: &[u8]) -> Result<bool, Fault> {
+    let one = meant_by(alloc, text)?;
+    Ok(one.as_slice() == bytes)
 }
 
 /// What a call answers.
 fn called(alloc: Global, call: &str) -> Result<Vec<u8>, Fault> {
     let (name, rest) = call.split_once(' ').unwrap_or((call, ""));
+    let args = args_of(alloc, rest)?;
+    answered(alloc, name, args.as_slice())
+}
+
+/// What the arguments of a call mean.
+fn args_of(alloc: Global, text: &str) -> Result<Vec<Vec<u8>>, Fault> {
     let mut args = Vec::new(alloc);
-    for arg in rest.split(" | ") {
-        args.push(meant(alloc, arg.trim())?.ok_or(Fault::Line)?)?;
+    for arg in text.split(" | ") {
+        args.push(meant_by(alloc, arg)?)?;
     }
-    let args = args.as_slice();
+    Ok(args)
+}
+
+/// What an argument or an answer means.
+fn meant_by(alloc: Global, text: &str) -> Result<Vec<u8>, Fault> {
+    meant(alloc, text.trim())?.ok_or(Fault::Line)
+}
+
+/// What the call of this name answers.
+fn answered(alloc: Global, name: &str, args: &[Vec<u8>]) -> Result<Vec<u8>, Fault> {
     if let Some(answer) = values::answer(alloc, name, args)? {
         return Ok(answer);
     }

@@ -3,15 +3,19 @@
 
 use crate::fault::Fault;
 use crate::shared::shared_body;
-use crate::texts::{first, number, one, said, terms, two, utf8, value, yes_or_no};
+use crate::texts::{
+    first, found, none, number, one, said, term, term_text, terms, two, utf8, yes_or_no,
+};
 use crate::walkers::{count_bound, explored, seen_after};
 use std::alloc::Global;
 use tb_algebra::{Rewriter, is_ready};
-use tb_body::{Act, Body};
+use tb_body::{Act, Body, Program};
 use tb_func::{Store, eval, pattern};
 use tb_match::{Binds, match_list, match_term};
 use tb_script::{ScriptFault, load};
-use tb_terms::{Exprs, Items, Patterns, Sort, Terms, has_sort, initial, write_term};
+use tb_terms::{
+    Expr, Exprs, Items, NoMemory, Patterns, Sort, Terms, has_sort, initial, write_term,
+};
 use tb_walk::Walk;
 
 pub(crate) fn answer(
@@ -19,16 +23,48 @@ pub(crate) fn answer(
     name: &str,
     args: &[Vec<u8>],
 ) -> Result<Option<Vec<u8>>, Fault> {
+    if !is_call(name) {
+        return Ok(None);
+    }
+    let (text, others) = first(args)?;
+    let body = body_for(alloc, name, text)?;
+    over(alloc, name, &body, others)
+}
+
+fn is_call(name: &str) -> bool {
+    match name {
+        "offers" | "offers_shared" | "accepts" | "walkers_agree" | "is_ready" => true,
+        "eval" | "match_list" | "has_sort" | "initial" => true,
+        _ => false,
+    }
+}
+
+/// The body over which a call is made, of the call's first argument: a body, the name of one, times, or a sort.
+fn body_for(alloc: Global, name: &str, text: &[u8]) -> Result<Body, Fault> {
+    match name {
+        "offers_shared" => shared_body(alloc, text),
+        "is_ready" => timed_body(alloc, text),
+        "has_sort" | "initial" => sorted_body(alloc, text),
+        _ => body(alloc, text),
+    }
+}
+
+/// What a call answers over a body.
+fn over(
+    alloc: Global,
+    name: &str,
+    body: &Body,
+    args: &[Vec<u8>],
+) -> Result<Option<Vec<u8>>, Fault> {
     let found = match name {
-        "offers" => offers(alloc, args),
-        "offers_shared" => offers_shared(alloc, args),
-        "accepts" => accepted(alloc, args),
-        "walkers_agree" => agree(alloc, args),
-        "is_ready" => ready(alloc, args),
-        "eval" => evaluated(alloc, args),
-        "match_list" => matched(alloc, args),
-        "has_sort" => of_sort(alloc, args),
-        "initial" => initial_of(alloc, args),
+        "offers" | "offers_shared" => offers(alloc, body, args),
+        "accepts" => accepted(alloc, body, args),
+        "walkers_agree" => agree(alloc, body, args),
+        "is_ready" => ready(alloc, body, args),
+        "eval" => evaluated(alloc, body, args),
+        "match_list" => matched(alloc, body, args),
+        "has_sort" => of_sort(alloc, body, args),
+        "initial" => initial_of(alloc, body, args),
         _ => return Ok(None),
     };
     Ok(Some(found?))
@@ -45,14 +81,23 @@ const CALLED: &str = "process One(X : int) is if equal(X, 1) then tau fi \
 
 /// The body of a script's first process.
 fn first_body(alloc: Global, script: &str) -> Result<Body, Fault> {
-    let program = match load(alloc, script.as_bytes()) {
-        Ok(program) => program,
-        Err(ScriptFault::NoMemory) => return Err(Fault::NoMemory),
-        Err(_) => return Err(Fault::Argument),
-    };
+    match load(alloc, script.as_bytes()) {
+        Ok(program) => copy_first(alloc, &program),
+        Err(fault) => Err(fault_of(&fault)),
+    }
+}
+
+fn copy_first(alloc: Global, program: &Program) -> Result<Body, Fault> {
     match program.bodies.as_slice().first() {
         Some(body) => Ok(body.copy(alloc)?),
         None => Err(Fault::Argument),
+    }
+}
+
+fn fault_of(fault: &ScriptFault) -> Fault {
+    match fault {
+        ScriptFault::NoMemory => Fault::NoMemory,
+        _ => Fault::Argument,
     }
 }
 
@@ -63,33 +108,40 @@ fn body(alloc: Global, text: &[u8]) -> Result<Body, Fault> {
     first_body(alloc, script.as_str())
 }
 
-fn offers(alloc: Global, args: &[Vec<u8>]) -> Result<Vec<u8>, Fault> {
-    let (text, moves) = two(args)?;
-    offers_of(alloc, &body(alloc, text)?, moves)
+/// The body of an atom with these times.
+fn timed_body(alloc: Global, times: &[u8]) -> Result<Body, Fault> {
+    let times = utf8(times)?;
+    let text = format!(in alloc; "tau {times}")?;
+    body(alloc, text.as_bytes())
 }
 
-fn offers_shared(alloc: Global, args: &[Vec<u8>]) -> Result<Vec<u8>, Fault> {
-    let (text, moves) = two(args)?;
-    offers_of(alloc, &shared_body(alloc, text)?, moves)
+/// The body of an atom, with a variable of this sort.
+fn sorted_body(alloc: Global, sort: &[u8]) -> Result<Body, Fault> {
+    let sort = utf8(sort)?;
+    let script = format!(in alloc; "process P(X : {sort}) is tau {CALLED}")?;
+    first_body(alloc, script.as_str())
 }
 
 /// What a process may do next after these moves, over both kinds of walkers.
-fn offers_of(alloc: Global, body: &Body, moves: &[u8]) -> Result<Vec<u8>, Fault> {
+fn offers(alloc: Global, body: &Body, args: &[Vec<u8>]) -> Result<Vec<u8>, Fault> {
+    let moves = one(args)?;
     let rewritten = seen_after::<Rewriter>(alloc, body, moves)?;
     let walked = seen_after::<Walk>(alloc, body, moves)?;
-    if rewritten.as_str() == walked.as_str() {
-        return said(alloc, walked.as_str());
+    both_text(alloc, walked.as_str(), rewritten.as_str())
+}
+
+fn both_text(alloc: Global, walked: &str, rewritten: &str) -> Result<Vec<u8>, Fault> {
+    if rewritten == walked {
+        return said(alloc, walked);
     }
     let text = format!(in alloc; "{walked}, and by rewriting {rewritten}")?;
     said(alloc, text.as_str())
 }
 
 /// How many variables a process binds as it receives terms, where it may; its first offer receives.
-fn accepted(alloc: Global, args: &[Vec<u8>]) -> Result<Vec<u8>, Fault> {
-    let (text, others) = first(args)?;
-    let body = body(alloc, text)?;
-    let terms = terms(alloc, others)?;
-    counted(alloc, &body, &terms)
+fn accepted(alloc: Global, body: &Body, args: &[Vec<u8>]) -> Result<Vec<u8>, Fault> {
+    let terms = terms(alloc, args)?;
+    counted(alloc, body, &terms)
 }
 
 fn counted(alloc: Global, body: &Body, terms: &Terms) -> Result<Vec<u8>, Fault> {
@@ -110,10 +162,10 @@ fn count_text(alloc: Global, count: Option<usize>) -> Result<Vec<u8>, Fault> {
 }
 
 /// Whether both kinds of walkers offer the same and send the same values, at first and after each list of up to four moves.
-fn agree(alloc: Global, args: &[Vec<u8>]) -> Result<Vec<u8>, Fault> {
-    let body = body(alloc, one(args)?)?;
-    let rewritten = explored::<Rewriter>(alloc, &body)?;
-    let walked = explored::<Walk>(alloc, &body)?;
+fn agree(alloc: Global, body: &Body, args: &[Vec<u8>]) -> Result<Vec<u8>, Fault> {
+    none(args)?;
+    let rewritten = explored::<Rewriter>(alloc, body)?;
+    let walked = explored::<Walk>(alloc, body)?;
     let offers = rewritten.offers.as_str() == walked.offers.as_str();
     yes_or_no(
         alloc,
@@ -121,22 +173,10 @@ fn agree(alloc: Global, args: &[Vec<u8>]) -> Result<Vec<u8>, Fault> {
     )
 }
 
-/// Whether an atom with these times is ready at an age and after so many ticks, as its process begins.
-fn ready(alloc: Global, args: &[Vec<u8>]) -> Result<Vec<u8>, Fault> {
-    let (times, others) = first(args)?;
-    let (age, now) = two(others)?;
-    let times = utf8(times)?;
-    let text = format!(in alloc; "tau {times}")?;
-    ready_at(
-        alloc,
-        &body(alloc, text.as_bytes())?,
-        number(age)?,
-        number(now)?,
-    )
-}
-
-/// Whether the first atom of a body is ready.
-fn ready_at(alloc: Global, body: &Body, age: u64, now: u64) -> Result<Vec<u8>, Fault> {
+/// Whether the first atom of a body is ready at an age and after so many ticks, as its process begins.
+fn ready(alloc: Global, body: &Body, args: &[Vec<u8>]) -> Result<Vec<u8>, Fault> {
+    let (age, now) = two(args)?;
+    let (age, now) = (number(age)?, number(now)?);
     let Some(atom) = body.atoms.as_slice().first() else {
         return Err(Fault::Argument);
     };
@@ -157,21 +197,34 @@ fn sent(body: &Body) -> Result<&Exprs, Fault> {
 }
 
 /// The value of the first expression that a body's first atom sends.
-fn evaluated(alloc: Global, args: &[Vec<u8>]) -> Result<Vec<u8>, Fault> {
-    let body = body(alloc, one(args)?)?;
-    let store = Store::fresh(alloc, &body.sorts)?;
-    match sent(&body)?.as_slice().first() {
-        Some(expr) => value(alloc, &eval(alloc, expr, &store)?),
+fn evaluated(alloc: Global, body: &Body, args: &[Vec<u8>]) -> Result<Vec<u8>, Fault> {
+    none(args)?;
+    match sent(body)?.as_slice().first() {
+        Some(expr) => fresh_value(alloc, body, expr),
         None => Err(Fault::Argument),
     }
 }
 
+/// The value of an expression as a process of this body begins.
+fn fresh_value(alloc: Global, body: &Body, expr: &Expr) -> Result<Vec<u8>, Fault> {
+    let store = Store::fresh(alloc, &body.sorts)?;
+    found(alloc, eval(alloc, expr, &store))
+}
+
 /// The patterns of what the first atom of a body receives.
 fn patterns(alloc: Global, body: &Body) -> Result<Patterns, Fault> {
+    let exprs = received(body)?;
     let store = Store::fresh(alloc, &body.sorts)?;
+    all_patterns(alloc, exprs.as_slice(), &store)
+}
+
+fn all_patterns(alloc: Global, exprs: &[Expr], store: &Store) -> Result<Patterns, Fault> {
     let mut patterns = Items::new(alloc);
-    for expr in received(body)?.as_slice() {
-        patterns.push(pattern(alloc, expr, &store)?.ok_or(Fault::Argument)?)?;
+    for expr in exprs {
+        match pattern(alloc, expr, store)? {
+            Some(pattern) => patterns.push(pattern)?,
+            None => return Err(Fault::Argument),
+        }
     }
     Ok(patterns)
 }
@@ -187,24 +240,42 @@ fn received(body: &Body) -> Result<&Exprs, Fault> {
 }
 
 /// What terms bind where they match what a body's first atom receives. One term is matched by itself too.
-fn matched(alloc: Global, args: &[Vec<u8>]) -> Result<Vec<u8>, Fault> {
-    let (text, others) = first(args)?;
-    let patterns = patterns(alloc, &body(alloc, text)?)?;
-    let terms = terms(alloc, others)?;
-    let found = binds_text(alloc, &match_list(alloc, &patterns, &terms)?)?;
+fn matched(alloc: Global, body: &Body, args: &[Vec<u8>]) -> Result<Vec<u8>, Fault> {
+    let patterns = patterns(alloc, body)?;
+    let terms = terms(alloc, args)?;
+    both_matches(alloc, &patterns, &terms)
+}
+
+fn both_matches(alloc: Global, patterns: &Patterns, terms: &Terms) -> Result<Vec<u8>, Fault> {
+    let found = match_text(alloc, match_list(alloc, patterns, terms))?;
     if let ([pattern], [term]) = (patterns.as_slice(), terms.as_slice()) {
-        let alone = binds_text(alloc, &match_term(alloc, pattern, term)?)?;
-        if alone.as_slice() != found.as_slice() {
-            return said(alloc, "another match by itself");
-        }
+        return alone_too(alloc, found, match_term(alloc, pattern, term));
     }
     Ok(found)
 }
 
-fn binds_text(alloc: Global, binds: &Option<Binds>) -> Result<Vec<u8>, Fault> {
-    let Some(binds) = binds else {
-        return said(alloc, "no match");
-    };
+/// What was found, where one pattern by itself finds it too.
+fn alone_too(
+    alloc: Global,
+    found: Vec<u8>,
+    alone: Result<Option<Binds>, NoMemory>,
+) -> Result<Vec<u8>, Fault> {
+    let alone = match_text(alloc, alone)?;
+    if alone.as_slice() != found.as_slice() {
+        return said(alloc, "another match by itself");
+    }
+    Ok(found)
+}
+
+fn match_text(alloc: Global, found: Result<Option<Binds>, NoMemory>) -> Result<Vec<u8>, Fault> {
+    match found {
+        Ok(Some(binds)) => binds_text(alloc, &binds),
+        Ok(None) => said(alloc, "no match"),
+        Err(NoMemory) => Err(Fault::NoMemory),
+    }
+}
+
+fn binds_text(alloc: Global, binds: &Binds) -> Result<Vec<u8>, Fault> {
     let mut text = said(alloc, "match")?;
     for bind in binds.as_slice() {
         let slot = format!(in alloc; " {}=", bind.slot)?;
@@ -214,28 +285,24 @@ fn binds_text(alloc: Global, binds: &Option<Binds>) -> Result<Vec<u8>, Fault> {
     Ok(text)
 }
 
-/// The sort that this text has.
-fn sort(alloc: Global, text: &[u8]) -> Result<Sort, Fault> {
-    let text = utf8(text)?;
-    let script = format!(in alloc; "process P(X : {text}) is tau {CALLED}")?;
-    match first_body(alloc, script.as_str())?.sorts.as_slice().first() {
-        Some(sort) => Ok(sort.copy(alloc)?),
+/// The sort of a body's first variable.
+fn sort(body: &Body) -> Result<&Sort, Fault> {
+    match body.sorts.as_slice().first() {
+        Some(sort) => Ok(sort),
         None => Err(Fault::Argument),
     }
 }
 
 /// The initial value of a sort.
-fn initial_of(alloc: Global, args: &[Vec<u8>]) -> Result<Vec<u8>, Fault> {
-    let sort = sort(alloc, one(args)?)?;
-    value(alloc, &Some(initial(alloc, &sort)?))
+fn initial_of(alloc: Global, body: &Body, args: &[Vec<u8>]) -> Result<Vec<u8>, Fault> {
+    none(args)?;
+    let term = initial(alloc, sort(body)?)?;
+    term_text(alloc, &term)
 }
 
 /// Whether a term has a sort.
-fn of_sort(alloc: Global, args: &[Vec<u8>]) -> Result<Vec<u8>, Fault> {
-    let (text, others) = first(args)?;
-    let sort = sort(alloc, text)?;
-    match terms(alloc, others)?.as_slice() {
-        [term] => yes_or_no(alloc, has_sort(term, &sort)),
-        _ => Err(Fault::Line),
-    }
+fn of_sort(alloc: Global, body: &Body, args: &[Vec<u8>]) -> Result<Vec<u8>, Fault> {
+    let sort = sort(body)?;
+    let term = term(alloc, one(args)?)?;
+    yes_or_no(alloc, has_sort(&term, sort))
 }

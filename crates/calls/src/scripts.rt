@@ -3,10 +3,12 @@
 use crate::fault::Fault;
 use crate::texts::{number, one, said, two, yes_or_no};
 use std::alloc::Global;
+use tb_body::Body;
 use tb_expand::{ExpandFault, expand};
 use tb_lex::{Symbol, Token, TokenKind, Tokens, lex};
 use tb_parse::{ParseFault, parse};
-use tb_syntax::{is_atom_word, is_reserved, is_sort_word, is_time_word, print_script};
+use tb_syntax::{Script, is_atom_word, is_reserved, is_sort_word, is_time_word, print_script};
+use tb_terms::NoMemory;
 use tb_types::check;
 
 pub(crate) fn answer(
@@ -15,17 +17,17 @@ pub(crate) fn answer(
     args: &[Vec<u8>],
 ) -> Result<Option<Vec<u8>>, Fault> {
     let found = match name {
-        "lex" => lexed(alloc, one(args)?)?,
-        "parse" => parsed(alloc, one(args)?)?,
-        "print_script" => printed(alloc, one(args)?)?,
-        "print_alike" => are_alike(alloc, two(args)?)?,
-        "print_again" => is_kept(alloc, one(args)?)?,
-        "stops_right" => stops_right(alloc, one(args)?)?,
-        "expand" => expanded(alloc, two(args)?)?,
-        "word" => word(alloc, one(args)?)?,
+        "lex" => lexed(alloc, args),
+        "parse" => parsed(alloc, args),
+        "print_script" => print_of(alloc, args),
+        "print_alike" => are_alike(alloc, args),
+        "print_again" => is_kept(alloc, args),
+        "stops_right" => stops_right(alloc, args),
+        "expand" => expanded(alloc, args),
+        "word" => word(alloc, args),
         _ => return Ok(None),
     };
-    Ok(Some(found))
+    Ok(Some(found?))
 }
 
 fn symbol_text(symbol: Symbol) -> &'static [u8] {
@@ -52,7 +54,13 @@ fn symbol_text(symbol: Symbol) -> &'static [u8] {
 
 /// Writes a token as its kind and what it holds, and the positions at which it begins and ends.
 fn write_token(alloc: Global, token: &Token, into: &mut Vec<u8>) -> Result<(), Fault> {
-    match &token.kind {
+    write_kind(alloc, &token.kind, into)?;
+    let text = format!(in alloc; " {} {}", token.from, token.to)?;
+    Ok(into.extend_from_slice(text.as_bytes())?)
+}
+
+fn write_kind(alloc: Global, kind: &TokenKind, into: &mut Vec<u8>) -> Result<(), Fault> {
+    match kind {
         TokenKind::Int(number) => {
             let text = format!(in alloc; "int {number}")?;
             into.extend_from_slice(text.as_bytes())?;
@@ -71,24 +79,26 @@ fn write_token(alloc: Global, token: &Token, into: &mut Vec<u8>) -> Result<(), F
         }
         TokenKind::Symbol(symbol) => into.extend_from_slice(symbol_text(*symbol))?,
     }
-    let text = format!(in alloc; " {} {}", token.from, token.to)?;
-    into.extend_from_slice(text.as_bytes())?;
     Ok(())
 }
 
 /// The tokens of a text; of more than a hundred their number.
-fn lexed(alloc: Global, text: &[u8]) -> Result<Vec<u8>, Fault> {
-    match lex(alloc, text) {
-        Ok(tokens) if tokens.len() > 100 => {
-            let text = format!(in alloc; "{} tokens", tokens.len())?;
-            said(alloc, text.as_str())
-        }
-        Ok(tokens) => tokens_text(alloc, &tokens),
+fn lexed(alloc: Global, args: &[Vec<u8>]) -> Result<Vec<u8>, Fault> {
+    match lex(alloc, one(args)?) {
+        Ok(tokens) => some_tokens(alloc, &tokens),
         Err(fault) => {
             let text = format!(in alloc; "{fault}")?;
             said(alloc, text.as_str())
         }
     }
+}
+
+fn some_tokens(alloc: Global, tokens: &Tokens) -> Result<Vec<u8>, Fault> {
+    if tokens.len() > 100 {
+        let text = format!(in alloc; "{} tokens", tokens.len())?;
+        return said(alloc, text.as_str());
+    }
+    tokens_text(alloc, tokens)
 }
 
 fn tokens_text(alloc: Global, tokens: &Tokens) -> Result<Vec<u8>, Fault> {
@@ -103,15 +113,13 @@ fn tokens_text(alloc: Global, tokens: &Tokens) -> Result<Vec<u8>, Fault> {
 }
 
 fn fault_of(alloc: Global, text: &[u8]) -> Result<Option<ParseFault>, Fault> {
-    match parse(alloc, &lex(alloc, text)?) {
-        Ok(_script) => Ok(None),
-        Err(fault) => Ok(Some(fault)),
-    }
+    let tokens = lex(alloc, text)?;
+    Ok(parse(alloc, &tokens).err())
 }
 
 /// Whether a text is a script, or its fault.
-fn parsed(alloc: Global, text: &[u8]) -> Result<Vec<u8>, Fault> {
-    match fault_of(alloc, text)? {
+fn parsed(alloc: Global, args: &[Vec<u8>]) -> Result<Vec<u8>, Fault> {
+    match fault_of(alloc, one(args)?)? {
         None => said(alloc, "a script"),
         Some(fault) => {
             let text = format!(in alloc; "{fault}")?;
@@ -120,17 +128,32 @@ fn parsed(alloc: Global, text: &[u8]) -> Result<Vec<u8>, Fault> {
     }
 }
 
+fn print_of(alloc: Global, args: &[Vec<u8>]) -> Result<Vec<u8>, Fault> {
+    printed(alloc, one(args)?)
+}
+
 /// The text that is printed for the script of a text.
 fn printed(alloc: Global, text: &[u8]) -> Result<Vec<u8>, Fault> {
     let tokens = lex(alloc, text)?;
-    let script = parse(alloc, &tokens)?;
-    Ok(print_script(alloc, &script)?)
+    print_tokens(alloc, &tokens)
+}
+
+fn print_tokens(alloc: Global, tokens: &Tokens) -> Result<Vec<u8>, Fault> {
+    match parse(alloc, tokens) {
+        Ok(script) => with_memory(print_script(alloc, &script)),
+        Err(fault) => Err(Fault::from(fault)),
+    }
+}
+
+fn with_memory(text: Result<Vec<u8>, NoMemory>) -> Result<Vec<u8>, Fault> {
+    Ok(text?)
 }
 
 /// Whether two texts have the same print.
-fn are_alike(alloc: Global, texts: (&[u8], &[u8])) -> Result<Vec<u8>, Fault> {
-    let first = printed(alloc, texts.0)?;
-    let second = printed(alloc, texts.1)?;
+fn are_alike(alloc: Global, args: &[Vec<u8>]) -> Result<Vec<u8>, Fault> {
+    let (text, other) = two(args)?;
+    let first = printed(alloc, text)?;
+    let second = printed(alloc, other)?;
     yes_or_no(alloc, first.as_slice() == second.as_slice())
 }
 
@@ -147,15 +170,22 @@ fn count(tokens: &Tokens) -> usize {
 }
 
 /// Whether a text's print is read back and printed alike, and has the tokens of the text.
-fn is_kept(alloc: Global, text: &[u8]) -> Result<Vec<u8>, Fault> {
+fn is_kept(alloc: Global, args: &[Vec<u8>]) -> Result<Vec<u8>, Fault> {
+    let text = one(args)?;
     let once = printed(alloc, text)?;
-    let twice = printed(alloc, once.as_slice())?;
-    let wanted = count(&lex(alloc, text)?);
-    let found = count(&lex(alloc, once.as_slice())?);
-    yes_or_no(
-        alloc,
-        once.as_slice() == twice.as_slice() && found == wanted,
-    )
+    let is_kept = keeps(alloc, text, once.as_slice())?;
+    yes_or_no(alloc, is_kept)
+}
+
+fn keeps(alloc: Global, text: &[u8], once: &[u8]) -> Result<bool, Fault> {
+    let twice = printed(alloc, once)?;
+    let wanted = count_of(alloc, text)?;
+    Ok(once == twice.as_slice() && count_of(alloc, once)? == wanted)
+}
+
+fn count_of(alloc: Global, text: &[u8]) -> Result<usize, Fault> {
+    let tokens = lex(alloc, text)?;
+    Ok(count(&tokens))
 }
 
 /// The text up to the token at this index.
@@ -167,40 +197,62 @@ fn text_before<'a>(text: &'a [u8], tokens: &Tokens, at: usize) -> &'a [u8] {
 }
 
 /// Whether a text is a script, or the tokens in front of its fault begin a script, and with the one at it don't.
-fn stops_right(alloc: Global, text: &[u8]) -> Result<Vec<u8>, Fault> {
-    let tokens = lex(alloc, text)?;
+fn stops_right(alloc: Global, args: &[Vec<u8>]) -> Result<Vec<u8>, Fault> {
+    let text = one(args)?;
     let right = match fault_of(alloc, text)? {
         None => true,
-        Some(ParseFault::Syntax(at)) if at < tokens.len() => {
-            let before = fault_of(alloc, text_before(text, &tokens, at))?;
-            let with = fault_of(alloc, text_before(text, &tokens, at + 1))?;
-            let begins = before.is_none() || before == Some(ParseFault::Syntax(at));
-            begins && with == Some(ParseFault::Syntax(at))
-        }
-        Some(ParseFault::Syntax(at)) => at == tokens.len(),
+        Some(ParseFault::Syntax(at)) => stops_at(alloc, text, at)?,
         Some(_) => false,
     };
     yes_or_no(alloc, right)
 }
 
+fn stops_at(alloc: Global, text: &[u8], at: usize) -> Result<bool, Fault> {
+    let tokens = lex(alloc, text)?;
+    if at >= tokens.len() {
+        return Ok(at == tokens.len());
+    }
+    let (before, with) = (
+        text_before(text, &tokens, at),
+        text_before(text, &tokens, at + 1),
+    );
+    splits(alloc, before, with, at)
+}
+
+/// Whether the first text begins a script, and the other one doesn't, for its token at this index.
+fn splits(alloc: Global, before: &[u8], with: &[u8], at: usize) -> Result<bool, Fault> {
+    let stop = Some(ParseFault::Syntax(at));
+    let first = fault_of(alloc, before)?;
+    let begins = first.is_none() || first == stop;
+    Ok(begins && fault_of(alloc, with)? == stop)
+}
+
 /// How many atoms and slots the expansion of the process at this position has, or why there is none.
-fn expanded(alloc: Global, texts: (&[u8], &[u8])) -> Result<Vec<u8>, Fault> {
-    let at = number(texts.0)?;
-    let tokens = lex(alloc, texts.1)?;
-    let script = parse(alloc, &tokens)?;
-    check(alloc, &script)?;
+fn expanded(alloc: Global, args: &[Vec<u8>]) -> Result<Vec<u8>, Fault> {
+    let (position, text) = two(args)?;
+    let at = number(position)?;
+    let tokens = lex(alloc, text)?;
+    match parse(alloc, &tokens) {
+        Ok(script) => expanded_at(alloc, &script, at),
+        Err(fault) => Err(Fault::from(fault)),
+    }
+}
+
+fn expanded_at(alloc: Global, script: &Script, at: u64) -> Result<Vec<u8>, Fault> {
+    check(alloc, script)?;
     if at >= script.procs.len() as u64 {
         return Err(Fault::Argument);
     }
-    let at = at as usize;
-    match expand(alloc, &script, at) {
-        Ok(body) => {
-            let atoms = body.atoms.len();
-            let text = format!(in alloc; "{atoms} atoms, {} slots", body.sorts.len())?;
-            said(alloc, text.as_str())
-        }
+    match expand(alloc, script, at as usize) {
+        Ok(body) => size_text(alloc, &body),
         Err(fault) => expand_fault(alloc, &fault),
     }
+}
+
+fn size_text(alloc: Global, body: &Body) -> Result<Vec<u8>, Fault> {
+    let atoms = body.atoms.len();
+    let text = format!(in alloc; "{atoms} atoms, {} slots", body.sorts.len())?;
+    said(alloc, text.as_str())
 }
 
 fn expand_fault(alloc: Global, fault: &ExpandFault) -> Result<Vec<u8>, Fault> {
@@ -219,7 +271,8 @@ fn expand_fault(alloc: Global, fault: &ExpandFault) -> Result<Vec<u8>, Fault> {
 }
 
 /// What a word is in scripts.
-fn word(alloc: Global, bytes: &[u8]) -> Result<Vec<u8>, Fault> {
+fn word(alloc: Global, args: &[Vec<u8>]) -> Result<Vec<u8>, Fault> {
+    let bytes = one(args)?;
     let mut text = Vec::new(alloc);
     for (holds, kind) in [
         (is_reserved(bytes), "reserved "),

@@ -26,18 +26,38 @@ fn when_one(alloc: Global, part: Boxed<Tree>) -> Result<Boxed<Tree>, NoMemory> {
 
 /// The tree of this name.
 fn shared_tree(alloc: Global, name: &[u8]) -> Result<Tree, Fault> {
-    let first = at(alloc, 1)?;
-    let second = at(alloc, 2)?;
     match name {
-        b"beside" => Ok(Tree::Par(when_one(alloc, first)?, set(alloc, 1, second)?)),
-        b"behind" => Ok(Tree::Seq(set(alloc, 1, first)?, when_one(alloc, second)?)),
-        b"after turns" => Ok(Tree::Star(set(alloc, 1, first)?, when_one(alloc, second)?)),
-        b"set again" => {
-            let inner = set(alloc, 1, when_one(alloc, first)?)?;
-            Ok(Tree::Seq(set(alloc, 2, inner)?, second))
-        }
+        b"beside" => Ok(beside(alloc)?),
+        b"behind" => Ok(behind(alloc)?),
+        b"after turns" => Ok(after_turns(alloc)?),
+        b"set again" => Ok(set_again(alloc)?),
         _ => Err(Fault::Argument),
     }
+}
+
+fn beside(alloc: Global) -> Result<Tree, NoMemory> {
+    let first = when_one(alloc, at(alloc, 1)?)?;
+    let second = set(alloc, 1, at(alloc, 2)?)?;
+    Ok(Tree::Par(first, second))
+}
+
+fn behind(alloc: Global) -> Result<Tree, NoMemory> {
+    let first = set(alloc, 1, at(alloc, 1)?)?;
+    let second = when_one(alloc, at(alloc, 2)?)?;
+    Ok(Tree::Seq(first, second))
+}
+
+fn after_turns(alloc: Global) -> Result<Tree, NoMemory> {
+    let first = set(alloc, 1, at(alloc, 1)?)?;
+    let second = when_one(alloc, at(alloc, 2)?)?;
+    Ok(Tree::Star(first, second))
+}
+
+fn set_again(alloc: Global) -> Result<Tree, NoMemory> {
+    let inner = set(alloc, 1, when_one(alloc, at(alloc, 1)?)?)?;
+    let first = set(alloc, 2, inner)?;
+    let second = at(alloc, 2)?;
+    Ok(Tree::Seq(first, second))
 }
 
 /// The body of this name, whose only variable is a number, 0 at first.

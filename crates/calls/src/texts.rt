@@ -1,9 +1,22 @@
 //! Arguments that are read, and answers that are written.
+//!
+//! Here and in the files beside this one a function that has made a term, a script or another value of many forms lends it to
+//! another and returns what that answers: a fault that passes through while such a value is held costs its proof a case for
+//! each form.
 
 use crate::fault::Fault;
 use std::alloc::Global;
 use tb_read::{TermFault, read_term};
-use tb_terms::{Items, Term, Terms, write_term};
+use tb_terms::{Items, NoMemory, Term, Terms, write_term};
+
+/// That there are no further arguments.
+pub(crate) fn none(args: &[Vec<u8>]) -> Result<(), Fault> {
+    if args.is_empty() {
+        Ok(())
+    } else {
+        Err(Fault::Line)
+    }
+}
 
 /// The only argument.
 pub(crate) fn one(args: &[Vec<u8>]) -> Result<&[u8], Fault> {
@@ -69,14 +82,20 @@ pub(crate) fn yes_or_no(alloc: Global, holds: bool) -> Result<Vec<u8>, Fault> {
     said(alloc, if holds { "yes" } else { "no" })
 }
 
-/// The text of a value, where there is one.
-pub(crate) fn value(alloc: Global, found: &Option<Term>) -> Result<Vec<u8>, Fault> {
-    match found {
-        Some(term) => {
-            let mut text = Vec::new(alloc);
-            write_term(term, &mut text)?;
-            Ok(text)
-        }
-        None => said(alloc, "no value"),
+pub(crate) fn term_text(alloc: Global, term: &Term) -> Result<Vec<u8>, Fault> {
+    let mut text = Vec::new(alloc);
+    write_term(term, &mut text)?;
+    Ok(text)
+}
+
+/// The text of the value that was found, where there is one.
+pub(crate) fn found(
+    alloc: Global,
+    value: Result<Option<Term>, NoMemory>,
+) -> Result<Vec<u8>, Fault> {
+    match value {
+        Ok(Some(term)) => term_text(alloc, &term),
+        Ok(None) => said(alloc, "no value"),
+        Err(NoMemory) => Err(Fault::NoMemory),
     }
 }

@@ -1,13 +1,11 @@
 //! Calls of the libraries of terms and of values.
 
 use crate::fault::Fault;
-use crate::texts::{first, number, one, said, term, terms, two, value, yes_or_no};
+use crate::texts::{first, found, number, one, said, term, term_text, terms, two, yes_or_no};
 use std::alloc::Global;
 use tb_func::{apply, function, printf_text};
 use tb_read::{Limits, TermFault, read_term, read_within};
-use tb_terms::{
-    Ident, Name, Term, Text, depth, is_ident_bytes, is_name_bytes, same, size, write_term,
-};
+use tb_terms::{Func, Ident, Name, Term, Text, depth, is_ident_bytes, is_name_bytes, same, size};
 
 pub(crate) fn answer(
     alloc: Global,
@@ -15,18 +13,18 @@ pub(crate) fn answer(
     args: &[Vec<u8>],
 ) -> Result<Option<Vec<u8>>, Fault> {
     let found = match name {
-        "read_term" => read(alloc, one(args)?)?,
-        "read_within" => read_in(alloc, args)?,
-        "measure" => measure(alloc, one(args)?)?,
-        "is_name" => yes_or_no(alloc, is_name(alloc, one(args)?)?)?,
-        "is_ident" => yes_or_no(alloc, is_ident(alloc, one(args)?)?)?,
-        "is_string" => yes_or_no(alloc, is_string(alloc, one(args)?)?)?,
-        "apply" => applied(alloc, args)?,
-        "printf_text" => value(alloc, &printf_text(alloc, &terms(alloc, args)?)?)?,
-        "same" => are_same(alloc, two(args)?)?,
+        "read_term" => read(alloc, args),
+        "read_within" => read_in(alloc, args),
+        "measure" => measure(alloc, args),
+        "is_name" => is_name(alloc, args),
+        "is_ident" => is_ident(alloc, args),
+        "is_string" => is_string(alloc, args),
+        "apply" => applied(alloc, args),
+        "printf_text" => printed(alloc, args),
+        "same" => are_same(alloc, args),
         _ => return Ok(None),
     };
-    Ok(Some(found))
+    Ok(Some(found?))
 }
 
 fn fault_text(alloc: Global, fault: TermFault) -> Result<Vec<u8>, Fault> {
@@ -43,18 +41,25 @@ fn fault_text(alloc: Global, fault: TermFault) -> Result<Vec<u8>, Fault> {
 }
 
 /// The text of the term that is read, which is read as the same term.
-fn read(alloc: Global, text: &[u8]) -> Result<Vec<u8>, Fault> {
-    match read_term(alloc, text) {
-        Ok(read) => {
-            let mut text = Vec::new(alloc);
-            write_term(&read, &mut text)?;
-            if same(&term(alloc, text.as_slice())?, &read) {
-                return Ok(text);
-            }
-            said(alloc, "another term")
-        }
+fn read(alloc: Global, args: &[Vec<u8>]) -> Result<Vec<u8>, Fault> {
+    match read_term(alloc, one(args)?) {
+        Ok(read) => read_again(alloc, &read),
         Err(fault) => fault_text(alloc, fault),
     }
+}
+
+fn read_again(alloc: Global, read: &Term) -> Result<Vec<u8>, Fault> {
+    let text = term_text(alloc, read)?;
+    if is_text_of(alloc, text.as_slice(), read)? {
+        return Ok(text);
+    }
+    said(alloc, "another term")
+}
+
+/// Whether the text is read as this term.
+fn is_text_of(alloc: Global, text: &[u8], wanted: &Term) -> Result<bool, Fault> {
+    let read = term(alloc, text)?;
+    Ok(same(&read, wanted))
 }
 
 /// The same within a size and a number of levels.
@@ -70,67 +75,103 @@ fn read_in(alloc: Global, args: &[Vec<u8>]) -> Result<Vec<u8>, Fault> {
         levels: of_levels as usize,
     };
     match read_within(alloc, text, limits) {
-        Ok(term) => value(alloc, &Some(term)),
+        Ok(term) => term_text(alloc, &term),
         Err(fault) => fault_text(alloc, fault),
     }
 }
 
 /// The size and the levels of a term's copy, which is the same as the term.
-fn measure(alloc: Global, text: &[u8]) -> Result<Vec<u8>, Fault> {
-    let read = term(alloc, text)?;
+fn measure(alloc: Global, args: &[Vec<u8>]) -> Result<Vec<u8>, Fault> {
+    let read = term(alloc, one(args)?)?;
+    measure_copy(alloc, &read)
+}
+
+fn measure_copy(alloc: Global, read: &Term) -> Result<Vec<u8>, Fault> {
     let copy = read.copy(alloc)?;
-    if !same(&read, &copy) {
+    measured(alloc, &copy, same(read, &copy))
+}
+
+fn measured(alloc: Global, copy: &Term, is_same: bool) -> Result<Vec<u8>, Fault> {
+    if !is_same {
         return said(alloc, "another term");
     }
-    let text = format!(in alloc; "{} {}", size(&copy), depth(&copy))?;
+    let text = format!(in alloc; "{} {}", size(copy), depth(copy))?;
     said(alloc, text.as_str())
 }
 
 /// Whether each call says of the bytes that they are a name.
-fn is_name(alloc: Global, bytes: &[u8]) -> Result<bool, Fault> {
+fn is_name(alloc: Global, args: &[Vec<u8>]) -> Result<Vec<u8>, Fault> {
+    let bytes = one(args)?;
     let copied = Name::from_bytes(alloc, bytes)?.is_some();
     let moved = match Name::from_vec(Vec::from_slice(alloc, bytes)?) {
         Some(name) => name.into_vec().as_slice() == bytes,
         None => false,
     };
-    if moved != copied || is_name_bytes(bytes) != copied {
-        return Err(Fault::Argument);
-    }
-    Ok(copied)
+    agreed(alloc, [copied, moved, is_name_bytes(bytes)])
 }
 
 /// Whether each call says of the bytes that they are an identifier.
-fn is_ident(alloc: Global, bytes: &[u8]) -> Result<bool, Fault> {
+fn is_ident(alloc: Global, args: &[Vec<u8>]) -> Result<Vec<u8>, Fault> {
+    let bytes = one(args)?;
     let copied = Ident::from_bytes(alloc, bytes)?.is_some();
     let moved = match Ident::from_vec(Vec::from_slice(alloc, bytes)?) {
         Some(ident) => ident.into_vec().as_slice() == bytes,
         None => false,
     };
-    if moved != copied || is_ident_bytes(bytes) != copied {
+    agreed(alloc, [copied, moved, is_ident_bytes(bytes)])
+}
+
+/// What calls say that have to say the same.
+fn agreed(alloc: Global, say: [bool; 3]) -> Result<Vec<u8>, Fault> {
+    let [copied, moved, looked_at] = say;
+    if moved != copied || looked_at != copied {
         return Err(Fault::Argument);
     }
-    Ok(copied)
+    yes_or_no(alloc, copied)
 }
 
 /// Whether the bytes are a string, and are given back.
-fn is_string(alloc: Global, bytes: &[u8]) -> Result<bool, Fault> {
-    match Text::from_vec(Vec::from_slice(alloc, bytes)?) {
-        Some(text) => Ok(text.into_vec().as_slice() == bytes),
-        None => Ok(false),
-    }
+fn is_string(alloc: Global, args: &[Vec<u8>]) -> Result<Vec<u8>, Fault> {
+    let bytes = one(args)?;
+    let is_given = match Text::from_vec(Vec::from_slice(alloc, bytes)?) {
+        Some(text) => text.into_vec().as_slice() == bytes,
+        None => false,
+    };
+    yes_or_no(alloc, is_given)
 }
 
 /// What the function of this name gives for these arguments.
 fn applied(alloc: Global, args: &[Vec<u8>]) -> Result<Vec<u8>, Fault> {
     let (word, others) = first(args)?;
-    let name = Name::from_bytes(alloc, word)?.ok_or(Fault::Argument)?;
-    let Some(func) = function(&name) else {
-        return said(alloc, "no function");
-    };
-    value(alloc, &apply(alloc, func, &terms(alloc, others)?)?)
+    match func(alloc, word)? {
+        Some(func) => applied_to(alloc, func, others),
+        None => said(alloc, "no function"),
+    }
 }
 
-fn are_same(alloc: Global, texts: (&[u8], &[u8])) -> Result<Vec<u8>, Fault> {
-    let first: Term = term(alloc, texts.0)?;
-    yes_or_no(alloc, same(&first, &term(alloc, texts.1)?))
+fn func(alloc: Global, word: &[u8]) -> Result<Option<Func>, Fault> {
+    match Name::from_bytes(alloc, word)? {
+        Some(name) => Ok(function(&name)),
+        None => Err(Fault::Argument),
+    }
+}
+
+fn applied_to(alloc: Global, func: Func, args: &[Vec<u8>]) -> Result<Vec<u8>, Fault> {
+    let terms = terms(alloc, args)?;
+    found(alloc, apply(alloc, func, &terms))
+}
+
+fn printed(alloc: Global, args: &[Vec<u8>]) -> Result<Vec<u8>, Fault> {
+    let terms = terms(alloc, args)?;
+    found(alloc, printf_text(alloc, &terms))
+}
+
+fn are_same(alloc: Global, args: &[Vec<u8>]) -> Result<Vec<u8>, Fault> {
+    let (text, other) = two(args)?;
+    let wanted = term(alloc, text)?;
+    is_same_as(alloc, other, &wanted)
+}
+
+fn is_same_as(alloc: Global, text: &[u8], wanted: &Term) -> Result<Vec<u8>, Fault> {
+    yes_or_no(alloc, is_text_of(alloc, text, wanted)?)
 }

@@ -15,44 +15,49 @@ use tb_terms::{NoMemory, Text, Texts};
 /// What the case's words ask for; nothing where they are refused.
 pub(crate) fn asked(alloc: Global, case: &Case) -> Result<String, NoMemory> {
     match read_words(alloc, &case.words) {
-        Ok(Command::Check { script }) => Ok(format!(in alloc; "check {}", script.as_str())?),
-        Ok(
-            Command::Sim {
-                script,
-                feed,
-                connects,
-                steps,
-                events,
-            },
-        ) => {
+        Ok(command) => command_text(alloc, &command),
+        Err(_) => Ok(String::new(alloc)),
+    }
+}
+
+fn command_text(alloc: Global, command: &Command) -> Result<String, NoMemory> {
+    match command {
+        Command::Check { script } => Ok(format!(in alloc; "check {}", script.as_str())?),
+        Command::Sim {
+            script,
+            feed,
+            connects,
+            steps,
+            events,
+        } => {
             let mut text = format!(in alloc; "sim {}", script.as_str())?;
             if let Some(feed) = feed {
                 write!(text, ", feed {}", feed.as_str())?;
             }
-            for command in connects.as_slice() {
-                write!(text, ", connect {}", command.as_str())?;
-            }
+            write_connects(connects, &mut text)?;
             write!(text, ", {steps} steps, {events} entries")?;
             Ok(text)
         }
-        Ok(
-            Command::Run {
-                script,
-                connects,
-                ticks,
-                events,
-            },
-        ) => {
+        Command::Run {
+            script,
+            connects,
+            ticks,
+            events,
+        } => {
             let mut text = format!(in alloc; "run {}", script.as_str())?;
-            for command in connects.as_slice() {
-                write!(text, ", connect {}", command.as_str())?;
-            }
+            write_connects(connects, &mut text)?;
             write!(text, ", {ticks} ticks, {events} entries")?;
             Ok(text)
         }
-        Ok(Command::Ring { n, k }) => Ok(format!(in alloc; "ring {n} {k}")?),
-        Err(_) => Ok(String::new(alloc)),
+        Command::Ring { n, k } => Ok(format!(in alloc; "ring {n} {k}")?),
     }
+}
+
+fn write_connects(connects: &Texts, text: &mut String) -> Result<(), NoMemory> {
+    for command in connects.as_slice() {
+        write!(text, ", connect {}", command.as_str())?;
+    }
+    Ok(())
 }
 
 /// What a simulation goes by, but its program.
@@ -68,23 +73,28 @@ struct Course<'a> {
 /// script or the feed is refused.
 pub(crate) fn rewritten(alloc: Global, case: &Case) -> Result<Option<Vec<u8>>, NoMemory> {
     match read_words(alloc, &case.words) {
-        Ok(
-            Command::Sim {
-                script,
-                feed,
-                connects,
-                steps,
-                events,
-            },
-        ) => {
-            let Some(feed) = feed_of(alloc, case, &feed) else {
+        Ok(command) => simulated(alloc, case, &command),
+        Err(_) => Ok(None),
+    }
+}
+
+fn simulated(alloc: Global, case: &Case, command: &Command) -> Result<Option<Vec<u8>>, NoMemory> {
+    match command {
+        Command::Sim {
+            script,
+            feed,
+            connects,
+            steps,
+            events,
+        } => {
+            let Some(feed) = feed_of(alloc, case, feed) else {
                 return Ok(None);
             };
             let course = Course {
                 feed: &feed,
-                connects: &connects,
-                steps,
-                events,
+                connects,
+                steps: *steps,
+                events: *events,
             };
             log_of(alloc, case.held(script.as_str()), &course)
         }

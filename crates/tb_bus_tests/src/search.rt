@@ -77,18 +77,33 @@ fn action(alloc: Global, wish: Wish) -> Result<Action, NoMemory>
 
 /// Lanes of which the first has a tool that waits, and the second one that is leaving.
 fn bench(alloc: Global) -> Result<Bench, Fail> {
-    let name = Name::new(alloc, b"a")?;
     let command = Text::from_str(alloc, "a")?.ok_or("no text")?;
     let mut connects = Items::new(alloc);
-    connects.push(command.copy(alloc)?)?;
+    connects.push(command)?;
     let mut bench = Bench::new(alloc, &connects)?;
-    let _reply = bench.line(1, ToolLine::Connect(name.copy(alloc)?), true)?;
+    put_waiting(alloc, &mut bench)?;
+    put_leaving(alloc, &mut bench)?;
+    Ok(bench)
+}
+
+fn put_waiting(alloc: Global, bench: &mut Bench) -> Result<(), Fail> {
+    let name = Name::new(alloc, b"a")?;
+    if bench.next_tool() > 100 {
+        return Err(Fail::new("other lanes"));
+    }
+    let _reply = bench.line(1, ToolLine::Connect(name), true)?;
+    Ok(())
+}
+
+fn put_leaving(alloc: Global, bench: &mut Bench) -> Result<(), Fail> {
+    let name = Name::new(alloc, b"a")?;
+    let command = Text::from_str(alloc, "a")?.ok_or("no text")?;
     if bench.next_tool() > 100 || bench.free_lane() != Some(2) {
         return Err(Fail::new("other lanes"));
     }
     let _number = bench.execute(2, &name, &command)?;
     let _reply = bench.gone(2);
-    Ok(bench)
+    Ok(())
 }
 
 /// An index in which the first process is awake.
@@ -103,18 +118,20 @@ fn index_of_one(alloc: Global) -> Result<Index, NoMemory>
 
 /// Whether a process that is ready for this alone goes on.
 fn comes_true(alloc: Global, program: &Program, bench: &Bench, wish: Wish) -> Result<bool, Fail> {
+    let index = index_of_one(alloc)?;
     let action = action(alloc, wish)?;
     let ready = Ready {
         offer: 0,
         atom: 1,
         action,
     };
+    let ready = vec![in alloc; ready]?;
     let living = Living {
         number: 1,
         body: 0,
         walker: (),
         inbox: Inbox::new(alloc),
-        ready: vec![in alloc; ready]?,
+        ready,
         fresh: true,
         marks: tb_index::Marks {
             sends: Vec::new(alloc),
@@ -129,8 +146,12 @@ fn comes_true(alloc: Global, program: &Program, bench: &Bench, wish: Wish) -> Re
         down: false,
     };
     let all = [living];
-    let index = index_of_one(alloc)?;
-    let found = first_candidate(alloc, program, bench, &all, marks, &index)?;
+    is_first(first_candidate(alloc, program, bench, &all, marks, &index))
+}
+
+/// Whether the first process goes on with its first offer.
+fn is_first(found: Result<Option<Candidate>, NoMemory>) -> Result<bool, Fail> {
+    let found = found?;
     Ok(matches!(
         found,
         Some(Candidate::Own(0, 0) | Candidate::Speak(0, 0, _))

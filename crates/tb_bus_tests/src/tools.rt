@@ -1,4 +1,7 @@
 //! Tools from their start to their end.
+//!
+//! A function that has made a term, a name or what is handed out lends it to another or hands it over, and returns what that
+//! answers: a fault that passes through while such a value is held costs its proof a case for each form.
 
 use std::alloc::Global;
 use std::test::Fail;
@@ -6,7 +9,7 @@ use tb_log::{Out, Reply, ToolLine, Why};
 use tb_terms::{
     Items, Name, NoMemory, Pattern, Patterns, Sort, Term, Terms, Text, Texts, write_term,
 };
-use tb_tools::{Bench, LaneState, Stage};
+use tb_tools::{Bench, Handout, LaneState, Stage};
 
 /// The lane of the tables.
 const LANE: u8 = 1;
@@ -120,40 +123,50 @@ fn execute(alloc: Global, bench: &mut Bench, word: &[u8]) -> Result<&'static str
     }
     match bench.free_lane() {
         Some(lane) => {
-            let command = text(alloc, word)?;
-            let _number = bench.execute(lane, &name(alloc, word)?, &command)?;
-            Ok("done")
+            let (name, command) = (name(alloc, word)?, text(alloc, word)?);
+            let number = bench.execute(lane, &name, &command);
+            done(number.is_ok())
         }
         None => Ok("no lane"),
     }
 }
 
-fn connect(bench: &mut Bench, name: &Name) -> &'static str {
-    match bench.first_at(name, Stage::Waiting) {
+fn done(has_memory: bool) -> Result<&'static str, NoMemory> {
+    if has_memory {
+        Ok("done")
+    } else {
+        Err(NoMemory)
+    }
+}
+
+fn connect(alloc: Global, bench: &mut Bench, word: &[u8]) -> Result<&'static str, NoMemory> {
+    let name = name(alloc, word)?;
+    match bench.first_at(&name, Stage::Waiting) {
         Some(lane) => {
             bench.connect(lane);
-            "done"
+            Ok("done")
         }
-        None => "no tool",
+        None => Ok("no tool"),
     }
 }
 
-fn leave(bench: &mut Bench, name: &Name) -> &'static str {
-    match bench.first_at(name, Stage::Leaving) {
+fn leave(alloc: Global, bench: &mut Bench, word: &[u8]) -> Result<&'static str, NoMemory> {
+    let name = name(alloc, word)?;
+    match bench.first_at(&name, Stage::Leaving) {
         Some(lane) => {
             bench.leave(lane);
-            "done"
+            Ok("done")
         }
-        None => "no tool",
+        None => Ok("no tool"),
     }
 }
 
-fn eval(bench: &mut Bench, term: Term) -> Result<&'static str, NoMemory> {
+fn eval(alloc: Global, bench: &mut Bench, spelt: &Spelt) -> Result<&'static str, NoMemory> {
+    let term = term(alloc, spelt)?;
     if !bench.can_eval(LANE) {
         return Ok("no");
     }
-    bench.eval(LANE, term)?;
-    Ok("done")
+    done(bench.eval(LANE, term).is_ok())
 }
 
 fn take_value(bench: &mut Bench) -> &'static str {
@@ -169,70 +182,87 @@ fn take_value(bench: &mut Bench) -> &'static str {
     }
 }
 
-fn receive(bench: &mut Bench, patterns: &Patterns) -> Result<&'static str, NoMemory> {
+fn receive(
+    alloc: Global,
+    bench: &mut Bench,
+    word: &[u8],
+    parts: usize,
+) -> Result<&'static str, NoMemory> {
+    let patterns = patterns(alloc, word, parts)?;
     if !bench.is_taken(LANE) {
         return Ok("no");
     }
-    match bench.find_event(LANE, patterns)? {
-        None => Ok("no event"),
-        Some(found) => {
-            bench.event(LANE, found.place)?;
-            Ok("done")
-        }
+    match bench.find_event(LANE, &patterns) {
+        Ok(Some(found)) => done(bench.event(LANE, found.place).is_ok()),
+        Ok(None) => Ok("no event"),
+        Err(NoMemory) => Err(NoMemory),
     }
 }
 
-fn ack(bench: &mut Bench, terms: &Terms) -> Result<&'static str, NoMemory> {
+fn ack(alloc: Global, bench: &mut Bench, spelt: &Spelt) -> Result<&'static str, NoMemory> {
+    let terms = terms(alloc, spelt)?;
     if !bench.is_live(LANE) {
         return Ok("no");
     }
-    match bench.find_received(LANE, terms) {
+    match bench.find_received(LANE, &terms) {
+        Some(place) => done(bench.ack(LANE, place).is_ok()),
         None => Ok("no event"),
-        Some(place) => {
-            bench.ack(LANE, place)?;
-            Ok("done")
-        }
     }
 }
 
-fn do_action(bench: &mut Bench, term: Term) -> Result<&'static str, NoMemory> {
+fn do_action(alloc: Global, bench: &mut Bench, spelt: &Spelt) -> Result<&'static str, NoMemory> {
+    let term = term(alloc, spelt)?;
     if !bench.can_eval(LANE) {
         return Ok("no");
     }
-    bench.do_action(LANE, term)?;
-    Ok("done")
+    done(bench.do_action(LANE, term).is_ok())
 }
 
-fn terminate(bench: &mut Bench, term: Term) -> Result<&'static str, NoMemory> {
+fn terminate(alloc: Global, bench: &mut Bench, spelt: &Spelt) -> Result<&'static str, NoMemory> {
+    let term = term(alloc, spelt)?;
     if !bench.is_live(LANE) {
         return Ok("no");
     }
-    bench.terminate(LANE, term)?;
-    Ok("done")
+    done(bench.terminate(LANE, term).is_ok())
 }
 
-fn go_down(bench: &mut Bench, term: &Term) -> Result<&'static str, NoMemory> {
-    bench.down(term)?;
-    Ok("done")
+fn go_down(alloc: Global, bench: &mut Bench, spelt: &Spelt) -> Result<&'static str, NoMemory> {
+    let term = term(alloc, spelt)?;
+    done(bench.down(&term).is_ok())
+}
+
+fn put_value(alloc: Global, bench: &mut Bench, spelt: &Spelt) -> Result<&'static str, NoMemory> {
+    put_line(bench, ToolLine::Value(term(alloc, spelt)?), false)
+}
+
+fn put_event(alloc: Global, bench: &mut Bench, spelt: &Spelt) -> Result<&'static str, NoMemory> {
+    put_line(bench, ToolLine::Event(terms(alloc, spelt)?), false)
+}
+
+fn put_name(
+    alloc: Global,
+    bench: &mut Bench,
+    word: &[u8],
+    declared: bool,
+) -> Result<&'static str, NoMemory> {
+    put_line(bench, ToolLine::Connect(name(alloc, word)?), declared)
 }
 
 fn make(alloc: Global, bench: &mut Bench, call: &Call) -> Result<&'static str, NoMemory> {
     match call {
         Call::Execute(word) => execute(alloc, bench, word),
-        Call::Connect(word) => Ok(connect(bench, &name(alloc, word)?)),
-        Call::Leave(word) => Ok(leave(bench, &name(alloc, word)?)),
-        Call::Eval(spelt) => eval(bench, term(alloc, spelt)?),
+        Call::Connect(word) => connect(alloc, bench, word),
+        Call::Leave(word) => leave(alloc, bench, word),
+        Call::Eval(spelt) => eval(alloc, bench, spelt),
         Call::Take => Ok(take_value(bench)),
-        Call::Do(spelt) => do_action(bench, term(alloc, spelt)?),
-        Call::Receive(word, parts) => receive(bench, &patterns(alloc, word, *parts)?),
-        Call::Ack(spelt) => ack(bench, &terms(alloc, spelt)?),
-        Call::Terminate(spelt) => terminate(bench, term(alloc, spelt)?),
-        Call::Down(spelt) => go_down(bench, &term(alloc, spelt)?),
-        Call::Value(spelt) => put_line(bench, ToolLine::Value(term(alloc, spelt)?), false),
-        Call::Event(spelt) => put_line(bench, ToolLine::Event(terms(alloc, spelt)?), false),
-        Call::Name(word, declared) => {
-            put_line(bench, ToolLine::Connect(name(alloc, word)?), *declared)
-        }
+        Call::Do(spelt) => do_action(alloc, bench, spelt),
+        Call::Receive(word, parts) => receive(alloc, bench, word, *parts),
+        Call::Ack(spelt) => ack(alloc, bench, spelt),
+        Call::Terminate(spelt) => terminate(alloc, bench, spelt),
+        Call::Down(spelt) => go_down(alloc, bench, spelt),
+        Call::Value(spelt) => put_value(alloc, bench, spelt),
+        Call::Event(spelt) => put_event(alloc, bench, spelt),
+        Call::Name(word, declared) => put_name(alloc, bench, word, *declared),
         Call::Disconnect => put_line(bench, ToolLine::Disconnect, false),
         Call::Bad => put_line(bench, ToolLine::Bad, false),
         Call::Gone => Ok(answer_of(bench.gone(LANE))),
@@ -260,12 +290,28 @@ fn handed_out(alloc: Global, bench: &mut Bench) -> Result<(Vec<u8>, Vec<u8>), No
     let mut logged = Vec::new(alloc);
     for _ in 0..8 {
         if let Some(lane) = bench.first_out() {
-            let handout = bench.take_handout(lane);
-            push_out(&handout.given, &mut given)?;
-            push_out(&handout.logged, &mut logged)?;
+            push_handout(bench.take_handout(lane), &mut given, &mut logged)?;
         }
     }
     Ok((given, logged))
+}
+
+fn push_handout(
+    handout: Handout,
+    given: &mut Vec<u8>,
+    logged: &mut Vec<u8>,
+) -> Result<(), NoMemory> {
+    push_both(&handout.given, &handout.logged, given, logged)
+}
+
+fn push_both(
+    out: &Out,
+    entry: &Out,
+    given: &mut Vec<u8>,
+    logged: &mut Vec<u8>,
+) -> Result<(), NoMemory> {
+    push_out(out, given)?;
+    push_out(entry, logged)
 }
 
 /// How many rows hold, from the first on, on a bench that is started with these commands.
@@ -497,7 +543,7 @@ fn hands_out_end(bench: &mut Bench) -> bool {
 fn a_cut_clears_what_was_to_be_handed_out(rt: HostRuntime) -> Result<(), Fail> {
     let mut bench = Bench::new(rt.alloc(), &Items::new(rt.alloc()))?;
     let executed = execute(rt.alloc(), &mut bench, b"t")?;
-    let done = do_action(&mut bench, term(rt.alloc(), &X)?)?;
+    let done = do_action(rt.alloc(), &mut bench, &X)?;
     let cut = answer_of(bench.cut(LANE));
     assert_eq!(rt; (executed, done, cut), ("done", "done", "took"));
     assert!(rt; hands_out_end(&mut bench));
@@ -506,16 +552,17 @@ fn a_cut_clears_what_was_to_be_handed_out(rt: HostRuntime) -> Result<(), Fail> {
 
 /// The lane of the tool with this number.
 fn lane_of(alloc: Global, bench: &Bench, number: i64) -> Result<Option<u8>, NoMemory> {
+    let name = name(alloc, b"t")?;
     let mut parts = Items::new(alloc);
     parts.push(Term::Int(number))?;
-    Ok(bench.find_tool(&Term::Appl(name(alloc, b"t")?, parts)))
+    Ok(bench.find_tool(&Term::Appl(name, parts)))
 }
 
 /// The lane is lost, its end is handed out, and its tool leaves.
 fn empty(alloc: Global, bench: &mut Bench) -> Result<&'static str, NoMemory> {
     let _reply = bench.gone(LANE);
     let (_given, _logged) = handed_out(alloc, bench)?;
-    Ok(leave(bench, &name(alloc, b"t")?))
+    leave(alloc, bench, b"t")
 }
 
 /// A bench with a tool on each of the 16 lanes, if all were executed.

@@ -9,8 +9,6 @@ mod fake_inlet;
 mod fake_outlet;
 mod pairs;
 mod record;
-#[cfg(test)]
-mod tests;
 
 pub use cue::{Cue, Cues, Fail, Fails};
 pub use fake_clock::FakeClock;

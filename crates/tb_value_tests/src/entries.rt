@@ -53,11 +53,15 @@ fn misshapen(alloc: Global, place: usize) -> Result<Entry, NoMemory> {
     }
 }
 
+fn is_well_shaped(alloc: Global, place: usize) -> Result<bool, NoMemory> {
+    let entry = misshapen(alloc, place)?;
+    Ok(is_in_shape(&entry))
+}
+
 #[test]
 fn other_entries_are_out_of_shape(rt: HostRuntime) -> Result<(), Fail> {
     for place in 0..7 {
-        let entry = misshapen(rt.alloc(), place)?;
-        assert!(rt; !is_in_shape(&entry), "at {place}");
+        assert!(rt; !is_well_shaped(rt.alloc(), place)?, "at {place}");
     }
     assert!(rt; is_tool_line_in_shape(&ToolLine::Bad));
     assert!(rt; is_out_in_shape(&Out::End));
@@ -98,17 +102,24 @@ fn is_start(entry: &Entry, wanted: &[u8]) -> bool {
     }
 }
 
+fn reads_event(alloc: Global, line: &[u8]) -> Result<bool, NoMemory> {
+    match read_entry(alloc, line)? {
+        Some(numbered) => Ok(is_event(&numbered.entry)),
+        None => Ok(false),
+    }
+}
+
+fn reads_start(alloc: Global, line: &[u8], wanted: &[u8]) -> Result<bool, NoMemory> {
+    match read_entry(alloc, line)? {
+        Some(numbered) => Ok(is_start(&numbered.entry, wanted)),
+        None => Ok(false),
+    }
+}
+
 #[test]
 fn a_line_says_what_its_words_mean(rt: HostRuntime) -> Result<(), Fail> {
-    let event = match read_entry(rt.alloc(), b"4 line 1 snd-event(7,-8)\n")? {
-        Some(numbered) => is_event(&numbered.entry),
-        None => false,
-    };
-    let start = match read_entry(rt.alloc(), b"2 out 3 start \"a \\\"b\\\"\"\n")? {
-        Some(numbered) => is_start(&numbered.entry, b"a \"b\""),
-        None => false,
-    };
-    assert!(rt; event && start);
+    assert!(rt; reads_event(rt.alloc(), b"4 line 1 snd-event(7,-8)\n")?);
+    assert!(rt; reads_start(rt.alloc(), b"2 out 3 start \"a \\\"b\\\"\"\n", b"a \"b\"")?);
     Ok(())
 }
 
@@ -141,12 +152,21 @@ fn labelled(alloc: Global, kind: LabelKind, shown: &[i64]) -> Result<Label, NoMe
     })
 }
 
+fn step_text(alloc: Global, kind: LabelKind, shown: &[i64]) -> Result<Vec<u8>, NoMemory> {
+    let entry = Entry::Did(labelled(alloc, kind, shown)?);
+    entry_text(alloc, &entry)
+}
+
+fn entry_text(alloc: Global, entry: &Entry) -> Result<Vec<u8>, NoMemory> {
+    let mut text = Vec::new(alloc);
+    write_entry(12, entry, &mut text)?;
+    Ok(text)
+}
+
 #[test]
 fn each_step_has_its_line(rt: HostRuntime) -> Result<(), Fail> {
     for (kind, shown, line) in &LINES {
-        let entry = Entry::Did(labelled(rt.alloc(), *kind, shown)?);
-        let mut text = Vec::new(rt.alloc());
-        write_entry(12, &entry, &mut text)?;
+        let text = step_text(rt.alloc(), *kind, shown)?;
         assert_eq!(rt; text.as_slice(), *line);
     }
     Ok(())

@@ -1,11 +1,13 @@
 //! Tests of values, where no data file says a row: terms, expressions, patterns, scripts and entries as they are held, laws
-//! of texts, and files and sinks.
+//! of texts, files, sinks and ends of lanes.
 #![tactic(auto)]
 
 #[cfg(test)]
 mod edge;
 #[cfg(test)]
 mod entries;
+#[cfg(test)]
+mod fakes;
 #[cfg(test)]
 mod func;
 #[cfg(test)]

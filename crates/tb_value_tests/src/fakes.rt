@@ -1,12 +1,12 @@
 //! Pairs whose ends are boxed, driven by hand; and clocks that may go to another thread.
 
-use crate::{Cue, Fail, FakePair, FakePairs, fakes};
 use sqlite_items::Items;
 use std::alloc::Global;
 use std::test::Fail as TestFail;
 use tb_edge::{
     Beat, Bytes, Clock, Given, Got, Inlet, LanePair, MemClock, Outlet, RealClock, SureClock, Taken,
 };
+use tb_fake::{Cue, Cues, Fail, FakePair, FakePairs, Records, fakes};
 
 /// What is done with the pair of lane 16, and what it answers. The watched outlet is that of lane 15.
 #[derive(Clone, Copy)]
@@ -88,37 +88,65 @@ fn cue(watch: u8, after: usize, gives: Given) -> Cue {
 /// Lane 16 gives a line once lane 15 took something, and a line that is too long and its end once it
 /// took four items itself. Its third call fails.
 fn three_cues(alloc: Global) -> Result<FakePairs, TestFail> {
-    let one = Bytes::from_slice(alloc, b"one")?;
+    let cues = cues(alloc)?;
+    let fails = Items::from_vec(vec![in alloc; Fail { lane: 16, call: 3 }]?);
+    Ok(fakes(alloc, cues, fails)?)
+}
+
+fn cues(alloc: Global) -> Result<Cues, TestFail> {
     let long = Bytes::from_vec(vec![in alloc; b'x'; 65_537]?);
+    let one = Bytes::from_slice(alloc, b"one")?;
     let mut cues = Items::new(alloc);
     cues.push(cue(15, 1, Given::Line(one)))?;
     cues.push(cue(16, 4, Given::Line(long)))?;
     cues.push(cue(16, 4, Given::End))?;
-    let mut fails = Items::new(alloc);
-    fails.push(Fail { lane: 16, call: 3 })?;
-    Ok(fakes(alloc, cues, fails)?)
+    Ok(cues)
+}
+
+fn are_steps(alloc: Global, pair: &mut LanePair, watched: &mut LanePair) -> bool {
+    let mut line = Vec::new(alloc);
+    for step in &STEPS {
+        if !is_step(pair, watched, &mut line, step) {
+            return false;
+        }
+    }
+    true
+}
+
+fn are_recorded(alloc: Global, records: &Records) -> Result<bool, TestFail> {
+    match records.of(alloc, 16)? {
+        Some(taken) => Ok(are_taken(taken.as_slice())),
+        None => Ok(false),
+    }
+}
+
+/// Whether the steps go so with both pairs boxed, whose outlets are closed then.
+fn are_steps_of_boxes(alloc: Global, pair: FakePair, watched: FakePair) -> Result<bool, TestFail> {
+    let mut pair = LanePair {
+        inlet: Box::new(alloc, pair.inlet)?,
+        outlet: Box::new(alloc, pair.outlet)?,
+    };
+    let mut watched = LanePair {
+        inlet: Box::new(alloc, watched.inlet)?,
+        outlet: Box::new(alloc, watched.outlet)?,
+    };
+    let is_right = are_steps(alloc, &mut pair, &mut watched);
+    watched.outlet.close();
+    Ok(is_right)
+}
+
+fn are_steps_of_two(alloc: Global, pairs: &mut Vec<FakePair>) -> Result<bool, TestFail> {
+    match (pairs.pop(), pairs.pop()) {
+        (Some(pair), Some(watched)) => are_steps_of_boxes(alloc, pair, watched),
+        _ => Ok(false),
+    }
 }
 
 #[test]
 fn boxed_pairs(rt: HostRuntime) -> Result<(), TestFail> {
     let mut made = three_cues(rt.alloc())?;
-    let FakePair { inlet, outlet } = made.pairs.pop().ok_or("no pair")?;
-    let mut pair = LanePair {
-        inlet: Box::new(rt.alloc(), inlet)?,
-        outlet: Box::new(rt.alloc(), outlet)?,
-    };
-    let FakePair { inlet, outlet } = made.pairs.pop().ok_or("no pair")?;
-    let mut watched = LanePair {
-        inlet: Box::new(rt.alloc(), inlet)?,
-        outlet: Box::new(rt.alloc(), outlet)?,
-    };
-    let mut line = Vec::new(rt.alloc());
-    for step in &STEPS {
-        assert!(rt; is_step(&mut pair, &mut watched, &mut line, step));
-    }
-    let taken = made.records.of(rt.alloc(), 16)?.ok_or("lost")?;
-    assert!(rt; are_taken(taken.as_slice()));
-    watched.outlet.close();
+    assert!(rt; are_steps_of_two(rt.alloc(), &mut made.pairs)?);
+    assert!(rt; are_recorded(rt.alloc(), &made.records)?);
     for other in made.pairs.as_mut_slice() {
         other.outlet.close();
     }
