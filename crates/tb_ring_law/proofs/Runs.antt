@@ -259,7 +259,8 @@ module _ (n messages : ℕ) (program : Program) (bodies : program.bodies ≡ rin
       let all : suc (messages - 1) ≡ messages = omega (arith, to_come, low) in
       let kept : Kept [] 0 = record { long = refl; large = refl } in
       let rest = runs (messages - 1) 1 on.after on.next (entry ∷ []) (omega (arith, to_come, low)) on.holds (kept-more [] 0 entry on.hands.size kept) in
-      (entry ∷ rest.0, (sim_at program on.after on.next (entry ∷ []) 1, turn-hands program (first_at (first_begins_with messages) 0 ∷ nodes) 0 [] 0 on.after on.next on.hands (omega arith) kept, rest.1), (λ i. Some (on.hands.sends i) ∷ rest.2 i) ∙ ap messages_then_end all)
+      let kinds : map step_kind (entry ∷ rest.0) ≡ messages_then_end (suc (messages - 1)) = λ i. Some (on.hands.sends i) ∷ rest.2 i in
+      (entry ∷ rest.0, (sim_at program on.after on.next (entry ∷ []) 1, turn-hands program (first_at (first_begins_with messages) 0 ∷ nodes) 0 [] 0 on.after on.next on.hands (omega arith) kept, rest.1), subst (λ (count : ℕ). map step_kind (entry ∷ rest.0) ≡ messages_then_end count) all kinds)
 
 -- The opening bus.
 

@@ -116,60 +116,85 @@ module _ (n messages : ℕ) (program : Program) (bodies : program.bodies ≡ rin
 
   -- a node sends to the next
 
-  pub node-hands : (t h m u : ℕ) (fresh : Bool) (before behind : List Proc) (starter : ℕ) → 2 ≤ h → h < n → m ≤ 1000000 → starter + 1 ≡ h → AllWait n 2 h before → AllWait n (h + 1 + 1) (n + 1) behind
-      → Hands program (first_at (first_loop messages) t ∷ (before ++ (node_at n node_holds h m ∷ node_at n (node_waits fresh) (h + 1) u ∷ behind))) starter
-      (first_at (first_loop messages) t ∷ (before ++ (node_at n node_loop h m ∷ node_at n node_holds (h + 1) (m + 1) ∷ behind))) h
+  -- these processes: the first waits, so do those before the holder, and the one behind it with those after that
+  abbrev between : ℕ → ℕ → ℕ → ℕ → Bool → List Proc → List Proc → List Proc
+  between t h m u fresh before behind = first_at (first_loop messages) t ∷ (before ++ (node_at n node_holds h m ∷ node_at n (node_waits fresh) (h + 1) u ∷ behind))
+
+  -- what the node behind the holder does as it takes the message
+  abbrev taking : ℕ → ℕ → Bool → Offered
+  taking h u fresh = node_receiving n (h + 1) (kept fresh u)
+
+  abbrev to_next : ℕ → ℕ → ℕ → Bool → Move
+  to_next h m u fresh = Handshake (node_at n node_holds h m) (node_sending n h m) (node_at n (node_waits fresh) (h + 1) u) (taking h u fresh) (message (h + 1) (m + 1)) (bind_of 2 (m + 1))
+
+  -- nobody takes it before the next node does
+  next-takes : (t h m u : ℕ) (fresh : Bool) (before behind : List Proc) (starter : ℕ) → 2 ≤ h → AllWait n 2 h before
+      → (rest : List Move) × (handshakes (bus_of program (between t h m u fresh before behind) starter) (node_at n node_holds h m) (node_sending n h m) (message (h + 1) (m + 1)) ≡ to_next h m u fresh ∷ rest)
   unfolding handshakes
-  node-hands t h m u fresh before behind starter least below most last waits_before waits_behind =
+  next-takes t h m u fresh before behind starter least waits_before =
       let first = first_at (first_loop messages) t in
       let holder = node_at n node_holds h m in
+      let offered = node_sending n h m in
       let second = node_at n (node_waits fresh) (h + 1) u in
       let nodes = before ++ (holder ∷ second ∷ behind) in
-      let procs = first ∷ nodes in
-      let here = bus_of program procs starter in
-      let turn = node-in-turn t h m before (second ∷ behind) starter least last waits_before in
-      let not_last : eqb h n ≡ false = ne_eqb h n (λ e. absurd (omega (arith, below, e))) in
-      let to_next : next_of n h ≡ h + 1 = ap (λ (b : Bool). cond b 1 (h + 1)) not_last in
-      let offered = node_sending n h m in
-      let move = Handshake holder offered second (node_receiving n (h + 1) (kept fresh u)) (message (h + 1) (m + 1)) (bind_of 2 (m + 1)) in
-      let f = handshakes_with here holder offered (message (h + 1) (m + 1)) in
+      let f = handshakes_with (bus_of program (first ∷ nodes) starter) holder offered (message (h + 1) (m + 1)) in
       let keeps = λ (other : Proc). not (eqb other.number h) in
       let rest = flat_map f (filter keeps behind) in
       let other : eqb 1 h ≡ false = ne_eqb 1 h (λ e. absurd (omega (arith, least, e))) in
       let itself : eqb h h ≡ true = eq-eqb h h refl in
       let next : eqb (h + 1) h ≡ false = ne_eqb (h + 1) h (λ e. absurd (omega (arith, e))) in
-      let ignores : f first ≡ [] = first-ignores messages program bodies procs starter holder offered t (h + 1) (m + 1) (λ e. absurd (omega (arith, least, e))) in
-      let takes : f second ≡ move ∷ [] = node-takes messages program bodies procs starter holder offered n (h + 1) u (m + 1) fresh in
-      let shakes : handshakes here holder offered (message (h + 1) (m + 1)) ≡ move ∷ rest =
-      ap (λ (b : Bool). flat_map f (cond (not b) (first ∷ filter keeps nodes) (filter keeps nodes))) other
-      ∙ ap (λ (ms : List Move). ms ++ flat_map f (filter keeps nodes)) ignores
-      ∙ goes-past messages program bodies procs starter holder offered keeps n 2 h (h + 1) (m + 1) before (holder ∷ second ∷ behind) waits_before (omega arith)
-      ∙ ap (λ (b : Bool). flat_map f (cond (not b) (holder ∷ filter keeps (second ∷ behind)) (filter keeps (second ∷ behind)))) itself
-      ∙ ap (λ (b : Bool). flat_map f (cond (not b) (second ∷ filter keeps behind) (filter keeps behind))) next
-      ∙ ap (λ (ms : List Move). ms ++ rest) takes in
-      let has : moves_of here holder ≡ move ∷ (rest ++ []) =
-      node-moves messages program bodies procs starter n h m most
-      ∙ ap (λ (target : ℕ). handshakes here holder offered (message target (m + 1)) ++ []) to_next
-      ∙ ap (λ (ms : List Move). ms ++ []) shakes in
-      let step = first-step program first nodes starter holder turn.0 move (rest ++ []) turn.1 has in
-      let waits_second : AllWait n (h + 1) (n + 1) (second ∷ behind) = ((fresh, u, refl), waits_behind) in
+      let ignores : f first ≡ [] = first-ignores messages program bodies (first ∷ nodes) starter holder offered t (h + 1) (m + 1) (λ e. absurd (omega (arith, least, e))) in
+      let takes : f second ≡ to_next h m u fresh ∷ [] = node-takes messages program bodies (first ∷ nodes) starter holder offered n (h + 1) u (m + 1) fresh in (
+        rest,
+        ap (λ (b : Bool). flat_map f (cond (not b) (first ∷ filter keeps nodes) (filter keeps nodes))) other
+            ∙ ap (λ (ms : List Move). ms ++ flat_map f (filter keeps nodes)) ignores
+            ∙ goes-past messages program bodies (first ∷ nodes) starter holder offered keeps n 2 h (h + 1) (m + 1) before (holder ∷ second ∷ behind) waits_before (omega arith)
+            ∙ ap (λ (b : Bool). flat_map f (cond (not b) (holder ∷ filter keeps (second ∷ behind)) (filter keeps (second ∷ behind)))) itself
+            ∙ ap (λ (b : Bool). flat_map f (cond (not b) (second ∷ filter keeps behind) (filter keeps behind))) next
+            ∙ ap (λ (ms : List Move). ms ++ rest) takes,
+      )
+
+  -- then the holder waits again, and the next node holds the message
+  next-holds : (t h m u : ℕ) (fresh : Bool) (before behind : List Proc) → 2 ≤ h → AllWait n 2 h before → AllWait n (h + 1 + 1) (n + 1) behind
+      → advance (h + 1) (taking h u fresh) (bind_of 2 (m + 1)) (advance h (node_sending n h m) [] (between t h m u fresh before behind))
+      ≡ first_at (first_loop messages) t ∷ (before ++ (node_at n node_loop h m ∷ node_at n node_holds (h + 1) (m + 1) ∷ behind))
+  next-holds t h m u fresh before behind least waits_before waits_behind =
+      let first = first_at (first_loop messages) t in
+      let second = node_at n (node_waits fresh) (h + 1) u in
       let left = node_at n node_loop h m in
-      let sent : advance h offered [] procs ≡ first ∷ (before ++ (left ∷ second ∷ behind)) =
-      node-goes n h (h + 1) (n + 1) h offered [] first before holder left (second ∷ behind) refl least waits_before (omega arith) refl refl waits_second (omega arith) in
       let holds = node_at n node_holds (h + 1) (m + 1) in
+      let goes = advance (h + 1) (taking h u fresh) (bind_of 2 (m + 1)) in
+      let waits_second : AllWait n (h + 1) (n + 1) (second ∷ behind) = ((fresh, u, refl), waits_behind) in
+      let sent : advance h (node_sending n h m) [] (between t h m u fresh before behind) ≡ first ∷ (before ++ (left ∷ second ∷ behind)) =
+      node-goes n h (h + 1) (n + 1) h (node_sending n h m) [] first before (node_at n node_holds h m) left (second ∷ behind) refl least waits_before (omega arith) refl refl waits_second (omega arith) in
       let among : before ++ (left ∷ second ∷ behind) ≡ (before ++ left ∷ []) ++ (second ∷ behind) = sym (append_assoc before (left ∷ []) (second ∷ behind)) in
       let waits_left : AllWait n 2 (h + 1) (before ++ left ∷ []) = wait-append n 2 h (h + 1) before (left ∷ []) waits_before ((false, m, refl), refl) in
-      let goes = advance (h + 1) (node_receiving n (h + 1) (kept fresh u)) (bind_of 2 (m + 1)) in
       let received : goes (first ∷ ((before ++ left ∷ []) ++ (second ∷ behind))) ≡ first ∷ ((before ++ left ∷ []) ++ (holds ∷ behind)) =
-      node-goes n (h + 1) (h + 1 + 1) (n + 1) (h + 1) (node_receiving n (h + 1) (kept fresh u)) (bind_of 2 (m + 1)) first (before ++ left ∷ []) second holds behind refl (omega (arith, least)) waits_left (omega arith) refl refl waits_behind (omega arith) in
+      node-goes n (h + 1) (h + 1 + 1) (n + 1) (h + 1) (taking h u fresh) (bind_of 2 (m + 1)) first (before ++ left ∷ []) second holds behind refl (omega (arith, least)) waits_left (omega arith) refl refl waits_behind (omega arith) in
+      ap goes (sent ∙ ap (λ (ps : List Proc). first ∷ ps) among) ∙ received ∙ ap (λ (ps : List Proc). first ∷ ps) (append_assoc before (left ∷ []) (holds ∷ behind))
+
+  pub node-hands : (t h m u : ℕ) (fresh : Bool) (before behind : List Proc) (starter : ℕ) → 2 ≤ h → h < n → m ≤ 1000000 → starter + 1 ≡ h → AllWait n 2 h before → AllWait n (h + 1 + 1) (n + 1) behind
+      → Hands program (first_at (first_loop messages) t ∷ (before ++ (node_at n node_holds h m ∷ node_at n (node_waits fresh) (h + 1) u ∷ behind))) starter
+      (first_at (first_loop messages) t ∷ (before ++ (node_at n node_loop h m ∷ node_at n node_holds (h + 1) (m + 1) ∷ behind))) h
+  node-hands t h m u fresh before behind starter least below most last waits_before waits_behind =
+      let holder = node_at n node_holds h m in
+      let procs = between t h m u fresh before behind in
+      let here = bus_of program procs starter in
+      let move = to_next h m u fresh in
+      let turn = node-in-turn t h m before (node_at n (node_waits fresh) (h + 1) u ∷ behind) starter least last waits_before in
+      let shakes = next-takes t h m u fresh before behind starter least waits_before in
+      let target : next_of n h ≡ h + 1 = ap (λ (b : Bool). cond b 1 (h + 1)) (ne_eqb h n (λ e. absurd (omega (arith, below, e)))) in
+      let has : moves_of here holder ≡ move ∷ (shakes.0 ++ []) =
+      node-moves messages program bodies procs starter n h m most
+      ∙ ap (λ (to : ℕ). handshakes here holder (node_sending n h m) (message to (m + 1)) ++ []) target
+      ∙ ap (λ (ms : List Move). ms ++ []) shakes.1 in
+      let step = first-step program (first_at (first_loop messages) t) (before ++ (holder ∷ node_at n (node_waits fresh) (h + 1) u ∷ behind)) starter holder turn.0 move (shakes.0 ++ []) turn.1 has in
       record {
         label = label_of move;
         sends = refl;
         size = message-size (h + 1) (m + 1);
         rest = step.0;
-        is = step.1
-            ∙ ap (λ (ps : List Proc). record { label = label_of move; bus = bus_of program ps h } ∷ step.0)
-            (ap goes (sent ∙ ap (λ (ps : List Proc). first ∷ ps) among) ∙ received ∙ ap (λ (ps : List Proc). first ∷ ps) (append_assoc before (left ∷ []) (holds ∷ behind)));
+        is = step.1 ∙ ap (λ (ps : List Proc). record { label = label_of move; bus = bus_of program ps h } ∷ step.0) (next-holds t h m u fresh before behind least waits_before waits_behind);
       }
 
   -- the last node sends to the first process
