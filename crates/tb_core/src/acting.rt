@@ -1,9 +1,10 @@
 ghost use Rattle.std.specs.Prelude.{◌≡◌, ◌∷◌, [], IfOk};
 ghost use Rattle.tb_bus.specs.Effects.{number_term};
 ghost use Rattle.tb_bus.specs.Steps.{finish_reason, halt_reason, nowhere};
+ghost use Rattle.tb_core.specs.Helpers.LiveBuses.{CanLog, IsLogged};
 
 use std::alloc::Global;
-use tb_log::{Label, LabelKind, Place};
+use tb_log::{Entry, Label, LabelKind, Log, Place};
 use tb_match::{Bind, Binds};
 use tb_terms::{Items, Name, NoMemory, Term, Terms};
 
@@ -75,6 +76,14 @@ pub fn end_label(alloc: Global, kind: LabelKind) -> Label
         to: NOWHERE,
         terms: Items::new(alloc),
     }
+}
+
+/// Logs a step. This takes no memory.
+pub fn put_label(log: &mut Log, label: Label)
+    requires { CanLog log.old label }
+    ensures { IsLogged log.old label log.new }
+{
+    log.push(Entry::Did(label));
 }
 
 /// Why the bus goes down where no process is left.

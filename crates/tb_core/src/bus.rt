@@ -5,7 +5,8 @@ ghost use Rattle.tb_bus.specs.Helpers.Views.{sent_in};
 ghost use Rattle.tb_core.specs.Helpers.Makings.{effect_by, shown_in};
 
 use crate::acting::{
-    Done, NOWHERE, created, end_label, finish_reason, halt_reason, kind_alone, printed, shut_down,
+    Done, NOWHERE, created, end_label, finish_reason, halt_reason, kind_alone, printed, put_label,
+    shut_down,
 };
 use crate::inboxes::{hand_out, subscribe_at, take_note_at, unsubscribe_at};
 use crate::indexing::{TOOL_MARK, index_of, no_marks, turn, update};
@@ -21,7 +22,7 @@ use tb_bus::{
     all_rest, first_candidate, place_of,
 };
 use tb_index::{Index, Marks as KeptMarks};
-use tb_log::{Input, Label, LabelKind, Place, Reply, ToolLine, Why, total_size};
+use tb_log::{Input, Label, LabelKind, Log, Place, Reply, ToolLine, Why, total_size};
 use tb_match::Binds;
 use tb_notes::Found;
 use tb_terms::{Items, NoMemory, Term, Terms, size};
@@ -83,7 +84,7 @@ impl<W: Walker> LiveBus<W> {
     ghost use Rattle.tb_core.specs.Helpers.Indexes.{AreStillAwake, IsAwakeAt, tool_mark};
     ghost use Rattle.tb_core.specs.Cores.{takes_memory};
     ghost use Rattle.tb_core.specs.Helpers.Makings.{effect_by, IsPlainIn};
-    ghost use Rattle.tb_core.specs.Helpers.LiveBuses.{bus_of, procs_in, scene_in, move_in, AreFresh, AreSettled, IsFreshOr, IsSettledAt, IsSound, IsStaleAt, IsSetAt, StandsAs, Leaves, CanAdvance, IsAdvanced, AreAdvanced, IsKept, IsDone, IsChanged, HasGone, IsMade};
+    ghost use Rattle.tb_core.specs.Helpers.LiveBuses.{bus_of, procs_in, scene_in, move_in, AreFresh, AreSettled, IsFreshOr, IsSettledAt, IsSound, IsStaleAt, IsSetAt, StandsAs, Leaves, CanAdvance, IsAdvanced, AreAdvanced, IsKept, IsDone, IsChanged, HasGone, IsMade, CanLog, IsLogged};
 
     /// The bus that a program opens with. Its processes are looked at later.
     pub fn open(alloc: Global, origin: Origin) -> Result<LiveBus<W>, NoMemory>
@@ -429,50 +430,82 @@ impl<W: Walker> LiveBus<W> {
         }
     }
 
-    /// Makes a move that was found, and says what is seen of it. All memory is taken before anything changes.
-    pub fn make(&mut self, alloc: Global, candidate: Candidate) -> Result<Label, NoMemory>
+    /// Makes a move that was found, and logs it. All memory is taken before anything changes.
+    pub fn make(
+        &mut self,
+        alloc: Global,
+        candidate: Candidate,
+        log: &mut Log,
+    ) -> Result<(), NoMemory>
         requires sound { IsSound W.view self.old }
         requires fresh { AreFresh self.old.living.items }
         requires next { self.old.marks.next_number < 4294967295 }
         requires tools { self.old.bench.next_tool ≤ most_tools }
         requires found { IsCandidateIn (scene_in self.old) candidate }
+        requires can { CanLog log.old (label_of (move_in W.view self.old candidate)) }
         ensures sound { IsSound W.view self.new }
         ensures origin { self.new.origin ≡ self.old.origin }
-        ensures label { IfOk result (λ label. label ≡ label_of (move_in W.view self.old candidate)) }
+        ensures logged { OnOk result (IsLogged log.old (label_of (move_in W.view self.old candidate)) log.new) }
         ensures bus { OnOk result (bus_of W.view self.new ≡ apply (bus_of W.view self.old) (move_in W.view self.old candidate)) }
         ensures err { OnErr result (bus_of W.view self.new ≡ bus_of W.view self.old) }
+        ensures kept { OnErr result (log.new ≡ log.old) }
     {
         match candidate {
-            Candidate::Own(at, index) => self.make_own(alloc, at, index),
-            Candidate::Handshake(at, index, partner) => self.shake(alloc, at, index, partner),
-            other => self.make_seldom(alloc, other),
+            Candidate::Own(at, index) => self.make_own(alloc, at, index, log),
+            Candidate::Handshake(at, index, partner) => self.shake(alloc, at, index, partner, log),
+            other => self.make_other(alloc, other, log),
         }
     }
 
     /// Likewise one that is seldom made, apart from the others since a function pays at entry for all that it may hold.
     #[inline(never)]
-    fn make_seldom(&mut self, alloc: Global, candidate: Candidate) -> Result<Label, NoMemory>
+    fn make_other(
+        &mut self,
+        alloc: Global,
+        candidate: Candidate,
+        log: &mut Log,
+    ) -> Result<(), NoMemory>
         requires sound { IsSound W.view self.old }
         requires fresh { AreFresh self.old.living.items }
         requires next { self.old.marks.next_number < 4294967295 }
         requires tools { self.old.bench.next_tool ≤ most_tools }
         requires found { IsCandidateIn (scene_in self.old) candidate }
+        requires can { CanLog log.old (label_of (move_in W.view self.old candidate)) }
         ensures sound { IsSound W.view self.new }
         ensures origin { self.new.origin ≡ self.old.origin }
-        ensures label { IfOk result (λ label. label ≡ label_of (move_in W.view self.old candidate)) }
+        ensures logged { OnOk result (IsLogged log.old (label_of (move_in W.view self.old candidate)) log.new) }
         ensures bus { OnOk result (bus_of W.view self.new ≡ apply (bus_of W.view self.old) (move_in W.view self.old candidate)) }
         ensures err { OnErr result (bus_of W.view self.new ≡ bus_of W.view self.old) }
+        ensures kept { OnErr result (log.new ≡ log.old) }
     {
         match candidate {
-            Candidate::Own(at, index) => self.make_own(alloc, at, index),
-            Candidate::Handshake(at, index, partner) => self.shake(alloc, at, index, partner),
-            Candidate::Notify(at, index, indices) => self.make_note(alloc, at, index, &indices),
-            Candidate::TakeNote(at, index, found) => self.make_taking(alloc, at, index, found),
-            Candidate::Speak(at, index, exchange) => {
-                self.make_exchange(alloc, at, index, exchange)
+            Candidate::Own(at, index) => self.make_own(alloc, at, index, log),
+            Candidate::Handshake(at, index, partner) => self.shake(alloc, at, index, partner, log),
+            Candidate::Notify(at, index, indices) => {
+                let label = self.make_note(alloc, at, index, &indices)?;
+                put_label(log, label);
+                Ok(())
             }
-            Candidate::Finish => self.finish_bus(alloc),
-            Candidate::Halt => self.halt_bus(alloc),
+            Candidate::TakeNote(at, index, found) => {
+                let label = self.make_taking(alloc, at, index, found)?;
+                put_label(log, label);
+                Ok(())
+            }
+            Candidate::Speak(at, index, exchange) => {
+                let label = self.make_exchange(alloc, at, index, exchange)?;
+                put_label(log, label);
+                Ok(())
+            }
+            Candidate::Finish => {
+                let label = self.finish_bus(alloc)?;
+                put_label(log, label);
+                Ok(())
+            }
+            Candidate::Halt => {
+                let label = self.halt_bus(alloc)?;
+                put_label(log, label);
+                Ok(())
+            }
         }
     }
 
@@ -484,20 +517,24 @@ impl<W: Walker> LiveBus<W> {
         at: usize,
         index: usize,
         partner: Partner,
-    ) -> Result<Label, NoMemory>
+        log: &mut Log,
+    ) -> Result<(), NoMemory>
         requires sound { IsSound W.view self.old }
         requires fresh { AreFresh self.old.living.items }
         requires found { IsCandidateIn (scene_in self.old) (Candidate.Handshake at index partner) }
+        requires can { CanLog log.old (label_of (move_in W.view self.old (Candidate.Handshake at index partner))) }
         ensures sound { IsSound W.view self.new }
         ensures origin { self.new.origin ≡ self.old.origin }
-        ensures label { IfOk result (λ label. label ≡ label_of (move_in W.view self.old (Candidate.Handshake at index partner))) }
+        ensures logged { OnOk result (IsLogged log.old (label_of (move_in W.view self.old (Candidate.Handshake at index partner))) log.new) }
         ensures bus { OnOk result (bus_of W.view self.new ≡ apply (bus_of W.view self.old) (move_in W.view self.old (Candidate.Handshake at index partner))) }
         ensures err { OnErr result (bus_of W.view self.new ≡ bus_of W.view self.old) }
+        ensures kept { OnErr result (log.new ≡ log.old) }
     {
         self.stale.reserve(2)?;
         let sent = self.take_at(alloc, at, index)?;
         let received = self.take_at(alloc, partner.living, partner.received.action)?;
-        Ok(self.make_handshake(alloc, at, index, sent, partner, received))
+        self.make_handshake(alloc, at, index, sent, partner, received, log);
+        Ok(())
     }
 
     fn place_at(&self, at: usize, index: usize) -> Place
@@ -562,36 +599,55 @@ impl<W: Walker> LiveBus<W> {
     }
 
     /// A process goes on by itself.
-    fn make_own(&mut self, alloc: Global, at: usize, index: usize) -> Result<Label, NoMemory>
+    fn make_own(
+        &mut self,
+        alloc: Global,
+        at: usize,
+        index: usize,
+        log: &mut Log,
+    ) -> Result<(), NoMemory>
         requires sound { IsSound W.view self.old }
         requires fresh { AreFresh self.old.living.items }
         requires next { self.old.marks.next_number < 4294967295 }
         requires found { IsCandidateIn (scene_in self.old) (Candidate.Own at index) }
+        requires can { CanLog log.old (label_of (move_in W.view self.old (Candidate.Own at index))) }
         ensures made { OnOk result (IsMade W.view self.old (Candidate.Own at index) self.new) }
-        ensures label { IfOk result (λ label. label ≡ label_of (move_in W.view self.old (Candidate.Own at index))) }
+        ensures logged { OnOk result (IsLogged log.old (label_of (move_in W.view self.old (Candidate.Own at index))) log.new) }
         ensures err { OnErr result (StandsAs W.view self.old self.new) }
+        ensures kept { OnErr result (log.new ≡ log.old) }
     {
         if self.is_tau(at, index) {
-            self.make_tau(alloc, at, index)
-        } else {
-            self.make_act(alloc, at, index)
+            return self.make_tau(alloc, at, index, log);
         }
+        let label = self.make_act(alloc, at, index)?;
+        put_label(log, label);
+        Ok(())
     }
 
     /// A process goes on by itself, and nothing is seen of it.
     #[inline(never)]
-    fn make_tau(&mut self, alloc: Global, at: usize, index: usize) -> Result<Label, NoMemory>
+    fn make_tau(
+        &mut self,
+        alloc: Global,
+        at: usize,
+        index: usize,
+        log: &mut Log,
+    ) -> Result<(), NoMemory>
         requires sound { IsSound W.view self.old }
         requires fresh { AreFresh self.old.living.items }
         requires found { IsCandidateIn (scene_in self.old) (Candidate.Own at index) }
         requires tau { (ready_at (rows_of self.old.living.items) at index).action ≡ Action.Own OwnAction.Tau }
+        requires can { CanLog log.old (label_of (move_in W.view self.old (Candidate.Own at index))) }
         ensures made { OnOk result (IsMade W.view self.old (Candidate.Own at index) self.new) }
-        ensures label { IfOk result (λ label. label ≡ label_of (move_in W.view self.old (Candidate.Own at index))) }
+        ensures logged { OnOk result (IsLogged log.old (label_of (move_in W.view self.old (Candidate.Own at index))) log.new) }
         ensures err { OnErr result (StandsAs W.view self.old self.new) }
+        ensures kept { OnErr result (log.new ≡ log.old) }
     {
         let taken = self.take_at(alloc, at, index)?;
         let from = self.leave(at, index)?;
-        Ok(self.finish(at, taken, from, kind_alone(alloc, LabelKind::Tau)))
+        let label = self.finish(at, taken, from, kind_alone(alloc, LabelKind::Tau));
+        put_label(log, label);
+        Ok(())
     }
 
     /// A process goes on by itself, as one of its actions says.
@@ -829,15 +885,17 @@ impl<W: Walker> LiveBus<W> {
         sent: W::Taken,
         partner: Partner,
         received: W::Taken,
-    ) -> Label
+        log: &mut Log,
+    )
         requires sound { IsSound W.view self.old }
         requires fresh { AreFresh self.old.living.items }
         requires found { IsCandidateIn (scene_in self.old) (Candidate.Handshake at index partner) }
         requires sent { Leaves W.view self.old at sent (offer_of (procs_in W.view self.old) (rows_of self.old.living.items) at index) }
         requires received { Leaves W.view self.old partner.living received (offer_of (procs_in W.view self.old) (rows_of self.old.living.items) partner.living partner.received.action) }
         requires room { vec_len self.old.stale + 1 < vec_capacity self.old.stale }
+        requires can { CanLog log.old (label_of (move_in W.view self.old (Candidate.Handshake at index partner))) }
         ensures made { IsMade W.view self.old (Candidate.Handshake at index partner) self.new }
-        ensures label { result ≡ label_of (move_in W.view self.old (Candidate.Handshake at index partner)) }
+        ensures logged { IsLogged log.old (label_of (move_in W.view self.old (Candidate.Handshake at index partner))) log.new }
     {
         let Partner {
             living: other,
@@ -850,12 +908,15 @@ impl<W: Walker> LiveBus<W> {
         let terms = self.take_sent(alloc, at, index);
         self.advance_both(alloc, at, sent, other, received, binds);
         self.marks.last_starter = from.proc;
-        Label {
-            kind: LabelKind::Msg,
-            from,
-            to,
-            terms,
-        }
+        put_label(
+            log,
+            Label {
+                kind: LabelKind::Msg,
+                from,
+                to,
+                terms,
+            },
+        );
     }
 
     /// Both parties of a handshake go on: the one at the first index, and the other with its binds.

@@ -339,8 +339,7 @@ fn make<W: Walker>(
         return Err(CoreFault::Full);
     }
     log.reserve(1)?;
-    let label = bus.make(alloc, candidate)?;
-    log.push(Entry::Did(label));
+    bus.make(alloc, candidate, log)?;
     Ok(())
 }
 

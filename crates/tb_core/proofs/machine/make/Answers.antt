@@ -1,4 +1,4 @@
-use Rattle.std.proofs.Common.{◌≡◌, ◌∙◌, ap, arith, sym, true}
+use Rattle.std.proofs.Common.{◌≡◌, ◌∙◌, arith, refl, sym, true}
 use Rattle.tb_log.specs.Limits.{has_room}
 use Rattle.tb_log.specs.declared.entry.Entry.TheVariants.{Did}
 use Rattle.tb_bus.specs.Steps.{label_of}
@@ -11,11 +11,15 @@ returns-then-not-room_for_size-clause-full g c is =
     let label = label_of (move_in g.W.Walker.view c.args.bus.now c.args.candidate) in
     sym (c.room_for_size.ensures (Did label) c.shown_size.ensures) ∙ c.if-not-room_for_size.true
 
-pub push-requires-clause-room : goal.push-requires-clause-room
-push-requires-clause-room g c =
+pub make-requires-clause-can : goal.make-requires-clause-can
+make-requires-clause-can g c =
     let label = label_of (move_in g.W.Walker.view c.args.bus.now c.args.candidate) in
-    room-kept c.args.log.now c.reserve.new.self (Did label) (Did c.in_ok-label.label) c.in_ok-reserve.ensures.limit c.in_ok-reserve.ensures.entries (ap Did c.in_ok-label.ensures.label)
-    (sym (c.room_for_size.ensures (Did label) c.shown_size.ensures) ∙ c.if-not-room_for_size.false)
+    let spare = c.in_ok-reserve.ensures.spare in
+    record {
+      room = room-kept c.args.log.now c.reserve.new.self (Did label) (Did label) c.in_ok-reserve.ensures.limit c.in_ok-reserve.ensures.entries refl
+          (sym (c.room_for_size.ensures (Did label) c.shown_size.ensures) ∙ c.if-not-room_for_size.false);
+      spare = omega (arith, spare);
+    }
 
 pub returns-clause-room : goal.returns-clause-room
 returns-clause-room g c =

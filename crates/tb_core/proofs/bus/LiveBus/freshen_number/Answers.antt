@@ -1,4 +1,4 @@
-use Rattle.std.proofs.Common.{◌≤◌, arith, length, subst, ap}
+use Rattle.std.proofs.Common.{◌≤◌, arith, length, subst}
 use Rattle.tb_core.specs.Helpers.Lives.{IsWhere}
 use Rattle.tb_core.proofs.NumberLemmas.{fresh-set, fresh-past}
 use Rattle.tb_core.proofs.bus.LiveBus.freshen_number.Goals as goal

@@ -1,11 +1,22 @@
-use Rattle.std.proofs.Common.{◌∙◌, [], sym, refl}
+use Rattle.std.proofs.Common.{◌≡◌, ◌∙◌, [], sym, subst, refl}
 use Rattle.tb_bus.specs.Helpers.Candidates.{rows_of}
 use Rattle.tb_bus.specs.Helpers.Views.{proc_at, offer_of, ready_at, sent_in}
-use Rattle.tb_core.specs.Helpers.LiveBuses.{procs_in}
+use Rattle.tb_bus.specs.Steps.{label_of}
+use Rattle.tb_bus.specs.declared.candidate.Candidate.TheVariants.{Handshake}
+use Rattle.tb_log.specs.declared.entry.Label.{Label}
+use Rattle.tb_log.specs.declared.entry.LabelKind.TheVariants as kind
+use Rattle.tb_core.specs.Helpers.LiveBuses.{CanLog, IsLogged, move_in, procs_in}
 use Rattle.tb_core.proofs.AdvanceLemmas.{number-kept, leaves-kept}
 use Rattle.tb_core.proofs.FreshLemmas.{received-takes}
 use Rattle.tb_core.proofs.MakeLemmas.{offer-is, can-advance, kept-number, kept-leaves, place-is, named-first, named-second, index-apart, handshake-made, handshake-label}
+use Rattle.tb_core.proofs.bus.LiveBus.make_handshake.Given.{Over}
+use Rattle.tb_core.proofs.bus.LiveBus.make_handshake.Goals.{After-advance_both}
 use Rattle.tb_core.proofs.bus.LiveBus.make_handshake.Goals as goal
+
+pub take_sent-terms-requires-clause-named : goal.take_sent-terms-requires-clause-named
+take_sent-terms-requires-clause-named g c =
+    named-first c.args.self.now.stale c.push_reserved.new.self c.push_reserved-2.new.self c.push_reserved-2.new.self c.place_at-from.result.proc c.place_at-to.result.proc _ _
+    refl c.push_reserved-2.ensures.items c.push_reserved.ensures.items refl c.place_at-from.ensures.proc
 
 pub advance_both-requires-clause-apart : goal.advance_both-requires-clause-apart
 advance_both-requires-clause-apart g c e =
@@ -73,8 +84,9 @@ returns-clause-made g c =
       origin = went.origin ∙ c.take_sent-terms.ensures.same.origin;
     }
 
-pub returns-clause-label : goal.returns-clause-label
-returns-clause-label g c =
+label-is : (g : Over) (c : After-advance_both g) → ◌≡◌ {A = Label} (record { kind = kind.Msg; from = c.place_at-from.result; to = c.place_at-to.result; terms = c.take_sent-terms.result })
+    (label_of (move_in g.W.Walker.view c.args.self.now (Handshake c.args.at c.args.index c.args.partner)))
+label-is g c =
     let old = c.args.self.now in
     let procs = procs_in g.W.Walker.view old in
     let rows = rows_of old.living.items in
@@ -88,3 +100,9 @@ returns-clause-label g c =
     (place-is g.W.Walker.view old c.args.at c.args.index c.place_at-from.result is c.place_at-from.ensures.proc c.place_at-from.ensures.atom)
     (place-is g.W.Walker.view old partner.living partner.received.action c.place_at-to.result its c.place_at-to.ensures.proc c.place_at-to.ensures.atom)
     c.take_sent-terms.ensures.sent
+
+pub put_label-requires : goal.put_label-requires
+put_label-requires g c = subst (CanLog c.args.log.now) (sym (label-is g (goal.at.put_label-requires g c).After-advance_both)) c.requires.can
+
+pub returns-clause-logged : goal.returns-clause-logged
+returns-clause-logged g c = subst (λ label. IsLogged c.args.log.now label c.put_label.new.log) (label-is g (goal.at.returns-clause-logged g c).After-advance_both) c.put_label.ensures
