@@ -10,4 +10,5 @@ pub mod PickLemmas
 pub mod WalkLemmas
 pub mod SettleLemmas
 pub mod NumberLemmas
+pub mod OneBind
 pub mod SendLemmas

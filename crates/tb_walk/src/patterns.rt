@@ -11,7 +11,7 @@ use std::alloc::Global;
 use tb_algebra::matched_patterns;
 use tb_body::{Act, Atom};
 use tb_func::{Store, pattern};
-use tb_terms::{Expr, Items, NoMemory, Pattern, Patterns, Term};
+use tb_terms::{Expr, Items, NoMemory, Pattern, Patterns, Sort, Term};
 
 /// The patterns of an act, as `matched_patterns` has them. Those of messages and notes have a
 /// path of their own, on which a number costs little.
@@ -88,12 +88,43 @@ fn push_result(
 {
     match store.get_sort(slot) {
         Some(sort) => {
-            let sort = sort.copy(alloc)?;
-            patterns.push(Pattern::Result(slot, sort))?;
+            push_sorted(alloc, slot, sort, patterns)?;
             Ok(true)
         }
         None => Ok(false),
     }
+}
+
+/// Adds the pattern of a result of this sort, which is that of numbers in most steps.
+fn push_sorted(
+    alloc: Global,
+    slot: u32,
+    sort: &Sort,
+    patterns: &mut Vec<Pattern>,
+) -> Result<(), NoMemory>
+    ensures { OnOk result (patterns.new.items ≡ patterns.old.items ++ pattern.Result slot sort.now ∷ []) }
+{
+    match sort {
+        Sort::Int => {
+            patterns.push(Pattern::Result(slot, Sort::Int))?;
+            Ok(())
+        }
+        _ => push_copied(alloc, slot, sort, patterns),
+    }
+}
+
+#[inline(never)]
+fn push_copied(
+    alloc: Global,
+    slot: u32,
+    sort: &Sort,
+    patterns: &mut Vec<Pattern>,
+) -> Result<(), NoMemory>
+    ensures { OnOk result (patterns.new.items ≡ patterns.old.items ++ pattern.Result slot sort.now ∷ []) }
+{
+    let sort = sort.copy(alloc)?;
+    patterns.push(Pattern::Result(slot, sort))?;
+    Ok(())
 }
 
 #[inline(never)]

@@ -94,7 +94,22 @@ pub(crate) fn set_all(store: &mut Store, binds: Binds)
     requires { IsTrue (takes_binds store.old binds) }
     ensures { store.new ≡ with_binds store.old binds }
 {
-    if !binds.is_empty() {
+    if binds.len() == 1 {
+        set_one(store, binds);
+    } else if !binds.is_empty() {
         set_binds(store, binds);
+    }
+}
+
+/// Sets the only bind, as most steps have it that receive something.
+fn set_one(store: &mut Store, binds: Binds)
+    requires one { length binds ≡ 1 }
+    requires taken { IsTrue (takes_binds store.old binds) }
+    ensures { store.new ≡ with_binds store.old binds }
+{
+    let mut rest = binds;
+    match rest.pop() {
+        Some(bind) => store.set(bind.slot, bind.value),
+        None => {}
     }
 }
