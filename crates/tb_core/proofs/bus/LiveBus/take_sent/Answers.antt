@@ -1,9 +1,11 @@
 use Rattle.std.proofs.Common.{refl, subst, inr, false, Contains}
 use Rattle.std.specs.Vec.{with_item}
 use Rattle.tb_core.specs.Helpers.Indexes.{IsRightFor}
+use Rattle.tb_core.specs.Helpers.LiveBuses.{settings_in}
 use Rattle.tb_core.proofs.ReadLemmas.{all-there, live-at}
 use Rattle.tb_core.proofs.SetLemmas.{stands-set, set-there, set-other}
 use Rattle.tb_core.proofs.IndexLemmas.{keeps-self, stale-right}
+use Rattle.tb_core.proofs.RestLemmas.{rested-stale}
 use Rattle.tb_core.proofs.bus.LiveBus.take_sent.Goals as goal
 
 pub returns-clause-same : goal.returns-clause-same
@@ -17,7 +19,7 @@ returns-clause-same g c =
       live = record { is_on = it.live.is_on; alive = it.live.alive; sorts = it.live.sorts; ticks = it.live.ticks; ready = λ e. cc };
       proc = refl;
       fresh = λ young. inr (subst (λ row. Contains bus.stale.items row.number) it.row c.requires.named);
-    }) (λ other ne. keeps-self bus.index other) (stale-right bus.index living one refl refl refl right)
+    }) (λ other ne. keeps-self bus.index other) (stale-right bus.index living one refl refl refl right) (rested-stale (settings_in bus) bus.stirred bus.index one refl)
 
 pub returns-clause-kept : goal.returns-clause-kept
 returns-clause-kept g c =
