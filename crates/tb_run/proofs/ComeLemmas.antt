@@ -1,15 +1,14 @@
 -- What a run comes to before the bus is closed, from what its workers have done and how their seats were joined.
-use Rattle.std.proofs.Common.{◌≡◌, ◌≤◌, ◌-◌, ◌+◌, ◌⊎◌, ℕ, List, [], ◌∷◌, ◌++◌, map, length, Bool, true, false, ◌||◌, nat_lt, Option, None, if◌then◌else◌, refl, sym, ap, ◌∙◌, subst, inl, inr, append_assoc, append-nil, arith}
+use Rattle.std.proofs.Common.{◌≡◌, ◌+◌, ◌⊎◌, ℕ, List, [], ◌∷◌, ◌++◌, map, length, Bool, true, false, ◌||◌, nat_lt, Option, None, if◌then◌else◌, refl, sym, ap, ◌∙◌, subst, inl, inr, append_assoc, append-nil, arith}
 use Rattle.std.specs.Prelude.{⊤}
 use Rattle.std.specs.List.{All, AllZip, list_any, fold}
 use Rattle.tb_edge.specs.Ends.{InletView, ClockView}
 use Rattle.tb_edge.specs.Faults.{Rose}
-use Rattle.tb_edge.specs.Sinks.{Writes, WritesPrefix}
+use Rattle.tb_edge.specs.Sinks.{WritesPrefix}
 use Rattle.tb_edge.specs.Jobs.{AllDone}
 use Rattle.tb_edge.specs.declared.given.Taken.{Taken}
 use Rattle.tb_log.specs.LogText.{log_text, log_text_from}
 use Rattle.tb_log.specs.declared.entry.Entry.{Entry}
-use Rattle.tb_log.specs.Shapes.{IsLane}
 use Rattle.tb_log.specs.declared.entry.Input.TheVariants as input
 use Rattle.tb_log.specs.declared.entry.Out.{Out}
 use Rattle.tb_tools.specs.Finding.{next_out}
@@ -20,38 +19,34 @@ use Rattle.tb_core.specs.Cores.{CoreState, HandIn}
 use Rattle.tb_lock.specs.declared.rights.Rights.{Rights}
 use Rattle.tb_lock.specs.Rights.{Ticks as ToTick, all_rights, no_rights, has, united, without}
 use Rattle.tb_lock.specs.Seats.{SeatView, first_seat, kept_of, handed_on, joined, most_seats}
-use Rattle.tb_lock.specs.Histories.{IsSparse, longer}
-use Rattle.tb_lock.specs.Calls.{Joins, Closes}
+use Rattle.tb_lock.specs.Calls.{Closes}
 use Rattle.tb_lock.proofs.RightLemmas.{has-united}
 use Rattle.tb_write.specs.Writers.{WriterView}
 use Rattle.tb_run.specs.declared.ends.WorkEnd.{WorkEnd}
 use Rattle.tb_run.specs.declared.ends.WorkEnd.TheVariants as end
 use Rattle.tb_run.specs.declared.ends.LogEnd.{LogEnd}
 use Rattle.tb_run.specs.declared.ends.LogEnd.TheVariants as log
-use Rattle.tb_run.specs.declared.ends.RunWhy.{RunWhy}
-use Rattle.tb_run.specs.declared.ends.RunWhy.TheVariants as why
 use Rattle.tb_run.specs.declared.worker.Work.{Work}
-use Rattle.tb_run.specs.Clocks.{ClockRan, ClockStopped}
-use Rattle.tb_run.specs.Jobs.{HasRight, WorkDone}
+use Rattle.tb_run.specs.Jobs.{HasRight}
 use Rattle.tb_run.specs.Joining.{JoinsAll}
 use Rattle.tb_run.specs.Logging.{LogDone, Logged}
 use Rattle.tb_run.specs.Moving.{works_of, inlets_of, outlets_of}
-use Rattle.tb_run.specs.Outcomes.{EachLane, LaneView, LaneRan, LaneStopped, OutsideView, IsDone, views}
+use Rattle.tb_run.specs.Outcomes.{EachLane, OutsideView, IsDone, views}
 use Rattle.tb_run.specs.Parting.{parted, left_after}
 use Rattle.tb_run.specs.Parts.{job_rights, to_tick, rights_left}
 use Rattle.tb_run.specs.Reasons.{reason_of, of_log, of_clock, is_no_memory, is_full_end}
-use Rattle.tb_run.specs.Running.{ComesTo, HasCome, HasRun, IsPut, IsStopped, PutsPrefix, RunsIfClosed}
+use Rattle.tb_run.specs.Running.{ComesTo, HasCome, HasRun, IsPut, IsStopped, PutsPrefix}
 use Rattle.tb_run.specs.Seats.{Adds, SeesTrace, WasFull, FoundFull}
-use Rattle.tb_run.specs.Workers.{TicksBus, TickerEnds, StepsBus, StepperEnds, WritesLane, WriterEnds, bus_of}
+use Rattle.tb_run.specs.Workers.{TicksBus, TickerEnds, StepperEnds, WriterEnds, bus_of}
 use Rattle.tb_run.proofs.ClockLemmas.{clock_ran, clock_stopped, TickerWhole}
 use Rattle.tb_run.proofs.EndLemmas.{CameToEnd, AllCameToEnd, NoneRefused, ends_of, came_to_end}
-use Rattle.tb_run.proofs.JoinLemmas.{Kept, AllKept, FirstLaw, SecondLaw, own_each, rights_of_all, room_of_all}
+use Rattle.tb_run.proofs.JoinLemmas.{AllKept, FirstLaw, SecondLaw, own_each, rights_of_all, room_of_all}
 use Rattle.tb_run.proofs.SeatLemmas.{was_full}
 use Rattle.tb_run.proofs.LimitLemmas.{full_kept}
 use Rattle.tb_run.proofs.LogLemmas.{text_append}
 use Rattle.tb_run.proofs.MarkLemmas.{Worked, seats_of}
 use Rattle.tb_run.proofs.PartLemmas.{left_rights, left_room, left_bus, left_origin, left_seen, left_called, parted_new, parted_rights, parted_rooms, job_count, rights_unite, rooms_unite}
-use Rattle.tb_run.proofs.RunLemmas.{EachNew, EachEnd, EachSees, Done, Went, AllWent, ReaderWent, WriterWent, StepperWent, any_end, sees_nothing, zip_went, all_went, each_stopped, each_ran, each_sees, some_full, rights_stay, rooms_stay, worked_of, seats_worked, ends_worked, came_each, lane_in}
+use Rattle.tb_run.proofs.RunLemmas.{EachNew, EachEnd, EachSees, Done, AllWent, ReaderWent, WriterWent, StepperWent, any_end, sees_nothing, zip_went, all_went, each_stopped, each_ran, each_sees, some_full, rights_stay, rooms_stay, worked_of, seats_worked, ends_worked, came_each, lane_in}
 use Rattle.tb_run.proofs.TraceLemmas.{DownLaw, EmptyLaw, down_to_end, empty_to_end}
 use Rattle.tb_run.proofs.WentLemmas.{zip_done}
 

@@ -1,18 +1,17 @@
 -- What a run says of a lane, from what its two workers have done and how their seats were joined.
-use Rattle.std.proofs.Common.{◌≡◌, ◌≤◌, ◌+◌, ◌⊎◌, ℕ, List, [], ◌∷◌, ◌++◌, map, length, Bool, true, false, ◌||◌, Option, Some, is_some, refl, sym, ap, ◌∙◌, subst, inl, inr, ⊎_elim, append_assoc, append-nil, arith}
+use Rattle.std.proofs.Common.{◌≡◌, ◌≤◌, ◌⊎◌, ℕ, List, [], ◌∷◌, ◌++◌, map, length, Bool, true, false, ◌||◌, is_some, refl, sym, ap, ◌∙◌, subst, inl, inr, ⊎_elim, append_assoc, append-nil, arith}
 use Rattle.std.proofs.lemmas.List.{nil_from_length}
 use Rattle.tb_edge.specs.Ends.{and_given, and_taken}
 use Rattle.tb_edge.specs.declared.given.Given.{Given}
-use Rattle.tb_log.specs.declared.entry.Input.{Input}
 use Rattle.tb_log.specs.declared.entry.Reply.TheVariants.{Dropped}
 use Rattle.tb_log.specs.declared.entry.Why.TheVariants as why
 use Rattle.tb_log.specs.declared.entry.Out.{Out}
 use Rattle.tb_log.specs.declared.entry.Entry.{Entry}
 use Rattle.tb_log.specs.declared.entry.Entry.TheVariants.{Fed}
-use Rattle.tb_log.specs.Lanes.{inputs, given_on, sent}
+use Rattle.tb_log.specs.Lanes.{inputs, sent}
 use Rattle.tb_lane.specs.Sending.{taken_of}
 use Rattle.tb_lock.specs.declared.rights.Rights.{Rights}
-use Rattle.tb_lock.specs.Rights.{In, Out as Outs, AreAmong, has, own}
+use Rattle.tb_lock.specs.Rights.{In, Out as Outs, has, own}
 use Rattle.tb_lock.specs.Seats.{SeatView}
 use Rattle.tb_run.specs.declared.ends.WorkEnd.{WorkEnd}
 use Rattle.tb_run.specs.declared.ends.WorkEnd.TheVariants as end

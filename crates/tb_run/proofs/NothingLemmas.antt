@@ -1,34 +1,31 @@
 -- A run that didn't begin: nothing was logged, and the outside is as it was.
-use Rattle.std.proofs.Common.{◌≡◌, ◌≤◌, ◌-◌, ◌+◌, ◌⊎◌, ℕ, List, [], ◌∷◌, ◌++◌, map, length, Bool, true, false, nat_lt, Option, Some, None, if◌then◌else◌, refl, sym, ap, ◌∙◌, subst, inl, inr, append-nil, arith}
-use Rattle.std.specs.Prelude.{⊤, filter}
+use Rattle.std.proofs.Common.{◌≡◌, ◌≤◌, ◌+◌, ℕ, List, [], ◌∷◌, ◌++◌, map, length, false, Option, refl, sym, ap, ◌∙◌, subst, inl, arith}
+use Rattle.std.specs.Prelude.{⊤}
 use Rattle.std.specs.List.{fold}
 use Rattle.tb_edge.specs.Ends.{ClockView}
 use Rattle.tb_edge.specs.Faults.{Rose}
-use Rattle.tb_edge.specs.Sinks.{Writes, WritesPrefix}
+use Rattle.tb_edge.specs.Sinks.{WritesPrefix}
 use Rattle.tb_log.specs.LogText.{log_text}
 use Rattle.tb_log.specs.declared.entry.Entry.{Entry}
-use Rattle.tb_bus.specs.Buses.{start}
-use Rattle.tb_bus.specs.declared.origin.Origin.{Origin}
 use Rattle.tb_core.specs.Cores.{CoreState}
 use Rattle.tb_lock.specs.declared.rights.Rights.{Rights}
 use Rattle.tb_lock.specs.Rights.{all_rights, no_rights, united, without}
-use Rattle.tb_lock.specs.Seats.{SeatView, first_seat, kept_of, handed_on, joined, most_seats}
+use Rattle.tb_lock.specs.Seats.{SeatView, first_seat, kept_of, handed_on, most_seats}
 use Rattle.tb_lock.specs.Histories.{longer}
 use Rattle.tb_lock.proofs.HistoryLemmas.{sparse_nil}
 use Rattle.tb_write.specs.Writers.{WriterView}
 use Rattle.tb_run.specs.declared.ends.RunWhy.{RunWhy}
 use Rattle.tb_run.specs.declared.ends.RunWhy.TheVariants as why
 use Rattle.tb_run.specs.declared.worker.Work.{Work}
-use Rattle.tb_run.specs.Clocks.{ClockStopped, TimeIs}
+use Rattle.tb_run.specs.Clocks.{ClockStopped}
 use Rattle.tb_run.specs.Joining.{JoinsAll}
-use Rattle.tb_run.specs.Moving.{readers, writers, works_of, inlets_of, outlets_of}
+use Rattle.tb_run.specs.Moving.{readers, writers, inlets_of, outlets_of}
 use Rattle.tb_run.specs.Outcomes.{EachLane, LaneView, LaneStopped, OutsideView, IsRunOf, Runs}
 use Rattle.tb_run.specs.Parting.{parted, left_after}
 use Rattle.tb_run.specs.Parts.{job_rights, to_tick, rights_left}
 use Rattle.tb_run.specs.Running.{ComesTo, HasCome, IsStopped, FailsFor}
-use Rattle.tb_run.specs.Workers.{CountsTo}
 use Rattle.tb_run.proofs.JoinLemmas.{rights_of_all, room_of_all}
-use Rattle.tb_run.proofs.LogLemmas.{more_none, prefix_none}
+use Rattle.tb_run.proofs.LogLemmas.{prefix_none}
 use Rattle.tb_run.proofs.PartLemmas.{left_rights, left_room, left_bus, left_origin, left_seen, parted_new, parted_rights, parted_rooms, job_count, rights_unite, rooms_unite}
 use Rattle.tb_run.proofs.ReadLemmas.{and_given_none}
 use Rattle.tb_run.proofs.RunLemmas.{EachNew, sees_nothing}

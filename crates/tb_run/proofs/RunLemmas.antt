@@ -1,7 +1,7 @@
 -- What a run says of all its lanes, from what each worker has done and how all seats came together.
-use Rattle.std.proofs.Common.{◌≡◌, ◌≤◌, ◌<◌, ◌+◌, ◌⊎◌, ℕ, zero, suc, List, [], ◌∷◌, ◌++◌, map, length, Bool, true, false, ◌||◌, Option, Some, None, refl, sym, ap, ◌∙◌, subst, inl, inr, ⊎_elim, append_assoc, append-nil, arith}
-use Rattle.std.specs.List.{All, AllZip, list_any, cons_option, filter_map}
-use Rattle.std.specs.Prelude.{⊤, slice_get}
+use Rattle.std.proofs.Common.{◌≡◌, ◌≤◌, ◌<◌, ◌+◌, ◌⊎◌, ℕ, zero, suc, List, [], ◌∷◌, ◌++◌, map, length, true, false, ◌||◌, Option, refl, sym, ap, ◌∙◌, subst, inl, inr, append-nil, arith}
+use Rattle.std.specs.List.{All, AllZip, list_any, cons_option}
+use Rattle.std.specs.Prelude.{⊤}
 use Rattle.std.proofs.lemmas.Bool.{cases_lt}
 use Rattle.tb_edge.specs.Ends.{InletView}
 use Rattle.tb_edge.specs.declared.given.Given.{Given}
@@ -24,10 +24,10 @@ use Rattle.tb_run.specs.declared.ends.WorkEnd.TheVariants as end
 use Rattle.tb_run.specs.declared.worker.Work.{Work}
 use Rattle.tb_run.specs.declared.worker.Work.TheVariants.{Reads, Writes, Steps}
 use Rattle.tb_run.specs.Seats.{Adds, Marks, SeesTrace, WasFull}
-use Rattle.tb_run.specs.Workers.{ReadsLane, WritesLane, StepsBus, ReaderEnds, WriterEnds, StepperEnds}
+use Rattle.tb_run.specs.Workers.{ReadsLane, WritesLane, StepsBus, ReaderEnds, WriterEnds}
 use Rattle.tb_run.specs.Jobs.{HasRight, WorkDone}
 use Rattle.tb_run.specs.Moving.{works_of, writers, inlets_of, outlets_of, inlet_of, outlet_of}
-use Rattle.tb_run.specs.Outcomes.{EachLane, LaneView, LaneRan, LaneStopped, views}
+use Rattle.tb_run.specs.Outcomes.{EachLane, LaneRan, LaneStopped, views}
 use Rattle.tb_run.specs.Reasons.{is_full_end}
 use Rattle.tb_run.proofs.JoinLemmas.{Kept, AllKept}
 use Rattle.tb_run.proofs.MarkLemmas.{Worked, seats_of}

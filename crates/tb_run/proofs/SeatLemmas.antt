@@ -1,5 +1,5 @@
 -- How seats go on over calls, one after another.
-use Rattle.std.proofs.Common.{◌≡◌, ◌==◌, ℕ, List, [], ◌∷◌, ◌++◌, Bool, true, false, true≢false, ◌||◌, Option, Some, None, Result, Ok, Err, refl, sym, ap, ◌∙◌, subst, append_assoc, append-nil, arith}
+use Rattle.std.proofs.Common.{◌≡◌, ◌==◌, ℕ, List, [], ◌∷◌, ◌++◌, Bool, true, false, true≢false, ◌||◌, Some, Result, Ok, Err, refl, sym, ap, ◌∙◌, subst, append_assoc, append-nil, arith}
 use Rattle.std.specs.Prelude.{is_ok}
 use Rattle.std.proofs.lemmas.Bool.Decides.{nat_tests}
 use Rattle.tb_log.specs.declared.entry.Input.{Input}
@@ -24,7 +24,7 @@ use Rattle.tb_run.specs.declared.ends.WorkEnd.{WorkEnd}
 use Rattle.tb_run.specs.declared.ends.WorkEnd.TheVariants as end
 use Rattle.tb_run.specs.Dropping.{AreLetIn}
 use Rattle.tb_run.specs.Workers.{LetIn}
-use Rattle.tb_run.specs.Seats.{Adds, FoundFull, WasFull, Marks, SameMarks, Stops, SeesTrace, EndsWith, Ends, Hands, end_of}
+use Rattle.tb_run.specs.Seats.{Adds, FoundFull, WasFull, Marks, SameMarks, Stops, EndsWith, Ends, Hands, end_of}
 
 -- the laws of the shared bus
 abbrev pub SeenLaw : Type 0

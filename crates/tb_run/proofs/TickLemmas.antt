@@ -1,10 +1,9 @@
 -- What a tick worker comes to, tick by tick.
-use Rattle.std.proofs.Common.{◌≡◌, ◌≤◌, ◌<◌, ◌+◌, ◌⊎◌, ℕ, List, [], ◌∷◌, ◌++◌, length, Bool, true, false, true≢false, not, ◌||◌, Option, Some, None, MatchOption, refl, sym, ap, ◌∙◌, subst, inl, inr, append_assoc, append-nil, length-append, arith}
+use Rattle.std.proofs.Common.{◌≡◌, ◌≤◌, ◌+◌, ◌⊎◌, ℕ, List, [], ◌∷◌, ◌++◌, length, Bool, true, false, true≢false, not, ◌||◌, Option, Some, None, MatchOption, refl, sym, ap, ◌∙◌, subst, inl, inr, append_assoc, length-append, arith}
 use Rattle.std.proofs.Math.Bool.{or-false}
 use Rattle.tb_edge.specs.Faults.{Rose}
 use Rattle.tb_edge.specs.Ends.{ClockView, and_ticked}
 use Rattle.tb_log.specs.declared.entry.Input.TheVariants as input
-use Rattle.tb_log.specs.declared.entry.Reply.{Reply}
 use Rattle.tb_log.specs.declared.entry.Reply.TheVariants.{Dropped}
 use Rattle.tb_log.specs.declared.entry.Why.TheVariants as why
 use Rattle.tb_log.specs.declared.entry.Entry.{Entry}
@@ -13,8 +12,8 @@ use Rattle.tb_core.specs.Cores.{HandIn}
 use Rattle.tb_lock.specs.Seats.{SeatView}
 use Rattle.tb_run.specs.declared.ends.WorkEnd.{WorkEnd}
 use Rattle.tb_run.specs.declared.ends.WorkEnd.TheVariants as end
-use Rattle.tb_run.specs.Seats.{Adds, Hands, Marks, WasFull}
-use Rattle.tb_run.specs.Workers.{AreTicks, Ticks, TicksBus, TickerEnds, MayLack, IsNoTicks}
+use Rattle.tb_run.specs.Seats.{Adds, Hands}
+use Rattle.tb_run.specs.Workers.{AreTicks, Ticks, TicksBus, TickerEnds}
 use Rattle.tb_run.specs.Ticking.{EndsAll, IsRefused}
 use Rattle.tb_run.proofs.SeatLemmas.{let_in_both, let_in_on, marks_none, marks_both, marks_on, both_marks, adds_none, adds_on, found_on}
 

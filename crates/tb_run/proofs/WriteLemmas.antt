@@ -1,6 +1,6 @@
 -- What a writer comes to, item by item.
-use Rattle.std.proofs.Common.{◌≡◌, ◌==◌, ◌≤◌, ◌<◌, ◌+◌, ◌-◌, ◌^◌, ◌⊎◌, ℕ, zero, suc, List, [], ◌∷◌, ◌++◌, map, length, Bool, true, false, not, ◌&&◌, Option, Some, None, Result, Ok, Err, MatchOption, if◌then◌else◌, refl, sym, ap, ◌∙◌, subst, inl, inr, ⊎_elim, append_assoc, append-nil, arith}
-use Rattle.std.specs.Prelude.{option_to_list, count_by}
+use Rattle.std.proofs.Common.{◌≡◌, ◌==◌, ◌≤◌, ◌+◌, ℕ, zero, suc, List, [], ◌∷◌, ◌++◌, map, Bool, true, false, not, ◌&&◌, Option, Some, None, Ok, MatchOption, if◌then◌else◌, refl, sym, ap, ◌∙◌, subst, inl, inr, ⊎_elim, append_assoc, append-nil, arith}
+use Rattle.std.specs.Prelude.{option_to_list}
 use Rattle.std.specs.List.{All}
 use Rattle.std.proofs.lemmas.List.{map-append}
 use Rattle.tb_edge.specs.Faults.{Rose}
@@ -24,12 +24,12 @@ use Rattle.tb_core.specs.Cores.{CoreState, HandIn, HandOut, bus_now, entries_of,
 use Rattle.tb_core.specs.Cores as cores
 use Rattle.tb_lock.specs.Seats.{SeatView}
 use Rattle.tb_lock.specs.Rights.{has, right_to}
-use Rattle.tb_lock.specs.Calls.{Called, IsTaken, added}
+use Rattle.tb_lock.specs.Calls.{Called, IsTaken}
 use Rattle.tb_run.specs.declared.ends.WorkEnd.{WorkEnd}
 use Rattle.tb_run.specs.declared.ends.WorkEnd.TheVariants as end
-use Rattle.tb_run.specs.Seats.{Adds, Marks, SameMarks, WasFull}
-use Rattle.tb_run.specs.Workers.{Writes, WritesLane, Counts, CountsTo, cut_count, is_cut, MayLack, WriterEnds, bus_of, CutsOff, Fails, PutsIt, Puts}
-use Rattle.tb_run.proofs.SeatLemmas.{SeenLaw, AddedLaw, Refused, marks_both, marks_on, both_marks, same_marks, adds_none, adds_on, adds_call, found_on, same_number}
+use Rattle.tb_run.specs.Seats.{Adds, Marks, SameMarks}
+use Rattle.tb_run.specs.Workers.{Writes, WritesLane, Counts, CountsTo, cut_count, MayLack, WriterEnds, bus_of, CutsOff, Fails, PutsIt, Puts}
+use Rattle.tb_run.proofs.SeatLemmas.{SeenLaw, AddedLaw, Refused, marks_both, marks_on, both_marks, same_marks, adds_on, adds_call, found_on, same_number}
 
 -- what was taken in two parts
 pub and_taken_on : (told : Option (List Taken)) (xs ys : List Taken) → and_taken (and_taken told xs) ys ≡ and_taken told (xs ++ ys)

@@ -1,20 +1,15 @@
 -- What a run has done once it ends: over the log of the core that it hands back, and what the outside gave and took in the call.
-use Rattle.std.specs.Prelude.{◌≡◌, ◌≤◌, ◌+◌, ◌⊎◌, ℕ, Bool, true, false, ◌||◌, List, [], ◌∷◌, ◌++◌, length, map, Option, Some, None, is_some, ⊤}
+use Rattle.std.specs.Prelude.{◌≡◌, ◌≤◌, ◌+◌, ◌⊎◌, ℕ, Bool, true, ◌||◌, List, [], ◌∷◌, ◌++◌, length, map, Option, None, is_some, ⊤}
 use Rattle.tb_edge.specs.Faults.{Rose}
 use Rattle.tb_edge.specs.Sinks.{Writes, WritesPrefix}
-use Rattle.tb_edge.specs.Ends.{InletView, ClockView, and_given, and_taken, and_ticked}
+use Rattle.tb_edge.specs.Ends.{InletView, ClockView, and_given, and_taken}
 use Rattle.tb_edge.specs.declared.given.Given.{Given}
 use Rattle.tb_edge.specs.declared.given.Taken.{Taken}
 use Rattle.tb_log.specs.declared.entry.Input.{Input}
-use Rattle.tb_log.specs.declared.entry.Input.TheVariants as input
-use Rattle.tb_log.specs.declared.entry.Reply.{Reply}
-use Rattle.tb_log.specs.declared.entry.Reply.TheVariants.{Dropped}
-use Rattle.tb_log.specs.declared.entry.Why.TheVariants as why
 use Rattle.tb_log.specs.declared.entry.Out.{Out}
 use Rattle.tb_log.specs.declared.entry.Entry.{Entry}
-use Rattle.tb_log.specs.declared.entry.Entry.TheVariants.{Fed}
 use Rattle.tb_log.specs.Shapes.{IsLane}
-use Rattle.tb_log.specs.Lanes.{inputs, given_on, sent, ticks, is_tick_input}
+use Rattle.tb_log.specs.Lanes.{inputs, given_on, sent}
 use Rattle.tb_log.specs.LogText.{log_text}
 use Rattle.tb_bus.specs.declared.origin.Origin.{Origin}
 use Rattle.tb_bus.specs.Buses.{Bus, start}

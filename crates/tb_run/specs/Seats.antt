@@ -1,5 +1,5 @@
 -- How a seat of a run goes on, and what a worker that hands in an input comes to.
-use Rattle.std.specs.Prelude.{◌≡◌, Bool, true, false, List, [], ◌∷◌, ◌++◌, Option, Some, None}
+use Rattle.std.specs.Prelude.{◌≡◌, true, false, List, [], ◌∷◌, ◌++◌, Option, Some, None}
 use Rattle.tb_log.specs.declared.entry.Input.{Input}
 use Rattle.tb_log.specs.declared.entry.Reply.{Reply}
 use Rattle.tb_log.specs.declared.entry.Reply.TheVariants.{Took, Dropped}

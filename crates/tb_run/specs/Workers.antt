@@ -1,5 +1,5 @@
 -- What each of the four workers of a run has done once it ends, over what its seat has seen and what its end of the outside gave or took in the call.
-use Rattle.std.specs.Prelude.{◌≡◌, ℕ, ◌+◌, ◌-◌, ◌≤◌, ◌<◌, ◌^◌, ◌⊎◌, ◌==◌, Bool, true, false, List, [], ◌∷◌, ◌++◌, length, map, count_by, Option, Some, None}
+use Rattle.std.specs.Prelude.{◌≡◌, ℕ, ◌+◌, ◌-◌, ◌≤◌, ◌<◌, ◌^◌, ◌⊎◌, Bool, true, false, List, [], ◌∷◌, ◌++◌, length, map, count_by, Option, Some, None}
 use Rattle.std.specs.List.{AllZip}
 use Rattle.tb_edge.specs.Faults.{Rose}
 use Rattle.tb_edge.specs.Ends.{InletView, and_given, and_taken, ClockView, and_ticked}
@@ -15,7 +15,7 @@ use Rattle.tb_log.specs.declared.entry.Why.TheVariants as why
 use Rattle.tb_log.specs.declared.entry.Out.{Out}
 use Rattle.tb_log.specs.declared.entry.Entry.{Entry}
 use Rattle.tb_log.specs.declared.entry.Entry.TheVariants.{Did, Quiet, Fed, Gave}
-use Rattle.tb_log.specs.Lanes.{inputs, given_on, sent, cuts, is_cut_off, ticks}
+use Rattle.tb_log.specs.Lanes.{inputs, given_on, sent, cuts, is_cut_off}
 use Rattle.tb_bus.specs.Buses.{Bus, start}
 use Rattle.tb_bus.specs.Traces.{replay}
 use Rattle.tb_tools.specs.Finding.{next_out}
