@@ -5,7 +5,7 @@ use Rattle.std.specs.Option.{option_or}
 use Rattle.std.specs.Prelude.{slice_get, if◌then◌else◌}
 use Rattle.std.proofs.lemmas.List.{take_more}
 use Rattle.std.proofs.lemmas.List.Folds.{find-append}
-use Rattle.std.proofs.lemmas.Option.{none-some}
+use Rattle.std.proofs.lemmas.Option.{none-some, same_Some}
 use Rattle.tb_body.specs.declared.body.Body.{Body}
 use Rattle.tb_syntax.specs.declared.script.ProcDef.{ProcDef}
 use Rattle.tb_syntax.specs.declared.script.Script.{Script}
@@ -90,6 +90,17 @@ more_bodies script bodies body position within first is =
       bodies_are = zip_more (IsExpansion script) (take position script.procs) bodies at.0 body first.bodies_are b.is;
       small = small_more script (take position script.procs) at.0 first.small b.small;
     })
+
+-- one more of which it is known that it has a body
+pub bodies_further : (script : Script) (position : ℕ) → position < length script.procs → (bodies : List Body) × AreFirst script (take position script.procs) bodies
+    → ((d : ProcDef) → slice_get script.procs position ≡ Some d → (body : Body) × IsBodyOf script d body)
+    → (bodies : List Body) × AreFirst script (take (position + 1) script.procs) bodies
+bodies_further script position within first has =
+    let at = standing script.procs position within in
+    let made = has at.0 at.1 in
+    let is : (d : ProcDef) → slice_get script.procs position ≡ Some d → IsBodyOf script d made.0
+    = λ d e. subst (λ (x : ProcDef). IsBodyOf script x made.0) (same_Some at.0 d (sym at.1 ∙ e)) made.1 in
+    (first.0 ++ made.0 ∷ [], more_bodies script first.0 made.0 position within first.1 is)
 
 -- the first that is too large
 pub large_behind : (script : Script) (bodies : List Body) (d : ProcDef) (position : ℕ) → slice_get script.procs position ≡ Some d → AreFirst script (take position script.procs) bodies

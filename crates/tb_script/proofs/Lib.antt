@@ -6,3 +6,4 @@ pub mod Positions
 pub mod Bodies
 pub mod ProgramRanges
 pub mod Loaded
+pub mod Existing

@@ -1,4 +1,4 @@
--- What is answered of a text: its program, or a fault.
+-- What is answered of a text: its program, or that it has one, or a fault.
 use Rattle.std.specs.Prelude.{ℕ, List, Result, Ok, Err}
 use Rattle.tb_body.specs.declared.program.Program.{Program}
 use Rattle.tb_expand.specs.declared.fault.ExpandFault.TheVariants as expand
@@ -23,3 +23,8 @@ HasFault text fault.NoMemory = Unit {0}
 abbrev pub HasLoaded : List ℕ → Result Program ScriptFault → Type 0
 HasLoaded text (Ok program) = IsFound text (Program' program)
 HasLoaded text (Err f) = HasFault text f
+
+-- the text has a program, whichever it is
+abbrev pub HasAccepted : {A : Type 0} → List ℕ → Result A ScriptFault → Type 0
+HasAccepted text (Ok done) = (program : Program) × IsFound text (Program' program)
+HasAccepted text (Err f) = HasFault text f

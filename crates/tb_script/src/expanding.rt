@@ -1,19 +1,19 @@
 ghost use Rattle.tb_types.specs.Conditions.{Proper};
 ghost use Rattle.tb_expand.specs.Faults.{HasNoCycle};
-ghost use Rattle.tb_script.specs.Helpers.Making.{HasBodies};
+ghost use Rattle.tb_script.specs.Helpers.Making.{HasBodies, MayHaveBodies};
 
 use std::alloc::Global;
 use tb_body::Bodies;
 use tb_expand::{ExpandFault, Expansions};
-use tb_syntax::Script;
 use tb_terms::Items;
+use tb_types::Names;
 
-/// The bodies of the processes of a proper script, in order of definition.
-pub(crate) fn bodies_of(alloc: Global, script: &Script) -> Result<Bodies, ExpandFault>
-    requires { Proper script.now }
-    ensures { HasBodies script.now result }
+/// The bodies of the processes of a proper script, whose names these are, in order of definition.
+pub(crate) fn bodies_of(alloc: Global, names: &Names) -> Result<Bodies, ExpandFault>
+    requires { Proper names.now.script.now }
+    ensures { HasBodies names.now.script.now result }
 {
-    match Expansions::of(alloc, script) {
+    match Expansions::of(alloc, names) {
         Ok(expansions) => all_bodies(alloc, &expansions),
         Err(fault) => Err(fault),
     }
@@ -31,4 +31,28 @@ fn all_bodies(alloc: Global, expansions: &Expansions) -> Result<Bodies, ExpandFa
         }
     }
     Ok(bodies)
+}
+
+/// Whether the processes of a proper script, whose names these are, have bodies. None is built.
+pub(crate) fn check_bodies(alloc: Global, names: &Names) -> Result<(), ExpandFault>
+    requires { Proper names.now.script.now }
+    ensures { MayHaveBodies names.now.script.now result }
+{
+    match Expansions::of(alloc, names) {
+        Ok(expansions) => check_all(alloc, &expansions),
+        Err(fault) => Err(fault),
+    }
+}
+
+fn check_all(alloc: Global, expansions: &Expansions) -> Result<(), ExpandFault>
+    requires { HasNoCycle expansions.now.script.now }
+    ensures { MayHaveBodies expansions.now.script.now result }
+{
+    for position in 0..expansions.script.procs.len() {
+        match expansions.check_body(alloc, position) {
+            Ok(()) => {}
+            Err(fault) => return Err(fault),
+        }
+    }
+    Ok(())
 }

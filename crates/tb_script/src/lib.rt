@@ -1,6 +1,7 @@
 //! From the bytes of a script to its program.
 #![tactic(auto)]
 
+mod accepting;
 mod expanding;
 mod fault;
 mod laws;
@@ -9,6 +10,7 @@ mod program;
 mod reading;
 mod roots;
 
+pub use accepting::accept;
 pub use fault::ScriptFault;
 pub use laws::a_text_has_one_program;
 pub use loading::load;

@@ -11,7 +11,7 @@ use std::alloc::Global;
 use tb_body::{Bodies, Program};
 use tb_expand::ExpandFault;
 use tb_syntax::Script;
-use tb_types::{CheckFault, check};
+use tb_types::{CheckFault, Names, proper_names};
 
 /// The program of a script that is accepted, or what keeps the text from having one: the first of the
 /// faults in their order. Any number of bytes is read.
@@ -28,23 +28,24 @@ pub fn load(alloc: Global, bytes: &[u8]) -> Result<Program, ScriptFault>
 fn load_script(alloc: Global, script: &Script) -> Result<Program, ScriptFault>
     ensures { (text : List ℕ) → IsOnlyScript text script.now → HasLoaded text result }
 {
-    match check(alloc, script) {
-        Ok(()) => load_proper(alloc, script),
+    match proper_names(alloc, script) {
+        Ok(names) => load_proper(alloc, &names),
         Err(fault) => Err(of_check(fault)),
     }
 }
 
-fn load_proper(alloc: Global, script: &Script) -> Result<Program, ScriptFault>
-    requires { Proper script.now }
-    ensures { (text : List ℕ) → IsOnlyScript text script.now → HasLoaded text result }
+/// The program of a proper script, whose names these are.
+fn load_proper(alloc: Global, names: &Names) -> Result<Program, ScriptFault>
+    requires { Proper names.now.script.now }
+    ensures { (text : List ℕ) → IsOnlyScript text names.now.script.now → HasLoaded text result }
 {
-    match bodies_of(alloc, script) {
-        Ok(bodies) => load_expanded(alloc, script, bodies),
+    match bodies_of(alloc, names) {
+        Ok(bodies) => load_expanded(alloc, names, bodies),
         Err(fault) => Err(of_expand(fault)),
     }
 }
 
-fn of_check(fault: CheckFault) -> ScriptFault
+pub(crate) fn of_check(fault: CheckFault) -> ScriptFault
     ensures { result ≡ of_check fault }
 {
     match fault {
@@ -53,7 +54,7 @@ fn of_check(fault: CheckFault) -> ScriptFault
     }
 }
 
-fn of_expand(fault: ExpandFault) -> ScriptFault
+pub(crate) fn of_expand(fault: ExpandFault) -> ScriptFault
     ensures { result ≡ of_expand fault }
 {
     match fault {
@@ -62,12 +63,12 @@ fn of_expand(fault: ExpandFault) -> ScriptFault
     }
 }
 
-fn load_expanded(alloc: Global, script: &Script, bodies: Bodies) -> Result<Program, ScriptFault>
-    requires proper { Proper script.now }
-    requires expanded { AreExpansions script.now bodies }
-    ensures { (text : List ℕ) → IsOnlyScript text script.now → HasLoaded text result }
+fn load_expanded(alloc: Global, names: &Names, bodies: Bodies) -> Result<Program, ScriptFault>
+    requires proper { Proper names.now.script.now }
+    requires expanded { AreExpansions names.now.script.now bodies }
+    ensures { (text : List ℕ) → IsOnlyScript text names.now.script.now → HasLoaded text result }
 {
-    match program_of(alloc, script, bodies) {
+    match program_of(alloc, names, bodies) {
         Ok(program) => Ok(program),
         Err(fault) => Err(fault),
     }

@@ -7,23 +7,25 @@ use crate::ScriptFault;
 use crate::roots::roots_of;
 use std::alloc::Global;
 use tb_body::{Bodies, MOST_ROOTS, Program, Tool, Tools};
-use tb_syntax::{Script, ToolDef};
+use tb_syntax::ToolDef;
 use tb_terms::{Items, NoMemory};
+use tb_types::Names;
 
-/// The program of a proper script, whose bodies these are.
+/// The program of a proper script, whose names and bodies these are.
 pub(crate) fn program_of(
     alloc: Global,
-    script: &Script,
+    names: &Names,
     bodies: Bodies,
 ) -> Result<Program, ScriptFault>
-    requires proper { Proper script.now }
-    requires expanded { AreExpansions script.now bodies }
-    ensures { HasJoined script.now result }
+    requires proper { Proper names.now.script.now }
+    requires expanded { AreExpansions names.now.script.now bodies }
+    ensures { HasJoined names.now.script.now result }
 {
+    let script = names.script;
     if script.roots.len() > MOST_ROOTS {
         return Err(ScriptFault::Roots(script.roots.len()));
     }
-    let roots = roots_of(alloc, script)?;
+    let roots = roots_of(alloc, names)?;
     let tools = tools_of(alloc, script.tools.as_slice())?;
     Ok(Program {
         bodies,

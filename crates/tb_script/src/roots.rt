@@ -7,17 +7,16 @@ ghost use Rattle.tb_script.specs.Helpers.Making.{HasValues, HaveValues};
 
 use std::alloc::Global;
 use tb_body::{Root, Roots};
-use tb_syntax::{Ast, Call, Script};
+use tb_syntax::{Ast, Call};
 use tb_terms::{Items, NoMemory, Term, Terms};
 use tb_types::{Names, closed_value};
 
-/// The roots of a script, each with the values of its actuals.
-pub(crate) fn roots_of(alloc: Global, script: &Script) -> Result<Roots, NoMemory>
-    requires { HaveValues script.now.roots }
-    ensures { IfOk result (λ roots. AllZip (IsRootOf script.now) script.now.roots roots) }
+/// The roots of the script whose names these are, each with the values of its actuals.
+pub(crate) fn roots_of(alloc: Global, names: &Names) -> Result<Roots, NoMemory>
+    requires { HaveValues names.now.script.now.roots }
+    ensures { IfOk result (λ roots. AllZip (IsRootOf names.now.script.now) names.now.script.now.roots roots) }
 {
-    let names = Names::of(alloc, script)?;
-    Ok(all_roots(alloc, &names, script.roots.as_slice())?)
+    Ok(all_roots(alloc, names, names.script.roots.as_slice())?)
 }
 
 fn all_roots(alloc: Global, names: &Names, calls: &[Call]) -> Result<Roots, NoMemory>

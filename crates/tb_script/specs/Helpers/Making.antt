@@ -67,6 +67,11 @@ HasBodies script (Err (expand.Recursion names)) = IsCycle script names
 HasBodies script (Err (expand.TooLarge name)) = IsFirstLarge script name
 HasBodies script (Err expand.NoMemory) = Unit {0}
 
+-- that the processes of a proper script have bodies, or why they don't
+abbrev pub MayHaveBodies : {A : Type 0} → Script → Result A ExpandFault → Type 0
+MayHaveBodies script (Ok done) = (bodies : List Body) × AreExpansions script bodies
+MayHaveBodies script (Err f) = HasBodies script (Err f)
+
 -- too many roots
 pub record HasMany (script : Script) (count : ℕ) : Type 0 where
   pub are : count ≡ length script.roots
