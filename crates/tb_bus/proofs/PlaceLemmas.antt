@@ -1,13 +1,14 @@
 -- Places of rows that stand by their numbers, and searches that pass those who lead to nothing.
 use Rattle.std.proofs.Common.{◌≡◌, ℕ, ◌+◌, ◌-◌, ◌^◌, ◌<◌, ◌≤◌, zero, suc, List, [], ◌∷◌, ◌++◌, take, drop, length, refl, ap, sym, ◌∙◌, arith, Option, Some, None, Bool, true, false, nat_lt, get_or, ⊎_elim}
-use Rattle.std.proofs.lemmas.Bool.{ltb-true, ltb-false, lt-ltb, and_from, cases_lt}
+use Rattle.std.proofs.lemmas.Bool.{ltb-true, ltb-false, lt-ltb, lt-leb, le-leb, and_from, cases_lt}
+use Rattle.std.proofs.lemmas.Option.{get_or_from_slice_get, slice_get-get_or}
 use Rattle.std.proofs.lemmas.List.{length-map, get_or-map, drop_more, drop_all}
 use Rattle.std.specs.List.Sorted.{IsPartitionedBy, IsPartitionPoint}
 use Rattle.tb_index.specs.Pairs.{IsNext}
-use Rattle.tb_bus.specs.Helpers.Candidates.{Row, first, no_row, row_at, ascend, row_of, rows_of}
+use Rattle.tb_bus.specs.Helpers.Candidates.{Row, first, no_row, row_at, ascend, row_of, rows_of, up_to}
 use Rattle.tb_bus.specs.Helpers.Indexed.{IsNextPlace, IsNextOf}
 use Rattle.tb_bus.specs.declared.living.Living.{Living}
-use Rattle.tb_bus.proofs.TurnLemmas.{ascend-first, ascend-above, ascend-upto}
+use Rattle.tb_bus.proofs.TurnLemmas.{ascend-first, ascend-above, ascend-upto, up_to-point}
 
 -- who stands behind another has a larger number
 pub ascend-less : (below : ℕ) (rows : List Row) (i j : ℕ) (d : Row) → ascend below rows ≡ true → i < j → j < length rows → (get_or rows i d).number < (get_or rows j d).number
@@ -33,6 +34,25 @@ partitioned-below_number all number h i j d le within passes =
     let lower : (get_or (rows_of all) i (row_of d)).number ≡ (get_or all i d).number = ap (λ (row : Row). row.number) (get_or-map row_of all i d (row_of d) (omega arith)) in
     let upper : (get_or (rows_of all) j (row_of d)).number ≡ (get_or all j d).number = ap (λ (row : Row). row.number) (get_or-map row_of all j d (row_of d) (omega arith)) in
     lt-ltb (get_or all i d).number number (omega arith)
+
+-- where one has the number, those up to it end behind that one
+pub upto-exact : {W : Type 0} (all : List (Living W)) (last place : ℕ) (some : Living W) → ascend 0 (rows_of all) ≡ true → place < length all → (get_or all place some).number ≡ last → place + 1 ≡ up_to last (rows_of all)
+upto-exact {W = W} all last place some h within is =
+    let many = length-map all row_of in
+    up_to-point last all (place + 1) (omega (arith, within)) (
+      λ k d low less.
+          let lower = ap (λ (row : Row). row.number) (get_or-map row_of all k d (row_of d) (omega (arith, less, within))) in
+          let upper = ap (λ (row : Row). row.number) (get_or-map row_of all place d (row_of d) within) in
+          let there = ap (λ (living : Living W). living.number) (get_or_from_slice_get all place (get_or all place some) d (slice_get-get_or all place some within)) ∙ is in
+          let between = ascend-upto 0 (rows_of all) k place (row_of d) h (omega (arith, less)) (omega (arith, many, within)) in
+          le-leb (get_or all k d).number last (omega (arith, lower, upper, there, between)),
+      λ k d low long.
+          let lower = ap (λ (row : Row). row.number) (get_or-map row_of all place d (row_of d) within) in
+          let upper = ap (λ (row : Row). row.number) (get_or-map row_of all k d (row_of d) long) in
+          let there = ap (λ (living : Living W). living.number) (get_or_from_slice_get all place (get_or all place some) d (slice_get-get_or all place some within)) ∙ is in
+          let between = ascend-less 0 (rows_of all) place k (row_of d) h (omega (arith, low)) (omega (arith, many, long)) in
+          lt-leb (get_or all k d).number last (omega (arith, lower, upper, there, between)),
+    )
 
 module _ (holds : ℕ → Bool) (rows : List Row) (from : ℕ) (a : ascend 0 rows ≡ true) (w : from < length rows) where
   module _ (last : ℕ) (is : (row_at rows (length rows - 1)).number ≡ last) where

@@ -178,12 +178,16 @@ fn first_between<W>(
     Ok(None)
 }
 
-/// How many processes have a number up to that of the last starter.
+/// How many processes have a number up to that of the last starter. Seldom has anybody left who stood before it.
 fn turn_start<W>(all: &[Living<W>], last: u32) -> usize
     requires { IsTrue (ascend 0 (rows_of all.now)) }
     ensures within { result ≤ length all.now }
     ensures count { result ≡ up_to last (rows_of all.now) }
 {
+    let place = (last as usize).saturating_sub(1);
+    if place < all.len() && all[place].number == last {
+        return place + 1;
+    }
     all.partition_point(|living| living.number <= last)
 }
 
