@@ -6,8 +6,8 @@ ghost use Rattle.tb_top.specs.Check.{CheckOutcome};
 ghost use Rattle.tb_top.specs.Loading.{IsAccepted};
 ghost use Rattle.tb_top.specs.Helpers.Parts.{IsBehindScript, IsInside};
 
+use crate::accepting::accept_script;
 use crate::fault::Fault;
-use crate::loading::load_script;
 use std::alloc::Global;
 use tb_edge::{Failed, Files, Sink};
 
@@ -24,8 +24,8 @@ pub fn check<F: Files, O: Sink>(
     ensures inside { IfErr result IsInside }
     ensures out_rose { result ≡ Err Fault.Out → Rose (O.faults out.old) (O.faults out.new) }
 {
-    match load_script(alloc, script, files) {
-        Ok(_) => put_ok(out),
+    match accept_script(alloc, script, files) {
+        Ok(()) => put_ok(out),
         Err(fault) => Err(fault),
     }
 }

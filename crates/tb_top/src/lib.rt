@@ -1,6 +1,7 @@
 //! The whole ToolBus, from the words of the command line on.
 #![tactic(auto)]
 
+mod accepting;
 mod check;
 mod fault;
 mod laws;

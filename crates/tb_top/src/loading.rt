@@ -16,7 +16,7 @@ use tb_script::{ScriptFault, load};
 use tb_terms::Text;
 
 /// A longer file is refused.
-const MOST_BYTES: usize = 1_048_576;
+pub const MOST_BYTES: usize = 1_048_576;
 
 /// The program of the script in the file of this name.
 pub fn load_script<F: Files>(alloc: Global, name: &str, files: &mut F) -> Result<Program, Fault>
