@@ -98,12 +98,17 @@ fn put_waiting(alloc: Global, bench: &mut Bench) -> Result<(), Fail> {
 fn put_leaving(alloc: Global, bench: &mut Bench) -> Result<(), Fail> {
     let name = Name::new(alloc, b"a")?;
     let command = Text::from_str(alloc, "a")?.ok_or("no text")?;
-    if bench.next_tool() > 100 || bench.free_lane() != Some(2) {
+    if bench.next_tool() > 100 {
         return Err(Fail::new("other lanes"));
     }
-    let _number = bench.execute(2, &name, &command)?;
-    let _reply = bench.gone(2);
-    Ok(())
+    match bench.free_lane() {
+        Some(lane) => {
+            let _number = bench.execute(lane, &name, &command)?;
+            let _reply = bench.gone(lane);
+            Ok(())
+        }
+        None => Err(Fail::new("no lane")),
+    }
 }
 
 /// An index in which the first process is awake.

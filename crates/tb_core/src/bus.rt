@@ -204,7 +204,7 @@ impl<W: Walker> LiveBus<W> {
         Ok(())
     }
 
-    /// The one with this number sleeps or wakes, where it is there.
+    /// The one with this number sleeps or wakes; where it is gone, the next behind it is judged.
     fn settle_number(&mut self, alloc: Global, number: u32) -> Result<(), NoMemory>
         requires { IsSound W.view self.old }
         ensures same { StandsAs W.view self.old self.new }
@@ -624,7 +624,7 @@ impl<W: Walker> LiveBus<W> {
         Ok(())
     }
 
-    /// A process goes on by itself, and nothing is seen of it.
+    /// A process goes on by itself; the log tells no terms of it.
     #[inline(never)]
     fn make_tau(
         &mut self,

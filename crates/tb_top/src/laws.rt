@@ -42,7 +42,7 @@ pub fn a_ring_is_put()
         Reported {A = Unit {0}} (Comes (Ok (Ring n k)) old new) told more status → (status ≡ Status.Ended) ⊎ (status ≡ Status.NoMemory) }
 {}
 
-/// What `ring` puts of a ring: there are n times k messages and the shutdown.
+/// What `ring` puts of a ring: one step more than there are messages, the last of which is the shutdown.
 pub fn a_ring_has_one_summary()
     ensures { (n k : ℕ) (log : List Entry) (last : SimEnd) → 2 ≤ n → n ≤ 10000 → 1 ≤ k → n * k ≤ 1000000 → IsRingOf n k log last →
         (last ≡ Down) × (summary n log ≡ codes "processes " ++ decimal n ++ codes " steps " ++ decimal (n * k + 1) ++ codes " end " ++ codes "shutdown" ++ 10 ∷ []) }

@@ -67,6 +67,7 @@ abbrev pub IsMadeBy : Process → ℕ → List Branch → Sight → Outcome → 
 IsMadeBy whole ticks row sight outcome =
     (outcome.own ≡ sight.own) × ((b : Branch) → slice_get row sight.branch ≡ Some b → IsSettled whole ticks row sight.branch (branch_by whole ticks b sight.position) outcome.step)
 
+-- what was taken holds a row of its own, made for this offer
 abbrev pub IsTakenBy : Process → ℕ → List Branch → Sight → Taken → Type 0
 IsTakenBy whole ticks row sight (taken.Made outcome) = IsMadeBy whole ticks row sight outcome
 IsTakenBy whole ticks row sight (taken.Ended k) = ⊥
