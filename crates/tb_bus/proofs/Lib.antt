@@ -4,11 +4,7 @@ pub mod SentLemmas
 pub mod LaneShapes
 pub mod EffectShapes
 pub mod BusShapes
-pub mod PartLemmas
-pub mod TurnLemmas
-pub mod EffectLemmas
-pub mod RowLemmas
-pub mod CandidateLemmas
+pub mod KindLemmas
 pub mod LaneLemmas
 pub mod DownLemmas
 pub mod TraceLemmas
@@ -19,7 +15,5 @@ pub mod OrderLemmas
 pub mod ChangeLemmas
 pub mod TickLemmas
 pub mod ReachedLemmas
-pub mod PlaceLemmas
-pub mod IndexLemmas
 pub mod ApartLemmas
 pub mod Rows

@@ -22,7 +22,7 @@ use Rattle.tb_bus.specs.Traces.{IsLegal, IsTrace, Answer, after, after_step, rep
 use Rattle.tb_bus.specs.Reached.{Reaches}
 use Rattle.tb_bus.specs.declared.action.Action.{Action}
 use Rattle.tb_bus.specs.declared.action.Action.TheVariants as action
-use Rattle.tb_bus.proofs.EffectLemmas.{IsOwnKind, IsOwnEffect, effect-own}
+use Rattle.tb_bus.proofs.KindLemmas.{IsOwnKind, IsOwnEffect, effect-own}
 use Rattle.tb_bus.proofs.TickLemmas.{ticked-in_order}
 use Rattle.tb_bus.proofs.OrderLemmas.{All-flat_map, All-one, contains-cases, contains-further, ascend-above, one-number, IsLeft, IsLed, InOrder, MayGo, start-in_order, advance-keeps, advance-in_order}
 use Rattle.tb_bus.proofs.ChangeLemmas.{changed-program, changed-in_order, changed-keeps}

@@ -30,9 +30,8 @@ use Rattle.tb_notes.specs.Inboxes.{Held, nothing}
 use Rattle.tb_tools.specs.Lanes.{opening}
 use Rattle.tb_bus.specs.declared.origin.Origin.{Origin}
 use Rattle.tb_bus.specs.Buses.{Bus, Proc, start}
-use Rattle.tb_bus.specs.Steps.{Step, steps, moves, moves_of_all, moves_of, handshakes, handshakes_with, advance}
+use Rattle.tb_bus.specs.Steps.{Step, steps, moves, moves_of_all, moves_of, handshakes, handshakes_with, advance, first}
 use Rattle.tb_bus.specs.Traces.{IsTrace, after, after_step}
-use Rattle.tb_bus.specs.Helpers.Candidates.{first}
 use Rattle.tb_log.specs.declared.entry.Entry.{Entry}
 use Rattle.tb_log.specs.declared.entry.Entry.TheVariants.{Did}
 use Rattle.tb_log.specs.declared.entry.Label.{Label}

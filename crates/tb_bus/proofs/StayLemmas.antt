@@ -17,9 +17,8 @@ use Rattle.tb_tools.specs.Acts.{without_out, handed_out}
 use Rattle.tb_tools.specs.Finding.{next_out}
 use Rattle.tb_tools.proofs.Staying.{on_lane-others, on_lane-same}
 use Rattle.tb_bus.specs.Buses.{Bus}
-use Rattle.tb_bus.specs.Steps.{Move, Step, moves, moves_while_up, steps}
+use Rattle.tb_bus.specs.Steps.{Move, Step, moves, moves_while_up, steps, first}
 use Rattle.tb_bus.specs.Traces.{Answer, IsLegal, IsTrace, after, fed, replay, took}
-use Rattle.tb_bus.specs.Helpers.Candidates.{first}
 use Rattle.tb_bus.proofs.TraceLemmas.{steps-none}
 
 -- entries

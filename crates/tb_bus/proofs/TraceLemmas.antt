@@ -2,12 +2,11 @@
 use Rattle.std.proofs.Common.{◌≡◌, ℕ, List, [], ◌∷◌, ◌++◌, map, refl, ap, sym, ◌∙◌, subst, arith, Some, None, Bool, true, false, Contains, if◌then◌else◌}
 use Rattle.tb_terms.specs.Same.{is_same}
 use Rattle.tb_bus.specs.Buses.{Bus}
-use Rattle.tb_bus.specs.Steps.{Move, Own, Handshake, Finish, Halt, Step, moves, steps, step_of, apply}
+use Rattle.tb_bus.specs.Steps.{Move, Own, Handshake, Finish, Halt, Step, moves, steps, step_of, apply, first}
 use Rattle.tb_log.specs.Shapes.{IsInputInShape, IsLane}
 use Rattle.tb_log.specs.declared.entry.Out.{Out}
 use Rattle.tb_tools.specs.Finding.{next_out}
 use Rattle.tb_bus.specs.Traces.{IsTrace, after, after_step, replay, fed, took, taken_out, Answer}
-use Rattle.tb_bus.specs.Helpers.Candidates.{first}
 use Rattle.tb_log.specs.contracts.entry.Label as label_row
 use Rattle.tb_log.specs.declared.entry.Input.{Input}
 use Rattle.tb_log.specs.declared.entry.Input.TheVariants.{Tick, NoTicks, Line, Gone, Cut}

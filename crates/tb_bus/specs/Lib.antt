@@ -9,4 +9,3 @@ pub mod Ends
 pub mod Reached
 pub mod Waiting
 pub mod Commands
-pub mod Helpers

@@ -149,3 +149,8 @@ step_of bus move = record { label = label_of move; bus = apply bus move }
 -- All steps of a bus, in order.
 unfoldable pub steps : Bus → List Step
 steps bus = map (step_of bus) (moves bus)
+
+-- the first of a list, where it has one
+abbrev pub first : {A : Type 0} → List A → Option A
+first [] = None
+first (x ∷ xs) = Some x

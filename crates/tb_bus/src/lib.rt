@@ -1,38 +1,20 @@
-//! The bus: its processes, all that may happen next and in which order, and which logs are its traces. What
-//! a search for the next step goes through stands here too, whatever walkers the processes have.
+//! The bus: its processes, all that may happen next and in which order, and which logs are its traces.
 #![tactic(auto)]
 
 mod action;
-mod candidate;
-mod creation;
 mod exchange;
-mod exchanging;
 mod laws;
-mod living;
-mod marks;
 mod origin;
-mod places;
-mod receivers;
-mod resting;
-mod search;
 mod shapes;
-mod slots;
-mod wanting;
 
 pub use action::{Action, OwnAction, ToolAction};
-pub use candidate::{Candidate, Partner, Received};
 pub use exchange::Exchange;
 pub use laws::{
     a_bus_that_is_down_stays_down, dropped_inputs_change_nothing, labels_differ,
     one_bus_after_an_entry, one_step_a_label, prefixes_are_traces,
     processes_stand_by_their_numbers, there_are_16_lanes, three_steps_take_a_bus_down,
 };
-pub use living::{Living, Ready};
-pub use marks::Marks;
 pub use origin::Origin;
-pub use places::place_of;
-pub use resting::all_rest;
-pub use search::first_candidate;
 pub use shapes::{
     commands_are_the_origins, entries_are_in_shape, entries_are_limited,
     what_is_handed_out_is_in_shape, what_waits_is_in_shape,

@@ -2,16 +2,17 @@
 ghost use Rattle.std.specs.Prelude.{◌≡◌, IfOk, [], true};
 ghost use Rattle.tb_log.specs.Shapes.{IsLane};
 ghost use Rattle.tb_index.specs.Indexes.{is_awake};
-ghost use Rattle.tb_bus.specs.Helpers.Indexed.{sent_by, received_by};
+ghost use Rattle.tb_search.specs.Indexed.{sent_by, received_by};
 
 use std::alloc::Global;
 use std::test::Fail;
 use tb_body::Program;
-use tb_bus::{Action, Candidate, Living, Marks, OwnAction, Ready, ToolAction, first_candidate};
+use tb_bus::{Action, OwnAction, ToolAction};
 use tb_index::Index;
 use tb_log::ToolLine;
 use tb_notes::Inbox;
 use tb_script::load;
+use tb_search::{Candidate, Living, Marks, Ready, first_candidate};
 use tb_terms::{Items, Name, NoMemory, Term, Text};
 use tb_tools::Bench;
 

@@ -18,9 +18,9 @@ use Rattle.tb_algebra.proofs.Sorts.{offer_at-keeps}
 use Rattle.tb_bus.specs.declared.action.Action.{Action}
 use Rattle.tb_bus.specs.declared.action.Action.TheVariants as action
 use Rattle.tb_bus.specs.Actions.{action_in, action_of}
-use Rattle.tb_bus.specs.Helpers.Candidates.{ready_one, readies}
-use Rattle.tb_bus.specs.Helpers.Views.{no_offer}
-use Rattle.tb_bus.specs.declared.living.Ready.{Ready}
+use Rattle.tb_search.specs.Candidates.{ready_one, readies}
+use Rattle.tb_search.specs.Views.{no_offer}
+use Rattle.tb_search.specs.declared.living.Ready.{Ready}
 use Rattle.tb_core.specs.Helpers.Lives.{IsTimeless}
 
 -- the offer that was seen at a position is that of the process there

@@ -18,10 +18,10 @@ use Rattle.tb_notes.specs.Inboxes.{Contents}
 use Rattle.tb_index.specs.Indexes.{IndexState, IsCleared}
 use Rattle.tb_bus.specs.Buses.{Bus, Proc, proc_left}
 use Rattle.tb_bus.specs.Steps.{advance}
-use Rattle.tb_bus.specs.Helpers.Candidates.{row_at, row_of, rows_of, no_row, ascend, Row}
-use Rattle.tb_bus.specs.Helpers.Views.{proc_at, no_proc}
-use Rattle.tb_bus.specs.declared.living.Living.{Living}
-use Rattle.tb_bus.proofs.TurnLemmas.{ascend-first}
+use Rattle.tb_search.specs.Candidates.{row_at, row_of, rows_of, no_row, ascend, Row}
+use Rattle.tb_search.specs.Views.{proc_at, no_proc}
+use Rattle.tb_search.specs.declared.living.Living.{Living}
+use Rattle.tb_search.proofs.TurnLemmas.{ascend-first}
 use Rattle.tb_core.specs.Helpers.Indexes.{IsRightFor, IsRested}
 use Rattle.tb_core.specs.Helpers.Lives.{IsBelow, IsLive, term_in, proc_by, proc_in, procs_of}
 use Rattle.tb_core.specs.Helpers.LiveBuses.{IsSound, IsFreshOr, IsAdvanced, AreAdvanced, Leaves, CanAdvance, bus_of, procs_in, settings_in}

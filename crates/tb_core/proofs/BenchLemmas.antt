@@ -7,12 +7,12 @@ use Rattle.tb_tools.specs.Lanes.{BenchState}
 use Rattle.tb_bus.specs.Buses.{Bus}
 use Rattle.tb_bus.specs.Effects.{Change, Effect, SetsBench, GoesDown, changed, speaking, went_down}
 use Rattle.tb_bus.specs.Exchanges.{bench_after}
-use Rattle.tb_bus.specs.Helpers.Views.{offer_of, ready_at, IsCandidateIn}
+use Rattle.tb_search.specs.Views.{offer_of, ready_at, IsCandidateIn}
 use Rattle.tb_bus.specs.declared.action.Action.TheVariants as action
 use Rattle.tb_bus.specs.declared.action.ToolAction.{ToolAction}
 use Rattle.tb_bus.specs.declared.exchange.Exchange.{Exchange}
-use Rattle.tb_bus.specs.declared.candidate.Candidate.TheVariants as candidate
-use Rattle.tb_bus.specs.Helpers.Candidates.{row_at, rows_of}
+use Rattle.tb_search.specs.declared.candidate.Candidate.TheVariants as candidate
+use Rattle.tb_search.specs.Candidates.{row_at, rows_of}
 use Rattle.tb_core.specs.Helpers.Spoken.{around}
 use Rattle.tb_core.specs.Helpers.LiveBuses.{AreFresh, IsChanged, IsDone, IsKept, IsSound, Leaves, StandsAs, bus_of, procs_in, scene_in, settings_in}
 use Rattle.tb_core.proofs.RestLemmas.{rested-stirred}

@@ -11,9 +11,9 @@ use Rattle.tb_algebra.specs.WalkerViews.{View}
 use Rattle.tb_index.specs.Indexes.{HasRoom, IndexState}
 use Rattle.tb_bus.specs.Buses.{Bus, Proc, opened_one}
 use Rattle.tb_bus.specs.Effects.{creation}
-use Rattle.tb_bus.specs.Helpers.Candidates.{ascend, row_of, rows_of}
-use Rattle.tb_bus.specs.declared.living.Living.{Living}
-use Rattle.tb_bus.proofs.TurnLemmas.{ascend-first}
+use Rattle.tb_search.specs.Candidates.{ascend, row_of, rows_of}
+use Rattle.tb_search.specs.declared.living.Living.{Living}
+use Rattle.tb_search.proofs.TurnLemmas.{ascend-first}
 use Rattle.tb_core.specs.Helpers.Indexes.{IsUnmarked, KeepsOf, IsRested}
 use Rattle.tb_core.specs.Helpers.Lives.{IsBelow, IsLive, proc_in, procs_of}
 use Rattle.tb_core.specs.Helpers.LiveBuses.{IsChanged, IsFreshOr, IsSound, bus_of, procs_in, settings_in}

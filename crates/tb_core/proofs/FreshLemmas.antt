@@ -27,15 +27,15 @@ use Rattle.tb_algebra.specs.Offers.{Offered, offers}
 use Rattle.tb_algebra.specs.Walks.{Walking, offers_of, is_end}
 use Rattle.tb_algebra.specs.WalkerViews.{View}
 use Rattle.tb_bus.specs.Actions.{set_action, print_action, no_note_action, subscribe_action, unsubscribe_action, create_action, speak_by, shutdown_action, action_in, action_if, action_of}
-use Rattle.tb_bus.specs.Helpers.Candidates.{row_of, rows_of, row_at, ready_one, readies}
-use Rattle.tb_bus.specs.Helpers.Views.{ready_at, offer_at, offer_of, no_ready, no_offer, Receives}
+use Rattle.tb_search.specs.Candidates.{row_of, rows_of, row_at, ready_one, readies}
+use Rattle.tb_search.specs.Views.{ready_at, offer_at, offer_of, no_ready, no_offer, Receives}
 use Rattle.tb_bus.specs.declared.action.Action.{Action}
 use Rattle.tb_bus.specs.declared.action.Action.TheVariants as action
 use Rattle.tb_bus.specs.declared.action.OwnAction.{OwnAction}
 use Rattle.tb_bus.specs.declared.action.ToolAction.TheVariants as does
 use Rattle.tb_bus.specs.declared.action.OwnAction.TheVariants as own
-use Rattle.tb_bus.specs.declared.living.Ready.{Ready}
-use Rattle.tb_bus.specs.declared.living.Living.{Living}
+use Rattle.tb_search.specs.declared.living.Ready.{Ready}
+use Rattle.tb_search.specs.declared.living.Living.{Living}
 use Rattle.tb_bus.proofs.ExchangeLemmas.{PatternsTake, SpeakTakes, patterns-take, about-some}
 use Rattle.tb_core.specs.Helpers.Lives.{term_in, proc_of}
 use Rattle.tb_core.specs.Helpers.LiveBuses.{AreFresh, procs_in}

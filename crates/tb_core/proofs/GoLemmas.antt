@@ -1,8 +1,7 @@
 -- The first of the moves of a bus, and what a step logs of it.
 use Rattle.std.proofs.Common.{◌≡◌, ◌≤◌, ◌+◌, ℕ, List, [], ◌∷◌, length, refl, ap, sym, ◌∙◌, arith, Option, Some, None, Bool, true, false, not, is_some, option_map, option_to_list, if◌then◌else◌}
-use Rattle.tb_bus.specs.Helpers.Candidates.{first}
 use Rattle.tb_bus.specs.Buses.{Bus}
-use Rattle.tb_bus.specs.Steps.{Move, moves, moves_while_up, steps, step_of, label_of, apply}
+use Rattle.tb_bus.specs.Steps.{Move, moves, moves_while_up, steps, step_of, label_of, apply, first}
 use Rattle.tb_bus.specs.Traces.{IsTrace, replay}
 use Rattle.tb_core.specs.Cores.{CoreState, has_any, lacks_room, step_entry}
 use Rattle.tb_log.specs.Limits.{has_room}

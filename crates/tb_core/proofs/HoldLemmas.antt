@@ -12,9 +12,9 @@ use Rattle.tb_algebra.specs.WalkerViews.{View}
 use Rattle.tb_notes.specs.Inboxes.{Contents, Held, nothing, wants, with_note}
 use Rattle.tb_bus.specs.Buses.{Bus, Proc}
 use Rattle.tb_bus.specs.Effects.{Change, Effect, Nothing, changed, given, with_inbox}
-use Rattle.tb_bus.specs.Helpers.Candidates.{Row, ascend, row_at, row_of, rows_of, no_row}
-use Rattle.tb_bus.specs.declared.living.Living.{Living}
-use Rattle.tb_bus.proofs.TurnLemmas.{ascend-first}
+use Rattle.tb_search.specs.Candidates.{Row, ascend, row_at, row_of, rows_of, no_row}
+use Rattle.tb_search.specs.declared.living.Living.{Living}
+use Rattle.tb_search.proofs.TurnLemmas.{ascend-first}
 use Rattle.tb_core.specs.Helpers.Lives.{IsBelow, IsLive, proc_by, proc_in, procs_of}
 use Rattle.tb_core.specs.Helpers.Indexes.{IsRightFor}
 use Rattle.tb_core.specs.Helpers.Holdings.{helds_of, held_at, spares_of, spare_at, bare, bares_of, IsHeldAt, HoldTheSame, with_given}

@@ -9,11 +9,11 @@ use Rattle.tb_index.specs.Indexes.{HasRoom, IndexState, IsCleared, IsSet, IsTurn
 use Rattle.tb_index.specs.Marks.{has_mark, is_mark}
 use Rattle.tb_index.specs.declared.mark.Mark.{Mark}
 use Rattle.tb_index.specs.declared.mark.Marks.{Marks}
-use Rattle.tb_bus.specs.Helpers.Candidates.{Row, ascend, row_of, rows_of}
-use Rattle.tb_bus.specs.Helpers.Indexed.{sent_by, sent_marks}
-use Rattle.tb_bus.specs.declared.living.Living.{Living}
-use Rattle.tb_bus.specs.declared.living.Ready.{Ready}
-use Rattle.tb_bus.proofs.TurnLemmas.{ascend-first}
+use Rattle.tb_search.specs.Candidates.{Row, ascend, row_of, rows_of}
+use Rattle.tb_search.specs.Indexed.{sent_by, sent_marks}
+use Rattle.tb_search.specs.declared.living.Living.{Living}
+use Rattle.tb_search.specs.declared.living.Ready.{Ready}
+use Rattle.tb_search.proofs.TurnLemmas.{ascend-first}
 use Rattle.tb_core.specs.Helpers.Holdings.{bare, bares_of}
 use Rattle.tb_core.specs.Helpers.Indexes.{IsMarked, IsRightForAll, HasNothing, IsRightFor, IsUnmarked, KeepsOf, found_by, found_marks, is_alive}
 use Rattle.tb_core.specs.Helpers.Lives.{IsBelow}

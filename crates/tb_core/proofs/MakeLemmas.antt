@@ -28,22 +28,22 @@ use Rattle.tb_bus.specs.Exchanges.{Setting, exchange_for}
 use Rattle.tb_bus.specs.Slots.{fits_formals, fits_slot}
 use Rattle.tb_bus.specs.Steps.{advance, apply, label_of, nowhere, place_of}
 use Rattle.tb_bus.specs.Steps as move
-use Rattle.tb_bus.specs.Helpers.Candidates.{Row, no_row, row_at, row_of, rows_of, setting_in}
-use Rattle.tb_bus.specs.Helpers.Views.{no_proc, proc_at, ready_at, offer_of, own_move, move_by, IsCandidateIn}
+use Rattle.tb_search.specs.Candidates.{Row, no_row, row_at, row_of, rows_of, setting_in}
+use Rattle.tb_search.specs.Views.{no_proc, proc_at, ready_at, offer_of, own_move, move_by, IsCandidateIn}
 use Rattle.tb_bus.specs.declared.action.Action.TheVariants as action
 use Rattle.tb_bus.specs.declared.action.OwnAction.{OwnAction}
 use Rattle.tb_bus.specs.declared.action.ToolAction.{ToolAction}
 use Rattle.tb_bus.specs.declared.exchange.Exchange.{Exchange}
 use Rattle.tb_bus.specs.declared.origin.Origin.{Origin}
 use Rattle.tb_bus.specs.declared.action.OwnAction.TheVariants as own
-use Rattle.tb_bus.specs.declared.candidate.Candidate.TheVariants.{Handshake}
-use Rattle.tb_bus.specs.declared.candidate.Candidate.TheVariants as candidate
-use Rattle.tb_bus.specs.declared.candidate.Candidate.{Candidate}
-use Rattle.tb_bus.specs.declared.candidate.Partner.{Partner}
-use Rattle.tb_bus.specs.declared.marks.Marks.{Marks}
-use Rattle.tb_bus.specs.declared.living.Living.{Living}
+use Rattle.tb_search.specs.declared.candidate.Candidate.TheVariants.{Handshake}
+use Rattle.tb_search.specs.declared.candidate.Candidate.TheVariants as candidate
+use Rattle.tb_search.specs.declared.candidate.Candidate.{Candidate}
+use Rattle.tb_search.specs.declared.candidate.Partner.{Partner}
+use Rattle.tb_search.specs.declared.marks.Marks.{Marks}
+use Rattle.tb_search.specs.declared.living.Living.{Living}
 use Rattle.tb_bus.proofs.ExchangeLemmas.{PatternsTake, SpeakTakes, exchange-takes}
-use Rattle.tb_bus.proofs.EffectLemmas.{effect_in, found-row, note-effect-is, own-effect-is, speak-effect-is, take-effect-is}
+use Rattle.tb_search.proofs.EffectLemmas.{effect_in, found-row, note-effect-is, own-effect-is, speak-effect-is, take-effect-is}
 use Rattle.tb_log.specs.declared.entry.Label.{Label}
 use Rattle.tb_log.specs.declared.entry.LabelKind.{LabelKind}
 use Rattle.tb_log.specs.declared.entry.LabelKind.TheVariants as kind

@@ -7,8 +7,8 @@ use Rattle.std.proofs.Math.Seq.{get_or-append_seam}
 use Rattle.tb_terms.specs.declared.term.Term.{Term}
 use Rattle.tb_notes.specs.Inboxes.{HasRoom, Held, nothing, wants, with_note}
 use Rattle.tb_bus.specs.Effects.{takes_note}
-use Rattle.tb_bus.specs.Helpers.Candidates.{Row, all_take, row_at, row_of, rows_of, wanting}
-use Rattle.tb_bus.specs.declared.living.Living.{Living}
+use Rattle.tb_search.specs.Candidates.{Row, all_take, row_at, row_of, rows_of, wanting}
+use Rattle.tb_search.specs.declared.living.Living.{Living}
 use Rattle.tb_core.specs.Helpers.Holdings.{helds_of, held_at, spare_at, bares_of, IsHeldAt, HoldTheSame, CanTake, put, put_each, with_given}
 use Rattle.tb_core.proofs.HoldLemmas.{row-held, hold-then, same-long}
 

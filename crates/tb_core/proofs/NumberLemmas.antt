@@ -6,9 +6,9 @@ use Rattle.std.proofs.lemmas.List.{get_or-set_same, get_or-set_other, length-set
 use Rattle.std.specs.List.{All}
 use Rattle.std.specs.List.Sorted.{IsNonDecreasingBy, IsPartitionedBy}
 use Rattle.std.proofs.lemmas.List.Sorted.{IsPartitionedBy-ltb}
-use Rattle.tb_bus.specs.Helpers.Candidates.{ascend, row_of, rows_of}
-use Rattle.tb_bus.specs.declared.living.Living.{Living}
-use Rattle.tb_bus.proofs.TurnLemmas.{ascend-first}
+use Rattle.tb_search.specs.Candidates.{ascend, row_of, rows_of}
+use Rattle.tb_search.specs.declared.living.Living.{Living}
+use Rattle.tb_search.proofs.TurnLemmas.{ascend-first}
 use Rattle.tb_core.specs.Helpers.Lives.{IsWhere}
 use Rattle.tb_core.specs.Helpers.LiveBuses.{IsFreshOr}
 

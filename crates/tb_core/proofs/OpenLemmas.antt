@@ -24,8 +24,8 @@ use Rattle.tb_algebra.proofs.Sorts.{sorts-fresh, sorts-with_value, sort_at-sorts
 use Rattle.tb_notes.specs.Inboxes.{Held}
 use Rattle.tb_bus.specs.Buses.{Proc, with_values, opening_store, opened_one, opened}
 use Rattle.tb_bus.specs.Slots.{fits_formals}
-use Rattle.tb_bus.specs.Helpers.Candidates.{ascend, rows_of}
-use Rattle.tb_bus.specs.declared.living.Living.{Living}
+use Rattle.tb_search.specs.Candidates.{ascend, rows_of}
+use Rattle.tb_search.specs.declared.living.Living.{Living}
 use Rattle.tb_core.specs.Helpers.Indexes.{IsUnmarked}
 use Rattle.tb_core.specs.Helpers.Lives.{Begins, IsBelow, IsLive, IsLiveOn, proc_of, proc_by, proc_in, procs_of}
 use Rattle.tb_core.specs.Helpers.LiveBuses.{IsFreshOr}

@@ -4,10 +4,10 @@ use Rattle.std.proofs.lemmas.Option.{get_or_from_slice_get, slice_get-get_or, sl
 use Rattle.tb_body.specs.declared.body.Body.{Body}
 use Rattle.tb_algebra.specs.WalkerViews.{View}
 use Rattle.tb_bus.specs.Buses.{atoms_of, atoms_in}
-use Rattle.tb_bus.specs.Helpers.Candidates.{ascend, row_at, row_of, rows_of, no_row}
-use Rattle.tb_bus.specs.Helpers.Views.{proc_at, no_proc}
-use Rattle.tb_bus.specs.declared.living.Living.{Living}
-use Rattle.tb_bus.proofs.TurnLemmas.{ascend-first}
+use Rattle.tb_search.specs.Candidates.{ascend, row_at, row_of, rows_of, no_row}
+use Rattle.tb_search.specs.Views.{proc_at, no_proc}
+use Rattle.tb_search.specs.declared.living.Living.{Living}
+use Rattle.tb_search.proofs.TurnLemmas.{ascend-first}
 use Rattle.tb_core.specs.Helpers.Lives.{IsLive, IsLiveOn, proc_of, proc_by, proc_in}
 use Rattle.tb_core.specs.Helpers.LiveBuses.{AreFresh, IsSound, procs_in}
 use Rattle.tb_core.specs.declared.bus.LiveBus.{LiveBus}

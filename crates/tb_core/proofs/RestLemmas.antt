@@ -13,16 +13,16 @@ use Rattle.tb_index.specs.Indexes.{IndexState, IsTurned, is_awake, is_receiver, 
 use Rattle.tb_index.specs.Marks.{received_mark, wide}
 use Rattle.tb_index.specs.declared.mark.Mark.{Mark}
 use Rattle.tb_bus.specs.Exchanges.{Setting}
-use Rattle.tb_bus.specs.Helpers.Candidates.{Row, ascend, row_at, row_of, rows_of, wanting}
-use Rattle.tb_bus.specs.Helpers.Indexed.{IsIndexed, IsIndexFor, IsNextPlace, SleepsAtRest, all_rest, own_rests, received_by, received_marks, rests}
+use Rattle.tb_search.specs.Candidates.{Row, ascend, row_at, row_of, rows_of, wanting}
+use Rattle.tb_search.specs.Indexed.{IsIndexed, IsIndexFor, IsNextPlace, SleepsAtRest, all_rest, own_rests, received_by, received_marks, rests}
 use Rattle.tb_bus.specs.declared.action.Action.{Action}
 use Rattle.tb_bus.specs.declared.action.Action.TheVariants as action
 use Rattle.tb_bus.specs.declared.action.OwnAction.{OwnAction}
 use Rattle.tb_bus.specs.declared.action.OwnAction.TheVariants as own
-use Rattle.tb_bus.specs.declared.living.Living.{Living}
-use Rattle.tb_bus.specs.declared.living.Ready.{Ready}
-use Rattle.tb_bus.proofs.IndexLemmas.{all-left, all-right}
-use Rattle.tb_bus.proofs.PlaceLemmas.{ascend-less, row-read}
+use Rattle.tb_search.specs.declared.living.Living.{Living}
+use Rattle.tb_search.specs.declared.living.Ready.{Ready}
+use Rattle.tb_search.proofs.IndexLemmas.{all-left, all-right}
+use Rattle.tb_search.proofs.PlaceLemmas.{ascend-less, row-read}
 use Rattle.tb_core.specs.Helpers.Holdings.{bare, bares_of, helds_of, held_at, IsHeldAt, with_given}
 use Rattle.tb_core.specs.Helpers.Indexes.{AreStillAwake, IsAwakeAt, IsRested, IsRightFor, IsMarked, IsRightForAll, KeepsOf, found_by, found_marks, rest_among, rest_with, rests_among, rests_with, tool_mark}
 use Rattle.tb_core.specs.Helpers.LiveBuses.{AreFresh}

@@ -4,9 +4,9 @@ use Rattle.std.proofs.lemmas.List.Elements.{All-head, All-tail}
 use Rattle.tb_body.specs.declared.body.Body.{Body}
 use Rattle.tb_algebra.specs.Offers.{offers}
 use Rattle.tb_algebra.specs.WalkerViews.{View}
-use Rattle.tb_bus.specs.Helpers.Candidates.{readies, row_of, rows_of}
-use Rattle.tb_bus.specs.Helpers.Views.{AreRowsOf, IsRowOf, IsSearchedFor}
-use Rattle.tb_bus.specs.declared.living.Living.{Living}
+use Rattle.tb_search.specs.Candidates.{readies, row_of, rows_of}
+use Rattle.tb_search.specs.Views.{AreRowsOf, IsRowOf, IsSearchedFor}
+use Rattle.tb_search.specs.declared.living.Living.{Living}
 use Rattle.tb_core.specs.Helpers.Lives.{IsLive, term_in, proc_by, proc_in, procs_of}
 use Rattle.tb_core.specs.Helpers.LiveBuses.{AreFresh, IsSound, bus_of, scene_in}
 use Rattle.tb_core.specs.declared.bus.LiveBus.{LiveBus}

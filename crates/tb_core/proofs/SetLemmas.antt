@@ -10,8 +10,8 @@ use Rattle.tb_algebra.specs.WalkerViews.{View}
 use Rattle.tb_index.specs.Indexes.{IndexState, IsTurned}
 use Rattle.tb_index.specs.declared.mark.Marks.{Marks as KeptMarks}
 use Rattle.tb_bus.specs.Buses.{Bus, Proc}
-use Rattle.tb_bus.specs.Helpers.Candidates.{ascend, rows_of}
-use Rattle.tb_bus.specs.declared.living.Living.{Living}
+use Rattle.tb_search.specs.Candidates.{ascend, rows_of}
+use Rattle.tb_search.specs.declared.living.Living.{Living}
 use Rattle.tb_core.specs.Helpers.Indexes.{IsRightForAll, IsRightFor, KeepsOf, IsRested}
 use Rattle.tb_core.specs.Helpers.Lives.{IsBelow, IsFreshFor, IsLive, IsLiveOn, proc_by, proc_in}
 use Rattle.tb_core.specs.Helpers.LiveBuses.{IsFreshOr, IsSound, StandsAs, bus_of, procs_in, AreSettled, IsKept, settings_in}

@@ -24,11 +24,11 @@ use Rattle.tb_algebra.proofs.AgedOffers.{is_end-ticked, offers_of-age, ready-age
 use Rattle.tb_index.specs.Indexes.{IndexState}
 use Rattle.tb_bus.specs.Buses.{Bus, Proc}
 use Rattle.tb_bus.specs.Actions.{action_if, action_of}
-use Rattle.tb_bus.specs.Helpers.Candidates.{ascend, readies, ready_one, rows_of}
+use Rattle.tb_search.specs.Candidates.{ascend, readies, ready_one, rows_of}
 use Rattle.tb_bus.specs.Traces.{aged_proc}
 use Rattle.tb_bus.specs.declared.action.Action.{Action}
-use Rattle.tb_bus.specs.declared.living.Living.{Living}
-use Rattle.tb_bus.specs.declared.living.Ready.{Ready}
+use Rattle.tb_search.specs.declared.living.Living.{Living}
+use Rattle.tb_search.specs.declared.living.Ready.{Ready}
 use Rattle.tb_core.specs.Helpers.Indexes.{IsRightFor, is_alive, IsRested}
 use Rattle.tb_core.specs.Helpers.Lives.{IsBelow, IsFreshFor, IsLive, IsLiveOn, IsTimeless, proc_by, proc_in, proc_of, procs_of, term_in}
 use Rattle.tb_core.specs.Helpers.LiveBuses.{AreFresh, IsFreshOr, IsSound, StandsAs, bus_of, procs_in, settings_in}

@@ -23,16 +23,16 @@ use Rattle.tb_bus.specs.Effects.{Nothing, PutsNote, Effect, creation, may_create
 use Rattle.tb_bus.specs.Exchanges.{Setting, bench_after, behind, exchange_for, with_told}
 use Rattle.tb_bus.specs.Steps.{apply}
 use Rattle.tb_bus.specs.Traces.{Answer, declares, fed, took}
-use Rattle.tb_bus.specs.Helpers.Candidates.{Row}
-use Rattle.tb_bus.specs.Helpers.Views.{move_by, move_of, own_move, proc_at, offer_of, ready_at}
+use Rattle.tb_search.specs.Candidates.{Row}
+use Rattle.tb_search.specs.Views.{move_by, move_of, own_move, proc_at, offer_of, ready_at}
 use Rattle.tb_bus.specs.declared.action.Action.{Action}
 use Rattle.tb_bus.specs.declared.action.Action.TheVariants as action
 use Rattle.tb_bus.specs.declared.action.OwnAction.{OwnAction}
 use Rattle.tb_bus.specs.declared.action.OwnAction.TheVariants as own
 use Rattle.tb_bus.specs.declared.action.ToolAction.{ToolAction}
 use Rattle.tb_bus.specs.declared.action.ToolAction.TheVariants as speak
-use Rattle.tb_bus.specs.declared.candidate.Candidate.{Candidate}
-use Rattle.tb_bus.specs.declared.candidate.Candidate.TheVariants as candidate
+use Rattle.tb_search.specs.declared.candidate.Candidate.{Candidate}
+use Rattle.tb_search.specs.declared.candidate.Candidate.TheVariants as candidate
 use Rattle.tb_bus.specs.declared.exchange.Exchange.{Exchange}
 
 -- what a tool is told gives no number

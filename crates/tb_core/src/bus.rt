@@ -1,7 +1,7 @@
 ghost use Rattle.std.specs.Prelude.{◌≡◌, ℕ, min};
 ghost use Rattle.std.below.core.specs.declared.int.usize.TheConstants.{MAX};
 ghost use Rattle.tb_log.specs.Limits.{terms_size};
-ghost use Rattle.tb_bus.specs.Helpers.Views.{sent_in};
+ghost use Rattle.tb_search.specs.Views.{sent_in};
 ghost use Rattle.tb_core.specs.Helpers.Makings.{effect_by, shown_in};
 
 use crate::acting::{
@@ -17,14 +17,14 @@ use crate::ticking::tick_all;
 use std::alloc::Global;
 use std::mem::swap;
 use tb_algebra::Walker;
-use tb_bus::{
-    Action, Candidate, Exchange, Living, Marks, Origin, OwnAction, Partner, Ready, Received,
-    all_rest, first_candidate, place_of,
-};
+use tb_bus::{Action, Exchange, Origin, OwnAction};
 use tb_index::{Index, Marks as KeptMarks};
 use tb_log::{Input, Label, LabelKind, Log, Place, Reply, ToolLine, Why, total_size};
 use tb_match::Binds;
 use tb_notes::Found;
+use tb_search::{
+    Candidate, Living, Marks, Partner, Ready, Received, all_rest, first_candidate, place_of,
+};
 use tb_terms::{Items, NoMemory, Term, Terms, size};
 use tb_tools::{Bench, Handout};
 
@@ -75,12 +75,12 @@ impl<W: Walker> LiveBus<W> {
     ghost use Rattle.tb_log.specs.Shapes.{IsInputInShape, IsLane, lane_count};
     ghost use Rattle.tb_tools.specs.Lanes.{most_tools};
     ghost use Rattle.tb_tools.specs.Finding.{next_out};
-    ghost use Rattle.tb_bus.specs.Steps.{moves, apply, label_of, nowhere, finish_reason, halt_reason};
+    ghost use Rattle.tb_bus.specs.Steps.{moves, apply, label_of, nowhere, finish_reason, halt_reason, first};
     ghost use Rattle.tb_bus.specs.Traces.{aged_proc, fed, took, taken_out};
-    ghost use Rattle.tb_bus.specs.Helpers.Candidates.{first, row_at, rows_of};
-    ghost use Rattle.tb_bus.specs.Helpers.Views.{ready_at, offer_of, proc_at, sent_in, IsCandidateIn};
+    ghost use Rattle.tb_search.specs.Candidates.{row_at, rows_of};
+    ghost use Rattle.tb_search.specs.Views.{ready_at, offer_of, proc_at, sent_in, IsCandidateIn};
     ghost use Rattle.tb_index.specs.Indexes.{is_awake, is_receiver};
-    ghost use Rattle.tb_bus.specs.Helpers.Indexed.{IsNextPlace};
+    ghost use Rattle.tb_search.specs.Indexed.{IsNextPlace};
     ghost use Rattle.tb_core.specs.Helpers.Indexes.{AreStillAwake, IsAwakeAt, tool_mark};
     ghost use Rattle.tb_core.specs.Cores.{takes_memory};
     ghost use Rattle.tb_core.specs.Helpers.Makings.{effect_by, IsPlainIn};

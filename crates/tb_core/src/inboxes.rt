@@ -3,11 +3,11 @@ ghost use Rattle.std.specs.List.{All};
 ghost use Rattle.tb_terms.specs.declared.term.Term.{Term};
 ghost use Rattle.tb_match.specs.Matches.{are_plain};
 ghost use Rattle.tb_notes.specs.Inboxes.{HasRoom, subscribed, unsubscribed, with_note, without_note};
-ghost use Rattle.tb_bus.specs.Helpers.Candidates.{all_take, rows_of, wanting};
+ghost use Rattle.tb_search.specs.Candidates.{all_take, rows_of, wanting};
 ghost use Rattle.tb_core.specs.Helpers.Holdings.{helds_of, held_at, spare_at, bares_of, IsHeldAt, HoldTheSame, CanTake, put_each, with_given};
 
 use std::alloc::Global;
-use tb_bus::Living;
+use tb_search::Living;
 use tb_terms::{NoMemory, Patterns, Terms, copy_terms};
 
 /// From now on the process at an index wants what matches.

@@ -1,15 +1,16 @@
 ghost use Rattle.std.specs.Prelude.{◌≡◌, ◌≢◌, ◌++◌, ℕ, [], Bool, IfOk, OnOk, not, true, false};
 ghost use Rattle.std.specs.List.{All};
 ghost use Rattle.tb_index.specs.Indexes.{HasRoom, IsTurned};
-ghost use Rattle.tb_bus.specs.Helpers.Indexed.{sent_by, sent_marks};
+ghost use Rattle.tb_search.specs.Indexed.{sent_by, sent_marks};
 ghost use Rattle.tb_bus.specs.Exchanges.{setting_by};
 ghost use Rattle.tb_core.specs.Helpers.Indexes.{HasNothing, IsRested, IsRightFor, KeepsOf, found_by, found_marks, tool_mark};
 
 use std::alloc::Global;
 use std::mem;
 use tb_body::Program;
-use tb_bus::{Action, Living, Ready, all_rest};
+use tb_bus::Action;
 use tb_index::{Index, Mark, Marks, received_mark, sent_mark};
+use tb_search::{Living, Ready, all_rest};
 use tb_terms::NoMemory;
 use tb_tools::Bench;
 

@@ -8,15 +8,16 @@ ghost use Rattle.tb_algebra.specs.Offers.{Offered};
 ghost use Rattle.tb_algebra.specs.Walks.{fired, is_end, offers_of, patterns_by, seen, seen_offers, sent_by, sorts_of};
 ghost use Rattle.tb_func.specs.Printing.{printf_of};
 ghost use Rattle.tb_bus.specs.Actions.{action_in, action_of, create_action, print_action, set_action, shutdown_action, speak_about};
-ghost use Rattle.tb_bus.specs.Helpers.Candidates.{ascend, ready_one, readies, rows_of};
+ghost use Rattle.tb_search.specs.Candidates.{ascend, ready_one, readies, rows_of};
 ghost use Rattle.tb_core.specs.Helpers.Lives.{IsFreshFor, IsLiveOn, IsTimeless, IsWhere, proc_by};
 
 use std::alloc::Global;
 use tb_algebra::{Offer, Walker};
 use tb_body::{Act, Atom, Body};
-use tb_bus::{Action, Living, OwnAction, Ready, ToolAction};
+use tb_bus::{Action, OwnAction, ToolAction};
 use tb_func::printf_text;
 use tb_match::{Bind, Binds};
+use tb_search::{Living, Ready};
 use tb_terms::{Items, NoMemory, Patterns, Sorts, Term, Terms, has_sort};
 
 /// Whether there is such a slot, and the value has its sort.

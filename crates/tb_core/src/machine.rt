@@ -8,7 +8,7 @@ ghost use Rattle.tb_tools.specs.Finding.{first_out, next_out};
 ghost use Rattle.tb_bus.specs.Buses.{origin_of, start};
 ghost use Rattle.tb_bus.specs.Traces.{IsTrace, fed, taken_out};
 ghost use Rattle.tb_bus.specs.Steps.{steps, apply, label_of};
-ghost use Rattle.tb_bus.specs.Helpers.Views.{IsCandidateIn};
+ghost use Rattle.tb_search.specs.Views.{IsCandidateIn};
 ghost use Rattle.tb_core.specs.Cores.{most_entries, HandIn, MakeStep, HandOut, IsTakenOut, started, bus_now, Logs, entries_of, is_full, IsStep, Stays, has_any, ends_quiet, takes_memory};
 ghost use Rattle.tb_core.specs.Helpers.LiveBuses.{bus_of, move_in, scene_in, AreFresh, IsSound, StandsAs};
 
@@ -18,8 +18,9 @@ use std::alloc::Global;
 use std::marker::Model;
 use tb_algebra::Walker;
 use tb_body::Program;
-use tb_bus::{Candidate, Origin};
+use tb_bus::Origin;
 use tb_log::{Entry, Input, Log, Out, Reply, input_size, out_size};
+use tb_search::Candidate;
 use tb_terms::{Items, NoMemory, Text, Texts};
 use tb_tools::{Handout, LaneState};
 

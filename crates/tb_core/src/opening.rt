@@ -3,7 +3,7 @@ ghost use Rattle.std.specs.Option.{ForSome};
 ghost use Rattle.std.specs.List.{All};
 ghost use Rattle.tb_bus.specs.Buses.{opening_store, opened, opened_one};
 ghost use Rattle.tb_bus.specs.Slots.{fits_formals};
-ghost use Rattle.tb_bus.specs.Helpers.Candidates.{ascend, rows_of};
+ghost use Rattle.tb_search.specs.Candidates.{ascend, rows_of};
 ghost use Rattle.tb_core.specs.Helpers.Indexes.{IsUnmarked};
 ghost use Rattle.tb_core.specs.Helpers.Lives.{Begins, IsBelow, IsLive, procs_of};
 
@@ -11,9 +11,9 @@ use crate::indexing::no_marks;
 use std::alloc::Global;
 use tb_algebra::Walker;
 use tb_body::{Body, Program};
-use tb_bus::Living;
 use tb_func::Store;
 use tb_notes::Inbox;
+use tb_search::Living;
 use tb_terms::{Items, NoMemory, Terms, copy_terms};
 
 /// The plans of the bodies, in their order.

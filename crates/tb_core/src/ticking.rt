@@ -2,7 +2,7 @@ ghost use Rattle.std.specs.List.{All};
 ghost use Rattle.tb_core.specs.Helpers.Ticking.{AreTicked, CanTick, HasTicked, IsBefore};
 
 use tb_algebra::Walker;
-use tb_bus::Living;
+use tb_search::Living;
 use tb_terms::Items;
 
 /// A tick passes for a process: it ages. Where it is timed, it has to be looked at anew.

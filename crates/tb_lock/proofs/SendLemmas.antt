@@ -24,9 +24,9 @@ use Rattle.tb_bus.specs.contracts.origin.Origin as origin
 use Rattle.tb_bus.specs.contracts.action.OwnAction as own_action
 use Rattle.tb_bus.specs.contracts.action.ToolAction as tool_action
 use Rattle.tb_bus.specs.contracts.action.Action as action
-use Rattle.tb_bus.specs.contracts.living.Ready as ready
-use Rattle.tb_bus.specs.contracts.living.Living as living
-use Rattle.tb_bus.specs.contracts.marks.Marks as marks
+use Rattle.tb_search.specs.contracts.living.Ready as ready
+use Rattle.tb_search.specs.contracts.living.Living as living
+use Rattle.tb_search.specs.contracts.marks.Marks as marks
 use Rattle.tb_core.specs.contracts.machine.Core as core
 use Rattle.tb_core.specs.contracts.bus.LiveBus as live_bus
 use Rattle.tb_core.specs.contracts.machine.Core.TheInside as core_inside

@@ -32,11 +32,10 @@ use Rattle.tb_tools.specs.Lanes.{Lane, unused, new_tool}
 use Rattle.tb_tools.specs.declared.stage.Stage.TheVariants as stage
 use Rattle.tb_bus.specs.declared.origin.Origin.{Origin}
 use Rattle.tb_bus.specs.Buses.{Bus, Proc, start}
-use Rattle.tb_bus.specs.Helpers.Candidates.{first}
 use Rattle.tb_bus.specs.Traces.{IsTrace, replay}
 use Rattle.tb_bus.proofs.TraceLemmas.{trace-rest}
 use Rattle.tb_core.specs.Cores.{CoreState}
-use Rattle.tb_bus.specs.Steps.{steps, moves, moves_of_all, moves_of, handshakes, handshakes_with, advance}
+use Rattle.tb_bus.specs.Steps.{steps, moves, moves_of_all, moves_of, handshakes, handshakes_with, advance, first}
 use Rattle.tb_edge.specs.declared.given.Given.{Given}
 use Rattle.tb_edge.specs.declared.given.Given.TheVariants as given
 use Rattle.tb_edge.specs.declared.given.Taken.{Taken}

@@ -26,8 +26,7 @@ use Rattle.tb_tools.specs.Lanes.{Lane, BenchState, unused, tool_term, is_empty}
 use Rattle.tb_tools.specs.Finding.{next_out}
 use Rattle.tb_bus.specs.declared.origin.Origin.{Origin}
 use Rattle.tb_bus.specs.Buses.{Bus}
-use Rattle.tb_bus.specs.Steps.{Step, steps}
-use Rattle.tb_bus.specs.Helpers.Candidates.{first}
+use Rattle.tb_bus.specs.Steps.{Step, steps, first}
 use Rattle.tb_bus.specs.Traces.{IsTrace, after, replay, fed, taken_out}
 use Rattle.tb_bus.proofs.TraceLemmas.{after-first, legal-first, legal-quiet, legal-fed, legal-gave}
 use Rattle.tb_edge.specs.declared.given.Given.{Given}

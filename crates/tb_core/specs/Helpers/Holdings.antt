@@ -2,7 +2,7 @@
 use Rattle.std.specs.Prelude.{◌≡◌, ◌<◌, ℕ, List, [], ◌∷◌, map, length, slice_index_or, slice_set, if◌then◌else◌}
 use Rattle.tb_terms.specs.declared.term.Term.{Term}
 use Rattle.tb_notes.specs.Inboxes.{Held, HasRoom, nothing, wants, with_note}
-use Rattle.tb_bus.specs.declared.living.Living.{Living}
+use Rattle.tb_search.specs.declared.living.Living.{Living}
 
 abbrev pub helds_of : {W : Type 0} → List (Living W) → List Held
 helds_of all = map (λ living. living.inbox.held) all

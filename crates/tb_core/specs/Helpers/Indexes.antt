@@ -6,12 +6,12 @@ use Rattle.tb_index.specs.Marks.{has_mark, received_mark}
 use Rattle.tb_index.specs.declared.mark.Mark.{Mark}
 use Rattle.tb_notes.specs.Inboxes.{Held, oldest_match}
 use Rattle.tb_bus.specs.Exchanges.{Setting, exchange_for}
-use Rattle.tb_bus.specs.Helpers.Candidates.{Row, row_at, row_of, rows_of}
-use Rattle.tb_bus.specs.Helpers.Indexed.{own_rests, sent_marks}
+use Rattle.tb_search.specs.Candidates.{Row, row_at, row_of, rows_of}
+use Rattle.tb_search.specs.Indexed.{own_rests, sent_marks}
 use Rattle.tb_bus.specs.declared.action.Action.{Action}
 use Rattle.tb_bus.specs.declared.action.Action.TheVariants as action
-use Rattle.tb_bus.specs.declared.living.Ready.{Ready}
-use Rattle.tb_bus.specs.declared.living.Living.{Living}
+use Rattle.tb_search.specs.declared.living.Ready.{Ready}
+use Rattle.tb_search.specs.declared.living.Living.{Living}
 
 -- all is the same for the process with a number
 pub record KeepsOf (old new : IndexState) (number : ℕ) : Type 0 where

@@ -15,11 +15,11 @@ use Rattle.tb_bus.specs.Buses.{Bus, Proc, start}
 use Rattle.tb_bus.specs.Effects.{Effect, changed}
 use Rattle.tb_bus.specs.Exchanges.{Setting, setting_by}
 use Rattle.tb_bus.specs.Steps.{Move, advance, apply}
-use Rattle.tb_bus.specs.Helpers.Views.{move_of, proc_at}
+use Rattle.tb_search.specs.Views.{move_of, proc_at}
 use Rattle.tb_bus.specs.Traces.{IsTrace, replay}
-use Rattle.tb_bus.specs.Helpers.Candidates.{Scene, ascend, row_at, rows_of, scene_of}
-use Rattle.tb_bus.specs.declared.living.Living.{Living}
-use Rattle.tb_bus.specs.declared.candidate.Candidate.{Candidate}
+use Rattle.tb_search.specs.Candidates.{Scene, ascend, row_at, rows_of, scene_of}
+use Rattle.tb_search.specs.declared.living.Living.{Living}
+use Rattle.tb_search.specs.declared.candidate.Candidate.{Candidate}
 use Rattle.tb_core.specs.Cores.{most_entries}
 use Rattle.tb_core.specs.Helpers.Indexes.{IsRested, IsRightForAll, KeepsOf}
 use Rattle.tb_core.specs.Helpers.Lives.{IsBelow, IsLive, procs_of}

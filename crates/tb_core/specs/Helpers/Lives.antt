@@ -12,9 +12,9 @@ use Rattle.tb_algebra.specs.Walks.{Walking, entering, offers_of, sorts_of, is_en
 use Rattle.tb_algebra.specs.WalkerViews.{View}
 use Rattle.tb_notes.specs.Inboxes.{nothing}
 use Rattle.tb_bus.specs.Buses.{Proc}
-use Rattle.tb_bus.specs.Helpers.Candidates.{readies}
-use Rattle.tb_bus.specs.declared.living.Ready.{Ready}
-use Rattle.tb_bus.specs.declared.living.Living.{Living}
+use Rattle.tb_search.specs.Candidates.{readies}
+use Rattle.tb_search.specs.declared.living.Ready.{Ready}
+use Rattle.tb_search.specs.declared.living.Living.{Living}
 use Rattle.tb_core.specs.Helpers.Indexes.{IsUnmarked}
 
 -- its atom has no times

@@ -2,7 +2,7 @@
 use Rattle.std.specs.Prelude.{◌≡◌, ◌<◌, ◌&&◌, List, [], ◌∷◌, not, Some, slice_get, ⊤}
 use Rattle.tb_algebra.specs.Walks.{most_ticks, ticked}
 use Rattle.tb_algebra.specs.WalkerViews.{View}
-use Rattle.tb_bus.specs.declared.living.Living.{Living}
+use Rattle.tb_search.specs.declared.living.Living.{Living}
 
 -- one that goes by this plan has seen so few ticks that one more may pass
 pub record IsBefore {W P T : Type 0} (view : View P W T) (plan : P) (living : Living W) : Type 0 where

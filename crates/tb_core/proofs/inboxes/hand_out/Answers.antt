@@ -1,5 +1,5 @@
 use Rattle.std.proofs.Common.{◌∙◌, ap}
-use Rattle.tb_bus.specs.Helpers.Candidates.{rows_of}
+use Rattle.tb_search.specs.Candidates.{rows_of}
 use Rattle.tb_core.specs.Helpers.Holdings.{put_each}
 use Rattle.tb_core.proofs.NoteLemmas.{all-can, apart-of, each-given, wanting-within}
 use Rattle.tb_core.proofs.inboxes.hand_out.Goals as goal

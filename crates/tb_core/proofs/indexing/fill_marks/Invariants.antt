@@ -1,5 +1,5 @@
 use Rattle.std.proofs.Common.{◌≡◌, take}
-use Rattle.tb_bus.specs.Helpers.Indexed.{sent_marks}
+use Rattle.tb_search.specs.Indexed.{sent_marks}
 use Rattle.tb_core.specs.Helpers.Indexes.{found_marks}
 use Rattle.tb_core.proofs.indexing.fill_marks.Given as goal
 

@@ -1,5 +1,5 @@
 use Rattle.std.proofs.Common.{◌∙◌, ap, not, true}
-use Rattle.tb_bus.specs.Helpers.Indexed.{sent_marks}
+use Rattle.tb_search.specs.Indexed.{sent_marks}
 use Rattle.tb_core.specs.Helpers.Indexes.{found_marks}
 use Rattle.tb_bus.specs.Exchanges.{setting_by}
 use Rattle.tb_core.proofs.IndexLemmas.{keeps-self, keeps-same, keeps-set, keeps-then, keeps-turned, kept-right, looked-right}

@@ -1,7 +1,7 @@
 use Rattle.std.proofs.Common.{◌≡◌, ℕ, Some, take, false}
 use Rattle.std.specs.List.{All}
 use Rattle.tb_algebra.specs.Walks.{offers_of, seen_offers}
-use Rattle.tb_bus.specs.Helpers.Candidates.{readies}
+use Rattle.tb_search.specs.Candidates.{readies}
 use Rattle.tb_core.specs.Helpers.Lives.{IsTimeless}
 use Rattle.tb_core.proofs.looking.fill.Given as goal
 

@@ -1,7 +1,7 @@
 use Rattle.std.proofs.Common.{◌≡◌, ◌++◌, ◌∙◌, OnOk, ap, option_map, subst}
 use Rattle.tb_body.specs.declared.body.Body.{Body}
 use Rattle.tb_algebra.specs.Walks.{patterns_by, sent_by}
-use Rattle.tb_bus.specs.Helpers.Candidates.{ready_one}
+use Rattle.tb_search.specs.Candidates.{ready_one}
 use Rattle.tb_bus.specs.declared.action.Action.TheVariants as action
 use Rattle.tb_core.proofs.ActionLemmas.{receives-in, sends-in}
 use Rattle.tb_core.proofs.looking.push_action.Goals as goal

@@ -1,6 +1,6 @@
 use Rattle.std.proofs.Common.{sym, refl, subst}
 use Rattle.std.specs.Vec.{with_item}
-use Rattle.tb_bus.specs.Helpers.Views.{proc_at}
+use Rattle.tb_search.specs.Views.{proc_at}
 use Rattle.tb_core.specs.Helpers.LiveBuses.{procs_in}
 use Rattle.tb_core.proofs.AdvanceLemmas.{Went, read-at, leaves-there, advanced-set, advanced-removed, set-before, gone-before, sorts-once}
 use Rattle.tb_core.specs.Helpers.Indexes.{IsRightFor}

@@ -1,5 +1,5 @@
 use Rattle.std.proofs.Common.{◌∙◌, [], refl, subst}
-use Rattle.tb_bus.specs.Helpers.Candidates.{rows_of}
+use Rattle.tb_search.specs.Candidates.{rows_of}
 use Rattle.tb_core.specs.Helpers.LiveBuses.{IsAdvanced}
 use Rattle.tb_core.proofs.AdvanceLemmas.{named-kept, leaves-kept, advance-kept, one-after, behind-from, both-advanced}
 use Rattle.tb_core.proofs.bus.LiveBus.advance_both.Goals as goal

@@ -1,10 +1,10 @@
 use Rattle.std.proofs.Common.{◌≡◌, List, IfOk, IfSome, subst, option_map}
 use Rattle.std.proofs.lemmas.Result.{IfOk-weaker}
 use Rattle.tb_bus.specs.Buses.{Bus}
-use Rattle.tb_bus.specs.Steps.{moves}
-use Rattle.tb_bus.specs.Helpers.Candidates.{first, rows_of, scene_of}
-use Rattle.tb_bus.specs.Helpers.Views.{IsCandidateIn, IsSearchedFor, move_of}
-use Rattle.tb_bus.specs.declared.living.Living.{Living}
+use Rattle.tb_bus.specs.Steps.{moves, first}
+use Rattle.tb_search.specs.Candidates.{rows_of, scene_of}
+use Rattle.tb_search.specs.Views.{IsCandidateIn, IsSearchedFor, move_of}
+use Rattle.tb_search.specs.declared.living.Living.{Living}
 use Rattle.tb_core.specs.Helpers.LiveBuses.{bus_of, settings_in}
 use Rattle.tb_core.proofs.RowsLemmas.{searched-for}
 use Rattle.tb_core.proofs.RestLemmas.{right-rows}

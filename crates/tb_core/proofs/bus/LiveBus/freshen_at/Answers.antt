@@ -1,7 +1,7 @@
 use Rattle.std.proofs.Common.{◌≡◌, true, false, arith, rules, refl, sym, subst, ap, ◌∙◌, inl, Some, OnOk}
 use Rattle.std.specs.Vec.{with_item}
 use Rattle.tb_bus.specs.Buses.{Proc}
-use Rattle.tb_bus.specs.declared.living.Living.{Living}
+use Rattle.tb_search.specs.declared.living.Living.{Living}
 use Rattle.tb_core.specs.Helpers.Indexes.{IsRested, IsRightFor}
 use Rattle.tb_core.specs.Helpers.Lives.{IsLiveOn, proc_by}
 use Rattle.tb_core.specs.Helpers.LiveBuses.{IsFreshOr, settings_in}

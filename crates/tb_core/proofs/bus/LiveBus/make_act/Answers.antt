@@ -1,6 +1,6 @@
 use Rattle.std.proofs.Common.{◌≡◌, ◌∙◌, sym}
-use Rattle.tb_bus.specs.Helpers.Candidates.{rows_of}
-use Rattle.tb_bus.specs.Helpers.Views.{offer_of, ready_at}
+use Rattle.tb_search.specs.Candidates.{rows_of}
+use Rattle.tb_search.specs.Views.{offer_of, ready_at}
 use Rattle.tb_bus.specs.declared.action.Action.TheVariants as action
 use Rattle.tb_core.specs.Helpers.LiveBuses.{procs_in}
 use Rattle.tb_core.specs.Helpers.Makings.{effect_by}

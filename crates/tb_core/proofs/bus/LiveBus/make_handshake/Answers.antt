@@ -1,8 +1,8 @@
 use Rattle.std.proofs.Common.{◌≡◌, ◌∙◌, [], sym, subst, refl}
-use Rattle.tb_bus.specs.Helpers.Candidates.{rows_of}
-use Rattle.tb_bus.specs.Helpers.Views.{proc_at, offer_of, ready_at, sent_in}
+use Rattle.tb_search.specs.Candidates.{rows_of}
+use Rattle.tb_search.specs.Views.{proc_at, offer_of, ready_at, sent_in}
 use Rattle.tb_bus.specs.Steps.{label_of}
-use Rattle.tb_bus.specs.declared.candidate.Candidate.TheVariants.{Handshake}
+use Rattle.tb_search.specs.declared.candidate.Candidate.TheVariants.{Handshake}
 use Rattle.tb_log.specs.declared.entry.Label.{Label}
 use Rattle.tb_log.specs.declared.entry.LabelKind.TheVariants as kind
 use Rattle.tb_core.specs.Helpers.LiveBuses.{CanLog, IsLogged, move_in, procs_in}

@@ -1,7 +1,7 @@
 use Rattle.std.proofs.Common.{◌≡◌, ◌∙◌, List, ap, refl, subst, sym}
 use Rattle.std.specs.List.{All}
-use Rattle.tb_bus.specs.Helpers.Candidates.{all_take, row_at, rows_of, wanting}
-use Rattle.tb_bus.specs.Helpers.Views.{offer_of, ready_at, sent_in}
+use Rattle.tb_search.specs.Candidates.{all_take, row_at, rows_of, wanting}
+use Rattle.tb_search.specs.Views.{offer_of, ready_at, sent_in}
 use Rattle.tb_bus.specs.declared.action.Action.TheVariants as action
 use Rattle.tb_log.specs.declared.entry.LabelKind.TheVariants as kind
 use Rattle.tb_core.specs.Helpers.LiveBuses.{procs_in}
@@ -12,7 +12,7 @@ use Rattle.tb_core.proofs.ReadLemmas.{some-at, on-err}
 use Rattle.tb_core.proofs.NoteLemmas.{all_take-same, wanting-same, wanting-within}
 use Rattle.tb_core.specs.Helpers.Indexes.{IsAwakeAt}
 use Rattle.tb_core.specs.declared.bus.LiveBus.{LiveBus}
-use Rattle.tb_bus.specs.declared.living.Living.{Living}
+use Rattle.tb_search.specs.declared.living.Living.{Living}
 use Rattle.tb_core.proofs.RestLemmas.{wanting-awake}
 use Rattle.tb_core.proofs.SetLemmas.{roused-kept, roused-named, stands-then}
 use Rattle.tb_core.proofs.MakeLemmas.{acted-note, acted-within, acted-named, acted-leaves, acted-advance, acted-made, acted-origin, acted-label, kept-within}

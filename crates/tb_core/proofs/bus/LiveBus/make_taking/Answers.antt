@@ -1,6 +1,6 @@
 use Rattle.std.proofs.Common.{◌≡◌, ◌<◌, ◌∙◌, length, refl, sym, subst, ap, inr}
-use Rattle.tb_bus.specs.Helpers.Candidates.{row_at, rows_of}
-use Rattle.tb_bus.specs.Helpers.Views.{offer_of}
+use Rattle.tb_search.specs.Candidates.{row_at, rows_of}
+use Rattle.tb_search.specs.Views.{offer_of}
 use Rattle.tb_log.specs.declared.entry.LabelKind.TheVariants as kind
 use Rattle.tb_bus.specs.Effects.{note_at, taking}
 use Rattle.tb_notes.specs.Inboxes.{Held, without_note}

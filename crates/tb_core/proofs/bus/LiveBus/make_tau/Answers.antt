@@ -1,9 +1,9 @@
 use Rattle.std.proofs.Common.{◌≡◌, ◌∙◌, ap, subst, sym}
-use Rattle.tb_bus.specs.Helpers.Candidates.{rows_of}
-use Rattle.tb_bus.specs.Helpers.Views.{offer_of}
+use Rattle.tb_search.specs.Candidates.{rows_of}
+use Rattle.tb_search.specs.Views.{offer_of}
 use Rattle.tb_bus.specs.declared.action.OwnAction.TheVariants as own
 use Rattle.tb_bus.specs.Steps.{label_of}
-use Rattle.tb_bus.specs.declared.candidate.Candidate.TheVariants.{Own}
+use Rattle.tb_search.specs.declared.candidate.Candidate.TheVariants.{Own}
 use Rattle.tb_core.specs.Helpers.LiveBuses.{CanLog, IsLogged, move_in, procs_in}
 use Rattle.tb_core.specs.Helpers.Makings.{effect_by}
 use Rattle.tb_core.specs.declared.acting.Done.{Done}

@@ -1,7 +1,7 @@
 use Rattle.std.proofs.Common.{◌∙◌, ap, true}
 use Rattle.tb_index.specs.Indexes.{is_awake}
-use Rattle.tb_bus.specs.Helpers.Candidates.{Row}
-use Rattle.tb_bus.proofs.PlaceLemmas.{row-is}
+use Rattle.tb_search.specs.Candidates.{Row}
+use Rattle.tb_search.proofs.PlaceLemmas.{row-is}
 use Rattle.tb_core.specs.Helpers.Indexes.{IsRightFor}
 use Rattle.tb_core.specs.Helpers.LiveBuses.{settings_in}
 use Rattle.tb_core.proofs.ReadLemmas.{all-there, read-there}

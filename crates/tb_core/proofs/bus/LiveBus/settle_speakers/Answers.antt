@@ -1,7 +1,7 @@
 use Rattle.std.proofs.Common.{◌+◌, subst, sym}
 use Rattle.tb_index.specs.Indexes.{is_receiver}
-use Rattle.tb_bus.specs.Helpers.Candidates.{rows_of}
-use Rattle.tb_bus.specs.Helpers.Indexed.{IsNextPlace}
+use Rattle.tb_search.specs.Candidates.{rows_of}
+use Rattle.tb_search.specs.Indexed.{IsNextPlace}
 use Rattle.tb_core.specs.Helpers.Indexes.{tool_mark}
 use Rattle.tb_core.specs.Helpers.LiveBuses.{settings_in}
 use Rattle.tb_core.specs.declared.bus.LiveBus.{LiveBus}

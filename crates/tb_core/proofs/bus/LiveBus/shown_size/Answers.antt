@@ -4,9 +4,9 @@ use Rattle.std.proofs.lemmas.List.{length-map}
 use Rattle.tb_log.specs.Limits.{terms_size}
 use Rattle.tb_notes.specs.Inboxes.{Held}
 use Rattle.tb_bus.specs.Effects.{note_at}
-use Rattle.tb_bus.specs.Helpers.Candidates.{Row, no_row, row_of}
-use Rattle.tb_bus.specs.Helpers.Views.{IsCandidateIn}
-use Rattle.tb_bus.specs.declared.living.Ready.{Ready}
+use Rattle.tb_search.specs.Candidates.{Row, no_row, row_of}
+use Rattle.tb_search.specs.Views.{IsCandidateIn}
+use Rattle.tb_search.specs.declared.living.Ready.{Ready}
 use Rattle.tb_bus.specs.Steps.{label_of}
 use Rattle.tb_core.specs.Helpers.LiveBuses.{move_in, scene_in}
 use Rattle.tb_core.specs.Helpers.Makings.{shown_in}

@@ -1,6 +1,6 @@
 use Rattle.std.proofs.Common.{ap, refl, subst, sym, ◌∙◌, inr, false, Contains}
 use Rattle.std.proofs.lemmas.Option.{same_Some}
-use Rattle.tb_bus.specs.declared.living.Living.{Living}
+use Rattle.tb_search.specs.declared.living.Living.{Living}
 use Rattle.std.specs.Vec.{with_item}
 use Rattle.tb_core.specs.Helpers.Indexes.{IsRightFor}
 use Rattle.tb_core.proofs.ReadLemmas.{all-there, live-at}

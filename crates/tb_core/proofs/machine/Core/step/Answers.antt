@@ -2,8 +2,8 @@ use Rattle.std.proofs.Common.{◌≡◌, ◌∙◌, ◌∷◌, [], Some, None, a
 use Rattle.tb_log.specs.declared.entry.Entry.TheVariants.{Did, Quiet}
 use Rattle.tb_log.specs.Limits.{has_room}
 use Rattle.tb_bus.specs.Buses.{Bus}
-use Rattle.tb_bus.specs.Steps.{moves, steps, step_of, label_of}
-use Rattle.tb_bus.specs.Helpers.Candidates.{first, rows_of}
+use Rattle.tb_bus.specs.Steps.{moves, steps, step_of, label_of, first}
+use Rattle.tb_search.specs.Candidates.{rows_of}
 use Rattle.tb_bus.proofs.TraceLemmas.{steps-first, steps-none}
 use Rattle.tb_core.specs.Helpers.LiveBuses.{bus_of, move_in}
 use Rattle.tb_core.specs.Cores.{CoreState, MakeStep, ends_quiet, entries_of, lacks_room}

@@ -1,7 +1,0 @@
-use Rattle.std.proofs.Common.{◌≡◌, drop}
-use Rattle.tb_bus.specs.Helpers.Candidates.{first, receptions}
-use Rattle.tb_bus.proofs.receivers.first_received.Given as goal
-
--- the actions that are left decide
-abbrev pub invariant-loop-index : goal.invariant-loop-index
-invariant-loop-index l = first (receptions l.terms l.index (drop l.index l.actions)) ≡ first (receptions l.terms 0 l.actions)

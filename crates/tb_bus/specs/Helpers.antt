@@ -1,4 +1,0 @@
--- Definitions that proofs and private functions need, and that nobody has to believe who believes the program's call.
-pub mod Candidates
-pub mod Views
-pub mod Indexed

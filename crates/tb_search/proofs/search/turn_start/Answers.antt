@@ -1,0 +1,15 @@
+use Rattle.std.proofs.Common.{nat_le, rules}
+use Rattle.std.proofs.lemmas.List.Sorted.{IsPartitionPoint-from_clause}
+use Rattle.tb_search.proofs.TurnLemmas.{partitioned-by_number, up_to-point}
+use Rattle.tb_search.proofs.PlaceLemmas.{upto-exact}
+use Rattle.tb_search.proofs.search.turn_start.Goals as goal
+
+pub returns-then-all-place-clause-count : goal.returns-then-all-place-clause-count
+returns-then-all-place-clause-count g c =
+    upto-exact c.args.all.now c.args.last c.saturating_sub-place.result c.index-all-place.result c.requires c.if-place-all.true c.if-all-place.true
+
+pub returns-clause-count : goal.returns-clause-count
+returns-clause-count g c =
+    let point = IsPartitionPoint-from_clause (λ living. nat_le living.number c.args.last) c.args.all.now c.partition_point.result c.partition_point.ensures.partitioned
+    (partitioned-by_number c.args.all.now c.args.last c.requires) (λ a r f h. search rules) in
+    up_to-point c.args.last c.args.all.now c.partition_point.result (search rules) point

@@ -1,0 +1,348 @@
+//! How a process may speak with a tool.
+
+ghost use Rattle.std.specs.Prelude.{◌≡◌, ◌&&◌, true, IfOk, IsSome, option_map, option_and_then, slice_get};
+ghost use Rattle.std.specs.Option.{ForSome};
+ghost use Rattle.tb_terms.specs.Sizes.{is_within_limits};
+ghost use Rattle.tb_log.specs.Shapes.{IsLane};
+ghost use Rattle.tb_tools.specs.Lanes.{tool_at, tool_term};
+ghost use Rattle.tb_tools.specs.Acts.{can_leave, can_eval, is_taken_at, is_live_at};
+ghost use Rattle.tb_bus.specs.Slots.{fits_slot};
+ghost use Rattle.tb_bus.specs.Exchanges.{setting_by, plain_on, bound_on, starting, taking_tool, first_of_kind, lane_of, value_on, event_on, received_on, behind, exchange_for};
+
+use crate::slots::fits_slot;
+use sqlite_items::at;
+use std::alloc::Global;
+use tb_body::Program;
+use tb_bus::{Exchange, ToolAction};
+use tb_match::{Bind, match_list};
+use tb_terms::{Items, Name, NoMemory, Patterns, Term, Terms, is_within_limits};
+use tb_tools::{Bench, Stage};
+
+/// A process that may speak with tools: its body among those of a program, and the lanes on which the tools stand.
+#[derive(Drop)]
+pub(crate) struct Speaker<'a> {
+    pub program: &'a Program,
+    pub bench: &'a Bench,
+    pub body: u32,
+}
+
+/// How an action may happen, where it may.
+pub(crate) fn exchange_for(
+    alloc: Global,
+    speaker: &Speaker,
+    action: &ToolAction,
+) -> Result<Option<Exchange>, NoMemory>
+    ensures { IfOk result (λ found. found ≡ exchange_for (setting_by speaker.now.program.now.bodies speaker.now.program.now.tools speaker.now.bench.now speaker.now.body) action.now) }
+{
+    let bench = speaker.bench;
+    match action {
+        ToolAction::Execute(tool, slot) => execute(alloc, speaker, *tool, *slot),
+        ToolAction::Connect(tool, slot) => {
+            first_of_kind(alloc, speaker, Stage::Waiting, *tool, *slot)
+        }
+        ToolAction::DisconnectAny(tool, slot) => {
+            first_of_kind(alloc, speaker, Stage::Leaving, *tool, *slot)
+        }
+        ToolAction::Disconnect(terms) => Ok(plain_on(alloc, leaving_lane(bench, terms))),
+        ToolAction::Eval(terms) => Ok(plain_on(alloc, idle_lane(bench, terms))),
+        ToolAction::TakeValue(terms, patterns) => value_of(alloc, bench, terms, patterns),
+        ToolAction::Do(terms) => Ok(plain_on(alloc, idle_lane(bench, terms))),
+        ToolAction::TakeEvent(terms, patterns) => event_of(bench, terms, patterns),
+        ToolAction::Acknowledge(terms) => received_of(alloc, bench, terms),
+        ToolAction::Terminate(terms) => Ok(plain_on(alloc, live_lane(bench, terms))),
+    }
+}
+
+/// The lane of the tool that is the first of these terms.
+fn tool_lane(bench: &Bench, terms: &Terms) -> Option<u8>
+    ensures lane { result ≡ lane_of (λ lane state. true) bench.now terms.now }
+    ensures within { ForSome result IsLane }
+{
+    match terms.as_slice() {
+        [] => None,
+        [tool, ..] => bench.find_tool(tool),
+    }
+}
+
+/// The lane of such a tool, where it is leaving.
+fn leaving_lane(bench: &Bench, terms: &Terms) -> Option<u8>
+    ensures lane { result ≡ lane_of can_leave bench.now terms.now }
+    ensures within { ForSome result IsLane }
+{
+    let lane = tool_lane(bench, terms)?;
+    if bench.can_leave(lane) {
+        Some(lane)
+    } else {
+        None
+    }
+}
+
+/// The lane of such a tool, where it is live and no evaluation is open.
+fn idle_lane(bench: &Bench, terms: &Terms) -> Option<u8>
+    ensures lane { result ≡ lane_of can_eval bench.now terms.now }
+    ensures within { ForSome result IsLane }
+{
+    let lane = tool_lane(bench, terms)?;
+    if bench.can_eval(lane) {
+        Some(lane)
+    } else {
+        None
+    }
+}
+
+/// The lane of such a tool, where it is live or leaving.
+fn taken_lane(bench: &Bench, terms: &Terms) -> Option<u8>
+    ensures lane { result ≡ lane_of is_taken_at bench.now terms.now }
+    ensures within { ForSome result IsLane }
+{
+    let lane = tool_lane(bench, terms)?;
+    if bench.is_taken(lane) {
+        Some(lane)
+    } else {
+        None
+    }
+}
+
+/// The lane of such a tool, where it is live.
+fn live_lane(bench: &Bench, terms: &Terms) -> Option<u8>
+    ensures lane { result ≡ lane_of is_live_at bench.now terms.now }
+    ensures within { ForSome result IsLane }
+{
+    let lane = tool_lane(bench, terms)?;
+    if bench.is_live(lane) {
+        Some(lane)
+    } else {
+        None
+    }
+}
+
+/// On a lane, with nothing bound.
+fn plain_on(alloc: Global, lane: Option<u8>) -> Option<Exchange>
+    ensures { result ≡ option_map plain_on lane }
+{
+    match lane {
+        Some(lane) => Some(Exchange {
+            lane,
+            event: 0,
+            binds: Items::new(alloc),
+        }),
+        None => None,
+    }
+}
+
+/// The value of a tool that is live or leaving, where it has come and matches.
+fn value_of(
+    alloc: Global,
+    bench: &Bench,
+    terms: &Terms,
+    patterns: &Patterns,
+) -> Result<Option<Exchange>, NoMemory>
+    ensures { IfOk result (λ found. found ≡ option_and_then (value_on patterns.now bench.now) (lane_of is_taken_at bench.now terms.now)) }
+{
+    match taken_lane(bench, terms) {
+        Some(lane) => value_on(alloc, bench, lane, patterns),
+        None => Ok(None),
+    }
+}
+
+fn value_on(
+    alloc: Global,
+    bench: &Bench,
+    lane: u8,
+    patterns: &Patterns,
+) -> Result<Option<Exchange>, NoMemory>
+    requires { IsLane lane }
+    ensures { IfOk result (λ found. found ≡ value_on patterns.now bench.now lane) }
+{
+    match bench.answer(lane) {
+        Some(value) => {
+            let values = Items::from_vec(vec![in alloc; value.copy(alloc)?]?);
+            match match_list(alloc, patterns, &values)? {
+                Some(binds) => Ok(Some(Exchange {
+                    lane,
+                    event: 0,
+                    binds,
+                })),
+                None => Ok(None),
+            }
+        }
+        None => Ok(None),
+    }
+}
+
+/// The oldest event of a tool that is live or leaving, of those that wait and match.
+fn event_of(bench: &Bench, terms: &Terms, patterns: &Patterns) -> Result<Option<Exchange>, NoMemory>
+    ensures { IfOk result (λ found. found ≡ option_and_then (event_on patterns.now bench.now) (lane_of is_taken_at bench.now terms.now)) }
+{
+    match taken_lane(bench, terms) {
+        Some(lane) => event_on(bench, lane, patterns),
+        None => Ok(None),
+    }
+}
+
+fn event_on(bench: &Bench, lane: u8, patterns: &Patterns) -> Result<Option<Exchange>, NoMemory>
+    requires { IsLane lane }
+    ensures { IfOk result (λ found. found ≡ event_on patterns.now bench.now lane) }
+{
+    match bench.find_event(lane, patterns)? {
+        Some(found) => Ok(Some(Exchange {
+            lane,
+            event: found.place,
+            binds: found.binds,
+        })),
+        None => Ok(None),
+    }
+}
+
+/// The oldest event that was received of a live tool with just the terms behind its own.
+fn received_of(alloc: Global, bench: &Bench, terms: &Terms) -> Result<Option<Exchange>, NoMemory>
+    ensures { IfOk result (λ found. found ≡ option_and_then (received_on (behind terms.now) bench.now) (lane_of is_live_at bench.now terms.now)) }
+{
+    match live_lane(bench, terms) {
+        Some(lane) => {
+            let event = behind(alloc, terms)?;
+            Ok(received_on(alloc, bench, lane, &event))
+        }
+        None => Ok(None),
+    }
+}
+
+fn received_on(alloc: Global, bench: &Bench, lane: u8, event: &Terms) -> Option<Exchange>
+    requires { IsLane lane }
+    ensures { result ≡ received_on event.now bench.now lane }
+{
+    match bench.find_received(lane, event) {
+        Some(event) => Some(Exchange {
+            lane,
+            event,
+            binds: Items::new(alloc),
+        }),
+        None => None,
+    }
+}
+
+/// A copy of the terms behind the tool's own.
+fn behind(alloc: Global, terms: &Terms) -> Result<Terms, NoMemory>
+    ensures { IfOk result (λ event. event ≡ behind terms.now) }
+{
+    match terms.as_slice() {
+        [] => Ok(Items::new(alloc)),
+        [_, parts @ ..] => copies(alloc, parts),
+    }
+}
+
+fn copies(alloc: Global, terms: &[Term]) -> Result<Terms, NoMemory>
+    ensures { IfOk result (λ copies. copies ≡ terms.now) }
+{
+    let mut copies = Items::new(alloc);
+    for term in terms {
+        copies.push(term.copy(alloc)?)?;
+    }
+    Ok(copies)
+}
+
+/// A lane for a new tool of a kind, where the kind has a command, a lane is free, and the slot takes the tool.
+fn execute(
+    alloc: Global,
+    speaker: &Speaker,
+    tool: u32,
+    slot: u32,
+) -> Result<Option<Exchange>, NoMemory>
+    ensures { IfOk result (λ found. found ≡ exchange_for (setting_by speaker.now.program.now.bodies speaker.now.program.now.tools speaker.now.bench.now speaker.now.body) (ToolAction.Execute tool slot)) }
+{
+    match at(speaker.program.tools.as_slice(), tool as usize) {
+        Some(kind) => match kind.command {
+            Some(_) => starting(alloc, speaker, &kind.name, slot),
+            None => Ok(None),
+        },
+        None => Ok(None),
+    }
+}
+
+/// The first lane that is free, where the slot takes the next tool.
+fn starting(
+    alloc: Global,
+    speaker: &Speaker,
+    name: &Name,
+    slot: u32,
+) -> Result<Option<Exchange>, NoMemory>
+    ensures { IfOk result (λ found. found ≡ starting (setting_by speaker.now.program.now.bodies speaker.now.program.now.tools speaker.now.bench.now speaker.now.body) slot name.now) }
+{
+    match speaker.bench.free_lane() {
+        Some(lane) => {
+            let tool = next_term(alloc, speaker.bench, name)?;
+            if takes(speaker, slot, &tool) {
+                Ok(Some(bound_on(alloc, lane, slot, tool)?))
+            } else {
+                Ok(None)
+            }
+        }
+        None => Ok(None),
+    }
+}
+
+/// The term of the next tool, where it has this name.
+fn next_term(alloc: Global, bench: &Bench, name: &Name) -> Result<Term, NoMemory>
+    ensures { IfOk result (λ tool. tool ≡ tool_term name.now bench.now.next_tool) }
+{
+    let number = Term::Int(i64::from(bench.next_tool()));
+    let parts = Items::from_vec(vec![in alloc; number]?);
+    Ok(Term::Appl(name.copy(alloc)?, parts))
+}
+
+/// The tool of a kind at a stage that has the smallest number, where the slot takes it.
+fn first_of_kind(
+    alloc: Global,
+    speaker: &Speaker,
+    stage: Stage,
+    tool: u32,
+    slot: u32,
+) -> Result<Option<Exchange>, NoMemory>
+    ensures { IfOk result (λ found. found ≡ first_of_kind (setting_by speaker.now.program.now.bodies speaker.now.program.now.tools speaker.now.bench.now speaker.now.body) stage tool slot) }
+{
+    match at(speaker.program.tools.as_slice(), tool as usize) {
+        Some(kind) => match speaker.bench.first_at(&kind.name, stage) {
+            Some(lane) => taking_tool(alloc, speaker, slot, lane),
+            None => Ok(None),
+        },
+        None => Ok(None),
+    }
+}
+
+/// The tool of a lane, where the slot takes it.
+fn taking_tool(
+    alloc: Global,
+    speaker: &Speaker,
+    slot: u32,
+    lane: u8,
+) -> Result<Option<Exchange>, NoMemory>
+    requires lane { IsLane lane }
+    requires tool { IsSome (tool_at lane speaker.now.bench.now) }
+    ensures { IfOk result (λ found. found ≡ taking_tool (setting_by speaker.now.program.now.bodies speaker.now.program.now.tools speaker.now.bench.now speaker.now.body) slot lane) }
+{
+    let tool = speaker.bench.tool(lane);
+    if takes(speaker, slot, tool) {
+        Ok(Some(bound_on(alloc, lane, slot, tool.copy(alloc)?)?))
+    } else {
+        Ok(None)
+    }
+}
+
+/// Whether a slot takes a tool, whose term is within the limits.
+fn takes(speaker: &Speaker, slot: u32, tool: &Term) -> bool
+    ensures { result ≡ is_within_limits tool.now && fits_slot (slice_get speaker.now.program.now.bodies speaker.now.body) slot tool.now }
+{
+    is_within_limits(tool) && fits_slot(speaker.program.bodies.as_slice(), speaker.body, slot, tool)
+}
+
+/// On a lane, where a slot takes the tool.
+fn bound_on(alloc: Global, lane: u8, slot: u32, tool: Term) -> Result<Exchange, NoMemory>
+    ensures { IfOk result (λ exchange. exchange ≡ bound_on slot lane tool) }
+{
+    let binds = Items::from_vec(vec![in alloc; Bind { slot, value: tool }]?);
+    Ok(Exchange {
+        lane,
+        event: 0,
+        binds,
+    })
+}

@@ -1,0 +1,253 @@
+ghost use Rattle.std.specs.Prelude.{◌≡◌, ◌≤◌, ◌<◌, [], length, take, drop, option_map, IfOk, IfSome, IsTrue};
+ghost use Rattle.tb_bus.specs.Buses.{Bus};
+ghost use Rattle.tb_bus.specs.Steps.{moves, first};
+ghost use Rattle.tb_search.specs.Views.{IsSearchedFor, IsCandidateIn, move_of};
+ghost use Rattle.tb_search.specs.Indexed.{IsIndexFor, IsNextOf};
+ghost use Rattle.tb_bus.specs.Exchanges.{exchange_for, setting_by};
+ghost use Rattle.tb_search.specs.Candidates.{may_happen, setting_in, candidates_by, candidates_of, candidates_from, candidates_in_turn, all_candidates, candidates_or_halt, up_to, ascend, row_of, rows_of, scene_of};
+
+use crate::candidate::Candidate;
+use crate::creation::may_create;
+use crate::exchanging::{Speaker, exchange_for};
+use crate::living::Living;
+use crate::marks::Marks;
+use crate::places::place_of;
+use crate::receivers::first_partner;
+use crate::wanting::wanting;
+use std::alloc::Global;
+use tb_body::Program;
+use tb_bus::{Action, Exchange, OwnAction, ToolAction};
+use tb_index::Index;
+use tb_terms::NoMemory;
+use tb_tools::Bench;
+
+/// What a search goes through.
+#[derive(Drop)]
+pub(crate) struct Searched<'a, W> {
+    pub program: &'a Program,
+    pub bench: &'a Bench,
+    pub all: &'a [Living<W>],
+    pub marks: Marks,
+    pub index: &'a Index,
+}
+
+/// Whether an action of a process by itself may happen.
+fn may_happen<W>(
+    searched: &Searched<W>,
+    living: &Living<W>,
+    own: &OwnAction,
+) -> Result<bool, NoMemory>
+    ensures { IfOk result (λ happens. happens ≡ may_happen (scene_of searched.now.program.now.bodies searched.now.program.now.tools searched.now.bench.now (rows_of searched.now.all.now) searched.now.marks) (row_of living.now) own.now) }
+{
+    match own {
+        OwnAction::Tau
+        | OwnAction::Set(_, _)
+        | OwnAction::Print(_)
+        | OwnAction::Subscribe(_)
+        | OwnAction::Unsubscribe(_)
+        | OwnAction::Shutdown(_) => Ok(true),
+        OwnAction::NoNote(patterns) => Ok(living.inbox.find(patterns)?.is_none()),
+        OwnAction::Create(process, actuals, slot) => Ok(may_create(
+            searched.program.bodies.as_slice(),
+            searched.all.len(),
+            searched.marks.next_number,
+            living.body,
+            *process,
+            actuals,
+            *slot,
+        )),
+    }
+}
+
+/// How an action of a process with a tool may happen.
+fn exchange<W>(
+    alloc: Global,
+    searched: &Searched<W>,
+    living: &Living<W>,
+    does: &ToolAction,
+) -> Result<Option<Exchange>, NoMemory>
+    ensures { IfOk result (λ found. found ≡ exchange_for (setting_in (scene_of searched.now.program.now.bodies searched.now.program.now.tools searched.now.bench.now (rows_of searched.now.all.now) searched.now.marks) (row_of living.now)) does.now) }
+{
+    let speaker = Speaker {
+        program: searched.program,
+        bench: searched.bench,
+        body: living.body,
+    };
+    exchange_for(alloc, &speaker, does)
+}
+
+/// What an action of the process at an index leads to first.
+fn first_by<W>(
+    alloc: Global,
+    searched: &Searched<W>,
+    at: usize,
+    living: &Living<W>,
+    index: usize,
+    action: &Action,
+) -> Result<Option<Candidate>, NoMemory>
+    requires ascend { IsTrue (ascend 0 (rows_of searched.now.all.now)) }
+    requires index { IsIndexFor (setting_by searched.now.program.now.bodies searched.now.program.now.tools searched.now.bench.now) searched.now.index.now (rows_of searched.now.all.now) }
+    ensures { IfOk result (λ found. found ≡ first (candidates_by (scene_of searched.now.program.now.bodies searched.now.program.now.tools searched.now.bench.now (rows_of searched.now.all.now) searched.now.marks) at (row_of living.now) index action.now)) }
+{
+    match action {
+        Action::Own(own) => {
+            if may_happen(searched, living, own)? {
+                Ok(Some(Candidate::Own(at, index)))
+            } else {
+                Ok(None)
+            }
+        }
+        Action::Send(terms) => {
+            match first_partner(alloc, searched.all, searched.index, living.number, terms)? {
+                Some(partner) => Ok(Some(Candidate::Handshake(at, index, partner))),
+                None => Ok(None),
+            }
+        }
+        Action::Receive(_) => Ok(None),
+        Action::Notify(terms) => match wanting(alloc, searched.all, terms)? {
+            Some(indices) => Ok(Some(Candidate::Notify(at, index, indices))),
+            None => Ok(None),
+        },
+        Action::TakeNote(patterns) => match living.inbox.find(patterns)? {
+            Some(found) => Ok(Some(Candidate::TakeNote(at, index, found))),
+            None => Ok(None),
+        },
+        Action::Speak(does) => match exchange(alloc, searched, living, does)? {
+            Some(exchange) => Ok(Some(Candidate::Speak(at, index, exchange))),
+            None => Ok(None),
+        },
+    }
+}
+
+/// What the actions of a process lead to first.
+fn first_of<W>(
+    alloc: Global,
+    searched: &Searched<W>,
+    at: usize,
+    living: &Living<W>,
+) -> Result<Option<Candidate>, NoMemory>
+    requires ascend { IsTrue (ascend 0 (rows_of searched.now.all.now)) }
+    requires index { IsIndexFor (setting_by searched.now.program.now.bodies searched.now.program.now.tools searched.now.bench.now) searched.now.index.now (rows_of searched.now.all.now) }
+    ensures { IfOk result (λ found. found ≡ first (candidates_of (scene_of searched.now.program.now.bodies searched.now.program.now.tools searched.now.bench.now (rows_of searched.now.all.now) searched.now.marks) at (row_of living.now))) }
+{
+    for (index, ready) in living.ready.as_slice().iter().enumerate() {
+        match first_by(alloc, searched, at, living, index, &ready.action)? {
+            Some(found) => return Ok(Some(found)),
+            None => {}
+        }
+    }
+    Ok(None)
+}
+
+/// The place of the next process, from one place on and before another, that may begin anything.
+fn next_starter<W>(searched: &Searched<W>, from: usize, end: usize) -> Option<usize>
+    requires ascend { IsTrue (ascend 0 (rows_of searched.now.all.now)) }
+    requires index { IsIndexFor (setting_by searched.now.program.now.bodies searched.now.program.now.tools searched.now.bench.now) searched.now.index.now (rows_of searched.now.all.now) }
+    requires some { from < end }
+    requires within { end ≤ length searched.now.all.now }
+    ensures { IsNextOf (candidates_of (scene_of searched.now.program.now.bodies searched.now.program.now.tools searched.now.bench.now (rows_of searched.now.all.now) searched.now.marks)) (take end (rows_of searched.now.all.now)) from result }
+{
+    let asked = &searched.all[..end];
+    let found = searched.index.next_starter(asked[from].number);
+    place_of(asked, from, found)
+}
+
+/// What the processes from one place on and before another do first.
+fn first_between<W>(
+    alloc: Global,
+    searched: &Searched<W>,
+    start: usize,
+    end: usize,
+) -> Result<Option<Candidate>, NoMemory>
+    requires ascend { IsTrue (ascend 0 (rows_of searched.now.all.now)) }
+    requires index { IsIndexFor (setting_by searched.now.program.now.bodies searched.now.program.now.tools searched.now.bench.now) searched.now.index.now (rows_of searched.now.all.now) }
+    requires within { end ≤ length searched.now.all.now }
+    ensures { IfOk result (λ found. found ≡ first (candidates_from (scene_of searched.now.program.now.bodies searched.now.program.now.tools searched.now.bench.now (rows_of searched.now.all.now) searched.now.marks) start (drop start (take end (rows_of searched.now.all.now))))) }
+{
+    let mut at = start;
+    while at < end {
+        match next_starter(searched, at, end) {
+            Some(place) => match first_of(alloc, searched, place, &searched.all[place])? {
+                Some(found) => return Ok(Some(found)),
+                None => at = place + 1,
+            },
+            None => return Ok(None),
+        }
+    }
+    Ok(None)
+}
+
+/// How many processes have a number up to that of the last starter. Seldom has anybody left who stood before it.
+fn turn_start<W>(all: &[Living<W>], last: u32) -> usize
+    requires { IsTrue (ascend 0 (rows_of all.now)) }
+    ensures within { result ≤ length all.now }
+    ensures count { result ≡ up_to last (rows_of all.now) }
+{
+    let place = (last as usize).saturating_sub(1);
+    if place < all.len() && all[place].number == last {
+        return place + 1;
+    }
+    all.partition_point(|living| living.number <= last)
+}
+
+/// What the processes do first, asked in turn: those after the last starter, and then the others.
+pub(crate) fn first_in_turn<W>(
+    alloc: Global,
+    searched: &Searched<W>,
+) -> Result<Option<Candidate>, NoMemory>
+    requires ascend { IsTrue (ascend 0 (rows_of searched.now.all.now)) }
+    requires index { IsIndexFor (setting_by searched.now.program.now.bodies searched.now.program.now.tools searched.now.bench.now) searched.now.index.now (rows_of searched.now.all.now) }
+    ensures { IfOk result (λ found. found ≡ first (candidates_in_turn (scene_of searched.now.program.now.bodies searched.now.program.now.tools searched.now.bench.now (rows_of searched.now.all.now) searched.now.marks) searched.now.marks.last_starter)) }
+{
+    let start = turn_start(searched.all, searched.marks.last_starter);
+    match first_between(alloc, searched, start, searched.all.len())? {
+        Some(found) => Ok(Some(found)),
+        None => first_between(alloc, searched, 0, start),
+    }
+}
+
+/// What happens first where the processes can do nothing.
+fn halt_if(no_ticks: bool) -> Option<Candidate>
+    ensures { result ≡ first (candidates_or_halt no_ticks []) }
+{
+    if no_ticks {
+        Some(Candidate::Halt)
+    } else {
+        None
+    }
+}
+
+/// What may happen first, of all that may; None where nothing may, or the bus is down. Only those are asked whom
+/// the index names.
+pub fn first_candidate<W>(
+    alloc: Global,
+    program: &Program,
+    bench: &Bench,
+    all: &[Living<W>],
+    marks: Marks,
+    index: &Index,
+) -> Result<Option<Candidate>, NoMemory>
+    requires ascend { IsTrue (ascend 0 (rows_of all.now)) }
+    requires index { IsIndexFor (setting_by program.now.bodies program.now.tools bench.now) index.now (rows_of all.now) }
+    ensures found { IfOk result (λ found. found ≡ first (all_candidates (scene_of program.now.bodies program.now.tools bench.now (rows_of all.now) marks) marks)) }
+    ensures on_bus { IfOk result (λ found. (bus : Bus) → IsSearchedFor bus (scene_of program.now.bodies program.now.tools bench.now (rows_of all.now) marks) marks → option_map (move_of bus (rows_of all.now)) found ≡ first (moves bus)) }
+    ensures stands { IfOk result (λ found. IfSome found (IsCandidateIn (scene_of program.now.bodies program.now.tools bench.now (rows_of all.now) marks))) }
+{
+    if marks.down {
+        return Ok(None);
+    }
+    if all.is_empty() {
+        return Ok(Some(Candidate::Finish));
+    }
+    let searched = Searched {
+        program,
+        bench,
+        all,
+        marks,
+        index,
+    };
+    match first_in_turn(alloc, &searched)? {
+        Some(found) => Ok(Some(found)),
+        None => Ok(halt_if(marks.no_ticks)),
+    }
+}
