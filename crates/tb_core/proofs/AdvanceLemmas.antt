@@ -1,6 +1,6 @@
 -- A process that goes on among the others: it is put in its place, or taken away.
 use Rattle.std.proofs.Common.{◌≡◌, ℕ, ◌<◌, ◌≤◌, ◌==◌, ◌&&◌, zero, suc, List, [], ◌∷◌, ◌++◌, length, refl, ap, sym, subst, ◌∙◌, arith, Option, Some, None, Bool, true, false, Contains, slice_get, slice_set, remove, get_or, take, drop, nat_lt, if◌then◌else◌, eq-eqb, inr, map, option_map, unwrap_or}
-use Rattle.tb_core.proofs.RestLemmas.{rested-kept, rested-stale}
+use Rattle.tb_living.proofs.RestLemmas.{rested-kept, rested-stale}
 use Rattle.std.proofs.lemmas.Bool.{lt-ltb, eqb-true, false_from_ne_true}
 use Rattle.std.proofs.lemmas.Option.{slice_get-map, unwrap_or-slice_get}
 use Rattle.std.proofs.lemmas.List.Elements.{All-set, All-append, All-take, All-drop}
@@ -22,13 +22,14 @@ use Rattle.tb_search.specs.Candidates.{row_at, row_of, rows_of, no_row, ascend, 
 use Rattle.tb_search.specs.Views.{proc_at, no_proc}
 use Rattle.tb_search.specs.declared.living.Living.{Living}
 use Rattle.tb_search.proofs.TurnLemmas.{ascend-first}
-use Rattle.tb_core.specs.Helpers.Indexes.{IsRightFor, IsRested}
-use Rattle.tb_core.specs.Helpers.Lives.{IsBelow, IsLive, term_in, proc_by, proc_in, procs_of}
-use Rattle.tb_core.specs.Helpers.LiveBuses.{IsSound, IsFreshOr, IsAdvanced, AreAdvanced, Leaves, CanAdvance, bus_of, procs_in, settings_in}
+use Rattle.tb_living.specs.Indexes.{IsRightFor, IsRested}
+use Rattle.tb_living.specs.Lives.{IsBelow, IsLive, term_in, proc_by, proc_in, procs_of, IsFreshOr}
+use Rattle.tb_core.specs.Helpers.LiveBuses.{IsSound, IsAdvanced, AreAdvanced, Leaves, CanAdvance, bus_of, procs_in, settings_in}
 use Rattle.tb_core.specs.declared.bus.LiveBus.{LiveBus}
-use Rattle.tb_core.proofs.ReadLemmas.{LiveAt, above-there, all-there, live-at, proc-number, read-is}
+use Rattle.tb_core.proofs.ReadLemmas.{LiveAt, live-at}
+use Rattle.tb_living.proofs.ReadLemmas.{above-there, all-there, proc-number, read-is}
 use Rattle.tb_core.proofs.SetLemmas.{ascend-set, set-other}
-use Rattle.tb_core.proofs.IndexLemmas.{keeps-self, right-removed, right-set, stale-right, each-removed, keeps-cleared}
+use Rattle.tb_living.proofs.IndexLemmas.{keeps-self, right-removed, right-set, stale-right, each-removed, keeps-cleared}
 
 goes-by : (number : ℕ) (offered : Offered) (binds : List Bind) (proc : Proc) (rest : List Proc) (b : Bool) → b ≡ true →
     (if b then proc_left proc (with_binds offered.store binds) offered.residual else proc ∷ []) ++ rest ≡ proc_left proc (with_binds offered.store binds) offered.residual ++ rest

@@ -13,10 +13,11 @@ use Rattle.tb_bus.specs.declared.action.ToolAction.{ToolAction}
 use Rattle.tb_bus.specs.declared.exchange.Exchange.{Exchange}
 use Rattle.tb_search.specs.declared.candidate.Candidate.TheVariants as candidate
 use Rattle.tb_search.specs.Candidates.{row_at, rows_of}
-use Rattle.tb_core.specs.Helpers.Spoken.{around}
-use Rattle.tb_core.specs.Helpers.LiveBuses.{AreFresh, IsChanged, IsDone, IsKept, IsSound, Leaves, StandsAs, bus_of, procs_in, scene_in, settings_in}
-use Rattle.tb_core.proofs.RestLemmas.{rested-stirred}
-use Rattle.tb_core.specs.declared.acting.Done.{Done}
+use Rattle.tb_living.specs.Spoken.{around, IsDone}
+use Rattle.tb_living.specs.Lives.{AreFresh}
+use Rattle.tb_core.specs.Helpers.LiveBuses.{IsChanged, IsKept, IsSound, Leaves, StandsAs, bus_of, procs_in, scene_in, settings_in}
+use Rattle.tb_living.proofs.RestLemmas.{rested-stirred}
+use Rattle.tb_living.specs.declared.done.Done.{Done}
 use Rattle.tb_core.specs.declared.bus.LiveBus.{LiveBus}
 use Rattle.tb_core.proofs.MakeLemmas.{IsActed, acted-speak, kept-same, kept-within, speak-at}
 

@@ -1,6 +1,6 @@
 -- A process that is created stands behind all others.
 use Rattle.std.proofs.Common.{◌≡◌, ℕ, ◌+◌, ◌<◌, zero, suc, List, [], ◌∷◌, ◌++◌, length, refl, ap, sym, subst, ◌∙◌, arith, Some, true, slice_get, get_or, inl, inr, Contains}
-use Rattle.tb_core.proofs.RestLemmas.{rested-kept, rested-stale}
+use Rattle.tb_living.proofs.RestLemmas.{rested-kept, rested-stale}
 use Rattle.std.specs.Global.{Vec}
 use Rattle.std.specs.List.{All}
 use Rattle.std.proofs.lemmas.Bool.{lt-ltb}
@@ -14,12 +14,12 @@ use Rattle.tb_bus.specs.Effects.{creation}
 use Rattle.tb_search.specs.Candidates.{ascend, row_of, rows_of}
 use Rattle.tb_search.specs.declared.living.Living.{Living}
 use Rattle.tb_search.proofs.TurnLemmas.{ascend-first}
-use Rattle.tb_core.specs.Helpers.Indexes.{IsUnmarked, KeepsOf, IsRested}
-use Rattle.tb_core.specs.Helpers.Lives.{IsBelow, IsLive, proc_in, procs_of}
-use Rattle.tb_core.specs.Helpers.LiveBuses.{IsChanged, IsFreshOr, IsSound, bus_of, procs_in, settings_in}
+use Rattle.tb_living.specs.Indexes.{IsUnmarked, KeepsOf, IsRested}
+use Rattle.tb_living.specs.Lives.{IsBelow, IsLive, proc_in, procs_of, IsFreshOr}
+use Rattle.tb_core.specs.Helpers.LiveBuses.{IsChanged, IsSound, bus_of, procs_in, settings_in}
 use Rattle.tb_core.specs.declared.bus.LiveBus.{LiveBus}
-use Rattle.tb_core.proofs.ReadLemmas.{above-there, all-there, some-at}
-use Rattle.tb_core.proofs.IndexLemmas.{all-kept, right-pushed}
+use Rattle.tb_living.proofs.ReadLemmas.{above-there, all-there, some-at}
+use Rattle.tb_living.proofs.IndexLemmas.{all-kept, right-pushed}
 
 ascend-push : {W : Type 0} (below : ℕ) (all : List (Living W)) (living : Living W) → ascend below (rows_of all) ≡ true → All (IsBelow living.number) all → below < living.number → ascend below (rows_of (all ++ living ∷ [])) ≡ true
 ascend-push below [] living h k l = rw (lt-ltb below living.number l) refl

@@ -37,11 +37,12 @@ use Rattle.tb_bus.specs.declared.action.OwnAction.TheVariants as own
 use Rattle.tb_search.specs.declared.living.Ready.{Ready}
 use Rattle.tb_search.specs.declared.living.Living.{Living}
 use Rattle.tb_bus.proofs.ExchangeLemmas.{PatternsTake, SpeakTakes, patterns-take, about-some}
-use Rattle.tb_core.specs.Helpers.Lives.{term_in, proc_of}
-use Rattle.tb_core.specs.Helpers.LiveBuses.{AreFresh, procs_in}
+use Rattle.tb_living.specs.Lives.{term_in, proc_of, AreFresh}
+use Rattle.tb_core.specs.Helpers.LiveBuses.{procs_in}
 use Rattle.tb_core.specs.declared.bus.LiveBus.{LiveBus}
 use Rattle.tb_core.proofs.PlainLemmas.{patterns-plain}
-use Rattle.tb_core.proofs.ReadLemmas.{LiveAt, fresh-there, read-there}
+use Rattle.tb_core.proofs.ReadLemmas.{LiveAt}
+use Rattle.tb_living.proofs.ReadLemmas.{fresh-there, read-there}
 
 -- a process that hasn't ended offers what its term does
 offers-by : (term : Option Process) (store : List Slot) (ticks : ℕ) → is_end term ≡ false → offers_of (record { term = term; store = store; ticks = ticks }) ≡ offers (term_in term) store

@@ -1,16 +1,10 @@
-pub mod ActionLemmas
 pub mod AdvanceLemmas
 pub mod CreateLemmas
 pub mod FreshLemmas
 pub mod HoldLemmas
-pub mod IndexLemmas
 pub mod MakeLemmas
-pub mod NoteLemmas
-pub mod NumberLemmas
-pub mod OpenLemmas
 pub mod PlainLemmas
 pub mod ReadLemmas
-pub mod RestLemmas
 pub mod RowsLemmas
 pub mod SetLemmas
 pub mod TickLemmas
@@ -18,6 +12,5 @@ pub mod GoLemmas
 pub mod CoreLemmas
 pub mod ToolLemmas
 pub mod OutLemmas
-pub mod SpokenLemmas
 pub mod BenchLemmas
 pub mod FullLemmas

@@ -48,18 +48,20 @@ use Rattle.tb_log.specs.declared.entry.Label.{Label}
 use Rattle.tb_log.specs.declared.entry.LabelKind.{LabelKind}
 use Rattle.tb_log.specs.declared.entry.LabelKind.TheVariants as kind
 use Rattle.tb_log.specs.declared.entry.Place.{Place}
-use Rattle.tb_core.specs.Helpers.Lives.{proc_by, proc_in}
-use Rattle.tb_core.specs.Helpers.Holdings.{held_at}
+use Rattle.tb_living.specs.Lives.{proc_by, proc_in, AreFresh}
+use Rattle.tb_living.specs.Holdings.{held_at}
 use Rattle.tb_core.specs.Helpers.Makings.{effect_by, noting, shown_in, IsPlainIn}
-use Rattle.tb_core.specs.Helpers.LiveBuses.{AreFresh, IsSound, StandsAs, AreAdvanced, Leaves, CanAdvance, IsKept, IsDone, IsChanged, HasGone, bus_of, procs_in, move_in, scene_in}
-use Rattle.tb_core.specs.Helpers.Spoken.{CanSpeak, around}
-use Rattle.tb_core.specs.declared.acting.Done.{Done}
+use Rattle.tb_core.specs.Helpers.LiveBuses.{IsSound, StandsAs, AreAdvanced, Leaves, CanAdvance, IsKept, IsChanged, HasGone, bus_of, procs_in, move_in, scene_in}
+use Rattle.tb_living.specs.Spoken.{IsDone, CanSpeak, around}
+use Rattle.tb_living.specs.declared.done.Done.{Done}
 use Rattle.tb_core.specs.declared.bus.LiveBus.{LiveBus}
-use Rattle.tb_core.proofs.ReadLemmas.{body-there, live-there, map-there, some-at}
+use Rattle.tb_living.proofs.ReadLemmas.{body-there, map-there, some-at}
+use Rattle.tb_core.proofs.ReadLemmas.{live-there}
 use Rattle.tb_core.proofs.FreshLemmas.{ActionFits, OwnFits, action-at, fits-at}
-use Rattle.tb_core.proofs.HoldLemmas.{nothing-changed, row-held}
+use Rattle.tb_core.proofs.HoldLemmas.{nothing-changed}
+use Rattle.tb_living.proofs.HoldLemmas.{row-held}
 use Rattle.tb_core.proofs.RowsLemmas.{searched-for}
-use Rattle.tb_core.proofs.SpokenLemmas.{speaking-around}
+use Rattle.tb_living.proofs.SpokenLemmas.{speaking-around}
 
 -- the offer of one of the actions of a process
 pub record OfferIs {W P T : Type 0} (view : View P W T) (bus : LiveBus W P T) (at index : ℕ) : Type 0 where

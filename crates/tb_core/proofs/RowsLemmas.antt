@@ -7,10 +7,10 @@ use Rattle.tb_algebra.specs.WalkerViews.{View}
 use Rattle.tb_search.specs.Candidates.{readies, row_of, rows_of}
 use Rattle.tb_search.specs.Views.{AreRowsOf, IsRowOf, IsSearchedFor}
 use Rattle.tb_search.specs.declared.living.Living.{Living}
-use Rattle.tb_core.specs.Helpers.Lives.{IsLive, term_in, proc_by, proc_in, procs_of}
-use Rattle.tb_core.specs.Helpers.LiveBuses.{AreFresh, IsSound, bus_of, scene_in}
+use Rattle.tb_living.specs.Lives.{IsLive, term_in, proc_by, proc_in, procs_of, AreFresh}
+use Rattle.tb_core.specs.Helpers.LiveBuses.{IsSound, bus_of, scene_in}
 use Rattle.tb_core.specs.declared.bus.LiveBus.{LiveBus}
-use Rattle.tb_core.proofs.ReadLemmas.{plan-atoms}
+use Rattle.tb_living.proofs.ReadLemmas.{plan-atoms}
 use Rattle.tb_core.proofs.FreshLemmas.{offers-alive}
 
 row-of : {W P T : Type 0} (view : View P W T) (plans : List P) (bodies : List Body) (now : ℕ) (living : Living W) → map view.body_of plans ≡ bodies → IsLive view plans now living → living.fresh ≡ true → IsRowOf bodies now (row_of living) (proc_in view plans living)

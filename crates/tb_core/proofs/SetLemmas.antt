@@ -1,6 +1,6 @@
 -- One of the living is replaced by another that stands for the same process.
 use Rattle.std.proofs.Common.{◌≡◌, ◌+◌, drop, drop-cons, add-one, ◌<◌, ◌≢◌, ◌&&◌, ℕ, zero, suc, List, [], ◌∷◌, length, map, refl, ap, sym, subst, ◌∙◌, Some, nat_lt, slice_get, slice_set, get_or, Contains, false, inl, inr, Bool}
-use Rattle.tb_core.proofs.RestLemmas.{rested-kept, rested-one}
+use Rattle.tb_living.proofs.RestLemmas.{rested-kept, rested-one}
 use Rattle.std.specs.Global.{Vec}
 use Rattle.std.specs.List.{All}
 use Rattle.std.proofs.Math.Seq.{map-set_same}
@@ -12,12 +12,13 @@ use Rattle.tb_index.specs.declared.mark.Marks.{Marks as KeptMarks}
 use Rattle.tb_bus.specs.Buses.{Bus, Proc}
 use Rattle.tb_search.specs.Candidates.{ascend, rows_of}
 use Rattle.tb_search.specs.declared.living.Living.{Living}
-use Rattle.tb_core.specs.Helpers.Indexes.{IsRightForAll, IsRightFor, KeepsOf, IsRested}
-use Rattle.tb_core.specs.Helpers.Lives.{IsBelow, IsFreshFor, IsLive, IsLiveOn, proc_by, proc_in}
-use Rattle.tb_core.specs.Helpers.LiveBuses.{IsFreshOr, IsSound, StandsAs, bus_of, procs_in, AreSettled, IsKept, settings_in}
+use Rattle.tb_living.specs.Indexes.{IsRightForAll, IsRightFor, KeepsOf, IsRested}
+use Rattle.tb_living.specs.Lives.{IsBelow, IsFreshFor, IsLive, IsLiveOn, proc_by, proc_in, IsFreshOr}
+use Rattle.tb_core.specs.Helpers.LiveBuses.{IsSound, StandsAs, bus_of, procs_in, AreSettled, IsKept, settings_in}
 use Rattle.tb_core.specs.declared.bus.LiveBus.{LiveBus}
-use Rattle.tb_core.proofs.ReadLemmas.{LiveAt, all-there}
-use Rattle.tb_core.proofs.IndexLemmas.{all-kept, right-set, all-turned, each-set, keeps-turned}
+use Rattle.tb_core.proofs.ReadLemmas.{LiveAt}
+use Rattle.tb_living.proofs.ReadLemmas.{all-there}
+use Rattle.tb_living.proofs.IndexLemmas.{all-kept, right-set, all-turned, each-set, keeps-turned}
 
 -- what was set at an index stands there
 pub set-there : {A : Type 0} (xs : List A) (at : ℕ) (x y : A) → slice_get xs at ≡ Some x → slice_get (slice_set xs at y) at ≡ Some y

@@ -4,19 +4,12 @@ ghost use Rattle.tb_bus.specs.Steps.{finish_reason, halt_reason, nowhere};
 ghost use Rattle.tb_core.specs.Helpers.LiveBuses.{CanLog, IsLogged};
 
 use std::alloc::Global;
+use tb_living::Done;
 use tb_log::{Entry, Label, LabelKind, Log, Place};
-use tb_match::{Bind, Binds};
-use tb_terms::{Items, Name, NoMemory, Term, Terms};
+use tb_match::Bind;
+use tb_terms::{Items, Name, NoMemory, Term};
 
 pub const NOWHERE: Place = Place { proc: 0, atom: 0 };
-
-/// What was done: what is seen of it, and what its process binds.
-#[derive(Drop)]
-pub struct Done {
-    pub kind: LabelKind,
-    pub shown: Terms,
-    pub binds: Binds,
-}
 
 /// What was done, where no term is seen and nothing is bound.
 pub fn kind_alone(alloc: Global, kind: LabelKind) -> Done

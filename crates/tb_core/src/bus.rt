@@ -5,20 +5,19 @@ ghost use Rattle.tb_search.specs.Views.{sent_in};
 ghost use Rattle.tb_core.specs.Helpers.Makings.{effect_by, shown_in};
 
 use crate::acting::{
-    Done, NOWHERE, created, end_label, finish_reason, halt_reason, kind_alone, printed, put_label,
+    NOWHERE, created, end_label, finish_reason, halt_reason, kind_alone, printed, put_label,
     shut_down,
 };
-use crate::inboxes::{hand_out, subscribe_at, take_note_at, unsubscribe_at};
-use crate::indexing::{TOOL_MARK, index_of, no_marks, turn, update};
-use crate::looking::{go_on, look, point_of};
-use crate::opening::{numbers_of, open_all, open_at, plan_all};
-use crate::speaking::{is_declared, seen_size, speak};
-use crate::ticking::tick_all;
 use std::alloc::Global;
 use std::mem::swap;
 use tb_algebra::Walker;
 use tb_bus::{Action, Exchange, Origin, OwnAction};
 use tb_index::{Index, Marks as KeptMarks};
+use tb_living::{
+    Done, TOOL_MARK, go_on, hand_out, index_of, is_declared, look, no_marks, numbers_of, open_all,
+    open_at, plan_all, point_of, seen_size, speak, subscribe_at, take_note_at, tick_all, turn,
+    unsubscribe_at, update,
+};
 use tb_log::{Input, Label, LabelKind, Log, Place, Reply, ToolLine, Why, total_size};
 use tb_match::Binds;
 use tb_notes::Found;
@@ -81,10 +80,12 @@ impl<W: Walker> LiveBus<W> {
     ghost use Rattle.tb_search.specs.Views.{ready_at, offer_of, proc_at, sent_in, IsCandidateIn};
     ghost use Rattle.tb_index.specs.Indexes.{is_awake, is_receiver};
     ghost use Rattle.tb_search.specs.Indexed.{IsNextPlace};
-    ghost use Rattle.tb_core.specs.Helpers.Indexes.{AreStillAwake, IsAwakeAt, tool_mark};
+    ghost use Rattle.tb_living.specs.Indexes.{AreStillAwake, IsAwakeAt, tool_mark};
     ghost use Rattle.tb_core.specs.Cores.{takes_memory};
     ghost use Rattle.tb_core.specs.Helpers.Makings.{effect_by, IsPlainIn};
-    ghost use Rattle.tb_core.specs.Helpers.LiveBuses.{bus_of, procs_in, scene_in, move_in, AreFresh, AreSettled, IsFreshOr, IsSettledAt, IsSound, IsStaleAt, IsSetAt, StandsAs, Leaves, CanAdvance, IsAdvanced, AreAdvanced, IsKept, IsDone, IsChanged, HasGone, IsMade, CanLog, IsLogged};
+    ghost use Rattle.tb_core.specs.Helpers.LiveBuses.{bus_of, procs_in, scene_in, move_in, AreSettled, IsSettledAt, IsSound, IsStaleAt, IsSetAt, StandsAs, Leaves, CanAdvance, IsAdvanced, AreAdvanced, IsKept, IsChanged, HasGone, IsMade, CanLog, IsLogged};
+    ghost use Rattle.tb_living.specs.Lives.{AreFresh, IsFreshOr};
+    ghost use Rattle.tb_living.specs.Spoken.{IsDone};
 
     /// The bus that a program opens with. Its processes are looked at later.
     pub fn open(alloc: Global, origin: Origin) -> Result<LiveBus<W>, NoMemory>

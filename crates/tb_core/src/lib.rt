@@ -4,14 +4,8 @@
 mod acting;
 mod answers;
 mod bus;
-mod inboxes;
-mod indexing;
 mod laws;
-mod looking;
 mod machine;
-mod opening;
-mod speaking;
-mod ticking;
 
 pub use answers::{CoreFault, Stepped, TakeOut};
 pub use laws::a_full_log_is_at_its_limit;

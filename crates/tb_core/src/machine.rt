@@ -10,7 +10,8 @@ ghost use Rattle.tb_bus.specs.Traces.{IsTrace, fed, taken_out};
 ghost use Rattle.tb_bus.specs.Steps.{steps, apply, label_of};
 ghost use Rattle.tb_search.specs.Views.{IsCandidateIn};
 ghost use Rattle.tb_core.specs.Cores.{most_entries, HandIn, MakeStep, HandOut, IsTakenOut, started, bus_now, Logs, entries_of, is_full, IsStep, Stays, has_any, ends_quiet, takes_memory};
-ghost use Rattle.tb_core.specs.Helpers.LiveBuses.{bus_of, move_in, scene_in, AreFresh, IsSound, StandsAs};
+ghost use Rattle.tb_core.specs.Helpers.LiveBuses.{bus_of, move_in, scene_in, IsSound, StandsAs};
+ghost use Rattle.tb_living.specs.Lives.{AreFresh};
 
 use crate::answers::{CoreFault, Stepped, TakeOut};
 use crate::bus::LiveBus;

@@ -1,5 +1,5 @@
 -- The bus for which the fields of a core stand, and when they stand for what contracts see of it.
-use Rattle.std.specs.Prelude.{◌≡◌, ◌≢◌, ◌≤◌, ◌+◌, ◌⊎◌, ℕ, List, [], map, length, true, false, IsTrue, Some, slice_get, slice_set, Contains, ◌<◌, ◌++◌, ◌∷◌}
+use Rattle.std.specs.Prelude.{◌≡◌, ◌≢◌, ◌≤◌, ◌+◌, ℕ, List, [], map, length, true, false, IsTrue, Some, slice_get, slice_set, Contains, ◌<◌, ◌++◌, ◌∷◌}
 use Rattle.std.specs.List.{All}
 use Rattle.tb_match.specs.declared.bind.Bind.{Bind}
 use Rattle.tb_algebra.specs.Binds.{takes_binds}
@@ -21,9 +21,8 @@ use Rattle.tb_search.specs.Candidates.{Scene, ascend, row_at, rows_of, scene_of}
 use Rattle.tb_search.specs.declared.living.Living.{Living}
 use Rattle.tb_search.specs.declared.candidate.Candidate.{Candidate}
 use Rattle.tb_core.specs.Cores.{most_entries}
-use Rattle.tb_core.specs.Helpers.Indexes.{IsRested, IsRightForAll, KeepsOf}
-use Rattle.tb_core.specs.Helpers.Lives.{IsBelow, IsLive, procs_of}
-use Rattle.tb_core.specs.declared.acting.Done.{Done}
+use Rattle.tb_living.specs.Indexes.{IsRested, IsRightForAll, KeepsOf}
+use Rattle.tb_living.specs.Lives.{IsBelow, IsFreshOr, IsLive, procs_of}
 use Rattle.tb_core.specs.declared.bus.LiveBus.{LiveBus}
 
 -- the processes of the fields
@@ -49,14 +48,6 @@ scene_in bus = scene_of bus.origin.program.bodies bus.origin.program.tools bus.b
 -- the move that a candidate is
 abbrev pub move_in : {W P T : Type 0} → View P W T → LiveBus W P T → Candidate → Move
 move_in view bus candidate = move_of (bus_of view bus) (rows_of bus.living.items) candidate
-
--- all that is ready is what the processes are ready to do now
-abbrev pub AreFresh : {W : Type 0} → List (Living W) → Type 0
-AreFresh all = All (λ living. living.fresh ≡ true) all
-
--- what one is ready to do is fresh, or its number stands among these
-abbrev pub IsFreshOr : {W : Type 0} → List ℕ → Living W → Type 0
-IsFreshOr stale living = (living.fresh ≡ true) ⊎ Contains stale living.number
 
 -- where a process of each body speaks with tools
 abbrev pub settings_in : {W P T : Type 0} → LiveBus W P T → ℕ → Setting
@@ -138,10 +129,6 @@ pub record IsKept {W : Type 0} (old new : List (Living W)) (at : ℕ) : Type 0 w
   pub number : after.number ≡ before.number
   pub body : after.body ≡ before.body
   pub walker : after.walker ≡ before.walker
-
--- what is seen and bound of an effect
-abbrev pub IsDone : Effect → Done → Type 0
-IsDone effect done = (done.kind ≡ effect.kind) × (done.shown ≡ effect.shown) × (done.binds ≡ effect.binds)
 
 -- The change of an effect was made for the process at an index, which itself hasn't gone on yet.
 pub record IsChanged {W P T : Type 0} (view : View P W T) (old : LiveBus W P T) (at : ℕ) (effect : Effect) (new : LiveBus W P T) : Type 0 where

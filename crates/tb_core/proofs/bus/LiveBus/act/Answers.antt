@@ -4,10 +4,11 @@ use Rattle.tb_notes.specs.Inboxes.{Held, subscribed, unsubscribed}
 use Rattle.tb_bus.specs.Effects.{changed, went_down}
 use Rattle.tb_core.specs.Helpers.LiveBuses.{bus_of}
 use Rattle.tb_core.specs.Helpers.Makings.{effect_by}
-use Rattle.tb_core.specs.declared.acting.Done.{Done}
+use Rattle.tb_living.specs.declared.done.Done.{Done}
 use Rattle.tb_core.proofs.BenchLemmas.{down-changed}
-use Rattle.tb_core.proofs.ReadLemmas.{on-err, on-ok, some-at}
-use Rattle.tb_core.proofs.HoldLemmas.{held-changed, held-there, nothing-changed, stands-held}
+use Rattle.tb_living.proofs.ReadLemmas.{on-err, on-ok, some-at}
+use Rattle.tb_core.proofs.HoldLemmas.{held-changed, nothing-changed, stands-held}
+use Rattle.tb_living.proofs.HoldLemmas.{held-there}
 use Rattle.tb_core.proofs.bus.LiveBus.act.Goals as goal
 
 pub returns-in-Tau-clause-changed : goal.returns-in-Tau-clause-changed

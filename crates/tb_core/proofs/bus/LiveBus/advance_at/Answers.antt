@@ -3,9 +3,9 @@ use Rattle.std.specs.Vec.{with_item}
 use Rattle.tb_search.specs.Views.{proc_at}
 use Rattle.tb_core.specs.Helpers.LiveBuses.{procs_in}
 use Rattle.tb_core.proofs.AdvanceLemmas.{Went, read-at, leaves-there, advanced-set, advanced-removed, set-before, gone-before, sorts-once}
-use Rattle.tb_core.specs.Helpers.Indexes.{IsRightFor}
-use Rattle.tb_core.proofs.ReadLemmas.{all-there, read-there}
-use Rattle.tb_core.proofs.IndexLemmas.{stale-right}
+use Rattle.tb_living.specs.Indexes.{IsRightFor}
+use Rattle.tb_living.proofs.ReadLemmas.{all-there, read-there}
+use Rattle.tb_living.proofs.IndexLemmas.{stale-right}
 use Rattle.tb_core.proofs.bus.LiveBus.advance_at.Given.{Over}
 use Rattle.tb_core.proofs.bus.LiveBus.advance_at.Goals.{After-go_on}
 use Rattle.tb_core.proofs.bus.LiveBus.advance_at.Goals as goal

@@ -1,9 +1,9 @@
 use Rattle.std.proofs.Common.{◌∙◌, ◌++◌, ◌∷◌, [], ap, refl, slice_get}
 use Rattle.tb_bus.specs.Buses.{opened_one}
-use Rattle.tb_core.proofs.ReadLemmas.{on-err}
+use Rattle.tb_living.proofs.ReadLemmas.{on-err}
 use Rattle.tb_core.proofs.SetLemmas.{stands-moved}
 use Rattle.tb_core.proofs.CreateLemmas.{created-changed}
-use Rattle.tb_core.proofs.IndexLemmas.{keeps-same, keeps-self}
+use Rattle.tb_living.proofs.IndexLemmas.{keeps-same, keeps-self}
 use Rattle.tb_core.proofs.bus.LiveBus.create.Goals as goal
 
 pub returns-in_err-reserve-clause-err : goal.returns-in_err-reserve-clause-err

@@ -7,7 +7,7 @@ use Rattle.tb_search.specs.Views.{IsCandidateIn, IsSearchedFor, move_of}
 use Rattle.tb_search.specs.declared.living.Living.{Living}
 use Rattle.tb_core.specs.Helpers.LiveBuses.{bus_of, settings_in}
 use Rattle.tb_core.proofs.RowsLemmas.{searched-for}
-use Rattle.tb_core.proofs.RestLemmas.{right-rows}
+use Rattle.tb_living.proofs.RestLemmas.{right-rows}
 use Rattle.tb_core.proofs.bus.LiveBus.first_candidate.Goals as goal
 
 pub first_candidate-requires-clause-index : goal.first_candidate-requires-clause-index

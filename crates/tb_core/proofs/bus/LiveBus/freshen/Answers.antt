@@ -1,4 +1,4 @@
-use Rattle.tb_core.proofs.ReadLemmas.{on-ok}
+use Rattle.tb_living.proofs.ReadLemmas.{on-ok}
 use Rattle.tb_core.proofs.SetLemmas.{stands-then}
 use Rattle.tb_core.proofs.bus.LiveBus.freshen.Goals as goal
 

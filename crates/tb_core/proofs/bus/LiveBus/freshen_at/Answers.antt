@@ -2,12 +2,13 @@ use Rattle.std.proofs.Common.{◌≡◌, true, false, arith, rules, refl, sym, s
 use Rattle.std.specs.Vec.{with_item}
 use Rattle.tb_bus.specs.Buses.{Proc}
 use Rattle.tb_search.specs.declared.living.Living.{Living}
-use Rattle.tb_core.specs.Helpers.Indexes.{IsRested, IsRightFor}
-use Rattle.tb_core.specs.Helpers.Lives.{IsLiveOn, proc_by}
-use Rattle.tb_core.specs.Helpers.LiveBuses.{IsFreshOr, settings_in}
-use Rattle.tb_core.proofs.ReadLemmas.{live-at, all-there, read-there, plan-within, body-within, read-is, body-is}
-use Rattle.tb_core.proofs.IndexLemmas.{keeps-self, stale-right}
-use Rattle.tb_core.proofs.RestLemmas.{rested-stale}
+use Rattle.tb_living.specs.Indexes.{IsRested, IsRightFor}
+use Rattle.tb_living.specs.Lives.{IsLiveOn, proc_by, IsFreshOr}
+use Rattle.tb_core.specs.Helpers.LiveBuses.{settings_in}
+use Rattle.tb_core.proofs.ReadLemmas.{live-at}
+use Rattle.tb_living.proofs.ReadLemmas.{all-there, read-there, plan-within, body-within, read-is, body-is}
+use Rattle.tb_living.proofs.IndexLemmas.{keeps-self, stale-right}
+use Rattle.tb_living.proofs.RestLemmas.{rested-stale}
 use Rattle.tb_core.proofs.SetLemmas.{in-place, named-as, updated-live, stands-set}
 use Rattle.tb_core.proofs.bus.LiveBus.freshen_at.Given.{Over}
 use Rattle.tb_core.proofs.bus.LiveBus.freshen_at.Goals.{After-look}

@@ -1,6 +1,6 @@
 use Rattle.std.proofs.Common.{◌<◌, ◌+◌, ℕ, List, arith, length, drop, ap, sym, subst, ◌∙◌}
 use Rattle.std.specs.List.{All}
-use Rattle.tb_core.specs.Helpers.LiveBuses.{IsFreshOr}
+use Rattle.tb_living.specs.Lives.{IsFreshOr}
 use Rattle.tb_core.proofs.SetLemmas.{stands-then, named-from}
 use Rattle.tb_core.proofs.bus.LiveBus.freshen_noted.Goals as goal
 

@@ -1,6 +1,7 @@
 use Rattle.std.proofs.Common.{◌≡◌, drop, length}
 use Rattle.std.specs.List.{All}
-use Rattle.tb_core.specs.Helpers.LiveBuses.{IsFreshOr, StandsAs}
+use Rattle.tb_living.specs.Lives.{IsFreshOr}
+use Rattle.tb_core.specs.Helpers.LiveBuses.{StandsAs}
 use Rattle.tb_core.proofs.bus.LiveBus.freshen_noted.Given as goal
 
 abbrev pub invariant-loop-index : goal.invariant-loop-index

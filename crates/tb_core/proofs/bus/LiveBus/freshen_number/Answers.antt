@@ -1,6 +1,6 @@
 use Rattle.std.proofs.Common.{◌≤◌, arith, length, subst}
-use Rattle.tb_core.specs.Helpers.Lives.{IsWhere}
-use Rattle.tb_core.proofs.NumberLemmas.{fresh-set, fresh-past}
+use Rattle.tb_living.specs.Lives.{IsWhere}
+use Rattle.tb_living.proofs.NumberLemmas.{fresh-set, fresh-past}
 use Rattle.tb_core.proofs.bus.LiveBus.freshen_number.Goals as goal
 
 pub returns-in_ok-freshen_at-clause-fresh : goal.returns-in_ok-freshen_at-clause-fresh

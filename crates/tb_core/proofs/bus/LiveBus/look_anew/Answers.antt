@@ -1,5 +1,6 @@
 use Rattle.std.proofs.Common.{subst, sym}
-use Rattle.tb_core.specs.Helpers.LiveBuses.{AreFresh, StandsAs}
+use Rattle.tb_living.specs.Lives.{AreFresh}
+use Rattle.tb_core.specs.Helpers.LiveBuses.{StandsAs}
 use Rattle.tb_core.specs.declared.bus.LiveBus.{LiveBus}
 use Rattle.tb_core.proofs.TickLemmas.{none-stale}
 use Rattle.tb_core.proofs.bus.LiveBus.look_anew.Goals.{then-self+in_ok-freshen_all, else-self+in_ok-freshen_noted}

@@ -4,7 +4,7 @@ use Rattle.tb_bus.specs.Effects.{speaking}
 use Rattle.tb_search.specs.Views.{offer_of, ready_at}
 use Rattle.tb_bus.specs.declared.action.Action.TheVariants as action
 use Rattle.tb_core.specs.Helpers.LiveBuses.{procs_in}
-use Rattle.tb_core.specs.Helpers.Spoken.{around}
+use Rattle.tb_living.specs.Spoken.{around}
 use Rattle.tb_core.proofs.BenchLemmas.{acted-exchange, done-exchange}
 use Rattle.tb_core.proofs.MakeLemmas.{acted-named, acted-leaves, acted-advance, acted-made, acted-origin, acted-label}
 use Rattle.tb_core.proofs.bus.LiveBus.make_exchange.Goals as goal

@@ -6,14 +6,14 @@ use Rattle.tb_bus.specs.declared.action.Action.TheVariants as action
 use Rattle.tb_log.specs.declared.entry.LabelKind.TheVariants as kind
 use Rattle.tb_core.specs.Helpers.LiveBuses.{procs_in}
 use Rattle.tb_core.specs.Helpers.Makings.{noting}
-use Rattle.tb_core.specs.Helpers.Holdings.{HoldTheSame}
+use Rattle.tb_living.specs.Holdings.{HoldTheSame}
 use Rattle.tb_core.proofs.HoldLemmas.{helds-same, noted-changed, stands-held}
-use Rattle.tb_core.proofs.ReadLemmas.{some-at, on-err}
-use Rattle.tb_core.proofs.NoteLemmas.{all_take-same, wanting-same, wanting-within}
-use Rattle.tb_core.specs.Helpers.Indexes.{IsAwakeAt}
+use Rattle.tb_living.proofs.ReadLemmas.{some-at, on-err}
+use Rattle.tb_living.proofs.NoteLemmas.{all_take-same, wanting-same, wanting-within}
+use Rattle.tb_living.specs.Indexes.{IsAwakeAt}
 use Rattle.tb_core.specs.declared.bus.LiveBus.{LiveBus}
 use Rattle.tb_search.specs.declared.living.Living.{Living}
-use Rattle.tb_core.proofs.RestLemmas.{wanting-awake}
+use Rattle.tb_living.proofs.RestLemmas.{wanting-awake}
 use Rattle.tb_core.proofs.SetLemmas.{roused-kept, roused-named, stands-then}
 use Rattle.tb_core.proofs.MakeLemmas.{acted-note, acted-within, acted-named, acted-leaves, acted-advance, acted-made, acted-origin, acted-label, kept-within}
 use Rattle.tb_core.proofs.bus.LiveBus.make_note.Goals as goal

@@ -5,9 +5,10 @@ use Rattle.tb_log.specs.declared.entry.LabelKind.TheVariants as kind
 use Rattle.tb_bus.specs.Effects.{note_at, taking}
 use Rattle.tb_notes.specs.Inboxes.{Held, without_note}
 use Rattle.tb_core.specs.Helpers.LiveBuses.{procs_in}
-use Rattle.tb_core.specs.Helpers.Holdings.{held_at}
-use Rattle.tb_core.proofs.HoldLemmas.{held-changed, held-same, row-held}
-use Rattle.tb_core.proofs.ReadLemmas.{some-at}
+use Rattle.tb_living.specs.Holdings.{held_at}
+use Rattle.tb_core.proofs.HoldLemmas.{held-changed, held-same}
+use Rattle.tb_living.proofs.HoldLemmas.{row-held}
+use Rattle.tb_living.proofs.ReadLemmas.{some-at}
 use Rattle.tb_core.proofs.MakeLemmas.{acted-taking, acted-within, acted-named, acted-leaves, acted-advance, acted-made, acted-origin, acted-label, found-in_row, kept-within, note-there}
 use Rattle.tb_core.proofs.bus.LiveBus.make_taking.Goals as goal
 

@@ -6,7 +6,7 @@ use Rattle.tb_bus.specs.Steps.{label_of}
 use Rattle.tb_search.specs.declared.candidate.Candidate.TheVariants.{Own}
 use Rattle.tb_core.specs.Helpers.LiveBuses.{CanLog, IsLogged, move_in, procs_in}
 use Rattle.tb_core.specs.Helpers.Makings.{effect_by}
-use Rattle.tb_core.specs.declared.acting.Done.{Done}
+use Rattle.tb_living.specs.declared.done.Done.{Done}
 use Rattle.tb_core.proofs.MakeLemmas.{acted-tau, acted-within, acted-named, acted-leaves, acted-advance, acted-made, acted-origin, acted-label}
 use Rattle.tb_core.proofs.bus.LiveBus.make_tau.Given.{Over}
 use Rattle.tb_core.proofs.bus.LiveBus.make_tau.Goals.{After-finish-label}

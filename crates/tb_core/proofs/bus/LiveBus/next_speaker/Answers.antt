@@ -3,7 +3,7 @@ use Rattle.tb_index.specs.Indexes.{is_receiver}
 use Rattle.tb_index.specs.Pairs.{IsNext}
 use Rattle.tb_search.specs.Candidates.{Row, row_at, rows_of}
 use Rattle.tb_search.specs.Indexed.{IsNextPlace}
-use Rattle.tb_core.specs.Helpers.Indexes.{tool_mark}
+use Rattle.tb_living.specs.Indexes.{tool_mark}
 use Rattle.tb_search.specs.declared.living.Living.{Living}
 use Rattle.tb_search.proofs.PlaceLemmas.{row-is}
 use Rattle.tb_core.proofs.bus.LiveBus.next_speaker.Goals as goal

@@ -1,13 +1,12 @@
-use Rattle.std.proofs.Common.{◌∙◌, ◌+◌, arith, subst, sym}
+use Rattle.std.proofs.Common.{◌∙◌, ◌+◌, arith, subst, sym, false}
 use Rattle.std.specs.List.{All}
-use Rattle.tb_core.specs.Helpers.Lives.{IsBelow}
-use Rattle.tb_core.proofs.OpenLemmas.{all-named, few-roots}
-use Rattle.std.proofs.Common.{false}
+use Rattle.tb_living.specs.Lives.{IsBelow}
+use Rattle.tb_living.proofs.OpenLemmas.{all-named, few-roots}
 use Rattle.std.proofs.lemmas.List.Elements.{All-weaker}
 use Rattle.tb_bus.specs.Exchanges.{setting_by}
-use Rattle.tb_core.specs.Helpers.Indexes.{IsRested, IsUnmarked}
-use Rattle.tb_core.proofs.IndexLemmas.{right-opened}
-use Rattle.tb_core.proofs.RestLemmas.{rested-stale}
+use Rattle.tb_living.specs.Indexes.{IsRested, IsUnmarked}
+use Rattle.tb_living.proofs.IndexLemmas.{right-opened}
+use Rattle.tb_living.proofs.RestLemmas.{rested-stale}
 use Rattle.tb_core.proofs.bus.LiveBus.open.Goals as goal
 
 pub returns-clause-sound : goal.returns-clause-sound

@@ -1,8 +1,8 @@
 use Rattle.std.proofs.Common.{◌∙◌, ◌<◌, List, arith, ap, get_or, length, subst, sym}
 use Rattle.tb_search.specs.declared.living.Living.{Living}
-use Rattle.tb_core.specs.Helpers.Indexes.{IsAwakeAt}
+use Rattle.tb_living.specs.Indexes.{IsAwakeAt}
 use Rattle.tb_core.specs.declared.bus.LiveBus.{LiveBus}
-use Rattle.tb_core.proofs.RestLemmas.{awake-all, awake-more}
+use Rattle.tb_living.proofs.RestLemmas.{awake-all, awake-more}
 use Rattle.tb_core.proofs.SetLemmas.{stands-then}
 use Rattle.tb_core.proofs.bus.LiveBus.rouse.Goals as goal
 

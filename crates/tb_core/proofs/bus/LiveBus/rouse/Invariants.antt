@@ -1,6 +1,6 @@
 use Rattle.std.proofs.Common.{◌≡◌, take}
 use Rattle.std.specs.List.{All}
-use Rattle.tb_core.specs.Helpers.Indexes.{IsAwakeAt}
+use Rattle.tb_living.specs.Indexes.{IsAwakeAt}
 use Rattle.tb_core.specs.Helpers.LiveBuses.{StandsAs}
 use Rattle.tb_core.proofs.bus.LiveBus.rouse.Given as goal
 

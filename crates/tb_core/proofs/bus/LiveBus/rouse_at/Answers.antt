@@ -2,10 +2,10 @@ use Rattle.std.proofs.Common.{◌∙◌, ap, true}
 use Rattle.tb_index.specs.Indexes.{is_awake}
 use Rattle.tb_search.specs.Candidates.{Row}
 use Rattle.tb_search.proofs.PlaceLemmas.{row-is}
-use Rattle.tb_core.specs.Helpers.Indexes.{IsRightFor}
+use Rattle.tb_living.specs.Indexes.{IsRightFor}
 use Rattle.tb_core.specs.Helpers.LiveBuses.{settings_in}
-use Rattle.tb_core.proofs.ReadLemmas.{all-there, read-there}
-use Rattle.tb_core.proofs.RestLemmas.{rested-awake, turned-awake}
+use Rattle.tb_living.proofs.ReadLemmas.{all-there, read-there}
+use Rattle.tb_living.proofs.RestLemmas.{rested-awake, turned-awake}
 use Rattle.tb_core.proofs.SetLemmas.{stands-turned}
 use Rattle.tb_core.proofs.bus.LiveBus.rouse_at.Goals as goal
 

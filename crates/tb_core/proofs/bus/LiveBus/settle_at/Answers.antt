@@ -1,9 +1,9 @@
 use Rattle.std.proofs.Common.{false, not}
-use Rattle.tb_core.specs.Helpers.Indexes.{IsRightFor}
+use Rattle.tb_living.specs.Indexes.{IsRightFor}
 use Rattle.tb_core.specs.Helpers.LiveBuses.{settings_in}
-use Rattle.tb_core.proofs.IndexLemmas.{keeps-self, keeps-turned}
-use Rattle.tb_core.proofs.ReadLemmas.{all-there, read-there}
-use Rattle.tb_core.proofs.RestLemmas.{rested-stale, rested-turned}
+use Rattle.tb_living.proofs.IndexLemmas.{keeps-self, keeps-turned}
+use Rattle.tb_living.proofs.ReadLemmas.{all-there, read-there}
+use Rattle.tb_living.proofs.RestLemmas.{rested-stale, rested-turned}
 use Rattle.tb_core.proofs.SetLemmas.{stands-turned}
 use Rattle.tb_core.proofs.bus.LiveBus.settle_at.Goals as goal
 

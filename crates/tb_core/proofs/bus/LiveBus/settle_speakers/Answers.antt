@@ -2,10 +2,10 @@ use Rattle.std.proofs.Common.{◌+◌, subst, sym}
 use Rattle.tb_index.specs.Indexes.{is_receiver}
 use Rattle.tb_search.specs.Candidates.{rows_of}
 use Rattle.tb_search.specs.Indexed.{IsNextPlace}
-use Rattle.tb_core.specs.Helpers.Indexes.{tool_mark}
+use Rattle.tb_living.specs.Indexes.{tool_mark}
 use Rattle.tb_core.specs.Helpers.LiveBuses.{settings_in}
 use Rattle.tb_core.specs.declared.bus.LiveBus.{LiveBus}
-use Rattle.tb_core.proofs.RestLemmas.{AreSettledBelow, settled-all, settled-more}
+use Rattle.tb_living.proofs.RestLemmas.{AreSettledBelow, settled-all, settled-more}
 use Rattle.tb_core.proofs.SetLemmas.{stands-then}
 use Rattle.tb_core.proofs.bus.LiveBus.settle_speakers.Goals as goal
 

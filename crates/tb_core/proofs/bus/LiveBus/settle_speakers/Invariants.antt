@@ -1,6 +1,6 @@
 use Rattle.std.proofs.Common.{◌-◌, length}
 use Rattle.tb_core.specs.Helpers.LiveBuses.{StandsAs, settings_in}
-use Rattle.tb_core.proofs.RestLemmas.{AreSettledBelow}
+use Rattle.tb_living.proofs.RestLemmas.{AreSettledBelow}
 use Rattle.tb_core.proofs.bus.LiveBus.settle_speakers.Given as goal
 
 abbrev pub decreases-loop-at : goal.decreases-loop-at

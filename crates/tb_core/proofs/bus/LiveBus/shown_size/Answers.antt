@@ -10,9 +10,9 @@ use Rattle.tb_search.specs.declared.living.Ready.{Ready}
 use Rattle.tb_bus.specs.Steps.{label_of}
 use Rattle.tb_core.specs.Helpers.LiveBuses.{move_in, scene_in}
 use Rattle.tb_core.specs.Helpers.Makings.{shown_in}
-use Rattle.tb_core.proofs.ReadLemmas.{map-there, read-there}
+use Rattle.tb_living.proofs.ReadLemmas.{map-there, read-there}
 use Rattle.tb_core.proofs.FreshLemmas.{ready-read}
-use Rattle.tb_core.proofs.HoldLemmas.{held-there}
+use Rattle.tb_living.proofs.HoldLemmas.{held-there}
 use Rattle.tb_core.proofs.MakeLemmas.{found-in_row, note-there, shown-by, shown-taking, there-by}
 use Rattle.tb_core.proofs.bus.LiveBus.shown_size.Goals as goal
 

@@ -5,7 +5,8 @@ use Rattle.tb_algebra.specs.Walks.{offers_of}
 use Rattle.tb_search.specs.Candidates.{rows_of}
 use Rattle.tb_search.specs.Views.{offer_of}
 use Rattle.tb_core.specs.Helpers.LiveBuses.{Leaves, procs_in}
-use Rattle.tb_core.proofs.ReadLemmas.{live-at, plan-within, read-is}
+use Rattle.tb_core.proofs.ReadLemmas.{live-at}
+use Rattle.tb_living.proofs.ReadLemmas.{plan-within, read-is}
 use Rattle.tb_core.proofs.FreshLemmas.{OfferAt, offer-read}
 use Rattle.tb_core.proofs.bus.LiveBus.take_at.Given.{Over}
 use Rattle.tb_core.proofs.bus.LiveBus.take_at.Goals.{After-index}

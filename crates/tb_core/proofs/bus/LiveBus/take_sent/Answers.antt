@@ -1,11 +1,12 @@
 use Rattle.std.proofs.Common.{refl, subst, inr, false, Contains}
 use Rattle.std.specs.Vec.{with_item}
-use Rattle.tb_core.specs.Helpers.Indexes.{IsRightFor}
+use Rattle.tb_living.specs.Indexes.{IsRightFor}
 use Rattle.tb_core.specs.Helpers.LiveBuses.{settings_in}
-use Rattle.tb_core.proofs.ReadLemmas.{all-there, live-at}
+use Rattle.tb_living.proofs.ReadLemmas.{all-there}
+use Rattle.tb_core.proofs.ReadLemmas.{live-at}
 use Rattle.tb_core.proofs.SetLemmas.{stands-set, set-there, set-other}
-use Rattle.tb_core.proofs.IndexLemmas.{keeps-self, stale-right}
-use Rattle.tb_core.proofs.RestLemmas.{rested-stale}
+use Rattle.tb_living.proofs.IndexLemmas.{keeps-self, stale-right}
+use Rattle.tb_living.proofs.RestLemmas.{rested-stale}
 use Rattle.tb_core.proofs.bus.LiveBus.take_sent.Goals as goal
 
 pub returns-clause-same : goal.returns-clause-same

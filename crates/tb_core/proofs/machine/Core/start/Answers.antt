@@ -3,7 +3,7 @@ use Rattle.tb_log.specs.declared.entry.Entry.{Entry}
 use Rattle.tb_bus.specs.declared.origin.Origin.{Origin}
 use Rattle.tb_bus.specs.Buses.{Bus, start}
 use Rattle.tb_bus.specs.Traces.{IsTrace, replay}
-use Rattle.tb_core.proofs.OpenLemmas.{few-roots}
+use Rattle.tb_living.proofs.OpenLemmas.{few-roots}
 use Rattle.tb_core.proofs.machine.Core.start.Goals as goal
 
 pub invariant_of-result : goal.invariant_of-result

@@ -1,5 +1,0 @@
-use Rattle.tb_core.proofs.OpenLemmas.{AreOpened}
-use Rattle.tb_core.proofs.opening.open_all.Given as goal
-
-abbrev pub invariant-loop-at : goal.invariant-loop-at
-invariant-loop-at g l = AreOpened g.W.Walker.view l.plans l.program.bodies l.program.roots l.at l.all.items

@@ -1,5 +1,0 @@
-use Rattle.tb_core.proofs.TickLemmas.{AreTickedBelow}
-use Rattle.tb_core.proofs.ticking.tick_all.Given as goal
-
-abbrev pub invariant-loop-living : goal.invariant-loop-living
-invariant-loop-living g l = AreTickedBelow g.W.Walker.view l.plans l.living-index l.fn.all.items l.living-items

@@ -1,0 +1,10 @@
+pub mod ReadLemmas
+pub mod ActionLemmas
+pub mod NumberLemmas
+pub mod IndexLemmas
+pub mod HoldLemmas
+pub mod RestLemmas
+pub mod OpenLemmas
+pub mod NoteLemmas
+pub mod TickLemmas
+pub mod SpokenLemmas

@@ -1,0 +1,5 @@
+pub mod Lives
+pub mod Holdings
+pub mod Indexes
+pub mod Ticking
+pub mod Spoken

@@ -1,0 +1,19 @@
+//! Processes that are alive, over any walker: how they begin, what they are ready for, what an index has of them, how a tick
+//! passes for them, what their inboxes hold, and how one speaks with a tool.
+#![tactic(auto)]
+
+mod done;
+mod inboxes;
+mod indexing;
+mod looking;
+mod opening;
+mod speaking;
+mod ticking;
+
+pub use done::Done;
+pub use inboxes::{hand_out, subscribe_at, take_note_at, unsubscribe_at};
+pub use indexing::{TOOL_MARK, index_of, no_marks, turn, update};
+pub use looking::{go_on, look, point_of};
+pub use opening::{numbers_of, open_all, open_at, plan_all};
+pub use speaking::{is_declared, seen_size, speak};
+pub use ticking::tick_all;

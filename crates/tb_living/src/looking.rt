@@ -1,0 +1,398 @@
+ghost use Rattle.std.specs.Prelude.{◌≡◌, ◌<◌, ◌++◌, ◌∷◌, ℕ, List, [], length, slice_get, IfOk, IsTrue, OnOk, OnErr, Some, is_some, option_and_then, option_map, true, false};
+ghost use Rattle.std.specs.List.{All};
+ghost use Rattle.std.specs.Option.{ForSome};
+ghost use Rattle.tb_func.specs.declared.slot.Slot.{Slot};
+ghost use Rattle.tb_algebra.specs.Atoms.{act_of, times_of};
+ghost use Rattle.tb_algebra.specs.Binds.{has_slot_sort, takes_binds};
+ghost use Rattle.tb_algebra.specs.Offers.{Offered};
+ghost use Rattle.tb_algebra.specs.Walks.{fired, is_end, offers_of, patterns_by, seen, seen_offers, sent_by, sorts_of};
+ghost use Rattle.tb_func.specs.Printing.{printf_of};
+ghost use Rattle.tb_bus.specs.Actions.{action_in, action_of, create_action, print_action, set_action, shutdown_action, speak_about};
+ghost use Rattle.tb_search.specs.Candidates.{ascend, ready_one, readies, rows_of};
+ghost use Rattle.tb_living.specs.Lives.{IsFreshFor, IsLiveOn, IsTimeless, IsWhere, proc_by};
+
+use std::alloc::Global;
+use tb_algebra::{Offer, Walker};
+use tb_body::{Act, Atom, Body};
+use tb_bus::{Action, OwnAction, ToolAction};
+use tb_func::printf_text;
+use tb_match::{Bind, Binds};
+use tb_search::{Living, Ready};
+use tb_terms::{Items, NoMemory, Patterns, Sorts, Term, Terms, has_sort};
+
+/// Whether there is such a slot, and the value has its sort.
+fn takes(sorts: &Sorts, slot: u32, value: &Term) -> bool
+    ensures { result ≡ has_slot_sort (slice_get sorts.now slot) value.now }
+{
+    match sorts.get(slot as usize) {
+        Some(sort) => has_sort(value, sort),
+        None => false,
+    }
+}
+
+/// The slot takes the value, where there is one that has the slot's sort.
+fn set_action(
+    alloc: Global,
+    sorts: &Sorts,
+    slot: u32,
+    values: Option<Terms>,
+) -> Result<Option<Action>, NoMemory>
+    ensures { (store : List Slot) → sorts_of store ≡ sorts.now → IfOk result (λ action. action ≡ option_and_then (set_action store slot) values) }
+{
+    let Some(values) = values else {
+        return Ok(None);
+    };
+    if values.len() != 1 {
+        return Ok(None);
+    }
+    let value = &values.as_slice()[0];
+    if !takes(sorts, slot, value) {
+        return Ok(None);
+    }
+    let value = value.copy(alloc)?;
+    let mut binds = Items::new(alloc);
+    binds.push(Bind { slot, value })?;
+    Ok(Some(Action::Own(OwnAction::Set(values, binds))))
+}
+
+/// The text that the values have by their format is printed, where they have one.
+fn print_action(alloc: Global, values: Option<Terms>) -> Result<Option<Action>, NoMemory>
+    ensures { IfOk result (λ action. action ≡ option_map print_action (option_and_then printf_of values)) }
+{
+    let Some(values) = values else {
+        return Ok(None);
+    };
+    match printf_text(alloc, &values)? {
+        Some(text) => Ok(Some(Action::Own(OwnAction::Print(text)))),
+        None => Ok(None),
+    }
+}
+
+/// A process begins with these values, where they are there, and the slot takes its number.
+fn create_action(process: u32, actuals: Option<Terms>, slot: u32) -> Option<Action>
+    ensures { result ≡ option_map (create_action process slot) actuals }
+{
+    Some(Action::Own(OwnAction::Create(process, actuals?, slot)))
+}
+
+/// The answer of the tool is taken, where the tool and the patterns have values.
+fn value_action(terms: Option<Terms>, patterns: Option<Patterns>) -> Option<Action>
+    ensures { result ≡ option_and_then (speak_about ToolAction.TakeValue patterns) terms }
+{
+    Some(Action::Speak(ToolAction::TakeValue(terms?, patterns?)))
+}
+
+/// An event of the tool is received, where the tool and the patterns have values.
+fn event_action(terms: Option<Terms>, patterns: Option<Patterns>) -> Option<Action>
+    ensures { result ≡ option_and_then (speak_about ToolAction.TakeEvent patterns) terms }
+{
+    Some(Action::Speak(ToolAction::TakeEvent(terms?, patterns?)))
+}
+
+/// The bus goes down, for the one reason that there is.
+fn shutdown_action(reasons: Option<Terms>) -> Option<Action>
+    ensures { result ≡ option_and_then shutdown_action reasons }
+{
+    let mut reasons = reasons?;
+    let reason = reasons.pop()?;
+    if reasons.is_empty() {
+        Some(Action::Own(OwnAction::Shutdown(reason)))
+    } else {
+        None
+    }
+}
+
+/// Puts an action at the end of what is ready.
+fn push(offer: usize, atom: u32, action: Action, ready: &mut Vec<Ready>) -> Result<(), NoMemory>
+    ensures { OnOk result (ready.new.items ≡ ready.old.items ++ record { offer = offer; atom = atom; action = action } ∷ []) }
+{
+    ready.push(Ready {
+        offer,
+        atom,
+        action,
+    })?;
+    Ok(())
+}
+
+/// The action of an offered atom, where its arguments have values.
+#[inline(never)]
+fn action_in<W: Walker>(
+    alloc: Global,
+    plan: &W::Plan,
+    body: &Body,
+    walker: &W,
+    k: usize,
+    act: &Act,
+) -> Result<Option<Action>, NoMemory>
+    requires on { W.view.is_on plan.now walker.now }
+    requires fresh { IsTrue (is_some (W.view.seen walker.now)) }
+    requires within { ForSome (W.view.seen walker.now) (λ offers. k < length offers) }
+    requires body { W.view.body_of plan.now ≡ body.now }
+    ensures { (offered : Offered) → slice_get (offers_of (W.view.walking plan.now walker.now)) k ≡ Some offered →
+        act_of body.now.atoms offered.atom ≡ act.now → sorts_of offered.store ≡ body.now.sorts →
+        IfOk result (λ action. action ≡ action_in offered.store act.now) }
+{
+    let sent = || walker.sent(alloc, plan, k);
+    let patterns = || walker.patterns(alloc, plan, k);
+    match act {
+        Act::Delta => Ok(None),
+        Act::Tau => Ok(Some(Action::Own(OwnAction::Tau))),
+        Act::Set { slot, .. } => set_action(alloc, &body.sorts, *slot, sent()?),
+        Act::Printf(_) => print_action(alloc, sent()?),
+        Act::Create { process, slot, .. } => Ok(create_action(*process, sent()?, *slot)),
+        Act::SndMsg(_) => Ok(sent()?.map(Action::Send)),
+        Act::RecMsg(_) => Ok(patterns()?.map(Action::Receive)),
+        Act::SndNote(_) => Ok(sent()?.map(Action::Notify)),
+        Act::RecNote(_) => Ok(patterns()?.map(Action::TakeNote)),
+        Act::NoNote(_) => Ok(patterns()?.map(OwnAction::NoNote).map(Action::Own)),
+        Act::Subscribe(_) => Ok(patterns()?.map(OwnAction::Subscribe).map(Action::Own)),
+        Act::Unsubscribe(_) => Ok(patterns()?.map(OwnAction::Unsubscribe).map(Action::Own)),
+        &Act::Execute { tool, slot } => Ok(Some(Action::Speak(ToolAction::Execute(tool, slot)))),
+        &Act::RecConnect { tool, slot } => {
+            Ok(Some(Action::Speak(ToolAction::Connect(tool, slot))))
+        }
+        &Act::RecDisconnectAny { tool, slot } => {
+            Ok(Some(Action::Speak(ToolAction::DisconnectAny(tool, slot))))
+        }
+        Act::RecDisconnect(_) => Ok(sent()?.map(ToolAction::Disconnect).map(Action::Speak)),
+        Act::SndEval(_, _) => Ok(sent()?.map(ToolAction::Eval).map(Action::Speak)),
+        Act::RecValue(_, _) => Ok(value_action(sent()?, patterns()?)),
+        Act::SndDo(_, _) => Ok(sent()?.map(ToolAction::Do).map(Action::Speak)),
+        Act::RecEvent(_, _) => Ok(event_action(sent()?, patterns()?)),
+        Act::SndAckEvent(_, _) => Ok(sent()?.map(ToolAction::Acknowledge).map(Action::Speak)),
+        Act::SndTerminate(_, _) => Ok(sent()?.map(ToolAction::Terminate).map(Action::Speak)),
+        Act::Shutdown(_) => Ok(shutdown_action(sent()?)),
+    }
+}
+
+/// Puts what an offered atom sends at the end of what is ready, where its values are there. What is found is
+/// written in place, here and below, since each function that hands it on costs as much as the finding.
+fn push_send<W: Walker>(
+    alloc: Global,
+    plan: &W::Plan,
+    walker: &W,
+    k: usize,
+    atom: u32,
+    ready: &mut Vec<Ready>,
+) -> Result<(), NoMemory>
+    requires on { W.view.is_on plan.now walker.now }
+    requires fresh { IsTrue (is_some (W.view.seen walker.now)) }
+    requires within { ForSome (W.view.seen walker.now) (λ offers. k < length offers) }
+    ensures { (offered : Offered) → slice_get (offers_of (W.view.walking plan.now walker.now)) k ≡ Some offered → offered.atom ≡ atom →
+        OnOk result (ready.new.items ≡ ready.old.items ++ ready_one k offered (option_map Action.Send (sent_by (W.view.body_of plan.now).atoms offered))) }
+{
+    match walker.sent(alloc, plan, k)? {
+        Some(terms) => {
+            push(k, atom, Action::Send(terms), ready)?;
+            Ok(())
+        }
+        None => Ok(()),
+    }
+}
+
+/// Likewise what it receives, where its patterns are there.
+fn push_receive<W: Walker>(
+    alloc: Global,
+    plan: &W::Plan,
+    walker: &W,
+    k: usize,
+    atom: u32,
+    ready: &mut Vec<Ready>,
+) -> Result<(), NoMemory>
+    requires on { W.view.is_on plan.now walker.now }
+    requires fresh { IsTrue (is_some (W.view.seen walker.now)) }
+    requires within { ForSome (W.view.seen walker.now) (λ offers. k < length offers) }
+    ensures { (offered : Offered) → slice_get (offers_of (W.view.walking plan.now walker.now)) k ≡ Some offered → offered.atom ≡ atom →
+        OnOk result (ready.new.items ≡ ready.old.items ++ ready_one k offered (option_map Action.Receive (patterns_by (W.view.body_of plan.now).atoms offered))) }
+{
+    match walker.patterns(alloc, plan, k)? {
+        Some(patterns) => {
+            push(k, atom, Action::Receive(patterns), ready)?;
+            Ok(())
+        }
+        None => Ok(()),
+    }
+}
+
+/// Likewise any action.
+#[inline(never)]
+fn push_any<W: Walker>(
+    alloc: Global,
+    plan: &W::Plan,
+    body: &Body,
+    walker: &W,
+    k: usize,
+    atom: &Atom,
+    number: u32,
+    ready: &mut Vec<Ready>,
+) -> Result<(), NoMemory>
+    requires on { W.view.is_on plan.now walker.now }
+    requires fresh { IsTrue (is_some (W.view.seen walker.now)) }
+    requires within { ForSome (W.view.seen walker.now) (λ offers. k < length offers) }
+    requires body { W.view.body_of plan.now ≡ body.now }
+    ensures { (offered : Offered) → slice_get (offers_of (W.view.walking plan.now walker.now)) k ≡ Some offered → offered.atom ≡ number →
+        act_of body.now.atoms offered.atom ≡ atom.now.act → sorts_of offered.store ≡ body.now.sorts →
+        OnOk result (ready.new.items ≡ ready.old.items ++ ready_one k offered (action_in offered.store atom.now.act)) }
+{
+    match action_in(alloc, plan, body, walker, k, &atom.act)? {
+        Some(action) => {
+            push(k, number, action, ready)?;
+            Ok(())
+        }
+        None => Ok(()),
+    }
+}
+
+/// Likewise that of an atom whose times hold.
+fn push_action<W: Walker>(
+    alloc: Global,
+    plan: &W::Plan,
+    body: &Body,
+    walker: &W,
+    k: usize,
+    atom: &Atom,
+    number: u32,
+    ready: &mut Vec<Ready>,
+) -> Result<(), NoMemory>
+    requires on { W.view.is_on plan.now walker.now }
+    requires fresh { IsTrue (is_some (W.view.seen walker.now)) }
+    requires within { ForSome (W.view.seen walker.now) (λ offers. k < length offers) }
+    requires body { W.view.body_of plan.now ≡ body.now }
+    ensures { (offered : Offered) → slice_get (offers_of (W.view.walking plan.now walker.now)) k ≡ Some offered → offered.atom ≡ number →
+        act_of body.now.atoms offered.atom ≡ atom.now.act → sorts_of offered.store ≡ body.now.sorts →
+        OnOk result (ready.new.items ≡ ready.old.items ++ ready_one k offered (action_in offered.store atom.now.act)) }
+{
+    match &atom.act {
+        Act::Delta => Ok(()),
+        Act::Tau => push(k, number, Action::Own(OwnAction::Tau), ready),
+        Act::SndMsg(_) => push_send(alloc, plan, walker, k, number, ready),
+        Act::RecMsg(_) => push_receive(alloc, plan, walker, k, number, ready),
+        _ => push_any(alloc, plan, body, walker, k, atom, number, ready),
+    }
+}
+
+/// Whether an atom has times, or one before it has.
+fn any_times(before: bool, atom: &Atom) -> bool
+    ensures { result ≡ false → (before ≡ false) × (atom.now.times ≡ []) }
+{
+    if before {
+        return true;
+    }
+    !atom.times.is_empty()
+}
+
+/// Puts an offer at the end of what is ready, where it is ready for an action; whether its atom has times, or one before
+/// it has.
+fn push_ready<W: Walker>(
+    alloc: Global,
+    plan: &W::Plan,
+    body: &Body,
+    walker: &W,
+    k: usize,
+    offer: Offer,
+    before: bool,
+    ready: &mut Vec<Ready>,
+) -> Result<bool, NoMemory>
+    requires on { W.view.is_on plan.now walker.now }
+    requires fresh { IsTrue (is_some (W.view.seen walker.now)) }
+    requires within { ForSome (W.view.seen walker.now) (λ offers. k < length offers) }
+    requires body { W.view.body_of plan.now ≡ body.now }
+    ensures ready { (now : ℕ) (offered : Offered) → slice_get (offers_of (W.view.walking plan.now walker.now)) k ≡ Some offered →
+        offer ≡ seen body.now.atoms now offered → sorts_of offered.store ≡ body.now.sorts →
+        OnOk result (ready.new.items ≡ ready.old.items ++ ready_one k offered (action_of body.now.atoms now offered)) }
+    ensures timed { IfOk result (λ timed. timed ≡ false → (before ≡ false) × (times_of body.now.atoms offer.atom ≡ [])) }
+{
+    let place = (offer.atom as usize).saturating_sub(1);
+    let Some(atom) = body.atoms.get(place) else {
+        return Ok(before);
+    };
+    if !offer.ready {
+        return Ok(any_times(before, atom));
+    }
+    push_action(alloc, plan, body, walker, k, atom, offer.atom, ready)?;
+    Ok(any_times(before, atom))
+}
+
+/// Fills what the process that was looked at is ready to do; whether an atom with times is among its offers.
+fn fill<W: Walker>(
+    alloc: Global,
+    plan: &W::Plan,
+    body: &Body,
+    walker: &W,
+    ready: &mut Vec<Ready>,
+) -> Result<bool, NoMemory>
+    requires on { W.view.is_on plan.now walker.now }
+    requires fresh { IsTrue (is_some (W.view.seen walker.now)) }
+    requires body { W.view.body_of plan.now ≡ body.now }
+    requires sorts { sorts_of (W.view.walking plan.now walker.now).store ≡ body.now.sorts }
+    ensures ready { (now : ℕ) → W.view.seen walker.now ≡ Some (seen_offers body.now.atoms now (W.view.walking plan.now walker.now)) →
+        OnOk result (ready.new.items ≡ readies body.now.atoms now 0 (offers_of (W.view.walking plan.now walker.now))) }
+    ensures timed { (now : ℕ) → W.view.seen walker.now ≡ Some (seen_offers body.now.atoms now (W.view.walking plan.now walker.now)) →
+        IfOk result (λ timed. timed ≡ false → All (IsTimeless body.now.atoms) (offers_of (W.view.walking plan.now walker.now))) }
+{
+    ready.clear();
+    let mut timed = false;
+    for at in 0..walker.offer_count() {
+        let offer = walker.offer(at);
+        timed = push_ready(alloc, plan, body, walker, at, offer, timed, ready)?;
+    }
+    Ok(timed)
+}
+
+/// Where those end whose numbers are smaller. Seldom has anybody left who stood before the one with the number.
+pub fn point_of<W>(all: &[Living<W>], number: u32) -> usize
+    requires { IsTrue (ascend 0 (rows_of all.now)) }
+    ensures { IsWhere number all.now result }
+{
+    let guess = (number as usize).saturating_sub(1);
+    if guess < all.len() && all[guess].number == number {
+        return guess;
+    }
+    all.partition_point(|living| living.number < number)
+}
+
+/// Looks anew what a process is ready to do, on a bus that has seen so many ticks. It isn't fresh before the index has that.
+pub fn look<W: Walker>(
+    alloc: Global,
+    plan: &W::Plan,
+    body: &Body,
+    living: &mut Living<W>,
+    now: u64,
+) -> Result<(), NoMemory>
+    requires body { W.view.body_of plan.now ≡ body.now }
+    requires live { IsLiveOn W.view plan.now now living.old }
+    ensures live { IsLiveOn W.view plan.now now living.new }
+    ensures same { proc_by W.view (Some plan.now) living.new ≡ proc_by W.view (Some plan.now) living.old }
+    ensures looked { OnOk result (IsFreshFor (W.view.body_of plan.now) now (W.view.walking plan.now living.new.walker) living.new.timed living.new.ready.items) }
+    ensures stale { living.new.fresh ≡ false }
+    ensures marks { living.new.marks ≡ living.old.marks }
+{
+    living.fresh = false;
+    living.walker.look(alloc, plan, now)?;
+    living.timed = fill(alloc, plan, body, &living.walker, &mut living.ready)?;
+    Ok(())
+}
+
+/// A process goes on with what was taken of it; whether it has ended then.
+pub fn go_on<W: Walker>(
+    plan: &W::Plan,
+    living: &mut Living<W>,
+    taken: W::Taken,
+    binds: Binds,
+) -> bool
+    requires on { W.view.is_on plan.now living.old.walker }
+    requires taken { (offered : Offered) × W.view.leaves plan.now living.old.walker taken offered × IsTrue (takes_binds offered.store binds) }
+    ensures on { W.view.is_on plan.now living.new.walker }
+    ensures advanced { (offered : Offered) → W.view.leaves plan.now living.old.walker taken offered →
+        W.view.walking plan.now living.new.walker ≡ fired binds (W.view.walking plan.now living.old.walker).ticks offered }
+    ensures ended { result ≡ is_end (W.view.walking plan.now living.new.walker).term }
+    ensures number { living.new.number ≡ living.old.number }
+    ensures body { living.new.body ≡ living.old.body }
+    ensures inbox { living.new.inbox ≡ living.old.inbox }
+    ensures stale { living.new.fresh ≡ false }
+    ensures marks { living.new.marks ≡ living.old.marks }
+{
+    living.fresh = false;
+    living.walker.advance(plan, taken, binds);
+    living.walker.is_done()
+}
