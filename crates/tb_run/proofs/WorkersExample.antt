@@ -185,6 +185,7 @@ ticked = record {
   whole = λ e. refl;
   marks = (refl, refl);
   never_falls = omega arith;
+  faults = refl;
   ends = ((Dropped why.Down, refl), inl refl);
 }
 
@@ -204,11 +205,16 @@ ticked-failed = record {
   whole = λ e. refl;
   marks = (refl, refl);
   never_falls = omega arith;
+  faults = inl (omega arith);
   ends = ((Dropped why.Down, refl), inl (omega arith));
 }
 
 none-unfailed : (count : ℕ) (ended : Bool) → Tick count ended 0 end.Failed → ⊥
 none-unfailed count ended does = elim does.ends.1 [ inl less ↦ absurd (omega (arith, less)) | inr last ↦ absurd (omega (arith, last)) ]
+
+-- the clock failed, and it says that it has ended
+none-hidden : (count : ℕ) (ended : Bool) → Tick count ended 1 end.Over → ⊥
+none-hidden count ended does = absurd (omega (arith, does.faults))
 
 -- who makes steps
 stepped : StepsBus (new_seat departing stepper_rights) (departed stepper_rights) end.Down

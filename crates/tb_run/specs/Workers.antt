@@ -181,7 +181,8 @@ pub record Ticks (old new : SeatView) (told_old told_new : Option ClockView) (fa
   pub let_in : AreLetIn more
   pub count : length more ≡ fed
   pub told : told_new ≡ and_ticked told_old fed false
-  pub never_falls : faults_old ≤ faults_new
+  -- no call of the clock failed
+  pub calm : faults_new ≡ faults_old
   pub marks : SameMarks old new
 
 -- that no more ticks come, whatever became of it
@@ -202,6 +203,15 @@ TickerEnds Enough tail last old new count faults_old faults_new ended end.Full =
 TickerEnds Enough tail last old new count faults_old faults_new ended end.Stopped = tail ≡ []
 TickerEnds Enough tail last old new count faults_old faults_new ended end.NoMemory = tail ≡ []
 
+-- A failure of the clock ends a tick worker as failed, unless it is refused the word that no more come: no call failed where it ends as over, or since the bus is down.
+abbrev pub ClockFaults : ℕ → ℕ → WorkEnd → Type 0
+ClockFaults faults_old faults_new end.Over = faults_new ≡ faults_old
+ClockFaults faults_old faults_new end.Down = faults_new ≡ faults_old
+ClockFaults faults_old faults_new end.Failed = Rose faults_old faults_new
+ClockFaults faults_old faults_new end.Stopped = Unit {0}
+ClockFaults faults_old faults_new end.Full = Unit {0}
+ClockFaults faults_old faults_new end.NoMemory = Unit {0}
+
 -- `tick_worker`: the ticks are those that the clock gave, but for the last where it was stopped; then perhaps that no more come.
 pub record TicksBus (Enough : ℕ → Type 0) (most : ℕ) (old new : SeatView) (told_old told_new : Option ClockView) (faults_old faults_new : ℕ) (it : WorkEnd) : Type 0 where
   pub first : List Entry
@@ -218,6 +228,7 @@ pub record TicksBus (Enough : ℕ → Type 0) (most : ℕ) (old new : SeatView) 
   pub whole : ended ≡ true → last ≡ 0
   pub marks : Marks old new it
   pub never_falls : faults_old ≤ faults_new
+  pub faults : ClockFaults faults_old faults_new it
   pub ends : TickerEnds Enough tail last old new (length first) faults_old faults_new ended it
 
 -- why a step worker may end so
