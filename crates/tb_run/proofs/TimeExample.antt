@@ -105,7 +105,7 @@ lacking = record {
   ended = false;
   told = refl;
   one = omega arith;
-  whole = λ e. cc;
+  whole = λ e. elim e [ inl up ↦ cc | inr up ↦ cc ];
   within = omega arith;
   time = record { first = []; tail = []; is = refl; ticks = tt; last = inl refl };
   why = inl refl;
@@ -121,3 +121,9 @@ none-beyond : ClockStopped [] 0 (gave 0 false) (gave 1 false) ⊥ → ⊥
 none-beyond ran =
     let same : ◌≡◌ {A = ℕ} 1 (0 + (ticks [] + ran.last)) = ap ticks_of ran.told in
     absurd (omega (arith, same, ran.within))
+
+-- nor any of a clock that had ended before
+none-after_end : (ended : Bool) → ClockStopped [] 5 (gave 0 true) (gave 1 ended) ⊥ → ⊥
+none-after_end ended ran =
+    let same : ◌≡◌ {A = ℕ} 1 (0 + (ticks [] + ran.last)) = ap ticks_of ran.told in
+    absurd (omega (arith, same, ran.whole (inr refl)))

@@ -2,7 +2,7 @@
 use Rattle.std.specs.Prelude.{◌≡◌, ℕ, ◌+◌, ◌-◌, ◌≤◌, ◌<◌, ◌^◌, ◌⊎◌, Bool, true, false, List, [], ◌∷◌, ◌++◌, length, map, count_by, Option, Some, None}
 use Rattle.std.specs.List.{AllZip}
 use Rattle.tb_edge.specs.Faults.{Rose}
-use Rattle.tb_edge.specs.Ends.{InletView, and_given, and_taken, ClockView, and_ticked}
+use Rattle.tb_edge.specs.Ends.{InletView, and_given, and_taken, ClockView, and_ticked, has_ended}
 use Rattle.tb_edge.specs.declared.given.Given.{Given}
 use Rattle.tb_edge.specs.declared.given.Given.TheVariants as given
 use Rattle.tb_edge.specs.declared.given.Taken.{Taken}
@@ -181,6 +181,7 @@ pub record Ticks (old new : SeatView) (told_old told_new : Option ClockView) (fa
   pub let_in : AreLetIn more
   pub count : length more ≡ fed
   pub told : told_new ≡ and_ticked told_old fed false
+  pub none : has_ended told_old → fed ≡ 0
   -- no call of the clock failed
   pub calm : faults_new ≡ faults_old
   pub marks : SameMarks old new
@@ -226,6 +227,8 @@ pub record TicksBus (Enough : ℕ → Type 0) (most : ℕ) (old new : SeatView) 
   pub lacks : MayLack it last
   -- where the clock has ended, all that it gave was handed in
   pub whole : ended ≡ true → last ≡ 0
+  -- a clock that had ended before gives nothing
+  pub none : has_ended told_old → length first + last ≡ 0
   pub marks : Marks old new it
   pub never_falls : faults_old ≤ faults_new
   pub faults : ClockFaults faults_old faults_new it
