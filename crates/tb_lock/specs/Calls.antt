@@ -96,10 +96,6 @@ pub record Observes {A : Type 0} (Finds : CoreState → A → Type 0) (old new :
 abbrev pub IsStateOf : ℕ → CoreState → LaneState → Type 0
 IsStateOf lane core state = state ≡ lane_state (lane_at lane (bus_now core).bench)
 
--- the states of all lanes, in order
-abbrev pub AreStates : CoreState → List LaneState → Type 0
-AreStates core states = states ≡ map (λ lane. lane_state (lane_at lane (bus_now core).bench)) (1 ∷ 2 ∷ 3 ∷ 4 ∷ 5 ∷ 6 ∷ 7 ∷ 8 ∷ 9 ∷ 10 ∷ 11 ∷ 12 ∷ 13 ∷ 14 ∷ 15 ∷ 16 ∷ [])
-
 -- on which lanes something is to be handed out, in order
 abbrev pub AreOuts : CoreState → List Bool → Type 0
 AreOuts core outs = outs ≡ map (λ lane. is_some (next_out lane (bus_now core).bench)) (1 ∷ 2 ∷ 3 ∷ 4 ∷ 5 ∷ 6 ∷ 7 ∷ 8 ∷ 9 ∷ 10 ∷ 11 ∷ 12 ∷ 13 ∷ 14 ∷ 15 ∷ 16 ∷ [])
