@@ -1,5 +1,5 @@
 -- What inlets, outlets and clocks tell of what they gave and took; nothing is claimed of one that doesn't tell.
-use Rattle.std.specs.Prelude.{◌≡◌, ℕ, ◌+◌, Bool, true, false, ◌||◌, Option, Some, None, IfSome, List, [], ◌∷◌, ◌++◌}
+use Rattle.std.specs.Prelude.{◌≡◌, ℕ, ◌+◌, Bool, true, false, ◌||◌, Option, Some, None, IfSome, List, [], ◌∷◌, ◌++◌, ⊤}
 use Rattle.tb_edge.specs.declared.given.Given.{Given}
 use Rattle.tb_edge.specs.declared.given.Given.TheVariants as given
 use Rattle.tb_edge.specs.declared.given.Taken.{Taken}
@@ -83,3 +83,9 @@ has_ended (Some view) = view.ended ≡ true
 -- a clock that has ended answers nothing else
 abbrev pub MayBeat : Option ClockView → Beat → Type 0
 MayBeat old answer = has_ended old → answer ≡ beat.End
+
+-- the count of faults of a clock stays, unless the clock failed
+abbrev pub StaysAt : Beat → ℕ → ℕ → Type 0
+StaysAt beat.Tick old new = new ≡ old
+StaysAt beat.End old new = new ≡ old
+StaysAt beat.Failed old new = ⊤

@@ -1,6 +1,6 @@
 ghost use Rattle.std.specs.Prelude.{◌≡◌, ℕ, ◌^◌, ◌<◌, ◌≤◌, Option};
 ghost use Rattle.tb_edge.specs.Faults.{Rose};
-ghost use Rattle.tb_edge.specs.Ends.{ClockView, clock_after, has_ended, MayBeat};
+ghost use Rattle.tb_edge.specs.Ends.{ClockView, clock_after, has_ended, MayBeat, StaysAt};
 
 /// What a clock answers.
 #[derive(Clone, Copy, Debug, PartialEq, Eq)]
@@ -27,6 +27,7 @@ pub trait Clock {
         ensures over { MayBeat (told self.old) result }
         ensures stays { has_ended (told self.old) → faults self.new ≡ faults self.old }
         ensures rose { result ≡ Beat.Failed → Rose (faults self.old) (faults self.new) }
+        ensures calm { StaysAt result (faults self.old) (faults self.new) }
         ensures never_falls { faults self.old ≤ faults self.new }
         ensures fits { faults self.old < 2 ^ 64 → faults self.new < 2 ^ 64 };
 }

@@ -1,6 +1,6 @@
-ghost use Rattle.std.specs.Prelude.{◌≡◌, ℕ, ◌^◌, ◌<◌, ◌≤◌, IfOk, IfErr};
+ghost use Rattle.std.specs.Prelude.{◌≡◌, ℕ, ◌^◌, ◌<◌, ◌≤◌, IfOk, IfErr, OnOk};
 ghost use Rattle.std.specs.List.{All};
-ghost use Rattle.std.specs.Bool.{OnFalse};
+ghost use Rattle.std.specs.Bool.{OnFalse, OnTrue};
 ghost use Rattle.std.specs.Thread.{IsSync};
 ghost use Rattle.tb_edge.specs.Faults.{Rose};
 ghost use Rattle.tb_edge.specs.Jobs.{AllDone, jobs_of, FailsOnly};
@@ -27,6 +27,7 @@ pub trait Crew {
     fn ready<R: Threads + Wait + Sync>(&mut self, rt: &R, count: usize) -> bool
         requires { IsSync R.row }
         ensures rose { OnFalse result (Rose (faults self.old) (faults self.new)) }
+        ensures calm { OnTrue result (faults self.new ≡ faults self.old) }
         ensures never_falls { faults self.old ≤ faults self.new }
         ensures fits { faults self.old < 2 ^ 64 → faults self.new < 2 ^ 64 };
 
@@ -50,6 +51,7 @@ pub trait Crew {
             × (lent.new ≡ lent.old) × (own.new ≡ own.old)) }
         ensures rose { IfErr result
             (λ fault. FailsOnly fault (Rose (faults self.old) (faults self.new))) }
+        ensures calm { OnOk result (faults self.new ≡ faults self.old) }
         ensures never_falls { faults self.old ≤ faults self.new }
         ensures fits { faults self.old < 2 ^ 64 → faults self.new < 2 ^ 64 }
     {

@@ -1,5 +1,5 @@
 ghost use Rattle.std.specs.Prelude.{◌≡◌, ◌^◌, ◌<◌, ◌≤◌, false};
-ghost use Rattle.std.specs.Bool.{OnFalse};
+ghost use Rattle.std.specs.Bool.{OnFalse, OnTrue};
 ghost use Rattle.std.specs.Thread.{IsSync};
 ghost use Rattle.tb_edge.specs.Faults.{Rose, risen};
 
@@ -46,6 +46,7 @@ impl Crew for NoCrew {
         ensures never { result ≡ false }
         ensures counted { self.new ≡ risen self.old }
         ensures rose { OnFalse result (Rose self.old self.new) }
+        ensures calm { OnTrue result (self.new ≡ self.old) }
         ensures never_falls { self.old ≤ self.new }
         ensures fits { self.old < 2 ^ 64 → self.new < 2 ^ 64 }
     {

@@ -1,5 +1,5 @@
 ghost use Rattle.std.specs.Prelude.{◌≡◌, ◌^◌, ◌<◌, ◌≤◌, if◌then◌else◌};
-ghost use Rattle.std.specs.Bool.{OnFalse};
+ghost use Rattle.std.specs.Bool.{OnFalse, OnTrue};
 ghost use Rattle.std.specs.Thread.{IsSync};
 ghost use Rattle.tb_edge.specs.Faults.{Rose, risen};
 
@@ -47,6 +47,7 @@ impl Crew for ThreadCrew {
         requires { IsSync R.row }
         ensures counted { self.new ≡ (if result then self.old else risen self.old) }
         ensures rose { OnFalse result (Rose self.old self.new) }
+        ensures calm { OnTrue result (self.new ≡ self.old) }
         ensures never_falls { self.old ≤ self.new }
         ensures fits { self.old < 2 ^ 64 → self.new < 2 ^ 64 }
     {

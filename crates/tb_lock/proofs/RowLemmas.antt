@@ -1,5 +1,6 @@
 -- Steps that are made in one turn: what they add together, and what they come to.
-use Rattle.std.proofs.Common.{◌≡◌, ◌+◌, inl, inr, ℕ, zero, suc, List, [], ◌∷◌, ◌++◌, length, Bool, true, false, ◌||◌, Result, Ok, Err, refl, sym, ap, ◌∙◌, subst, append-nil, append_assoc, length-append, arith}
+use Rattle.std.proofs.Common.{◌≡◌, ◌≢◌, ◌+◌, inl, inr, ℕ, zero, suc, List, [], ◌∷◌, ◌++◌, length, Bool, true, false, ◌||◌, Result, Ok, Err, refl, sym, ap, ◌∙◌, subst, append-nil, append_assoc, length-append, arith}
+use Rattle.std.specs.Prelude.{⊤}
 use Rattle.atomic_table.specs.Seated.{TableId}
 use Rattle.tb_log.specs.declared.entry.Entry.{Entry}
 use Rattle.tb_bus.specs.Buses.{Bus, start}
@@ -12,18 +13,32 @@ use Rattle.tb_core.specs.Cores.{CoreState, MakeStep, IsStep, bus_now, entries_of
 use Rattle.tb_lock.specs.Rights.{has, right_to, own, all_rights}
 use Rattle.tb_lock.specs.Histories.{Own, IsSparse, indexed}
 use Rattle.tb_lock.specs.Seats.{SeatView, Idle, Serving}
-use Rattle.tb_lock.specs.Calls.{Meets, noted, added, Called, CalledInRow}
+use Rattle.tb_lock.specs.Calls.{Meets, noted, added, Called, CalledInRow, StepsAt, StepsFrom}
 use Rattle.tb_lock.specs.Helpers.Plays.{HolderState, Answers, StepsInRow, HasTurn, MayRelease, Releases}
 use Rattle.tb_lock.proofs.CallLemmas.{Follows, follows, own_entries, sparse_entries, trace_from}
-use Rattle.tb_lock.proofs.CallLemmas as call
 use Rattle.tb_lock.proofs.OwnLemmas.{own_all_more}
 use Rattle.tb_lock.proofs.HistoryLemmas.{sparse_same}
 
--- One step is a row, however many there might be.
-pub once : (more : ℕ) (core after : CoreState) (result : Result Stepped CoreFault) → Answers IsStep MakeStep core after result → StepsInRow more core after result
+-- One step that isn't answered that it did one is a row, however many there might be.
+pub once : (more : ℕ) (core after : CoreState) (result : Result Stepped CoreFault) → Answers IsStep MakeStep core after result → (result ≢ Ok stepped.Did) → StepsInRow more core after result
 unfolding StepsInRow
-once zero core after result a = a
-once (suc more) core after result a = inl a
+once zero core after result a other = a
+once (suc more) core after result a other = inl (a, other)
+
+-- So is any where there is to be no more.
+pub once_last : (left : ℕ) (core after : CoreState) (result : Result Stepped CoreFault) → left ≡ 0 → Answers IsStep MakeStep core after result → StepsInRow left core after result
+unfolding StepsInRow
+once_last left core after result none a = subst (λ (n : ℕ). StepsInRow n core after result) (sym none) a
+
+-- an answer that is another one
+pub quiet_other : (let r : Result Stepped CoreFault = Ok stepped.Quiet in r ≢ Ok stepped.Did)
+quiet_other e = let same : stepped.Quiet ≡ stepped.Did = cc in let never : ⊥ = cc in never
+
+pub down_other : (let r : Result Stepped CoreFault = Ok stepped.Down in r ≢ Ok stepped.Did)
+down_other e = let same : stepped.Down ≡ stepped.Did = cc in let never : ⊥ = cc in never
+
+pub fault_other : (it : CoreFault) → (let r : Result Stepped CoreFault = Err it in r ≢ Ok stepped.Did)
+fault_other it e = let never : ⊥ = cc in never
 
 -- A step, and a row behind it.
 pub once_more : (more less : ℕ) (core mid after : CoreState) (result : Result Stepped CoreFault) → more ≡ suc less → Answers IsStep MakeStep core mid (Ok stepped.Did) → StepsInRow less mid after result → StepsInRow more core after result
@@ -31,7 +46,7 @@ unfolding StepsInRow
 once_more more less core mid after result is a rest = subst (λ (n : ℕ). StepsInRow n core after result) (sym is) (inr (mid, a, rest))
 
 -- What the steps of a row have made of the core in hand, and what they come to for the seat.
-pub record Row (more : ℕ) (seat : SeatView) (core after : CoreState) (result : Result Stepped CoreFault) : Type 0 where
+pub record Row (Finds : List Entry → Type 0) (more : ℕ) (seat : SeatView) (core after : CoreState) (result : Result Stepped CoreFault) : Type 0 where
   pub entries : List Entry
   pub origin : after.origin ≡ core.origin
   pub log : after.log ≡ core.log ++ entries
@@ -40,16 +55,20 @@ pub record Row (more : ℕ) (seat : SeatView) (core after : CoreState) (result :
   pub sparse : IsSparse (core.log ++ entries)
   pub rights : own seat.rights entries ≡ entries
   pub owned : own all_rights entries ≡ entries
-  pub called : CalledInRow more seat (noted seat core entries) result
+  pub called : StepsFrom more Finds seat (noted seat core entries) result
 
-one_called : (more : ℕ) (old new : SeatView) (result : Result Stepped CoreFault) → Called IsStep MakeStep old new result → CalledInRow more old new result
-unfolding CalledInRow
-one_called zero old new result c = c
-one_called (suc more) old new result c = inl c
+-- one step is the whole row
+ends_last : (Finds : List Entry → Type 0) (old new : SeatView) (result : Result Stepped CoreFault) → StepsAt Finds old new result → StepsFrom zero Finds old new result
+unfolding StepsFrom
+ends_last Finds old new result c = c
 
-more_called : (more : ℕ) (old mid new : SeatView) (result : Result Stepped CoreFault) → Called IsStep MakeStep old mid (Ok stepped.Did) → CalledInRow more mid new result → CalledInRow (suc more) old new result
-unfolding CalledInRow
-more_called more old mid new result c rest = inr (mid, c, rest)
+ends_other : (more : ℕ) (Finds : List Entry → Type 0) (old new : SeatView) (result : Result Stepped CoreFault) → (result ≢ Ok stepped.Did) → StepsAt Finds old new result → StepsFrom (suc more) Finds old new result
+unfolding StepsFrom
+ends_other more Finds old new result other c = inl (c, other)
+
+more_called : (more : ℕ) (Finds : List Entry → Type 0) (old mid new : SeatView) (result : Result Stepped CoreFault) → StepsAt Finds old mid (Ok stepped.Did) → StepsFrom more (λ log. log ≡ mid.seen) mid new result → StepsFrom (suc more) Finds old new result
+unfolding StepsFrom
+more_called more Finds old mid new result c rest = inr (mid, c, rest)
 
 sparse_added : (core : CoreState) (result : Result Stepped CoreFault) → IsSparse core.log → IsSparse (core.log ++ added result (entries_of core MakeStep))
 sparse_added core (Ok answer) h = sparse_entries core MakeStep h
@@ -64,11 +83,24 @@ all_added core (Ok answer) = own_entries all_rights core MakeStep refl
 all_added core (Err refused) = refl
 
 module _ (seat : SeatView) (core : CoreState) (meets : Meets seat core) where
-  first_called : (after : CoreState) (result : Result Stepped CoreFault) → Answers IsStep MakeStep core after result → Called IsStep MakeStep seat (noted seat core (added result (entries_of core MakeStep))) result
-  first_called after result a = call.called IsStep MakeStep result seat.bus seat core after seat (noted seat core (added result (entries_of core MakeStep))) refl refl meets a
+  abbrev first_called : (after : CoreState) (result : Result Stepped CoreFault) → Answers IsStep MakeStep core after result → Called IsStep MakeStep seat (noted seat core (added result (entries_of core MakeStep))) result
+  first_called after result a = record {
+    core = core;
+    meets = meets;
+    seat = refl;
+    trace = trace-append (start seat.origin) core.log (added result (entries_of core MakeStep)) meets.trace
+        (trace_from core seat.origin (added result (entries_of core MakeStep)) meets.origin (follows IsStep MakeStep result core after a).trace);
+    sparse = sparse_added core result meets.sparse;
+    finds = a.finds;
+    stopped = a.stopped;
+    full = a.full;
+    room = a.room;
+  }
 
-  row_of_one : (more : ℕ) (after : CoreState) (result : Result Stepped CoreFault) → has seat.rights (right_to MakeStep) ≡ true → Answers IsStep MakeStep core after result → Row more seat core after result
-  row_of_one more after result right a =
+  row_of_one : (Finds : List Entry → Type 0) (more : ℕ) (after : CoreState) (result : Result Stepped CoreFault) → Finds core.log →
+      (StepsAt Finds seat (noted seat core (added result (entries_of core MakeStep))) result → StepsFrom more Finds seat (noted seat core (added result (entries_of core MakeStep))) result) →
+      has seat.rights (right_to MakeStep) ≡ true → Answers IsStep MakeStep core after result → Row Finds more seat core after result
+  row_of_one Finds more after result found ends right a =
       let goes = follows IsStep MakeStep result core after a in
       record {
         entries = added result (entries_of core MakeStep);
@@ -79,7 +111,7 @@ module _ (seat : SeatView) (core : CoreState) (meets : Meets seat core) where
         sparse = sparse_added core result meets.sparse;
         rights = own_added core result seat right;
         owned = all_added core result;
-        called = one_called more seat (noted seat core (added result (entries_of core MakeStep))) result (first_called after result a);
+        called = ends (first_called after result a, found);
       }
 
 told_or : (a b : Bool) → (a ≡ true → b ≡ true) → (a || b) ≡ true → b ≡ true
@@ -133,9 +165,9 @@ bus_next : (core mid : CoreState) (es : List Entry) → mid.origin ≡ core.orig
 unfolding bus_now
 bus_next core mid es origin log = ap (λ o. replay (start o) mid.log) origin ∙ ap (replay (start core.origin)) log ∙ replay-append (start core.origin) core.log es
 
-row_of_more : (more : ℕ) (seat : SeatView) (core mid after : CoreState) (result : Result Stepped CoreFault) → Meets seat core → has seat.rights (right_to MakeStep) ≡ true → Answers IsStep MakeStep core mid (Ok stepped.Did) →
-    Row more (noted seat core (entries_of core MakeStep)) mid after result → Row (suc more) seat core after result
-row_of_more more seat core mid after result meets right a r =
+row_of_more : (Finds : List Entry → Type 0) (more : ℕ) (seat : SeatView) (core mid after : CoreState) (result : Result Stepped CoreFault) → Meets seat core → has seat.rights (right_to MakeStep) ≡ true → Finds core.log → Answers IsStep MakeStep core mid (Ok stepped.Did) →
+    Row (λ log. log ≡ core.log ++ entries_of core MakeStep) more (noted seat core (entries_of core MakeStep)) mid after result → Row Finds (suc more) seat core after result
+row_of_more Finds more seat core mid after result meets right found a r =
     let es = entries_of core MakeStep in
     let next = noted seat core es in
     let goes : Follows core mid es = follows IsStep MakeStep (Ok stepped.Did) core mid a in
@@ -149,18 +181,20 @@ row_of_more more seat core mid after result meets right a r =
       sparse = subst (λ (l : List Entry). IsSparse l) log r.sparse;
       rights = own_all_more seat.rights es r.entries (own_entries seat.rights core MakeStep right) r.rights;
       owned = own_all_more all_rights es r.entries (own_entries all_rights core MakeStep refl) r.owned;
-      called = more_called more seat next (noted seat core (es ++ r.entries)) result (first_called seat core meets mid (Ok stepped.Did) a) (subst (λ (v : SeatView). CalledInRow more next v result) (noted_more seat core mid es r.entries goes) r.called);
+      called = more_called more Finds seat next (noted seat core (es ++ r.entries)) result (first_called seat core meets mid (Ok stepped.Did) a, found)
+          (subst (λ (v : SeatView). StepsFrom more (λ log. log ≡ core.log ++ es) next v result) (noted_more seat core mid es r.entries goes) r.called);
     }
 
 -- So each row of steps is one of calls.
-pub row : (more : ℕ) (seat : SeatView) (core after : CoreState) (result : Result Stepped CoreFault) → Meets seat core → has seat.rights (right_to MakeStep) ≡ true → StepsInRow more core after result → Row more seat core after result
+pub row : (Finds : List Entry → Type 0) (more : ℕ) (seat : SeatView) (core after : CoreState) (result : Result Stepped CoreFault) → Meets seat core → has seat.rights (right_to MakeStep) ≡ true → Finds core.log → StepsInRow more core after result → Row Finds more seat core after result
 unfolding StepsInRow
-row zero seat core after result meets right a = row_of_one seat core meets zero after result right a
-row (suc more) seat core after result meets right (inl a) = row_of_one seat core meets (suc more) after result right a
-row (suc more) seat core after result meets right (inr t) =
-    row_of_more more seat core t.0 after result meets right t.1 (row more (noted seat core (entries_of core MakeStep)) t.0 after result (meets_next seat core t.0 meets t.1) right t.2)
+row Finds zero seat core after result meets right found a = row_of_one seat core meets Finds zero after result found (ends_last Finds seat (noted seat core (added result (entries_of core MakeStep))) result) right a
+row Finds (suc more) seat core after result meets right found (inl a) = row_of_one seat core meets Finds (suc more) after result found (ends_other more Finds seat (noted seat core (added result (entries_of core MakeStep))) result a.1) right a.0
+row Finds (suc more) seat core after result meets right found (inr t) =
+    row_of_more Finds more seat core t.0 after result meets right found t.1
+    (row (λ log. log ≡ core.log ++ entries_of core MakeStep) more (noted seat core (entries_of core MakeStep)) t.0 after result (meets_next seat core t.0 meets t.1) right (follows IsStep MakeStep (Ok stepped.Did) core t.0 t.1).log t.2)
 
-module _ (bus : TableId) (seat : SeatView) (core : CoreState) (meets : Meets seat core) (more : ℕ) (result : Result Stepped CoreFault) (after : CoreState) (r : Row more (record seat { bus = bus }) core after result) where
+module _ (bus : TableId) (seat : SeatView) (core : CoreState) (meets : Meets seat core) (more : ℕ) (result : Result Stepped CoreFault) (after : CoreState) (r : Row (λ log. ⊤) more (record seat { bus = bus }) core after result) where
   -- The core may go back with what the steps have added.
   pub may_release_row : (me : HolderState) → HasTurn seat core me → MayRelease me after
   may_release_row me turn = subst (λ (m : HolderState). MayRelease m after) (sym turn.1) (record {

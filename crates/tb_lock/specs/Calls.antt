@@ -1,5 +1,5 @@
 -- What the calls of a shared bus come to: those that wait for a turn are answered as by one core, whose log is the one history; and how seats join.
-use Rattle.std.specs.Prelude.{◌≡◌, ◌↔◌, ℕ, zero, suc, ◌⊎◌, Bool, List, [], ◌∷◌, ◌++◌, map, length, take, drop, true, false, ◌||◌, IsTrue, Result, Ok, Err, IfOk, IsErrOf, ⊤}
+use Rattle.std.specs.Prelude.{◌≡◌, ◌≢◌, ◌↔◌, ℕ, zero, suc, ◌⊎◌, Bool, List, [], ◌∷◌, ◌++◌, map, length, take, drop, true, false, ◌||◌, IsTrue, Result, Ok, Err, IfOk, IsErrOf, ⊤}
 use Rattle.std.specs.Option.{is_some}
 use Rattle.tb_terms.specs.declared.memory.NoMemory.{NoMemory}
 use Rattle.tb_log.specs.declared.entry.Entry.{Entry}
@@ -71,11 +71,21 @@ pub record Called {A : Type 0} (Finds : CoreState → A → Type 0) (call : Call
   pub full : IsErrOf result fault.Full → is_full core call ≡ true
   pub room : IfOk result (λ _. is_full core call ≡ false)
 
--- Steps that are made in one turn, so many and one more at most, each but the last answered that it did one: as the same calls
--- made one after another.
-unfoldable pub CalledInRow : ℕ → SeatView → SeatView → Result Stepped CoreFault → Type 0
-CalledInRow zero old new result = Called IsStep MakeStep old new result
-CalledInRow (suc more) old new result = Called IsStep MakeStep old new result ⊎ ((mid : SeatView) × Called IsStep MakeStep old mid (Ok stepped.Did) × CalledInRow more mid new result)
+-- A step of a row, which meets such a history.
+abbrev pub StepsAt : (List Entry → Type 0) → SeatView → SeatView → Result Stepped CoreFault → Type 0
+StepsAt Finds old new result = (called : Called IsStep MakeStep old new result) × Finds called.core.log
+
+-- So many steps and one more at most, of which the first meets such a history, and each other one just what the one before has left:
+-- each but the last was answered that it did one, and the last wasn't, unless there are so many.
+unfoldable pub StepsFrom : ℕ → (List Entry → Type 0) → SeatView → SeatView → Result Stepped CoreFault → Type 0
+StepsFrom zero Finds old new result = StepsAt Finds old new result
+StepsFrom (suc more) Finds old new result =
+    (StepsAt Finds old new result × (result ≢ Ok stepped.Did))
+    ⊎ ((mid : SeatView) × StepsAt Finds old mid (Ok stepped.Did) × StepsFrom more (λ log. log ≡ mid.seen) mid new result)
+
+-- Steps that are made in one turn: as the same calls made one after another, between which no other seat makes any.
+abbrev pub CalledInRow : ℕ → SeatView → SeatView → Result Stepped CoreFault → Type 0
+CalledInRow more old new result = StepsFrom more (λ log. ⊤) old new result
 
 -- what becomes of an input
 abbrev pub IsReply : Input → CoreState → Reply → Type 0
@@ -95,10 +105,6 @@ pub record Observes {A : Type 0} (Finds : CoreState → A → Type 0) (old new :
 -- the state of a lane
 abbrev pub IsStateOf : ℕ → CoreState → LaneState → Type 0
 IsStateOf lane core state = state ≡ lane_state (lane_at lane (bus_now core).bench)
-
--- the states of all lanes, in order
-abbrev pub AreStates : CoreState → List LaneState → Type 0
-AreStates core states = states ≡ map (λ lane. lane_state (lane_at lane (bus_now core).bench)) (1 ∷ 2 ∷ 3 ∷ 4 ∷ 5 ∷ 6 ∷ 7 ∷ 8 ∷ 9 ∷ 10 ∷ 11 ∷ 12 ∷ 13 ∷ 14 ∷ 15 ∷ 16 ∷ [])
 
 -- on which lanes something is to be handed out, in order
 abbrev pub AreOuts : CoreState → List Bool → Type 0

@@ -3,7 +3,7 @@ ghost use Rattle.tb_log.specs.Shapes.{IsInputInShape, IsLane};
 ghost use Rattle.tb_core.specs.Cores.{HandIn, MakeStep, HandOut, IsStep};
 ghost use Rattle.tb_lock.specs.Rights.{AreAmong, has, right_to, all_rights};
 ghost use Rattle.tb_lock.specs.Seats.{first_seat, kept_of, handed_on, most_seats};
-ghost use Rattle.tb_lock.specs.Calls.{IsCallInShape, Called, IsReply, IsTaken, CalledInRow, Observes, IsStateOf, AreStates, IsPieceOf, StopsBus, Joins, Closes};
+ghost use Rattle.tb_lock.specs.Calls.{IsCallInShape, Called, IsReply, IsTaken, CalledInRow, Observes, IsStateOf, IsPieceOf, StopsBus, Joins, Closes};
 
 use crate::call::{CoreCall, HandingIn, Stepping, TakingOut, make_steps};
 use crate::notices::Notices;
@@ -170,19 +170,6 @@ impl<W: Walker> Shared<W> {
         state
     }
 
-    /// The states of all lanes in the seat's turn, in order. A seat needs no right for it.
-    pub fn lane_states<R: Wait>(&self, rt: &R, seat: &mut Seat) -> [LaneState; 16]
-        requires { seat.old.bus ≡ self.now }
-        ensures { Observes AreStates seat.old seat.new result }
-    {
-        let mut holder = replace(&mut seat.badge, Badge::blank()).into_seat();
-        let core = acquire(rt, &self.table.shared, &self.turns, &mut holder);
-        let states = states_of(&core);
-        release_unchanged(&self.table.shared, &self.turns, &mut holder, core);
-        seat.badge = holder.into_badge();
-        states
-    }
-
     /// Copies of entries of the history in the seat's turn: of those that stand behind the first `from` the first `most`,
     /// or all where they are fewer. A seat needs no right for it. Where memory runs out, the seat has seen the history all
     /// the same.
@@ -261,28 +248,4 @@ impl<W: Walker> Shared<W> {
         let mut holder = badge.into_seat();
         acquire(rt, &table.shared, &turns, &mut holder)
     }
-}
-
-/// The states of all lanes of a core, in order.
-fn states_of<W: Walker>(core: &Core<W>) -> [LaneState; 16]
-    ensures { AreStates core.now result }
-{
-    [
-        core.lane_state(1),
-        core.lane_state(2),
-        core.lane_state(3),
-        core.lane_state(4),
-        core.lane_state(5),
-        core.lane_state(6),
-        core.lane_state(7),
-        core.lane_state(8),
-        core.lane_state(9),
-        core.lane_state(10),
-        core.lane_state(11),
-        core.lane_state(12),
-        core.lane_state(13),
-        core.lane_state(14),
-        core.lane_state(15),
-        core.lane_state(16),
-    ]
 }

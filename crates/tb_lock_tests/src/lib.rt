@@ -14,4 +14,6 @@ mod live;
 #[cfg(test)]
 mod lock;
 #[cfg(test)]
+mod reads;
+#[cfg(test)]
 mod workers;

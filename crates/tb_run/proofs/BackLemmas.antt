@@ -1,5 +1,5 @@
 -- What comes back of a crew, and what a run comes to by it.
-use Rattle.std.proofs.Common.{◌≡◌, ℕ, List, [], ◌∷◌, map, length, Option, Some, None, MatchOption, Result, Ok, Err, IfOk, IfErr, refl, sym, ap, ◌∙◌, subst}
+use Rattle.std.proofs.Common.{◌≡◌, ℕ, List, [], ◌∷◌, map, length, Option, Some, None, MatchOption, Result, Ok, Err, IfOk, IfErr, OnOk, refl, sym, ap, ◌∙◌, subst}
 use Rattle.std.specs.List.{All}
 use Rattle.tb_edge.specs.Ends.{InletView, ClockView}
 use Rattle.tb_edge.specs.Faults.{Rose}
@@ -48,6 +48,13 @@ back_by items (Ok jobs) failed workers old A B D f f' ok err a b rose =
 back_by items (Err it) failed workers old A B D f f' ok err a b rose =
     subst (λ (o : Option RunWhy). MatchOption o (A workers) (λ w. FailsFor w f f' × (workers ≡ old) × B × D)) (sym err.0) (fails_for it f f' rose, err.1 ∙ b.0, b.1, b.2)
 
+-- the counts of what had nothing to do with how the crew fared
+pub counts_by : {J U : Type 0} (items : U → List J) (r : Result U (CrewFault J)) (failed : Option RunWhy) (workers old : List J) (C B D : Type 0) →
+    IfOk r (λ jobs. (failed ≡ None) × (workers ≡ items jobs)) → IfErr r (λ it. (failed ≡ Some (why_by it)) × (workers ≡ jobs_of it)) → OnOk r C →
+    IfErr r (λ it. (jobs_of it ≡ old) × B × D) → MatchOption failed C (λ w. B × D)
+counts_by items (Ok jobs) failed workers old C B D ok err calm same = subst (λ (o : Option RunWhy). MatchOption o C (λ w. B × D)) (sym ok.0) calm
+counts_by items (Err it) failed workers old C B D ok err calm same = subst (λ (o : Option RunWhy). MatchOption o C (λ w. B × D)) (sym err.0) (same.1, same.2)
+
 pub match_map : {Y : Type 0} (o : Option Y) (A C : Type 0) (B D : Y → Type 0) → (A → C) → ((y : Y) → B y → D y) → MatchOption o A B → MatchOption o C D
 match_map None A C B D f h m = f m
 match_map (Some y) A C B D f h m = h y m
@@ -88,6 +95,13 @@ module _ {X I O : Type 0} (seat : X → SeatView) (ended : X → WorkEnd) (work 
           (logs_add log_begun log_done writer put_old put_new out_faults_old out_faults_new log_end w.2).bus
       go (Some y) w = gather_same seat ended work gave took faults begun is os xs ys tick_begun tick_done log_begun log_done first seats works tick_is log_is sixteen_in sixteen_out w.1 w.2 w.3
 
+  -- the counts of faults
+  abbrev pub Calm : Type 0
+  Calm = crew_faults_new ≡ crew_faults_old
+
+  abbrev pub Uncalled : RunWhy → Type 0
+  Uncalled w = (clock_faults_new ≡ clock_faults_old) × (out_faults_new ≡ out_faults_old)
+
   module _ (first_law : FirstLaw) (second_law : SecondLaw) (down_law : DownLaw) (empty_law : EmptyLaw) (last : SeatView) (is_new : List I) (os_new : List O) (it : RunWhy)
       (rights : All (λ (x : X). HasRight (seat x) (work x)) xs)
       (joins : JoinsAll (kept_of no_rights (kept_of to_tick (left_after begun job_rights))) (log_done ∷ tick_done ∷ map seat ys) last)
@@ -98,20 +112,20 @@ module _ {X I O : Type 0} (seat : X → SeatView) (ended : X → WorkEnd) (work 
     abbrev pub After : OutsideView
     After = record { lanes = views gave took faults is_new os_new; clock = clock_new; clock_faults = clock_faults_new; crew_faults = crew_faults_new; put = put_new; out_faults = out_faults_new }
 
-    pub has_come : MatchOption failed Worked Idle → MatchOption failed (it ≡ reason_of tick_end (map ended ys) log_end) (λ w. it ≡ w) → HasCome most Before After begun last writer it
-    has_come m r = go failed m r
+    pub has_come : MatchOption failed Worked Idle → MatchOption failed (it ≡ reason_of tick_end (map ended ys) log_end) (λ w. it ≡ w) → MatchOption failed Calm Uncalled → HasCome most Before After begun last writer it
+    has_come m r counts = go failed m r counts
       where
-        go : (o : Option RunWhy) → MatchOption o Worked Idle → MatchOption o (it ≡ reason_of tick_end (map ended ys) log_end) (λ w. it ≡ w) → HasCome most Before After begun last writer it
-        go None w e =
+        go : (o : Option RunWhy) → MatchOption o Worked Idle → MatchOption o (it ≡ reason_of tick_end (map ended ys) log_end) (λ w. it ≡ w) → MatchOption o Calm Uncalled → HasCome most Before After begun last writer it
+        go None w e k =
             subst (HasCome most Before After begun last writer) (sym e)
             (come first_law second_law down_law empty_law seat ended work gave took faults most begun last is is_new os os_new xs ys tick_begun tick_done log_begun log_done tick_end log_end
             clock_old clock_new clock_faults_old clock_faults_new put_old put_new out_faults_old out_faults_new writer crew_faults_old crew_faults_new
-            (record { first = first; seats = seats; works = works; rights = rights; done = w.0; tick_is = tick_is; log_is = log_is; ticks = w.1; logs = w.2; joins = joins; inlets = inlets; outlets = outlets; lanes = sixteen_out }))
-        go (Some y) w e =
+            (record { first = first; seats = seats; works = works; rights = rights; done = w.0; tick_is = tick_is; log_is = log_is; ticks = w.1; logs = w.2; joins = joins; inlets = inlets; outlets = outlets; lanes = sixteen_out }) k)
+        go (Some y) w e k =
             let same_in : is_new ≡ is = inlets ∙ (ap (λ (zs : List X). inlets_of (map work zs)) w.1 ∙ (ap (λ (ws : List (Work I O)). inlets_of ws) works ∙ inlets_works is os)) in
             let same_out : os_new ≡ os = outlets ∙ (ap (λ (zs : List X). outlets_of (map work zs)) w.1 ∙ (ap (λ (ws : List (Work I O)). outlets_of ws) works ∙ outlets_works is os)) in
             let lanes : views gave took faults is_new os_new ≡ views gave took faults is os =
             ap (λ (s : List I). views gave took faults s os_new) same_in ∙ ap (λ (s : List O). views gave took faults is s) same_out in
             let seats' : map seat ys ≡ parted begun job_rights = ap (λ (zs : List X). map seat zs) w.1 ∙ seats in
             subst (HasCome most Before After begun last writer) (sym e)
-            (uncrewed most Before After begun last tick_done log_done (map seat ys) writer y first seats' (w.2 ∙ tick_is) (w.3 ∙ log_is) joins lanes w.4 w.5 w.0)
+            (uncrewed most Before After begun last tick_done log_done (map seat ys) writer y first seats' (w.2 ∙ tick_is) (w.3 ∙ log_is) joins lanes w.4 w.5 w.0 k.0 k.1)

@@ -250,6 +250,7 @@ clock-ran = record {
   time = no-ticks departing_log (Dropped why.Down) refl;
   why = inr (inl refl);
   end = inl (inl refl);
+  word = inl (Dropped why.Down, refl);
 }
 
 -- the lanes after the run, where the first has these ends
@@ -269,6 +270,7 @@ departing-run = record {
   history = record { trace = departing-leads.trace; sparse = departing-sparse };
   within = omega arith;
   outcome = (ap (λ (text : List ℕ). Some text) (sym departing-text), lanes-ran, clock-ran, departing-done);
+  first = (refl, refl, refl);
 }
 
 -- the outlet took one item less than the log hands out
@@ -301,6 +303,13 @@ none-clock lanes text runs = elim runs.outcome.4 [ inl less ↦ absurd (omega (a
 
 pub none-crew : (new : OutsideView) → Runs 36000 before new departing back Crew → ⊥
 none-crew new runs = let e : ◌≡◌ {A = List Entry} departing_log [] = runs.outcome.3 in cc
+
+-- the sink failed though it took all, and this is told before that the clock failed, and before the log's limit
+pub none-hidden : (lanes : List LaneView) (text : List ℕ) (clock_faults : ℕ) → Runs 36000 before (record (afterwards lanes text) { clock_faults = clock_faults; out_faults = 1 }) departing back Clock → ⊥
+none-hidden lanes text clock_faults runs = absurd (omega (arith, runs.first.1))
+
+pub none-hidden_full : (lanes : List LaneView) (text : List ℕ) → Runs 36000 before (record (afterwards lanes text) { out_faults = 1 }) departing back Events → ⊥
+none-hidden_full lanes text runs = absurd (omega (arith, runs.first.1))
 
 -- a run that was stopped lacks one item of an inlet at most
 pub none-forgotten : (text : List ℕ) (takes : List Taken) → Runs 36000 before (afterwards (lanes_of (given.Long ∷ given.Long ∷ put_by_tool) takes) text) departing back NoMemory → ⊥
@@ -416,4 +425,5 @@ stopped-run = record {
   history = record { trace = (opens (λ bus. Leads bus early (waits (live []))) starts).trace; sparse = sparse early refl };
   within = omega arith;
   outcome = (ap (λ (text : List ℕ). Some text) (sym early-text), (tool-stopped, unmoved-lanes early 2 15 refl), clock-stopped, inl refl);
+  first = (refl, refl);
 }

@@ -13,7 +13,7 @@ use Rattle.tb_lock.specs.Calls.{Closes}
 use Rattle.tb_write.specs.Writers.{WriterView}
 use Rattle.tb_run.specs.declared.ends.RunWhy.{RunWhy}
 use Rattle.tb_run.specs.declared.ends.RunWhy.TheVariants as why
-use Rattle.tb_run.specs.Outcomes.{LaneView, OutsideView, IsRunOf, RunOutcome, Runs}
+use Rattle.tb_run.specs.Outcomes.{LaneView, OutsideView, IsRunOf, RunOutcome, Runs, TellsFirst}
 use Rattle.tb_run.specs.Running.{ComesTo, GoesToRest, HasCome, HasRun, IsAfterRest, IsPut, IsStopped, PutsRest, rest_text}
 use Rattle.tb_run.specs.Seats.{SeesTrace}
 use Rattle.tb_run.proofs.LimitLemmas.{LaterLaw, full_at_limit}
@@ -55,7 +55,7 @@ module _ (seen : List Entry) (writer : WriterView) (put_old put_mid put_new : Op
   }
 
   pub rose_since : Rose faults_mid faults_new → Rose faults_old faults_new
-  rose_since (inl up) = inl (let low = p.never_falls in omega (arith, low, up))
+  rose_since (inl up) = inl (let same = p.calm in omega (arith, same, up))
   rose_since (inr top) = inr top
 
 module _ (law : LaterLaw) (most : ℕ) (old : OutsideView) (lanes : List LaneView) (clock : Option ClockView) (clock_faults crew_faults : ℕ) (put_mid put_new : Option (List ℕ)) (faults_mid faults_new : ℕ)
@@ -111,6 +111,24 @@ module _ (law : LaterLaw) (most : ℕ) (old : OutsideView) (lanes : List LaneVie
       subst (RunOutcome most old New Known) (sym e.0) (subst (λ (o : Option (List ℕ)). WritesPrefix old.put o (log_text seat.seen)) (sym e.1) c.0, c.1.lanes, c.1.clock)
   outcome why.Crew it sees c e = subst (RunOutcome most old New Known) (sym e.0) (e.1 ∙ c.0, c.1, c.2, c.3, c.4)
 
+  -- the first reason
+  first_by_sink : (it : RunWhy) → crew_faults ≡ old.crew_faults → faults_mid ≡ old.out_faults →
+      ((it ≡ why.Out) × WritesPrefix put_mid put_new (rest_text seat.seen writer) × Rose faults_mid faults_new) ⊎ ((it ≡ why.NoMemory) × WritesPrefix put_mid put_new (rest_text seat.seen writer)) →
+      TellsFirst old New it
+  first_by_sink it crew same (inl e) = subst (TellsFirst old New) (sym e.0) (crew, subst (λ (n : ℕ). Rose n faults_new) same e.2)
+  first_by_sink it crew same (inr e) = subst (TellsFirst old New) (sym e.0) tt
+
+  first : (w it : RunWhy) → TellsFirst old Mid w → IsAfterRest seat.seen writer w it put_mid put_new faults_mid faults_new → TellsFirst old New it
+  first why.Ended it t (inr e) = first_by_sink it t.0 t.1 e
+  first why.Ended it t (inl e) = subst (TellsFirst old New) (sym e.0) (t.0, e.2 ∙ t.1, t.2)
+  first why.Clock it t (inr e) = first_by_sink it t.0 t.1 e
+  first why.Clock it t (inl e) = subst (TellsFirst old New) (sym e.0) (t.0, e.2 ∙ t.1, t.2)
+  first why.Events it t (inr e) = first_by_sink it t.0 t.1 e
+  first why.Events it t (inl e) = subst (TellsFirst old New) (sym e.0) (t.0, e.2 ∙ t.1)
+  first why.Out it t e = subst (TellsFirst old New) (sym e.0) (t.0, subst (λ (n : ℕ). Rose old.out_faults n) (sym e.2) t.1)
+  first why.NoMemory it t e = subst (TellsFirst old New) (sym e.0) tt
+  first why.Crew it t e = subst (TellsFirst old New) (sym e.0) (t.0, e.2 ∙ t.1, t.2)
+
   pub closed : (w it : RunWhy) → HasCome most old Mid begun seat writer w → IsAfterRest core.log writer w it put_mid put_new faults_mid faults_new → Runs most old New begun.origin core it
   closed w it come after = record {
     origin_is = closes.origin ∙ come.origin;
@@ -118,4 +136,5 @@ module _ (law : LaterLaw) (most : ℕ) (old : OutsideView) (lanes : List LaneVie
     within = within;
     outcome = known (λ (k : CoreState). RunOutcome most old New k it)
         (outcome w it come.sees come.outcome (subst (λ (l : List Entry). IsAfterRest l writer w it put_mid put_new faults_mid faults_new) closes.log after));
+    first = first w it (come.first core closes) (subst (λ (l : List Entry). IsAfterRest l writer w it put_mid put_new faults_mid faults_new) closes.log after);
   }

@@ -31,13 +31,13 @@ use Rattle.tb_run.specs.Jobs.{HasRight}
 use Rattle.tb_run.specs.Joining.{JoinsAll}
 use Rattle.tb_run.specs.Logging.{LogDone, Logged}
 use Rattle.tb_run.specs.Moving.{works_of, inlets_of, outlets_of}
-use Rattle.tb_run.specs.Outcomes.{EachLane, OutsideView, IsDone, views}
+use Rattle.tb_run.specs.Outcomes.{EachLane, OutsideView, IsDone, TellsFirst, views}
 use Rattle.tb_run.specs.Parting.{parted, left_after}
 use Rattle.tb_run.specs.Parts.{job_rights, to_tick, rights_left}
 use Rattle.tb_run.specs.Reasons.{reason_of, of_log, of_clock, is_no_memory, is_full_end}
 use Rattle.tb_run.specs.Running.{ComesTo, HasCome, HasRun, IsPut, IsStopped, PutsPrefix}
 use Rattle.tb_run.specs.Seats.{Adds, SeesTrace, WasFull, FoundFull}
-use Rattle.tb_run.specs.Workers.{TicksBus, TickerEnds, StepperEnds, WriterEnds, bus_of}
+use Rattle.tb_run.specs.Workers.{ClockFaults, TicksBus, TickerEnds, StepperEnds, WriterEnds, bus_of}
 use Rattle.tb_run.proofs.ClockLemmas.{clock_ran, clock_stopped, TickerWhole}
 use Rattle.tb_run.proofs.EndLemmas.{CameToEnd, AllCameToEnd, NoneRefused, ends_of, came_to_end}
 use Rattle.tb_run.proofs.JoinLemmas.{AllKept, FirstLaw, SecondLaw, own_each, rights_of_all, room_of_all}
@@ -303,7 +303,7 @@ module _ (first_law : FirstLaw) (second_law : SecondLaw) (down_law : DownLaw) (e
     so_many = l.so_many;
     held = l.held;
     put = l.put;
-    never_falls = l.never_falls;
+    calm = l.calm;
   }
 
   puts_part : WritesPrefix put_old put_new (log_text log_done.seen) → PutsPrefix last.seen Before After
@@ -351,12 +351,31 @@ module _ (first_law : FirstLaw) (second_law : SecondLaw) (down_law : DownLaw) (e
   outcome false f me fe log.Out d = (puts_part d.1, stopped, d.2)
   outcome m f me fe log.NoMemory d = (puts_part d.1, stopped)
 
-  pub come : HasCome most Before After begun last writer (reason_of tick_end (map ended ys) log_end)
-  come = record {
+  -- the first reason, where the crew did the jobs
+  module _ (calm : crew_faults_new ≡ crew_faults_old) (core : CoreState) (closes : Closes last core) where
+    first_by_clock : Logged log_begun log_done writer put_old put_new out_faults_old out_faults_new → (it : WorkEnd) → CameToEnd it → ClockFaults clock_faults_old clock_faults_new it → TellsFirst Before After (of_clock it)
+    first_by_clock l end.Over h f = (calm, l.calm, f)
+    first_by_clock l end.Down h f = (calm, l.calm, f)
+    first_by_clock l end.Failed h f = (calm, l.calm, f)
+    first_by_clock l end.Stopped h f = absurd h
+    first_by_clock l end.Full h f = absurd h
+    first_by_clock l end.NoMemory h f = absurd h
+
+    first : (m f : Bool) → list_any is_no_memory (tick_end ∷ map ended ys) ≡ m → list_any is_full_end (tick_end ∷ map ended ys) ≡ f → (it : LogEnd) → LogDone log_begun log_done writer put_old put_new out_faults_old out_faults_new it → TellsFirst Before After (of_log m f tick_end it)
+    first true f me fe log.Over d = tt
+    first false true me fe log.Over d = (calm, d.calm)
+    first false false me fe log.Over d = first_by_clock d tick_end (came d (me, fe) core closes).0 c.ticks.faults
+    first true f me fe log.Out d = tt
+    first false f me fe log.Out d = (calm, d.2)
+    first m f me fe log.NoMemory d = tt
+
+  pub come : crew_faults_new ≡ crew_faults_old → HasCome most Before After begun last writer (reason_of tick_end (map ended ys) log_end)
+  come calm = record {
     bus = last_bus;
     origin = last_origin;
     rights = rights;
     room = room;
     sees = sees;
     outcome = outcome (list_any is_no_memory (tick_end ∷ map ended ys)) (list_any is_full_end (tick_end ∷ map ended ys)) refl refl log_end c.logs;
+    first = λ core closes. first calm core closes (list_any is_no_memory (tick_end ∷ map ended ys)) (list_any is_full_end (tick_end ∷ map ended ys)) refl refl log_end c.logs;
   }

@@ -256,6 +256,7 @@ clock-ran = record {
   time = no-ticks cutting_log (Dropped why.Down) refl;
   why = inr (inl refl);
   end = inl (inl refl);
+  word = inl (Dropped why.Down, refl);
 }
 
 abbrev pub cutting_text : List ℕ
@@ -292,6 +293,7 @@ cutting-run = record {
   history = record { trace = cutting-leads.trace; sparse = cutting-sparse };
   within = omega arith;
   outcome = (ap (λ (text : List ℕ). Some text) (sym put-text), lanes-ran, clock-ran, cutting-done);
+  first = (refl, refl, refl);
 }
 
 abbrev uncut : List Taken

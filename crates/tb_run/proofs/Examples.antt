@@ -236,7 +236,7 @@ abbrev pub core_of : Origin → List Entry → CoreState
 core_of origin log = record { origin = origin; log = log; stopped = false; spare = 0 }
 
 -- the one entry of time says that no more ticks come
-pub no-ticks : (log : List Entry) (reply : Reply) → filter is_time log ≡ Fed input_of.NoTicks reply ∷ [] → TimeIs log
+abbrev pub no-ticks : (log : List Entry) (reply : Reply) → filter is_time log ≡ Fed input_of.NoTicks reply ∷ [] → TimeIs log
 no-ticks log reply e = record {
   first = [];
   tail = Fed input_of.NoTicks reply ∷ [];

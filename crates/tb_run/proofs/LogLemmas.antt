@@ -1,5 +1,5 @@
 -- What the job that writes the log comes to, piece by piece.
-use Rattle.std.proofs.Common.{MatchOption, ◌≡◌, ◌≤◌, ◌+◌, ℕ, suc, List, [], ◌∷◌, ◌++◌, length, drop, take, Option, Some, None, refl, sym, ap, ◌∙◌, subst, append_assoc, append-nil, length-append, take-append-drop, inl, inr, arith}
+use Rattle.std.proofs.Common.{MatchOption, ◌≡◌, ◌+◌, ℕ, suc, List, [], ◌∷◌, ◌++◌, length, drop, take, Option, Some, None, refl, sym, ap, ◌∙◌, subst, append_assoc, append-nil, length-append, take-append-drop, inl, inr, arith}
 use Rattle.std.specs.Prelude.{Result, Err, IsErrOf}
 use Rattle.tb_edge.specs.Faults.{Rose}
 use Rattle.tb_edge.specs.Sinks.{Writes, WritesPrefix, and_more}
@@ -65,7 +65,7 @@ drop_after [] more = refl
 drop_after (entry ∷ log) more = drop_after log more
 
 pub logged_none : (seat : SeatView) (put : Option (List ℕ)) (faults : ℕ) → Logged seat seat (record { written = 0; held = [] }) put put faults faults
-logged_none seat put faults = record { adds = adds_none seat; written = []; rest = seat.seen; seen = refl; so_many = refl; held = refl; put = sym (more_none put); never_falls = omega arith; called = refl }
+logged_none seat put faults = record { adds = adds_none seat; written = []; rest = seat.seen; seen = refl; so_many = refl; held = refl; put = sym (more_none put); calm = refl; called = refl }
 
 module _ (a b c : SeatView) (from to : WriterView) (put_a put_b put_c : Option (List ℕ)) (faults_a faults_b faults_c : ℕ) (one : Logged a b from put_a put_b faults_a faults_b) where
   -- what stands from the index on in a longer log
@@ -91,7 +91,7 @@ module _ (a b c : SeatView) (from to : WriterView) (put_a put_b put_c : Option (
     so_many = length-append one.written two.piece ∙ (ap (λ (n : ℕ). n + length two.piece) one.so_many ∙ sym (ap (λ (w : WriterView). w.written) two.so_many));
     held = ap (λ (w : WriterView). w.held) two.so_many;
     put = two.put ∙ (ap (λ (p : Option (List ℕ)). and_more p (log_text_from (from.written + 1) two.piece)) one.put ∙ (more_on put_a (log_text one.written) (log_text_from (from.written + 1) two.piece) ∙ ap (and_more put_a) (sym (text_of two.piece))));
-    never_falls = let p = one.never_falls in let q = two.never_falls in omega arith;
+    calm = two.calm ∙ one.calm;
     called = two.called ∙ one.called;
   }
 
@@ -116,7 +116,7 @@ module _ (a b c : SeatView) (from to : WriterView) (put_a put_b put_c : Option (
       }
 
   rose_after : Rose faults_b faults_c → Rose faults_a faults_c
-  rose_after (inl up) = inl (let low = one.never_falls in omega arith)
+  rose_after (inl up) = inl (let same = one.calm in omega arith)
   rose_after (inr top) = inr top
 
   part_on : PutsPart b c from put_b put_c → WritesPrefix put_a put_c (log_text c.seen)
@@ -131,7 +131,7 @@ module _ (a b c : SeatView) (from to : WriterView) (put_a put_b put_c : Option (
     so_many = one.so_many ∙ sym (ap (λ (w : WriterView). w.written) e.1);
     held = ap (λ (w : WriterView). w.held) e.1 ∙ one.held;
     put = e.2 ∙ one.put;
-    never_falls = let p = one.never_falls in let q = e.3 in omega arith;
+    calm = e.3 ∙ one.calm;
     called = e.4 ∙ one.called;
   }
   log_end end.Out e = (stops_on a b c one.adds e.0, part_on e.1, rose_after e.2)
@@ -148,7 +148,7 @@ module _ (seen_law : SeenLaw) (old mid new : SeatView) (core : CoreState) (from 
     is = is ∙ ap (λ (s : List Entry). take most (drop from.written s)) (sym (ap (λ (s : SeatView). s.seen) p.same ∙ seen));
     so_many = p.so_many;
     put = p.put;
-    never_falls = p.never_falls;
+    calm = p.calm;
     called = ap (λ (s : SeatView). s.called) p.same ∙ called;
   }
 

@@ -20,7 +20,7 @@ use Rattle.tb_run.specs.declared.worker.Work.{Work}
 use Rattle.tb_run.specs.Clocks.{ClockStopped}
 use Rattle.tb_run.specs.Joining.{JoinsAll}
 use Rattle.tb_run.specs.Moving.{readers, writers, inlets_of, outlets_of}
-use Rattle.tb_run.specs.Outcomes.{EachLane, LaneView, LaneStopped, OutsideView, IsRunOf, Runs}
+use Rattle.tb_run.specs.Outcomes.{EachLane, LaneView, LaneStopped, OutsideView, IsRunOf, Runs, TellsFirst}
 use Rattle.tb_run.specs.Parting.{parted, left_after}
 use Rattle.tb_run.specs.Parts.{job_rights, to_tick, rights_left}
 use Rattle.tb_run.specs.Running.{ComesTo, HasCome, IsStopped, FailsFor}
@@ -87,6 +87,7 @@ unbegun most outside core none =
       within = subst (λ (l : List Entry). length l ≤ core.origin.limit) (sym none) (let z : length {A = Entry} [] ≤ core.origin.limit = omega arith in z);
       outcome = subst (λ (l : List Entry). WritesPrefix outside.put outside.put (log_text l) × EachLane (LaneStopped l) 1 outside.lanes outside.lanes × ClockStopped l most outside.clock outside.clock (Rose outside.clock_faults outside.clock_faults)) (sym none)
           (nothing_put outside outside refl, st.lanes, st.clock);
+      first = tt;
     }
 
 -- a seat that was not parted
@@ -100,6 +101,7 @@ unparted most outside begun writer first =
       room = ap (λ (s : SeatView). s.room) first;
       sees = sees_nothing begun seen;
       outcome = subst (λ (l : List Entry). WritesPrefix outside.put outside.put (log_text l) × IsStopped most l outside outside) (sym seen) (nothing_put outside outside refl, nothing_stopped most outside outside refl refl);
+      first = λ core closes. tt;
     }
 
 -- seats that have seen nothing come together in one that has seen nothing
@@ -122,7 +124,8 @@ module _ (most : ℕ) (old new : OutsideView) (begun last tick log : SeatView) (
     (first : begun ≡ first_seat begun.bus begun.origin) (parts : seats ≡ parted begun job_rights)
     (tick_is : tick ≡ handed_on to_tick (left_after begun job_rights)) (log_is : log ≡ handed_on no_rights (kept_of to_tick (left_after begun job_rights)))
     (joins : JoinsAll (kept_of no_rights (kept_of to_tick (left_after begun job_rights))) (log ∷ tick ∷ seats) last)
-    (lanes : new.lanes ≡ old.lanes) (clock : new.clock ≡ old.clock) (put : new.put ≡ old.put) (fails : FailsFor w old.crew_faults new.crew_faults) where
+    (lanes : new.lanes ≡ old.lanes) (clock : new.clock ≡ old.clock) (put : new.put ≡ old.put) (fails : FailsFor w old.crew_faults new.crew_faults)
+    (clock_calm : new.clock_faults ≡ old.clock_faults) (out_calm : new.out_faults ≡ old.out_faults) where
   abbrev Rest : SeatView
   Rest = left_after begun job_rights
 
@@ -170,6 +173,14 @@ module _ (most : ℕ) (old new : OutsideView) (begun last tick log : SeatView) (
   outcome why.Out f = absurd f
   outcome why.Events f = absurd f
 
+  first_reason : (v : RunWhy) → FailsFor v old.crew_faults new.crew_faults → TellsFirst old new v
+  first_reason why.Crew f = (f, out_calm, clock_calm)
+  first_reason why.NoMemory f = tt
+  first_reason why.Ended f = absurd f
+  first_reason why.Clock f = absurd f
+  first_reason why.Out f = absurd f
+  first_reason why.Events f = absurd f
+
   pub uncrewed : HasCome most old new begun last writer w
   uncrewed = record {
     bus = bus_of_all Mine last (log ∷ tick ∷ seats) joins ∙ left_bus begun job_rights;
@@ -178,6 +189,7 @@ module _ (most : ℕ) (old new : OutsideView) (begun last tick log : SeatView) (
     room = room;
     sees = sees_nothing last nothing;
     outcome = outcome w fails;
+    first = λ core closes. first_reason w fails;
   }
 
 -- the ends of the lanes stand in the works in order

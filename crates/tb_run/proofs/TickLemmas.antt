@@ -2,7 +2,7 @@
 use Rattle.std.proofs.Common.{◌≡◌, ◌≤◌, ◌+◌, ◌⊎◌, ℕ, List, [], ◌∷◌, ◌++◌, length, Bool, true, false, true≢false, not, ◌||◌, Option, Some, None, MatchOption, refl, sym, ap, ◌∙◌, subst, inl, inr, append_assoc, length-append, arith}
 use Rattle.std.proofs.Math.Bool.{or-false}
 use Rattle.tb_edge.specs.Faults.{Rose}
-use Rattle.tb_edge.specs.Ends.{ClockView, and_ticked}
+use Rattle.tb_edge.specs.Ends.{ClockView, and_ticked, has_ended}
 use Rattle.tb_log.specs.declared.entry.Input.TheVariants as input
 use Rattle.tb_log.specs.declared.entry.Reply.TheVariants.{Dropped}
 use Rattle.tb_log.specs.declared.entry.Why.TheVariants as why
@@ -13,7 +13,7 @@ use Rattle.tb_lock.specs.Seats.{SeatView}
 use Rattle.tb_run.specs.declared.ends.WorkEnd.{WorkEnd}
 use Rattle.tb_run.specs.declared.ends.WorkEnd.TheVariants as end
 use Rattle.tb_run.specs.Seats.{Adds, Hands}
-use Rattle.tb_run.specs.Workers.{AreTicks, Ticks, TicksBus, TickerEnds}
+use Rattle.tb_run.specs.Workers.{AreTicks, ClockFaults, Ticks, TicksBus, TickerEnds}
 use Rattle.tb_run.specs.Ticking.{EndsAll, IsRefused}
 use Rattle.tb_run.proofs.SeatLemmas.{let_in_both, let_in_on, marks_none, marks_both, marks_on, both_marks, adds_none, adds_on, found_on}
 
@@ -30,6 +30,11 @@ ticked_none (Some view) =
     let sum : view.ticks + 0 ≡ view.ticks = omega arith in
     ap (λ (t : ℕ). Some (record { ticks = t; ended = view.ended || false })) sum ∙ ap (λ (b : Bool). Some (record { ticks = view.ticks; ended = b })) (or-false view.ended)
 
+-- a clock that has ended has ended after each call
+ended_stays : (told : Option ClockView) (n : ℕ) (ended : Bool) → has_ended told → has_ended (and_ticked told n ended)
+ended_stays None n ended h = absurd h
+ended_stays (Some view) n ended h = ap (λ (b : Bool). b || ended) h
+
 pub ticks_append : (xs ys : List Entry) → AreTicks xs → AreTicks ys → AreTicks (xs ++ ys)
 ticks_append [] ys a b = b
 ticks_append (Fed input.Tick reply ∷ xs) ys a b = ticks_append xs ys a b
@@ -42,9 +47,12 @@ ticks_append (Quiet ∷ xs) ys a b = absurd a
 ticks_append (Gave at out ∷ xs) ys a b = absurd a
 
 pub ticks_none : (seat : SeatView) (told : Option ClockView) (faults : ℕ) → Ticks seat seat told told faults faults 0
-ticks_none seat told faults = record { more = []; adds = adds_none seat; ticks = tt; let_in = tt; count = refl; told = sym (ticked_none told); never_falls = omega arith; marks = marks_none seat }
+ticks_none seat told faults = record { more = []; adds = adds_none seat; ticks = tt; let_in = tt; count = refl; told = sym (ticked_none told); none = λ over. refl; calm = refl; marks = marks_none seat }
 
 module _ (a b c : SeatView) (told_a told_b told_c : Option ClockView) (faults_a faults_b faults_c : ℕ) (m : ℕ) where
+  still : (n : ℕ) → told_b ≡ and_ticked told_a n false → has_ended told_a → has_ended told_b
+  still n told over = subst has_ended (sym told) (ended_stays told_a n false over)
+
   pub ticks_on : (n : ℕ) → Ticks a b told_a told_b faults_a faults_b m → Ticks b c told_b told_c faults_b faults_c n → Ticks a c told_a told_c faults_a faults_c (m + n)
   ticks_on n one two = record {
     more = one.more ++ two.more;
@@ -53,13 +61,22 @@ module _ (a b c : SeatView) (told_a told_b told_c : Option ClockView) (faults_a 
     let_in = let_in_both one.more two.more one.let_in two.let_in;
     count = let p = one.count in let q = two.count in omega (arith, length-append one.more two.more);
     told = two.told ∙ (ap (λ (t : Option ClockView). and_ticked t n false) one.told ∙ ticked_on told_a m n false);
-    never_falls = let p = one.never_falls in let q = two.never_falls in omega arith;
+    none = λ over. let p = one.none over in let q = two.none (still m one.told over) in omega arith;
+    calm = two.calm ∙ one.calm;
     marks = marks_both a b c one.marks two.marks;
   }
 
   rose_on : faults_a ≤ faults_b → Rose faults_b faults_c → Rose faults_a faults_c
   rose_on low (inl up) = inl (omega arith)
   rose_on low (inr top) = inr top
+
+  faults_on : (it : WorkEnd) → faults_b ≡ faults_a → ClockFaults faults_b faults_c it → ClockFaults faults_a faults_c it
+  faults_on end.Over same f = f ∙ same
+  faults_on end.Down same f = f ∙ same
+  faults_on end.Failed same f = rose_on (omega (arith, same)) f
+  faults_on end.Stopped same f = tt
+  faults_on end.Full same f = tt
+  faults_on end.NoMemory same f = tt
 
   ends_on : (Enough Enough' : ℕ → Type 0) → ((k : ℕ) → Enough k → Enough' (m + k)) → (tail : List Entry) (last : ℕ) (xs : List Entry) → Adds a b xs → (k : ℕ) (ended : Bool) (it : WorkEnd) → faults_a ≤ faults_b → TickerEnds Enough tail last b c k faults_b faults_c ended it → TickerEnds Enough' tail last a c (m + k) faults_a faults_c ended it
   ends_on Enough Enough' f tail last xs adds k ended end.Over low (w, inl e) = (w, inl e)
@@ -87,35 +104,37 @@ module _ (a b c : SeatView) (told_a told_b told_c : Option ClockView) (faults_a 
         within = let q = two.within in omega (arith, all);
         lacks = two.lacks;
         whole = two.whole;
+        none = λ over. let p = one.none over in let q = two.none (still m one.told over) in omega (arith, all);
         marks = marks_on a b c it one.marks two.marks;
-        never_falls = let p = one.never_falls in let q = two.never_falls in omega arith;
-        ends = subst (λ (n : ℕ). TickerEnds Enough' two.tail two.last a c n faults_a faults_c two.ended it) len (ends_on Enough Enough' f two.tail two.last one.more one.adds (length two.first) two.ended it one.never_falls two.ends);
+        never_falls = let p = one.calm in let q = two.never_falls in omega arith;
+        faults = faults_on it one.calm two.faults;
+        ends = subst (λ (n : ℕ). TickerEnds Enough' two.tail two.last a c n faults_a faults_c two.ended it) len (ends_on Enough Enough' f two.tail two.last one.more one.adds (length two.first) two.ended it (let p = one.calm in omega arith) two.ends);
       }
 
 module _ (old new : SeatView) (told_old told_new : Option ClockView) (faults_old faults_new : ℕ) (low : faults_old ≤ faults_new) where
   -- a tick that was given
-  pub ticks_hands : (answer : Option WorkEnd) → told_new ≡ and_ticked told_old 1 false → Hands input.Tick old new answer
+  pub ticks_hands : (answer : Option WorkEnd) → (has_ended told_old → ⊥) → faults_new ≡ faults_old → told_new ≡ and_ticked told_old 1 false → Hands input.Tick old new answer
       → MatchOption answer (Ticks old new told_old told_new faults_old faults_new 1) (TicksBus (λ count. ⊥) 1 old new told_old told_new faults_old faults_new)
-  ticks_hands None told h = record { more = Fed input.Tick h.0 ∷ []; adds = h.1; ticks = tt; let_in = (ap not h.3, tt); count = refl; told = told; never_falls = low; marks = h.2 }
-  ticks_hands (Some end.Down) told h = record { first = Fed input.Tick (Dropped why.Down) ∷ []; tail = []; adds = h.0; ticks = tt; let_in = ([], Fed input.Tick (Dropped why.Down), refl, tt); last = 0; ended = false; told = told; within = omega arith; lacks = refl; whole = λ e. refl; marks = h.1; never_falls = low; ends = (refl, h.2) }
-  ticks_hands (Some end.Stopped) told h = record { first = []; tail = []; adds = h.0; ticks = tt; let_in = tt; last = 1; ended = false; told = told; within = omega arith; lacks = omega arith; whole = λ e. absurd (true≢false (sym e)); marks = (h.1, h.2); never_falls = low; ends = refl }
-  ticks_hands (Some end.Full) told h = record { first = []; tail = []; adds = h.0.adds; ticks = tt; let_in = tt; last = 1; ended = false; told = told; within = omega arith; lacks = omega arith; whole = λ e. absurd (true≢false (sym e)); marks = both_marks old new h.0; never_falls = low; ends = (refl, inl (refl, h.1)) }
-  ticks_hands (Some end.NoMemory) told h = record { first = []; tail = []; adds = h.adds; ticks = tt; let_in = tt; last = 1; ended = false; told = told; within = omega arith; lacks = omega arith; whole = λ e. absurd (true≢false (sym e)); marks = both_marks old new h; never_falls = low; ends = refl }
-  ticks_hands (Some end.Over) told h = absurd h
-  ticks_hands (Some end.Failed) told h = absurd h
+  ticks_hands None fresh calm told h = record { more = Fed input.Tick h.0 ∷ []; adds = h.1; ticks = tt; let_in = (ap not h.3, tt); count = refl; told = told; none = λ over. absurd (fresh over); calm = calm; marks = h.2 }
+  ticks_hands (Some end.Down) fresh calm told h = record { first = Fed input.Tick (Dropped why.Down) ∷ []; tail = []; adds = h.0; ticks = tt; let_in = ([], Fed input.Tick (Dropped why.Down), refl, tt); last = 0; ended = false; told = told; within = omega arith; lacks = refl; whole = λ e. refl; marks = h.1; none = λ over. absurd (fresh over); never_falls = low; faults = calm; ends = (refl, h.2) }
+  ticks_hands (Some end.Stopped) fresh calm told h = record { first = []; tail = []; adds = h.0; ticks = tt; let_in = tt; last = 1; ended = false; told = told; within = omega arith; lacks = omega arith; whole = λ e. absurd (true≢false (sym e)); marks = (h.1, h.2); none = λ over. absurd (fresh over); never_falls = low; faults = tt; ends = refl }
+  ticks_hands (Some end.Full) fresh calm told h = record { first = []; tail = []; adds = h.0.adds; ticks = tt; let_in = tt; last = 1; ended = false; told = told; within = omega arith; lacks = omega arith; whole = λ e. absurd (true≢false (sym e)); marks = both_marks old new h.0; none = λ over. absurd (fresh over); never_falls = low; faults = tt; ends = (refl, inl (refl, h.1)) }
+  ticks_hands (Some end.NoMemory) fresh calm told h = record { first = []; tail = []; adds = h.adds; ticks = tt; let_in = tt; last = 1; ended = false; told = told; within = omega arith; lacks = omega arith; whole = λ e. absurd (true≢false (sym e)); marks = both_marks old new h; none = λ over. absurd (fresh over); never_falls = low; faults = tt; ends = refl }
+  ticks_hands (Some end.Over) fresh calm told h = absurd h
+  ticks_hands (Some end.Failed) fresh calm told h = absurd h
 
   -- no more come: the clock has ended, or failed, or there were enough
   module _ (Enough : ℕ → Type 0) (most : ℕ) (ended : Bool) (told : told_new ≡ and_ticked told_old 0 ended) where
     refused_all : (it : WorkEnd) → IsRefused old new it → TicksBus Enough most old new told_old told_new faults_old faults_new it
-    refused_all end.Stopped r = record { first = []; tail = []; adds = r.0; ticks = tt; let_in = tt; last = 0; ended = ended; told = told; within = omega arith; lacks = omega arith; whole = λ e. refl; marks = (r.1, r.2); never_falls = low; ends = refl }
-    refused_all end.Full r = record { first = []; tail = []; adds = r.0.adds; ticks = tt; let_in = tt; last = 0; ended = ended; told = told; within = omega arith; lacks = omega arith; whole = λ e. refl; marks = both_marks old new r.0; never_falls = low; ends = (refl, inr (refl, r.1)) }
-    refused_all end.NoMemory r = record { first = []; tail = []; adds = r.adds; ticks = tt; let_in = tt; last = 0; ended = ended; told = told; within = omega arith; lacks = omega arith; whole = λ e. refl; marks = both_marks old new r; never_falls = low; ends = refl }
+    refused_all end.Stopped r = record { first = []; tail = []; adds = r.0; ticks = tt; let_in = tt; last = 0; ended = ended; told = told; within = omega arith; lacks = omega arith; whole = λ e. refl; marks = (r.1, r.2); none = λ over. refl; never_falls = low; faults = tt; ends = refl }
+    refused_all end.Full r = record { first = []; tail = []; adds = r.0.adds; ticks = tt; let_in = tt; last = 0; ended = ended; told = told; within = omega arith; lacks = omega arith; whole = λ e. refl; marks = both_marks old new r.0; none = λ over. refl; never_falls = low; faults = tt; ends = (refl, inr (refl, r.1)) }
+    refused_all end.NoMemory r = record { first = []; tail = []; adds = r.adds; ticks = tt; let_in = tt; last = 0; ended = ended; told = told; within = omega arith; lacks = omega arith; whole = λ e. refl; marks = both_marks old new r; none = λ over. refl; never_falls = low; faults = tt; ends = refl }
     refused_all end.Over r = absurd r
     refused_all end.Down r = absurd r
     refused_all end.Failed r = absurd r
 
-    pub ticks_over : (it : WorkEnd) → (ended ≡ true) ⊎ Enough 0 → EndsAll old new end.Over it → TicksBus Enough most old new told_old told_new faults_old faults_new it
-    ticks_over it why (inl e) = subst (TicksBus Enough most old new told_old told_new faults_old faults_new) (sym e.0) (record {
+    pub ticks_over : (it : WorkEnd) → faults_new ≡ faults_old → (ended ≡ true) ⊎ Enough 0 → EndsAll old new end.Over it → TicksBus Enough most old new told_old told_new faults_old faults_new it
+    ticks_over it calm why (inl e) = subst (TicksBus Enough most old new told_old told_new faults_old faults_new) (sym e.0) (record {
       first = [];
       tail = Fed input.NoTicks e.1.0 ∷ [];
       adds = e.1.1;
@@ -128,10 +147,12 @@ module _ (old new : SeatView) (told_old told_new : Option ClockView) (faults_old
       lacks = refl;
       whole = λ e. refl;
       marks = e.1.2;
+      none = λ over. refl;
       never_falls = low;
+      faults = calm;
       ends = ((e.1.0, refl), why);
     })
-    ticks_over it why (inr r) = refused_all it r
+    ticks_over it calm why (inr r) = refused_all it r
 
     pub ticks_failed : (it : WorkEnd) → Rose faults_old faults_new → EndsAll old new end.Failed it → TicksBus Enough most old new told_old told_new faults_old faults_new it
     ticks_failed it rose (inl e) = subst (TicksBus Enough most old new told_old told_new faults_old faults_new) (sym e.0) (record {
@@ -147,7 +168,9 @@ module _ (old new : SeatView) (told_old told_new : Option ClockView) (faults_old
       lacks = refl;
       whole = λ e. refl;
       marks = e.1.2;
+      none = λ over. refl;
       never_falls = low;
+      faults = rose;
       ends = ((e.1.0, refl), rose);
     })
     ticks_failed it rose (inr r) = refused_all it r

@@ -42,11 +42,12 @@ counted = record {
   time = record { first = tick ∷ []; tail = no_more ∷ []; is = refl; ticks = tt; last = inr (Took, refl) };
   why = inr (inr (inr refl));
   end = inl (inr (inr refl));
+  word = inl (Took, refl);
 }
 
 -- there may be none: that is said at once
 none-asked : ClockRan (no_more ∷ []) 0 (gave 0 false) (gave 0 false) ⊥
-none-asked = record { ended = false; told = refl; within = omega arith; time = no-ticks (no_more ∷ []) Took refl; why = inr (inr (inr refl)); end = inl (inr (inr refl)) }
+none-asked = record { ended = false; told = refl; within = omega arith; time = no-ticks (no_more ∷ []) Took refl; why = inr (inr (inr refl)); end = inl (inr (inr refl)); word = inl (Took, refl) }
 
 -- a tick was dropped since the bus was down: nothing more is said
 dropped : ClockRan (tick ∷ last_tick ∷ []) 5 (gave 0 false) (gave 2 false) ⊥
@@ -57,6 +58,7 @@ dropped = record {
   time = record { first = tick ∷ last_tick ∷ []; tail = []; is = refl; ticks = tt; last = inl refl };
   why = inl refl;
   end = inr (tick ∷ [], Tick, [], refl, refl);
+  word = inr (tick ∷ [], Tick, [], refl, refl);
 }
 
 -- the tail is said, where it is all
@@ -103,7 +105,7 @@ lacking = record {
   ended = false;
   told = refl;
   one = omega arith;
-  whole = λ e. cc;
+  whole = λ e. elim e [ inl up ↦ cc | inr up ↦ cc ];
   within = omega arith;
   time = record { first = []; tail = []; is = refl; ticks = tt; last = inl refl };
   why = inl refl;
@@ -119,3 +121,9 @@ none-beyond : ClockStopped [] 0 (gave 0 false) (gave 1 false) ⊥ → ⊥
 none-beyond ran =
     let same : ◌≡◌ {A = ℕ} 1 (0 + (ticks [] + ran.last)) = ap ticks_of ran.told in
     absurd (omega (arith, same, ran.within))
+
+-- nor any of a clock that had ended before
+none-after_end : (ended : Bool) → ClockStopped [] 5 (gave 0 true) (gave 1 ended) ⊥ → ⊥
+none-after_end ended ran =
+    let same : ◌≡◌ {A = ℕ} 1 (0 + (ticks [] + ran.last)) = ap ticks_of ran.told in
+    absurd (omega (arith, same, ran.whole (inr refl)))

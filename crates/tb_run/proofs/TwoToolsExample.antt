@@ -450,6 +450,7 @@ clock-ran = record {
   time = no-ticks asking_log (Dropped why.Down) refl;
   why = inr (inl refl);
   end = inl (inl refl);
+  word = inl (Dropped why.Down, refl);
 }
 
 abbrev pub asking_text : List ℕ
@@ -494,6 +495,7 @@ asking-run = record {
   history = record { trace = asking-leads.trace; sparse = asking-sparse };
   within = omega arith;
   outcome = (ap (λ (text : List ℕ). Some text) (sym put-text), lanes-ran, clock-ran, asking-done);
+  first = (refl, refl, refl);
 }
 
 -- the log has an answer that the first tool's inlet didn't give

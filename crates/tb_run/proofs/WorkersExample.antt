@@ -1,5 +1,5 @@
 -- What each of four workers may say of itself, worked out on the logs of two runs.
-use Rattle.std.proofs.Common.{◌≡◌, ℕ, List, [], ◌∷◌, ◌++◌, map, inl, inr, replicate, refl, ap, sym, ◌∙◌, subst, arith, codes, false, true, Option, Some, None, Bool}
+use Rattle.std.proofs.Common.{◌≡◌, ℕ, List, [], ◌∷◌, ◌++◌, inl, inr, refl, ap, sym, ◌∙◌, subst, arith, codes, false, true, Option, Some, None, Bool}
 use Rattle.tb_edge.specs.declared.given.Given.{Given}
 use Rattle.tb_edge.specs.declared.given.Taken.{Taken}
 use Rattle.tb_edge.specs.Ends.{InletView}
@@ -11,21 +11,17 @@ use Rattle.tb_log.specs.declared.entry.Out.TheVariants as out
 use Rattle.tb_log.specs.declared.entry.Entry.{Entry}
 use Rattle.tb_log.specs.declared.entry.Entry.TheVariants.{Fed, Gave}
 use Rattle.tb_log.specs.Lanes.{given_on}
-use Rattle.tb_tools.specs.declared.stage.LaneState.TheVariants as state
-use Rattle.tb_tools.specs.Lanes.{lane_at, lane_state}
 use Rattle.tb_bus.specs.declared.origin.Origin.{Origin}
 use Rattle.tb_bus.specs.Buses.{Bus}
-use Rattle.tb_core.specs.Cores.{bus_now}
 use Rattle.tb_lock.specs.declared.rights.Rights.{Rights}
 use Rattle.tb_lock.specs.Rights.{own, reader_rights, writer_rights, ticker_rights, stepper_rights}
 use Rattle.tb_lock.specs.Seats.{SeatView, Idle, no_bus}
-use Rattle.tb_lock.specs.Calls.{AreStates}
 use Rattle.tb_run.specs.declared.ends.WorkEnd.{WorkEnd}
 use Rattle.tb_run.specs.declared.ends.WorkEnd.TheVariants as end
 use Rattle.tb_run.specs.Seats.{Adds}
 use Rattle.tb_run.specs.Workers.{ReadsLane, WritesLane, TicksBus, StepsBus}
 use Rattle.tb_run.proofs.BadLinesExample.{bad, departing, departing_log, departing-leads, departing-sparse, put_by_tool, put-lines}
-use Rattle.tb_run.proofs.CutOffExample.{t, do_line, cutting, cutting_log, cutting-leads, cutting-sparse, cutting-done, taken_by_tool, taken-all, back}
+use Rattle.tb_run.proofs.CutOffExample.{t, do_line, cutting, cutting_log, cutting-leads, cutting-sparse, cutting-done, taken_by_tool, taken-all}
 
 -- a seat that has seen this, and has these marks
 abbrev seat_of : Origin → Rights → List Entry → Bool → Bool → SeatView
@@ -183,8 +179,10 @@ ticked = record {
   within = omega arith;
   lacks = refl;
   whole = λ e. refl;
+  none = λ e. refl;
   marks = (refl, refl);
   never_falls = omega arith;
+  faults = refl;
   ends = ((Dropped why.Down, refl), inl refl);
 }
 
@@ -202,13 +200,19 @@ ticked-failed = record {
   within = omega arith;
   lacks = refl;
   whole = λ e. refl;
+  none = λ e. refl;
   marks = (refl, refl);
   never_falls = omega arith;
+  faults = inl (omega arith);
   ends = ((Dropped why.Down, refl), inl (omega arith));
 }
 
 none-unfailed : (count : ℕ) (ended : Bool) → Tick count ended 0 end.Failed → ⊥
 none-unfailed count ended does = elim does.ends.1 [ inl less ↦ absurd (omega (arith, less)) | inr last ↦ absurd (omega (arith, last)) ]
+
+-- the clock failed, and it says that it has ended
+none-hidden : (count : ℕ) (ended : Bool) → Tick count ended 1 end.Over → ⊥
+none-hidden count ended does = absurd (omega (arith, does.faults))
 
 -- who makes steps
 stepped : StepsBus (new_seat departing stepper_rights) (departed stepper_rights) end.Down
@@ -218,10 +222,3 @@ stepped = record {
   marks = (refl, refl);
   ends = subst (λ (bus : Bus). bus.down ≡ true) (sym departing-leads.is) refl;
 }
-
--- the lanes at the end of a run: the first was told to end, and may still be up
-lane-states : AreStates back (state.Ending ∷ replicate 15 state.Free)
-unfolding bus_now
-lane-states = subst
-    (λ (bus : Bus). state.Ending ∷ replicate 15 state.Free ≡ map (λ lane. lane_state (lane_at lane bus.bench)) (1 ∷ 2 ∷ 3 ∷ 4 ∷ 5 ∷ 6 ∷ 7 ∷ 8 ∷ 9 ∷ 10 ∷ 11 ∷ 12 ∷ 13 ∷ 14 ∷ 15 ∷ 16 ∷ []))
-    (sym cutting-leads.is) refl

@@ -1,5 +1,5 @@
 -- What the job that writes the log while the bus runs has done.
-use Rattle.std.specs.Prelude.{◌≡◌, ◌+◌, ◌≤◌, ℕ, List, [], ◌++◌, length, drop, take, Option}
+use Rattle.std.specs.Prelude.{◌≡◌, ◌+◌, ℕ, List, [], ◌++◌, length, drop, take, Option}
 use Rattle.tb_edge.specs.Faults.{Rose}
 use Rattle.tb_edge.specs.Sinks.{Writes, WritesPrefix}
 use Rattle.tb_log.specs.declared.entry.Entry.{Entry}
@@ -20,7 +20,8 @@ pub record LogsOn (old new : SeatView) (from to : WriterView) (put_old put_new :
   pub is : piece ≡ take most (drop from.written new.seen)
   pub so_many : to ≡ record { written = from.written + length piece; held = [] }
   pub put : Writes put_old put_new (log_text_from (from.written + 1) piece)
-  pub never_falls : faults_old ≤ faults_new
+  -- no call of the sink failed
+  pub calm : faults_new ≡ faults_old
   pub called : new.called ≡ old.called
 
 -- of the entries from an index on a part was put
@@ -37,7 +38,7 @@ pub record PutsPart (old new : SeatView) (from : WriterView) (put_old put_new : 
 
 -- why the job ends, which has put so many entries before
 abbrev pub EndsLogging : SeatView → SeatView → WriterView → WriterView → Option (List ℕ) → Option (List ℕ) → ℕ → ℕ → LogEnd → Type 0
-EndsLogging old new from to put_old put_new faults_old faults_new end.Over = Adds old new [] × (to ≡ from) × (put_new ≡ put_old) × (faults_old ≤ faults_new) × (new.called ≡ old.called)
+EndsLogging old new from to put_old put_new faults_old faults_new end.Over = Adds old new [] × (to ≡ from) × (put_new ≡ put_old) × (faults_new ≡ faults_old) × (new.called ≡ old.called)
 EndsLogging old new from to put_old put_new faults_old faults_new end.Out = Stops old new × PutsPart old new from put_old put_new × Rose faults_old faults_new
 EndsLogging old new from to put_old put_new faults_old faults_new end.NoMemory = Stops old new × PutsPart old new from put_old put_new
 
@@ -46,10 +47,10 @@ pub record PutsSome (old new : SeatView) (piece : List Entry) (from to : WriterV
   pub same : new ≡ old
   pub so_many : to ≡ record { written = from.written + length piece; held = [] }
   pub put : Writes put_old put_new (log_text_from (from.written + 1) piece)
-  pub never_falls : faults_old ≤ faults_new
+  pub calm : faults_new ≡ faults_old
 
 abbrev pub PutsLast : SeatView → SeatView → List Entry → WriterView → WriterView → Option (List ℕ) → Option (List ℕ) → ℕ → ℕ → LogEnd → Type 0
-PutsLast old new piece from to put_old put_new faults_old faults_new end.Over = (new ≡ old) × (to ≡ from) × (put_new ≡ put_old) × (faults_old ≤ faults_new)
+PutsLast old new piece from to put_old put_new faults_old faults_new end.Over = (new ≡ old) × (to ≡ from) × (put_new ≡ put_old) × (faults_new ≡ faults_old)
 PutsLast old new piece from to put_old put_new faults_old faults_new end.Out = Stops old new × WritesPrefix put_old put_new (log_text_from (from.written + 1) piece) × Rose faults_old faults_new
 PutsLast old new piece from to put_old put_new faults_old faults_new end.NoMemory = Stops old new × WritesPrefix put_old put_new (log_text_from (from.written + 1) piece)
 
@@ -62,7 +63,7 @@ pub record Logged (old new : SeatView) (writer : WriterView) (put_old put_new : 
   pub so_many : length written ≡ writer.written
   pub held : writer.held ≡ []
   pub put : Writes put_old put_new (log_text written)
-  pub never_falls : faults_old ≤ faults_new
+  pub calm : faults_new ≡ faults_old
   pub called : new.called ≡ old.called
 
 -- what the whole job comes to

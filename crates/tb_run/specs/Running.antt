@@ -18,7 +18,7 @@ use Rattle.tb_run.specs.declared.ends.RunWhy.TheVariants.{Ended, Crew, Clock, Ou
 use Rattle.tb_run.specs.declared.worker.Work.{Work}
 use Rattle.tb_run.specs.Clocks.{ClockRan, ClockStopped}
 use Rattle.tb_run.specs.Jobs.{HasRight}
-use Rattle.tb_run.specs.Outcomes.{OutsideView, EachLane, LaneRan, LaneStopped, IsDone}
+use Rattle.tb_run.specs.Outcomes.{OutsideView, EachLane, LaneRan, LaneStopped, IsDone, TellsFirst}
 use Rattle.tb_run.specs.Seats.{SeesTrace, WasFull}
 use Rattle.tb_run.specs.Workers.{bus_of}
 
@@ -34,7 +34,7 @@ pub record IsPut (log : List Entry) (writer : WriterView) (put_old put_new : Opt
   pub so_many : length written ≡ writer.written
   pub held : writer.held ≡ []
   pub put : Writes put_old put_new (log_text written)
-  pub never_falls : faults_old ≤ faults_new
+  pub calm : faults_new ≡ faults_old
 
 -- a prefix of the text was put
 abbrev pub PutsPrefix : List Entry → OutsideView → OutsideView → Type 0
@@ -89,6 +89,8 @@ pub record HasCome (most : ℕ) (old new : OutsideView) (begun seat : SeatView) 
   pub room : seat.room ≡ most_seats
   pub sees : SeesTrace seat
   pub outcome : ComesTo most old new seat writer it
+  -- once the seat has closed the bus
+  pub first : (core : CoreState) → Closes seat core → TellsFirst old new it
 
 -- what is left of a log may be put: as much was put as the writer counts
 abbrev pub GoesToRest : List Entry → WriterView → RunWhy → Type 0
@@ -106,7 +108,7 @@ rest_text log writer = log_text_from (writer.written + 1) (drop writer.written l
 -- it was put, or the sink failed, or memory ran out
 abbrev pub PutsRest : List Entry → WriterView → RunWhy → RunWhy → Option (List ℕ) → Option (List ℕ) → ℕ → ℕ → Type 0
 PutsRest log writer why it put_old put_new faults_old faults_new =
-    ((it ≡ why) × Writes put_old put_new (rest_text log writer))
+    ((it ≡ why) × Writes put_old put_new (rest_text log writer) × (faults_new ≡ faults_old))
     ⊎ (((it ≡ Sink) × WritesPrefix put_old put_new (rest_text log writer) × Rose faults_old faults_new)
     ⊎ ((it ≡ NoMemory) × WritesPrefix put_old put_new (rest_text log writer)))
 

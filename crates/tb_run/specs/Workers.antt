@@ -2,7 +2,7 @@
 use Rattle.std.specs.Prelude.{◌≡◌, ℕ, ◌+◌, ◌-◌, ◌≤◌, ◌<◌, ◌^◌, ◌⊎◌, Bool, true, false, List, [], ◌∷◌, ◌++◌, length, map, count_by, Option, Some, None}
 use Rattle.std.specs.List.{AllZip}
 use Rattle.tb_edge.specs.Faults.{Rose}
-use Rattle.tb_edge.specs.Ends.{InletView, and_given, and_taken, ClockView, and_ticked}
+use Rattle.tb_edge.specs.Ends.{InletView, and_given, and_taken, ClockView, and_ticked, has_ended}
 use Rattle.tb_edge.specs.declared.given.Given.{Given}
 use Rattle.tb_edge.specs.declared.given.Given.TheVariants as given
 use Rattle.tb_edge.specs.declared.given.Taken.{Taken}
@@ -181,7 +181,9 @@ pub record Ticks (old new : SeatView) (told_old told_new : Option ClockView) (fa
   pub let_in : AreLetIn more
   pub count : length more ≡ fed
   pub told : told_new ≡ and_ticked told_old fed false
-  pub never_falls : faults_old ≤ faults_new
+  pub none : has_ended told_old → fed ≡ 0
+  -- no call of the clock failed
+  pub calm : faults_new ≡ faults_old
   pub marks : SameMarks old new
 
 -- that no more ticks come, whatever became of it
@@ -202,6 +204,15 @@ TickerEnds Enough tail last old new count faults_old faults_new ended end.Full =
 TickerEnds Enough tail last old new count faults_old faults_new ended end.Stopped = tail ≡ []
 TickerEnds Enough tail last old new count faults_old faults_new ended end.NoMemory = tail ≡ []
 
+-- A failure of the clock ends a tick worker as failed, unless it is refused the word that no more come: no call failed where it ends as over, or since the bus is down.
+abbrev pub ClockFaults : ℕ → ℕ → WorkEnd → Type 0
+ClockFaults faults_old faults_new end.Over = faults_new ≡ faults_old
+ClockFaults faults_old faults_new end.Down = faults_new ≡ faults_old
+ClockFaults faults_old faults_new end.Failed = Rose faults_old faults_new
+ClockFaults faults_old faults_new end.Stopped = Unit {0}
+ClockFaults faults_old faults_new end.Full = Unit {0}
+ClockFaults faults_old faults_new end.NoMemory = Unit {0}
+
 -- `tick_worker`: the ticks are those that the clock gave, but for the last where it was stopped; then perhaps that no more come.
 pub record TicksBus (Enough : ℕ → Type 0) (most : ℕ) (old new : SeatView) (told_old told_new : Option ClockView) (faults_old faults_new : ℕ) (it : WorkEnd) : Type 0 where
   pub first : List Entry
@@ -216,8 +227,11 @@ pub record TicksBus (Enough : ℕ → Type 0) (most : ℕ) (old new : SeatView) 
   pub lacks : MayLack it last
   -- where the clock has ended, all that it gave was handed in
   pub whole : ended ≡ true → last ≡ 0
+  -- a clock that had ended before gives nothing
+  pub none : has_ended told_old → length first + last ≡ 0
   pub marks : Marks old new it
   pub never_falls : faults_old ≤ faults_new
+  pub faults : ClockFaults faults_old faults_new it
   pub ends : TickerEnds Enough tail last old new (length first) faults_old faults_new ended it
 
 -- why a step worker may end so

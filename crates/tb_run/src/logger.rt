@@ -1,5 +1,5 @@
 //! The job that writes the log while the bus runs.
-ghost use Rattle.std.specs.Prelude.{◌≡◌, ◌≤◌, ◌+◌, [], length, MatchOption, OnOk, OnErr, IsErrOf};
+ghost use Rattle.std.specs.Prelude.{◌≡◌, ◌+◌, [], length, MatchOption, OnOk, OnErr, IsErrOf};
 ghost use Rattle.tb_edge.specs.Faults.{Rose};
 ghost use Rattle.tb_edge.specs.Sinks.{Writes, WritesPrefix};
 ghost use Rattle.tb_log.specs.LogText.{log_text_from};
@@ -184,7 +184,7 @@ pub(crate) fn put_piece<O: Sink>(
     ensures counted { OnOk result (writer.new ≡ record { written = writer.old.written + length piece.now; held = [] }) }
     ensures prefix { OnErr result (WritesPrefix (O.taken out.old) (O.taken out.new) (log_text_from (writer.old.written + 1) piece.now)) }
     ensures rose { IsErrOf result LogFault.Out → Rose (O.faults out.old) (O.faults out.new) }
-    ensures never_falls { O.faults out.old ≤ O.faults out.new }
+    ensures calm { OnOk result (O.faults out.new ≡ O.faults out.old) }
 {
     writer.put_and_flush(piece, out)
 }

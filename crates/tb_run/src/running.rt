@@ -151,7 +151,7 @@ fn put_behind<S: Sink>(log: &[Entry], writer: LogWriter, out: &mut S) -> Result<
     ensures ok { OnOk result (Writes (S.taken out.old) (S.taken out.new) (log_text_from (writer.written + 1) (drop writer.written log.now))) }
     ensures prefix { OnErr result (WritesPrefix (S.taken out.old) (S.taken out.new) (log_text_from (writer.written + 1) (drop writer.written log.now))) }
     ensures rose { IsErrOf result LogFault.Out → Rose (S.faults out.old) (S.faults out.new) }
-    ensures never_falls { S.faults out.old ≤ S.faults out.new }
+    ensures calm { OnOk result (S.faults out.new ≡ S.faults out.old) }
 {
     let mut writer = writer;
     let written = writer.written() as usize;

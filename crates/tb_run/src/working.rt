@@ -1,5 +1,5 @@
 //! All workers beside each other, from the first seat of a bus until their seats are one again.
-ghost use Rattle.std.specs.Prelude.{◌≡◌, ◌≤◌, ◌++◌, [], ◌∷◌, List, map, length, vec_len, vec_capacity, None, Some, MatchOption, IfOk, IfErr, true, ◌+◌};
+ghost use Rattle.std.specs.Prelude.{◌≡◌, ◌≤◌, ◌++◌, [], ◌∷◌, List, map, length, vec_len, vec_capacity, None, Some, MatchOption, IfOk, IfErr, OnOk, true, ◌+◌};
 ghost use Rattle.std.specs.List.{All};
 ghost use Rattle.tb_edge.specs.Faults.{Rose};
 ghost use Rattle.tb_edge.specs.Jobs.{AllDone, FailsOnly, jobs_of};
@@ -240,6 +240,11 @@ where
         (λ why. FailsFor why (P.faults crew.old) (P.faults crew.new)
         × (result.workers.items ≡ team.entry.workers.items) × (result.tick_seat ≡ team.entry.tick_seat) × (result.log_seat ≡ team.entry.log_seat)
         × (C.told clock.new ≡ C.told clock.old) × (S.taken out.new ≡ S.taken out.old)) }
+
+    // A crew that does the jobs hasn't failed; and where there was none, neither has anything else.
+    ensures calm { MatchOption result.failed
+        (P.faults crew.new ≡ P.faults crew.old)
+        (λ why. (C.faults clock.new ≡ C.faults clock.old) × (S.faults out.new ≡ S.faults out.old)) }
 {
     let Team {
         workers,
@@ -312,6 +317,7 @@ where
         × LogDone logger.old.seat logger.new.seat logger.new.writer (S.taken logger.old.out.now) (S.taken logger.new.out.now) (S.faults logger.old.out.now) (S.faults logger.new.out.now) logger.new.end) }
     ensures err { IfErr result (λ fault. (jobs_of fault ≡ workers.entry.items) × (ticker.new ≡ ticker.old) × (logger.new ≡ logger.old)) }
     ensures rose { IfErr result (λ fault. FailsOnly fault (Rose (P.faults crew.old) (P.faults crew.new))) }
+    ensures calm { OnOk result (P.faults crew.new ≡ P.faults crew.old) }
 {
     crew.beside(rt, workers, ticker, logger)
 }

@@ -17,6 +17,7 @@ pub fn put_line<E: Sink>(prefix: &[u8], line: &Line, err: &mut E) -> Result<(), 
     ensures prefix { OnErr result
         (WritesPrefix (E.taken err.old) (E.taken err.new) (prefix.now ++ line_text line.now ++ 10 ∷ [])) }
     ensures rose { OnErr result (Rose (E.faults err.old) (E.faults err.new)) }
+    ensures calm { OnOk result (E.faults err.new ≡ E.faults err.old) }
     ensures never_falls { E.faults err.old ≤ E.faults err.new }
 {
     match put_text(prefix, line, err) {
@@ -32,6 +33,7 @@ fn put_text<E: Sink>(prefix: &[u8], line: &Line, err: &mut E) -> Result<(), Fail
     ensures prefix { OnErr result
         (WritesPrefix (E.taken err.old) (E.taken err.new) (prefix.now ++ line_text line.now)) }
     ensures rose { OnErr result (Rose (E.faults err.old) (E.faults err.new)) }
+    ensures calm { OnOk result (E.faults err.new ≡ E.faults err.old) }
     ensures never_falls { E.faults err.old ≤ E.faults err.new }
 {
     match err.put(prefix) {
@@ -45,6 +47,7 @@ fn put_words<E: Sink>(line: &Line, err: &mut E) -> Result<(), Failed>
     ensures prefix { OnErr result
         (WritesPrefix (E.taken err.old) (E.taken err.new) (line_text line.now)) }
     ensures rose { OnErr result (Rose (E.faults err.old) (E.faults err.new)) }
+    ensures calm { OnOk result (E.faults err.new ≡ E.faults err.old) }
     ensures never_falls { E.faults err.old ≤ E.faults err.new }
 {
     match err.put(line.words) {
@@ -59,6 +62,7 @@ fn put_rest<E: Sink>(rest: &Rest, err: &mut E) -> Result<(), Failed>
     ensures prefix { OnErr result
         (WritesPrefix (E.taken err.old) (E.taken err.new) (rest_text rest.now)) }
     ensures rose { OnErr result (Rose (E.faults err.old) (E.faults err.new)) }
+    ensures calm { OnOk result (E.faults err.new ≡ E.faults err.old) }
     ensures never_falls { E.faults err.old ≤ E.faults err.new }
 {
     match *rest {
@@ -72,6 +76,7 @@ fn put_number<E: Sink>(number: usize, err: &mut E) -> Result<(), Failed>
     ensures ok { OnOk result (Writes (E.taken err.old) (E.taken err.new) (decimal number)) }
     ensures prefix { OnErr result (WritesPrefix (E.taken err.old) (E.taken err.new) (decimal number)) }
     ensures rose { OnErr result (Rose (E.faults err.old) (E.faults err.new)) }
+    ensures calm { OnOk result (E.faults err.new ≡ E.faults err.old) }
     ensures never_falls { E.faults err.old ≤ E.faults err.new }
 {
     let mut buffer = Buffer::new();
@@ -85,6 +90,7 @@ fn put_names<E: Sink>(names: &[Ident], err: &mut E) -> Result<(), Failed>
     ensures prefix { OnErr result
         (WritesPrefix (E.taken err.old) (E.taken err.new) (join_with_byte 44 names.now)) }
     ensures rose { OnErr result (Rose (E.faults err.old) (E.faults err.new)) }
+    ensures calm { OnOk result (E.faults err.new ≡ E.faults err.old) }
     ensures never_falls { E.faults err.old ≤ E.faults err.new }
 {
     let Some((first, others)) = names.split_first() else {
@@ -103,6 +109,7 @@ fn put_more_names<E: Sink>(names: &[Ident], err: &mut E) -> Result<(), Failed>
     ensures prefix { OnErr result
         (WritesPrefix (E.taken err.old) (E.taken err.new) (flat_map (λ name. 44 ∷ name) names.now)) }
     ensures rose { OnErr result (Rose (E.faults err.old) (E.faults err.new)) }
+    ensures calm { OnOk result (E.faults err.new ≡ E.faults err.old) }
     ensures never_falls { E.faults err.old ≤ E.faults err.new }
 {
     for name in names {
@@ -121,6 +128,7 @@ fn put_both<E: Sink>(first: &[u8], second: &[u8], err: &mut E) -> Result<(), Fai
     ensures prefix { OnErr result
         (WritesPrefix (E.taken err.old) (E.taken err.new) (first.now ++ second.now)) }
     ensures rose { OnErr result (Rose (E.faults err.old) (E.faults err.new)) }
+    ensures calm { OnOk result (E.faults err.new ≡ E.faults err.old) }
     ensures never_falls { E.faults err.old ≤ E.faults err.new }
 {
     match err.put(first) {

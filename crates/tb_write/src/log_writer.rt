@@ -66,6 +66,7 @@ impl LogWriter {
         ensures prefix { OnErr result (WritesPrefix (O.taken out.old) (O.taken out.new)
             (self.old.held ++ log_text_from (self.old.written + 1) entries.now)) }
         ensures rose { IsErrOf result LogFault.Out → Rose (O.faults out.old) (O.faults out.new) }
+        ensures calm { OnOk result (O.faults out.new ≡ O.faults out.old) }
         ensures never_falls { O.faults out.old ≤ O.faults out.new }
     {
         for entry in entries {
@@ -83,6 +84,7 @@ impl LogWriter {
         ensures emptied { OnOk result (self.new ≡ record self.old { held = [] }) }
         ensures prefix { OnErr result (WritesPrefix (O.taken out.old) (O.taken out.new) self.old.held) }
         ensures rose { OnErr result (Rose (O.faults out.old) (O.faults out.new)) }
+        ensures calm { OnOk result (O.faults out.new ≡ O.faults out.old) }
         ensures out_alone { IsOkUnless result LogFault.Out }
         ensures never_falls { O.faults out.old ≤ O.faults out.new }
     {
@@ -104,6 +106,7 @@ impl LogWriter {
         ensures prefix { OnErr result (WritesPrefix (O.taken out.old) (O.taken out.new)
             (self.old.held ++ log_text_from (self.old.written + 1) entries.now)) }
         ensures rose { IsErrOf result LogFault.Out → Rose (O.faults out.old) (O.faults out.new) }
+        ensures calm { OnOk result (O.faults out.new ≡ O.faults out.old) }
         ensures never_falls { O.faults out.old ≤ O.faults out.new }
     {
         match self.put(entries, out) {
@@ -120,6 +123,7 @@ impl LogWriter {
         ensures prefix { OnErr result (WritesPrefix (O.taken out.old) (O.taken out.new)
             (self.old.held ++ entry_text (self.old.written + 1) entry.now)) }
         ensures rose { IsErrOf result LogFault.Out → Rose (O.faults out.old) (O.faults out.new) }
+        ensures calm { OnOk result (O.faults out.new ≡ O.faults out.old) }
         ensures never_falls { O.faults out.old ≤ O.faults out.new }
     {
         match self.add_line(entry) {
@@ -154,6 +158,7 @@ impl LogWriter {
         ensures small { OnOk result (length self.new.held < PIECE_BYTES) }
         ensures prefix { OnErr result (WritesPrefix (O.taken out.old) (O.taken out.new) self.old.held) }
         ensures rose { OnErr result (Rose (O.faults out.old) (O.faults out.new)) }
+        ensures calm { OnOk result (O.faults out.new ≡ O.faults out.old) }
         ensures never_falls { O.faults out.old ≤ O.faults out.new }
     {
         if self.buffer.len() < PIECE_BYTES {
@@ -168,6 +173,7 @@ pub fn put_log<O: Sink>(alloc: Global, log: &[Entry], out: &mut O) -> Result<(),
     ensures ok { OnOk result (Writes (O.taken out.old) (O.taken out.new) (log_text log.now)) }
     ensures prefix { OnErr result (WritesPrefix (O.taken out.old) (O.taken out.new) (log_text log.now)) }
     ensures rose { IsErrOf result LogFault.Out → Rose (O.faults out.old) (O.faults out.new) }
+    ensures calm { OnOk result (O.faults out.new ≡ O.faults out.old) }
     ensures never_falls { O.faults out.old ≤ O.faults out.new }
 {
     let mut writer = LogWriter::new(alloc);

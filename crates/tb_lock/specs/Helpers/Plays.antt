@@ -92,10 +92,11 @@ pub record Answers {A : Type 0} (Finds : CoreState → A → Type 0) (call : Cal
   pub room : IfOk result (λ _. is_full old call ≡ false)
   pub stays : OnErr result (Stays old new)
 
--- Steps of the core in hand, so many and one more at most, each but the last answered that it did one.
+-- Steps of the core in hand, so many and one more at most: each but the last was answered that it did one, and the last wasn't, unless there are
+-- so many.
 unfoldable pub StepsInRow : ℕ → CoreState → CoreState → Result Stepped CoreFault → Type 0
 StepsInRow zero old new result = Answers IsStep MakeStep old new result
-StepsInRow (suc more) old new result = Answers IsStep MakeStep old new result ⊎ ((mid : CoreState) × Answers IsStep MakeStep old mid (Ok stepped.Did) × StepsInRow more mid new result)
+StepsInRow (suc more) old new result = (Answers IsStep MakeStep old new result × (result ≢ Ok stepped.Did)) ⊎ ((mid : CoreState) × Answers IsStep MakeStep old mid (Ok stepped.Did) × StepsInRow more mid new result)
 
 -- A seat whose turn is open may note these entries, which the core in hand has logged since it was taken.
 pub record Adds (seat : SeatView) (core : CoreState) (entries : List Entry) : Type 0 where

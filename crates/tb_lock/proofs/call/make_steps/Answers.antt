@@ -3,7 +3,7 @@ use Rattle.tb_core.specs.declared.answers.Stepped.{Stepped}
 use Rattle.tb_core.specs.declared.answers.Stepped.TheVariants as stepped
 use Rattle.tb_core.specs.Cores.{MakeStep, IsStep}
 use Rattle.tb_lock.specs.Helpers.Plays.{Answers, StepsInRow}
-use Rattle.tb_lock.proofs.RowLemmas.{once, once_more}
+use Rattle.tb_lock.proofs.RowLemmas.{once, once_last, once_more, quiet_other, down_other, fault_other}
 use Rattle.tb_lock.proofs.call.make_steps.Goals as goal
 
 pub loop-done-init : goal.loop-done-init
@@ -20,17 +20,18 @@ loop-done-preserved g c =
 pub returns-in-Ok-Quiet : goal.returns-in-Ok-Quiet
 returns-in-Ok-Quiet g c =
     let a = subst (λ (s : Stepped). Answers IsStep MakeStep c.loop-done.core c.make.new.core (Ok s)) c.in-Ok-Quiet.field-0-is c.in-Ok-Quiet.ensures in
-    c.loop-done.invariant c.make.new.core (Ok stepped.Quiet) (once (c.args.more - c.loop-done.done) c.loop-done.core c.make.new.core (Ok stepped.Quiet) a)
+    c.loop-done.invariant c.make.new.core (Ok stepped.Quiet) (once (c.args.more - c.loop-done.done) c.loop-done.core c.make.new.core (Ok stepped.Quiet) a quiet_other)
 
 pub returns-in-Ok-Down : goal.returns-in-Ok-Down
 returns-in-Ok-Down g c =
     let a = subst (λ (s : Stepped). Answers IsStep MakeStep c.loop-done.core c.make.new.core (Ok s)) c.in-Ok-Down.field-0-is c.in-Ok-Down.ensures in
-    c.loop-done.invariant c.make.new.core (Ok stepped.Down) (once (c.args.more - c.loop-done.done) c.loop-done.core c.make.new.core (Ok stepped.Down) a)
+    c.loop-done.invariant c.make.new.core (Ok stepped.Down) (once (c.args.more - c.loop-done.done) c.loop-done.core c.make.new.core (Ok stepped.Down) a down_other)
 
 pub returns-in-Err : goal.returns-in-Err
 returns-in-Err g c =
-    c.loop-done.invariant c.make.new.core (Err c.in-Err.fault) (once (c.args.more - c.loop-done.done) c.loop-done.core c.make.new.core (Err c.in-Err.fault) c.in-Err.ensures)
+    c.loop-done.invariant c.make.new.core (Err c.in-Err.fault) (once (c.args.more - c.loop-done.done) c.loop-done.core c.make.new.core (Err c.in-Err.fault) c.in-Err.ensures (fault_other c.in-Err.fault))
 
 pub returns : goal.returns
 returns g c =
-    c.loop-done.invariant c.make-last.new.core c.make-last.result (once (c.args.more - c.loop-done.done) c.loop-done.core c.make-last.new.core c.make-last.result c.make-last.ensures)
+    let none : c.args.more - c.loop-done.done ≡ 0 = (let t = c.loop-done-test.false in omega arith) in
+    c.loop-done.invariant c.make-last.new.core c.make-last.result (once_last (c.args.more - c.loop-done.done) c.loop-done.core c.make-last.new.core c.make-last.result none c.make-last.ensures)

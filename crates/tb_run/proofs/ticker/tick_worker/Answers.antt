@@ -22,4 +22,4 @@ returns g c =
     let all : c.loop-done._done ≡ c.args.ticks = (let t = c.loop-done-test.false in let u = c.loop-done.auto._done-end in omega arith) in
     ticks_end c.args.seat.now seat c.no_more.new.seat (g.C.Clock.told c.args.clock.now) told told (g.C.Clock.faults c.args.clock.now) faults faults c.loop-done._done
     (λ count. count ≡ 0) (λ count. count ≡ c.args.ticks) 0 c.args.ticks (λ k e. omega (arith, all, e)) (omega (arith, all)) c.no_more.result c.loop-done.invariant
-    (ticks_over seat c.no_more.new.seat told told faults faults (omega arith) (λ count. count ≡ 0) 0 false (sym (ticked_none told)) c.no_more.result (inr refl) c.no_more.ensures)
+    (ticks_over seat c.no_more.new.seat told told faults faults (omega arith) (λ count. count ≡ 0) 0 false (sym (ticked_none told)) c.no_more.result refl (inr refl) c.no_more.ensures)

@@ -157,4 +157,4 @@ returns-clause-come g c =
     c.begin-team.result.workers.items c.work-back.result.workers.items c.begin-team.result.tick_seat c.work-back.result.tick_seat c.begin-team.result.log_seat c.work-back.result.log_seat c.work-back.result.tick_end c.work-back.result.log_end
     _ _ _ _ _ _ _ _ c.work-back.result.writer _ _ first c.begin-team.ensures.seats c.begin-team.ensures.works c.begin-team.ensures.tick c.begin-team.ensures.log ins outs c.work-back.result.failed
     c.joins_keep_their_own.ensures.first c.joins_keep_their_own.ensures.second c.a_bus_that_is_down_stays_down.ensures.stays c.a_bus_that_is_down_stays_down.ensures.empty c.gather.new.seat c.gather.new.inlets.items c.gather.new.outlets.items c.why_of.result
-    (λ k d h. (c.begin-team.ensures.ready k d h).right) joins c.gather.ensures.inlets c.gather.ensures.outlets c.work-back.ensures.worked why
+    (λ k d h. (c.begin-team.ensures.ready k d h).right) joins c.gather.ensures.inlets c.gather.ensures.outlets c.work-back.ensures.worked why c.work-back.ensures.calm

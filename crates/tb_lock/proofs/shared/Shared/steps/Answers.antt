@@ -1,4 +1,5 @@
 use Rattle.std.proofs.Common.{◌≡◌, true, ap, sym, subst, ◌∙◌}
+use Rattle.std.specs.Prelude.{⊤}
 use Rattle.tb_core.specs.Cores.{MakeStep}
 use Rattle.tb_lock.specs.Rights.{has, right_to}
 use Rattle.tb_lock.specs.Seats.{SeatView}
@@ -22,7 +23,7 @@ release-requires-clause-may g c =
     let meets = c.acquire-core.ensures.meets in
     let right = subst (λ (s : SeatView). has s.rights (right_to MakeStep) ≡ true) o.is c.requires.right in
     let after = c.make_steps-answer.new.core in
-    let r = row c.args.more (record seat { bus = bus }) core after c.make_steps-answer.result (meets_on bus seat core meets) right c.make_steps-answer.ensures in
+    let r = row (λ log. ⊤) c.args.more (record seat { bus = bus }) core after c.make_steps-answer.result (meets_on bus seat core meets) right tt c.make_steps-answer.ensures in
     may_release_row bus seat core meets c.args.more c.make_steps-answer.result after r c.acquire-core.new.holder.me c.acquire-core.ensures.turn
 
 pub into_badge-requires : goal.into_badge-requires
@@ -34,7 +35,7 @@ into_badge-requires g c =
     let meets = c.acquire-core.ensures.meets in
     let right = subst (λ (s : SeatView). has s.rights (right_to MakeStep) ≡ true) o.is c.requires.right in
     let after = c.make_steps-answer.new.core in
-    let r = row c.args.more (record seat { bus = bus }) core after c.make_steps-answer.result (meets_on bus seat core meets) right c.make_steps-answer.ensures in
+    let r = row (λ log. ⊤) c.args.more (record seat { bus = bus }) core after c.make_steps-answer.result (meets_on bus seat core meets) right tt c.make_steps-answer.ensures in
     ap (λ (m : HolderState). m.1) (has_released_row bus seat core meets c.args.more c.make_steps-answer.result after r c.acquire-core.new.holder.me c.release.new.holder.me o.idle c.acquire-core.ensures.turn c.release.ensures.releases)
 
 pub invariant_of-seat : goal.invariant_of-seat
@@ -46,7 +47,7 @@ invariant_of-seat g c =
     let meets = c.acquire-core.ensures.meets in
     let right = subst (λ (s : SeatView). has s.rights (right_to MakeStep) ≡ true) o.is c.requires.right in
     let after = c.make_steps-answer.new.core in
-    let r = row c.args.more (record seat { bus = bus }) core after c.make_steps-answer.result (meets_on bus seat core meets) right c.make_steps-answer.ensures in
+    let r = row (λ log. ⊤) c.args.more (record seat { bus = bus }) core after c.make_steps-answer.result (meets_on bus seat core meets) right tt c.make_steps-answer.ensures in
     let left_is = has_released_row bus seat core meets c.args.more c.make_steps-answer.result after r c.acquire-core.new.holder.me c.release.new.holder.me o.idle c.acquire-core.ensures.turn c.release.ensures.releases in
     is_seat c.release.new.holder.me (noted seat core r.entries) c.into_badge.result.views left_is c.into_badge.ensures.2 o.idle o.room
 
@@ -59,7 +60,7 @@ returns g c =
     let meets = c.acquire-core.ensures.meets in
     let right = subst (λ (s : SeatView). has s.rights (right_to MakeStep) ≡ true) o.is c.requires.right in
     let after = c.make_steps-answer.new.core in
-    let r = row c.args.more (record seat { bus = bus }) core after c.make_steps-answer.result (meets_on bus seat core meets) right c.make_steps-answer.ensures in
+    let r = row (λ log. ⊤) c.args.more (record seat { bus = bus }) core after c.make_steps-answer.result (meets_on bus seat core meets) right tt c.make_steps-answer.ensures in
     let left_is = has_released_row bus seat core meets c.args.more c.make_steps-answer.result after r c.acquire-core.new.holder.me c.release.new.holder.me o.idle c.acquire-core.ensures.turn c.release.ensures.releases in
     let by_is = c.into_badge.ensures.0 ∙ c.release.ensures.holder ∙ c.acquire-core.ensures.holder ∙ c.into_seat-holder.ensures.0 ∙ ap (λ b. b.table_id) c.replace.ensures.value in
     let now = seen_as c.release.new.holder.me (noted seat core r.entries) bus c.into_badge.result.table_id c.into_badge.result.views left_is by_is c.into_badge.ensures.2 in

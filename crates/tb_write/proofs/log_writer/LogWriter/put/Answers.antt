@@ -1,4 +1,4 @@
-use Rattle.std.proofs.Common.{◌+◌, ◌++◌, arith}
+use Rattle.std.proofs.Common.{◌+◌, ◌++◌, ◌∙◌, arith}
 use Rattle.tb_log.specs.LogText.{log_text_from}
 use Rattle.tb_write.proofs.EntryLemmas.{entries-next, entries-prefix, entries-all}
 use Rattle.tb_write.proofs.log_writer.LogWriter.put.Goals as goal
@@ -16,7 +16,7 @@ loop-entry-preserved g c = record {
   counted = omega (arith, c.in-Ok.ensures.counted, c.loop-entry.invariant.counted);
   small = λ _. c.in-Ok.ensures.small;
   within = omega (arith, c.loop-entry-test.true);
-  risen = omega (arith, c.in-Ok.ensures.never_falls, c.loop-entry.invariant.risen);
+  calm = c.in-Ok.ensures.calm ∙ c.loop-entry.invariant.calm;
 }
 
 pub returns-clause-ok : goal.returns-clause-ok

@@ -10,5 +10,5 @@ invariant-loop-entry g l = record {
   counted : l.self.written ≡ l.initial.self.written + l.entry-index;
   small : length l.initial.self.held < 32768 → length l.self.held < 32768;
   within : l.entry-index ≤ length l.entries;
-  risen : g.O.Sink.faults l.initial.out ≤ g.O.Sink.faults l.out;
+  calm : g.O.Sink.faults l.out ≡ g.O.Sink.faults l.initial.out;
 }

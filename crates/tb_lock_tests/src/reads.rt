@@ -1,0 +1,218 @@
+//! The log of a shared bus as a seat reads it, rows of steps, and walks that threads hand over.
+ghost use Rattle.std.specs.Prelude.{◌≡◌, ◌≤◌, IfOk};
+ghost use Rattle.tb_core.specs.Cores.{most_entries};
+ghost use Rattle.tb_lock.specs.Rights.{all_rights};
+ghost use Rattle.tb_lock.specs.Seats.{first_seat};
+
+use crate::workers::side_by_side;
+use std::alloc::Global;
+use std::sync::Wait;
+use std::test::Fail;
+use tb_algebra::{Rewriter, Walker};
+use tb_core::{Core, CoreFault, Stepped};
+use tb_lock::{Rights, Seat, Shared};
+use tb_log::{Entry, Input, ToolLine, write_entry};
+use tb_script::load;
+use tb_terms::{Items, NoMemory, Term};
+use tb_walk::Walk;
+
+/// A tool is asked once.
+const ASKS: &str = "tool calc is { command = \"calc\" } \
+    process P is let C : calc, V : int in execute(calc, C?) . snd-eval(C, 7) . rec-value(C, V?) endlet \
+    toolbus(P)";
+
+/// What is logged until it was asked.
+const ASKED: &str = "1 execute 1.1 calc(1)\n2 snd-eval 1.2 calc(1),7\n3 quiet\n";
+
+/// What is logged of all.
+const ANSWERED: &str =
+    "1 execute 1.1 calc(1)\n2 snd-eval 1.2 calc(1),7\n3 quiet\n4 out 1 start \"calc\"\n\
+    5 out 1 rec-eval(7)\n6 tick\n7 line 1 snd-value(49)\n8 rec-value 1.3 calc(1),49\n";
+
+/// What is logged of six steps that count.
+const SIX: &str = "1 set 1.1 1\n2 set 1.1 2\n3 set 1.1 3\n4 set 1.1 4\n5 set 1.1 5\n6 set 1.1 6\n";
+
+/// A number is counted up without end.
+const COUNTS: &str = "process P is let N : int in N := add(N, 1) * delta endlet toolbus(P)";
+
+/// A bus of a program, for at most so many entries.
+fn bus_of<W: Walker>(alloc: Global, script: &str, limit: u32) -> Result<(Shared<W>, Seat), Fail>
+    requires { limit ≤ most_entries }
+    ensures { IfOk result (λ made. made.1 ≡ first_seat made.0 made.1.origin) }
+{
+    let program = load(alloc, script.as_bytes())?;
+    let core = Core::start(alloc, program, &Items::new(alloc), limit)?;
+    match Shared::make(alloc, core) {
+        Ok(made) => Ok(made),
+        Err(_) => Err("no memory")?,
+    }
+}
+
+/// Adds the lines of entries, which are numbered on from those before.
+fn put_lines(text: &mut Vec<u8>, before: u64, entries: &[Entry]) -> Result<(), NoMemory> {
+    let mut number = before;
+    for entry in entries {
+        number = number.saturating_add(1);
+        write_entry(number, entry, text)?;
+    }
+    Ok(())
+}
+
+/// Whether the log of a core has this text.
+fn has_logged<W: Walker>(alloc: Global, core: Core<W>, wanted: &str) -> Result<bool, NoMemory> {
+    let mut text = Vec::new(alloc);
+    put_lines(&mut text, 0, core.log())?;
+    Ok(text.as_slice() == wanted.as_bytes())
+}
+
+/// Lets the tool be asked, and answer.
+fn ask<W: Walker, R: Wait>(rt: &R, bus: &Shared<W>, seat: &mut Seat) -> Result<(), CoreFault>
+    requires own { seat.old.bus ≡ bus.now }
+    requires whole { seat.old.rights ≡ all_rights }
+    ensures same { (seat.new.bus ≡ seat.old.bus) × (seat.new.rights ≡ seat.old.rights) × (seat.new.room ≡ seat.old.room) }
+{
+    bus.step(rt, seat)?;
+    bus.step(rt, seat)?;
+    bus.step(rt, seat)?;
+    bus.take_out(rt, seat, 1)?;
+    bus.take_out(rt, seat, 1)?;
+    bus.hand_in(rt, seat, Input::Tick)?;
+    bus.hand_in(rt, seat, Input::Line(1, ToolLine::Value(Term::Int(49))))?;
+    bus.step(rt, seat)?;
+    Ok(())
+}
+
+/// Reads a piece of the log, adds its lines, and gives how many entries it has.
+fn put_piece<W: Walker, R: Wait>(
+    rt: &R,
+    alloc: Global,
+    bus: &Shared<W>,
+    seat: &mut Seat,
+    from: u64,
+    most: usize,
+    text: &mut Vec<u8>,
+) -> Result<usize, NoMemory>
+    requires own { seat.old.bus ≡ bus.now }
+    ensures same { (seat.new.bus ≡ seat.old.bus) × (seat.new.rights ≡ seat.old.rights) × (seat.new.room ≡ seat.old.room) }
+{
+    let piece = bus.read_log(rt, alloc, seat, from, most)?;
+    put_lines(text, from, piece.as_slice())?;
+    Ok(piece.len())
+}
+
+/// Reads a log of eight entries in pieces, and behind its last.
+fn put_pieces<W: Walker, R: Wait>(
+    rt: &R,
+    alloc: Global,
+    bus: &Shared<W>,
+    seat: &mut Seat,
+    text: &mut Vec<u8>,
+) -> Result<(usize, usize, usize, usize), NoMemory>
+    requires own { seat.old.bus ≡ bus.now }
+    ensures same { (seat.new.bus ≡ seat.old.bus) × (seat.new.rights ≡ seat.old.rights) × (seat.new.room ≡ seat.old.room) }
+{
+    let first = put_piece(rt, alloc, bus, seat, 0, 3, text)?;
+    let next = put_piece(rt, alloc, bus, seat, 3, 4, text)?;
+    let last = put_piece(rt, alloc, bus, seat, 7, 10, text)?;
+    let past = put_piece(rt, alloc, bus, seat, 8, 10, text)?;
+    Ok((first, next, last, past))
+}
+
+#[test]
+fn a_seat_without_rights_reads_the_log_in_pieces(rt: HostRuntime) -> Result<(), Fail> {
+    let alloc = rt.alloc();
+    let (bus, mut seat) = bus_of::<Walk>(alloc, ASKS, 10)?;
+    let mut reader = bus.split(&mut seat, Rights::none());
+    let mut read = Vec::new(alloc);
+    let before = put_piece(&rt, alloc, &bus, &mut reader, 0, 10, &mut read);
+    let asked = ask(&rt, &bus, &mut seat);
+    let pieces = put_pieces(&rt, alloc, &bus, &mut reader, &mut read);
+    bus.join(&mut seat, reader);
+    let logged = has_logged(alloc, bus.close(&rt, seat), ANSWERED);
+    assert_eq!(rt; (before, asked, pieces), (Ok(0), Ok(()), Ok((3, 4, 1, 0))));
+    assert_eq!(rt;
+        (read.as_slice() == ANSWERED.as_bytes(), logged),
+        (true, Ok(true))
+    );
+    Ok(())
+}
+
+/// So many steps in a row, and one more, at most.
+fn row<W: Walker, R: Wait>(
+    rt: &R,
+    bus: &Shared<W>,
+    seat: &mut Seat,
+    more: u32,
+) -> Result<Stepped, CoreFault>
+    requires own { seat.old.bus ≡ bus.now }
+    requires whole { seat.old.rights ≡ all_rights }
+    ensures same { (seat.new.bus ≡ seat.old.bus) × (seat.new.rights ≡ seat.old.rights) × (seat.new.room ≡ seat.old.room) }
+{
+    bus.steps(rt, seat, more)
+}
+
+#[test]
+fn a_row_of_steps_ends_where_none_is_possible(rt: HostRuntime) -> Result<(), Fail> {
+    let (bus, mut seat) = bus_of::<Rewriter>(rt.alloc(), ASKS, 10)?;
+    let long = row(&rt, &bus, &mut seat, 9);
+    let calls = bus.calls_for(1);
+    let again = row(&rt, &bus, &mut seat, 9);
+    let logged = has_logged(rt.alloc(), bus.close(&rt, seat), ASKED);
+    let wanted = (Ok(Stepped::Quiet), true, Ok(Stepped::Quiet), Ok(true));
+    assert_eq!(rt; (long, calls, again, logged), wanted);
+    Ok(())
+}
+
+#[test]
+fn a_row_of_steps_has_its_length_and_ends_where_one_is_refused(
+    rt: HostRuntime,
+) -> Result<(), Fail> {
+    let (bus, mut seat) = bus_of::<Rewriter>(rt.alloc(), COUNTS, 6)?;
+    let four = row(&rt, &bus, &mut seat, 3);
+    let two = row(&rt, &bus, &mut seat, 9);
+    bus.stop(&rt, &mut seat);
+    let none = row(&rt, &bus, &mut seat, 9);
+    let logged = has_logged(rt.alloc(), bus.close(&rt, seat), SIX);
+    let wanted = (
+        Ok(Stepped::Did),
+        Err(CoreFault::Full),
+        Err(CoreFault::Stopped),
+        Ok(true),
+    );
+    assert_eq!(rt; (four, two, none, logged), wanted);
+    Ok(())
+}
+
+/// Whether the steps of a log set the number of the only process to 1, 2 and so on; and how many they are.
+fn count_up(alloc: Global, log: &[Entry]) -> Result<(bool, u64), NoMemory> {
+    let mut count = 0_u64;
+    let mut text = Vec::new(alloc);
+    let mut wanted = Vec::new(alloc);
+    for entry in log {
+        if matches!(entry, Entry::Did(_)) {
+            count = count.saturating_add(1);
+            write_entry(count, entry, &mut text)?;
+            let line = format!(in alloc; "{count} set 1.1 {count}\n")?;
+            wanted.extend_from_slice(line.as_bytes())?;
+        }
+    }
+    Ok((text.as_slice() == wanted.as_slice(), count))
+}
+
+/// The same of a core.
+fn counted<W: Walker>(alloc: Global, core: Core<W>) -> Result<(bool, u64), NoMemory> {
+    count_up(alloc, core.log())
+}
+
+#[test]
+fn a_walk_goes_on_in_another_thread_and_back(rt: HostRuntime) -> Result<(), Fail> {
+    let (bus, mut seat) = bus_of::<Walk>(rt.alloc(), COUNTS, 1_000)?;
+    let ticks = bus.split(&mut seat, Rights::ticker());
+    let ((mut seat, made), (ticks, handed)) = side_by_side(&rt, &bus, seat, ticks);
+    bus.join(&mut seat, ticks);
+    let back = row(&rt, &bus, &mut seat, 9);
+    let found = counted(rt.alloc(), bus.close(&rt, seat));
+    let wanted = (true, true, Ok(Stepped::Did), Ok((true, 110)));
+    assert_eq!(rt; (made, handed, back, found), wanted);
+    Ok(())
+}
