@@ -75,8 +75,11 @@ impl Bells {
         bell.wait_past(rt, seen)
     }
 
-    /// Looks for a ring of this bell, where not too many look for theirs, and gives its count.
+    /// Looks for a ring of this bell, where that is worth it and not too many look for theirs, and gives its count.
     fn look_past(&self, bell: &Bell, seen: u64) -> u64 {
+        if !bell.is_worth_a_look() {
+            return seen;
+        }
         let mut rings = seen;
         if self.lookers.fetch_add(1, Ordering::SeqCst) < LOOKERS {
             rings = bell.look_past(seen);
@@ -94,7 +97,7 @@ impl Bells {
     }
 }
 
-pub(crate) fn sixteen() -> [Bell; 16] {
+fn sixteen() -> [Bell; 16] {
     [
         Bell::new(),
         Bell::new(),

@@ -7,7 +7,7 @@ use Rattle.tb_algebra.specs.declared.walker.Walker.{Ghosts}
 use Rattle.std.proofs.option.Option.TheSendSync.{the_send as option_send}
 use Rattle.std.specs.contracts.option.Option as option
 use Rattle.atomic_table.proofs.owned.Table.TheSendSync.{the_sync as table_sync}
-use Rattle.tb_bells.specs.contracts.turns.Turns as turns
+use Rattle.tb_bells.specs.contracts.gate.Gate as gate
 use Rattle.tb_lock.specs.contracts.notices.Notices as notices
 use Rattle.tb_lock.specs.contracts.shared.Shared as shared
 use Rattle.tb_lock.specs.contracts.shared.Shared.TheInside as shared_inside
@@ -127,8 +127,8 @@ living_send : (W : RattleType) → IsSend W → IsSend (living.the_row W)
 living_send W s = search (sendable, crosses, inbox_send, ready_send) depth 40
 
 -- who waits, and what is hinted at
-turns_sync : IsSync turns.the_row
-turns_sync = search (sendable, crosses) depth 40
+gate_sync : IsSync gate.the_row
+gate_sync = search (sendable, crosses) depth 40
 
 notices_sync : IsSync notices.the_row
 notices_sync = search (sendable, crosses) depth 40
@@ -146,7 +146,7 @@ module _ (W Plan Taken : RattleType) (g : Ghosts W.Denot Plan.Denot Taken.Denot)
 
   -- so threads may share a bus
   pub shared_sync : IsSync (shared.the_row W Plan Taken g)
-  shared_sync = view_sync _ _ _ _ _ (declared_sync (shared_inside.the_type W Plan Taken g) (search (sendable, crosses, table_sync, core_option_send) depth 20, (turns_sync, (notices_sync, tt))))
+  shared_sync = view_sync _ _ _ _ _ (declared_sync (shared_inside.the_type W Plan Taken g) (search (sendable, crosses, table_sync, core_option_send) depth 20, (gate_sync, (notices_sync, tt))))
 
 -- and one over rewriters
 pub bus_sync : IsSync (shared.the_row rewriter.the_row plan.the_row left.the_row ghosts)

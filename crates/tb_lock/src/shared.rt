@@ -18,7 +18,7 @@ use std::marker::{Brand, Model};
 use std::mem::replace;
 use std::sync::Wait;
 use tb_algebra::Walker;
-use tb_bells::Turns;
+use tb_bells::Gate;
 use tb_core::{Core, CoreFault, Stepped, TakeOut};
 use tb_log::{Entries, Input, Reply, piece};
 use tb_terms::NoMemory;
@@ -29,7 +29,7 @@ use tb_tools::LaneState;
 #[derive(Drop)]
 pub struct Shared<W: Walker> {
     table: Table<Option<Core<W>>, View, Core<W>, BusRule, Global>,
-    turns: Turns,
+    gate: Gate,
     notices: Notices,
 }
 
@@ -64,15 +64,15 @@ impl<W: Walker> Shared<W> {
         let Ok((table, mut holder)) = Table::vacant(alloc, &[1, 0], 1, &core) else {
             return Err(NoRoom { core });
         };
-        let turns = Turns::new();
+        let gate = Gate::new();
         let notices = Notices::of(&core);
-        open(&table.shared, &turns, &mut holder, core);
+        open(&table.shared, &mut holder, core);
         let seat = Seat {
             badge: holder.into_badge(),
         };
         let shared = Shared {
             table,
-            turns,
+            gate,
             notices,
         };
         Ok((shared, seat))
@@ -138,10 +138,12 @@ impl<W: Walker> Shared<W> {
         ensures { CalledInRow more seat.old seat.new result }
     {
         let mut holder = replace(&mut seat.badge, Badge::blank()).into_seat();
-        let mut core = acquire(rt, &self.table.shared, &self.turns, &mut holder);
+        let guard = self.gate.enter(rt);
+        let mut core = acquire(rt, &self.table.shared, &mut holder);
         let answer = make_steps(&mut core, more);
         self.notices.put(&core);
-        release(&self.table.shared, &self.turns, &mut holder, core);
+        release(&self.table.shared, &mut holder, core);
+        drop(guard);
         seat.badge = holder.into_badge();
         answer
     }
@@ -163,9 +165,11 @@ impl<W: Walker> Shared<W> {
         ensures { Observes (IsStateOf lane) seat.old seat.new result }
     {
         let mut holder = replace(&mut seat.badge, Badge::blank()).into_seat();
-        let core = acquire(rt, &self.table.shared, &self.turns, &mut holder);
+        let guard = self.gate.enter(rt);
+        let core = acquire(rt, &self.table.shared, &mut holder);
         let state = core.lane_state(lane);
-        release_unchanged(&self.table.shared, &self.turns, &mut holder, core);
+        release_unchanged(&self.table.shared, &mut holder, core);
+        drop(guard);
         seat.badge = holder.into_badge();
         state
     }
@@ -185,9 +189,11 @@ impl<W: Walker> Shared<W> {
         ensures { Observes (IsPieceOf from most) seat.old seat.new result }
     {
         let mut holder = replace(&mut seat.badge, Badge::blank()).into_seat();
-        let core = acquire(rt, &self.table.shared, &self.turns, &mut holder);
+        let guard = self.gate.enter(rt);
+        let core = acquire(rt, &self.table.shared, &mut holder);
         let found = piece(alloc, core.log(), from, most);
-        release_unchanged(&self.table.shared, &self.turns, &mut holder, core);
+        release_unchanged(&self.table.shared, &mut holder, core);
+        drop(guard);
         seat.badge = holder.into_badge();
         found
     }
@@ -211,10 +217,12 @@ impl<W: Walker> Shared<W> {
         ensures { Called (C.finds call) (C.call call) seat.old seat.new result }
     {
         let mut holder = replace(&mut seat.badge, Badge::blank()).into_seat();
-        let mut core = acquire(rt, &self.table.shared, &self.turns, &mut holder);
+        let guard = self.gate.enter(rt);
+        let mut core = acquire(rt, &self.table.shared, &mut holder);
         let answer = call.make(&mut core);
         self.notices.put(&core);
-        release(&self.table.shared, &self.turns, &mut holder, core);
+        release(&self.table.shared, &mut holder, core);
+        drop(guard);
         seat.badge = holder.into_badge();
         answer
     }
@@ -225,10 +233,12 @@ impl<W: Walker> Shared<W> {
         ensures { StopsBus seat.old seat.new }
     {
         let mut holder = replace(&mut seat.badge, Badge::blank()).into_seat();
-        let mut core = acquire(rt, &self.table.shared, &self.turns, &mut holder);
+        let guard = self.gate.enter(rt);
+        let mut core = acquire(rt, &self.table.shared, &mut holder);
         core.stop();
         self.notices.put(&core);
-        release_stopped(&self.table.shared, &self.turns, &mut holder, core);
+        release_stopped(&self.table.shared, &mut holder, core);
+        drop(guard);
         seat.badge = holder.into_badge();
     }
 
@@ -241,11 +251,11 @@ impl<W: Walker> Shared<W> {
     {
         let Shared {
             table,
-            turns,
+            gate: _,
             notices: _,
         } = self;
         let Seat { badge } = seat;
         let mut holder = badge.into_seat();
-        acquire(rt, &table.shared, &turns, &mut holder)
+        acquire(rt, &table.shared, &mut holder)
     }
 }

@@ -7,22 +7,14 @@ ghost use Rattle.tb_lock.specs.Helpers.Plays.{IsBoard, HasTurn, MayRelease, MayR
 
 use crate::board::{Board, CORE, Holder, SERVING, TICKET};
 use crate::plays::{Draw, Note, Open, Pass, Read, Stop};
-use std::hint::spin_loop;
 use std::sync::Wait;
+use std::thread::yield_now;
 use tb_algebra::Walker;
-use tb_bells::Turns;
 use tb_core::Core;
-
-/// How often a seat looks whose turn it is before it sleeps.
-const LOOKS: u32 = 100;
-
-/// How many turns a seat's own may be away while it looks.
-const NEAR: u64 = 2;
 
 /// The first turn of a new bus: the core is put in its slot.
 pub(crate) fn open<W: Walker>(
     board: &Board<W>,
-    turns: &Turns,
     holder: &mut Holder<W>,
     core: Core<W>,
 )
@@ -35,14 +27,13 @@ pub(crate) fn open<W: Walker>(
 {
     board.load::<Open>(holder, SERVING);
     let _empty = board.exchange(holder, CORE, Some(core));
-    pass(board, turns, holder);
+    pass(board, holder);
 }
 
 /// Waits for the seat's turn, and takes the core out.
 pub(crate) fn acquire<W: Walker, R: Wait>(
     rt: &R,
     board: &Board<W>,
-    turns: &Turns,
     holder: &mut Holder<W>,
 ) -> Core<W>
     requires board { IsBoard board.now.table_id }
@@ -59,42 +50,14 @@ pub(crate) fn acquire<W: Walker, R: Wait>(
         if serving == ticket {
             return board.exchange(holder, CORE, None).unwrap();
         }
-        wait_for(rt, board, turns, ticket, serving);
+        yield_now();
     }
     unreachable!()
-}
-
-/// Looks a few times whether it is the turn of this ticket, where few are before it, and then sleeps until somebody has rung for
-/// it.
-fn wait_for<W: Walker, R: Wait>(rt: &R, board: &Board<W>, turns: &Turns, ticket: u64, serving: u64)
-    requires { IsBoard board.now.table_id }
-{
-    if ticket.wrapping_sub(serving) <= NEAR && looks(board, ticket) {
-        return;
-    }
-    let rings = turns.rings(ticket);
-    if board.peek(SERVING) != ticket {
-        turns.wait_past(rt, ticket, rings);
-    }
-}
-
-/// Whether it becomes the turn of this ticket within some looks.
-fn looks<W: Walker>(board: &Board<W>, ticket: u64) -> bool
-    requires { IsBoard board.now.table_id }
-{
-    for _ in 0..LOOKS {
-        if board.peek(SERVING) == ticket {
-            return true;
-        }
-        spin_loop();
-    }
-    false
 }
 
 /// Puts the core back with what it has logged in this turn, and passes the turn on.
 pub(crate) fn release<W: Walker>(
     board: &Board<W>,
-    turns: &Turns,
     holder: &mut Holder<W>,
     core: Core<W>,
 )
@@ -106,13 +69,12 @@ pub(crate) fn release<W: Walker>(
 {
     let _empty = board.exchange(holder, CORE, Some(core));
     board.load::<Note>(holder, SERVING);
-    pass(board, turns, holder);
+    pass(board, holder);
 }
 
 /// The same with a core that is as it was taken out: there is nothing to note.
 pub(crate) fn release_unchanged<W: Walker>(
     board: &Board<W>,
-    turns: &Turns,
     holder: &mut Holder<W>,
     core: Core<W>,
 )
@@ -123,13 +85,12 @@ pub(crate) fn release_unchanged<W: Walker>(
     ensures releases { holder.new.me ≡ (record holder.old.me.0 { stage = Idle }, []) }
 {
     let _empty = board.exchange(holder, CORE, Some(core));
-    pass(board, turns, holder);
+    pass(board, holder);
 }
 
 /// The same with a core that was stopped in this turn, and has logged nothing.
 pub(crate) fn release_stopped<W: Walker>(
     board: &Board<W>,
-    turns: &Turns,
     holder: &mut Holder<W>,
     core: Core<W>,
 )
@@ -141,20 +102,16 @@ pub(crate) fn release_stopped<W: Walker>(
 {
     let _empty = board.exchange(holder, CORE, Some(core));
     board.load::<Stop>(holder, SERVING);
-    pass(board, turns, holder);
+    pass(board, holder);
 }
 
-/// Passes the turn on, and rings for the next ticket where that was drawn.
-pub(crate) fn pass<W: Walker>(board: &Board<W>, turns: &Turns, holder: &mut Holder<W>)
+/// Passes the turn on.
+pub(crate) fn pass<W: Walker>(board: &Board<W>, holder: &mut Holder<W>)
     requires board { IsBoard board.now.table_id }
     requires holder { holder.old.table_id ≡ board.now.table_id }
     requires may { MayPass holder.old.me }
     ensures holder { holder.new.table_id ≡ holder.old.table_id }
     ensures passes { holder.new.me ≡ (record holder.old.me.0 { stage = Idle }, []) }
 {
-    let served = board.fetch_add::<Pass>(holder, SERVING, 1);
-    let next = served.wrapping_add(1);
-    if board.peek(TICKET) != next {
-        turns.ring(next);
-    }
+    board.fetch_add::<Pass>(holder, SERVING, 1);
 }

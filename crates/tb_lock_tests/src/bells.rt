@@ -1,6 +1,7 @@
 use std::sync::Wait;
-use std::thread::join;
-use tb_bells::{Bell, Bells, Sleeper, Turns};
+use std::sync::atomic::{AtomicU64, Ordering};
+use std::thread::{join, yield_now};
+use tb_bells::{Bell, Bells, Gate, Sleeper};
 
 /// How often two threads ring for each other.
 const ROUNDS: u64 = 1_000;
@@ -40,18 +41,47 @@ fn a_ring_counts_for_one_sleeper(rt: HostRuntime) {
     }
 }
 
-/// Tickets, and how often each was rung for: those that lie further by 16 have the same bell.
-static TICKETS: [(u64, u64); 5] = [(1, 2), (17, 2), (2, 0), (16, 1), (u64::MAX, 0)];
+/// Adds one to a count inside the gate, round after round, and lets others run between its look and its word.
+fn count_inside<R: Wait>(rt: &R, gate: &Gate, count: &AtomicU64) {
+    for _ in 0..ROUNDS {
+        let guard = gate.enter(rt);
+        let found = count.load(Ordering::SeqCst);
+        yield_now();
+        count.store(found.wrapping_add(1), Ordering::SeqCst);
+        drop(guard);
+    }
+}
 
 #[test]
-fn a_ring_counts_for_one_ticket_of_sixteen(rt: HostRuntime) {
-    let turns = Turns::new();
-    turns.ring(1);
-    turns.ring(17);
-    turns.ring(0);
-    for (ticket, rings) in TICKETS {
-        assert_eq!(rt; turns.rings(ticket), rings);
+fn a_gate_lets_one_in(rt: HostRuntime) {
+    let gate = Gate::new();
+    let count = AtomicU64::new(0);
+    join(
+        &rt,
+        || count_inside(&rt, &gate, &count),
+        || count_inside(&rt, &gate, &count),
+    );
+    drop(gate);
+    assert_eq!(rt; count.load(Ordering::SeqCst), 2 * ROUNDS);
+}
+
+#[test]
+fn looks_in_vain_are_made_once_in_a_while(rt: HostRuntime) {
+    let bell = Bell::new();
+    let at_first = bell.is_worth_a_look();
+    bell.look_past(0);
+    bell.look_past(0);
+    let mut looks = 0;
+    for _ in 0..64 {
+        if bell.is_worth_a_look() {
+            looks += 1;
+        }
     }
+    bell.ring();
+    let rings = bell.look_past(0);
+    let at_last = bell.is_worth_a_look();
+    drop(bell);
+    assert_eq!(rt; (at_first, looks, rings, at_last), (true, 1, 1, true));
 }
 
 /// Rings for the other and waits for its ring, round after round. Gives the last count that was heard.

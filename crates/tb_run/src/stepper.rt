@@ -11,7 +11,7 @@ use tb_core::Stepped;
 use tb_lock::{Seat, Shared, calls_add_their_own};
 
 /// How many steps but one are made in a turn before the others are told.
-const BURST: u32 = 15;
+const BURST: u32 = 7;
 
 /// Makes steps until the bus is down. Where there is none it waits until something comes.
 pub fn step_worker<W: Walker, R: Wait>(

@@ -1,7 +1,7 @@
-ghost use Rattle.std.specs.Prelude.{◌≡◌, ◌<◌, ◌++◌, ◌∷◌, [], ◌||◌, length, remove, Some, IfOk, OnOk, OnErr, IsSome};
+ghost use Rattle.std.specs.Prelude.{◌≡◌, ◌↔◌, ◌<◌, ◌++◌, ◌∷◌, [], ◌||◌, length, remove, pos, Some, IfOk, OnOk, OnErr, IsSome, IsTrue};
 ghost use Rattle.std.specs.Option.{option_copied};
 ghost use Rattle.tb_terms.specs.Same.{is_same_term};
-ghost use Rattle.tb_tools.specs.Lanes.{new_tool, term_of, is_same_stage};
+ghost use Rattle.tb_tools.specs.Lanes.{new_tool, term_of, tool_term, is_same_stage};
 ghost use Rattle.tb_tools.specs.Inputs.{is_asked, departed};
 ghost use Rattle.tb_tools.specs.Acts.{is_closed, answer_of, event_at, acknowledgement};
 ghost use Rattle.tb_tools.specs.Finding.{is_at};
@@ -15,7 +15,7 @@ use std::alloc::Global;
 use std::marker::Model;
 use std::mem;
 use tb_log::Out;
-use tb_terms::{Items, Name, NoMemory, Term, Terms, same};
+use tb_terms::{Items, Name, NoMemory, Term, Terms};
 
 /// A tool that stands on a lane.
 #[derive(Drop)]
@@ -87,7 +87,7 @@ impl LaneTool {
     pub fn is_named(&self, term: &Term) -> bool
         ensures { result ≡ is_same_term term.now (term_of self.now) }
     {
-        same(term, &self.term)
+        is_tool_term(term, &self.name, self.number)
     }
 
     /// Whether it has this name and is at this stage.
@@ -227,5 +227,25 @@ impl LaneTool {
         let copy = Term::Appl(word.copy(alloc)?, self.received.copy_at(alloc, place)?);
         let line = Term::Appl(word, self.received.remove(place));
         Ok(KeptOut::of(Out::Line(line), Out::Line(copy)))
+    }
+}
+
+/// Whether a term is that of the tool with this name and number. It asks for the number first: tools of one name differ by it.
+fn is_tool_term(term: &Term, name: &Name, number: u32) -> bool
+    ensures { IsTrue result ↔ (term.now ≡ tool_term name.now number) }
+{
+    match term {
+        Term::Appl(named, parts) => is_number(parts.as_slice(), number) && named.is_same(name),
+        Term::Int(_) | Term::Str(_) | Term::List(_) => false,
+    }
+}
+
+/// Whether these terms are one, and that the number.
+fn is_number(terms: &[Term], number: u32) -> bool
+    ensures { IsTrue result ↔ (terms.now ≡ Term.Int (pos number) ∷ []) }
+{
+    match terms {
+        [Term::Int(only)] => *only == i64::from(number),
+        _ => false,
     }
 }
