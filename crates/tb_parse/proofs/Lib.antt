@@ -30,6 +30,7 @@ pub mod SoundProcs
 pub mod SoundScripts
 pub mod SoundSorts
 pub mod Stars
+pub mod TimedAtoms
 pub mod Times
 pub mod Trees
 pub mod Turns

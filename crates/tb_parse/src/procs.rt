@@ -144,7 +144,6 @@ fn upper_proc(
 }
 
 /// The times of an atom that begins at this position.
-#[tactic(auto, using(crate::proofs::Trees::built_atom), unfolding(crate::specs::Helpers::Parsing::timed))]
 fn timed(
     alloc: Global,
     reader: &mut Reader<'_, '_>,
