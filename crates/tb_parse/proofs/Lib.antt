@@ -7,6 +7,7 @@ pub mod Blocks
 pub mod Chains
 pub mod Exits
 pub mod Fits
+pub mod Formals
 pub mod KeptRows
 pub mod Opened
 pub mod Outcomes
