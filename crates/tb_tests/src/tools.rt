@@ -352,21 +352,11 @@ static UNASKED: [Expected; 10] = [
         b"start calc ",
         LaneState::Live,
     ),
-    Expected(
-        Call::Value(Spelt::Int(1)),
-        "unasked",
-        b"",
-        LaneState::Live,
-    ),
+    Expected(Call::Value(Spelt::Int(1)), "unasked", b"", LaneState::Live),
     Expected(Call::Eval(X), "done", b"rec-eval(x) ", LaneState::Live),
     Expected(Call::Eval(X), "no", b"", LaneState::Live),
     Expected(Call::Value(Spelt::Int(2)), "took", b"", LaneState::Live),
-    Expected(
-        Call::Value(Spelt::Int(3)),
-        "unasked",
-        b"",
-        LaneState::Live,
-    ),
+    Expected(Call::Value(Spelt::Int(3)), "unasked", b"", LaneState::Live),
     Expected(Call::Take, "done", b"", LaneState::Live),
     Expected(Call::Take, "no value", b"", LaneState::Live),
     Expected(
