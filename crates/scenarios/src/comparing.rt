@@ -18,13 +18,17 @@ pub(crate) fn difference<R: Threads + Wait + Sync>(
     alloc: Global,
     case: &Case,
 ) -> Result<Option<String>, NoMemory> {
-    let Some(played) = play(rt, alloc, case)? else {
-        return Ok(Some(String::from_str(alloc, "there are not sixteen lanes")?));
-    };
-    if let Some(what) = difference_played(alloc, case, &played)? {
+    match play(rt, alloc, case)? {
+        Some(played) => difference_of(alloc, case, &played),
+        None => Ok(Some(String::from_str(alloc, "there are not sixteen lanes")?)),
+    }
+}
+
+fn difference_of(alloc: Global, case: &Case, played: &Played) -> Result<Option<String>, NoMemory> {
+    if let Some(what) = difference_played(alloc, case, played)? {
         return Ok(Some(what));
     }
-    if let Some(what) = difference_live(alloc, case, &played)? {
+    if let Some(what) = difference_live(alloc, case, played)? {
         return Ok(Some(what));
     }
     if let Some(what) = difference_asked(alloc, case)? {

@@ -1,8 +1,11 @@
-//! Runs the cases of the files that `index` names over the ToolBus, in memory, and tells each that differs.
+//! Runs the cases of the files that `index` names over the ToolBus, in memory, and tells each that differs. `scenarios KIND FILE
+//! STEPS`, where KIND is `rewriter` or `walk`, is for the bench: it simulates a script over walkers of this kind, makes so many
+//! steps at most, and prints how many entries were logged.
 #![tactic(auto)]
 
 mod case;
 mod comparing;
+mod counting;
 mod lanes;
 mod live;
 mod logged;
@@ -11,18 +14,44 @@ mod rewriting;
 
 use case::Case;
 use comparing::difference;
+use counting::counted;
 use std::rt::Files;
 use std::sync::Wait;
 use std::thread::Threads;
-use std::{fs, io};
+use std::{env, fs, io};
 use tb_cases::Tally;
 use tb_terms::NoMemory;
 
 fn main(rt: HostRuntime) -> io::Result<()> {
+    let words = words(&rt)?;
+    match words.as_slice() {
+        [_, kind, path, steps] => print_count(&rt, kind.as_str(), path.as_str(), steps.as_str()),
+        _ => run_files(&rt),
+    }
+}
+
+/// The words of the command line, the program's name first.
+fn words(rt: &HostRuntime) -> io::Result<Vec<String>> {
+    let mut words = Vec::new(rt.alloc());
+    for word in env::args(rt)? {
+        words.push(word)?;
+    }
+    Ok(words)
+}
+
+fn print_count(rt: &HostRuntime, kind: &str, path: &str, steps: &str) -> io::Result<()> {
+    match counted(rt, kind, path, steps) {
+        Some(count) => println!(rt; "{count}"),
+        None => Err(io::Error::from(io::ErrorKind::InvalidInput)),
+    }
+}
+
+/// Runs the cases of each file that `index` names.
+fn run_files<R: AllocGlobal + Files + Print + Threads + Wait + Sync>(rt: &R) -> io::Result<()> {
     let mut tally = Tally::new();
-    let index = fs::read_to_string(&rt, "index")?;
+    let index = fs::read_to_string(rt, "index")?;
     for name in index.lines() {
-        run_file(&rt, name, &mut tally)?;
+        run_file(rt, name, &mut tally)?;
     }
     println!(rt; "{} passed, {} failed", tally.passed, tally.failed)
 }
@@ -35,16 +64,27 @@ fn run_file<R: AllocGlobal + Files + Print + Threads + Wait + Sync>(
 ) -> io::Result<()> {
     let text = fs::read_to_string(rt, file)?;
     let mut case = Case::new(rt.alloc(), "")?;
+    run_lines(rt, file, text.as_str(), &mut case, tally)
+}
+
+/// Runs the cases of these lines. The first lines are of the case that is given, and those of the last case stay in it.
+fn run_lines<R: AllocGlobal + Files + Print + Threads + Wait + Sync>(
+    rt: &R,
+    file: &str,
+    text: &str,
+    case: &mut Case,
+    tally: &mut Tally,
+) -> io::Result<()> {
     for line in text.lines() {
         if let Some(name) = line.strip_prefix("case ") {
-            run_case(rt, file, &case, tally)?;
-            case = Case::new(rt.alloc(), name)?;
+            run_case(rt, file, case, tally)?;
+            *case = Case::new(rt.alloc(), name)?;
         } else if !case.take_line(rt.alloc(), line)? {
             println!(rt; "{file}: no line of a case: {line}")?;
             tally.count(false);
         }
     }
-    run_case(rt, file, &case, tally)
+    run_case(rt, file, case, tally)
 }
 
 /// Runs a case, and tells where it differs. What stands before the first has no name, and isn't run.

@@ -8,7 +8,7 @@ use std::thread::Threads;
 use tb_edge::{
     Bytes, Clock, Crew, HeldFile, LanePair, MemClock, MemFiles, MemSink, NoCrew, ThreadCrew,
 };
-use tb_fake::{FakePair, FakePairs, Records};
+use tb_fake::{FakeClock, FakePair, FakePairs, Records};
 use tb_terms::{Items, NoMemory, Text};
 use tb_top::{Status, toolbus};
 
@@ -47,39 +47,41 @@ pub(crate) fn play<R: Threads + Wait + Sync>(
         mut clock,
         records,
     } = ends_of(alloc, &case.live)?;
-    let mut lanes = Vec::new(alloc);
-    for FakePair { inlet, outlet } in pairs {
-        lanes.push(LanePair {
-            inlet: Box::new(alloc, inlet)?,
-            outlet: Box::new(alloc, outlet)?,
-        })?;
+    let mut stage = stage_of(alloc, case, pairs)?;
+    match play_on(rt, alloc, case, &mut stage, &mut clock)? {
+        Some(status) => Ok(played(status, stage, records)),
+        None => Ok(None),
     }
-    let mut stage = stage_of(alloc, case, lanes)?;
-    let status = match case.live.ticks {
+}
+
+/// What is left of the stage after the call.
+fn played(status: Status, stage: Stage, records: Records) -> Option<Played> {
+    if stage.lanes.len() != LANES {
+        return None;
+    }
+    Some(Played {
+        status: status.number(),
+        out: stage.out,
+        err: stage.err,
+        records,
+    })
+}
+
+/// The call by the clock that the case says, or by this one.
+fn play_on<R: Threads + Wait + Sync>(
+    rt: &R,
+    alloc: Global,
+    case: &Case,
+    stage: &mut Stage,
+    clock: &mut FakeClock,
+) -> Result<Option<Status>, NoMemory> {
+    match case.live.ticks {
         Some(ticks) => {
             let mut clock = MemClock::new(ticks, one(alloc, case.live.clock_fails)?);
-            play_by(rt, alloc, case, &mut stage, &mut clock)
+            Ok(play_by(rt, alloc, case, stage, &mut clock))
         }
-        None => play_by(rt, alloc, case, &mut stage, &mut clock),
-    };
-    let Some(status) = status else {
-        return Ok(None);
-    };
-    let Stage {
-        files: _,
-        out,
-        err,
-        lanes,
-    } = stage;
-    if lanes.len() != LANES {
-        return Ok(None);
+        None => Ok(play_by(rt, alloc, case, stage, clock)),
     }
-    Ok(Some(Played {
-        status: status.number(),
-        out,
-        err,
-        records,
-    }))
 }
 
 /// The same by this clock.
@@ -122,17 +124,37 @@ fn play_with<R: Threads + Wait + Sync, C: Clock + Send, P: Crew>(
     ))
 }
 
-fn stage_of(alloc: Global, case: &Case, lanes: Vec<LanePair>) -> Result<Stage, NoMemory> {
+fn stage_of(alloc: Global, case: &Case, pairs: Vec<FakePair>) -> Result<Stage, NoMemory> {
+    Ok(Stage {
+        files: files_of(alloc, case)?,
+        out: MemSink::new(alloc, case.room, one(alloc, case.fails.out)?)?,
+        err: MemSink::new(alloc, case.err_room, one(alloc, case.fails.err)?)?,
+        lanes: lanes_of(alloc, pairs)?,
+    })
+}
+
+fn files_of(alloc: Global, case: &Case) -> Result<MemFiles, NoMemory> {
     let mut held = Vec::new(alloc);
     for file in &case.files {
         held.push(held_file(alloc, file)?)?;
     }
-    let held = Items::from_vec(held);
-    Ok(Stage {
-        files: MemFiles::new(alloc, held, one(alloc, case.fails.files)?),
-        out: MemSink::new(alloc, case.room, one(alloc, case.fails.out)?)?,
-        err: MemSink::new(alloc, case.err_room, one(alloc, case.fails.err)?)?,
-        lanes,
+    let fails = one(alloc, case.fails.files)?;
+    Ok(MemFiles::new(alloc, Items::from_vec(held), fails))
+}
+
+fn lanes_of(alloc: Global, pairs: Vec<FakePair>) -> Result<Vec<LanePair>, NoMemory> {
+    let mut lanes = Vec::new(alloc);
+    for pair in pairs {
+        lanes.push(boxed(alloc, pair)?)?;
+    }
+    Ok(lanes)
+}
+
+fn boxed(alloc: Global, pair: FakePair) -> Result<LanePair, NoMemory> {
+    let FakePair { inlet, outlet } = pair;
+    Ok(LanePair {
+        inlet: Box::new(alloc, inlet)?,
+        outlet: Box::new(alloc, outlet)?,
     })
 }
 

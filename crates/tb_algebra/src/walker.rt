@@ -17,7 +17,7 @@ use tb_terms::{NoMemory, Patterns, Terms};
 pub trait Walker: Sized + Drop {
     type Plan: Drop;
 
-    /// What comes of an offer that is taken: what is left then, in memory of its own.
+    /// What comes of an offer that is taken, and by what the process goes on.
     type Taken: Drop;
 
     // What contracts see of these walkers.

@@ -7,6 +7,7 @@ pub mod Blocks
 pub mod Chains
 pub mod Exits
 pub mod Fits
+pub mod Formals
 pub mod KeptRows
 pub mod Opened
 pub mod Outcomes
@@ -30,6 +31,7 @@ pub mod SoundProcs
 pub mod SoundScripts
 pub mod SoundSorts
 pub mod Stars
+pub mod TimedAtoms
 pub mod Times
 pub mod Trees
 pub mod Turns

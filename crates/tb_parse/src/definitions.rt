@@ -111,7 +111,6 @@ fn parted_formals(
     Err(ParseFault::Syntax(reader.position()))
 }
 
-#[tactic(auto, unfolding(crate::specs::Helpers::Parsing::formal))]
 fn formal(alloc: Global, reader: &mut Reader<'_, '_>, room: usize) -> Result<Formal, ParseFault>
     ensures { Meets (runs (formal room) reader.old) result reader.new }
 {

@@ -1,5 +1,7 @@
-ghost use Rattle.std.specs.Prelude.{◌≡◌};
+ghost use Rattle.std.specs.Prelude.{◌≡◌, IfOk};
 ghost use Rattle.tb_syntax.specs.declared.proc.Proc.{Proc};
+ghost use Rattle.tb_syntax.specs.declared.proc.Proc.TheVariants as tree;
+ghost use Rattle.tb_parse.specs.declared.built.Built.{Built};
 ghost use Rattle.tb_parse.specs.Helpers.Parsing.{proc, prim, merge, turns, prim_of, lower_proc, upper_proc, timed, block, conditional, sides};
 ghost use Rattle.tb_parse.specs.Helpers.Heights.{built, as_built, creation, chained, member, sign_of};
 ghost use Rattle.tb_parse.specs.Helpers.Reading.{Meets, runs};
@@ -11,8 +13,8 @@ use crate::exprs::{arguments, expr};
 use crate::reader::Reader;
 use std::alloc::Global;
 use tb_lex::{LowerWord, Symbol, TokenKind};
-use tb_syntax::{ActDef, Ast, AtomDef, Proc, is_atom_word};
-use tb_terms::{Ident, Items};
+use tb_syntax::{ActDef, Ast, AtomDef, Proc, TimeDefs, is_atom_word};
+use tb_terms::{Ident, Items, NoMemory};
 
 /// A whole process. The room bounds how deep processes stand in each other.
 #[tactic(auto, unfolding(crate::specs::Helpers::Parsing::proc))]
@@ -144,7 +146,6 @@ fn upper_proc(
 }
 
 /// The times of an atom that begins at this position.
-#[tactic(auto, using(crate::proofs::Trees::built_atom), unfolding(crate::specs::Helpers::Parsing::timed))]
 fn timed(
     alloc: Global,
     reader: &mut Reader<'_, '_>,
@@ -155,8 +156,13 @@ fn timed(
     ensures { Meets (runs (as_built (timed room token act)) reader.old) result reader.new }
 {
     let times = times(alloc, reader, room)?;
-    let atom = AtomDef { act, times, token };
-    Ok(leaf(alloc, Proc::Atom(atom))?)
+    Ok(atom(alloc, act, times, token)?)
+}
+
+fn atom(alloc: Global, act: ActDef, times: TimeDefs, token: usize) -> Result<Built, NoMemory>
+    ensures { IfOk result (λ made. made ≡ Built.Tree (tree.Atom (record { act = act; times = times; token = token })) 1) }
+{
+    leaf(alloc, Proc::Atom(AtomDef { act, times, token }))
 }
 
 /// What stands behind the word `create`, which stands at this position.

@@ -23,8 +23,8 @@ pub(crate) fn part_lanes(
 {
     for pair in pairs {
         let LanePair { inlet, outlet } = pair;
-        inlets.push(inlet).unwrap();
-        outlets.push(outlet).unwrap();
+        inlets.push_reserved(inlet);
+        outlets.push_reserved(outlet);
     }
 }
 
@@ -38,7 +38,7 @@ pub(crate) fn pair_lanes(inlets: Vec<AnyInlet>, outlets: Vec<AnyOutlet>, lanes: 
     let mut outlets = outlets.into_iter();
     for inlet in inlets {
         match outlets.next() {
-            Some(outlet) => lanes.push(LanePair { inlet, outlet }).unwrap(),
+            Some(outlet) => lanes.push_reserved(LanePair { inlet, outlet }),
             None => unreachable!(),
         }
     }
@@ -72,8 +72,8 @@ pub(crate) fn end_all<'a, W: Walker, I: Inlet, O: Outlet>(
             work,
             end,
         } = worker;
-        seats.push(seat).unwrap();
-        ends.push(end).unwrap();
+        seats.push_reserved(seat);
+        ends.push_reserved(end);
         move_out(work, inlets, outlets);
     }
 }
@@ -88,8 +88,8 @@ fn move_out<I: Inlet, O: Outlet>(work: Work<I, O>, inlets: &mut Vec<I>, outlets:
     ensures outlets_room { (rest : List (Work I O)) → vec_len outlets.old + length (outlets_of (work ∷ rest)) ≤ vec_capacity outlets.old → vec_len outlets.new + length (outlets_of rest) ≤ vec_capacity outlets.new }
 {
     match work {
-        Work::Reads(_, inlet) => inlets.push(inlet).unwrap(),
-        Work::Writes(_, outlet) => outlets.push(outlet).unwrap(),
+        Work::Reads(_, inlet) => inlets.push_reserved(inlet),
+        Work::Writes(_, outlet) => outlets.push_reserved(outlet),
         Work::Steps => {}
     }
 }
@@ -108,13 +108,13 @@ pub(crate) fn works_of<I: Inlet, O: Outlet>(
 {
     let mut lane: u8 = 1;
     for inlet in inlets {
-        works.push(Work::Reads(lane, inlet)).unwrap();
+        works.push_reserved(Work::Reads(lane, inlet));
         lane += 1;
     }
     let mut lane: u8 = 1;
     for outlet in outlets {
-        works.push(Work::Writes(lane, outlet)).unwrap();
+        works.push_reserved(Work::Writes(lane, outlet));
         lane += 1;
     }
-    works.push(Work::Steps).unwrap();
+    works.push_reserved(Work::Steps);
 }

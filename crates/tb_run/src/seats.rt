@@ -33,6 +33,6 @@ pub(crate) fn split_all<W: Walker>(
 {
     for part in parts {
         let new = shared.split(seat, *part);
-        seats.push(new).unwrap();
+        seats.push_reserved(new);
     }
 }

@@ -39,18 +39,16 @@ pub(crate) fn begin_all<'a, W: Walker, I: Inlet, O: Outlet>(
     for work in works {
         match seats.next() {
             Some(seat) => match buffers.pop() {
-                Some(buffer) => workers
-                    .push(Worker {
-                        shared,
-                        bells,
-                        alloc,
-                        left,
-                        seat,
-                        buffer,
-                        work,
-                        end: WorkEnd::Over,
-                    })
-                    .unwrap(),
+                Some(buffer) => workers.push_reserved(Worker {
+                    shared,
+                    bells,
+                    alloc,
+                    left,
+                    seat,
+                    buffer,
+                    work,
+                    end: WorkEnd::Over,
+                }),
                 None => unreachable!(),
             },
             None => unreachable!(),

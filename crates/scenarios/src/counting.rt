@@ -1,12 +1,9 @@
-//! Simulates a script over walkers of one kind, for the bench. `walker_bench KIND FILE STEPS`, where KIND is `rewriter` or
-//! `walk`, makes so many steps at most and prints how many entries were logged. Where it can't, it ends with status 1.
-#![tactic(auto)]
+//! Counts what a simulation logs over walkers of one kind, for the bench: the program's own walkers are walks.
 
 ghost use Rattle.std.specs.Prelude.{◌≡◌, [], false};
 
 use std::alloc::Global;
-use std::process::ExitCode;
-use std::{env, fs};
+use std::fs;
 use tb_algebra::{Rewriter, Walker};
 use tb_body::Program;
 use tb_core::Core;
@@ -19,23 +16,13 @@ use tb_walk::Walk;
 /// How many entries a log may have.
 const MOST_ENTRIES: u32 = 4_000_000;
 
-fn main(rt: HostRuntime) -> ExitCode {
-    match print_count(&rt) {
-        Some(()) => ExitCode::from(0),
-        None => ExitCode::from(1),
-    }
-}
-
-/// Does what the words ask for, where nothing fails.
-fn print_count(rt: &HostRuntime) -> Option<()> {
-    let mut words = env::args(rt).ok()?.skip(1);
-    let kind = words.next()?;
-    let path = words.next()?;
-    let steps = words.next()?.parse::<u64>().ok()?;
-    let bytes = fs::read(rt, path.as_str()).ok()?;
+/// How many entries a simulation of the file's script logs, where nothing fails. The words are a kind of walkers, a file, and how
+/// many steps may be made.
+pub(crate) fn counted(rt: &HostRuntime, kind: &str, path: &str, steps: &str) -> Option<usize> {
+    let steps = steps.parse::<u64>().ok()?;
+    let bytes = fs::read(rt, path).ok()?;
     let program = load(rt.alloc(), bytes.as_slice()).ok()?;
-    let count = count_over(rt.alloc(), kind.as_str(), program, steps)?;
-    println!(rt; "{count}").ok()
+    count_over(rt.alloc(), kind, program, steps)
 }
 
 /// How many entries a simulation over walkers of this kind logs.

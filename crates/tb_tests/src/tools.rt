@@ -3,22 +3,15 @@
 //! A function that has made a term, a name or what is handed out lends it to another or hands it over, and returns what that
 //! answers: a fault that passes through while such a value is held costs its proof a case for each form.
 
+use crate::spelt::{Spelt, name, term, terms};
 use std::alloc::Global;
 use std::test::Fail;
 use tb_log::{Out, Reply, ToolLine, Why};
-use tb_terms::{
-    Items, Name, NoMemory, Pattern, Patterns, Sort, Term, Terms, Text, Texts, write_term,
-};
+use tb_terms::{Items, NoMemory, Pattern, Patterns, Sort, Term, Text, Texts, write_term};
 use tb_tools::{Bench, Handout, LaneState, Stage};
 
 /// The lane of the tables.
 const LANE: u8 = 1;
-
-/// A term as the tables spell it: a number, or a name with its parts.
-enum Spelt {
-    Number(i64),
-    Name(&'static [u8], &'static [Spelt]),
-}
 
 /// What is done to the lane and its tool.
 enum Call {
@@ -53,39 +46,13 @@ enum Call {
 /// of the lane after that.
 struct Expected(Call, &'static str, &'static [u8], LaneState);
 
-const PLUS: Spelt = Spelt::Name(b"plus", &[Spelt::Number(1), Spelt::Number(2)]);
-
-fn name(alloc: Global, bytes: &[u8]) -> Result<Name, NoMemory> {
-    match Name::from_bytes(alloc, bytes)? {
-        Some(name) => Ok(name),
-        None => Name::new(alloc, b"bad"),
-    }
-}
+const PLUS: Spelt = Spelt::Appl(b"plus", &[Spelt::Int(1), Spelt::Int(2)]);
 
 fn text(alloc: Global, bytes: &[u8]) -> Result<Text, NoMemory> {
     match Text::from_vec(Vec::from_slice(alloc, bytes)?) {
         Some(text) => Ok(text),
         None => Ok(Text::empty(alloc)),
     }
-}
-
-fn term(alloc: Global, spelt: &Spelt) -> Result<Term, NoMemory> {
-    match spelt {
-        Spelt::Number(number) => Ok(Term::Int(*number)),
-        Spelt::Name(word, parts) => {
-            let mut terms = Items::new(alloc);
-            for part in *parts {
-                terms.push(term(alloc, part)?)?;
-            }
-            Ok(Term::Appl(name(alloc, word)?, terms))
-        }
-    }
-}
-
-fn terms(alloc: Global, spelt: &Spelt) -> Result<Terms, NoMemory> {
-    let mut terms = Items::new(alloc);
-    terms.push(term(alloc, spelt)?)?;
-    Ok(terms)
 }
 
 fn patterns(alloc: Global, word: &[u8], parts: usize) -> Result<Patterns, NoMemory> {
@@ -200,7 +167,7 @@ fn receive(
 }
 
 fn ack(alloc: Global, bench: &mut Bench, spelt: &Spelt) -> Result<&'static str, NoMemory> {
-    let terms = terms(alloc, spelt)?;
+    let terms = terms(alloc, &[*spelt])?;
     if !bench.is_live(LANE) {
         return Ok("no");
     }
@@ -236,7 +203,7 @@ fn put_value(alloc: Global, bench: &mut Bench, spelt: &Spelt) -> Result<&'static
 }
 
 fn put_event(alloc: Global, bench: &mut Bench, spelt: &Spelt) -> Result<&'static str, NoMemory> {
-    put_line(bench, ToolLine::Event(terms(alloc, spelt)?), false)
+    put_line(bench, ToolLine::Event(terms(alloc, &[*spelt])?), false)
 }
 
 fn put_name(
@@ -331,13 +298,13 @@ fn rows_that_hold(alloc: Global, commands: &Texts, rows: &[Expected]) -> Result<
     Ok(rows.len())
 }
 
-const X: Spelt = Spelt::Name(b"x", &[]);
+const X: Spelt = Spelt::Appl(b"x", &[]);
 
-const FIRST: Spelt = Spelt::Name(b"e", &[Spelt::Number(1)]);
+const FIRST: Spelt = Spelt::Appl(b"e", &[Spelt::Int(1)]);
 
-const SECOND: Spelt = Spelt::Name(b"e", &[Spelt::Number(2)]);
+const SECOND: Spelt = Spelt::Appl(b"e", &[Spelt::Int(2)]);
 
-const BUTTON: Spelt = Spelt::Name(b"button", &[PLUS]);
+const BUTTON: Spelt = Spelt::Appl(b"button", &[PLUS]);
 
 static CALCULATOR: [Expected; 11] = [
     Expected(
@@ -355,7 +322,7 @@ static CALCULATOR: [Expected; 11] = [
         b"rec-eval(plus(1,2)) ",
         LaneState::Live,
     ),
-    Expected(Call::Value(Spelt::Number(3)), "took", b"", LaneState::Live),
+    Expected(Call::Value(Spelt::Int(3)), "took", b"", LaneState::Live),
     Expected(Call::Take, "done", b"", LaneState::Live),
     Expected(
         Call::Ack(BUTTON),
@@ -364,7 +331,7 @@ static CALCULATOR: [Expected; 11] = [
         LaneState::Live,
     ),
     Expected(
-        Call::Event(Spelt::Name(b"quit", &[])),
+        Call::Event(Spelt::Appl(b"quit", &[])),
         "took",
         b"",
         LaneState::Live,
@@ -385,25 +352,15 @@ static UNASKED: [Expected; 10] = [
         b"start calc ",
         LaneState::Live,
     ),
-    Expected(
-        Call::Value(Spelt::Number(1)),
-        "unasked",
-        b"",
-        LaneState::Live,
-    ),
+    Expected(Call::Value(Spelt::Int(1)), "unasked", b"", LaneState::Live),
     Expected(Call::Eval(X), "done", b"rec-eval(x) ", LaneState::Live),
     Expected(Call::Eval(X), "no", b"", LaneState::Live),
-    Expected(Call::Value(Spelt::Number(2)), "took", b"", LaneState::Live),
-    Expected(
-        Call::Value(Spelt::Number(3)),
-        "unasked",
-        b"",
-        LaneState::Live,
-    ),
+    Expected(Call::Value(Spelt::Int(2)), "took", b"", LaneState::Live),
+    Expected(Call::Value(Spelt::Int(3)), "unasked", b"", LaneState::Live),
     Expected(Call::Take, "done", b"", LaneState::Live),
     Expected(Call::Take, "no value", b"", LaneState::Live),
     Expected(
-        Call::Down(Spelt::Name(b"finish", &[])),
+        Call::Down(Spelt::Appl(b"finish", &[])),
         "done",
         b"rec-terminate(finish) end ",
         LaneState::Live,
@@ -441,7 +398,7 @@ static GONE: [Expected; 12] = [
         LaneState::Live,
     ),
     Expected(
-        Call::Terminate(Spelt::Number(0)),
+        Call::Terminate(Spelt::Int(0)),
         "done",
         b"rec-terminate(0) end ",
         LaneState::Ending,

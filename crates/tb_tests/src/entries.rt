@@ -1,5 +1,6 @@
 //! Entries in shape and out of it, the room of a log, and feeds.
 
+use crate::spelt::name;
 use std::alloc::Global;
 use std::test::Fail;
 use tb_feed::Feed;
@@ -8,11 +9,7 @@ use tb_log::{
     is_out_in_shape, is_tool_line_in_shape, show_proper_entry, show_proper_log, write_entry,
 };
 use tb_log_read::read_entry;
-use tb_terms::{Items, Name, NoMemory, Term, Terms};
-
-fn name(alloc: Global, bytes: &[u8]) -> Result<Name, NoMemory> {
-    Name::from_bytes(alloc, bytes)?.ok_or(NoMemory)
-}
+use tb_terms::{Items, NoMemory, Term, Terms};
 
 fn one(alloc: Global, term: Term) -> Result<Terms, NoMemory> {
     let mut terms = Items::new(alloc);
