@@ -1,6 +1,6 @@
 use Rattle.std.proofs.Common.{arith, rules, ◌∙◌}
 use Rattle.tb_edge.proofs.Puts.{Owes-piece, WritesPrefix-piece}
-use Rattle.tb_tests.proofs.edge.put_all.Goals as goal
+use Rattle.tb_call_tests.proofs.edge.put_all.Goals as goal
 
 pub returns-in_err-put-clause-prefix : goal.returns-in_err-put-clause-prefix
 returns-in_err-put-clause-prefix g c =

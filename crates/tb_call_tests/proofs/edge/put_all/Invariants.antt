@@ -1,7 +1,7 @@
 use Rattle.std.proofs.Common.{◌≤◌, drop}
 use Rattle.std.specs.List.{flat_map}
 use Rattle.tb_edge.specs.Sinks.{Owes}
-use Rattle.tb_tests.proofs.edge.put_all.Given as goal
+use Rattle.tb_call_tests.proofs.edge.put_all.Given as goal
 
 abbrev pub invariant-loop-piece : goal.invariant-loop-piece
 invariant-loop-piece g l =
