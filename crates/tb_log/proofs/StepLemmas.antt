@@ -8,7 +8,7 @@ use Rattle.tb_log.specs.declared.entry.Place.{Place}
 use Rattle.tb_log.specs.declared.entry.LabelKind.{LabelKind}
 use Rattle.tb_log.specs.declared.entry.LabelKind.TheVariants as kind
 use Rattle.tb_log.specs.LogText.{kind_word, term_words, label_words}
-use Rattle.tb_log.specs.StepText.{shown_places, shown_terms}
+use Rattle.tb_log.specs.Helpers.StepText.{shown_places, shown_terms}
 
 -- a step's words are its word, the places and the terms that it shows
 pub words_in_parts : (k : LabelKind) (from to : Place) (terms : List Term) → (kind_word k ++ shown_places k from to) ++ term_words (shown_terms k terms) ≡ label_words k from to terms

@@ -4,7 +4,7 @@ ghost use Rattle.std.specs.Fmt.{signed_decimal};
 ghost use Rattle.std.specs.List.{flat_map};
 ghost use Rattle.tb_terms.specs.Texts.{term_text};
 ghost use Rattle.tb_log.specs.LogText.{kind_word, label_words, place_words, term_words};
-ghost use Rattle.tb_log.specs.StepText.{shown_places, shown_terms};
+ghost use Rattle.tb_log.specs.Helpers.StepText.{shown_places, shown_terms};
 
 use crate::entry::{Label, LabelKind, Place};
 use crate::text::kind_word;

@@ -1,7 +1,7 @@
 ghost use Rattle.std.specs.Prelude.{◌≡◌, ◌++◌, [], ◌∷◌, OnOk, OnErr, codes, decimal};
 ghost use Rattle.tb_terms.specs.Helpers.Prefixes.{KeepsPrefix};
 ghost use Rattle.tb_log.specs.LogText.{entry_text, entry_words, kind_word, label_words, term_words, arguments_text, fed_words, input_words, tool_line_words, out_words, why_word};
-ghost use Rattle.tb_log.specs.StepText.{shown_places, shown_terms};
+ghost use Rattle.tb_log.specs.Helpers.StepText.{shown_places, shown_terms};
 
 use crate::entry::{Entry, Input, Label, LabelKind, Out, Reply, ToolLine, Why};
 use crate::step_line::{LINE_BYTES, put_head, put_line};
