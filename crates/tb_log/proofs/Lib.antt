@@ -1,3 +1,4 @@
 pub mod LaneLemmas
 pub mod TextLemmas
 mod Rows
+mod StepLemmas

@@ -4,3 +4,4 @@ pub mod LogText
 pub mod Logs
 pub mod Proper
 pub mod Shapes
+pub mod Helpers

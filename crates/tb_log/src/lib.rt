@@ -6,6 +6,7 @@ mod log;
 mod pieces;
 mod proper;
 mod shape;
+mod step_line;
 mod text;
 
 pub use entry::{Entries, Entry, Input, Label, LabelKind, Out, Place, Reply, ToolLine, Why};

@@ -1,13 +1,30 @@
 ghost use Rattle.std.specs.Prelude.{◌≡◌, ◌++◌, [], ◌∷◌, OnOk, OnErr, codes, decimal};
 ghost use Rattle.tb_terms.specs.Helpers.Prefixes.{KeepsPrefix};
-ghost use Rattle.tb_log.specs.LogText.{entry_text, entry_words, kind_word, label_words, place_words, term_words, arguments_text, fed_words, input_words, tool_line_words, out_words, why_word};
+ghost use Rattle.tb_log.specs.LogText.{entry_text, entry_words, kind_word, label_words, term_words, arguments_text, fed_words, input_words, tool_line_words, out_words, why_word};
+ghost use Rattle.tb_log.specs.Helpers.StepText.{shown_places, shown_terms};
 
-use crate::entry::{Entry, Input, Label, LabelKind, Out, Place, Reply, ToolLine, Why};
+use crate::entry::{Entry, Input, Label, LabelKind, Out, Reply, ToolLine, Why};
+use crate::step_line::{LINE_BYTES, put_head, put_line};
 use itoa::Buffer;
 use tb_terms::{NoMemory, Terms, push_quoted, write_term, write_terms};
 
 /// Writes the line of an entry with this number at the end.
 pub fn write_entry(number: u64, entry: &Entry, into: &mut Vec<u8>) -> Result<(), NoMemory>
+    ensures ok { OnOk result (into.new.items ≡ into.old.items ++ entry_text number entry.now) }
+    ensures err { OnErr result (into.new.items ≡ into.old.items) }
+{
+    if let Entry::Did(label) = entry {
+        let mut line = [0; LINE_BYTES];
+        if let Some(start) = put_line(number, label, &mut line) {
+            return push_text(&line[start..], into);
+        }
+    }
+    write_any(number, entry, into)
+}
+
+/// The same of any entry, piece by piece.
+#[inline(never)]
+fn write_any(number: u64, entry: &Entry, into: &mut Vec<u8>) -> Result<(), NoMemory>
     ensures ok { OnOk result (into.new.items ≡ into.old.items ++ entry_text number entry.now) }
     ensures err { OnErr result (into.new.items ≡ into.old.items) }
 {
@@ -44,31 +61,34 @@ fn push_words(entry: &Entry, into: &mut Vec<u8>) -> Result<(), NoMemory>
     }
 }
 
+#[tactic(auto, using(crate::proofs::StepLemmas::words_in_parts))]
 fn push_label(label: &Label, into: &mut Vec<u8>) -> Result<(), NoMemory>
     ensures ok { OnOk result (into.new.items ≡ into.old.items ++ label_words label.now.kind label.now.from label.now.to label.now.terms) }
     ensures err { OnErr result (KeepsPrefix into.old.items into.new.items) }
 {
-    match label.kind {
-        LabelKind::Msg => {
-            push_text(b"msg", into)?;
-            push_place(label.from, into)?;
-            push_place(label.to, into)?;
-            push_terms(&label.terms, into)
-        }
-        LabelKind::Finish => push_text(b"finish", into),
-        LabelKind::Halt => push_text(b"halt", into),
-        kind => push_one_place(kind_word(kind), label, into),
-    }
+    push_head(label, into)?;
+    push_shown_terms(label, into)
 }
 
-/// A word, the first place of a step, and the terms.
-fn push_one_place(word: &[u8], label: &Label, into: &mut Vec<u8>) -> Result<(), NoMemory>
-    ensures ok { OnOk result (into.new.items ≡ into.old.items ++ (word.now ++ place_words label.now.from ++ term_words label.now.terms)) }
+/// The word and the places of a step.
+fn push_head(label: &Label, into: &mut Vec<u8>) -> Result<(), NoMemory>
+    ensures ok { OnOk result (into.new.items
+        ≡ into.old.items ++ (kind_word label.now.kind ++ shown_places label.now.kind label.now.from label.now.to)) }
+    ensures err { OnErr result (into.new.items ≡ into.old.items) }
+{
+    let mut line = [0; LINE_BYTES];
+    let start = put_head(label, &mut line, LINE_BYTES);
+    push_text(&line[start..], into)
+}
+
+fn push_shown_terms(label: &Label, into: &mut Vec<u8>) -> Result<(), NoMemory>
+    ensures ok { OnOk result (into.new.items ≡ into.old.items ++ term_words (shown_terms label.now.kind label.now.terms)) }
     ensures err { OnErr result (KeepsPrefix into.old.items into.new.items) }
 {
-    push_text(word, into)?;
-    push_place(label.from, into)?;
-    push_terms(&label.terms, into)
+    match label.kind {
+        LabelKind::Finish | LabelKind::Halt => Ok(()),
+        _ => push_terms(&label.terms, into),
+    }
 }
 
 /// The word with which the line of such a step begins.
@@ -99,16 +119,6 @@ pub fn kind_word(kind: LabelKind) -> &'static [u8]
         LabelKind::Finish => b"finish",
         LabelKind::Halt => b"halt",
     }
-}
-
-fn push_place(place: Place, into: &mut Vec<u8>) -> Result<(), NoMemory>
-    ensures ok { OnOk result (into.new.items ≡ into.old.items ++ place_words place) }
-    ensures err { OnErr result (KeepsPrefix into.old.items into.new.items) }
-{
-    into.push(b' ')?;
-    push_number(u64::from(place.proc), into)?;
-    into.push(b'.')?;
-    push_number(u64::from(place.atom), into)
 }
 
 fn push_terms(terms: &Terms, into: &mut Vec<u8>) -> Result<(), NoMemory>

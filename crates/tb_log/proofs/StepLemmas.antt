@@ -1,0 +1,60 @@
+-- The line of a step in parts, and its terms from the last to the first.
+use Rattle.std.proofs.Common.{◌≡◌, ℕ, List, [], ◌∷◌, ◌++◌, refl, sym, ap, ◌∙◌, append_assoc, append-nil}
+use Rattle.std.specs.Fmt.{decimal}
+use Rattle.std.specs.List.{flat_map}
+use Rattle.tb_terms.specs.Texts.{term_text, terms_text}
+use Rattle.tb_terms.specs.declared.term.Term.{Term}
+use Rattle.tb_log.specs.declared.entry.Place.{Place}
+use Rattle.tb_log.specs.declared.entry.LabelKind.{LabelKind}
+use Rattle.tb_log.specs.declared.entry.LabelKind.TheVariants as kind
+use Rattle.tb_log.specs.LogText.{kind_word, term_words, label_words}
+use Rattle.tb_log.specs.Helpers.StepText.{shown_places, shown_terms}
+
+-- a step's words are its word, the places and the terms that it shows
+pub words_in_parts : (k : LabelKind) (from to : Place) (terms : List Term) → (kind_word k ++ shown_places k from to) ++ term_words (shown_terms k terms) ≡ label_words k from to terms
+words_in_parts kind.Msg from to terms = refl
+words_in_parts kind.Set from to terms = refl
+words_in_parts kind.Tau from to terms = refl
+words_in_parts kind.Printf from to terms = refl
+words_in_parts kind.SndNote from to terms = refl
+words_in_parts kind.RecNote from to terms = refl
+words_in_parts kind.NoNote from to terms = refl
+words_in_parts kind.Subscribe from to terms = refl
+words_in_parts kind.Unsubscribe from to terms = refl
+words_in_parts kind.Create from to terms = refl
+words_in_parts kind.Execute from to terms = refl
+words_in_parts kind.RecConnect from to terms = refl
+words_in_parts kind.RecDisconnect from to terms = refl
+words_in_parts kind.SndEval from to terms = refl
+words_in_parts kind.RecValue from to terms = refl
+words_in_parts kind.SndDo from to terms = refl
+words_in_parts kind.RecEvent from to terms = refl
+words_in_parts kind.SndAckEvent from to terms = refl
+words_in_parts kind.SndTerminate from to terms = refl
+words_in_parts kind.Shutdown from to terms = refl
+words_in_parts kind.Finish from to terms = refl
+words_in_parts kind.Halt from to terms = refl
+
+-- a step's line is its number and these parts
+pub line_in_parts : (number : ℕ) (k : LabelKind) (from to : Place) (terms : List Term)
+    → decimal number ++ (32 ∷ ((kind_word k ++ shown_places k from to) ++ (term_words (shown_terms k terms) ++ 10 ∷ []))) ≡ decimal number ++ 32 ∷ label_words k from to terms ++ 10 ∷ []
+line_in_parts number k from to terms =
+    ap (λ (t : List ℕ). decimal number ++ (32 ∷ t)) (sym (append_assoc (kind_word k ++ shown_places k from to) (term_words (shown_terms k terms)) (10 ∷ [])))
+    ∙ (sym (append_assoc (decimal number) (32 ∷ ((kind_word k ++ shown_places k from to) ++ term_words (shown_terms k terms))) (10 ∷ []))
+    ∙ ap (λ (t : List ℕ). (decimal number ++ (32 ∷ t)) ++ 10 ∷ []) (words_in_parts k from to terms))
+
+-- a term behind a comma
+abbrev pub behind_comma : Term → List ℕ
+behind_comma term = 44 ∷ term_text term
+
+-- the first term, and each of the others behind a comma
+pub first_and_others : (first : Term) (others : List Term) → term_text first ++ flat_map behind_comma others ≡ terms_text (first ∷ others)
+first_and_others first [] = append-nil (term_text first)
+first_and_others first (next ∷ others) = ap (λ (rest : List ℕ). term_text first ++ 44 ∷ rest) (first_and_others next others)
+
+-- the terms behind a blank, with what stands behind them
+pub term_words_in_parts : (terms : List Term) (first : Term) (others : List Term) (behind : List ℕ) → terms ≡ first ∷ others
+    → 32 ∷ (term_text first ++ (flat_map behind_comma others ++ behind)) ≡ term_words terms ++ behind
+term_words_in_parts terms first others behind is =
+    ap (λ (t : List ℕ). 32 ∷ t) (sym (append_assoc (term_text first) (flat_map behind_comma others) behind) ∙ ap (λ (t : List ℕ). t ++ behind) (first_and_others first others))
+    ∙ ap (λ (ts : List Term). term_words ts ++ behind) (sym is)

@@ -1,0 +1,213 @@
+//! The line of a step, written from its end to its start, since the last digit of a number is known first.
+ghost use Rattle.std.specs.Prelude.{◌≡◌, ◌+◌, ◌<◌, ◌≤◌, ◌++◌, ◌∷◌, [], drop, length, decimal, IfSome};
+ghost use Rattle.std.specs.Fmt.{signed_decimal};
+ghost use Rattle.std.specs.List.{flat_map};
+ghost use Rattle.tb_terms.specs.Texts.{term_text};
+ghost use Rattle.tb_log.specs.LogText.{kind_word, label_words, place_words, term_words};
+ghost use Rattle.tb_log.specs.Helpers.StepText.{shown_places, shown_terms};
+
+use crate::entry::{Label, LabelKind, Place};
+use crate::text::kind_word;
+use itoa::write_digits;
+use tb_terms::Term;
+
+/// How many bytes a short line has at most.
+pub(crate) const LINE_BYTES: usize = 192;
+
+/// How many bytes of a line stand in front of its terms at most: a number and a blank, a word, and two places of two
+/// numbers.
+const HEAD_BYTES: usize = 120;
+
+/// How many bytes the text of a short term has at most: those of a number of 64 bits.
+const TERM_BYTES: usize = 20;
+
+/// Writes the line of a step at the end of the array, where it is a short one, and tells where it begins.
+pub(crate) fn put_line(number: u64, label: &Label, line: &mut [u8; LINE_BYTES]) -> Option<usize>
+    ensures { IfSome result (λ start. (start ≤ LINE_BYTES) × (drop start line.new ≡ decimal number
+        ++ 32 ∷ label_words label.now.kind label.now.from label.now.to label.now.terms ++ 10 ∷ [])) }
+{
+    let end = put_byte(b'\n', line, LINE_BYTES);
+    let end = put_terms(shown_terms(label), line, end)?;
+    let end = put_head(label, line, end);
+    let end = put_byte(b' ', line, end);
+    Some(put_number(number, line, end))
+}
+
+/// The terms that the line of a step shows.
+fn shown_terms(label: &Label) -> &[Term]
+    ensures { result.now ≡ shown_terms label.now.kind label.now.terms }
+{
+    match label.kind {
+        LabelKind::Finish | LabelKind::Halt => &[],
+        _ => label.terms.as_slice(),
+    }
+}
+
+/// The word and the places of a step.
+#[inline(always)]
+pub(crate) fn put_head(label: &Label, line: &mut [u8; LINE_BYTES], end: usize) -> usize
+    requires { (HEAD_BYTES ≤ end) × (end ≤ LINE_BYTES) }
+    ensures room { (end ≤ result + 98) × (result ≤ end) }
+    ensures written { drop result line.new ≡ kind_word label.now.kind
+        ++ shown_places label.now.kind label.now.from label.now.to ++ drop end line.old }
+{
+    let end = put_places(label.kind, label.from, label.to, line, end);
+    put_word(label.kind, line, end)
+}
+
+#[inline(always)]
+fn put_places(
+    kind: LabelKind,
+    from: Place,
+    to: Place,
+    line: &mut [u8; LINE_BYTES],
+    end: usize,
+) -> usize
+    requires { (84 ≤ end) × (end ≤ LINE_BYTES) }
+    ensures room { (end ≤ result + 84) × (result ≤ end) }
+    ensures written { drop result line.new ≡ shown_places kind from to ++ drop end line.old }
+{
+    match kind {
+        LabelKind::Msg => {
+            let end = put_place(to, line, end);
+            put_place(from, line, end)
+        }
+        LabelKind::Finish | LabelKind::Halt => end,
+        _ => put_place(from, line, end),
+    }
+}
+
+#[inline(always)]
+fn put_place(place: Place, line: &mut [u8; LINE_BYTES], end: usize) -> usize
+    requires { (42 ≤ end) × (end ≤ LINE_BYTES) }
+    ensures room { (end ≤ result + 42) × (result ≤ end) }
+    ensures written { drop result line.new ≡ place_words place ++ drop end line.old }
+{
+    let end = put_number(u64::from(place.atom), line, end);
+    let end = put_byte(b'.', line, end);
+    let end = put_number(u64::from(place.proc), line, end);
+    put_byte(b' ', line, end)
+}
+
+#[inline(always)]
+fn put_word(kind: LabelKind, line: &mut [u8; LINE_BYTES], end: usize) -> usize
+    requires { (14 ≤ end) × (end ≤ LINE_BYTES) }
+    ensures room { (end ≤ result + 14) × (result ≤ end) }
+    ensures written { drop result line.new ≡ kind_word kind ++ drop end line.old }
+{
+    // Words of a known length are put without a call.
+    match kind {
+        LabelKind::Msg => put_text(b"msg", line, end),
+        LabelKind::Tau => put_text(b"tau", line, end),
+        _ => put_text(kind_word(kind), line, end),
+    }
+}
+
+/// Each term behind a comma, but for the first, which stands behind a blank. None where one isn't short or the room
+/// isn't enough; some of them may be written then.
+fn put_terms(terms: &[Term], line: &mut [u8; LINE_BYTES], end: usize) -> Option<usize>
+    requires { (HEAD_BYTES ≤ end) × (end ≤ LINE_BYTES) }
+    ensures { IfSome result (λ start. (HEAD_BYTES ≤ start) × (start ≤ end)
+        × (drop start line.new ≡ term_words terms.now ++ drop end line.old)) }
+{
+    match terms.split_first() {
+        None => Some(end),
+        Some((first, others)) => {
+            let end = put_others(others, line, end)?;
+            let end = put_term(first, line, end)?;
+            Some(put_byte(b' ', line, end))
+        }
+    }
+}
+
+/// Each term behind a comma.
+fn put_others(terms: &[Term], line: &mut [u8; LINE_BYTES], end: usize) -> Option<usize>
+    requires { (HEAD_BYTES ≤ end) × (end ≤ LINE_BYTES) }
+    ensures { IfSome result (λ start. (HEAD_BYTES ≤ start) × (start ≤ end)
+        × (drop start line.new ≡ flat_map (λ term. 44 ∷ term_text term) terms.now ++ drop end line.old)) }
+{
+    let mut start = end;
+    let mut left = terms.len();
+    while left > 0 {
+        left -= 1;
+        start = put_other(&terms[left], line, start)?;
+    }
+    Some(start)
+}
+
+fn put_other(term: &Term, line: &mut [u8; LINE_BYTES], end: usize) -> Option<usize>
+    requires { (HEAD_BYTES ≤ end) × (end ≤ LINE_BYTES) }
+    ensures { IfSome result (λ start. (HEAD_BYTES ≤ start) × (start ≤ end)
+        × (drop start line.new ≡ 44 ∷ term_text term.now ++ drop end line.old)) }
+{
+    let end = put_term(term, line, end)?;
+    Some(put_byte(b',', line, end))
+}
+
+/// A number, or a name without arguments, where it leaves room for the head and a byte.
+#[inline(always)]
+fn put_term(term: &Term, line: &mut [u8; LINE_BYTES], end: usize) -> Option<usize>
+    requires { end ≤ LINE_BYTES }
+    ensures { IfSome result (λ start. (HEAD_BYTES < start) × (start ≤ end)
+        × (drop start line.new ≡ term_text term.now ++ drop end line.old)) }
+{
+    if end <= HEAD_BYTES + TERM_BYTES {
+        return None;
+    }
+    match term {
+        Term::Int(number) => Some(put_integer(*number, line, end)),
+        Term::Appl(name, parts) => {
+            if !parts.is_empty() || name.as_bytes().len() > TERM_BYTES {
+                return None;
+            }
+            Some(put_text(name.as_bytes(), line, end))
+        }
+        Term::Str(_) | Term::List(_) => None,
+    }
+}
+
+fn put_integer(number: i64, line: &mut [u8; LINE_BYTES], end: usize) -> usize
+    requires { (TERM_BYTES ≤ end) × (end ≤ LINE_BYTES) }
+    ensures room { (end ≤ result + TERM_BYTES) × (result ≤ end) }
+    ensures written { drop result line.new ≡ signed_decimal number ++ drop end line.old }
+{
+    if number >= 0 {
+        return put_number(number.unsigned_abs(), line, end);
+    }
+    let start = write_digits(number.unsigned_abs(), line, end);
+    put_byte(b'-', line, start)
+}
+
+/// A number of one digit is put as its byte.
+#[inline(always)]
+fn put_number(number: u64, line: &mut [u8; LINE_BYTES], end: usize) -> usize
+    requires { (20 ≤ end) × (end ≤ LINE_BYTES) }
+    ensures room { (end ≤ result + 20) × (result ≤ end) }
+    ensures written { drop result line.new ≡ decimal number ++ drop end line.old }
+{
+    if number < 10 {
+        return put_byte(b'0' + number as u8, line, end);
+    }
+    write_digits(number, line, end)
+}
+
+#[inline(always)]
+fn put_byte(byte: u8, line: &mut [u8; LINE_BYTES], end: usize) -> usize
+    requires { (0 < end) × (end ≤ LINE_BYTES) }
+    ensures room { result + 1 ≡ end }
+    ensures written { drop result line.new ≡ byte ∷ drop end line.old }
+{
+    line[end - 1] = byte;
+    end - 1
+}
+
+#[inline(always)]
+fn put_text(text: &[u8], line: &mut [u8; LINE_BYTES], end: usize) -> usize
+    requires { (length text.now ≤ end) × (end ≤ LINE_BYTES) }
+    ensures room { result + length text.now ≡ end }
+    ensures written { drop result line.new ≡ text.now ++ drop end line.old }
+{
+    let start = end - text.len();
+    line[start..end].copy_from_slice(text);
+    start
+}
