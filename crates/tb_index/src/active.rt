@@ -60,6 +60,27 @@ fn activate_sent(
     ensures kept { AreKept active.old.items active.new.items }
     ensures all { OnOk result (SentAreHeard marks.now but.now receiving.now active.new.items) }
 {
+    if marks.is_empty() {
+        return Ok(());
+    }
+    if marks.len() == 1 {
+        return activate_one_sent(active, receiving, opened, marks[0], but);
+    }
+    activate_some_sent(active, receiving, opened, marks, but)
+}
+
+#[inline(never)]
+fn activate_some_sent(
+    active: &mut Vec<Mark>,
+    receiving: &Pairs,
+    opened: bool,
+    marks: &[Mark],
+    but: &[Mark],
+) -> Result<(), NoMemory>
+    requires { AllOpened opened receiving.now }
+    ensures kept { AreKept active.old.items active.new.items }
+    ensures all { OnOk result (SentAreHeard marks.now but.now receiving.now active.new.items) }
+{
     for mark in marks {
         activate_one_sent(active, receiving, opened, *mark, but)?;
     }
@@ -94,6 +115,28 @@ fn activate_one_sent(
 }
 
 fn activate_received(
+    active: &mut Vec<Mark>,
+    sending: &Pairs,
+    counts: &Counts,
+    marks: &[Mark],
+    but: &[Mark],
+) -> Result<(), NoMemory>
+    requires counted { AreCountedIf counts.now.opened sending.now counts.now.pairs }
+    requires opened { AreOpened counts.now.opened marks.now }
+    ensures kept { AreKept active.old.items active.new.items }
+    ensures all { OnOk result (ReceivedAreHeard marks.now but.now sending.now active.new.items) }
+{
+    if marks.is_empty() {
+        return Ok(());
+    }
+    if marks.len() == 1 {
+        return activate_one_received(active, sending, counts, marks[0], but);
+    }
+    activate_some_received(active, sending, counts, marks, but)
+}
+
+#[inline(never)]
+fn activate_some_received(
     active: &mut Vec<Mark>,
     sending: &Pairs,
     counts: &Counts,
@@ -162,6 +205,27 @@ pub(crate) fn quiet_sent(
     requires { AreCountedIf counts.now.opened sending.now counts.now.pairs }
     ensures { SentAreKept active.old.items active.new.items sending.now }
 {
+    if marks.is_empty() {
+        return;
+    }
+    if marks.len() == 1 {
+        quiet_one_sent(active, sending, counts, marks[0], but);
+    } else {
+        quiet_some_sent(active, sending, counts, marks, but);
+    }
+}
+
+#[inline(never)]
+fn quiet_some_sent(
+    active: &mut Vec<Mark>,
+    sending: &Pairs,
+    counts: &Counts,
+    marks: &[Mark],
+    but: &[Mark],
+)
+    requires { AreCountedIf counts.now.opened sending.now counts.now.pairs }
+    ensures { SentAreKept active.old.items active.new.items sending.now }
+{
     for mark in marks {
         quiet_one_sent(active, sending, counts, *mark, but);
     }
@@ -219,6 +283,20 @@ pub(crate) fn quiet_received(
     marks: &[Mark],
     but: &[Mark],
 )
+    ensures { ReceivedAreKept active.old.items active.new.items receiving.now }
+{
+    if marks.is_empty() {
+        return;
+    }
+    if marks.len() == 1 {
+        quiet_one_received(active, receiving, marks[0], but);
+    } else {
+        quiet_some_received(active, receiving, marks, but);
+    }
+}
+
+#[inline(never)]
+fn quiet_some_received(active: &mut Vec<Mark>, receiving: &Pairs, marks: &[Mark], but: &[Mark])
     ensures { ReceivedAreKept active.old.items active.new.items receiving.now }
 {
     for mark in marks {

@@ -94,6 +94,21 @@ impl Pairs {
         ensures added { OnOk result (AreAdded self.old self.new marks.now proc) }
         ensures err { OnErr result (SamePairs self.old self.new) }
     {
+        if marks.is_empty() {
+            return Ok(());
+        }
+        if marks.len() == 1 {
+            return self.add_one_but(marks[0], but, proc);
+        }
+        self.add_some(marks, but, proc)
+    }
+
+    #[inline(never)]
+    fn add_some(&mut self, marks: &[Mark], but: &[Mark], proc: u32) -> Result<(), NoMemory>
+        requires { AreOf self.old but.now proc }
+        ensures added { OnOk result (AreAdded self.old self.new marks.now proc) }
+        ensures err { OnErr result (SamePairs self.old self.new) }
+    {
         for mark in marks {
             match self.add_one_but(*mark, but, proc) {
                 Ok(()) => {}
@@ -125,9 +140,14 @@ impl Pairs {
         if marks.is_empty() {
             return;
         }
-        self.remove_some(marks, but, proc);
+        if marks.len() == 1 {
+            self.remove_one_but(marks[0], but, proc);
+        } else {
+            self.remove_some(marks, but, proc);
+        }
     }
 
+    #[inline(never)]
     fn remove_some(&mut self, marks: &[Mark], but: &[Mark], proc: u32)
         ensures { AreRemoved self.old self.new marks.now but.now proc }
     {
