@@ -87,6 +87,7 @@ fn activate_some_sent(
     Ok(())
 }
 
+#[inline(always)]
 fn activate_one_sent(
     active: &mut Vec<Mark>,
     receiving: &Pairs,
@@ -154,6 +155,7 @@ fn activate_some_received(
     Ok(())
 }
 
+#[inline(always)]
 fn activate_one_received(
     active: &mut Vec<Mark>,
     sending: &Pairs,
@@ -178,6 +180,7 @@ fn activate_one_received(
 }
 
 /// The mark is active where somebody has it.
+#[inline(always)]
 fn activate_where(active: &mut Vec<Mark>, pairs: &Pairs, mark: Mark) -> Result<(), NoMemory>
     ensures kept { AreKept active.old.items active.new.items }
     ensures here { OnOk result ((its : ℕ) → has pairs.now mark its ≡ true
@@ -189,12 +192,14 @@ fn activate_where(active: &mut Vec<Mark>, pairs: &Pairs, mark: Mark) -> Result<(
     if pairs.has_nobody(mark) {
         return Ok(());
     }
-    active.push(mark)?;
+    active.reserve(1)?;
+    active.push_reserved(mark);
     Ok(())
 }
 
 /// What is received under one of these marks but for the others is no longer active, where nobody
 /// sends it any more.
+#[inline(always)]
 pub(crate) fn quiet_sent(
     active: &mut Vec<Mark>,
     sending: &Pairs,
@@ -231,6 +236,7 @@ fn quiet_some_sent(
     }
 }
 
+#[inline(always)]
 fn quiet_one_sent(
     active: &mut Vec<Mark>,
     sending: &Pairs,
@@ -277,6 +283,7 @@ fn is_unsent(sending: &Pairs, counts: &Counts, mark: Mark) -> bool
 }
 
 /// These marks but for the others are no longer active, where nobody receives under them any more.
+#[inline(always)]
 pub(crate) fn quiet_received(
     active: &mut Vec<Mark>,
     receiving: &Pairs,
@@ -304,6 +311,7 @@ fn quiet_some_received(active: &mut Vec<Mark>, receiving: &Pairs, marks: &[Mark]
     }
 }
 
+#[inline(always)]
 fn quiet_one_received(active: &mut Vec<Mark>, receiving: &Pairs, mark: Mark, but: &[Mark])
     ensures { ReceivedAreKept active.old.items active.new.items receiving.now }
 {

@@ -28,6 +28,7 @@ impl Pairs {
         }
     }
 
+    #[inline(always)]
     pub(crate) fn add(&mut self, mark: Mark, proc: u32) -> Result<(), NoMemory>
         ensures added { OnOk result ((other : TheMark) (its : ℕ)
             → has self.new other its ≡ has self.old other its || is_pair mark proc other its) }
@@ -84,6 +85,7 @@ impl Pairs {
     }
 
     /// A process that has just the marks `but` has these too. After want of memory all is as before.
+    #[inline(always)]
     pub(crate) fn add_but(
         &mut self,
         marks: &[Mark],
@@ -121,6 +123,7 @@ impl Pairs {
         Ok(())
     }
 
+    #[inline(always)]
     fn add_one_but(&mut self, mark: Mark, but: &[Mark], proc: u32) -> Result<(), NoMemory>
         requires { (other : TheMark) → has_mark but.now other ≡ true → has self.old other proc ≡ true }
         ensures added { OnOk result ((other : TheMark) (its : ℕ)
@@ -134,6 +137,7 @@ impl Pairs {
     }
 
     /// The process no longer has those of these marks that aren't among `but`.
+    #[inline(always)]
     pub(crate) fn remove_but(&mut self, marks: &[Mark], but: &[Mark], proc: u32)
         ensures { AreRemoved self.old self.new marks.now but.now proc }
     {
@@ -156,6 +160,7 @@ impl Pairs {
         }
     }
 
+    #[inline(always)]
     fn remove_one_but(&mut self, mark: Mark, but: &[Mark], proc: u32)
         ensures { (other : TheMark) (its : ℕ) → has self.new other its
             ≡ has self.old other its && not (is_pair mark proc other its && not (has_mark but.now other)) }

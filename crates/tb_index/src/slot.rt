@@ -62,7 +62,8 @@ impl Slot {
             → is_in self.new other its ≡ is_in self.old other its || is_pair mark proc other its) }
         ensures err { OnErr result (self.new ≡ self.old) }
     {
-        self.pairs.push(Pair { mark, proc })?;
+        self.pairs.reserve(1)?;
+        self.pairs.push_reserved(Pair { mark, proc });
         Ok(())
     }
 
