@@ -231,6 +231,7 @@ pub(crate) fn add_both(
 }
 
 /// A process no longer has those of these marks that aren't among `but`.
+#[inline(always)]
 pub(crate) fn remove_both(
     sending: &mut Pairs,
     receiving: &mut Pairs,
