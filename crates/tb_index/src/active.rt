@@ -255,6 +255,7 @@ fn quiet_one_sent(
     }
 }
 
+#[inline(always)]
 fn quiet_unsent(active: &mut Vec<Mark>, sending: &Pairs, counts: &Counts, mark: Mark)
     requires { AreCountedIf counts.now.opened sending.now counts.now.pairs }
     ensures { SentAreKept active.old.items active.new.items sending.now }
@@ -320,6 +321,7 @@ fn quiet_one_received(active: &mut Vec<Mark>, receiving: &Pairs, mark: Mark, but
     }
 }
 
+#[inline(always)]
 fn quiet_unreceived(active: &mut Vec<Mark>, receiving: &Pairs, mark: Mark)
     ensures { ReceivedAreKept active.old.items active.new.items receiving.now }
 {
@@ -331,6 +333,7 @@ fn quiet_unreceived(active: &mut Vec<Mark>, receiving: &Pairs, mark: Mark)
 }
 
 /// All but this mark are kept.
+#[inline(always)]
 fn drop_mark(active: &mut Vec<Mark>, mark: Mark)
     ensures { (other : TheMark) → is_mark other mark ≡ false → has_mark active.old.items other ≡ true
         → has_mark active.new.items other ≡ true }
