@@ -305,6 +305,7 @@ impl<W: Walker> LiveBus<W> {
     }
 
     /// The first of all moves.
+    #[inline(always)]
     pub fn first_candidate(&self, alloc: Global) -> Result<Option<Candidate>, NoMemory>
         requires sound { IsSound W.view self.now }
         requires fresh { AreFresh self.now.living.items }

@@ -225,3 +225,9 @@ first-more {X} holds l i d from one other less h g =
     first-same (λ p. list_any (λ (k : X). holds k p) (take i l) || holds (get_or l i d) p) (λ p. list_any (λ (k : X). holds k p) (take (i + 1) l)) from (earlier one other)
     (λ p. list_any_more (λ (k : X). holds k p) l i d less)
     (first-both (λ p. list_any (λ (k : X). holds k p) (take i l)) (holds (get_or l i d)) from one other h g)
+
+-- a list of one
+pub only-one : {X : Type 0} (xs : List X) (d : X) → length xs ≡ 1 → xs ≡ get_or xs 0 d ∷ []
+only-one [] d e = absurd (omega arith)
+only-one (x ∷ []) d e = refl
+only-one (x ∷ y ∷ xs) d e = absurd (omega arith)

@@ -60,12 +60,34 @@ fn activate_sent(
     ensures kept { AreKept active.old.items active.new.items }
     ensures all { OnOk result (SentAreHeard marks.now but.now receiving.now active.new.items) }
 {
+    if marks.is_empty() {
+        return Ok(());
+    }
+    if marks.len() == 1 {
+        return activate_one_sent(active, receiving, opened, marks[0], but);
+    }
+    activate_some_sent(active, receiving, opened, marks, but)
+}
+
+#[inline(never)]
+fn activate_some_sent(
+    active: &mut Vec<Mark>,
+    receiving: &Pairs,
+    opened: bool,
+    marks: &[Mark],
+    but: &[Mark],
+) -> Result<(), NoMemory>
+    requires { AllOpened opened receiving.now }
+    ensures kept { AreKept active.old.items active.new.items }
+    ensures all { OnOk result (SentAreHeard marks.now but.now receiving.now active.new.items) }
+{
     for mark in marks {
         activate_one_sent(active, receiving, opened, *mark, but)?;
     }
     Ok(())
 }
 
+#[inline(always)]
 fn activate_one_sent(
     active: &mut Vec<Mark>,
     receiving: &Pairs,
@@ -105,12 +127,35 @@ fn activate_received(
     ensures kept { AreKept active.old.items active.new.items }
     ensures all { OnOk result (ReceivedAreHeard marks.now but.now sending.now active.new.items) }
 {
+    if marks.is_empty() {
+        return Ok(());
+    }
+    if marks.len() == 1 {
+        return activate_one_received(active, sending, counts, marks[0], but);
+    }
+    activate_some_received(active, sending, counts, marks, but)
+}
+
+#[inline(never)]
+fn activate_some_received(
+    active: &mut Vec<Mark>,
+    sending: &Pairs,
+    counts: &Counts,
+    marks: &[Mark],
+    but: &[Mark],
+) -> Result<(), NoMemory>
+    requires counted { AreCountedIf counts.now.opened sending.now counts.now.pairs }
+    requires opened { AreOpened counts.now.opened marks.now }
+    ensures kept { AreKept active.old.items active.new.items }
+    ensures all { OnOk result (ReceivedAreHeard marks.now but.now sending.now active.new.items) }
+{
     for mark in marks {
         activate_one_received(active, sending, counts, *mark, but)?;
     }
     Ok(())
 }
 
+#[inline(always)]
 fn activate_one_received(
     active: &mut Vec<Mark>,
     sending: &Pairs,
@@ -135,6 +180,7 @@ fn activate_one_received(
 }
 
 /// The mark is active where somebody has it.
+#[inline(always)]
 fn activate_where(active: &mut Vec<Mark>, pairs: &Pairs, mark: Mark) -> Result<(), NoMemory>
     ensures kept { AreKept active.old.items active.new.items }
     ensures here { OnOk result ((its : ℕ) → has pairs.now mark its ≡ true
@@ -146,13 +192,36 @@ fn activate_where(active: &mut Vec<Mark>, pairs: &Pairs, mark: Mark) -> Result<(
     if pairs.has_nobody(mark) {
         return Ok(());
     }
-    active.push(mark)?;
+    active.reserve(1)?;
+    active.push_reserved(mark);
     Ok(())
 }
 
 /// What is received under one of these marks but for the others is no longer active, where nobody
 /// sends it any more.
+#[inline(always)]
 pub(crate) fn quiet_sent(
+    active: &mut Vec<Mark>,
+    sending: &Pairs,
+    counts: &Counts,
+    marks: &[Mark],
+    but: &[Mark],
+)
+    requires { AreCountedIf counts.now.opened sending.now counts.now.pairs }
+    ensures { SentAreKept active.old.items active.new.items sending.now }
+{
+    if marks.is_empty() {
+        return;
+    }
+    if marks.len() == 1 {
+        quiet_one_sent(active, sending, counts, marks[0], but);
+    } else {
+        quiet_some_sent(active, sending, counts, marks, but);
+    }
+}
+
+#[inline(never)]
+fn quiet_some_sent(
     active: &mut Vec<Mark>,
     sending: &Pairs,
     counts: &Counts,
@@ -167,6 +236,7 @@ pub(crate) fn quiet_sent(
     }
 }
 
+#[inline(always)]
 fn quiet_one_sent(
     active: &mut Vec<Mark>,
     sending: &Pairs,
@@ -185,6 +255,7 @@ fn quiet_one_sent(
     }
 }
 
+#[inline(always)]
 fn quiet_unsent(active: &mut Vec<Mark>, sending: &Pairs, counts: &Counts, mark: Mark)
     requires { AreCountedIf counts.now.opened sending.now counts.now.pairs }
     ensures { SentAreKept active.old.items active.new.items sending.now }
@@ -213,6 +284,7 @@ fn is_unsent(sending: &Pairs, counts: &Counts, mark: Mark) -> bool
 }
 
 /// These marks but for the others are no longer active, where nobody receives under them any more.
+#[inline(always)]
 pub(crate) fn quiet_received(
     active: &mut Vec<Mark>,
     receiving: &Pairs,
@@ -221,11 +293,26 @@ pub(crate) fn quiet_received(
 )
     ensures { ReceivedAreKept active.old.items active.new.items receiving.now }
 {
+    if marks.is_empty() {
+        return;
+    }
+    if marks.len() == 1 {
+        quiet_one_received(active, receiving, marks[0], but);
+    } else {
+        quiet_some_received(active, receiving, marks, but);
+    }
+}
+
+#[inline(never)]
+fn quiet_some_received(active: &mut Vec<Mark>, receiving: &Pairs, marks: &[Mark], but: &[Mark])
+    ensures { ReceivedAreKept active.old.items active.new.items receiving.now }
+{
     for mark in marks {
         quiet_one_received(active, receiving, *mark, but);
     }
 }
 
+#[inline(always)]
 fn quiet_one_received(active: &mut Vec<Mark>, receiving: &Pairs, mark: Mark, but: &[Mark])
     ensures { ReceivedAreKept active.old.items active.new.items receiving.now }
 {
@@ -234,6 +321,7 @@ fn quiet_one_received(active: &mut Vec<Mark>, receiving: &Pairs, mark: Mark, but
     }
 }
 
+#[inline(always)]
 fn quiet_unreceived(active: &mut Vec<Mark>, receiving: &Pairs, mark: Mark)
     ensures { ReceivedAreKept active.old.items active.new.items receiving.now }
 {
@@ -245,6 +333,7 @@ fn quiet_unreceived(active: &mut Vec<Mark>, receiving: &Pairs, mark: Mark)
 }
 
 /// All but this mark are kept.
+#[inline(always)]
 fn drop_mark(active: &mut Vec<Mark>, mark: Mark)
     ensures { (other : TheMark) → is_mark other mark ≡ false → has_mark active.old.items other ≡ true
         → has_mark active.new.items other ≡ true }

@@ -72,6 +72,7 @@ pub(crate) fn uncount(counts: &mut Counts, marks: &[Mark], others: &[Mark], proc
     }
 }
 
+#[inline(never)]
 fn count_marks(counted: &mut Pairs, marks: &[Mark], but: &[Mark], proc: u32) -> Result<(), NoMemory>
     ensures kept { (mark : TheMark) (its : ℕ) → has counted.old mark its ≡ true
         → has counted.new mark its ≡ true }
@@ -97,6 +98,7 @@ fn count_one(counted: &mut Pairs, mark: Mark, but: &[Mark], proc: u32) -> Result
     Ok(())
 }
 
+#[inline(never)]
 fn uncount_marks(counted: &mut Pairs, marks: &[Mark], others: &[Mark], proc: u32)
     ensures { AreCountedStill counted.old counted.new others.now proc }
 {

@@ -56,6 +56,7 @@ pub(crate) fn is_full(few: &[Slot], mark: Mark) -> bool
     few[slot_of(mark)].is_full()
 }
 
+#[inline(always)]
 pub(crate) fn add_few(few: &mut Vec<Slot>, mark: Mark, proc: u32) -> Result<(), NoMemory>
     requires { slots ≤ length few.old.items }
     ensures added { OnOk result ((other : TheMark) (its : ℕ)

@@ -28,6 +28,7 @@ impl Pairs {
         }
     }
 
+    #[inline(always)]
     pub(crate) fn add(&mut self, mark: Mark, proc: u32) -> Result<(), NoMemory>
         ensures added { OnOk result ((other : TheMark) (its : ℕ)
             → has self.new other its ≡ has self.old other its || is_pair mark proc other its) }
@@ -84,12 +85,28 @@ impl Pairs {
     }
 
     /// A process that has just the marks `but` has these too. After want of memory all is as before.
+    #[inline(always)]
     pub(crate) fn add_but(
         &mut self,
         marks: &[Mark],
         but: &[Mark],
         proc: u32,
     ) -> Result<(), NoMemory>
+        requires { AreOf self.old but.now proc }
+        ensures added { OnOk result (AreAdded self.old self.new marks.now proc) }
+        ensures err { OnErr result (SamePairs self.old self.new) }
+    {
+        if marks.is_empty() {
+            return Ok(());
+        }
+        if marks.len() == 1 {
+            return self.add_one_but(marks[0], but, proc);
+        }
+        self.add_some(marks, but, proc)
+    }
+
+    #[inline(never)]
+    fn add_some(&mut self, marks: &[Mark], but: &[Mark], proc: u32) -> Result<(), NoMemory>
         requires { AreOf self.old but.now proc }
         ensures added { OnOk result (AreAdded self.old self.new marks.now proc) }
         ensures err { OnErr result (SamePairs self.old self.new) }
@@ -106,6 +123,7 @@ impl Pairs {
         Ok(())
     }
 
+    #[inline(always)]
     fn add_one_but(&mut self, mark: Mark, but: &[Mark], proc: u32) -> Result<(), NoMemory>
         requires { (other : TheMark) → has_mark but.now other ≡ true → has self.old other proc ≡ true }
         ensures added { OnOk result ((other : TheMark) (its : ℕ)
@@ -119,15 +137,21 @@ impl Pairs {
     }
 
     /// The process no longer has those of these marks that aren't among `but`.
+    #[inline(always)]
     pub(crate) fn remove_but(&mut self, marks: &[Mark], but: &[Mark], proc: u32)
         ensures { AreRemoved self.old self.new marks.now but.now proc }
     {
         if marks.is_empty() {
             return;
         }
-        self.remove_some(marks, but, proc);
+        if marks.len() == 1 {
+            self.remove_one_but(marks[0], but, proc);
+        } else {
+            self.remove_some(marks, but, proc);
+        }
     }
 
+    #[inline(never)]
     fn remove_some(&mut self, marks: &[Mark], but: &[Mark], proc: u32)
         ensures { AreRemoved self.old self.new marks.now but.now proc }
     {
@@ -136,6 +160,7 @@ impl Pairs {
         }
     }
 
+    #[inline(always)]
     fn remove_one_but(&mut self, mark: Mark, but: &[Mark], proc: u32)
         ensures { (other : TheMark) (its : ℕ) → has self.new other its
             ≡ has self.old other its && not (is_pair mark proc other its && not (has_mark but.now other)) }
@@ -206,6 +231,7 @@ pub(crate) fn add_both(
 }
 
 /// A process no longer has those of these marks that aren't among `but`.
+#[inline(always)]
 pub(crate) fn remove_both(
     sending: &mut Pairs,
     receiving: &mut Pairs,

@@ -57,12 +57,14 @@ impl Slot {
         has_pair(self.pairs.as_slice(), mark, proc)
     }
 
+    #[inline(always)]
     pub(crate) fn add(&mut self, mark: Mark, proc: u32) -> Result<(), NoMemory>
         ensures added { OnOk result ((other : TheMark) (its : ℕ)
             → is_in self.new other its ≡ is_in self.old other its || is_pair mark proc other its) }
         ensures err { OnErr result (self.new ≡ self.old) }
     {
-        self.pairs.push(Pair { mark, proc })?;
+        self.pairs.reserve(1)?;
+        self.pairs.push_reserved(Pair { mark, proc });
         Ok(())
     }
 

@@ -153,6 +153,7 @@ fn next_starter<W>(searched: &Searched<W>, from: usize, end: usize) -> Option<us
 }
 
 /// What the processes from one place on and before another do first.
+#[inline(never)]
 fn first_between<W>(
     alloc: Global,
     searched: &Searched<W>,
@@ -191,6 +192,7 @@ fn turn_start<W>(all: &[Living<W>], last: u32) -> usize
 }
 
 /// What the processes do first, asked in turn: those after the last starter, and then the others.
+#[inline(always)]
 pub(crate) fn first_in_turn<W>(
     alloc: Global,
     searched: &Searched<W>,
@@ -219,6 +221,7 @@ fn halt_if(no_ticks: bool) -> Option<Candidate>
 
 /// What may happen first, of all that may; None where nothing may, or the bus is down. Only those are asked whom
 /// the index names.
+#[inline(always)]
 pub fn first_candidate<W>(
     alloc: Global,
     program: &Program,

@@ -10,6 +10,7 @@ use crate::fault::{Fault, after_end};
 use crate::loading::load_bytes;
 use itoa::Buffer;
 use std::alloc::Global;
+use std::mem::forget;
 use tb_body::Program;
 use tb_core::Core;
 use tb_edge::{Failed, Sink};
@@ -53,7 +54,12 @@ fn ring_program<O: Sink>(alloc: Global, program: Program, n: u32, out: &mut O) -
     ensures out_rose { result ≡ Err Fault.Out → Rose (O.faults out.old) (O.faults out.new) }
 {
     match Core::start(alloc, program, &Items::new(alloc), MOST_EVENTS) {
-        Ok(mut core) => ring_core(alloc, &mut core, n, out),
+        Ok(mut core) => {
+            let outcome = ring_core(alloc, &mut core, n, out);
+            // The program ends next, so that the log needn't be freed term by term.
+            forget(core);
+            outcome
+        }
         Err(NoMemory) => Err(Fault::NoMemory),
     }
 }

@@ -12,6 +12,7 @@ ghost use Rattle.tb_top.specs.Helpers.Parts.{AsksForFeed, IsBehindFeed, IsBehind
 use crate::fault::{Fault, after_end};
 use crate::loading::{load_feed, load_script};
 use std::alloc::Global;
+use std::mem::forget;
 use tb_body::Program;
 use tb_core::Core;
 use tb_edge::{Files, Sink};
@@ -96,7 +97,12 @@ fn sim_fed<O: Sink>(
     ensures out_rose { result ≡ Err Fault.Out → Rose (O.faults out.old) (O.faults out.new) }
 {
     match Core::start(alloc, program, connects, events) {
-        Ok(mut core) => sim_core(alloc, &mut core, feed, steps, out),
+        Ok(mut core) => {
+            let outcome = sim_core(alloc, &mut core, feed, steps, out);
+            // The program ends next, so that the log needn't be freed term by term.
+            forget(core);
+            outcome
+        }
         Err(NoMemory) => Err(Fault::NoMemory),
     }
 }

@@ -2,7 +2,7 @@ use Rattle.std.proofs.Common.{◌≡◌, ℕ, ◌&&◌, ◌||◌, ◌==◌, take
 use Rattle.tb_index.specs.declared.mark.Mark.{Mark}
 use Rattle.tb_index.specs.Marks.{has_mark}
 use Rattle.tb_index.specs.Pairs.{has}
-use Rattle.tb_index.proofs.pairs.Pairs.add_but.Given as goal
+use Rattle.tb_index.proofs.pairs.Pairs.add_some.Given as goal
 
 abbrev pub invariant-loop-mark : goal.invariant-loop-mark
 invariant-loop-mark l = (mark : Mark) (its : ℕ) → has l.self mark its ≡ (has l.initial.self mark its || (has_mark (take l.mark-index l.marks) mark && (its == l.proc)))

@@ -3,7 +3,7 @@ use Rattle.std.proofs.lemmas.Bool.{eqb-true}
 use Rattle.tb_index.specs.Marks.{has_mark, is_mark}
 use Rattle.tb_index.specs.Pairs.{has}
 use Rattle.tb_index.proofs.PairLemmas as pairs
-use Rattle.tb_index.proofs.pairs.Pairs.add_but.Goals as goal
+use Rattle.tb_index.proofs.pairs.Pairs.add_some.Goals as goal
 
 pub returns-in-Err-clause-err : goal.returns-in-Err-clause-err
 returns-in-Err-clause-err c = λ mark its. pairs.undone _ _ _ (has_mark c.args.marks.now mark) (has_mark (take c.loop-mark.mark-index c.args.marks.now) mark) (has_mark c.args.but.now mark) (its == c.args.proc)

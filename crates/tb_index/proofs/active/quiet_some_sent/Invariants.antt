@@ -1,5 +1,5 @@
 use Rattle.tb_index.specs.Pairs.{SentAreKept}
-use Rattle.tb_index.proofs.active.quiet_sent.Given as goal
+use Rattle.tb_index.proofs.active.quiet_some_sent.Given as goal
 
 abbrev pub invariant-loop-mark : goal.invariant-loop-mark
 invariant-loop-mark l = SentAreKept l.initial.active.items l.active.items l.sending
