@@ -29,6 +29,7 @@ use tb_tools::LaneState;
 #[derive(Drop)]
 pub struct Shared<W: Walker> {
     table: Table<Option<Core<W>>, View, Core<W>, BusRule, Global>,
+    /// Where one goes in before one draws a ticket: so no turn is passed on to a thread that sleeps.
     gate: Gate,
     notices: Notices,
 }

@@ -13,11 +13,7 @@ use tb_algebra::Walker;
 use tb_core::Core;
 
 /// The first turn of a new bus: the core is put in its slot.
-pub(crate) fn open<W: Walker>(
-    board: &Board<W>,
-    holder: &mut Holder<W>,
-    core: Core<W>,
-)
+pub(crate) fn open<W: Walker>(board: &Board<W>, holder: &mut Holder<W>, core: Core<W>)
     requires board { IsBoard board.now.table_id }
     requires holder { holder.old.table_id ≡ board.now.table_id }
     requires first { holder.old.me ≡ (opening_seat core.origin, []) }
@@ -30,7 +26,8 @@ pub(crate) fn open<W: Walker>(
     pass(board, holder);
 }
 
-/// Waits for the seat's turn, and takes the core out.
+/// Waits for the seat's turn, and takes the core out. Who is inside the gate of the bus doesn't wait: its ticket is served as it is
+/// drawn.
 pub(crate) fn acquire<W: Walker, R: Wait>(
     rt: &R,
     board: &Board<W>,
@@ -56,11 +53,7 @@ pub(crate) fn acquire<W: Walker, R: Wait>(
 }
 
 /// Puts the core back with what it has logged in this turn, and passes the turn on.
-pub(crate) fn release<W: Walker>(
-    board: &Board<W>,
-    holder: &mut Holder<W>,
-    core: Core<W>,
-)
+pub(crate) fn release<W: Walker>(board: &Board<W>, holder: &mut Holder<W>, core: Core<W>)
     requires board { IsBoard board.now.table_id }
     requires holder { holder.old.table_id ≡ board.now.table_id }
     requires may { MayRelease holder.old.me core }
@@ -73,11 +66,7 @@ pub(crate) fn release<W: Walker>(
 }
 
 /// The same with a core that is as it was taken out: there is nothing to note.
-pub(crate) fn release_unchanged<W: Walker>(
-    board: &Board<W>,
-    holder: &mut Holder<W>,
-    core: Core<W>,
-)
+pub(crate) fn release_unchanged<W: Walker>(board: &Board<W>, holder: &mut Holder<W>, core: Core<W>)
     requires board { IsBoard board.now.table_id }
     requires holder { holder.old.table_id ≡ board.now.table_id }
     requires may { MayReturn holder.old.me core }
@@ -89,11 +78,7 @@ pub(crate) fn release_unchanged<W: Walker>(
 }
 
 /// The same with a core that was stopped in this turn, and has logged nothing.
-pub(crate) fn release_stopped<W: Walker>(
-    board: &Board<W>,
-    holder: &mut Holder<W>,
-    core: Core<W>,
-)
+pub(crate) fn release_stopped<W: Walker>(board: &Board<W>, holder: &mut Holder<W>, core: Core<W>)
     requires board { IsBoard board.now.table_id }
     requires holder { holder.old.table_id ≡ board.now.table_id }
     requires may { MayStop holder.old.me core }

@@ -13,7 +13,7 @@ returns-in-Ok-Did g c =
     let laws = c.calls_add_their_own.ensures in
     let old = c.args.seat.now in
     let new = c.steps.new.seat in
-    let l = last_of laws.seen laws.added 15 old new _ c.requires.right (subst (λ (a : Stepped). CalledInRow 15 old new (Ok a)) c.in-Ok-Did.field-0-is c.in-Ok-Did.ensures) in
+    let l = last_of laws.seen laws.added 7 old new _ c.requires.right (subst (λ (a : Stepped). CalledInRow 7 old new (Ok a)) c.in-Ok-Did.field-0-is c.in-Ok-Did.ensures) in
     steps_on old l.mid new l.before (steps_once laws.seen laws.added l.mid new stepped.Did l.right l.last)
 
 pub returns-in-Ok-Quiet : goal.returns-in-Ok-Quiet
@@ -21,7 +21,7 @@ returns-in-Ok-Quiet g c =
     let laws = c.calls_add_their_own.ensures in
     let old = c.args.seat.now in
     let new = c.steps.new.seat in
-    let l = last_of laws.seen laws.added 15 old new _ c.requires.right (subst (λ (a : Stepped). CalledInRow 15 old new (Ok a)) c.in-Ok-Quiet.field-0-is c.in-Ok-Quiet.ensures) in
+    let l = last_of laws.seen laws.added 7 old new _ c.requires.right (subst (λ (a : Stepped). CalledInRow 7 old new (Ok a)) c.in-Ok-Quiet.field-0-is c.in-Ok-Quiet.ensures) in
     steps_on old l.mid new l.before (steps_once laws.seen laws.added l.mid new stepped.Quiet l.right l.last)
 
 pub returns-in-Ok-Down : goal.returns-in-Ok-Down
@@ -29,7 +29,7 @@ returns-in-Ok-Down g c =
     let laws = c.calls_add_their_own.ensures in
     let old = c.args.seat.now in
     let new = c.steps.new.seat in
-    let l = last_of laws.seen laws.added 15 old new _ c.requires.right (subst (λ (a : Stepped). CalledInRow 15 old new (Ok a)) c.in-Ok-Down.field-0-is c.in-Ok-Down.ensures) in
+    let l = last_of laws.seen laws.added 7 old new _ c.requires.right (subst (λ (a : Stepped). CalledInRow 7 old new (Ok a)) c.in-Ok-Down.field-0-is c.in-Ok-Down.ensures) in
     steps_end old l.mid new _ l.before (steps_down laws.seen laws.added l.mid new l.right l.last)
 
 pub returns-in-Err : goal.returns-in-Err
@@ -38,12 +38,12 @@ returns-in-Err g c =
     let old = c.args.seat.now in
     let mid = c.steps.new.seat in
     let new = c.refused.new.seat in
-    let l = last_of laws.seen laws.added 15 old mid _ c.requires.right c.in-Err.ensures in
+    let l = last_of laws.seen laws.added 7 old mid _ c.requires.right c.in-Err.ensures in
     steps_end old l.mid new c.refused.result l.before
     (steps_refused l.mid new c.refused.result (refused_by laws.seen laws.added IsStep MakeStep l.mid mid new c.in-Err.fault c.refused.result tt l.right l.last c.refused.ensures))
 
 pub refused-requires : goal.refused-requires
 refused-requires g c =
     let laws = c.calls_add_their_own.ensures in
-    let l = last_of laws.seen laws.added 15 c.args.seat.now c.steps.new.seat _ c.requires.right c.in-Err.ensures in
+    let l = last_of laws.seen laws.added 7 c.args.seat.now c.steps.new.seat _ c.requires.right c.in-Err.ensures in
     record { own = ap (λ (s : SeatView). s.bus) l.last.seat ∙ (l.before.adds.bus ∙ c.requires.own) }
