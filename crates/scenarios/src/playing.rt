@@ -49,13 +49,13 @@ pub(crate) fn play<R: Threads + Wait + Sync>(
     } = ends_of(alloc, &case.live)?;
     let mut stage = stage_of(alloc, case, pairs)?;
     match play_on(rt, alloc, case, &mut stage, &mut clock)? {
-        Some(status) => Ok(played(status, stage, records)),
+        Some(status) => Ok(outcome(status, stage, records)),
         None => Ok(None),
     }
 }
 
 /// What is left of the stage after the call.
-fn played(status: Status, stage: Stage, records: Records) -> Option<Played> {
+fn outcome(status: Status, stage: Stage, records: Records) -> Option<Played> {
     if stage.lanes.len() != LANES {
         return None;
     }
