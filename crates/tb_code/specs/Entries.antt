@@ -1,10 +1,12 @@
 -- The atoms that may come next at a position, and which lists of them a code keeps.
-use Rattle.std.specs.Prelude.{◌≡◌, ◌<◌, ◌≤◌, ℕ, suc, ◌+◌, Bool, true, false, List, [], ◌∷◌, ◌++◌, length, take, drop, slice_get, Option, Some, None}
+use Rattle.std.specs.Prelude.{◌≡◌, ◌<◌, ◌≤◌, ℕ, suc, ◌+◌, Bool, true, false, List, [], ◌∷◌, ◌++◌, length, map, take, drop, slice_get, Option, Some, None, option_map}
 use Rattle.tb_body.specs.declared.atom.Atom.{Atom}
 use Rattle.tb_body.specs.declared.atom.Time.{Time}
 use Rattle.tb_algebra.specs.Atoms.{times_of}
 use Rattle.tb_algebra.specs.Processes.{Process, At, Seq, Alt, Star, Par, If, When, Let}
 use Rattle.tb_code.specs.Positions.{size, part}
+use Rattle.tb_code.specs.declared.behind.Behind.{Behind}
+use Rattle.tb_code.specs.declared.behind.Behind.TheVariants as behind
 use Rattle.tb_code.specs.declared.entry.Entry.{Entry}
 use Rattle.tb_code.specs.declared.entry.Span.{Span}
 
@@ -12,8 +14,25 @@ abbrev pub is_timed : List Time → Bool
 is_timed [] = false
 is_timed (time ∷ times) = true
 
+-- an atom, as its own part has it: with it the part has ended
 abbrev pub entry : List Atom → ℕ → ℕ → Entry
-entry atoms position atom = record { position = position; atom = atom; timed = is_timed (times_of atoms atom) }
+entry atoms position atom = record { position = position; atom = atom; timed = is_timed (times_of atoms atom); behind = behind.Ended }
+
+-- What comes of a whole where the first comes of a part of it, and the second once the part has ended. Where a merge is
+-- parted it isn't said.
+abbrev pub followed : Behind → Behind → Behind
+followed behind.Ended next = next
+followed (behind.Entered at) behind.Ended = behind.Entered at
+followed (behind.Entered at) (behind.Entered next) = behind.Entered at
+followed (behind.Entered at) behind.Parted = behind.Parted
+followed behind.Parted next = behind.Parted
+
+-- an entry of a part in the list of the whole
+abbrev pub led : Behind → Entry → Entry
+led next one = record { position = one.position; atom = one.atom; timed = one.timed; behind = followed one.behind next }
+
+abbrev pub all_led : Behind → Option (List Entry) → Option (List Entry)
+all_led next list = option_map (map (led next)) list
 
 -- the lists of two parts, one behind the other, where both have one
 abbrev pub in_both : Option (List Entry) → Option (List Entry) → Option (List Entry)
@@ -21,14 +40,14 @@ in_both None ys = None
 in_both (Some xs) None = None
 in_both (Some xs) (Some ys) = Some (xs ++ ys)
 
--- The list of a part whose positions begin here: its atoms that may come next, in text order. A part has none where a test
--- or settings stand before one of them.
+-- The list of a part whose positions begin here: its atoms that may come next, in text order, each with what comes of the part
+-- where it happens. A part has none where a test or settings stand before one of them.
 abbrev pub entries_of : List Atom → ℕ → Process → Option (List Entry)
 entries_of atoms at (At atom age) = Some (entry atoms at atom ∷ [])
-entries_of atoms at (Seq x y) = entries_of atoms (suc at) x
+entries_of atoms at (Seq x y) = all_led (behind.Entered (suc at + size x)) (entries_of atoms (suc at) x)
 entries_of atoms at (Alt x y) = in_both (entries_of atoms (suc at) x) (entries_of atoms (suc at + size x) y)
-entries_of atoms at (Star x y) = in_both (entries_of atoms (suc at) x) (entries_of atoms (suc at + size x) y)
-entries_of atoms at (Par x y) = in_both (entries_of atoms (suc at) x) (entries_of atoms (suc at + size x) y)
+entries_of atoms at (Star x y) = in_both (all_led (behind.Entered at) (entries_of atoms (suc at) x)) (entries_of atoms (suc at + size x) y)
+entries_of atoms at (Par x y) = in_both (all_led behind.Parted (entries_of atoms (suc at) x)) (all_led behind.Parted (entries_of atoms (suc at + size x) y))
 entries_of atoms at (If test x y) = None
 entries_of atoms at (When test x) = None
 entries_of atoms at (Let settings x) = None

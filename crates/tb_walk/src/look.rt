@@ -3,6 +3,7 @@ ghost use Rattle.tb_algebra.specs.Atoms.{is_ready, times_of};
 ghost use Rattle.tb_algebra.specs.Processes.{fresh, If, When, Let};
 ghost use Rattle.tb_algebra.specs.Helpers.OfferViews.{or_own};
 ghost use Rattle.tb_code.specs.Positions.{size, part, IsTwo, IsOne};
+ghost use Rattle.tb_code.specs.declared.behind.Behind.TheVariants.{Ended};
 ghost use Rattle.tb_walk.specs.Helpers.Sights.{Sighting, entry_ready, entry_sighting, sighted, sightings, looking, row_sightings};
 ghost use Rattle.tb_walk.specs.Helpers.Takings.{AreThere};
 
@@ -11,7 +12,7 @@ use crate::{Branch, Sight};
 use std::alloc::Global;
 use tb_algebra::{copy_own, is_ready, store_of, with_settings};
 use tb_body::Settings;
-use tb_code::{Code, Entry, Op};
+use tb_code::{Behind, Code, Entry, Op};
 use tb_func::Store;
 use tb_terms::{Expr, Items, NoMemory};
 
@@ -62,11 +63,11 @@ fn look_branch(
 ) -> Result<(), NoMemory>
     requires { at < size (fresh code.now.body.tree) }
     ensures { OnOk result (map (sighted base.now) found.new
-        ≡ map (sighted base.now) found.old ++ sightings (looking code.now.body.atoms clock.now) at (part (fresh code.now.body.tree) at) base.now) }
+        ≡ map (sighted base.now) found.old ++ sightings (looking code.now.body.atoms clock.now) Ended at (part (fresh code.now.body.tree) at) base.now) }
 {
     let list = code.list(at);
     if list.is_empty() {
-        look_at(alloc, code, at, clock, base, &None, found)
+        look_at(alloc, code, at, Behind::Ended, clock, base, &None, found)
     } else {
         look_list(alloc, code, list, clock, base, found)
     }
@@ -108,6 +109,7 @@ fn look_entry(
         atom: entry.atom,
         age,
         ready,
+        behind: entry.behind,
         own: None,
     })?;
     Ok(())
@@ -146,6 +148,7 @@ fn look_at(
     alloc: Global,
     code: &Code,
     at: usize,
+    so_far: Behind,
     clock: &Clock,
     base: &Store,
     own: &Option<Store>,
@@ -154,19 +157,35 @@ fn look_at(
     requires { at < size (fresh code.now.body.tree) }
     ensures { OnOk result (map (sighted base.now) found.new
         ≡ map (sighted base.now) found.old
-        ++ sightings (looking code.now.body.atoms clock.now) at (part (fresh code.now.body.tree) at) (or_own own.now base.now)) }
+        ++ sightings (looking code.now.body.atoms clock.now) so_far at (part (fresh code.now.body.tree) at) (or_own own.now base.now)) }
 {
     let first = code.first(at);
     match &code.node(at).op {
-        Op::At(atom) => look_atom(alloc, code, at, *atom, clock, base, own, found),
-        Op::Seq(_) => look_at(alloc, code, first, clock, base, own, found),
-        Op::Alt(right) | Op::Star(right) | Op::Par(right) => {
-            look_at(alloc, code, first, clock, base, own, found)?;
-            look_at(alloc, code, *right, clock, base, own, found)
+        Op::At(atom) => look_atom(alloc, code, at, so_far, *atom, clock, base, own, found),
+        Op::Seq(right) => {
+            let inside = Behind::Entered(*right).followed(so_far);
+            look_at(alloc, code, first, inside, clock, base, own, found)
         }
-        Op::If(test, right) => look_side(alloc, code, at, test, *right, clock, base, own, found),
-        Op::When(test) => look_if_true(alloc, code, at, test, clock, base, own, found),
-        Op::Let(settings) => look_with(alloc, code, at, settings, clock, base, own, found),
+        Op::Alt(right) => {
+            look_at(alloc, code, first, so_far, clock, base, own, found)?;
+            look_at(alloc, code, *right, so_far, clock, base, own, found)
+        }
+        Op::Star(right) => {
+            let inside = Behind::Entered(at).followed(so_far);
+            look_at(alloc, code, first, inside, clock, base, own, found)?;
+            look_at(alloc, code, *right, so_far, clock, base, own, found)
+        }
+        Op::Par(right) => {
+            look_at(alloc, code, first, Behind::Parted, clock, base, own, found)?;
+            look_at(alloc, code, *right, Behind::Parted, clock, base, own, found)
+        }
+        Op::If(test, right) => {
+            look_side(
+                alloc, code, at, so_far, test, *right, clock, base, own, found,
+            )
+        }
+        Op::When(test) => look_if_true(alloc, code, at, so_far, test, clock, base, own, found),
+        Op::Let(settings) => look_with(alloc, code, at, so_far, settings, clock, base, own, found),
     }
 }
 
@@ -177,6 +196,7 @@ fn look_side(
     alloc: Global,
     code: &Code,
     at: usize,
+    so_far: Behind,
     test: &Expr,
     right: usize,
     clock: &Clock,
@@ -187,11 +207,11 @@ fn look_side(
     requires { IsTwo (fresh code.now.body.tree) (If test.now) at right }
     ensures { OnOk result (map (sighted base.now) found.new
         ≡ map (sighted base.now) found.old
-        ++ sightings (looking code.now.body.atoms clock.now) at (part (fresh code.now.body.tree) at) (or_own own.now base.now)) }
+        ++ sightings (looking code.now.body.atoms clock.now) so_far at (part (fresh code.now.body.tree) at) (or_own own.now base.now)) }
 {
     match says(alloc, store_of(base, own), test)? {
-        Some(true) => look_at(alloc, code, code.first(at), clock, base, own, found),
-        Some(false) => look_at(alloc, code, right, clock, base, own, found),
+        Some(true) => look_at(alloc, code, code.first(at), so_far, clock, base, own, found),
+        Some(false) => look_at(alloc, code, right, so_far, clock, base, own, found),
         None => Ok(()),
     }
 }
@@ -203,6 +223,7 @@ fn look_if_true(
     alloc: Global,
     code: &Code,
     at: usize,
+    so_far: Behind,
     test: &Expr,
     clock: &Clock,
     base: &Store,
@@ -212,10 +233,10 @@ fn look_if_true(
     requires { IsOne (fresh code.now.body.tree) (When test.now) at }
     ensures { OnOk result (map (sighted base.now) found.new
         ≡ map (sighted base.now) found.old
-        ++ sightings (looking code.now.body.atoms clock.now) at (part (fresh code.now.body.tree) at) (or_own own.now base.now)) }
+        ++ sightings (looking code.now.body.atoms clock.now) so_far at (part (fresh code.now.body.tree) at) (or_own own.now base.now)) }
 {
     match says(alloc, store_of(base, own), test)? {
-        Some(true) => look_at(alloc, code, code.first(at), clock, base, own, found),
+        Some(true) => look_at(alloc, code, code.first(at), so_far, clock, base, own, found),
         Some(false) => Ok(()),
         None => Ok(()),
     }
@@ -228,6 +249,7 @@ fn look_with(
     alloc: Global,
     code: &Code,
     at: usize,
+    so_far: Behind,
     settings: &Settings,
     clock: &Clock,
     base: &Store,
@@ -237,12 +259,21 @@ fn look_with(
     requires { IsOne (fresh code.now.body.tree) (Let settings.now) at }
     ensures { OnOk result (map (sighted base.now) found.new
         ≡ map (sighted base.now) found.old
-        ++ sightings (looking code.now.body.atoms clock.now) at (part (fresh code.now.body.tree) at) (or_own own.now base.now)) }
+        ++ sightings (looking code.now.body.atoms clock.now) so_far at (part (fresh code.now.body.tree) at) (or_own own.now base.now)) }
 {
     match with_settings(alloc, store_of(base, own), settings)? {
         Some(store) => {
             let own = Some(store);
-            look_at(alloc, code, code.first(at), clock, base, &own, found)
+            look_at(
+                alloc,
+                code,
+                code.first(at),
+                so_far,
+                clock,
+                base,
+                &own,
+                found,
+            )
         }
         None => Ok(()),
     }
@@ -252,6 +283,7 @@ fn look_atom(
     alloc: Global,
     code: &Code,
     position: usize,
+    behind: Behind,
     atom: u32,
     clock: &Clock,
     base: &Store,
@@ -262,6 +294,7 @@ fn look_atom(
         ≡ map (sighted base.now) found.old ++ record {
           branch = clock.now.branch;
           position = position;
+          behind = behind;
           seen = record {
             atom = atom;
             age = clock.now.ticks - clock.now.entered;
@@ -279,6 +312,7 @@ fn look_atom(
         atom,
         age,
         ready,
+        behind,
         own,
     })?;
     Ok(())
