@@ -2,11 +2,13 @@
 use Rattle.std.proofs.Common.{◌≡◌, ℕ, zero, suc, ◌+◌, ◌<◌, ◌≤◌, List, [], ◌∷◌, ◌++◌, length, map, take, drop, slice_get, slice_set, Option, Some, None, option_map, refl, ap, sym, subst, ◌∙◌, arith, ◌⊎◌, inl, inr, append_assoc, length-append}
 use Rattle.std.proofs.lemmas.List.{append-nil, drop-append-le, drop_at, length-drop, length-take-le, take-append-le, take_all}
 use Rattle.std.proofs.lemmas.Option.{slice_get-map}
+use Rattle.tb_terms.specs.declared.expr.Expr.{Expr}
 use Rattle.tb_body.specs.declared.atom.Atom.{Atom}
-use Rattle.tb_algebra.specs.Processes.{Process, At, Seq, Alt, Star, Par}
-use Rattle.tb_code.specs.Entries.{AreLists, Grows, HasList, all_led, entries_of, entry, followed, in_both, in_span, led}
+use Rattle.tb_body.specs.declared.tree.Setting.{Setting}
+use Rattle.tb_algebra.specs.Processes.{Process, At, Seq, Alt, Star, Par, If, When, Let}
+use Rattle.tb_code.specs.Entries.{AreLists, Grows, HasList, all_led, entries_of, entry, followed, gate, in_span, led}
 use Rattle.tb_code.specs.Helpers.Blanks.{blank}
-use Rattle.tb_code.specs.Positions.{HasParts, IsTwo, part, positions, size}
+use Rattle.tb_code.specs.Positions.{HasParts, IsOne, IsTwo, part, positions, size}
 use Rattle.tb_code.specs.declared.behind.Behind.{Behind}
 use Rattle.tb_code.specs.declared.behind.Behind.TheVariants as behind
 use Rattle.tb_code.specs.declared.entry.Entry.{Entry}
@@ -18,7 +20,7 @@ use Rattle.tb_code.proofs.Parts.{has_parts, length-positions}
 abbrev pub span : ℕ → ℕ → Span
 span first count = record { first = first; count = count }
 
-pub none_has : (all : List Entry) (list : Option (List Entry)) → HasList all (span 0 0) list
+pub none_has : (all : List Entry) (list : List Entry) → HasList all (span 0 0) list
 none_has all list = (omega arith, λ h. absurd (omega arith))
 
 same_span : (old more : List Entry) (s : Span) → s.first + s.count ≤ length old → in_span (old ++ more) s ≡ in_span old s
@@ -41,19 +43,19 @@ pub grows_not : (all : List Entry) → Grows all all
 grows_not all = ([], sym (append-nil all))
 
 -- what a span has stays when entries are added
-pub grown_has : (old new : List Entry) (s : Span) (list : Option (List Entry)) → Grows old new → HasList old s list → HasList new s list
+pub grown_has : (old new : List Entry) (s : Span) (list : List Entry) → Grows old new → HasList old s list → HasList new s list
 grown_has old new s list g h =
     let long = length-append old g.0 in
     let same = ap length g.1 in
     let bound = h.0 in
-    (omega arith, λ some. h.1 some ∙ ap Some (sym (ap (λ (l : List Entry). in_span l s) g.1 ∙ same_span old g.0 s bound)))
+    (omega arith, λ some. h.1 some ∙ sym (ap (λ (l : List Entry). in_span l s) g.1 ∙ same_span old g.0 s bound))
 
 -- a list of one entry
-pub one_has : (old new : List Entry) (e : Entry) → new ≡ old ++ e ∷ [] → HasList new (span (length old) 1) (Some (e ∷ []))
+pub one_has : (old new : List Entry) (e : Entry) → new ≡ old ++ e ∷ [] → HasList new (span (length old) 1) (e ∷ [])
 one_has old new e is =
     let long = length-append old (e ∷ []) in
     let same = ap length is in
-    (omega arith, λ some. sym (ap (λ (l : List Entry). Some (take 1 l)) (ap (drop (length old)) is ∙ drop_at old (e ∷ []) (length old) refl)))
+    (omega arith, λ some. sym (ap (take 1) (ap (drop (length old)) is ∙ drop_at old (e ∷ []) (length old) refl)))
 
 -- entries of a part in the list of the whole
 
@@ -69,16 +71,15 @@ followed-ended behind.Parted = refl
 all-alike : (l : List Entry) → map (led behind.Ended) l ≡ l
 all-alike [] = refl
 all-alike (e ∷ l) =
-    let head : led behind.Ended e ≡ e = ap (λ (b : Behind). let one : Entry = record { position = e.position; atom = e.atom; timed = e.timed; behind = b } in one) (followed-ended e.behind) in
+    let head : led behind.Ended e ≡ e = ap (λ (b : Behind). let one : Entry = record { position = e.position; what = e.what; behind = b } in one) (followed-ended e.behind) in
     ap (λ (one : Entry). one ∷ map (led behind.Ended) l) head ∙ ap (λ (rest : List Entry). e ∷ rest) (all-alike l)
 
 -- a whole that goes on as its part has the part's list
-pub led-ended : (list : Option (List Entry)) → all_led behind.Ended list ≡ list
-led-ended None = refl
-led-ended (Some l) = ap Some (all-alike l)
+pub led-ended : (list : List Entry) → all_led behind.Ended list ≡ list
+led-ended list = all-alike list
 
 -- the list of a part behind which something follows
-pub first_has : (old new : List Entry) (x : Span) (next : Behind) (one : Option (List Entry)) →
+pub first_has : (old new : List Entry) (x : Span) (next : Behind) (one : List Entry) →
     new ≡ old ++ map (led next) (in_span old x) → 0 < x.count → HasList old x one → HasList new (span (length old) x.count) (all_led next one)
 first_has old new x next one en sx hx =
     let xs = map (led next) (in_span old x) in
@@ -87,12 +88,12 @@ first_has old new x next one en sx hx =
     let same = ap length en in
     let behind_old : drop (length old) new ≡ xs = ap (drop (length old)) en ∙ drop_at old xs (length old) refl in
     let taken : take x.count (drop (length old) new) ≡ xs = ap (take x.count) behind_old ∙ take_all x.count xs (omega arith) in
-    (omega arith, λ some. ap (all_led next) (hx.1 sx) ∙ ap Some (sym taken))
+    (omega arith, λ some. ap (all_led next) (hx.1 sx) ∙ sym taken)
 
 -- the lists of two parts, one behind the other
-pub both_have : (old middle new : List Entry) (x y : Span) (a b : Behind) (count : ℕ) (one other : Option (List Entry)) →
+pub both_have : (old middle new : List Entry) (x y : Span) (a b : Behind) (count : ℕ) (one other : List Entry) →
     middle ≡ old ++ map (led a) (in_span old x) → new ≡ middle ++ map (led b) (in_span middle y) → count ≡ x.count + y.count → 0 < x.count → 0 < y.count →
-    HasList old x one → HasList old y other → HasList new (span (length old) count) (in_both (all_led a one) (all_led b other))
+    HasList old x one → HasList old y other → HasList new (span (length old) count) (all_led a one ++ all_led b other)
 both_have old middle new x y a b count one other em en ec sx sy hx hy =
     let xs = map (led a) (in_span old x) in
     let ys = map (led b) (in_span old y) in
@@ -105,8 +106,8 @@ both_have old middle new x y a b count one other em en ec sx sy hx hy =
     let same = ap length all in
     let behind_old : drop (length old) new ≡ xs ++ ys = ap (drop (length old)) all ∙ drop_at old (xs ++ ys) (length old) refl in
     let taken : take count (drop (length old) new) ≡ xs ++ ys = ap (take count) behind_old ∙ take_all count (xs ++ ys) (omega arith) in
-    let lists : in_both (all_led a one) (all_led b other) ≡ Some (xs ++ ys) = ap (λ (o : Option (List Entry)). in_both (all_led a o) (all_led b other)) (hx.1 sx) ∙ ap (λ (o : Option (List Entry)). in_both (Some xs) (all_led b o)) (hy.1 sy) in
-    (omega arith, λ some. lists ∙ ap Some (sym taken))
+    let lists : all_led a one ++ all_led b other ≡ xs ++ ys = ap (λ (o : List Entry). all_led a o ++ all_led b other) (hx.1 sx) ∙ ap (λ (o : List Entry). xs ++ all_led b o) (hy.1 sy) in
+    (omega arith, λ some. lists ∙ sym taken)
 
 -- before any list is kept
 
@@ -169,8 +170,17 @@ second_within atoms whole all spans make at right lists two = (let long = lists.
 
 -- the list of a part, by those of its parts
 
-pub list_of_atom : (atoms : List Atom) (whole : Process) (at atom age : ℕ) (e : Entry) → part whole at ≡ At atom age → e ≡ entry atoms at atom → Some (e ∷ []) ≡ entries_of atoms at (part whole at)
-list_of_atom atoms whole at atom age e here is = ap (λ (one : Entry). Some (one ∷ [])) is ∙ sym (ap (entries_of atoms at) here)
+pub list_of_atom : (atoms : List Atom) (whole : Process) (at atom age : ℕ) (e : Entry) → part whole at ≡ At atom age → e ≡ entry atoms at atom → e ∷ [] ≡ entries_of atoms at (part whole at)
+list_of_atom atoms whole at atom age e here is = ap (λ (one : Entry). one ∷ []) is ∙ sym (ap (entries_of atoms at) here)
+
+pub list_of_if : (atoms : List Atom) (whole : Process) (test : Expr) (at right : ℕ) (e : Entry) → IsTwo whole (If test) at right → e ≡ gate at → e ∷ [] ≡ entries_of atoms at (part whole at)
+list_of_if atoms whole test at right e two is = ap (λ (one : Entry). one ∷ []) is ∙ sym (ap (entries_of atoms at) two.here)
+
+pub list_of_when : (atoms : List Atom) (whole : Process) (test : Expr) (at : ℕ) (e : Entry) → IsOne whole (When test) at → e ≡ gate at → e ∷ [] ≡ entries_of atoms at (part whole at)
+list_of_when atoms whole test at e one is = ap (λ (o : Entry). o ∷ []) is ∙ sym (ap (entries_of atoms at) one.here)
+
+pub list_of_let : (atoms : List Atom) (whole : Process) (settings : List Setting) (at : ℕ) (e : Entry) → IsOne whole (Let settings) at → e ≡ gate at → e ∷ [] ≡ entries_of atoms at (part whole at)
+list_of_let atoms whole settings at e one is = ap (λ (o : Entry). o ∷ []) is ∙ sym (ap (entries_of atoms at) one.here)
 
 pub list_of_seq : (atoms : List Atom) (whole : Process) (at right first : ℕ) → first ≡ suc at → IsTwo whole Seq at right → all_led (behind.Entered right) (entries_of atoms first (part whole first)) ≡ entries_of atoms at (part whole at)
 list_of_seq atoms whole at right first f two =
@@ -180,27 +190,27 @@ list_of_seq atoms whole at right first f two =
 
 -- of an operator over two parts that go on as these
 two_lists : (atoms : List Atom) (whole : Process) (make : Process → Process → Process) (a b : Behind) (at right first : ℕ) → first ≡ suc at →
-    ((x y : Process) → entries_of atoms at (make x y) ≡ in_both (all_led a (entries_of atoms (suc at) x)) (all_led b (entries_of atoms (suc at + size x) y))) → IsTwo whole make at right →
-    in_both (all_led a (entries_of atoms first (part whole first))) (all_led b (entries_of atoms right (part whole right))) ≡ entries_of atoms at (part whole at)
+    ((x y : Process) → entries_of atoms at (make x y) ≡ all_led a (entries_of atoms (suc at) x) ++ all_led b (entries_of atoms (suc at + size x) y)) → IsTwo whole make at right →
+    all_led a (entries_of atoms first (part whole first)) ++ all_led b (entries_of atoms right (part whole right)) ≡ entries_of atoms at (part whole at)
 two_lists atoms whole make a b at right first f each two =
-    ap (λ (n : ℕ). in_both (all_led a (entries_of atoms n (part whole n))) (all_led b (entries_of atoms right (part whole right)))) f
-    ∙ ap (λ (n : ℕ). in_both (all_led a (entries_of atoms (suc at) (part whole (suc at)))) (all_led b (entries_of atoms n (part whole right)))) two.behind
+    ap (λ (n : ℕ). all_led a (entries_of atoms n (part whole n)) ++ all_led b (entries_of atoms right (part whole right))) f
+    ∙ ap (λ (n : ℕ). all_led a (entries_of atoms (suc at) (part whole (suc at))) ++ all_led b (entries_of atoms n (part whole right))) two.behind
     ∙ sym (each (part whole (suc at)) (part whole right))
     ∙ sym (ap (entries_of atoms at) two.here)
 
 pub list_of_alt : (atoms : List Atom) (whole : Process) (at right first : ℕ) → first ≡ suc at → IsTwo whole Alt at right →
-    in_both (all_led behind.Ended (entries_of atoms first (part whole first))) (all_led behind.Ended (entries_of atoms right (part whole right))) ≡ entries_of atoms at (part whole at)
+    all_led behind.Ended (entries_of atoms first (part whole first)) ++ all_led behind.Ended (entries_of atoms right (part whole right)) ≡ entries_of atoms at (part whole at)
 list_of_alt atoms whole at right first f two =
     two_lists atoms whole Alt behind.Ended behind.Ended at right first f
-    (λ x y. sym (ap (λ (o : Option (List Entry)). in_both o (all_led behind.Ended (entries_of atoms (suc at + size x) y))) (led-ended (entries_of atoms (suc at) x))
-    ∙ ap (in_both (entries_of atoms (suc at) x)) (led-ended (entries_of atoms (suc at + size x) y)))) two
+    (λ x y. sym (ap (λ (o : List Entry). o ++ all_led behind.Ended (entries_of atoms (suc at + size x) y)) (led-ended (entries_of atoms (suc at) x))
+    ∙ ap (λ (o : List Entry). entries_of atoms (suc at) x ++ o) (led-ended (entries_of atoms (suc at + size x) y)))) two
 
 pub list_of_star : (atoms : List Atom) (whole : Process) (at right first : ℕ) → first ≡ suc at → IsTwo whole Star at right →
-    in_both (all_led (behind.Entered at) (entries_of atoms first (part whole first))) (all_led behind.Ended (entries_of atoms right (part whole right))) ≡ entries_of atoms at (part whole at)
+    all_led (behind.Entered at) (entries_of atoms first (part whole first)) ++ all_led behind.Ended (entries_of atoms right (part whole right)) ≡ entries_of atoms at (part whole at)
 list_of_star atoms whole at right first f two =
     two_lists atoms whole Star (behind.Entered at) behind.Ended at right first f
-    (λ x y. sym (ap (in_both (all_led (behind.Entered at) (entries_of atoms (suc at) x))) (led-ended (entries_of atoms (suc at + size x) y)))) two
+    (λ x y. sym (ap (λ (o : List Entry). all_led (behind.Entered at) (entries_of atoms (suc at) x) ++ o) (led-ended (entries_of atoms (suc at + size x) y)))) two
 
 pub list_of_par : (atoms : List Atom) (whole : Process) (at right first : ℕ) → first ≡ suc at → IsTwo whole Par at right →
-    in_both (all_led behind.Parted (entries_of atoms first (part whole first))) (all_led behind.Parted (entries_of atoms right (part whole right))) ≡ entries_of atoms at (part whole at)
+    all_led behind.Parted (entries_of atoms first (part whole first)) ++ all_led behind.Parted (entries_of atoms right (part whole right)) ≡ entries_of atoms at (part whole at)
 list_of_par atoms whole at right first f two = two_lists atoms whole Par behind.Parted behind.Parted at right first f (λ x y. refl) two

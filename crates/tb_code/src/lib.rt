@@ -10,5 +10,5 @@ mod two;
 
 pub use behind::Behind;
 pub use code::{Code, compile};
-pub use entry::{Entry, Span};
+pub use entry::{Entry, Span, What};
 pub use node::{Node, Op};

@@ -1,12 +1,12 @@
-ghost use Rattle.std.specs.Prelude.{◌≡◌, ◌<◌, ◌≤◌, ◌+◌, ◌++◌, ◌∷◌, [], List, Option, Some, IfOk, IfSome, OnOk, length, map, slice_get};
+ghost use Rattle.std.specs.Prelude.{◌≡◌, ◌<◌, ◌≤◌, ◌+◌, ◌++◌, ◌∷◌, [], List, Some, IfOk, IfSome, OnOk, length, map, slice_get};
 ghost use Rattle.tb_algebra.specs.Atoms.{times_of};
 ghost use Rattle.tb_algebra.specs.Processes.{fresh};
-ghost use Rattle.tb_code.specs.Entries.{AreLists, Grows, HasList, all_led, entries_of, in_both, in_span, is_timed, led};
+ghost use Rattle.tb_code.specs.Entries.{AreLists, Grows, HasList, all_led, entries_of, gate, in_span, is_timed, led};
 ghost use Rattle.tb_code.specs.Helpers.Blanks.{blank};
 ghost use Rattle.tb_code.specs.Positions.{part, positions};
 ghost use Rattle.tb_code.specs.declared.entry.Entry.{Entry};
 
-use crate::{Behind, Entry, Node, Op, Span};
+use crate::{Behind, Entry, Node, Op, Span, What};
 use std::alloc::Global;
 use tb_body::Body;
 use tb_terms::{Items, NoMemory};
@@ -90,8 +90,7 @@ fn list_at(
         Op::At(atom) => {
             let entry = Entry {
                 position: at,
-                atom: *atom,
-                timed: is_timed(body, *atom),
+                what: What::Atom(*atom, is_timed(body, *atom)),
                 behind: Behind::Ended,
             };
             add_one(entries, room, entry)
@@ -136,9 +135,9 @@ fn list_at(
             };
             add_both(alloc, entries, room, first, second)
         }
-        Op::If(_, _) => Ok(NOT_KEPT),
-        Op::When(_) => Ok(NOT_KEPT),
-        Op::Let(_) => Ok(NOT_KEPT),
+        Op::If(_, _) => add_one(entries, room, gate(at)),
+        Op::When(_) => add_one(entries, room, gate(at)),
+        Op::Let(_) => add_one(entries, room, gate(at)),
     }
 }
 
@@ -166,9 +165,20 @@ fn is_timed(body: &Body, number: u32) -> bool
     }
 }
 
+/// A test or settings that stand here.
+fn gate(at: usize) -> Entry
+    ensures { result ≡ gate at }
+{
+    Entry {
+        position: at,
+        what: What::Gate,
+        behind: Behind::Ended,
+    }
+}
+
 /// A list with this entry alone.
 fn add_one(entries: &mut Items<Entry>, room: usize, entry: Entry) -> Result<Span, NoMemory>
-    ensures list { IfOk result (λ span. HasList entries.new span (Some (entry ∷ []))) }
+    ensures list { IfOk result (λ span. HasList entries.new span (entry ∷ [])) }
     ensures grows { OnOk result (Grows entries.old entries.new) }
 {
     let first = entries.len();
@@ -194,7 +204,7 @@ fn add_first(
     x: Side,
 ) -> Result<Span, NoMemory>
     requires { x.span.first + x.span.count ≤ length entries.old }
-    ensures list { (one : Option (List Entry)) → HasList entries.old x.span one → IfOk result (λ span. HasList entries.new span (all_led x.next one)) }
+    ensures list { (one : List Entry) → HasList entries.old x.span one → IfOk result (λ span. HasList entries.new span (all_led x.next one)) }
     ensures grows { OnOk result (Grows entries.old entries.new) }
 {
     let first = entries.len();
@@ -216,8 +226,8 @@ fn add_both(
 ) -> Result<Span, NoMemory>
     requires x_within { x.span.first + x.span.count ≤ length entries.old }
     requires y_within { y.span.first + y.span.count ≤ length entries.old }
-    ensures list { (one other : Option (List Entry)) → HasList entries.old x.span one → HasList entries.old y.span other
-        → IfOk result (λ span. HasList entries.new span (in_both (all_led x.next one) (all_led y.next other))) }
+    ensures list { (one other : List Entry) → HasList entries.old x.span one → HasList entries.old y.span other
+        → IfOk result (λ span. HasList entries.new span (all_led x.next one ++ all_led y.next other)) }
     ensures grows { OnOk result (Grows entries.old entries.new) }
 {
     let first = entries.len();
@@ -268,8 +278,7 @@ fn led(entry: &Entry, next: Behind) -> Entry
 {
     Entry {
         position: entry.position,
-        atom: entry.atom,
-        timed: entry.timed,
+        what: entry.what,
         behind: entry.behind.followed(next),
     }
 }

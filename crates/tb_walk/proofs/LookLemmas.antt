@@ -1,6 +1,8 @@
 -- What is seen of the part at a position, and where its parts stand, as the code names them.
-use Rattle.std.proofs.Common.{◌≡◌, ◌==◌, ℕ, suc, ◌+◌, ◌-◌, ◌<◌, ◌≤◌, Bool, true, false, List, [], ◌∷◌, ◌++◌, Option, Some, None, refl, ap, sym, subst, ◌∙◌, arith, append_assoc, length, map, drop, get_or, if◌then◌else◌, ◌⊎◌, inl, inr}
-use Rattle.std.proofs.lemmas.List.{append-nil, drop_more, drop_all, map-append}
+use Rattle.std.proofs.Common.{◌≡◌, ◌==◌, ℕ, suc, ◌+◌, ◌-◌, ◌<◌, ◌≤◌, Bool, true, false, List, [], ◌∷◌, ◌++◌, Option, Some, None, refl, ap, sym, subst, ◌∙◌, arith, append_assoc, length, All, flat_map, map, drop, get_or, if◌then◌else◌, ◌⊎◌, inl, inr}
+use Rattle.std.proofs.lemmas.List.{append-nil, drop_more, drop_all}
+use Rattle.std.proofs.lemmas.List.Concat.{flat_map-append}
+use Rattle.std.proofs.lemmas.List.Elements.{All-append, All-cons, All-map, All-nil, All-weaker}
 use Rattle.tb_terms.specs.declared.expr.Expr.{Expr}
 use Rattle.tb_func.specs.declared.slot.Slot.{Slot}
 use Rattle.tb_body.specs.declared.atom.Atom.{Atom}
@@ -9,13 +11,15 @@ use Rattle.tb_body.specs.declared.tree.Setting.{Setting}
 use Rattle.tb_algebra.specs.Atoms.{is_ready, times_of}
 use Rattle.tb_algebra.specs.Processes.{Process, At, Seq, Alt, Star, Par, If, When, Let}
 use Rattle.tb_algebra.specs.Settings.{tested, with_settings}
-use Rattle.tb_code.specs.Entries.{all_led, entries_of, entry, followed, in_both, is_timed, led}
-use Rattle.tb_code.specs.Positions.{size, part, IsTwo, IsOne, HasParts}
+use Rattle.tb_code.specs.Entries.{all_led, entries_of, entry, followed, gate, is_timed, led}
+use Rattle.tb_code.specs.Positions.{size, part, table, IsTwo, IsOne}
 use Rattle.tb_code.proofs.EntryLemmas.{followed-ended}
+use Rattle.tb_code.proofs.Parts.{Stands, stands_first, stands_here, stands_second, whole_at}
+use Rattle.tb_code.proofs.Tables.{length-table}
 use Rattle.tb_code.specs.declared.behind.Behind.{Behind}
 use Rattle.tb_code.specs.declared.behind.Behind.TheVariants as behind
 use Rattle.tb_code.specs.declared.entry.Entry.{Entry}
-use Rattle.tb_walk.specs.Helpers.Sights.{Sighting, entry_sighting, Looking, sightings, sightings_if, sightings_after, sighting_at, branch_sightings, row_sightings}
+use Rattle.tb_walk.specs.Helpers.Sights.{Sighting, entry_sightings, seen_by, Looking, sightings, sightings_if, sightings_after, sighting_at, branch_sightings, row_sightings}
 use Rattle.tb_walk.specs.declared.branch.Branch.{Branch}
 
 -- the part at a position stands behind the whole, and nearer to its end
@@ -153,77 +157,114 @@ followed-twice (behind.Entered at) (behind.Entered next) behind.Parted = refl
 followed-twice (behind.Entered at) behind.Parted c = refl
 followed-twice behind.Parted b c = refl
 
-module _ (by : Looking) (store : List Slot) where
-  abbrev listed_one : Behind → Entry → Sighting
-  listed_one so_far e = entry_sighting by store (led so_far e)
+module _ (whole : Process) (by : Looking) (store : List Slot) where
+  abbrev listed_one : Behind → Entry → List Sighting
+  listed_one so_far e = entry_sightings whole by store (led so_far e)
 
   abbrev listed_as : Behind → List Entry → List Sighting
-  listed_as so_far list = map (listed_one so_far) list
-
-  led_one : (next so_far : Behind) (e : Entry) → listed_one (followed next so_far) e ≡ listed_one so_far (led next e)
-  led_one next so_far e =
-      ap (λ (b : Behind). let it : Sighting = record { branch = by.branch; position = e.position; behind = b; seen = (entry_sighting by store e).seen } in it) (followed-twice e.behind next so_far)
+  listed_as so_far list = flat_map (listed_one so_far) list
 
   led_all : (next so_far : Behind) (list : List Entry) → listed_as (followed next so_far) list ≡ listed_as so_far (map (led next) list)
   led_all next so_far [] = refl
   led_all next so_far (e ∷ list) =
-      ap (λ (s : Sighting). s ∷ listed_as (followed next so_far) list) (led_one next so_far e)
-      ∙ ap (λ (rest : List Sighting). listed_one so_far (led next e) ∷ rest) (led_all next so_far list)
+      ap (λ (b : Behind). seen_by whole by store e.position b e.what ++ listed_as (followed next so_far) list) (followed-twice e.behind next so_far)
+      ∙ ap (λ (rest : List Sighting). listed_one so_far (led next e) ++ rest) (led_all next so_far list)
 
-  led_listed : (next so_far : Behind) (xs : Option (List Entry)) (s : List Sighting) (list : List Entry) → ((l : List Entry) → xs ≡ Some l → s ≡ listed_as (followed next so_far) l) → all_led next xs ≡ Some list → s ≡ listed_as so_far list
-  led_listed next so_far None s list f e = (let no : ◌≡◌ {A = Option (List Entry)} None (Some list) = e in cc)
-  led_listed next so_far (Some l) s list f e =
-      let same : map (led next) l ≡ list = (let h : ◌≡◌ {A = Option (List Entry)} (Some (map (led next) l)) (Some list) = e in cc) in
-      f l refl ∙ led_all next so_far l ∙ ap (listed_as so_far) same
-
-  two_listed : (so_far : Behind) (xs ys : Option (List Entry)) (s t : List Sighting) (list : List Entry) → ((l : List Entry) → xs ≡ Some l → s ≡ listed_as so_far l) → ((l : List Entry) → ys ≡ Some l → t ≡ listed_as so_far l) →
-      in_both xs ys ≡ Some list → s ++ t ≡ listed_as so_far list
-  two_listed so_far None ys s t list f g e = (let no : ◌≡◌ {A = Option (List Entry)} None (Some list) = e in cc)
-  two_listed so_far (Some l) None s t list f g e = (let no : ◌≡◌ {A = Option (List Entry)} None (Some list) = e in cc)
-  two_listed so_far (Some l) (Some m) s t list f g e =
-      let same : l ++ m ≡ list = (let h : ◌≡◌ {A = Option (List Entry)} (Some (l ++ m)) (Some list) = e in cc) in
-      ap (λ (r : List Sighting). r ++ t) (f l refl) ∙ ap (λ (r : List Sighting). listed_as so_far l ++ r) (g m refl)
-      ∙ sym (map-append (listed_one so_far) l m) ∙ ap (listed_as so_far) same
+  alike : (list : List Entry) → listed_as behind.Ended list ≡ flat_map (entry_sightings whole by store) list
+  alike [] = refl
+  alike (e ∷ list) =
+      ap (λ (b : Behind). seen_by whole by store e.position b e.what ++ listed_as behind.Ended list) (followed-ended e.behind)
+      ∙ ap (λ (rest : List Sighting). entry_sightings whole by store e ++ rest) (alike list)
 
   ready_so : (times : List Time) → is_ready store by.age by.now times ≡ (if is_timed times then is_ready store by.age by.now times else true)
   ready_so [] = refl
   ready_so (time ∷ times) = refl
 
-  one_listed : (so_far : Behind) (at atom : ℕ) → sighting_at by so_far at atom store ≡ listed_one so_far (entry by.atoms at atom)
-  one_listed so_far at atom =
-      ap (λ (b : Bool). let it : Sighting = record { branch = by.branch; position = at; behind = so_far; seen = record { atom = atom; age = by.age; ready = b; store = store } } in it) (ready_so (times_of by.atoms atom))
+  atom_listed : (so_far : Behind) (at atom : ℕ) → sighting_at by so_far at atom store ∷ [] ≡ listed_as so_far (entry by.atoms at atom ∷ [])
+  atom_listed so_far at atom =
+      ap (λ (b : Bool). let it : Sighting = record { branch = by.branch; position = at; behind = so_far; seen = record { atom = atom; age = by.age; ready = b; store = store } } in it ∷ []) (ready_so (times_of by.atoms atom))
 
-  listed : (so_far : Behind) (at : ℕ) (x : Process) (list : List Entry) → entries_of by.atoms at x ≡ Some list → sightings by so_far at x store ≡ listed_as so_far list
-  listed so_far at (At atom age) list e =
-      let same : entry by.atoms at atom ∷ [] ≡ list = (let h : ◌≡◌ {A = Option (List Entry)} (Some (entry by.atoms at atom ∷ [])) (Some list) = e in cc) in
-      ap (λ (s : Sighting). s ∷ []) (one_listed so_far at atom) ∙ ap (listed_as so_far) same
-  listed so_far at (Seq x y) list e =
+  gate_listed : (so_far : Behind) (at : ℕ) (w : Process) → part whole at ≡ w → sightings by so_far at w store ≡ listed_as so_far (gate at ∷ [])
+  gate_listed so_far at w e = ap (λ (p : Process). sightings by so_far at p store) (sym e) ∙ sym (append-nil (sightings by so_far at (part whole at) store))
+
+  both_listed : (so_far : Behind) (s t : List Sighting) (l m : List Entry) → s ≡ listed_as so_far l → t ≡ listed_as so_far m → s ++ t ≡ listed_as so_far (l ++ m)
+  both_listed so_far s t l m e f = ap (λ (r : List Sighting). r ++ t) e ∙ ap (λ (r : List Sighting). listed_as so_far l ++ r) f ∙ sym (flat_map-append (listed_one so_far) l m)
+
+  listed : (frame : Option ℕ) (so_far : Behind) (at : ℕ) (x : Process) → Stands whole at x (table x at frame) → sightings by so_far at x store ≡ listed_as so_far (entries_of by.atoms at x)
+  listed frame so_far at (At atom age) s = atom_listed so_far at atom
+  listed frame so_far at (Seq x y) s =
       let next = behind.Entered (suc at + size x) in
-      led_listed next so_far (entries_of by.atoms (suc at) x) (sightings by (followed next so_far) (suc at) x store) list (λ l h. listed (followed next so_far) (suc at) x l h) e
-  listed so_far at (Alt x y) list e =
-      two_listed so_far (entries_of by.atoms (suc at) x) (entries_of by.atoms (suc at + size x) y) (sightings by so_far (suc at) x store) (sightings by so_far (suc at + size x) y store) list
-      (λ l h. listed so_far (suc at) x l h) (λ l h. listed so_far (suc at + size x) y l h) e
-  listed so_far at (Star x y) list e =
+      let first = stands_first whole at (Seq x y) x y _ (table x (suc at) (Some at)) (table y (suc at + size x) frame) (refl, λ n. refl) (length-table x (suc at) (Some at)) s in
+      listed (Some at) (followed next so_far) (suc at) x first ∙ led_all next so_far (entries_of by.atoms (suc at) x)
+  listed frame so_far at (Alt x y) s =
+      let first = stands_first whole at (Alt x y) x y _ (table x (suc at) frame) (table y (suc at + size x) frame) (refl, λ n. refl) (length-table x (suc at) frame) s in
+      let second = stands_second whole at (Alt x y) x y _ (table x (suc at) frame) (table y (suc at + size x) frame) (refl, λ n. refl) (length-table x (suc at) frame) s in
+      both_listed so_far (sightings by so_far (suc at) x store) (sightings by so_far (suc at + size x) y store) (entries_of by.atoms (suc at) x) (entries_of by.atoms (suc at + size x) y)
+      (listed frame so_far (suc at) x first) (listed frame so_far (suc at + size x) y second)
+  listed frame so_far at (Star x y) s =
       let next = behind.Entered at in
-      let seen = sightings by (followed next so_far) (suc at) x store in
-      two_listed so_far (all_led next (entries_of by.atoms (suc at) x)) (entries_of by.atoms (suc at + size x) y) seen (sightings by so_far (suc at + size x) y store) list
-      (λ l h. led_listed next so_far (entries_of by.atoms (suc at) x) seen l (λ m k. listed (followed next so_far) (suc at) x m k) h) (λ l h. listed so_far (suc at + size x) y l h) e
-  listed so_far at (Par x y) list e =
-      let seen = sightings by behind.Parted (suc at) x store in
-      let other = sightings by behind.Parted (suc at + size x) y store in
-      two_listed so_far (all_led behind.Parted (entries_of by.atoms (suc at) x)) (all_led behind.Parted (entries_of by.atoms (suc at + size x) y)) seen other list
-      (λ l h. led_listed behind.Parted so_far (entries_of by.atoms (suc at) x) seen l (λ m k. listed behind.Parted (suc at) x m k) h)
-      (λ l h. led_listed behind.Parted so_far (entries_of by.atoms (suc at + size x) y) other l (λ m k. listed behind.Parted (suc at + size x) y m k) h) e
-  listed so_far at (If test x y) list e = (let no : ◌≡◌ {A = Option (List Entry)} None (Some list) = e in cc)
-  listed so_far at (When test x) list e = (let no : ◌≡◌ {A = Option (List Entry)} None (Some list) = e in cc)
-  listed so_far at (Let settings x) list e = (let no : ◌≡◌ {A = Option (List Entry)} None (Some list) = e in cc)
+      let first = stands_first whole at (Star x y) x y _ (table x (suc at) (Some at)) (table y (suc at + size x) frame) (refl, λ n. refl) (length-table x (suc at) (Some at)) s in
+      let second = stands_second whole at (Star x y) x y _ (table x (suc at) (Some at)) (table y (suc at + size x) frame) (refl, λ n. refl) (length-table x (suc at) (Some at)) s in
+      both_listed so_far (sightings by (followed next so_far) (suc at) x store) (sightings by so_far (suc at + size x) y store) (all_led next (entries_of by.atoms (suc at) x)) (entries_of by.atoms (suc at + size x) y)
+      (listed (Some at) (followed next so_far) (suc at) x first ∙ led_all next so_far (entries_of by.atoms (suc at) x)) (listed frame so_far (suc at + size x) y second)
+  listed frame so_far at (Par x y) s =
+      let first = stands_first whole at (Par x y) x y _ (table x (suc at) frame) (table y (suc at + size x) frame) (refl, λ n. refl) (length-table x (suc at) frame) s in
+      let second = stands_second whole at (Par x y) x y _ (table x (suc at) frame) (table y (suc at + size x) frame) (refl, λ n. refl) (length-table x (suc at) frame) s in
+      both_listed so_far (sightings by behind.Parted (suc at) x store) (sightings by behind.Parted (suc at + size x) y store) (all_led behind.Parted (entries_of by.atoms (suc at) x)) (all_led behind.Parted (entries_of by.atoms (suc at + size x) y))
+      (listed frame behind.Parted (suc at) x first ∙ led_all behind.Parted so_far (entries_of by.atoms (suc at) x))
+      (listed frame behind.Parted (suc at + size x) y second ∙ led_all behind.Parted so_far (entries_of by.atoms (suc at + size x) y))
+  listed frame so_far at (If test x y) s = gate_listed so_far at (If test x y) (stands_here whole at (If test x y) (table (If test x y) at frame) s).1
+  listed frame so_far at (When test x) s = gate_listed so_far at (When test x) (stands_here whole at (When test x) (table (When test x) at frame) s).1
+  listed frame so_far at (Let settings x) s = gate_listed so_far at (Let settings x) (stands_here whole at (Let settings x) (table (Let settings x) at frame) s).1
 
-  alike : (list : List Entry) → listed_as behind.Ended list ≡ map (entry_sighting by store) list
-  alike [] = refl
-  alike (e ∷ list) =
-      let head : listed_one behind.Ended e ≡ entry_sighting by store e =
-      ap (λ (b : Behind). let it : Sighting = record { branch = by.branch; position = e.position; behind = b; seen = (entry_sighting by store e).seen } in it) (followed-ended e.behind) in
-      ap (λ (s : Sighting). s ∷ listed_as behind.Ended list) head ∙ ap (λ (rest : List Sighting). entry_sighting by store e ∷ rest) (alike list)
+  pub all_listed : (at : ℕ) (list : List Entry) → at < size whole → entries_of by.atoms at (part whole at) ≡ list → sightings by behind.Ended at (part whole at) store ≡ flat_map (entry_sightings whole by store) list
+  all_listed at list h e =
+      let p = whole_at whole at h in
+      let here = (stands_here whole at p.x (table p.x at p.frame) p.stands).1 in
+      ap (λ (q : Process). sightings by behind.Ended at q store) here
+      ∙ listed p.frame behind.Ended at p.x p.stands
+      ∙ ap (λ (q : Process). listed_as behind.Ended (entries_of by.atoms at q)) (sym here)
+      ∙ ap (listed_as behind.Ended) e
+      ∙ alike list
 
-  pub all_listed : (at : ℕ) (x : Process) (list : List Entry) → entries_of by.atoms at x ≡ Some list → sightings by behind.Ended at x store ≡ map (entry_sighting by store) list
-  all_listed at x list e = listed behind.Ended at x list e ∙ alike list
+-- the entries of a list stand within its part
+
+abbrev IsBelow : ℕ → Entry → Type 0
+IsBelow bound e = e.position < bound
+
+module _ (atoms : List Atom) where
+  below-led : (next : Behind) (low high : ℕ) (list : List Entry) → low ≤ high → All (IsBelow low) list → All (IsBelow high) (all_led next list)
+  below-led next low high list le h = All-map (IsBelow high) (led next) list (All-weaker (IsBelow low) (IsBelow high) (λ e k. omega arith) list h)
+
+  below-wider : (low high : ℕ) (list : List Entry) → low ≤ high → All (IsBelow low) list → All (IsBelow high) list
+  below-wider low high list le h = All-weaker (IsBelow low) (IsBelow high) (λ e k. omega arith) list h
+
+  below-one : (bound : ℕ) (e : Entry) → e.position < bound → All (IsBelow bound) (e ∷ [])
+  below-one bound e h = All-cons (IsBelow bound) e [] h (All-nil (IsBelow bound))
+
+  entries-below : (at : ℕ) (x : Process) → All (IsBelow (at + size x)) (entries_of atoms at x)
+  entries-below at (At atom age) = below-one (at + 1) (entry atoms at atom) (omega arith)
+  entries-below at (Seq x y) = below-led (behind.Entered (suc at + size x)) (suc at + size x) (at + size (Seq x y)) (entries_of atoms (suc at) x) (omega arith) (entries-below (suc at) x)
+  entries-below at (Alt x y) =
+      All-append (IsBelow (at + size (Alt x y))) (entries_of atoms (suc at) x) (entries_of atoms (suc at + size x) y)
+      (below-wider (suc at + size x) (at + size (Alt x y)) (entries_of atoms (suc at) x) (omega arith) (entries-below (suc at) x))
+      (below-wider (suc at + size x + size y) (at + size (Alt x y)) (entries_of atoms (suc at + size x) y) (omega arith) (entries-below (suc at + size x) y))
+  entries-below at (Star x y) =
+      All-append (IsBelow (at + size (Star x y))) (all_led (behind.Entered at) (entries_of atoms (suc at) x)) (entries_of atoms (suc at + size x) y)
+      (below-led (behind.Entered at) (suc at + size x) (at + size (Star x y)) (entries_of atoms (suc at) x) (omega arith) (entries-below (suc at) x))
+      (below-wider (suc at + size x + size y) (at + size (Star x y)) (entries_of atoms (suc at + size x) y) (omega arith) (entries-below (suc at + size x) y))
+  entries-below at (Par x y) =
+      All-append (IsBelow (at + size (Par x y))) (all_led behind.Parted (entries_of atoms (suc at) x)) (all_led behind.Parted (entries_of atoms (suc at + size x) y))
+      (below-led behind.Parted (suc at + size x) (at + size (Par x y)) (entries_of atoms (suc at) x) (omega arith) (entries-below (suc at) x))
+      (below-led behind.Parted (suc at + size x + size y) (at + size (Par x y)) (entries_of atoms (suc at + size x) y) (omega arith) (entries-below (suc at + size x) y))
+  entries-below at (If test x y) = below-one (at + size (If test x y)) (gate at) (omega arith)
+  entries-below at (When test x) = below-one (at + size (When test x)) (gate at) (omega arith)
+  entries-below at (Let settings x) = below-one (at + size (Let settings x)) (gate at) (omega arith)
+
+pub all_within : (whole : Process) (atoms : List Atom) (at : ℕ) (list : List Entry) → at < size whole → entries_of atoms at (part whole at) ≡ list → All (λ (e : Entry). e.position < size whole) list
+all_within whole atoms at list h e =
+    let p = whole_at whole at h in
+    let here = (stands_here whole at p.x (table p.x at p.frame) p.stands).1 in
+    let below : All (IsBelow (at + size p.x)) list = subst (All (IsBelow (at + size p.x))) (ap (entries_of atoms at) (sym here) ∙ e) (entries-below atoms at p.x) in
+    let within = p.stands.within in
+    below-wider atoms (at + size p.x) (size whole) list (omega arith) below

@@ -1,10 +1,10 @@
-ghost use Rattle.std.specs.Prelude.{◌≡◌, ◌∷◌, [], ◌++◌, ◌-◌, ◌<◌, ℕ, IfOk, OnOk, map};
+ghost use Rattle.std.specs.Prelude.{◌≡◌, ◌∷◌, [], ◌++◌, ◌-◌, ◌<◌, ℕ, All, IfOk, OnOk, flat_map, map};
 ghost use Rattle.tb_algebra.specs.Atoms.{is_ready, times_of};
 ghost use Rattle.tb_algebra.specs.Processes.{fresh, If, When, Let};
 ghost use Rattle.tb_algebra.specs.Helpers.OfferViews.{or_own};
 ghost use Rattle.tb_code.specs.Positions.{size, part, IsTwo, IsOne};
 ghost use Rattle.tb_code.specs.declared.behind.Behind.TheVariants.{Ended};
-ghost use Rattle.tb_walk.specs.Helpers.Sights.{Sighting, entry_ready, entry_sighting, sighted, sightings, looking, row_sightings};
+ghost use Rattle.tb_walk.specs.Helpers.Sights.{Sighting, entry_sightings, listed_ready, listed_sighting, sighted, sightings, looking, row_sightings};
 ghost use Rattle.tb_walk.specs.Helpers.Takings.{AreThere};
 
 use crate::values::says;
@@ -12,7 +12,7 @@ use crate::{Branch, Sight};
 use std::alloc::Global;
 use tb_algebra::{copy_own, is_ready, store_of, with_settings};
 use tb_body::Settings;
-use tb_code::{Behind, Code, Entry, Op};
+use tb_code::{Behind, Code, Entry, Op, What};
 use tb_func::Store;
 use tb_terms::{Expr, Items, NoMemory};
 
@@ -81,8 +81,9 @@ fn look_list(
     base: &Store,
     found: &mut Items<Sight>,
 ) -> Result<(), NoMemory>
+    requires { All (λ entry. entry.position < size (fresh code.now.body.tree)) list.now }
     ensures { OnOk result (map (sighted base.now) found.new
-        ≡ map (sighted base.now) found.old ++ map (entry_sighting (looking code.now.body.atoms clock.now) base.now) list.now) }
+        ≡ map (sighted base.now) found.old ++ flat_map (entry_sightings (fresh code.now.body.tree) (looking code.now.body.atoms clock.now) base.now) list.now) }
 {
     for entry in list {
         look_entry(alloc, code, entry, clock, base, found)?;
@@ -98,35 +99,96 @@ fn look_entry(
     base: &Store,
     found: &mut Items<Sight>,
 ) -> Result<(), NoMemory>
+    requires { entry.now.position < size (fresh code.now.body.tree) }
     ensures { OnOk result (map (sighted base.now) found.new
-        ≡ map (sighted base.now) found.old ++ entry_sighting (looking code.now.body.atoms clock.now) base.now entry.now ∷ []) }
+        ≡ map (sighted base.now) found.old ++ entry_sightings (fresh code.now.body.tree) (looking code.now.body.atoms clock.now) base.now entry.now) }
+{
+    match entry.what {
+        What::Atom(atom, timed) => {
+            look_listed(
+                alloc,
+                code,
+                entry.position,
+                entry.behind,
+                atom,
+                timed,
+                clock,
+                base,
+                found,
+            )
+        }
+        What::Gate => look_gate(
+            alloc,
+            code,
+            entry.position,
+            entry.behind,
+            clock,
+            base,
+            found,
+        ),
+    }
+}
+
+fn look_listed(
+    alloc: Global,
+    code: &Code,
+    position: usize,
+    behind: Behind,
+    atom: u32,
+    timed: bool,
+    clock: &Clock,
+    base: &Store,
+    found: &mut Items<Sight>,
+) -> Result<(), NoMemory>
+    ensures { OnOk result (map (sighted base.now) found.new
+        ≡ map (sighted base.now) found.old ++ listed_sighting (looking code.now.body.atoms clock.now) behind position atom timed base.now ∷ []) }
 {
     let age = clock.ticks.saturating_sub(clock.entered);
-    let ready = is_entry_ready(alloc, code, base, entry, age, clock.bus)?;
+    let ready = is_listed_ready(alloc, code, base, atom, timed, age, clock.bus)?;
     found.push(Sight {
         branch: clock.branch,
-        position: entry.position,
-        atom: entry.atom,
+        position,
+        atom,
         age,
         ready,
-        behind: entry.behind,
+        behind,
         own: None,
     })?;
     Ok(())
 }
 
-fn is_entry_ready(
+/// What may be next behind a test or settings, which are walked through.
+#[cold]
+#[inline(never)]
+fn look_gate(
+    alloc: Global,
+    code: &Code,
+    at: usize,
+    behind: Behind,
+    clock: &Clock,
+    base: &Store,
+    found: &mut Items<Sight>,
+) -> Result<(), NoMemory>
+    requires { at < size (fresh code.now.body.tree) }
+    ensures { OnOk result (map (sighted base.now) found.new
+        ≡ map (sighted base.now) found.old ++ sightings (looking code.now.body.atoms clock.now) behind at (part (fresh code.now.body.tree) at) base.now) }
+{
+    look_at(alloc, code, at, behind, clock, base, &None, found)
+}
+
+fn is_listed_ready(
     alloc: Global,
     code: &Code,
     store: &Store,
-    entry: &Entry,
+    atom: u32,
+    timed: bool,
     age: u64,
     now: u64,
 ) -> Result<bool, NoMemory>
-    ensures { IfOk result (λ ready. ready ≡ entry_ready code.now.body.atoms store.now age now entry.now) }
+    ensures { IfOk result (λ ready. ready ≡ listed_ready code.now.body.atoms store.now age now atom timed) }
 {
-    if entry.timed {
-        Ok(is_atom_ready(alloc, code, store, entry.atom, age, now)?)
+    if timed {
+        Ok(is_atom_ready(alloc, code, store, atom, age, now)?)
     } else {
         Ok(true)
     }

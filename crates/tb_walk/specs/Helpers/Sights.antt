@@ -12,6 +12,8 @@ use Rattle.tb_code.specs.Positions.{size, part}
 use Rattle.tb_code.specs.declared.behind.Behind.{Behind}
 use Rattle.tb_code.specs.declared.behind.Behind.TheVariants as behind
 use Rattle.tb_code.specs.declared.entry.Entry.{Entry}
+use Rattle.tb_code.specs.declared.entry.What.{What}
+use Rattle.tb_code.specs.declared.entry.What.TheVariants as what
 use Rattle.tb_walk.specs.declared.branch.Branch.{Branch}
 use Rattle.tb_walk.specs.declared.look.Clock.{Clock}
 use Rattle.tb_walk.specs.declared.sight.Sight.{Sight}
@@ -53,16 +55,16 @@ sighting_at by so_far at atom store = record {
   seen = record { atom = atom; age = by.age; ready = is_ready store by.age by.now (times_of by.atoms atom); store = store };
 }
 
--- an entry of a list: an atom without times is ready
-abbrev pub entry_ready : List Atom → List Slot → ℕ → ℕ → Entry → Bool
-entry_ready atoms store age now entry = if entry.timed then is_ready store age now (times_of atoms entry.atom) else true
+-- an atom of a list without times is ready
+abbrev pub listed_ready : List Atom → List Slot → ℕ → ℕ → ℕ → Bool → Bool
+listed_ready atoms store age now atom timed = if timed then is_ready store age now (times_of atoms atom) else true
 
-abbrev pub entry_sighting : Looking → List Slot → Entry → Sighting
-entry_sighting by store entry = record {
+abbrev pub listed_sighting : Looking → Behind → ℕ → ℕ → Bool → List Slot → Sighting
+listed_sighting by so_far at atom timed store = record {
   branch = by.branch;
-  position = entry.position;
-  behind = entry.behind;
-  seen = record { atom = entry.atom; age = by.age; ready = entry_ready by.atoms store by.age by.now entry; store = store };
+  position = at;
+  behind = so_far;
+  seen = record { atom = atom; age = by.age; ready = listed_ready by.atoms store by.age by.now atom timed; store = store };
 }
 
 abbrev pub sightings_if : Option Bool → List Sighting → List Sighting → List Sighting
@@ -84,6 +86,14 @@ sightings by so_far at (Par x y) store = sightings by behind.Parted (suc at) x s
 sightings by so_far at (If test x y) store = sightings_if (tested store test) (sightings by so_far (suc at) x store) (sightings by so_far (suc at + size x) y store)
 sightings by so_far at (When test x) store = sightings_if (tested store test) (sightings by so_far (suc at) x store) []
 sightings by so_far at (Let settings x) store = sightings_after (with_settings store settings) (sightings by so_far (suc at) x)
+
+-- What is seen by an entry of a list: the atom, or what stands behind the gate.
+abbrev pub seen_by : Process → Looking → List Slot → ℕ → Behind → What → List Sighting
+seen_by whole by store at so_far (what.Atom atom timed) = listed_sighting by so_far at atom timed store ∷ []
+seen_by whole by store at so_far what.Gate = sightings by so_far at (part whole at) store
+
+abbrev pub entry_sightings : Process → Looking → List Slot → Entry → List Sighting
+entry_sightings whole by store entry = seen_by whole by store entry.position entry.behind entry.what
 
 abbrev pub branch_sightings : Process → List Atom → ℕ → ℕ → List Slot → ℕ → Branch → List Sighting
 branch_sightings whole atoms now ticks store at branch =

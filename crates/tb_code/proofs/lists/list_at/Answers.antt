@@ -1,12 +1,13 @@
-use Rattle.std.proofs.Common.{◌≡◌, ◌+◌, suc, List, Option, subst, ap, arith}
+use Rattle.std.proofs.Common.{◌≡◌, ◌+◌, suc, List, subst, ap, arith}
 use Rattle.std.proofs.lemmas.Result.{IfOk-weaker}
-use Rattle.tb_algebra.specs.Processes.{fresh, Seq, Alt, Star, Par}
+use Rattle.tb_algebra.specs.Processes.{fresh, Seq, Alt, Star, Par, If, When, Let}
 use Rattle.tb_code.specs.Entries.{HasList, entries_of, entry}
-use Rattle.tb_code.specs.Positions.{HasParts, IsTwo, part}
+use Rattle.tb_code.specs.Positions.{HasParts, IsOne, IsTwo, part}
 use Rattle.tb_code.specs.declared.behind.Behind.TheVariants as behind
 use Rattle.tb_code.specs.declared.entry.Entry.{Entry}
+use Rattle.tb_code.specs.declared.entry.What.TheVariants as what
 use Rattle.tb_code.specs.declared.node.Op.TheVariants as op
-use Rattle.tb_code.proofs.EntryLemmas.{first_within, list_of_alt, list_of_atom, list_of_par, list_of_seq, list_of_star, parts_at, second_within}
+use Rattle.tb_code.proofs.EntryLemmas.{first_within, list_of_alt, list_of_atom, list_of_if, list_of_let, list_of_par, list_of_seq, list_of_star, list_of_when, parts_at, second_within}
 use Rattle.tb_code.proofs.lists.list_at.Goals as goal
 
 pub returns-in-At-clause-list : goal.returns-in-At-clause-list
@@ -16,10 +17,10 @@ returns-in-At-clause-list c =
     let at = c.args.at in
     let atom = c.in-At.atom in
     let here : HasParts whole at (op.At atom) = parts_at whole c.args.nodes.now at c.node_at.result.now (op.At atom) c.requires.numbered c.requires.within c.node_at.ensures c.in-At.is in
-    let one : Entry = record { position = at; atom = atom; timed = c.is_timed.result; behind = behind.Ended } in
-    let is : one ≡ entry atoms at atom = ap (λ b. let e : Entry = record { position = at; atom = atom; timed = b; behind = behind.Ended } in e) c.is_timed.ensures in
+    let one : Entry = record { position = at; what = what.Atom atom c.is_timed.result; behind = behind.Ended } in
+    let is : one ≡ entry atoms at atom = ap (λ b. let e : Entry = record { position = at; what = what.Atom atom b; behind = behind.Ended } in e) c.is_timed.ensures in
     let list = list_of_atom atoms whole at atom here.0 one here.1 is in
-    IfOk-weaker c.add_one.result _ _ (λ span h. subst (λ (l : Option (List Entry)). HasList c.add_one.new.entries span l) list h) c.add_one.ensures.list
+    IfOk-weaker c.add_one.result _ _ (λ span h. subst (λ (l : List Entry). HasList c.add_one.new.entries span l) list h) c.add_one.ensures.list
 
 pub span_at-requires : goal.span_at-requires
 span_at-requires c =
@@ -40,7 +41,7 @@ returns-in-Seq-clause-list c =
     let two : IsTwo whole Seq at c.in-Seq.right = parts_at whole c.args.nodes.now at c.node_at.result.now (op.Seq c.in-Seq.right) c.requires.numbered c.requires.within c.node_at.ensures c.in-Seq.is in
     let first : at + 1 ≡ suc at = omega arith in
     let list = list_of_seq atoms whole at c.in-Seq.right (at + 1) first two in
-    IfOk-weaker c.add_first.result _ _ (λ span h. subst (λ (l : Option (List Entry)). HasList c.add_first.new.entries span l) list h)
+    IfOk-weaker c.add_first.result _ _ (λ span h. subst (λ (l : List Entry). HasList c.add_first.new.entries span l) list h)
     (c.add_first.ensures.list (entries_of atoms (at + 1) (part whole (at + 1))) (c.requires.lists.1 (at + 1) c.span_at.result c.span_at.ensures))
 
 pub span_at-requires-in-Alt : goal.span_at-requires-in-Alt
@@ -74,7 +75,7 @@ returns-in-Alt-clause-list c =
     let right = c.in-Alt.right in
     let first : at + 1 ≡ suc at = omega arith in
     let list = list_of_alt atoms whole at right (at + 1) first two in
-    IfOk-weaker c.add_both.result _ _ (λ span h. subst (λ (l : Option (List Entry)). HasList c.add_both.new.entries span l) list h)
+    IfOk-weaker c.add_both.result _ _ (λ span h. subst (λ (l : List Entry). HasList c.add_both.new.entries span l) list h)
     (c.add_both.ensures.list (entries_of atoms (at + 1) (part whole (at + 1))) (entries_of atoms right (part whole right)) (c.requires.lists.1 (at + 1) c.span_at-in-Alt.result c.span_at-in-Alt.ensures) (c.requires.lists.1 right c.span_at-in-Alt-2.result c.span_at-in-Alt-2.ensures))
 
 pub span_at-requires-in-Star : goal.span_at-requires-in-Star
@@ -108,7 +109,7 @@ returns-in-Star-clause-list c =
     let right = c.in-Star.right in
     let first : at + 1 ≡ suc at = omega arith in
     let list = list_of_star atoms whole at right (at + 1) first two in
-    IfOk-weaker c.add_both-in-Star.result _ _ (λ span h. subst (λ (l : Option (List Entry)). HasList c.add_both-in-Star.new.entries span l) list h)
+    IfOk-weaker c.add_both-in-Star.result _ _ (λ span h. subst (λ (l : List Entry). HasList c.add_both-in-Star.new.entries span l) list h)
     (c.add_both-in-Star.ensures.list (entries_of atoms (at + 1) (part whole (at + 1))) (entries_of atoms right (part whole right)) (c.requires.lists.1 (at + 1) c.span_at-in-Star.result c.span_at-in-Star.ensures) (c.requires.lists.1 right c.span_at-in-Star-2.result c.span_at-in-Star-2.ensures))
 
 pub span_at-requires-in-Par : goal.span_at-requires-in-Par
@@ -142,5 +143,32 @@ returns-in-Par-clause-list c =
     let right = c.in-Par.right in
     let first : at + 1 ≡ suc at = omega arith in
     let list = list_of_par atoms whole at right (at + 1) first two in
-    IfOk-weaker c.add_both-in-Par.result _ _ (λ span h. subst (λ (l : Option (List Entry)). HasList c.add_both-in-Par.new.entries span l) list h)
+    IfOk-weaker c.add_both-in-Par.result _ _ (λ span h. subst (λ (l : List Entry). HasList c.add_both-in-Par.new.entries span l) list h)
     (c.add_both-in-Par.ensures.list (entries_of atoms (at + 1) (part whole (at + 1))) (entries_of atoms right (part whole right)) (c.requires.lists.1 (at + 1) c.span_at-in-Par.result c.span_at-in-Par.ensures) (c.requires.lists.1 right c.span_at-in-Par-2.result c.span_at-in-Par-2.ensures))
+
+pub returns-in-If-clause-list : goal.returns-in-If-clause-list
+returns-in-If-clause-list c =
+    let whole = fresh c.args.body.now.tree in
+    let atoms = c.args.body.now.atoms in
+    let at = c.args.at in
+    let has : IsTwo whole (If c.in-If.field-0) at c.in-If.field-1 = parts_at whole c.args.nodes.now at c.node_at.result.now (op.If c.in-If.field-0 c.in-If.field-1) c.requires.numbered c.requires.within c.node_at.ensures c.in-If.is in
+    let list = list_of_if atoms whole c.in-If.field-0 at c.in-If.field-1 c.gate.result has c.gate.ensures in
+    IfOk-weaker c.add_one-in-If.result _ _ (λ span h. subst (λ (l : List Entry). HasList c.add_one-in-If.new.entries span l) list h) c.add_one-in-If.ensures.list
+
+pub returns-in-When-clause-list : goal.returns-in-When-clause-list
+returns-in-When-clause-list c =
+    let whole = fresh c.args.body.now.tree in
+    let atoms = c.args.body.now.atoms in
+    let at = c.args.at in
+    let has : IsOne whole (When c.in-When.field-0) at = parts_at whole c.args.nodes.now at c.node_at.result.now (op.When c.in-When.field-0) c.requires.numbered c.requires.within c.node_at.ensures c.in-When.is in
+    let list = list_of_when atoms whole c.in-When.field-0 at c.gate-in-When.result has c.gate-in-When.ensures in
+    IfOk-weaker c.add_one-in-When.result _ _ (λ span h. subst (λ (l : List Entry). HasList c.add_one-in-When.new.entries span l) list h) c.add_one-in-When.ensures.list
+
+pub returns-in-Let-clause-list : goal.returns-in-Let-clause-list
+returns-in-Let-clause-list c =
+    let whole = fresh c.args.body.now.tree in
+    let atoms = c.args.body.now.atoms in
+    let at = c.args.at in
+    let has : IsOne whole (Let c.in-Let.field-0) at = parts_at whole c.args.nodes.now at c.node_at.result.now (op.Let c.in-Let.field-0) c.requires.numbered c.requires.within c.node_at.ensures c.in-Let.is in
+    let list = list_of_let atoms whole c.in-Let.field-0 at c.gate-in-Let.result has c.gate-in-Let.ensures in
+    IfOk-weaker c.add_one-in-Let.result _ _ (λ span h. subst (λ (l : List Entry). HasList c.add_one-in-Let.new.entries span l) list h) c.add_one-in-Let.ensures.list
