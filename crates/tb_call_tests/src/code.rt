@@ -2,7 +2,7 @@ use crate::bodies::{body, first_body, repeated};
 use std::alloc::Global;
 use std::test::Fail;
 use tb_body::{Act, Atom, Body};
-use tb_code::{Code, Entry, Node, Op, Span, compile};
+use tb_code::{Behind, Code, Entry, Node, Op, Span, What, compile};
 use tb_terms::NoMemory;
 
 /// A body, and what stands at each position, with its frame.
@@ -91,22 +91,31 @@ fn positions_are_numbered_in_text_order(rt: HostRuntime) -> Result<(), Fail> {
     Ok(())
 }
 
-/// A body, and the list of each position: each atom's number and where it stands, with a bang where it has times.
-static LISTS: [(&str, &str); 6] = [
-    ("tau . tau", "1@1; 1@1; 2@2;"),
-    ("tau * tau delay(1)", "1@1 2@2!; 1@1; 2@2!;"),
+/// A body, and the list of each position: each atom's number and where it stands, with a bang where it has times, and a question
+/// mark where a test or settings stand. Behind it is the position that is entered where the atom happens, a bar where a merge is
+/// parted then, and nothing where the part has ended.
+static LISTS: [(&str, &str); 7] = [
+    ("tau . tau", "1@1>2; 1@1; 2@2;"),
+    ("tau * tau delay(1)", "1@1>0 2@2!; 1@1; 2@2!;"),
     (
         "(tau || tau) . (tau + tau)",
-        "1@2 2@3; 1@2 2@3; 1@2; 2@3; 3@5 4@6; 3@5; 4@6;",
+        "1@2| 2@3|; 1@2| 2@3|; 1@2; 2@3; 3@5 4@6; 3@5; 4@6;",
     ),
-    ("(if equal(X, 0) then tau fi) * tau", "; ; 1@2; 2@3;"),
+    (
+        "((tau . tau) . tau) * tau",
+        "1@3>4 4@6; 1@3>4; 1@3>4; 1@3; 2@4; 3@5; 4@6;",
+    ),
+    (
+        "(if equal(X, 0) then tau fi) * tau",
+        "?1>0 2@3; ?1; 1@2; 2@3;",
+    ),
     (
         "tau + if equal(X, 0) then tau else tau fi",
-        "; 1@1; ; 2@3; 3@4;",
+        "1@1 ?2; 1@1; ?2; 2@3; 3@4;",
     ),
     (
         "(let Z : int in tau . tau endlet) . tau",
-        "; ; 1@3; 1@3; 2@4; 3@5;",
+        "?1>5; ?1; 1@3>4; 1@3; 2@4; 3@5;",
     ),
 ];
 
@@ -114,10 +123,37 @@ fn list_text(alloc: Global, entries: &[Entry], span: &Span) -> Result<String, No
     let mut text = String::new(alloc);
     for (at, entry) in entries.iter().skip(span.first).take(span.count).enumerate() {
         let gap = if at > 0 { " " } else { "" };
-        let bang = if entry.timed { "!" } else { "" };
-        write!(text, "{gap}{}@{}{bang}", entry.atom, entry.position)?;
+        text.push_str(gap)?;
+        push_what(&mut text, entry)?;
+        push_behind(&mut text, entry.behind)?;
     }
     Ok(text)
+}
+
+fn push_what(text: &mut String, entry: &Entry) -> Result<(), NoMemory> {
+    let position = entry.position;
+    match entry.what {
+        What::Atom(number, timed) => {
+            let bang = if timed { "!" } else { "" };
+            write!(text, "{number}@{position}{bang}")?;
+        }
+        What::Gate => write!(text, "?{position}")?,
+    }
+    Ok(())
+}
+
+fn push_behind(text: &mut String, behind: Behind) -> Result<(), NoMemory> {
+    match behind {
+        Behind::Ended => Ok(()),
+        Behind::Entered(position) => {
+            write!(text, ">{position}")?;
+            Ok(())
+        }
+        Behind::Parted => {
+            text.push('|')?;
+            Ok(())
+        }
+    }
 }
 
 fn lists_text(alloc: Global, entries: &[Entry], spans: &[Span]) -> Result<String, NoMemory> {

@@ -2,21 +2,25 @@
 use Rattle.std.proofs.Common.{◌≡◌, ℕ, zero, suc, ◌+◌, ◌<◌, ◌≤◌, List, [], ◌∷◌, ◌++◌, length, map, take, drop, slice_get, slice_set, Option, Some, None, option_map, refl, ap, sym, subst, ◌∙◌, arith, ◌⊎◌, inl, inr, append_assoc, length-append}
 use Rattle.std.proofs.lemmas.List.{append-nil, drop-append-le, drop_at, length-drop, length-take-le, take-append-le, take_all}
 use Rattle.std.proofs.lemmas.Option.{slice_get-map}
+use Rattle.tb_terms.specs.declared.expr.Expr.{Expr}
 use Rattle.tb_body.specs.declared.atom.Atom.{Atom}
-use Rattle.tb_algebra.specs.Processes.{Process, At, Seq, Alt, Star, Par}
-use Rattle.tb_code.specs.Entries.{AreLists, Grows, HasList, entries_of, entry, in_both, in_span}
+use Rattle.tb_body.specs.declared.tree.Setting.{Setting}
+use Rattle.tb_algebra.specs.Processes.{Process, At, Seq, Alt, Star, Par, If, When, Let}
+use Rattle.tb_code.specs.Entries.{AreLists, Grows, HasList, all_led, entries_of, entry, followed, gate, in_span, led}
 use Rattle.tb_code.specs.Helpers.Blanks.{blank}
-use Rattle.tb_code.specs.Positions.{HasParts, IsTwo, part, size}
+use Rattle.tb_code.specs.Positions.{HasParts, IsOne, IsTwo, part, positions, size}
+use Rattle.tb_code.specs.declared.behind.Behind.{Behind}
+use Rattle.tb_code.specs.declared.behind.Behind.TheVariants as behind
 use Rattle.tb_code.specs.declared.entry.Entry.{Entry}
 use Rattle.tb_code.specs.declared.entry.Span.{Span}
 use Rattle.tb_code.specs.declared.node.Node.{Node}
 use Rattle.tb_code.specs.declared.node.Op.{Op}
-use Rattle.tb_code.specs.declared.node.Op.TheVariants as op
+use Rattle.tb_code.proofs.Parts.{has_parts, length-positions}
 
 abbrev pub span : ℕ → ℕ → Span
 span first count = record { first = first; count = count }
 
-pub none_has : (all : List Entry) (list : Option (List Entry)) → HasList all (span 0 0) list
+pub none_has : (all : List Entry) (list : List Entry) → HasList all (span 0 0) list
 none_has all list = (omega arith, λ h. absurd (omega arith))
 
 same_span : (old more : List Entry) (s : Span) → s.first + s.count ≤ length old → in_span (old ++ more) s ≡ in_span old s
@@ -39,38 +43,71 @@ pub grows_not : (all : List Entry) → Grows all all
 grows_not all = ([], sym (append-nil all))
 
 -- what a span has stays when entries are added
-pub grown_has : (old new : List Entry) (s : Span) (list : Option (List Entry)) → Grows old new → HasList old s list → HasList new s list
+pub grown_has : (old new : List Entry) (s : Span) (list : List Entry) → Grows old new → HasList old s list → HasList new s list
 grown_has old new s list g h =
     let long = length-append old g.0 in
     let same = ap length g.1 in
     let bound = h.0 in
-    (omega arith, λ some. h.1 some ∙ ap Some (sym (ap (λ (l : List Entry). in_span l s) g.1 ∙ same_span old g.0 s bound)))
+    (omega arith, λ some. h.1 some ∙ sym (ap (λ (l : List Entry). in_span l s) g.1 ∙ same_span old g.0 s bound))
 
 -- a list of one entry
-pub one_has : (old new : List Entry) (e : Entry) → new ≡ old ++ e ∷ [] → HasList new (span (length old) 1) (Some (e ∷ []))
+pub one_has : (old new : List Entry) (e : Entry) → new ≡ old ++ e ∷ [] → HasList new (span (length old) 1) (e ∷ [])
 one_has old new e is =
     let long = length-append old (e ∷ []) in
     let same = ap length is in
-    (omega arith, λ some. sym (ap (λ (l : List Entry). Some (take 1 l)) (ap (drop (length old)) is ∙ drop_at old (e ∷ []) (length old) refl)))
+    (omega arith, λ some. sym (ap (take 1) (ap (drop (length old)) is ∙ drop_at old (e ∷ []) (length old) refl)))
 
--- the lists of two spans, one behind the other
-pub both_have : (old middle new : List Entry) (x y : Span) (count : ℕ) (one other : Option (List Entry)) →
-    middle ≡ old ++ in_span old x → new ≡ middle ++ in_span middle y → count ≡ x.count + y.count → 0 < x.count → 0 < y.count →
-    HasList old x one → HasList old y other → HasList new (span (length old) count) (in_both one other)
-both_have old middle new x y count one other em en ec sx sy hx hy =
-    let xs = in_span old x in
-    let ys = in_span old y in
-    let second : in_span middle y ≡ ys = ap (λ (l : List Entry). in_span l y) em ∙ same_span old xs y hy.0 in
-    let all : new ≡ old ++ (xs ++ ys) = en ∙ ap (λ (l : List Entry). l ++ in_span middle y) em ∙ ap (λ (l : List Entry). (old ++ xs) ++ l) second ∙ append_assoc old xs ys in
-    let lx = long_span old x hx.0 in
-    let ly = long_span old y hy.0 in
+-- entries of a part in the list of the whole
+
+length-led : (next : Behind) (l : List Entry) → length (map (led next) l) ≡ length l
+length-led next [] = refl
+length-led next (e ∷ l) = ap suc (length-led next l)
+
+pub followed-ended : (b : Behind) → followed b behind.Ended ≡ b
+followed-ended behind.Ended = refl
+followed-ended (behind.Entered at) = refl
+followed-ended behind.Parted = refl
+
+all-alike : (l : List Entry) → map (led behind.Ended) l ≡ l
+all-alike [] = refl
+all-alike (e ∷ l) =
+    let head : led behind.Ended e ≡ e = ap (λ (b : Behind). let one : Entry = record { position = e.position; what = e.what; behind = b } in one) (followed-ended e.behind) in
+    ap (λ (one : Entry). one ∷ map (led behind.Ended) l) head ∙ ap (λ (rest : List Entry). e ∷ rest) (all-alike l)
+
+-- a whole that goes on as its part has the part's list
+pub led-ended : (list : List Entry) → all_led behind.Ended list ≡ list
+led-ended list = all-alike list
+
+-- the list of a part behind which something follows
+pub first_has : (old new : List Entry) (x : Span) (next : Behind) (one : List Entry) →
+    new ≡ old ++ map (led next) (in_span old x) → 0 < x.count → HasList old x one → HasList new (span (length old) x.count) (all_led next one)
+first_has old new x next one en sx hx =
+    let xs = map (led next) (in_span old x) in
+    let lx = length-led next (in_span old x) ∙ long_span old x hx.0 in
+    let long = length-append old xs in
+    let same = ap length en in
+    let behind_old : drop (length old) new ≡ xs = ap (drop (length old)) en ∙ drop_at old xs (length old) refl in
+    let taken : take x.count (drop (length old) new) ≡ xs = ap (take x.count) behind_old ∙ take_all x.count xs (omega arith) in
+    (omega arith, λ some. ap (all_led next) (hx.1 sx) ∙ sym taken)
+
+-- the lists of two parts, one behind the other
+pub both_have : (old middle new : List Entry) (x y : Span) (a b : Behind) (count : ℕ) (one other : List Entry) →
+    middle ≡ old ++ map (led a) (in_span old x) → new ≡ middle ++ map (led b) (in_span middle y) → count ≡ x.count + y.count → 0 < x.count → 0 < y.count →
+    HasList old x one → HasList old y other → HasList new (span (length old) count) (all_led a one ++ all_led b other)
+both_have old middle new x y a b count one other em en ec sx sy hx hy =
+    let xs = map (led a) (in_span old x) in
+    let ys = map (led b) (in_span old y) in
+    let second : map (led b) (in_span middle y) ≡ ys = ap (map (led b)) (ap (λ (l : List Entry). in_span l y) em ∙ same_span old xs y hy.0) in
+    let all : new ≡ old ++ (xs ++ ys) = en ∙ ap (λ (l : List Entry). l ++ map (led b) (in_span middle y)) em ∙ ap (λ (l : List Entry). (old ++ xs) ++ l) second ∙ append_assoc old xs ys in
+    let lx = length-led a (in_span old x) ∙ long_span old x hx.0 in
+    let ly = length-led b (in_span old y) ∙ long_span old y hy.0 in
     let joined = length-append xs ys in
     let long = length-append old (xs ++ ys) in
     let same = ap length all in
-    let behind : drop (length old) new ≡ xs ++ ys = ap (drop (length old)) all ∙ drop_at old (xs ++ ys) (length old) refl in
-    let taken : take count (drop (length old) new) ≡ xs ++ ys = ap (take count) behind ∙ take_all count (xs ++ ys) (omega arith) in
-    let lists : in_both one other ≡ Some (xs ++ ys) = ap (λ (o : Option (List Entry)). in_both o other) (hx.1 sx) ∙ ap (in_both (Some xs)) (hy.1 sy) in
-    (omega arith, λ some. lists ∙ ap Some (sym taken))
+    let behind_old : drop (length old) new ≡ xs ++ ys = ap (drop (length old)) all ∙ drop_at old (xs ++ ys) (length old) refl in
+    let taken : take count (drop (length old) new) ≡ xs ++ ys = ap (take count) behind_old ∙ take_all count (xs ++ ys) (omega arith) in
+    let lists : all_led a one ++ all_led b other ≡ xs ++ ys = ap (λ (o : List Entry). all_led a o ++ all_led b other) (hx.1 sx) ∙ ap (λ (o : List Entry). xs ++ all_led b o) (hy.1 sy) in
+    (omega arith, λ some. lists ∙ sym taken)
 
 -- before any list is kept
 
@@ -118,33 +155,62 @@ list_more atoms whole old new spans later at s lists g has is =
     by_place i t (inl e) = subst (λ (u : Span). HasList new u (entries_of atoms i (part whole i))) e.1 (subst (λ (n : ℕ). HasList new s (entries_of atoms n (part whole n))) (sym e.0) has)
     by_place i t (inr h) = grown_has old new t (entries_of atoms i (part whole i)) g (lists.1 i t h)
 
+-- the parts of the operator at a position, and their lists
+
+pub parts_at : (whole : Process) (nodes : List Node) (at : ℕ) (n : Node) (o : Op) → nodes ≡ positions whole → at < length nodes → slice_get nodes at ≡ Some n → n.op ≡ o → HasParts whole at o
+parts_at whole nodes at n o numbered within here is =
+    let same : length nodes ≡ size whole = ap length numbered ∙ length-positions whole in
+    subst (HasParts whole at) is (has_parts whole nodes at n numbered (omega arith) here)
+
+pub first_within : (atoms : List Atom) (whole : Process) (all : List Entry) (spans : List Span) (make : Process → Process → Process) (at right : ℕ) → AreLists atoms whole all spans → IsTwo whole make at right → at + 1 < length spans
+first_within atoms whole all spans make at right lists two = (let long = lists.0 in let first = two.first in omega arith)
+
+pub second_within : (atoms : List Atom) (whole : Process) (all : List Entry) (spans : List Span) (make : Process → Process → Process) (at right : ℕ) → AreLists atoms whole all spans → IsTwo whole make at right → right < length spans
+second_within atoms whole all spans make at right lists two = (let long = lists.0 in let second = two.second in omega arith)
+
 -- the list of a part, by those of its parts
 
-pub list_of_atom : (atoms : List Atom) (whole : Process) (at atom age : ℕ) (e : Entry) → part whole at ≡ At atom age → e ≡ entry atoms at atom → Some (e ∷ []) ≡ entries_of atoms at (part whole at)
-list_of_atom atoms whole at atom age e here is = ap (λ (one : Entry). Some (one ∷ [])) is ∙ sym (ap (entries_of atoms at) here)
+pub list_of_atom : (atoms : List Atom) (whole : Process) (at atom age : ℕ) (e : Entry) → part whole at ≡ At atom age → e ≡ entry atoms at atom → e ∷ [] ≡ entries_of atoms at (part whole at)
+list_of_atom atoms whole at atom age e here is = ap (λ (one : Entry). one ∷ []) is ∙ sym (ap (entries_of atoms at) here)
 
-pub list_of_seq : (atoms : List Atom) (whole : Process) (at right first : ℕ) → first ≡ suc at → IsTwo whole Seq at right → entries_of atoms first (part whole first) ≡ entries_of atoms at (part whole at)
-list_of_seq atoms whole at right first f two = ap (λ (n : ℕ). entries_of atoms n (part whole n)) f ∙ sym (ap (entries_of atoms at) two.here)
+pub list_of_if : (atoms : List Atom) (whole : Process) (test : Expr) (at right : ℕ) (e : Entry) → IsTwo whole (If test) at right → e ≡ gate at → e ∷ [] ≡ entries_of atoms at (part whole at)
+list_of_if atoms whole test at right e two is = ap (λ (one : Entry). one ∷ []) is ∙ sym (ap (entries_of atoms at) two.here)
 
-two_lists : (atoms : List Atom) (whole : Process) (make : Process → Process → Process) (at right first : ℕ) → first ≡ suc at →
-    ((x y : Process) → entries_of atoms at (make x y) ≡ in_both (entries_of atoms (suc at) x) (entries_of atoms (suc at + size x) y)) → IsTwo whole make at right →
-    in_both (entries_of atoms first (part whole first)) (entries_of atoms right (part whole right)) ≡ entries_of atoms at (part whole at)
-two_lists atoms whole make at right first f each two =
-    ap (λ (n : ℕ). in_both (entries_of atoms n (part whole n)) (entries_of atoms right (part whole right))) f
-    ∙ ap (λ (n : ℕ). in_both (entries_of atoms (suc at) (part whole (suc at))) (entries_of atoms n (part whole right))) two.behind
+pub list_of_when : (atoms : List Atom) (whole : Process) (test : Expr) (at : ℕ) (e : Entry) → IsOne whole (When test) at → e ≡ gate at → e ∷ [] ≡ entries_of atoms at (part whole at)
+list_of_when atoms whole test at e one is = ap (λ (o : Entry). o ∷ []) is ∙ sym (ap (entries_of atoms at) one.here)
+
+pub list_of_let : (atoms : List Atom) (whole : Process) (settings : List Setting) (at : ℕ) (e : Entry) → IsOne whole (Let settings) at → e ≡ gate at → e ∷ [] ≡ entries_of atoms at (part whole at)
+list_of_let atoms whole settings at e one is = ap (λ (o : Entry). o ∷ []) is ∙ sym (ap (entries_of atoms at) one.here)
+
+pub list_of_seq : (atoms : List Atom) (whole : Process) (at right first : ℕ) → first ≡ suc at → IsTwo whole Seq at right → all_led (behind.Entered right) (entries_of atoms first (part whole first)) ≡ entries_of atoms at (part whole at)
+list_of_seq atoms whole at right first f two =
+    ap (λ (n : ℕ). all_led (behind.Entered right) (entries_of atoms n (part whole n))) f
+    ∙ ap (λ (n : ℕ). all_led (behind.Entered n) (entries_of atoms (suc at) (part whole (suc at)))) two.behind
+    ∙ sym (ap (entries_of atoms at) two.here)
+
+-- of an operator over two parts that go on as these
+two_lists : (atoms : List Atom) (whole : Process) (make : Process → Process → Process) (a b : Behind) (at right first : ℕ) → first ≡ suc at →
+    ((x y : Process) → entries_of atoms at (make x y) ≡ all_led a (entries_of atoms (suc at) x) ++ all_led b (entries_of atoms (suc at + size x) y)) → IsTwo whole make at right →
+    all_led a (entries_of atoms first (part whole first)) ++ all_led b (entries_of atoms right (part whole right)) ≡ entries_of atoms at (part whole at)
+two_lists atoms whole make a b at right first f each two =
+    ap (λ (n : ℕ). all_led a (entries_of atoms n (part whole n)) ++ all_led b (entries_of atoms right (part whole right))) f
+    ∙ ap (λ (n : ℕ). all_led a (entries_of atoms (suc at) (part whole (suc at))) ++ all_led b (entries_of atoms n (part whole right))) two.behind
     ∙ sym (each (part whole (suc at)) (part whole right))
     ∙ sym (ap (entries_of atoms at) two.here)
 
-abbrev pub IsBoth : Op → ℕ → Type 0
-IsBoth o right = (o ≡ op.Alt right) ⊎ ((o ≡ op.Star right) ⊎ (o ≡ op.Par right))
+pub list_of_alt : (atoms : List Atom) (whole : Process) (at right first : ℕ) → first ≡ suc at → IsTwo whole Alt at right →
+    all_led behind.Ended (entries_of atoms first (part whole first)) ++ all_led behind.Ended (entries_of atoms right (part whole right)) ≡ entries_of atoms at (part whole at)
+list_of_alt atoms whole at right first f two =
+    two_lists atoms whole Alt behind.Ended behind.Ended at right first f
+    (λ x y. sym (ap (λ (o : List Entry). o ++ all_led behind.Ended (entries_of atoms (suc at + size x) y)) (led-ended (entries_of atoms (suc at) x))
+    ∙ ap (λ (o : List Entry). entries_of atoms (suc at) x ++ o) (led-ended (entries_of atoms (suc at + size x) y)))) two
 
-pub list_of_both : (atoms : List Atom) (whole : Process) (o : Op) (at right first : ℕ) → first ≡ suc at → IsBoth o right → HasParts whole at o →
-    in_both (entries_of atoms first (part whole first)) (entries_of atoms right (part whole right)) ≡ entries_of atoms at (part whole at)
-list_of_both atoms whole o at right first f (inl e) h = two_lists atoms whole Alt at right first f (λ x y. refl) (subst (HasParts whole at) e h)
-list_of_both atoms whole o at right first f (inr (inl e)) h = two_lists atoms whole Star at right first f (λ x y. refl) (subst (HasParts whole at) e h)
-list_of_both atoms whole o at right first f (inr (inr e)) h = two_lists atoms whole Par at right first f (λ x y. refl) (subst (HasParts whole at) e h)
+pub list_of_star : (atoms : List Atom) (whole : Process) (at right first : ℕ) → first ≡ suc at → IsTwo whole Star at right →
+    all_led (behind.Entered at) (entries_of atoms first (part whole first)) ++ all_led behind.Ended (entries_of atoms right (part whole right)) ≡ entries_of atoms at (part whole at)
+list_of_star atoms whole at right first f two =
+    two_lists atoms whole Star (behind.Entered at) behind.Ended at right first f
+    (λ x y. sym (ap (λ (o : List Entry). all_led (behind.Entered at) (entries_of atoms (suc at) x) ++ o) (led-ended (entries_of atoms (suc at + size x) y)))) two
 
-pub both_within : (whole : Process) (o : Op) (at right : ℕ) → IsBoth o right → HasParts whole at o → (suc at < size whole) × (right < size whole)
-both_within whole o at right (inl e) h = (let two : IsTwo whole Alt at right = subst (HasParts whole at) e h in (two.first, two.second))
-both_within whole o at right (inr (inl e)) h = (let two : IsTwo whole Star at right = subst (HasParts whole at) e h in (two.first, two.second))
-both_within whole o at right (inr (inr e)) h = (let two : IsTwo whole Par at right = subst (HasParts whole at) e h in (two.first, two.second))
+pub list_of_par : (atoms : List Atom) (whole : Process) (at right first : ℕ) → first ≡ suc at → IsTwo whole Par at right →
+    all_led behind.Parted (entries_of atoms first (part whole first)) ++ all_led behind.Parted (entries_of atoms right (part whole right)) ≡ entries_of atoms at (part whole at)
+list_of_par atoms whole at right first f two = two_lists atoms whole Par behind.Parted behind.Parted at right first f (λ x y. refl) two

@@ -3,8 +3,9 @@ use Rattle.std.proofs.Common.{◌≡◌, List, [], ◌∷◌, map, Some, None, r
 use Rattle.tb_terms.specs.declared.expr.Expr.{Expr}
 use Rattle.tb_body.specs.declared.tree.Setting.{Setting}
 use Rattle.tb_algebra.specs.Processes.{Process, At, Seq, Alt, Star, Par, If, When, Let}
-use Rattle.tb_code.specs.Entries.{entries_of, entry}
+use Rattle.tb_code.specs.Entries.{entries_of, entry, gate, led}
 use Rattle.tb_code.specs.Positions.{size, positions, part, node}
+use Rattle.tb_code.specs.declared.behind.Behind.TheVariants as behind
 use Rattle.tb_code.specs.declared.node.Op.TheVariants as op
 
 -- `a * b`: the star follows where `a` has ended, and nothing where `b` has
@@ -81,24 +82,25 @@ either_positions test = refl
 pub sizes : map size (turn ∷ in_a_row ∷ choice ∷ merge ∷ within_stars ∷ []) ≡ 3 ∷ 5 ∷ 5 ∷ 5 ∷ 7 ∷ []
 sizes = refl
 
--- the atoms that may come next, of a body in which none has times: both sides of a star, of a choice and of a merge, and
--- the first part of a sequence
+-- the atoms that may come next, of a body in which none has times, and what comes where each happens: both sides of a star, of
+-- a choice and of a merge, and the first part of a sequence
 
-pub turn_entries : entries_of [] 0 turn ≡ Some (entry [] 1 1 ∷ entry [] 2 2 ∷ [])
+pub turn_entries : entries_of [] 0 turn ≡ led (behind.Entered 0) (entry [] 1 1) ∷ entry [] 2 2 ∷ []
 turn_entries = refl
 
-pub in_a_row_entries : entries_of [] 2 (part in_a_row 2) ≡ Some (entry [] 3 2 ∷ [])
+pub in_a_row_entries : entries_of [] 2 (part in_a_row 2) ≡ led (behind.Entered 4) (entry [] 3 2) ∷ []
 in_a_row_entries = refl
 
-pub choice_entries : entries_of [] 0 choice ≡ Some (entry [] 2 1 ∷ entry [] 4 3 ∷ [])
+pub choice_entries : entries_of [] 0 choice ≡ led (behind.Entered 3) (entry [] 2 1) ∷ entry [] 4 3 ∷ []
 choice_entries = refl
 
-pub merge_entries : entries_of [] 0 merge ≡ Some (entry [] 2 1 ∷ entry [] 3 2 ∷ [])
+pub merge_entries : entries_of [] 0 merge ≡ led behind.Parted (entry [] 2 1) ∷ led behind.Parted (entry [] 3 2) ∷ []
 merge_entries = refl
 
-pub within_stars_entries : entries_of [] 0 within_stars ≡ Some (entry [] 3 1 ∷ entry [] 4 2 ∷ entry [] 5 3 ∷ entry [] 6 4 ∷ [])
+pub within_stars_entries : entries_of [] 0 within_stars ≡
+    led (behind.Entered 1) (entry [] 3 1) ∷ led (behind.Entered 1) (entry [] 4 2) ∷ led (behind.Entered 0) (entry [] 5 3) ∷ entry [] 6 4 ∷ []
 within_stars_entries = refl
 
--- a test before one of them
-pub tested_turns_entries : (settings : List Setting) (first second : Expr) → entries_of [] 1 (part (tested_turns settings first second) 1) ≡ None
+-- tests before both
+pub tested_turns_entries : (settings : List Setting) (first second : Expr) → entries_of [] 1 (part (tested_turns settings first second) 1) ≡ led (behind.Entered 1) (gate 2) ∷ gate 4 ∷ []
 tested_turns_entries settings first second = refl

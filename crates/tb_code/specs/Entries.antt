@@ -1,44 +1,62 @@
--- The atoms that may come next at a position, and which lists of them a code keeps.
-use Rattle.std.specs.Prelude.{◌≡◌, ◌<◌, ◌≤◌, ℕ, suc, ◌+◌, Bool, true, false, List, [], ◌∷◌, ◌++◌, length, take, drop, slice_get, Option, Some, None}
+-- What may come next at a position, and which lists of it a code keeps.
+use Rattle.std.specs.Prelude.{◌≡◌, ◌<◌, ◌≤◌, ℕ, suc, ◌+◌, Bool, true, false, List, [], ◌∷◌, ◌++◌, length, map, take, drop, slice_get, Some}
 use Rattle.tb_body.specs.declared.atom.Atom.{Atom}
 use Rattle.tb_body.specs.declared.atom.Time.{Time}
 use Rattle.tb_algebra.specs.Atoms.{times_of}
 use Rattle.tb_algebra.specs.Processes.{Process, At, Seq, Alt, Star, Par, If, When, Let}
 use Rattle.tb_code.specs.Positions.{size, part}
+use Rattle.tb_code.specs.declared.behind.Behind.{Behind}
+use Rattle.tb_code.specs.declared.behind.Behind.TheVariants as behind
 use Rattle.tb_code.specs.declared.entry.Entry.{Entry}
+use Rattle.tb_code.specs.declared.entry.What.TheVariants as what
 use Rattle.tb_code.specs.declared.entry.Span.{Span}
 
 abbrev pub is_timed : List Time → Bool
 is_timed [] = false
 is_timed (time ∷ times) = true
 
+-- an atom, as its own part has it: with it the part has ended
 abbrev pub entry : List Atom → ℕ → ℕ → Entry
-entry atoms position atom = record { position = position; atom = atom; timed = is_timed (times_of atoms atom) }
+entry atoms position atom = record { position = position; what = what.Atom atom (is_timed (times_of atoms atom)); behind = behind.Ended }
 
--- the lists of two parts, one behind the other, where both have one
-abbrev pub in_both : Option (List Entry) → Option (List Entry) → Option (List Entry)
-in_both None ys = None
-in_both (Some xs) None = None
-in_both (Some xs) (Some ys) = Some (xs ++ ys)
+-- a test or settings, as their own part has them
+abbrev pub gate : ℕ → Entry
+gate position = record { position = position; what = what.Gate; behind = behind.Ended }
 
--- The list of a part whose positions begin here: its atoms that may come next, in text order. A part has none where a test
--- or settings stand before one of them.
-abbrev pub entries_of : List Atom → ℕ → Process → Option (List Entry)
-entries_of atoms at (At atom age) = Some (entry atoms at atom ∷ [])
-entries_of atoms at (Seq x y) = entries_of atoms (suc at) x
-entries_of atoms at (Alt x y) = in_both (entries_of atoms (suc at) x) (entries_of atoms (suc at + size x) y)
-entries_of atoms at (Star x y) = in_both (entries_of atoms (suc at) x) (entries_of atoms (suc at + size x) y)
-entries_of atoms at (Par x y) = in_both (entries_of atoms (suc at) x) (entries_of atoms (suc at + size x) y)
-entries_of atoms at (If test x y) = None
-entries_of atoms at (When test x) = None
-entries_of atoms at (Let settings x) = None
+-- What comes of a whole where the first comes of a part of it, and the second once the part has ended. Where a merge is
+-- parted it isn't said.
+abbrev pub followed : Behind → Behind → Behind
+followed behind.Ended next = next
+followed (behind.Entered at) behind.Ended = behind.Entered at
+followed (behind.Entered at) (behind.Entered next) = behind.Entered at
+followed (behind.Entered at) behind.Parted = behind.Parted
+followed behind.Parted next = behind.Parted
+
+-- an entry of a part in the list of the whole
+abbrev pub led : Behind → Entry → Entry
+led next one = record { position = one.position; what = one.what; behind = followed one.behind next }
+
+abbrev pub all_led : Behind → List Entry → List Entry
+all_led next list = map (led next) list
+
+-- The list of a part whose positions begin here, in text order: its atoms that may come next, and in the place of those behind a
+-- test or settings the gate at which these stand. Each has what comes of the part where the atom happens, or one behind the gate.
+abbrev pub entries_of : List Atom → ℕ → Process → List Entry
+entries_of atoms at (At atom age) = entry atoms at atom ∷ []
+entries_of atoms at (Seq x y) = all_led (behind.Entered (suc at + size x)) (entries_of atoms (suc at) x)
+entries_of atoms at (Alt x y) = entries_of atoms (suc at) x ++ entries_of atoms (suc at + size x) y
+entries_of atoms at (Star x y) = all_led (behind.Entered at) (entries_of atoms (suc at) x) ++ entries_of atoms (suc at + size x) y
+entries_of atoms at (Par x y) = all_led behind.Parted (entries_of atoms (suc at) x) ++ all_led behind.Parted (entries_of atoms (suc at + size x) y)
+entries_of atoms at (If test x y) = gate at ∷ []
+entries_of atoms at (When test x) = gate at ∷ []
+entries_of atoms at (Let settings x) = gate at ∷ []
 
 abbrev pub in_span : List Entry → Span → List Entry
 in_span all span = take span.count (drop span.first all)
 
 -- What a span has of all entries, if it has any, is the list.
-abbrev pub HasList : List Entry → Span → Option (List Entry) → Type 0
-HasList all span list = (span.first + span.count ≤ length all) × (0 < span.count → list ≡ Some (in_span all span))
+abbrev pub HasList : List Entry → Span → List Entry → Type 0
+HasList all span list = (span.first + span.count ≤ length all) × (0 < span.count → list ≡ in_span all span)
 
 -- Each position has a span, and what that has, if any, is the list of the part there.
 abbrev pub AreLists : List Atom → Process → List Entry → List Span → Type 0

@@ -68,11 +68,11 @@ impl Code {
         at + 1
     }
 
-    /// The atoms that may come next at a position, in text order, where a list of them is kept. An
-    /// empty one says nothing.
+    /// What may come next at a position, in text order, where a list of it is kept. An empty one says
+    /// nothing.
     pub fn list(&self, at: usize) -> &[Entry]
         requires { at < size (fresh self.now.body.tree) }
-        ensures { 0 < length result.now → entries_of self.now.body.atoms at (part (fresh self.now.body.tree) at) ≡ Some result.now }
+        ensures { 0 < length result.now → entries_of self.now.body.atoms at (part (fresh self.now.body.tree) at) ≡ result.now }
     {
         let span = span_at(self.spans.as_slice(), at);
         in_span(self.entries.as_slice(), span)

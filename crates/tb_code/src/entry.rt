@@ -1,11 +1,21 @@
-/// An atom that may come next, and where it stands.
+use crate::Behind;
+
+/// What may come next, and where it stands.
 #[derive(Clone, Copy)]
 pub struct Entry {
     pub position: usize,
-    /// The number of the atom.
-    pub atom: u32,
-    /// Whether the atom has times.
-    pub timed: bool,
+    pub what: What,
+    /// What comes of the part that has the list where the atom happens, or one behind the gate.
+    pub behind: Behind,
+}
+
+/// What stands at the position of an entry.
+#[derive(Clone, Copy)]
+pub enum What {
+    /// The atom of this number, and whether it has times.
+    Atom(u32, bool),
+    /// A test or settings. What may come next behind it is found once it has been worked out.
+    Gate,
 }
 
 /// Which of all entries the list of a position has. None says nothing of it.

@@ -1,12 +1,12 @@
-ghost use Rattle.std.specs.Prelude.{◌≡◌, ◌<◌, ◌≤◌, ◌+◌, ◌++◌, ◌∷◌, [], List, Option, Some, IfOk, IfSome, OnOk, length, map, slice_get};
+ghost use Rattle.std.specs.Prelude.{◌≡◌, ◌<◌, ◌≤◌, ◌+◌, ◌++◌, ◌∷◌, [], List, Some, IfOk, IfSome, OnOk, length, map, slice_get};
 ghost use Rattle.tb_algebra.specs.Atoms.{times_of};
 ghost use Rattle.tb_algebra.specs.Processes.{fresh};
-ghost use Rattle.tb_code.specs.Entries.{AreLists, Grows, HasList, entries_of, in_both, in_span, is_timed};
+ghost use Rattle.tb_code.specs.Entries.{AreLists, Grows, HasList, all_led, entries_of, gate, in_span, is_timed, led};
 ghost use Rattle.tb_code.specs.Helpers.Blanks.{blank};
 ghost use Rattle.tb_code.specs.Positions.{part, positions};
 ghost use Rattle.tb_code.specs.declared.entry.Entry.{Entry};
 
-use crate::{Entry, Node, Op, Span};
+use crate::{Behind, Entry, Node, Op, Span, What};
 use std::alloc::Global;
 use tb_body::Body;
 use tb_terms::{Items, NoMemory};
@@ -90,20 +90,54 @@ fn list_at(
         Op::At(atom) => {
             let entry = Entry {
                 position: at,
-                atom: *atom,
-                timed: is_timed(body, *atom),
+                what: What::Atom(*atom, is_timed(body, *atom)),
+                behind: Behind::Ended,
             };
             add_one(entries, room, entry)
         }
-        Op::Seq(_) => Ok(span_at(spans, at + 1)),
-        Op::Alt(right) | Op::Star(right) | Op::Par(right) => {
-            let first = span_at(spans, at + 1);
-            let second = span_at(spans, *right);
+        Op::Seq(right) => {
+            let first = Side {
+                span: span_at(spans, at + 1),
+                next: Behind::Entered(*right),
+            };
+            add_first(alloc, entries, room, first)
+        }
+        Op::Alt(right) => {
+            let first = Side {
+                span: span_at(spans, at + 1),
+                next: Behind::Ended,
+            };
+            let second = Side {
+                span: span_at(spans, *right),
+                next: Behind::Ended,
+            };
             add_both(alloc, entries, room, first, second)
         }
-        Op::If(_, _) => Ok(NOT_KEPT),
-        Op::When(_) => Ok(NOT_KEPT),
-        Op::Let(_) => Ok(NOT_KEPT),
+        Op::Star(right) => {
+            let first = Side {
+                span: span_at(spans, at + 1),
+                next: Behind::Entered(at),
+            };
+            let second = Side {
+                span: span_at(spans, *right),
+                next: Behind::Ended,
+            };
+            add_both(alloc, entries, room, first, second)
+        }
+        Op::Par(right) => {
+            let first = Side {
+                span: span_at(spans, at + 1),
+                next: Behind::Parted,
+            };
+            let second = Side {
+                span: span_at(spans, *right),
+                next: Behind::Parted,
+            };
+            add_both(alloc, entries, room, first, second)
+        }
+        Op::If(_, _) => add_one(entries, room, gate(at)),
+        Op::When(_) => add_one(entries, room, gate(at)),
+        Op::Let(_) => add_one(entries, room, gate(at)),
     }
 }
 
@@ -131,9 +165,20 @@ fn is_timed(body: &Body, number: u32) -> bool
     }
 }
 
+/// A test or settings that stand here.
+fn gate(at: usize) -> Entry
+    ensures { result ≡ gate at }
+{
+    Entry {
+        position: at,
+        what: What::Gate,
+        behind: Behind::Ended,
+    }
+}
+
 /// A list with this entry alone.
 fn add_one(entries: &mut Items<Entry>, room: usize, entry: Entry) -> Result<Span, NoMemory>
-    ensures list { IfOk result (λ span. HasList entries.new span (Some (entry ∷ []))) }
+    ensures list { IfOk result (λ span. HasList entries.new span (entry ∷ [])) }
     ensures grows { OnOk result (Grows entries.old entries.new) }
 {
     let first = entries.len();
@@ -144,28 +189,55 @@ fn add_one(entries: &mut Items<Entry>, room: usize, entry: Entry) -> Result<Span
     Ok(Span { first, count: 1 })
 }
 
-/// The lists of two spans, one behind the other.
+/// The list of a part, and what comes once the part has ended.
+#[derive(Clone, Copy)]
+struct Side {
+    span: Span,
+    next: Behind,
+}
+
+/// The list of a part behind which something follows.
+fn add_first(
+    alloc: Global,
+    entries: &mut Items<Entry>,
+    room: usize,
+    x: Side,
+) -> Result<Span, NoMemory>
+    requires { x.span.first + x.span.count ≤ length entries.old }
+    ensures list { (one : List Entry) → HasList entries.old x.span one → IfOk result (λ span. HasList entries.new span (all_led x.next one)) }
+    ensures grows { OnOk result (Grows entries.old entries.new) }
+{
+    let first = entries.len();
+    let count = x.span.count;
+    if count == 0 || count > room.saturating_sub(first) {
+        return Ok(NOT_KEPT);
+    }
+    add_side(alloc, entries, x)?;
+    Ok(Span { first, count })
+}
+
+/// The lists of two parts, one behind the other.
 fn add_both(
     alloc: Global,
     entries: &mut Items<Entry>,
     room: usize,
-    x: Span,
-    y: Span,
+    x: Side,
+    y: Side,
 ) -> Result<Span, NoMemory>
-    requires x_within { x.first + x.count ≤ length entries.old }
-    requires y_within { y.first + y.count ≤ length entries.old }
-    ensures list { (one other : Option (List Entry)) → HasList entries.old x one → HasList entries.old y other
-        → IfOk result (λ span. HasList entries.new span (in_both one other)) }
+    requires x_within { x.span.first + x.span.count ≤ length entries.old }
+    requires y_within { y.span.first + y.span.count ≤ length entries.old }
+    ensures list { (one other : List Entry) → HasList entries.old x.span one → HasList entries.old y.span other
+        → IfOk result (λ span. HasList entries.new span (all_led x.next one ++ all_led y.next other)) }
     ensures grows { OnOk result (Grows entries.old entries.new) }
 {
     let first = entries.len();
-    match joint_count(x, y) {
+    match joint_count(x.span, y.span) {
         Some(count) => {
             if count > room.saturating_sub(first) {
                 return Ok(NOT_KEPT);
             }
-            add_span(alloc, entries, x)?;
-            add_span(alloc, entries, y)?;
+            add_side(alloc, entries, x)?;
+            add_side(alloc, entries, y)?;
             Ok(Span { first, count })
         }
         None => Ok(NOT_KEPT),
@@ -183,13 +255,32 @@ fn joint_count(x: Span, y: Span) -> Option<usize>
     }
 }
 
-fn add_span(alloc: Global, entries: &mut Items<Entry>, span: Span) -> Result<(), NoMemory>
-    requires { span.first + span.count ≤ length entries.old }
-    ensures { OnOk result (entries.new ≡ entries.old ++ in_span entries.old span) }
+fn add_side(alloc: Global, entries: &mut Items<Entry>, x: Side) -> Result<(), NoMemory>
+    requires { x.span.first + x.span.count ≤ length entries.old }
+    ensures { OnOk result (entries.new ≡ entries.old ++ map (led x.next) (in_span entries.old x.span)) }
 {
-    let list = Items::from_slice(alloc, in_span(entries.as_slice(), span))?;
-    entries.append(list)?;
+    let list = Items::from_slice(alloc, in_span(entries.as_slice(), x.span))?;
+    add_led(entries, list.as_slice(), x.next)
+}
+
+fn add_led(entries: &mut Items<Entry>, list: &[Entry], next: Behind) -> Result<(), NoMemory>
+    ensures { OnOk result (entries.new ≡ entries.old ++ map (led next) list.now) }
+{
+    for entry in list {
+        entries.push(led(entry, next))?;
+    }
     Ok(())
+}
+
+/// An entry of a part, in the list of a whole in which this comes once the part has ended.
+fn led(entry: &Entry, next: Behind) -> Entry
+    ensures { result ≡ led next entry.now }
+{
+    Entry {
+        position: entry.position,
+        what: entry.what,
+        behind: entry.behind.followed(next),
+    }
 }
 
 /// What a span has of all entries.

@@ -1,6 +1,8 @@
 -- What is seen of the part at a position, and where its parts stand, as the code names them.
-use Rattle.std.proofs.Common.{◌≡◌, ◌==◌, ℕ, suc, ◌+◌, ◌-◌, ◌<◌, ◌≤◌, Bool, true, false, List, [], ◌∷◌, ◌++◌, Option, Some, None, refl, ap, sym, subst, ◌∙◌, arith, append_assoc, length, map, drop, get_or, if◌then◌else◌, ◌⊎◌, inl, inr}
-use Rattle.std.proofs.lemmas.List.{append-nil, drop_more, drop_all, map-append}
+use Rattle.std.proofs.Common.{◌≡◌, ◌==◌, ℕ, suc, ◌+◌, ◌-◌, ◌<◌, ◌≤◌, Bool, true, false, List, [], ◌∷◌, ◌++◌, Option, Some, None, refl, ap, sym, subst, ◌∙◌, arith, append_assoc, length, All, flat_map, map, drop, get_or, if◌then◌else◌, ◌⊎◌, inl, inr}
+use Rattle.std.proofs.lemmas.List.{append-nil, drop_more, drop_all}
+use Rattle.std.proofs.lemmas.List.Concat.{flat_map-append}
+use Rattle.std.proofs.lemmas.List.Elements.{All-append, All-cons, All-map, All-nil, All-weaker}
 use Rattle.tb_terms.specs.declared.expr.Expr.{Expr}
 use Rattle.tb_func.specs.declared.slot.Slot.{Slot}
 use Rattle.tb_body.specs.declared.atom.Atom.{Atom}
@@ -9,20 +11,20 @@ use Rattle.tb_body.specs.declared.tree.Setting.{Setting}
 use Rattle.tb_algebra.specs.Atoms.{is_ready, times_of}
 use Rattle.tb_algebra.specs.Processes.{Process, At, Seq, Alt, Star, Par, If, When, Let}
 use Rattle.tb_algebra.specs.Settings.{tested, with_settings}
-use Rattle.tb_code.specs.Entries.{entries_of, entry, in_both, is_timed}
-use Rattle.tb_code.specs.Positions.{size, part, IsTwo, IsOne, HasParts}
+use Rattle.tb_code.specs.Entries.{all_led, entries_of, entry, followed, gate, is_timed, led}
+use Rattle.tb_code.specs.Positions.{size, part, table, IsTwo, IsOne}
+use Rattle.tb_code.proofs.EntryLemmas.{followed-ended}
+use Rattle.tb_code.proofs.Parts.{Stands, stands_first, stands_here, stands_second, whole_at}
+use Rattle.tb_code.proofs.Tables.{length-table}
+use Rattle.tb_code.specs.declared.behind.Behind.{Behind}
+use Rattle.tb_code.specs.declared.behind.Behind.TheVariants as behind
 use Rattle.tb_code.specs.declared.entry.Entry.{Entry}
-use Rattle.tb_code.specs.declared.node.Op.{Op}
-use Rattle.tb_code.specs.declared.node.Op.TheVariants as op
-use Rattle.tb_walk.specs.Helpers.Sights.{Sighting, entry_sighting, Looking, sightings, sightings_if, sightings_after, sighting_at, branch_sightings, row_sightings}
+use Rattle.tb_walk.specs.Helpers.Sights.{Sighting, entry_sightings, seen_by, Looking, sightings, sightings_if, sightings_after, sighting_at, branch_sightings, row_sightings}
 use Rattle.tb_walk.specs.declared.branch.Branch.{Branch}
 
 -- the part at a position stands behind the whole, and nearer to its end
 abbrev pub IsNearer : Process → ℕ → ℕ → Type 0
 IsNearer whole at position = (size whole - position < size whole - at) × (position < size whole)
-
-abbrev pub IsBoth : Op → ℕ → Type 0
-IsBoth o right = (o ≡ op.Alt right) ⊎ ((o ≡ op.Star right) ⊎ (o ≡ op.Par right))
 
 module _ (whole : Process) (at first : ℕ) (f : first ≡ suc at) where
   pub two_nearer : (make : Process → Process → Process) (right : ℕ) → IsTwo whole make at right → IsNearer whole at first × IsNearer whole at right
@@ -35,79 +37,81 @@ module _ (whole : Process) (at first : ℕ) (f : first ≡ suc at) where
   pub one_nearer : (make : Process → Process) → IsOne whole make at → IsNearer whole at first
   one_nearer make one = (let a = one.first in (omega arith, omega arith))
 
-  pub both_nearer : (o : Op) (right : ℕ) → IsBoth o right → HasParts whole at o → IsNearer whole at first × IsNearer whole at right
-  both_nearer o right (inl e) h = two_nearer Alt right (subst (HasParts whole at) e h)
-  both_nearer o right (inr (inl e)) h = two_nearer Star right (subst (HasParts whole at) e h)
-  both_nearer o right (inr (inr e)) h = two_nearer Par right (subst (HasParts whole at) e h)
-
   module _ (by : Looking) where
-    abbrev pub seen_at : ℕ → List Slot → List Sighting
-    seen_at position store = sightings by position (part whole position) store
+    abbrev pub seen_at : Behind → ℕ → List Slot → List Sighting
+    seen_at so_far position store = sightings by so_far position (part whole position) store
 
-    pub look_atom : (atom age : ℕ) (store : List Slot) → part whole at ≡ At atom age → seen_at at store ≡ sighting_at by at atom store ∷ []
-    look_atom atom age store e = ap (λ (p : Process). sightings by at p store) e
+    pub look_atom : (so_far : Behind) (atom age : ℕ) (store : List Slot) → part whole at ≡ At atom age → seen_at so_far at store ≡ sighting_at by so_far at atom store ∷ []
+    look_atom so_far atom age store e = ap (λ (p : Process). sightings by so_far at p store) e
 
-    at-first : (store : List Slot) → seen_at (suc at) store ≡ seen_at first store
-    at-first store = ap (λ (p : ℕ). seen_at p store) (sym f)
+    at-first : (so_far : Behind) (store : List Slot) → seen_at so_far (suc at) store ≡ seen_at so_far first store
+    at-first so_far store = ap (λ (p : ℕ). seen_at so_far p store) (sym f)
 
-    at-right : (make : Process → Process → Process) (right : ℕ) (store : List Slot) → (two : IsTwo whole make at right) → sightings by (suc at + size (part whole (suc at))) (part whole right) store ≡ seen_at right store
-    at-right make right store two = ap (λ (p : ℕ). sightings by p (part whole right) store) (sym two.behind)
+    at-right : (so_far : Behind) (make : Process → Process → Process) (right : ℕ) (store : List Slot) → (two : IsTwo whole make at right) → sightings by so_far (suc at + size (part whole (suc at))) (part whole right) store ≡ seen_at so_far right store
+    at-right so_far make right store two = ap (λ (p : ℕ). sightings by so_far p (part whole right) store) (sym two.behind)
 
-    in_order : (make : Process → Process → Process) (right : ℕ) (store : List Slot) → (two : IsTwo whole make at right) →
-        seen_at (suc at) store ++ sightings by (suc at + size (part whole (suc at))) (part whole right) store ≡ seen_at first store ++ seen_at right store
-    in_order make right store two = ap (λ (l : List Sighting). seen_at (suc at) store ++ l) (at-right make right store two) ∙ ap (λ (l : List Sighting). l ++ seen_at right store) (at-first store)
+    in_order : (a b : Behind) (make : Process → Process → Process) (right : ℕ) (store : List Slot) → (two : IsTwo whole make at right) →
+        seen_at a (suc at) store ++ sightings by b (suc at + size (part whole (suc at))) (part whole right) store ≡ seen_at a first store ++ seen_at b right store
+    in_order a b make right store two = ap (λ (l : List Sighting). seen_at a (suc at) store ++ l) (at-right b make right store two) ∙ ap (λ (l : List Sighting). l ++ seen_at b right store) (at-first a store)
 
-    pub look_seq : (right : ℕ) (store : List Slot) → IsTwo whole Seq at right → seen_at at store ≡ seen_at first store
-    look_seq right store two = ap (λ (p : Process). sightings by at p store) two.here ∙ at-first store
+    pub look_seq : (so_far : Behind) (right : ℕ) (store : List Slot) → IsTwo whole Seq at right → seen_at so_far at store ≡ seen_at (followed (behind.Entered right) so_far) first store
+    look_seq so_far right store two =
+        ap (λ (p : Process). sightings by so_far at p store) two.here
+        ∙ ap (λ (n : ℕ). seen_at (followed (behind.Entered n) so_far) (suc at) store) (sym two.behind)
+        ∙ at-first (followed (behind.Entered right) so_far) store
 
-    two_alike : (make : Process → Process → Process) (right : ℕ) (store : List Slot) →
-        ((x y : Process) → sightings by at (make x y) store ≡ sightings by (suc at) x store ++ sightings by (suc at + size x) y store) → IsTwo whole make at right → seen_at at store ≡ seen_at first store ++ seen_at right store
-    two_alike make right store each two = ap (λ (p : Process). sightings by at p store) two.here ∙ each (part whole (suc at)) (part whole right) ∙ in_order make right store two
+    two_alike : (so_far a b : Behind) (make : Process → Process → Process) (right : ℕ) (store : List Slot) →
+        ((x y : Process) → sightings by so_far at (make x y) store ≡ sightings by a (suc at) x store ++ sightings by b (suc at + size x) y store) → IsTwo whole make at right → seen_at so_far at store ≡ seen_at a first store ++ seen_at b right store
+    two_alike so_far a b make right store each two = ap (λ (p : Process). sightings by so_far at p store) two.here ∙ each (part whole (suc at)) (part whole right) ∙ in_order a b make right store two
 
-    pub look_both : (o : Op) (right : ℕ) (store : List Slot) → IsBoth o right → HasParts whole at o → seen_at at store ≡ seen_at first store ++ seen_at right store
-    look_both o right store (inl e) h = two_alike Alt right store (λ x y. refl) (subst (HasParts whole at) e h)
-    look_both o right store (inr (inl e)) h = two_alike Star right store (λ x y. refl) (subst (HasParts whole at) e h)
-    look_both o right store (inr (inr e)) h = two_alike Par right store (λ x y. refl) (subst (HasParts whole at) e h)
+    pub look_alt : (so_far : Behind) (right : ℕ) (store : List Slot) → IsTwo whole Alt at right → seen_at so_far at store ≡ seen_at so_far first store ++ seen_at so_far right store
+    look_alt so_far right store two = two_alike so_far so_far so_far Alt right store (λ x y. refl) two
 
-    look_if : (test : Expr) (right : ℕ) (store : List Slot) (says : Option Bool) → IsTwo whole (If test) at right → tested store test ≡ says → seen_at at store ≡ sightings_if says (seen_at first store) (seen_at right store)
-    look_if test right store says two t =
-        ap (λ (p : Process). sightings by at p store) two.here
-        ∙ ap (λ (o : Option Bool). sightings_if o (seen_at (suc at) store) (sightings by (suc at + size (part whole (suc at))) (part whole right) store)) t
-        ∙ ap (λ (l : List Sighting). sightings_if says (seen_at (suc at) store) l) (at-right (If test) right store two)
-        ∙ ap (λ (l : List Sighting). sightings_if says l (seen_at right store)) (at-first store)
+    pub look_star : (so_far : Behind) (right : ℕ) (store : List Slot) → IsTwo whole Star at right → seen_at so_far at store ≡ seen_at (followed (behind.Entered at) so_far) first store ++ seen_at so_far right store
+    look_star so_far right store two = two_alike so_far (followed (behind.Entered at) so_far) so_far Star right store (λ x y. refl) two
 
-    pub look_true : (test : Expr) (right : ℕ) (store : List Slot) → IsTwo whole (If test) at right → tested store test ≡ Some true → seen_at at store ≡ seen_at first store
-    look_true test right store two t = look_if test right store (Some true) two t
+    pub look_par : (so_far : Behind) (right : ℕ) (store : List Slot) → IsTwo whole Par at right → seen_at so_far at store ≡ seen_at behind.Parted first store ++ seen_at behind.Parted right store
+    look_par so_far right store two = two_alike so_far behind.Parted behind.Parted Par right store (λ x y. refl) two
 
-    pub look_false : (test : Expr) (right : ℕ) (store : List Slot) → IsTwo whole (If test) at right → tested store test ≡ Some false → seen_at at store ≡ seen_at right store
-    look_false test right store two t = look_if test right store (Some false) two t
+    look_if : (so_far : Behind) (test : Expr) (right : ℕ) (store : List Slot) (says : Option Bool) → IsTwo whole (If test) at right → tested store test ≡ says → seen_at so_far at store ≡ sightings_if says (seen_at so_far first store) (seen_at so_far right store)
+    look_if so_far test right store says two t =
+        ap (λ (p : Process). sightings by so_far at p store) two.here
+        ∙ ap (λ (o : Option Bool). sightings_if o (seen_at so_far (suc at) store) (sightings by so_far (suc at + size (part whole (suc at))) (part whole right) store)) t
+        ∙ ap (λ (l : List Sighting). sightings_if says (seen_at so_far (suc at) store) l) (at-right so_far (If test) right store two)
+        ∙ ap (λ (l : List Sighting). sightings_if says l (seen_at so_far right store)) (at-first so_far store)
 
-    pub look_untold : (test : Expr) (right : ℕ) (store : List Slot) → IsTwo whole (If test) at right → tested store test ≡ None → seen_at at store ≡ []
-    look_untold test right store two t = look_if test right store None two t
+    pub look_true : (so_far : Behind) (test : Expr) (right : ℕ) (store : List Slot) → IsTwo whole (If test) at right → tested store test ≡ Some true → seen_at so_far at store ≡ seen_at so_far first store
+    look_true so_far test right store two t = look_if so_far test right store (Some true) two t
 
-    look_one : (test : Expr) (store : List Slot) (says : Option Bool) → IsOne whole (When test) at → tested store test ≡ says → seen_at at store ≡ sightings_if says (seen_at first store) []
-    look_one test store says one t =
-        ap (λ (p : Process). sightings by at p store) one.here
-        ∙ ap (λ (o : Option Bool). sightings_if o (seen_at (suc at) store) []) t
-        ∙ ap (λ (l : List Sighting). sightings_if says l []) (at-first store)
+    pub look_false : (so_far : Behind) (test : Expr) (right : ℕ) (store : List Slot) → IsTwo whole (If test) at right → tested store test ≡ Some false → seen_at so_far at store ≡ seen_at so_far right store
+    look_false so_far test right store two t = look_if so_far test right store (Some false) two t
 
-    pub look_when : (test : Expr) (store : List Slot) → IsOne whole (When test) at → tested store test ≡ Some true → seen_at at store ≡ seen_at first store
-    look_when test store one t = look_one test store (Some true) one t
+    pub look_untold : (so_far : Behind) (test : Expr) (right : ℕ) (store : List Slot) → IsTwo whole (If test) at right → tested store test ≡ None → seen_at so_far at store ≡ []
+    look_untold so_far test right store two t = look_if so_far test right store None two t
 
-    pub look_unless : (test : Expr) (store : List Slot) → IsOne whole (When test) at → tested store test ≡ Some false → seen_at at store ≡ []
-    look_unless test store one t = look_one test store (Some false) one t
+    look_one : (so_far : Behind) (test : Expr) (store : List Slot) (says : Option Bool) → IsOne whole (When test) at → tested store test ≡ says → seen_at so_far at store ≡ sightings_if says (seen_at so_far first store) []
+    look_one so_far test store says one t =
+        ap (λ (p : Process). sightings by so_far at p store) one.here
+        ∙ ap (λ (o : Option Bool). sightings_if o (seen_at so_far (suc at) store) []) t
+        ∙ ap (λ (l : List Sighting). sightings_if says l []) (at-first so_far store)
 
-    pub look_unsaid : (test : Expr) (store : List Slot) → IsOne whole (When test) at → tested store test ≡ None → seen_at at store ≡ []
-    look_unsaid test store one t = look_one test store None one t
+    pub look_when : (so_far : Behind) (test : Expr) (store : List Slot) → IsOne whole (When test) at → tested store test ≡ Some true → seen_at so_far at store ≡ seen_at so_far first store
+    look_when so_far test store one t = look_one so_far test store (Some true) one t
 
-    look_let : (settings : List Setting) (store : List Slot) (after : Option (List Slot)) → IsOne whole (Let settings) at → with_settings store settings ≡ after → seen_at at store ≡ sightings_after after (seen_at (suc at))
-    look_let settings store after one t = ap (λ (p : Process). sightings by at p store) one.here ∙ ap (λ (o : Option (List Slot)). sightings_after o (seen_at (suc at))) t
+    pub look_unless : (so_far : Behind) (test : Expr) (store : List Slot) → IsOne whole (When test) at → tested store test ≡ Some false → seen_at so_far at store ≡ []
+    look_unless so_far test store one t = look_one so_far test store (Some false) one t
 
-    pub look_set : (settings : List Setting) (store after : List Slot) → IsOne whole (Let settings) at → with_settings store settings ≡ Some after → seen_at at store ≡ seen_at first after
-    look_set settings store after one t = look_let settings store (Some after) one t ∙ at-first after
+    pub look_unsaid : (so_far : Behind) (test : Expr) (store : List Slot) → IsOne whole (When test) at → tested store test ≡ None → seen_at so_far at store ≡ []
+    look_unsaid so_far test store one t = look_one so_far test store None one t
 
-    pub look_unset : (settings : List Setting) (store : List Slot) → IsOne whole (Let settings) at → with_settings store settings ≡ None → seen_at at store ≡ []
-    look_unset settings store one t = look_let settings store None one t
+    look_let : (so_far : Behind) (settings : List Setting) (store : List Slot) (after : Option (List Slot)) → IsOne whole (Let settings) at → with_settings store settings ≡ after → seen_at so_far at store ≡ sightings_after after (seen_at so_far (suc at))
+    look_let so_far settings store after one t = ap (λ (p : Process). sightings by so_far at p store) one.here ∙ ap (λ (o : Option (List Slot)). sightings_after o (seen_at so_far (suc at))) t
+
+    pub look_set : (so_far : Behind) (settings : List Setting) (store after : List Slot) → IsOne whole (Let settings) at → with_settings store settings ≡ Some after → seen_at so_far at store ≡ seen_at so_far first after
+    look_set so_far settings store after one t = look_let so_far settings store (Some after) one t ∙ at-first so_far after
+
+    pub look_unset : (so_far : Behind) (settings : List Setting) (store : List Slot) → IsOne whole (Let settings) at → with_settings store settings ≡ None → seen_at so_far at store ≡ []
+    look_unset so_far settings store one t = look_let so_far settings store None one t
 
 pub nothing_more : (xs ys : List Sighting) → ys ≡ [] → xs ≡ xs ++ ys
 nothing_more xs ys e = sym (append-nil xs) ∙ ap (λ (l : List Sighting). xs ++ l) (sym e)
@@ -142,32 +146,125 @@ pub some_listed : (list : List Entry) → (length list == 0) ≡ false → 0 < l
 some_listed [] h = (let no : true ≡ false = h in cc)
 some_listed (entry ∷ list) h = omega arith
 
-module _ (by : Looking) (store : List Slot) where
-  two_listed : (xs ys : Option (List Entry)) (s t : List Sighting) (list : List Entry) → ((l : List Entry) → xs ≡ Some l → s ≡ map (entry_sighting by store) l) → ((l : List Entry) → ys ≡ Some l → t ≡ map (entry_sighting by store) l) →
-      in_both xs ys ≡ Some list → s ++ t ≡ map (entry_sighting by store) list
-  two_listed None ys s t list f g e = (let no : ◌≡◌ {A = Option (List Entry)} None (Some list) = e in cc)
-  two_listed (Some l) None s t list f g e = (let no : ◌≡◌ {A = Option (List Entry)} None (Some list) = e in cc)
-  two_listed (Some l) (Some m) s t list f g e =
-      let same : l ++ m ≡ list = (let h : ◌≡◌ {A = Option (List Entry)} (Some (l ++ m)) (Some list) = e in cc) in
-      ap (λ (r : List Sighting). r ++ t) (f l refl) ∙ ap (λ (r : List Sighting). map (entry_sighting by store) l ++ r) (g m refl)
-      ∙ sym (map-append (entry_sighting by store) l m) ∙ ap (map (entry_sighting by store)) same
+followed-twice : (a b c : Behind) → followed a (followed b c) ≡ followed (followed a b) c
+followed-twice behind.Ended b c = refl
+followed-twice (behind.Entered at) behind.Ended behind.Ended = refl
+followed-twice (behind.Entered at) behind.Ended (behind.Entered next) = refl
+followed-twice (behind.Entered at) behind.Ended behind.Parted = refl
+followed-twice (behind.Entered at) (behind.Entered next) behind.Ended = refl
+followed-twice (behind.Entered at) (behind.Entered next) (behind.Entered last) = refl
+followed-twice (behind.Entered at) (behind.Entered next) behind.Parted = refl
+followed-twice (behind.Entered at) behind.Parted c = refl
+followed-twice behind.Parted b c = refl
+
+module _ (whole : Process) (by : Looking) (store : List Slot) where
+  abbrev listed_one : Behind → Entry → List Sighting
+  listed_one so_far e = entry_sightings whole by store (led so_far e)
+
+  abbrev listed_as : Behind → List Entry → List Sighting
+  listed_as so_far list = flat_map (listed_one so_far) list
+
+  led_all : (next so_far : Behind) (list : List Entry) → listed_as (followed next so_far) list ≡ listed_as so_far (map (led next) list)
+  led_all next so_far [] = refl
+  led_all next so_far (e ∷ list) =
+      ap (λ (b : Behind). seen_by whole by store e.position b e.what ++ listed_as (followed next so_far) list) (followed-twice e.behind next so_far)
+      ∙ ap (λ (rest : List Sighting). listed_one so_far (led next e) ++ rest) (led_all next so_far list)
+
+  alike : (list : List Entry) → listed_as behind.Ended list ≡ flat_map (entry_sightings whole by store) list
+  alike [] = refl
+  alike (e ∷ list) =
+      ap (λ (b : Behind). seen_by whole by store e.position b e.what ++ listed_as behind.Ended list) (followed-ended e.behind)
+      ∙ ap (λ (rest : List Sighting). entry_sightings whole by store e ++ rest) (alike list)
 
   ready_so : (times : List Time) → is_ready store by.age by.now times ≡ (if is_timed times then is_ready store by.age by.now times else true)
   ready_so [] = refl
   ready_so (time ∷ times) = refl
 
-  one_listed : (at atom : ℕ) → sighting_at by at atom store ≡ entry_sighting by store (entry by.atoms at atom)
-  one_listed at atom =
-      ap (λ (b : Bool). let it : Sighting = record { branch = by.branch; position = at; seen = record { atom = atom; age = by.age; ready = b; store = store } } in it) (ready_so (times_of by.atoms atom))
+  atom_listed : (so_far : Behind) (at atom : ℕ) → sighting_at by so_far at atom store ∷ [] ≡ listed_as so_far (entry by.atoms at atom ∷ [])
+  atom_listed so_far at atom =
+      ap (λ (b : Bool). let it : Sighting = record { branch = by.branch; position = at; behind = so_far; seen = record { atom = atom; age = by.age; ready = b; store = store } } in it ∷ []) (ready_so (times_of by.atoms atom))
 
-  pub listed : (at : ℕ) (x : Process) (list : List Entry) → entries_of by.atoms at x ≡ Some list → sightings by at x store ≡ map (entry_sighting by store) list
-  listed at (At atom age) list e =
-      let same : entry by.atoms at atom ∷ [] ≡ list = (let h : ◌≡◌ {A = Option (List Entry)} (Some (entry by.atoms at atom ∷ [])) (Some list) = e in cc) in
-      ap (λ (s : Sighting). s ∷ []) (one_listed at atom) ∙ ap (map (entry_sighting by store)) same
-  listed at (Seq x y) list e = listed (suc at) x list e
-  listed at (Alt x y) list e = two_listed (entries_of by.atoms (suc at) x) (entries_of by.atoms (suc at + size x) y) (sightings by (suc at) x store) (sightings by (suc at + size x) y store) list (λ l h. listed (suc at) x l h) (λ l h. listed (suc at + size x) y l h) e
-  listed at (Star x y) list e = two_listed (entries_of by.atoms (suc at) x) (entries_of by.atoms (suc at + size x) y) (sightings by (suc at) x store) (sightings by (suc at + size x) y store) list (λ l h. listed (suc at) x l h) (λ l h. listed (suc at + size x) y l h) e
-  listed at (Par x y) list e = two_listed (entries_of by.atoms (suc at) x) (entries_of by.atoms (suc at + size x) y) (sightings by (suc at) x store) (sightings by (suc at + size x) y store) list (λ l h. listed (suc at) x l h) (λ l h. listed (suc at + size x) y l h) e
-  listed at (If test x y) list e = (let no : ◌≡◌ {A = Option (List Entry)} None (Some list) = e in cc)
-  listed at (When test x) list e = (let no : ◌≡◌ {A = Option (List Entry)} None (Some list) = e in cc)
-  listed at (Let settings x) list e = (let no : ◌≡◌ {A = Option (List Entry)} None (Some list) = e in cc)
+  gate_listed : (so_far : Behind) (at : ℕ) (w : Process) → part whole at ≡ w → sightings by so_far at w store ≡ listed_as so_far (gate at ∷ [])
+  gate_listed so_far at w e = ap (λ (p : Process). sightings by so_far at p store) (sym e) ∙ sym (append-nil (sightings by so_far at (part whole at) store))
+
+  both_listed : (so_far : Behind) (s t : List Sighting) (l m : List Entry) → s ≡ listed_as so_far l → t ≡ listed_as so_far m → s ++ t ≡ listed_as so_far (l ++ m)
+  both_listed so_far s t l m e f = ap (λ (r : List Sighting). r ++ t) e ∙ ap (λ (r : List Sighting). listed_as so_far l ++ r) f ∙ sym (flat_map-append (listed_one so_far) l m)
+
+  listed : (frame : Option ℕ) (so_far : Behind) (at : ℕ) (x : Process) → Stands whole at x (table x at frame) → sightings by so_far at x store ≡ listed_as so_far (entries_of by.atoms at x)
+  listed frame so_far at (At atom age) s = atom_listed so_far at atom
+  listed frame so_far at (Seq x y) s =
+      let next = behind.Entered (suc at + size x) in
+      let first = stands_first whole at (Seq x y) x y _ (table x (suc at) (Some at)) (table y (suc at + size x) frame) (refl, λ n. refl) (length-table x (suc at) (Some at)) s in
+      listed (Some at) (followed next so_far) (suc at) x first ∙ led_all next so_far (entries_of by.atoms (suc at) x)
+  listed frame so_far at (Alt x y) s =
+      let first = stands_first whole at (Alt x y) x y _ (table x (suc at) frame) (table y (suc at + size x) frame) (refl, λ n. refl) (length-table x (suc at) frame) s in
+      let second = stands_second whole at (Alt x y) x y _ (table x (suc at) frame) (table y (suc at + size x) frame) (refl, λ n. refl) (length-table x (suc at) frame) s in
+      both_listed so_far (sightings by so_far (suc at) x store) (sightings by so_far (suc at + size x) y store) (entries_of by.atoms (suc at) x) (entries_of by.atoms (suc at + size x) y)
+      (listed frame so_far (suc at) x first) (listed frame so_far (suc at + size x) y second)
+  listed frame so_far at (Star x y) s =
+      let next = behind.Entered at in
+      let first = stands_first whole at (Star x y) x y _ (table x (suc at) (Some at)) (table y (suc at + size x) frame) (refl, λ n. refl) (length-table x (suc at) (Some at)) s in
+      let second = stands_second whole at (Star x y) x y _ (table x (suc at) (Some at)) (table y (suc at + size x) frame) (refl, λ n. refl) (length-table x (suc at) (Some at)) s in
+      both_listed so_far (sightings by (followed next so_far) (suc at) x store) (sightings by so_far (suc at + size x) y store) (all_led next (entries_of by.atoms (suc at) x)) (entries_of by.atoms (suc at + size x) y)
+      (listed (Some at) (followed next so_far) (suc at) x first ∙ led_all next so_far (entries_of by.atoms (suc at) x)) (listed frame so_far (suc at + size x) y second)
+  listed frame so_far at (Par x y) s =
+      let first = stands_first whole at (Par x y) x y _ (table x (suc at) frame) (table y (suc at + size x) frame) (refl, λ n. refl) (length-table x (suc at) frame) s in
+      let second = stands_second whole at (Par x y) x y _ (table x (suc at) frame) (table y (suc at + size x) frame) (refl, λ n. refl) (length-table x (suc at) frame) s in
+      both_listed so_far (sightings by behind.Parted (suc at) x store) (sightings by behind.Parted (suc at + size x) y store) (all_led behind.Parted (entries_of by.atoms (suc at) x)) (all_led behind.Parted (entries_of by.atoms (suc at + size x) y))
+      (listed frame behind.Parted (suc at) x first ∙ led_all behind.Parted so_far (entries_of by.atoms (suc at) x))
+      (listed frame behind.Parted (suc at + size x) y second ∙ led_all behind.Parted so_far (entries_of by.atoms (suc at + size x) y))
+  listed frame so_far at (If test x y) s = gate_listed so_far at (If test x y) (stands_here whole at (If test x y) (table (If test x y) at frame) s).1
+  listed frame so_far at (When test x) s = gate_listed so_far at (When test x) (stands_here whole at (When test x) (table (When test x) at frame) s).1
+  listed frame so_far at (Let settings x) s = gate_listed so_far at (Let settings x) (stands_here whole at (Let settings x) (table (Let settings x) at frame) s).1
+
+  pub all_listed : (at : ℕ) (list : List Entry) → at < size whole → entries_of by.atoms at (part whole at) ≡ list → sightings by behind.Ended at (part whole at) store ≡ flat_map (entry_sightings whole by store) list
+  all_listed at list h e =
+      let p = whole_at whole at h in
+      let here = (stands_here whole at p.x (table p.x at p.frame) p.stands).1 in
+      ap (λ (q : Process). sightings by behind.Ended at q store) here
+      ∙ listed p.frame behind.Ended at p.x p.stands
+      ∙ ap (λ (q : Process). listed_as behind.Ended (entries_of by.atoms at q)) (sym here)
+      ∙ ap (listed_as behind.Ended) e
+      ∙ alike list
+
+-- the entries of a list stand within its part
+
+abbrev IsBelow : ℕ → Entry → Type 0
+IsBelow bound e = e.position < bound
+
+module _ (atoms : List Atom) where
+  below-led : (next : Behind) (low high : ℕ) (list : List Entry) → low ≤ high → All (IsBelow low) list → All (IsBelow high) (all_led next list)
+  below-led next low high list le h = All-map (IsBelow high) (led next) list (All-weaker (IsBelow low) (IsBelow high) (λ e k. omega arith) list h)
+
+  below-wider : (low high : ℕ) (list : List Entry) → low ≤ high → All (IsBelow low) list → All (IsBelow high) list
+  below-wider low high list le h = All-weaker (IsBelow low) (IsBelow high) (λ e k. omega arith) list h
+
+  below-one : (bound : ℕ) (e : Entry) → e.position < bound → All (IsBelow bound) (e ∷ [])
+  below-one bound e h = All-cons (IsBelow bound) e [] h (All-nil (IsBelow bound))
+
+  entries-below : (at : ℕ) (x : Process) → All (IsBelow (at + size x)) (entries_of atoms at x)
+  entries-below at (At atom age) = below-one (at + 1) (entry atoms at atom) (omega arith)
+  entries-below at (Seq x y) = below-led (behind.Entered (suc at + size x)) (suc at + size x) (at + size (Seq x y)) (entries_of atoms (suc at) x) (omega arith) (entries-below (suc at) x)
+  entries-below at (Alt x y) =
+      All-append (IsBelow (at + size (Alt x y))) (entries_of atoms (suc at) x) (entries_of atoms (suc at + size x) y)
+      (below-wider (suc at + size x) (at + size (Alt x y)) (entries_of atoms (suc at) x) (omega arith) (entries-below (suc at) x))
+      (below-wider (suc at + size x + size y) (at + size (Alt x y)) (entries_of atoms (suc at + size x) y) (omega arith) (entries-below (suc at + size x) y))
+  entries-below at (Star x y) =
+      All-append (IsBelow (at + size (Star x y))) (all_led (behind.Entered at) (entries_of atoms (suc at) x)) (entries_of atoms (suc at + size x) y)
+      (below-led (behind.Entered at) (suc at + size x) (at + size (Star x y)) (entries_of atoms (suc at) x) (omega arith) (entries-below (suc at) x))
+      (below-wider (suc at + size x + size y) (at + size (Star x y)) (entries_of atoms (suc at + size x) y) (omega arith) (entries-below (suc at + size x) y))
+  entries-below at (Par x y) =
+      All-append (IsBelow (at + size (Par x y))) (all_led behind.Parted (entries_of atoms (suc at) x)) (all_led behind.Parted (entries_of atoms (suc at + size x) y))
+      (below-led behind.Parted (suc at + size x) (at + size (Par x y)) (entries_of atoms (suc at) x) (omega arith) (entries-below (suc at) x))
+      (below-led behind.Parted (suc at + size x + size y) (at + size (Par x y)) (entries_of atoms (suc at + size x) y) (omega arith) (entries-below (suc at + size x) y))
+  entries-below at (If test x y) = below-one (at + size (If test x y)) (gate at) (omega arith)
+  entries-below at (When test x) = below-one (at + size (When test x)) (gate at) (omega arith)
+  entries-below at (Let settings x) = below-one (at + size (Let settings x)) (gate at) (omega arith)
+
+pub all_within : (whole : Process) (atoms : List Atom) (at : ℕ) (list : List Entry) → at < size whole → entries_of atoms at (part whole at) ≡ list → All (λ (e : Entry). e.position < size whole) list
+all_within whole atoms at list h e =
+    let p = whole_at whole at h in
+    let here = (stands_here whole at p.x (table p.x at p.frame) p.stands).1 in
+    let below : All (IsBelow (at + size p.x)) list = subst (All (IsBelow (at + size p.x))) (ap (entries_of atoms at) (sym here) ∙ e) (entries-below atoms at p.x) in
+    let within = p.stands.within in
+    below-wider atoms (at + size p.x) (size whole) list (omega arith) below

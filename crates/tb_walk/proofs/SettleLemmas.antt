@@ -180,17 +180,15 @@ pub in_row_at : (code : Code) (walk : Walk) → IsOnCode code walk → walk.fres
 in_row_at code walk on seen k one g = (let all = on.found seen in is_in_row code walk on all.0 walk.found all.1 k one g)
 
 -- it may be taken by its index
-pub found_at : (code : Code) (walk : Walk) (k : ℕ) (inside : List Branch) (one : Sight) (b : Branch) → walk.fresh ≡ true →
-    slice_get walk.found k ≡ Some one → slice_get walk.row one.branch ≡ Some b → branch_by (fresh code.body.tree) walk.ticks b one.position ≡ inside →
+pub found_at : (code : Code) (walk : Walk) (k : ℕ) (inside : List Branch) (one : Sight) → walk.fresh ≡ true → slice_get walk.found k ≡ Some one →
+    ((b : Branch) → slice_get walk.row one.branch ≡ Some b → branch_by (fresh code.body.tree) walk.ticks b one.position ≡ inside) →
     ForSome (slice_get (offers_of (walking_of code walk)) k) (IsFound code walk k inside)
-found_at code walk k inside one b seen g h e offered here = record {
+found_at code walk k inside one seen g leaves offered here = record {
   seen = seen;
   offer = here;
-  leaves = λ other c i j.
+  leaves = λ other b i j.
       (let same : one ≡ other = (let t : ◌≡◌ {A = Option Sight} (Some one) (Some other) = sym g ∙ i in cc) in
-      let at : slice_get walk.row one.branch ≡ Some c = ap (λ (s : Sight). slice_get walk.row s.branch) same ∙ j in
-      let branches : b ≡ c = (let t : ◌≡◌ {A = Option Branch} (Some b) (Some c) = sym h ∙ at in cc) in
-      ap (λ (s : Sight). branch_by (fresh code.body.tree) walk.ticks c s.position) (sym same) ∙ ap (λ (d : Branch). branch_by (fresh code.body.tree) walk.ticks d one.position) (sym branches) ∙ e);
+      ap (λ (s : Sight). branch_by (fresh code.body.tree) walk.ticks b s.position) (sym same) ∙ leaves b (ap (λ (s : Sight). slice_get walk.row s.branch) same ∙ j));
 }
 
 pub record Here (code : Code) (walk : Walk) (k : ℕ) (inside : List Branch) (offered : Offered) : Type 0 where

@@ -1,5 +1,5 @@
 -- What is seen of a part's atoms are its offers, and what is left of the part where one of them happens.
-use Rattle.std.proofs.Common.{◌≡◌, ℕ, zero, suc, ◌+◌, ◌-◌, ◌<◌, ◌≤◌, Bool, true, false, nat_lt, List, [], ◌∷◌, ◌++◌, map, length, slice_get, Option, Some, None, refl, ap, sym, subst, ◌∙◌, arith, ◌⊎◌, inl, inr}
+use Rattle.std.proofs.Common.{◌≡◌, ℕ, zero, suc, ◌+◌, ◌-◌, ◌<◌, ◌≤◌, Bool, true, false, nat_lt, List, [], ◌∷◌, ◌++◌, map, length, slice_get, Option, Some, None, if◌then◌else◌, refl, ap, sym, subst, ◌∙◌, arith, ◌⊎◌, inl, inr}
 use Rattle.std.proofs.lemmas.List.{map-append}
 use Rattle.tb_terms.specs.declared.expr.Expr.{Expr}
 use Rattle.tb_func.specs.declared.slot.Slot.{Slot}
@@ -14,16 +14,19 @@ use Rattle.tb_algebra.specs.Helpers.OfferViews.{OfferView, offer_view, offer_vie
 use Rattle.tb_algebra.proofs.EntryLemmas.{waited-At, waited-Seq, waited-Alt, waited-Par, waited-When, waited-If, waited-Let, star-offers}
 use Rattle.tb_algebra.proofs.SelectedLemmas.{at-append, at-map, with_left, then as followed_by, beside, along}
 use Rattle.tb_algebra.proofs.OfferViewLemmas.{offer_views-Seq, offer_views-Alt, offer_views-Par}
+use Rattle.tb_code.specs.Entries.{followed as and_behind}
 use Rattle.tb_code.specs.Positions.{size, part, of_two}
+use Rattle.tb_code.specs.declared.behind.Behind.{Behind}
+use Rattle.tb_code.specs.declared.behind.Behind.TheVariants as behind
 use Rattle.tb_walk.specs.Lefts as lefts
 use Rattle.tb_walk.specs.Helpers.Reads.{branch, Passes, one, other, leaves, then_side, else_side, when, set, Follows, sequence, turn, Reads, ended, waits, passes, follows, both, or_entered}
-use Rattle.tb_walk.specs.Helpers.Partings.{row_by}
+use Rattle.tb_walk.specs.Helpers.Partings.{row_by, GoesOn}
 use Rattle.tb_walk.specs.Helpers.Sights.{Sighting, Looking, sightings, sightings_if, sightings_after, sighting_at}
 use Rattle.tb_walk.specs.declared.branch.Branch.{Branch}
 use Rattle.tb_walk.proofs.Contexts.{entered-next, beside-left, beside-right}
 use Rattle.tb_walk.proofs.ReadLemmas.{ends_together, EndsTogether, length-mapped}
 use Rattle.tb_walk.proofs.Steps.{at-skip}
-use Rattle.tb_walk.proofs.TakeLemmas.{on_first_side, on_second_side}
+use Rattle.tb_walk.proofs.TakeLemmas.{on_first_side, on_second_side, goes_atom, goes_first, goes_parted, goes_same}
 
 -- ages are 0 in each part
 
@@ -75,44 +78,44 @@ module _ (by : Looking) where
   seen-after None f g e = refl
   seen-after (Some store) f g e = e store
 
-  pub seen-sightings : (at : ℕ) (w : Process) (store : List Slot) → IsNew w → map seen_of (sightings by at w store) ≡ offer_views by.atoms by.now (waited by.age w) store
+  pub seen-sightings : (so_far : Behind) (at : ℕ) (w : Process) (store : List Slot) → IsNew w → map seen_of (sightings by so_far at w store) ≡ offer_views by.atoms by.now (waited by.age w) store
   unfolding offer_views
-  seen-sightings at (At atom age) store new = sym (ap (λ (p : Process). views (offers p store)) (aged-At by.age atom age new))
-  seen-sightings at (Seq x y) store new =
-      seen-sightings (suc at) x store new.0
+  seen-sightings so_far at (At atom age) store new = sym (ap (λ (p : Process). views (offers p store)) (aged-At by.age atom age new))
+  seen-sightings so_far at (Seq x y) store new =
+      seen-sightings (and_behind (behind.Entered (suc at + size x)) so_far) (suc at) x store new.0
       ∙ sym (offer_views-Seq by.atoms by.now (waited by.age x) y store)
       ∙ sym (ap (λ (p : Process). offer_views by.atoms by.now p store) (waited-Seq by.age x y))
-  seen-sightings at (Alt x y) store new =
-      seen-two (sightings by (suc at) x store) (sightings by (suc at + size x) y store) _ _ (seen-sightings (suc at) x store new.0) (seen-sightings (suc at + size x) y store new.1)
+  seen-sightings so_far at (Alt x y) store new =
+      seen-two (sightings by so_far (suc at) x store) (sightings by so_far (suc at + size x) y store) _ _ (seen-sightings so_far (suc at) x store new.0) (seen-sightings so_far (suc at + size x) y store new.1)
       ∙ sym (offer_views-Alt by.atoms by.now (waited by.age x) (waited by.age y) store)
       ∙ sym (ap (λ (p : Process). offer_views by.atoms by.now p store) (waited-Alt by.age x y))
-  seen-sightings at (Star x y) store new =
+  seen-sightings so_far at (Star x y) store new =
       let first = offers (waited by.age x) store in
       let second = offers (waited by.age y) store in
-      seen-two (sightings by (suc at) x store) (sightings by (suc at + size x) y store) _ _ (seen-sightings (suc at) x store new.0) (seen-sightings (suc at + size x) y store new.1)
+      seen-two (sightings by (and_behind (behind.Entered at) so_far) (suc at) x store) (sightings by so_far (suc at + size x) y store) _ _ (seen-sightings (and_behind (behind.Entered at) so_far) (suc at) x store new.0) (seen-sightings so_far (suc at + size x) y store new.1)
       ∙ ap (λ (l : List OfferView). l ++ views second) (sym (views-before (Star x y) first))
       ∙ sym (map-append (offer_view by.atoms by.now) (map (before (Star x y)) first) second)
       ∙ sym (ap views (star-offers by.age x y store))
-  seen-sightings at (Par x y) store new =
-      seen-two (sightings by (suc at) x store) (sightings by (suc at + size x) y store) _ _ (seen-sightings (suc at) x store new.0) (seen-sightings (suc at + size x) y store new.1)
+  seen-sightings so_far at (Par x y) store new =
+      seen-two (sightings by behind.Parted (suc at) x store) (sightings by behind.Parted (suc at + size x) y store) _ _ (seen-sightings behind.Parted (suc at) x store new.0) (seen-sightings behind.Parted (suc at + size x) y store new.1)
       ∙ sym (offer_views-Par by.atoms by.now (waited by.age x) (waited by.age y) store)
       ∙ sym (ap (λ (p : Process). offer_views by.atoms by.now p store) (waited-Par by.age x y))
-  seen-sightings at (If test x y) store new =
-      seen-if (tested store test) (sightings by (suc at) x store) (sightings by (suc at + size x) y store) (offers (waited by.age x) store) (offers (waited by.age y) store)
-      (seen-sightings (suc at) x store new.0) (seen-sightings (suc at + size x) y store new.1)
+  seen-sightings so_far at (If test x y) store new =
+      seen-if (tested store test) (sightings by so_far (suc at) x store) (sightings by so_far (suc at + size x) y store) (offers (waited by.age x) store) (offers (waited by.age y) store)
+      (seen-sightings so_far (suc at) x store new.0) (seen-sightings so_far (suc at + size x) y store new.1)
       ∙ sym (ap (λ (p : Process). offer_views by.atoms by.now p store) (waited-If by.age test x y))
-  seen-sightings at (When test x) store new =
-      seen-if (tested store test) (sightings by (suc at) x store) [] (offers (waited by.age x) store) [] (seen-sightings (suc at) x store new) refl
+  seen-sightings so_far at (When test x) store new =
+      seen-if (tested store test) (sightings by so_far (suc at) x store) [] (offers (waited by.age x) store) [] (seen-sightings so_far (suc at) x store new) refl
       ∙ sym (ap (λ (p : Process). offer_views by.atoms by.now p store) (waited-When by.age test x))
-  seen-sightings at (Let settings x) store new =
-      seen-after (with_settings store settings) (sightings by (suc at) x) (offers (waited by.age x)) (λ own. seen-sightings (suc at) x own new)
+  seen-sightings so_far at (Let settings x) store new =
+      seen-after (with_settings store settings) (sightings by so_far (suc at) x) (offers (waited by.age x)) (λ own. seen-sightings so_far (suc at) x own new)
       ∙ sym (ap (λ (p : Process). offer_views by.atoms by.now p store) (waited-Let by.age settings x))
 
-  pub length-sightings : (at : ℕ) (w : Process) (store : List Slot) → IsNew w → length (sightings by at w store) ≡ length (offers (waited by.age w) store)
+  pub length-sightings : (so_far : Behind) (at : ℕ) (w : Process) (store : List Slot) → IsNew w → length (sightings by so_far at w store) ≡ length (offers (waited by.age w) store)
   unfolding offer_views
-  length-sightings at w store new =
-      sym (length-mapped seen_of (sightings by at w store))
-      ∙ ap length (seen-sightings at w store new)
+  length-sightings so_far at w store new =
+      sym (length-mapped seen_of (sightings by so_far at w store))
+      ∙ ap length (seen-sightings so_far at w store new)
       ∙ length-mapped (offer_view by.atoms by.now) (offers (waited by.age w) store)
 
 -- one of several that were seen
@@ -165,35 +168,107 @@ module _ (by : Looking) where
   sides (Some false) xs ys j s e = inr (e, refl)
   sides None xs ys j s e = nothing_there j s e
 
-  pub is_of : (at : ℕ) (w : Process) (store : List Slot) (j : ℕ) (s : Sighting) → slice_get (sightings by at w store) j ≡ Some s → IsOf at (at + size w) s
-  is_of at (At atom age) store zero s e =
-      let same : sighting_at by at atom store ≡ s = (let t : ◌≡◌ {A = Option Sighting} (Some (sighting_at by at atom store)) (Some s) = e in cc) in
+  pub is_of : (so_far : Behind) (at : ℕ) (w : Process) (store : List Slot) (j : ℕ) (s : Sighting) → slice_get (sightings by so_far at w store) j ≡ Some s → IsOf at (at + size w) s
+  is_of so_far at (At atom age) store zero s e =
+      let same : sighting_at by so_far at atom store ≡ s = (let t : ◌≡◌ {A = Option Sighting} (Some (sighting_at by so_far at atom store)) (Some s) = e in cc) in
       subst (IsOf at (at + 1)) same ((omega arith, omega arith), refl)
-  is_of at (At atom age) store (suc j) s e = nothing_there j s e
-  is_of at (Seq x y) store j s e = of_wider (suc at) (suc at + size x) at (at + size (Seq x y)) s (omega arith) (omega arith) (is_of (suc at) x store j s e)
-  is_of at (Alt x y) store j s e =
-      of_either at (suc at + size x) (at + size (Alt x y)) (sightings by (suc at) x store) (sightings by (suc at + size x) y store) j s (omega arith) (omega arith)
-      (λ i h. is_of (suc at) x store i s h) (λ i h. of_wider (suc at + size x) (suc at + size x + size y) (suc at + size x) (at + size (Alt x y)) s (omega arith) (omega arith) (is_of (suc at + size x) y store i s h))
-      (split_get (sightings by (suc at) x store) (sightings by (suc at + size x) y store) j s e)
-  is_of at (Star x y) store j s e =
-      of_either at (suc at + size x) (at + size (Star x y)) (sightings by (suc at) x store) (sightings by (suc at + size x) y store) j s (omega arith) (omega arith)
-      (λ i h. is_of (suc at) x store i s h) (λ i h. of_wider (suc at + size x) (suc at + size x + size y) (suc at + size x) (at + size (Star x y)) s (omega arith) (omega arith) (is_of (suc at + size x) y store i s h))
-      (split_get (sightings by (suc at) x store) (sightings by (suc at + size x) y store) j s e)
-  is_of at (Par x y) store j s e =
-      of_either at (suc at + size x) (at + size (Par x y)) (sightings by (suc at) x store) (sightings by (suc at + size x) y store) j s (omega arith) (omega arith)
-      (λ i h. is_of (suc at) x store i s h) (λ i h. of_wider (suc at + size x) (suc at + size x + size y) (suc at + size x) (at + size (Par x y)) s (omega arith) (omega arith) (is_of (suc at + size x) y store i s h))
-      (split_get (sightings by (suc at) x store) (sightings by (suc at + size x) y store) j s e)
-  is_of at (If test x y) store j s e =
-      of_if at (suc at + size x) (at + size (If test x y)) (sightings by (suc at) x store) (sightings by (suc at + size x) y store) j s (omega arith) (omega arith)
-      (λ i h. is_of (suc at) x store i s h) (λ i h. of_wider (suc at + size x) (suc at + size x + size y) (suc at + size x) (at + size (If test x y)) s (omega arith) (omega arith) (is_of (suc at + size x) y store i s h))
-      (sides (tested store test) (sightings by (suc at) x store) (sightings by (suc at + size x) y store) j s e)
-  is_of at (When test x) store j s e =
-      of_if at (suc at + size x) (at + size (When test x)) (sightings by (suc at) x store) [] j s (omega arith) (omega arith)
-      (λ i h. is_of (suc at) x store i s h) (λ i h. nothing_there i s h)
-      (sides (tested store test) (sightings by (suc at) x store) [] j s e)
-  is_of at (Let settings x) store j s e =
-      let g = get_after (with_settings store settings) (sightings by (suc at) x) (λ own. []) j s e in
-      of_wider (suc at) (suc at + size x) at (at + size (Let settings x)) s (omega arith) (omega arith) (is_of (suc at) x g.0 j s g.1.0)
+  is_of so_far at (At atom age) store (suc j) s e = nothing_there j s e
+  is_of so_far at (Seq x y) store j s e = of_wider (suc at) (suc at + size x) at (at + size (Seq x y)) s (omega arith) (omega arith) (is_of (and_behind (behind.Entered (suc at + size x)) so_far) (suc at) x store j s e)
+  is_of so_far at (Alt x y) store j s e =
+      of_either at (suc at + size x) (at + size (Alt x y)) (sightings by so_far (suc at) x store) (sightings by so_far (suc at + size x) y store) j s (omega arith) (omega arith)
+      (λ i h. is_of so_far (suc at) x store i s h) (λ i h. of_wider (suc at + size x) (suc at + size x + size y) (suc at + size x) (at + size (Alt x y)) s (omega arith) (omega arith) (is_of so_far (suc at + size x) y store i s h))
+      (split_get (sightings by so_far (suc at) x store) (sightings by so_far (suc at + size x) y store) j s e)
+  is_of so_far at (Star x y) store j s e =
+      of_either at (suc at + size x) (at + size (Star x y)) (sightings by (and_behind (behind.Entered at) so_far) (suc at) x store) (sightings by so_far (suc at + size x) y store) j s (omega arith) (omega arith)
+      (λ i h. is_of (and_behind (behind.Entered at) so_far) (suc at) x store i s h) (λ i h. of_wider (suc at + size x) (suc at + size x + size y) (suc at + size x) (at + size (Star x y)) s (omega arith) (omega arith) (is_of so_far (suc at + size x) y store i s h))
+      (split_get (sightings by (and_behind (behind.Entered at) so_far) (suc at) x store) (sightings by so_far (suc at + size x) y store) j s e)
+  is_of so_far at (Par x y) store j s e =
+      of_either at (suc at + size x) (at + size (Par x y)) (sightings by behind.Parted (suc at) x store) (sightings by behind.Parted (suc at + size x) y store) j s (omega arith) (omega arith)
+      (λ i h. is_of behind.Parted (suc at) x store i s h) (λ i h. of_wider (suc at + size x) (suc at + size x + size y) (suc at + size x) (at + size (Par x y)) s (omega arith) (omega arith) (is_of behind.Parted (suc at + size x) y store i s h))
+      (split_get (sightings by behind.Parted (suc at) x store) (sightings by behind.Parted (suc at + size x) y store) j s e)
+  is_of so_far at (If test x y) store j s e =
+      of_if at (suc at + size x) (at + size (If test x y)) (sightings by so_far (suc at) x store) (sightings by so_far (suc at + size x) y store) j s (omega arith) (omega arith)
+      (λ i h. is_of so_far (suc at) x store i s h) (λ i h. of_wider (suc at + size x) (suc at + size x + size y) (suc at + size x) (at + size (If test x y)) s (omega arith) (omega arith) (is_of so_far (suc at + size x) y store i s h))
+      (sides (tested store test) (sightings by so_far (suc at) x store) (sightings by so_far (suc at + size x) y store) j s e)
+  is_of so_far at (When test x) store j s e =
+      of_if at (suc at + size x) (at + size (When test x)) (sightings by so_far (suc at) x store) [] j s (omega arith) (omega arith)
+      (λ i h. is_of so_far (suc at) x store i s h) (λ i h. nothing_there i s h)
+      (sides (tested store test) (sightings by so_far (suc at) x store) [] j s e)
+  is_of so_far at (Let settings x) store j s e =
+      let g = get_after (with_settings store settings) (sightings by so_far (suc at) x) (λ own. []) j s e in
+      of_wider (suc at) (suc at + size x) at (at + size (Let settings x)) s (omega arith) (omega arith) (is_of so_far (suc at) x g.0 j s g.1.0)
+
+-- what comes of a part where what was seen of it happens
+
+abbrev Leads : Looking → Behind → ℕ → Process → List Slot → Sighting → Type 0
+Leads by so_far at w store s = (i : ℕ) → slice_get (sightings by so_far at w store) i ≡ Some s → GoesOn at w s.position so_far s.behind
+
+module _ (by : Looking) (at : ℕ) (x y : Process) (store : List Slot) (j : ℕ) (s : Sighting) where
+  abbrev ends : ℕ
+  ends = suc at + size x
+
+  abbrev IsIn : Behind → Behind → Type 0
+  IsIn a b = (slice_get (sightings by a (suc at) x store) j ≡ Some s) ⊎ ((i : ℕ) × ((j ≡ length (sightings by a (suc at) x store) + i) × (slice_get (sightings by b ends y store) i ≡ Some s)))
+
+  first_side : (a : Behind) (xs ys : List Branch) → slice_get (sightings by a (suc at) x store) j ≡ Some s → (if nat_lt s.position ends then xs else ys) ≡ xs
+  first_side a xs ys h = on_first_side s.position ends xs ys (is_of by a (suc at) x store j s h).0.1
+
+  second_side : (b : Behind) (i : ℕ) (xs ys : List Branch) → slice_get (sightings by b ends y store) i ≡ Some s → (if nat_lt s.position ends then xs else ys) ≡ ys
+  second_side b i xs ys h = on_second_side s.position ends xs ys (is_of by b ends y store i s h).0.0
+
+  leads_alt : (so_far : Behind) → Leads by so_far (suc at) x store s → Leads by so_far ends y store s → IsIn so_far so_far → GoesOn at (Alt x y) s.position so_far s.behind
+  leads_alt so_far f g (inl h) =
+      goes_same at (suc at) (Alt x y) x s.position so_far s.behind (λ ticks entered. first_side so_far (row_by ticks entered (suc at) x s.position) (row_by ticks entered ends y s.position) h) (f j h)
+  leads_alt so_far f g (inr h) =
+      goes_same at ends (Alt x y) y s.position so_far s.behind (λ ticks entered. second_side so_far h.0 (row_by ticks entered (suc at) x s.position) (row_by ticks entered ends y s.position) h.1.1) (g h.0 h.1.1)
+
+  leads_star : (so_far : Behind) → Leads by (and_behind (behind.Entered at) so_far) (suc at) x store s → Leads by so_far ends y store s → IsIn (and_behind (behind.Entered at) so_far) so_far → GoesOn at (Star x y) s.position so_far s.behind
+  leads_star so_far f g (inl h) =
+      goes_first at (suc at) (Star x y) x s.position at so_far s.behind
+      (λ ticks entered. first_side (and_behind (behind.Entered at) so_far) (or_entered (row_by ticks entered (suc at) x s.position) (branch at ticks ∷ [])) (row_by ticks entered ends y s.position) h) (f j h)
+  leads_star so_far f g (inr h) =
+      goes_same at ends (Star x y) y s.position so_far s.behind
+      (λ ticks entered. second_side so_far h.0 (or_entered (row_by ticks entered (suc at) x s.position) (branch at ticks ∷ [])) (row_by ticks entered ends y s.position) h.1.1) (g h.0 h.1.1)
+
+  leads_par : (so_far : Behind) → Leads by behind.Parted (suc at) x store s → Leads by behind.Parted ends y store s → IsIn behind.Parted behind.Parted → GoesOn at (Par x y) s.position so_far s.behind
+  leads_par so_far f g (inl h) = goes_parted at (Par x y) s.position so_far s.behind (f j h)
+  leads_par so_far f g (inr h) = goes_parted at (Par x y) s.position so_far s.behind (g h.0 h.1.1)
+
+  leads_if : (test : Expr) (so_far : Behind) → Leads by so_far (suc at) x store s → Leads by so_far ends y store s → IsOfSide (sightings by so_far (suc at) x store) (sightings by so_far ends y store) [] [] [] j s → GoesOn at (If test x y) s.position so_far s.behind
+  leads_if test so_far f g (inl h) =
+      goes_same at (suc at) (If test x y) x s.position so_far s.behind (λ ticks entered. first_side so_far (row_by ticks entered (suc at) x s.position) (row_by ticks entered ends y s.position) h.0) (f j h.0)
+  leads_if test so_far f g (inr h) =
+      goes_same at ends (If test x y) y s.position so_far s.behind (λ ticks entered. second_side so_far j (row_by ticks entered (suc at) x s.position) (row_by ticks entered ends y s.position) h.0) (g j h.0)
+
+leads_when : (by : Looking) (at : ℕ) (test : Expr) (x : Process) (store : List Slot) (j : ℕ) (s : Sighting) (so_far : Behind) → Leads by so_far (suc at) x store s → IsOfSide (sightings by so_far (suc at) x store) [] [] [] [] j s → GoesOn at (When test x) s.position so_far s.behind
+leads_when by at test x store j s so_far f (inl h) = goes_same at (suc at) (When test x) x s.position so_far s.behind (λ ticks entered. refl) (f j h.0)
+leads_when by at test x store j s so_far f (inr h) = nothing_there j s h.0
+
+module _ (by : Looking) where
+  pub leads : (so_far : Behind) (at : ℕ) (w : Process) (store : List Slot) (j : ℕ) (s : Sighting) → slice_get (sightings by so_far at w store) j ≡ Some s → GoesOn at w s.position so_far s.behind
+  leads so_far at (At atom age) store zero s e =
+      let same : sighting_at by so_far at atom store ≡ s = (let t : ◌≡◌ {A = Option Sighting} (Some (sighting_at by so_far at atom store)) (Some s) = e in cc) in
+      subst (λ (t : Sighting). GoesOn at (At atom age) t.position so_far t.behind) same (goes_atom at atom age so_far)
+  leads so_far at (At atom age) store (suc j) s e = nothing_there j s e
+  leads so_far at (Seq x y) store j s e =
+      goes_first at (suc at) (Seq x y) x s.position (suc at + size x) so_far s.behind (λ ticks entered. refl) (leads (and_behind (behind.Entered (suc at + size x)) so_far) (suc at) x store j s e)
+  leads so_far at (Alt x y) store j s e =
+      leads_alt by at x y store j s so_far (λ i h. leads so_far (suc at) x store i s h) (λ i h. leads so_far (suc at + size x) y store i s h)
+      (split_get (sightings by so_far (suc at) x store) (sightings by so_far (suc at + size x) y store) j s e)
+  leads so_far at (Star x y) store j s e =
+      leads_star by at x y store j s so_far (λ i h. leads (and_behind (behind.Entered at) so_far) (suc at) x store i s h) (λ i h. leads so_far (suc at + size x) y store i s h)
+      (split_get (sightings by (and_behind (behind.Entered at) so_far) (suc at) x store) (sightings by so_far (suc at + size x) y store) j s e)
+  leads so_far at (Par x y) store j s e =
+      leads_par by at x y store j s so_far (λ i h. leads behind.Parted (suc at) x store i s h) (λ i h. leads behind.Parted (suc at + size x) y store i s h)
+      (split_get (sightings by behind.Parted (suc at) x store) (sightings by behind.Parted (suc at + size x) y store) j s e)
+  leads so_far at (If test x y) store j s e =
+      leads_if by at x y store j s test so_far (λ i h. leads so_far (suc at) x store i s h) (λ i h. leads so_far (suc at + size x) y store i s h)
+      (sides by (tested store test) (sightings by so_far (suc at) x store) (sightings by so_far (suc at + size x) y store) j s e)
+  leads so_far at (When test x) store j s e =
+      leads_when by at test x store j s so_far (λ i h. leads so_far (suc at) x store i s h) (sides by (tested store test) (sightings by so_far (suc at) x store) [] j s e)
+  leads so_far at (Let settings x) store j s e =
+      let g = get_after (with_settings store settings) (sightings by so_far (suc at) x) (λ own. []) j s e in
+      goes_same at (suc at) (Let settings x) x s.position so_far s.behind (λ ticks entered. refl) (leads so_far (suc at) x g.0 j s g.1.0)
 
 -- what is left where it happens
 
@@ -283,124 +358,124 @@ module _ (atoms : List Atom) (now index ticks entered : ℕ) (le : entered ≤ t
   abbrev Leaves : ℕ → Process → List Slot → ℕ → Sighting → Type 0
   Leaves at w store j s = Leaving ticks at w (by_row at w s) j (offers (aged w) store) s.seen.store
 
-  abbrev Each : ℕ → Process → List Slot → Sighting → Type 0
-  Each at w store s = (i : ℕ) → slice_get (sightings by at w store) i ≡ Some s → Leaves at w store i s
+  abbrev Each : Behind → ℕ → Process → List Slot → Sighting → Type 0
+  Each so_far at w store s = (i : ℕ) → slice_get (sightings by so_far at w store) i ≡ Some s → Leaves at w store i s
 
-  abbrev Split : ℕ → Process → Process → List Slot → ℕ → Sighting → Type 0
-  Split at x y store j s =
-      (slice_get (sightings by (suc at) x store) j ≡ Some s)
-      ⊎ ((i : ℕ) × ((j ≡ length (sightings by (suc at) x store) + i) × (slice_get (sightings by (suc at + size x) y store) i ≡ Some s)))
+  abbrev Split : Behind → Behind → ℕ → Process → Process → List Slot → ℕ → Sighting → Type 0
+  Split a b at x y store j s =
+      (slice_get (sightings by a (suc at) x store) j ≡ Some s)
+      ⊎ ((i : ℕ) × ((j ≡ length (sightings by a (suc at) x store) + i) × (slice_get (sightings by b (suc at + size x) y store) i ≡ Some s)))
 
-  leaving_alt : (at : ℕ) (x y : Process) (store : List Slot) (j : ℕ) (s : Sighting) → IsNew x → Each (suc at) x store s → Each (suc at + size x) y store s → Split at x y store j s → Leaves at (Alt x y) store j s
-  leaving_alt at x y store j s new f g (inl h) =
+  leaving_alt : (a b : Behind) (at : ℕ) (x y : Process) (store : List Slot) (j : ℕ) (s : Sighting) → IsNew x → Each a (suc at) x store s → Each b (suc at + size x) y store s → Split a b at x y store j s → Leaves at (Alt x y) store j s
+  leaving_alt a b at x y store j s new f g (inl h) =
       let l = f j h in
       let all = offers (aged (Alt x y)) store in
       leaving_as ticks at (Alt x y) (by_row (suc at) x s) (by_row at (Alt x y) s) j all all s.seen.store
-      (on_first_side s.position (suc at + size x) (by_row (suc at) x s) (by_row (suc at + size x) y s) (is_of by (suc at) x store j s h).0.1) refl
+      (on_first_side s.position (suc at + size x) (by_row (suc at) x s) (by_row (suc at + size x) y s) (is_of by a (suc at) x store j s h).0.1) refl
       (leaving_part ticks at (Alt x y) x (suc at) (by_row (suc at) x s) j j (offers (aged x) store) all s.seen.store one l
       (ap (λ (p : Process). selected_at j (offers p store)) (waited-Alt (ticks - entered) x y) ∙ plain-first j (offers (aged x) store) (offers (aged y) store) l.left s.seen.store l.selects))
-  leaving_alt at x y store j s new f g (inr h) =
+  leaving_alt a b at x y store j s new f g (inr h) =
       let l = g h.0 h.1.1 in
       let all = offers (aged (Alt x y)) store in
       leaving_as ticks at (Alt x y) (by_row (suc at + size x) y s) (by_row at (Alt x y) s) j all all s.seen.store
-      (on_second_side s.position (suc at + size x) (by_row (suc at) x s) (by_row (suc at + size x) y s) (is_of by (suc at + size x) y store h.0 s h.1.1).0.0) refl
+      (on_second_side s.position (suc at + size x) (by_row (suc at) x s) (by_row (suc at + size x) y s) (is_of by b (suc at + size x) y store h.0 s h.1.1).0.0) refl
       (leaving_part ticks at (Alt x y) y (suc at + size x) (by_row (suc at + size x) y s) h.0 j (offers (aged y) store) all s.seen.store other l
       (ap (λ (p : Process). selected_at j (offers p store)) (waited-Alt (ticks - entered) x y)
-      ∙ behind-all j h.0 (length (sightings by (suc at) x store)) (offers (aged x) store) (offers (aged y) store) l.left s.seen.store h.1.0 (length-sightings by (suc at) x store new) l.selects))
+      ∙ behind-all j h.0 (length (sightings by a (suc at) x store)) (offers (aged x) store) (offers (aged y) store) l.left s.seen.store h.1.0 (length-sightings by a (suc at) x store new) l.selects))
 
-  leaving_star : (at : ℕ) (x y : Process) (store : List Slot) (j : ℕ) (s : Sighting) → IsNew x → Each (suc at) x store s → Each (suc at + size x) y store s → Split at x y store j s → Leaves at (Star x y) store j s
-  leaving_star at x y store j s new f g (inl h) =
+  leaving_star : (a b : Behind) (at : ℕ) (x y : Process) (store : List Slot) (j : ℕ) (s : Sighting) → IsNew x → Each a (suc at) x store s → Each b (suc at + size x) y store s → Split a b at x y store j s → Leaves at (Star x y) store j s
+  leaving_star a b at x y store j s new f g (inl h) =
       let l = f j h in
       let all = offers (aged (Star x y)) store in
       leaving_as ticks at (Star x y) (or_entered (by_row (suc at) x s) (branch at ticks ∷ [])) (by_row at (Star x y) s) j all all s.seen.store
-      (on_first_side s.position (suc at + size x) (or_entered (by_row (suc at) x s) (branch at ticks ∷ [])) (by_row (suc at + size x) y s) (is_of by (suc at) x store j s h).0.1) refl
+      (on_first_side s.position (suc at + size x) (or_entered (by_row (suc at) x s) (branch at ticks ∷ [])) (by_row (suc at + size x) y s) (is_of by a (suc at) x store j s h).0.1) refl
       (leaving_first ticks at (Star x y) x (Star x y) at (by_row (suc at) x s) j j (offers (aged x) store) all s.seen.store turn l
       (ap (selected_at j) (star-offers (ticks - entered) x y store) ∙ at-first (followed_by (Star x y)) j (offers (aged x) store) (offers (aged y) store) l.left s.seen.store l.selects))
-  leaving_star at x y store j s new f g (inr h) =
+  leaving_star a b at x y store j s new f g (inr h) =
       let l = g h.0 h.1.1 in
       let all = offers (aged (Star x y)) store in
       let first = map (before (Star x y)) (offers (aged x) store) in
       leaving_as ticks at (Star x y) (by_row (suc at + size x) y s) (by_row at (Star x y) s) j all all s.seen.store
-      (on_second_side s.position (suc at + size x) (or_entered (by_row (suc at) x s) (branch at ticks ∷ [])) (by_row (suc at + size x) y s) (is_of by (suc at + size x) y store h.0 s h.1.1).0.0) refl
+      (on_second_side s.position (suc at + size x) (or_entered (by_row (suc at) x s) (branch at ticks ∷ [])) (by_row (suc at + size x) y s) (is_of by b (suc at + size x) y store h.0 s h.1.1).0.0) refl
       (leaving_part ticks at (Star x y) y (suc at + size x) (by_row (suc at + size x) y s) h.0 j (offers (aged y) store) all s.seen.store leaves l
       (ap (selected_at j) (star-offers (ticks - entered) x y store)
-      ∙ behind-all j h.0 (length (sightings by (suc at) x store)) first (offers (aged y) store) l.left s.seen.store h.1.0
-      (length-sightings by (suc at) x store new ∙ sym (length-mapped (before (Star x y)) (offers (aged x) store))) l.selects))
+      ∙ behind-all j h.0 (length (sightings by a (suc at) x store)) first (offers (aged y) store) l.left s.seen.store h.1.0
+      (length-sightings by a (suc at) x store new ∙ sym (length-mapped (before (Star x y)) (offers (aged x) store))) l.selects))
 
-  leaving_par : (at : ℕ) (x y : Process) (store : List Slot) (j : ℕ) (s : Sighting) → IsNew x → Each (suc at) x store s → Each (suc at + size x) y store s → Split at x y store j s → Leaves at (Par x y) store j s
-  leaving_par at x y store j s new f g (inl h) =
+  leaving_par : (a b : Behind) (at : ℕ) (x y : Process) (store : List Slot) (j : ℕ) (s : Sighting) → IsNew x → Each a (suc at) x store s → Each b (suc at + size x) y store s → Split a b at x y store j s → Leaves at (Par x y) store j s
+  leaving_par a b at x y store j s new f g (inl h) =
       let l = f j h in
       let all = offers (aged (Par x y)) store in
       let row = by_row (suc at) x s ++ branch (suc at + size x) entered ∷ [] in
       leaving_as ticks at (Par x y) row (by_row at (Par x y) s) j all all s.seen.store
-      (on_first_side s.position (suc at + size x) row (branch (suc at) entered ∷ by_row (suc at + size x) y s) (is_of by (suc at) x store j s h).0.1) refl
+      (on_first_side s.position (suc at + size x) row (branch (suc at) entered ∷ by_row (suc at + size x) y s) (is_of by a (suc at) x store j s h).0.1) refl
       (leaving_left ticks at x y entered le (by_row (suc at) x s) j j (offers (aged x) store) all s.seen.store l
       (ap (λ (p : Process). selected_at j (offers p store)) (waited-Par (ticks - entered) x y)
       ∙ at-first (beside (aged y)) j (offers (aged x) store) (map (on_the_right (aged x)) (offers (aged y) store)) l.left s.seen.store l.selects))
-  leaving_par at x y store j s new f g (inr h) =
+  leaving_par a b at x y store j s new f g (inr h) =
       let l = g h.0 h.1.1 in
       let all = offers (aged (Par x y)) store in
       let row = branch (suc at) entered ∷ by_row (suc at + size x) y s in
       let first = map (on_the_left (aged y)) (offers (aged x) store) in
       leaving_as ticks at (Par x y) row (by_row at (Par x y) s) j all all s.seen.store
-      (on_second_side s.position (suc at + size x) (by_row (suc at) x s ++ branch (suc at + size x) entered ∷ []) row (is_of by (suc at + size x) y store h.0 s h.1.1).0.0) refl
+      (on_second_side s.position (suc at + size x) (by_row (suc at) x s ++ branch (suc at + size x) entered ∷ []) row (is_of by b (suc at + size x) y store h.0 s h.1.1).0.0) refl
       (leaving_right ticks at x y entered le (by_row (suc at + size x) y s) h.0 j (offers (aged y) store) all s.seen.store l
       (ap (λ (p : Process). selected_at j (offers p store)) (waited-Par (ticks - entered) x y)
-      ∙ behind-all j h.0 (length (sightings by (suc at) x store)) first (map (on_the_right (aged x)) (offers (aged y) store)) (along (aged x) l.left) s.seen.store h.1.0
-      (length-sightings by (suc at) x store new ∙ sym (length-mapped (on_the_left (aged y)) (offers (aged x) store)))
+      ∙ behind-all j h.0 (length (sightings by a (suc at) x store)) first (map (on_the_right (aged x)) (offers (aged y) store)) (along (aged x) l.left) s.seen.store h.1.0
+      (length-sightings by a (suc at) x store new ∙ sym (length-mapped (on_the_left (aged y)) (offers (aged x) store)))
       (at-map (along (aged x)) h.0 (offers (aged y) store) ∙ ap (selected_with (along (aged x))) l.selects)))
 
-  leaving_if : (at : ℕ) (test : Expr) (x y : Process) (store : List Slot) (j : ℕ) (s : Sighting) → Each (suc at) x store s → Each (suc at + size x) y store s →
-      IsOfSide (sightings by (suc at) x store) (sightings by (suc at + size x) y store) (offers (aged x) store) (offers (aged y) store) (offers_if (tested store test) (offers (aged x) store) (offers (aged y) store)) j s → Leaves at (If test x y) store j s
-  leaving_if at test x y store j s f g (inl h) =
+  leaving_if : (a b : Behind) (at : ℕ) (test : Expr) (x y : Process) (store : List Slot) (j : ℕ) (s : Sighting) → Each a (suc at) x store s → Each b (suc at + size x) y store s →
+      IsOfSide (sightings by a (suc at) x store) (sightings by b (suc at + size x) y store) (offers (aged x) store) (offers (aged y) store) (offers_if (tested store test) (offers (aged x) store) (offers (aged y) store)) j s → Leaves at (If test x y) store j s
+  leaving_if a b at test x y store j s f g (inl h) =
       let l = f j h.0 in
       let all = offers (aged (If test x y)) store in
       leaving_as ticks at (If test x y) (by_row (suc at) x s) (by_row at (If test x y) s) j all all s.seen.store
-      (on_first_side s.position (suc at + size x) (by_row (suc at) x s) (by_row (suc at + size x) y s) (is_of by (suc at) x store j s h.0).0.1) refl
+      (on_first_side s.position (suc at + size x) (by_row (suc at) x s) (by_row (suc at + size x) y s) (is_of by a (suc at) x store j s h.0).0.1) refl
       (leaving_part ticks at (If test x y) x (suc at) (by_row (suc at) x s) j j (offers (aged x) store) all s.seen.store then_side l
       (ap (λ (p : Process). selected_at j (offers p store)) (waited-If (ticks - entered) test x y) ∙ ap (selected_at j) h.1 ∙ l.selects))
-  leaving_if at test x y store j s f g (inr h) =
+  leaving_if a b at test x y store j s f g (inr h) =
       let l = g j h.0 in
       let all = offers (aged (If test x y)) store in
       leaving_as ticks at (If test x y) (by_row (suc at + size x) y s) (by_row at (If test x y) s) j all all s.seen.store
-      (on_second_side s.position (suc at + size x) (by_row (suc at) x s) (by_row (suc at + size x) y s) (is_of by (suc at + size x) y store j s h.0).0.0) refl
+      (on_second_side s.position (suc at + size x) (by_row (suc at) x s) (by_row (suc at + size x) y s) (is_of by b (suc at + size x) y store j s h.0).0.0) refl
       (leaving_part ticks at (If test x y) y (suc at + size x) (by_row (suc at + size x) y s) j j (offers (aged y) store) all s.seen.store else_side l
       (ap (λ (p : Process). selected_at j (offers p store)) (waited-If (ticks - entered) test x y) ∙ ap (selected_at j) h.1 ∙ l.selects))
 
-  leaving_when : (at : ℕ) (test : Expr) (x : Process) (store : List Slot) (j : ℕ) (s : Sighting) → Each (suc at) x store s →
-      IsOfSide (sightings by (suc at) x store) [] (offers (aged x) store) [] (offers_if (tested store test) (offers (aged x) store) []) j s → Leaves at (When test x) store j s
-  leaving_when at test x store j s f (inl h) =
+  leaving_when : (a : Behind) (at : ℕ) (test : Expr) (x : Process) (store : List Slot) (j : ℕ) (s : Sighting) → Each a (suc at) x store s →
+      IsOfSide (sightings by a (suc at) x store) [] (offers (aged x) store) [] (offers_if (tested store test) (offers (aged x) store) []) j s → Leaves at (When test x) store j s
+  leaving_when a at test x store j s f (inl h) =
       let l = f j h.0 in
       leaving_part ticks at (When test x) x (suc at) (by_row (suc at) x s) j j (offers (aged x) store) (offers (aged (When test x)) store) s.seen.store when l
       (ap (λ (p : Process). selected_at j (offers p store)) (waited-When (ticks - entered) test x) ∙ ap (selected_at j) h.1 ∙ l.selects)
-  leaving_when at test x store j s f (inr h) = nothing_there j s h.0
+  leaving_when a at test x store j s f (inr h) = nothing_there j s h.0
 
-  pub leaving : (at : ℕ) (w : Process) (store : List Slot) (j : ℕ) (s : Sighting) → IsNew w → slice_get (sightings by at w store) j ≡ Some s → Leaves at w store j s
-  leaving at (At atom age) store zero s new e =
-      let same : sighting_at by at atom store ≡ s = (let t : ◌≡◌ {A = Option Sighting} (Some (sighting_at by at atom store)) (Some s) = e in cc) in
+  pub leaving : (so_far : Behind) (at : ℕ) (w : Process) (store : List Slot) (j : ℕ) (s : Sighting) → IsNew w → slice_get (sightings by so_far at w store) j ≡ Some s → Leaves at w store j s
+  leaving so_far at (At atom age) store zero s new e =
+      let same : sighting_at by so_far at atom store ≡ s = (let t : ◌≡◌ {A = Option Sighting} (Some (sighting_at by so_far at atom store)) (Some s) = e in cc) in
       record {
         left = None;
         selects = ap (λ (p : Process). selected_at 0 (offers p store)) (aged-At (ticks - entered) atom age new) ∙ ap (λ (t : Sighting). On None t.seen.store) same;
         reads = ended;
       }
-  leaving at (At atom age) store (suc j) s new e = nothing_there j s e
-  leaving at (Seq x y) store j s new e =
-      let l = leaving (suc at) x store j s new.0 e in
+  leaving so_far at (At atom age) store (suc j) s new e = nothing_there j s e
+  leaving so_far at (Seq x y) store j s new e =
+      let l = leaving (and_behind (behind.Entered (suc at + size x)) so_far) (suc at) x store j s new.0 e in
       leaving_first ticks at (Seq x y) x y (suc at + size x) (by_row (suc at) x s) j j (offers (aged x) store) (offers (aged (Seq x y)) store) s.seen.store sequence l
       (ap (λ (p : Process). selected_at j (offers p store)) (waited-Seq (ticks - entered) x y) ∙ at-map (followed_by y) j (offers (aged x) store) ∙ ap (selected_with (followed_by y)) l.selects)
-  leaving at (Alt x y) store j s new e =
-      leaving_alt at x y store j s new.0 (λ i h. leaving (suc at) x store i s new.0 h) (λ i h. leaving (suc at + size x) y store i s new.1 h) (split_get (sightings by (suc at) x store) (sightings by (suc at + size x) y store) j s e)
-  leaving at (Star x y) store j s new e =
-      leaving_star at x y store j s new.0 (λ i h. leaving (suc at) x store i s new.0 h) (λ i h. leaving (suc at + size x) y store i s new.1 h) (split_get (sightings by (suc at) x store) (sightings by (suc at + size x) y store) j s e)
-  leaving at (Par x y) store j s new e =
-      leaving_par at x y store j s new.0 (λ i h. leaving (suc at) x store i s new.0 h) (λ i h. leaving (suc at + size x) y store i s new.1 h) (split_get (sightings by (suc at) x store) (sightings by (suc at + size x) y store) j s e)
-  leaving at (If test x y) store j s new e =
-      leaving_if at test x y store j s (λ i h. leaving (suc at) x store i s new.0 h) (λ i h. leaving (suc at + size x) y store i s new.1 h)
-      (get_if (tested store test) (sightings by (suc at) x store) (sightings by (suc at + size x) y store) (offers (aged x) store) (offers (aged y) store) j s e)
-  leaving at (When test x) store j s new e =
-      leaving_when at test x store j s (λ i h. leaving (suc at) x store i s new h) (get_if (tested store test) (sightings by (suc at) x store) [] (offers (aged x) store) [] j s e)
-  leaving at (Let settings x) store j s new e =
-      let g = get_after (with_settings store settings) (sightings by (suc at) x) (offers (aged x)) j s e in
-      let l = leaving (suc at) x g.0 j s new g.1.0 in
+  leaving so_far at (Alt x y) store j s new e =
+      leaving_alt so_far so_far at x y store j s new.0 (λ i h. leaving so_far (suc at) x store i s new.0 h) (λ i h. leaving so_far (suc at + size x) y store i s new.1 h) (split_get (sightings by so_far (suc at) x store) (sightings by so_far (suc at + size x) y store) j s e)
+  leaving so_far at (Star x y) store j s new e =
+      leaving_star (and_behind (behind.Entered at) so_far) so_far at x y store j s new.0 (λ i h. leaving (and_behind (behind.Entered at) so_far) (suc at) x store i s new.0 h) (λ i h. leaving so_far (suc at + size x) y store i s new.1 h) (split_get (sightings by (and_behind (behind.Entered at) so_far) (suc at) x store) (sightings by so_far (suc at + size x) y store) j s e)
+  leaving so_far at (Par x y) store j s new e =
+      leaving_par behind.Parted behind.Parted at x y store j s new.0 (λ i h. leaving behind.Parted (suc at) x store i s new.0 h) (λ i h. leaving behind.Parted (suc at + size x) y store i s new.1 h) (split_get (sightings by behind.Parted (suc at) x store) (sightings by behind.Parted (suc at + size x) y store) j s e)
+  leaving so_far at (If test x y) store j s new e =
+      leaving_if so_far so_far at test x y store j s (λ i h. leaving so_far (suc at) x store i s new.0 h) (λ i h. leaving so_far (suc at + size x) y store i s new.1 h)
+      (get_if (tested store test) (sightings by so_far (suc at) x store) (sightings by so_far (suc at + size x) y store) (offers (aged x) store) (offers (aged y) store) j s e)
+  leaving so_far at (When test x) store j s new e =
+      leaving_when so_far at test x store j s (λ i h. leaving so_far (suc at) x store i s new h) (get_if (tested store test) (sightings by so_far (suc at) x store) [] (offers (aged x) store) [] j s e)
+  leaving so_far at (Let settings x) store j s new e =
+      let g = get_after (with_settings store settings) (sightings by so_far (suc at) x) (offers (aged x)) j s e in
+      let l = leaving so_far (suc at) x g.0 j s new g.1.0 in
       leaving_part ticks at (Let settings x) x (suc at) (by_row (suc at) x s) j j (offers (aged x) g.0) (offers (aged (Let settings x)) store) s.seen.store set l
       (ap (λ (p : Process). selected_at j (offers p store)) (waited-Let (ticks - entered) settings x) ∙ ap (selected_at j) g.1.1 ∙ l.selects)

@@ -5,16 +5,13 @@ use Rattle.std.proofs.lemmas.List.{append-nil}
 use Rattle.tb_terms.specs.declared.expr.Expr.{Expr}
 use Rattle.tb_body.specs.declared.tree.Setting.{Setting}
 use Rattle.tb_algebra.specs.Processes.{Process, At, Seq, Alt, Star, Par, If, When, Let}
+use Rattle.tb_code.specs.Entries.{followed}
 use Rattle.tb_code.specs.Positions.{size, part, IsTwo, IsOne}
+use Rattle.tb_code.specs.declared.behind.Behind.{Behind}
+use Rattle.tb_code.specs.declared.behind.Behind.TheVariants as behind
 use Rattle.tb_walk.specs.Helpers.Reads.{branch, or_entered}
-use Rattle.tb_walk.specs.Helpers.Partings.{row_by, branch_by, entering, GoesOn}
+use Rattle.tb_walk.specs.Helpers.Partings.{row_by, branch_by, AreRows, GoesOn}
 use Rattle.tb_walk.specs.declared.branch.Branch.{Branch}
-use Rattle.tb_walk.specs.declared.take.Behind.{Behind}
-use Rattle.tb_walk.specs.declared.take.Behind.TheVariants as behind
-
-pub or-nothing : (row : List Branch) → or_entered row [] ≡ row
-or-nothing [] = refl
-or-nothing (b ∷ row) = refl
 
 pub or-twice : (row : List Branch) (next : Branch) (last : List Branch) → or_entered (or_entered row (next ∷ [])) last ≡ or_entered row (next ∷ [])
 or-twice [] next last = refl
@@ -90,36 +87,46 @@ module _ (whole : Process) (at first : ℕ) (f : first ≡ suc at) (to : ℕ) wh
         by_cases true h = rw h (ap left_at (sym (e ∙ ap (λ (b : Bool). if b then first else right) h)))
         by_cases false h = rw h (ap left_at (sym (e ∙ ap (λ (b : Bool). if b then first else right) h)))
 
-  -- what comes of a part, by what comes of its own
+-- what comes of a part, by what comes of its own
 
-  pub goes_same : (position : ℕ) (so_far result : Behind) → ((ticks entered : ℕ) → left_at ticks entered at ≡ left_at ticks entered position) → GoesOn whole position to so_far result → GoesOn whole at to so_far result
-  goes_same position so_far behind.Ended e g = λ ticks entered. ap (λ (l : List Branch). or_entered l (entering ticks so_far)) (e ticks entered) ∙ g ticks entered
-  goes_same position so_far (behind.Entered next) e g = λ ticks entered. ap (λ (l : List Branch). or_entered l (entering ticks so_far)) (e ticks entered) ∙ g ticks entered
-  goes_same position so_far behind.Parted e g = tt
+rows_as : (rows same : ℕ → ℕ → List Branch) (result : Behind) → ((ticks entered : ℕ) → rows ticks entered ≡ same ticks entered) → AreRows same result → AreRows rows result
+rows_as rows same behind.Ended e g = λ ticks entered. e ticks entered ∙ g ticks entered
+rows_as rows same (behind.Entered position) e g = λ ticks entered. e ticks entered ∙ g ticks entered
+rows_as rows same behind.Parted e g = tt
 
-  pub goes_first : (next : ℕ) (so_far result : Behind) → ((ticks entered : ℕ) → left_at ticks entered at ≡ or_entered (left_at ticks entered first) (branch next ticks ∷ [])) → GoesOn whole first to (behind.Entered next) result → GoesOn whole at to so_far result
-  goes_first next so_far behind.Ended e g = λ ticks entered.
-      ap (λ (l : List Branch). or_entered l (entering ticks so_far)) (e ticks entered) ∙ or-twice (left_at ticks entered first) (branch next ticks) (entering ticks so_far) ∙ g ticks entered
-  goes_first next so_far (behind.Entered position) e g = λ ticks entered.
-      ap (λ (l : List Branch). or_entered l (entering ticks so_far)) (e ticks entered) ∙ or-twice (left_at ticks entered first) (branch next ticks) (entering ticks so_far) ∙ g ticks entered
-  goes_first next so_far behind.Parted e g = tt
+pub goes_atom : (at atom age : ℕ) (so_far : Behind) → GoesOn at (At atom age) at so_far so_far
+goes_atom at atom age behind.Ended = λ ticks entered. refl
+goes_atom at atom age (behind.Entered next) = λ ticks entered. refl
+goes_atom at atom age behind.Parted = refl
 
-  pub goes_atom : (so_far : Behind) (atom age : ℕ) → part whole at ≡ At atom age → GoesOn whole at to so_far so_far
-  goes_atom behind.Ended atom age e = λ ticks entered. ap (λ (l : List Branch). or_entered l []) (by_atom ticks entered atom age e)
-  goes_atom (behind.Entered next) atom age e = λ ticks entered. ap (λ (l : List Branch). or_entered l (branch next ticks ∷ [])) (by_atom ticks entered atom age e)
-  goes_atom behind.Parted atom age e = tt
+pub goes_parted : (at : ℕ) (w : Process) (to : ℕ) (so_far result : Behind) → result ≡ behind.Parted → GoesOn at w to so_far result
+goes_parted at w to behind.Ended result e = subst (λ (b : Behind). AreRows (λ ticks entered. row_by ticks entered at w to) b) (sym e) tt
+goes_parted at w to (behind.Entered next) result e = subst (λ (b : Behind). AreRows (λ ticks entered. or_entered (row_by ticks entered at w to) (branch next ticks ∷ [])) b) (sym e) tt
+goes_parted at w to behind.Parted result e = e
+
+module _ (at at-x : ℕ) (w x : Process) (to : ℕ) where
+  pub goes_same : (so_far result : Behind) → ((ticks entered : ℕ) → row_by ticks entered at w to ≡ row_by ticks entered at-x x to) → GoesOn at-x x to so_far result → GoesOn at w to so_far result
+  goes_same behind.Ended result e g = rows_as (λ ticks entered. row_by ticks entered at w to) (λ ticks entered. row_by ticks entered at-x x to) result e g
+  goes_same (behind.Entered next) result e g =
+      rows_as (λ ticks entered. or_entered (row_by ticks entered at w to) (branch next ticks ∷ [])) (λ ticks entered. or_entered (row_by ticks entered at-x x to) (branch next ticks ∷ [])) result
+      (λ ticks entered. ap (λ (l : List Branch). or_entered l (branch next ticks ∷ [])) (e ticks entered)) g
+  goes_same behind.Parted result e g = g
+
+  pub goes_first : (next : ℕ) (so_far result : Behind) → ((ticks entered : ℕ) → row_by ticks entered at w to ≡ or_entered (row_by ticks entered at-x x to) (branch next ticks ∷ [])) →
+      GoesOn at-x x to (followed (behind.Entered next) so_far) result → GoesOn at w to so_far result
+  goes_first next behind.Ended result e g = rows_as (λ ticks entered. row_by ticks entered at w to) (λ ticks entered. or_entered (row_by ticks entered at-x x to) (branch next ticks ∷ [])) result e g
+  goes_first next (behind.Entered last) result e g =
+      rows_as (λ ticks entered. or_entered (row_by ticks entered at w to) (branch last ticks ∷ [])) (λ ticks entered. or_entered (row_by ticks entered at-x x to) (branch next ticks ∷ [])) result
+      (λ ticks entered. ap (λ (l : List Branch). or_entered l (branch last ticks ∷ [])) (e ticks entered) ∙ or-twice (row_by ticks entered at-x x to) (branch next ticks) (branch last ticks ∷ [])) g
+  goes_first next behind.Parted result e g = g
 
 -- what is left of the part of a branch
 
-pub left_ended : (whole : Process) (ticks : ℕ) (b : Branch) (to : ℕ) (result : Behind) → GoesOn whole b.position to behind.Ended result → result ≡ behind.Ended → branch_by whole ticks b to ≡ []
-left_ended whole ticks b to result g e =
-    let h : GoesOn whole b.position to behind.Ended behind.Ended = subst (GoesOn whole b.position to behind.Ended) e g in
-    sym (or-nothing (branch_by whole ticks b to)) ∙ h ticks b.entered
+pub left_ended : (whole : Process) (ticks : ℕ) (b : Branch) (to : ℕ) (result : Behind) → GoesOn b.position (part whole b.position) to behind.Ended result → result ≡ behind.Ended → branch_by whole ticks b to ≡ []
+left_ended whole ticks b to result g e = subst (GoesOn b.position (part whole b.position) to behind.Ended) e g ticks b.entered
 
-pub left_entered : (whole : Process) (ticks : ℕ) (b : Branch) (to position : ℕ) (result : Behind) → GoesOn whole b.position to behind.Ended result → result ≡ behind.Entered position → branch_by whole ticks b to ≡ branch position ticks ∷ []
-left_entered whole ticks b to position result g e =
-    let h : GoesOn whole b.position to behind.Ended (behind.Entered position) = subst (GoesOn whole b.position to behind.Ended) e g in
-    sym (or-nothing (branch_by whole ticks b to)) ∙ h ticks b.entered
+pub left_entered : (whole : Process) (ticks : ℕ) (b : Branch) (to position : ℕ) (result : Behind) → GoesOn b.position (part whole b.position) to behind.Ended result → result ≡ behind.Entered position → branch_by whole ticks b to ≡ branch position ticks ∷ []
+left_entered whole ticks b to position result g e = subst (GoesOn b.position (part whole b.position) to behind.Ended) e g ticks b.entered
 
 -- a row is longer exactly where something was added
 

@@ -14,13 +14,14 @@ use Rattle.tb_algebra.specs.Walks.{Walking, offers_of, offers_of_term, entering,
 use Rattle.tb_algebra.specs.declared.offer.Offer.{Offer}
 use Rattle.tb_algebra.proofs.Ages.{fresh-new}
 use Rattle.tb_algebra.proofs.RewriterLemmas.{length-map, by_kept, inside}
-use Rattle.tb_code.specs.Positions.{size}
+use Rattle.tb_code.specs.Positions.{size, part}
+use Rattle.tb_code.specs.declared.behind.Behind.TheVariants as behind
 use Rattle.tb_code.specs.declared.code.Code.{Code}
 use Rattle.tb_code.proofs.Parts.{stands_whole}
 use Rattle.tb_walk.specs.Helpers.Goings.{counted, row_sights}
 use Rattle.tb_walk.specs.Lefts.{beside, left}
 use Rattle.tb_walk.specs.Helpers.Reads.{branch, Reads, ended, waits, passes, follows, both}
-use Rattle.tb_walk.specs.Helpers.Partings.{branch_by}
+use Rattle.tb_walk.specs.Helpers.Partings.{GoesOn, branch_by}
 use Rattle.tb_walk.specs.Helpers.Sights.{Sighting, offer_of, sighted, row_sightings}
 use Rattle.tb_walk.specs.Helpers.Takings.{AreThere, IsInRow, Picks}
 use Rattle.tb_walk.specs.WalkViews.{walking_of, seen_of, IsOnCode}
@@ -29,7 +30,7 @@ use Rattle.tb_walk.specs.declared.sight.Sight.{Sight}
 use Rattle.tb_walk.specs.declared.walk.Walk.{Walk}
 use Rattle.tb_walk.proofs.LeftLemmas.{left-read}
 use Rattle.tb_walk.proofs.Ranges.{InRange}
-use Rattle.tb_walk.proofs.PickLemmas.{seen-row, picks}
+use Rattle.tb_walk.proofs.PickLemmas.{goes, seen-row, picks}
 use Rattle.tb_walk.proofs.ReadLemmas.{in_range, ends_together, counts, seen_all}
 use Rattle.tb_walk.proofs.SightLemmas.{seen_of as seen_of_sighting}
 
@@ -164,16 +165,27 @@ module _ (code : Code) (walk : Walk) (on : IsOnCode code walk) (now : ℕ) (foun
       by_get None g = (let n = found_length in absurd (inside k found (omega arith) g))
 
   module _ (k : ℕ) (one : Sight) (g : slice_get found k ≡ Some one) where
+    seen : slice_get (all_of code walk now) k ≡ Some (sighted walk.store one)
+    seen = ap (λ (l : List Sighting). slice_get l k) (sym e) ∙ slice_get-map (sighted walk.store) found k ∙ ap (option_map (sighted walk.store)) g
+
     pub picked : (b : Branch) × ((slice_get walk.row one.branch ≡ Some b) × Picks (fresh code.body.tree) walk.ticks walk.row walk.store k one.branch (branch_by (fresh code.body.tree) walk.ticks b one.position) (or_own one.own walk.store))
     picked =
         picks (fresh code.body.tree) (fresh-new code.body.tree) code.body.atoms now walk.ticks walk.store walk.row k (sighted walk.store one)
         (are_there walk.ticks (fresh code.body.tree) walk.row (left walk.ticks walk.row 0 (fresh code.body.tree)) on.reads)
-        (ap (λ (l : List Sighting). slice_get l k) (sym e) ∙ slice_get-map (sighted walk.store) found k ∙ ap (option_map (sighted walk.store)) g)
+        seen
 
     pub is_in_row : IsInRow (fresh code.body.tree) walk.row one
     is_in_row =
-        let there = are_there walk.ticks (fresh code.body.tree) walk.row (left walk.ticks walk.row 0 (fresh code.body.tree)) on.reads in
-        (slice_get_within walk.row one.branch picked.0 picked.1.0, λ b h. (there one.branch b h).0)
+        let whole = fresh code.body.tree in
+        let there = are_there walk.ticks whole walk.row (left walk.ticks walk.row 0 whole) on.reads in
+        let g = goes whole (fresh-new code.body.tree) code.body.atoms now walk.ticks walk.store walk.row k (sighted walk.store one) seen in (
+          slice_get_within walk.row one.branch picked.0 picked.1.0,
+          λ b h. (
+            (there one.branch b h).0,
+            (let same : g.0 ≡ b = (let t : ◌≡◌ {A = Option Branch} (Some g.0) (Some b) = sym g.1.0 ∙ h in cc) in
+                subst (λ (c : Branch). GoesOn c.position (part whole c.position) one.position behind.Ended one.behind) same g.1.1),
+          ),
+        )
 
 pub count_of : (code : Code) (walk : Walk) → IsOnCode code walk → length (offers_of (walking_of code walk)) ≡ counted (fresh code.body.tree) walk.ticks walk.store walk.row
 unfolding offers_of

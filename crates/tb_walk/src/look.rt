@@ -1,9 +1,10 @@
-ghost use Rattle.std.specs.Prelude.{◌≡◌, ◌∷◌, [], ◌++◌, ◌-◌, ◌<◌, ℕ, IfOk, OnOk, map};
+ghost use Rattle.std.specs.Prelude.{◌≡◌, ◌∷◌, [], ◌++◌, ◌-◌, ◌<◌, ℕ, All, IfOk, OnOk, flat_map, map};
 ghost use Rattle.tb_algebra.specs.Atoms.{is_ready, times_of};
 ghost use Rattle.tb_algebra.specs.Processes.{fresh, If, When, Let};
 ghost use Rattle.tb_algebra.specs.Helpers.OfferViews.{or_own};
 ghost use Rattle.tb_code.specs.Positions.{size, part, IsTwo, IsOne};
-ghost use Rattle.tb_walk.specs.Helpers.Sights.{Sighting, entry_ready, entry_sighting, sighted, sightings, looking, row_sightings};
+ghost use Rattle.tb_code.specs.declared.behind.Behind.TheVariants.{Ended};
+ghost use Rattle.tb_walk.specs.Helpers.Sights.{Sighting, entry_sightings, listed_ready, listed_sighting, sighted, sightings, looking, row_sightings};
 ghost use Rattle.tb_walk.specs.Helpers.Takings.{AreThere};
 
 use crate::values::says;
@@ -11,7 +12,7 @@ use crate::{Branch, Sight};
 use std::alloc::Global;
 use tb_algebra::{copy_own, is_ready, store_of, with_settings};
 use tb_body::Settings;
-use tb_code::{Code, Entry, Op};
+use tb_code::{Behind, Code, Entry, Op, What};
 use tb_func::Store;
 use tb_terms::{Expr, Items, NoMemory};
 
@@ -62,11 +63,11 @@ fn look_branch(
 ) -> Result<(), NoMemory>
     requires { at < size (fresh code.now.body.tree) }
     ensures { OnOk result (map (sighted base.now) found.new
-        ≡ map (sighted base.now) found.old ++ sightings (looking code.now.body.atoms clock.now) at (part (fresh code.now.body.tree) at) base.now) }
+        ≡ map (sighted base.now) found.old ++ sightings (looking code.now.body.atoms clock.now) Ended at (part (fresh code.now.body.tree) at) base.now) }
 {
     let list = code.list(at);
     if list.is_empty() {
-        look_at(alloc, code, at, clock, base, &None, found)
+        look_at(alloc, code, at, Behind::Ended, clock, base, &None, found)
     } else {
         look_list(alloc, code, list, clock, base, found)
     }
@@ -80,8 +81,9 @@ fn look_list(
     base: &Store,
     found: &mut Items<Sight>,
 ) -> Result<(), NoMemory>
+    requires { All (λ entry. entry.position < size (fresh code.now.body.tree)) list.now }
     ensures { OnOk result (map (sighted base.now) found.new
-        ≡ map (sighted base.now) found.old ++ map (entry_sighting (looking code.now.body.atoms clock.now) base.now) list.now) }
+        ≡ map (sighted base.now) found.old ++ flat_map (entry_sightings (fresh code.now.body.tree) (looking code.now.body.atoms clock.now) base.now) list.now) }
 {
     for entry in list {
         look_entry(alloc, code, entry, clock, base, found)?;
@@ -97,34 +99,96 @@ fn look_entry(
     base: &Store,
     found: &mut Items<Sight>,
 ) -> Result<(), NoMemory>
+    requires { entry.now.position < size (fresh code.now.body.tree) }
     ensures { OnOk result (map (sighted base.now) found.new
-        ≡ map (sighted base.now) found.old ++ entry_sighting (looking code.now.body.atoms clock.now) base.now entry.now ∷ []) }
+        ≡ map (sighted base.now) found.old ++ entry_sightings (fresh code.now.body.tree) (looking code.now.body.atoms clock.now) base.now entry.now) }
+{
+    match entry.what {
+        What::Atom(atom, timed) => {
+            look_listed(
+                alloc,
+                code,
+                entry.position,
+                entry.behind,
+                atom,
+                timed,
+                clock,
+                base,
+                found,
+            )
+        }
+        What::Gate => look_gate(
+            alloc,
+            code,
+            entry.position,
+            entry.behind,
+            clock,
+            base,
+            found,
+        ),
+    }
+}
+
+fn look_listed(
+    alloc: Global,
+    code: &Code,
+    position: usize,
+    behind: Behind,
+    atom: u32,
+    timed: bool,
+    clock: &Clock,
+    base: &Store,
+    found: &mut Items<Sight>,
+) -> Result<(), NoMemory>
+    ensures { OnOk result (map (sighted base.now) found.new
+        ≡ map (sighted base.now) found.old ++ listed_sighting (looking code.now.body.atoms clock.now) behind position atom timed base.now ∷ []) }
 {
     let age = clock.ticks.saturating_sub(clock.entered);
-    let ready = is_entry_ready(alloc, code, base, entry, age, clock.bus)?;
+    let ready = is_listed_ready(alloc, code, base, atom, timed, age, clock.bus)?;
     found.push(Sight {
         branch: clock.branch,
-        position: entry.position,
-        atom: entry.atom,
+        position,
+        atom,
         age,
         ready,
+        behind,
         own: None,
     })?;
     Ok(())
 }
 
-fn is_entry_ready(
+/// What may be next behind a test or settings, which are walked through.
+#[cold]
+#[inline(never)]
+fn look_gate(
+    alloc: Global,
+    code: &Code,
+    at: usize,
+    behind: Behind,
+    clock: &Clock,
+    base: &Store,
+    found: &mut Items<Sight>,
+) -> Result<(), NoMemory>
+    requires { at < size (fresh code.now.body.tree) }
+    ensures { OnOk result (map (sighted base.now) found.new
+        ≡ map (sighted base.now) found.old ++ sightings (looking code.now.body.atoms clock.now) behind at (part (fresh code.now.body.tree) at) base.now) }
+{
+    look_at(alloc, code, at, behind, clock, base, &None, found)
+}
+
+fn is_listed_ready(
     alloc: Global,
     code: &Code,
     store: &Store,
-    entry: &Entry,
+    atom: u32,
+    timed: bool,
     age: u64,
     now: u64,
 ) -> Result<bool, NoMemory>
-    ensures { IfOk result (λ ready. ready ≡ entry_ready code.now.body.atoms store.now age now entry.now) }
+    ensures { IfOk result (λ ready. ready ≡ listed_ready code.now.body.atoms store.now age now atom timed) }
 {
-    if entry.timed {
-        Ok(is_atom_ready(alloc, code, store, entry.atom, age, now)?)
+    if timed {
+        Ok(is_atom_ready(alloc, code, store, atom, age, now)?)
     } else {
         Ok(true)
     }
@@ -146,6 +210,7 @@ fn look_at(
     alloc: Global,
     code: &Code,
     at: usize,
+    so_far: Behind,
     clock: &Clock,
     base: &Store,
     own: &Option<Store>,
@@ -154,19 +219,35 @@ fn look_at(
     requires { at < size (fresh code.now.body.tree) }
     ensures { OnOk result (map (sighted base.now) found.new
         ≡ map (sighted base.now) found.old
-        ++ sightings (looking code.now.body.atoms clock.now) at (part (fresh code.now.body.tree) at) (or_own own.now base.now)) }
+        ++ sightings (looking code.now.body.atoms clock.now) so_far at (part (fresh code.now.body.tree) at) (or_own own.now base.now)) }
 {
     let first = code.first(at);
     match &code.node(at).op {
-        Op::At(atom) => look_atom(alloc, code, at, *atom, clock, base, own, found),
-        Op::Seq(_) => look_at(alloc, code, first, clock, base, own, found),
-        Op::Alt(right) | Op::Star(right) | Op::Par(right) => {
-            look_at(alloc, code, first, clock, base, own, found)?;
-            look_at(alloc, code, *right, clock, base, own, found)
+        Op::At(atom) => look_atom(alloc, code, at, so_far, *atom, clock, base, own, found),
+        Op::Seq(right) => {
+            let inside = Behind::Entered(*right).followed(so_far);
+            look_at(alloc, code, first, inside, clock, base, own, found)
         }
-        Op::If(test, right) => look_side(alloc, code, at, test, *right, clock, base, own, found),
-        Op::When(test) => look_if_true(alloc, code, at, test, clock, base, own, found),
-        Op::Let(settings) => look_with(alloc, code, at, settings, clock, base, own, found),
+        Op::Alt(right) => {
+            look_at(alloc, code, first, so_far, clock, base, own, found)?;
+            look_at(alloc, code, *right, so_far, clock, base, own, found)
+        }
+        Op::Star(right) => {
+            let inside = Behind::Entered(at).followed(so_far);
+            look_at(alloc, code, first, inside, clock, base, own, found)?;
+            look_at(alloc, code, *right, so_far, clock, base, own, found)
+        }
+        Op::Par(right) => {
+            look_at(alloc, code, first, Behind::Parted, clock, base, own, found)?;
+            look_at(alloc, code, *right, Behind::Parted, clock, base, own, found)
+        }
+        Op::If(test, right) => {
+            look_side(
+                alloc, code, at, so_far, test, *right, clock, base, own, found,
+            )
+        }
+        Op::When(test) => look_if_true(alloc, code, at, so_far, test, clock, base, own, found),
+        Op::Let(settings) => look_with(alloc, code, at, so_far, settings, clock, base, own, found),
     }
 }
 
@@ -177,6 +258,7 @@ fn look_side(
     alloc: Global,
     code: &Code,
     at: usize,
+    so_far: Behind,
     test: &Expr,
     right: usize,
     clock: &Clock,
@@ -187,11 +269,11 @@ fn look_side(
     requires { IsTwo (fresh code.now.body.tree) (If test.now) at right }
     ensures { OnOk result (map (sighted base.now) found.new
         ≡ map (sighted base.now) found.old
-        ++ sightings (looking code.now.body.atoms clock.now) at (part (fresh code.now.body.tree) at) (or_own own.now base.now)) }
+        ++ sightings (looking code.now.body.atoms clock.now) so_far at (part (fresh code.now.body.tree) at) (or_own own.now base.now)) }
 {
     match says(alloc, store_of(base, own), test)? {
-        Some(true) => look_at(alloc, code, code.first(at), clock, base, own, found),
-        Some(false) => look_at(alloc, code, right, clock, base, own, found),
+        Some(true) => look_at(alloc, code, code.first(at), so_far, clock, base, own, found),
+        Some(false) => look_at(alloc, code, right, so_far, clock, base, own, found),
         None => Ok(()),
     }
 }
@@ -203,6 +285,7 @@ fn look_if_true(
     alloc: Global,
     code: &Code,
     at: usize,
+    so_far: Behind,
     test: &Expr,
     clock: &Clock,
     base: &Store,
@@ -212,10 +295,10 @@ fn look_if_true(
     requires { IsOne (fresh code.now.body.tree) (When test.now) at }
     ensures { OnOk result (map (sighted base.now) found.new
         ≡ map (sighted base.now) found.old
-        ++ sightings (looking code.now.body.atoms clock.now) at (part (fresh code.now.body.tree) at) (or_own own.now base.now)) }
+        ++ sightings (looking code.now.body.atoms clock.now) so_far at (part (fresh code.now.body.tree) at) (or_own own.now base.now)) }
 {
     match says(alloc, store_of(base, own), test)? {
-        Some(true) => look_at(alloc, code, code.first(at), clock, base, own, found),
+        Some(true) => look_at(alloc, code, code.first(at), so_far, clock, base, own, found),
         Some(false) => Ok(()),
         None => Ok(()),
     }
@@ -228,6 +311,7 @@ fn look_with(
     alloc: Global,
     code: &Code,
     at: usize,
+    so_far: Behind,
     settings: &Settings,
     clock: &Clock,
     base: &Store,
@@ -237,12 +321,21 @@ fn look_with(
     requires { IsOne (fresh code.now.body.tree) (Let settings.now) at }
     ensures { OnOk result (map (sighted base.now) found.new
         ≡ map (sighted base.now) found.old
-        ++ sightings (looking code.now.body.atoms clock.now) at (part (fresh code.now.body.tree) at) (or_own own.now base.now)) }
+        ++ sightings (looking code.now.body.atoms clock.now) so_far at (part (fresh code.now.body.tree) at) (or_own own.now base.now)) }
 {
     match with_settings(alloc, store_of(base, own), settings)? {
         Some(store) => {
             let own = Some(store);
-            look_at(alloc, code, code.first(at), clock, base, &own, found)
+            look_at(
+                alloc,
+                code,
+                code.first(at),
+                so_far,
+                clock,
+                base,
+                &own,
+                found,
+            )
         }
         None => Ok(()),
     }
@@ -252,6 +345,7 @@ fn look_atom(
     alloc: Global,
     code: &Code,
     position: usize,
+    behind: Behind,
     atom: u32,
     clock: &Clock,
     base: &Store,
@@ -262,6 +356,7 @@ fn look_atom(
         ≡ map (sighted base.now) found.old ++ record {
           branch = clock.now.branch;
           position = position;
+          behind = behind;
           seen = record {
             atom = atom;
             age = clock.now.ticks - clock.now.entered;
@@ -279,6 +374,7 @@ fn look_atom(
         atom,
         age,
         ready,
+        behind,
         own,
     })?;
     Ok(())

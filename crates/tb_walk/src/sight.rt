@@ -3,6 +3,7 @@ ghost use Rattle.tb_walk.specs.Helpers.Sights.{offer_of};
 
 use std::alloc::Global;
 use tb_algebra::{Offer, copy_own};
+use tb_code::Behind;
 use tb_func::Store;
 use tb_terms::{Items, NoMemory};
 
@@ -16,6 +17,8 @@ pub struct Sight {
     pub age: u64,
     pub atom: u32,
     pub ready: bool,
+    /// What comes of the branch's part where it happens.
+    pub behind: Behind,
     pub own: Option<Store>,
 }
 
@@ -31,6 +34,7 @@ impl Sight {
             atom: self.atom,
             age: self.age,
             ready: self.ready,
+            behind: self.behind,
             own,
         })
     }

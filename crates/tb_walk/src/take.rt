@@ -2,76 +2,37 @@ ghost use Rattle.std.specs.Prelude.{◌≡◌, ◌<◌, ◌++◌, ◌∷◌, [],
 ghost use Rattle.tb_algebra.specs.Processes.{fresh, Par};
 ghost use Rattle.tb_code.specs.Positions.{size, part, IsTwo};
 ghost use Rattle.tb_walk.specs.Helpers.Reads.{branch, or_entered};
-ghost use Rattle.tb_walk.specs.Helpers.Partings.{GoesOn, branch_by, row_by};
-ghost use Rattle.tb_walk.specs.Helpers.Takings.{IsSettled};
+ghost use Rattle.tb_walk.specs.Helpers.Partings.{branch_by, row_by};
+ghost use Rattle.tb_walk.specs.Helpers.Takings.{IsInRow, IsSettled};
 
 use crate::settle::{Step, left_by, spliced};
-use crate::{Branch, Row};
+use crate::{Branch, Row, Sight};
 use std::alloc::Global;
-use tb_code::{Code, Op};
+use tb_code::{Behind, Code, Op};
 use tb_terms::{Items, NoMemory};
 
-/// What comes of a part of which an atom happens.
-#[derive(Clone, Copy, Drop)]
-pub enum Behind {
-    /// It has ended.
-    Ended,
-    /// This position is entered instead.
-    Entered(usize),
-    /// A merge is parted.
-    Parted,
-}
-
-/// What becomes of a row where this atom happens, which stands in the part of the branch at the index.
+/// What becomes of a row where the atom that was found happens.
 pub(crate) fn step_by(
     alloc: Global,
     code: &Code,
     row: &[Branch],
     ticks: u64,
-    at: usize,
-    atom: usize,
+    sight: &Sight,
 ) -> Result<Step, NoMemory>
-    requires within { at < length row.now }
-    requires there { (branch : Branch) → slice_get row.now at ≡ Some branch → branch.position < size (fresh code.now.body.tree) }
-    ensures { (branch : Branch) → slice_get row.now at ≡ Some branch →
-        IfOk result (IsSettled (fresh code.now.body.tree) ticks row.now at (branch_by (fresh code.now.body.tree) ticks branch atom)) }
+    requires { IsInRow (fresh code.now.body.tree) row.now sight.now }
+    ensures { (branch : Branch) → slice_get row.now sight.now.branch ≡ Some branch →
+        IfOk result (IsSettled (fresh code.now.body.tree) ticks row.now sight.now.branch (branch_by (fresh code.now.body.tree) ticks branch sight.now.position)) }
 {
-    match comes_of(code, row[at].position, atom, Behind::Ended) {
-        Behind::Ended => Ok(left_by(code, row, ticks, at)),
+    match sight.behind {
+        Behind::Ended => Ok(left_by(code, row, ticks, sight.branch)),
         Behind::Entered(position) => Ok(Step::Put(
-            at,
+            sight.branch,
             Branch {
                 position,
                 entered: ticks,
             },
         )),
-        Behind::Parted => parted(alloc, code, row, ticks, at, atom),
-    }
-}
-
-/// What comes of the part at a position where its atom happens. It is known what comes once the part has
-/// ended.
-#[cycle(comes_of)]
-pub(crate) fn comes_of(code: &Code, at: usize, atom: usize, so_far: Behind) -> Behind
-    requires { at < size (fresh code.now.body.tree) }
-    ensures { GoesOn (fresh code.now.body.tree) at atom so_far result }
-{
-    let first = code.first(at);
-    match &code.node(at).op {
-        Op::At(_) => so_far,
-        Op::Seq(right) => comes_of(code, first, atom, Behind::Entered(*right)),
-        Op::Alt(right) => comes_of(code, side(first, *right, atom), atom, so_far),
-        Op::Star(right) => {
-            if atom < *right {
-                comes_of(code, first, atom, Behind::Entered(at))
-            } else {
-                comes_of(code, *right, atom, so_far)
-            }
-        }
-        Op::Par(_) => Behind::Parted,
-        Op::If(_, right) => comes_of(code, side(first, *right, atom), atom, so_far),
-        Op::When(_) => comes_of(code, first, atom, so_far),
-        Op::Let(_) => comes_of(code, first, atom, so_far),
+        Behind::Parted => parted(alloc, code, row, ticks, sight.branch, sight.position),
     }
 }
 

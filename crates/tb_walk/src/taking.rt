@@ -7,12 +7,12 @@ ghost use Rattle.tb_walk.specs.Helpers.Takings.{IsInRow, IsTakenBy};
 ghost use Rattle.tb_walk.specs.WalkViews.{walking_of, IsOnCode, IsLeft};
 
 use crate::look::look_row;
-use crate::take::{Behind, comes_of, step_by};
+use crate::take::step_by;
 use crate::taken::{Outcome, Taken};
 use crate::{Branch, Sight, Walk};
 use std::alloc::Global;
 use tb_algebra::{copy_own, set_binds};
-use tb_code::Code;
+use tb_code::{Behind, Code};
 use tb_func::Store;
 use tb_match::Binds;
 use tb_terms::{Boxed, Items, NoMemory};
@@ -31,8 +31,7 @@ pub(crate) fn take_seen(
 {
     let row = walk.row.as_slice();
     let sight = sight_at(walk.found.as_slice(), k);
-    let branch = branch_at(row, sight.branch);
-    match comes_of(code, branch.position, sight.position, Behind::Ended) {
+    match sight.behind {
         Behind::Ended => Ok(Taken::Ended(k)),
         Behind::Entered(position) => Ok(Taken::Entered(k, position)),
         Behind::Parted => made(alloc, code, row, walk.ticks, sight),
@@ -65,13 +64,6 @@ fn sight_at(found: &[Sight], k: usize) -> &Sight
     &found[k]
 }
 
-fn branch_at(row: &[Branch], at: usize) -> Branch
-    requires { at < length row.now }
-    ensures { slice_get row.now at ≡ Some result }
-{
-    row[at]
-}
-
 /// What comes of the atom that was found, where it happens, in memory of its own.
 #[inline(never)]
 fn made(
@@ -85,7 +77,7 @@ fn made(
     ensures { IfOk result (IsTakenBy (fresh code.now.body.tree) ticks row.now sight.now) }
 {
     let own = copy_own(alloc, &sight.own)?;
-    let step = step_by(alloc, code, row, ticks, sight.branch, sight.position)?;
+    let step = step_by(alloc, code, row, ticks, sight)?;
     Ok(Taken::Made(Boxed::new(alloc, Outcome { step, own })?))
 }
 

@@ -2,10 +2,10 @@
 use Rattle.std.specs.Prelude.{◌≡◌, ℕ, suc, ◌+◌, nat_lt, List, [], ◌∷◌, ◌++◌, if◌then◌else◌, ⊤}
 use Rattle.tb_algebra.specs.Processes.{Process, At, Seq, Alt, Star, Par, If, When, Let}
 use Rattle.tb_code.specs.Positions.{size, part}
+use Rattle.tb_code.specs.declared.behind.Behind.{Behind}
+use Rattle.tb_code.specs.declared.behind.Behind.TheVariants as behind
 use Rattle.tb_walk.specs.Helpers.Reads.{branch, or_entered}
 use Rattle.tb_walk.specs.declared.branch.Branch.{Branch}
-use Rattle.tb_walk.specs.declared.take.Behind.{Behind}
-use Rattle.tb_walk.specs.declared.take.Behind.TheVariants as behind
 
 -- The row that is left of a part that was entered as a whole, and whose positions begin here, where the atom at this position happens.
 -- What follows is entered now, and the other side of a merge goes on waiting.
@@ -25,13 +25,15 @@ row_by ticks entered at (Let settings x) to = row_by ticks entered (suc at) x to
 abbrev pub branch_by : Process → ℕ → Branch → ℕ → List Branch
 branch_by whole ticks branch to = row_by ticks branch.entered branch.position (part whole branch.position) to
 
-abbrev pub entering : ℕ → Behind → List Branch
-entering ticks behind.Ended = []
-entering ticks (behind.Entered position) = branch position ticks ∷ []
-entering ticks behind.Parted = []
+-- The rows, by the ticks that were seen and those at which the part was entered, are what comes of it. A merge on the way may
+-- leave any row.
+abbrev pub AreRows : (ℕ → ℕ → List Branch) → Behind → Type 0
+AreRows rows behind.Ended = (ticks entered : ℕ) → rows ticks entered ≡ []
+AreRows rows (behind.Entered position) = (ticks entered : ℕ) → rows ticks entered ≡ branch position ticks ∷ []
+AreRows rows behind.Parted = ⊤
 
--- What comes of the part at a position, where it is known what comes once it has ended. A merge on the way may leave any row.
-abbrev pub GoesOn : Process → ℕ → ℕ → Behind → Behind → Type 0
-GoesOn whole at to so_far behind.Ended = (ticks entered : ℕ) → or_entered (row_by ticks entered at (part whole at) to) (entering ticks so_far) ≡ []
-GoesOn whole at to so_far (behind.Entered position) = (ticks entered : ℕ) → or_entered (row_by ticks entered at (part whole at) to) (entering ticks so_far) ≡ branch position ticks ∷ []
-GoesOn whole at to so_far behind.Parted = ⊤
+-- What comes where an atom of the part whose positions begin here happens, and it is known what comes once the part has ended.
+abbrev pub GoesOn : ℕ → Process → ℕ → Behind → Behind → Type 0
+GoesOn at x to behind.Ended result = AreRows (λ ticks entered. row_by ticks entered at x to) result
+GoesOn at x to (behind.Entered next) result = AreRows (λ ticks entered. or_entered (row_by ticks entered at x to) (branch next ticks ∷ [])) result
+GoesOn at x to behind.Parted result = result ≡ behind.Parted

@@ -7,16 +7,22 @@ use Rattle.tb_algebra.specs.Processes.{Process, At, Seq, Alt, Star, Par, If, Whe
 use Rattle.tb_algebra.specs.Settings.{tested, with_settings}
 use Rattle.tb_algebra.specs.Helpers.OfferViews.{OfferView, or_own}
 use Rattle.tb_algebra.specs.declared.offer.Offer.{Offer}
+use Rattle.tb_code.specs.Entries.{followed}
 use Rattle.tb_code.specs.Positions.{size, part}
+use Rattle.tb_code.specs.declared.behind.Behind.{Behind}
+use Rattle.tb_code.specs.declared.behind.Behind.TheVariants as behind
 use Rattle.tb_code.specs.declared.entry.Entry.{Entry}
+use Rattle.tb_code.specs.declared.entry.What.{What}
+use Rattle.tb_code.specs.declared.entry.What.TheVariants as what
 use Rattle.tb_walk.specs.declared.branch.Branch.{Branch}
 use Rattle.tb_walk.specs.declared.look.Clock.{Clock}
 use Rattle.tb_walk.specs.declared.sight.Sight.{Sight}
 
--- an offer, the index of its branch, and where its atom stands
+-- an offer, the index of its branch, where its atom stands, and what comes of the branch's part where it happens
 pub record Sighting : Type 0 where
   pub branch : ℕ
   pub position : ℕ
+  pub behind : Behind
   pub seen : OfferView
 
 abbrev pub offer_of : Sight → Offer
@@ -27,6 +33,7 @@ abbrev pub sighted : List Slot → Sight → Sighting
 sighted base sight = record {
   branch = sight.branch;
   position = sight.position;
+  behind = sight.behind;
   seen = record { atom = sight.atom; age = sight.age; ready = sight.ready; store = or_own sight.own base };
 }
 
@@ -40,22 +47,24 @@ pub record Looking : Type 0 where
 abbrev pub looking : List Atom → Clock → Looking
 looking atoms clock = record { atoms = atoms; branch = clock.branch; age = clock.ticks - clock.entered; now = clock.bus }
 
-abbrev pub sighting_at : Looking → ℕ → ℕ → List Slot → Sighting
-sighting_at by at atom store = record {
+abbrev pub sighting_at : Looking → Behind → ℕ → ℕ → List Slot → Sighting
+sighting_at by so_far at atom store = record {
   branch = by.branch;
   position = at;
+  behind = so_far;
   seen = record { atom = atom; age = by.age; ready = is_ready store by.age by.now (times_of by.atoms atom); store = store };
 }
 
--- an entry of a list: an atom without times is ready
-abbrev pub entry_ready : List Atom → List Slot → ℕ → ℕ → Entry → Bool
-entry_ready atoms store age now entry = if entry.timed then is_ready store age now (times_of atoms entry.atom) else true
+-- an atom of a list without times is ready
+abbrev pub listed_ready : List Atom → List Slot → ℕ → ℕ → ℕ → Bool → Bool
+listed_ready atoms store age now atom timed = if timed then is_ready store age now (times_of atoms atom) else true
 
-abbrev pub entry_sighting : Looking → List Slot → Entry → Sighting
-entry_sighting by store entry = record {
+abbrev pub listed_sighting : Looking → Behind → ℕ → ℕ → Bool → List Slot → Sighting
+listed_sighting by so_far at atom timed store = record {
   branch = by.branch;
-  position = entry.position;
-  seen = record { atom = entry.atom; age = by.age; ready = entry_ready by.atoms store by.age by.now entry; store = store };
+  position = at;
+  behind = so_far;
+  seen = record { atom = atom; age = by.age; ready = listed_ready by.atoms store by.age by.now atom timed; store = store };
 }
 
 abbrev pub sightings_if : Option Bool → List Sighting → List Sighting → List Sighting
@@ -67,20 +76,28 @@ abbrev pub sightings_after : Option (List Slot) → (List Slot → List Sighting
 sightings_after None f = []
 sightings_after (Some store) f = f store
 
--- What is seen of a part that was entered as a whole and whose positions begin here.
-abbrev pub sightings : Looking → ℕ → Process → List Slot → List Sighting
-sightings by at (At atom age) store = sighting_at by at atom store ∷ []
-sightings by at (Seq x y) store = sightings by (suc at) x store
-sightings by at (Alt x y) store = sightings by (suc at) x store ++ sightings by (suc at + size x) y store
-sightings by at (Star x y) store = sightings by (suc at) x store ++ sightings by (suc at + size x) y store
-sightings by at (Par x y) store = sightings by (suc at) x store ++ sightings by (suc at + size x) y store
-sightings by at (If test x y) store = sightings_if (tested store test) (sightings by (suc at) x store) (sightings by (suc at + size x) y store)
-sightings by at (When test x) store = sightings_if (tested store test) (sightings by (suc at) x store) []
-sightings by at (Let settings x) store = sightings_after (with_settings store settings) (sightings by (suc at) x)
+-- What is seen of a part that was entered as a whole and whose positions begin here, where this comes once it has ended.
+abbrev pub sightings : Looking → Behind → ℕ → Process → List Slot → List Sighting
+sightings by so_far at (At atom age) store = sighting_at by so_far at atom store ∷ []
+sightings by so_far at (Seq x y) store = sightings by (followed (behind.Entered (suc at + size x)) so_far) (suc at) x store
+sightings by so_far at (Alt x y) store = sightings by so_far (suc at) x store ++ sightings by so_far (suc at + size x) y store
+sightings by so_far at (Star x y) store = sightings by (followed (behind.Entered at) so_far) (suc at) x store ++ sightings by so_far (suc at + size x) y store
+sightings by so_far at (Par x y) store = sightings by behind.Parted (suc at) x store ++ sightings by behind.Parted (suc at + size x) y store
+sightings by so_far at (If test x y) store = sightings_if (tested store test) (sightings by so_far (suc at) x store) (sightings by so_far (suc at + size x) y store)
+sightings by so_far at (When test x) store = sightings_if (tested store test) (sightings by so_far (suc at) x store) []
+sightings by so_far at (Let settings x) store = sightings_after (with_settings store settings) (sightings by so_far (suc at) x)
+
+-- What is seen by an entry of a list: the atom, or what stands behind the gate.
+abbrev pub seen_by : Process → Looking → List Slot → ℕ → Behind → What → List Sighting
+seen_by whole by store at so_far (what.Atom atom timed) = listed_sighting by so_far at atom timed store ∷ []
+seen_by whole by store at so_far what.Gate = sightings by so_far at (part whole at) store
+
+abbrev pub entry_sightings : Process → Looking → List Slot → Entry → List Sighting
+entry_sightings whole by store entry = seen_by whole by store entry.position entry.behind entry.what
 
 abbrev pub branch_sightings : Process → List Atom → ℕ → ℕ → List Slot → ℕ → Branch → List Sighting
 branch_sightings whole atoms now ticks store at branch =
-    sightings (record { atoms = atoms; branch = at; age = ticks - branch.entered; now = now }) branch.position (part whole branch.position) store
+    sightings (record { atoms = atoms; branch = at; age = ticks - branch.entered; now = now }) behind.Ended branch.position (part whole branch.position) store
 
 -- what is seen of a row's branches, whose first has this index
 abbrev pub row_sightings : Process → List Atom → ℕ → ℕ → List Slot → ℕ → List Branch → List Sighting

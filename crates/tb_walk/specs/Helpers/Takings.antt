@@ -4,10 +4,11 @@ use Rattle.tb_func.specs.declared.slot.Slot.{Slot}
 use Rattle.tb_algebra.specs.Helpers.Selections.{On, selected}
 use Rattle.tb_algebra.specs.Processes.{Process}
 use Rattle.tb_code.specs.Positions.{part, positions, size}
+use Rattle.tb_code.specs.declared.behind.Behind.TheVariants as behind
 use Rattle.tb_code.specs.declared.node.Node.{Node}
 use Rattle.tb_walk.specs.Helpers.Goings.{term_at, counted}
 use Rattle.tb_walk.specs.Helpers.Reads.{Reads, branch, entered_behind, or_entered}
-use Rattle.tb_walk.specs.Helpers.Partings.{branch_by}
+use Rattle.tb_walk.specs.Helpers.Partings.{GoesOn, branch_by}
 use Rattle.tb_walk.specs.declared.branch.Branch.{Branch}
 use Rattle.tb_walk.specs.declared.settle.Step.{Step}
 use Rattle.tb_walk.specs.declared.settle.Step.TheVariants as step
@@ -58,9 +59,11 @@ pub record IsSettled (whole : Process) (ticks : ℕ) (row : List Branch) (at : �
   pub within : IsWithin row step
   pub after : SettlesTo whole ticks row at inside (row_after row step)
 
--- what was found stands in a branch of the row
+-- what was found stands in a branch of the row, whose part goes on as it says
 abbrev pub IsInRow : Process → List Branch → Sight → Type 0
-IsInRow whole row sight = (sight.branch < length row) × ((b : Branch) → slice_get row sight.branch ≡ Some b → b.position < size whole)
+IsInRow whole row sight =
+    (sight.branch < length row)
+    × ((b : Branch) → slice_get row sight.branch ≡ Some b → (b.position < size whole) × GoesOn b.position (part whole b.position) sight.position behind.Ended sight.behind)
 
 -- It was made: the store is its own, and the row goes on by its branch and its position.
 abbrev pub IsMadeBy : Process → ℕ → List Branch → Sight → Outcome → Type 0

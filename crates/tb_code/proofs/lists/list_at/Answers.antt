@@ -1,12 +1,13 @@
-use Rattle.std.proofs.Common.{◌≡◌, ◌+◌, ◌<◌, suc, List, Option, length, ap, subst, ◌∙◌, arith}
+use Rattle.std.proofs.Common.{◌≡◌, ◌+◌, suc, List, subst, ap, arith}
 use Rattle.std.proofs.lemmas.Result.{IfOk-weaker}
-use Rattle.tb_algebra.specs.Processes.{fresh, Seq}
+use Rattle.tb_algebra.specs.Processes.{fresh, Seq, Alt, Star, Par, If, When, Let}
 use Rattle.tb_code.specs.Entries.{HasList, entries_of, entry}
-use Rattle.tb_code.specs.Positions.{HasParts, IsTwo, part, size}
+use Rattle.tb_code.specs.Positions.{HasParts, IsOne, IsTwo, part}
+use Rattle.tb_code.specs.declared.behind.Behind.TheVariants as behind
 use Rattle.tb_code.specs.declared.entry.Entry.{Entry}
+use Rattle.tb_code.specs.declared.entry.What.TheVariants as what
 use Rattle.tb_code.specs.declared.node.Op.TheVariants as op
-use Rattle.tb_code.proofs.EntryLemmas.{both_within, grows_not, list_of_atom, list_of_both, list_of_seq}
-use Rattle.tb_code.proofs.Parts.{has_parts, length-positions}
+use Rattle.tb_code.proofs.EntryLemmas.{first_within, list_of_alt, list_of_atom, list_of_if, list_of_let, list_of_par, list_of_seq, list_of_star, list_of_when, parts_at, second_within}
 use Rattle.tb_code.proofs.lists.list_at.Goals as goal
 
 pub returns-in-At-clause-list : goal.returns-in-At-clause-list
@@ -14,86 +15,160 @@ returns-in-At-clause-list c =
     let whole = fresh c.args.body.now.tree in
     let atoms = c.args.body.now.atoms in
     let at = c.args.at in
-    let same : length c.args.nodes.now ≡ size whole = ap length c.requires.numbered ∙ length-positions whole in
-    let there : at < size whole = (let w = c.requires.within in omega arith) in
-    let has = has_parts whole c.args.nodes.now at c.node_at.result.now c.requires.numbered there c.node_at.ensures in
     let atom = c.in-At.atom in
-    let here : HasParts whole at (op.At atom) = subst (HasParts whole at) c.in-At.is has in
-    let one : Entry = record { position = at; atom = atom; timed = c.is_timed.result } in
-    let is : one ≡ entry atoms at atom = ap (λ b. let e : Entry = record { position = at; atom = atom; timed = b } in e) c.is_timed.ensures in
+    let here : HasParts whole at (op.At atom) = parts_at whole c.args.nodes.now at c.node_at.result.now (op.At atom) c.requires.numbered c.requires.within c.node_at.ensures c.in-At.is in
+    let one : Entry = record { position = at; what = what.Atom atom c.is_timed.result; behind = behind.Ended } in
+    let is : one ≡ entry atoms at atom = ap (λ b. let e : Entry = record { position = at; what = what.Atom atom b; behind = behind.Ended } in e) c.is_timed.ensures in
     let list = list_of_atom atoms whole at atom here.0 one here.1 is in
-    IfOk-weaker c.add_one.result _ _ (λ span h. subst (λ (l : Option (List Entry)). HasList c.add_one.new.entries span l) list h) c.add_one.ensures.list
+    IfOk-weaker c.add_one.result _ _ (λ span h. subst (λ (l : List Entry). HasList c.add_one.new.entries span l) list h) c.add_one.ensures.list
 
 pub span_at-requires : goal.span_at-requires
 span_at-requires c =
     let whole = fresh c.args.body.now.tree in
     let atoms = c.args.body.now.atoms in
     let at = c.args.at in
-    let same : length c.args.nodes.now ≡ size whole = ap length c.requires.numbered ∙ length-positions whole in
-    let there : at < size whole = (let w = c.requires.within in omega arith) in
-    let has = has_parts whole c.args.nodes.now at c.node_at.result.now c.requires.numbered there c.node_at.ensures in
-    let two : IsTwo whole Seq at c.in-Seq.field-0 = subst (HasParts whole at) c.in-Seq.is has in
-    let first = two.first in
-    let long = c.requires.lists.0 in
-    omega arith
+    let two : IsTwo whole Seq at c.in-Seq.right = parts_at whole c.args.nodes.now at c.node_at.result.now (op.Seq c.in-Seq.right) c.requires.numbered c.requires.within c.node_at.ensures c.in-Seq.is in
+    first_within atoms whole c.args.entries.now c.args.spans.now Seq at c.in-Seq.right c.requires.lists two
+
+pub add_first-requires : goal.add_first-requires
+add_first-requires c = (c.requires.lists.1 (c.args.at + 1) c.span_at.result c.span_at.ensures).0
 
 pub returns-in-Seq-clause-list : goal.returns-in-Seq-clause-list
 returns-in-Seq-clause-list c =
     let whole = fresh c.args.body.now.tree in
     let atoms = c.args.body.now.atoms in
     let at = c.args.at in
-    let same : length c.args.nodes.now ≡ size whole = ap length c.requires.numbered ∙ length-positions whole in
-    let there : at < size whole = (let w = c.requires.within in omega arith) in
-    let has = has_parts whole c.args.nodes.now at c.node_at.result.now c.requires.numbered there c.node_at.ensures in
-    let two : IsTwo whole Seq at c.in-Seq.field-0 = subst (HasParts whole at) c.in-Seq.is has in
+    let two : IsTwo whole Seq at c.in-Seq.right = parts_at whole c.args.nodes.now at c.node_at.result.now (op.Seq c.in-Seq.right) c.requires.numbered c.requires.within c.node_at.ensures c.in-Seq.is in
     let first : at + 1 ≡ suc at = omega arith in
-    subst (λ (l : Option (List Entry)). HasList c.args.entries.now c.span_at.result l) (list_of_seq atoms whole at c.in-Seq.field-0 (at + 1) first two) (c.requires.lists.1 (at + 1) c.span_at.result c.span_at.ensures)
+    let list = list_of_seq atoms whole at c.in-Seq.right (at + 1) first two in
+    IfOk-weaker c.add_first.result _ _ (λ span h. subst (λ (l : List Entry). HasList c.add_first.new.entries span l) list h)
+    (c.add_first.ensures.list (entries_of atoms (at + 1) (part whole (at + 1))) (c.requires.lists.1 (at + 1) c.span_at.result c.span_at.ensures))
 
-pub returns-in-Seq-clause-grows : goal.returns-in-Seq-clause-grows
-returns-in-Seq-clause-grows c = grows_not c.args.entries.now
-
-pub span_at-first-requires : goal.span_at-first-requires
-span_at-first-requires c =
+pub span_at-requires-in-Alt : goal.span_at-requires-in-Alt
+span_at-requires-in-Alt c =
     let whole = fresh c.args.body.now.tree in
     let atoms = c.args.body.now.atoms in
     let at = c.args.at in
-    let same : length c.args.nodes.now ≡ size whole = ap length c.requires.numbered ∙ length-positions whole in
-    let there : at < size whole = (let w = c.requires.within in omega arith) in
-    let has = has_parts whole c.args.nodes.now at c.node_at.result.now c.requires.numbered there c.node_at.ensures in
-    let two = both_within whole c.node_at.result.now.op at c.in-Alt.right c.in-Alt.is has in
-    let first = two.0 in
-    let long = c.requires.lists.0 in
-    omega arith
+    let two : IsTwo whole Alt at c.in-Alt.right = parts_at whole c.args.nodes.now at c.node_at.result.now (op.Alt c.in-Alt.right) c.requires.numbered c.requires.within c.node_at.ensures c.in-Alt.is in
+    first_within atoms whole c.args.entries.now c.args.spans.now Alt at c.in-Alt.right c.requires.lists two
 
-pub span_at-second-requires : goal.span_at-second-requires
-span_at-second-requires c =
+pub span_at-requires-in-Alt-2 : goal.span_at-requires-in-Alt-2
+span_at-requires-in-Alt-2 c =
     let whole = fresh c.args.body.now.tree in
     let atoms = c.args.body.now.atoms in
     let at = c.args.at in
-    let same : length c.args.nodes.now ≡ size whole = ap length c.requires.numbered ∙ length-positions whole in
-    let there : at < size whole = (let w = c.requires.within in omega arith) in
-    let has = has_parts whole c.args.nodes.now at c.node_at.result.now c.requires.numbered there c.node_at.ensures in
-    let two = both_within whole c.node_at.result.now.op at c.in-Alt.right c.in-Alt.is has in
-    let second = two.1 in
-    let long = c.requires.lists.0 in
-    omega arith
+    let two : IsTwo whole Alt at c.in-Alt.right = parts_at whole c.args.nodes.now at c.node_at.result.now (op.Alt c.in-Alt.right) c.requires.numbered c.requires.within c.node_at.ensures c.in-Alt.is in
+    second_within atoms whole c.args.entries.now c.args.spans.now Alt at c.in-Alt.right c.requires.lists two
 
 pub add_both-requires-clause-x_within : goal.add_both-requires-clause-x_within
-add_both-requires-clause-x_within c = (c.requires.lists.1 (c.args.at + 1) c.span_at-first.result c.span_at-first.ensures).0
+add_both-requires-clause-x_within c = (c.requires.lists.1 (c.args.at + 1) c.span_at-in-Alt.result c.span_at-in-Alt.ensures).0
 
 pub add_both-requires-clause-y_within : goal.add_both-requires-clause-y_within
-add_both-requires-clause-y_within c = (c.requires.lists.1 c.in-Alt.right c.span_at-second.result c.span_at-second.ensures).0
+add_both-requires-clause-y_within c = (c.requires.lists.1 c.in-Alt.right c.span_at-in-Alt-2.result c.span_at-in-Alt-2.ensures).0
 
 pub returns-in-Alt-clause-list : goal.returns-in-Alt-clause-list
 returns-in-Alt-clause-list c =
     let whole = fresh c.args.body.now.tree in
     let atoms = c.args.body.now.atoms in
     let at = c.args.at in
-    let same : length c.args.nodes.now ≡ size whole = ap length c.requires.numbered ∙ length-positions whole in
-    let there : at < size whole = (let w = c.requires.within in omega arith) in
-    let has = has_parts whole c.args.nodes.now at c.node_at.result.now c.requires.numbered there c.node_at.ensures in
+    let two : IsTwo whole Alt at c.in-Alt.right = parts_at whole c.args.nodes.now at c.node_at.result.now (op.Alt c.in-Alt.right) c.requires.numbered c.requires.within c.node_at.ensures c.in-Alt.is in
     let right = c.in-Alt.right in
     let first : at + 1 ≡ suc at = omega arith in
-    let list = list_of_both atoms whole c.node_at.result.now.op at right (at + 1) first c.in-Alt.is has in
-    IfOk-weaker c.add_both.result _ _ (λ span h. subst (λ (l : Option (List Entry)). HasList c.add_both.new.entries span l) list h)
-    (c.add_both.ensures.list (entries_of atoms (at + 1) (part whole (at + 1))) (entries_of atoms right (part whole right)) (c.requires.lists.1 (at + 1) c.span_at-first.result c.span_at-first.ensures) (c.requires.lists.1 right c.span_at-second.result c.span_at-second.ensures))
+    let list = list_of_alt atoms whole at right (at + 1) first two in
+    IfOk-weaker c.add_both.result _ _ (λ span h. subst (λ (l : List Entry). HasList c.add_both.new.entries span l) list h)
+    (c.add_both.ensures.list (entries_of atoms (at + 1) (part whole (at + 1))) (entries_of atoms right (part whole right)) (c.requires.lists.1 (at + 1) c.span_at-in-Alt.result c.span_at-in-Alt.ensures) (c.requires.lists.1 right c.span_at-in-Alt-2.result c.span_at-in-Alt-2.ensures))
+
+pub span_at-requires-in-Star : goal.span_at-requires-in-Star
+span_at-requires-in-Star c =
+    let whole = fresh c.args.body.now.tree in
+    let atoms = c.args.body.now.atoms in
+    let at = c.args.at in
+    let two : IsTwo whole Star at c.in-Star.right = parts_at whole c.args.nodes.now at c.node_at.result.now (op.Star c.in-Star.right) c.requires.numbered c.requires.within c.node_at.ensures c.in-Star.is in
+    first_within atoms whole c.args.entries.now c.args.spans.now Star at c.in-Star.right c.requires.lists two
+
+pub span_at-requires-in-Star-2 : goal.span_at-requires-in-Star-2
+span_at-requires-in-Star-2 c =
+    let whole = fresh c.args.body.now.tree in
+    let atoms = c.args.body.now.atoms in
+    let at = c.args.at in
+    let two : IsTwo whole Star at c.in-Star.right = parts_at whole c.args.nodes.now at c.node_at.result.now (op.Star c.in-Star.right) c.requires.numbered c.requires.within c.node_at.ensures c.in-Star.is in
+    second_within atoms whole c.args.entries.now c.args.spans.now Star at c.in-Star.right c.requires.lists two
+
+pub add_both-requires-in-Star-clause-x_within : goal.add_both-requires-in-Star-clause-x_within
+add_both-requires-in-Star-clause-x_within c = (c.requires.lists.1 (c.args.at + 1) c.span_at-in-Star.result c.span_at-in-Star.ensures).0
+
+pub add_both-requires-in-Star-clause-y_within : goal.add_both-requires-in-Star-clause-y_within
+add_both-requires-in-Star-clause-y_within c = (c.requires.lists.1 c.in-Star.right c.span_at-in-Star-2.result c.span_at-in-Star-2.ensures).0
+
+pub returns-in-Star-clause-list : goal.returns-in-Star-clause-list
+returns-in-Star-clause-list c =
+    let whole = fresh c.args.body.now.tree in
+    let atoms = c.args.body.now.atoms in
+    let at = c.args.at in
+    let two : IsTwo whole Star at c.in-Star.right = parts_at whole c.args.nodes.now at c.node_at.result.now (op.Star c.in-Star.right) c.requires.numbered c.requires.within c.node_at.ensures c.in-Star.is in
+    let right = c.in-Star.right in
+    let first : at + 1 ≡ suc at = omega arith in
+    let list = list_of_star atoms whole at right (at + 1) first two in
+    IfOk-weaker c.add_both-in-Star.result _ _ (λ span h. subst (λ (l : List Entry). HasList c.add_both-in-Star.new.entries span l) list h)
+    (c.add_both-in-Star.ensures.list (entries_of atoms (at + 1) (part whole (at + 1))) (entries_of atoms right (part whole right)) (c.requires.lists.1 (at + 1) c.span_at-in-Star.result c.span_at-in-Star.ensures) (c.requires.lists.1 right c.span_at-in-Star-2.result c.span_at-in-Star-2.ensures))
+
+pub span_at-requires-in-Par : goal.span_at-requires-in-Par
+span_at-requires-in-Par c =
+    let whole = fresh c.args.body.now.tree in
+    let atoms = c.args.body.now.atoms in
+    let at = c.args.at in
+    let two : IsTwo whole Par at c.in-Par.right = parts_at whole c.args.nodes.now at c.node_at.result.now (op.Par c.in-Par.right) c.requires.numbered c.requires.within c.node_at.ensures c.in-Par.is in
+    first_within atoms whole c.args.entries.now c.args.spans.now Par at c.in-Par.right c.requires.lists two
+
+pub span_at-requires-in-Par-2 : goal.span_at-requires-in-Par-2
+span_at-requires-in-Par-2 c =
+    let whole = fresh c.args.body.now.tree in
+    let atoms = c.args.body.now.atoms in
+    let at = c.args.at in
+    let two : IsTwo whole Par at c.in-Par.right = parts_at whole c.args.nodes.now at c.node_at.result.now (op.Par c.in-Par.right) c.requires.numbered c.requires.within c.node_at.ensures c.in-Par.is in
+    second_within atoms whole c.args.entries.now c.args.spans.now Par at c.in-Par.right c.requires.lists two
+
+pub add_both-requires-in-Par-clause-x_within : goal.add_both-requires-in-Par-clause-x_within
+add_both-requires-in-Par-clause-x_within c = (c.requires.lists.1 (c.args.at + 1) c.span_at-in-Par.result c.span_at-in-Par.ensures).0
+
+pub add_both-requires-in-Par-clause-y_within : goal.add_both-requires-in-Par-clause-y_within
+add_both-requires-in-Par-clause-y_within c = (c.requires.lists.1 c.in-Par.right c.span_at-in-Par-2.result c.span_at-in-Par-2.ensures).0
+
+pub returns-in-Par-clause-list : goal.returns-in-Par-clause-list
+returns-in-Par-clause-list c =
+    let whole = fresh c.args.body.now.tree in
+    let atoms = c.args.body.now.atoms in
+    let at = c.args.at in
+    let two : IsTwo whole Par at c.in-Par.right = parts_at whole c.args.nodes.now at c.node_at.result.now (op.Par c.in-Par.right) c.requires.numbered c.requires.within c.node_at.ensures c.in-Par.is in
+    let right = c.in-Par.right in
+    let first : at + 1 ≡ suc at = omega arith in
+    let list = list_of_par atoms whole at right (at + 1) first two in
+    IfOk-weaker c.add_both-in-Par.result _ _ (λ span h. subst (λ (l : List Entry). HasList c.add_both-in-Par.new.entries span l) list h)
+    (c.add_both-in-Par.ensures.list (entries_of atoms (at + 1) (part whole (at + 1))) (entries_of atoms right (part whole right)) (c.requires.lists.1 (at + 1) c.span_at-in-Par.result c.span_at-in-Par.ensures) (c.requires.lists.1 right c.span_at-in-Par-2.result c.span_at-in-Par-2.ensures))
+
+pub returns-in-If-clause-list : goal.returns-in-If-clause-list
+returns-in-If-clause-list c =
+    let whole = fresh c.args.body.now.tree in
+    let atoms = c.args.body.now.atoms in
+    let at = c.args.at in
+    let has : IsTwo whole (If c.in-If.field-0) at c.in-If.field-1 = parts_at whole c.args.nodes.now at c.node_at.result.now (op.If c.in-If.field-0 c.in-If.field-1) c.requires.numbered c.requires.within c.node_at.ensures c.in-If.is in
+    let list = list_of_if atoms whole c.in-If.field-0 at c.in-If.field-1 c.gate.result has c.gate.ensures in
+    IfOk-weaker c.add_one-in-If.result _ _ (λ span h. subst (λ (l : List Entry). HasList c.add_one-in-If.new.entries span l) list h) c.add_one-in-If.ensures.list
+
+pub returns-in-When-clause-list : goal.returns-in-When-clause-list
+returns-in-When-clause-list c =
+    let whole = fresh c.args.body.now.tree in
+    let atoms = c.args.body.now.atoms in
+    let at = c.args.at in
+    let has : IsOne whole (When c.in-When.field-0) at = parts_at whole c.args.nodes.now at c.node_at.result.now (op.When c.in-When.field-0) c.requires.numbered c.requires.within c.node_at.ensures c.in-When.is in
+    let list = list_of_when atoms whole c.in-When.field-0 at c.gate-in-When.result has c.gate-in-When.ensures in
+    IfOk-weaker c.add_one-in-When.result _ _ (λ span h. subst (λ (l : List Entry). HasList c.add_one-in-When.new.entries span l) list h) c.add_one-in-When.ensures.list
+
+pub returns-in-Let-clause-list : goal.returns-in-Let-clause-list
+returns-in-Let-clause-list c =
+    let whole = fresh c.args.body.now.tree in
+    let atoms = c.args.body.now.atoms in
+    let at = c.args.at in
+    let has : IsOne whole (Let c.in-Let.field-0) at = parts_at whole c.args.nodes.now at c.node_at.result.now (op.Let c.in-Let.field-0) c.requires.numbered c.requires.within c.node_at.ensures c.in-Let.is in
+    let list = list_of_let atoms whole c.in-Let.field-0 at c.gate-in-Let.result has c.gate-in-Let.ensures in
+    IfOk-weaker c.add_one-in-Let.result _ _ (λ span h. subst (λ (l : List Entry). HasList c.add_one-in-Let.new.entries span l) list h) c.add_one-in-Let.ensures.list

@@ -27,7 +27,7 @@ end_at-requires-clause-there c =
     let walk = c.args.walk.now in
     let left = subst (λ (t : Taken). IsLeft c.args.code.now walk t c.requires.taken.0) c.in-Ended.is c.requires.taken.1 in
     let h = here_found c.args.code.now walk c.in-Ended.k [] c.requires.taken.0 c.requires.on left in
-    λ b i. h.in_row.1 b (ap (slice_get walk.row) (sym (c.set_found-at.ensures.branch h.one h.found)) ∙ i)
+    λ b i. (h.in_row.1 b (ap (slice_get walk.row) (sym (c.set_found-at.ensures.branch h.one h.found)) ∙ i)).0
 
 pub set_found-at-requires-in-Entered : goal.set_found-at-requires-in-Entered
 set_found-at-requires-in-Entered c =

@@ -13,20 +13,6 @@ pub sight_at-sight-requires : goal.sight_at-sight-requires
 sight_at-sight-requires c =
     subst (λ (l : List Sight). c.args.k < length l) (sym c.as_slice.ensures) (found_within c.args.code.now c.args.walk.now c.requires.on c.requires.seen c.args.k c.requires.within)
 
-pub branch_at-branch-requires : goal.branch_at-branch-requires
-branch_at-branch-requires c =
-    let one = c.sight_at-sight.result.now in
-    let found : slice_get c.args.walk.now.found c.args.k ≡ Some one = subst (λ (l : List Sight). slice_get l c.args.k ≡ Some one) c.as_slice.ensures c.sight_at-sight.ensures in
-    subst (λ (l : List Branch). one.branch < length l) (sym c.as_slice-row.ensures) (in_row_at c.args.code.now c.args.walk.now c.requires.on c.requires.seen c.args.k one found).0
-
-pub comes_of-requires : goal.comes_of-requires
-comes_of-requires c =
-    let one = c.sight_at-sight.result.now in
-    let b = c.branch_at-branch.result in
-    let found : slice_get c.args.walk.now.found c.args.k ≡ Some one = subst (λ (l : List Sight). slice_get l c.args.k ≡ Some one) c.as_slice.ensures c.sight_at-sight.ensures in
-    let here : slice_get c.args.walk.now.row one.branch ≡ Some b = subst (λ (l : List Branch). slice_get l one.branch ≡ Some b) c.as_slice-row.ensures c.branch_at-branch.ensures in
-    (in_row_at c.args.code.now c.args.walk.now c.requires.on c.requires.seen c.args.k one found).1 b here
-
 pub made-requires : goal.made-requires
 made-requires c =
     let one = c.sight_at-sight.result.now in
@@ -35,21 +21,21 @@ made-requires c =
 
 pub returns-in-Ended : goal.returns-in-Ended
 returns-in-Ended c =
+    let walk = c.args.walk.now in
     let one = c.sight_at-sight.result.now in
-    let b = c.branch_at-branch.result in
-    let found : slice_get c.args.walk.now.found c.args.k ≡ Some one = subst (λ (l : List Sight). slice_get l c.args.k ≡ Some one) c.as_slice.ensures c.sight_at-sight.ensures in
-    let here : slice_get c.args.walk.now.row one.branch ≡ Some b = subst (λ (l : List Branch). slice_get l one.branch ≡ Some b) c.as_slice-row.ensures c.branch_at-branch.ensures in
-    found_at c.args.code.now c.args.walk.now c.args.k [] one b c.requires.seen found here
-    (left_ended (fresh c.args.code.now.body.tree) c.args.walk.now.ticks b one.position c.comes_of.result c.comes_of.ensures c.in-Ended.is)
+    let found : slice_get walk.found c.args.k ≡ Some one = subst (λ (l : List Sight). slice_get l c.args.k ≡ Some one) c.as_slice.ensures c.sight_at-sight.ensures in
+    let in_row = in_row_at c.args.code.now walk c.requires.on c.requires.seen c.args.k one found in
+    found_at c.args.code.now walk c.args.k [] one c.requires.seen found
+    (λ b h. left_ended (fresh c.args.code.now.body.tree) walk.ticks b one.position one.behind (in_row.1 b h).1 c.in-Ended.is)
 
 pub returns-in-Entered : goal.returns-in-Entered
 returns-in-Entered c =
+    let walk = c.args.walk.now in
     let one = c.sight_at-sight.result.now in
-    let b = c.branch_at-branch.result in
-    let found : slice_get c.args.walk.now.found c.args.k ≡ Some one = subst (λ (l : List Sight). slice_get l c.args.k ≡ Some one) c.as_slice.ensures c.sight_at-sight.ensures in
-    let here : slice_get c.args.walk.now.row one.branch ≡ Some b = subst (λ (l : List Branch). slice_get l one.branch ≡ Some b) c.as_slice-row.ensures c.branch_at-branch.ensures in
-    found_at c.args.code.now c.args.walk.now c.args.k (branch c.in-Entered.position c.args.walk.now.ticks ∷ []) one b c.requires.seen found here
-    (left_entered (fresh c.args.code.now.body.tree) c.args.walk.now.ticks b one.position c.in-Entered.position c.comes_of.result c.comes_of.ensures c.in-Entered.is)
+    let found : slice_get walk.found c.args.k ≡ Some one = subst (λ (l : List Sight). slice_get l c.args.k ≡ Some one) c.as_slice.ensures c.sight_at-sight.ensures in
+    let in_row = in_row_at c.args.code.now walk c.requires.on c.requires.seen c.args.k one found in
+    found_at c.args.code.now walk c.args.k (branch c.in-Entered.position walk.ticks ∷ []) one c.requires.seen found
+    (λ b h. left_entered (fresh c.args.code.now.body.tree) walk.ticks b one.position c.in-Entered.position one.behind (in_row.1 b h).1 c.in-Entered.is)
 
 pub returns-in-Parted : goal.returns-in-Parted
 returns-in-Parted c =

@@ -26,4 +26,4 @@ returns c = λ some.
     let has : HasList code.entries s (entries_of code.body.atoms c.args.at (part (fresh code.body.tree) c.args.at)) = code.listed.1 c.args.at s here in
     let given : c.in_span.result.now ≡ in_span code.entries s = c.in_span.ensures ∙ ap (λ (l : List Entry). in_span l s) c.as_slice-2.ensures in
     let more : 0 < length (in_span code.entries s) = subst (λ (l : List Entry). 0 < length l) given some in
-    has.1 (some_count code.entries s more) ∙ ap Some (sym given))
+    has.1 (some_count code.entries s more) ∙ sym given)

@@ -1,0 +1,17 @@
+use Rattle.std.proofs.Common.{◌≡◌, ◌++◌, map, sym, subst, OnOk}
+use Rattle.tb_algebra.specs.Processes.{fresh}
+use Rattle.tb_code.specs.declared.entry.What.{What}
+use Rattle.tb_walk.specs.Helpers.Sights.{looking, seen_by, sighted}
+use Rattle.tb_walk.proofs.look.look_entry.Goals as goal
+
+pub returns-in-Atom : goal.returns-in-Atom
+returns-in-Atom c =
+    let entry = c.args.entry.now in
+    subst (λ (w : What). OnOk c.look_listed.result (map (sighted c.args.base.now) c.look_listed.new.found ≡ map (sighted c.args.base.now) c.args.found.now ++ seen_by (fresh c.args.code.now.body.tree) (looking c.args.code.now.body.atoms c.args.clock.now) c.args.base.now entry.position entry.behind w))
+    (sym c.in-Atom.is) c.look_listed.ensures
+
+pub returns-in-Gate : goal.returns-in-Gate
+returns-in-Gate c =
+    let entry = c.args.entry.now in
+    subst (λ (w : What). OnOk c.look_gate.result (map (sighted c.args.base.now) c.look_gate.new.found ≡ map (sighted c.args.base.now) c.args.found.now ++ seen_by (fresh c.args.code.now.body.tree) (looking c.args.code.now.body.atoms c.args.clock.now) c.args.base.now entry.position entry.behind w))
+    (sym c.in-Gate.is) c.look_gate.ensures
