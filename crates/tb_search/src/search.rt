@@ -178,6 +178,26 @@ fn first_between<W>(
     Ok(None)
 }
 
+/// The same, where there are none at no cost.
+#[inline(always)]
+fn first_if_any<W>(
+    alloc: Global,
+    searched: &Searched<W>,
+    start: usize,
+    end: usize,
+) -> Result<Option<Candidate>, NoMemory>
+    requires ascend { IsTrue (ascend 0 (rows_of searched.now.all.now)) }
+    requires index { IsIndexFor (setting_by searched.now.program.now.bodies searched.now.program.now.tools searched.now.bench.now) searched.now.index.now (rows_of searched.now.all.now) }
+    requires within { end ≤ length searched.now.all.now }
+    ensures { IfOk result (λ found. found ≡ first (candidates_from (scene_of searched.now.program.now.bodies searched.now.program.now.tools searched.now.bench.now (rows_of searched.now.all.now) searched.now.marks) start (drop start (take end (rows_of searched.now.all.now))))) }
+{
+    if start < end {
+        first_between(alloc, searched, start, end)
+    } else {
+        Ok(None)
+    }
+}
+
 /// How many processes have a number up to that of the last starter. Seldom has anybody left who stood before it.
 fn turn_start<W>(all: &[Living<W>], last: u32) -> usize
     requires { IsTrue (ascend 0 (rows_of all.now)) }
@@ -202,7 +222,7 @@ pub(crate) fn first_in_turn<W>(
     ensures { IfOk result (λ found. found ≡ first (candidates_in_turn (scene_of searched.now.program.now.bodies searched.now.program.now.tools searched.now.bench.now (rows_of searched.now.all.now) searched.now.marks) searched.now.marks.last_starter)) }
 {
     let start = turn_start(searched.all, searched.marks.last_starter);
-    match first_between(alloc, searched, start, searched.all.len())? {
+    match first_if_any(alloc, searched, start, searched.all.len())? {
         Some(found) => Ok(Some(found)),
         None => first_between(alloc, searched, 0, start),
     }

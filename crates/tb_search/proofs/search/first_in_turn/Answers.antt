@@ -23,4 +23,4 @@ returns-in-None g c =
     let start = c.turn_start-start.result in
     let many = length-map all row_of in
     rw (← turn-again scene marks.last_starter start c.turn_start-start.ensures.count
-    (sym c.in-None.is ∙ c.in_ok-found.ensures ∙ ap (λ rows. first (candidates_from scene start (drop start rows))) (take_all (length all) (rows_of all) (omega (arith, many))))) c.first_between-in-None.ensures
+    (sym c.in-None.is ∙ c.in_ok-found.ensures ∙ ap (λ rows. first (candidates_from scene start (drop start rows))) (take_all (length all) (rows_of all) (omega (arith, many))))) c.first_between.ensures
