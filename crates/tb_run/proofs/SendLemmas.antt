@@ -6,6 +6,7 @@ use denote.RattleType.{RattleType}
 use Rattle.std.proofs.Crossing.{crosses}
 use Rattle.atomic_table.proofs.badge.Badge.TheSendSync.{the_send as badge_send}
 use Rattle.tb_algebra.specs.declared.walker.Walker.{Ghosts}
+use Rattle.tb_bells.specs.contracts.bell.Bell as bell
 use Rattle.tb_bells.specs.contracts.bells.Bells as bells
 use Rattle.tb_lock.specs.contracts.seat.Seat as seat
 use Rattle.tb_lock.specs.contracts.seat.Seat.TheInside as seat_inside
@@ -20,8 +21,11 @@ use Rattle.tb_run.specs.contracts.worker.Worker as worker
 seat_send : IsSend seat.the_row
 seat_send = view_send _ _ _ _ _ (declared_send seat_inside.the_type (badge_send view.the_row, tt))
 
+bell_sync : IsSync bell.the_row
+bell_sync = search (sendable, crosses) depth 40
+
 bells_sync : IsSync bells.the_row
-bells_sync = search (sendable, crosses) depth 40
+bells_sync = search (sendable, crosses, bell_sync) depth 40
 
 buffer_send : IsSend buffer.the_row
 buffer_send = search (sendable, crosses) depth 40
