@@ -249,11 +249,15 @@ impl Case {
 
 /// The text that is meant, where it is UTF-8.
 fn text_meant(alloc: Global, text: &str) -> Result<Option<String>, AllocError> {
-    let Some(bytes) = meant(alloc, text)? else {
-        return Ok(None);
-    };
-    match str::from_utf8(bytes.as_slice()) {
-        Ok(meant) => Ok(Some(String::from_str(alloc, meant)?)),
+    match meant(alloc, text)? {
+        Some(bytes) => utf8_text(alloc, bytes.as_slice()),
+        None => Ok(None),
+    }
+}
+
+fn utf8_text(alloc: Global, bytes: &[u8]) -> Result<Option<String>, AllocError> {
+    match str::from_utf8(bytes) {
+        Ok(text) => Ok(Some(String::from_str(alloc, text)?)),
         Err(_) => Ok(None),
     }
 }

@@ -158,14 +158,18 @@ fn boxed(alloc: Global, pair: FakePair) -> Result<LanePair, NoMemory> {
     })
 }
 
-/// A file in memory. One whose name is no string isn't found.
 fn held_file(alloc: Global, file: &Named) -> Result<HeldFile, NoMemory> {
-    let name = match Text::from_str(alloc, file.name.as_str())? {
-        Some(name) => name,
-        None => Text::empty(alloc),
-    };
+    let name = file_name(alloc, file.name.as_str())?;
     let bytes = Bytes::from_slice(alloc, file.bytes.as_slice())?;
     Ok(HeldFile { name, bytes })
+}
+
+/// The name of a file in memory. One that is no string isn't found.
+fn file_name(alloc: Global, name: &str) -> Result<Text, NoMemory> {
+    match Text::from_str(alloc, name)? {
+        Some(name) => Ok(name),
+        None => Ok(Text::empty(alloc)),
+    }
 }
 
 fn one(alloc: Global, call: u64) -> Result<Items<u64>, NoMemory> {
