@@ -133,10 +133,8 @@ fn list_text(alloc: Global, entries: &[Entry], span: &Span) -> Result<String, No
 fn push_what(text: &mut String, entry: &Entry) -> Result<(), NoMemory> {
     let position = entry.position;
     match entry.what {
-        What::Atom(number, timed) => {
-            let bang = if timed { "!" } else { "" };
-            write!(text, "{number}@{position}{bang}")?;
-        }
+        What::Atom(number) => write!(text, "{number}@{position}")?,
+        What::Timed(number) => write!(text, "{number}@{position}!")?,
         What::Gate => write!(text, "?{position}")?,
     }
     Ok(())

@@ -8,6 +8,7 @@ use Rattle.tb_code.specs.Positions.{size, part}
 use Rattle.tb_code.specs.declared.behind.Behind.{Behind}
 use Rattle.tb_code.specs.declared.behind.Behind.TheVariants as behind
 use Rattle.tb_code.specs.declared.entry.Entry.{Entry}
+use Rattle.tb_code.specs.declared.entry.What.{What}
 use Rattle.tb_code.specs.declared.entry.What.TheVariants as what
 use Rattle.tb_code.specs.declared.entry.Span.{Span}
 
@@ -15,9 +16,14 @@ abbrev pub is_timed : List Time → Bool
 is_timed [] = false
 is_timed (time ∷ times) = true
 
+-- what stands where an atom does, by whether it has times
+abbrev pub what_by : Bool → ℕ → What
+what_by false atom = what.Atom atom
+what_by true atom = what.Timed atom
+
 -- an atom, as its own part has it: with it the part has ended
 abbrev pub entry : List Atom → ℕ → ℕ → Entry
-entry atoms position atom = record { position = position; what = what.Atom atom (is_timed (times_of atoms atom)); behind = behind.Ended }
+entry atoms position atom = record { position = position; what = what_by (is_timed (times_of atoms atom)) atom; behind = behind.Ended }
 
 -- a test or settings, as their own part has them
 abbrev pub gate : ℕ → Entry

@@ -12,8 +12,10 @@ pub struct Entry {
 /// What stands at the position of an entry.
 #[derive(Clone, Copy)]
 pub enum What {
-    /// The atom of this number, and whether it has times.
-    Atom(u32, bool),
+    /// The atom of this number, which has no times.
+    Atom(u32),
+    /// The atom of this number, which has times.
+    Timed(u32),
     /// A test or settings. What may come next behind it is found once it has been worked out.
     Gate,
 }

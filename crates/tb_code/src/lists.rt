@@ -1,7 +1,7 @@
 ghost use Rattle.std.specs.Prelude.{◌≡◌, ◌<◌, ◌≤◌, ◌+◌, ◌++◌, ◌∷◌, [], List, Some, IfOk, IfSome, OnOk, length, map, slice_get};
 ghost use Rattle.tb_algebra.specs.Atoms.{times_of};
 ghost use Rattle.tb_algebra.specs.Processes.{fresh};
-ghost use Rattle.tb_code.specs.Entries.{AreLists, Grows, HasList, all_led, entries_of, gate, in_span, is_timed, led};
+ghost use Rattle.tb_code.specs.Entries.{AreLists, Grows, HasList, all_led, entries_of, gate, in_span, is_timed, led, what_by};
 ghost use Rattle.tb_code.specs.Helpers.Blanks.{blank};
 ghost use Rattle.tb_code.specs.Positions.{part, positions};
 ghost use Rattle.tb_code.specs.declared.entry.Entry.{Entry};
@@ -90,7 +90,7 @@ fn list_at(
         Op::At(atom) => {
             let entry = Entry {
                 position: at,
-                what: What::Atom(*atom, is_timed(body, *atom)),
+                what: what_by(is_timed(body, *atom), *atom),
                 behind: Behind::Ended,
             };
             add_one(entries, room, entry)
@@ -162,6 +162,17 @@ fn is_timed(body: &Body, number: u32) -> bool
     match body.atoms.get(number.saturating_sub(1) as usize) {
         Some(atom) => !atom.times.is_empty(),
         None => false,
+    }
+}
+
+/// What stands where an atom does.
+fn what_by(timed: bool, number: u32) -> What
+    ensures { result ≡ what_by timed number }
+{
+    if timed {
+        What::Timed(number)
+    } else {
+        What::Atom(number)
     }
 }
 

@@ -11,7 +11,7 @@ use Rattle.tb_body.specs.declared.tree.Setting.{Setting}
 use Rattle.tb_algebra.specs.Atoms.{is_ready, times_of}
 use Rattle.tb_algebra.specs.Processes.{Process, At, Seq, Alt, Star, Par, If, When, Let}
 use Rattle.tb_algebra.specs.Settings.{tested, with_settings}
-use Rattle.tb_code.specs.Entries.{all_led, entries_of, entry, followed, gate, is_timed, led}
+use Rattle.tb_code.specs.Entries.{all_led, entries_of, entry, followed, gate, is_timed, led, what_by}
 use Rattle.tb_code.specs.Positions.{size, part, table, IsTwo, IsOne}
 use Rattle.tb_code.proofs.EntryLemmas.{followed-ended}
 use Rattle.tb_code.proofs.Parts.{Stands, stands_first, stands_here, stands_second, whole_at}
@@ -176,13 +176,18 @@ module _ (whole : Process) (by : Looking) (store : List Slot) where
       ap (λ (b : Behind). seen_by whole by store e.position b e.what ++ listed_as behind.Ended list) (followed-ended e.behind)
       ∙ ap (λ (rest : List Sighting). entry_sightings whole by store e ++ rest) (alike list)
 
-  ready_so : (times : List Time) → is_ready store by.age by.now times ≡ (if is_timed times then is_ready store by.age by.now times else true)
-  ready_so [] = refl
-  ready_so (time ∷ times) = refl
+  ready_so : (times : List Time) → is_timed times ≡ false → is_ready store by.age by.now times ≡ true
+  ready_so [] e = refl
+  ready_so (time ∷ times) e = (let no : true ≡ false = e in cc)
+
+  stands_listed : (so_far : Behind) (at atom : ℕ) (timed : Bool) → is_timed (times_of by.atoms atom) ≡ timed → sighting_at by so_far at atom store ∷ [] ≡ seen_by whole by store at so_far (what_by timed atom)
+  stands_listed so_far at atom true e = refl
+  stands_listed so_far at atom false e =
+      ap (λ (b : Bool). let it : Sighting = record { branch = by.branch; position = at; behind = so_far; seen = record { atom = atom; age = by.age; ready = b; store = store } } in it ∷ []) (ready_so (times_of by.atoms atom) e)
 
   atom_listed : (so_far : Behind) (at atom : ℕ) → sighting_at by so_far at atom store ∷ [] ≡ listed_as so_far (entry by.atoms at atom ∷ [])
   atom_listed so_far at atom =
-      ap (λ (b : Bool). let it : Sighting = record { branch = by.branch; position = at; behind = so_far; seen = record { atom = atom; age = by.age; ready = b; store = store } } in it ∷ []) (ready_so (times_of by.atoms atom))
+      stands_listed so_far at atom (is_timed (times_of by.atoms atom)) refl ∙ sym (append-nil (seen_by whole by store at so_far (what_by (is_timed (times_of by.atoms atom)) atom)))
 
   gate_listed : (so_far : Behind) (at : ℕ) (w : Process) → part whole at ≡ w → sightings by so_far at w store ≡ listed_as so_far (gate at ∷ [])
   gate_listed so_far at w e = ap (λ (p : Process). sightings by so_far at p store) (sym e) ∙ sym (append-nil (sightings by so_far at (part whole at) store))

@@ -4,7 +4,7 @@ ghost use Rattle.tb_algebra.specs.Processes.{fresh, If, When, Let};
 ghost use Rattle.tb_algebra.specs.Helpers.OfferViews.{or_own};
 ghost use Rattle.tb_code.specs.Positions.{size, part, IsTwo, IsOne};
 ghost use Rattle.tb_code.specs.declared.behind.Behind.TheVariants.{Ended};
-ghost use Rattle.tb_walk.specs.Helpers.Sights.{Sighting, entry_sightings, listed_ready, listed_sighting, sighted, sightings, looking, row_sightings};
+ghost use Rattle.tb_walk.specs.Helpers.Sights.{Sighting, entry_sightings, ready_sighting, sighted, sighting_at, sightings, looking, row_sightings};
 ghost use Rattle.tb_walk.specs.Helpers.Takings.{AreThere};
 
 use crate::values::says;
@@ -104,14 +104,22 @@ fn look_entry(
         ≡ map (sighted base.now) found.old ++ entry_sightings (fresh code.now.body.tree) (looking code.now.body.atoms clock.now) base.now entry.now) }
 {
     match entry.what {
-        What::Atom(atom, timed) => {
-            look_listed(
+        What::Atom(atom) => look_ready(
+            code,
+            entry.position,
+            entry.behind,
+            atom,
+            clock,
+            base,
+            found,
+        ),
+        What::Timed(atom) => {
+            look_timed(
                 alloc,
                 code,
                 entry.position,
                 entry.behind,
                 atom,
-                timed,
                 clock,
                 base,
                 found,
@@ -129,32 +137,50 @@ fn look_entry(
     }
 }
 
-fn look_listed(
+/// Adds an atom without times.
+fn look_ready(
+    _code: &Code,
+    position: usize,
+    behind: Behind,
+    atom: u32,
+    clock: &Clock,
+    _base: &Store,
+    found: &mut Items<Sight>,
+) -> Result<(), NoMemory>
+    ensures { OnOk result (map (sighted _base.now) found.new
+        ≡ map (sighted _base.now) found.old ++ ready_sighting (looking _code.now.body.atoms clock.now) behind position atom _base.now ∷ []) }
+{
+    found.push(Sight {
+        branch: clock.branch,
+        position,
+        atom,
+        age: clock.ticks.saturating_sub(clock.entered),
+        ready: true,
+        behind,
+        own: None,
+    })?;
+    Ok(())
+}
+
+/// Adds an atom that has times.
+#[cold]
+#[inline(never)]
+fn look_timed(
     alloc: Global,
     code: &Code,
     position: usize,
     behind: Behind,
     atom: u32,
-    timed: bool,
     clock: &Clock,
     base: &Store,
     found: &mut Items<Sight>,
 ) -> Result<(), NoMemory>
     ensures { OnOk result (map (sighted base.now) found.new
-        ≡ map (sighted base.now) found.old ++ listed_sighting (looking code.now.body.atoms clock.now) behind position atom timed base.now ∷ []) }
+        ≡ map (sighted base.now) found.old ++ sighting_at (looking code.now.body.atoms clock.now) behind position atom base.now ∷ []) }
 {
-    let age = clock.ticks.saturating_sub(clock.entered);
-    let ready = is_listed_ready(alloc, code, base, atom, timed, age, clock.bus)?;
-    found.push(Sight {
-        branch: clock.branch,
-        position,
-        atom,
-        age,
-        ready,
-        behind,
-        own: None,
-    })?;
-    Ok(())
+    look_atom(
+        alloc, code, position, behind, atom, clock, base, &None, found,
+    )
 }
 
 /// What may be next behind a test or settings, which are walked through.
@@ -174,24 +200,6 @@ fn look_gate(
         ≡ map (sighted base.now) found.old ++ sightings (looking code.now.body.atoms clock.now) behind at (part (fresh code.now.body.tree) at) base.now) }
 {
     look_at(alloc, code, at, behind, clock, base, &None, found)
-}
-
-fn is_listed_ready(
-    alloc: Global,
-    code: &Code,
-    store: &Store,
-    atom: u32,
-    timed: bool,
-    age: u64,
-    now: u64,
-) -> Result<bool, NoMemory>
-    ensures { IfOk result (λ ready. ready ≡ listed_ready code.now.body.atoms store.now age now atom timed) }
-{
-    if timed {
-        Ok(is_atom_ready(alloc, code, store, atom, age, now)?)
-    } else {
-        Ok(true)
-    }
 }
 
 /// Drops what was found, and keeps the memory.

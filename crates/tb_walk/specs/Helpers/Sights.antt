@@ -55,16 +55,13 @@ sighting_at by so_far at atom store = record {
   seen = record { atom = atom; age = by.age; ready = is_ready store by.age by.now (times_of by.atoms atom); store = store };
 }
 
--- an atom of a list without times is ready
-abbrev pub listed_ready : List Atom → List Slot → ℕ → ℕ → ℕ → Bool → Bool
-listed_ready atoms store age now atom timed = if timed then is_ready store age now (times_of atoms atom) else true
-
-abbrev pub listed_sighting : Looking → Behind → ℕ → ℕ → Bool → List Slot → Sighting
-listed_sighting by so_far at atom timed store = record {
+-- an atom without times is ready
+abbrev pub ready_sighting : Looking → Behind → ℕ → ℕ → List Slot → Sighting
+ready_sighting by so_far at atom store = record {
   branch = by.branch;
   position = at;
   behind = so_far;
-  seen = record { atom = atom; age = by.age; ready = listed_ready by.atoms store by.age by.now atom timed; store = store };
+  seen = record { atom = atom; age = by.age; ready = true; store = store };
 }
 
 abbrev pub sightings_if : Option Bool → List Sighting → List Sighting → List Sighting
@@ -89,7 +86,8 @@ sightings by so_far at (Let settings x) store = sightings_after (with_settings s
 
 -- What is seen by an entry of a list: the atom, or what stands behind the gate.
 abbrev pub seen_by : Process → Looking → List Slot → ℕ → Behind → What → List Sighting
-seen_by whole by store at so_far (what.Atom atom timed) = listed_sighting by so_far at atom timed store ∷ []
+seen_by whole by store at so_far (what.Atom atom) = ready_sighting by so_far at atom store ∷ []
+seen_by whole by store at so_far (what.Timed atom) = sighting_at by so_far at atom store ∷ []
 seen_by whole by store at so_far what.Gate = sightings by so_far at (part whole at) store
 
 abbrev pub entry_sightings : Process → Looking → List Slot → Entry → List Sighting

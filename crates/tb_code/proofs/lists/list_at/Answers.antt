@@ -1,11 +1,12 @@
-use Rattle.std.proofs.Common.{◌≡◌, ◌+◌, suc, List, subst, ap, arith}
+use Rattle.std.proofs.Common.{◌≡◌, ◌+◌, suc, Bool, List, ◌∙◌, subst, ap, arith}
 use Rattle.std.proofs.lemmas.Result.{IfOk-weaker}
+use Rattle.tb_algebra.specs.Atoms.{times_of}
 use Rattle.tb_algebra.specs.Processes.{fresh, Seq, Alt, Star, Par, If, When, Let}
-use Rattle.tb_code.specs.Entries.{HasList, entries_of, entry}
+use Rattle.tb_code.specs.Entries.{HasList, entries_of, entry, is_timed, what_by}
 use Rattle.tb_code.specs.Positions.{HasParts, IsOne, IsTwo, part}
 use Rattle.tb_code.specs.declared.behind.Behind.TheVariants as behind
 use Rattle.tb_code.specs.declared.entry.Entry.{Entry}
-use Rattle.tb_code.specs.declared.entry.What.TheVariants as what
+use Rattle.tb_code.specs.declared.entry.What.{What}
 use Rattle.tb_code.specs.declared.node.Op.TheVariants as op
 use Rattle.tb_code.proofs.EntryLemmas.{first_within, list_of_alt, list_of_atom, list_of_if, list_of_let, list_of_par, list_of_seq, list_of_star, list_of_when, parts_at, second_within}
 use Rattle.tb_code.proofs.lists.list_at.Goals as goal
@@ -17,8 +18,9 @@ returns-in-At-clause-list c =
     let at = c.args.at in
     let atom = c.in-At.atom in
     let here : HasParts whole at (op.At atom) = parts_at whole c.args.nodes.now at c.node_at.result.now (op.At atom) c.requires.numbered c.requires.within c.node_at.ensures c.in-At.is in
-    let one : Entry = record { position = at; what = what.Atom atom c.is_timed.result; behind = behind.Ended } in
-    let is : one ≡ entry atoms at atom = ap (λ b. let e : Entry = record { position = at; what = what.Atom atom b; behind = behind.Ended } in e) c.is_timed.ensures in
+    let one : Entry = record { position = at; what = c.what_by.result; behind = behind.Ended } in
+    let stands : c.what_by.result ≡ what_by (is_timed (times_of atoms atom)) atom = c.what_by.ensures ∙ ap (λ (b : Bool). what_by b atom) c.is_timed.ensures in
+    let is : one ≡ entry atoms at atom = ap (λ (w : What). let e : Entry = record { position = at; what = w; behind = behind.Ended } in e) stands in
     let list = list_of_atom atoms whole at atom here.0 one here.1 is in
     IfOk-weaker c.add_one.result _ _ (λ span h. subst (λ (l : List Entry). HasList c.add_one.new.entries span l) list h) c.add_one.ensures.list
 
