@@ -8,8 +8,8 @@ const LOOKS: u32 = 50;
 /// How many short pauses lie between two looks: a microsecond or two.
 const PAUSES: u32 = 30;
 
-/// A gate that lets one thread in at a time. It keeps no order: who comes while it is open goes in, though others sleep before it,
-/// since nothing would be done while one of them wakes.
+/// A gate that lets one thread in at a time. It keeps no order: who comes while it is open may go in, though others sleep before
+/// it, since nothing would be done while one of them wakes.
 #[derive(Drop)]
 pub struct Gate {
     inside: Mutex<()>,

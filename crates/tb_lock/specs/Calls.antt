@@ -83,7 +83,7 @@ StepsFrom (suc more) Finds old new result =
     (StepsAt Finds old new result × (result ≢ Ok stepped.Did))
     ⊎ ((mid : SeatView) × StepsAt Finds old mid (Ok stepped.Did) × StepsFrom more (λ log. log ≡ mid.seen) mid new result)
 
--- Steps that are made in one turn: as the same calls made one after another, between which no other seat makes any.
+-- Steps that are made in one turn: as the same calls made one after another, between which no other seat makes an entry.
 abbrev pub CalledInRow : ℕ → SeatView → SeatView → Result Stepped CoreFault → Type 0
 CalledInRow more old new result = StepsFrom more (λ log. ⊤) old new result
 

@@ -131,15 +131,16 @@ RunOutcome most old new back Crew =
     (new.put ≡ old.put) × (new.lanes ≡ old.lanes) × (new.clock ≡ old.clock) × (back.log ≡ []) × Rose old.crew_faults new.crew_faults
 
 -- What the counts of faults of the crew, the sink and the clock say of an answer. Of several reasons the first is told, in this order: memory, the crew, the
--- sink, the limit of the log, the clock. So the count of each that comes before the answer is as it was; memory has no count.
+-- sink, the limit of the log, the clock. So the count of each that comes before the answer is as it was. Memory and the limit have no count: that the
+-- limit hid nothing is said by the rest of the outcome.
 abbrev pub TellsFirst : OutsideView → OutsideView → RunWhy → Type 0
 TellsFirst old new NoMemory = ⊤
--- nothing else was called
+-- the counts of the sink and the clock are as they were too
 TellsFirst old new Crew = Rose old.crew_faults new.crew_faults × (new.out_faults ≡ old.out_faults) × (new.clock_faults ≡ old.clock_faults)
 TellsFirst old new Sink = (new.crew_faults ≡ old.crew_faults) × Rose old.out_faults new.out_faults
 TellsFirst old new Events = (new.crew_faults ≡ old.crew_faults) × (new.out_faults ≡ old.out_faults)
 TellsFirst old new Clock = (new.crew_faults ≡ old.crew_faults) × (new.out_faults ≡ old.out_faults) × Rose old.clock_faults new.clock_faults
--- nothing failed
+-- neither the crew, the sink nor the clock failed
 TellsFirst old new Ended = (new.crew_faults ≡ old.crew_faults) × (new.out_faults ≡ old.out_faults) × (new.clock_faults ≡ old.clock_faults)
 
 -- `run`, of a core that was started there
