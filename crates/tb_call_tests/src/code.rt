@@ -92,8 +92,8 @@ fn positions_are_numbered_in_text_order(rt: HostRuntime) -> Result<(), Fail> {
 }
 
 /// A body, and the list of each position: each atom's number and where it stands, with a bang where it has times, and a question
-/// mark where a test or settings stand. Behind it is the position that is entered where the atom happens, a bar where a merge is
-/// parted then, and nothing where the part has ended.
+/// mark where a test or settings stand. Behind it is the position that is entered where the atom happens, and behind a
+/// question mark where the part ends at which it stands; a bar where a merge is parted then, and nothing where the part has ended.
 static LISTS: [(&str, &str); 7] = [
     ("tau . tau", "1@1>2; 1@1; 2@2;"),
     ("tau * tau delay(1)", "1@1>0 2@2!; 1@1; 2@2!;"),

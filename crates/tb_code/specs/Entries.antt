@@ -46,7 +46,8 @@ abbrev pub all_led : Behind → List Entry → List Entry
 all_led next list = map (led next) list
 
 -- The list of a part whose positions begin here, in text order: its atoms that may come next, and in the place of those behind a
--- test or settings the gate at which these stand. Each has what comes of the part where the atom happens, or one behind the gate.
+-- test or settings the gate at which these stand. With an atom stands what comes of the part where it happens; with a gate, what comes
+-- where an atom behind it happens and the gate's own part has ended with it.
 abbrev pub entries_of : List Atom → ℕ → Process → List Entry
 entries_of atoms at (At atom age) = entry atoms at atom ∷ []
 entries_of atoms at (Seq x y) = all_led (behind.Entered (suc at + size x)) (entries_of atoms (suc at) x)

@@ -5,7 +5,8 @@ use crate::Behind;
 pub struct Entry {
     pub position: usize,
     pub what: What,
-    /// What comes of the part that has the list where the atom happens, or one behind the gate.
+    /// What comes of the part that has the list where the atom happens; of a gate, where an atom behind it happens and the gate's own
+    /// part has ended.
     pub behind: Behind,
 }
 
