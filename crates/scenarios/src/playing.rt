@@ -47,7 +47,14 @@ pub(crate) fn play<R: Threads + Wait + Sync>(
         mut clock,
         records,
     } = ends_of(alloc, &case.live)?;
-    let mut stage = stage_of(alloc, case, pairs)?;
+    let mut lanes = Vec::new(alloc);
+    for FakePair { inlet, outlet } in pairs {
+        lanes.push(LanePair {
+            inlet: Box::new(alloc, inlet)?,
+            outlet: Box::new(alloc, outlet)?,
+        })?;
+    }
+    let mut stage = stage_of(alloc, case, lanes)?;
     match play_on(rt, alloc, case, &mut stage, &mut clock)? {
         Some(status) => Ok(outcome(status, stage, records)),
         None => Ok(None),
@@ -124,12 +131,12 @@ fn play_with<R: Threads + Wait + Sync, C: Clock + Send, P: Crew>(
     ))
 }
 
-fn stage_of(alloc: Global, case: &Case, pairs: Vec<FakePair>) -> Result<Stage, NoMemory> {
+fn stage_of(alloc: Global, case: &Case, lanes: Vec<LanePair>) -> Result<Stage, NoMemory> {
     Ok(Stage {
         files: files_of(alloc, case)?,
         out: MemSink::new(alloc, case.room, one(alloc, case.fails.out)?)?,
         err: MemSink::new(alloc, case.err_room, one(alloc, case.fails.err)?)?,
-        lanes: lanes_of(alloc, pairs)?,
+        lanes,
     })
 }
 
@@ -140,22 +147,6 @@ fn files_of(alloc: Global, case: &Case) -> Result<MemFiles, NoMemory> {
     }
     let fails = one(alloc, case.fails.files)?;
     Ok(MemFiles::new(alloc, Items::from_vec(held), fails))
-}
-
-fn lanes_of(alloc: Global, pairs: Vec<FakePair>) -> Result<Vec<LanePair>, NoMemory> {
-    let mut lanes = Vec::new(alloc);
-    for pair in pairs {
-        lanes.push(boxed(alloc, pair)?)?;
-    }
-    Ok(lanes)
-}
-
-fn boxed(alloc: Global, pair: FakePair) -> Result<LanePair, NoMemory> {
-    let FakePair { inlet, outlet } = pair;
-    Ok(LanePair {
-        inlet: Box::new(alloc, inlet)?,
-        outlet: Box::new(alloc, outlet)?,
-    })
 }
 
 fn held_file(alloc: Global, file: &Named) -> Result<HeldFile, NoMemory> {

@@ -71,10 +71,10 @@ fn looks_in_vain_are_made_once_in_a_while(rt: HostRuntime) {
     let at_first = bell.is_worth_a_look();
     bell.look_past(0);
     bell.look_past(0);
-    let mut looks = 0;
+    let mut looks = 0_u32;
     for _ in 0..64 {
         if bell.is_worth_a_look() {
-            looks += 1;
+            looks = looks.saturating_add(1);
         }
     }
     bell.ring();
