@@ -158,12 +158,13 @@ pub record IsMade {W P T : Type 0} (view : View P W T) (old : LiveBus W P T) (ca
 pub record CanLog (log : LogState) (label : Label) : Type 0 where
   pub room : has_room log.limit log.entries (Did label) ≡ true
   pub spare : 0 < log.spare
+  pub terms : length label.terms ≤ log.spare_terms
 
 -- and it was logged.
 pub record IsLogged (old : LogState) (label : Label) (new : LogState) : Type 0 where
   pub entries : new.entries ≡ old.entries ++ Did label ∷ []
   pub limit : new.limit ≡ old.limit
-  pub spare : new.spare + 1 ≡ old.spare
+  pub spare : old.spare ≤ new.spare + 1
 
 -- The fields stand for the bus to which the log leads, the log is a trace within the limit, each tick is an entry of it, and
 -- so is each creation, and each tool that comes.
