@@ -5,7 +5,7 @@ ghost use Rattle.tb_core.specs.Helpers.LiveBuses.{CanLog, IsLogged};
 
 use std::alloc::Global;
 use tb_living::Done;
-use tb_log::{Label, LabelKind, Log, Place, total_size};
+use tb_log::{Label, LabelKind, Log, Place};
 use tb_match::Bind;
 use tb_terms::{Items, Name, NoMemory, Term};
 
@@ -82,8 +82,7 @@ pub fn put_label(log: &mut Log, label: Label)
         to,
         mut terms,
     } = label;
-    let size = total_size(terms.as_slice());
-    log.push_step(kind, from, to, &mut terms, size);
+    log.push_step(kind, from, to, &mut terms);
 }
 
 /// Why the bus goes down where no process is left.

@@ -342,7 +342,6 @@ fn make<W: Walker>(
     if !log.room_for_size(size) {
         return Err(CoreFault::Full);
     }
-    // A term has a size of 1 at least: there are no more terms than that.
     log.reserve_step(size)?;
     bus.make(alloc, candidate, log)?;
     Ok(())

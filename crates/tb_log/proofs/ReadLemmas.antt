@@ -1,6 +1,8 @@
 -- The entries of a log, read one after the other by their indices.
-use Rattle.std.proofs.Common.{◌≡◌, ◌≤◌, ◌<◌, ◌-◌, ℕ, ◌+◌, List, [], ◌∷◌, ◌++◌, length, get_or, take, drop, slice_get, Some, ap, sym, ◌∙◌, subst, arith, min}
+use Rattle.std.proofs.Common.{◌≡◌, ◌≤◌, ◌<◌, ◌-◌, ℕ, ◌+◌, ◌&&◌, Bool, true, List, [], ◌∷◌, ◌++◌, length, get_or, take, drop, slice_get, Some, ap, sym, ◌∙◌, subst, arith, min}
 use Rattle.std.proofs.lemmas.List.{drop_more, take_more, get_or-drop, length-drop, drop_min, take_min}
+use Rattle.std.specs.List.{list_all}
+use Rattle.std.proofs.lemmas.List.Folds.{list_all_more}
 use Rattle.std.proofs.lemmas.Option.{get_or_from_slice_get, slice_get_within}
 
 -- what was read stands there, whatever would be read beyond the end
@@ -34,3 +36,10 @@ read_piece xs from most before count behind so_many =
     ∙ take_min most (drop before xs)
     ∙ ap (λ (n : ℕ). take most (drop n xs)) behind
     ∙ ap (take most) (drop_min from xs)
+
+-- a test that all before it passed, and it too
+pub all_read : {X : Type 0} (p : X → Bool) (xs : List X) (at : ℕ) (x : X) → slice_get xs at ≡ Some x → list_all p (take at xs) ≡ true → p x ≡ true → list_all p (take (at + 1) xs) ≡ true
+all_read p xs at x here before one =
+    list_all_more p xs at x (slice_get_within xs at x here)
+    ∙ ap (λ (b : Bool). b && p (get_or xs at x)) before
+    ∙ ap p (get_or_from_slice_get xs at x x here) ∙ one

@@ -25,10 +25,12 @@ pub struct Log {
     limit: u32,
     /// How large the entries are together.
     size: usize,
+    /// How large the step is for which memory was taken: there is memory for so many terms more.
+    reserved: usize,
 }
 
 impl Model for Log {
-    ghost use Rattle.std.specs.Prelude.{◌-◌, min, vec_len, vec_capacity};
+    ghost use Rattle.std.specs.Prelude.{◌-◌, ◌+◌, ◌≤◌, min, vec_len, vec_capacity};
     ghost use Rattle.tb_log.specs.Helpers.KeptLogs.{StandsFor, entries_kept};
     ghost use Rattle.tb_log.specs.Logs.{LogState, log_code};
 
@@ -40,10 +42,11 @@ impl Model for Log {
       limit = log.limit;
       entries = entries_kept log.terms.items log.others.items log.entries.items;
       spare = min (vec_capacity log.entries - vec_len log.entries) (vec_capacity log.others - vec_len log.others);
-      spare_terms = vec_capacity log.terms - vec_len log.terms;
+      reserved = log.reserved;
     } };
 
-    ghost invariant = { λ log. StandsFor log.limit log.size log.terms.items log.others.items log.entries.items };
+    ghost invariant = { λ log. StandsFor log.limit log.size log.terms.items log.others.items log.entries.items
+        × (vec_len log.terms + log.reserved ≤ vec_capacity log.terms) };
 }
 
 impl Log {
@@ -61,6 +64,7 @@ impl Log {
             others: Vec::new(alloc),
             limit,
             size: 0,
+            reserved: 0,
         }
     }
 
@@ -110,16 +114,17 @@ impl Log {
         Ok(())
     }
 
-    /// Takes memory for a step more, with so many terms at most.
-    pub fn reserve_step(&mut self, terms: usize) -> Result<(), NoMemory>
+    /// Takes memory for a step more, of this size. A term has a size of 1 at least, so that a step has no more terms.
+    pub fn reserve_step(&mut self, size: usize) -> Result<(), NoMemory>
         ensures spare { OnOk result (0 < self.new.spare) }
-        ensures terms { OnOk result (terms ≤ self.new.spare_terms) }
+        ensures reserved { OnOk result (self.new.reserved ≡ size) }
         ensures entries { self.new.entries ≡ self.old.entries }
         ensures limit { self.new.limit ≡ self.old.limit }
         ensures grows { self.old.spare ≤ self.new.spare }
     {
         self.reserve(1)?;
-        self.terms.reserve(terms)?;
+        self.terms.reserve(size)?;
+        self.reserved = size;
         Ok(())
     }
 
@@ -131,19 +136,11 @@ impl Log {
         entries.min(self.others.capacity() - self.others.len())
     }
 
-    /// Adds a step at the end. Its terms, which are so large, are moved out of where they stand. This takes no memory.
-    pub fn push_step(
-        &mut self,
-        kind: LabelKind,
-        from: Place,
-        to: Place,
-        terms: &mut Terms,
-        size: usize,
-    )
+    /// Adds a step, for which memory was taken, at the end. Its terms are moved out of where they stand. This takes no memory.
+    pub fn push_step(&mut self, kind: LabelKind, from: Place, to: Place, terms: &mut Terms)
         requires room { IsTrue (has_room self.old.limit self.old.entries (Entry.Did (record { kind = kind; from = from; to = to; terms = terms.old }))) }
-        requires sized { size ≡ min (terms_size terms.old) MAX }
+        requires reserved { self.old.reserved ≡ min (terms_size terms.old) MAX }
         requires spare { 0 < self.old.spare }
-        requires terms { length terms.old ≤ self.old.spare_terms }
         ensures entries { self.new.entries ≡ self.old.entries ++ Entry.Did (record { kind = kind; from = from; to = to; terms = terms.old }) ∷ [] }
         ensures limit { self.new.limit ≡ self.old.limit }
         ensures spare { self.old.spare ≤ self.new.spare + 1 }
@@ -151,7 +148,8 @@ impl Log {
     {
         let first = self.terms.len() as u32;
         let count = terms.len() as u32;
-        self.size += size;
+        self.size += self.reserved;
+        self.reserved = 0;
         move_terms(terms, &mut self.terms);
         self.entries.push_reserved(Kept::Did(KeptStep {
             kind,

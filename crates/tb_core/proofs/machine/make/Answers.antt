@@ -1,7 +1,6 @@
 use Rattle.std.proofs.Common.{◌≡◌, ◌∙◌, arith, refl, sym, true}
 use Rattle.tb_log.specs.Limits.{has_room}
 use Rattle.tb_log.specs.declared.entry.Entry.TheVariants.{Did}
-use Rattle.tb_log.proofs.SizeLemmas.{measured, terms_sized}
 use Rattle.tb_bus.specs.Steps.{label_of}
 use Rattle.tb_core.specs.Helpers.LiveBuses.{move_in}
 use Rattle.tb_core.proofs.CoreLemmas.{room-kept, room-long}
@@ -17,13 +16,10 @@ make-requires-clause-can g c =
     let label = label_of (move_in g.W.Walker.view c.args.bus.now c.args.candidate) in
     let log = c.args.log.now in
     let room : has_room log.limit log.entries (Did label) ≡ true = sym (c.room_for_size.ensures (Did label) c.shown_size-size.ensures) ∙ c.if-not-room_for_size.false in
-    let exact = measured log.limit log.entries (Did label) c.shown_size-size.result room c.shown_size-size.ensures in
-    let few = terms_sized label.terms in
-    let terms = c.in_ok-reserve_step.ensures.terms in
     record {
       room = room-kept log c.reserve_step.new.self (Did label) (Did label) c.in_ok-reserve_step.ensures.limit c.in_ok-reserve_step.ensures.entries refl room;
       spare = c.in_ok-reserve_step.ensures.spare;
-      terms = omega (arith, terms, exact, few);
+      reserved = c.in_ok-reserve_step.ensures.reserved ∙ c.shown_size-size.ensures;
     }
 
 pub returns-clause-room : goal.returns-clause-room
