@@ -13,6 +13,7 @@ use Rattle.tb_log.specs.declared.kept.Kept.{Kept}
 use Rattle.tb_log.specs.declared.kept.Kept.TheVariants as kept
 use Rattle.tb_log.specs.declared.kept.Other.{Other}
 use Rattle.tb_log.specs.Limits.{entry_size, has_room, log_size, most_size, terms_size}
+use Rattle.tb_log.specs.Logs.{LogState}
 use Rattle.tb_log.specs.Helpers.KeptLogs.{NamesWithin, StandsFor, entries_kept, entry_kept, label_kept, other_entry, other_there}
 use Rattle.tb_log.proofs.SizeLemmas.{log_sized, measured, room_parts, terms_sized}
 
@@ -62,31 +63,31 @@ still_named terms others more_terms more_others some more (kept.Other at) within
 
 -- One entry more.
 
--- a step whose terms stand at the end
-abbrev pub step_after : List Term → Label → KeptStep
-step_after terms label = record { kind = label.kind; from = label.from; to = label.to; first = length terms; count = length label.terms }
+-- a step with the share of so many terms from this one on
+abbrev pub step_at : ℕ → ℕ → Label → KeptStep
+step_at first count label = record { kind = label.kind; from = label.from; to = label.to; first = first; count = count }
 
-pub step_pushed : (terms : List Term) (others : List Other) (entries : List Kept) (label : Label) → All (NamesWithin (length terms) (length others)) entries →
-    entries_kept (terms ++ label.terms) others (entries ++ kept.Did (step_after terms label) ∷ []) ≡ entries_kept terms others entries ++ Did label ∷ []
-step_pushed terms others entries label all =
-    let all_terms = terms ++ label.terms in
-    let share : take (length label.terms) (drop (length terms) all_terms) ≡ label.terms =
-    ap (take (length label.terms)) (drop_at terms label.terms (length terms) refl) ∙ take_all (length label.terms) label.terms (omega arith) in
-    map_push (entry_kept all_terms others) entries (kept.Did (step_after terms label))
-    ∙ ap (λ (es : List Entry). es ++ Did (label_kept all_terms (step_after terms label)) ∷ []) (terms_grown terms label.terms others entries all)
+pub step_pushed : (terms : List Term) (others : List Other) (entries : List Kept) (label : Label) (first count : ℕ) → first ≡ length terms → count ≡ length label.terms → All (NamesWithin (length terms) (length others)) entries →
+    entries_kept (terms ++ label.terms) others (entries ++ kept.Did (step_at first count label) ∷ []) ≡ entries_kept terms others entries ++ Did label ∷ []
+step_pushed terms others entries label first count from_there so_many all =
+    let more = terms ++ label.terms in
+    let share : take count (drop first more) ≡ label.terms =
+    ap (λ (n : ℕ). take n (drop first more)) so_many ∙ ap (take (length label.terms)) (drop_at terms label.terms first (sym from_there)) ∙ take_all (length label.terms) label.terms (omega arith) in
+    map_push (entry_kept more others) entries (kept.Did (step_at first count label))
+    ∙ ap (λ (es : List Entry). es ++ Did (label_kept more (step_at first count label)) ∷ []) (terms_grown terms label.terms others entries all)
     ∙ ap (λ (ts : List Term). let it : Label = record { kind = label.kind; from = label.from; to = label.to; terms = ts } in entries_kept terms others entries ++ Did it ∷ []) share
 
 there_last : (others : List Other) (other : Other) → slice_get (others ++ other ∷ []) (length others) ≡ Some other
 there_last [] other = refl
 there_last (first ∷ others) other = there_last others other
 
-pub other_pushed : (terms : List Term) (others : List Other) (entries : List Kept) (other : Other) → All (NamesWithin (length terms) (length others)) entries →
-    entries_kept terms (others ++ other ∷ []) (entries ++ kept.Other (length others) ∷ []) ≡ entries_kept terms others entries ++ other_entry other ∷ []
-other_pushed terms others entries other all =
+pub other_pushed : (terms : List Term) (others : List Other) (entries : List Kept) (other : Other) (index : ℕ) → index ≡ length others → All (NamesWithin (length terms) (length others)) entries →
+    entries_kept terms (others ++ other ∷ []) (entries ++ kept.Other index ∷ []) ≡ entries_kept terms others entries ++ other_entry other ∷ []
+other_pushed terms others entries other index is all =
     let more = others ++ other ∷ [] in
-    map_push (entry_kept terms more) entries (kept.Other (length others))
-    ∙ ap (λ (es : List Entry). es ++ other_there (slice_get more (length others)) ∷ []) (others_grown terms others (other ∷ []) entries all)
-    ∙ ap (λ (o : Option Other). entries_kept terms others entries ++ other_there o ∷ []) (there_last others other)
+    map_push (entry_kept terms more) entries (kept.Other index)
+    ∙ ap (λ (es : List Entry). es ++ other_there (slice_get more index) ∷ []) (others_grown terms others (other ∷ []) entries all)
+    ∙ ap (λ (o : Option Other). entries_kept terms others entries ++ other_there o ∷ []) (ap (slice_get more) is ∙ there_last others other)
 
 pub quiet_pushed : (terms : List Term) (others : List Other) (entries : List Kept) → entries_kept terms others (entries ++ kept.Quiet ∷ []) ≡ entries_kept terms others entries ++ Quiet ∷ []
 quiet_pushed terms others entries = map_push (entry_kept terms others) entries kept.Quiet
@@ -104,28 +105,27 @@ stands_empty limit limited = record {
   few_others = omega arith;
 }
 
-pub stands_with_step : (limit size more : ℕ) (terms : List Term) (others : List Other) (entries : List Kept) (label : Label) → StandsFor limit size terms others entries →
+pub stands_with_step : (limit size more : ℕ) (terms : List Term) (others : List Other) (entries : List Kept) (label : Label) (first count : ℕ) → first ≡ length terms → count ≡ length label.terms → StandsFor limit size terms others entries →
     has_room limit (entries_kept terms others entries) (Did label) ≡ true → more ≡ min (terms_size label.terms) 18446744073709551615 →
-    StandsFor limit (size + more) (terms ++ label.terms) others (entries ++ kept.Did (step_after terms label) ∷ [])
-stands_with_step limit size more terms others entries label stands room is =
+    StandsFor limit (size + more) (terms ++ label.terms) others (entries ++ kept.Did (step_at first count label) ∷ [])
+stands_with_step limit size more terms others entries label first count from_there so_many stands room is =
     let was = entries_kept terms others entries in
+    let it = kept.Did (step_at first count label) in
+    let Within = NamesWithin (length (terms ++ label.terms)) (length others) in
     let parts = room_parts limit was (Did label) room in
     let exact : more ≡ terms_size label.terms = measured limit was (Did label) more room is in
     let long : length (terms ++ label.terms) ≡ length terms + length label.terms = length-append terms label.terms in
-    let longer : length (entries ++ kept.Did (step_after terms label) ∷ []) ≡ length entries + 1 = length_push entries (kept.Did (step_after terms label)) in
+    let longer : length (entries ++ it ∷ []) ≡ length entries + 1 = length_push entries it in
     let same : length was ≡ length entries = entries_long terms others entries in
     let few : length label.terms ≤ terms_size label.terms = terms_sized label.terms in
     let total : log_size (was ++ Did label ∷ []) ≡ log_size was + terms_size label.terms = log_sized was (Did label) in
     let sized : size + more ≡ log_size (was ++ Did label ∷ []) = omega (arith, stands.sized, exact, total) in
-    let within : NamesWithin (length (terms ++ label.terms)) (length others) (kept.Did (step_after terms label)) = omega (arith, long) in
+    let within : Within it = omega (arith, long, from_there, so_many) in
     record {
-      named = All-push (NamesWithin (length (terms ++ label.terms)) (length others)) entries (kept.Did (step_after terms label))
-          (
-          All-weaker (NamesWithin (length terms) (length others)) (NamesWithin (length (terms ++ label.terms)) (length others))
-          (still_named (length terms) (length others) (length (terms ++ label.terms)) (length others) (omega (arith, long)) (omega arith)) entries stands.named
-          )
-          within;
-      sized = sized ∙ ap log_size (sym (step_pushed terms others entries label stands.named));
+      named = All-push Within entries it
+          (All-weaker (NamesWithin (length terms) (length others)) Within
+          (still_named (length terms) (length others) (length (terms ++ label.terms)) (length others) (omega (arith, long)) (omega arith)) entries stands.named) within;
+      sized = sized ∙ ap log_size (sym (step_pushed terms others entries label first count from_there so_many stands.named));
       small = omega (arith, stands.sized, exact, parts.1);
       within = omega (arith, longer, same, parts.0);
       limited = stands.limited;
@@ -133,27 +133,26 @@ stands_with_step limit size more terms others entries label stands room is =
       few_others = omega (arith, longer, stands.few_others);
     }
 
-pub stands_with_other : (limit size more : ℕ) (terms : List Term) (others : List Other) (entries : List Kept) (other : Other) → StandsFor limit size terms others entries →
+pub stands_with_other : (limit size more : ℕ) (terms : List Term) (others : List Other) (entries : List Kept) (other : Other) (index : ℕ) → index ≡ length others → StandsFor limit size terms others entries →
     has_room limit (entries_kept terms others entries) (other_entry other) ≡ true → more ≡ min (entry_size (other_entry other)) 18446744073709551615 →
-    StandsFor limit (size + more) terms (others ++ other ∷ []) (entries ++ kept.Other (length others) ∷ [])
-stands_with_other limit size more terms others entries other stands room is =
+    StandsFor limit (size + more) terms (others ++ other ∷ []) (entries ++ kept.Other index ∷ [])
+stands_with_other limit size more terms others entries other index at stands room is =
     let was = entries_kept terms others entries in
+    let it = kept.Other index in
+    let Within = NamesWithin (length terms) (length (others ++ other ∷ [])) in
     let parts = room_parts limit was (other_entry other) room in
     let exact : more ≡ entry_size (other_entry other) = measured limit was (other_entry other) more room is in
     let long : length (others ++ other ∷ []) ≡ length others + 1 = length_push others other in
-    let longer : length (entries ++ kept.Other (length others) ∷ []) ≡ length entries + 1 = length_push entries (kept.Other (length others)) in
+    let longer : length (entries ++ it ∷ []) ≡ length entries + 1 = length_push entries it in
     let same : length was ≡ length entries = entries_long terms others entries in
     let total : log_size (was ++ other_entry other ∷ []) ≡ log_size was + entry_size (other_entry other) = log_sized was (other_entry other) in
     let sized : size + more ≡ log_size (was ++ other_entry other ∷ []) = omega (arith, stands.sized, exact, total) in
-    let within : NamesWithin (length terms) (length (others ++ other ∷ [])) (kept.Other (length others)) = omega (arith, long) in
+    let within : Within it = omega (arith, long, at) in
     record {
-      named = All-push (NamesWithin (length terms) (length (others ++ other ∷ []))) entries (kept.Other (length others))
-          (
-          All-weaker (NamesWithin (length terms) (length others)) (NamesWithin (length terms) (length (others ++ other ∷ [])))
-          (still_named (length terms) (length others) (length terms) (length (others ++ other ∷ [])) (omega arith) (omega (arith, long))) entries stands.named
-          )
-          within;
-      sized = sized ∙ ap log_size (sym (other_pushed terms others entries other stands.named));
+      named = All-push Within entries it
+          (All-weaker (NamesWithin (length terms) (length others)) Within
+          (still_named (length terms) (length others) (length terms) (length (others ++ other ∷ [])) (omega arith) (omega (arith, long))) entries stands.named) within;
+      sized = sized ∙ ap log_size (sym (other_pushed terms others entries other index at stands.named));
       small = omega (arith, stands.sized, exact, parts.1);
       within = omega (arith, longer, same, parts.0);
       limited = stands.limited;
@@ -191,3 +190,14 @@ names_within terms others entries at it all within is = subst (NamesWithin terms
 
 pub other_read : (others : List Other) (at : ℕ) (other : Other) → at < length others → other ≡ get_or others at other → other_there (slice_get others at) ≡ other_entry other
 other_read others at other within is = ap other_there (slice_get-get_or others at other within ∙ ap Some (sym is))
+
+-- What contracts see of a log.
+
+pub room_inside : (limit : ℕ) (entries : List Entry) (log : LogState) (entry : Entry) → log.limit ≡ limit → log.entries ≡ entries → has_room log.limit log.entries entry ≡ true → has_room limit entries entry ≡ true
+room_inside limit entries log entry same_limit same_entries room =
+    ap (λ (n : ℕ). has_room n entries entry) (sym same_limit) ∙ ap (λ (es : List Entry). has_room log.limit es entry) (sym same_entries) ∙ room
+
+pub within_inside : (terms : List Term) (others : List Other) (entries : List Kept) (seen : List Entry) (at : ℕ) → seen ≡ entries_kept terms others entries → at < length seen → at < length entries
+within_inside terms others entries seen at is within =
+    let long : length seen ≡ length entries = ap length is ∙ entries_long terms others entries in
+    omega (arith, within, long)
