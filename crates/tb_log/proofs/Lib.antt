@@ -3,5 +3,6 @@ pub mod ReadLemmas
 pub mod SizeLemmas
 pub mod TextLemmas
 mod KeptLemmas
+mod MoveLemmas
 mod Rows
 mod StepLemmas

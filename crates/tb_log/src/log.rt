@@ -1,4 +1,4 @@
-ghost use Rattle.std.specs.Prelude.{◌≡◌, ◌≤◌, ◌<◌, ◌+◌, ◌++◌, ◌∷◌, [], IsTrue, IsOk, OnOk, Some, min, map, sum, length, reverse, slice_get, vec_len, vec_capacity};
+ghost use Rattle.std.specs.Prelude.{◌≡◌, ◌≤◌, ◌<◌, ◌+◌, ◌++◌, ◌∷◌, [], IsTrue, IsOk, OnOk, Some, min, map, sum, length, take, drop, reverse, slice_get, vec_len, vec_capacity};
 ghost use Rattle.std.below.core.specs.declared.int.usize.TheConstants.{MAX};
 ghost use Rattle.tb_terms.specs.Sizes.{term_size};
 ghost use Rattle.tb_log.specs.Limits.{entry_size, input_size, tool_line_size, out_size, has_room, terms_size};
@@ -218,7 +218,15 @@ fn move_terms(terms: &mut Terms, into: &mut Vec<Term>)
 {
     let first = into.len();
     pour(terms, into);
-    into[first..].reverse();
+    turn(into.as_mut_slice(), first);
+}
+
+/// Turns the order of the terms from this index on.
+fn turn(terms: &mut [Term], from: usize)
+    requires { from ≤ length terms.old }
+    ensures { terms.new ≡ take from terms.old ++ reverse (drop from terms.old) }
+{
+    terms[from..].reverse();
 }
 
 /// Moves terms to the end, the last one first.

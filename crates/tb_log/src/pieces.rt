@@ -1,4 +1,4 @@
-ghost use Rattle.std.specs.Prelude.{◌≡◌, ◌≤◌, ◌+◌, IfOk, take, drop, length};
+ghost use Rattle.std.specs.Prelude.{◌≡◌, ◌≤◌, ◌<◌, ◌+◌, ◌^◌, IfOk, take, drop, length};
 
 use crate::entry::Entries;
 use crate::log::Log;
@@ -16,7 +16,8 @@ pub fn piece(alloc: Global, log: &Log, from: u64, most: usize) -> Result<Entries
 
 /// Copies of so many entries that stand behind so many.
 fn copies(alloc: Global, log: &Log, before: usize, count: usize) -> Result<Entries, NoMemory>
-    requires { before + count ≤ length log.now.entries }
+    requires within { before + count ≤ length log.now.entries }
+    requires fits { before + count < 2 ^ 64 }
     ensures { IfOk result (λ copies. copies ≡ take count (drop before log.now.entries)) }
 {
     let mut copies = Vec::with_capacity(alloc, count)?;

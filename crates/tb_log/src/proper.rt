@@ -16,7 +16,7 @@ pub fn show_proper_log(log: &Log)
     ensures { IsTrue (list_all is_proper_entry log.now.entries) }
 {
     for at in 0..log.len() {
-        show_seen(log.at(at));
+        show_seen(&log.at(at));
     }
 }
 
@@ -24,13 +24,13 @@ pub fn show_proper_log(log: &Log)
 pub fn show_proper_entry(entry: &Entry)
     ensures { IsTrue (is_proper_entry entry.now) }
 {
-    show_seen(Seen::of(entry));
+    show_seen(&Seen::of(entry));
 }
 
-fn show_seen(seen: Seen)
-    ensures { IsTrue (is_proper_entry (entry_seen seen)) }
+fn show_seen(seen: &Seen)
+    ensures { IsTrue (is_proper_entry (entry_seen seen.now)) }
 {
-    match seen {
+    match *seen {
         Seen::Did(label) => {
             show_place(label.from);
             show_place(label.to);

@@ -11,7 +11,8 @@ use Rattle.tb_log.proofs.log.Log.at.Goals as goal
 pub index-requires : goal.index-requires
 index-requires c =
     let log = c.self.inside in
-    within_inside log.terms.items log.others.items log.entries.items c.args.self.now.entries c.args.at (ap (λ (s : LogState). s.entries) (sym c.self.view_is)) c.requires
+    let within = within_inside log.terms.items log.others.items log.entries.items c.args.self.now.entries c.args.at (ap (λ (s : LogState). s.entries) (sym c.self.view_is)) c.requires in
+    omega (arith, within, log.entries.ok.0)
 
 pub lend-requires : goal.lend-requires
 lend-requires c =
@@ -19,14 +20,15 @@ lend-requires c =
     let within = within_inside log.terms.items log.others.items log.entries.items c.args.self.now.entries c.args.at (ap (λ (s : LogState). s.entries) (sym c.self.view_is)) c.requires in
     let names = names_within (length log.terms.items) (length log.others.items) log.entries.items c.args.at c.index.result.now c.self.invariant.0.named within c.index.ensures in
     let fits = subst (NamesWithin (length log.terms.items) (length log.others.items)) c.in-Did.is names in
-    rw c.as_slice.ensures fits
+    rw c.as_slice.ensures.value fits
 
-pub index-in-Other-requires : goal.index-in-Other-requires
-index-in-Other-requires c =
+pub index-requires-in-Other : goal.index-requires-in-Other
+index-requires-in-Other c =
     let log = c.self.inside in
     let within = within_inside log.terms.items log.others.items log.entries.items c.args.self.now.entries c.args.at (ap (λ (s : LogState). s.entries) (sym c.self.view_is)) c.requires in
     let names = names_within (length log.terms.items) (length log.others.items) log.entries.items c.args.at c.index.result.now c.self.invariant.0.named within c.index.ensures in
-    subst (NamesWithin (length log.terms.items) (length log.others.items)) c.in-Other.is names
+    let there : c.in-Other.index < length log.others.items = subst (NamesWithin (length log.terms.items) (length log.others.items)) c.in-Other.is names in
+    omega (arith, there, log.others.ok.0)
 
 pub returns-in-Did : goal.returns-in-Did
 returns-in-Did c =
@@ -35,7 +37,7 @@ returns-in-Did c =
     ap (λ (s : LogState). slice_get s.entries c.args.at) (sym c.self.view_is)
     ∙ kept_there log.terms.items log.others.items log.entries.items c.args.at c.index.result.now within c.index.ensures
     ∙ ap (λ (k : Kept). Some (entry_kept log.terms.items log.others.items k)) c.in-Did.is
-    ∙ ap (λ (l : Label). Some (Did l)) (sym (c.lend.ensures ∙ ap (λ ts. label_kept ts c.in-Did.step) c.as_slice.ensures))
+    ∙ ap (λ (l : Label). Some (Did l)) (sym (c.lend.ensures ∙ ap (λ ts. label_kept ts c.in-Did.step) c.as_slice.ensures.value))
 
 pub returns-in-Quiet : goal.returns-in-Quiet
 returns-in-Quiet c =
