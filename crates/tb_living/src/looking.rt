@@ -75,18 +75,25 @@ fn create_action(process: u32, actuals: Option<Terms>, slot: u32) -> Option<Acti
     Some(Action::Own(OwnAction::Create(process, actuals?, slot)))
 }
 
+/// The process speaks with a tool.
+fn speak(does: ToolAction) -> Action
+    ensures { result ≡ Action.Own (OwnAction.Speak does) }
+{
+    Action::Own(OwnAction::Speak(does))
+}
+
 /// The answer of the tool is taken, where the tool and the patterns have values.
 fn value_action(terms: Option<Terms>, patterns: Option<Patterns>) -> Option<Action>
     ensures { result ≡ option_and_then (speak_about ToolAction.TakeValue patterns) terms }
 {
-    Some(Action::Speak(ToolAction::TakeValue(terms?, patterns?)))
+    Some(speak(ToolAction::TakeValue(terms?, patterns?)))
 }
 
 /// An event of the tool is received, where the tool and the patterns have values.
 fn event_action(terms: Option<Terms>, patterns: Option<Patterns>) -> Option<Action>
     ensures { result ≡ option_and_then (speak_about ToolAction.TakeEvent patterns) terms }
 {
-    Some(Action::Speak(ToolAction::TakeEvent(terms?, patterns?)))
+    Some(speak(ToolAction::TakeEvent(terms?, patterns?)))
 }
 
 /// The bus goes down, for the one reason that there is.
@@ -142,25 +149,25 @@ fn action_in<W: Walker>(
         Act::Create { process, slot, .. } => Ok(create_action(*process, sent()?, *slot)),
         Act::SndMsg(_) => Ok(sent()?.map(Action::Send)),
         Act::RecMsg(_) => Ok(patterns()?.map(Action::Receive)),
-        Act::SndNote(_) => Ok(sent()?.map(Action::Notify)),
-        Act::RecNote(_) => Ok(patterns()?.map(Action::TakeNote)),
+        Act::SndNote(_) => Ok(sent()?.map(OwnAction::Notify).map(Action::Own)),
+        Act::RecNote(_) => Ok(patterns()?.map(OwnAction::TakeNote).map(Action::Own)),
         Act::NoNote(_) => Ok(patterns()?.map(OwnAction::NoNote).map(Action::Own)),
         Act::Subscribe(_) => Ok(patterns()?.map(OwnAction::Subscribe).map(Action::Own)),
         Act::Unsubscribe(_) => Ok(patterns()?.map(OwnAction::Unsubscribe).map(Action::Own)),
-        &Act::Execute { tool, slot } => Ok(Some(Action::Speak(ToolAction::Execute(tool, slot)))),
+        &Act::Execute { tool, slot } => Ok(Some(speak(ToolAction::Execute(tool, slot)))),
         &Act::RecConnect { tool, slot } => {
-            Ok(Some(Action::Speak(ToolAction::Connect(tool, slot))))
+            Ok(Some(speak(ToolAction::Connect(tool, slot))))
         }
         &Act::RecDisconnectAny { tool, slot } => {
-            Ok(Some(Action::Speak(ToolAction::DisconnectAny(tool, slot))))
+            Ok(Some(speak(ToolAction::DisconnectAny(tool, slot))))
         }
-        Act::RecDisconnect(_) => Ok(sent()?.map(ToolAction::Disconnect).map(Action::Speak)),
-        Act::SndEval(_, _) => Ok(sent()?.map(ToolAction::Eval).map(Action::Speak)),
+        Act::RecDisconnect(_) => Ok(sent()?.map(ToolAction::Disconnect).map(speak)),
+        Act::SndEval(_, _) => Ok(sent()?.map(ToolAction::Eval).map(speak)),
         Act::RecValue(_, _) => Ok(value_action(sent()?, patterns()?)),
-        Act::SndDo(_, _) => Ok(sent()?.map(ToolAction::Do).map(Action::Speak)),
+        Act::SndDo(_, _) => Ok(sent()?.map(ToolAction::Do).map(speak)),
         Act::RecEvent(_, _) => Ok(event_action(sent()?, patterns()?)),
-        Act::SndAckEvent(_, _) => Ok(sent()?.map(ToolAction::Acknowledge).map(Action::Speak)),
-        Act::SndTerminate(_, _) => Ok(sent()?.map(ToolAction::Terminate).map(Action::Speak)),
+        Act::SndAckEvent(_, _) => Ok(sent()?.map(ToolAction::Acknowledge).map(speak)),
+        Act::SndTerminate(_, _) => Ok(sent()?.map(ToolAction::Terminate).map(speak)),
         Act::Shutdown(_) => Ok(shutdown_action(sent()?)),
     }
 }

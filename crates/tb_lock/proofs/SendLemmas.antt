@@ -104,18 +104,18 @@ bench_send : IsSend bench.the_row
 bench_send = search (sendable, crosses, lane_send) depth 40
 
 -- processes that are alive
-own_action_send : IsSend own_action.the_row
-own_action_send =
-    let n = number_send in let ts = terms_send in let ps = patterns_send in
-    variants_send own_action.enum (tt, ((ts, (binds_send, tt)), ((term_send, tt), ((ps, tt), ((ps, tt), ((ps, tt), ((n, (ts, (n, tt))), ((term_send, tt), tt))))))))
-
 tool_action_send : IsSend tool_action.the_row
 tool_action_send =
     let n = number_send in let ts = terms_send in let ps = patterns_send in
     variants_send tool_action.enum ((n, (n, tt)), ((n, (n, tt)), ((n, (n, tt)), ((ts, tt), ((ts, tt), ((ts, (ps, tt)), ((ts, tt), ((ts, (ps, tt)), ((ts, tt), ((ts, tt), tt))))))))))
 
+own_action_send : IsSend own_action.the_row
+own_action_send =
+    let n = number_send in let ts = terms_send in let ps = patterns_send in
+    variants_send own_action.enum (tt, ((ts, (binds_send, tt)), ((term_send, tt), ((ts, tt), ((ps, tt), ((ps, tt), ((ps, tt), ((ps, tt), ((n, (ts, (n, tt))), ((tool_action_send, tt), ((term_send, tt), tt)))))))))))
+
 action_send : IsSend action.the_row
-action_send = variants_send action.enum ((own_action_send, tt), ((terms_send, tt), ((patterns_send, tt), ((terms_send, tt), ((patterns_send, tt), ((tool_action_send, tt), tt))))))
+action_send = variants_send action.enum ((own_action_send, tt), ((terms_send, tt), ((patterns_send, tt), tt)))
 
 ready_send : IsSend ready.the_row
 ready_send = declared_send ready.the_type (search sendable depth 20, (number_send, (action_send, tt)))

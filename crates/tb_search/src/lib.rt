@@ -14,7 +14,7 @@ mod search;
 mod slots;
 mod wanting;
 
-pub use candidate::{Candidate, Partner, Received};
+pub use candidate::{Candidate, Finding, Partner, Received};
 pub use living::{Living, Ready};
 pub use marks::Marks;
 pub use places::place_of;

@@ -31,11 +31,7 @@ fn receive(
             })),
             None => Ok(None),
         },
-        Action::Own(_)
-        | Action::Send(_)
-        | Action::Notify(_)
-        | Action::TakeNote(_)
-        | Action::Speak(_) => Ok(None),
+        Action::Own(_) | Action::Send(_) => Ok(None),
     }
 }
 

@@ -3,10 +3,10 @@ ghost use Rattle.tb_bus.specs.Buses.{Bus};
 ghost use Rattle.tb_bus.specs.Steps.{moves, first};
 ghost use Rattle.tb_search.specs.Views.{IsSearchedFor, IsCandidateIn, move_of};
 ghost use Rattle.tb_search.specs.Indexed.{IsIndexFor, IsNextOf};
-ghost use Rattle.tb_bus.specs.Exchanges.{exchange_for, setting_by};
-ghost use Rattle.tb_search.specs.Candidates.{may_happen, setting_in, candidates_by, candidates_of, candidates_from, candidates_in_turn, all_candidates, candidates_or_halt, up_to, ascend, row_of, rows_of, scene_of};
+ghost use Rattle.tb_bus.specs.Exchanges.{setting_by};
+ghost use Rattle.tb_search.specs.Candidates.{finding_of, plain_if, candidates_by, candidates_of, candidates_from, candidates_in_turn, all_candidates, candidates_or_halt, up_to, ascend, row_of, rows_of, scene_of};
 
-use crate::candidate::Candidate;
+use crate::candidate::{Candidate, Finding};
 use crate::creation::may_create;
 use crate::exchanging::{Speaker, exchange_for};
 use crate::living::Living;
@@ -16,7 +16,7 @@ use crate::receivers::first_partner;
 use crate::wanting::wanting;
 use std::alloc::Global;
 use tb_body::Program;
-use tb_bus::{Action, Exchange, OwnAction, ToolAction};
+use tb_bus::{Action, OwnAction};
 use tb_index::Index;
 use tb_terms::NoMemory;
 use tb_tools::Bench;
@@ -31,13 +31,22 @@ pub(crate) struct Searched<'a, W> {
     pub index: &'a Index,
 }
 
-/// Whether an action of a process by itself may happen.
-fn may_happen<W>(
+/// Where it may happen, nothing else is found of it.
+fn plain_if(may: bool) -> Option<Finding>
+    ensures { result ≡ plain_if may }
+{
+    if may { Some(Finding::Plain) } else { None }
+}
+
+/// What is found of what a process does by itself, where it may happen.
+#[inline(never)]
+fn finding_of<W>(
+    alloc: Global,
     searched: &Searched<W>,
     living: &Living<W>,
     own: &OwnAction,
-) -> Result<bool, NoMemory>
-    ensures { IfOk result (λ happens. happens ≡ may_happen (scene_of searched.now.program.now.bodies searched.now.program.now.tools searched.now.bench.now (rows_of searched.now.all.now) searched.now.marks) (row_of living.now) own.now) }
+) -> Result<Option<Finding>, NoMemory>
+    ensures { IfOk result (λ found. found ≡ finding_of (scene_of searched.now.program.now.bodies searched.now.program.now.tools searched.now.bench.now (rows_of searched.now.all.now) searched.now.marks) (row_of living.now) own.now) }
 {
     match own {
         OwnAction::Tau
@@ -45,9 +54,11 @@ fn may_happen<W>(
         | OwnAction::Print(_)
         | OwnAction::Subscribe(_)
         | OwnAction::Unsubscribe(_)
-        | OwnAction::Shutdown(_) => Ok(true),
-        OwnAction::NoNote(patterns) => Ok(living.inbox.find(patterns)?.is_none()),
-        OwnAction::Create(process, actuals, slot) => Ok(may_create(
+        | OwnAction::Shutdown(_) => Ok(Some(Finding::Plain)),
+        OwnAction::Notify(terms) => Ok(wanting(alloc, searched.all, terms)?.map(Finding::Notify)),
+        OwnAction::TakeNote(patterns) => Ok(living.inbox.find(patterns)?.map(Finding::TakeNote)),
+        OwnAction::NoNote(patterns) => Ok(plain_if(living.inbox.find(patterns)?.is_none())),
+        OwnAction::Create(process, actuals, slot) => Ok(plain_if(may_create(
             searched.program.bodies.as_slice(),
             searched.all.len(),
             searched.marks.next_number,
@@ -55,25 +66,16 @@ fn may_happen<W>(
             *process,
             actuals,
             *slot,
-        )),
+        ))),
+        OwnAction::Speak(does) => {
+            let speaker = Speaker {
+                program: searched.program,
+                bench: searched.bench,
+                body: living.body,
+            };
+            Ok(exchange_for(alloc, &speaker, does)?.map(Finding::Speak))
+        }
     }
-}
-
-/// How an action of a process with a tool may happen.
-fn exchange<W>(
-    alloc: Global,
-    searched: &Searched<W>,
-    living: &Living<W>,
-    does: &ToolAction,
-) -> Result<Option<Exchange>, NoMemory>
-    ensures { IfOk result (λ found. found ≡ exchange_for (setting_in (scene_of searched.now.program.now.bodies searched.now.program.now.tools searched.now.bench.now (rows_of searched.now.all.now) searched.now.marks) (row_of living.now)) does.now) }
-{
-    let speaker = Speaker {
-        program: searched.program,
-        bench: searched.bench,
-        body: living.body,
-    };
-    exchange_for(alloc, &speaker, does)
 }
 
 /// What an action of the process at an index leads to first.
@@ -90,13 +92,11 @@ fn first_by<W>(
     ensures { IfOk result (λ found. found ≡ first (candidates_by (scene_of searched.now.program.now.bodies searched.now.program.now.tools searched.now.bench.now (rows_of searched.now.all.now) searched.now.marks) at (row_of living.now) index action.now)) }
 {
     match action {
-        Action::Own(own) => {
-            if may_happen(searched, living, own)? {
-                Ok(Some(Candidate::Own(at, index)))
-            } else {
-                Ok(None)
-            }
-        }
+        Action::Own(OwnAction::Tau) => Ok(Some(Candidate::Own(at, index, Finding::Plain))),
+        Action::Own(own) => match finding_of(alloc, searched, living, own)? {
+            Some(finding) => Ok(Some(Candidate::Own(at, index, finding))),
+            None => Ok(None),
+        },
         Action::Send(terms) => {
             match first_partner(alloc, searched.all, searched.index, living.number, terms)? {
                 Some(partner) => Ok(Some(Candidate::Handshake(at, index, partner))),
@@ -104,18 +104,6 @@ fn first_by<W>(
             }
         }
         Action::Receive(_) => Ok(None),
-        Action::Notify(terms) => match wanting(alloc, searched.all, terms)? {
-            Some(indices) => Ok(Some(Candidate::Notify(at, index, indices))),
-            None => Ok(None),
-        },
-        Action::TakeNote(patterns) => match living.inbox.find(patterns)? {
-            Some(found) => Ok(Some(Candidate::TakeNote(at, index, found))),
-            None => Ok(None),
-        },
-        Action::Speak(does) => match exchange(alloc, searched, living, does)? {
-            Some(exchange) => Ok(Some(Candidate::Speak(at, index, exchange))),
-            None => Ok(None),
-        },
     }
 }
 
