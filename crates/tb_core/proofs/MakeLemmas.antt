@@ -22,17 +22,19 @@ use Rattle.tb_notes.specs.Inboxes.{Held, oldest_match}
 use Rattle.tb_notes.specs.Oldest.{IsOldest, NoneMatches}
 use Rattle.tb_notes.specs.declared.queue.Found.{Found}
 use Rattle.tb_notes.proofs.Finding.{oldest-first}
+use Rattle.tb_tools.specs.Lanes.{HasLanes}
 use Rattle.tb_bus.specs.Buses.{Bus, Proc}
 use Rattle.tb_bus.specs.Effects.{Effect, changed, effect_of, may_create, note_at, number_term}
 use Rattle.tb_bus.specs.Exchanges.{exchange_for, setting_by}
 use Rattle.tb_bus.specs.Slots.{fits_formals, fits_slot}
 use Rattle.tb_bus.specs.Steps.{advance, apply, label_of, nowhere, place_of}
 use Rattle.tb_bus.specs.Steps as move
-use Rattle.tb_search.specs.Candidates.{Row, Scene, no_row, row_at, row_of, rows_of, all_take, wanting, plain_if, finding_of, setting_in}
+use Rattle.tb_search.specs.Candidates.{Row, Scene, no_row, row_at, row_of, rows_of, all_take, wanting, wanting_if_room, plain_if, finding_of, setting_in}
 use Rattle.tb_search.specs.Findings.{note_found, exchange_found, effect_by}
 use Rattle.tb_search.specs.Views.{no_proc, proc_at, ready_at, offer_of, own_in, own_move, move_by, IsCandidateIn}
 use Rattle.tb_bus.specs.declared.action.Action.TheVariants as action
 use Rattle.tb_bus.specs.declared.action.OwnAction.{OwnAction}
+use Rattle.tb_bus.specs.declared.action.ToolAction.{ToolAction}
 use Rattle.tb_bus.specs.declared.exchange.Exchange.{Exchange}
 use Rattle.tb_bus.specs.declared.origin.Origin.{Origin}
 use Rattle.tb_bus.specs.declared.action.OwnAction.TheVariants as own
@@ -52,7 +54,7 @@ use Rattle.tb_log.specs.declared.entry.Place.{Place}
 use Rattle.tb_living.specs.Lives.{proc_by, proc_in, AreFresh}
 use Rattle.tb_core.specs.Helpers.Makings.{effect_in, finding_in, IsPlainIn}
 use Rattle.tb_core.specs.Helpers.LiveBuses.{IsSound, StandsAs, AreAdvanced, Leaves, CanAdvance, IsKept, IsChanged, HasGone, bus_of, procs_in, move_in, scene_in}
-use Rattle.tb_living.specs.Spoken.{IsDone}
+use Rattle.tb_living.specs.Spoken.{CanSpeak, IsDone}
 use Rattle.tb_living.specs.declared.done.Done.{Done}
 use Rattle.tb_core.specs.declared.bus.LiveBus.{LiveBus}
 use Rattle.tb_living.proofs.ReadLemmas.{body-there, map-there, some-at}
@@ -258,17 +260,45 @@ notify-is true wanted indices e = (refl, ap indices_found (sym (same_Some (findi
 notify-is false wanted indices e = cc
 
 -- no other finding comes with such an action
-pub notify-only : (o : Option (List ℕ)) (found : Finding) → option_map finding.Notify o ≡ Some found → (indices : List ℕ) × (found ≡ finding.Notify indices)
+notify-only : (o : Option (List ℕ)) (found : Finding) → option_map finding.Notify o ≡ Some found → (indices : List ℕ) × (found ≡ finding.Notify indices)
 notify-only None found e = cc
 notify-only (Some indices) found e = (indices, sym (same_Some (finding.Notify indices) found e))
 
-pub note-only : (o : Option Found) (found : Finding) → option_map finding.TakeNote o ≡ Some found → (note : Found) × (found ≡ finding.TakeNote note)
+note-only : (o : Option Found) (found : Finding) → option_map finding.TakeNote o ≡ Some found → (note : Found) × (found ≡ finding.TakeNote note)
 note-only None found e = cc
 note-only (Some note) found e = (note, sym (same_Some (finding.TakeNote note) found e))
 
-pub exchange-only : (o : Option Exchange) (found : Finding) → option_map finding.Speak o ≡ Some found → (exchange : Exchange) × (found ≡ finding.Speak exchange)
+exchange-only : (o : Option Exchange) (found : Finding) → option_map finding.Speak o ≡ Some found → (exchange : Exchange) × (found ≡ finding.Speak exchange)
 exchange-only None found e = cc
 exchange-only (Some exchange) found e = (exchange, sym (same_Some (finding.Speak exchange) found e))
+
+-- so by the action of the process at an index
+module _ {W P T : Type 0} (bus : LiveBus W P T) (at : ℕ) (action : OwnAction) (found : Finding) (h : finding_in bus at action ≡ Some found) where
+  abbrev row : Row
+  row = row_at (rows_of bus.living.items) at
+
+  pub notified : (terms : List Term) (indices : List ℕ) → action ≡ own.Notify terms → found ≡ finding.Notify indices → (all_take terms (rows_of bus.living.items) ≡ true) × (indices ≡ wanting terms 0 (rows_of bus.living.items))
+  notified terms indices e f =
+      notify-is (all_take terms (rows_of bus.living.items)) (wanting terms 0 (rows_of bus.living.items)) indices (ap (finding_in bus at) (sym e) ∙ h ∙ ap (λ (x : Finding). Some x) f)
+
+  pub notified-only : (terms : List Term) → action ≡ own.Notify terms → (indices : List ℕ) × (found ≡ finding.Notify indices)
+  notified-only terms e = notify-only (wanting_if_room terms (rows_of bus.living.items)) found (ap (finding_in bus at) (sym e) ∙ h)
+
+  pub noted : (patterns : List Pattern) (note : Found) → action ≡ own.TakeNote patterns → found ≡ finding.TakeNote note → oldest_match patterns row.inbox ≡ Some note
+  noted patterns note e f = note-is (oldest_match patterns row.inbox) (finding.TakeNote note) (ap (finding_in bus at) (sym e) ∙ h ∙ ap (λ (x : Finding). Some x) f)
+
+  pub noted-only : (patterns : List Pattern) → action ≡ own.TakeNote patterns → (note : Found) × (found ≡ finding.TakeNote note)
+  noted-only patterns e = note-only (oldest_match patterns row.inbox) found (ap (finding_in bus at) (sym e) ∙ h)
+
+  pub spoken : (does : ToolAction) (exchange : Exchange) → action ≡ own.Speak does → found ≡ finding.Speak exchange → HasLanes bus.bench → CanSpeak bus.origin.program.tools bus.bench does exchange
+  spoken does exchange e f lanes = record {
+    body = slice_get bus.origin.program.bodies row.body;
+    found = exchange-is (exchange_for (setting_in (scene_in bus) row) does) (finding.Speak exchange) (ap (finding_in bus at) (sym e) ∙ h ∙ ap (λ (x : Finding). Some x) f);
+    lanes = lanes;
+  }
+
+  pub spoken-only : (does : ToolAction) → action ≡ own.Speak does → (exchange : Exchange) × (found ≡ finding.Speak exchange)
+  spoken-only does e = exchange-only (exchange_for (setting_in (scene_in bus) row) does) found (ap (finding_in bus at) (sym e) ∙ h)
 
 -- a note that was found in a queue: it stands there, and the store takes what it binds
 
@@ -455,6 +485,9 @@ acted-tau view old begun at index taken sound fresh found leaves e same kept nam
     (nothing-changed view begun at kept.after (effect_in begun at own.Tau finding.Plain) same.sound kept.there refl)
 
 -- the terms that are seen
+
+pub own-found : {W P T : Type 0} (bus : LiveBus W P T) (at index : ℕ) (own : OwnAction) (found : Finding) → IsCandidateIn (scene_in bus) (candidate.Own at index found) → (ready_at (rows_of bus.living.items) at index).action ≡ action.Own own → finding_in bus at own ≡ Some found
+own-found bus at index own found h e = ap (finding_in bus at) (ap own_in (sym e ∙ h.1.1)) ∙ h.1.2
 
 pub shown-own : {W P T : Type 0} (view : View P W T) (bus : LiveBus W P T) (at index : ℕ) (own : OwnAction) (found : Finding) → IsSound view bus → AreFresh bus.living.items → IsCandidateIn (scene_in bus) (candidate.Own at index found) →
     (ready_at (rows_of bus.living.items) at index).action ≡ action.Own own → (effect_in bus at own found).shown ≡ (label_of (move_in view bus (candidate.Own at index found))).terms
