@@ -69,12 +69,13 @@ impl<W: Walker> Core<W> {
             limit,
         };
         let bus = LiveBus::open(alloc, origin)?;
+        let buffers = Buffers::new(alloc)?;
         Ok(Core {
             alloc,
             bus,
             log: Log::new(alloc, limit),
             stopped: false,
-            buffers: Buffers::new(alloc),
+            buffers,
         })
     }
 

@@ -183,7 +183,7 @@ fn push_send<W: Walker>(
     ensures { (offered : Offered) → slice_get (offers_of (W.view.walking plan.now walker.now)) k ≡ Some offered → offered.atom ≡ atom →
         OnOk result (ready.new.items ≡ ready.old.items ++ ready_one k offered (option_map Action.Send (sent_by (W.view.body_of plan.now).atoms offered))) }
 {
-    match walker.sent(alloc, plan, k, buffers.terms.take())? {
+    match walker.sent(alloc, plan, k, buffers.terms.pop())? {
         Some(terms) => {
             push(k, atom, Action::Send(terms), ready)?;
             Ok(())
@@ -208,7 +208,7 @@ fn push_receive<W: Walker>(
     ensures { (offered : Offered) → slice_get (offers_of (W.view.walking plan.now walker.now)) k ≡ Some offered → offered.atom ≡ atom →
         OnOk result (ready.new.items ≡ ready.old.items ++ ready_one k offered (option_map Action.Receive (patterns_by (W.view.body_of plan.now).atoms offered))) }
 {
-    match walker.patterns(alloc, plan, k, buffers.patterns.take())? {
+    match walker.patterns(alloc, plan, k, buffers.patterns.pop())? {
         Some(patterns) => {
             push(k, atom, Action::Receive(patterns), ready)?;
             Ok(())
