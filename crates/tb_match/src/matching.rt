@@ -35,8 +35,44 @@ pub fn match_list_in(
     ensures { IfOk result (λ m. m ≡ match_list ps.now ts.now) }
 {
     empty(room);
-    let matches = match_parts(alloc, ps.as_slice(), ts.as_slice(), room)?;
+    let matches = match_each(alloc, ps.as_slice(), ts.as_slice(), room)?;
     Ok(taken_if(alloc, matches, room))
+}
+
+/// As `match_parts`, but outside of its cycle, so that simple patterns cost little.
+fn match_each(
+    alloc: Global,
+    patterns: &[Pattern],
+    terms: &[Term],
+    binds: &mut Binds,
+) -> Result<bool, NoMemory>
+    ensures { IfOk result (λ matches. binds_if matches binds.new ≡ with_prefix binds.old (match_all (map match_term patterns.now) terms.now)) }
+{
+    if patterns.len() != terms.len() {
+        return Ok(false);
+    }
+    for (position, pattern) in patterns.iter().enumerate() {
+        if !match_one(alloc, pattern, &terms[position], binds)? {
+            return Ok(false);
+        }
+    }
+    Ok(true)
+}
+
+/// Likewise `match_behind`.
+fn match_one(
+    alloc: Global,
+    pattern: &Pattern,
+    term: &Term,
+    binds: &mut Binds,
+) -> Result<bool, NoMemory>
+    ensures { IfOk result (λ matches. binds_if matches binds.new ≡ with_prefix binds.old (match_term pattern.now term.now)) }
+{
+    match pattern {
+        Pattern::Fixed(fixed) => Ok(is_same(fixed, term)),
+        Pattern::Result(slot, sort) => match_result(alloc, *slot, sort, term, binds),
+        _ => match_behind(alloc, pattern, term, binds),
+    }
 }
 
 #[cycle(matching)]
