@@ -152,7 +152,10 @@ fn comes_true(alloc: Global, program: &Program, bench: &Bench, wish: Wish) -> Re
         down: false,
     };
     let all = [living];
-    is_first(first_candidate(alloc, program, bench, &all, marks, &index))
+    let mut room = Items::new(alloc);
+    is_first(first_candidate(
+        alloc, program, bench, &all, marks, &index, &mut room,
+    ))
 }
 
 /// Whether the first process goes on with its first offer.

@@ -13,7 +13,7 @@ use tb_algebra::Walker;
 use tb_bus::{Action, Exchange, Origin, OwnAction, ToolAction};
 use tb_index::{Index, Marks as KeptMarks};
 use tb_living::{
-    Done, TOOL_MARK, go_on, hand_out, index_of, is_declared, look, no_marks, numbers_of, open_all,
+    Buffers, Done, TOOL_MARK, go_on, hand_out, index_of, is_declared, look, no_marks, numbers_of, open_all,
     open_at, plan_all, point_of, seen_size, speak, subscribe_at, take_note_at, tick_all, turn,
     unsubscribe_at, update,
 };
@@ -124,7 +124,12 @@ impl<W: Walker> LiveBus<W> {
     }
 
     /// Looks at a process anew, where it has to be.
-    fn freshen_at(&mut self, alloc: Global, at: usize) -> Result<(), NoMemory>
+    fn freshen_at(
+        &mut self,
+        alloc: Global,
+        at: usize,
+        buffers: &mut Buffers,
+    ) -> Result<(), NoMemory>
         requires sound { IsSound W.view self.old }
         requires within { at < length self.old.living.items }
         ensures same { StandsAs W.view self.old self.new }
@@ -138,7 +143,7 @@ impl<W: Walker> LiveBus<W> {
         let program = &self.origin.program;
         let plan = &self.plans.as_slice()[living.body as usize];
         let body = &program.bodies.as_slice()[living.body as usize];
-        look(alloc, plan, body, living, self.ticks)?;
+        look(alloc, plan, body, living, self.ticks, buffers)?;
         update(
             alloc,
             program,
@@ -150,7 +155,12 @@ impl<W: Walker> LiveBus<W> {
     }
 
     /// Looks at the process with this number anew, where it is there and has to be.
-    fn freshen_number(&mut self, alloc: Global, number: u32) -> Result<(), NoMemory>
+    fn freshen_number(
+        &mut self,
+        alloc: Global,
+        number: u32,
+        buffers: &mut Buffers,
+    ) -> Result<(), NoMemory>
         requires { IsSound W.view self.old }
         ensures same { StandsAs W.view self.old self.new }
         ensures stale { self.new.stale ≡ self.old.stale }
@@ -158,13 +168,13 @@ impl<W: Walker> LiveBus<W> {
     {
         let at = point_of(self.living.as_slice(), number);
         if at < self.living.len() {
-            self.freshen_at(alloc, at)?;
+            self.freshen_at(alloc, at, buffers)?;
         }
         Ok(())
     }
 
     /// Looks at those that have to be looked at, where no tick has passed: their numbers are noted.
-    fn freshen_noted(&mut self, alloc: Global) -> Result<(), NoMemory>
+    fn freshen_noted(&mut self, alloc: Global, buffers: &mut Buffers) -> Result<(), NoMemory>
         requires sound { IsSound W.view self.old }
         requires young { self.old.aged ≡ false }
         ensures same { StandsAs W.view self.old self.new }
@@ -172,19 +182,19 @@ impl<W: Walker> LiveBus<W> {
     {
         for index in 0..self.stale.len() {
             let number = self.stale[index];
-            self.freshen_number(alloc, number)?;
+            self.freshen_number(alloc, number, buffers)?;
         }
         Ok(())
     }
 
     /// Looks at those that have to be looked at, of all.
-    fn freshen_all(&mut self, alloc: Global) -> Result<(), NoMemory>
+    fn freshen_all(&mut self, alloc: Global, buffers: &mut Buffers) -> Result<(), NoMemory>
         requires { IsSound W.view self.old }
         ensures same { StandsAs W.view self.old self.new }
         ensures fresh { OnOk result (AreFresh self.new.living.items) }
     {
         for at in 0..self.living.len() {
-            self.freshen_at(alloc, at)?;
+            self.freshen_at(alloc, at, buffers)?;
         }
         Ok(())
     }
@@ -279,15 +289,15 @@ impl<W: Walker> LiveBus<W> {
     }
 
     /// Looks at all processes that have to be looked at.
-    fn look_anew(&mut self, alloc: Global) -> Result<(), NoMemory>
+    fn look_anew(&mut self, alloc: Global, buffers: &mut Buffers) -> Result<(), NoMemory>
         requires { IsSound W.view self.old }
         ensures same { StandsAs W.view self.old self.new }
         ensures fresh { OnOk result (AreFresh self.new.living.items) }
     {
         if self.aged {
-            self.freshen_all(alloc)?;
+            self.freshen_all(alloc, buffers)?;
         } else {
-            self.freshen_noted(alloc)?;
+            self.freshen_noted(alloc, buffers)?;
         }
         self.stale.clear();
         self.aged = false;
@@ -295,19 +305,23 @@ impl<W: Walker> LiveBus<W> {
     }
 
     /// What each process is ready to do is known from then on, and whoever sleeps rests.
-    pub fn freshen(&mut self, alloc: Global) -> Result<(), NoMemory>
+    pub fn freshen(&mut self, alloc: Global, buffers: &mut Buffers) -> Result<(), NoMemory>
         requires { IsSound W.view self.old }
         ensures same { StandsAs W.view self.old self.new }
         ensures fresh { OnOk result (AreFresh self.new.living.items) }
         ensures settled { OnOk result (self.new.stirred ≡ false) }
     {
         self.settle(alloc)?;
-        self.look_anew(alloc)
+        self.look_anew(alloc, buffers)
     }
 
     /// The first of all moves.
     #[inline(always)]
-    pub fn first_candidate(&self, alloc: Global) -> Result<Option<Candidate>, NoMemory>
+    pub fn first_candidate(
+        &self,
+        alloc: Global,
+        room: &mut Binds,
+    ) -> Result<Option<Candidate>, NoMemory>
         requires sound { IsSound W.view self.now }
         requires fresh { AreFresh self.now.living.items }
         requires settled { self.now.stirred ≡ false }
@@ -322,6 +336,7 @@ impl<W: Walker> LiveBus<W> {
             self.living.as_slice(),
             self.marks,
             &self.index,
+            room,
         )
     }
 
@@ -388,12 +403,12 @@ impl<W: Walker> LiveBus<W> {
     }
 
     /// A process goes on with what was taken of it, and is gone where nothing is left.
-    fn advance_at(&mut self, at: usize, taken: W::Taken, binds: Binds)
+    fn advance_at(&mut self, at: usize, taken: W::Taken, binds: &mut Binds)
         requires sound { IsSound W.view self.old }
         requires within { at < length self.old.living.items }
         requires named { Contains self.old.stale.items (row_at (rows_of self.old.living.items) at).number }
-        requires taken { CanAdvance W.view self.old at taken binds }
-        ensures advanced { (offered : Offered) → Leaves W.view self.old at taken offered → IsAdvanced W.view self.old at offered binds self.new }
+        requires taken { CanAdvance W.view self.old at taken binds.old }
+        ensures advanced { (offered : Offered) → Leaves W.view self.old at taken offered → IsAdvanced W.view self.old at offered binds.old self.new }
         ensures before { (other : ℕ) → other < at → slice_get self.new.living.items other ≡ slice_get self.old.living.items other }
         ensures long { length self.old.living.items ≤ length self.new.living.items + 1 }
         ensures stale { self.new.stale ≡ self.old.stale }
@@ -461,6 +476,7 @@ impl<W: Walker> LiveBus<W> {
         alloc: Global,
         candidate: Candidate,
         log: &mut Log,
+        buffers: &mut Buffers,
     ) -> Result<(), NoMemory>
         requires sound { IsSound W.view self.old }
         requires fresh { AreFresh self.old.living.items }
@@ -480,7 +496,9 @@ impl<W: Walker> LiveBus<W> {
                 self.make_tau(alloc, at, index, log)
             }
             Candidate::Own(at, index, finding) => self.make_own(alloc, at, index, finding, log),
-            Candidate::Handshake(at, index, partner) => self.shake(alloc, at, index, partner, log),
+            Candidate::Handshake(at, index, partner) => {
+                self.shake(alloc, at, index, partner, log, buffers)
+            }
             Candidate::Finish => self.finish_bus(alloc, log),
             Candidate::Halt => self.halt_bus(alloc, log),
         }
@@ -495,6 +513,7 @@ impl<W: Walker> LiveBus<W> {
         index: usize,
         partner: Partner,
         log: &mut Log,
+        buffers: &mut Buffers,
     ) -> Result<(), NoMemory>
         requires sound { IsSound W.view self.old }
         requires fresh { AreFresh self.old.living.items }
@@ -510,7 +529,7 @@ impl<W: Walker> LiveBus<W> {
         self.stale.reserve(2)?;
         let sent = self.take_at(alloc, at, index)?;
         let received = self.take_at(alloc, partner.living, partner.received.action)?;
-        self.make_handshake(alloc, at, index, sent, partner, received, log);
+        self.make_handshake(alloc, at, index, sent, partner, received, log, buffers);
         Ok(())
     }
 
@@ -823,8 +842,12 @@ impl<W: Walker> LiveBus<W> {
         ensures gone { (offered : Offered) → Leaves W.view self.old at taken offered → HasGone W.view self.old at offered done.binds from.proc self.new }
         ensures label { result ≡ record { kind = done.kind; from = from; to = nowhere; terms = done.shown } }
     {
-        let Done { kind, shown, binds } = done;
-        self.advance_at(at, taken, binds);
+        let Done {
+            kind,
+            shown,
+            mut binds,
+        } = done;
+        self.advance_at(at, taken, &mut binds);
         self.marks.last_starter = from.proc;
         Label {
             kind,
@@ -844,6 +867,7 @@ impl<W: Walker> LiveBus<W> {
         partner: Partner,
         received: W::Taken,
         log: &mut Log,
+        buffers: &mut Buffers,
     )
         requires sound { IsSound W.view self.old }
         requires fresh { AreFresh self.old.living.items }
@@ -857,15 +881,16 @@ impl<W: Walker> LiveBus<W> {
     {
         let Partner {
             living: other,
-            received: Received { action, binds },
+            received: Received { action, mut binds },
         } = partner;
         let from = self.place_at(at, index);
         let to = self.place_at(other, action);
         self.stale.push_reserved(from.proc);
         self.stale.push_reserved(to.proc);
         let terms = self.take_sent(alloc, at, index);
-        self.advance_both(alloc, at, sent, other, received, binds);
+        self.advance_both(alloc, at, sent, other, received, &mut binds);
         self.marks.last_starter = from.proc;
+        buffers.binds = binds;
         put_label(
             log,
             Label {
@@ -885,7 +910,7 @@ impl<W: Walker> LiveBus<W> {
         sent: W::Taken,
         other: usize,
         received: W::Taken,
-        binds: Binds,
+        binds: &mut Binds,
     )
         requires sound { IsSound W.view self.old }
         requires within { at < length self.old.living.items }
@@ -894,16 +919,17 @@ impl<W: Walker> LiveBus<W> {
         requires named { Contains self.old.stale.items (row_at (rows_of self.old.living.items) at).number }
         requires other_named { Contains self.old.stale.items (row_at (rows_of self.old.living.items) other).number }
         requires sent { CanAdvance W.view self.old at sent [] }
-        requires received { CanAdvance W.view self.old other received binds }
+        requires received { CanAdvance W.view self.old other received binds.old }
         ensures { (offered its : Offered) → Leaves W.view self.old at sent offered → Leaves W.view self.old other received its →
-            AreAdvanced W.view self.old at offered other its binds self.new }
+            AreAdvanced W.view self.old at offered other its binds.old self.new }
     {
+        let mut none = Items::new(alloc);
         // The one behind goes first, so that the other keeps its index.
         if at < other {
             self.advance_at(other, received, binds);
-            self.advance_at(at, sent, Items::new(alloc));
+            self.advance_at(at, sent, &mut none);
         } else {
-            self.advance_at(at, sent, Items::new(alloc));
+            self.advance_at(at, sent, &mut none);
             self.advance_at(other, received, binds);
         }
     }

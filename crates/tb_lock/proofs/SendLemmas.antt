@@ -27,6 +27,7 @@ use Rattle.tb_bus.specs.contracts.action.Action as action
 use Rattle.tb_search.specs.contracts.living.Ready as ready
 use Rattle.tb_search.specs.contracts.living.Living as living
 use Rattle.tb_search.specs.contracts.marks.Marks as marks
+use Rattle.tb_living.specs.contracts.buffers.Buffers as buffers
 use Rattle.tb_core.specs.contracts.machine.Core as core
 use Rattle.tb_core.specs.contracts.bus.LiveBus as live_bus
 use Rattle.tb_core.specs.contracts.machine.Core.TheInside as core_inside
@@ -126,6 +127,9 @@ marks_send = search sendable depth 30
 living_send : (W : RattleType) → IsSend W → IsSend (living.the_row W)
 living_send W s = search (sendable, crosses, inbox_send, ready_send) depth 40
 
+buffers_send : IsSend buffers.the_row
+buffers_send = search (sendable, crosses, terms_send, patterns_send, binds_send) depth 40
+
 -- who waits, and what is hinted at
 gate_sync : IsSync gate.the_row
 gate_sync = search (sendable, crosses) depth 40
@@ -139,7 +143,7 @@ module _ (W Plan Taken : RattleType) (g : Ghosts W.Denot Plan.Denot Taken.Denot)
       (origin_send, (search (sendable, items_send) depth 20, (search (sendable, crosses, living_send) depth 20, (search (sendable, crosses) depth 20, (search sendable depth 20, (search sendable depth 20, (marks_send, (bench_send, (index_send, (search (sendable, crosses) depth 40, (search (sendable, crosses) depth 20, (search sendable depth 20, tt))))))))))))
 
   pub core_send : IsSend (core.the_row W Plan Taken g)
-  core_send = view_send _ _ _ _ _ (declared_send (core_inside.the_type W Plan Taken g) (global_send, (live_bus_send, (log_send, (search sendable depth 20, tt)))))
+  core_send = view_send _ _ _ _ _ (declared_send (core_inside.the_type W Plan Taken g) (global_send, (live_bus_send, (log_send, (search sendable depth 20, (buffers_send, tt))))))
 
   core_option_send : IsSend (option.the_row (core.the_row W Plan Taken g))
   core_option_send = option_send (core.the_row W Plan Taken g) core_send

@@ -18,6 +18,7 @@ use std::alloc::Global;
 use tb_body::Program;
 use tb_bus::{Action, OwnAction};
 use tb_index::Index;
+use tb_match::Binds;
 use tb_terms::NoMemory;
 use tb_tools::Bench;
 
@@ -86,6 +87,7 @@ fn first_by<W>(
     living: &Living<W>,
     index: usize,
     action: &Action,
+    room: &mut Binds,
 ) -> Result<Option<Candidate>, NoMemory>
     requires ascend { IsTrue (ascend 0 (rows_of searched.now.all.now)) }
     requires index { IsIndexFor (setting_by searched.now.program.now.bodies searched.now.program.now.tools searched.now.bench.now) searched.now.index.now (rows_of searched.now.all.now) }
@@ -98,7 +100,14 @@ fn first_by<W>(
             None => Ok(None),
         },
         Action::Send(terms) => {
-            match first_partner(alloc, searched.all, searched.index, living.number, terms)? {
+            match first_partner(
+                alloc,
+                searched.all,
+                searched.index,
+                living.number,
+                terms,
+                room,
+            )? {
                 Some(partner) => Ok(Some(Candidate::Handshake(at, index, partner))),
                 None => Ok(None),
             }
@@ -113,13 +122,14 @@ fn first_of<W>(
     searched: &Searched<W>,
     at: usize,
     living: &Living<W>,
+    room: &mut Binds,
 ) -> Result<Option<Candidate>, NoMemory>
     requires ascend { IsTrue (ascend 0 (rows_of searched.now.all.now)) }
     requires index { IsIndexFor (setting_by searched.now.program.now.bodies searched.now.program.now.tools searched.now.bench.now) searched.now.index.now (rows_of searched.now.all.now) }
     ensures { IfOk result (λ found. found ≡ first (candidates_of (scene_of searched.now.program.now.bodies searched.now.program.now.tools searched.now.bench.now (rows_of searched.now.all.now) searched.now.marks) at (row_of living.now))) }
 {
     for (index, ready) in living.ready.as_slice().iter().enumerate() {
-        match first_by(alloc, searched, at, living, index, &ready.action)? {
+        match first_by(alloc, searched, at, living, index, &ready.action, room)? {
             Some(found) => return Ok(Some(found)),
             None => {}
         }
@@ -147,6 +157,7 @@ fn first_between<W>(
     searched: &Searched<W>,
     start: usize,
     end: usize,
+    room: &mut Binds,
 ) -> Result<Option<Candidate>, NoMemory>
     requires ascend { IsTrue (ascend 0 (rows_of searched.now.all.now)) }
     requires index { IsIndexFor (setting_by searched.now.program.now.bodies searched.now.program.now.tools searched.now.bench.now) searched.now.index.now (rows_of searched.now.all.now) }
@@ -156,7 +167,7 @@ fn first_between<W>(
     let mut at = start;
     while at < end {
         match next_starter(searched, at, end) {
-            Some(place) => match first_of(alloc, searched, place, &searched.all[place])? {
+            Some(place) => match first_of(alloc, searched, place, &searched.all[place], room)? {
                 Some(found) => return Ok(Some(found)),
                 None => at = place + 1,
             },
@@ -173,6 +184,7 @@ fn first_if_any<W>(
     searched: &Searched<W>,
     start: usize,
     end: usize,
+    room: &mut Binds,
 ) -> Result<Option<Candidate>, NoMemory>
     requires ascend { IsTrue (ascend 0 (rows_of searched.now.all.now)) }
     requires index { IsIndexFor (setting_by searched.now.program.now.bodies searched.now.program.now.tools searched.now.bench.now) searched.now.index.now (rows_of searched.now.all.now) }
@@ -180,7 +192,7 @@ fn first_if_any<W>(
     ensures { IfOk result (λ found. found ≡ first (candidates_from (scene_of searched.now.program.now.bodies searched.now.program.now.tools searched.now.bench.now (rows_of searched.now.all.now) searched.now.marks) start (drop start (take end (rows_of searched.now.all.now))))) }
 {
     if start < end {
-        first_between(alloc, searched, start, end)
+        first_between(alloc, searched, start, end, room)
     } else {
         Ok(None)
     }
@@ -204,15 +216,16 @@ fn turn_start<W>(all: &[Living<W>], last: u32) -> usize
 pub(crate) fn first_in_turn<W>(
     alloc: Global,
     searched: &Searched<W>,
+    room: &mut Binds,
 ) -> Result<Option<Candidate>, NoMemory>
     requires ascend { IsTrue (ascend 0 (rows_of searched.now.all.now)) }
     requires index { IsIndexFor (setting_by searched.now.program.now.bodies searched.now.program.now.tools searched.now.bench.now) searched.now.index.now (rows_of searched.now.all.now) }
     ensures { IfOk result (λ found. found ≡ first (candidates_in_turn (scene_of searched.now.program.now.bodies searched.now.program.now.tools searched.now.bench.now (rows_of searched.now.all.now) searched.now.marks) searched.now.marks.last_starter)) }
 {
     let start = turn_start(searched.all, searched.marks.last_starter);
-    match first_if_any(alloc, searched, start, searched.all.len())? {
+    match first_if_any(alloc, searched, start, searched.all.len(), room)? {
         Some(found) => Ok(Some(found)),
-        None => first_between(alloc, searched, 0, start),
+        None => first_between(alloc, searched, 0, start, room),
     }
 }
 
@@ -228,7 +241,7 @@ fn halt_if(no_ticks: bool) -> Option<Candidate>
 }
 
 /// What may happen first, of all that may; None where nothing may, or the bus is down. Only those are asked whom
-/// the index names.
+/// the index names. What a message binds stands in the memory of the room, whatever that held.
 #[inline(always)]
 pub fn first_candidate<W>(
     alloc: Global,
@@ -237,6 +250,7 @@ pub fn first_candidate<W>(
     all: &[Living<W>],
     marks: Marks,
     index: &Index,
+    room: &mut Binds,
 ) -> Result<Option<Candidate>, NoMemory>
     requires ascend { IsTrue (ascend 0 (rows_of all.now)) }
     requires index { IsIndexFor (setting_by program.now.bodies program.now.tools bench.now) index.now (rows_of all.now) }
@@ -257,7 +271,7 @@ pub fn first_candidate<W>(
         marks,
         index,
     };
-    match first_in_turn(alloc, &searched)? {
+    match first_in_turn(alloc, &searched, room)? {
         Some(found) => Ok(Some(found)),
         None => Ok(halt_if(marks.no_ticks)),
     }
