@@ -21,7 +21,7 @@ use tb_algebra::Walker;
 use tb_body::Program;
 use tb_bus::Origin;
 use tb_living::Buffers;
-use tb_log::{Entry, Input, Log, Out, Reply, input_size, out_size};
+use tb_log::{Entry, Input, Log, Out, Reply, Seen, input_size, out_size};
 use tb_search::Candidate;
 use tb_terms::{Items, NoMemory, Text, Texts};
 use tb_tools::{Handout, LaneState};
@@ -80,12 +80,12 @@ impl<W: Walker> Core<W> {
     }
 
     /// What was logged so far, which is a trace of the program.
-    pub fn log(&self) -> &[Entry]
-        ensures value { result.now ≡ self.now.log }
+    pub fn log(&self) -> &Log
+        ensures value { result.now.entries ≡ self.now.log }
         ensures trace { IsTrace (start self.now.origin) self.now.log }
         ensures within { length self.now.log ≤ self.now.origin.limit }
     {
-        self.log.entries()
+        &self.log
     }
 
     pub fn is_down(&self) -> bool
@@ -276,12 +276,13 @@ fn hand<W: Walker>(
     ensures calm { takes_memory input ≡ false → 0 < log.old.spare → IsErrOf result CoreFault.NoMemory → ⊥ }
     ensures err { OnErr result ((bus_of W.view bus.new ≡ bus_of W.view bus.old) × (log.new.entries ≡ log.old.entries) × (log.old.spare ≤ log.new.spare)) }
 {
-    if !log.room_for_size(input_size(&input)) {
+    let size = input_size(&input);
+    if !log.room_for_size(size) {
         return Err(CoreFault::Full);
     }
     log.reserve(1)?;
     let reply = bus.feed(alloc, &input)?;
-    log.push(Entry::Fed(input, reply));
+    log.push_fed(input, reply, size);
     Ok(reply)
 }
 
@@ -314,7 +315,7 @@ fn take<W: Walker>(
     }
     log.reserve(1)?;
     let Handout { given, logged } = bus.hand_out(lane);
-    log.push(Entry::Gave(lane, logged));
+    log.push_gave(lane, logged, size);
     Ok(given)
 }
 
@@ -354,10 +355,11 @@ fn make<W: Walker>(
     ensures room { OnOk result (has_room log.old.limit log.old.entries (Entry.Did (label_of (move_in W.view bus.old candidate))) ≡ true) }
     ensures err { OnErr result ((bus_of W.view bus.new ≡ bus_of W.view bus.old) × (log.new.entries ≡ log.old.entries) × (log.old.spare ≤ log.new.spare)) }
 {
-    if !log.room_for_size(bus.shown_size(&candidate)) {
+    let size = bus.shown_size(&candidate);
+    if !log.room_for_size(size) {
         return Err(CoreFault::Full);
     }
-    log.reserve(1)?;
+    log.reserve_step(size)?;
     bus.make(alloc, candidate, log, buffers)?;
     Ok(())
 }
@@ -372,25 +374,27 @@ fn say_quiet(log: &mut Log) -> Result<(), CoreFault>
     ensures spare { OnOk result (log.old.spare ≤ log.new.spare + length (if ends_quiet log.old.entries then [] else Entry.Quiet ∷ [])) }
     ensures err { OnErr result ((log.new.entries ≡ log.old.entries) × (log.old.spare ≤ log.new.spare)) }
 {
-    if says_quiet(log.entries()) {
+    if says_quiet(log) {
         return Ok(());
     }
     if !log.room_for(&Entry::Quiet) {
         return Err(CoreFault::Full);
     }
     log.reserve(1)?;
-    log.push(Entry::Quiet);
+    log.push_quiet();
     Ok(())
 }
 
-fn says_quiet(log: &[Entry]) -> bool
-    ensures { result ≡ ends_quiet log.now }
+fn says_quiet(log: &Log) -> bool
+    ensures { result ≡ ends_quiet log.now.entries }
 {
-    match log.last() {
-        Some(Entry::Quiet) => true,
-        Some(Entry::Did(_)) => false,
-        Some(Entry::Fed(_, _)) => false,
-        Some(Entry::Gave(_, _)) => false,
-        None => false,
+    if log.len() == 0 {
+        return false;
+    }
+    match log.at(log.len() - 1) {
+        Seen::Quiet => true,
+        Seen::Did(_) => false,
+        Seen::Fed(_, _) => false,
+        Seen::Gave(_, _) => false,
     }
 }

@@ -14,12 +14,13 @@ use Rattle.tb_lock.specs.contracts.shared.Shared.TheInside as shared_inside
 use Rattle.sqlite_items.proofs.items.Items.TheSendSync.{the_send as items_send}
 use Rattle.tb_terms.proofs.name.Name.TheSendSync.{the_send as name_send}
 use Rattle.tb_terms.proofs.text.Text.TheSendSync.{the_send as text_send}
-use Rattle.tb_log.specs.contracts.entry.Entry as entry
 use Rattle.tb_log.specs.contracts.log.Log as log
 use Rattle.tb_log.specs.contracts.entry.ToolLine as tool_line
 use Rattle.tb_log.specs.contracts.entry.Input as input
-use Rattle.tb_log.specs.contracts.entry.Label as label
 use Rattle.tb_log.specs.contracts.entry.Out as out
+use Rattle.tb_log.specs.contracts.kept.KeptStep as kept_step
+use Rattle.tb_log.specs.contracts.kept.Kept as kept
+use Rattle.tb_log.specs.contracts.kept.Other as other
 use Rattle.tb_bus.specs.contracts.origin.Origin as origin
 use Rattle.tb_bus.specs.contracts.action.OwnAction as own_action
 use Rattle.tb_bus.specs.contracts.action.ToolAction as tool_action
@@ -58,8 +59,11 @@ tool_line_send = variants_send tool_line.enum ((term_send, tt), ((terms_send, tt
 input_send : IsSend input.the_row
 input_send = variants_send input.enum (tt, (tt, ((byte_send, (tool_line_send, tt)), ((byte_send, tt), ((byte_send, tt), tt)))))
 
-label_send : IsSend label.the_row
-label_send = declared_send label.the_type (search sendable depth 60, (search sendable depth 40, (search sendable depth 40, (terms_send, tt))))
+kept_step_send : IsSend kept_step.the_row
+kept_step_send = declared_send kept_step.the_type (search sendable depth 60, (search sendable depth 40, (search sendable depth 40, (number_send, (number_send, tt)))))
+
+kept_send : IsSend kept.the_row
+kept_send = variants_send kept.enum ((kept_step_send, tt), (tt, ((number_send, tt), tt)))
 
 out_row : IsSend out.the_field.row
 out_row = search (sendable, text_send, term_row) depth 40
@@ -67,11 +71,11 @@ out_row = search (sendable, text_send, term_row) depth 40
 out_send : IsSend out.the_row
 out_send = variants_send out.enum ((text_send, tt), ((term_send, tt), (tt, tt)))
 
-entry_send : IsSend entry.the_row
-entry_send = variants_send entry.enum ((label_send, tt), (tt, ((input_send, (search sendable depth 40, tt)), ((byte_send, (out_send, tt)), tt))))
+other_send : IsSend other.the_row
+other_send = variants_send other.enum ((input_send, (search sendable depth 40, tt)), ((byte_send, (out_send, tt)), tt))
 
 log_send : IsSend log.the_row
-log_send = search (sendable, crosses, entry_send) depth 40
+log_send = search (sendable, crosses, kept_send, term_send, other_send) depth 40
 
 -- notes and lanes
 inbox_send : IsSend inbox.the_row
