@@ -12,12 +12,12 @@ returns-then-number-last g c = λ holds next.
     let number = c.in-Some.number in
     let place = c.first_from.result in
     let any = c.index-all-all.result in
-    let last = c.get-last.result.now.number in
+    let last = c.get.result.now.number in
     let many = length-map all row_of in
     let some = c.requires.within in
     let upto = c.if-number-last.true in
     let most = c.first_from.ensures.most in
-    place-found holds rows c.args.from c.requires.ascend (omega (arith, many, some)) last (last-read all any (omega (arith, some)) ∙ number-got all (length all - 1) any c.get-last.result.now c.get-last.ensures c.index-all-all.is)
+    place-found holds rows c.args.from c.requires.ascend (omega (arith, many, some)) last (last-read all any (omega (arith, some)) ∙ number-got all (length all - 1) any c.get.result.now c.get.ensures c.index-all-all.is)
     number place (omega (arith, upto)) (omega (arith, many, most)) c.first_from.ensures.below c.first_from.ensures.above
     (subst (λ found. IsNext holds (row_at rows c.args.from).number found) c.in-Some.is next)
 
@@ -26,11 +26,11 @@ returns-else-number-last g c = λ holds next.
     let all = c.args.all.now in
     let rows = rows_of all in
     let any = c.index-all-all.result in
-    let last = c.get-last.result.now.number in
+    let last = c.get.result.now.number in
     let many = length-map all row_of in
     let some = c.requires.within in
     let past = c.if-number-last.false in
-    place-behind holds rows c.args.from c.requires.ascend (omega (arith, many, some)) last (last-read all any (omega (arith, some)) ∙ number-got all (length all - 1) any c.get-last.result.now c.get-last.ensures c.index-all-all.is)
+    place-behind holds rows c.args.from c.requires.ascend (omega (arith, many, some)) last (last-read all any (omega (arith, some)) ∙ number-got all (length all - 1) any c.get.result.now c.get.ensures c.index-all-all.is)
     c.in-Some.number (omega (arith, past)) (subst (λ found. IsNext holds (row_at rows c.args.from).number found) c.in-Some.is next)
 
 pub returns-in-None : goal.returns-in-None
@@ -38,9 +38,8 @@ returns-in-None g c = λ holds next.
     let all = c.args.all.now in
     let rows = rows_of all in
     let any = c.index-all-all.result in
-    let last = c.get-last.result.now.number in
+    let last = c.get.result.now.number in
     let many = length-map all row_of in
     let some = c.requires.within in
-    let small = c.index-all-all.element_fits.fits in
-    place-none holds rows c.args.from c.requires.ascend (omega (arith, many, some)) last (last-read all any (omega (arith, some)) ∙ number-got all (length all - 1) any c.get-last.result.now c.get-last.ensures c.index-all-all.is)
-    (omega (arith, small)) (subst (λ found. IsNext holds (row_at rows c.args.from).number found) c.in-None.is next)
+    place-none holds rows c.args.from c.requires.ascend (omega (arith, many, some)) last (last-read all any (omega (arith, some)) ∙ number-got all (length all - 1) any c.get.result.now c.get.ensures c.index-all-all.is)
+    (omega arith) (subst (λ found. IsNext holds (row_at rows c.args.from).number found) c.in-None.is next)
