@@ -21,7 +21,7 @@ use tb_log::{Input, Label, LabelKind, Log, Place, Reply, ToolLine, Why, total_si
 use tb_match::Binds;
 use tb_notes::Found;
 use tb_search::{
-    Candidate, Finding, Living, Marks, Partner, Ready, Received, all_rest, first_candidate,
+    Boxed, Candidate, Finding, Living, Marks, Partner, Ready, Received, all_rest, first_candidate,
     place_of,
 };
 use tb_terms::{Items, NoMemory, Term, Terms, size};
@@ -34,7 +34,7 @@ pub struct LiveBus<W: Walker> {
     /// The plan of each body.
     pub plans: Items<W::Plan>,
     /// The processes that are alive, by their numbers.
-    pub living: Vec<Living<W>>,
+    pub living: Vec<Boxed<Living<W>>>,
     /// The numbers of those that have to be looked at anew; some of these may be gone.
     pub stale: Vec<u32>,
     /// A tick has passed since all were looked at: each may have to be looked at anew.
@@ -136,7 +136,7 @@ impl<W: Walker> LiveBus<W> {
         ensures set { IsSetAt self.old.living.items at (λ living. OnOk result (living.fresh ≡ true)) self.new.living.items }
         ensures stale { self.new.stale ≡ self.old.stale }
     {
-        let living = &mut self.living[at];
+        let living = self.living[at].get_mut();
         if living.fresh {
             return Ok(());
         }
@@ -207,7 +207,7 @@ impl<W: Walker> LiveBus<W> {
         ensures alone { self.new ≡ record self.old { index = self.new.index } }
         ensures settled { OnOk result (IsSettledAt self.old self.new at) }
     {
-        let living = &self.living[at];
+        let living = self.living[at].get();
         if !living.fresh {
             return Ok(());
         }
@@ -222,7 +222,7 @@ impl<W: Walker> LiveBus<W> {
         ensures same { StandsAs W.view self.old self.new }
         ensures alone { self.new ≡ record self.old { index = self.new.index } }
     {
-        let at = self.living.partition_point(|living| living.number < number);
+        let at = point_of(self.living.as_slice(), number);
         if at < self.living.len() {
             self.settle_at(alloc, at)?;
         }
@@ -250,7 +250,7 @@ impl<W: Walker> LiveBus<W> {
     {
         let found = self
             .index
-            .next_receiver(TOOL_MARK, self.living[from].number);
+            .next_receiver(TOOL_MARK, self.living[from].get().number);
         place_of(self.living.as_slice(), from, found)
     }
 
@@ -348,7 +348,7 @@ impl<W: Walker> LiveBus<W> {
         requires index_within { index < length (row_at (rows_of self.now.living.items) at).ready }
         ensures { IfOk result (λ taken. Leaves W.view self.now at taken (offer_of (procs_in W.view self.now) (rows_of self.now.living.items) at index)) }
     {
-        let living = &self.living[at];
+        let living = self.living[at].get();
         let plan = &self.plans.as_slice()[living.body as usize];
         living.walker.take(alloc, plan, living.ready[index].offer)
     }
@@ -367,7 +367,7 @@ impl<W: Walker> LiveBus<W> {
         ensures long { length self.new.living.items ≡ length self.old.living.items }
         ensures idle { IsStaleAt self.new.living.items at }
     {
-        let living = &mut self.living[at];
+        let living = self.living[at].get_mut();
         living.fresh = false;
         living.ready.swap_remove(index)
     }
@@ -381,7 +381,7 @@ impl<W: Walker> LiveBus<W> {
         ensures stale { self.new.stale ≡ self.old.stale }
         ensures kept { IsKept self.old.living.items self.new.living.items at }
     {
-        self.living[at].fresh = false;
+        self.living[at].get_mut().fresh = false;
     }
 
     /// What one of the actions of a process sends. The process has to be looked at anew from then on.
@@ -397,7 +397,7 @@ impl<W: Walker> LiveBus<W> {
         ensures others { (other : ℕ) → other ≢ at → slice_get self.new.living.items other ≡ slice_get self.old.living.items other }
         ensures long { length self.new.living.items ≡ length self.old.living.items }
     {
-        let living = &mut self.living[at];
+        let living = self.living[at].get_mut();
         living.fresh = false;
         sent_of(alloc, &mut living.ready[index].action)
     }
@@ -413,7 +413,7 @@ impl<W: Walker> LiveBus<W> {
         ensures long { length self.old.living.items ≤ length self.new.living.items + 1 }
         ensures stale { self.new.stale ≡ self.old.stale }
     {
-        let living = &mut self.living[at];
+        let living = self.living[at].get_mut();
         let plan = &self.plans.as_slice()[living.body as usize];
         if go_on(plan, living, taken, binds) {
             self.index.clear(living.number, &living.marks);
@@ -430,13 +430,13 @@ impl<W: Walker> LiveBus<W> {
     {
         match candidate {
             Candidate::Own(at, index, finding) => {
-                match &self.living[*at].ready[*index].action {
+                match &self.living[*at].get().ready[*index].action {
                     Action::Own(own) => self.own_size(*at, own, finding),
                     Action::Send(_) | Action::Receive(_) => 0,
                 }
             }
             Candidate::Handshake(at, index, _) => {
-                sent_size(&self.living[*at].ready[*index].action)
+                sent_size(&self.living[*at].get().ready[*index].action)
             }
             Candidate::Finish | Candidate::Halt => 0,
         }
@@ -455,7 +455,7 @@ impl<W: Walker> LiveBus<W> {
             OwnAction::Create(_, _, _) => 1,
             OwnAction::TakeNote(_) => match finding {
                 Finding::TakeNote(found) => {
-                    total_size(self.living[at].inbox.note(found.place).as_slice())
+                    total_size(self.living[at].get().inbox.note(found.place).as_slice())
                 }
                 _ => 0,
             },
@@ -539,7 +539,7 @@ impl<W: Walker> LiveBus<W> {
         ensures proc { result.proc ≡ (row_at (rows_of self.now.living.items) at).number }
         ensures atom { result.atom ≡ (ready_at (rows_of self.now.living.items) at index).atom }
     {
-        let living = &self.living[at];
+        let living = self.living[at].get();
         Place {
             proc: living.number,
             atom: living.ready[index].atom,
@@ -552,7 +552,7 @@ impl<W: Walker> LiveBus<W> {
         requires index_within { index < length (row_at (rows_of self.now.living.items) at).ready }
         ensures { result ≡ true → (ready_at (rows_of self.now.living.items) at index).action ≡ Action.Own OwnAction.Tau }
     {
-        match &self.living[at].ready[index].action {
+        match &self.living[at].get().ready[index].action {
             Action::Own(OwnAction::Tau) => true,
             _ => false,
         }
@@ -658,7 +658,7 @@ impl<W: Walker> LiveBus<W> {
         ensures kept { AreStillAwake self.old.index self.new.index }
         ensures awake { OnOk result (is_awake self.new.index (row_at (rows_of self.old.living.items) at).number ≡ true) }
     {
-        let number = self.living[at].number;
+        let number = self.living[at].get().number;
         self.roused.push(number)?;
         self.index.wake(number);
         Ok(())

@@ -18,7 +18,7 @@ use tb_body::{Act, Atom, Body};
 use tb_bus::{Action, OwnAction, ToolAction};
 use tb_func::printf_text;
 use tb_match::{Bind, Binds};
-use tb_search::{Living, Ready};
+use tb_search::{Boxed, Living, Ready};
 use tb_terms::{Items, NoMemory, Patterns, Sorts, Term, Terms, has_sort};
 
 /// Whether there is such a slot, and the value has its sort.
@@ -367,15 +367,15 @@ fn fill<W: Walker>(
 }
 
 /// Where those end whose numbers are smaller. Seldom has anybody left who stood before the one with the number.
-pub fn point_of<W>(all: &[Living<W>], number: u32) -> usize
+pub fn point_of<W>(all: &[Boxed<Living<W>>], number: u32) -> usize
     requires { IsTrue (ascend 0 (rows_of all.now)) }
     ensures { IsWhere number all.now result }
 {
     let guess = (number as usize).saturating_sub(1);
-    if guess < all.len() && all[guess].number == number {
+    if guess < all.len() && all[guess].get().number == number {
         return guess;
     }
-    all.partition_point(|living| living.number < number)
+    all.partition_point(|living| living.get().number < number)
 }
 
 /// Looks anew what a process is ready to do, on a bus that has seen so many ticks. It isn't fresh before the index has that.

@@ -2,6 +2,7 @@
 //! through, and what it finds.
 #![tactic(auto)]
 
+mod boxed;
 mod candidate;
 mod creation;
 mod exchanging;
@@ -14,6 +15,7 @@ mod search;
 mod slots;
 mod wanting;
 
+pub use boxed::Boxed;
 pub use candidate::{Candidate, Finding, Partner, Received};
 pub use living::{Living, Ready};
 pub use marks::Marks;

@@ -5,6 +5,7 @@ ghost use Rattle.tb_search.specs.Candidates.{reception, receptions, partner_in, 
 ghost use Rattle.tb_bus.specs.Steps.{first};
 ghost use Rattle.tb_search.specs.Indexed.{AreIndexed, IsNextOf};
 
+use crate::boxed::Boxed;
 use crate::candidate::{Partner, Received};
 use crate::living::{Living, Ready};
 use crate::places::place_of;
@@ -56,20 +57,20 @@ fn first_received(
 }
 
 /// The place of the next process, from one place on, that receives what has this mark.
-fn next_receiver<W>(all: &[Living<W>], index: &Index, from: usize, mark: Mark) -> Option<usize>
+fn next_receiver<W>(all: &[Boxed<Living<W>>], index: &Index, from: usize, mark: Mark) -> Option<usize>
     requires ascend { IsTrue (ascend 0 (rows_of all.now)) }
     requires index { AreIndexed index.now (rows_of all.now) }
     requires within { from < length all.now }
     ensures { (number : ℕ) (terms : List Sent) → mark ≡ sent_mark terms → IsNextOf (partner_in number terms) (rows_of all.now) from result }
 {
-    let found = index.next_receiver(mark, all[from].number);
+    let found = index.next_receiver(mark, all[from].get().number);
     place_of(all, from, found)
 }
 
 /// The first process, another than the one with this number, that receives the terms.
 pub(crate) fn first_partner<W>(
     alloc: Global,
-    all: &[Living<W>],
+    all: &[Boxed<Living<W>>],
     index: &Index,
     number: u32,
     terms: &Terms,
@@ -84,7 +85,7 @@ pub(crate) fn first_partner<W>(
     let mut at = 0;
     while at < end {
         match next_receiver(all, index, at, mark) {
-            Some(place) => match partner(alloc, place, &all[place], number, terms, room)? {
+            Some(place) => match partner(alloc, place, all[place].get(), number, terms, room)? {
                 Some(partner) => return Ok(Some(partner)),
                 None => at = place + 1,
             },

@@ -6,6 +6,7 @@ ghost use Rattle.tb_search.specs.Indexed.{IsIndexFor, IsNextOf};
 ghost use Rattle.tb_bus.specs.Exchanges.{setting_by};
 ghost use Rattle.tb_search.specs.Candidates.{finding_of, plain_if, candidates_by, candidates_of, candidates_from, candidates_in_turn, all_candidates, candidates_or_halt, up_to, ascend, row_of, rows_of, scene_of};
 
+use crate::boxed::Boxed;
 use crate::candidate::{Candidate, Finding};
 use crate::creation::may_create;
 use crate::exchanging::{Speaker, exchange_for};
@@ -27,7 +28,7 @@ use tb_tools::Bench;
 pub(crate) struct Searched<'a, W> {
     pub program: &'a Program,
     pub bench: &'a Bench,
-    pub all: &'a [Living<W>],
+    pub all: &'a [Boxed<Living<W>>],
     pub marks: Marks,
     pub index: &'a Index,
 }
@@ -146,7 +147,7 @@ fn next_starter<W>(searched: &Searched<W>, from: usize, end: usize) -> Option<us
     ensures { IsNextOf (candidates_of (scene_of searched.now.program.now.bodies searched.now.program.now.tools searched.now.bench.now (rows_of searched.now.all.now) searched.now.marks)) (take end (rows_of searched.now.all.now)) from result }
 {
     let asked = &searched.all[..end];
-    let found = searched.index.next_starter(asked[from].number);
+    let found = searched.index.next_starter(asked[from].get().number);
     place_of(asked, from, found)
 }
 
@@ -167,7 +168,7 @@ fn first_between<W>(
     let mut at = start;
     while at < end {
         match next_starter(searched, at, end) {
-            Some(place) => match first_of(alloc, searched, place, &searched.all[place], room)? {
+            Some(place) => match first_of(alloc, searched, place, searched.all[place].get(), room)? {
                 Some(found) => return Ok(Some(found)),
                 None => at = place + 1,
             },
@@ -199,16 +200,16 @@ fn first_if_any<W>(
 }
 
 /// How many processes have a number up to that of the last starter. Seldom has anybody left who stood before it.
-fn turn_start<W>(all: &[Living<W>], last: u32) -> usize
+fn turn_start<W>(all: &[Boxed<Living<W>>], last: u32) -> usize
     requires { IsTrue (ascend 0 (rows_of all.now)) }
     ensures within { result ≤ length all.now }
     ensures count { result ≡ up_to last (rows_of all.now) }
 {
     let place = (last as usize).saturating_sub(1);
-    if place < all.len() && all[place].number == last {
+    if place < all.len() && all[place].get().number == last {
         return place + 1;
     }
-    all.partition_point(|living| living.number <= last)
+    all.partition_point(|living| living.get().number <= last)
 }
 
 /// What the processes do first, asked in turn: those after the last starter, and then the others.
@@ -247,7 +248,7 @@ pub fn first_candidate<W>(
     alloc: Global,
     program: &Program,
     bench: &Bench,
-    all: &[Living<W>],
+    all: &[Boxed<Living<W>>],
     marks: Marks,
     index: &Index,
     room: &mut Binds,
