@@ -12,7 +12,7 @@ use tb_index::Index;
 use tb_log::ToolLine;
 use tb_notes::Inbox;
 use tb_script::load;
-use tb_search::{Candidate, Living, Marks, Ready, first_candidate};
+use tb_search::{Boxed, Candidate, Living, Marks, Ready, first_candidate};
 use tb_terms::{Items, Name, NoMemory, Term, Text};
 use tb_tools::Bench;
 
@@ -70,9 +70,9 @@ fn action(alloc: Global, wish: Wish) -> Result<Action, NoMemory>
             }
             Ok(Action::Own(OwnAction::Create(body, terms, slot)))
         }
-        Wish::Executes(kind, slot) => Ok(Action::Speak(ToolAction::Execute(kind, slot))),
-        Wish::Connects(kind, slot) => Ok(Action::Speak(ToolAction::Connect(kind, slot))),
-        Wish::LetsGo(kind, slot) => Ok(Action::Speak(ToolAction::DisconnectAny(kind, slot))),
+        Wish::Executes(kind, slot) => Ok(Action::Own(OwnAction::Speak(ToolAction::Execute(kind, slot)))),
+        Wish::Connects(kind, slot) => Ok(Action::Own(OwnAction::Speak(ToolAction::Connect(kind, slot)))),
+        Wish::LetsGo(kind, slot) => Ok(Action::Own(OwnAction::Speak(ToolAction::DisconnectAny(kind, slot)))),
     }
 }
 
@@ -151,17 +151,17 @@ fn comes_true(alloc: Global, program: &Program, bench: &Bench, wish: Wish) -> Re
         no_ticks: false,
         down: false,
     };
-    let all = [living];
-    is_first(first_candidate(alloc, program, bench, &all, marks, &index))
+    let all = [Boxed::new(alloc, living)?];
+    let mut room = Items::new(alloc);
+    is_first(first_candidate(
+        alloc, program, bench, &all, marks, &index, &mut room,
+    ))
 }
 
 /// Whether the first process goes on with its first offer.
 fn is_first(found: Result<Option<Candidate>, NoMemory>) -> Result<bool, Fail> {
     let found = found?;
-    Ok(matches!(
-        found,
-        Some(Candidate::Own(0, 0) | Candidate::Speak(0, 0, _))
-    ))
+    Ok(matches!(found, Some(Candidate::Own(0, 0, _))))
 }
 
 #[test]

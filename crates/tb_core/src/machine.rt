@@ -20,6 +20,7 @@ use std::marker::Model;
 use tb_algebra::Walker;
 use tb_body::Program;
 use tb_bus::Origin;
+use tb_living::Buffers;
 use tb_log::{Entry, Input, Log, Out, Reply, Seen, input_size, out_size};
 use tb_search::Candidate;
 use tb_terms::{Items, NoMemory, Text, Texts};
@@ -33,6 +34,7 @@ pub struct Core<W: Walker> {
     bus: LiveBus<W>,
     log: Log,
     stopped: bool,
+    buffers: Buffers,
 }
 
 impl<W: Walker> Model for Core<W> {
@@ -67,11 +69,13 @@ impl<W: Walker> Core<W> {
             limit,
         };
         let bus = LiveBus::open(alloc, origin)?;
+        let buffers = Buffers::new(alloc)?;
         Ok(Core {
             alloc,
             bus,
             log: Log::new(alloc, limit),
             stopped: false,
+            buffers,
         })
     }
 
@@ -123,8 +127,11 @@ impl<W: Walker> Core<W> {
         ensures value { IfOk result (λ any. any ≡ has_any (steps (bus_now self.old))) }
         ensures unchanged { self.new ≡ self.old }
     {
-        self.bus.freshen(self.alloc)?;
-        Ok(self.bus.first_candidate(self.alloc)?.is_some())
+        self.bus.freshen(self.alloc, &mut self.buffers)?;
+        Ok(self
+            .bus
+            .first_candidate(self.alloc, &mut self.buffers.binds)?
+            .is_some())
     }
 
     /// Hands in what comes from outside.
@@ -157,10 +164,19 @@ impl<W: Walker> Core<W> {
         if self.stopped {
             return Err(CoreFault::Stopped);
         }
-        self.bus.freshen(self.alloc)?;
-        match self.bus.first_candidate(self.alloc)? {
+        self.bus.freshen(self.alloc, &mut self.buffers)?;
+        match self
+            .bus
+            .first_candidate(self.alloc, &mut self.buffers.binds)?
+        {
             Some(candidate) => {
-                make(self.alloc, &mut self.bus, &mut self.log, candidate)?;
+                make(
+                    self.alloc,
+                    &mut self.bus,
+                    &mut self.log,
+                    candidate,
+                    &mut self.buffers,
+                )?;
                 Ok(Stepped::Did)
             }
             None if self.bus.marks.down => Ok(Stepped::Down),
@@ -320,6 +336,7 @@ fn make<W: Walker>(
     bus: &mut LiveBus<W>,
     log: &mut Log,
     candidate: Candidate,
+    buffers: &mut Buffers,
 ) -> Result<(), CoreFault>
     requires sound { IsSound W.view bus.old }
     requires fresh { AreFresh bus.old.living.items }
@@ -343,7 +360,7 @@ fn make<W: Walker>(
         return Err(CoreFault::Full);
     }
     log.reserve_step(size)?;
-    bus.make(alloc, candidate, log)?;
+    bus.make(alloc, candidate, log, buffers)?;
     Ok(())
 }
 

@@ -21,6 +21,10 @@ map-there f xs at x d e = get_or_from_slice_get (map f xs) at (f x) d (slice_get
 pub read-there : {A : Type 0} (xs : List A) (at : ℕ) (x : A) → at < length xs → x ≡ get_or xs at x → slice_get xs at ≡ Some x
 read-there xs at x within is = slice_get-get_or xs at x within ∙ ap Some (sym is)
 
+-- and so does what is equal to it
+pub read-through : {A : Type 0} (xs : List A) (at : ℕ) (x y : A) → x ≡ y → y ≡ get_or xs at y → x ≡ get_or xs at x
+read-through xs at x y same is = subst (λ z. z ≡ get_or xs at z) (sym same) is
+
 pub fresh-there : {W : Type 0} (all : List (Living W)) (at : ℕ) (living : Living W) → AreFresh all → slice_get all at ≡ Some living → living.fresh ≡ true
 fresh-there all at living fresh here = all-there (λ living. living.fresh ≡ true) all at living fresh here
 

@@ -28,6 +28,7 @@ use Rattle.tb_bus.specs.contracts.action.Action as action
 use Rattle.tb_search.specs.contracts.living.Ready as ready
 use Rattle.tb_search.specs.contracts.living.Living as living
 use Rattle.tb_search.specs.contracts.marks.Marks as marks
+use Rattle.tb_living.specs.contracts.buffers.Buffers as buffers
 use Rattle.tb_core.specs.contracts.machine.Core as core
 use Rattle.tb_core.specs.contracts.bus.LiveBus as live_bus
 use Rattle.tb_core.specs.contracts.machine.Core.TheInside as core_inside
@@ -108,18 +109,18 @@ bench_send : IsSend bench.the_row
 bench_send = search (sendable, crosses, lane_send) depth 40
 
 -- processes that are alive
-own_action_send : IsSend own_action.the_row
-own_action_send =
-    let n = number_send in let ts = terms_send in let ps = patterns_send in
-    variants_send own_action.enum (tt, ((ts, (binds_send, tt)), ((term_send, tt), ((ps, tt), ((ps, tt), ((ps, tt), ((n, (ts, (n, tt))), ((term_send, tt), tt))))))))
-
 tool_action_send : IsSend tool_action.the_row
 tool_action_send =
     let n = number_send in let ts = terms_send in let ps = patterns_send in
     variants_send tool_action.enum ((n, (n, tt)), ((n, (n, tt)), ((n, (n, tt)), ((ts, tt), ((ts, tt), ((ts, (ps, tt)), ((ts, tt), ((ts, (ps, tt)), ((ts, tt), ((ts, tt), tt))))))))))
 
+own_action_send : IsSend own_action.the_row
+own_action_send =
+    let n = number_send in let ts = terms_send in let ps = patterns_send in
+    variants_send own_action.enum (tt, ((ts, (binds_send, tt)), ((term_send, tt), ((ts, tt), ((ps, tt), ((ps, tt), ((ps, tt), ((ps, tt), ((n, (ts, (n, tt))), ((tool_action_send, tt), ((term_send, tt), tt)))))))))))
+
 action_send : IsSend action.the_row
-action_send = variants_send action.enum ((own_action_send, tt), ((terms_send, tt), ((patterns_send, tt), ((terms_send, tt), ((patterns_send, tt), ((tool_action_send, tt), tt))))))
+action_send = variants_send action.enum ((own_action_send, tt), ((terms_send, tt), ((patterns_send, tt), tt)))
 
 ready_send : IsSend ready.the_row
 ready_send = declared_send ready.the_type (search sendable depth 20, (number_send, (action_send, tt)))
@@ -129,6 +130,9 @@ marks_send = search sendable depth 30
 
 living_send : (W : RattleType) → IsSend W → IsSend (living.the_row W)
 living_send W s = search (sendable, crosses, inbox_send, ready_send) depth 40
+
+buffers_send : IsSend buffers.the_row
+buffers_send = search (sendable, crosses, terms_send, patterns_send, binds_send) depth 40
 
 -- who waits, and what is hinted at
 gate_sync : IsSync gate.the_row
@@ -143,7 +147,7 @@ module _ (W Plan Taken : RattleType) (g : Ghosts W.Denot Plan.Denot Taken.Denot)
       (origin_send, (search (sendable, items_send) depth 20, (search (sendable, crosses, living_send) depth 20, (search (sendable, crosses) depth 20, (search sendable depth 20, (search sendable depth 20, (marks_send, (bench_send, (index_send, (search (sendable, crosses) depth 40, (search (sendable, crosses) depth 20, (search sendable depth 20, tt))))))))))))
 
   pub core_send : IsSend (core.the_row W Plan Taken g)
-  core_send = view_send _ _ _ _ _ (declared_send (core_inside.the_type W Plan Taken g) (global_send, (live_bus_send, (log_send, (search sendable depth 20, tt)))))
+  core_send = view_send _ _ _ _ _ (declared_send (core_inside.the_type W Plan Taken g) (global_send, (live_bus_send, (log_send, (search sendable depth 20, (buffers_send, tt))))))
 
   core_option_send : IsSend (option.the_row (core.the_row W Plan Taken g))
   core_option_send = option_send (core.the_row W Plan Taken g) core_send

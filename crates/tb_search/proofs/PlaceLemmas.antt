@@ -116,6 +116,13 @@ row-is all place living within is = get_or-map row_of all place living no_row wi
 pub row-read : {W : Type 0} (all : List (Living W)) (place : ℕ) (some : Living W) → place < length all → row_at (rows_of all) place ≡ row_of (get_or all place some)
 row-read all place some within = get_or-map row_of all place some no_row within
 
+-- so where it was read in two steps
+pub row-got : {W : Type 0} (all : List (Living W)) (place : ℕ) (living got : Living W) → place < length all → got ≡ living → living ≡ get_or all place living → row_at (rows_of all) place ≡ row_of got
+row-got all place living got within same is = row-is all place living within is ∙ ap row_of (sym same)
+
+pub number-got : {W : Type 0} (all : List (Living W)) (place : ℕ) (living got : Living W) → got ≡ living → living ≡ get_or all place living → (get_or all place living).number ≡ got.number
+number-got {W = W} all place living got same is = ap (λ (l : Living W). l.number) (sym is ∙ sym same)
+
 pub last-read : {W : Type 0} (all : List (Living W)) (some : Living W) → 0 < length all → (row_at (rows_of all) (length (rows_of all) - 1)).number ≡ (get_or all (length all - 1) some).number
 last-read all some within =
     ap (λ (n : ℕ). (row_at (rows_of all) (n - 1)).number) (length-map all row_of)

@@ -2,6 +2,7 @@
 //! through, and what it finds.
 #![tactic(auto)]
 
+mod boxed;
 mod candidate;
 mod creation;
 mod exchanging;
@@ -14,7 +15,8 @@ mod search;
 mod slots;
 mod wanting;
 
-pub use candidate::{Candidate, Partner, Received};
+pub use boxed::Boxed;
+pub use candidate::{Candidate, Finding, Partner, Received};
 pub use living::{Living, Ready};
 pub use marks::Marks;
 pub use places::place_of;

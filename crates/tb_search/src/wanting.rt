@@ -1,6 +1,7 @@
 ghost use Rattle.std.specs.Prelude.{◌≡◌, IfOk};
 ghost use Rattle.tb_search.specs.Candidates.{wanting_if_room, rows_of};
 
+use crate::boxed::Boxed;
 use crate::living::Living;
 use std::alloc::Global;
 use tb_terms::{Items, NoMemory, Terms};
@@ -8,15 +9,16 @@ use tb_terms::{Items, NoMemory, Terms};
 /// The indices of those that want the note, where each of them has room for it.
 pub(crate) fn wanting<W>(
     alloc: Global,
-    all: &[Living<W>],
+    all: &[Boxed<Living<W>>],
     terms: &Terms,
 ) -> Result<Option<Items<usize>>, NoMemory>
     ensures { IfOk result (λ found. found ≡ wanting_if_room terms.now (rows_of all.now)) }
 {
     let mut indices = Items::new(alloc);
     for (index, living) in all.iter().enumerate() {
-        if living.inbox.wants(terms) {
-            if !living.inbox.room() {
+        let inbox = &living.get().inbox;
+        if inbox.wants(terms) {
+            if !inbox.room() {
                 return Ok(None);
             }
             indices.push(index)?;

@@ -1,19 +1,19 @@
 use Rattle.std.proofs.Common.{ap, sym, ◌∙◌}
 use Rattle.tb_notes.specs.Inboxes.{with_note}
-use Rattle.tb_living.proofs.ReadLemmas.{read-there}
+use Rattle.tb_living.proofs.ReadLemmas.{read-there, read-through}
 use Rattle.tb_living.proofs.HoldLemmas.{held-there, held-set, spare-set}
 use Rattle.tb_living.proofs.inboxes.put_at.Goals as goal
 
 pub returns-clause-held : goal.returns-clause-held
 returns-clause-held g c =
     let all = c.args.all.now.items in
-    let living = c.index_mut.result.now in
-    let here = read-there all c.args.at living c.requires.within c.index_mut.ensures.value in
+    let living = c.get_mut.result.now in
+    let here = read-there all c.args.at living c.requires.within (read-through all c.args.at _ _ c.get_mut.ensures.value c.index_mut.ensures.value) in
     held-set all c.args.at living c.put.new.self here _ (c.put.ensures.held ∙ ap (with_note c.args.note) (sym (held-there all c.args.at living here)))
 
 pub returns-clause-others : goal.returns-clause-others
 returns-clause-others g c other ne =
     let all = c.args.all.now.items in
-    let living = c.index_mut.result.now in
-    let here = read-there all c.args.at living c.requires.within c.index_mut.ensures.value in
+    let living = c.get_mut.result.now in
+    let here = read-there all c.args.at living c.requires.within (read-through all c.args.at _ _ c.get_mut.ensures.value c.index_mut.ensures.value) in
     spare-set all c.args.at living c.put.new.self here other ne

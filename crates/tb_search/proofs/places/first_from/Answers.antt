@@ -2,25 +2,25 @@ use Rattle.std.proofs.Common.{◌∙◌, ap, arith, rules, nat_lt}
 use Rattle.std.proofs.lemmas.List.{length-map}
 use Rattle.std.proofs.lemmas.List.Sorted.{IsPartitionPoint-from_clause}
 use Rattle.tb_search.specs.Candidates.{Row, row_of, rows_of}
-use Rattle.tb_search.proofs.PlaceLemmas.{row-read, partitioned-below_number, point-of-rows, place-exact}
+use Rattle.tb_search.proofs.PlaceLemmas.{row-got, partitioned-below_number, point-of-rows, place-exact}
 use Rattle.tb_search.proofs.places.first_from.Goals as goal
 
-pub returns-then-all-guess-clause-below : goal.returns-then-all-guess-clause-below
-returns-then-all-guess-clause-below g c =
+pub returns-then-get-number-clause-below : goal.returns-then-get-number-clause-below
+returns-then-get-number-clause-below g c =
     let all = c.args.all.now in
     let guess = c.saturating_add-guess.result in
     let many = length-map all row_of in
     let within = c.if-guess-all.true in
-    let has = ap (λ (row : Row). row.number) (row-read all guess c.index-all-guess.result (omega (arith, within))) ∙ c.if-all-guess.true in
+    let has = ap (λ (row : Row). row.number) (row-got all guess c.index-all-guess.result c.get-then-guess-all.result.now (omega (arith, within)) c.get-then-guess-all.ensures c.index-all-guess.is) ∙ c.if-get-number.true in
     (place-exact (rows_of all) c.args.number guess c.requires.ascend (omega (arith, many, within)) has).0
 
-pub returns-then-all-guess-clause-above : goal.returns-then-all-guess-clause-above
-returns-then-all-guess-clause-above g c =
+pub returns-then-get-number-clause-above : goal.returns-then-get-number-clause-above
+returns-then-get-number-clause-above g c =
     let all = c.args.all.now in
     let guess = c.saturating_add-guess.result in
     let many = length-map all row_of in
     let within = c.if-guess-all.true in
-    let has = ap (λ (row : Row). row.number) (row-read all guess c.index-all-guess.result (omega (arith, within))) ∙ c.if-all-guess.true in
+    let has = ap (λ (row : Row). row.number) (row-got all guess c.index-all-guess.result c.get-then-guess-all.result.now (omega (arith, within)) c.get-then-guess-all.ensures c.index-all-guess.is) ∙ c.if-get-number.true in
     (place-exact (rows_of all) c.args.number guess c.requires.ascend (omega (arith, many, within)) has).1
 
 pub returns-clause-below : goal.returns-clause-below

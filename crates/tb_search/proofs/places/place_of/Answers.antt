@@ -1,8 +1,8 @@
-use Rattle.std.proofs.Common.{◌-◌, length, get_or, subst, arith}
+use Rattle.std.proofs.Common.{◌∙◌, ◌-◌, length, subst, arith}
 use Rattle.std.proofs.lemmas.List.{length-map}
 use Rattle.tb_index.specs.Pairs.{IsNext}
 use Rattle.tb_search.specs.Candidates.{row_at, row_of, rows_of}
-use Rattle.tb_search.proofs.PlaceLemmas.{last-read, place-none, place-behind, place-found}
+use Rattle.tb_search.proofs.PlaceLemmas.{last-read, number-got, place-none, place-behind, place-found}
 use Rattle.tb_search.proofs.places.place_of.Goals as goal
 
 pub returns-then-number-last : goal.returns-then-number-last
@@ -12,12 +12,12 @@ returns-then-number-last g c = λ holds next.
     let number = c.in-Some.number in
     let place = c.first_from.result in
     let any = c.index-all-all.result in
-    let last = (get_or all (length all - 1) any).number in
+    let last = c.get.result.now.number in
     let many = length-map all row_of in
     let some = c.requires.within in
     let upto = c.if-number-last.true in
     let most = c.first_from.ensures.most in
-    place-found holds rows c.args.from c.requires.ascend (omega (arith, many, some)) last (last-read all any (omega (arith, some)))
+    place-found holds rows c.args.from c.requires.ascend (omega (arith, many, some)) last (last-read all any (omega (arith, some)) ∙ number-got all (length all - 1) any c.get.result.now c.get.ensures c.index-all-all.is)
     number place (omega (arith, upto)) (omega (arith, many, most)) c.first_from.ensures.below c.first_from.ensures.above
     (subst (λ found. IsNext holds (row_at rows c.args.from).number found) c.in-Some.is next)
 
@@ -26,11 +26,11 @@ returns-else-number-last g c = λ holds next.
     let all = c.args.all.now in
     let rows = rows_of all in
     let any = c.index-all-all.result in
-    let last = (get_or all (length all - 1) any).number in
+    let last = c.get.result.now.number in
     let many = length-map all row_of in
     let some = c.requires.within in
     let past = c.if-number-last.false in
-    place-behind holds rows c.args.from c.requires.ascend (omega (arith, many, some)) last (last-read all any (omega (arith, some)))
+    place-behind holds rows c.args.from c.requires.ascend (omega (arith, many, some)) last (last-read all any (omega (arith, some)) ∙ number-got all (length all - 1) any c.get.result.now c.get.ensures c.index-all-all.is)
     c.in-Some.number (omega (arith, past)) (subst (λ found. IsNext holds (row_at rows c.args.from).number found) c.in-Some.is next)
 
 pub returns-in-None : goal.returns-in-None
@@ -38,9 +38,8 @@ returns-in-None g c = λ holds next.
     let all = c.args.all.now in
     let rows = rows_of all in
     let any = c.index-all-all.result in
-    let last = (get_or all (length all - 1) any).number in
+    let last = c.get.result.now.number in
     let many = length-map all row_of in
     let some = c.requires.within in
-    let small = c.index-all-all.element_fits.fits in
-    place-none holds rows c.args.from c.requires.ascend (omega (arith, many, some)) last (last-read all any (omega (arith, some)))
-    (omega (arith, small)) (subst (λ found. IsNext holds (row_at rows c.args.from).number found) c.in-None.is next)
+    place-none holds rows c.args.from c.requires.ascend (omega (arith, many, some)) last (last-read all any (omega (arith, some)) ∙ number-got all (length all - 1) any c.get.result.now c.get.ensures c.index-all-all.is)
+    (omega arith) (subst (λ found. IsNext holds (row_at rows c.args.from).number found) c.in-None.is next)

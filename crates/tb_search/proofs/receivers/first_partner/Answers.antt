@@ -3,7 +3,7 @@ use Rattle.std.proofs.lemmas.List.{length-map}
 use Rattle.tb_search.specs.Candidates.{Row, partner_in, partners, row_of, rows_of}
 use Rattle.tb_bus.specs.Steps.{first}
 use Rattle.tb_search.specs.Indexed.{IsNextOf}
-use Rattle.tb_search.proofs.PlaceLemmas.{row-is, led-none, led-found, led-passed}
+use Rattle.tb_search.proofs.PlaceLemmas.{row-got, led-none, led-found, led-passed}
 use Rattle.tb_search.proofs.receivers.first_partner.Goals as goal
 
 pub bounds-all-place : goal.bounds-all-place
@@ -48,7 +48,7 @@ loop-at-preserved g c =
     let many = length-map all row_of in
     let next = subst (IsNextOf (partner_in number terms) (rows_of all) c.loop-at.at) c.in-Some.is (c.next_receiver.ensures number terms c.sent_mark-mark.ensures) in
     let within = next.1 in
-    let row = row-is all place c.index-all-place.result (omega (arith, many, within)) c.index-all-place.is in
+    let row = row-got all place c.index-all-place.result c.get.result.now (omega (arith, many, within)) c.get.ensures c.index-all-place.is in
     led-passed (partner_in number terms) (partners number terms) (λ at. refl) (λ at row rows. refl) (rows_of all) c.loop-at.at place next
     (sym c.in-None-2.is ∙ c.in_ok-partner-in-Some.ensures ∙ ap (λ (row : Row). first (partner_in number terms place row)) (sym row))
     ∙ c.loop-at.invariant
@@ -62,7 +62,7 @@ returns-in-Some-2 g c =
     let many = length-map all row_of in
     let next = subst (IsNextOf (partner_in number terms) (rows_of all) c.loop-at.at) c.in-Some.is (c.next_receiver.ensures number terms c.sent_mark-mark.ensures) in
     let within = next.1 in
-    let row = row-is all place c.index-all-place.result (omega (arith, many, within)) c.index-all-place.is in
+    let row = row-got all place c.index-all-place.result c.get.result.now (omega (arith, many, within)) c.get.ensures c.index-all-place.is in
     led-found (partner_in number terms) (partners number terms) (λ at. refl) (λ at row rows. refl) (rows_of all) c.loop-at.at place c.in-Some-2.partner next
     (sym c.in-Some-2.is ∙ c.in_ok-partner-in-Some.ensures ∙ ap (λ (row : Row). first (partner_in number terms place row)) (sym row))
     ∙ c.loop-at.invariant

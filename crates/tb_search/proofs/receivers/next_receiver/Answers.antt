@@ -2,7 +2,7 @@ use Rattle.std.proofs.Common.{◌≡◌, false, subst, sym}
 use Rattle.tb_index.specs.Pairs.{IsNext}
 use Rattle.tb_index.specs.Indexes.{is_receiver}
 use Rattle.tb_search.specs.Candidates.{Row, partner_in, row_at, rows_of}
-use Rattle.tb_search.proofs.PlaceLemmas.{row-read, next-of}
+use Rattle.tb_search.proofs.PlaceLemmas.{row-got, next-of}
 use Rattle.tb_search.proofs.IndexLemmas.{partner-deaf, indexed-at}
 use Rattle.tb_search.proofs.receivers.next_receiver.Goals as goal
 
@@ -14,7 +14,7 @@ returns g c = λ number terms same.
     let from = c.args.from in
     let mark = c.args.mark in
     let next = subst (λ (row : Row). IsNext (is_receiver index mark) row.number c.next_receiver-found.result)
-    (sym (row-read all from c.index-all-from.result c.requires.within)) c.next_receiver-found.ensures in
+    (sym (row-got all from c.index-all-from.result c.get.result.now c.requires.within c.get.ensures c.index-all-from.is)) c.next_receiver-found.ensures in
     next-of (is_receiver index mark) (partner_in number terms) rows from
     (λ place within deaf. partner-deaf index terms number place (row_at rows place) (indexed-at index rows place c.requires.index.each within)
     (subst (λ m. is_receiver index m (row_at rows place).number ≡ false) same deaf))

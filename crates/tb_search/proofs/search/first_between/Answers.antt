@@ -18,7 +18,7 @@ loop-at-preserved g c =
     let next = subst (IsNextOf (candidates_of scene) rows c.loop-at.at) c.in-Some.is c.next_starter.ensures in
     let within = next.1 in
     let row = get_or-take c.args.end (rows_of all) place no_row (omega (arith, long, within))
-    ∙ row-read all place c.index-searched-place.result (omega (arith, long, within, most)) in
+    ∙ row-read all place c.index-searched-place.result (omega (arith, long, within, most)) ∙ ap row_of (sym c.get.ensures) in
     led-passed (candidates_of scene) (candidates_from scene) (λ at. refl) (λ at row rows. refl) rows c.loop-at.at place next
     (sym c.in-None-2.is ∙ c.in_ok-found-in-Some.ensures ∙ ap (λ (row : Row). first (candidates_of scene place row)) (sym row))
     ∙ c.loop-at.invariant
@@ -35,7 +35,7 @@ returns-in-Some-2 g c =
     let next = subst (IsNextOf (candidates_of scene) rows c.loop-at.at) c.in-Some.is c.next_starter.ensures in
     let within = next.1 in
     let row = get_or-take c.args.end (rows_of all) place no_row (omega (arith, long, within))
-    ∙ row-read all place c.index-searched-place.result (omega (arith, long, within, most)) in
+    ∙ row-read all place c.index-searched-place.result (omega (arith, long, within, most)) ∙ ap row_of (sym c.get.ensures) in
     led-found (candidates_of scene) (candidates_from scene) (λ at. refl) (λ at row rows. refl) rows c.loop-at.at place c.in-Some-2.found next
     (sym c.in-Some-2.is ∙ c.in_ok-found-in-Some.ensures ∙ ap (λ (row : Row). first (candidates_of scene place row)) (sym row))
     ∙ c.loop-at.invariant

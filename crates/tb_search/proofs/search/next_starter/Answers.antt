@@ -7,7 +7,7 @@ use Rattle.tb_index.specs.Indexes.{starts}
 use Rattle.tb_search.specs.Candidates.{Row, ascend, candidates_of, scene_of, row_at, row_of, rows_of}
 use Rattle.tb_search.specs.Indexed.{IsIndexed, IsNextOf, SleepsAtRest}
 use Rattle.tb_bus.specs.Exchanges.{setting_by}
-use Rattle.tb_search.proofs.PlaceLemmas.{ascend-take, row-read, next-of}
+use Rattle.tb_search.proofs.PlaceLemmas.{ascend-take, row-got, next-of}
 use Rattle.tb_search.proofs.IndexLemmas.{of-asleep, indexed-at, asleep-at}
 use Rattle.tb_search.proofs.search.next_starter.Goals as goal
 
@@ -27,7 +27,7 @@ returns g c =
     let many = length-take-le c.args.end all c.requires.within in
     let same = take-map row_of c.args.end all in
     let next = subst (λ (row : Row). IsNext (starts index) row.number c.next_starter-found.result)
-    (sym (row-read asked from c.index-asked-from.result (omega (arith, many, some)))) c.next_starter-found.ensures.next in
+    (sym (row-got asked from c.index-asked-from.result c.get.result.now (omega (arith, many, some)) c.get.ensures c.index-asked-from.is)) c.next_starter-found.ensures.next in
     let settings = setting_by scene.bodies scene.kinds scene.bench in
     let each = subst (λ rows. All (IsIndexed index) rows) same (All-take (IsIndexed index) c.args.end (rows_of all) c.requires.index.each) in
     let asleep = subst (λ rows. All (SleepsAtRest settings index) rows) same (All-take (SleepsAtRest settings index) c.args.end (rows_of all) c.requires.index.asleep) in

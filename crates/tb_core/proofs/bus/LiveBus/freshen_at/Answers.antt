@@ -6,7 +6,7 @@ use Rattle.tb_living.specs.Indexes.{IsRested, IsRightFor}
 use Rattle.tb_living.specs.Lives.{IsLiveOn, proc_by, IsFreshOr}
 use Rattle.tb_core.specs.Helpers.LiveBuses.{settings_in}
 use Rattle.tb_core.proofs.ReadLemmas.{live-at}
-use Rattle.tb_living.proofs.ReadLemmas.{all-there, read-there, plan-within, body-within, read-is, body-is}
+use Rattle.tb_living.proofs.ReadLemmas.{all-there, read-there, plan-within, body-within, read-is, body-is, read-through}
 use Rattle.tb_living.proofs.IndexLemmas.{keeps-self, stale-right}
 use Rattle.tb_living.proofs.RestLemmas.{rested-stale}
 use Rattle.tb_core.proofs.SetLemmas.{in-place, named-as, updated-live, stands-set}
@@ -17,8 +17,8 @@ use Rattle.tb_core.proofs.bus.LiveBus.freshen_at.Goals as goal
 pub returns-then-living-clause-same : goal.returns-then-living-clause-same
 returns-then-living-clause-same g c =
     let bus = c.args.self.now in
-    let living = c.index_mut-living.result.now in
-    let it = live-at g.W.Walker.view bus c.args.at living c.requires.sound c.requires.within c.index_mut-living.ensures.value in
+    let living = c.get_mut-living.result.now in
+    let it = live-at g.W.Walker.view bus c.args.at living c.requires.sound c.requires.within (read-through c.args.self.now.living.items c.args.at _ _ c.get_mut-living.ensures.value c.index_mut.ensures.value) in
     stands-set g.W.Walker.view bus (with_item bus.living c.args.at living) bus.index bus.looked c.args.at living living it c.requires.sound refl
     (in-place g.W.Walker.view bus it.plan it.plan living living refl it.live refl (λ young. inl c.if-living.true))
     (λ other ne. keeps-self bus.index other) (all-there (IsRightFor bus.index) bus.living.items c.args.at living c.requires.sound.indexed.each it.here)
@@ -27,8 +27,8 @@ returns-then-living-clause-same g c =
 pub bounds-as_slice-living : goal.bounds-as_slice-living
 bounds-as_slice-living g c =
     let bus = c.args.self.now in
-    let living = c.index_mut-living.result.now in
-    let it = live-at g.W.Walker.view bus c.args.at living c.requires.sound c.requires.within c.index_mut-living.ensures.value in
+    let living = c.get_mut-living.result.now in
+    let it = live-at g.W.Walker.view bus c.args.at living c.requires.sound c.requires.within (read-through c.args.self.now.living.items c.args.at _ _ c.get_mut-living.ensures.value c.index_mut.ensures.value) in
     plan-within bus.plans c.as_slice.result.now living.body it.plan c.as_slice.ensures it.planned
 
 pub offset_bounds-as_slice-living : goal.offset_bounds-as_slice-living
@@ -37,23 +37,23 @@ offset_bounds-as_slice-living g c = let within = bounds-as_slice-living g c in o
 pub bounds-as_slice-living-2 : goal.bounds-as_slice-living-2
 bounds-as_slice-living-2 g c =
     let bus = c.args.self.now in
-    let living = c.index_mut-living.result.now in
-    let it = live-at g.W.Walker.view bus c.args.at living c.requires.sound c.requires.within c.index_mut-living.ensures.value in
+    let living = c.get_mut-living.result.now in
+    let it = live-at g.W.Walker.view bus c.args.at living c.requires.sound c.requires.within (read-through c.args.self.now.living.items c.args.at _ _ c.get_mut-living.ensures.value c.index_mut.ensures.value) in
     body-within g.W.Walker.view.body_of bus.plans bus.origin.program.bodies c.as_slice-2.result.now living.body it.plan c.requires.sound.planned c.as_slice-2.ensures it.planned
 
 pub look-requires-clause-body : goal.look-requires-clause-body
 look-requires-clause-body g c =
     let bus = c.args.self.now in
-    let living = c.index_mut-living.result.now in
-    let it = live-at g.W.Walker.view bus c.args.at living c.requires.sound c.requires.within c.index_mut-living.ensures.value in
+    let living = c.get_mut-living.result.now in
+    let it = live-at g.W.Walker.view bus c.args.at living c.requires.sound c.requires.within (read-through c.args.self.now.living.items c.args.at _ _ c.get_mut-living.ensures.value c.index_mut.ensures.value) in
     ap g.W.Walker.view.body_of (read-is bus.plans c.as_slice.result.now living.body c.index-as_slice-living.result it.plan c.as_slice.ensures it.planned c.index-as_slice-living.is)
     ∙ sym (body-is g.W.Walker.view.body_of bus.plans bus.origin.program.bodies c.as_slice-2.result.now living.body it.plan c.index-as_slice-living-2.result c.requires.sound.planned c.as_slice-2.ensures it.planned c.index-as_slice-living-2.is)
 
 pub look-requires-clause-live : goal.look-requires-clause-live
 look-requires-clause-live g c =
     let bus = c.args.self.now in
-    let living = c.index_mut-living.result.now in
-    let it = live-at g.W.Walker.view bus c.args.at living c.requires.sound c.requires.within c.index_mut-living.ensures.value in
+    let living = c.get_mut-living.result.now in
+    let it = live-at g.W.Walker.view bus c.args.at living c.requires.sound c.requires.within (read-through c.args.self.now.living.items c.args.at _ _ c.get_mut-living.ensures.value c.index_mut.ensures.value) in
     let plan = read-is bus.plans c.as_slice.result.now living.body c.index-as_slice-living.result it.plan c.as_slice.ensures it.planned c.index-as_slice-living.is in
     subst (λ p. IsLiveOn g.W.Walker.view p bus.ticks living) (sym plan) it.live
 
@@ -61,8 +61,8 @@ look-requires-clause-live g c =
 looked-right : (g : Over) (c : After-look g) → IsRightFor c.args.self.now.index c.look.new.living
 looked-right g c =
     let bus = c.args.self.now in
-    let living = c.index_mut-living.result.now in
-    let here = read-there bus.living.items c.args.at living c.requires.within c.index_mut-living.ensures.value in
+    let living = c.get_mut-living.result.now in
+    let here = read-there bus.living.items c.args.at living c.requires.within (read-through c.args.self.now.living.items c.args.at _ _ c.get_mut-living.ensures.value c.index_mut.ensures.value) in
     stale-right bus.index living c.look.new.living (ap (λ (p : Proc). p.number) c.look.ensures.same) c.look.ensures.marks c.look.ensures.stale
     (all-there (IsRightFor bus.index) bus.living.items c.args.at living c.requires.sound.indexed.each here)
 
@@ -72,9 +72,9 @@ update-requires-clause-right g c = looked-right g (goal.at.update-requires-claus
 pub returns-in_err-look-clause-same : goal.returns-in_err-look-clause-same
 returns-in_err-look-clause-same g c =
     let bus = c.args.self.now in
-    let living = c.index_mut-living.result.now in
+    let living = c.get_mut-living.result.now in
     let one = c.look.new.living in
-    let it = live-at g.W.Walker.view bus c.args.at living c.requires.sound c.requires.within c.index_mut-living.ensures.value in
+    let it = live-at g.W.Walker.view bus c.args.at living c.requires.sound c.requires.within (read-through c.args.self.now.living.items c.args.at _ _ c.get_mut-living.ensures.value c.index_mut.ensures.value) in
     let plan = read-is bus.plans c.as_slice.result.now living.body c.index-as_slice-living.result it.plan c.as_slice.ensures it.planned c.index-as_slice-living.is in
     let named = λ (young : bus.aged ≡ false). named-as bus.stale.items living one (all-there (IsFreshOr bus.stale.items) bus.living.items c.args.at living (c.requires.sound.fresh young) it.here) c.if-living.false (ap (λ (p : Proc). p.number) c.look.ensures.same) in
     stands-set g.W.Walker.view bus (with_item bus.living c.args.at one) bus.index bus.looked c.args.at living one it c.requires.sound refl
@@ -91,10 +91,10 @@ pub returns-clause-same : goal.returns-clause-same
 returns-clause-same g c =
     let bus = c.args.self.now in
     let view = g.W.Walker.view in
-    let living = c.index_mut-living.result.now in
+    let living = c.get_mut-living.result.now in
     let middle = c.look.new.living in
     let one = c.update.new.living in
-    let it = live-at view bus c.args.at living c.requires.sound c.requires.within c.index_mut-living.ensures.value in
+    let it = live-at view bus c.args.at living c.requires.sound c.requires.within (read-through c.args.self.now.living.items c.args.at _ _ c.get_mut-living.ensures.value c.index_mut.ensures.value) in
     let read = c.index-as_slice-living.result in
     let plan = read-is bus.plans c.as_slice.result.now living.body read it.plan c.as_slice.ensures it.planned c.index-as_slice-living.is in
     let number : one.number ≡ living.number = ap (λ (l : Living _). l.number) c.update.ensures.same ∙ ap (λ (p : Proc). p.number) c.look.ensures.same in

@@ -6,13 +6,14 @@ use Rattle.tb_search.specs.Indexed.{IsNextPlace}
 use Rattle.tb_living.specs.Indexes.{tool_mark}
 use Rattle.tb_search.specs.declared.living.Living.{Living}
 use Rattle.tb_search.proofs.PlaceLemmas.{row-is}
+use Rattle.tb_living.proofs.ReadLemmas.{read-through}
 use Rattle.tb_core.proofs.bus.LiveBus.next_speaker.Goals as goal
 
 pub returns : goal.returns
 returns g c =
     let bus = c.args.self.now in
     let all = bus.living.items in
-    let row = row-is all c.args.from c.index.result.now c.requires.within c.index.ensures in
+    let row = row-is all c.args.from c.get.result.now c.requires.within (read-through c.args.self.now.living.items c.args.from _ _ c.get.ensures c.index.ensures) in
     let next = subst (λ (r : Row). IsNext (is_receiver bus.index tool_mark) r.number c.next_receiver-found.result) (sym row) c.next_receiver-found.ensures in
     subst (λ (xs : List (Living _)). IsNextPlace (is_receiver bus.index tool_mark) (rows_of xs) c.args.from c.place_of.result) c.as_slice.ensures.value
     (c.place_of.ensures (is_receiver bus.index tool_mark)

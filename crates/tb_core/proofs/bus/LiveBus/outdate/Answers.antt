@@ -2,7 +2,7 @@ use Rattle.std.proofs.Common.{refl, subst, inr, false, Contains}
 use Rattle.std.specs.Vec.{with_item}
 use Rattle.tb_living.specs.Indexes.{IsRightFor}
 use Rattle.tb_core.specs.Helpers.LiveBuses.{settings_in}
-use Rattle.tb_living.proofs.ReadLemmas.{all-there}
+use Rattle.tb_living.proofs.ReadLemmas.{all-there, read-through}
 use Rattle.tb_core.proofs.ReadLemmas.{live-at}
 use Rattle.tb_core.proofs.SetLemmas.{stands-set, set-there}
 use Rattle.tb_living.proofs.IndexLemmas.{keeps-self, stale-right}
@@ -12,9 +12,9 @@ use Rattle.tb_core.proofs.bus.LiveBus.outdate.Goals as goal
 pub returns-clause-same : goal.returns-clause-same
 returns-clause-same g c =
     let bus = c.args.self.now in
-    let living = c.index_mut.result.now in
+    let living = c.get_mut.result.now in
     let one = record living { fresh = false } in
-    let it = live-at g.W.Walker.view bus c.args.at living c.requires.sound c.requires.within c.index_mut.ensures.value in
+    let it = live-at g.W.Walker.view bus c.args.at living c.requires.sound c.requires.within (read-through c.args.self.now.living.items c.args.at _ _ c.get_mut.ensures.value c.index_mut.ensures.value) in
     let right = all-there (IsRightFor bus.index) bus.living.items c.args.at living c.requires.sound.indexed.each it.here in
     stands-set g.W.Walker.view bus (with_item bus.living c.args.at one) bus.index bus.looked c.args.at living one it c.requires.sound refl (record {
       live = record { is_on = it.live.is_on; alive = it.live.alive; sorts = it.live.sorts; ticks = it.live.ticks; ready = λ e. cc };
@@ -25,9 +25,9 @@ returns-clause-same g c =
 pub returns-clause-kept : goal.returns-clause-kept
 returns-clause-kept g c =
     let bus = c.args.self.now in
-    let living = c.index_mut.result.now in
+    let living = c.get_mut.result.now in
     let one = record living { fresh = false } in
-    let it = live-at g.W.Walker.view bus c.args.at living c.requires.sound c.requires.within c.index_mut.ensures.value in
+    let it = live-at g.W.Walker.view bus c.args.at living c.requires.sound c.requires.within (read-through c.args.self.now.living.items c.args.at _ _ c.get_mut.ensures.value c.index_mut.ensures.value) in
     record {
       before = living;
       after = one;

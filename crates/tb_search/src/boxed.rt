@@ -1,0 +1,47 @@
+ghost use Rattle.std.specs.Prelude.{◌≡◌, IfOk};
+
+use std::alloc::{AllocError, Global};
+use std::marker::Model;
+
+/// A value in a piece of memory of its own, which contracts see as the value: a list of many moves by their addresses.
+#[derive(Drop)]
+pub struct Boxed<T> {
+    inner: Box<T>,
+}
+
+impl<T> Model for Boxed<T> {
+    ghost Value = { T };
+
+    ghost coded = { T.code };
+
+    ghost view = { λ b. b.inner.value };
+}
+
+impl<T> Boxed<T> {
+    ghost use Rattle.std.specs.Prelude.{◌≡◌};
+    ghost use Rattle.std.specs.Borrow.{Lends, sem};
+    ghost use Rattle.tb_search.specs.contracts.boxed.Boxed.{the_row};
+
+    pub fn get(&self) -> &T
+        ensures { result.now ≡ self.now }
+    {
+        &self.inner
+    }
+
+    pub fn get_mut(&mut self) -> &mut T
+        ensures* writes_back { sem 𝓛 (Lends (the_row T.row) T.row self.entry result (λ value. value)) }
+        ensures value { result.now ≡ self.old }
+    {
+        self.inner.as_mut()
+    }
+}
+
+impl<T: Drop> Boxed<T> {
+    pub fn new(alloc: Global, value: T) -> Result<Boxed<T>, AllocError>
+        ensures { IfOk result (λ boxed. boxed ≡ value) }
+    {
+        Ok(Boxed {
+            inner: Box::new(alloc, value)?,
+        })
+    }
+}
