@@ -40,7 +40,7 @@ impl Buffers {
             Action::Receive(patterns) => {
                 keep_list(&mut self.patterns, replace(patterns, Items::new(alloc)));
             }
-            Action::Own(_) | Action::Notify(_) | Action::TakeNote(_) | Action::Speak(_) => {}
+            Action::Own(_) => {}
         }
     }
 }
