@@ -128,10 +128,11 @@ impl<W: Walker> Core<W> {
         ensures unchanged { self.new ≡ self.old }
     {
         self.bus.freshen(self.alloc, &mut self.buffers)?;
-        Ok(self
-            .bus
-            .first_candidate(self.alloc, &mut self.buffers.binds)?
-            .is_some())
+        Ok(
+            self.bus
+                .first_candidate(self.alloc, &mut self.buffers.binds)?
+                .is_some(),
+        )
     }
 
     /// Hands in what comes from outside.

@@ -11,6 +11,7 @@ use Rattle.tb_bells.specs.contracts.gate.Gate as gate
 use Rattle.tb_lock.specs.contracts.notices.Notices as notices
 use Rattle.tb_lock.specs.contracts.shared.Shared as shared
 use Rattle.tb_lock.specs.contracts.shared.Shared.TheInside as shared_inside
+use Rattle.sqlite_items.proofs.boxed.Boxed.TheSendSync.{the_send as boxed_send}
 use Rattle.sqlite_items.proofs.items.Items.TheSendSync.{the_send as items_send}
 use Rattle.tb_terms.proofs.name.Name.TheSendSync.{the_send as name_send}
 use Rattle.tb_terms.proofs.text.Text.TheSendSync.{the_send as text_send}
@@ -144,7 +145,7 @@ notices_sync = search (sendable, crosses) depth 40
 module _ (W Plan Taken : RattleType) (g : Ghosts W.Denot Plan.Denot Taken.Denot) (w : IsSend W) (p : IsSend Plan) where
   live_bus_send : IsSend (live_bus.the_row W Plan Taken)
   live_bus_send = declared_send (live_bus.the_type W Plan Taken)
-      (origin_send, (search (sendable, items_send) depth 20, (search (sendable, crosses, living_send) depth 20, (search (sendable, crosses) depth 20, (search sendable depth 20, (search sendable depth 20, (marks_send, (bench_send, (index_send, (search (sendable, crosses) depth 40, (search (sendable, crosses) depth 20, (search sendable depth 20, tt))))))))))))
+      (origin_send, (search (sendable, items_send) depth 20, (search (sendable, crosses, boxed_send, living_send) depth 20, (search (sendable, crosses) depth 20, (search sendable depth 20, (search sendable depth 20, (marks_send, (bench_send, (index_send, (search (sendable, crosses) depth 40, (search (sendable, crosses) depth 20, (search sendable depth 20, tt))))))))))))
 
   pub core_send : IsSend (core.the_row W Plan Taken g)
   core_send = view_send _ _ _ _ _ (declared_send (core_inside.the_type W Plan Taken g) (global_send, (live_bus_send, (log_send, (search sendable depth 20, (buffers_send, tt))))))

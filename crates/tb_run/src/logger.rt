@@ -174,11 +174,7 @@ fn end_of(fault: LogFault) -> LogEnd
 }
 
 /// Puts the lines of the next entries.
-fn put_piece<O: Sink>(
-    writer: &mut LogWriter,
-    piece: &[Entry],
-    out: &mut O,
-) -> Result<(), LogFault>
+fn put_piece<O: Sink>(writer: &mut LogWriter, piece: &[Entry], out: &mut O) -> Result<(), LogFault>
     requires { writer.old.held ≡ [] }
     ensures ok { OnOk result (Writes (O.taken out.old) (O.taken out.new) (log_text_from (writer.old.written + 1) piece.now)) }
     ensures counted { OnOk result (writer.new ≡ record { written = writer.old.written + length piece.now; held = [] }) }

@@ -129,12 +129,7 @@ fn sim_core<O: Sink>(
 }
 
 /// Puts the log of a simulation that ended so.
-fn put_simulation<O: Sink>(
-    alloc: Global,
-    log: &Log,
-    end: SimEnd,
-    out: &mut O,
-) -> Result<(), Fault>
+fn put_simulation<O: Sink>(alloc: Global, log: &Log, end: SimEnd, out: &mut O) -> Result<(), Fault>
     ensures outcome { PutsText (log_text log.now.entries) end (O.taken out.old) (O.taken out.new) result }
     ensures behind { IfErr result IsBehindFeed }
     ensures inside { IfErr result IsInside }
