@@ -58,12 +58,7 @@ pub(crate) fn with_bind(
     }
 }
 
-fn push_bind(
-    alloc: Global,
-    binds: &mut Binds,
-    slot: u32,
-    value: &Term,
-) -> Result<(), NoMemory>
+fn push_bind(alloc: Global, binds: &mut Binds, slot: u32, value: &Term) -> Result<(), NoMemory>
     ensures { OnOk result (binds.new ≡ binds.old ++ record { slot = slot; value = value.now } ∷ []) }
 {
     let value = value.copy(alloc)?;
