@@ -137,16 +137,16 @@ fn step_count(log: &Log) -> usize
 {
     let mut count = 0;
     for at in 0..log.len() {
-        count += steps_in(log.at(at));
+        count += steps_in(&log.at(at));
     }
     count
 }
 
-fn steps_in(seen: Seen) -> usize
-    ensures value { result ≡ steps_in (entry_seen seen) }
+fn steps_in(seen: &Seen) -> usize
+    ensures value { result ≡ steps_in (entry_seen seen.now) }
     ensures one { result ≤ 1 }
 {
-    match seen {
+    match *seen {
         Seen::Did(_) => 1,
         _ => 0,
     }
@@ -158,15 +158,15 @@ fn last_word(log: &Log) -> &'static [u8]
 {
     let mut word: &'static [u8] = b"";
     for at in 0..log.len() {
-        word = word_after(word, log.at(at));
+        word = word_after(word, &log.at(at));
     }
     word
 }
 
-fn word_after(word: &'static [u8], seen: Seen) -> &'static [u8]
-    ensures { result.now ≡ word_after word.now (entry_seen seen) }
+fn word_after(word: &'static [u8], seen: &Seen) -> &'static [u8]
+    ensures { result.now ≡ word_after word.now (entry_seen seen.now) }
 {
-    match seen {
+    match *seen {
         Seen::Did(label) => kind_word(label.kind),
         _ => word,
     }

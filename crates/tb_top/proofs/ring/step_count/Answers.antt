@@ -14,8 +14,8 @@ loop-at-preserved c =
     let more : sum_by steps_in (take (c.loop-at.at + 1) entries) ≡ sum_by steps_in (take c.loop-at.at entries) + steps_in entry =
     ap (sum_by steps_in) (read_on entries c.loop-at.at entry c.at.ensures) ∙ sum_by_push steps_in (take c.loop-at.at entries) entry in
     record {
-      sum = omega (arith, more, c.loop-at.invariant.sum, c.steps_in.ensures.value);
-      small = omega (arith, c.loop-at.invariant.small, c.steps_in.ensures.one);
+      sum = omega (arith, more, c.loop-at.invariant.sum, c.steps_in-count.ensures.value);
+      small = omega (arith, c.loop-at.invariant.small, c.steps_in-count.ensures.one);
     }
 
 pub returns : goal.returns
