@@ -23,11 +23,7 @@ const HEAD_BYTES: usize = 120;
 const TERM_BYTES: usize = 20;
 
 /// Writes the line of a step at the end of the array, where it is a short one, and tells where it begins.
-pub(crate) fn put_line(
-    number: u64,
-    label: &SeenLabel,
-    line: &mut [u8; LINE_BYTES],
-) -> Option<usize>
+pub(crate) fn put_line(number: u64, label: &SeenLabel, line: &mut [u8; LINE_BYTES]) -> Option<usize>
     ensures { IfSome result (λ start. (start ≤ LINE_BYTES) × (drop start line.new ≡ decimal number
         ++ 32 ∷ label_words label.now.kind label.now.from label.now.to label.now.terms.now ++ 10 ∷ [])) }
 {

@@ -17,9 +17,11 @@ invariant_of-self c =
     room_inside log.limit was c.args.self.now (Did label) (ap (λ (s : LogState). s.limit) (sym c.self.view_is)) (ap (λ (s : LogState). s.entries) (sym c.self.view_is)) c.requires.room in
     let first : c.len-first.result ≡ length log.terms.items = omega (arith, c.len-first.ensures, log.terms.ok.0) in
     let count : c.len-count.result ≡ length label.terms = c.len-count.ensures in
-    let size : log.reserved ≡ min (terms_size label.terms) 18446744073709551615 = ap (λ (s : LogState). s.reserved) c.self.view_is ∙ c.requires.reserved in
-    (rw (c.move_terms.ensures.moved, c.push_reserved.ensures.items)
-    (stands_with_step log.limit log.size log.reserved log.terms.items log.others.items log.entries.items label c.len-first.result c.len-count.result first count c.self.invariant.0 room size), omega arith)
+    let size : log.reserved ≡ min (terms_size label.terms) 18446744073709551615 = ap (λ (s : LogState). s.reserved) c.self.view_is ∙ c.requires.reserved in (
+      rw (c.move_terms.ensures.moved, c.push_reserved.ensures.items)
+          (stands_with_step log.limit log.size log.reserved log.terms.items log.others.items log.entries.items label c.len-first.result c.len-count.result first count c.self.invariant.0 room size),
+      omega arith,
+    )
 
 pub returns-clause-entries : goal.returns-clause-entries
 returns-clause-entries c =
