@@ -76,7 +76,8 @@ fn take_later<W: Walker>(
         return Ok(false);
     }
     let taken = walker.take(alloc, plan, k)?;
-    walker.advance(plan, taken, Items::new(alloc));
+    let mut none = Items::new(alloc);
+    walker.advance(plan, taken, &mut none);
     Ok(true)
 }
 
@@ -189,7 +190,7 @@ fn write_values<W: Walker>(
     requires fresh { IsTrue (is_some (W.view.seen walker.now)) }
 {
     for k in 0..walker.offer_count() {
-        if let Some(terms) = walker.sent(alloc, plan, k)? {
+        if let Some(terms) = walker.sent(alloc, plan, k, None)? {
             write_terms(&terms, values)?;
         }
         values.push(b';')?;
@@ -254,7 +255,7 @@ pub(crate) fn count_bound<W: Walker>(
     if walker.is_done() || !walker.is_fresh() || walker.offer_count() == 0 {
         return Ok(None);
     }
-    match walker.patterns(alloc, &plan, 0)? {
+    match walker.patterns(alloc, &plan, 0, None)? {
         Some(patterns) if patterns.len() == 1 => {}
         _ => return Ok(None),
     }

@@ -7,7 +7,7 @@ use tb_body::Program;
 use tb_cli::{Command, read_words};
 use tb_core::Core;
 use tb_feed::{Feed, read_feed};
-use tb_log::write_entry;
+use tb_log::write_seen;
 use tb_script::load;
 use tb_sim::simulate;
 use tb_terms::{NoMemory, Text, Texts};
@@ -134,8 +134,9 @@ fn log_over(alloc: Global, program: Program, course: &Course) -> Result<Option<V
 
 fn log_text(alloc: Global, core: &Core<Rewriter>) -> Result<Vec<u8>, NoMemory> {
     let mut text = Vec::new(alloc);
-    for (position, entry) in core.log().iter().enumerate() {
-        write_entry(position as u64 + 1, entry, &mut text)?;
+    let log = core.log();
+    for at in 0..log.len() {
+        write_seen(at as u64 + 1, &log.at(at), &mut text)?;
     }
     Ok(text)
 }

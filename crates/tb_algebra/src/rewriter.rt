@@ -118,7 +118,13 @@ impl Walker for Rewriter {
         }
     }
 
-    fn sent(&self, alloc: Global, plan: &Plan, k: usize) -> Result<Option<Terms>, NoMemory> {
+    fn sent(
+        &self,
+        alloc: Global,
+        plan: &Plan,
+        k: usize,
+        _room: Option<Terms>,
+    ) -> Result<Option<Terms>, NoMemory> {
         match self.found.get(k) {
             Some(found) => {
                 let store = store_of(&self.store, &found.own);
@@ -128,7 +134,13 @@ impl Walker for Rewriter {
         }
     }
 
-    fn patterns(&self, alloc: Global, plan: &Plan, k: usize) -> Result<Option<Patterns>, NoMemory> {
+    fn patterns(
+        &self,
+        alloc: Global,
+        plan: &Plan,
+        k: usize,
+        _room: Option<Patterns>,
+    ) -> Result<Option<Patterns>, NoMemory> {
         match self.found.get(k) {
             Some(found) => {
                 let store = store_of(&self.store, &found.own);
@@ -164,7 +176,7 @@ impl Walker for Rewriter {
         }
     }
 
-    fn advance(&mut self, _plan: &Plan, taken: Left, binds: Binds) {
+    fn advance(&mut self, _plan: &Plan, taken: Left, binds: &mut Binds) {
         let Left { term, own } = taken;
         match own {
             Some(store) => self.store = store,

@@ -29,9 +29,9 @@ pub fn with_settings(
     ensures { IfOk result (λ after. after ≡ with_settings store.now settings.now) }
 {
     match given(alloc, store, settings)? {
-        Some(binds) => {
+        Some(mut binds) => {
             let mut after = store.copy(alloc)?;
-            set_binds(&mut after, binds);
+            set_binds(&mut after, &mut binds);
             Ok(Some(after))
         }
         None => Ok(None),
@@ -90,14 +90,13 @@ fn well_sorted(slot: u32, sort: &Sort, value: Option<Term>) -> Option<Bind>
     }
 }
 
-/// Sets the binds one after another.
-pub fn set_binds(store: &mut Store, binds: Binds)
-    requires { IsTrue (takes_binds store.old binds) }
-    ensures { store.new ≡ with_binds store.old binds }
+/// Sets the binds one after another. Their memory is left.
+pub fn set_binds(store: &mut Store, binds: &mut Binds)
+    requires { IsTrue (takes_binds store.old binds.old) }
+    ensures { store.new ≡ with_binds store.old binds.old }
 {
-    let mut rest = binds;
-    while !rest.is_empty() {
-        let bind = rest.remove(0);
+    while !binds.is_empty() {
+        let bind = binds.remove(0);
         store.set(bind.slot, bind.value);
     }
 }

@@ -59,20 +59,28 @@ pub trait Walker: Sized + Drop {
         ensures { ForSome (view.seen self.now) (λ offers. slice_get offers k ≡ Some result) };
 
     /// The values that the atom sends or looks at, where each is there and they are together within the
-    /// limit of size: for a new process its actuals, and the tool first where there is one.
-    fn sent(&self, alloc: Global, plan: &Self::Plan, k: usize) -> Result<Option<Terms>, NoMemory>
+    /// limit of size: for a new process its actuals, and the tool first where there is one. They may stand in
+    /// the memory of `room`, whatever that held.
+    fn sent(
+        &self,
+        alloc: Global,
+        plan: &Self::Plan,
+        k: usize,
+        room: Option<Terms>,
+    ) -> Result<Option<Terms>, NoMemory>
         requires on { view.is_on plan.now self.now }
         requires fresh { IsTrue (is_some (view.seen self.now)) }
         requires within { ForSome (view.seen self.now) (λ offers. k < length offers) }
         ensures { IfOk result (λ terms. terms
             ≡ option_and_then (sent_by (view.body_of plan.now).atoms) (slice_get (offers_of (view.walking plan.now self.now)) k)) };
 
-    /// The patterns of an atom that receives, or that looks at notes.
+    /// The patterns of an atom that receives, or that looks at notes. They may stand in the memory of `room`.
     fn patterns(
         &self,
         alloc: Global,
         plan: &Self::Plan,
         k: usize,
+        room: Option<Patterns>,
     ) -> Result<Option<Patterns>, NoMemory>
         requires on { view.is_on plan.now self.now }
         requires fresh { IsTrue (is_some (view.seen self.now)) }
@@ -101,13 +109,13 @@ pub trait Walker: Sized + Drop {
         ensures taken { IfOk result (λ taken. ForSome (slice_get (offers_of (view.walking plan.now self.now)) k)
             (λ offered. view.leaves plan.now self.now taken offered)) };
 
-    /// Goes on with what was taken, and sets the binds. This takes no memory.
-    fn advance(&mut self, plan: &Self::Plan, taken: Self::Taken, binds: Binds)
+    /// Goes on with what was taken, and sets the binds, whose memory is left. This takes no memory.
+    fn advance(&mut self, plan: &Self::Plan, taken: Self::Taken, binds: &mut Binds)
         requires on { view.is_on plan.now self.old }
-        requires taken { (offered : Offered) × (view.leaves plan.now self.old taken offered × IsTrue (takes_binds offered.store binds)) }
+        requires taken { (offered : Offered) × (view.leaves plan.now self.old taken offered × IsTrue (takes_binds offered.store binds.old)) }
         ensures on { view.is_on plan.now self.new }
         ensures advanced { (offered : Offered) → view.leaves plan.now self.old taken offered
-            → view.walking plan.now self.new ≡ fired binds (view.walking plan.now self.old).ticks offered }
+            → view.walking plan.now self.new ≡ fired binds.old (view.walking plan.now self.old).ticks offered }
         ensures seen { view.seen self.new ≡ None };
 
     /// Takes the offer at this position: the process goes on with what is left, and the binds are set.
@@ -129,7 +137,8 @@ pub trait Walker: Sized + Drop {
         ensures err { OnErr result (self.new ≡ self.old) }
     {
         let taken = self.take(alloc, plan, k)?;
-        self.advance(plan, taken, binds);
+        let mut binds = binds;
+        self.advance(plan, taken, &mut binds);
         Ok(())
     }
 

@@ -141,9 +141,6 @@ handshake_of-both : (sender : Proc) (sent : Offered) (terms : List Term) (receiv
 handshake_of-both sender sent terms receiver received None = All-nil _
 handshake_of-both sender sent terms receiver received (Some (action.Own own)) = All-nil _
 handshake_of-both sender sent terms receiver received (Some (action.Send other)) = All-nil _
-handshake_of-both sender sent terms receiver received (Some (action.Notify other)) = All-nil _
-handshake_of-both sender sent terms receiver received (Some (action.TakeNote patterns)) = All-nil _
-handshake_of-both sender sent terms receiver received (Some (action.Speak does)) = All-nil _
 handshake_of-both sender sent terms receiver received (Some (action.Receive patterns)) = handshake_if-both sender sent terms receiver received (match_list patterns terms)
 
 handshake_if-apart : (sender : Proc) (sent : Offered) (terms : List Term) (receiver : Proc) (received : Offered) (binds : Option (List Bind)) → Apart Unlike (handshake_if sender sent terms receiver received binds)
@@ -154,9 +151,6 @@ handshake_of-apart : (sender : Proc) (sent : Offered) (terms : List Term) (recei
 handshake_of-apart sender sent terms receiver received None = tt
 handshake_of-apart sender sent terms receiver received (Some (action.Own own)) = tt
 handshake_of-apart sender sent terms receiver received (Some (action.Send other)) = tt
-handshake_of-apart sender sent terms receiver received (Some (action.Notify other)) = tt
-handshake_of-apart sender sent terms receiver received (Some (action.TakeNote patterns)) = tt
-handshake_of-apart sender sent terms receiver received (Some (action.Speak does)) = tt
 handshake_of-apart sender sent terms receiver received (Some (action.Receive patterns)) = handshake_if-apart sender sent terms receiver received (match_list patterns terms)
 
 -- where all of the one list have what none of the other has, each two are unlike
@@ -228,9 +222,6 @@ own_if-from proc offered (Some effect) = All-one (IsFrom proc.number offered.ato
 moves_by-from : (bus : Bus) (proc : Proc) (offered : Offered) (does : Option Action) → All (IsFrom proc.number offered.atom) (moves_by bus proc offered does)
 moves_by-from bus proc offered None = All-nil _
 moves_by-from bus proc offered (Some (action.Own own)) = own_if-from proc offered (effect_of bus proc (action.Own own))
-moves_by-from bus proc offered (Some (action.Notify terms)) = own_if-from proc offered (effect_of bus proc (action.Notify terms))
-moves_by-from bus proc offered (Some (action.TakeNote patterns)) = own_if-from proc offered (effect_of bus proc (action.TakeNote patterns))
-moves_by-from bus proc offered (Some (action.Speak does)) = own_if-from proc offered (effect_of bus proc (action.Speak does))
 moves_by-from bus proc offered (Some (action.Send terms)) = handshakes-from bus proc offered terms
 moves_by-from bus proc offered (Some (action.Receive patterns)) = All-nil _
 
@@ -241,9 +232,6 @@ own_if-apart proc offered (Some effect) = Apart-one Unlike (Own proc offered eff
 moves_by-apart : (bus : Bus) (proc : Proc) (offered : Offered) (does : Option Action) → InOrder bus → Apart Unlike (moves_by bus proc offered does)
 moves_by-apart bus proc offered None h = tt
 moves_by-apart bus proc offered (Some (action.Own own)) h = own_if-apart proc offered (effect_of bus proc (action.Own own))
-moves_by-apart bus proc offered (Some (action.Notify terms)) h = own_if-apart proc offered (effect_of bus proc (action.Notify terms))
-moves_by-apart bus proc offered (Some (action.TakeNote patterns)) h = own_if-apart proc offered (effect_of bus proc (action.TakeNote patterns))
-moves_by-apart bus proc offered (Some (action.Speak does)) h = own_if-apart proc offered (effect_of bus proc (action.Speak does))
 moves_by-apart bus proc offered (Some (action.Send terms)) h = handshakes-apart bus proc offered terms h
 moves_by-apart bus proc offered (Some (action.Receive patterns)) h = tt
 

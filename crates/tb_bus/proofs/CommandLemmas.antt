@@ -217,32 +217,32 @@ unless-keeps : (origin : Origin) (bus : Bus) (b : Bool) (effect : Effect) → Ke
 unless-keeps origin bus true effect h = tt
 unless-keeps origin bus false effect h = h
 
-own-keeps : (origin : Origin) (bus : Bus) (proc : Proc) (does : OwnAction) → IfKeeps origin bus (own_effect bus proc does)
-own-keeps origin bus proc own.Tau = λ number h. h
-own-keeps origin bus proc (own.Set values binds) = λ number h. h
-own-keeps origin bus proc (own.Print text) = λ number h. h
-own-keeps origin bus proc (own.NoNote patterns) =
-    unless-keeps origin bus (is_some (oldest_match patterns proc.inbox)) (record { kind = kind.NoNote; shown = []; binds = []; change = Nothing }) (λ number h. h)
-own-keeps origin bus proc (own.Subscribe patterns) = λ number h. h
-own-keeps origin bus proc (own.Unsubscribe patterns) = λ number h. h
-own-keeps origin bus proc (own.Create process actuals slot) =
-    if-keeps origin bus (may_create bus.program.bodies (length bus.procs) bus.next_number proc.body process actuals slot) (creation bus.next_number process actuals slot) (λ number h. h)
-own-keeps origin bus proc (own.Shutdown reason) = λ number h. gone_down-named origin reason bus.bench h
-
 map-keeps : {A : Type 0} (origin : Origin) (bus : Bus) (f : A → Effect) (found : Option A) → ((x : A) → found ≡ Some x → KeepsNamed origin bus (f x)) → IfKeeps origin bus (option_map f found)
 map-keeps origin bus f None each = tt
 map-keeps origin bus f (Some x) each = each x refl
 
-effect-keeps : (origin : Origin) (bus : Bus) (proc : Proc) (does : Action) → bus.program ≡ origin.program → IfKeeps origin bus (effect_of bus proc does)
-effect-keeps origin bus proc (action.Own does) same = own-keeps origin bus proc does
-effect-keeps origin bus proc (action.Send terms) same = tt
-effect-keeps origin bus proc (action.Receive patterns) same = tt
-effect-keeps origin bus proc (action.Notify terms) same =
+own-keeps : (origin : Origin) (bus : Bus) (proc : Proc) (does : OwnAction) → bus.program ≡ origin.program → IfKeeps origin bus (own_effect bus proc does)
+own-keeps origin bus proc own.Tau same = λ number h. h
+own-keeps origin bus proc (own.Set values binds) same = λ number h. h
+own-keeps origin bus proc (own.Print text) same = λ number h. h
+own-keeps origin bus proc (own.Notify terms) same =
     if-keeps origin bus (list_all (λ (other : Proc). takes_note terms other.inbox) bus.procs) (record { kind = kind.SndNote; shown = terms; binds = []; change = PutsNote terms }) (λ number h. h)
-effect-keeps origin bus proc (action.TakeNote patterns) same = map-keeps origin bus (taking proc.inbox) (oldest_match patterns proc.inbox) (λ found e number h. h)
-effect-keeps origin bus proc (action.Speak does) same =
+own-keeps origin bus proc (own.TakeNote patterns) same = map-keeps origin bus (taking proc.inbox) (oldest_match patterns proc.inbox) (λ found e number h. h)
+own-keeps origin bus proc (own.NoNote patterns) same =
+    unless-keeps origin bus (is_some (oldest_match patterns proc.inbox)) (record { kind = kind.NoNote; shown = []; binds = []; change = Nothing }) (λ number h. h)
+own-keeps origin bus proc (own.Subscribe patterns) same = λ number h. h
+own-keeps origin bus proc (own.Unsubscribe patterns) same = λ number h. h
+own-keeps origin bus proc (own.Create process actuals slot) same =
+    if-keeps origin bus (may_create bus.program.bodies (length bus.procs) bus.next_number proc.body process actuals slot) (creation bus.next_number process actuals slot) (λ number h. h)
+own-keeps origin bus proc (own.Speak does) same =
     let setting = setting_of bus proc in
     map-keeps origin bus (speaking setting does) (exchange_for setting does) (λ exchange e number h. bench-named origin setting does exchange (ap (λ (p : Program). p.tools) same) e h)
+own-keeps origin bus proc (own.Shutdown reason) same = λ number h. gone_down-named origin reason bus.bench h
+
+effect-keeps : (origin : Origin) (bus : Bus) (proc : Proc) (does : Action) → bus.program ≡ origin.program → IfKeeps origin bus (effect_of bus proc does)
+effect-keeps origin bus proc (action.Own does) same = own-keeps origin bus proc does same
+effect-keeps origin bus proc (action.Send terms) same = tt
+effect-keeps origin bus proc (action.Receive patterns) same = tt
 
 move-named : (origin : Origin) (bus : Bus) (move : Move) → IsMoveOf bus move → bus.program ≡ origin.program → AreNamed origin bus.bench → AreNamed origin (apply bus move).bench
 move-named origin bus (Own proc offered effect) is same h =

@@ -77,10 +77,19 @@ both : {A : Type 0} (down : Bool) → down ≡ false → down ≡ true → A
 both true e f = absurd cc
 both false e f = absurd cc
 
+map-down : {A : Type 0} (bus : Bus) (f : A → Effect) (found : Option A) → ((x : A) → GoesDownBy bus (f x)) → IfGoesDown bus (option_map f found)
+map-down bus f None each = tt
+map-down bus f (Some x) each = each x
+
 own-down : (bus : Bus) (proc : Proc) (own : OwnAction) → IfGoesDown bus (own_effect bus proc own)
 own-down bus proc own.Tau = λ number up down. both bus.down up down
 own-down bus proc (own.Set values binds) = λ number up down. both bus.down up down
 own-down bus proc (own.Print text) = λ number up down. both bus.down up down
+own-down bus proc (own.Notify terms) =
+    let effect : Effect = record { kind = kind.SndNote; shown = terms; binds = []; change = PutsNote terms } in
+    let goes : GoesDownBy bus effect = λ number up down. both bus.down up down in
+    if-down bus (list_all (λ (other : Proc). takes_note terms other.inbox) bus.procs) (Some effect) goes
+own-down bus proc (own.TakeNote patterns) = map-down bus (taking proc.inbox) (oldest_match patterns proc.inbox) (λ found number up down. both bus.down up down)
 own-down bus proc (own.NoNote patterns) =
     let effect : Effect = record { kind = kind.NoNote; shown = []; binds = []; change = Nothing } in
     let goes : GoesDownBy bus effect = λ number up down. both bus.down up down in
@@ -91,23 +100,14 @@ own-down bus proc (own.Create process actuals slot) =
     let effect : Effect = creation bus.next_number process actuals slot in
     let goes : GoesDownBy bus effect = λ number up down. both bus.down up down in
     if-down bus (may_create bus.program.bodies (length bus.procs) bus.next_number proc.body process actuals slot) (Some effect) goes
+own-down bus proc (own.Speak does) =
+    map-down bus (speaking (setting_of bus proc) does) (exchange_for (setting_of bus proc) does) (λ exchange number up down. both bus.down up down)
 own-down bus proc (own.Shutdown reason) = λ number up down. tt
-
-map-down : {A : Type 0} (bus : Bus) (f : A → Effect) (found : Option A) → ((x : A) → GoesDownBy bus (f x)) → IfGoesDown bus (option_map f found)
-map-down bus f None each = tt
-map-down bus f (Some x) each = each x
 
 effect-down : (bus : Bus) (proc : Proc) (does : Action) → IfGoesDown bus (effect_of bus proc does)
 effect-down bus proc (action.Own own) = own-down bus proc own
 effect-down bus proc (action.Send terms) = tt
 effect-down bus proc (action.Receive patterns) = tt
-effect-down bus proc (action.Notify terms) =
-    let effect : Effect = record { kind = kind.SndNote; shown = terms; binds = []; change = PutsNote terms } in
-    let goes : GoesDownBy bus effect = λ number up down. both bus.down up down in
-    if-down bus (list_all (λ (other : Proc). takes_note terms other.inbox) bus.procs) (Some effect) goes
-effect-down bus proc (action.TakeNote patterns) = map-down bus (taking proc.inbox) (oldest_match patterns proc.inbox) (λ found number up down. both bus.down up down)
-effect-down bus proc (action.Speak does) =
-    map-down bus (speaking (setting_of bus proc) does) (exchange_for (setting_of bus proc) does) (λ exchange number up down. both bus.down up down)
 
 move-down : (bus : Bus) (move : Move) → IsMoveOf bus move → bus.down ≡ false → (apply bus move).down ≡ true → TakesDown (label_of move).kind
 move-down bus (Own proc offered effect) h up down =

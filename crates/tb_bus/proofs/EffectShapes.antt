@@ -134,21 +134,6 @@ values-size [] e h = none-size
 values-size (value ∷ []) e h = one-size value (All-head IsWithinLimits value [] h)
 values-size (value ∷ other ∷ values) e h = absurd (omega arith)
 
-own-in : (bus : Bus) (proc : Proc) (does : OwnAction) → IsOwnInShape does → GivesInShape (own_effect bus proc does)
-own-in bus proc own.Tau h = record { places = λ from. refl; count = refl; terms = no-terms; size = none-size; binds = no-binds; change = tt }
-own-in bus proc (own.Set values binds) h = record { places = λ from. refl; count = count-is values 1 h.0; terms = h.1; size = values-size values h.0 h.1; binds = h.2; change = tt }
-own-in bus proc (own.Print text) h = record { places = λ from. refl; count = refl; terms = All-one IsWithinLimits text h; size = one-size text h; binds = no-binds; change = tt }
-own-in bus proc (own.NoNote patterns) h =
-    if-not-in (is_some (oldest_match patterns proc.inbox)) (record { kind = kind.NoNote; shown = []; binds = []; change = Nothing })
-    (record { places = λ from. refl; count = refl; terms = no-terms; size = none-size; binds = no-binds; change = tt })
-own-in bus proc (own.Subscribe patterns) h = record { places = λ from. refl; count = refl; terms = no-terms; size = none-size; binds = no-binds; change = tt }
-own-in bus proc (own.Unsubscribe patterns) h = record { places = λ from. refl; count = refl; terms = no-terms; size = none-size; binds = no-binds; change = tt }
-own-in bus proc (own.Create process actuals slot) h =
-    let number = number-within bus.next_number in
-    if-in (may_create bus.program.bodies (length bus.procs) bus.next_number proc.body process actuals slot) (creation bus.next_number process actuals slot)
-    (record { places = λ from. refl; count = refl; terms = All-one IsWithinLimits (number_term bus.next_number) number; size = one-size (number_term bus.next_number) number; binds = one-bind slot (number_term bus.next_number) number.levels; change = h })
-own-in bus proc (own.Shutdown reason) h = record { places = λ from. refl; count = refl; terms = All-one IsWithinLimits reason h; size = one-size reason h; binds = no-binds; change = h }
-
 -- a note that was found in a queue
 
 note-by : (patterns : List Pattern) (held : Held) (found : Found) (note : Option (List Term)) → slice_get held.notes found.place ≡ note → option_and_then (match_list patterns) note ≡ Some found.binds → All IsNote held.notes → IsEffectInShape (taking held found)
@@ -260,15 +245,32 @@ speak-in : (setting : Setting) (does : ToolAction) (o : Option Exchange) → exc
 speak-in setting does None e h sent = tt
 speak-in setting does (Some exchange) e h sent = let it = exchange-is setting does exchange e in exchange-in setting does exchange h sent it.is
 
+-- what a process does by itself
+
+own-in : (bus : Bus) (proc : Proc) (does : OwnAction) → IsBusInShape bus → IsProcInShape proc → IsOwnInShape does → GivesInShape (own_effect bus proc does)
+own-in bus proc own.Tau b k h = record { places = λ from. refl; count = refl; terms = no-terms; size = none-size; binds = no-binds; change = tt }
+own-in bus proc (own.Set values binds) b k h = record { places = λ from. refl; count = count-is values 1 h.0; terms = h.1; size = values-size values h.0 h.1; binds = h.2; change = tt }
+own-in bus proc (own.Print text) b k h = record { places = λ from. refl; count = refl; terms = All-one IsWithinLimits text h; size = one-size text h; binds = no-binds; change = tt }
+own-in bus proc (own.Notify terms) b k h =
+    if-in (list_all (λ (other : Proc). takes_note terms other.inbox) bus.procs) (record { kind = kind.SndNote; shown = terms; binds = []; change = PutsNote terms })
+    (record { places = λ from. refl; count = le-leb 1 (length terms) h.0; terms = h.1.each; size = parts-size terms h.1; binds = no-binds; change = h })
+own-in bus proc (own.TakeNote patterns) b k h = take-in patterns proc.inbox (oldest_match patterns proc.inbox) (oldest-first patterns proc.inbox) k.notes
+own-in bus proc (own.NoNote patterns) b k h =
+    if-not-in (is_some (oldest_match patterns proc.inbox)) (record { kind = kind.NoNote; shown = []; binds = []; change = Nothing })
+    (record { places = λ from. refl; count = refl; terms = no-terms; size = none-size; binds = no-binds; change = tt })
+own-in bus proc (own.Subscribe patterns) b k h = record { places = λ from. refl; count = refl; terms = no-terms; size = none-size; binds = no-binds; change = tt }
+own-in bus proc (own.Unsubscribe patterns) b k h = record { places = λ from. refl; count = refl; terms = no-terms; size = none-size; binds = no-binds; change = tt }
+own-in bus proc (own.Create process actuals slot) b k h =
+    let number = number-within bus.next_number in
+    if-in (may_create bus.program.bodies (length bus.procs) bus.next_number proc.body process actuals slot) (creation bus.next_number process actuals slot)
+    (record { places = λ from. refl; count = refl; terms = All-one IsWithinLimits (number_term bus.next_number) number; size = one-size (number_term bus.next_number) number; binds = one-bind slot (number_term bus.next_number) number.levels; change = h })
+own-in bus proc (own.Speak does) b k h = speak-in (setting_of bus proc) does (exchange_for (setting_of bus proc) does) refl b.bench h
+own-in bus proc (own.Shutdown reason) b k h = record { places = λ from. refl; count = refl; terms = All-one IsWithinLimits reason h; size = one-size reason h; binds = no-binds; change = h }
+
 effect-gives : (bus : Bus) (proc : Proc) (does : Action) → IsBusInShape bus → IsProcInShape proc → IsActionInShape does → GivesInShape (effect_of bus proc does)
-effect-gives bus proc (action.Own does) h k is = own-in bus proc does is
+effect-gives bus proc (action.Own does) h k is = own-in bus proc does h k is
 effect-gives bus proc (action.Send terms) h k is = tt
 effect-gives bus proc (action.Receive patterns) h k is = tt
-effect-gives bus proc (action.Notify terms) h k is =
-    if-in (list_all (λ (other : Proc). takes_note terms other.inbox) bus.procs) (record { kind = kind.SndNote; shown = terms; binds = []; change = PutsNote terms })
-    (record { places = λ from. refl; count = le-leb 1 (length terms) is.0; terms = is.1.each; size = parts-size terms is.1; binds = no-binds; change = is })
-effect-gives bus proc (action.TakeNote patterns) h k is = take-in patterns proc.inbox (oldest_match patterns proc.inbox) (oldest-first patterns proc.inbox) k.notes
-effect-gives bus proc (action.Speak does) h k is = speak-in (setting_of bus proc) does (exchange_for (setting_of bus proc) does) refl h.bench is
 
 -- So what an action comes to is in shape, on a bus that is.
 pub effect-in-shape : (bus : Bus) (proc : Proc) (does : Action) (effect : Effect) → IsBusInShape bus → IsProcInShape proc → IsActionInShape does → effect_of bus proc does ≡ Some effect → IsEffectInShape effect

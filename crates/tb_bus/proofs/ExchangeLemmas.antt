@@ -40,6 +40,7 @@ use Rattle.tb_bus.specs.Actions.{speak_about}
 use Rattle.tb_bus.specs.Exchanges.{Setting, command_of, kind_name, kind_command, term_on, plain_on, bound_on, binding_on, starting, taking_tool, first_of, first_of_kind, lane_if, lane_of, value_on, event_on, received_on, behind, exchange_for}
 use Rattle.tb_bus.specs.declared.action.Action.{Action}
 use Rattle.tb_bus.specs.declared.action.Action.TheVariants as action
+use Rattle.tb_bus.specs.declared.action.OwnAction.TheVariants as own
 use Rattle.tb_bus.specs.declared.action.ToolAction.{ToolAction}
 use Rattle.tb_bus.specs.declared.action.ToolAction.TheVariants.{Execute, Connect, DisconnectAny, Disconnect, Eval, TakeValue, Do, TakeEvent, Acknowledge, Terminate}
 use Rattle.tb_bus.specs.declared.exchange.Exchange.{Exchange}
@@ -353,7 +354,7 @@ patterns-take store exprs patterns e terms binds h = binds-taken store exprs ter
 
 -- what holds of each action about patterns and terms that are there, holds of one that is
 pub about-some : (P : Action → Type 0) (does : List Term → List Pattern → ToolAction) (patterns : Option (List Pattern)) (terms : Option (List Term)) →
-    ((ts : List Term) (ps : List Pattern) → terms ≡ Some ts → patterns ≡ Some ps → P (action.Speak (does ts ps))) → IfSome (option_and_then (speak_about does patterns) terms) P
+    ((ts : List Term) (ps : List Pattern) → terms ≡ Some ts → patterns ≡ Some ps → P (action.Own (own.Speak (does ts ps)))) → IfSome (option_and_then (speak_about does patterns) terms) P
 about-some P does patterns None h = tt
 about-some P does None (Some ts) h = tt
 about-some P does (Some ps) (Some ts) h = h ts ps refl refl

@@ -54,17 +54,6 @@ unless-own : (b : Bool) (effect : Option Effect) → IsOwnEffect effect → IsOw
 unless-own true effect h = tt
 unless-own false effect h = h
 
-own_effect-own : (bus : Bus) (proc : Proc) (own : OwnAction) → IsOwnEffect (own_effect bus proc own)
-own_effect-own bus proc own.Tau = tt
-own_effect-own bus proc (own.Set values binds) = tt
-own_effect-own bus proc (own.Print text) = tt
-own_effect-own bus proc (own.NoNote patterns) = unless-own (is_some (oldest_match patterns proc.inbox)) _ tt
-own_effect-own bus proc (own.Subscribe patterns) = tt
-own_effect-own bus proc (own.Unsubscribe patterns) = tt
-own_effect-own bus proc (own.Create process actuals slot) =
-    if-own (may_create bus.program.bodies (length bus.procs) bus.next_number proc.body process actuals slot) _ tt
-own_effect-own bus proc (own.Shutdown reason) = tt
-
 taken-own : (inbox : Held) (found : Option Found) → IsOwnEffect (option_map (taking inbox) found)
 taken-own inbox None = tt
 taken-own inbox (Some found) = tt
@@ -85,11 +74,22 @@ spoken-own : (setting : Setting) (does : ToolAction) (found : Option Exchange) �
 spoken-own setting does None = tt
 spoken-own setting does (Some exchange) = tool-own does
 
+own_effect-own : (bus : Bus) (proc : Proc) (own : OwnAction) → IsOwnEffect (own_effect bus proc own)
+own_effect-own bus proc own.Tau = tt
+own_effect-own bus proc (own.Set values binds) = tt
+own_effect-own bus proc (own.Print text) = tt
+own_effect-own bus proc (own.Notify terms) = if-own (list_all (λ (other : Proc). takes_note terms other.inbox) bus.procs) _ tt
+own_effect-own bus proc (own.TakeNote patterns) = taken-own proc.inbox (oldest_match patterns proc.inbox)
+own_effect-own bus proc (own.NoNote patterns) = unless-own (is_some (oldest_match patterns proc.inbox)) _ tt
+own_effect-own bus proc (own.Subscribe patterns) = tt
+own_effect-own bus proc (own.Unsubscribe patterns) = tt
+own_effect-own bus proc (own.Create process actuals slot) =
+    if-own (may_create bus.program.bodies (length bus.procs) bus.next_number proc.body process actuals slot) _ tt
+own_effect-own bus proc (own.Speak does) = spoken-own (setting_of bus proc) does (exchange_for (setting_of bus proc) does)
+own_effect-own bus proc (own.Shutdown reason) = tt
+
 -- each effect is of such a kind
 pub effect-own : (bus : Bus) (proc : Proc) (does : Action) → IsOwnEffect (effect_of bus proc does)
 effect-own bus proc (action.Own own) = own_effect-own bus proc own
 effect-own bus proc (action.Send terms) = tt
 effect-own bus proc (action.Receive patterns) = tt
-effect-own bus proc (action.Notify terms) = if-own (list_all (λ (other : Proc). takes_note terms other.inbox) bus.procs) _ tt
-effect-own bus proc (action.TakeNote patterns) = taken-own proc.inbox (oldest_match patterns proc.inbox)
-effect-own bus proc (action.Speak does) = spoken-own (setting_of bus proc) does (exchange_for (setting_of bus proc) does)

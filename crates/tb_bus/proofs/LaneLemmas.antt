@@ -75,10 +75,19 @@ unless-keeps : (bus : Bus) (b : Bool) (effect : Option Effect) → IfKeeps bus e
 unless-keeps bus true effect h = tt
 unless-keeps bus false effect h = h
 
+map-keeps : {A : Type 0} (bus : Bus) (f : A → Effect) (found : Option A) → ((x : A) → KeepsLanes bus (f x)) → IfKeeps bus (option_map f found)
+map-keeps bus f None each = tt
+map-keeps bus f (Some x) each = each x
+
 own-keeps : (bus : Bus) (proc : Proc) (own : OwnAction) → IfKeeps bus (own_effect bus proc own)
 own-keeps bus proc own.Tau = λ number. refl
 own-keeps bus proc (own.Set values binds) = λ number. refl
 own-keeps bus proc (own.Print text) = λ number. refl
+own-keeps bus proc (own.Notify terms) =
+    let effect : Effect = record { kind = kind.SndNote; shown = terms; binds = []; change = PutsNote terms } in
+    let keeps : KeepsLanes bus effect = λ number. refl in
+    if-keeps bus (list_all (λ (other : Proc). takes_note terms other.inbox) bus.procs) (Some effect) keeps
+own-keeps bus proc (own.TakeNote patterns) = map-keeps bus (taking proc.inbox) (oldest_match patterns proc.inbox) (λ found number. refl)
 own-keeps bus proc (own.NoNote patterns) =
     let effect : Effect = record { kind = kind.NoNote; shown = []; binds = []; change = Nothing } in
     let keeps : KeepsLanes bus effect = λ number. refl in
@@ -89,23 +98,14 @@ own-keeps bus proc (own.Create process actuals slot) =
     let effect : Effect = creation bus.next_number process actuals slot in
     let keeps : KeepsLanes bus effect = λ number. refl in
     if-keeps bus (may_create bus.program.bodies (length bus.procs) bus.next_number proc.body process actuals slot) (Some effect) keeps
+own-keeps bus proc (own.Speak does) =
+    map-keeps bus (speaking (setting_of bus proc) does) (exchange_for (setting_of bus proc) does) (λ exchange number. bench-lanes (setting_of bus proc) does exchange)
 own-keeps bus proc (own.Shutdown reason) = λ number. search length-map
-
-map-keeps : {A : Type 0} (bus : Bus) (f : A → Effect) (found : Option A) → ((x : A) → KeepsLanes bus (f x)) → IfKeeps bus (option_map f found)
-map-keeps bus f None each = tt
-map-keeps bus f (Some x) each = each x
 
 effect-keeps : (bus : Bus) (proc : Proc) (does : Action) → IfKeeps bus (effect_of bus proc does)
 effect-keeps bus proc (action.Own own) = own-keeps bus proc own
 effect-keeps bus proc (action.Send terms) = tt
 effect-keeps bus proc (action.Receive patterns) = tt
-effect-keeps bus proc (action.Notify terms) =
-    let effect : Effect = record { kind = kind.SndNote; shown = terms; binds = []; change = PutsNote terms } in
-    let keeps : KeepsLanes bus effect = λ number. refl in
-    if-keeps bus (list_all (λ (other : Proc). takes_note terms other.inbox) bus.procs) (Some effect) keeps
-effect-keeps bus proc (action.TakeNote patterns) = map-keeps bus (taking proc.inbox) (oldest_match patterns proc.inbox) (λ found number. refl)
-effect-keeps bus proc (action.Speak does) =
-    map-keeps bus (speaking (setting_of bus proc) does) (exchange_for (setting_of bus proc) does) (λ exchange number. bench-lanes (setting_of bus proc) does exchange)
 
 move-keeps : (bus : Bus) (move : Move) → IsMoveOf bus move → length (apply bus move).bench.lanes ≡ length bus.bench.lanes
 move-keeps bus (Own proc offered effect) h =

@@ -64,9 +64,6 @@ handshake_of-moves : (bus : Bus) (sender : Proc) (sent : Offered) (terms : List 
 handshake_of-moves bus sender sent terms receiver received None h g e = All-nil (IsMoveOf bus)
 handshake_of-moves bus sender sent terms receiver received (Some (action.Own own)) h g e = All-nil (IsMoveOf bus)
 handshake_of-moves bus sender sent terms receiver received (Some (action.Send other)) h g e = All-nil (IsMoveOf bus)
-handshake_of-moves bus sender sent terms receiver received (Some (action.Notify other)) h g e = All-nil (IsMoveOf bus)
-handshake_of-moves bus sender sent terms receiver received (Some (action.TakeNote patterns)) h g e = All-nil (IsMoveOf bus)
-handshake_of-moves bus sender sent terms receiver received (Some (action.Speak does)) h g e = All-nil (IsMoveOf bus)
 handshake_of-moves bus sender sent terms receiver received (Some (action.Receive patterns)) h g e =
     handshake_if-moves bus sender sent terms receiver received patterns (match_list patterns terms) h (g, e) refl
 
@@ -98,9 +95,6 @@ own_if-moves bus proc offered does (Some effect) h e = All-one (IsMoveOf bus) (O
 moves_by-moves : (bus : Bus) (proc : Proc) (offered : Offered) (does : Option Action) → IsOffered bus proc offered → action_by bus proc offered ≡ does → All (IsMoveOf bus) (moves_by bus proc offered does)
 moves_by-moves bus proc offered None h e = All-nil (IsMoveOf bus)
 moves_by-moves bus proc offered (Some (action.Own own)) h e = own_if-moves bus proc offered (action.Own own) (effect_of bus proc (action.Own own)) (h, e) refl
-moves_by-moves bus proc offered (Some (action.Notify terms)) h e = own_if-moves bus proc offered (action.Notify terms) (effect_of bus proc (action.Notify terms)) (h, e) refl
-moves_by-moves bus proc offered (Some (action.TakeNote patterns)) h e = own_if-moves bus proc offered (action.TakeNote patterns) (effect_of bus proc (action.TakeNote patterns)) (h, e) refl
-moves_by-moves bus proc offered (Some (action.Speak does)) h e = own_if-moves bus proc offered (action.Speak does) (effect_of bus proc (action.Speak does)) (h, e) refl
 moves_by-moves bus proc offered (Some (action.Send terms)) h e = handshakes-moves bus proc offered terms (h, e)
 moves_by-moves bus proc offered (Some (action.Receive patterns)) h e = All-nil (IsMoveOf bus)
 
@@ -176,9 +170,6 @@ abbrev patterns_in : Action → List Pattern
 patterns_in (action.Own own) = []
 patterns_in (action.Send terms) = []
 patterns_in (action.Receive patterns) = patterns
-patterns_in (action.Notify terms) = []
-patterns_in (action.TakeNote patterns) = []
-patterns_in (action.Speak does) = []
 
 one-match : (patterns others : List Pattern) (terms more : List Term) (binds last : List Bind) → patterns ≡ others → terms ≡ more → match_list patterns terms ≡ Some binds → match_list others more ≡ Some last → binds ≡ last
 one-match patterns others terms more binds last p t e f =

@@ -31,7 +31,7 @@ use Rattle.tb_algebra.specs.Binds.{takes_bind}
 use Rattle.tb_algebra.specs.Offers.{Offered}
 use Rattle.tb_log.specs.Limits.{terms_size}
 use Rattle.tb_log.specs.Shapes.{AreParts}
-use Rattle.tb_bus.specs.Actions.{set_action, print_action, no_note_action, subscribe_action, unsubscribe_action, create_action, speak_by, speak_about, shutdown_action, action_in, action_if, action_of}
+use Rattle.tb_bus.specs.Actions.{set_action, print_action, notify_action, take_note_action, no_note_action, subscribe_action, unsubscribe_action, create_action, speak_by, speak_about, shutdown_action, action_in, action_if, action_of}
 use Rattle.tb_bus.specs.Buses.{atoms_of, atoms_in}
 use Rattle.tb_bus.specs.Waiting.{IsShallow, IsShallowStore, IsNote}
 use Rattle.tb_bus.specs.declared.action.Action.{Action}
@@ -90,16 +90,6 @@ values-sent store exprs h = together-sent (length exprs) (all_of (map (value_of 
 
 -- actions
 
-abbrev pub IsOwnInShape : OwnAction → Type 0
-IsOwnInShape own.Tau = ⊤
-IsOwnInShape (own.Set values binds) = (length values ≡ 1) × All IsWithinLimits values × All (λ (bind : Bind). IsShallow bind.value) binds
-IsOwnInShape (own.Print text) = IsWithinLimits text
-IsOwnInShape (own.NoNote patterns) = ⊤
-IsOwnInShape (own.Subscribe patterns) = ⊤
-IsOwnInShape (own.Unsubscribe patterns) = ⊤
-IsOwnInShape (own.Create process actuals slot) = All IsShallow actuals
-IsOwnInShape (own.Shutdown reason) = IsWithinLimits reason
-
 -- the tool's own term, and the terms behind it
 abbrev pub IsSpeakInShape : ToolAction → Type 0
 IsSpeakInShape (tool_action.Execute tool slot) = ⊤
@@ -113,13 +103,23 @@ IsSpeakInShape (tool_action.TakeEvent terms patterns) = AreSent 1 terms
 IsSpeakInShape (tool_action.Acknowledge terms) = (2 ≤ length terms) × AreParts terms
 IsSpeakInShape (tool_action.Terminate terms) = AreSent 2 terms
 
+abbrev pub IsOwnInShape : OwnAction → Type 0
+IsOwnInShape own.Tau = ⊤
+IsOwnInShape (own.Set values binds) = (length values ≡ 1) × All IsWithinLimits values × All (λ (bind : Bind). IsShallow bind.value) binds
+IsOwnInShape (own.Print text) = IsWithinLimits text
+IsOwnInShape (own.Notify terms) = IsNote terms
+IsOwnInShape (own.TakeNote patterns) = ⊤
+IsOwnInShape (own.NoNote patterns) = ⊤
+IsOwnInShape (own.Subscribe patterns) = ⊤
+IsOwnInShape (own.Unsubscribe patterns) = ⊤
+IsOwnInShape (own.Create process actuals slot) = All IsShallow actuals
+IsOwnInShape (own.Speak does) = IsSpeakInShape does
+IsOwnInShape (own.Shutdown reason) = IsWithinLimits reason
+
 abbrev pub IsActionInShape : Action → Type 0
 IsActionInShape (action.Own own) = IsOwnInShape own
 IsActionInShape (action.Send terms) = IsNote terms
 IsActionInShape (action.Receive patterns) = ⊤
-IsActionInShape (action.Notify terms) = IsNote terms
-IsActionInShape (action.TakeNote patterns) = ⊤
-IsActionInShape (action.Speak does) = IsSpeakInShape does
 
 abbrev GivesInShape : Option Action → Type 0
 GivesInShape found = IfSome found IsActionInShape
@@ -194,8 +194,8 @@ action_in-in slots store Delta h r = tt
 action_in-in slots store Tau h r = tt
 action_in-in slots store (SndMsg exprs) h r = sent-in store exprs action.Send h (λ terms sent. note-in (is_value slots) exprs terms r sent)
 action_in-in slots store (RecMsg exprs) h r = any-in action.Receive (patterns_of store exprs) (λ x. tt)
-action_in-in slots store (SndNote exprs) h r = sent-in store exprs action.Notify h (λ terms sent. note-in (is_value slots) exprs terms r sent)
-action_in-in slots store (RecNote exprs) h r = any-in action.TakeNote (patterns_of store exprs) (λ x. tt)
+action_in-in slots store (SndNote exprs) h r = sent-in store exprs notify_action h (λ terms sent. note-in (is_value slots) exprs terms r sent)
+action_in-in slots store (RecNote exprs) h r = any-in take_note_action (patterns_of store exprs) (λ x. tt)
 action_in-in slots store (NoNote exprs) h r = any-in no_note_action (patterns_of store exprs) (λ x. tt)
 action_in-in slots store (Subscribe exprs) h r = any-in subscribe_action (patterns_of store exprs) (λ x. tt)
 action_in-in slots store (Unsubscribe exprs) h r = any-in unsubscribe_action (patterns_of store exprs) (λ x. tt)

@@ -29,6 +29,12 @@ set_action store slot (value ∷ other ∷ values) = None
 abbrev pub print_action : Term → Action
 print_action text = action.Own (own.Print text)
 
+abbrev pub notify_action : List Term → Action
+notify_action terms = action.Own (own.Notify terms)
+
+abbrev pub take_note_action : List Pattern → Action
+take_note_action patterns = action.Own (own.TakeNote patterns)
+
 abbrev pub no_note_action : List Pattern → Action
 no_note_action patterns = action.Own (own.NoNote patterns)
 
@@ -43,11 +49,11 @@ create_action process slot actuals = action.Own (own.Create process actuals slot
 
 -- it speaks with the tool that is the first of these values
 abbrev pub speak_by : (List Term → ToolAction) → List Term → Action
-speak_by does terms = action.Speak (does terms)
+speak_by does terms = action.Own (own.Speak (does terms))
 
 -- it speaks with the tool that is the first of these values, about what matches these patterns
 abbrev pub speak_about : (List Term → List Pattern → ToolAction) → Option (List Pattern) → List Term → Option Action
-speak_about does patterns terms = option_map (λ those. action.Speak (does terms those)) patterns
+speak_about does patterns terms = option_map (λ those. action.Own (own.Speak (does terms those))) patterns
 
 abbrev pub shutdown_action : List Term → Option Action
 shutdown_action [] = None
@@ -69,9 +75,9 @@ action_in store (SndMsg exprs) = option_map action.Send (values_together store e
 -- it happens with a process that sends what matches these patterns
 action_in store (RecMsg exprs) = option_map action.Receive (patterns_of store exprs)
 -- these values go to all processes that want them
-action_in store (SndNote exprs) = option_map action.Notify (values_together store exprs)
+action_in store (SndNote exprs) = option_map notify_action (values_together store exprs)
 -- it takes a note that matches these patterns
-action_in store (RecNote exprs) = option_map action.TakeNote (patterns_of store exprs)
+action_in store (RecNote exprs) = option_map take_note_action (patterns_of store exprs)
 -- it happens where no note matches them
 action_in store (NoNote exprs) = option_map no_note_action (patterns_of store exprs)
 -- from now on the process wants what matches them,
@@ -81,9 +87,9 @@ action_in store (Unsubscribe exprs) = option_map unsubscribe_action (patterns_of
 -- a process begins with these values, and the slot takes its number
 action_in store (Create process actuals slot) = option_map (create_action process slot) (values_together store actuals)
 -- a tool of a kind is started, has connected, or leaves, and the slot takes it
-action_in store (Execute tool slot) = Some (action.Speak (tool_action.Execute tool slot))
-action_in store (RecConnect tool slot) = Some (action.Speak (tool_action.Connect tool slot))
-action_in store (RecDisconnectAny tool slot) = Some (action.Speak (tool_action.DisconnectAny tool slot))
+action_in store (Execute tool slot) = Some (action.Own (own.Speak (tool_action.Execute tool slot)))
+action_in store (RecConnect tool slot) = Some (action.Own (own.Speak (tool_action.Connect tool slot)))
+action_in store (RecDisconnectAny tool slot) = Some (action.Own (own.Speak (tool_action.DisconnectAny tool slot)))
 -- this tool leaves
 action_in store (RecDisconnect tool) = option_map (speak_by tool_action.Disconnect) (values_together store (tool ∷ []))
 -- the tool is asked to evaluate the value, and its answer is taken where it matches

@@ -16,9 +16,9 @@ use Rattle.tb_bus.specs.Buses.{Bus, Proc, created}
 use Rattle.tb_bus.specs.Slots.{fits_formals, fits_slot}
 use Rattle.tb_bus.specs.Exchanges.{Setting, setting_by, exchange_for, kind_of, terms_seen, bench_after}
 use Rattle.tb_bus.specs.declared.action.Action.{Action}
-use Rattle.tb_bus.specs.declared.action.Action.TheVariants.{Own, Send, Receive, Notify, TakeNote, Speak}
+use Rattle.tb_bus.specs.declared.action.Action.TheVariants.{Own, Send, Receive}
 use Rattle.tb_bus.specs.declared.action.OwnAction.{OwnAction}
-use Rattle.tb_bus.specs.declared.action.OwnAction.TheVariants.{Tau, Set, Print, NoNote, Subscribe, Unsubscribe, Create, Shutdown}
+use Rattle.tb_bus.specs.declared.action.OwnAction.TheVariants.{Tau, Set, Print, Notify, TakeNote, NoNote, Subscribe, Unsubscribe, Create, Speak, Shutdown}
 use Rattle.tb_bus.specs.declared.action.ToolAction.{ToolAction}
 use Rattle.tb_bus.specs.declared.exchange.Exchange.{Exchange}
 
@@ -78,23 +78,6 @@ creation number process actuals slot = record {
 abbrev pub taking : Held → Found → Effect
 taking held found = record { kind = kind.RecNote; shown = note_at held found.place; binds = found.binds; change = TakesNote found.place }
 
--- What an action of a process by itself comes to: one line an atom.
-abbrev pub own_effect : Bus → Proc → OwnAction → Option Effect
-own_effect bus proc Tau = Some (record { kind = kind.Tau; shown = []; binds = []; change = Nothing })
-own_effect bus proc (Set values binds) = Some (record { kind = kind.Set; shown = values; binds = binds; change = Nothing })
-own_effect bus proc (Print text) = Some (record { kind = kind.Printf; shown = text ∷ []; binds = []; change = Nothing })
--- no note in the own queue matches
-own_effect bus proc (NoNote patterns) =
-    if is_some (oldest_match patterns proc.inbox) then None else Some (record { kind = kind.NoNote; shown = []; binds = []; change = Nothing })
-own_effect bus proc (Subscribe patterns) = Some (record { kind = kind.Subscribe; shown = []; binds = []; change = Subscribes patterns })
-own_effect bus proc (Unsubscribe patterns) = Some (record { kind = kind.Unsubscribe; shown = []; binds = []; change = Unsubscribes patterns })
--- the new process has the next number
-own_effect bus proc (Create process actuals slot) =
-    if may_create bus.program.bodies (length bus.procs) bus.next_number proc.body process actuals slot
-    then Some (creation bus.next_number process actuals slot) else None
--- the bus goes down
-own_effect bus proc (Shutdown reason) = Some (record { kind = kind.Shutdown; shown = reason ∷ []; binds = []; change = GoesDown reason })
-
 -- where a process speaks with tools
 abbrev pub setting_of : Bus → Proc → Setting
 setting_of bus proc = setting_by bus.program.bodies bus.program.tools bus.bench proc.body
@@ -107,19 +90,36 @@ speaking setting does exchange = record {
   change = SetsBench (bench_after setting does exchange);
 }
 
+-- What an action of a process by itself comes to, where it may happen: one line an atom, and one for those that speak with a tool.
+abbrev pub own_effect : Bus → Proc → OwnAction → Option Effect
+own_effect bus proc Tau = Some (record { kind = kind.Tau; shown = []; binds = []; change = Nothing })
+own_effect bus proc (Set values binds) = Some (record { kind = kind.Set; shown = values; binds = binds; change = Nothing })
+own_effect bus proc (Print text) = Some (record { kind = kind.Printf; shown = text ∷ []; binds = []; change = Nothing })
+-- every queue that wants the note has room
+own_effect bus proc (Notify terms) =
+    if list_all (λ (other : Proc). takes_note terms other.inbox) bus.procs
+    then Some (record { kind = kind.SndNote; shown = terms; binds = []; change = PutsNote terms }) else None
+-- the oldest note in the own queue that matches is taken
+own_effect bus proc (TakeNote patterns) = option_map (taking proc.inbox) (oldest_match patterns proc.inbox)
+-- no note in the own queue matches
+own_effect bus proc (NoNote patterns) =
+    if is_some (oldest_match patterns proc.inbox) then None else Some (record { kind = kind.NoNote; shown = []; binds = []; change = Nothing })
+own_effect bus proc (Subscribe patterns) = Some (record { kind = kind.Subscribe; shown = []; binds = []; change = Subscribes patterns })
+own_effect bus proc (Unsubscribe patterns) = Some (record { kind = kind.Unsubscribe; shown = []; binds = []; change = Unsubscribes patterns })
+-- the new process has the next number
+own_effect bus proc (Create process actuals slot) =
+    if may_create bus.program.bodies (length bus.procs) bus.next_number proc.body process actuals slot
+    then Some (creation bus.next_number process actuals slot) else None
+-- it speaks with a tool, where it may
+own_effect bus proc (Speak does) = option_map (speaking (setting_of bus proc) does) (exchange_for (setting_of bus proc) does)
+-- the bus goes down
+own_effect bus proc (Shutdown reason) = Some (record { kind = kind.Shutdown; shown = reason ∷ []; binds = []; change = GoesDown reason })
+
 -- The effect of an action: none where it can't happen, or needs another process.
 abbrev pub effect_of : Bus → Proc → Action → Option Effect
 effect_of bus proc (Own own) = own_effect bus proc own
 effect_of bus proc (Send terms) = None
 effect_of bus proc (Receive patterns) = None
--- every queue that wants the note has room
-effect_of bus proc (Notify terms) =
-    if list_all (λ (other : Proc). takes_note terms other.inbox) bus.procs
-    then Some (record { kind = kind.SndNote; shown = terms; binds = []; change = PutsNote terms }) else None
--- the oldest note in the own queue that matches is taken
-effect_of bus proc (TakeNote patterns) = option_map (taking proc.inbox) (oldest_match patterns proc.inbox)
--- it speaks with a tool, where it may
-effect_of bus proc (Speak does) = option_map (speaking (setting_of bus proc) does) (exchange_for (setting_of bus proc) does)
 
 -- a copy of the note for a process that wants it
 abbrev pub given : List Term → Proc → Proc

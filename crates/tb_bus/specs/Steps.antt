@@ -49,9 +49,6 @@ abbrev pub handshake_of : Proc → Offered → List Term → Proc → Offered �
 handshake_of sender sent terms receiver received None = []
 handshake_of sender sent terms receiver received (Some (action.Own own)) = []
 handshake_of sender sent terms receiver received (Some (action.Send other)) = []
-handshake_of sender sent terms receiver received (Some (action.Notify other)) = []
-handshake_of sender sent terms receiver received (Some (action.TakeNote patterns)) = []
-handshake_of sender sent terms receiver received (Some (action.Speak does)) = []
 handshake_of sender sent terms receiver received (Some (action.Receive patterns)) = handshake_if sender sent terms receiver received (match_list patterns terms)
 
 -- with one other process: its offers in order
@@ -71,9 +68,6 @@ own_if proc offered (Some effect) = Own proc offered effect ∷ []
 abbrev pub moves_by : Bus → Proc → Offered → Option Action → List Move
 moves_by bus proc offered None = []
 moves_by bus proc offered (Some (action.Own own)) = own_if proc offered (effect_of bus proc (action.Own own))
-moves_by bus proc offered (Some (action.Notify terms)) = own_if proc offered (effect_of bus proc (action.Notify terms))
-moves_by bus proc offered (Some (action.TakeNote patterns)) = own_if proc offered (effect_of bus proc (action.TakeNote patterns))
-moves_by bus proc offered (Some (action.Speak does)) = own_if proc offered (effect_of bus proc (action.Speak does))
 moves_by bus proc offered (Some (action.Send terms)) = handshakes bus proc offered terms
 -- it is for the sender to begin
 moves_by bus proc offered (Some (action.Receive patterns)) = []

@@ -10,12 +10,6 @@ pub enum Action {
     Send(Terms),
     /// It receives terms that match, where another process sends them.
     Receive(Patterns),
-    /// These terms are a note for each process that wants it.
-    Notify(Terms),
-    /// It takes the oldest own note that matches.
-    TakeNote(Patterns),
-    /// It speaks with a tool.
-    Speak(ToolAction),
 }
 
 /// How a process speaks with a tool. Kinds of tools go by their indices among definitions, from 0, and so do slots. Where
@@ -44,7 +38,7 @@ pub enum ToolAction {
     Terminate(Terms),
 }
 
-/// What a process does by itself: one kind for each such atom.
+/// What a process does by itself: one kind for each such atom, and one for those that speak with a tool.
 #[derive(Drop)]
 pub enum OwnAction {
     Tau,
@@ -52,6 +46,10 @@ pub enum OwnAction {
     Set(Terms, Binds),
     /// The text that is printed.
     Print(Term),
+    /// These terms are a note for each process that wants it.
+    Notify(Terms),
+    /// It takes the oldest own note that matches.
+    TakeNote(Patterns),
     /// It happens only where no own note matches.
     NoNote(Patterns),
     /// From now on the process wants what matches.
@@ -60,6 +58,8 @@ pub enum OwnAction {
     Unsubscribe(Patterns),
     /// A process of this body begins with these actuals, and the slot takes its number.
     Create(u32, Terms, u32),
+    /// It speaks with a tool.
+    Speak(ToolAction),
     /// The bus goes down for this reason.
     Shutdown(Term),
 }

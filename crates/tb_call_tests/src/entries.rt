@@ -72,10 +72,10 @@ fn a_log_has_room_up_to_its_limit(rt: HostRuntime) -> Result<(), Fail> {
     assert!(rt; log.spare() >= 1);
     let entry = Entry::Fed(Input::Tick, Reply::Took);
     assert!(rt; log.room_for(&entry));
-    log.push(entry);
-    show_proper_log(log.entries());
+    log.push_fed(Input::Tick, Reply::Took, 0);
+    show_proper_log(&log);
     show_proper_entry(&Entry::Quiet);
-    assert_eq!(rt; log.entries().len(), 1);
+    assert_eq!(rt; log.len(), 1);
     assert!(rt; !log.room_for(&Entry::Quiet));
     Ok(())
 }

@@ -5,7 +5,7 @@ use std::alloc::Global;
 use std::test::Fail;
 use tb_algebra::Walker;
 use tb_core::Core;
-use tb_log::write_entry;
+use tb_log::write_seen;
 use tb_script::load;
 use tb_terms::{Items, NoMemory, Text};
 
@@ -32,8 +32,9 @@ pub(crate) fn started<W: Walker>(
 /// The text of a core's log.
 pub(crate) fn log_text<W: Walker>(alloc: Global, core: &Core<W>) -> Result<Vec<u8>, NoMemory> {
     let mut text = Vec::new(alloc);
-    for (position, entry) in core.log().iter().enumerate() {
-        write_entry(position as u64 + 1, entry, &mut text)?;
+    let log = core.log();
+    for at in 0..log.len() {
+        write_seen(at as u64 + 1, &log.at(at), &mut text)?;
     }
     Ok(text)
 }

@@ -70,9 +70,9 @@ fn action(alloc: Global, wish: Wish) -> Result<Action, NoMemory>
             }
             Ok(Action::Own(OwnAction::Create(body, terms, slot)))
         }
-        Wish::Executes(kind, slot) => Ok(Action::Speak(ToolAction::Execute(kind, slot))),
-        Wish::Connects(kind, slot) => Ok(Action::Speak(ToolAction::Connect(kind, slot))),
-        Wish::LetsGo(kind, slot) => Ok(Action::Speak(ToolAction::DisconnectAny(kind, slot))),
+        Wish::Executes(kind, slot) => Ok(Action::Own(OwnAction::Speak(ToolAction::Execute(kind, slot)))),
+        Wish::Connects(kind, slot) => Ok(Action::Own(OwnAction::Speak(ToolAction::Connect(kind, slot)))),
+        Wish::LetsGo(kind, slot) => Ok(Action::Own(OwnAction::Speak(ToolAction::DisconnectAny(kind, slot)))),
     }
 }
 
@@ -152,16 +152,16 @@ fn comes_true(alloc: Global, program: &Program, bench: &Bench, wish: Wish) -> Re
         down: false,
     };
     let all = [Boxed::new(alloc, living)?];
-    is_first(first_candidate(alloc, program, bench, &all, marks, &index))
+    let mut room = Items::new(alloc);
+    is_first(first_candidate(
+        alloc, program, bench, &all, marks, &index, &mut room,
+    ))
 }
 
 /// Whether the first process goes on with its first offer.
 fn is_first(found: Result<Option<Candidate>, NoMemory>) -> Result<bool, Fail> {
     let found = found?;
-    Ok(matches!(
-        found,
-        Some(Candidate::Own(0, 0) | Candidate::Speak(0, 0, _))
-    ))
+    Ok(matches!(found, Some(Candidate::Own(0, 0, _))))
 }
 
 #[test]

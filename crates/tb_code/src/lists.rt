@@ -96,43 +96,22 @@ fn list_at(
             add_one(entries, room, entry)
         }
         Op::Seq(right) => {
-            let first = Side {
-                span: span_at(spans, at + 1),
-                next: Behind::Entered(*right),
-            };
+            let first = span_at(spans, at + 1).then(Behind::Entered(*right));
             add_first(alloc, entries, room, first)
         }
         Op::Alt(right) => {
-            let first = Side {
-                span: span_at(spans, at + 1),
-                next: Behind::Ended,
-            };
-            let second = Side {
-                span: span_at(spans, *right),
-                next: Behind::Ended,
-            };
+            let first = span_at(spans, at + 1).then(Behind::Ended);
+            let second = span_at(spans, *right).then(Behind::Ended);
             add_both(alloc, entries, room, first, second)
         }
         Op::Star(right) => {
-            let first = Side {
-                span: span_at(spans, at + 1),
-                next: Behind::Entered(at),
-            };
-            let second = Side {
-                span: span_at(spans, *right),
-                next: Behind::Ended,
-            };
+            let first = span_at(spans, at + 1).then(Behind::Entered(at));
+            let second = span_at(spans, *right).then(Behind::Ended);
             add_both(alloc, entries, room, first, second)
         }
         Op::Par(right) => {
-            let first = Side {
-                span: span_at(spans, at + 1),
-                next: Behind::Parted,
-            };
-            let second = Side {
-                span: span_at(spans, *right),
-                next: Behind::Parted,
-            };
+            let first = span_at(spans, at + 1).then(Behind::Parted);
+            let second = span_at(spans, *right).then(Behind::Parted);
             add_both(alloc, entries, room, first, second)
         }
         Op::If(_, _) => add_one(entries, room, gate(at)),
@@ -205,6 +184,15 @@ fn add_one(entries: &mut Items<Entry>, room: usize, entry: Entry) -> Result<Span
 struct Side {
     span: Span,
     next: Behind,
+}
+
+impl Span {
+    /// The list, and what comes once its part has ended.
+    fn then(self, next: Behind) -> Side
+        ensures { result ≡ record { span = self; next = next } }
+    {
+        Side { span: self, next }
+    }
 }
 
 /// The list of a part behind which something follows.

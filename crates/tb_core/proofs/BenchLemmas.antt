@@ -7,19 +7,15 @@ use Rattle.tb_tools.specs.Lanes.{BenchState}
 use Rattle.tb_bus.specs.Buses.{Bus}
 use Rattle.tb_bus.specs.Effects.{Change, Effect, SetsBench, GoesDown, changed, speaking, went_down}
 use Rattle.tb_bus.specs.Exchanges.{bench_after}
-use Rattle.tb_search.specs.Views.{offer_of, ready_at, IsCandidateIn}
-use Rattle.tb_bus.specs.declared.action.Action.TheVariants as action
 use Rattle.tb_bus.specs.declared.action.ToolAction.{ToolAction}
 use Rattle.tb_bus.specs.declared.exchange.Exchange.{Exchange}
-use Rattle.tb_search.specs.declared.candidate.Candidate.TheVariants as candidate
 use Rattle.tb_search.specs.Candidates.{row_at, rows_of}
 use Rattle.tb_living.specs.Spoken.{around, IsDone}
-use Rattle.tb_living.specs.Lives.{AreFresh}
-use Rattle.tb_core.specs.Helpers.LiveBuses.{IsChanged, IsKept, IsSound, Leaves, StandsAs, bus_of, procs_in, scene_in, settings_in}
+use Rattle.tb_core.specs.Helpers.LiveBuses.{IsChanged, IsKept, IsSound, StandsAs, bus_of, settings_in}
 use Rattle.tb_living.proofs.RestLemmas.{rested-stirred}
 use Rattle.tb_living.specs.declared.done.Done.{Done}
 use Rattle.tb_core.specs.declared.bus.LiveBus.{LiveBus}
-use Rattle.tb_core.proofs.MakeLemmas.{IsActed, acted-speak, kept-same, kept-within, speak-at}
+use Rattle.tb_core.proofs.MakeLemmas.{kept-same}
 
 -- once its lanes have changed
 pub sound-bench : {W P T : Type 0} (view : View P W T) (bus : LiveBus W P T) (bench : BenchState) → IsSound view bus → length bench.lanes ≡ 16 → IsSound view (record bus { bench = bench; stirred = true })
@@ -83,19 +79,14 @@ down-changed view old new at reason effect sound origin plans living stale went 
   named = λ number h. subst (λ numbers. Contains numbers.items number) (sym stale) h;
 }
 
--- a process spoke with a tool, as was found
-module _ {W P T : Type 0} (view : View P W T) (old begun : LiveBus W P T) (at index : ℕ) (taken : T) (does : ToolAction) (exchange : Exchange) (kinds : List ToolKind) (bench : BenchState) where
-  abbrev spoken : Effect
-  spoken = speaking (around begun.origin.program.tools begun.bench) does exchange
+-- who speaks with a tool changes the lanes
+pub spoken-changed : {W P T : Type 0} (view : View P W T) (bus : LiveBus W P T) (at : ℕ) (does : ToolAction) (exchange : Exchange) (kinds : List ToolKind) (bench : BenchState) → IsSound view bus → kinds ≡ bus.origin.program.tools →
+    bench ≡ bench_after (around kinds bus.bench) does exchange → length bench.lanes ≡ 16 → at < length bus.living.items →
+    IsChanged view bus at (speaking (around bus.origin.program.tools bus.bench) does exchange) (record bus { bench = bench; stirred = true })
+spoken-changed view bus at does exchange kinds bench sound tools after long within =
+    let spoken : Effect = speaking (around bus.origin.program.tools bus.bench) does exchange in
+    let set : spoken.change ≡ SetsBench bench = ap SetsBench (sym (after ∙ ap (λ ks. bench_after (around ks bus.bench) does exchange) tools)) in
+    bench-changed view bus at bench spoken sound within long set
 
-  pub acted-exchange : IsSound view old → AreFresh old.living.items → IsCandidateIn (scene_in old) (candidate.Speak at index exchange) → Leaves view old at taken (offer_of (procs_in view old) (rows_of old.living.items) at index) →
-      (ready_at (rows_of old.living.items) at index).action ≡ action.Speak does → StandsAs view old begun → IsKept old.living.items begun.living.items at → Contains begun.stale.items (row_at (rows_of old.living.items) at).number →
-      kinds ≡ begun.origin.program.tools → bench ≡ bench_after (around kinds begun.bench) does exchange → length bench.lanes ≡ 16 → IsActed view old begun (record begun { bench = bench; stirred = true }) at index spoken
-  acted-exchange sound fresh found leaves is same kept named tools after long =
-      let it = speak-at view old begun at index taken does exchange sound fresh found leaves is same in
-      let set : spoken.change ≡ SetsBench bench = ap SetsBench (sym (after ∙ ap (λ ks. bench_after (around ks begun.bench) does exchange) tools)) in
-      acted-speak view old begun (record begun { bench = bench; stirred = true }) at index does exchange it same kept named
-      (bench-changed view begun at bench spoken same.sound (kept-within old.living.items begun.living.items at kept) long set)
-
-  pub done-exchange : (done : Done) → kinds ≡ begun.origin.program.tools → IsDone (speaking (around kinds begun.bench) does exchange) done → IsDone spoken done
-  done-exchange done tools is = subst (λ ks. IsDone (speaking (around ks begun.bench) does exchange) done) tools is
+pub spoken-done : (does : ToolAction) (exchange : Exchange) (kinds tools : List ToolKind) (bench : BenchState) (done : Done) → kinds ≡ tools → IsDone (speaking (around kinds bench) does exchange) done → IsDone (speaking (around tools bench) does exchange) done
+spoken-done does exchange kinds tools bench done e is = subst (λ ks. IsDone (speaking (around ks bench) does exchange) done) e is

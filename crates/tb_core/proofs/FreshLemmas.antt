@@ -26,7 +26,7 @@ use Rattle.tb_algebra.specs.Binds.{takes_bind, takes_binds}
 use Rattle.tb_algebra.specs.Offers.{Offered, offers}
 use Rattle.tb_algebra.specs.Walks.{Walking, offers_of, is_end}
 use Rattle.tb_algebra.specs.WalkerViews.{View}
-use Rattle.tb_bus.specs.Actions.{set_action, print_action, no_note_action, subscribe_action, unsubscribe_action, create_action, speak_by, shutdown_action, action_in, action_if, action_of}
+use Rattle.tb_bus.specs.Actions.{set_action, print_action, notify_action, take_note_action, no_note_action, subscribe_action, unsubscribe_action, create_action, speak_by, shutdown_action, action_in, action_if, action_of}
 use Rattle.tb_search.specs.Candidates.{row_of, rows_of, row_at, ready_one, readies}
 use Rattle.tb_search.specs.Views.{ready_at, offer_at, offer_of, no_ready, no_offer, Receives}
 use Rattle.tb_bus.specs.declared.action.Action.{Action}
@@ -146,10 +146,13 @@ abbrev pub OwnFits : List Slot → OwnAction → Type 0
 OwnFits store own.Tau = ⊤
 OwnFits store (own.Set values binds) = takes_binds store binds ≡ true
 OwnFits store (own.Print text) = ⊤
+OwnFits store (own.Notify terms) = ⊤
+OwnFits store (own.TakeNote patterns) = PatternsTake store patterns
 OwnFits store (own.NoNote patterns) = ⊤
 OwnFits store (own.Subscribe patterns) = are_plain patterns ≡ true
 OwnFits store (own.Unsubscribe patterns) = ⊤
 OwnFits store (own.Create process actuals slot) = ⊤
+OwnFits store (own.Speak does) = SpeakTakes store does
 OwnFits store (own.Shutdown reason) = ⊤
 
 -- what an action binds, the store takes, and what it subscribes to takes no term
@@ -157,9 +160,6 @@ abbrev pub ActionFits : List Slot → Action → Type 0
 ActionFits store (action.Own own) = OwnFits store own
 ActionFits store (action.Send terms) = ⊤
 ActionFits store (action.Receive patterns) = PatternsTake store patterns
-ActionFits store (action.Notify terms) = ⊤
-ActionFits store (action.TakeNote patterns) = PatternsTake store patterns
-ActionFits store (action.Speak does) = SpeakTakes store does
 
 set-by : (store : List Slot) (bind : Bind) (b : Bool) → takes_bind store bind ≡ b → IfSome (if b then Some (action.Own (own.Set (bind.value ∷ []) (bind ∷ []))) else None) (ActionFits store)
 set-by store bind true e = rw e refl
@@ -198,8 +198,8 @@ action_in-fits slots store Delta h = tt
 action_in-fits slots store Tau h = tt
 action_in-fits slots store (SndMsg exprs) h = any-fits store action.Send (values_together store exprs) (λ x. tt)
 action_in-fits slots store (RecMsg exprs) h = matched-fits store action.Receive (patterns_of store exprs) (patterns-take store exprs)
-action_in-fits slots store (SndNote exprs) h = any-fits store action.Notify (values_together store exprs) (λ x. tt)
-action_in-fits slots store (RecNote exprs) h = matched-fits store action.TakeNote (patterns_of store exprs) (patterns-take store exprs)
+action_in-fits slots store (SndNote exprs) h = any-fits store notify_action (values_together store exprs) (λ x. tt)
+action_in-fits slots store (RecNote exprs) h = matched-fits store take_note_action (patterns_of store exprs) (patterns-take store exprs)
 action_in-fits slots store (NoNote exprs) h = any-fits store no_note_action (patterns_of store exprs) (λ x. tt)
 action_in-fits slots store (Subscribe exprs) h = matched-fits store subscribe_action (patterns_of store exprs) (λ ps e. patterns-plain slots store exprs ps h e)
 action_in-fits slots store (Unsubscribe exprs) h = any-fits store unsubscribe_action (patterns_of store exprs) (λ x. tt)
@@ -255,6 +255,3 @@ pub received-takes : (store : List Slot) (found : Action) (terms : List Term) (b
 received-takes store (action.Own own) terms binds fits h = absurd h
 received-takes store (action.Send other) terms binds fits h = absurd h
 received-takes store (action.Receive patterns) terms binds fits h = fits terms binds h
-received-takes store (action.Notify other) terms binds fits h = absurd h
-received-takes store (action.TakeNote patterns) terms binds fits h = absurd h
-received-takes store (action.Speak does) terms binds fits h = absurd h

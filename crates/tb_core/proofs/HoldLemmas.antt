@@ -1,5 +1,5 @@
 -- A bus of which inboxes change: the other parts of each of the living stay, and so does what rests on them.
-use Rattle.std.proofs.Common.{◌≡◌, ℕ, ◌<◌, ◌≤◌, ◌⊎◌, zero, suc, List, [], ◌∷◌, length, map, refl, ap, sym, subst, ◌∙◌, arith, Option, Some, None, Bool, true, false, slice_get, slice_set, get_or, option_map, nat_lt, ◌&&◌, ◌==◌, if◌then◌else◌, eq-eqb}
+use Rattle.std.proofs.Common.{◌≡◌, ℕ, ◌<◌, ◌≤◌, ◌⊎◌, zero, suc, List, [], ◌∷◌, length, map, refl, ap, sym, subst, ◌∙◌, arith, Option, Some, None, Bool, true, false, slice_get, slice_set, get_or, option_map, nat_lt, ◌&&◌, ◌==◌, if◌then◌else◌, eq-eqb, Contains}
 use Rattle.std.specs.Global.{Vec}
 use Rattle.std.specs.List.{All}
 use Rattle.std.proofs.lemmas.Bool.{eqb-true, false_from_ne_true}
@@ -16,7 +16,7 @@ use Rattle.tb_search.proofs.TurnLemmas.{ascend-first}
 use Rattle.tb_living.specs.Lives.{IsBelow, IsLive, proc_by, proc_in, procs_of, IsFreshOr}
 use Rattle.tb_living.specs.Indexes.{IsRightFor}
 use Rattle.tb_living.specs.Holdings.{helds_of, held_at, bare, bares_of, IsHeldAt, HoldTheSame, with_given}
-use Rattle.tb_core.specs.Helpers.Makings.{noting}
+use Rattle.tb_search.specs.Findings.{noting}
 use Rattle.tb_core.specs.Helpers.LiveBuses.{IsChanged, IsKept, IsSound, StandsAs, bus_of, procs_in, settings_in}
 use Rattle.tb_core.specs.declared.bus.LiveBus.{LiveBus}
 use Rattle.tb_living.proofs.ReadLemmas.{above-there, map-there, proc-number}
@@ -225,6 +225,19 @@ given-inboxes note (proc ∷ procs) =
     ap (λ h. h ∷ map inbox_of (map (given note) procs)) (given-inbox_by note proc (wants proc.inbox note)) ∙ ap (λ hs. with_given note proc.inbox ∷ hs) (given-inboxes note procs)
 
 -- what was changed
+
+-- where other parts of the fields had changed before
+pub changed-since : {W P T : Type 0} (view : View P W T) (old mid new : LiveBus W P T) (at : ℕ) (effect : Effect) → StandsAs view old mid → mid.living ≡ old.living → mid.stale ≡ old.stale → IsChanged view mid at effect new → IsChanged view old at effect new
+changed-since view old mid new at effect same living stale change = record {
+  sound = change.sound;
+  bus = change.bus
+      ∙ ap (λ (all : Vec (Living _)). changed effect.change (row_at (rows_of all.items) at).number (bus_of view mid)) living
+      ∙ ap (changed effect.change (row_at (rows_of old.living.items) at).number) same.bus;
+  origin = change.origin ∙ same.origin;
+  plans = change.plans ∙ same.plans;
+  kept = subst (λ (all : Vec (Living _)). IsKept all.items new.living.items at) living change.kept;
+  named = λ number h. change.named number (subst (λ (numbers : Vec ℕ). Contains numbers.items number) (sym stale) h);
+}
 
 -- nothing
 pub nothing-changed : {W P T : Type 0} (view : View P W T) (bus : LiveBus W P T) (at : ℕ) (before : Living W) (effect : Effect) → IsSound view bus → slice_get bus.living.items at ≡ Some before → effect.change ≡ Nothing → IsChanged view bus at effect bus

@@ -1,5 +1,5 @@
 -- A candidate that is made: what was taken of its processes leads to the bus after its move.
-use Rattle.std.proofs.Common.{◌≡◌, ◌⊎◌, ℕ, ◌<◌, ◌≢◌, arith, inl, inr, List, [], ◌∷◌, ◌++◌, length, refl, ap, sym, subst, ◌∙◌, Option, Some, None, Bool, true, false, Contains, MatchOption, slice_get, nat_lt, ◌&&◌, if◌then◌else◌, option_and_then}
+use Rattle.std.proofs.Common.{◌≡◌, ℕ, ◌<◌, ◌≢◌, List, [], ◌∷◌, ◌++◌, length, refl, ap, sym, subst, ◌∙◌, Option, Some, None, Bool, true, false, Contains, MatchOption, slice_get, nat_lt, ◌&&◌, not, is_some, if◌then◌else◌, option_map, option_and_then}
 use Rattle.std.proofs.lemmas.Bool.{and_from, and_parts}
 use Rattle.std.proofs.lemmas.Option.{get_or_from_slice_get, same_Some, slice_get_within}
 use Rattle.std.proofs.lemmas.List.{length-map}
@@ -22,14 +22,16 @@ use Rattle.tb_notes.specs.Inboxes.{Held, oldest_match}
 use Rattle.tb_notes.specs.Oldest.{IsOldest, NoneMatches}
 use Rattle.tb_notes.specs.declared.queue.Found.{Found}
 use Rattle.tb_notes.proofs.Finding.{oldest-first}
+use Rattle.tb_tools.specs.Lanes.{HasLanes}
 use Rattle.tb_bus.specs.Buses.{Bus, Proc}
-use Rattle.tb_bus.specs.Effects.{Effect, changed, creation, effect_of, may_create, note_at, number_term, own_effect, speaking, taking}
-use Rattle.tb_bus.specs.Exchanges.{Setting, exchange_for}
+use Rattle.tb_bus.specs.Effects.{Effect, changed, effect_of, may_create, note_at, number_term}
+use Rattle.tb_bus.specs.Exchanges.{exchange_for, setting_by}
 use Rattle.tb_bus.specs.Slots.{fits_formals, fits_slot}
 use Rattle.tb_bus.specs.Steps.{advance, apply, label_of, nowhere, place_of}
 use Rattle.tb_bus.specs.Steps as move
-use Rattle.tb_search.specs.Candidates.{Row, no_row, row_at, row_of, rows_of, setting_in}
-use Rattle.tb_search.specs.Views.{no_proc, proc_at, ready_at, offer_of, own_move, move_by, IsCandidateIn}
+use Rattle.tb_search.specs.Candidates.{Row, Scene, no_row, row_at, row_of, rows_of, all_take, wanting, wanting_if_room, plain_if, finding_of, setting_in}
+use Rattle.tb_search.specs.Findings.{note_found, exchange_found, effect_by}
+use Rattle.tb_search.specs.Views.{no_proc, proc_at, ready_at, offer_of, own_in, own_move, move_by, IsCandidateIn}
 use Rattle.tb_bus.specs.declared.action.Action.TheVariants as action
 use Rattle.tb_bus.specs.declared.action.OwnAction.{OwnAction}
 use Rattle.tb_bus.specs.declared.action.ToolAction.{ToolAction}
@@ -38,30 +40,30 @@ use Rattle.tb_bus.specs.declared.origin.Origin.{Origin}
 use Rattle.tb_bus.specs.declared.action.OwnAction.TheVariants as own
 use Rattle.tb_search.specs.declared.candidate.Candidate.TheVariants.{Handshake}
 use Rattle.tb_search.specs.declared.candidate.Candidate.TheVariants as candidate
-use Rattle.tb_search.specs.declared.candidate.Candidate.{Candidate}
+use Rattle.tb_search.specs.declared.candidate.Finding.{Finding}
+use Rattle.tb_search.specs.declared.candidate.Finding.TheVariants as finding
 use Rattle.tb_search.specs.declared.candidate.Partner.{Partner}
 use Rattle.tb_search.specs.declared.marks.Marks.{Marks}
 use Rattle.tb_search.specs.declared.living.Living.{Living}
-use Rattle.tb_bus.proofs.ExchangeLemmas.{PatternsTake, SpeakTakes, exchange-takes}
-use Rattle.tb_search.proofs.EffectLemmas.{effect_in, found-row, note-effect-is, own-effect-is, speak-effect-is, take-effect-is}
+use Rattle.tb_bus.proofs.ExchangeLemmas.{exchange-takes}
+use Rattle.tb_search.proofs.EffectLemmas.{found-row, own-effect-is}
 use Rattle.tb_log.specs.declared.entry.Label.{Label}
 use Rattle.tb_log.specs.declared.entry.LabelKind.{LabelKind}
 use Rattle.tb_log.specs.declared.entry.LabelKind.TheVariants as kind
 use Rattle.tb_log.specs.declared.entry.Place.{Place}
 use Rattle.tb_living.specs.Lives.{proc_by, proc_in, AreFresh}
-use Rattle.tb_living.specs.Holdings.{held_at}
-use Rattle.tb_core.specs.Helpers.Makings.{effect_by, noting, shown_in, IsPlainIn}
+use Rattle.tb_core.specs.Helpers.Makings.{effect_in, finding_in, IsPlainIn}
 use Rattle.tb_core.specs.Helpers.LiveBuses.{IsSound, StandsAs, AreAdvanced, Leaves, CanAdvance, IsKept, IsChanged, HasGone, bus_of, procs_in, move_in, scene_in}
-use Rattle.tb_living.specs.Spoken.{IsDone, CanSpeak, around}
+use Rattle.tb_living.specs.Spoken.{CanSpeak, IsDone}
 use Rattle.tb_living.specs.declared.done.Done.{Done}
 use Rattle.tb_core.specs.declared.bus.LiveBus.{LiveBus}
 use Rattle.tb_living.proofs.ReadLemmas.{body-there, map-there, some-at}
 use Rattle.tb_core.proofs.ReadLemmas.{live-there}
 use Rattle.tb_core.proofs.FreshLemmas.{ActionFits, OwnFits, action-at, fits-at}
-use Rattle.tb_core.proofs.HoldLemmas.{nothing-changed}
+use Rattle.tb_core.proofs.HoldLemmas.{held-same, helds-same, nothing-changed}
 use Rattle.tb_living.proofs.HoldLemmas.{row-held}
 use Rattle.tb_core.proofs.RowsLemmas.{searched-for}
-use Rattle.tb_living.proofs.SpokenLemmas.{speaking-around}
+use Rattle.tb_living.proofs.NoteLemmas.{all_take-same, wanting-same}
 
 -- the offer of one of the actions of a process
 pub record OfferIs {W P T : Type 0} (view : View P W T) (bus : LiveBus W P T) (at index : ℕ) : Type 0 where
@@ -122,6 +124,10 @@ kept-leaves {W = W} view old new at taken offered kept plans leaves =
 pub kept-number : {W : Type 0} (old new : List (Living W)) (at : ℕ) → IsKept old new at → (row_at (rows_of new) at).number ≡ (row_at (rows_of old) at).number
 kept-number old new at kept =
     ap (λ (r : Row). r.number) (map-there row_of new at kept.after no_row kept.there) ∙ kept.number ∙ ap (λ (r : Row). r.number) (sym (map-there row_of old at kept.before no_row kept.here))
+
+kept-body : {W : Type 0} (old new : List (Living W)) (at : ℕ) → IsKept old new at → (row_at (rows_of new) at).body ≡ (row_at (rows_of old) at).body
+kept-body old new at kept =
+    ap (λ (r : Row). r.body) (map-there row_of new at kept.after no_row kept.there) ∙ kept.body ∙ ap (λ (r : Row). r.body) (sym (map-there row_of old at kept.before no_row kept.here))
 
 store-by : {W P T : Type 0} (view : View P W T) (plan : Option P) (one other : Living W) → one.walker ≡ other.walker → (proc_by view plan one).store ≡ (proc_by view plan other).store
 store-by view None one other e = refl
@@ -227,61 +233,72 @@ module _ {W P T : Type 0} (view : View P W T) (old begun mid : LiveBus W P T) (a
       ∙ ap (λ (p : Place). let l : Label = record { kind = effect.kind; from = p; to = nowhere; terms = effect.shown } in l) (place-is view old at index place it.offer e f)
       ∙ ap (λ found. label_of (own_move proc offered found)) (sym it.effect_is)
 
--- what its store takes
+-- what was found of an action
 
-may-from : (b : Bool) (x y : Effect) → (if b then Some x else None) ≡ Some y → b ≡ true
+may-from : {A : Type 0} (b : Bool) (x y : A) → (if b then Some x else None) ≡ Some y → b ≡ true
 may-from true x y e = refl
 may-from false x y e = cc
 
-slot-fits : (found : Option Body) (body : Body) (slot : ℕ) (value : Term) → found ≡ Some body → fits_slot found slot value ≡ true → has_slot_sort (slice_get body.sorts slot) value ≡ true
-slot-fits None body slot value e h = cc
-slot-fits (Some found) body slot value e h = let same : found ≡ body = same_Some found body e in ap (λ (b : Body). has_slot_sort (slice_get b.sorts slot) value) (sym same) ∙ h
+-- the note is the oldest that matches, and the exchange the one that may happen
+pub note-is : (o : Option Found) (found : Finding) → option_map finding.TakeNote o ≡ Some found → o ≡ Some (note_found found)
+note-is None found e = cc
+note-is (Some note) found e = ap (λ f. Some (note_found f)) (same_Some (finding.TakeNote note) found e)
 
--- the actuals of a creation fit, and its slot takes the number
-pub create-fits : (bus : Bus) (proc : Proc) (effect : Effect) (process : ℕ) (actuals : List Term) (slot : ℕ) → own_effect bus proc (own.Create process actuals slot) ≡ Some effect →
-    (fits_formals (slice_get bus.program.bodies process) actuals ≡ true) × (fits_slot (slice_get bus.program.bodies proc.body) slot (number_term bus.next_number) ≡ true)
-create-fits bus proc effect process actuals slot h =
-    let may = may-from (may_create bus.program.bodies (length bus.procs) bus.next_number proc.body process actuals slot) (creation bus.next_number process actuals slot) effect h in
-    let formals = fits_formals (slice_get bus.program.bodies process) actuals in
-    let parts = and_parts (nat_lt (length bus.procs) 10000 && formals) (fits_slot (slice_get bus.program.bodies proc.body) slot (number_term bus.next_number)) may in
-    ((and_parts (nat_lt (length bus.procs) 10000) formals parts.0).1, parts.1)
+pub exchange-is : (o : Option Exchange) (found : Finding) → option_map finding.Speak o ≡ Some found → o ≡ Some (exchange_found found)
+exchange-is None found e = cc
+exchange-is (Some exchange) found e = ap (λ f. Some (exchange_found f)) (same_Some (finding.Speak exchange) found e)
 
-pub own-takes : (bus : Bus) (proc : Proc) (store : List Slot) (body : Body) (own : OwnAction) → slice_get bus.program.bodies proc.body ≡ Some body → sorts_of store ≡ body.sorts → OwnFits store own →
-    own_effect bus proc own ≡ Some (effect_by bus.next_number own) → takes_binds store (effect_by bus.next_number own).binds ≡ true
-own-takes bus proc store body own.Tau there sorts fits h = refl
-own-takes bus proc store body (own.Set values binds) there sorts fits h = fits
-own-takes bus proc store body (own.Print text) there sorts fits h = refl
-own-takes bus proc store body (own.NoNote patterns) there sorts fits h = refl
-own-takes bus proc store body (own.Subscribe patterns) there sorts fits h = refl
-own-takes bus proc store body (own.Unsubscribe patterns) there sorts fits h = refl
-own-takes bus proc store body (own.Shutdown reason) there sorts fits h = refl
-own-takes bus proc store body (own.Create process actuals slot) there sorts fits h =
-    let value : Term = number_term bus.next_number in
-    let takes : has_slot_sort (slice_get body.sorts slot) value ≡ true =
-    slot-fits (slice_get bus.program.bodies proc.body) body slot value there (create-fits bus proc (creation bus.next_number process actuals slot) process actuals slot h).1 in
-    let same : sort_at store slot ≡ slice_get body.sorts slot = sort_at-sorts_of store slot ∙ ap (λ (all : List Sort). slice_get all slot) sorts in
-    and_from (takes_bind store (record { slot = slot; value = value })) true (ap (λ found. has_slot_sort found value) same ∙ takes) refl
+-- and a note goes to those that want it, each with room for it
+abbrev indices_found : Finding → List ℕ
+indices_found finding.Plain = []
+indices_found (finding.Notify indices) = indices
+indices_found (finding.TakeNote found) = []
+indices_found (finding.Speak exchange) = []
 
--- the effects of actions by themselves, under both their names
-pub effect-same : (next : ℕ) (own : OwnAction) → effect_in next own ≡ effect_by next own
-effect-same next own.Tau = refl
-effect-same next (own.Set values binds) = refl
-effect-same next (own.Print text) = refl
-effect-same next (own.NoNote patterns) = refl
-effect-same next (own.Subscribe patterns) = refl
-effect-same next (own.Unsubscribe patterns) = refl
-effect-same next (own.Create process actuals slot) = refl
-effect-same next (own.Shutdown reason) = refl
+pub notify-is : (room : Bool) (wanted indices : List ℕ) → option_map finding.Notify (if room then Some wanted else None) ≡ Some (finding.Notify indices) → (room ≡ true) × (indices ≡ wanted)
+notify-is true wanted indices e = (refl, ap indices_found (sym (same_Some (finding.Notify wanted) (finding.Notify indices) e)))
+notify-is false wanted indices e = cc
 
-pub own-plain : (store : List Slot) (own : OwnAction) → OwnFits store own → IsPlainIn own
-own-plain store own.Tau fits = tt
-own-plain store (own.Set values binds) fits = tt
-own-plain store (own.Print text) fits = tt
-own-plain store (own.NoNote patterns) fits = tt
-own-plain store (own.Subscribe patterns) fits = fits
-own-plain store (own.Unsubscribe patterns) fits = tt
-own-plain store (own.Create process actuals slot) fits = tt
-own-plain store (own.Shutdown reason) fits = tt
+-- no other finding comes with such an action
+notify-only : (o : Option (List ℕ)) (found : Finding) → option_map finding.Notify o ≡ Some found → (indices : List ℕ) × (found ≡ finding.Notify indices)
+notify-only None found e = cc
+notify-only (Some indices) found e = (indices, sym (same_Some (finding.Notify indices) found e))
+
+note-only : (o : Option Found) (found : Finding) → option_map finding.TakeNote o ≡ Some found → (note : Found) × (found ≡ finding.TakeNote note)
+note-only None found e = cc
+note-only (Some note) found e = (note, sym (same_Some (finding.TakeNote note) found e))
+
+exchange-only : (o : Option Exchange) (found : Finding) → option_map finding.Speak o ≡ Some found → (exchange : Exchange) × (found ≡ finding.Speak exchange)
+exchange-only None found e = cc
+exchange-only (Some exchange) found e = (exchange, sym (same_Some (finding.Speak exchange) found e))
+
+-- so by the action of the process at an index
+module _ {W P T : Type 0} (bus : LiveBus W P T) (at : ℕ) (action : OwnAction) (found : Finding) (h : finding_in bus at action ≡ Some found) where
+  abbrev row : Row
+  row = row_at (rows_of bus.living.items) at
+
+  pub notified : (terms : List Term) (indices : List ℕ) → action ≡ own.Notify terms → found ≡ finding.Notify indices → (all_take terms (rows_of bus.living.items) ≡ true) × (indices ≡ wanting terms 0 (rows_of bus.living.items))
+  notified terms indices e f =
+      notify-is (all_take terms (rows_of bus.living.items)) (wanting terms 0 (rows_of bus.living.items)) indices (ap (finding_in bus at) (sym e) ∙ h ∙ ap (λ (x : Finding). Some x) f)
+
+  pub notified-only : (terms : List Term) → action ≡ own.Notify terms → (indices : List ℕ) × (found ≡ finding.Notify indices)
+  notified-only terms e = notify-only (wanting_if_room terms (rows_of bus.living.items)) found (ap (finding_in bus at) (sym e) ∙ h)
+
+  pub noted : (patterns : List Pattern) (note : Found) → action ≡ own.TakeNote patterns → found ≡ finding.TakeNote note → oldest_match patterns row.inbox ≡ Some note
+  noted patterns note e f = note-is (oldest_match patterns row.inbox) (finding.TakeNote note) (ap (finding_in bus at) (sym e) ∙ h ∙ ap (λ (x : Finding). Some x) f)
+
+  pub noted-only : (patterns : List Pattern) → action ≡ own.TakeNote patterns → (note : Found) × (found ≡ finding.TakeNote note)
+  noted-only patterns e = note-only (oldest_match patterns row.inbox) found (ap (finding_in bus at) (sym e) ∙ h)
+
+  pub spoken : (does : ToolAction) (exchange : Exchange) → action ≡ own.Speak does → found ≡ finding.Speak exchange → HasLanes bus.bench → CanSpeak bus.origin.program.tools bus.bench does exchange
+  spoken does exchange e f lanes = record {
+    body = slice_get bus.origin.program.bodies row.body;
+    found = exchange-is (exchange_for (setting_in (scene_in bus) row) does) (finding.Speak exchange) (ap (finding_in bus at) (sym e) ∙ h ∙ ap (λ (x : Finding). Some x) f);
+    lanes = lanes;
+  }
+
+  pub spoken-only : (does : ToolAction) → action ≡ own.Speak does → (exchange : Exchange) × (found ≡ finding.Speak exchange)
+  spoken-only does e = exchange-only (exchange_for (setting_in (scene_in bus) row) does) found (ap (finding_in bus at) (sym e) ∙ h)
 
 -- a note that was found in a queue: it stands there, and the store takes what it binds
 
@@ -299,37 +316,157 @@ found-in patterns held found e =
     let oldest : IsOldest patterns held.notes found = subst (λ o. MatchOption o (NoneMatches patterns held.notes) (IsOldest patterns held.notes)) e (oldest-first patterns held) in
     binds-by patterns held found (slice_get held.notes found.place) refl oldest.0
 
+-- the note that is taken is the one that was found
+pub found-in_row : {W : Type 0} (all : List (Living W)) (at : ℕ) (patterns : List Pattern) (found : Found) → oldest_match patterns (row_at (rows_of all) at).inbox ≡ Some found → found.place < length (row_at (rows_of all) at).inbox.notes
+found-in_row all at patterns found e =
+    let it = found-in patterns (row_at (rows_of all) at).inbox found e in
+    slice_get_within (row_at (rows_of all) at).inbox.notes found.place it.note it.there
+
+pub note-there : (held : Held) (place : ℕ) (note : List Term) → slice_get held.notes place ≡ Some note → note ≡ note_at held place
+note-there held place note e = sym (get_or_from_slice_get held.notes place note [] e)
+
+-- what its store takes
+
+slot-fits : (found : Option Body) (body : Body) (slot : ℕ) (value : Term) → found ≡ Some body → fits_slot found slot value ≡ true → has_slot_sort (slice_get body.sorts slot) value ≡ true
+slot-fits None body slot value e h = cc
+slot-fits (Some found) body slot value e h = let same : found ≡ body = same_Some found body e in ap (λ (b : Body). has_slot_sort (slice_get b.sorts slot) value) (sym same) ∙ h
+
+-- the actuals of a creation fit, and its slot takes the number
+pub create-fits : (bodies : List Body) (alive number creator process : ℕ) (actuals : List Term) (slot : ℕ) (found : Finding) → plain_if (may_create bodies alive number creator process actuals slot) ≡ Some found →
+    (fits_formals (slice_get bodies process) actuals ≡ true) × (fits_slot (slice_get bodies creator) slot (number_term number) ≡ true)
+create-fits bodies alive number creator process actuals slot found h =
+    let may = may-from (may_create bodies alive number creator process actuals slot) finding.Plain found h in
+    let formals = fits_formals (slice_get bodies process) actuals in
+    let parts = and_parts (nat_lt alive 10000 && formals) (fits_slot (slice_get bodies creator) slot (number_term number)) may in
+    ((and_parts (nat_lt alive 10000) formals parts.0).1, parts.1)
+
+effect-takes : (scene : Scene) (row : Row) (store : List Slot) (body : Body) (own : OwnAction) (found : Finding) → slice_get scene.bodies row.body ≡ Some body → sorts_of store ≡ body.sorts → OwnFits store own →
+    finding_of scene row own ≡ Some found → takes_binds store (effect_by scene.next_number row.inbox (setting_in scene row) own found).binds ≡ true
+effect-takes scene row store body own.Tau found there sorts fits h = refl
+effect-takes scene row store body (own.Set values binds) found there sorts fits h = fits
+effect-takes scene row store body (own.Print text) found there sorts fits h = refl
+effect-takes scene row store body (own.Notify terms) found there sorts fits h = refl
+effect-takes scene row store body (own.TakeNote patterns) found there sorts fits h =
+    let it = found-in patterns row.inbox (note_found found) (note-is (oldest_match patterns row.inbox) found h) in
+    fits it.note (note_found found).binds it.matches
+effect-takes scene row store body (own.NoNote patterns) found there sorts fits h = refl
+effect-takes scene row store body (own.Subscribe patterns) found there sorts fits h = refl
+effect-takes scene row store body (own.Unsubscribe patterns) found there sorts fits h = refl
+effect-takes scene row store body (own.Create process actuals slot) found there sorts fits h =
+    let value : Term = number_term scene.next_number in
+    let takes : has_slot_sort (slice_get body.sorts slot) value ≡ true =
+    slot-fits (slice_get scene.bodies row.body) body slot value there (create-fits scene.bodies (length scene.rows) scene.next_number row.body process actuals slot found h).1 in
+    let same : sort_at store slot ≡ slice_get body.sorts slot = sort_at-sorts_of store slot ∙ ap (λ (all : List Sort). slice_get all slot) sorts in
+    and_from (takes_bind store (record { slot = slot; value = value })) true (ap (λ found. has_slot_sort found value) same ∙ takes) refl
+effect-takes scene row store body (own.Speak does) found there sorts fits h =
+    exchange-takes (setting_in scene row) body store does (exchange_found found) there sorts fits (exchange-is (exchange_for (setting_in scene row) does) found h)
+effect-takes scene row store body (own.Shutdown reason) found there sorts fits h = refl
+
+own-plain : (store : List Slot) (own : OwnAction) → OwnFits store own → IsPlainIn own
+own-plain store own.Tau fits = tt
+own-plain store (own.Set values binds) fits = tt
+own-plain store (own.Print text) fits = tt
+own-plain store (own.Notify terms) fits = tt
+own-plain store (own.TakeNote patterns) fits = tt
+own-plain store (own.NoNote patterns) fits = tt
+own-plain store (own.Subscribe patterns) fits = fits
+own-plain store (own.Unsubscribe patterns) fits = tt
+own-plain store (own.Create process actuals slot) fits = tt
+own-plain store (own.Speak does) fits = tt
+own-plain store (own.Shutdown reason) fits = tt
+
+-- once it was begun, the same is found of it, and it comes to the same
+module _ {W P T : Type 0} (view : View P W T) (old begun : LiveBus W P T) (at : ℕ) (same : StandsAs view old begun) (kept : IsKept old.living.items begun.living.items at) where
+  abbrev before : Row
+  before = row_at (rows_of old.living.items) at
+
+  abbrev after : Row
+  after = row_at (rows_of begun.living.items) at
+
+  inbox-since : after.inbox ≡ before.inbox
+  inbox-since = row-held begun.living.items at ∙ held-same view old begun at same ∙ sym (row-held old.living.items at)
+
+  body-since : after.body ≡ before.body
+  body-since = kept-body old.living.items begun.living.items at kept
+
+  setting-since : setting_in (scene_in begun) after ≡ setting_in (scene_in old) before
+  setting-since =
+      ap (λ (o : Origin). setting_by o.program.bodies o.program.tools begun.bench after.body) same.origin
+      ∙ ap (λ (b : Bus). setting_by old.origin.program.bodies old.origin.program.tools b.bench after.body) same.bus
+      ∙ ap (setting_by old.origin.program.bodies old.origin.program.tools old.bench) body-since
+
+  effect-since : (own : OwnAction) (found : Finding) → effect_in begun at own found ≡ effect_in old at own found
+  effect-since own found =
+      ap (λ (m : Marks). effect_by m.next_number after.inbox (setting_in (scene_in begun) after) own found) same.marks
+      ∙ ap (λ held. effect_by old.marks.next_number held (setting_in (scene_in begun) after) own found) inbox-since
+      ∙ ap (λ setting. effect_by old.marks.next_number before.inbox setting own found) setting-since
+
+  rows-since : length (rows_of begun.living.items) ≡ length (rows_of old.living.items)
+  rows-since =
+      length-map begun.living.items row_of ∙ sym (length-map begun.living.items (λ (l : Living W). l.inbox.held))
+      ∙ ap (λ (hs : List Held). length hs) (helds-same view old begun same)
+      ∙ length-map old.living.items (λ (l : Living W). l.inbox.held) ∙ sym (length-map old.living.items row_of)
+
+  may-since : (process : ℕ) (actuals : List Term) (slot : ℕ) →
+      may_create begun.origin.program.bodies (length (rows_of begun.living.items)) begun.marks.next_number after.body process actuals slot
+      ≡ may_create old.origin.program.bodies (length (rows_of old.living.items)) old.marks.next_number before.body process actuals slot
+  may-since process actuals slot =
+      ap (λ (o : Origin). may_create o.program.bodies (length (rows_of begun.living.items)) begun.marks.next_number after.body process actuals slot) same.origin
+      ∙ ap (λ n. may_create old.origin.program.bodies n begun.marks.next_number after.body process actuals slot) rows-since
+      ∙ ap (λ (m : Marks). may_create old.origin.program.bodies (length (rows_of old.living.items)) m.next_number after.body process actuals slot) same.marks
+      ∙ ap (λ b. may_create old.origin.program.bodies (length (rows_of old.living.items)) old.marks.next_number b process actuals slot) body-since
+
+  finding-since : (own : OwnAction) → finding_in begun at own ≡ finding_in old at own
+  finding-since own.Tau = refl
+  finding-since (own.Set values binds) = refl
+  finding-since (own.Print text) = refl
+  finding-since (own.Notify terms) =
+      let helds = helds-same view old begun same in
+      ap (λ b. option_map finding.Notify (if b then Some (wanting terms 0 (rows_of begun.living.items)) else None)) (all_take-same terms begun.living.items old.living.items helds)
+      ∙ ap (λ is. option_map finding.Notify (if all_take terms (rows_of old.living.items) then Some is else None)) (wanting-same terms begun.living.items old.living.items helds)
+  finding-since (own.TakeNote patterns) = ap (λ held. option_map finding.TakeNote (oldest_match patterns held)) inbox-since
+  finding-since (own.NoNote patterns) = ap (λ held. plain_if (not (is_some (oldest_match patterns held)))) inbox-since
+  finding-since (own.Subscribe patterns) = refl
+  finding-since (own.Unsubscribe patterns) = refl
+  finding-since (own.Create process actuals slot) = ap plain_if (may-since process actuals slot)
+  finding-since (own.Speak does) = ap (λ setting. option_map finding.Speak (exchange_for setting does)) setting-since
+  finding-since (own.Shutdown reason) = refl
+
 -- what a process does by itself, once it was begun
-pub record IsOwnAt {W P T : Type 0} (view : View P W T) (old begun : LiveBus W P T) (at index : ℕ) (own : OwnAction) : Type 0 where
+pub record IsOwnAt {W P T : Type 0} (view : View P W T) (old begun : LiveBus W P T) (at index : ℕ) (own : OwnAction) (found : Finding) : Type 0 where
   pub offer : OfferIs view old at index
   pub plain : IsPlainIn own
-  pub effect_is : effect_of (bus_of view old) (proc_at (procs_in view old) at) (ready_at (rows_of old.living.items) at index).action ≡ Some (effect_by begun.marks.next_number own)
-  pub happens : own_effect (bus_of view begun) (proc_at (procs_in view begun) at) own ≡ Some (effect_by begun.marks.next_number own)
-  pub takes : takes_binds (offer_of (procs_in view old) (rows_of old.living.items) at index).store (effect_by begun.marks.next_number own).binds ≡ true
+  pub finds : finding_in begun at own ≡ Some found
+  pub effect_is : effect_of (bus_of view old) (proc_at (procs_in view old) at) (ready_at (rows_of old.living.items) at index).action ≡ Some (effect_in begun at own found)
+  pub takes : takes_binds (offer_of (procs_in view old) (rows_of old.living.items) at index).store (effect_in begun at own found).binds ≡ true
 
-pub own-at : {W P T : Type 0} (view : View P W T) (old begun : LiveBus W P T) (at index : ℕ) (taken : T) (own : OwnAction) → IsSound view old → AreFresh old.living.items → IsCandidateIn (scene_in old) (candidate.Own at index) →
-    Leaves view old at taken (offer_of (procs_in view old) (rows_of old.living.items) at index) → (ready_at (rows_of old.living.items) at index).action ≡ action.Own own → StandsAs view old begun → IsOwnAt view old begun at index own
-own-at view old begun at index taken own sound fresh found leaves e same =
+pub own-at : {W P T : Type 0} (view : View P W T) (old begun : LiveBus W P T) (at index : ℕ) (taken : T) (own : OwnAction) (found : Finding) → IsSound view old → AreFresh old.living.items → IsCandidateIn (scene_in old) (candidate.Own at index found) →
+    Leaves view old at taken (offer_of (procs_in view old) (rows_of old.living.items) at index) → own ≡ own_in (ready_at (rows_of old.living.items) at index).action → StandsAs view old begun → IsKept old.living.items begun.living.items at →
+    IsOwnAt view old begun at index own found
+own-at view old begun at index taken own found sound fresh h leaves e same kept =
     let bus = bus_of view old in
     let rows = rows_of old.living.items in
-    let proc = proc_at (procs_in view old) at in
     let offer = offer_of (procs_in view old) rows at index in
-    let is = offer-is view old at index taken offer sound fresh found.0.1 leaves in
-    let fits : OwnFits offer.store own = subst (ActionFits offer.store) e is.fits in
-    let effect : effect_of bus proc (ready_at rows at index).action ≡ Some (effect_by old.marks.next_number own) =
-    own-effect-is bus (scene_in old) old.marks (searched-for view old sound fresh) at index found own e ∙ ap (λ (x : Effect). Some x) (effect-same old.marks.next_number own) in
-    let happens : own_effect bus proc own ≡ Some (effect_by bus.next_number own) = ap (effect_of bus proc) (sym e) ∙ effect in
+    let is = offer-is view old at index taken offer sound fresh h.0.1 leaves in
+    let own_is : own ≡ h.1.0 = e ∙ ap own_in h.1.1 in
+    let does : (ready_at rows at index).action ≡ action.Own own = h.1.1 ∙ ap action.Own (sym own_is) in
+    let finds : finding_in old at own ≡ Some found = ap (finding_in old at) own_is ∙ h.1.2 in
+    let searched = searched-for view old sound fresh in
+    let row = found-row bus (scene_in old) old.marks searched at h.0.0 in
+    let fits : OwnFits offer.store own = subst (ActionFits offer.store) does is.fits in
+    let since : effect_in begun at own found ≡ effect_in old at own found = effect-since view old begun at same kept own found in
     record {
       offer = is;
       plain = own-plain offer.store own fits;
-      effect_is = effect ∙ ap (λ (m : Marks). Some (effect_by m.next_number own)) (sym same.marks);
-      happens = subst (λ (b : Bus). own_effect b (proc_at b.procs at) own ≡ Some (effect_by b.next_number own)) (sym same.bus) happens;
-      takes = subst (λ (m : Marks). takes_binds offer.store (effect_by m.next_number own).binds ≡ true) (sym same.marks) (own-takes bus proc offer.store is.body own is.body_is is.body_sorts fits happens);
+      finds = finding-since view old begun at same kept own ∙ finds;
+      effect_is = own-effect-is bus (scene_in old) old.marks searched at index found h own does ∙ ap (λ (x : Effect). Some x) (sym since);
+      takes = ap (λ (x : Effect). takes_binds offer.store x.binds) since
+          ∙ effect-takes (scene_in old) (row_at rows at) offer.store is.body own found (ap (slice_get old.origin.program.bodies) row.body ∙ is.body_is) is.body_sorts fits finds;
     }
 
-pub acted-own : {W P T : Type 0} (view : View P W T) (old begun mid : LiveBus W P T) (at index : ℕ) (own : OwnAction) → IsOwnAt view old begun at index own → StandsAs view old begun → IsKept old.living.items begun.living.items at →
-    Contains begun.stale.items (row_at (rows_of old.living.items) at).number → IsChanged view begun at (effect_by begun.marks.next_number own) mid → IsActed view old begun mid at index (effect_by begun.marks.next_number own)
-acted-own view old begun mid at index own it same kept named change = record {
+pub acted-own : {W P T : Type 0} (view : View P W T) (old begun mid : LiveBus W P T) (at index : ℕ) (own : OwnAction) (found : Finding) → IsOwnAt view old begun at index own found → StandsAs view old begun → IsKept old.living.items begun.living.items at →
+    Contains begun.stale.items (row_at (rows_of old.living.items) at).number → IsChanged view begun at (effect_in begun at own found) mid → IsActed view old begun mid at index (effect_in begun at own found)
+acted-own view old begun mid at index own found it same kept named change = record {
   offer = it.offer;
   same = same;
   begun_kept = kept;
@@ -340,154 +477,24 @@ acted-own view old begun mid at index own it same kept named change = record {
 }
 
 -- what is seen by its kind alone changes nothing
-pub acted-tau : {W P T : Type 0} (view : View P W T) (old begun : LiveBus W P T) (at index : ℕ) (taken : T) → IsSound view old → AreFresh old.living.items → IsCandidateIn (scene_in old) (candidate.Own at index) →
+pub acted-tau : {W P T : Type 0} (view : View P W T) (old begun : LiveBus W P T) (at index : ℕ) (taken : T) → IsSound view old → AreFresh old.living.items → IsCandidateIn (scene_in old) (candidate.Own at index finding.Plain) →
     Leaves view old at taken (offer_of (procs_in view old) (rows_of old.living.items) at index) → (ready_at (rows_of old.living.items) at index).action ≡ action.Own own.Tau → StandsAs view old begun → IsKept old.living.items begun.living.items at →
-    Contains begun.stale.items (row_at (rows_of old.living.items) at).number → IsActed view old begun begun at index (effect_by begun.marks.next_number own.Tau)
+    Contains begun.stale.items (row_at (rows_of old.living.items) at).number → IsActed view old begun begun at index (effect_in begun at own.Tau finding.Plain)
 acted-tau view old begun at index taken sound fresh found leaves e same kept named =
-    acted-own view old begun begun at index own.Tau (own-at view old begun at index taken own.Tau sound fresh found leaves e same) same kept named
-    (nothing-changed view begun at kept.after (effect_by begun.marks.next_number own.Tau) same.sound kept.there refl)
-
--- a note that is sent
-pub acted-note : {W P T : Type 0} (view : View P W T) (old begun mid : LiveBus W P T) (at index : ℕ) (indices : List ℕ) (taken : T) (note : List Term) → IsSound view old → AreFresh old.living.items → IsCandidateIn (scene_in old) (candidate.Notify at index indices) →
-    Leaves view old at taken (offer_of (procs_in view old) (rows_of old.living.items) at index) → (ready_at (rows_of old.living.items) at index).action ≡ action.Notify note → StandsAs view old begun → IsKept old.living.items begun.living.items at →
-    Contains begun.stale.items (row_at (rows_of old.living.items) at).number → IsChanged view begun at (noting note) mid → IsActed view old begun mid at index (noting note)
-acted-note view old begun mid at index indices taken note sound fresh found leaves e same kept named change = record {
-  offer = offer-is view old at index taken (offer_of (procs_in view old) (rows_of old.living.items) at index) sound fresh found.0.1 leaves;
-  same = same;
-  begun_kept = kept;
-  named = named;
-  change = change;
-  effect_is = note-effect-is (bus_of view old) (scene_in old) old.marks (searched-for view old sound fresh) at index indices found note e;
-  takes = refl;
-}
-
--- a note that is taken
-pub acted-taking : {W P T : Type 0} (view : View P W T) (old begun mid : LiveBus W P T) (at index : ℕ) (found : Found) (taken : T) → IsSound view old → AreFresh old.living.items → IsCandidateIn (scene_in old) (candidate.TakeNote at index found) →
-    Leaves view old at taken (offer_of (procs_in view old) (rows_of old.living.items) at index) → StandsAs view old begun → IsKept old.living.items begun.living.items at →
-    Contains begun.stale.items (row_at (rows_of old.living.items) at).number → IsChanged view begun at (taking (row_at (rows_of old.living.items) at).inbox found) mid →
-    IsActed view old begun mid at index (taking (row_at (rows_of old.living.items) at).inbox found)
-acted-taking view old begun mid at index found taken sound fresh h leaves same kept named change =
-    let rows = rows_of old.living.items in
-    let offer = offer_of (procs_in view old) rows at index in
-    let is = offer-is view old at index taken offer sound fresh h.0.1 leaves in
-    let fits : PatternsTake offer.store h.1.0 = subst (ActionFits offer.store) h.1.1 is.fits in
-    let it = found-in h.1.0 (row_at rows at).inbox found h.1.2 in
-    record {
-      offer = is;
-      same = same;
-      begun_kept = kept;
-      named = named;
-      change = change;
-      effect_is = take-effect-is (bus_of view old) (scene_in old) old.marks (searched-for view old sound fresh) at index found h;
-      takes = fits it.note found.binds it.matches;
-    }
-
--- a process that speaks with a tool, once it was begun
-pub record IsSpeakAt {W P T : Type 0} (view : View P W T) (old begun : LiveBus W P T) (at index : ℕ) (does : ToolAction) (exchange : Exchange) : Type 0 where
-  pub offer : OfferIs view old at index
-  pub can : CanSpeak begun.origin.program.tools begun.bench does exchange
-  pub effect_is : effect_of (bus_of view old) (proc_at (procs_in view old) at) (ready_at (rows_of old.living.items) at index).action ≡ Some (speaking (around begun.origin.program.tools begun.bench) does exchange)
-  pub takes : takes_binds (offer_of (procs_in view old) (rows_of old.living.items) at index).store exchange.binds ≡ true
-
-pub speak-at : {W P T : Type 0} (view : View P W T) (old begun : LiveBus W P T) (at index : ℕ) (taken : T) (does : ToolAction) (exchange : Exchange) → IsSound view old → AreFresh old.living.items → IsCandidateIn (scene_in old) (candidate.Speak at index exchange) →
-    Leaves view old at taken (offer_of (procs_in view old) (rows_of old.living.items) at index) → (ready_at (rows_of old.living.items) at index).action ≡ action.Speak does → StandsAs view old begun → IsSpeakAt view old begun at index does exchange
-speak-at view old begun at index taken does exchange sound fresh found leaves e same =
-    let bus = bus_of view old in
-    let scene = scene_in old in
-    let rows = rows_of old.living.items in
-    let offer = offer_of (procs_in view old) rows at index in
-    let is = offer-is view old at index taken offer sound fresh found.0.1 leaves in
-    let searched = searched-for view old sound fresh in
-    let row = found-row bus scene old.marks searched at found.0.0 in
-    let setting : Setting = setting_in scene (row_at rows at) in
-    let action_is : action.Speak found.1.0 ≡ action.Speak does = sym found.1.1 ∙ e in
-    let does_is : found.1.0 ≡ does = cc in
-    let finds : exchange_for setting does ≡ Some exchange = subst (λ d. exchange_for setting d ≡ Some exchange) does_is found.1.2 in
-    let can : CanSpeak old.origin.program.tools old.bench does exchange = record { body = setting.body; found = finds; lanes = sound.lanes } in
-    let fits : SpeakTakes offer.store does = subst (ActionFits offer.store) e is.fits in
-    record {
-      offer = is;
-      can = subst (λ (b : Bus). CanSpeak begun.origin.program.tools b.bench does exchange) (sym same.bus) (subst (λ (o : Origin). CanSpeak o.program.tools old.bench does exchange) (sym same.origin) can);
-      effect_is = speak-effect-is bus scene old.marks searched at index exchange found does e
-          ∙ ap (λ (x : Effect). Some x) (speaking-around setting does exchange)
-          ∙ ap (λ (o : Origin). Some (speaking (around o.program.tools old.bench) does exchange)) (sym same.origin)
-          ∙ ap (λ (b : Bus). Some (speaking (around begun.origin.program.tools b.bench) does exchange)) (sym same.bus);
-      takes = exchange-takes setting is.body offer.store does exchange (ap (slice_get old.origin.program.bodies) row.body ∙ is.body_is) is.body_sorts fits finds;
-    }
-
-pub acted-speak : {W P T : Type 0} (view : View P W T) (old begun mid : LiveBus W P T) (at index : ℕ) (does : ToolAction) (exchange : Exchange) → IsSpeakAt view old begun at index does exchange → StandsAs view old begun → IsKept old.living.items begun.living.items at →
-    Contains begun.stale.items (row_at (rows_of old.living.items) at).number → IsChanged view begun at (speaking (around begun.origin.program.tools begun.bench) does exchange) mid →
-    IsActed view old begun mid at index (speaking (around begun.origin.program.tools begun.bench) does exchange)
-acted-speak view old begun mid at index does exchange it same kept named change = record {
-  offer = it.offer;
-  same = same;
-  begun_kept = kept;
-  named = named;
-  change = change;
-  effect_is = it.effect_is;
-  takes = it.takes;
-}
-
--- the note that is taken is the one that was found
-pub found-in_row : {W : Type 0} (all : List (Living W)) (at : ℕ) (patterns : List Pattern) (found : Found) → oldest_match patterns (row_at (rows_of all) at).inbox ≡ Some found → found.place < length (row_at (rows_of all) at).inbox.notes
-found-in_row all at patterns found e =
-    let it = found-in patterns (row_at (rows_of all) at).inbox found e in
-    slice_get_within (row_at (rows_of all) at).inbox.notes found.place it.note it.there
-
-pub note-there : (held : Held) (place : ℕ) (note : List Term) → slice_get held.notes place ≡ Some note → note ≡ note_at held place
-note-there held place note e = sym (get_or_from_slice_get held.notes place note [] e)
+    acted-own view old begun begun at index own.Tau finding.Plain (own-at view old begun at index taken own.Tau finding.Plain sound fresh found leaves (ap own_in (sym e)) same kept) same kept named
+    (nothing-changed view begun at kept.after (effect_in begun at own.Tau finding.Plain) same.sound kept.there refl)
 
 -- the terms that are seen
 
-pub shown-own : {W P T : Type 0} (view : View P W T) (bus : LiveBus W P T) (at index : ℕ) → IsSound view bus → AreFresh bus.living.items → IsCandidateIn (scene_in bus) (candidate.Own at index) →
-    shown_in bus.marks.next_number (ready_at (rows_of bus.living.items) at index).action ≡ (label_of (move_in view bus (candidate.Own at index))).terms
-shown-own view bus at index sound fresh found =
+pub own-found : {W P T : Type 0} (bus : LiveBus W P T) (at index : ℕ) (own : OwnAction) (found : Finding) → IsCandidateIn (scene_in bus) (candidate.Own at index found) → (ready_at (rows_of bus.living.items) at index).action ≡ action.Own own → finding_in bus at own ≡ Some found
+own-found bus at index own found h e = ap (finding_in bus at) (ap own_in (sym e ∙ h.1.1)) ∙ h.1.2
+
+pub shown-own : {W P T : Type 0} (view : View P W T) (bus : LiveBus W P T) (at index : ℕ) (own : OwnAction) (found : Finding) → IsSound view bus → AreFresh bus.living.items → IsCandidateIn (scene_in bus) (candidate.Own at index found) →
+    (ready_at (rows_of bus.living.items) at index).action ≡ action.Own own → (effect_in bus at own found).shown ≡ (label_of (move_in view bus (candidate.Own at index found))).terms
+shown-own view bus at index own found sound fresh h e =
     let rows = rows_of bus.living.items in
-    let proc = proc_at (procs_in view bus) at in
-    let offer = offer_of (procs_in view bus) rows at index in
-    let own = found.1.0 in
-    ap (shown_in bus.marks.next_number) found.1.1
-    ∙ ap (λ (x : Effect). x.shown) (sym (effect-same bus.marks.next_number own))
-    ∙ ap (λ o. (label_of (own_move proc offer o)).terms) (sym (own-effect-is (bus_of view bus) (scene_in bus) bus.marks (searched-for view bus sound fresh) at index found own found.1.1))
-
-pub shown-note : {W P T : Type 0} (view : View P W T) (bus : LiveBus W P T) (at index : ℕ) (indices : List ℕ) → IsSound view bus → AreFresh bus.living.items → IsCandidateIn (scene_in bus) (candidate.Notify at index indices) →
-    shown_in bus.marks.next_number (ready_at (rows_of bus.living.items) at index).action ≡ (label_of (move_in view bus (candidate.Notify at index indices))).terms
-shown-note view bus at index indices sound fresh found =
-    let rows = rows_of bus.living.items in
-    ap (shown_in bus.marks.next_number) found.1.1
-    ∙ ap (λ o. (label_of (own_move (proc_at (procs_in view bus) at) (offer_of (procs_in view bus) rows at index) o)).terms)
-    (sym (note-effect-is (bus_of view bus) (scene_in bus) bus.marks (searched-for view bus sound fresh) at index indices found found.1.0 found.1.1))
-
-pub shown-taking : {W P T : Type 0} (view : View P W T) (bus : LiveBus W P T) (at index : ℕ) (found : Found) → IsSound view bus → AreFresh bus.living.items → IsCandidateIn (scene_in bus) (candidate.TakeNote at index found) →
-    note_at (held_at bus.living.items at) found.place ≡ (label_of (move_in view bus (candidate.TakeNote at index found))).terms
-shown-taking view bus at index found sound fresh h =
-    let rows = rows_of bus.living.items in
-    ap (λ (held : Held). note_at held found.place) (sym (row-held bus.living.items at))
-    ∙ ap (λ o. (label_of (own_move (proc_at (procs_in view bus) at) (offer_of (procs_in view bus) rows at index) o)).terms)
-    (sym (take-effect-is (bus_of view bus) (scene_in bus) bus.marks (searched-for view bus sound fresh) at index found h))
-
-pub shown-sent : {W P T : Type 0} (view : View P W T) (bus : LiveBus W P T) (at index : ℕ) (partner : Partner) → IsCandidateIn (scene_in bus) (candidate.Handshake at index partner) →
-    shown_in bus.marks.next_number (ready_at (rows_of bus.living.items) at index).action ≡ (label_of (move_in view bus (candidate.Handshake at index partner))).terms
-shown-sent view bus at index partner found = ap (shown_in bus.marks.next_number) found.3
-
--- one of the three candidates that name an action
-abbrev pub IsOfAction : Candidate → ℕ → ℕ → Type 0
-IsOfAction found at index = (found ≡ candidate.Own at index) ⊎ (((partner : Partner) × (found ≡ candidate.Handshake at index partner)) ⊎ ((indices : List ℕ) × (found ≡ candidate.Notify at index indices)))
-
-pub there-by : {W P T : Type 0} (view : View P W T) (bus : LiveBus W P T) (found : Candidate) (at index : ℕ) → IsCandidateIn (scene_in bus) found → IsOfAction found at index →
-    (at < length bus.living.items) × (index < length (row_at (rows_of bus.living.items) at).ready)
-there-by view bus found at index is (inl e) = let it = subst (IsCandidateIn (scene_in bus)) e is in let many = length-map bus.living.items row_of in (omega (arith, it.0.0), it.0.1)
-there-by view bus found at index is (inr (inl h)) = let it = subst (IsCandidateIn (scene_in bus)) h.1 is in let many = length-map bus.living.items row_of in (omega (arith, it.0.0), it.0.1)
-there-by view bus found at index is (inr (inr h)) = let it = subst (IsCandidateIn (scene_in bus)) h.1 is in let many = length-map bus.living.items row_of in (omega (arith, it.0.0), it.0.1)
-
-pub shown-by : {W P T : Type 0} (view : View P W T) (bus : LiveBus W P T) (found : Candidate) (at index : ℕ) → IsSound view bus → AreFresh bus.living.items → IsCandidateIn (scene_in bus) found → IsOfAction found at index →
-    shown_in bus.marks.next_number (ready_at (rows_of bus.living.items) at index).action ≡ (label_of (move_in view bus found)).terms
-shown-by view bus found at index sound fresh is (inl e) =
-    shown-own view bus at index sound fresh (subst (IsCandidateIn (scene_in bus)) e is) ∙ ap (λ x. (label_of (move_in view bus x)).terms) (sym e)
-shown-by view bus found at index sound fresh is (inr (inl h)) =
-    shown-sent view bus at index h.0 (subst (IsCandidateIn (scene_in bus)) h.1 is) ∙ ap (λ x. (label_of (move_in view bus x)).terms) (sym h.1)
-shown-by view bus found at index sound fresh is (inr (inr h)) =
-    shown-note view bus at index h.0 sound fresh (subst (IsCandidateIn (scene_in bus)) h.1 is) ∙ ap (λ x. (label_of (move_in view bus x)).terms) (sym h.1)
+    ap (λ o. (label_of (own_move (proc_at (procs_in view bus) at) (offer_of (procs_in view bus) rows at index) o)).terms)
+    (sym (own-effect-is (bus_of view bus) (scene_in bus) bus.marks (searched-for view bus sound fresh) at index found h own e))
 
 -- the numbers of both parties are named
 pub named-first : (old middle last stale : Vec ℕ) (one other before number : ℕ) → stale ≡ last → last.items ≡ middle.items ++ other ∷ [] → middle.items ≡ old.items ++ one ∷ [] → number ≡ before → one ≡ before → Contains stale.items number

@@ -146,13 +146,6 @@ stands-turned view bus index roused at living awake sound here turned rested = r
   calm = λ e. e;
 }
 
--- who stands at an index is the same where others were woken, and the same numbers are named
-pub roused-kept : {W P T : Type 0} (bus roused : LiveBus W P T) (old : List (Living W)) (at : ℕ) → roused ≡ record bus { index = roused.index; roused = roused.roused } → IsKept old bus.living.items at → IsKept old roused.living.items at
-roused-kept bus roused old at e h = subst (λ (b : LiveBus _ _ _). IsKept old b.living.items at) (sym e) h
-
-pub roused-named : {W P T : Type 0} (bus roused : LiveBus W P T) (number : ℕ) → roused ≡ record bus { index = roused.index; roused = roused.roused } → Contains bus.stale.items number → Contains roused.stale.items number
-roused-named bus roused number e h = subst (λ (b : LiveBus _ _ _). Contains b.stale.items number) (sym e) h
-
 -- whoever is to sleep again is named elsewhere
 pub stands-roused : {W P T : Type 0} (view : View P W T) (old bus : LiveBus W P T) (roused : Vec ℕ) → StandsAs view old bus → StandsAs view old (record bus { roused = roused })
 stands-roused view old bus roused same = record {

@@ -68,18 +68,6 @@ not-tools : (bus : Bus) (proc : Proc) (offered : Offered) (may : Bool) (effect :
 not-tools bus proc offered true effect h = omega arith
 not-tools bus proc offered false effect h = h
 
-own-tools : (bus : Bus) (proc : Proc) (offered : Offered) (does : OwnAction) → next_with bus proc offered (own_effect bus proc does) ≤ bus.bench.next_tool + 1
-own-tools bus proc offered own.Tau = omega arith
-own-tools bus proc offered (own.Set values binds) = omega arith
-own-tools bus proc offered (own.Print text) = omega arith
-own-tools bus proc offered (own.NoNote patterns) =
-    not-tools bus proc offered (is_some (oldest_match patterns proc.inbox)) (record { kind = kind.NoNote; shown = []; binds = []; change = Nothing }) (omega arith)
-own-tools bus proc offered (own.Subscribe patterns) = omega arith
-own-tools bus proc offered (own.Unsubscribe patterns) = omega arith
-own-tools bus proc offered (own.Create process actuals slot) =
-    may-tools bus proc offered (may_create bus.program.bodies (length bus.procs) bus.next_number proc.body process actuals slot) (creation bus.next_number process actuals slot) (omega arith)
-own-tools bus proc offered (own.Shutdown reason) = omega arith
-
 taken-tools : (bus : Bus) (proc : Proc) (offered : Offered) (found : Option Found) → next_with bus proc offered (option_map (taking proc.inbox) found) ≤ bus.bench.next_tool + 1
 taken-tools bus proc offered None = omega arith
 taken-tools bus proc offered (Some found) = omega arith
@@ -89,25 +77,34 @@ spoken-tools : (bus : Bus) (proc : Proc) (offered : Offered) (does : ToolAction)
 spoken-tools bus proc offered does None = omega arith
 spoken-tools bus proc offered does (Some exchange) = after-tools (setting_of bus proc) does exchange
 
+own-tools : (bus : Bus) (proc : Proc) (offered : Offered) (does : OwnAction) → next_with bus proc offered (own_effect bus proc does) ≤ bus.bench.next_tool + 1
+own-tools bus proc offered own.Tau = omega arith
+own-tools bus proc offered (own.Set values binds) = omega arith
+own-tools bus proc offered (own.Print text) = omega arith
+own-tools bus proc offered (own.Notify terms) =
+    may-tools bus proc offered (list_all (λ (other : Proc). takes_note terms other.inbox) bus.procs) (record { kind = kind.SndNote; shown = terms; binds = []; change = PutsNote terms }) (omega arith)
+own-tools bus proc offered (own.TakeNote patterns) = taken-tools bus proc offered (oldest_match patterns proc.inbox)
+own-tools bus proc offered (own.NoNote patterns) =
+    not-tools bus proc offered (is_some (oldest_match patterns proc.inbox)) (record { kind = kind.NoNote; shown = []; binds = []; change = Nothing }) (omega arith)
+own-tools bus proc offered (own.Subscribe patterns) = omega arith
+own-tools bus proc offered (own.Unsubscribe patterns) = omega arith
+own-tools bus proc offered (own.Create process actuals slot) =
+    may-tools bus proc offered (may_create bus.program.bodies (length bus.procs) bus.next_number proc.body process actuals slot) (creation bus.next_number process actuals slot) (omega arith)
+own-tools bus proc offered (own.Speak does) = spoken-tools bus proc offered does (exchange_for (setting_of bus proc) does)
+own-tools bus proc offered (own.Shutdown reason) = omega arith
+
 effect-tools : (bus : Bus) (proc : Proc) (offered : Offered) (does : Action) → next_with bus proc offered (effect_of bus proc does) ≤ bus.bench.next_tool + 1
 effect-tools bus proc offered (action.Own does) = own-tools bus proc offered does
 effect-tools bus proc offered (action.Send terms) = omega arith
 effect-tools bus proc offered (action.Receive patterns) = omega arith
-effect-tools bus proc offered (action.Notify terms) =
-    may-tools bus proc offered (list_all (λ (other : Proc). takes_note terms other.inbox) bus.procs) (record { kind = kind.SndNote; shown = terms; binds = []; change = PutsNote terms }) (omega arith)
-effect-tools bus proc offered (action.TakeNote patterns) = taken-tools bus proc offered (oldest_match patterns proc.inbox)
-effect-tools bus proc offered (action.Speak does) = spoken-tools bus proc offered does (exchange_for (setting_of bus proc) does)
 
 by-tools : (bus : Bus) (rows : List Row) (at index : ℕ) → (apply bus (move_by bus rows at index)).bench.next_tool ≤ bus.bench.next_tool + 1
 by-tools bus rows at index = effect-tools bus (proc_at bus.procs at) (offer_of bus.procs rows at index) (ready_at rows at index).action
 
 -- the move of a candidate gives one at most
 pub move-tools : (bus : Bus) (rows : List Row) (found : Candidate) → (apply bus (move_of bus rows found)).bench.next_tool ≤ bus.bench.next_tool + 1
-move-tools bus rows (candidate.Own at index) = by-tools bus rows at index
+move-tools bus rows (candidate.Own at index found) = by-tools bus rows at index
 move-tools bus rows (candidate.Handshake at index partner) = omega arith
-move-tools bus rows (candidate.Notify at index wanting) = by-tools bus rows at index
-move-tools bus rows (candidate.TakeNote at index note) = by-tools bus rows at index
-move-tools bus rows (candidate.Speak at index exchange) = by-tools bus rows at index
 move-tools bus rows candidate.Finish = omega arith
 move-tools bus rows candidate.Halt = omega arith
 

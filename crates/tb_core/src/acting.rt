@@ -5,7 +5,7 @@ ghost use Rattle.tb_core.specs.Helpers.LiveBuses.{CanLog, IsLogged};
 
 use std::alloc::Global;
 use tb_living::Done;
-use tb_log::{Entry, Label, LabelKind, Log, Place};
+use tb_log::{Label, LabelKind, Log, Place};
 use tb_match::Bind;
 use tb_terms::{Items, Name, NoMemory, Term};
 
@@ -76,7 +76,13 @@ pub fn put_label(log: &mut Log, label: Label)
     requires { CanLog log.old label }
     ensures { IsLogged log.old label log.new }
 {
-    log.push(Entry::Did(label));
+    let Label {
+        kind,
+        from,
+        to,
+        mut terms,
+    } = label;
+    log.push_step(kind, from, to, &mut terms);
 }
 
 /// Why the bus goes down where no process is left.

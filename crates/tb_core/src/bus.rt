@@ -1,8 +1,7 @@
-ghost use Rattle.std.specs.Prelude.{◌≡◌, ℕ, min};
+ghost use Rattle.std.specs.Prelude.{◌≡◌, min};
 ghost use Rattle.std.below.core.specs.declared.int.usize.TheConstants.{MAX};
 ghost use Rattle.tb_log.specs.Limits.{terms_size};
-ghost use Rattle.tb_search.specs.Views.{sent_in};
-ghost use Rattle.tb_core.specs.Helpers.Makings.{effect_by, shown_in};
+ghost use Rattle.tb_search.specs.Views.{own_in, sent_in};
 
 use crate::acting::{
     NOWHERE, created, end_label, finish_reason, halt_reason, kind_alone, printed, put_label,
@@ -11,10 +10,10 @@ use crate::acting::{
 use std::alloc::Global;
 use std::mem::swap;
 use tb_algebra::Walker;
-use tb_bus::{Action, Exchange, Origin, OwnAction};
+use tb_bus::{Action, Exchange, Origin, OwnAction, ToolAction};
 use tb_index::{Index, Marks as KeptMarks};
 use tb_living::{
-    Done, TOOL_MARK, go_on, hand_out, index_of, is_declared, look, no_marks, numbers_of, open_all,
+    Buffers, Done, TOOL_MARK, go_on, hand_out, index_of, is_declared, look, no_marks, numbers_of, open_all,
     open_at, plan_all, point_of, seen_size, speak, subscribe_at, take_note_at, tick_all, turn,
     unsubscribe_at, update,
 };
@@ -22,7 +21,8 @@ use tb_log::{Input, Label, LabelKind, Log, Place, Reply, ToolLine, Why, total_si
 use tb_match::Binds;
 use tb_notes::Found;
 use tb_search::{
-    Boxed, Candidate, Living, Marks, Partner, Ready, Received, all_rest, first_candidate, place_of,
+    Boxed, Candidate, Finding, Living, Marks, Partner, Ready, Received, all_rest, first_candidate,
+    place_of,
 };
 use tb_terms::{Items, NoMemory, Term, Terms, size};
 use tb_tools::{Bench, Handout};
@@ -54,11 +54,11 @@ pub struct LiveBus<W: Walker> {
     pub stirred: bool,
 }
 
-/// What a process does, and where it stands.
+/// What a process does by itself, and where that stands.
 #[derive(Drop)]
 struct Begun {
     from: Place,
-    action: Action,
+    own: OwnAction,
 }
 
 impl<W: Walker> LiveBus<W> {
@@ -69,23 +69,24 @@ impl<W: Walker> LiveBus<W> {
     ghost use Rattle.tb_algebra.specs.Offers.{Offered};
     ghost use Rattle.tb_algebra.specs.Walks.{most_ticks};
     ghost use Rattle.tb_bus.specs.Buses.{start};
-    ghost use Rattle.tb_bus.specs.Effects.{creation, own_effect, went_down};
+    ghost use Rattle.tb_bus.specs.Effects.{creation, speaking, taking, went_down};
     ghost use Rattle.tb_bus.specs.Slots.{fits_formals};
     ghost use Rattle.tb_log.specs.Shapes.{IsInputInShape, IsLane, lane_count};
     ghost use Rattle.tb_tools.specs.Lanes.{most_tools};
     ghost use Rattle.tb_tools.specs.Finding.{next_out};
     ghost use Rattle.tb_bus.specs.Steps.{moves, apply, label_of, nowhere, finish_reason, halt_reason, first};
     ghost use Rattle.tb_bus.specs.Traces.{aged_proc, fed, took, taken_out};
-    ghost use Rattle.tb_search.specs.Candidates.{row_at, rows_of};
-    ghost use Rattle.tb_search.specs.Views.{ready_at, offer_of, proc_at, sent_in, IsCandidateIn};
+    ghost use Rattle.tb_search.specs.Candidates.{all_take, finding_of, row_at, rows_of, wanting};
+    ghost use Rattle.tb_search.specs.Findings.{noting};
+    ghost use Rattle.tb_search.specs.Views.{ready_at, offer_of, own_in, sent_in, IsCandidateIn};
     ghost use Rattle.tb_index.specs.Indexes.{is_awake, is_receiver};
     ghost use Rattle.tb_search.specs.Indexed.{IsNextPlace};
     ghost use Rattle.tb_living.specs.Indexes.{AreStillAwake, IsAwakeAt, tool_mark};
     ghost use Rattle.tb_core.specs.Cores.{takes_memory};
-    ghost use Rattle.tb_core.specs.Helpers.Makings.{effect_by, IsPlainIn};
+    ghost use Rattle.tb_core.specs.Helpers.Makings.{effect_in, finding_in, IsPlainIn};
     ghost use Rattle.tb_core.specs.Helpers.LiveBuses.{bus_of, procs_in, scene_in, move_in, AreSettled, IsSettledAt, IsSound, IsStaleAt, IsSetAt, StandsAs, Leaves, CanAdvance, IsAdvanced, AreAdvanced, IsKept, IsChanged, HasGone, IsMade, CanLog, IsLogged};
     ghost use Rattle.tb_living.specs.Lives.{AreFresh, IsFreshOr};
-    ghost use Rattle.tb_living.specs.Spoken.{IsDone};
+    ghost use Rattle.tb_living.specs.Spoken.{CanSpeak, IsDone, around};
 
     /// The bus that a program opens with. Its processes are looked at later.
     pub fn open(alloc: Global, origin: Origin) -> Result<LiveBus<W>, NoMemory>
@@ -123,7 +124,12 @@ impl<W: Walker> LiveBus<W> {
     }
 
     /// Looks at a process anew, where it has to be.
-    fn freshen_at(&mut self, alloc: Global, at: usize) -> Result<(), NoMemory>
+    fn freshen_at(
+        &mut self,
+        alloc: Global,
+        at: usize,
+        buffers: &mut Buffers,
+    ) -> Result<(), NoMemory>
         requires sound { IsSound W.view self.old }
         requires within { at < length self.old.living.items }
         ensures same { StandsAs W.view self.old self.new }
@@ -137,7 +143,7 @@ impl<W: Walker> LiveBus<W> {
         let program = &self.origin.program;
         let plan = &self.plans.as_slice()[living.body as usize];
         let body = &program.bodies.as_slice()[living.body as usize];
-        look(alloc, plan, body, living, self.ticks)?;
+        look(alloc, plan, body, living, self.ticks, buffers)?;
         update(
             alloc,
             program,
@@ -149,7 +155,12 @@ impl<W: Walker> LiveBus<W> {
     }
 
     /// Looks at the process with this number anew, where it is there and has to be.
-    fn freshen_number(&mut self, alloc: Global, number: u32) -> Result<(), NoMemory>
+    fn freshen_number(
+        &mut self,
+        alloc: Global,
+        number: u32,
+        buffers: &mut Buffers,
+    ) -> Result<(), NoMemory>
         requires { IsSound W.view self.old }
         ensures same { StandsAs W.view self.old self.new }
         ensures stale { self.new.stale ≡ self.old.stale }
@@ -157,13 +168,13 @@ impl<W: Walker> LiveBus<W> {
     {
         let at = point_of(self.living.as_slice(), number);
         if at < self.living.len() {
-            self.freshen_at(alloc, at)?;
+            self.freshen_at(alloc, at, buffers)?;
         }
         Ok(())
     }
 
     /// Looks at those that have to be looked at, where no tick has passed: their numbers are noted.
-    fn freshen_noted(&mut self, alloc: Global) -> Result<(), NoMemory>
+    fn freshen_noted(&mut self, alloc: Global, buffers: &mut Buffers) -> Result<(), NoMemory>
         requires sound { IsSound W.view self.old }
         requires young { self.old.aged ≡ false }
         ensures same { StandsAs W.view self.old self.new }
@@ -171,19 +182,19 @@ impl<W: Walker> LiveBus<W> {
     {
         for index in 0..self.stale.len() {
             let number = self.stale[index];
-            self.freshen_number(alloc, number)?;
+            self.freshen_number(alloc, number, buffers)?;
         }
         Ok(())
     }
 
     /// Looks at those that have to be looked at, of all.
-    fn freshen_all(&mut self, alloc: Global) -> Result<(), NoMemory>
+    fn freshen_all(&mut self, alloc: Global, buffers: &mut Buffers) -> Result<(), NoMemory>
         requires { IsSound W.view self.old }
         ensures same { StandsAs W.view self.old self.new }
         ensures fresh { OnOk result (AreFresh self.new.living.items) }
     {
         for at in 0..self.living.len() {
-            self.freshen_at(alloc, at)?;
+            self.freshen_at(alloc, at, buffers)?;
         }
         Ok(())
     }
@@ -278,15 +289,15 @@ impl<W: Walker> LiveBus<W> {
     }
 
     /// Looks at all processes that have to be looked at.
-    fn look_anew(&mut self, alloc: Global) -> Result<(), NoMemory>
+    fn look_anew(&mut self, alloc: Global, buffers: &mut Buffers) -> Result<(), NoMemory>
         requires { IsSound W.view self.old }
         ensures same { StandsAs W.view self.old self.new }
         ensures fresh { OnOk result (AreFresh self.new.living.items) }
     {
         if self.aged {
-            self.freshen_all(alloc)?;
+            self.freshen_all(alloc, buffers)?;
         } else {
-            self.freshen_noted(alloc)?;
+            self.freshen_noted(alloc, buffers)?;
         }
         self.stale.clear();
         self.aged = false;
@@ -294,19 +305,23 @@ impl<W: Walker> LiveBus<W> {
     }
 
     /// What each process is ready to do is known from then on, and whoever sleeps rests.
-    pub fn freshen(&mut self, alloc: Global) -> Result<(), NoMemory>
+    pub fn freshen(&mut self, alloc: Global, buffers: &mut Buffers) -> Result<(), NoMemory>
         requires { IsSound W.view self.old }
         ensures same { StandsAs W.view self.old self.new }
         ensures fresh { OnOk result (AreFresh self.new.living.items) }
         ensures settled { OnOk result (self.new.stirred ≡ false) }
     {
         self.settle(alloc)?;
-        self.look_anew(alloc)
+        self.look_anew(alloc, buffers)
     }
 
     /// The first of all moves.
     #[inline(always)]
-    pub fn first_candidate(&self, alloc: Global) -> Result<Option<Candidate>, NoMemory>
+    pub fn first_candidate(
+        &self,
+        alloc: Global,
+        room: &mut Binds,
+    ) -> Result<Option<Candidate>, NoMemory>
         requires sound { IsSound W.view self.now }
         requires fresh { AreFresh self.now.living.items }
         requires settled { self.now.stirred ≡ false }
@@ -321,6 +336,7 @@ impl<W: Walker> LiveBus<W> {
             self.living.as_slice(),
             self.marks,
             &self.index,
+            room,
         )
     }
 
@@ -387,12 +403,12 @@ impl<W: Walker> LiveBus<W> {
     }
 
     /// A process goes on with what was taken of it, and is gone where nothing is left.
-    fn advance_at(&mut self, at: usize, taken: W::Taken, binds: Binds)
+    fn advance_at(&mut self, at: usize, taken: W::Taken, binds: &mut Binds)
         requires sound { IsSound W.view self.old }
         requires within { at < length self.old.living.items }
         requires named { Contains self.old.stale.items (row_at (rows_of self.old.living.items) at).number }
-        requires taken { CanAdvance W.view self.old at taken binds }
-        ensures advanced { (offered : Offered) → Leaves W.view self.old at taken offered → IsAdvanced W.view self.old at offered binds self.new }
+        requires taken { CanAdvance W.view self.old at taken binds.old }
+        ensures advanced { (offered : Offered) → Leaves W.view self.old at taken offered → IsAdvanced W.view self.old at offered binds.old self.new }
         ensures before { (other : ℕ) → other < at → slice_get self.new.living.items other ≡ slice_get self.old.living.items other }
         ensures long { length self.old.living.items ≤ length self.new.living.items + 1 }
         ensures stale { self.new.stale ≡ self.old.stale }
@@ -413,22 +429,44 @@ impl<W: Walker> LiveBus<W> {
         ensures { result ≡ min (terms_size (label_of (move_in W.view self.now candidate.now)).terms) MAX }
     {
         match candidate {
-            Candidate::Own(at, index)
-            | Candidate::Handshake(at, index, _)
-            | Candidate::Notify(at, index, _) => {
-                action_size(&self.living[*at].get().ready[*index].action)
+            Candidate::Own(at, index, finding) => {
+                match &self.living[*at].get().ready[*index].action {
+                    Action::Own(own) => self.own_size(*at, own, finding),
+                    Action::Send(_) | Action::Receive(_) => 0,
+                }
             }
-            Candidate::TakeNote(at, _, found) => {
-                total_size(self.living[*at].get().inbox.note(found.place).as_slice())
-            }
-            Candidate::Speak(at, index, exchange) => {
-                seen_size(
-                    &self.bench,
-                    &self.living[*at].get().ready[*index].action,
-                    exchange,
-                )
+            Candidate::Handshake(at, index, _) => {
+                sent_size(&self.living[*at].get().ready[*index].action)
             }
             Candidate::Finish | Candidate::Halt => 0,
+        }
+    }
+
+    /// How large the terms are that are seen of what a process does by itself, as was found.
+    fn own_size(&self, at: usize, own: &OwnAction, finding: &Finding) -> usize
+        requires sound { IsSound W.view self.now }
+        requires within { at < length self.now.living.items }
+        requires found { finding_in self.now at own.now ≡ Some finding.now }
+        ensures { result ≡ min (terms_size (effect_in self.now at own.now finding.now).shown) MAX }
+    {
+        match own {
+            OwnAction::Set(terms, _) | OwnAction::Notify(terms) => total_size(terms.as_slice()),
+            OwnAction::Print(text) | OwnAction::Shutdown(text) => size(text),
+            OwnAction::Create(_, _, _) => 1,
+            OwnAction::TakeNote(_) => match finding {
+                Finding::TakeNote(found) => {
+                    total_size(self.living[at].get().inbox.note(found.place).as_slice())
+                }
+                _ => 0,
+            },
+            OwnAction::Speak(does) => match finding {
+                Finding::Speak(exchange) => seen_size(&self.bench, does, exchange),
+                _ => 0,
+            },
+            OwnAction::Tau
+            | OwnAction::NoNote(_)
+            | OwnAction::Subscribe(_)
+            | OwnAction::Unsubscribe(_) => 0,
         }
     }
 
@@ -438,6 +476,7 @@ impl<W: Walker> LiveBus<W> {
         alloc: Global,
         candidate: Candidate,
         log: &mut Log,
+        buffers: &mut Buffers,
     ) -> Result<(), NoMemory>
         requires sound { IsSound W.view self.old }
         requires fresh { AreFresh self.old.living.items }
@@ -453,61 +492,15 @@ impl<W: Walker> LiveBus<W> {
         ensures kept { OnErr result (log.new ≡ log.old) }
     {
         match candidate {
-            Candidate::Own(at, index) => self.make_own(alloc, at, index, log),
-            Candidate::Handshake(at, index, partner) => self.shake(alloc, at, index, partner, log),
-            other => self.make_other(alloc, other, log),
-        }
-    }
-
-    /// Likewise one that is seldom made, apart from the others since a function pays at entry for all that it may hold.
-    #[inline(never)]
-    fn make_other(
-        &mut self,
-        alloc: Global,
-        candidate: Candidate,
-        log: &mut Log,
-    ) -> Result<(), NoMemory>
-        requires sound { IsSound W.view self.old }
-        requires fresh { AreFresh self.old.living.items }
-        requires next { self.old.marks.next_number < 4294967295 }
-        requires tools { self.old.bench.next_tool ≤ most_tools }
-        requires found { IsCandidateIn (scene_in self.old) candidate }
-        requires can { CanLog log.old (label_of (move_in W.view self.old candidate)) }
-        ensures sound { IsSound W.view self.new }
-        ensures origin { self.new.origin ≡ self.old.origin }
-        ensures logged { OnOk result (IsLogged log.old (label_of (move_in W.view self.old candidate)) log.new) }
-        ensures bus { OnOk result (bus_of W.view self.new ≡ apply (bus_of W.view self.old) (move_in W.view self.old candidate)) }
-        ensures err { OnErr result (bus_of W.view self.new ≡ bus_of W.view self.old) }
-        ensures kept { OnErr result (log.new ≡ log.old) }
-    {
-        match candidate {
-            Candidate::Own(at, index) => self.make_own(alloc, at, index, log),
-            Candidate::Handshake(at, index, partner) => self.shake(alloc, at, index, partner, log),
-            Candidate::Notify(at, index, indices) => {
-                let label = self.make_note(alloc, at, index, &indices)?;
-                put_label(log, label);
-                Ok(())
+            Candidate::Own(at, index, Finding::Plain) if self.is_tau(at, index) => {
+                self.make_tau(alloc, at, index, log)
             }
-            Candidate::TakeNote(at, index, found) => {
-                let label = self.make_taking(alloc, at, index, found)?;
-                put_label(log, label);
-                Ok(())
+            Candidate::Own(at, index, finding) => self.make_own(alloc, at, index, finding, log),
+            Candidate::Handshake(at, index, partner) => {
+                self.shake(alloc, at, index, partner, log, buffers)
             }
-            Candidate::Speak(at, index, exchange) => {
-                let label = self.make_exchange(alloc, at, index, exchange)?;
-                put_label(log, label);
-                Ok(())
-            }
-            Candidate::Finish => {
-                let label = self.finish_bus(alloc)?;
-                put_label(log, label);
-                Ok(())
-            }
-            Candidate::Halt => {
-                let label = self.halt_bus(alloc)?;
-                put_label(log, label);
-                Ok(())
-            }
+            Candidate::Finish => self.finish_bus(alloc, log),
+            Candidate::Halt => self.halt_bus(alloc, log),
         }
     }
 
@@ -520,6 +513,7 @@ impl<W: Walker> LiveBus<W> {
         index: usize,
         partner: Partner,
         log: &mut Log,
+        buffers: &mut Buffers,
     ) -> Result<(), NoMemory>
         requires sound { IsSound W.view self.old }
         requires fresh { AreFresh self.old.living.items }
@@ -535,7 +529,7 @@ impl<W: Walker> LiveBus<W> {
         self.stale.reserve(2)?;
         let sent = self.take_at(alloc, at, index)?;
         let received = self.take_at(alloc, partner.living, partner.received.action)?;
-        self.make_handshake(alloc, at, index, sent, partner, received, log);
+        self.make_handshake(alloc, at, index, sent, partner, received, log, buffers);
         Ok(())
     }
 
@@ -581,7 +575,7 @@ impl<W: Walker> LiveBus<W> {
         Ok(from)
     }
 
-    /// One of the actions of a process, which has to be looked at anew from then on.
+    /// What one of the actions of a process does by itself. The process has to be looked at anew from then on.
     fn begin(&mut self, at: usize, index: usize) -> Result<Begun, NoMemory>
         requires sound { IsSound W.view self.old }
         requires within { at < length self.old.living.items }
@@ -589,41 +583,15 @@ impl<W: Walker> LiveBus<W> {
         ensures same { StandsAs W.view self.old self.new }
         ensures number { IfOk result (λ begun. begun.from.proc ≡ (row_at (rows_of self.old.living.items) at).number) }
         ensures atom { IfOk result (λ begun. begun.from.atom ≡ (ready_at (rows_of self.old.living.items) at index).atom) }
-        ensures action { IfOk result (λ begun. begun.action ≡ (ready_at (rows_of self.old.living.items) at index).action) }
+        ensures own { IfOk result (λ begun. begun.own ≡ own_in (ready_at (rows_of self.old.living.items) at index).action) }
         ensures kept { IsKept self.old.living.items self.new.living.items at }
         ensures named { OnOk result (Contains self.new.stale.items (row_at (rows_of self.old.living.items) at).number) }
         ensures idle { OnOk result (IsStaleAt self.new.living.items at) }
     {
         let from = self.place_at(at, index);
         self.stale.push(from.proc)?;
-        let action = self.take_ready(at, index).action;
-        Ok(Begun { from, action })
-    }
-
-    /// A process goes on by itself.
-    fn make_own(
-        &mut self,
-        alloc: Global,
-        at: usize,
-        index: usize,
-        log: &mut Log,
-    ) -> Result<(), NoMemory>
-        requires sound { IsSound W.view self.old }
-        requires fresh { AreFresh self.old.living.items }
-        requires next { self.old.marks.next_number < 4294967295 }
-        requires found { IsCandidateIn (scene_in self.old) (Candidate.Own at index) }
-        requires can { CanLog log.old (label_of (move_in W.view self.old (Candidate.Own at index))) }
-        ensures made { OnOk result (IsMade W.view self.old (Candidate.Own at index) self.new) }
-        ensures logged { OnOk result (IsLogged log.old (label_of (move_in W.view self.old (Candidate.Own at index))) log.new) }
-        ensures err { OnErr result (StandsAs W.view self.old self.new) }
-        ensures kept { OnErr result (log.new ≡ log.old) }
-    {
-        if self.is_tau(at, index) {
-            return self.make_tau(alloc, at, index, log);
-        }
-        let label = self.make_act(alloc, at, index)?;
-        put_label(log, label);
-        Ok(())
+        let own = own_of(self.take_ready(at, index).action);
+        Ok(Begun { from, own })
     }
 
     /// A process goes on by itself; the log tells no terms of it.
@@ -637,11 +605,11 @@ impl<W: Walker> LiveBus<W> {
     ) -> Result<(), NoMemory>
         requires sound { IsSound W.view self.old }
         requires fresh { AreFresh self.old.living.items }
-        requires found { IsCandidateIn (scene_in self.old) (Candidate.Own at index) }
+        requires found { IsCandidateIn (scene_in self.old) (Candidate.Own at index Finding.Plain) }
         requires tau { (ready_at (rows_of self.old.living.items) at index).action ≡ Action.Own OwnAction.Tau }
-        requires can { CanLog log.old (label_of (move_in W.view self.old (Candidate.Own at index))) }
-        ensures made { OnOk result (IsMade W.view self.old (Candidate.Own at index) self.new) }
-        ensures logged { OnOk result (IsLogged log.old (label_of (move_in W.view self.old (Candidate.Own at index))) log.new) }
+        requires can { CanLog log.old (label_of (move_in W.view self.old (Candidate.Own at index Finding.Plain))) }
+        ensures made { OnOk result (IsMade W.view self.old (Candidate.Own at index Finding.Plain) self.new) }
+        ensures logged { OnOk result (IsLogged log.old (label_of (move_in W.view self.old (Candidate.Own at index Finding.Plain))) log.new) }
         ensures err { OnErr result (StandsAs W.view self.old self.new) }
         ensures kept { OnErr result (log.new ≡ log.old) }
     {
@@ -652,24 +620,33 @@ impl<W: Walker> LiveBus<W> {
         Ok(())
     }
 
-    /// A process goes on by itself, as one of its actions says.
+    /// A process goes on by itself, as one of its actions says, and as was found.
     #[inline(never)]
-    fn make_act(&mut self, alloc: Global, at: usize, index: usize) -> Result<Label, NoMemory>
+    fn make_own(
+        &mut self,
+        alloc: Global,
+        at: usize,
+        index: usize,
+        finding: Finding,
+        log: &mut Log,
+    ) -> Result<(), NoMemory>
         requires sound { IsSound W.view self.old }
         requires fresh { AreFresh self.old.living.items }
         requires next { self.old.marks.next_number < 4294967295 }
-        requires found { IsCandidateIn (scene_in self.old) (Candidate.Own at index) }
-        ensures made { OnOk result (IsMade W.view self.old (Candidate.Own at index) self.new) }
-        ensures label { IfOk result (λ label. label ≡ label_of (move_in W.view self.old (Candidate.Own at index))) }
+        requires tools { self.old.bench.next_tool ≤ most_tools }
+        requires found { IsCandidateIn (scene_in self.old) (Candidate.Own at index finding) }
+        requires can { CanLog log.old (label_of (move_in W.view self.old (Candidate.Own at index finding))) }
+        ensures made { OnOk result (IsMade W.view self.old (Candidate.Own at index finding) self.new) }
+        ensures logged { OnOk result (IsLogged log.old (label_of (move_in W.view self.old (Candidate.Own at index finding))) log.new) }
         ensures err { OnErr result (StandsAs W.view self.old self.new) }
+        ensures kept { OnErr result (log.new ≡ log.old) }
     {
         let taken = self.take_at(alloc, at, index)?;
-        let Begun { from, action } = self.begin(at, index)?;
-        let Action::Own(own) = action else {
-            unreachable!()
-        };
-        let done = self.act(alloc, at, own)?;
-        Ok(self.finish(at, taken, from, done))
+        let Begun { from, own } = self.begin(at, index)?;
+        let done = self.act(alloc, at, own, finding)?;
+        let label = self.finish(at, taken, from, done);
+        put_label(log, label);
+        Ok(())
     }
 
     /// The process at an index is asked at the next step, and may sleep again after that.
@@ -701,83 +678,60 @@ impl<W: Walker> LiveBus<W> {
         Ok(())
     }
 
-    /// A process sends a note to these, which want it.
-    fn make_note(
+    /// These get a note, which they want.
+    fn send_note(
         &mut self,
         alloc: Global,
-        at: usize,
-        index: usize,
         indices: &Items<usize>,
-    ) -> Result<Label, NoMemory>
+        terms: Terms,
+    ) -> Result<Done, NoMemory>
         requires sound { IsSound W.view self.old }
-        requires fresh { AreFresh self.old.living.items }
-        requires found { IsCandidateIn (scene_in self.old) (Candidate.Notify at index indices.now) }
-        ensures made { OnOk result (IsMade W.view self.old (Candidate.Notify at index indices.now) self.new) }
-        ensures label { IfOk result (λ label. label ≡ label_of (move_in W.view self.old (Candidate.Notify at index indices.now))) }
+        requires wanting { indices.now ≡ wanting terms 0 (rows_of self.old.living.items) }
+        requires room { IsTrue (all_take terms (rows_of self.old.living.items)) }
+        ensures changed { OnOk result ((at : ℕ) → at < length self.old.living.items → IsChanged W.view self.old at (noting terms) self.new) }
+        ensures done { IfOk result (IsDone (noting terms)) }
         ensures err { OnErr result (StandsAs W.view self.old self.new) }
     {
-        let taken = self.take_at(alloc, at, index)?;
-        let Begun { from, action } = self.begin(at, index)?;
-        let Action::Notify(shown) = action else {
-            unreachable!()
-        };
         self.rouse(indices.as_slice())?;
-        hand_out(alloc, &mut self.living, indices.as_slice(), &shown)?;
-        let done = Done {
+        hand_out(alloc, &mut self.living, indices.as_slice(), &terms)?;
+        Ok(Done {
             kind: LabelKind::SndNote,
-            shown,
+            shown: terms,
             binds: Items::new(alloc),
-        };
-        Ok(self.finish(at, taken, from, done))
+        })
     }
 
-    /// A process takes a note that was found in its queue.
-    fn make_taking(
-        &mut self,
-        alloc: Global,
-        at: usize,
-        index: usize,
-        found: Found,
-    ) -> Result<Label, NoMemory>
+    /// A process takes a note that was found in its queue. It has to be looked at anew already.
+    fn take_note(&mut self, at: usize, found: Found) -> Done
         requires sound { IsSound W.view self.old }
-        requires fresh { AreFresh self.old.living.items }
-        requires found { IsCandidateIn (scene_in self.old) (Candidate.TakeNote at index found) }
-        ensures made { OnOk result (IsMade W.view self.old (Candidate.TakeNote at index found) self.new) }
-        ensures label { IfOk result (λ label. label ≡ label_of (move_in W.view self.old (Candidate.TakeNote at index found))) }
-        ensures err { OnErr result (StandsAs W.view self.old self.new) }
+        requires within { at < length self.old.living.items }
+        requires idle { IsStaleAt self.old.living.items at }
+        requires place { found.place < length (row_at (rows_of self.old.living.items) at).inbox.notes }
+        ensures changed { IsChanged W.view self.old at (taking (row_at (rows_of self.old.living.items) at).inbox found) self.new }
+        ensures done { IsDone (taking (row_at (rows_of self.old.living.items) at).inbox found) result }
     {
-        let taken = self.take_at(alloc, at, index)?;
-        let Begun { from, .. } = self.begin(at, index)?;
         let Found { place, binds } = found;
-        let done = Done {
+        Done {
             kind: LabelKind::RecNote,
             shown: take_note_at(&mut self.living, at, place),
             binds,
-        };
-        Ok(self.finish(at, taken, from, done))
+        }
     }
 
     /// A process speaks with a tool, as was found.
-    fn make_exchange(
+    fn speak_with_tool(
         &mut self,
         alloc: Global,
-        at: usize,
-        index: usize,
+        does: ToolAction,
         exchange: Exchange,
-    ) -> Result<Label, NoMemory>
+    ) -> Result<Done, NoMemory>
         requires sound { IsSound W.view self.old }
-        requires fresh { AreFresh self.old.living.items }
         requires tools { self.old.bench.next_tool ≤ most_tools }
-        requires found { IsCandidateIn (scene_in self.old) (Candidate.Speak at index exchange) }
-        ensures made { OnOk result (IsMade W.view self.old (Candidate.Speak at index exchange) self.new) }
-        ensures label { IfOk result (λ label. label ≡ label_of (move_in W.view self.old (Candidate.Speak at index exchange))) }
+        requires can { CanSpeak self.old.origin.program.tools self.old.bench does exchange }
+        ensures changed { OnOk result ((at : ℕ) → at < length self.old.living.items → IsChanged W.view self.old at (speaking (around self.old.origin.program.tools self.old.bench) does exchange) self.new) }
+        ensures done { IfOk result (IsDone (speaking (around self.old.origin.program.tools self.old.bench) does exchange)) }
         ensures err { OnErr result (StandsAs W.view self.old self.new) }
     {
-        let taken = self.take_at(alloc, at, index)?;
-        let Begun { from, action } = self.begin(at, index)?;
-        let Action::Speak(does) = action else {
-            unreachable!()
-        };
         let program = &self.origin.program;
         let done = speak(
             alloc,
@@ -788,18 +742,27 @@ impl<W: Walker> LiveBus<W> {
         )?;
         self.stirred = true;
         self.bench.show_lanes();
-        Ok(self.finish(at, taken, from, done))
+        Ok(done)
     }
 
-    /// Makes the change of what a process does by itself. Where memory ran out nothing has changed.
-    fn act(&mut self, alloc: Global, at: usize, own: OwnAction) -> Result<Done, NoMemory>
+    /// Makes the change of what a process does by itself, as was found; no other finding comes with such an
+    /// action. The process has to be looked at anew already. Where memory ran out nothing has changed.
+    fn act(
+        &mut self,
+        alloc: Global,
+        at: usize,
+        own: OwnAction,
+        finding: Finding,
+    ) -> Result<Done, NoMemory>
         requires sound { IsSound W.view self.old }
         requires within { at < length self.old.living.items }
+        requires idle { IsStaleAt self.old.living.items at }
         requires next { self.old.marks.next_number < 4294967295 }
+        requires tools { self.old.bench.next_tool ≤ most_tools }
         requires plain { IsPlainIn own }
-        requires happens { own_effect (bus_of W.view self.old) (proc_at (procs_in W.view self.old) at) own ≡ Some (effect_by self.old.marks.next_number own) }
-        ensures changed { OnOk result (IsChanged W.view self.old at (effect_by self.old.marks.next_number own) self.new) }
-        ensures done { IfOk result (IsDone (effect_by self.old.marks.next_number own)) }
+        requires found { finding_in self.old at own ≡ Some finding }
+        ensures changed { OnOk result (IsChanged W.view self.old at (effect_in self.old at own finding) self.new) }
+        ensures done { IfOk result (IsDone (effect_in self.old at own finding)) }
         ensures err { OnErr result (StandsAs W.view self.old self.new) }
     {
         match own {
@@ -810,6 +773,14 @@ impl<W: Walker> LiveBus<W> {
                 binds,
             }),
             OwnAction::Print(text) => printed(alloc, text),
+            OwnAction::Notify(terms) => match finding {
+                Finding::Notify(indices) => self.send_note(alloc, &indices, terms),
+                _ => Ok(kind_alone(alloc, LabelKind::SndNote)),
+            },
+            OwnAction::TakeNote(_) => match finding {
+                Finding::TakeNote(found) => Ok(self.take_note(at, found)),
+                _ => Ok(kind_alone(alloc, LabelKind::RecNote)),
+            },
             OwnAction::NoNote(_) => Ok(kind_alone(alloc, LabelKind::NoNote)),
             OwnAction::Subscribe(patterns) => {
                 subscribe_at(&mut self.living, at, patterns)?;
@@ -822,6 +793,10 @@ impl<W: Walker> LiveBus<W> {
             OwnAction::Create(process, actuals, slot) => {
                 self.create(alloc, process, actuals, slot)
             }
+            OwnAction::Speak(does) => match finding {
+                Finding::Speak(exchange) => self.speak_with_tool(alloc, does, exchange),
+                _ => Ok(kind_alone(alloc, LabelKind::SndDo)),
+            },
             OwnAction::Shutdown(reason) => {
                 let done = shut_down(alloc, reason)?;
                 self.go_down(&done.shown.as_slice()[0])?;
@@ -867,8 +842,12 @@ impl<W: Walker> LiveBus<W> {
         ensures gone { (offered : Offered) → Leaves W.view self.old at taken offered → HasGone W.view self.old at offered done.binds from.proc self.new }
         ensures label { result ≡ record { kind = done.kind; from = from; to = nowhere; terms = done.shown } }
     {
-        let Done { kind, shown, binds } = done;
-        self.advance_at(at, taken, binds);
+        let Done {
+            kind,
+            shown,
+            mut binds,
+        } = done;
+        self.advance_at(at, taken, &mut binds);
         self.marks.last_starter = from.proc;
         Label {
             kind,
@@ -888,6 +867,7 @@ impl<W: Walker> LiveBus<W> {
         partner: Partner,
         received: W::Taken,
         log: &mut Log,
+        buffers: &mut Buffers,
     )
         requires sound { IsSound W.view self.old }
         requires fresh { AreFresh self.old.living.items }
@@ -901,15 +881,16 @@ impl<W: Walker> LiveBus<W> {
     {
         let Partner {
             living: other,
-            received: Received { action, binds },
+            received: Received { action, mut binds },
         } = partner;
         let from = self.place_at(at, index);
         let to = self.place_at(other, action);
         self.stale.push_reserved(from.proc);
         self.stale.push_reserved(to.proc);
         let terms = self.take_sent(alloc, at, index);
-        self.advance_both(alloc, at, sent, other, received, binds);
+        self.advance_both(alloc, at, sent, other, received, &mut binds);
         self.marks.last_starter = from.proc;
+        buffers.binds = binds;
         put_label(
             log,
             Label {
@@ -929,7 +910,7 @@ impl<W: Walker> LiveBus<W> {
         sent: W::Taken,
         other: usize,
         received: W::Taken,
-        binds: Binds,
+        binds: &mut Binds,
     )
         requires sound { IsSound W.view self.old }
         requires within { at < length self.old.living.items }
@@ -938,16 +919,17 @@ impl<W: Walker> LiveBus<W> {
         requires named { Contains self.old.stale.items (row_at (rows_of self.old.living.items) at).number }
         requires other_named { Contains self.old.stale.items (row_at (rows_of self.old.living.items) other).number }
         requires sent { CanAdvance W.view self.old at sent [] }
-        requires received { CanAdvance W.view self.old other received binds }
+        requires received { CanAdvance W.view self.old other received binds.old }
         ensures { (offered its : Offered) → Leaves W.view self.old at sent offered → Leaves W.view self.old other received its →
-            AreAdvanced W.view self.old at offered other its binds self.new }
+            AreAdvanced W.view self.old at offered other its binds.old self.new }
     {
+        let mut none = Items::new(alloc);
         // The one behind goes first, so that the other keeps its index.
         if at < other {
             self.advance_at(other, received, binds);
-            self.advance_at(at, sent, Items::new(alloc));
+            self.advance_at(at, sent, &mut none);
         } else {
-            self.advance_at(at, sent, Items::new(alloc));
+            self.advance_at(at, sent, &mut none);
             self.advance_at(other, received, binds);
         }
     }
@@ -971,29 +953,33 @@ impl<W: Walker> LiveBus<W> {
     }
 
     /// No process is left: the bus goes down by a step of its own.
-    fn finish_bus(&mut self, alloc: Global) -> Result<Label, NoMemory>
-        requires { IsSound W.view self.old }
-        ensures sound { IsSound W.view self.new }
-        ensures origin { self.new.origin ≡ self.old.origin }
-        ensures bus { OnOk result (bus_of W.view self.new ≡ went_down finish_reason (bus_of W.view self.old)) }
-        ensures label { IfOk result (λ label. label ≡ record { kind = LabelKind.Finish; from = nowhere; to = nowhere; terms = [] }) }
-        ensures err { OnErr result (bus_of W.view self.new ≡ bus_of W.view self.old) }
+    #[inline(never)]
+    fn finish_bus(&mut self, alloc: Global, log: &mut Log) -> Result<(), NoMemory>
+        requires sound { IsSound W.view self.old }
+        requires can { CanLog log.old (label_of (move_in W.view self.old Candidate.Finish)) }
+        ensures made { OnOk result (IsMade W.view self.old Candidate.Finish self.new) }
+        ensures logged { OnOk result (IsLogged log.old (label_of (move_in W.view self.old Candidate.Finish)) log.new) }
+        ensures err { OnErr result (StandsAs W.view self.old self.new) }
+        ensures kept { OnErr result (log.new ≡ log.old) }
     {
         self.go_down(&finish_reason(alloc)?)?;
-        Ok(end_label(alloc, LabelKind::Finish))
+        put_label(log, end_label(alloc, LabelKind::Finish));
+        Ok(())
     }
 
     /// No process can do anything, and no more ticks come: likewise.
-    fn halt_bus(&mut self, alloc: Global) -> Result<Label, NoMemory>
-        requires { IsSound W.view self.old }
-        ensures sound { IsSound W.view self.new }
-        ensures origin { self.new.origin ≡ self.old.origin }
-        ensures bus { OnOk result (bus_of W.view self.new ≡ went_down halt_reason (bus_of W.view self.old)) }
-        ensures label { IfOk result (λ label. label ≡ record { kind = LabelKind.Halt; from = nowhere; to = nowhere; terms = [] }) }
-        ensures err { OnErr result (bus_of W.view self.new ≡ bus_of W.view self.old) }
+    #[inline(never)]
+    fn halt_bus(&mut self, alloc: Global, log: &mut Log) -> Result<(), NoMemory>
+        requires sound { IsSound W.view self.old }
+        requires can { CanLog log.old (label_of (move_in W.view self.old Candidate.Halt)) }
+        ensures made { OnOk result (IsMade W.view self.old Candidate.Halt self.new) }
+        ensures logged { OnOk result (IsLogged log.old (label_of (move_in W.view self.old Candidate.Halt)) log.new) }
+        ensures err { OnErr result (StandsAs W.view self.old self.new) }
+        ensures kept { OnErr result (log.new ≡ log.old) }
     {
         self.go_down(&halt_reason(alloc)?)?;
-        Ok(end_label(alloc, LabelKind::Halt))
+        put_label(log, end_label(alloc, LabelKind::Halt));
+        Ok(())
     }
 
     /// A tick passes: all processes age. This takes no memory.
@@ -1113,33 +1099,28 @@ fn sent_of(alloc: Global, action: &mut Action) -> Terms
 {
     let mut sent = Items::new(alloc);
     match action {
-        Action::Send(terms) | Action::Notify(terms) => swap(terms, &mut sent),
-        Action::Own(_) | Action::Receive(_) | Action::TakeNote(_) | Action::Speak(_) => {}
+        Action::Send(terms) => swap(terms, &mut sent),
+        Action::Own(_) | Action::Receive(_) => {}
     }
     sent
 }
 
-/// How large the terms are that are seen of an action.
-fn action_size(action: &Action) -> usize
-    ensures { (next : ℕ) → result ≡ min (terms_size (shown_in next action.now)) MAX }
+/// What an action does by itself; a tau where it needs another process.
+fn own_of(action: Action) -> OwnAction
+    ensures { result ≡ own_in action }
 {
     match action {
-        Action::Own(own) => own_size(own),
-        Action::Send(terms) | Action::Notify(terms) => total_size(terms.as_slice()),
-        Action::Receive(_) | Action::TakeNote(_) | Action::Speak(_) => 0,
+        Action::Own(own) => own,
+        Action::Send(_) | Action::Receive(_) => OwnAction::Tau,
     }
 }
 
-fn own_size(own: &OwnAction) -> usize
-    ensures { (next : ℕ) → result ≡ min (terms_size (effect_by next own.now).shown) MAX }
+/// How large the terms are that an action sends.
+fn sent_size(action: &Action) -> usize
+    ensures { result ≡ min (terms_size (sent_in action.now)) MAX }
 {
-    match own {
-        OwnAction::Set(values, _) => total_size(values.as_slice()),
-        OwnAction::Print(text) | OwnAction::Shutdown(text) => size(text),
-        OwnAction::Create(_, _, _) => 1,
-        OwnAction::Tau
-        | OwnAction::NoNote(_)
-        | OwnAction::Subscribe(_)
-        | OwnAction::Unsubscribe(_) => 0,
+    match action {
+        Action::Send(terms) => total_size(terms.as_slice()),
+        Action::Own(_) | Action::Receive(_) => 0,
     }
 }

@@ -20,7 +20,8 @@ use std::marker::Model;
 use tb_algebra::Walker;
 use tb_body::Program;
 use tb_bus::Origin;
-use tb_log::{Entry, Input, Log, Out, Reply, input_size, out_size};
+use tb_living::Buffers;
+use tb_log::{Entry, Input, Log, Out, Reply, Seen, input_size, out_size};
 use tb_search::Candidate;
 use tb_terms::{Items, NoMemory, Text, Texts};
 use tb_tools::{Handout, LaneState};
@@ -33,6 +34,7 @@ pub struct Core<W: Walker> {
     bus: LiveBus<W>,
     log: Log,
     stopped: bool,
+    buffers: Buffers,
 }
 
 impl<W: Walker> Model for Core<W> {
@@ -67,21 +69,23 @@ impl<W: Walker> Core<W> {
             limit,
         };
         let bus = LiveBus::open(alloc, origin)?;
+        let buffers = Buffers::new(alloc)?;
         Ok(Core {
             alloc,
             bus,
             log: Log::new(alloc, limit),
             stopped: false,
+            buffers,
         })
     }
 
     /// What was logged so far, which is a trace of the program.
-    pub fn log(&self) -> &[Entry]
-        ensures value { result.now ≡ self.now.log }
+    pub fn log(&self) -> &Log
+        ensures value { result.now.entries ≡ self.now.log }
         ensures trace { IsTrace (start self.now.origin) self.now.log }
         ensures within { length self.now.log ≤ self.now.origin.limit }
     {
-        self.log.entries()
+        &self.log
     }
 
     pub fn is_down(&self) -> bool
@@ -123,8 +127,11 @@ impl<W: Walker> Core<W> {
         ensures value { IfOk result (λ any. any ≡ has_any (steps (bus_now self.old))) }
         ensures unchanged { self.new ≡ self.old }
     {
-        self.bus.freshen(self.alloc)?;
-        Ok(self.bus.first_candidate(self.alloc)?.is_some())
+        self.bus.freshen(self.alloc, &mut self.buffers)?;
+        Ok(self
+            .bus
+            .first_candidate(self.alloc, &mut self.buffers.binds)?
+            .is_some())
     }
 
     /// Hands in what comes from outside.
@@ -157,10 +164,19 @@ impl<W: Walker> Core<W> {
         if self.stopped {
             return Err(CoreFault::Stopped);
         }
-        self.bus.freshen(self.alloc)?;
-        match self.bus.first_candidate(self.alloc)? {
+        self.bus.freshen(self.alloc, &mut self.buffers)?;
+        match self
+            .bus
+            .first_candidate(self.alloc, &mut self.buffers.binds)?
+        {
             Some(candidate) => {
-                make(self.alloc, &mut self.bus, &mut self.log, candidate)?;
+                make(
+                    self.alloc,
+                    &mut self.bus,
+                    &mut self.log,
+                    candidate,
+                    &mut self.buffers,
+                )?;
                 Ok(Stepped::Did)
             }
             None if self.bus.marks.down => Ok(Stepped::Down),
@@ -260,12 +276,13 @@ fn hand<W: Walker>(
     ensures calm { takes_memory input ≡ false → 0 < log.old.spare → IsErrOf result CoreFault.NoMemory → ⊥ }
     ensures err { OnErr result ((bus_of W.view bus.new ≡ bus_of W.view bus.old) × (log.new.entries ≡ log.old.entries) × (log.old.spare ≤ log.new.spare)) }
 {
-    if !log.room_for_size(input_size(&input)) {
+    let size = input_size(&input);
+    if !log.room_for_size(size) {
         return Err(CoreFault::Full);
     }
     log.reserve(1)?;
     let reply = bus.feed(alloc, &input)?;
-    log.push(Entry::Fed(input, reply));
+    log.push_fed(input, reply, size);
     Ok(reply)
 }
 
@@ -298,7 +315,7 @@ fn take<W: Walker>(
     }
     log.reserve(1)?;
     let Handout { given, logged } = bus.hand_out(lane);
-    log.push(Entry::Gave(lane, logged));
+    log.push_gave(lane, logged, size);
     Ok(given)
 }
 
@@ -319,6 +336,7 @@ fn make<W: Walker>(
     bus: &mut LiveBus<W>,
     log: &mut Log,
     candidate: Candidate,
+    buffers: &mut Buffers,
 ) -> Result<(), CoreFault>
     requires sound { IsSound W.view bus.old }
     requires fresh { AreFresh bus.old.living.items }
@@ -337,11 +355,12 @@ fn make<W: Walker>(
     ensures room { OnOk result (has_room log.old.limit log.old.entries (Entry.Did (label_of (move_in W.view bus.old candidate))) ≡ true) }
     ensures err { OnErr result ((bus_of W.view bus.new ≡ bus_of W.view bus.old) × (log.new.entries ≡ log.old.entries) × (log.old.spare ≤ log.new.spare)) }
 {
-    if !log.room_for_size(bus.shown_size(&candidate)) {
+    let size = bus.shown_size(&candidate);
+    if !log.room_for_size(size) {
         return Err(CoreFault::Full);
     }
-    log.reserve(1)?;
-    bus.make(alloc, candidate, log)?;
+    log.reserve_step(size)?;
+    bus.make(alloc, candidate, log, buffers)?;
     Ok(())
 }
 
@@ -355,25 +374,27 @@ fn say_quiet(log: &mut Log) -> Result<(), CoreFault>
     ensures spare { OnOk result (log.old.spare ≤ log.new.spare + length (if ends_quiet log.old.entries then [] else Entry.Quiet ∷ [])) }
     ensures err { OnErr result ((log.new.entries ≡ log.old.entries) × (log.old.spare ≤ log.new.spare)) }
 {
-    if says_quiet(log.entries()) {
+    if says_quiet(log) {
         return Ok(());
     }
     if !log.room_for(&Entry::Quiet) {
         return Err(CoreFault::Full);
     }
     log.reserve(1)?;
-    log.push(Entry::Quiet);
+    log.push_quiet();
     Ok(())
 }
 
-fn says_quiet(log: &[Entry]) -> bool
-    ensures { result ≡ ends_quiet log.now }
+fn says_quiet(log: &Log) -> bool
+    ensures { result ≡ ends_quiet log.now.entries }
 {
-    match log.last() {
-        Some(Entry::Quiet) => true,
-        Some(Entry::Did(_)) => false,
-        Some(Entry::Fed(_, _)) => false,
-        Some(Entry::Gave(_, _)) => false,
-        None => false,
+    if log.len() == 0 {
+        return false;
+    }
+    match log.at(log.len() - 1) {
+        Seen::Quiet => true,
+        Seen::Did(_) => false,
+        Seen::Fed(_, _) => false,
+        Seen::Gave(_, _) => false,
     }
 }

@@ -1,5 +1,5 @@
 -- Whoever sleeps rests, whatever changes: what it is ready for, its queue, the tools, and who else is awake.
-use Rattle.std.proofs.Common.{◌≡◌, ◌≢◌, ◌<◌, ◌≤◌, ◌+◌, ◌⊎◌, inl, inr, ⊎_elim, ℕ, zero, suc, List, [], ◌∷◌, ◌++◌, length, take, map, refl, ap, sym, subst, ◌∙◌, arith, Some, None, Bool, true, false, not, is_some, option_map, ◌&&◌, get_or, slice_get, slice_set, if◌then◌else◌}
+use Rattle.std.proofs.Common.{◌≡◌, ◌≢◌, ◌<◌, ◌≤◌, ◌+◌, ◌⊎◌, inl, inr, ⊎_elim, ℕ, zero, suc, List, [], ◌∷◌, ◌++◌, length, take, map, refl, ap, sym, subst, ◌∙◌, arith, Option, Some, None, Bool, true, false, not, is_some, option_map, ◌&&◌, get_or, slice_get, slice_set, if◌then◌else◌}
 use Rattle.std.specs.Global.{Vec}
 use Rattle.std.specs.List.{All}
 use Rattle.std.proofs.lemmas.Bool.{and_from, and_parts, cases_eq, cases_lt, false≢true}
@@ -19,24 +19,35 @@ use Rattle.tb_bus.specs.declared.action.Action.{Action}
 use Rattle.tb_bus.specs.declared.action.Action.TheVariants as action
 use Rattle.tb_bus.specs.declared.action.OwnAction.{OwnAction}
 use Rattle.tb_bus.specs.declared.action.OwnAction.TheVariants as own
+use Rattle.tb_bus.specs.declared.action.ToolAction.{ToolAction}
 use Rattle.tb_search.specs.declared.living.Living.{Living}
 use Rattle.tb_search.specs.declared.living.Ready.{Ready}
 use Rattle.tb_search.proofs.IndexLemmas.{all-left, all-right}
 use Rattle.tb_search.proofs.PlaceLemmas.{ascend-less, row-read}
 use Rattle.tb_living.specs.Holdings.{bare, bares_of, helds_of, held_at, IsHeldAt, with_given}
-use Rattle.tb_living.specs.Indexes.{AreStillAwake, IsAwakeAt, IsRested, IsRightFor, IsMarked, IsRightForAll, KeepsOf, found_by, found_marks, rest_among, rest_with, rests_among, rests_with, tool_mark}
+use Rattle.tb_living.specs.Indexes.{AreStillAwake, IsAwakeAt, IsRested, IsRightFor, IsMarked, IsRightForAll, KeepsOf, found_by, found_marks, is_silent, own_rests_with, rest_among, rest_with, rests_among, rests_with, spoken_in, tool_mark, tool_marks}
 use Rattle.tb_living.specs.Lives.{AreFresh}
 use Rattle.tb_living.proofs.IndexLemmas.{neither}
 
 -- by the queue and by the tools
 
+own-parts : (setting : Setting) (held : Held) (does : OwnAction) → own_rests setting held does ≡ true → (own_rests_with held does ≡ true) × (is_silent setting (spoken_in does) ≡ true)
+own-parts setting held own.Tau h = (h, refl)
+own-parts setting held (own.Set values binds) h = (h, refl)
+own-parts setting held (own.Print text) h = (h, refl)
+own-parts setting held (own.Notify terms) h = (h, refl)
+own-parts setting held (own.TakeNote patterns) h = (h, refl)
+own-parts setting held (own.NoNote patterns) h = (h, refl)
+own-parts setting held (own.Subscribe patterns) h = (h, refl)
+own-parts setting held (own.Unsubscribe patterns) h = (h, refl)
+own-parts setting held (own.Create process actuals slot) h = (h, refl)
+own-parts setting held (own.Speak does) h = (refl, h)
+own-parts setting held (own.Shutdown reason) h = (h, refl)
+
 parts : (setting : Setting) (held : Held) (does : Action) → rests setting held does ≡ true → (rests_with held does ≡ true) × (rests_among setting does ≡ true)
-parts setting held (action.Own does) h = (h, refl)
+parts setting held (action.Own does) h = own-parts setting held does h
 parts setting held (action.Send terms) h = (refl, refl)
 parts setting held (action.Receive patterns) h = (refl, refl)
-parts setting held (action.Notify terms) h = (h, refl)
-parts setting held (action.TakeNote patterns) h = (h, refl)
-parts setting held (action.Speak does) h = (refl, h)
 
 all-parts : (setting : Setting) (held : Held) (some : List Ready) → all_rest setting held some ≡ true → (rest_with held some ≡ true) × (rest_among setting some ≡ true)
 all-parts setting held [] h = (refl, refl)
@@ -48,13 +59,23 @@ all-parts setting held (ready ∷ others) h =
       and_from (rests_among setting ready.action) (rest_among setting others) one.1 more.1,
     )
 
+own-whole : (setting : Setting) (held : Held) (does : OwnAction) → own_rests_with held does ≡ true → is_silent setting (spoken_in does) ≡ true → own_rests setting held does ≡ true
+own-whole setting held own.Tau a b = a
+own-whole setting held (own.Set values binds) a b = a
+own-whole setting held (own.Print text) a b = a
+own-whole setting held (own.Notify terms) a b = a
+own-whole setting held (own.TakeNote patterns) a b = a
+own-whole setting held (own.NoNote patterns) a b = a
+own-whole setting held (own.Subscribe patterns) a b = a
+own-whole setting held (own.Unsubscribe patterns) a b = a
+own-whole setting held (own.Create process actuals slot) a b = a
+own-whole setting held (own.Speak does) a b = b
+own-whole setting held (own.Shutdown reason) a b = a
+
 whole : (setting : Setting) (held : Held) (does : Action) → rests_with held does ≡ true → rests_among setting does ≡ true → rests setting held does ≡ true
-whole setting held (action.Own does) a b = a
+whole setting held (action.Own does) a b = own-whole setting held does a b
 whole setting held (action.Send terms) a b = refl
 whole setting held (action.Receive patterns) a b = refl
-whole setting held (action.Notify terms) a b = a
-whole setting held (action.TakeNote patterns) a b = a
-whole setting held (action.Speak does) a b = b
 
 all-whole : (setting : Setting) (held : Held) (some : List Ready) → rest_with held some ≡ true → rest_among setting some ≡ true → all_rest setting held some ≡ true
 all-whole setting held [] a b = refl
@@ -65,23 +86,23 @@ all-whole setting held (ready ∷ others) a b =
 
 -- the notes alone decide
 
-own-same : (one other : Held) (does : OwnAction) → one.notes ≡ other.notes → own_rests one does ≡ own_rests other does
+own-same : (one other : Held) (does : OwnAction) → one.notes ≡ other.notes → own_rests_with one does ≡ own_rests_with other does
 own-same one other own.Tau e = refl
 own-same one other (own.Set values binds) e = refl
 own-same one other (own.Print text) e = refl
+own-same one other (own.Notify terms) e = refl
+own-same one other (own.TakeNote patterns) e = ap (λ notes. not (is_some (first_match 0 patterns notes))) e
 own-same one other (own.NoNote patterns) e = ap (λ notes. is_some (first_match 0 patterns notes)) e
 own-same one other (own.Subscribe patterns) e = refl
 own-same one other (own.Unsubscribe patterns) e = refl
 own-same one other (own.Create process actuals slot) e = refl
+own-same one other (own.Speak does) e = refl
 own-same one other (own.Shutdown reason) e = refl
 
 with-same : (one other : Held) (does : Action) → one.notes ≡ other.notes → rests_with one does ≡ rests_with other does
 with-same one other (action.Own does) e = own-same one other does e
 with-same one other (action.Send terms) e = refl
 with-same one other (action.Receive patterns) e = refl
-with-same one other (action.Notify terms) e = refl
-with-same one other (action.TakeNote patterns) e = ap (λ notes. not (is_some (first_match 0 patterns notes))) e
-with-same one other (action.Speak does) e = refl
 
 rest-same : (one other : Held) (some : List Ready) → one.notes ≡ other.notes → rest_with one some ≡ rest_with other some
 rest-same one other [] e = refl
@@ -282,13 +303,14 @@ module _ {W : Type 0} (all : List (Living W)) (order : ascend 0 (rows_of all) �
 
 -- those that speak with tools
 
+spoken-unheard : (setting : Setting) (index : IndexState) (proc : ℕ) (does : Option ToolAction) → receives index tool_mark proc ≡ false → All (λ (mark : Mark). receives index mark proc ≡ true) (tool_marks does) → is_silent setting does ≡ true
+spoken-unheard setting index proc None deaf h = refl
+spoken-unheard setting index proc (Some does) deaf h = absurd (false≢true (sym deaf ∙ All-head (λ (mark : Mark). receives index mark proc ≡ true) tool_mark [] h))
+
 among-unheard : (setting : Setting) (index : IndexState) (proc : ℕ) (does : Action) → receives index tool_mark proc ≡ false → All (λ (mark : Mark). receives index mark proc ≡ true) (found_by does) → rests_among setting does ≡ true
-among-unheard setting index proc (action.Own does) deaf h = refl
+among-unheard setting index proc (action.Own does) deaf h = spoken-unheard setting index proc (spoken_in does) deaf h
 among-unheard setting index proc (action.Send terms) deaf h = refl
 among-unheard setting index proc (action.Receive patterns) deaf h = refl
-among-unheard setting index proc (action.Notify terms) deaf h = refl
-among-unheard setting index proc (action.TakeNote patterns) deaf h = refl
-among-unheard setting index proc (action.Speak does) deaf h = absurd (false≢true (sym deaf ∙ All-head (λ (mark : Mark). receives index mark proc ≡ true) tool_mark [] h))
 
 all-unheard : (setting : Setting) (index : IndexState) (proc : ℕ) (some : List Ready) → receives index tool_mark proc ≡ false → All (λ (mark : Mark). receives index mark proc ≡ true) (found_marks some) → rest_among setting some ≡ true
 all-unheard setting index proc [] deaf h = refl
@@ -344,13 +366,14 @@ row-asleep settings index living fresh h asleep = all-whole (settings living.bod
 
 -- who is found under all its marks is so under those of what it receives
 
+spoken-one : (P : Mark → Type 0) (does : Option ToolAction) (more less : List Mark) → (All P more → All P less) → All P (tool_marks does ++ more) → All P less
+spoken-one P None more less to h = to h
+spoken-one P (Some does) more less to h = to (All-tail P tool_mark more h)
+
 found-one : (P : Mark → Type 0) (does : Action) (more less : List Mark) → (All P more → All P less) → All P (found_by does ++ more) → All P (received_by does ++ less)
-found-one P (action.Own does) more less to h = to h
+found-one P (action.Own does) more less to h = spoken-one P (spoken_in does) more less to h
 found-one P (action.Send terms) more less to h = to h
 found-one P (action.Receive patterns) more less to h = All-cons P (received_mark patterns) less (All-head P (received_mark patterns) more h) (to (All-tail P (received_mark patterns) more h))
-found-one P (action.Notify terms) more less to h = to h
-found-one P (action.TakeNote patterns) more less to h = to h
-found-one P (action.Speak does) more less to h = to (All-tail P tool_mark more h)
 
 found-received : (P : Mark → Type 0) (some : List Ready) → All P (found_marks some) → All P (received_marks some)
 found-received P [] h = h

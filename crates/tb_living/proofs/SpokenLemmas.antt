@@ -3,7 +3,7 @@ use Rattle.std.proofs.Common.{◌≡◌, List, [], ◌∷◌, ◌++◌, length, 
 use Rattle.tb_body.specs.declared.program.Tool.{Tool as ToolKind}
 use Rattle.tb_log.specs.Shapes.{IsLane}
 use Rattle.tb_tools.specs.Lanes.{BenchState}
-use Rattle.tb_bus.specs.Exchanges.{Setting}
+use Rattle.tb_bus.specs.Exchanges.{Setting, terms_seen}
 use Rattle.tb_bus.specs.Effects.{speaking}
 use Rattle.tb_bus.specs.declared.action.ToolAction.{ToolAction}
 use Rattle.tb_bus.specs.declared.action.ToolAction.TheVariants.{Execute, Connect, DisconnectAny, Disconnect, Eval, TakeValue, Do, TakeEvent, Acknowledge, Terminate}
@@ -32,6 +32,19 @@ speaking-around setting (Do terms) exchange = refl
 speaking-around setting (TakeEvent terms patterns) exchange = refl
 speaking-around setting (Acknowledge terms) exchange = refl
 speaking-around setting (Terminate terms) exchange = refl
+
+-- and what is seen of it, whatever kinds of tools there are
+pub seen-around : (setting : Setting) (does : ToolAction) (exchange : Exchange) → terms_seen setting does exchange ≡ terms_seen (around [] setting.bench) does exchange
+seen-around setting (Execute tool slot) exchange = refl
+seen-around setting (Connect tool slot) exchange = refl
+seen-around setting (DisconnectAny tool slot) exchange = refl
+seen-around setting (Disconnect terms) exchange = refl
+seen-around setting (Eval terms) exchange = refl
+seen-around setting (TakeValue terms patterns) exchange = refl
+seen-around setting (Do terms) exchange = refl
+seen-around setting (TakeEvent terms patterns) exchange = refl
+seen-around setting (Acknowledge terms) exchange = refl
+seen-around setting (Terminate terms) exchange = refl
 
 -- the last is replaced
 pub set-last : {A : Type 0} (xs : List A) (x y : A) → slice_set (xs ++ x ∷ []) (length xs) y ≡ xs ++ y ∷ []

@@ -1,5 +1,5 @@
 -- When an index is right for the living.
-use Rattle.std.specs.Prelude.{◌≡◌, ◌==◌, ◌||◌, ◌&&◌, ℕ, List, [], ◌∷◌, ◌++◌, Bool, true, false, not, is_some}
+use Rattle.std.specs.Prelude.{◌≡◌, ◌==◌, ◌||◌, ◌&&◌, ℕ, List, [], ◌∷◌, ◌++◌, Bool, true, false, not, Option, Some, None, is_some}
 use Rattle.std.specs.List.{All}
 use Rattle.tb_index.specs.Indexes.{HasRoom, IndexState, is_awake, receives, sends}
 use Rattle.tb_index.specs.Marks.{has_mark, received_mark}
@@ -7,9 +7,12 @@ use Rattle.tb_index.specs.declared.mark.Mark.{Mark}
 use Rattle.tb_notes.specs.Inboxes.{Held, oldest_match}
 use Rattle.tb_bus.specs.Exchanges.{Setting, exchange_for}
 use Rattle.tb_search.specs.Candidates.{Row, row_at, row_of, rows_of}
-use Rattle.tb_search.specs.Indexed.{own_rests, sent_marks}
+use Rattle.tb_search.specs.Indexed.{sent_marks}
 use Rattle.tb_bus.specs.declared.action.Action.{Action}
 use Rattle.tb_bus.specs.declared.action.Action.TheVariants as action
+use Rattle.tb_bus.specs.declared.action.OwnAction.{OwnAction}
+use Rattle.tb_bus.specs.declared.action.OwnAction.TheVariants as own
+use Rattle.tb_bus.specs.declared.action.ToolAction.{ToolAction}
 use Rattle.tb_search.specs.declared.living.Ready.{Ready}
 use Rattle.tb_search.specs.declared.living.Living.{Living}
 
@@ -30,14 +33,29 @@ pub record HasNothing (index : IndexState) (number : ℕ) : Type 0 where
 abbrev pub tool_mark : Mark
 tool_mark = record { count = 18446744073709551615; head = 1 }
 
+-- how what a process does by itself speaks with a tool, where it does
+abbrev pub spoken_in : OwnAction → Option ToolAction
+spoken_in own.Tau = None
+spoken_in (own.Set values binds) = None
+spoken_in (own.Print text) = None
+spoken_in (own.Notify terms) = None
+spoken_in (own.TakeNote patterns) = None
+spoken_in (own.NoNote patterns) = None
+spoken_in (own.Subscribe patterns) = None
+spoken_in (own.Unsubscribe patterns) = None
+spoken_in (own.Create process actuals slot) = None
+spoken_in (own.Speak does) = Some does
+spoken_in (own.Shutdown reason) = None
+
+abbrev pub tool_marks : Option ToolAction → List Mark
+tool_marks None = []
+tool_marks (Some does) = tool_mark ∷ []
+
 -- under which marks an action is found: those of what it receives, and that of tools
 abbrev pub found_by : Action → List Mark
-found_by (action.Own own) = []
+found_by (action.Own own) = tool_marks (spoken_in own)
 found_by (action.Send terms) = []
 found_by (action.Receive patterns) = received_mark patterns ∷ []
-found_by (action.Notify terms) = []
-found_by (action.TakeNote patterns) = []
-found_by (action.Speak does) = tool_mark ∷ []
 
 abbrev pub found_marks : List Ready → List Mark
 found_marks [] = []
@@ -56,21 +74,32 @@ pub record IsRightFor {W : Type 0} (index : IndexState) (living : Living W) : Ty
   pub fresh : living.fresh ≡ true → IsMarked index (row_of living)
 
 -- whether an action rests as far as the queue of its process says, and as far as the tools do
+abbrev pub own_rests_with : Held → OwnAction → Bool
+own_rests_with held own.Tau = false
+own_rests_with held (own.Set values binds) = false
+own_rests_with held (own.Print text) = false
+own_rests_with held (own.Notify terms) = false
+own_rests_with held (own.TakeNote patterns) = not (is_some (oldest_match patterns held))
+own_rests_with held (own.NoNote patterns) = is_some (oldest_match patterns held)
+own_rests_with held (own.Subscribe patterns) = false
+own_rests_with held (own.Unsubscribe patterns) = false
+own_rests_with held (own.Create process actuals slot) = false
+own_rests_with held (own.Speak does) = true
+own_rests_with held (own.Shutdown reason) = false
+
 abbrev pub rests_with : Held → Action → Bool
-rests_with held (action.Own own) = own_rests held own
+rests_with held (action.Own own) = own_rests_with held own
 rests_with held (action.Send terms) = true
 rests_with held (action.Receive patterns) = true
-rests_with held (action.Notify terms) = false
-rests_with held (action.TakeNote patterns) = not (is_some (oldest_match patterns held))
-rests_with held (action.Speak does) = true
+
+abbrev pub is_silent : Setting → Option ToolAction → Bool
+is_silent setting None = true
+is_silent setting (Some does) = not (is_some (exchange_for setting does))
 
 abbrev pub rests_among : Setting → Action → Bool
-rests_among setting (action.Own own) = true
+rests_among setting (action.Own own) = is_silent setting (spoken_in own)
 rests_among setting (action.Send terms) = true
 rests_among setting (action.Receive patterns) = true
-rests_among setting (action.Notify terms) = true
-rests_among setting (action.TakeNote patterns) = true
-rests_among setting (action.Speak does) = not (is_some (exchange_for setting does))
 
 abbrev pub rest_with : Held → List Ready → Bool
 rest_with held [] = true

@@ -1,13 +1,10 @@
 -- When a process may speak with a tool as was found, and what is seen of it.
-use Rattle.std.specs.Prelude.{◌≡◌, List, [], Option, Some, None, ⊤}
-use Rattle.tb_terms.specs.declared.term.Term.{Term}
+use Rattle.std.specs.Prelude.{◌≡◌, List, Option, Some, None}
 use Rattle.tb_body.specs.declared.body.Body.{Body}
 use Rattle.tb_body.specs.declared.program.Tool.{Tool as ToolKind}
 use Rattle.tb_tools.specs.Lanes.{BenchState, HasLanes}
 use Rattle.tb_bus.specs.Effects.{Effect}
-use Rattle.tb_bus.specs.Exchanges.{Setting, exchange_for, terms_seen}
-use Rattle.tb_bus.specs.declared.action.Action.{Action}
-use Rattle.tb_bus.specs.declared.action.Action.TheVariants.{Own, Send, Receive, Notify, TakeNote, Speak}
+use Rattle.tb_bus.specs.Exchanges.{Setting, exchange_for}
 use Rattle.tb_bus.specs.declared.action.ToolAction.{ToolAction}
 use Rattle.tb_bus.specs.declared.exchange.Exchange.{Exchange}
 use Rattle.tb_living.specs.declared.done.Done.{Done}
@@ -18,27 +15,9 @@ pub record CanSpeak (kinds : List ToolKind) (bench : BenchState) (does : ToolAct
   pub found : exchange_for (record { body = body; kinds = kinds; bench = bench }) does ≡ Some exchange
   pub lanes : HasLanes bench
 
--- likewise, where the action speaks with a tool
-abbrev pub CanSpeakBy : List ToolKind → BenchState → Action → Exchange → Type 0
-CanSpeakBy kinds bench (Own own) exchange = ⊤
-CanSpeakBy kinds bench (Send terms) exchange = ⊤
-CanSpeakBy kinds bench (Receive patterns) exchange = ⊤
-CanSpeakBy kinds bench (Notify terms) exchange = ⊤
-CanSpeakBy kinds bench (TakeNote patterns) exchange = ⊤
-CanSpeakBy kinds bench (Speak does) exchange = CanSpeak kinds bench does exchange
-
 -- where nobody speaks yet: neither what is seen nor the lanes afterwards depend on who does
 abbrev pub around : List ToolKind → BenchState → Setting
 around kinds bench = record { body = None; kinds = kinds; bench = bench }
-
--- the terms that are seen of it, where the action speaks with a tool
-abbrev pub seen_by : List ToolKind → BenchState → Action → Exchange → List Term
-seen_by kinds bench (Own own) exchange = []
-seen_by kinds bench (Send terms) exchange = []
-seen_by kinds bench (Receive patterns) exchange = []
-seen_by kinds bench (Notify terms) exchange = []
-seen_by kinds bench (TakeNote patterns) exchange = []
-seen_by kinds bench (Speak does) exchange = terms_seen (around kinds bench) does exchange
 
 -- what is seen and bound of an effect
 abbrev pub IsDone : Effect → Done → Type 0

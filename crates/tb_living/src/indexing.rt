@@ -3,12 +3,12 @@ ghost use Rattle.std.specs.List.{All};
 ghost use Rattle.tb_index.specs.Indexes.{HasRoom, IsTurned};
 ghost use Rattle.tb_search.specs.Indexed.{sent_by, sent_marks};
 ghost use Rattle.tb_bus.specs.Exchanges.{setting_by};
-ghost use Rattle.tb_living.specs.Indexes.{HasNothing, IsRested, IsRightFor, KeepsOf, found_by, found_marks, tool_mark};
+ghost use Rattle.tb_living.specs.Indexes.{HasNothing, IsRested, IsRightFor, KeepsOf, found_by, found_marks, spoken_in, tool_mark, tool_marks};
 
 use std::alloc::Global;
 use std::mem;
 use tb_body::Program;
-use tb_bus::Action;
+use tb_bus::{Action, OwnAction};
 use tb_index::{Index, Mark, Marks, received_mark, sent_mark};
 use tb_search::{Living, Ready, all_rest};
 use tb_terms::NoMemory;
@@ -43,6 +43,27 @@ pub fn index_of(alloc: Global, numbers: &[u32]) -> Result<Index, NoMemory>
     Ok(index)
 }
 
+/// Adds the mark of tools, where a process speaks with one.
+fn push_tool_mark(marks: &mut Marks, own: &OwnAction) -> Result<(), NoMemory>
+    ensures sends { marks.new.sends ≡ marks.old.sends }
+    ensures receives { OnOk result (marks.new.receives.items ≡ marks.old.receives.items ++ tool_marks (spoken_in own.now)) }
+{
+    match own {
+        OwnAction::Speak(_) => marks.receives.push(TOOL_MARK)?,
+        OwnAction::Tau
+        | OwnAction::Set(_, _)
+        | OwnAction::Print(_)
+        | OwnAction::Notify(_)
+        | OwnAction::TakeNote(_)
+        | OwnAction::NoNote(_)
+        | OwnAction::Subscribe(_)
+        | OwnAction::Unsubscribe(_)
+        | OwnAction::Create(_, _, _)
+        | OwnAction::Shutdown(_) => {}
+    }
+    Ok(())
+}
+
 /// Adds the mark of what an action sends or receives, or that of tools.
 fn push_mark(marks: &mut Marks, action: &Action) -> Result<(), NoMemory>
     ensures sends { OnOk result (marks.new.sends.items ≡ marks.old.sends.items ++ sent_by action.now) }
@@ -51,8 +72,7 @@ fn push_mark(marks: &mut Marks, action: &Action) -> Result<(), NoMemory>
     match action {
         Action::Send(terms) => marks.sends.push(sent_mark(terms))?,
         Action::Receive(patterns) => marks.receives.push(received_mark(patterns))?,
-        Action::Speak(_) => marks.receives.push(TOOL_MARK)?,
-        Action::Own(_) | Action::Notify(_) | Action::TakeNote(_) => {}
+        Action::Own(own) => push_tool_mark(marks, own)?,
     }
     Ok(())
 }

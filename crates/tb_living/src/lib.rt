@@ -2,6 +2,7 @@
 //! passes for them, what their inboxes hold, and how one speaks with a tool.
 #![tactic(auto)]
 
+mod buffers;
 mod done;
 mod inboxes;
 mod indexing;
@@ -10,6 +11,7 @@ mod opening;
 mod speaking;
 mod ticking;
 
+pub use buffers::Buffers;
 pub use done::Done;
 pub use inboxes::{hand_out, subscribe_at, take_note_at, unsubscribe_at};
 pub use indexing::{TOOL_MARK, index_of, no_marks, turn, update};

@@ -11,6 +11,7 @@ ghost use Rattle.tb_bus.specs.Actions.{action_in, action_of, create_action, prin
 ghost use Rattle.tb_search.specs.Candidates.{ascend, ready_one, readies, rows_of};
 ghost use Rattle.tb_living.specs.Lives.{IsFreshFor, IsLiveOn, IsTimeless, IsWhere, proc_by};
 
+use crate::buffers::Buffers;
 use std::alloc::Global;
 use tb_algebra::{Offer, Walker};
 use tb_body::{Act, Atom, Body};
@@ -75,18 +76,25 @@ fn create_action(process: u32, actuals: Option<Terms>, slot: u32) -> Option<Acti
     Some(Action::Own(OwnAction::Create(process, actuals?, slot)))
 }
 
+/// The process speaks with a tool.
+fn speak(does: ToolAction) -> Action
+    ensures { result ≡ Action.Own (OwnAction.Speak does) }
+{
+    Action::Own(OwnAction::Speak(does))
+}
+
 /// The answer of the tool is taken, where the tool and the patterns have values.
 fn value_action(terms: Option<Terms>, patterns: Option<Patterns>) -> Option<Action>
     ensures { result ≡ option_and_then (speak_about ToolAction.TakeValue patterns) terms }
 {
-    Some(Action::Speak(ToolAction::TakeValue(terms?, patterns?)))
+    Some(speak(ToolAction::TakeValue(terms?, patterns?)))
 }
 
 /// An event of the tool is received, where the tool and the patterns have values.
 fn event_action(terms: Option<Terms>, patterns: Option<Patterns>) -> Option<Action>
     ensures { result ≡ option_and_then (speak_about ToolAction.TakeEvent patterns) terms }
 {
-    Some(Action::Speak(ToolAction::TakeEvent(terms?, patterns?)))
+    Some(speak(ToolAction::TakeEvent(terms?, patterns?)))
 }
 
 /// The bus goes down, for the one reason that there is.
@@ -132,8 +140,8 @@ fn action_in<W: Walker>(
         act_of body.now.atoms offered.atom ≡ act.now → sorts_of offered.store ≡ body.now.sorts →
         IfOk result (λ action. action ≡ action_in offered.store act.now) }
 {
-    let sent = || walker.sent(alloc, plan, k);
-    let patterns = || walker.patterns(alloc, plan, k);
+    let sent = || walker.sent(alloc, plan, k, None);
+    let patterns = || walker.patterns(alloc, plan, k, None);
     match act {
         Act::Delta => Ok(None),
         Act::Tau => Ok(Some(Action::Own(OwnAction::Tau))),
@@ -142,25 +150,25 @@ fn action_in<W: Walker>(
         Act::Create { process, slot, .. } => Ok(create_action(*process, sent()?, *slot)),
         Act::SndMsg(_) => Ok(sent()?.map(Action::Send)),
         Act::RecMsg(_) => Ok(patterns()?.map(Action::Receive)),
-        Act::SndNote(_) => Ok(sent()?.map(Action::Notify)),
-        Act::RecNote(_) => Ok(patterns()?.map(Action::TakeNote)),
+        Act::SndNote(_) => Ok(sent()?.map(OwnAction::Notify).map(Action::Own)),
+        Act::RecNote(_) => Ok(patterns()?.map(OwnAction::TakeNote).map(Action::Own)),
         Act::NoNote(_) => Ok(patterns()?.map(OwnAction::NoNote).map(Action::Own)),
         Act::Subscribe(_) => Ok(patterns()?.map(OwnAction::Subscribe).map(Action::Own)),
         Act::Unsubscribe(_) => Ok(patterns()?.map(OwnAction::Unsubscribe).map(Action::Own)),
-        &Act::Execute { tool, slot } => Ok(Some(Action::Speak(ToolAction::Execute(tool, slot)))),
+        &Act::Execute { tool, slot } => Ok(Some(speak(ToolAction::Execute(tool, slot)))),
         &Act::RecConnect { tool, slot } => {
-            Ok(Some(Action::Speak(ToolAction::Connect(tool, slot))))
+            Ok(Some(speak(ToolAction::Connect(tool, slot))))
         }
         &Act::RecDisconnectAny { tool, slot } => {
-            Ok(Some(Action::Speak(ToolAction::DisconnectAny(tool, slot))))
+            Ok(Some(speak(ToolAction::DisconnectAny(tool, slot))))
         }
-        Act::RecDisconnect(_) => Ok(sent()?.map(ToolAction::Disconnect).map(Action::Speak)),
-        Act::SndEval(_, _) => Ok(sent()?.map(ToolAction::Eval).map(Action::Speak)),
+        Act::RecDisconnect(_) => Ok(sent()?.map(ToolAction::Disconnect).map(speak)),
+        Act::SndEval(_, _) => Ok(sent()?.map(ToolAction::Eval).map(speak)),
         Act::RecValue(_, _) => Ok(value_action(sent()?, patterns()?)),
-        Act::SndDo(_, _) => Ok(sent()?.map(ToolAction::Do).map(Action::Speak)),
+        Act::SndDo(_, _) => Ok(sent()?.map(ToolAction::Do).map(speak)),
         Act::RecEvent(_, _) => Ok(event_action(sent()?, patterns()?)),
-        Act::SndAckEvent(_, _) => Ok(sent()?.map(ToolAction::Acknowledge).map(Action::Speak)),
-        Act::SndTerminate(_, _) => Ok(sent()?.map(ToolAction::Terminate).map(Action::Speak)),
+        Act::SndAckEvent(_, _) => Ok(sent()?.map(ToolAction::Acknowledge).map(speak)),
+        Act::SndTerminate(_, _) => Ok(sent()?.map(ToolAction::Terminate).map(speak)),
         Act::Shutdown(_) => Ok(shutdown_action(sent()?)),
     }
 }
@@ -173,6 +181,7 @@ fn push_send<W: Walker>(
     walker: &W,
     k: usize,
     atom: u32,
+    buffers: &mut Buffers,
     ready: &mut Vec<Ready>,
 ) -> Result<(), NoMemory>
     requires on { W.view.is_on plan.now walker.now }
@@ -181,7 +190,7 @@ fn push_send<W: Walker>(
     ensures { (offered : Offered) → slice_get (offers_of (W.view.walking plan.now walker.now)) k ≡ Some offered → offered.atom ≡ atom →
         OnOk result (ready.new.items ≡ ready.old.items ++ ready_one k offered (option_map Action.Send (sent_by (W.view.body_of plan.now).atoms offered))) }
 {
-    match walker.sent(alloc, plan, k)? {
+    match walker.sent(alloc, plan, k, buffers.terms.pop())? {
         Some(terms) => {
             push(k, atom, Action::Send(terms), ready)?;
             Ok(())
@@ -197,6 +206,7 @@ fn push_receive<W: Walker>(
     walker: &W,
     k: usize,
     atom: u32,
+    buffers: &mut Buffers,
     ready: &mut Vec<Ready>,
 ) -> Result<(), NoMemory>
     requires on { W.view.is_on plan.now walker.now }
@@ -205,7 +215,7 @@ fn push_receive<W: Walker>(
     ensures { (offered : Offered) → slice_get (offers_of (W.view.walking plan.now walker.now)) k ≡ Some offered → offered.atom ≡ atom →
         OnOk result (ready.new.items ≡ ready.old.items ++ ready_one k offered (option_map Action.Receive (patterns_by (W.view.body_of plan.now).atoms offered))) }
 {
-    match walker.patterns(alloc, plan, k)? {
+    match walker.patterns(alloc, plan, k, buffers.patterns.pop())? {
         Some(patterns) => {
             push(k, atom, Action::Receive(patterns), ready)?;
             Ok(())
@@ -252,6 +262,7 @@ fn push_action<W: Walker>(
     k: usize,
     atom: &Atom,
     number: u32,
+    buffers: &mut Buffers,
     ready: &mut Vec<Ready>,
 ) -> Result<(), NoMemory>
     requires on { W.view.is_on plan.now walker.now }
@@ -265,8 +276,8 @@ fn push_action<W: Walker>(
     match &atom.act {
         Act::Delta => Ok(()),
         Act::Tau => push(k, number, Action::Own(OwnAction::Tau), ready),
-        Act::SndMsg(_) => push_send(alloc, plan, walker, k, number, ready),
-        Act::RecMsg(_) => push_receive(alloc, plan, walker, k, number, ready),
+        Act::SndMsg(_) => push_send(alloc, plan, walker, k, number, buffers, ready),
+        Act::RecMsg(_) => push_receive(alloc, plan, walker, k, number, buffers, ready),
         _ => push_any(alloc, plan, body, walker, k, atom, number, ready),
     }
 }
@@ -291,6 +302,7 @@ fn push_ready<W: Walker>(
     k: usize,
     offer: Offer,
     before: bool,
+    buffers: &mut Buffers,
     ready: &mut Vec<Ready>,
 ) -> Result<bool, NoMemory>
     requires on { W.view.is_on plan.now walker.now }
@@ -309,8 +321,20 @@ fn push_ready<W: Walker>(
     if !offer.ready {
         return Ok(any_times(before, atom));
     }
-    push_action(alloc, plan, body, walker, k, atom, offer.atom, ready)?;
+    push_action(
+        alloc, plan, body, walker, k, atom, offer.atom, buffers, ready,
+    )?;
     Ok(any_times(before, atom))
+}
+
+/// Drops what a process was ready to do, and keeps what memory serves again.
+fn retire(alloc: Global, ready: &mut Vec<Ready>, buffers: &mut Buffers)
+    ensures { ready.new.items ≡ [] }
+{
+    for one in ready.iter_mut() {
+        buffers.keep(alloc, &mut one.action);
+    }
+    ready.clear();
 }
 
 /// Fills what the process that was looked at is ready to do; whether an atom with times is among its offers.
@@ -319,6 +343,7 @@ fn fill<W: Walker>(
     plan: &W::Plan,
     body: &Body,
     walker: &W,
+    buffers: &mut Buffers,
     ready: &mut Vec<Ready>,
 ) -> Result<bool, NoMemory>
     requires on { W.view.is_on plan.now walker.now }
@@ -330,11 +355,13 @@ fn fill<W: Walker>(
     ensures timed { (now : ℕ) → W.view.seen walker.now ≡ Some (seen_offers body.now.atoms now (W.view.walking plan.now walker.now)) →
         IfOk result (λ timed. timed ≡ false → All (IsTimeless body.now.atoms) (offers_of (W.view.walking plan.now walker.now))) }
 {
-    ready.clear();
+    retire(alloc, ready, buffers);
     let mut timed = false;
     for at in 0..walker.offer_count() {
         let offer = walker.offer(at);
-        timed = push_ready(alloc, plan, body, walker, at, offer, timed, ready)?;
+        timed = push_ready(
+            alloc, plan, body, walker, at, offer, timed, buffers, ready,
+        )?;
     }
     Ok(timed)
 }
@@ -358,6 +385,7 @@ pub fn look<W: Walker>(
     body: &Body,
     living: &mut Living<W>,
     now: u64,
+    buffers: &mut Buffers,
 ) -> Result<(), NoMemory>
     requires body { W.view.body_of plan.now ≡ body.now }
     requires live { IsLiveOn W.view plan.now now living.old }
@@ -369,7 +397,14 @@ pub fn look<W: Walker>(
 {
     living.fresh = false;
     living.walker.look(alloc, plan, now)?;
-    living.timed = fill(alloc, plan, body, &living.walker, &mut living.ready)?;
+    living.timed = fill(
+        alloc,
+        plan,
+        body,
+        &living.walker,
+        buffers,
+        &mut living.ready,
+    )?;
     Ok(())
 }
 
@@ -378,13 +413,13 @@ pub fn go_on<W: Walker>(
     plan: &W::Plan,
     living: &mut Living<W>,
     taken: W::Taken,
-    binds: Binds,
+    binds: &mut Binds,
 ) -> bool
     requires on { W.view.is_on plan.now living.old.walker }
-    requires taken { (offered : Offered) × W.view.leaves plan.now living.old.walker taken offered × IsTrue (takes_binds offered.store binds) }
+    requires taken { (offered : Offered) × W.view.leaves plan.now living.old.walker taken offered × IsTrue (takes_binds offered.store binds.old) }
     ensures on { W.view.is_on plan.now living.new.walker }
     ensures advanced { (offered : Offered) → W.view.leaves plan.now living.old.walker taken offered →
-        W.view.walking plan.now living.new.walker ≡ fired binds (W.view.walking plan.now living.old.walker).ticks offered }
+        W.view.walking plan.now living.new.walker ≡ fired binds.old (W.view.walking plan.now living.old.walker).ticks offered }
     ensures ended { result ≡ is_end (W.view.walking plan.now living.new.walker).term }
     ensures number { living.new.number ≡ living.old.number }
     ensures body { living.new.body ≡ living.old.body }

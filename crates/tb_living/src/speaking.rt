@@ -11,12 +11,12 @@ ghost use Rattle.tb_tools.specs.Acts.{asked, can_do, can_eval, can_execute, can_
 ghost use Rattle.tb_bus.specs.Effects.{speaking};
 ghost use Rattle.tb_bus.specs.Exchanges.{behind, bench_after, kind_command, kind_name, terms_seen, values_in, values_on, with_told};
 ghost use Rattle.tb_bus.specs.Traces.{declares};
-ghost use Rattle.tb_living.specs.Spoken.{IsDone, CanSpeak, CanSpeakBy, around, seen_by};
+ghost use Rattle.tb_living.specs.Spoken.{IsDone, CanSpeak, around};
 
 use crate::done::Done;
 use std::alloc::Global;
 use tb_body::Tool;
-use tb_bus::{Action, Exchange, ToolAction};
+use tb_bus::{Exchange, ToolAction};
 use tb_log::{LabelKind, ToolLine, total_size};
 use tb_match::{Bind, Binds};
 use tb_terms::{Items, Name, NoMemory, Term, Terms, size};
@@ -217,23 +217,8 @@ fn with_event(
     Ok(terms)
 }
 
-/// How large the terms are that are seen of an exchange, or the greatest usize where that is greater; 0 where the action
-/// doesn't speak with a tool.
-pub fn seen_size(bench: &Bench, action: &Action, exchange: &Exchange) -> usize
-    requires { (kinds : List ToolKind) × CanSpeakBy kinds bench.now action.now exchange.now }
-    ensures { result ≡ min (terms_size (seen_by [] bench.now action.now exchange.now)) MAX }
-{
-    match action {
-        Action::Speak(does) => exchange_size(bench, does, exchange),
-        Action::Own(_)
-        | Action::Send(_)
-        | Action::Receive(_)
-        | Action::Notify(_)
-        | Action::TakeNote(_) => 0,
-    }
-}
-
-fn exchange_size(bench: &Bench, does: &ToolAction, exchange: &Exchange) -> usize
+/// How large the terms are that are seen of an exchange, or the greatest usize where that is greater.
+pub fn seen_size(bench: &Bench, does: &ToolAction, exchange: &Exchange) -> usize
     requires { (kinds : List ToolKind) × CanSpeak kinds bench.now does.now exchange.now }
     ensures { result ≡ min (terms_size (terms_seen (around [] bench.now) does.now exchange.now)) MAX }
 {

@@ -14,12 +14,13 @@ use Rattle.tb_lock.specs.contracts.shared.Shared.TheInside as shared_inside
 use Rattle.sqlite_items.proofs.items.Items.TheSendSync.{the_send as items_send}
 use Rattle.tb_terms.proofs.name.Name.TheSendSync.{the_send as name_send}
 use Rattle.tb_terms.proofs.text.Text.TheSendSync.{the_send as text_send}
-use Rattle.tb_log.specs.contracts.entry.Entry as entry
 use Rattle.tb_log.specs.contracts.log.Log as log
 use Rattle.tb_log.specs.contracts.entry.ToolLine as tool_line
 use Rattle.tb_log.specs.contracts.entry.Input as input
-use Rattle.tb_log.specs.contracts.entry.Label as label
 use Rattle.tb_log.specs.contracts.entry.Out as out
+use Rattle.tb_log.specs.contracts.kept.KeptStep as kept_step
+use Rattle.tb_log.specs.contracts.kept.Kept as kept
+use Rattle.tb_log.specs.contracts.kept.Other as other
 use Rattle.tb_bus.specs.contracts.origin.Origin as origin
 use Rattle.tb_bus.specs.contracts.action.OwnAction as own_action
 use Rattle.tb_bus.specs.contracts.action.ToolAction as tool_action
@@ -27,6 +28,7 @@ use Rattle.tb_bus.specs.contracts.action.Action as action
 use Rattle.tb_search.specs.contracts.living.Ready as ready
 use Rattle.tb_search.specs.contracts.living.Living as living
 use Rattle.tb_search.specs.contracts.marks.Marks as marks
+use Rattle.tb_living.specs.contracts.buffers.Buffers as buffers
 use Rattle.tb_core.specs.contracts.machine.Core as core
 use Rattle.tb_core.specs.contracts.bus.LiveBus as live_bus
 use Rattle.tb_core.specs.contracts.machine.Core.TheInside as core_inside
@@ -57,8 +59,11 @@ tool_line_send = variants_send tool_line.enum ((term_send, tt), ((terms_send, tt
 input_send : IsSend input.the_row
 input_send = variants_send input.enum (tt, (tt, ((byte_send, (tool_line_send, tt)), ((byte_send, tt), ((byte_send, tt), tt)))))
 
-label_send : IsSend label.the_row
-label_send = declared_send label.the_type (search sendable depth 60, (search sendable depth 40, (search sendable depth 40, (terms_send, tt))))
+kept_step_send : IsSend kept_step.the_row
+kept_step_send = declared_send kept_step.the_type (search sendable depth 60, (search sendable depth 40, (search sendable depth 40, (number_send, (number_send, tt)))))
+
+kept_send : IsSend kept.the_row
+kept_send = variants_send kept.enum ((kept_step_send, tt), (tt, ((number_send, tt), tt)))
 
 out_row : IsSend out.the_field.row
 out_row = search (sendable, text_send, term_row) depth 40
@@ -66,11 +71,11 @@ out_row = search (sendable, text_send, term_row) depth 40
 out_send : IsSend out.the_row
 out_send = variants_send out.enum ((text_send, tt), ((term_send, tt), (tt, tt)))
 
-entry_send : IsSend entry.the_row
-entry_send = variants_send entry.enum ((label_send, tt), (tt, ((input_send, (search sendable depth 40, tt)), ((byte_send, (out_send, tt)), tt))))
+other_send : IsSend other.the_row
+other_send = variants_send other.enum ((input_send, (search sendable depth 40, tt)), ((byte_send, (out_send, tt)), tt))
 
 log_send : IsSend log.the_row
-log_send = search (sendable, crosses, entry_send) depth 40
+log_send = search (sendable, crosses, kept_send, term_send, other_send) depth 40
 
 -- notes and lanes
 inbox_send : IsSend inbox.the_row
@@ -104,18 +109,18 @@ bench_send : IsSend bench.the_row
 bench_send = search (sendable, crosses, lane_send) depth 40
 
 -- processes that are alive
-own_action_send : IsSend own_action.the_row
-own_action_send =
-    let n = number_send in let ts = terms_send in let ps = patterns_send in
-    variants_send own_action.enum (tt, ((ts, (binds_send, tt)), ((term_send, tt), ((ps, tt), ((ps, tt), ((ps, tt), ((n, (ts, (n, tt))), ((term_send, tt), tt))))))))
-
 tool_action_send : IsSend tool_action.the_row
 tool_action_send =
     let n = number_send in let ts = terms_send in let ps = patterns_send in
     variants_send tool_action.enum ((n, (n, tt)), ((n, (n, tt)), ((n, (n, tt)), ((ts, tt), ((ts, tt), ((ts, (ps, tt)), ((ts, tt), ((ts, (ps, tt)), ((ts, tt), ((ts, tt), tt))))))))))
 
+own_action_send : IsSend own_action.the_row
+own_action_send =
+    let n = number_send in let ts = terms_send in let ps = patterns_send in
+    variants_send own_action.enum (tt, ((ts, (binds_send, tt)), ((term_send, tt), ((ts, tt), ((ps, tt), ((ps, tt), ((ps, tt), ((ps, tt), ((n, (ts, (n, tt))), ((tool_action_send, tt), ((term_send, tt), tt)))))))))))
+
 action_send : IsSend action.the_row
-action_send = variants_send action.enum ((own_action_send, tt), ((terms_send, tt), ((patterns_send, tt), ((terms_send, tt), ((patterns_send, tt), ((tool_action_send, tt), tt))))))
+action_send = variants_send action.enum ((own_action_send, tt), ((terms_send, tt), ((patterns_send, tt), tt)))
 
 ready_send : IsSend ready.the_row
 ready_send = declared_send ready.the_type (search sendable depth 20, (number_send, (action_send, tt)))
@@ -125,6 +130,9 @@ marks_send = search sendable depth 30
 
 living_send : (W : RattleType) → IsSend W → IsSend (living.the_row W)
 living_send W s = search (sendable, crosses, inbox_send, ready_send) depth 40
+
+buffers_send : IsSend buffers.the_row
+buffers_send = search (sendable, crosses, terms_send, patterns_send, binds_send) depth 40
 
 -- who waits, and what is hinted at
 gate_sync : IsSync gate.the_row
@@ -139,7 +147,7 @@ module _ (W Plan Taken : RattleType) (g : Ghosts W.Denot Plan.Denot Taken.Denot)
       (origin_send, (search (sendable, items_send) depth 20, (search (sendable, crosses, living_send) depth 20, (search (sendable, crosses) depth 20, (search sendable depth 20, (search sendable depth 20, (marks_send, (bench_send, (index_send, (search (sendable, crosses) depth 40, (search (sendable, crosses) depth 20, (search sendable depth 20, tt))))))))))))
 
   pub core_send : IsSend (core.the_row W Plan Taken g)
-  core_send = view_send _ _ _ _ _ (declared_send (core_inside.the_type W Plan Taken g) (global_send, (live_bus_send, (log_send, (search sendable depth 20, tt)))))
+  core_send = view_send _ _ _ _ _ (declared_send (core_inside.the_type W Plan Taken g) (global_send, (live_bus_send, (log_send, (search sendable depth 20, (buffers_send, tt))))))
 
   core_option_send : IsSend (option.the_row (core.the_row W Plan Taken g))
   core_option_send = option_send (core.the_row W Plan Taken g) core_send

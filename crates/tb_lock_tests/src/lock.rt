@@ -9,7 +9,7 @@ use std::test::Fail;
 use tb_algebra::{Rewriter, Walker};
 use tb_core::{Core, CoreFault, Stepped, TakeOut};
 use tb_lock::{Rights, Seat, Shared};
-use tb_log::{Entry, Input, Out, Reply};
+use tb_log::{Input, Log, Out, Reply, Seen};
 use tb_script::load;
 use tb_terms::{Items, Text};
 use tb_tools::LaneState;
@@ -37,12 +37,15 @@ fn counted<W: Walker>(core: Core<W>) -> (bool, usize, usize) {
     (core.is_stopped(), core.log().len(), steps_in(core.log()))
 }
 
-/// How many of these entries say that a step was made.
-fn steps_in(entries: &[Entry]) -> usize {
-    entries
-        .iter()
-        .filter(|entry| matches!(entry, Entry::Did(_)))
-        .count()
+/// How many entries of a log say that a step was made.
+fn steps_in(log: &Log) -> usize {
+    let mut count = 0_usize;
+    for at in 0..log.len() {
+        if matches!(log.at(at), Seen::Did(_)) {
+            count = count.saturating_add(1);
+        }
+    }
+    count
 }
 
 #[test]

@@ -11,7 +11,7 @@ use std::test::Fail;
 use tb_algebra::{Rewriter, Walker};
 use tb_core::{Core, CoreFault, Stepped};
 use tb_lock::{Rights, Seat, Shared};
-use tb_log::{Entry, Input, ToolLine, write_entry};
+use tb_log::{Entry, Input, Log, Seen, ToolLine, write_entry, write_seen};
 use tb_script::load;
 use tb_terms::{Items, NoMemory, Term};
 use tb_walk::Walk;
@@ -58,10 +58,18 @@ fn put_lines(text: &mut Vec<u8>, before: u64, entries: &[Entry]) -> Result<(), N
     Ok(())
 }
 
+/// The text of a log.
+fn log_text(alloc: Global, log: &Log) -> Result<Vec<u8>, NoMemory> {
+    let mut text = Vec::new(alloc);
+    for at in 0..log.len() {
+        write_seen(at as u64 + 1, &log.at(at), &mut text)?;
+    }
+    Ok(text)
+}
+
 /// Whether the log of a core has this text.
 fn has_logged<W: Walker>(alloc: Global, core: Core<W>, wanted: &str) -> Result<bool, NoMemory> {
-    let mut text = Vec::new(alloc);
-    put_lines(&mut text, 0, core.log())?;
+    let text = log_text(alloc, core.log())?;
     Ok(text.as_slice() == wanted.as_bytes())
 }
 
@@ -184,14 +192,15 @@ fn a_row_of_steps_has_its_length_and_ends_where_one_is_refused(
 }
 
 /// Whether the steps of a log set the number of the only process to 1, 2 and so on; and how many they are.
-fn count_up(alloc: Global, log: &[Entry]) -> Result<(bool, u64), NoMemory> {
+fn count_up(alloc: Global, log: &Log) -> Result<(bool, u64), NoMemory> {
     let mut count = 0_u64;
     let mut text = Vec::new(alloc);
     let mut wanted = Vec::new(alloc);
-    for entry in log {
-        if matches!(entry, Entry::Did(_)) {
+    for at in 0..log.len() {
+        let seen = log.at(at);
+        if matches!(seen, Seen::Did(_)) {
             count = count.saturating_add(1);
-            write_entry(count, entry, &mut text)?;
+            write_seen(count, &seen, &mut text)?;
             let line = format!(in alloc; "{count} set 1.1 {count}\n")?;
             wanted.extend_from_slice(line.as_bytes())?;
         }

@@ -1,4 +1,8 @@
 pub mod LaneLemmas
+pub mod ReadLemmas
+pub mod SizeLemmas
 pub mod TextLemmas
+mod KeptLemmas
+mod MoveLemmas
 mod Rows
 mod StepLemmas

@@ -58,3 +58,13 @@ pub term_words_in_parts : (terms : List Term) (first : Term) (others : List Term
 term_words_in_parts terms first others behind is =
     ap (λ (t : List ℕ). 32 ∷ t) (sym (append_assoc (term_text first) (flat_map behind_comma others) behind) ∙ ap (λ (t : List ℕ). t ++ behind) (first_and_others first others))
     ∙ ap (λ (ts : List Term). term_words ts ++ behind) (sym is)
+
+-- the terms were added behind a blank
+pub words_pushed : (old blank one all : List ℕ) (terms : List Term) (first : Term) (others : List Term) → blank ≡ old ++ 32 ∷ [] → one ≡ blank ++ term_text first → terms ≡ first ∷ others
+    → all ≡ one ++ flat_map behind_comma others → all ≡ old ++ term_words terms
+words_pushed old blank one all terms first others put_blank put_first is put_others =
+    let behind = flat_map behind_comma others in
+    let words : 32 ∷ (term_text first ++ behind) ≡ term_words terms =
+    ap (λ (t : List ℕ). 32 ∷ (term_text first ++ t)) (sym (append-nil behind)) ∙ term_words_in_parts terms first others [] is ∙ append-nil (term_words terms) in
+    put_others ∙ ap (λ (t : List ℕ). t ++ behind) (put_first ∙ ap (λ (t : List ℕ). t ++ term_text first) put_blank)
+    ∙ append_assoc (old ++ 32 ∷ []) (term_text first) behind ∙ append_assoc old (32 ∷ []) (term_text first ++ behind) ∙ ap (λ (t : List ℕ). old ++ t) words

@@ -1,4 +1,5 @@
--- What a log stands for: its limit, its entries, and for how many more it has memory.
+-- What a log stands for: its limit, its entries, for how many more it has memory, and how large a step may be for which
+-- memory was taken.
 use Rattle.std.specs.Prelude.{ℕ, List, refl}
 use Rattle.std.specs.Coded.{Coded, code_by, coded×, coded_ℕ, coded_list}
 use Rattle.tb_log.specs.declared.entry.Entry.{Entry}
@@ -8,8 +9,9 @@ pub record LogState : Type 0 where
   pub limit : ℕ
   pub entries : List Entry
   pub spare : ℕ
+  pub reserved : ℕ
 
 abbrev pub log_code : Coded LogState
 log_code =
-    code_by (ℕ × (List Entry × ℕ)) (coded× coded_ℕ (coded× (coded_list entry.the_row.coded) coded_ℕ))
-    (λ l. (l.limit, (l.entries, l.spare))) (λ t. record { limit = t.0; entries = t.1.0; spare = t.1.1 }) (λ _. refl)
+    code_by (ℕ × (List Entry × (ℕ × ℕ))) (coded× coded_ℕ (coded× (coded_list entry.the_row.coded) (coded× coded_ℕ coded_ℕ)))
+    (λ l. (l.limit, (l.entries, (l.spare, l.reserved)))) (λ t. record { limit = t.0; entries = t.1.0; spare = t.1.1.0; reserved = t.1.1.1 }) (λ _. refl)

@@ -1,41 +1,57 @@
-ghost use Rattle.std.specs.Prelude.{◌≡◌, ◌≤◌, ◌<◌, ◌+◌, ◌++◌, ◌∷◌, [], IsTrue, IsOk, OnOk, OnErr, min, map, sum, length};
+ghost use Rattle.std.specs.Prelude.{◌≡◌, ◌≤◌, ◌<◌, ◌+◌, ◌++◌, ◌∷◌, [], IsTrue, IsOk, OnOk, Some, min, map, sum, length, take, drop, reverse, slice_get, vec_len, vec_capacity};
 ghost use Rattle.std.below.core.specs.declared.int.usize.TheConstants.{MAX};
 ghost use Rattle.tb_terms.specs.Sizes.{term_size};
-ghost use Rattle.tb_log.specs.Limits.{entry_size, input_size, tool_line_size, out_size, has_room};
+ghost use Rattle.tb_log.specs.Limits.{entry_size, input_size, tool_line_size, out_size, has_room, terms_size};
+ghost use Rattle.tb_log.specs.Seens.{entry_seen};
 
-use crate::entry::{Entry, Input, Out, ToolLine};
+use crate::entry::{Entry, Input, LabelKind, Out, Place, Reply, ToolLine};
+use crate::kept::{Kept, KeptStep, Other};
+use crate::seen::Seen;
 use std::alloc::Global;
 use std::marker::Model;
-use tb_terms::{NoMemory, Term, size};
+use tb_terms::{NoMemory, Term, Terms, size};
 
 /// How large all terms of a log may be together.
 const MOST_SIZE: usize = 16_777_216;
 
-/// The entries of a bus, within limits: at most so many, whose terms are together at most 16,777,216 in size.
+/// The entries of a bus, within limits: at most so many, whose terms are together at most 16,777,216 in size. What they carry
+/// stands in lists beside them, so that an entry takes little memory, and a step takes none of its own.
 #[derive(Drop)]
 pub struct Log {
-    entries: Vec<Entry>,
+    entries: Vec<Kept>,
+    /// The terms of all steps.
+    terms: Vec<Term>,
+    others: Vec<Other>,
     limit: u32,
     /// How large the entries are together.
     size: usize,
+    /// How large the step is for which memory was taken: there is memory for so many terms more.
+    reserved: usize,
 }
 
 impl Model for Log {
-    ghost use Rattle.std.specs.Prelude.{◌-◌, ◌≡◌, ◌≤◌, length, vec_len, vec_capacity};
-    ghost use Rattle.tb_log.specs.Limits.{log_size, most_size};
+    ghost use Rattle.std.specs.Prelude.{◌-◌, ◌+◌, ◌≤◌, min, vec_len, vec_capacity};
+    ghost use Rattle.tb_log.specs.Helpers.KeptLogs.{StandsFor, entries_kept};
     ghost use Rattle.tb_log.specs.Logs.{LogState, log_code};
 
     ghost Value = { LogState };
 
     ghost coded = { log_code };
 
-    ghost view = { λ log. record { limit = log.limit; entries = log.entries.items; spare = vec_capacity log.entries - vec_len log.entries } };
+    ghost view = { λ log. record {
+      limit = log.limit;
+      entries = entries_kept log.terms.items log.others.items log.entries.items;
+      spare = min (vec_capacity log.entries - vec_len log.entries) (vec_capacity log.others - vec_len log.others);
+      reserved = log.reserved;
+    } };
 
-    ghost invariant = { λ log. (log.size ≡ log_size log.entries.items) × (log.size ≤ most_size) × (length log.entries.items ≤ log.limit) };
+    ghost invariant = { λ log. StandsFor log.limit log.size log.terms.items log.others.items log.entries.items
+        × (vec_len log.terms + log.reserved ≤ vec_capacity log.terms) };
 }
 
 impl Log {
     ghost use Rattle.tb_log.specs.declared.entry.Entry.{Entry};
+    ghost use Rattle.tb_log.specs.Helpers.KeptLogs.{other_entry};
 
     /// A log without entries, for at most so many.
     pub fn new(alloc: Global, limit: u32) -> Log
@@ -44,15 +60,31 @@ impl Log {
     {
         Log {
             entries: Vec::new(alloc),
+            terms: Vec::new(alloc),
+            others: Vec::new(alloc),
             limit,
             size: 0,
+            reserved: 0,
         }
     }
 
-    pub fn entries(&self) -> &[Entry]
-        ensures { result.now ≡ self.now.entries }
+    /// How many entries it has.
+    pub fn len(&self) -> usize
+        ensures { result ≡ length self.now.entries }
     {
-        self.entries.as_slice()
+        self.entries.len()
+    }
+
+    /// The entry at this index, lent.
+    pub fn at(&self, at: usize) -> Seen<'_>
+        requires { at < length self.now.entries }
+        ensures { slice_get self.now.entries at ≡ Some (entry_seen result) }
+    {
+        match &self.entries[at] {
+            Kept::Did(step) => Seen::Did(step.lend(self.terms.as_slice())),
+            Kept::Quiet => Seen::Quiet,
+            Kept::Other(index) => self.others[*index as usize].lend(),
+        }
     }
 
     /// Whether neither limit is passed with this entry.
@@ -69,7 +101,7 @@ impl Log {
         self.entries.len() < self.limit as usize && self.size.saturating_add(size) <= MOST_SIZE
     }
 
-    /// Takes memory for so many entries more, where there isn't enough yet.
+    /// Takes memory for so many entries more that are no steps, where there isn't enough yet.
     pub fn reserve(&mut self, n: usize) -> Result<(), NoMemory>
         ensures spare { OnOk result (n ≤ self.new.spare) }
         ensures enough { n ≤ self.old.spare → IsOk result }
@@ -78,6 +110,21 @@ impl Log {
         ensures grows { self.old.spare ≤ self.new.spare }
     {
         self.entries.reserve(n)?;
+        self.others.reserve(n)?;
+        Ok(())
+    }
+
+    /// Takes memory for a step more, of this size. A term has a size of 1 at least, so that a step has no more terms.
+    pub fn reserve_step(&mut self, size: usize) -> Result<(), NoMemory>
+        ensures spare { OnOk result (0 < self.new.spare) }
+        ensures reserved { OnOk result (self.new.reserved ≡ size) }
+        ensures entries { self.new.entries ≡ self.old.entries }
+        ensures limit { self.new.limit ≡ self.old.limit }
+        ensures grows { self.old.spare ≤ self.new.spare }
+    {
+        self.reserve(1)?;
+        self.terms.reserve(size)?;
+        self.reserved = size;
         Ok(())
     }
 
@@ -85,19 +132,111 @@ impl Log {
     pub fn spare(&self) -> usize
         ensures { result ≡ self.now.spare }
     {
-        self.entries.capacity() - self.entries.len()
+        let entries = self.entries.capacity() - self.entries.len();
+        entries.min(self.others.capacity() - self.others.len())
     }
 
-    /// Adds an entry at the end. This takes no memory.
-    pub fn push(&mut self, entry: Entry)
-        requires room { IsTrue (has_room self.old.limit self.old.entries entry) }
+    /// Adds a step, for which memory was taken, at the end. Its terms are moved out of where they stand. This takes no memory.
+    pub fn push_step(&mut self, kind: LabelKind, from: Place, to: Place, terms: &mut Terms)
+        requires room { IsTrue (has_room self.old.limit self.old.entries (Entry.Did (record { kind = kind; from = from; to = to; terms = terms.old }))) }
+        requires reserved { self.old.reserved ≡ min (terms_size terms.old) MAX }
         requires spare { 0 < self.old.spare }
-        ensures entries { self.new.entries ≡ self.old.entries ++ entry ∷ [] }
+        ensures entries { self.new.entries ≡ self.old.entries ++ Entry.Did (record { kind = kind; from = from; to = to; terms = terms.old }) ∷ [] }
         ensures limit { self.new.limit ≡ self.old.limit }
-        ensures spare { self.new.spare + 1 ≡ self.old.spare }
+        ensures spare { self.old.spare ≤ self.new.spare + 1 }
+        ensures emptied { terms.new ≡ [] }
     {
-        self.size += size_of(&entry);
-        self.entries.push_reserved(entry);
+        let first = self.terms.len() as u32;
+        let count = terms.len() as u32;
+        self.size += self.reserved;
+        self.reserved = 0;
+        move_terms(terms, &mut self.terms);
+        self.entries.push_reserved(Kept::Did(KeptStep {
+            kind,
+            from,
+            to,
+            first,
+            count,
+        }));
+    }
+
+    /// Adds at the end that nothing was possible. This takes no memory.
+    pub fn push_quiet(&mut self)
+        requires room { IsTrue (has_room self.old.limit self.old.entries Entry.Quiet) }
+        requires spare { 0 < self.old.spare }
+        ensures entries { self.new.entries ≡ self.old.entries ++ Entry.Quiet ∷ [] }
+        ensures limit { self.new.limit ≡ self.old.limit }
+        ensures spare { self.old.spare ≤ self.new.spare + 1 }
+    {
+        self.entries.push_reserved(Kept::Quiet);
+    }
+
+    /// Adds an input, which is so large, at the end, with what became of it. This takes no memory.
+    pub fn push_fed(&mut self, input: Input, reply: Reply, size: usize)
+        requires room { IsTrue (has_room self.old.limit self.old.entries (Entry.Fed input reply)) }
+        requires sized { size ≡ min (input_size input) MAX }
+        requires spare { 0 < self.old.spare }
+        ensures entries { self.new.entries ≡ self.old.entries ++ Entry.Fed input reply ∷ [] }
+        ensures limit { self.new.limit ≡ self.old.limit }
+        ensures spare { self.old.spare ≤ self.new.spare + 1 }
+    {
+        self.push_other(Other::Fed(input, reply), size);
+    }
+
+    /// Adds what was handed out on a lane, which is so large, at the end. This takes no memory.
+    pub fn push_gave(&mut self, lane: u8, out: Out, size: usize)
+        requires room { IsTrue (has_room self.old.limit self.old.entries (Entry.Gave lane out)) }
+        requires sized { size ≡ min (out_size out) MAX }
+        requires spare { 0 < self.old.spare }
+        ensures entries { self.new.entries ≡ self.old.entries ++ Entry.Gave lane out ∷ [] }
+        ensures limit { self.new.limit ≡ self.old.limit }
+        ensures spare { self.old.spare ≤ self.new.spare + 1 }
+    {
+        self.push_other(Other::Gave(lane, out), size);
+    }
+
+    fn push_other(&mut self, other: Other, size: usize)
+        requires room { IsTrue (has_room self.old.limit self.old.entries (other_entry other)) }
+        requires sized { size ≡ min (entry_size (other_entry other)) MAX }
+        requires spare { 0 < self.old.spare }
+        ensures entries { self.new.entries ≡ self.old.entries ++ other_entry other ∷ [] }
+        ensures limit { self.new.limit ≡ self.old.limit }
+        ensures spare { self.old.spare ≤ self.new.spare + 1 }
+    {
+        let index = self.others.len() as u32;
+        self.size += size;
+        self.others.push_reserved(other);
+        self.entries.push_reserved(Kept::Other(index));
+    }
+}
+
+/// Moves terms to the end, in their order. This takes no memory.
+fn move_terms(terms: &mut Terms, into: &mut Vec<Term>)
+    requires { vec_len into.old + length terms.old ≤ vec_capacity into.old }
+    ensures moved { into.new.items ≡ into.old.items ++ terms.old }
+    ensures emptied { terms.new ≡ [] }
+{
+    let first = into.len();
+    pour(terms, into);
+    turn(into.as_mut_slice(), first);
+}
+
+/// Turns the order of the terms from this index on.
+fn turn(terms: &mut [Term], from: usize)
+    requires { from ≤ length terms.old }
+    ensures { terms.new ≡ take from terms.old ++ reverse (drop from terms.old) }
+{
+    terms[from..].reverse();
+}
+
+/// Moves terms to the end, the last one first.
+fn pour(terms: &mut Terms, into: &mut Vec<Term>)
+    requires { vec_len into.old + length terms.old ≤ vec_capacity into.old }
+    ensures poured { into.new.items ≡ into.old.items ++ reverse terms.old }
+    ensures emptied { terms.new ≡ [] }
+{
+    while let Some(term) = terms.pop() {
+        into.push_reserved(term);
     }
 }
 

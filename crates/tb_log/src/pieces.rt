@@ -1,23 +1,28 @@
-ghost use Rattle.std.specs.Prelude.{◌≡◌, IfOk, take, drop};
+ghost use Rattle.std.specs.Prelude.{◌≡◌, ◌≤◌, ◌<◌, ◌+◌, ◌^◌, IfOk, take, drop, length};
 
-use crate::entry::{Entries, Entry};
+use crate::entry::Entries;
+use crate::log::Log;
 use std::alloc::Global;
 use tb_terms::{Items, NoMemory};
 
 /// Copies of the first `most` of the entries that stand behind the first `from`, or of all of these where they are fewer.
-pub fn piece(alloc: Global, entries: &[Entry], from: u64, most: usize) -> Result<Entries, NoMemory>
-    ensures { IfOk result (λ piece. piece ≡ take most (drop from entries.now)) }
+pub fn piece(alloc: Global, log: &Log, from: u64, most: usize) -> Result<Entries, NoMemory>
+    ensures { IfOk result (λ piece. piece ≡ take most (drop from log.now.entries)) }
 {
-    let (_before, rest) = entries.split_at(from.min(entries.len() as u64) as usize);
-    let (some, _behind) = rest.split_at(most.min(rest.len()));
-    copies(alloc, some)
+    let before = from.min(log.len() as u64) as usize;
+    let count = most.min(log.len() - before);
+    copies(alloc, log, before, count)
 }
 
-fn copies(alloc: Global, entries: &[Entry]) -> Result<Entries, NoMemory>
-    ensures { IfOk result (λ copies. copies ≡ entries.now) }
+/// Copies of so many entries that stand behind so many.
+fn copies(alloc: Global, log: &Log, before: usize, count: usize) -> Result<Entries, NoMemory>
+    requires within { before + count ≤ length log.now.entries }
+    requires fits { before + count < 2 ^ 64 }
+    ensures { IfOk result (λ copies. copies ≡ take count (drop before log.now.entries)) }
 {
-    let mut copies = Vec::with_capacity(alloc, entries.len())?;
-    for entry in entries {
+    let mut copies = Vec::with_capacity(alloc, count)?;
+    for position in 0..count {
+        let entry = log.at(before + position);
         copies.push(entry.copy(alloc)?)?;
     }
     Ok(Items::from_vec(copies))

@@ -2,18 +2,21 @@ ghost use Rattle.std.specs.Prelude.{IsTrue};
 ghost use Rattle.std.specs.List.{list_all};
 ghost use Rattle.tb_terms.specs.Names.{is_string};
 ghost use Rattle.tb_terms.specs.Proper.{is_proper};
+ghost use Rattle.tb_log.specs.Seens.{entry_seen};
 ghost use Rattle.tb_log.specs.Proper.{is_proper_entry, is_proper_input, is_proper_tool_line, is_proper_out, is_proper_place};
 
-use crate::entry::{Entry, Input, Label, Out, Place, ToolLine};
+use crate::entry::{Entry, Input, Out, Place, ToolLine};
+use crate::log::Log;
+use crate::seen::Seen;
 use tb_terms::{Term, Text, show_proper};
 
 /// Every log is one of proper entries. The call walks the log and changes nothing: its contract is
 /// what a proof may use of entries whose parts it doesn't see.
-pub fn show_proper_log(log: &[Entry])
-    ensures { IsTrue (list_all is_proper_entry log.now) }
+pub fn show_proper_log(log: &Log)
+    ensures { IsTrue (list_all is_proper_entry log.now.entries) }
 {
-    for entry in log {
-        show_proper_entry(entry);
+    for at in 0..log.len() {
+        show_seen(&log.at(at));
     }
 }
 
@@ -21,22 +24,22 @@ pub fn show_proper_log(log: &[Entry])
 pub fn show_proper_entry(entry: &Entry)
     ensures { IsTrue (is_proper_entry entry.now) }
 {
-    match entry {
-        Entry::Did(label) => {
-            let Label {
-                kind: _,
-                from,
-                to,
-                terms,
-            } = label;
-            show_place(*from);
-            show_place(*to);
-            show_terms(terms.as_slice());
+    show_seen(&Seen::of(entry));
+}
+
+fn show_seen(seen: &Seen)
+    ensures { IsTrue (is_proper_entry (entry_seen seen.now)) }
+{
+    match *seen {
+        Seen::Did(label) => {
+            show_place(label.from);
+            show_place(label.to);
+            show_terms(label.terms);
         }
-        Entry::Quiet => {}
-        Entry::Fed(input, _) => show_input(input),
-        Entry::Gave(lane, out) => {
-            let _lane = *lane;
+        Seen::Quiet => {}
+        Seen::Fed(input, _) => show_input(input),
+        Seen::Gave(lane, out) => {
+            let _lane = lane;
             show_out(out);
         }
     }

@@ -6,7 +6,8 @@ ghost use Rattle.tb_terms.specs.Texts.{term_text};
 ghost use Rattle.tb_log.specs.LogText.{kind_word, label_words, place_words, term_words};
 ghost use Rattle.tb_log.specs.Helpers.StepText.{shown_places, shown_terms};
 
-use crate::entry::{Label, LabelKind, Place};
+use crate::entry::{LabelKind, Place};
+use crate::seen::SeenLabel;
 use crate::text::kind_word;
 use itoa::write_digits;
 use tb_terms::Term;
@@ -22,9 +23,9 @@ const HEAD_BYTES: usize = 120;
 const TERM_BYTES: usize = 20;
 
 /// Writes the line of a step at the end of the array, where it is a short one, and tells where it begins.
-pub(crate) fn put_line(number: u64, label: &Label, line: &mut [u8; LINE_BYTES]) -> Option<usize>
+pub(crate) fn put_line(number: u64, label: &SeenLabel, line: &mut [u8; LINE_BYTES]) -> Option<usize>
     ensures { IfSome result (λ start. (start ≤ LINE_BYTES) × (drop start line.new ≡ decimal number
-        ++ 32 ∷ label_words label.now.kind label.now.from label.now.to label.now.terms ++ 10 ∷ [])) }
+        ++ 32 ∷ label_words label.now.kind label.now.from label.now.to label.now.terms.now ++ 10 ∷ [])) }
 {
     let end = put_byte(b'\n', line, LINE_BYTES);
     let end = put_terms(shown_terms(label), line, end)?;
@@ -34,18 +35,18 @@ pub(crate) fn put_line(number: u64, label: &Label, line: &mut [u8; LINE_BYTES]) 
 }
 
 /// The terms that the line of a step shows.
-fn shown_terms(label: &Label) -> &[Term]
-    ensures { result.now ≡ shown_terms label.now.kind label.now.terms }
+fn shown_terms<'a>(label: &SeenLabel<'a>) -> &'a [Term]
+    ensures { result.now ≡ shown_terms label.now.kind label.now.terms.now }
 {
     match label.kind {
         LabelKind::Finish | LabelKind::Halt => &[],
-        _ => label.terms.as_slice(),
+        _ => label.terms,
     }
 }
 
 /// The word and the places of a step.
 #[inline(always)]
-pub(crate) fn put_head(label: &Label, line: &mut [u8; LINE_BYTES], end: usize) -> usize
+pub(crate) fn put_head(label: &SeenLabel, line: &mut [u8; LINE_BYTES], end: usize) -> usize
     requires { (HEAD_BYTES ≤ end) × (end ≤ LINE_BYTES) }
     ensures room { (end ≤ result + 98) × (result ≤ end) }
     ensures written { drop result line.new ≡ kind_word label.now.kind

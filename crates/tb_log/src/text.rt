@@ -1,35 +1,47 @@
 ghost use Rattle.std.specs.Prelude.{◌≡◌, ◌++◌, [], ◌∷◌, OnOk, OnErr, codes, decimal};
+ghost use Rattle.std.specs.List.{flat_map};
+ghost use Rattle.tb_terms.specs.Texts.{term_text};
 ghost use Rattle.tb_terms.specs.Helpers.Prefixes.{KeepsPrefix};
 ghost use Rattle.tb_log.specs.LogText.{entry_text, entry_words, kind_word, label_words, term_words, arguments_text, fed_words, input_words, tool_line_words, out_words, why_word};
+ghost use Rattle.tb_log.specs.Seens.{entry_seen};
 ghost use Rattle.tb_log.specs.Helpers.StepText.{shown_places, shown_terms};
 
-use crate::entry::{Entry, Input, Label, LabelKind, Out, Reply, ToolLine, Why};
+use crate::entry::{Entry, Input, LabelKind, Out, Reply, ToolLine, Why};
+use crate::seen::{Seen, SeenLabel};
 use crate::step_line::{LINE_BYTES, put_head, put_line};
 use itoa::Buffer;
-use tb_terms::{NoMemory, Terms, push_quoted, write_term, write_terms};
+use tb_terms::{NoMemory, Term, Terms, push_quoted, write_term, write_terms};
 
 /// Writes the line of an entry with this number at the end.
 pub fn write_entry(number: u64, entry: &Entry, into: &mut Vec<u8>) -> Result<(), NoMemory>
     ensures ok { OnOk result (into.new.items ≡ into.old.items ++ entry_text number entry.now) }
     ensures err { OnErr result (into.new.items ≡ into.old.items) }
 {
-    if let Entry::Did(label) = entry {
+    write_seen(number, &Seen::of(entry), into)
+}
+
+/// The same of an entry that is lent.
+pub fn write_seen(number: u64, seen: &Seen, into: &mut Vec<u8>) -> Result<(), NoMemory>
+    ensures ok { OnOk result (into.new.items ≡ into.old.items ++ entry_text number (entry_seen seen.now)) }
+    ensures err { OnErr result (into.new.items ≡ into.old.items) }
+{
+    if let Seen::Did(label) = *seen {
         let mut line = [0; LINE_BYTES];
-        if let Some(start) = put_line(number, label, &mut line) {
+        if let Some(start) = put_line(number, &label, &mut line) {
             return push_text(&line[start..], into);
         }
     }
-    write_any(number, entry, into)
+    write_any(number, seen, into)
 }
 
 /// The same of any entry, piece by piece.
 #[inline(never)]
-fn write_any(number: u64, entry: &Entry, into: &mut Vec<u8>) -> Result<(), NoMemory>
-    ensures ok { OnOk result (into.new.items ≡ into.old.items ++ entry_text number entry.now) }
+fn write_any(number: u64, seen: &Seen, into: &mut Vec<u8>) -> Result<(), NoMemory>
+    ensures ok { OnOk result (into.new.items ≡ into.old.items ++ entry_text number (entry_seen seen.now)) }
     ensures err { OnErr result (into.new.items ≡ into.old.items) }
 {
     let kept = into.len();
-    match push_entry(number, entry, into) {
+    match push_entry(number, seen, into) {
         Ok(()) => Ok(()),
         Err(fault) => {
             into.truncate(kept);
@@ -38,32 +50,32 @@ fn write_any(number: u64, entry: &Entry, into: &mut Vec<u8>) -> Result<(), NoMem
     }
 }
 
-fn push_entry(number: u64, entry: &Entry, into: &mut Vec<u8>) -> Result<(), NoMemory>
-    ensures ok { OnOk result (into.new.items ≡ into.old.items ++ entry_text number entry.now) }
+fn push_entry(number: u64, seen: &Seen, into: &mut Vec<u8>) -> Result<(), NoMemory>
+    ensures ok { OnOk result (into.new.items ≡ into.old.items ++ entry_text number (entry_seen seen.now)) }
     ensures err { OnErr result (KeepsPrefix into.old.items into.new.items) }
 {
     push_number(number, into)?;
     into.push(b' ')?;
-    push_words(entry, into)?;
+    push_words(seen, into)?;
     into.push(b'\n')?;
     Ok(())
 }
 
-fn push_words(entry: &Entry, into: &mut Vec<u8>) -> Result<(), NoMemory>
-    ensures ok { OnOk result (into.new.items ≡ into.old.items ++ entry_words entry.now) }
+fn push_words(seen: &Seen, into: &mut Vec<u8>) -> Result<(), NoMemory>
+    ensures ok { OnOk result (into.new.items ≡ into.old.items ++ entry_words (entry_seen seen.now)) }
     ensures err { OnErr result (KeepsPrefix into.old.items into.new.items) }
 {
-    match entry {
-        Entry::Did(label) => push_label(label, into),
-        Entry::Quiet => push_text(b"quiet", into),
-        Entry::Fed(input, reply) => push_fed(*reply, input, into),
-        Entry::Gave(lane, out) => push_gave(*lane, out, into),
+    match *seen {
+        Seen::Did(label) => push_label(&label, into),
+        Seen::Quiet => push_text(b"quiet", into),
+        Seen::Fed(input, reply) => push_fed(reply, input, into),
+        Seen::Gave(lane, out) => push_gave(lane, out, into),
     }
 }
 
 #[tactic(auto, using(crate::proofs::StepLemmas::words_in_parts))]
-fn push_label(label: &Label, into: &mut Vec<u8>) -> Result<(), NoMemory>
-    ensures ok { OnOk result (into.new.items ≡ into.old.items ++ label_words label.now.kind label.now.from label.now.to label.now.terms) }
+fn push_label(label: &SeenLabel, into: &mut Vec<u8>) -> Result<(), NoMemory>
+    ensures ok { OnOk result (into.new.items ≡ into.old.items ++ label_words label.now.kind label.now.from label.now.to label.now.terms.now) }
     ensures err { OnErr result (KeepsPrefix into.old.items into.new.items) }
 {
     push_head(label, into)?;
@@ -71,7 +83,7 @@ fn push_label(label: &Label, into: &mut Vec<u8>) -> Result<(), NoMemory>
 }
 
 /// The word and the places of a step.
-fn push_head(label: &Label, into: &mut Vec<u8>) -> Result<(), NoMemory>
+fn push_head(label: &SeenLabel, into: &mut Vec<u8>) -> Result<(), NoMemory>
     ensures ok { OnOk result (into.new.items
         ≡ into.old.items ++ (kind_word label.now.kind ++ shown_places label.now.kind label.now.from label.now.to)) }
     ensures err { OnErr result (into.new.items ≡ into.old.items) }
@@ -81,13 +93,13 @@ fn push_head(label: &Label, into: &mut Vec<u8>) -> Result<(), NoMemory>
     push_text(&line[start..], into)
 }
 
-fn push_shown_terms(label: &Label, into: &mut Vec<u8>) -> Result<(), NoMemory>
-    ensures ok { OnOk result (into.new.items ≡ into.old.items ++ term_words (shown_terms label.now.kind label.now.terms)) }
+fn push_shown_terms(label: &SeenLabel, into: &mut Vec<u8>) -> Result<(), NoMemory>
+    ensures ok { OnOk result (into.new.items ≡ into.old.items ++ term_words (shown_terms label.now.kind label.now.terms.now)) }
     ensures err { OnErr result (KeepsPrefix into.old.items into.new.items) }
 {
     match label.kind {
         LabelKind::Finish | LabelKind::Halt => Ok(()),
-        _ => push_terms(&label.terms, into),
+        _ => push_terms(label.terms, into),
     }
 }
 
@@ -121,15 +133,30 @@ pub fn kind_word(kind: LabelKind) -> &'static [u8]
     }
 }
 
-fn push_terms(terms: &Terms, into: &mut Vec<u8>) -> Result<(), NoMemory>
+fn push_terms(terms: &[Term], into: &mut Vec<u8>) -> Result<(), NoMemory>
     ensures ok { OnOk result (into.new.items ≡ into.old.items ++ term_words terms.now) }
     ensures err { OnErr result (KeepsPrefix into.old.items into.new.items) }
 {
-    if terms.is_empty() {
-        return Ok(());
+    match terms.split_first() {
+        None => Ok(()),
+        Some((first, others)) => {
+            into.push(b' ')?;
+            write_term(first, into)?;
+            push_others(others, into)
+        }
     }
-    into.push(b' ')?;
-    write_terms(terms, into)
+}
+
+/// Each term behind a comma.
+fn push_others(terms: &[Term], into: &mut Vec<u8>) -> Result<(), NoMemory>
+    ensures ok { OnOk result (into.new.items ≡ into.old.items ++ flat_map (λ term. 44 ∷ term_text term) terms.now) }
+    ensures err { OnErr result (KeepsPrefix into.old.items into.new.items) }
+{
+    for term in terms {
+        into.push(b',')?;
+        write_term(term, into)?;
+    }
+    Ok(())
 }
 
 fn push_fed(reply: Reply, input: &Input, into: &mut Vec<u8>) -> Result<(), NoMemory>

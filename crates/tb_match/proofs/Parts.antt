@@ -1,10 +1,12 @@
 -- The steps of loops over patterns and terms.
-use Rattle.std.proofs.Common.{◌≡◌, ℕ, suc, ◌+◌, ◌<◌, List, [], ◌∷◌, length, get_or, drop, Option, Some, None, option_and_then, IsTrue, refl, ap, sym, ◌∙◌, subst, arith, add-one}
+use Rattle.std.proofs.Common.{◌≡◌, ℕ, Bool, true, false, suc, ◌+◌, ◌<◌, List, [], ◌∷◌, length, get_or, drop, Option, Some, None, option_and_then, if◌then◌else◌, IsTrue, refl, ap, sym, ◌∙◌, subst, arith, add-one}
 use Rattle.std.proofs.Math.Seq.{drop-cons}
 use Rattle.tb_terms.specs.declared.term.Term.{Term}
 use Rattle.tb_terms.specs.declared.pattern.Pattern.{Pattern}
-use Rattle.tb_match.specs.Joining.{with_prefix, both}
-use Rattle.tb_match.specs.Matches.{match_term, match_list, is_plain, are_plain}
+use Rattle.tb_terms.specs.Same.{is_same_term}
+use Rattle.tb_match.specs.declared.bind.Bind.{Bind}
+use Rattle.tb_match.specs.Joining.{bound, agreed, with_bind, with_prefix, both}
+use Rattle.tb_match.specs.Matches.{match_term, match_list, binds_if, is_plain, are_plain}
 use Rattle.tb_terms.proofs.SameLemmas.{both-true}
 use Rattle.tb_match.proofs.Grouping.{Binds, with_prefix-both}
 use Rattle.tb_match.proofs.Once.{alone-list}
@@ -34,6 +36,35 @@ prefix_turn a m ps ts i p t below even at_p at_t e =
     ap (with_prefix a) (turn ps ts i p t below even at_p at_t)
     ∙ with_prefix-both a (match_term p t) rest
     ∙ ap (λ (o : Option Binds). option_and_then (λ (b : Binds). with_prefix b rest) o) (sym e)
+
+-- where the next part matches, those behind it join what is bound then,
+pub matched_turn : (a b : Binds) (r : Bool) (ps : List Pattern) (ts : List Term) (i : ℕ) (p : Pattern) (t : Term) → i < length ps → length ps ≡ length ts → p ≡ get_or ps i p → t ≡ get_or ts i t → binds_if r b ≡ with_prefix a (match_term p t) → r ≡ true → with_prefix a (match_list (drop i ps) (drop i ts)) ≡ with_prefix b (match_list (drop (i + 1) ps) (drop (i + 1) ts))
+matched_turn a b r ps ts i p t below even at_p at_t e is =
+    prefix_turn a (Some b) ps ts i p t below even at_p at_t (ap (λ (m : Bool). binds_if m b) (sym is) ∙ e)
+
+-- and where it doesn't, nothing does
+pub unmatched_turn : (a b : Binds) (r : Bool) (ps : List Pattern) (ts : List Term) (i : ℕ) (p : Pattern) (t : Term) → i < length ps → length ps ≡ length ts → p ≡ get_or ps i p → t ≡ get_or ts i t → binds_if r b ≡ with_prefix a (match_term p t) → r ≡ false → with_prefix a (match_list (drop i ps) (drop i ts)) ≡ None
+unmatched_turn a b r ps ts i p t below even at_p at_t e is =
+    prefix_turn a None ps ts i p t below even at_p at_t (ap (λ (m : Bool). binds_if m b) (sym is) ∙ e)
+
+-- behind nothing the parts bind what they bind
+pub alone_found : (a b : Binds) (r : Bool) (ps qs : List Pattern) (ts us : List Term) → a ≡ [] → ps ≡ qs → ts ≡ us → binds_if r b ≡ with_prefix a (match_list ps ts) → binds_if r b ≡ match_list qs us
+alone_found a b r ps qs ts us none same also e =
+    e ∙ ap (λ (l : Binds). with_prefix l (match_list ps ts)) none ∙ alone-list ps ts ∙ ap (λ (l : List Pattern). match_list l ts) same ∙ ap (match_list qs) also
+
+-- a part that binds nothing leaves what is bound so far
+pub kept_if : (a : Binds) (m : Bool) → binds_if m a ≡ with_prefix a (binds_if m [])
+kept_if a true = refl
+kept_if a false = refl
+
+-- a slot that is bound already takes no other term
+agrees_if : (a : Binds) (m : Bool) → ◌≡◌ {A = Option Binds} (binds_if m a) (if m then Some a else None)
+agrees_if a true = refl
+agrees_if a false = refl
+
+pub agreed_if : (a : Binds) (bind : Bind) (other : Term) (m : Bool) → bound bind.slot a ≡ Some other → m ≡ is_same_term other bind.value → binds_if m a ≡ with_bind a bind
+agreed_if a bind other m e is =
+    ap (λ (r : Bool). binds_if r a) is ∙ agrees_if a (is_same_term other bind.value) ∙ ap (agreed a bind) (sym e)
 
 -- the next part binds nothing
 pub plain_turn : (ps : List Pattern) (ts : List Term) (i : ℕ) (p : Pattern) (t : Term) → i < length ps → length ps ≡ length ts → p ≡ get_or ps i p → t ≡ get_or ts i t → Some [] ≡ match_term p t → match_list (drop i ps) (drop i ts) ≡ match_list (drop (i + 1) ps) (drop (i + 1) ts)

@@ -1,9 +1,11 @@
-ghost use Rattle.std.specs.Prelude.{◌≡◌, [], ◌∷◌, ◌++◌, IfOk};
+ghost use Rattle.std.specs.Prelude.{◌≡◌, [], ◌∷◌, ◌++◌, IfOk, OnOk};
 ghost use Rattle.std.specs.Option.{option_copied};
 ghost use Rattle.tb_terms.specs.Same.{is_same_term};
 ghost use Rattle.tb_match.specs.Joining.{bound, with_bind};
+ghost use Rattle.tb_match.specs.Matches.{binds_if};
 
 use std::alloc::Global;
+use std::mem::replace;
 use tb_terms::{Items, NoMemory, Term, same};
 
 /// What a match gives to the variable with this slot.
@@ -38,36 +40,30 @@ pub fn copy_binds(alloc: Global, binds: &Binds) -> Result<Binds, NoMemory>
     Ok(copies)
 }
 
-/// These binds with one more, or None where the slot is bound to another term.
+/// Binds one more slot; false where it is bound to another term.
 pub(crate) fn with_bind(
     alloc: Global,
-    binds: Binds,
+    binds: &mut Binds,
     slot: u32,
     value: &Term,
-) -> Result<Option<Binds>, NoMemory>
-    ensures { IfOk result (λ all. all ≡ with_bind binds (record { slot = slot; value = value.now })) }
+) -> Result<bool, NoMemory>
+    ensures { IfOk result (λ agrees. binds_if agrees binds.new ≡ with_bind binds.old (record { slot = slot; value = value.now })) }
 {
-    let agrees = match value_of(binds.as_slice(), slot) {
-        Some(other) => is_same(other, value),
-        None => return pushed(alloc, binds, slot, value),
-    };
-    if agrees {
-        return Ok(Some(binds));
+    match value_of(binds.as_slice(), slot) {
+        Some(other) => Ok(is_same(other, value)),
+        None => {
+            push_bind(alloc, binds, slot, value)?;
+            Ok(true)
+        }
     }
-    Ok(None)
 }
 
-fn pushed(
-    alloc: Global,
-    mut binds: Binds,
-    slot: u32,
-    value: &Term,
-) -> Result<Option<Binds>, NoMemory>
-    ensures { IfOk result (λ all. all ≡ Some (binds ++ record { slot = slot; value = value.now } ∷ [])) }
+fn push_bind(alloc: Global, binds: &mut Binds, slot: u32, value: &Term) -> Result<(), NoMemory>
+    ensures { OnOk result (binds.new ≡ binds.old ++ record { slot = slot; value = value.now } ∷ []) }
 {
     let value = value.copy(alloc)?;
     binds.push(Bind { slot, value })?;
-    Ok(Some(binds))
+    Ok(())
 }
 
 fn value_of(binds: &[Bind], slot: u32) -> Option<&Term>
@@ -85,4 +81,24 @@ pub(crate) fn is_same(term: &Term, other: &Term) -> bool
     ensures { result ≡ is_same_term term.now other.now }
 {
     same(term, other)
+}
+
+/// Drops all binds, and keeps their memory.
+pub(crate) fn empty(binds: &mut Binds)
+    ensures { binds.new ≡ [] }
+{
+    while let Some(bind) = binds.pop() {
+        drop(bind);
+    }
+}
+
+/// Takes the binds out, where there was a match.
+pub(crate) fn taken_if(alloc: Global, matches: bool, binds: &mut Binds) -> Option<Binds>
+    ensures { result ≡ binds_if matches binds.old }
+{
+    if matches {
+        Some(replace(binds, Items::new(alloc)))
+    } else {
+        None
+    }
 }

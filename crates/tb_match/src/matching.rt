@@ -4,7 +4,7 @@ ghost use Rattle.tb_terms.specs.Sorts.{has_sort};
 ghost use Rattle.tb_match.specs.Joining.{with_prefix};
 ghost use Rattle.tb_match.specs.Matches.{match_term, match_list, match_all, match_appl, match_members, binds_if};
 
-use crate::bind::{Binds, is_same, with_bind};
+use crate::bind::{Binds, empty, is_same, taken_if, with_bind};
 use std::alloc::Global;
 use tb_terms::{Items, Name, NoMemory, Pattern, Patterns, Sort, Term, Terms, has_sort};
 
@@ -12,14 +12,67 @@ use tb_terms::{Items, Name, NoMemory, Pattern, Patterns, Sort, Term, Terms, has_
 pub fn match_term(alloc: Global, p: &Pattern, t: &Term) -> Result<Option<Binds>, NoMemory>
     ensures { IfOk result (λ m. m ≡ match_term p.now t.now) }
 {
-    match_behind(alloc, p, t, Items::new(alloc))
+    let mut binds = Items::new(alloc);
+    let matches = match_behind(alloc, p, t, &mut binds)?;
+    Ok(taken_if(alloc, matches, &mut binds))
 }
 
 /// What the terms bind by first occurrence, or None where they don't match the patterns one by one.
 pub fn match_list(alloc: Global, ps: &Patterns, ts: &Terms) -> Result<Option<Binds>, NoMemory>
     ensures { IfOk result (λ m. m ≡ match_list ps.now ts.now) }
 {
-    match_parts(alloc, ps.as_slice(), ts.as_slice(), Items::new(alloc))
+    let mut room = Items::new(alloc);
+    match_list_in(alloc, ps, ts, &mut room)
+}
+
+/// The same, in the memory of a list, whatever that held. It is taken only where there is a match.
+pub fn match_list_in(
+    alloc: Global,
+    ps: &Patterns,
+    ts: &Terms,
+    room: &mut Binds,
+) -> Result<Option<Binds>, NoMemory>
+    ensures { IfOk result (λ m. m ≡ match_list ps.now ts.now) }
+{
+    empty(room);
+    let matches = match_each(alloc, ps.as_slice(), ts.as_slice(), room)?;
+    Ok(taken_if(alloc, matches, room))
+}
+
+/// As `match_parts`, but outside of its cycle, so that simple patterns cost little.
+fn match_each(
+    alloc: Global,
+    patterns: &[Pattern],
+    terms: &[Term],
+    binds: &mut Binds,
+) -> Result<bool, NoMemory>
+    ensures { IfOk result (λ matches. binds_if matches binds.new ≡ with_prefix binds.old (match_all (map match_term patterns.now) terms.now)) }
+{
+    if patterns.len() != terms.len() {
+        return Ok(false);
+    }
+    for (position, pattern) in patterns.iter().enumerate() {
+        if !match_one(alloc, pattern, &terms[position], binds)? {
+            return Ok(false);
+        }
+    }
+    Ok(true)
+}
+
+/// Likewise `match_behind`.
+fn match_one(
+    alloc: Global,
+    pattern: &Pattern,
+    term: &Term,
+    binds: &mut Binds,
+) -> Result<bool, NoMemory>
+    ensures { IfOk result (λ matches. binds_if matches binds.new ≡ with_prefix binds.old (match_term pattern.now term.now)) }
+{
+    match pattern {
+        Pattern::Fixed(fixed) => Ok(is_same(fixed, term)),
+        Pattern::Result(slot, sort) => match_result(alloc, *slot, sort, term, binds),
+        _ => match_behind(alloc, pattern, term, binds),
+    }
 }
 
 #[cycle(matching)]
@@ -27,23 +80,17 @@ fn match_behind(
     alloc: Global,
     pattern: &Pattern,
     term: &Term,
-    prefix: Binds,
-) -> Result<Option<Binds>, NoMemory>
-    ensures { IfOk result (λ m. m ≡ with_prefix prefix (match_term pattern.now term.now)) }
+    binds: &mut Binds,
+) -> Result<bool, NoMemory>
+    ensures { IfOk result (λ matches. binds_if matches binds.new ≡ with_prefix binds.old (match_term pattern.now term.now)) }
 {
     match pattern {
-        Pattern::Fixed(fixed) => Ok(kept_if(is_same(fixed, term), prefix)),
-        Pattern::Hole(sort) => Ok(kept_if(has_sort(term, sort), prefix)),
-        Pattern::Result(slot, sort) => match_result(alloc, *slot, sort, term, prefix),
-        Pattern::Appl(name, parts) => match_appl(alloc, name, parts.as_slice(), term, prefix),
-        Pattern::List(parts) => match_members(alloc, parts.as_slice(), term, prefix),
+        Pattern::Fixed(fixed) => Ok(is_same(fixed, term)),
+        Pattern::Hole(sort) => Ok(has_sort(term, sort)),
+        Pattern::Result(slot, sort) => match_result(alloc, *slot, sort, term, binds),
+        Pattern::Appl(name, parts) => match_appl(alloc, name, parts.as_slice(), term, binds),
+        Pattern::List(parts) => match_members(alloc, parts.as_slice(), term, binds),
     }
-}
-
-fn kept_if(matches: bool, prefix: Binds) -> Option<Binds>
-    ensures { result ≡ with_prefix prefix (binds_if matches []) }
-{
-    if matches { Some(prefix) } else { None }
 }
 
 fn match_result(
@@ -51,15 +98,15 @@ fn match_result(
     slot: u32,
     sort: &Sort,
     term: &Term,
-    prefix: Binds,
-) -> Result<Option<Binds>, NoMemory>
-    ensures { IfOk result (λ m. m ≡ with_prefix prefix
+    binds: &mut Binds,
+) -> Result<bool, NoMemory>
+    ensures { IfOk result (λ matches. binds_if matches binds.new ≡ with_prefix binds.old
         (binds_if (has_sort term.now sort.now) (record { slot = slot; value = term.now } ∷ []))) }
 {
     if !has_sort(term, sort) {
-        return Ok(None);
+        return Ok(false);
     }
-    with_bind(alloc, prefix, slot, term)
+    with_bind(alloc, binds, slot, term)
 }
 
 #[cycle(matching)]
@@ -68,18 +115,18 @@ fn match_appl(
     name: &Name,
     parts: &[Pattern],
     term: &Term,
-    prefix: Binds,
-) -> Result<Option<Binds>, NoMemory>
-    ensures { IfOk result (λ m. m ≡ with_prefix prefix (match_appl name.now (map match_term parts.now) (out-Term term.now))) }
+    binds: &mut Binds,
+) -> Result<bool, NoMemory>
+    ensures { IfOk result (λ matches. binds_if matches binds.new ≡ with_prefix binds.old (match_appl name.now (map match_term parts.now) (out-Term term.now))) }
 {
     match term {
         Term::Appl(other, terms) => {
             if name.as_bytes() == other.as_bytes() {
-                return match_parts(alloc, parts, terms.as_slice(), prefix);
+                return match_parts(alloc, parts, terms.as_slice(), binds);
             }
-            Ok(None)
+            Ok(false)
         }
-        _ => Ok(None),
+        _ => Ok(false),
     }
 }
 
@@ -88,13 +135,13 @@ fn match_members(
     alloc: Global,
     parts: &[Pattern],
     term: &Term,
-    prefix: Binds,
-) -> Result<Option<Binds>, NoMemory>
-    ensures { IfOk result (λ m. m ≡ with_prefix prefix (match_members (map match_term parts.now) (out-Term term.now))) }
+    binds: &mut Binds,
+) -> Result<bool, NoMemory>
+    ensures { IfOk result (λ matches. binds_if matches binds.new ≡ with_prefix binds.old (match_members (map match_term parts.now) (out-Term term.now))) }
 {
     match term {
-        Term::List(terms) => match_parts(alloc, parts, terms.as_slice(), prefix),
-        _ => Ok(None),
+        Term::List(terms) => match_parts(alloc, parts, terms.as_slice(), binds),
+        _ => Ok(false),
     }
 }
 
@@ -103,19 +150,17 @@ fn match_parts(
     alloc: Global,
     patterns: &[Pattern],
     terms: &[Term],
-    prefix: Binds,
-) -> Result<Option<Binds>, NoMemory>
-    ensures { IfOk result (λ m. m ≡ with_prefix prefix (match_all (map match_term patterns.now) terms.now)) }
+    binds: &mut Binds,
+) -> Result<bool, NoMemory>
+    ensures { IfOk result (λ matches. binds_if matches binds.new ≡ with_prefix binds.old (match_all (map match_term patterns.now) terms.now)) }
 {
     if patterns.len() != terms.len() {
-        return Ok(None);
+        return Ok(false);
     }
-    let mut binds = prefix;
     for (position, pattern) in patterns.iter().enumerate() {
-        match match_behind(alloc, pattern, &terms[position], binds)? {
-            Some(more) => binds = more,
-            None => return Ok(None),
+        if !match_behind(alloc, pattern, &terms[position], binds)? {
+            return Ok(false);
         }
     }
-    Ok(Some(binds))
+    Ok(true)
 }

@@ -174,7 +174,7 @@ fn end_of(fault: LogFault) -> LogEnd
 }
 
 /// Puts the lines of the next entries.
-pub(crate) fn put_piece<O: Sink>(
+fn put_piece<O: Sink>(
     writer: &mut LogWriter,
     piece: &[Entry],
     out: &mut O,

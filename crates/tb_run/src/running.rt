@@ -10,7 +10,6 @@ ghost use Rattle.tb_run.specs.Running.{IsAfterRest, GoesToRest};
 
 use crate::ends::RunWhy;
 use crate::lanes::{AnyInlet, AnyOutlet};
-use crate::logger::put_piece;
 use crate::moving::{pair_lanes, part_lanes};
 use crate::room::{Room, make_room};
 use crate::working::run_workers;
@@ -24,7 +23,7 @@ use tb_bells::Bells;
 use tb_core::{Core, a_full_log_is_at_its_limit};
 use tb_edge::{Clock, Crew, Inlet, LanePair, Outlet, Sink};
 use tb_lock::{Seat, Shared};
-use tb_log::Entry;
+use tb_log::Log;
 use tb_terms::NoMemory;
 use tb_write::{LogFault, LogWriter};
 
@@ -130,9 +129,9 @@ where
 }
 
 /// Writes what is left of a log, where nothing failed before.
-fn put_rest<S: Sink>(log: &[Entry], why: RunWhy, writer: LogWriter, out: &mut S) -> RunWhy
-    requires held { GoesToRest log.now writer why }
-    ensures { IsAfterRest log.now writer why result (S.taken out.old) (S.taken out.new) (S.faults out.old) (S.faults out.new) }
+fn put_rest<S: Sink>(log: &Log, why: RunWhy, writer: LogWriter, out: &mut S) -> RunWhy
+    requires held { GoesToRest log.now.entries writer why }
+    ensures { IsAfterRest log.now.entries writer why result (S.taken out.old) (S.taken out.new) (S.faults out.old) (S.faults out.new) }
 {
     match why {
         RunWhy::Ended | RunWhy::Clock | RunWhy::Events => match put_behind(log, writer, out) {
@@ -145,17 +144,17 @@ fn put_rest<S: Sink>(log: &[Entry], why: RunWhy, writer: LogWriter, out: &mut S)
 }
 
 /// Writes what stands in a log behind what was written.
-fn put_behind<S: Sink>(log: &[Entry], writer: LogWriter, out: &mut S) -> Result<(), LogFault>
+fn put_behind<S: Sink>(log: &Log, writer: LogWriter, out: &mut S) -> Result<(), LogFault>
     requires held { writer.held ≡ [] }
-    requires within { writer.written ≤ length log.now }
-    ensures ok { OnOk result (Writes (S.taken out.old) (S.taken out.new) (log_text_from (writer.written + 1) (drop writer.written log.now))) }
-    ensures prefix { OnErr result (WritesPrefix (S.taken out.old) (S.taken out.new) (log_text_from (writer.written + 1) (drop writer.written log.now))) }
+    requires within { writer.written ≤ length log.now.entries }
+    ensures ok { OnOk result (Writes (S.taken out.old) (S.taken out.new) (log_text_from (writer.written + 1) (drop writer.written log.now.entries))) }
+    ensures prefix { OnErr result (WritesPrefix (S.taken out.old) (S.taken out.new) (log_text_from (writer.written + 1) (drop writer.written log.now.entries))) }
     ensures rose { IsErrOf result LogFault.Out → Rose (S.faults out.old) (S.faults out.new) }
     ensures calm { OnOk result (S.faults out.new ≡ S.faults out.old) }
 {
     let mut writer = writer;
     let written = writer.written() as usize;
-    put_piece(&mut writer, &log[written..], out)
+    writer.put_behind_and_flush(log, written, out)
 }
 
 /// What a run over boxes takes memory for, beside the rest.

@@ -6,18 +6,16 @@ use Rattle.std.specs.List.{All}
 use Rattle.tb_terms.specs.declared.term.Term.{Term}
 use Rattle.tb_match.specs.declared.bind.Bind.{Bind}
 use Rattle.tb_match.specs.Matches.{match_list}
-use Rattle.tb_notes.specs.Inboxes.{oldest_match}
-use Rattle.tb_search.specs.Candidates.{Row, Scene, row_at, no_row, received_if, reception, receptions, partner_in, partners, all_take, wanting, may_happen, candidates_by, candidates_among, candidates_of, candidates_from, up_to, candidates_in_turn, candidates_or_halt, candidates_while_up, all_candidates, setting_in, ascend}
+use Rattle.tb_search.specs.Candidates.{Row, Scene, row_at, no_row, received_if, reception, receptions, partner_in, partners, finding_of, candidates_by, candidates_among, candidates_of, candidates_from, up_to, candidates_in_turn, candidates_or_halt, candidates_while_up, all_candidates, ascend}
 use Rattle.tb_search.specs.declared.marks.Marks.{Marks}
 use Rattle.tb_bus.specs.Buses.{Bus}
 use Rattle.tb_bus.specs.Steps.{moves, first}
 use Rattle.tb_search.specs.Views.{sent_in, ready_at, move_of, Receives, IsThere, IsCandidateIn, IsSearchedFor}
 use Rattle.tb_bus.specs.declared.action.Action.{Action}
 use Rattle.tb_bus.specs.declared.action.Action.TheVariants as action
-use Rattle.tb_bus.specs.Exchanges.{exchange_for}
-use Rattle.tb_bus.specs.declared.exchange.Exchange.{Exchange}
 use Rattle.tb_search.specs.declared.living.Ready.{Ready}
 use Rattle.tb_search.specs.declared.candidate.Partner.{Partner}
+use Rattle.tb_search.specs.declared.candidate.Finding.{Finding}
 use Rattle.tb_search.specs.declared.candidate.Candidate.{Candidate}
 use Rattle.tb_search.specs.declared.candidate.Candidate.TheVariants as candidate
 use Rattle.tb_search.proofs.PartLemmas.{StandAt, stand-whole, stand-drop, stand-take}
@@ -56,9 +54,6 @@ module _ (rows : List Row) where
         (does : Action) → ready.action ≡ does → All (λ received. IsPartnerIn rows number terms (partner_at at received)) (reception terms index does)
     reception-in at index row ready e f n (action.Own own) d = All-nil _
     reception-in at index row ready e f n (action.Send other) d = All-nil _
-    reception-in at index row ready e f n (action.Notify other) d = All-nil _
-    reception-in at index row ready e f n (action.TakeNote patterns) d = All-nil _
-    reception-in at index row ready e f n (action.Speak does) d = All-nil _
     reception-in at index row ready e f n (action.Receive patterns) d = matched-in at index row ready e f n (action.Receive patterns) d (match_list patterns terms) (λ b q. q)
 
     receptions-in : (at : ℕ) (row : Row) → slice_get rows at ≡ Some row → number ≢ row.number → (index : ℕ) (some : List Ready) → StandAt row.ready index some →
@@ -81,13 +76,9 @@ module _ (rows : List Row) where
         All-append (IsPartnerIn rows number terms) (partner_in number terms at row) (partners number terms (at + 1) some)
         (partner-in-by at row h.0 (row.number == number) refl) (partners-in (at + 1) some h.1)
 
-one-in : {A : Type 0} (P : A → Type 0) (b : Bool) (x : A) → (b ≡ true → P x) → All P (if b then x ∷ [] else [])
-one-in P true x h = All-cons P x [] (h refl) (All-nil P)
-one-in P false x h = All-nil P
-
-taken-in : {F : Type 0} (P : Candidate → Type 0) (make : F → Candidate) (found : Option F) → ((f : F) → found ≡ Some f → P (make f)) → All P (map make (option_to_list found))
-taken-in P make None h = All-nil P
-taken-in P make (Some found) h = All-cons P (make found) [] (h found refl) (All-nil P)
+found-in : (P : Candidate → Type 0) (make : Finding → Candidate) (found : Option Finding) → ((f : Finding) → found ≡ Some f → P (make f)) → All P (map make (option_to_list found))
+found-in P make None h = All-nil P
+found-in P make (Some found) h = All-cons P (make found) [] (h found refl) (All-nil P)
 
 module _ (scene : Scene) where
   there : (at index : ℕ) (row : Row) (ready : Ready) → slice_get scene.rows at ≡ Some row → slice_get row.ready index ≡ Some ready → IsThere scene.rows at index
@@ -97,8 +88,8 @@ module _ (scene : Scene) where
       All (IsCandidateIn scene) (candidates_by scene at row index does)
   candidates_by-in at index row ready e f (action.Own own) d =
       let same = get_or_from_slice_get scene.rows at row no_row e in
-      one-in (IsCandidateIn scene) (may_happen scene row own) (candidate.Own at index)
-      (λ h. (there at index row ready e f, (own, action-is scene.rows at index row ready (action.Own own) e f d, ap (λ (r : Row). may_happen scene r own) same ∙ h)))
+      found-in (IsCandidateIn scene) (candidate.Own at index) (finding_of scene row own)
+      (λ found h. (there at index row ready e f, (own, action-is scene.rows at index row ready (action.Own own) e f d, ap (λ (r : Row). finding_of scene r own) same ∙ h)))
   candidates_by-in at index row ready e f (action.Receive patterns) d = All-nil _
   candidates_by-in at index row ready e f (action.Send terms) d =
       let sends = action-is scene.rows at index row ready (action.Send terms) e f d in
@@ -114,17 +105,6 @@ module _ (scene : Scene) where
         subst (λ ts. Receives ts (ready_at scene.rows partner.living partner.received.action).action partner.received.binds) (sym (ap sent_in sends)) h.3,
       ))
       (partners row.number terms 0 scene.rows) (partners-in scene.rows row.number terms 0 scene.rows (stand-whole scene.rows)))
-  candidates_by-in at index row ready e f (action.Notify terms) d =
-      one-in (IsCandidateIn scene) (all_take terms scene.rows) (candidate.Notify at index (wanting terms 0 scene.rows))
-      (λ h. (there at index row ready e f, (terms, action-is scene.rows at index row ready (action.Notify terms) e f d, h, refl)))
-  candidates_by-in at index row ready e f (action.TakeNote patterns) d =
-      let same = get_or_from_slice_get scene.rows at row no_row e in
-      taken-in (IsCandidateIn scene) (candidate.TakeNote at index) (oldest_match patterns row.inbox)
-      (λ found h. (there at index row ready e f, (patterns, action-is scene.rows at index row ready (action.TakeNote patterns) e f d, ap (λ (r : Row). oldest_match patterns r.inbox) same ∙ h)))
-  candidates_by-in at index row ready e f (action.Speak does) d =
-      let same = get_or_from_slice_get scene.rows at row no_row e in
-      taken-in (IsCandidateIn scene) (candidate.Speak at index) (exchange_for (setting_in scene row) does)
-      (λ (exchange : Exchange) h. (there at index row ready e f, (does, action-is scene.rows at index row ready (action.Speak does) e f d, ap (λ (r : Row). exchange_for (setting_in scene r) does) same ∙ h)))
 
   candidates_among-in : (at : ℕ) (row : Row) → slice_get scene.rows at ≡ Some row → (index : ℕ) (some : List Ready) → StandAt row.ready index some → All (IsCandidateIn scene) (candidates_among scene at row index some)
   candidates_among-in at row e index [] h = All-nil _

@@ -1,16 +1,17 @@
 -- What the actions that a search found come to on the bus that is searched.
-use Rattle.std.proofs.Common.{◌≡◌, ℕ, ◌<◌, ◌&&◌, zero, suc, List, [], ◌∷◌, length, refl, ap, sym, subst, ◌∙◌, arith, Some, None, is_some, option_map, Bool, true, false, not, if◌then◌else◌}
+use Rattle.std.proofs.Common.{◌≡◌, ℕ, ◌<◌, ◌&&◌, zero, suc, List, [], ◌∷◌, length, refl, ap, sym, subst, ◌∙◌, arith, Option, Some, None, is_some, option_map, Bool, true, false, not, if◌then◌else◌}
 use Rattle.std.specs.List.{list_all}
+use Rattle.std.proofs.lemmas.Option.{same_Some}
 use Rattle.tb_terms.specs.declared.term.Term.{Term}
 use Rattle.tb_body.specs.declared.body.Body.{Body}
-use Rattle.tb_notes.specs.Inboxes.{oldest_match}
+use Rattle.tb_notes.specs.Inboxes.{Held, oldest_match}
 use Rattle.tb_notes.specs.declared.queue.Found.{Found}
-use Rattle.tb_log.specs.declared.entry.LabelKind.TheVariants as kind
 use Rattle.tb_bus.specs.Buses.{Bus, Proc}
-use Rattle.tb_bus.specs.Exchanges.{setting_by, exchange_for}
-use Rattle.tb_bus.specs.Effects.{Nothing, PutsNote, Subscribes, Unsubscribes, GoesDown, Effect, takes_note, may_create, creation, taking, own_effect, setting_of, speaking, effect_of}
-use Rattle.tb_search.specs.Candidates.{Row, Scene, row_at, all_take, may_happen, setting_in}
-use Rattle.tb_search.specs.Views.{IsRowOf, AreRowsOf, proc_at, ready_at, sent_in, IsCandidateIn, IsSearchedFor}
+use Rattle.tb_bus.specs.Exchanges.{Setting, setting_by, exchange_for}
+use Rattle.tb_bus.specs.Effects.{takes_note, may_create, taking, own_effect, setting_of, speaking, effect_of}
+use Rattle.tb_search.specs.Candidates.{Row, Scene, row_at, all_take, wanting, plain_if, finding_of, setting_in}
+use Rattle.tb_search.specs.Findings.{note_found, exchange_found, effect_by}
+use Rattle.tb_search.specs.Views.{IsRowOf, AreRowsOf, proc_at, ready_at, own_in, IsCandidateIn, IsSearchedFor}
 use Rattle.tb_search.specs.declared.marks.Marks.{Marks}
 use Rattle.tb_bus.specs.declared.action.Action.{Action}
 use Rattle.tb_bus.specs.declared.action.Action.TheVariants as action
@@ -18,22 +19,9 @@ use Rattle.tb_bus.specs.declared.action.OwnAction.{OwnAction}
 use Rattle.tb_bus.specs.declared.action.OwnAction.TheVariants as own
 use Rattle.tb_bus.specs.declared.action.ToolAction.{ToolAction}
 use Rattle.tb_bus.specs.declared.exchange.Exchange.{Exchange}
+use Rattle.tb_search.specs.declared.candidate.Finding.{Finding}
+use Rattle.tb_search.specs.declared.candidate.Finding.TheVariants as finding
 use Rattle.tb_search.specs.declared.candidate.Candidate.TheVariants as candidate
-
--- What an action of a process by itself comes to where it happens, and the next process has this number.
-abbrev pub effect_in : ℕ → OwnAction → Effect
-effect_in number own.Tau = record { kind = kind.Tau; shown = []; binds = []; change = Nothing }
-effect_in number (own.Set values binds) = record { kind = kind.Set; shown = values; binds = binds; change = Nothing }
-effect_in number (own.Print text) = record { kind = kind.Printf; shown = text ∷ []; binds = []; change = Nothing }
-effect_in number (own.NoNote patterns) = record { kind = kind.NoNote; shown = []; binds = []; change = Nothing }
-effect_in number (own.Subscribe patterns) = record { kind = kind.Subscribe; shown = []; binds = []; change = Subscribes patterns }
-effect_in number (own.Unsubscribe patterns) = record { kind = kind.Unsubscribe; shown = []; binds = []; change = Unsubscribes patterns }
-effect_in number (own.Create process actuals slot) = creation number process actuals slot
-effect_in number (own.Shutdown reason) = record { kind = kind.Shutdown; shown = reason ∷ []; binds = []; change = GoesDown reason }
-
--- what a note comes to for which there is room
-abbrev pub notice : List Term → Effect
-notice terms = record { kind = kind.SndNote; shown = terms; binds = []; change = PutsNote terms }
 
 -- what is searched is the bus, as far as an action asks for it
 pub record IsSceneOf (bus : Bus) (scene : Scene) : Type 0 where
@@ -76,21 +64,44 @@ module _ (bodies : List Body) (now : ℕ) where
       ap (λ inbox. takes_note terms inbox && all_take terms rows) h.0.inbox
       ∙ ap (λ rest. takes_note terms proc.inbox && rest) (all_take-is terms rows procs h.1)
 
-some-if : {A : Type 0} (b : Bool) (x : A) → b ≡ is_some (if b then Some x else None)
-some-if true x = refl
-some-if false x = refl
+-- what may happen is found where it has an effect, and then has this one
 
-some-unless : {A : Type 0} (b : Bool) (x : A) → not b ≡ is_some (if b then None else Some x)
-some-unless true x = refl
-some-unless false x = refl
+if-same : {A B : Type 0} (b : Bool) (x : A) (y : B) → is_some (if b then Some x else None) ≡ is_some (if b then Some y else None)
+if-same true x y = refl
+if-same false x y = refl
 
-the-then : {A : Type 0} (b : Bool) (x : A) → b ≡ true → (if b then Some x else None) ≡ Some x
-the-then true x e = refl
-the-then false x e = cc
+unless-same : {A B : Type 0} (b : Bool) (x : A) (y : B) → is_some (if not b then Some x else None) ≡ is_some (if b then None else Some y)
+unless-same true x y = refl
+unless-same false x y = refl
 
-the-else : {A : Type 0} (b : Bool) (x : A) → not b ≡ true → (if b then None else Some x) ≡ Some x
-the-else true x e = cc
-the-else false x e = refl
+room-same : {A B C : Type 0} (f : A → B) (b : Bool) (x : A) (y : C) → is_some (option_map f (if b then Some x else None)) ≡ is_some (if b then Some y else None)
+room-same f true x y = refl
+room-same f false x y = refl
+
+map-same : {A B C : Type 0} (f : A → B) (g : A → C) (found : Option A) → is_some (option_map f found) ≡ is_some (option_map g found)
+map-same f g None = refl
+map-same f g (Some x) = refl
+
+the-then : {A B : Type 0} (b : Bool) (x : A) (y : B) (found : A) → (if b then Some x else None) ≡ Some found → (if b then Some y else None) ≡ Some y
+the-then true x y found e = refl
+the-then false x y found e = cc
+
+the-else : {A B : Type 0} (b : Bool) (x : A) (y : B) (found : A) → (if not b then Some x else None) ≡ Some found → (if b then None else Some y) ≡ Some y
+the-else true x y found e = cc
+the-else false x y found e = refl
+
+the-room : {A B C : Type 0} (f : A → B) (b : Bool) (x : A) (y : C) (found : B) → option_map f (if b then Some x else None) ≡ Some found → (if b then Some y else None) ≡ Some y
+the-room f true x y found e = refl
+the-room f false x y found e = cc
+
+the-note : (held : Held) (o : Option Found) (found : Finding) → option_map finding.TakeNote o ≡ Some found → option_map (taking held) o ≡ Some (taking held (note_found found))
+the-note held None found e = cc
+the-note held (Some note) found e = ap (λ f. Some (taking held (note_found f))) (same_Some (finding.TakeNote note) found e)
+
+the-exchange : (setting : Setting) (does : ToolAction) (o : Option Exchange) (found : Finding) → option_map finding.Speak o ≡ Some found →
+    option_map (speaking setting does) o ≡ Some (speaking setting does (exchange_found found))
+the-exchange setting does None found e = cc
+the-exchange setting does (Some exchange) found e = ap (λ f. Some (speaking setting does (exchange_found f))) (same_Some (finding.Speak exchange) found e)
 
 module _ (bus : Bus) (scene : Scene) (is : IsSceneOf bus scene) where
   may_create-is : (row : Row) (proc : Proc) → row.body ≡ proc.body → (process : ℕ) (actuals : List Term) (slot : ℕ) →
@@ -110,99 +121,63 @@ module _ (bus : Bus) (scene : Scene) (is : IsSceneOf bus scene) where
       ∙ ap (λ bench. setting_by bus.program.bodies bus.program.tools bench row.body) (sym is.bench_is)
       ∙ ap (setting_by bus.program.bodies bus.program.tools bus.bench) e
 
-  -- an action of a process by itself may happen where it has an effect
-  pub happens-is : (row : Row) (proc : Proc) → row.inbox ≡ proc.inbox → row.body ≡ proc.body → (own : OwnAction) → may_happen scene row own ≡ is_some (own_effect bus proc own)
+  -- what a process does by itself is found where it has an effect
+  pub happens-is : (row : Row) (proc : Proc) → row.inbox ≡ proc.inbox → row.body ≡ proc.body → (own : OwnAction) → is_some (finding_of scene row own) ≡ is_some (own_effect bus proc own)
   happens-is row proc inbox body own.Tau = refl
   happens-is row proc inbox body (own.Set values binds) = refl
   happens-is row proc inbox body (own.Print text) = refl
+  happens-is row proc inbox body (own.Notify terms) =
+      ap (λ b. is_some (option_map finding.Notify (if b then Some (wanting terms 0 scene.rows) else None))) (all_take-is bus.program.bodies bus.now terms scene.rows bus.procs is.rows_are)
+      ∙ room-same finding.Notify _ _ _
+  happens-is row proc inbox body (own.TakeNote patterns) =
+      ap (λ inbox. is_some (option_map finding.TakeNote (oldest_match patterns inbox))) inbox ∙ map-same finding.TakeNote (taking proc.inbox) (oldest_match patterns proc.inbox)
   happens-is row proc inbox body (own.NoNote patterns) =
-      ap (λ inbox. not (is_some (oldest_match patterns inbox))) inbox ∙ some-unless (is_some (oldest_match patterns proc.inbox)) _
+      ap (λ inbox. is_some (plain_if (not (is_some (oldest_match patterns inbox))))) inbox ∙ unless-same (is_some (oldest_match patterns proc.inbox)) _ _
   happens-is row proc inbox body (own.Subscribe patterns) = refl
   happens-is row proc inbox body (own.Unsubscribe patterns) = refl
-  happens-is row proc inbox body (own.Create process actuals slot) = may_create-is row proc body process actuals slot ∙ some-if _ _
+  happens-is row proc inbox body (own.Create process actuals slot) = ap (λ b. is_some (plain_if b)) (may_create-is row proc body process actuals slot) ∙ if-same _ _ _
+  happens-is row proc inbox body (own.Speak does) =
+      ap (λ setting. is_some (option_map finding.Speak (exchange_for setting does))) (setting-is row proc body)
+      ∙ map-same finding.Speak (speaking (setting_of bus proc) does) (exchange_for (setting_of bus proc) does)
   happens-is row proc inbox body (own.Shutdown reason) = refl
 
-  own-happens : (row : Row) (proc : Proc) → row.inbox ≡ proc.inbox → row.body ≡ proc.body → (own : OwnAction) → may_happen scene row own ≡ true → own_effect bus proc own ≡ Some (effect_in bus.next_number own)
-  own-happens row proc inbox body own.Tau h = refl
-  own-happens row proc inbox body (own.Set values binds) h = refl
-  own-happens row proc inbox body (own.Print text) h = refl
-  own-happens row proc inbox body (own.NoNote patterns) h =
-      the-else (is_some (oldest_match patterns proc.inbox)) _ (sym (ap (λ inbox. not (is_some (oldest_match patterns inbox))) inbox) ∙ h)
-  own-happens row proc inbox body (own.Subscribe patterns) h = refl
-  own-happens row proc inbox body (own.Unsubscribe patterns) h = refl
-  own-happens row proc inbox body (own.Create process actuals slot) h = the-then _ _ (sym (may_create-is row proc body process actuals slot) ∙ h)
-  own-happens row proc inbox body (own.Shutdown reason) h = refl
-
-  -- there is room for a note where the note has an effect
-  pub notifies-is : (proc : Proc) (terms : List Term) → all_take terms scene.rows ≡ is_some (effect_of bus proc (action.Notify terms))
-  notifies-is proc terms = all_take-is bus.program.bodies bus.now terms scene.rows bus.procs is.rows_are ∙ some-if _ _
-
-abbrev own-of : OwnAction → Action → OwnAction
-own-of default (action.Own own) = own
-own-of default (action.Send terms) = default
-own-of default (action.Receive patterns) = default
-own-of default (action.Notify terms) = default
-own-of default (action.TakeNote patterns) = default
-own-of default (action.Speak does) = default
-
-own-inj : (one other : OwnAction) → action.Own one ≡ action.Own other → one ≡ other
-own-inj one other e = ap (own-of one) e
-
-notify-inj : (terms more : List Term) → action.Notify terms ≡ action.Notify more → terms ≡ more
-notify-inj terms more e = ap sent_in e
-
-abbrev spoken-of : ToolAction → Action → ToolAction
-spoken-of default (action.Own own) = default
-spoken-of default (action.Send terms) = default
-spoken-of default (action.Receive patterns) = default
-spoken-of default (action.Notify terms) = default
-spoken-of default (action.TakeNote patterns) = default
-spoken-of default (action.Speak does) = does
-
-speak-inj : (one other : ToolAction) → action.Speak one ≡ action.Speak other → one ≡ other
-speak-inj one other e = ap (spoken-of one) e
+  -- and as it was found it has this effect
+  own-happens : (row : Row) (proc : Proc) → row.inbox ≡ proc.inbox → row.body ≡ proc.body → (own : OwnAction) (found : Finding) → finding_of scene row own ≡ Some found →
+      own_effect bus proc own ≡ Some (effect_by bus.next_number proc.inbox (setting_of bus proc) own found)
+  own-happens row proc inbox body own.Tau found h = refl
+  own-happens row proc inbox body (own.Set values binds) found h = refl
+  own-happens row proc inbox body (own.Print text) found h = refl
+  own-happens row proc inbox body (own.Notify terms) found h =
+      the-room finding.Notify (list_all (λ (other : Proc). takes_note terms other.inbox) bus.procs) (wanting terms 0 scene.rows) _ found
+      (sym (ap (λ b. option_map finding.Notify (if b then Some (wanting terms 0 scene.rows) else None)) (all_take-is bus.program.bodies bus.now terms scene.rows bus.procs is.rows_are)) ∙ h)
+  own-happens row proc inbox body (own.TakeNote patterns) found h =
+      the-note proc.inbox (oldest_match patterns proc.inbox) found (sym (ap (λ inbox. option_map finding.TakeNote (oldest_match patterns inbox)) inbox) ∙ h)
+  own-happens row proc inbox body (own.NoNote patterns) found h =
+      the-else (is_some (oldest_match patterns proc.inbox)) finding.Plain _ found (sym (ap (λ inbox. plain_if (not (is_some (oldest_match patterns inbox)))) inbox) ∙ h)
+  own-happens row proc inbox body (own.Subscribe patterns) found h = refl
+  own-happens row proc inbox body (own.Unsubscribe patterns) found h = refl
+  own-happens row proc inbox body (own.Create process actuals slot) found h =
+      the-then (may_create bus.program.bodies (length bus.procs) bus.next_number proc.body process actuals slot) finding.Plain _ found (sym (ap plain_if (may_create-is row proc body process actuals slot)) ∙ h)
+  own-happens row proc inbox body (own.Speak does) found h =
+      the-exchange (setting_of bus proc) does (exchange_for (setting_of bus proc) does) found (sym (ap (λ setting. option_map finding.Speak (exchange_for setting does)) (setting-is row proc body)) ∙ h)
+  own-happens row proc inbox body (own.Shutdown reason) found h = refl
 
 module _ (bus : Bus) (scene : Scene) (marks : Marks) (is : IsSearchedFor bus scene marks) where
   -- the row at an index is that of the process there
   pub found-row : (at : ℕ) → at < length scene.rows → IsRowOf scene.bodies bus.now (row_at scene.rows at) (proc_at bus.procs at)
   found-row at l = row-at scene.bodies bus.now scene.rows bus.procs at is.rows_are l
 
-  -- An action of a process by itself that was found has this effect.
-  pub own-effect-is : (at index : ℕ) → IsCandidateIn scene (candidate.Own at index) → (own : OwnAction) → (ready_at scene.rows at index).action ≡ action.Own own →
-      effect_of bus (proc_at bus.procs at) (ready_at scene.rows at index).action ≡ Some (effect_in scene.next_number own)
-  own-effect-is at index h own e =
+  -- What a process does by itself has this effect, as it was found.
+  pub own-effect-is : (at index : ℕ) (found : Finding) → IsCandidateIn scene (candidate.Own at index found) → (own : OwnAction) → (ready_at scene.rows at index).action ≡ action.Own own →
+      effect_of bus (proc_at bus.procs at) (ready_at scene.rows at index).action ≡ Some (effect_by scene.next_number (row_at scene.rows at).inbox (setting_in scene (row_at scene.rows at)) own found)
+  own-effect-is at index found h own e =
+      let proc = proc_at bus.procs at in
       let row = found-row at h.0.0 in
-      let same : h.1.0 ≡ own = own-inj h.1.0 own (sym h.1.1 ∙ e) in
-      let happens : may_happen scene (row_at scene.rows at) own ≡ true = subst (λ o. may_happen scene (row_at scene.rows at) o ≡ true) same h.1.2 in
-      ap (effect_of bus (proc_at bus.procs at)) e
-      ∙ own-happens bus scene (scene-is bus scene marks is) (row_at scene.rows at) (proc_at bus.procs at) row.inbox row.body own happens
-      ∙ ap (λ number. Some (effect_in number own)) is.next_is
-
-  -- A note that was found has this one.
-  pub note-effect-is : (at index : ℕ) (indices : List ℕ) → IsCandidateIn scene (candidate.Notify at index indices) → (terms : List Term) → (ready_at scene.rows at index).action ≡ action.Notify terms →
-      effect_of bus (proc_at bus.procs at) (ready_at scene.rows at index).action ≡ Some (notice terms)
-  note-effect-is at index indices h terms e =
-      let same : h.1.0 ≡ terms = notify-inj h.1.0 terms (sym h.1.1 ∙ e) in
-      let room : all_take terms scene.rows ≡ true = subst (λ ts. all_take ts scene.rows ≡ true) same h.1.2 in
-      ap (effect_of bus (proc_at bus.procs at)) e ∙ the-then _ (notice terms) (sym (all_take-is scene.bodies bus.now terms scene.rows bus.procs is.rows_are) ∙ room)
-
-  -- A note that was found to be taken has this one.
-  pub take-effect-is : (at index : ℕ) (found : Found) → IsCandidateIn scene (candidate.TakeNote at index found) →
-      effect_of bus (proc_at bus.procs at) (ready_at scene.rows at index).action ≡ Some (taking (row_at scene.rows at).inbox found)
-  take-effect-is at index found h =
-      let row = found-row at h.0.0 in
-      ap (effect_of bus (proc_at bus.procs at)) h.1.1
-      ∙ ap (option_map (taking (proc_at bus.procs at).inbox)) (ap (oldest_match h.1.0) (sym row.inbox) ∙ h.1.2)
-      ∙ ap (λ inbox. Some (taking inbox found)) (sym row.inbox)
-
-  -- And what is said to a tool, or heard of it, as was found, has this one.
-  pub speak-effect-is : (at index : ℕ) (exchange : Exchange) → IsCandidateIn scene (candidate.Speak at index exchange) → (does : ToolAction) → (ready_at scene.rows at index).action ≡ action.Speak does →
-      effect_of bus (proc_at bus.procs at) (ready_at scene.rows at index).action ≡ Some (speaking (setting_in scene (row_at scene.rows at)) does exchange)
-  speak-effect-is at index exchange h does e =
-      let row = found-row at h.0.0 in
-      let setting = setting_in scene (row_at scene.rows at) in
-      let same : h.1.0 ≡ does = speak-inj h.1.0 does (sym h.1.1 ∙ e) in
-      let found : exchange_for setting does ≡ Some exchange = subst (λ does. exchange_for setting does ≡ Some exchange) same h.1.2 in
-      ap (effect_of bus (proc_at bus.procs at)) e
-      ∙ ap (λ setting. option_map (speaking setting does) (exchange_for setting does)) (sym (setting-is bus scene (scene-is bus scene marks is) (row_at scene.rows at) (proc_at bus.procs at) row.body))
-      ∙ ap (option_map (speaking setting does)) found
+      let scene_is = scene-is bus scene marks is in
+      let same : h.1.0 ≡ own = ap own_in (sym h.1.1 ∙ e) in
+      let happens : finding_of scene (row_at scene.rows at) own ≡ Some found = subst (λ o. finding_of scene (row_at scene.rows at) o ≡ Some found) same h.1.2 in
+      ap (effect_of bus proc) e
+      ∙ own-happens bus scene scene_is (row_at scene.rows at) proc row.inbox row.body own found happens
+      ∙ ap (λ number. Some (effect_by number proc.inbox (setting_of bus proc) own found)) is.next_is
+      ∙ ap (λ inbox. Some (effect_by scene.next_number inbox (setting_of bus proc) own found)) (sym row.inbox)
+      ∙ ap (λ setting. Some (effect_by scene.next_number (row_at scene.rows at).inbox setting own found)) (sym (setting-is bus scene scene_is (row_at scene.rows at) proc row.body))

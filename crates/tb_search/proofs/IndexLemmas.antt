@@ -1,5 +1,5 @@
 -- Whom an index doesn't name leads to nothing: no partner receives what is sent, and no starter begins anything.
-use Rattle.std.proofs.Common.{◌≡◌, ℕ, ◌+◌, ◌<◌, ◌==◌, ◌||◌, List, [], ◌∷◌, ◌++◌, map, length, refl, ap, subst, ◌∙◌, arith, Option, Some, None, Bool, true, false, not, is_some, option_to_list, if◌then◌else◌, ⊎_elim}
+use Rattle.std.proofs.Common.{◌≡◌, ℕ, ◌+◌, ◌<◌, ◌==◌, ◌||◌, List, [], ◌∷◌, ◌++◌, map, length, refl, ap, subst, ◌∙◌, arith, Option, Some, None, Bool, true, false, not, is_some, option_map, option_to_list, if◌then◌else◌, ⊎_elim}
 use Rattle.std.proofs.lemmas.Bool.{both_ways, and_parts, or_cases, or_left, or_right, eqb-true, cases_Bool}
 use Rattle.std.proofs.lemmas.List.{length-append, get_or_append_left, get_or-append-add}
 use Rattle.std.proofs.lemmas.List.Elements.{All-head, All-tail, All-get_or}
@@ -12,7 +12,7 @@ use Rattle.tb_index.specs.Marks.{sent_mark, received_mark, meets, wide, open_hea
 use Rattle.tb_index.specs.Indexes.{IndexState, sends, receives, is_receiver, is_awake, starts}
 use Rattle.tb_index.specs.declared.mark.Mark.{Mark}
 use Rattle.tb_index.proofs.MarkLemmas.{matched-meets}
-use Rattle.tb_search.specs.Candidates.{Row, Scene, no_row, row_at, received_if, reception, receptions, partner_in, partners, may_happen, setting_in, candidates_by, candidates_among, candidates_of}
+use Rattle.tb_search.specs.Candidates.{Row, Scene, no_row, row_at, received_if, reception, receptions, partner_in, partners, plain_if, finding_of, setting_in, candidates_by, candidates_among, candidates_of}
 use Rattle.tb_search.specs.Indexed.{sent_by, received_by, sent_marks, received_marks, IsIndexed, SleepsAtRest, all_rest, own_rests, rests}
 use Rattle.tb_notes.specs.Inboxes.{oldest_match}
 use Rattle.tb_bus.specs.Exchanges.{Setting, exchange_for, setting_by}
@@ -20,6 +20,8 @@ use Rattle.tb_bus.specs.declared.action.Action.{Action}
 use Rattle.tb_bus.specs.declared.action.Action.TheVariants as action
 use Rattle.tb_bus.specs.declared.action.OwnAction.{OwnAction}
 use Rattle.tb_bus.specs.declared.action.OwnAction.TheVariants as own
+use Rattle.tb_search.specs.declared.candidate.Finding.{Finding}
+use Rattle.tb_search.specs.declared.candidate.Finding.TheVariants as finding
 use Rattle.tb_search.specs.declared.candidate.Candidate.{Candidate}
 use Rattle.tb_search.specs.declared.candidate.Candidate.TheVariants as candidate
 use Rattle.tb_search.specs.declared.candidate.Received.{Received}
@@ -67,9 +69,6 @@ module _ (index : IndexState) (terms : List Term) where
     reception-deaf at (action.Send other) h = refl
     reception-deaf at (action.Receive patterns) h =
         matched-deaf at patterns (match_list patterns terms) refl (All-head (λ (mark : Mark). receives index mark proc ≡ true) (received_mark patterns) [] h)
-    reception-deaf at (action.Notify other) h = refl
-    reception-deaf at (action.TakeNote patterns) h = refl
-    reception-deaf at (action.Speak does) h = refl
 
     receptions-deaf : (at : ℕ) (some : List Ready) → All (λ (mark : Mark). receives index mark proc ≡ true) (received_marks some) → receptions terms at some ≡ []
     receptions-deaf at [] h = refl
@@ -95,23 +94,26 @@ module _ (index : IndexState) (terms : List Term) where
       (partners-deaf number (at + 1) rows (All-tail (IsIndexed index) row rows h) deaf)
 
 -- what isn't found leads nowhere
-led-nowhere : {A B : Type 0} (f : A → B) (found : Option A) → not (is_some found) ≡ true → map f (option_to_list found) ≡ []
-led-nowhere f None e = refl
-led-nowhere f (Some x) e = cc
+led-nowhere : {A : Type 0} (f : Finding → Candidate) (g : A → Finding) (found : Option A) → not (is_some found) ≡ true → map f (option_to_list (option_map g found)) ≡ []
+led-nowhere f g None e = refl
+led-nowhere f g (Some x) e = cc
 
-happens-not : (there : Bool) (found : Candidate) → there ≡ true → (if not there then found ∷ [] else []) ≡ []
-happens-not true found e = refl
-happens-not false found e = cc
+led-unless : (f : Finding → Candidate) (there : Bool) → there ≡ true → map f (option_to_list (plain_if (not there))) ≡ []
+led-unless f true e = refl
+led-unless f false e = cc
 
--- what rests by the own queue doesn't happen
-own-rest : (scene : Scene) (row : Row) (at place : ℕ) (does : OwnAction) → own_rests row.inbox does ≡ true → (if may_happen scene row does then candidate.Own at place ∷ [] else []) ≡ []
+-- what rests doesn't happen
+own-rest : (scene : Scene) (row : Row) (at place : ℕ) (does : OwnAction) → own_rests (setting_in scene row) row.inbox does ≡ true → map (candidate.Own at place) (option_to_list (finding_of scene row does)) ≡ []
 own-rest scene row at place own.Tau c = cc
 own-rest scene row at place (own.Set values binds) c = cc
 own-rest scene row at place (own.Print text) c = cc
-own-rest scene row at place (own.NoNote patterns) c = happens-not (is_some (oldest_match patterns row.inbox)) (candidate.Own at place) c
+own-rest scene row at place (own.Notify terms) c = cc
+own-rest scene row at place (own.TakeNote patterns) c = led-nowhere (candidate.Own at place) finding.TakeNote (oldest_match patterns row.inbox) c
+own-rest scene row at place (own.NoNote patterns) c = led-unless (candidate.Own at place) (is_some (oldest_match patterns row.inbox)) c
 own-rest scene row at place (own.Subscribe patterns) c = cc
 own-rest scene row at place (own.Unsubscribe patterns) c = cc
 own-rest scene row at place (own.Create process actuals slot) c = cc
+own-rest scene row at place (own.Speak does) c = led-nowhere (candidate.Own at place) finding.Speak (exchange_for (setting_in scene row) does) c
 own-rest scene row at place (own.Shutdown reason) c = cc
 
 module _ (index : IndexState) (scene : Scene) (each : All (IsIndexed index) scene.rows)
@@ -130,9 +132,6 @@ module _ (index : IndexState) (scene : Scene) (each : All (IsIndexed index) scen
         ap (map (candidate.Handshake at place))
         (partners-deaf index terms row.number 0 scene.rows each (unheard terms (All-head (λ (mark : Mark). sends index mark row.number ≡ true) (sent_mark terms) [] h)))
     by-rest at place (action.Receive patterns) c h = refl
-    by-rest at place (action.Notify terms) c h = cc
-    by-rest at place (action.TakeNote patterns) c h = led-nowhere (candidate.TakeNote at place) (oldest_match patterns row.inbox) c
-    by-rest at place (action.Speak does) c h = led-nowhere (candidate.Speak at place) (exchange_for (setting_in scene row) does) c
 
     among-rest : (at place : ℕ) (some : List Ready) → all_rest (setting_in scene row) row.inbox some ≡ true → All (λ (mark : Mark). sends index mark row.number ≡ true) (sent_marks some) → candidates_among scene at row place some ≡ []
     among-rest at place [] c h = refl

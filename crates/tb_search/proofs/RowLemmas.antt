@@ -11,28 +11,24 @@ use Rattle.tb_match.specs.Matches.{match_list}
 use Rattle.tb_body.specs.declared.atom.Atom.{Atom}
 use Rattle.tb_body.specs.declared.body.Body.{Body}
 use Rattle.tb_algebra.specs.Offers.{Offered, offers}
-use Rattle.tb_notes.specs.Inboxes.{Held, oldest_match}
-use Rattle.tb_notes.specs.declared.queue.Found.{Found}
 use Rattle.tb_bus.specs.Buses.{Bus, Proc, atoms_of}
 use Rattle.tb_bus.specs.Actions.{action_of}
 use Rattle.tb_bus.specs.Steps.{Move, Handshake, Halt, handshake_if, handshake_of, handshakes_with, handshakes, own_if, moves_by, moves_of, moves_of_all, moves, moves_while_up, moves_or_halt, first}
-use Rattle.tb_bus.specs.Effects.{Effect, taking, own_effect, setting_of, speaking, effect_of}
-use Rattle.tb_bus.specs.Exchanges.{Setting, exchange_for}
-use Rattle.tb_search.specs.Candidates.{Row, Scene, ready_one, readies, received_if, reception, receptions, partner_in, partners, all_take, wanting, may_happen, candidates_by, candidates_among, candidates_of, candidates_from, up_to, candidates_in_turn, candidates_or_halt, candidates_while_up, all_candidates, ascend}
+use Rattle.tb_bus.specs.Effects.{Effect, own_effect, effect_of}
+use Rattle.tb_search.specs.Candidates.{Row, Scene, ready_one, readies, received_if, reception, receptions, partner_in, partners, finding_of, candidates_by, candidates_among, candidates_of, candidates_from, up_to, candidates_in_turn, candidates_or_halt, candidates_while_up, all_candidates, ascend}
 use Rattle.tb_search.specs.Views.{IsRowOf, AreRowsOf, no_proc, no_offer, no_ready, proc_at, ready_at, offer_at, offer_of, own_move, move_by, move_of, sent_in, IsSearchedFor}
 use Rattle.tb_search.specs.declared.marks.Marks.{Marks}
 use Rattle.tb_bus.specs.declared.action.Action.{Action}
 use Rattle.tb_bus.specs.declared.action.Action.TheVariants as action
-use Rattle.tb_bus.specs.declared.action.ToolAction.{ToolAction}
-use Rattle.tb_bus.specs.declared.exchange.Exchange.{Exchange}
 use Rattle.tb_search.specs.declared.living.Ready.{Ready}
 use Rattle.tb_search.specs.declared.candidate.Received.{Received}
 use Rattle.tb_search.specs.declared.candidate.Partner.{Partner}
+use Rattle.tb_search.specs.declared.candidate.Finding.{Finding}
 use Rattle.tb_search.specs.declared.candidate.Candidate.{Candidate}
 use Rattle.tb_search.specs.declared.candidate.Candidate.TheVariants as candidate
 use Rattle.tb_search.proofs.PartLemmas.{StandAt, stand-whole, stand-drop, stand-take, map-twice, both-append}
 use Rattle.tb_search.proofs.TurnLemmas.{ascend-first}
-use Rattle.tb_search.proofs.EffectLemmas.{IsSceneOf, scene-is, setting-is, happens-is, notifies-is}
+use Rattle.tb_search.proofs.EffectLemmas.{IsSceneOf, scene-is, happens-is}
 
 -- what stands at an index of a row
 pub ready_at-is : (rows : List Row) (at index : ℕ) (row : Row) (ready : Ready) → slice_get rows at ≡ Some row → slice_get row.ready index ≡ Some ready → ready_at rows at index ≡ ready
@@ -79,9 +75,6 @@ module _ (procs : List Proc) (rows : List Row) (sender : Proc) (sent : Offered) 
       map (λ received. shaken procs rows sender sent terms (partner_at at received)) (reception terms index does) ≡ handshake_of sender sent terms proc (offer_at proc ready.offer) (Some does)
   shaken-reception at index proc ready e f (action.Own own) = refl
   shaken-reception at index proc ready e f (action.Send other) = refl
-  shaken-reception at index proc ready e f (action.Notify other) = refl
-  shaken-reception at index proc ready e f (action.TakeNote patterns) = refl
-  shaken-reception at index proc ready e f (action.Speak does) = refl
   shaken-reception at index proc ready e f (action.Receive patterns) = shaken-if at index proc ready e f (match_list patterns terms)
 
   -- the actions of one process that receive are its handshakes
@@ -130,30 +123,13 @@ module _ (bus : Bus) (rows : List Row) where
       ∙ ap (λ n. if not (n == sender.number) then meets proc ++ flat_map meets others else flat_map meets others) h.0.number
       ∙ kept-by meets (not (proc.number == sender.number)) proc others
 
--- an action is found where it has an effect
-found-by : (b : Bool) (proc : Proc) (offered : Offered) (effect : Option Effect) → b ≡ is_some effect → (if b then own_move proc offered effect ∷ [] else []) ≡ own_if proc offered effect
-found-by true proc offered None e = cc
-found-by true proc offered (Some effect) e = refl
-found-by false proc offered None e = refl
-found-by false proc offered (Some effect) e = cc
-
-map-if : {A B : Type 0} (f : A → B) (b : Bool) (x : A) (y : B) → f x ≡ y → map f (if b then x ∷ [] else []) ≡ (if b then y ∷ [] else [])
-map-if f true x y e = ap (λ z. z ∷ []) e
-map-if f false x y e = refl
-
--- and a note where there is one to take
-taken-by : (view : Candidate → Move) (make : Found → Candidate) (proc : Proc) (offered : Offered) (effect : Option Effect) (inbox : Held) (found : Option Found) →
-    ((f : Found) → view (make f) ≡ own_move proc offered effect) → effect ≡ option_map (taking inbox) found → map view (map make (option_to_list found)) ≡ own_if proc offered effect
-taken-by view make proc offered effect inbox None h e = ap (own_if proc offered) (sym e)
-taken-by view make proc offered effect inbox (Some found) h e =
-    ap (λ move. move ∷ []) (h found ∙ ap (own_move proc offered) e) ∙ ap (own_if proc offered) (sym e)
-
--- and what is said to a tool where it may be
-spoken-by : (view : Candidate → Move) (make : Exchange → Candidate) (proc : Proc) (offered : Offered) (effect : Option Effect) (setting : Setting) (does : ToolAction) (found : Option Exchange) →
-    ((x : Exchange) → view (make x) ≡ own_move proc offered effect) → effect ≡ option_map (speaking setting does) found → map view (map make (option_to_list found)) ≡ own_if proc offered effect
-spoken-by view make proc offered effect setting does None h e = ap (own_if proc offered) (sym e)
-spoken-by view make proc offered effect setting does (Some exchange) h e =
-    ap (λ move. move ∷ []) (h exchange ∙ ap (own_move proc offered) e) ∙ ap (own_if proc offered) (sym e)
+-- what a process does by itself is found where it has an effect
+found-by : (view : Candidate → Move) (make : Finding → Candidate) (proc : Proc) (offered : Offered) (effect : Option Effect) (found : Option Finding) →
+    ((f : Finding) → view (make f) ≡ own_move proc offered effect) → is_some found ≡ is_some effect → map view (map make (option_to_list found)) ≡ own_if proc offered effect
+found-by view make proc offered None None h e = refl
+found-by view make proc offered None (Some found) h e = cc
+found-by view make proc offered (Some effect) None h e = cc
+found-by view make proc offered (Some effect) (Some found) h e = ap (λ move. move ∷ []) (h found)
 
 module _ (bus : Bus) (scene : Scene) (is : IsSceneOf bus scene) where
   shaken-all : (sender : Proc) (sent : Offered) (terms : List Term) → map (shaken bus.procs scene.rows sender sent terms) (partners sender.number terms 0 scene.rows) ≡ handshakes bus sender sent terms
@@ -172,8 +148,8 @@ module _ (bus : Bus) (scene : Scene) (is : IsSceneOf bus scene) where
   moved-by : (at index : ℕ) (row : Row) (proc : Proc) (ready : Ready) → proc_at bus.procs at ≡ proc → ready_at scene.rows at index ≡ ready → IsRowOf bus.program.bodies bus.now row proc → (does : Action) → ready.action ≡ does →
       map (move_of bus scene.rows) (candidates_by scene at row index does) ≡ moves_by bus proc (offer_at proc ready.offer) (Some does)
   moved-by at index row proc ready e f row_is (action.Own own) d =
-      map-if (move_of bus scene.rows) (may_happen scene row own) (candidate.Own at index) _ (move_by-is at index proc ready e f (action.Own own) d)
-      ∙ found-by (may_happen scene row own) proc (offer_at proc ready.offer) (own_effect bus proc own) (happens-is bus scene is row proc row_is.inbox row_is.body own)
+      found-by (move_of bus scene.rows) (candidate.Own at index) proc (offer_at proc ready.offer) (own_effect bus proc own) (finding_of scene row own)
+      (λ found. move_by-is at index proc ready e f (action.Own own) d) (happens-is bus scene is row proc row_is.inbox row_is.body own)
   moved-by at index row proc ready e f row_is (action.Send terms) d =
       let partners_now = partners row.number terms 0 scene.rows in
       map-twice (move_of bus scene.rows) (candidate.Handshake at index) partners_now
@@ -183,18 +159,6 @@ module _ (bus : Bus) (scene : Scene) (is : IsSceneOf bus scene) where
       ∙ ap (λ n. map (shaken bus.procs scene.rows proc (offer_at proc ready.offer) terms) (partners n terms 0 scene.rows)) row_is.number
       ∙ shaken-all proc (offer_at proc ready.offer) terms
   moved-by at index row proc ready e f row_is (action.Receive patterns) d = refl
-  moved-by at index row proc ready e f row_is (action.Notify terms) d =
-      map-if (move_of bus scene.rows) (all_take terms scene.rows) (candidate.Notify at index (wanting terms 0 scene.rows)) _ (move_by-is at index proc ready e f (action.Notify terms) d)
-      ∙ found-by (all_take terms scene.rows) proc (offer_at proc ready.offer) (effect_of bus proc (action.Notify terms)) (notifies-is bus scene is proc terms)
-  moved-by at index row proc ready e f row_is (action.TakeNote patterns) d =
-      ap (λ inbox. map (move_of bus scene.rows) (map (candidate.TakeNote at index) (option_to_list (oldest_match patterns inbox)))) row_is.inbox
-      ∙ taken-by (move_of bus scene.rows) (candidate.TakeNote at index) proc (offer_at proc ready.offer) (effect_of bus proc (action.TakeNote patterns)) proc.inbox (oldest_match patterns proc.inbox)
-      (λ found. move_by-is at index proc ready e f (action.TakeNote patterns) d) refl
-  moved-by at index row proc ready e f row_is (action.Speak does) d =
-      let setting = setting_of bus proc in
-      ap (λ setting. map (move_of bus scene.rows) (map (candidate.Speak at index) (option_to_list (exchange_for setting does)))) (setting-is bus scene is row proc row_is.body)
-      ∙ spoken-by (move_of bus scene.rows) (candidate.Speak at index) proc (offer_at proc ready.offer) (effect_of bus proc (action.Speak does)) setting does (exchange_for setting does)
-      (λ exchange. move_by-is at index proc ready e f (action.Speak does) d) refl
 
   -- what the actions of one process lead to
   moved-among : (at : ℕ) (row : Row) (proc : Proc) → slice_get scene.rows at ≡ Some row → slice_get bus.procs at ≡ Some proc → IsRowOf bus.program.bodies bus.now row proc → (index : ℕ) (some : List Ready) → StandAt row.ready index some →

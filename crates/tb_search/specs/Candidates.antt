@@ -1,5 +1,5 @@
 -- What the code's search goes through: for each process that is alive its actions, by indices alone.
-use Rattle.std.specs.Prelude.{ℕ, ◌+◌, ◌&&◌, ◌==◌, nat_lt, nat_le, List, [], ◌∷◌, ◌++◌, map, take, drop, length, Bool, true, if◌then◌else◌, Option, Some, None, is_some, not, option_to_list, slice_index_or}
+use Rattle.std.specs.Prelude.{ℕ, ◌+◌, ◌&&◌, ◌==◌, nat_lt, nat_le, List, [], ◌∷◌, ◌++◌, map, take, drop, length, Bool, true, if◌then◌else◌, Option, Some, None, is_some, not, option_map, option_to_list, slice_index_or}
 use Rattle.std.specs.List.{list_all}
 use Rattle.tb_terms.specs.declared.term.Term.{Term}
 use Rattle.tb_match.specs.declared.bind.Bind.{Bind}
@@ -22,6 +22,8 @@ use Rattle.tb_search.specs.declared.living.Ready.{Ready}
 use Rattle.tb_search.specs.declared.living.Living.{Living}
 use Rattle.tb_search.specs.declared.candidate.Received.{Received}
 use Rattle.tb_search.specs.declared.candidate.Partner.{Partner}
+use Rattle.tb_search.specs.declared.candidate.Finding.{Finding}
+use Rattle.tb_search.specs.declared.candidate.Finding.TheVariants as finding
 use Rattle.tb_search.specs.declared.candidate.Candidate.{Candidate}
 use Rattle.tb_search.specs.declared.candidate.Candidate.TheVariants as candidate
 
@@ -62,9 +64,6 @@ received_if index (Some binds) = record { action = index; binds = binds } ∷ []
 abbrev pub reception : List Term → ℕ → Action → List Received
 reception terms index (action.Own own) = []
 reception terms index (action.Send other) = []
-reception terms index (action.Notify other) = []
-reception terms index (action.TakeNote patterns) = []
-reception terms index (action.Speak does) = []
 reception terms index (action.Receive patterns) = received_if index (match_list patterns terms)
 
 -- which of these actions receive the terms, where the first has this index
@@ -101,31 +100,34 @@ wanting terms index (row ∷ rows) = if wants row.inbox terms then index ∷ wan
 abbrev pub wanting_if_room : List Term → List Row → Option (List ℕ)
 wanting_if_room terms rows = if all_take terms rows then Some (wanting terms 0 rows) else None
 
--- whether an action of a process by itself may happen
-abbrev pub may_happen : Scene → Row → OwnAction → Bool
-may_happen scene row own.Tau = true
-may_happen scene row (own.Set values binds) = true
-may_happen scene row (own.Print text) = true
-may_happen scene row (own.NoNote patterns) = not (is_some (oldest_match patterns row.inbox))
-may_happen scene row (own.Subscribe patterns) = true
-may_happen scene row (own.Unsubscribe patterns) = true
-may_happen scene row (own.Create process actuals slot) =
-    may_create scene.bodies (length scene.rows) scene.next_number row.body process actuals slot
-may_happen scene row (own.Shutdown reason) = true
-
 -- where a process speaks with tools
 abbrev pub setting_in : Scene → Row → Setting
 setting_in scene row = setting_by scene.bodies scene.kinds scene.bench row.body
 
+-- where it may happen, nothing else is found of it
+abbrev pub plain_if : Bool → Option Finding
+plain_if may = if may then Some finding.Plain else None
+
+-- what is found of what a process does by itself, where it may happen
+abbrev pub finding_of : Scene → Row → OwnAction → Option Finding
+finding_of scene row own.Tau = Some finding.Plain
+finding_of scene row (own.Set values binds) = Some finding.Plain
+finding_of scene row (own.Print text) = Some finding.Plain
+finding_of scene row (own.Notify terms) = option_map finding.Notify (wanting_if_room terms scene.rows)
+finding_of scene row (own.TakeNote patterns) = option_map finding.TakeNote (oldest_match patterns row.inbox)
+finding_of scene row (own.NoNote patterns) = plain_if (not (is_some (oldest_match patterns row.inbox)))
+finding_of scene row (own.Subscribe patterns) = Some finding.Plain
+finding_of scene row (own.Unsubscribe patterns) = Some finding.Plain
+finding_of scene row (own.Create process actuals slot) =
+    plain_if (may_create scene.bodies (length scene.rows) scene.next_number row.body process actuals slot)
+finding_of scene row (own.Speak does) = option_map finding.Speak (exchange_for (setting_in scene row) does)
+finding_of scene row (own.Shutdown reason) = Some finding.Plain
+
 -- what an action leads to, of the process at an index among all rows
 abbrev pub candidates_by : Scene → ℕ → Row → ℕ → Action → List Candidate
-candidates_by scene at row index (action.Own own) = if may_happen scene row own then candidate.Own at index ∷ [] else []
+candidates_by scene at row index (action.Own own) = map (candidate.Own at index) (option_to_list (finding_of scene row own))
 candidates_by scene at row index (action.Send terms) = map (candidate.Handshake at index) (partners row.number terms 0 scene.rows)
 candidates_by scene at row index (action.Receive patterns) = []
-candidates_by scene at row index (action.Notify terms) =
-    if all_take terms scene.rows then candidate.Notify at index (wanting terms 0 scene.rows) ∷ [] else []
-candidates_by scene at row index (action.TakeNote patterns) = map (candidate.TakeNote at index) (option_to_list (oldest_match patterns row.inbox))
-candidates_by scene at row index (action.Speak does) = map (candidate.Speak at index) (option_to_list (exchange_for (setting_in scene row) does))
 
 abbrev pub candidates_among : Scene → ℕ → Row → ℕ → List Ready → List Candidate
 candidates_among scene at row index [] = []

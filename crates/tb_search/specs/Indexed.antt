@@ -18,17 +18,11 @@ abbrev pub sent_by : Action → List Mark
 sent_by (action.Own own) = []
 sent_by (action.Send terms) = sent_mark terms ∷ []
 sent_by (action.Receive patterns) = []
-sent_by (action.Notify terms) = []
-sent_by (action.TakeNote patterns) = []
-sent_by (action.Speak does) = []
 
 abbrev pub received_by : Action → List Mark
 received_by (action.Own own) = []
 received_by (action.Send terms) = []
 received_by (action.Receive patterns) = received_mark patterns ∷ []
-received_by (action.Notify terms) = []
-received_by (action.TakeNote patterns) = []
-received_by (action.Speak does) = []
 
 -- the marks of all that a process is ready to send, and to receive
 abbrev pub sent_marks : List Ready → List Mark
@@ -48,26 +42,26 @@ pub record IsIndexed (index : IndexState) (row : Row) : Type 0 where
 pub record AreIndexed (index : IndexState) (rows : List Row) : Type 0 where
   pub each : All (IsIndexed index) rows
 
--- whether what a process does by itself can't happen, by what its queue holds
-abbrev pub own_rests : Held → OwnAction → Bool
-own_rests held own.Tau = false
-own_rests held (own.Set values binds) = false
-own_rests held (own.Print text) = false
-own_rests held (own.NoNote patterns) = is_some (oldest_match patterns held)
-own_rests held (own.Subscribe patterns) = false
-own_rests held (own.Unsubscribe patterns) = false
-own_rests held (own.Create process actuals slot) = false
-own_rests held (own.Shutdown reason) = false
+-- Whether what a process does by itself can't happen as things stand: it waits for a note, for none to be there, or
+-- for a tool. What sends a note, creates or does anything else never rests.
+abbrev pub own_rests : Setting → Held → OwnAction → Bool
+own_rests setting held own.Tau = false
+own_rests setting held (own.Set values binds) = false
+own_rests setting held (own.Print text) = false
+own_rests setting held (own.Notify terms) = false
+own_rests setting held (own.TakeNote patterns) = not (is_some (oldest_match patterns held))
+own_rests setting held (own.NoNote patterns) = is_some (oldest_match patterns held)
+own_rests setting held (own.Subscribe patterns) = false
+own_rests setting held (own.Unsubscribe patterns) = false
+own_rests setting held (own.Create process actuals slot) = false
+own_rests setting held (own.Speak does) = not (is_some (exchange_for setting does))
+own_rests setting held (own.Shutdown reason) = false
 
--- Whether an action begins nothing as things stand, but for what it sends: it waits for a message, for a note, for none to be
--- there, or for a tool. One that sends a note, creates or does anything else by itself never rests.
+-- Whether an action begins nothing as things stand, but for what it sends: it waits for a message, or rests by itself.
 abbrev pub rests : Setting → Held → Action → Bool
-rests setting held (action.Own own) = own_rests held own
+rests setting held (action.Own own) = own_rests setting held own
 rests setting held (action.Send terms) = true
 rests setting held (action.Receive patterns) = true
-rests setting held (action.Notify terms) = false
-rests setting held (action.TakeNote patterns) = not (is_some (oldest_match patterns held))
-rests setting held (action.Speak does) = not (is_some (exchange_for setting does))
 
 abbrev pub all_rest : Setting → Held → List Ready → Bool
 all_rest setting held [] = true

@@ -1,3 +1,4 @@
 pub mod Candidates
 pub mod Views
+pub mod Findings
 pub mod Indexed

@@ -1,8 +1,6 @@
 -- How the rows that a search sees stand for the processes of a bus, and which move a candidate is.
-use Rattle.std.specs.Prelude.{◌≡◌, ℕ, ◌<◌, ◌≢◌, List, [], ◌∷◌, length, Option, Some, None, slice_index_or, true, ⊤}
+use Rattle.std.specs.Prelude.{◌≡◌, ℕ, ◌<◌, ◌≢◌, List, [], ◌∷◌, length, Option, Some, None, slice_index_or, ⊤}
 use Rattle.tb_terms.specs.declared.term.Term.{Term}
-use Rattle.tb_terms.specs.declared.pattern.Pattern.{Pattern}
-use Rattle.tb_notes.specs.declared.queue.Found.{Found}
 use Rattle.tb_match.specs.declared.bind.Bind.{Bind}
 use Rattle.tb_match.specs.Matches.{match_list}
 use Rattle.tb_body.specs.declared.body.Body.{Body}
@@ -10,17 +8,16 @@ use Rattle.tb_algebra.specs.Processes.{At}
 use Rattle.tb_algebra.specs.Offers.{Offered, offers}
 use Rattle.tb_bus.specs.Buses.{Bus, Proc, atoms_of}
 use Rattle.tb_bus.specs.Steps.{Move, Own, Handshake, Finish, Halt}
-use Rattle.tb_notes.specs.Inboxes.{nothing, oldest_match}
+use Rattle.tb_notes.specs.Inboxes.{nothing}
 use Rattle.tb_bus.specs.Effects.{Effect, effect_of}
-use Rattle.tb_bus.specs.Exchanges.{exchange_for}
-use Rattle.tb_search.specs.Candidates.{Row, Scene, row_at, readies, all_take, wanting, may_happen, setting_in}
+use Rattle.tb_search.specs.Candidates.{Row, Scene, row_at, readies, finding_of}
 use Rattle.tb_search.specs.declared.marks.Marks.{Marks}
 use Rattle.tb_bus.specs.declared.action.Action.{Action}
 use Rattle.tb_bus.specs.declared.action.Action.TheVariants as action
 use Rattle.tb_bus.specs.declared.action.OwnAction.{OwnAction}
-use Rattle.tb_bus.specs.declared.action.ToolAction.{ToolAction}
-use Rattle.tb_bus.specs.declared.exchange.Exchange.{Exchange}
+use Rattle.tb_bus.specs.declared.action.OwnAction.TheVariants as own
 use Rattle.tb_search.specs.declared.living.Ready.{Ready}
+use Rattle.tb_search.specs.declared.candidate.Finding.{Finding}
 use Rattle.tb_search.specs.declared.candidate.Candidate.{Candidate}
 use Rattle.tb_search.specs.declared.candidate.Candidate.TheVariants as candidate
 
@@ -66,9 +63,12 @@ abbrev pub sent_in : Action → List Term
 sent_in (action.Own own) = []
 sent_in (action.Send terms) = terms
 sent_in (action.Receive patterns) = []
-sent_in (action.Notify terms) = terms
-sent_in (action.TakeNote patterns) = []
-sent_in (action.Speak does) = []
+
+-- what an action does by itself; a tau where it needs another process
+abbrev pub own_in : Action → OwnAction
+own_in (action.Own does) = does
+own_in (action.Send terms) = own.Tau
+own_in (action.Receive patterns) = own.Tau
 
 -- a process goes on by itself with the effect that there is
 abbrev pub own_move : Proc → Offered → Option Effect → Move
@@ -81,42 +81,23 @@ move_by bus rows at index = own_move (proc_at bus.procs at) (offer_of bus.procs 
 
 -- the move that a candidate is
 abbrev pub move_of : Bus → List Row → Candidate → Move
-move_of bus rows (candidate.Own at index) = move_by bus rows at index
+move_of bus rows (candidate.Own at index found) = move_by bus rows at index
 move_of bus rows (candidate.Handshake at index partner) =
     Handshake (proc_at bus.procs at) (offer_of bus.procs rows at index)
     (proc_at bus.procs partner.living) (offer_of bus.procs rows partner.living partner.received.action)
     (sent_in (ready_at rows at index).action) partner.received.binds
-move_of bus rows (candidate.Notify at index wanting) = move_by bus rows at index
-move_of bus rows (candidate.TakeNote at index found) = move_by bus rows at index
-move_of bus rows (candidate.Speak at index exchange) = move_by bus rows at index
 move_of bus rows candidate.Finish = Finish
 move_of bus rows candidate.Halt = Halt
 
--- an action of a process by itself that may happen
-abbrev pub HappensIn : Scene → Row → Action → Type 0
-HappensIn scene row does = (own : OwnAction) × (does ≡ action.Own own) × (may_happen scene row own ≡ true)
-
--- a note for which there is room, and those that want it
-abbrev pub NotifiesIn : Scene → Action → List ℕ → Type 0
-NotifiesIn scene does indices =
-    (terms : List Term) × (does ≡ action.Notify terms) × (all_take terms scene.rows ≡ true) × (indices ≡ wanting terms 0 scene.rows)
-
--- the oldest note of the process that matches
-abbrev pub TakesIn : Row → Action → Found → Type 0
-TakesIn row does found = (patterns : List Pattern) × (does ≡ action.TakeNote patterns) × (oldest_match patterns row.inbox ≡ Some found)
-
--- the exchange with a tool that may happen
-abbrev pub SpeaksIn : Scene → Row → Action → Exchange → Type 0
-SpeaksIn scene row does exchange = (speaks : ToolAction) × (does ≡ action.Speak speaks) × (exchange_for (setting_in scene row) speaks ≡ Some exchange)
+-- an action of a process by itself that may happen, as was found
+abbrev pub HappensIn : Scene → Row → Action → Finding → Type 0
+HappensIn scene row does found = (own : OwnAction) × (does ≡ action.Own own) × (finding_of scene row own ≡ Some found)
 
 -- the action receives the terms, which bind these
 abbrev pub Receives : List Term → Action → List Bind → Type 0
 Receives terms (action.Own own) binds = ⊥
 Receives terms (action.Send other) binds = ⊥
 Receives terms (action.Receive patterns) binds = match_list patterns terms ≡ Some binds
-Receives terms (action.Notify other) binds = ⊥
-Receives terms (action.TakeNote patterns) binds = ⊥
-Receives terms (action.Speak does) binds = ⊥
 
 -- there is a process at the index, and it has such an action
 abbrev pub IsThere : List Row → ℕ → ℕ → Type 0
@@ -124,19 +105,13 @@ IsThere rows at index = (at < length rows) × (index < length (row_at rows at).r
 
 -- it names processes that are alive and actions of theirs that may happen so, and two processes differ
 abbrev pub IsCandidateIn : Scene → Candidate → Type 0
-IsCandidateIn scene (candidate.Own at index) =
-    IsThere scene.rows at index × HappensIn scene (row_at scene.rows at) (ready_at scene.rows at index).action
+IsCandidateIn scene (candidate.Own at index found) =
+    IsThere scene.rows at index × HappensIn scene (row_at scene.rows at) (ready_at scene.rows at index).action found
 IsCandidateIn scene (candidate.Handshake at index partner) =
     IsThere scene.rows at index × IsThere scene.rows partner.living partner.received.action
     × ((row_at scene.rows at).number ≢ (row_at scene.rows partner.living).number)
     × ((ready_at scene.rows at index).action ≡ action.Send (sent_in (ready_at scene.rows at index).action))
     × Receives (sent_in (ready_at scene.rows at index).action) (ready_at scene.rows partner.living partner.received.action).action partner.received.binds
-IsCandidateIn scene (candidate.Notify at index indices) =
-    IsThere scene.rows at index × NotifiesIn scene (ready_at scene.rows at index).action indices
-IsCandidateIn scene (candidate.TakeNote at index found) =
-    IsThere scene.rows at index × TakesIn (row_at scene.rows at) (ready_at scene.rows at index).action found
-IsCandidateIn scene (candidate.Speak at index exchange) =
-    IsThere scene.rows at index × SpeaksIn scene (row_at scene.rows at) (ready_at scene.rows at index).action exchange
 IsCandidateIn scene candidate.Finish = ⊤
 IsCandidateIn scene candidate.Halt = ⊤
 

@@ -17,18 +17,25 @@ pub struct Partner {
     pub received: Received,
 }
 
+/// What a search finds of what a process does by itself, beside that it may happen.
+#[derive(Drop)]
+pub enum Finding {
+    Plain,
+    /// Those that want the note, by their indices among those alive; each has room for it.
+    Notify(Items<usize>),
+    /// The note that is taken.
+    TakeNote(Found),
+    /// How the process speaks with a tool.
+    Speak(Exchange),
+}
+
 /// A move that a search found, by indices among those alive and among their actions.
 #[derive(Drop)]
 pub enum Candidate {
-    Own(usize, usize),
+    /// Who does something by itself, its action, and what was found of it.
+    Own(usize, usize, Finding),
     /// The sender, its action, and who receives what it sends.
     Handshake(usize, usize, Partner),
-    /// Who sends a note, its action, and those that want the note, each with room for it.
-    Notify(usize, usize, Items<usize>),
-    /// Who takes a note, its action, and the note.
-    TakeNote(usize, usize, Found),
-    /// Who speaks with a tool, its action, and how.
-    Speak(usize, usize, Exchange),
     Finish,
     Halt,
 }

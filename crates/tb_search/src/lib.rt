@@ -16,7 +16,7 @@ mod slots;
 mod wanting;
 
 pub use boxed::Boxed;
-pub use candidate::{Candidate, Partner, Received};
+pub use candidate::{Candidate, Finding, Partner, Received};
 pub use living::{Living, Ready};
 pub use marks::Marks;
 pub use places::place_of;

@@ -12,31 +12,29 @@ use crate::places::place_of;
 use std::alloc::Global;
 use tb_bus::Action;
 use tb_index::{Index, Mark, sent_mark};
-use tb_match::match_list;
+use tb_match::{Binds, match_list_in};
 use tb_terms::{NoMemory, Terms};
 
-/// Whether an action receives the terms, and what they bind then.
+/// Whether an action receives the terms, and what they bind then, in the memory of the room. So it goes for all
+/// that is received.
 fn receive(
     alloc: Global,
     index: usize,
     action: &Action,
     terms: &Terms,
+    room: &mut Binds,
 ) -> Result<Option<Received>, NoMemory>
     ensures { IfOk result (λ found. found ≡ first (reception terms.now index action.now)) }
 {
     match action {
-        Action::Receive(patterns) => match match_list(alloc, patterns, terms)? {
+        Action::Receive(patterns) => match match_list_in(alloc, patterns, terms, room)? {
             Some(binds) => Ok(Some(Received {
                 action: index,
                 binds,
             })),
             None => Ok(None),
         },
-        Action::Own(_)
-        | Action::Send(_)
-        | Action::Notify(_)
-        | Action::TakeNote(_)
-        | Action::Speak(_) => Ok(None),
+        Action::Own(_) | Action::Send(_) => Ok(None),
     }
 }
 
@@ -45,11 +43,12 @@ fn first_received(
     alloc: Global,
     actions: &[Ready],
     terms: &Terms,
+    room: &mut Binds,
 ) -> Result<Option<Received>, NoMemory>
     ensures { IfOk result (λ found. found ≡ first (receptions terms.now 0 actions.now)) }
 {
     for (index, ready) in actions.iter().enumerate() {
-        match receive(alloc, index, &ready.action, terms)? {
+        match receive(alloc, index, &ready.action, terms, room)? {
             Some(received) => return Ok(Some(received)),
             None => {}
         }
@@ -75,6 +74,7 @@ pub(crate) fn first_partner<W>(
     index: &Index,
     number: u32,
     terms: &Terms,
+    room: &mut Binds,
 ) -> Result<Option<Partner>, NoMemory>
     requires ascend { IsTrue (ascend 0 (rows_of all.now)) }
     requires index { AreIndexed index.now (rows_of all.now) }
@@ -85,7 +85,7 @@ pub(crate) fn first_partner<W>(
     let mut at = 0;
     while at < end {
         match next_receiver(all, index, at, mark) {
-            Some(place) => match partner(alloc, place, all[place].get(), number, terms)? {
+            Some(place) => match partner(alloc, place, all[place].get(), number, terms, room)? {
                 Some(partner) => return Ok(Some(partner)),
                 None => at = place + 1,
             },
@@ -101,13 +101,14 @@ fn partner<W>(
     living: &Living<W>,
     number: u32,
     terms: &Terms,
+    room: &mut Binds,
 ) -> Result<Option<Partner>, NoMemory>
     ensures { IfOk result (λ found. found ≡ first (partner_in number terms.now index (row_of living.now))) }
 {
     if living.number == number {
         return Ok(None);
     }
-    match first_received(alloc, living.ready.as_slice(), terms)? {
+    match first_received(alloc, living.ready.as_slice(), terms, room)? {
         Some(received) => Ok(Some(Partner {
             living: index,
             received,

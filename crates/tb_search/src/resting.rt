@@ -22,21 +22,6 @@ fn has_note(inbox: &Inbox, patterns: &Patterns) -> Result<bool, NoMemory>
     Ok(inbox.find(patterns)?.is_some())
 }
 
-fn own_rests(inbox: &Inbox, own: &OwnAction) -> Result<bool, NoMemory>
-    ensures { IfOk result (λ rest. rest ≡ own_rests inbox.now.held own.now) }
-{
-    match own {
-        OwnAction::NoNote(patterns) => has_note(inbox, patterns),
-        OwnAction::Tau
-        | OwnAction::Set(_, _)
-        | OwnAction::Print(_)
-        | OwnAction::Subscribe(_)
-        | OwnAction::Unsubscribe(_)
-        | OwnAction::Create(_, _, _)
-        | OwnAction::Shutdown(_) => Ok(false),
-    }
-}
-
 /// Whether an action that speaks with a tool can't happen.
 #[inline(never)]
 fn is_silent(
@@ -56,8 +41,33 @@ fn is_silent(
     Ok(exchange_for(alloc, &speaker, does)?.is_none())
 }
 
-/// Whether an action of a process begins nothing as things stand, but for what it sends. What takes memory stands
-/// apart, since a function pays at entry for all that it may hold.
+/// Whether what a process does by itself can't happen as things stand. What takes memory stands apart, since a
+/// function pays at entry for all that it may hold.
+fn own_rests<W>(
+    alloc: Global,
+    program: &Program,
+    bench: &Bench,
+    living: &Living<W>,
+    own: &OwnAction,
+) -> Result<bool, NoMemory>
+    ensures { IfOk result (λ rest. rest ≡ own_rests (setting_by program.now.bodies program.now.tools bench.now living.now.body) living.now.inbox.held own.now) }
+{
+    match own {
+        OwnAction::TakeNote(patterns) => Ok(!has_note(&living.inbox, patterns)?),
+        OwnAction::NoNote(patterns) => has_note(&living.inbox, patterns),
+        OwnAction::Speak(does) => is_silent(alloc, program, bench, living.body, does),
+        OwnAction::Tau
+        | OwnAction::Set(_, _)
+        | OwnAction::Print(_)
+        | OwnAction::Notify(_)
+        | OwnAction::Subscribe(_)
+        | OwnAction::Unsubscribe(_)
+        | OwnAction::Create(_, _, _)
+        | OwnAction::Shutdown(_) => Ok(false),
+    }
+}
+
+/// Whether an action of a process begins nothing as things stand, but for what it sends.
 fn rests<W>(
     alloc: Global,
     program: &Program,
@@ -68,11 +78,8 @@ fn rests<W>(
     ensures { IfOk result (λ rest. rest ≡ rests (setting_by program.now.bodies program.now.tools bench.now living.now.body) living.now.inbox.held action.now) }
 {
     match action {
-        Action::Own(own) => own_rests(&living.inbox, own),
+        Action::Own(own) => own_rests(alloc, program, bench, living, own),
         Action::Send(_) | Action::Receive(_) => Ok(true),
-        Action::Notify(_) => Ok(false),
-        Action::TakeNote(patterns) => Ok(!has_note(&living.inbox, patterns)?),
-        Action::Speak(does) => is_silent(alloc, program, bench, living.body, does),
     }
 }
 

@@ -3,11 +3,11 @@ ghost use Rattle.tb_bus.specs.Buses.{Bus};
 ghost use Rattle.tb_bus.specs.Steps.{moves, first};
 ghost use Rattle.tb_search.specs.Views.{IsSearchedFor, IsCandidateIn, move_of};
 ghost use Rattle.tb_search.specs.Indexed.{IsIndexFor, IsNextOf};
-ghost use Rattle.tb_bus.specs.Exchanges.{exchange_for, setting_by};
-ghost use Rattle.tb_search.specs.Candidates.{may_happen, setting_in, candidates_by, candidates_of, candidates_from, candidates_in_turn, all_candidates, candidates_or_halt, up_to, ascend, row_of, rows_of, scene_of};
+ghost use Rattle.tb_bus.specs.Exchanges.{setting_by};
+ghost use Rattle.tb_search.specs.Candidates.{finding_of, plain_if, candidates_by, candidates_of, candidates_from, candidates_in_turn, all_candidates, candidates_or_halt, up_to, ascend, row_of, rows_of, scene_of};
 
 use crate::boxed::Boxed;
-use crate::candidate::Candidate;
+use crate::candidate::{Candidate, Finding};
 use crate::creation::may_create;
 use crate::exchanging::{Speaker, exchange_for};
 use crate::living::Living;
@@ -17,8 +17,9 @@ use crate::receivers::first_partner;
 use crate::wanting::wanting;
 use std::alloc::Global;
 use tb_body::Program;
-use tb_bus::{Action, Exchange, OwnAction, ToolAction};
+use tb_bus::{Action, OwnAction};
 use tb_index::Index;
+use tb_match::Binds;
 use tb_terms::NoMemory;
 use tb_tools::Bench;
 
@@ -32,13 +33,22 @@ pub(crate) struct Searched<'a, W> {
     pub index: &'a Index,
 }
 
-/// Whether an action of a process by itself may happen.
-fn may_happen<W>(
+/// Where it may happen, nothing else is found of it.
+fn plain_if(may: bool) -> Option<Finding>
+    ensures { result ≡ plain_if may }
+{
+    if may { Some(Finding::Plain) } else { None }
+}
+
+/// What is found of what a process does by itself, where it may happen.
+#[inline(never)]
+fn finding_of<W>(
+    alloc: Global,
     searched: &Searched<W>,
     living: &Living<W>,
     own: &OwnAction,
-) -> Result<bool, NoMemory>
-    ensures { IfOk result (λ happens. happens ≡ may_happen (scene_of searched.now.program.now.bodies searched.now.program.now.tools searched.now.bench.now (rows_of searched.now.all.now) searched.now.marks) (row_of living.now) own.now) }
+) -> Result<Option<Finding>, NoMemory>
+    ensures { IfOk result (λ found. found ≡ finding_of (scene_of searched.now.program.now.bodies searched.now.program.now.tools searched.now.bench.now (rows_of searched.now.all.now) searched.now.marks) (row_of living.now) own.now) }
 {
     match own {
         OwnAction::Tau
@@ -46,9 +56,11 @@ fn may_happen<W>(
         | OwnAction::Print(_)
         | OwnAction::Subscribe(_)
         | OwnAction::Unsubscribe(_)
-        | OwnAction::Shutdown(_) => Ok(true),
-        OwnAction::NoNote(patterns) => Ok(living.inbox.find(patterns)?.is_none()),
-        OwnAction::Create(process, actuals, slot) => Ok(may_create(
+        | OwnAction::Shutdown(_) => Ok(Some(Finding::Plain)),
+        OwnAction::Notify(terms) => Ok(wanting(alloc, searched.all, terms)?.map(Finding::Notify)),
+        OwnAction::TakeNote(patterns) => Ok(living.inbox.find(patterns)?.map(Finding::TakeNote)),
+        OwnAction::NoNote(patterns) => Ok(plain_if(living.inbox.find(patterns)?.is_none())),
+        OwnAction::Create(process, actuals, slot) => Ok(plain_if(may_create(
             searched.program.bodies.as_slice(),
             searched.all.len(),
             searched.marks.next_number,
@@ -56,25 +68,16 @@ fn may_happen<W>(
             *process,
             actuals,
             *slot,
-        )),
+        ))),
+        OwnAction::Speak(does) => {
+            let speaker = Speaker {
+                program: searched.program,
+                bench: searched.bench,
+                body: living.body,
+            };
+            Ok(exchange_for(alloc, &speaker, does)?.map(Finding::Speak))
+        }
     }
-}
-
-/// How an action of a process with a tool may happen.
-fn exchange<W>(
-    alloc: Global,
-    searched: &Searched<W>,
-    living: &Living<W>,
-    does: &ToolAction,
-) -> Result<Option<Exchange>, NoMemory>
-    ensures { IfOk result (λ found. found ≡ exchange_for (setting_in (scene_of searched.now.program.now.bodies searched.now.program.now.tools searched.now.bench.now (rows_of searched.now.all.now) searched.now.marks) (row_of living.now)) does.now) }
-{
-    let speaker = Speaker {
-        program: searched.program,
-        bench: searched.bench,
-        body: living.body,
-    };
-    exchange_for(alloc, &speaker, does)
 }
 
 /// What an action of the process at an index leads to first.
@@ -85,38 +88,32 @@ fn first_by<W>(
     living: &Living<W>,
     index: usize,
     action: &Action,
+    room: &mut Binds,
 ) -> Result<Option<Candidate>, NoMemory>
     requires ascend { IsTrue (ascend 0 (rows_of searched.now.all.now)) }
     requires index { IsIndexFor (setting_by searched.now.program.now.bodies searched.now.program.now.tools searched.now.bench.now) searched.now.index.now (rows_of searched.now.all.now) }
     ensures { IfOk result (λ found. found ≡ first (candidates_by (scene_of searched.now.program.now.bodies searched.now.program.now.tools searched.now.bench.now (rows_of searched.now.all.now) searched.now.marks) at (row_of living.now) index action.now)) }
 {
     match action {
-        Action::Own(own) => {
-            if may_happen(searched, living, own)? {
-                Ok(Some(Candidate::Own(at, index)))
-            } else {
-                Ok(None)
-            }
-        }
+        Action::Own(OwnAction::Tau) => Ok(Some(Candidate::Own(at, index, Finding::Plain))),
+        Action::Own(own) => match finding_of(alloc, searched, living, own)? {
+            Some(finding) => Ok(Some(Candidate::Own(at, index, finding))),
+            None => Ok(None),
+        },
         Action::Send(terms) => {
-            match first_partner(alloc, searched.all, searched.index, living.number, terms)? {
+            match first_partner(
+                alloc,
+                searched.all,
+                searched.index,
+                living.number,
+                terms,
+                room,
+            )? {
                 Some(partner) => Ok(Some(Candidate::Handshake(at, index, partner))),
                 None => Ok(None),
             }
         }
         Action::Receive(_) => Ok(None),
-        Action::Notify(terms) => match wanting(alloc, searched.all, terms)? {
-            Some(indices) => Ok(Some(Candidate::Notify(at, index, indices))),
-            None => Ok(None),
-        },
-        Action::TakeNote(patterns) => match living.inbox.find(patterns)? {
-            Some(found) => Ok(Some(Candidate::TakeNote(at, index, found))),
-            None => Ok(None),
-        },
-        Action::Speak(does) => match exchange(alloc, searched, living, does)? {
-            Some(exchange) => Ok(Some(Candidate::Speak(at, index, exchange))),
-            None => Ok(None),
-        },
     }
 }
 
@@ -126,13 +123,14 @@ fn first_of<W>(
     searched: &Searched<W>,
     at: usize,
     living: &Living<W>,
+    room: &mut Binds,
 ) -> Result<Option<Candidate>, NoMemory>
     requires ascend { IsTrue (ascend 0 (rows_of searched.now.all.now)) }
     requires index { IsIndexFor (setting_by searched.now.program.now.bodies searched.now.program.now.tools searched.now.bench.now) searched.now.index.now (rows_of searched.now.all.now) }
     ensures { IfOk result (λ found. found ≡ first (candidates_of (scene_of searched.now.program.now.bodies searched.now.program.now.tools searched.now.bench.now (rows_of searched.now.all.now) searched.now.marks) at (row_of living.now))) }
 {
     for (index, ready) in living.ready.as_slice().iter().enumerate() {
-        match first_by(alloc, searched, at, living, index, &ready.action)? {
+        match first_by(alloc, searched, at, living, index, &ready.action, room)? {
             Some(found) => return Ok(Some(found)),
             None => {}
         }
@@ -160,6 +158,7 @@ fn first_between<W>(
     searched: &Searched<W>,
     start: usize,
     end: usize,
+    room: &mut Binds,
 ) -> Result<Option<Candidate>, NoMemory>
     requires ascend { IsTrue (ascend 0 (rows_of searched.now.all.now)) }
     requires index { IsIndexFor (setting_by searched.now.program.now.bodies searched.now.program.now.tools searched.now.bench.now) searched.now.index.now (rows_of searched.now.all.now) }
@@ -169,7 +168,7 @@ fn first_between<W>(
     let mut at = start;
     while at < end {
         match next_starter(searched, at, end) {
-            Some(place) => match first_of(alloc, searched, place, searched.all[place].get())? {
+            Some(place) => match first_of(alloc, searched, place, searched.all[place].get(), room)? {
                 Some(found) => return Ok(Some(found)),
                 None => at = place + 1,
             },
@@ -186,6 +185,7 @@ fn first_if_any<W>(
     searched: &Searched<W>,
     start: usize,
     end: usize,
+    room: &mut Binds,
 ) -> Result<Option<Candidate>, NoMemory>
     requires ascend { IsTrue (ascend 0 (rows_of searched.now.all.now)) }
     requires index { IsIndexFor (setting_by searched.now.program.now.bodies searched.now.program.now.tools searched.now.bench.now) searched.now.index.now (rows_of searched.now.all.now) }
@@ -193,7 +193,7 @@ fn first_if_any<W>(
     ensures { IfOk result (λ found. found ≡ first (candidates_from (scene_of searched.now.program.now.bodies searched.now.program.now.tools searched.now.bench.now (rows_of searched.now.all.now) searched.now.marks) start (drop start (take end (rows_of searched.now.all.now))))) }
 {
     if start < end {
-        first_between(alloc, searched, start, end)
+        first_between(alloc, searched, start, end, room)
     } else {
         Ok(None)
     }
@@ -217,15 +217,16 @@ fn turn_start<W>(all: &[Boxed<Living<W>>], last: u32) -> usize
 pub(crate) fn first_in_turn<W>(
     alloc: Global,
     searched: &Searched<W>,
+    room: &mut Binds,
 ) -> Result<Option<Candidate>, NoMemory>
     requires ascend { IsTrue (ascend 0 (rows_of searched.now.all.now)) }
     requires index { IsIndexFor (setting_by searched.now.program.now.bodies searched.now.program.now.tools searched.now.bench.now) searched.now.index.now (rows_of searched.now.all.now) }
     ensures { IfOk result (λ found. found ≡ first (candidates_in_turn (scene_of searched.now.program.now.bodies searched.now.program.now.tools searched.now.bench.now (rows_of searched.now.all.now) searched.now.marks) searched.now.marks.last_starter)) }
 {
     let start = turn_start(searched.all, searched.marks.last_starter);
-    match first_if_any(alloc, searched, start, searched.all.len())? {
+    match first_if_any(alloc, searched, start, searched.all.len(), room)? {
         Some(found) => Ok(Some(found)),
-        None => first_between(alloc, searched, 0, start),
+        None => first_between(alloc, searched, 0, start, room),
     }
 }
 
@@ -241,7 +242,7 @@ fn halt_if(no_ticks: bool) -> Option<Candidate>
 }
 
 /// What may happen first, of all that may; None where nothing may, or the bus is down. Only those are asked whom
-/// the index names.
+/// the index names. What a message binds stands in the memory of the room, whatever that held.
 #[inline(always)]
 pub fn first_candidate<W>(
     alloc: Global,
@@ -250,6 +251,7 @@ pub fn first_candidate<W>(
     all: &[Boxed<Living<W>>],
     marks: Marks,
     index: &Index,
+    room: &mut Binds,
 ) -> Result<Option<Candidate>, NoMemory>
     requires ascend { IsTrue (ascend 0 (rows_of all.now)) }
     requires index { IsIndexFor (setting_by program.now.bodies program.now.tools bench.now) index.now (rows_of all.now) }
@@ -270,7 +272,7 @@ pub fn first_candidate<W>(
         marks,
         index,
     };
-    match first_in_turn(alloc, &searched)? {
+    match first_in_turn(alloc, &searched, room)? {
         Some(found) => Ok(Some(found)),
         None => Ok(halt_if(marks.no_ticks)),
     }

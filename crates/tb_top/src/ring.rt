@@ -3,6 +3,7 @@ ghost use Rattle.std.specs.Prelude.{◌≡◌, ◌≤◌, ◌*◌, ◌++◌, [],
 ghost use Rattle.tb_edge.specs.Faults.{Rose};
 ghost use Rattle.tb_edge.specs.Sinks.{Writes, WritesPrefix};
 ghost use Rattle.tb_gen.specs.Ring.{ring_text};
+ghost use Rattle.tb_log.specs.Seens.{entry_seen};
 ghost use Rattle.tb_top.specs.Ring.{RingOutcome, last_word, ring_origin, steps_in, summary, word_after};
 ghost use Rattle.tb_top.specs.Helpers.Parts.{IsBehindFeed, IsInside, IsRingSimulated, PutsWhole};
 
@@ -16,7 +17,7 @@ use tb_core::Core;
 use tb_edge::{Failed, Sink};
 use tb_feed::Feed;
 use tb_gen::ring_script;
-use tb_log::{Entry, kind_word};
+use tb_log::{Log, Seen, kind_word};
 use tb_sim::{SimEnd, simulate};
 use tb_terms::{Items, NoMemory};
 use tb_walk::Walk;
@@ -89,11 +90,11 @@ fn ring_core<O: Sink>(
 fn put_summary<O: Sink>(
     alloc: Global,
     n: u32,
-    log: &[Entry],
+    log: &Log,
     end: SimEnd,
     out: &mut O,
 ) -> Result<(), Fault>
-    ensures outcome { PutsWhole (summary n log.now) end (O.taken out.old) (O.taken out.new) result }
+    ensures outcome { PutsWhole (summary n log.now.entries) end (O.taken out.old) (O.taken out.new) result }
     ensures behind { IfErr result IsBehindFeed }
     ensures inside { IfErr result IsInside }
     ensures out_rose { result ≡ Err Fault.Out → Rose (O.faults out.old) (O.faults out.new) }
@@ -108,8 +109,8 @@ fn put_summary<O: Sink>(
 }
 
 /// The summary of a log.
-fn summary_text(alloc: Global, n: u32, log: &[Entry]) -> Result<Vec<u8>, NoMemory>
-    ensures { IfOk result (λ text. text.items ≡ summary n log.now) }
+fn summary_text(alloc: Global, n: u32, log: &Log) -> Result<Vec<u8>, NoMemory>
+    ensures { IfOk result (λ text. text.items ≡ summary n log.now.entries) }
 {
     let mut text = Vec::new(alloc);
     text.extend_from_slice(b"processes ")?;
@@ -131,42 +132,42 @@ fn push_number(number: u64, text: &mut Vec<u8>) -> Result<(), NoMemory>
 }
 
 /// How many steps a log has.
-fn step_count(log: &[Entry]) -> usize
-    ensures { result ≡ sum_by steps_in log.now }
+fn step_count(log: &Log) -> usize
+    ensures { result ≡ sum_by steps_in log.now.entries }
 {
     let mut count = 0;
-    for entry in log {
-        count += steps_in(entry);
+    for at in 0..log.len() {
+        count += steps_in(&log.at(at));
     }
     count
 }
 
-fn steps_in(entry: &Entry) -> usize
-    ensures value { result ≡ steps_in entry.now }
+fn steps_in(seen: &Seen) -> usize
+    ensures value { result ≡ steps_in (entry_seen seen.now) }
     ensures one { result ≤ 1 }
 {
-    match entry {
-        Entry::Did(_) => 1,
+    match *seen {
+        Seen::Did(_) => 1,
         _ => 0,
     }
 }
 
 /// The word of the last step of a log.
-fn last_word(log: &[Entry]) -> &'static [u8]
-    ensures { result.now ≡ last_word log.now }
+fn last_word(log: &Log) -> &'static [u8]
+    ensures { result.now ≡ last_word log.now.entries }
 {
     let mut word: &'static [u8] = b"";
-    for entry in log {
-        word = word_after(word, entry);
+    for at in 0..log.len() {
+        word = word_after(word, &log.at(at));
     }
     word
 }
 
-fn word_after(word: &'static [u8], entry: &Entry) -> &'static [u8]
-    ensures { result.now ≡ word_after word.now entry.now }
+fn word_after(word: &'static [u8], seen: &Seen) -> &'static [u8]
+    ensures { result.now ≡ word_after word.now (entry_seen seen.now) }
 {
-    match entry {
-        Entry::Did(label) => kind_word(label.kind),
+    match *seen {
+        Seen::Did(label) => kind_word(label.kind),
         _ => word,
     }
 }

@@ -17,7 +17,7 @@ use tb_body::Program;
 use tb_core::Core;
 use tb_edge::{Files, Sink};
 use tb_feed::Feed;
-use tb_log::Entry;
+use tb_log::Log;
 use tb_sim::{SimEnd, simulate};
 use tb_terms::{NoMemory, Text, Texts};
 use tb_walk::Walk;
@@ -131,11 +131,11 @@ fn sim_core<O: Sink>(
 /// Puts the log of a simulation that ended so.
 fn put_simulation<O: Sink>(
     alloc: Global,
-    log: &[Entry],
+    log: &Log,
     end: SimEnd,
     out: &mut O,
 ) -> Result<(), Fault>
-    ensures outcome { PutsText (log_text log.now) end (O.taken out.old) (O.taken out.new) result }
+    ensures outcome { PutsText (log_text log.now.entries) end (O.taken out.old) (O.taken out.new) result }
     ensures behind { IfErr result IsBehindFeed }
     ensures inside { IfErr result IsInside }
     ensures out_rose { result ≡ Err Fault.Out → Rose (O.faults out.old) (O.faults out.new) }

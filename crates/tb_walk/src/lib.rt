@@ -6,6 +6,7 @@ mod laws;
 mod look;
 mod number;
 mod patterns;
+mod room;
 mod settle;
 mod sight;
 mod take;

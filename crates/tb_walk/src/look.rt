@@ -202,15 +202,6 @@ fn look_gate(
     look_at(alloc, code, at, behind, clock, base, &None, found)
 }
 
-/// Drops what was found, and keeps the memory.
-pub(crate) fn empty(found: &mut Items<Sight>)
-    ensures { found.new ≡ [] }
-{
-    while let Some(one) = found.pop() {
-        drop(one);
-    }
-}
-
 /// Adds what the part at a position may do next, in text order. Tests and settings have functions of
 /// their own, since a function pays at entry for all that it may hold.
 #[cycle(look_at)]

@@ -7,25 +7,27 @@ ghost use Rattle.tb_func.specs.Stores.{sort_at};
 ghost use Rattle.tb_algebra.specs.Atoms.{act_in, matched_exprs, patterns_of};
 
 use crate::number::variable;
+use crate::room::emptied;
 use std::alloc::Global;
 use tb_algebra::matched_patterns;
 use tb_body::{Act, Atom};
 use tb_func::{Store, pattern};
-use tb_terms::{Expr, Items, NoMemory, Pattern, Patterns, Sort, Term};
+use tb_terms::{Expr, NoMemory, Pattern, Patterns, Sort, Term};
 
 /// The patterns of an act, as `matched_patterns` has them. Those of messages and notes have a
-/// path of their own, on which a number costs little.
+/// path of their own, on which a number costs little, and stand in the memory of the room.
 pub(crate) fn patterns_by(
     alloc: Global,
     store: &Store,
     atom: Option<&Atom>,
+    room: Option<Patterns>,
 ) -> Result<Option<Patterns>, NoMemory>
     ensures { IfOk result (λ patterns. patterns ≡ patterns_of store.now (matched_exprs (act_in (option_copied atom.entry)))) }
 {
     match atom {
         Some(one) => match &one.act {
             Act::RecMsg(exprs) | Act::RecNote(exprs) => {
-                Ok(message(alloc, store, exprs.as_slice())?)
+                Ok(message(alloc, store, exprs.as_slice(), room)?)
             }
             _ => Ok(matched_patterns(alloc, store, atom)?),
         },
@@ -33,16 +35,21 @@ pub(crate) fn patterns_by(
     }
 }
 
-fn message(alloc: Global, store: &Store, exprs: &[Expr]) -> Result<Option<Patterns>, NoMemory>
+fn message(
+    alloc: Global,
+    store: &Store,
+    exprs: &[Expr],
+    room: Option<Patterns>,
+) -> Result<Option<Patterns>, NoMemory>
     ensures { IfOk result (λ patterns. patterns ≡ patterns_of store.now exprs.now) }
 {
-    let mut patterns = Vec::with_capacity(alloc, exprs.len())?;
+    let mut patterns = emptied(alloc, room, exprs.len())?;
     for expr in exprs {
         if !push_pattern(alloc, store, expr, &mut patterns)? {
             return Ok(None);
         }
     }
-    Ok(Some(Items::from_vec(patterns)))
+    Ok(Some(patterns))
 }
 
 /// Adds the pattern of an expression, and says whether there is one.
@@ -50,9 +57,9 @@ fn push_pattern(
     alloc: Global,
     store: &Store,
     expr: &Expr,
-    patterns: &mut Vec<Pattern>,
+    patterns: &mut Patterns,
 ) -> Result<bool, NoMemory>
-    ensures { IfOk result (λ is_there. option_map (λ one. patterns.old.items ++ one ∷ []) (pattern_of store.now expr.now) ≡ (if is_there then Some patterns.new.items else None)) }
+    ensures { IfOk result (λ is_there. option_map (λ one. patterns.old ++ one ∷ []) (pattern_of store.now expr.now) ≡ (if is_there then Some patterns.new else None)) }
 {
     match expr {
         Expr::Int(number) => {
@@ -71,8 +78,8 @@ fn push_pattern(
     }
 }
 
-fn push_number(number: i64, patterns: &mut Vec<Pattern>) -> Result<(), NoMemory>
-    ensures { OnOk result (patterns.new.items ≡ patterns.old.items ++ pattern.Fixed (term.Int number) ∷ []) }
+fn push_number(number: i64, patterns: &mut Patterns) -> Result<(), NoMemory>
+    ensures { OnOk result (patterns.new ≡ patterns.old ++ pattern.Fixed (term.Int number) ∷ []) }
 {
     patterns.push(Pattern::Fixed(Term::Int(number)))?;
     Ok(())
@@ -82,9 +89,9 @@ fn push_result(
     alloc: Global,
     store: &Store,
     slot: u32,
-    patterns: &mut Vec<Pattern>,
+    patterns: &mut Patterns,
 ) -> Result<bool, NoMemory>
-    ensures { IfOk result (λ is_there. option_map (λ one. patterns.old.items ++ one ∷ []) (option_map (pattern.Result slot) (sort_at store.now slot)) ≡ (if is_there then Some patterns.new.items else None)) }
+    ensures { IfOk result (λ is_there. option_map (λ one. patterns.old ++ one ∷ []) (option_map (pattern.Result slot) (sort_at store.now slot)) ≡ (if is_there then Some patterns.new else None)) }
 {
     match store.get_sort(slot) {
         Some(sort) => {
@@ -100,9 +107,9 @@ fn push_sorted(
     alloc: Global,
     slot: u32,
     sort: &Sort,
-    patterns: &mut Vec<Pattern>,
+    patterns: &mut Patterns,
 ) -> Result<(), NoMemory>
-    ensures { OnOk result (patterns.new.items ≡ patterns.old.items ++ pattern.Result slot sort.now ∷ []) }
+    ensures { OnOk result (patterns.new ≡ patterns.old ++ pattern.Result slot sort.now ∷ []) }
 {
     match sort {
         Sort::Int => {
@@ -118,9 +125,9 @@ fn push_copied(
     alloc: Global,
     slot: u32,
     sort: &Sort,
-    patterns: &mut Vec<Pattern>,
+    patterns: &mut Patterns,
 ) -> Result<(), NoMemory>
-    ensures { OnOk result (patterns.new.items ≡ patterns.old.items ++ pattern.Result slot sort.now ∷ []) }
+    ensures { OnOk result (patterns.new ≡ patterns.old ++ pattern.Result slot sort.now ∷ []) }
 {
     let sort = sort.copy(alloc)?;
     patterns.push(Pattern::Result(slot, sort))?;
@@ -132,9 +139,9 @@ fn push_other(
     alloc: Global,
     store: &Store,
     expr: &Expr,
-    patterns: &mut Vec<Pattern>,
+    patterns: &mut Patterns,
 ) -> Result<bool, NoMemory>
-    ensures { IfOk result (λ is_there. option_map (λ one. patterns.old.items ++ one ∷ []) (pattern_of store.now expr.now) ≡ (if is_there then Some patterns.new.items else None)) }
+    ensures { IfOk result (λ is_there. option_map (λ one. patterns.old ++ one ∷ []) (pattern_of store.now expr.now) ≡ (if is_there then Some patterns.new else None)) }
 {
     match pattern(alloc, expr, store)? {
         Some(one) => {

@@ -82,9 +82,9 @@ fn made(
 }
 
 /// Sets the binds one after another. Most steps have none.
-pub(crate) fn set_all(store: &mut Store, binds: Binds)
-    requires { IsTrue (takes_binds store.old binds) }
-    ensures { store.new ≡ with_binds store.old binds }
+pub(crate) fn set_all(store: &mut Store, binds: &mut Binds)
+    requires { IsTrue (takes_binds store.old binds.old) }
+    ensures { store.new ≡ with_binds store.old binds.old }
 {
     if binds.len() == 1 {
         set_one(store, binds);
@@ -94,13 +94,12 @@ pub(crate) fn set_all(store: &mut Store, binds: Binds)
 }
 
 /// Sets the only bind, as most steps have it that receive something.
-fn set_one(store: &mut Store, binds: Binds)
-    requires one { length binds ≡ 1 }
-    requires taken { IsTrue (takes_binds store.old binds) }
-    ensures { store.new ≡ with_binds store.old binds }
+fn set_one(store: &mut Store, binds: &mut Binds)
+    requires one { length binds.old ≡ 1 }
+    requires taken { IsTrue (takes_binds store.old binds.old) }
+    ensures { store.new ≡ with_binds store.old binds.old }
 {
-    let mut rest = binds;
-    match rest.pop() {
+    match binds.pop() {
         Some(bind) => store.set(bind.slot, bind.value),
         None => {}
     }

@@ -7,11 +7,12 @@ ghost use Rattle.tb_algebra.specs.Atoms.{act_in, limited_together, sent_exprs, v
 ghost use Rattle.tb_algebra.specs.Settings.{tested};
 
 use crate::number::{comparison, number};
+use crate::room::emptied;
 use std::alloc::Global;
 use tb_algebra::{sent_values, tested};
 use tb_body::{Act, Atom};
 use tb_func::{Store, eval};
-use tb_terms::{Expr, Items, MOST_TERM_SIZE, NoMemory, Term, Terms, size};
+use tb_terms::{Expr, MOST_TERM_SIZE, NoMemory, Term, Terms, size};
 
 /// What the test says now. Numbers are compared without a term.
 pub(crate) fn says(alloc: Global, store: &Store, test: &Expr) -> Result<Option<bool>, NoMemory>
@@ -24,18 +25,19 @@ pub(crate) fn says(alloc: Global, store: &Store, test: &Expr) -> Result<Option<b
 }
 
 /// The values that the act sends or looks at, as `sent_values` has them. Those of messages and notes have
-/// a path of their own, on which a number costs little.
+/// a path of their own, on which a number costs little, and stand in the memory of the room.
 pub(crate) fn sent_terms(
     alloc: Global,
     store: &Store,
     atom: Option<&Atom>,
+    room: Option<Terms>,
 ) -> Result<Option<Terms>, NoMemory>
     ensures { IfOk result (λ terms. terms ≡ values_together store.now (sent_exprs (act_in (option_copied atom.entry)))) }
 {
     match atom {
         Some(one) => match &one.act {
             Act::SndMsg(exprs) | Act::SndNote(exprs) => {
-                Ok(message(alloc, store, exprs.as_slice())?)
+                Ok(message(alloc, store, exprs.as_slice(), room)?)
             }
             _ => Ok(sent_values(alloc, store, atom)?),
         },
@@ -43,25 +45,35 @@ pub(crate) fn sent_terms(
     }
 }
 
-fn message(alloc: Global, store: &Store, exprs: &[Expr]) -> Result<Option<Terms>, NoMemory>
+fn message(
+    alloc: Global,
+    store: &Store,
+    exprs: &[Expr],
+    room: Option<Terms>,
+) -> Result<Option<Terms>, NoMemory>
     ensures { IfOk result (λ terms. terms ≡ values_together store.now exprs.now) }
 {
-    match values(alloc, store, exprs)? {
+    match values(alloc, store, exprs, room)? {
         Some(terms) => Ok(limited_together(terms)),
         None => Ok(None),
     }
 }
 
-fn values(alloc: Global, store: &Store, exprs: &[Expr]) -> Result<Option<Terms>, NoMemory>
+fn values(
+    alloc: Global,
+    store: &Store,
+    exprs: &[Expr],
+    room: Option<Terms>,
+) -> Result<Option<Terms>, NoMemory>
     ensures { IfOk result (λ terms. terms ≡ all_of (map (value_of store.now) exprs.now)) }
 {
-    let mut terms = Vec::with_capacity(alloc, exprs.len())?;
+    let mut terms = emptied(alloc, room, exprs.len())?;
     for expr in exprs {
         if !push_value(alloc, store, expr, &mut terms)? {
             return Ok(None);
         }
     }
-    Ok(Some(Items::from_vec(terms)))
+    Ok(Some(terms))
 }
 
 /// Adds the value of an expression, and says whether there is one.
@@ -69,9 +81,9 @@ fn push_value(
     alloc: Global,
     store: &Store,
     expr: &Expr,
-    terms: &mut Vec<Term>,
+    terms: &mut Terms,
 ) -> Result<bool, NoMemory>
-    ensures { IfOk result (λ is_there. option_map (λ value. terms.old.items ++ value ∷ []) (value_of store.now expr.now) ≡ (if is_there then Some terms.new.items else None)) }
+    ensures { IfOk result (λ is_there. option_map (λ value. terms.old ++ value ∷ []) (value_of store.now expr.now) ≡ (if is_there then Some terms.new else None)) }
 {
     match number(expr, store) {
         Some(number) => {
@@ -87,9 +99,9 @@ fn push_other(
     alloc: Global,
     store: &Store,
     expr: &Expr,
-    terms: &mut Vec<Term>,
+    terms: &mut Terms,
 ) -> Result<bool, NoMemory>
-    ensures { IfOk result (λ is_there. option_map (λ value. terms.old.items ++ value ∷ []) (value_of store.now expr.now) ≡ (if is_there then Some terms.new.items else None)) }
+    ensures { IfOk result (λ is_there. option_map (λ value. terms.old ++ value ∷ []) (value_of store.now expr.now) ≡ (if is_there then Some terms.new else None)) }
 {
     match eval(alloc, expr, store)? {
         Some(value) => {

@@ -1,7 +1,8 @@
 ghost use Rattle.std.specs.Prelude.{◌≡◌, length};
 
-use crate::look::{empty, look_row};
+use crate::look::look_row;
 use crate::patterns::patterns_by;
+use crate::room::empty;
 use crate::sight::copy_sights;
 use crate::taken::{Taken, settle};
 use crate::taking::{set_all, take_seen, take_unseen};
@@ -104,21 +105,33 @@ impl Walker for Walk {
         }
     }
 
-    fn sent(&self, alloc: Global, plan: &Code, k: usize) -> Result<Option<Terms>, NoMemory> {
+    fn sent(
+        &self,
+        alloc: Global,
+        plan: &Code,
+        k: usize,
+        room: Option<Terms>,
+    ) -> Result<Option<Terms>, NoMemory> {
         match self.found.get(k) {
             Some(found) => {
                 let store = store_of(&self.store, &found.own);
-                Ok(sent_terms(alloc, store, plan.atom(found.atom))?)
+                Ok(sent_terms(alloc, store, plan.atom(found.atom), room)?)
             }
             None => Ok(None),
         }
     }
 
-    fn patterns(&self, alloc: Global, plan: &Code, k: usize) -> Result<Option<Patterns>, NoMemory> {
+    fn patterns(
+        &self,
+        alloc: Global,
+        plan: &Code,
+        k: usize,
+        room: Option<Patterns>,
+    ) -> Result<Option<Patterns>, NoMemory> {
         match self.found.get(k) {
             Some(found) => {
                 let store = store_of(&self.store, &found.own);
-                Ok(patterns_by(alloc, store, plan.atom(found.atom))?)
+                Ok(patterns_by(alloc, store, plan.atom(found.atom), room)?)
             }
             None => Ok(None),
         }
@@ -148,7 +161,7 @@ impl Walker for Walk {
         }
     }
 
-    fn advance(&mut self, plan: &Code, taken: Taken, binds: Binds) {
+    fn advance(&mut self, plan: &Code, taken: Taken, binds: &mut Binds) {
         settle(plan, self, taken);
         set_all(&mut self.store, binds);
         self.fresh = false;

@@ -21,6 +21,10 @@ log-grown a b c log piece written counted first second =
     log_text_from-append 1 log piece ∙ ap (λ (n : ℕ). log_text log ++ log_text_from n piece) (let e : 1 + length log ≡ written + 1 = omega (arith, counted) in e) in
     subst (λ (bytes : List ℕ). Writes a c bytes) (sym whole) (Writes-append a b c (log_text log) (log_text_from (written + 1) piece) first second)
 
+-- an entry that is lent stands where the entry stands
+pub lent : {X : Type 0} (xs : List X) (at : ℕ) (x y : X) → y ≡ x → x ≡ get_or xs at x → y ≡ get_or xs at y
+lent xs at x y same is = subst (λ (z : _). z ≡ get_or xs at z) (sym same) is
+
 -- the next entry's line, and what is left
 line-next : (log : List Entry) (held : List ℕ) (number index : ℕ) (entry : Entry) → index < length log → entry ≡ get_or log index entry →
     held ++ log_text_from number (drop index log) ≡ (held ++ entry_text number entry) ++ log_text_from (number + 1) (drop (index + 1) log)

@@ -1,13 +1,14 @@
 //! The text of a log, put piece by piece.
-ghost use Rattle.std.specs.Prelude.{◌≡◌, ◌<◌, ◌≤◌, ◌+◌, ◌++◌, [], length, OnOk, OnErr, IsErrOf, IsOkUnless};
+ghost use Rattle.std.specs.Prelude.{◌≡◌, ◌<◌, ◌≤◌, ◌+◌, ◌++◌, [], length, drop, OnOk, OnErr, IsErrOf, IsOkUnless};
 ghost use Rattle.tb_edge.specs.Faults.{Rose};
 ghost use Rattle.tb_edge.specs.Sinks.{Writes, WritesPrefix, Owes};
 ghost use Rattle.tb_log.specs.LogText.{log_text, log_text_from, entry_text};
+ghost use Rattle.tb_log.specs.Seens.{entry_seen};
 
 use std::alloc::Global;
 use std::marker::Model;
 use tb_edge::{Failed, Sink};
-use tb_log::{Entry, write_entry};
+use tb_log::{Entry, Log, Seen, write_seen};
 use tb_terms::NoMemory;
 
 /// The buffer is handed to the sink as soon as it has so many bytes.
@@ -70,7 +71,7 @@ impl LogWriter {
         ensures never_falls { O.faults out.old ≤ O.faults out.new }
     {
         for entry in entries {
-            match self.put_entry(entry, out) {
+            match self.put_entry(&Seen::of(entry), out) {
                 Ok(()) => {}
                 Err(fault) => return Err(fault),
             }
@@ -115,34 +116,86 @@ impl LogWriter {
         }
     }
 
-    fn put_entry<O: Sink>(&mut self, entry: &Entry, out: &mut O) -> Result<(), LogFault>
+    /// Takes the entries of a log behind the first so many.
+    pub fn put_behind<O: Sink>(
+        &mut self,
+        log: &Log,
+        from: usize,
+        out: &mut O,
+    ) -> Result<(), LogFault>
+        requires { from ≤ length log.now.entries }
         ensures ok { OnOk result (Owes (O.taken out.old) (O.taken out.new)
-            (self.old.held ++ entry_text (self.old.written + 1) entry.now) self.new.held) }
-        ensures counted { OnOk result (self.new.written ≡ self.old.written + 1) }
-        ensures small { OnOk result (length self.new.held < PIECE_BYTES) }
+            (self.old.held ++ log_text_from (self.old.written + 1) (drop from log.now.entries)) self.new.held) }
+        ensures counted { OnOk result (self.new.written + from ≡ self.old.written + length log.now.entries) }
+        ensures small { length self.old.held < PIECE_BYTES
+            → OnOk result (length self.new.held < PIECE_BYTES) }
         ensures prefix { OnErr result (WritesPrefix (O.taken out.old) (O.taken out.new)
-            (self.old.held ++ entry_text (self.old.written + 1) entry.now)) }
+            (self.old.held ++ log_text_from (self.old.written + 1) (drop from log.now.entries))) }
         ensures rose { IsErrOf result LogFault.Out → Rose (O.faults out.old) (O.faults out.new) }
         ensures calm { OnOk result (O.faults out.new ≡ O.faults out.old) }
         ensures never_falls { O.faults out.old ≤ O.faults out.new }
     {
-        match self.add_line(entry) {
+        for at in from..log.len() {
+            match self.put_entry(&log.at(at), out) {
+                Ok(()) => {}
+                Err(fault) => return Err(fault),
+            }
+        }
+        Ok(())
+    }
+
+    /// Takes the entries of a log behind the first so many, and hands over everything.
+    pub fn put_behind_and_flush<O: Sink>(
+        &mut self,
+        log: &Log,
+        from: usize,
+        out: &mut O,
+    ) -> Result<(), LogFault>
+        requires { from ≤ length log.now.entries }
+        ensures ok { OnOk result (Writes (O.taken out.old) (O.taken out.new)
+            (self.old.held ++ log_text_from (self.old.written + 1) (drop from log.now.entries))) }
+        ensures counted { OnOk result (self.new.written + from ≡ self.old.written + length log.now.entries) }
+        ensures emptied { OnOk result (self.new.held ≡ []) }
+        ensures prefix { OnErr result (WritesPrefix (O.taken out.old) (O.taken out.new)
+            (self.old.held ++ log_text_from (self.old.written + 1) (drop from log.now.entries))) }
+        ensures rose { IsErrOf result LogFault.Out → Rose (O.faults out.old) (O.faults out.new) }
+        ensures calm { OnOk result (O.faults out.new ≡ O.faults out.old) }
+        ensures never_falls { O.faults out.old ≤ O.faults out.new }
+    {
+        match self.put_behind(log, from, out) {
+            Ok(()) => self.flush(out),
+            Err(fault) => Err(fault),
+        }
+    }
+
+    fn put_entry<O: Sink>(&mut self, seen: &Seen, out: &mut O) -> Result<(), LogFault>
+        ensures ok { OnOk result (Owes (O.taken out.old) (O.taken out.new)
+            (self.old.held ++ entry_text (self.old.written + 1) (entry_seen seen.now)) self.new.held) }
+        ensures counted { OnOk result (self.new.written ≡ self.old.written + 1) }
+        ensures small { OnOk result (length self.new.held < PIECE_BYTES) }
+        ensures prefix { OnErr result (WritesPrefix (O.taken out.old) (O.taken out.new)
+            (self.old.held ++ entry_text (self.old.written + 1) (entry_seen seen.now))) }
+        ensures rose { IsErrOf result LogFault.Out → Rose (O.faults out.old) (O.faults out.new) }
+        ensures calm { OnOk result (O.faults out.new ≡ O.faults out.old) }
+        ensures never_falls { O.faults out.old ≤ O.faults out.new }
+    {
+        match self.add_line(seen) {
             Ok(()) => self.flush_full(out),
             Err(NoMemory) => Err(LogFault::NoMemory),
         }
     }
 
     /// The line of the entry is added to the buffer.
-    fn add_line(&mut self, entry: &Entry) -> Result<(), NoMemory>
+    fn add_line(&mut self, seen: &Seen) -> Result<(), NoMemory>
         ensures { OnOk result (self.new ≡ record {
           written = self.old.written + 1;
-          held = self.old.held ++ entry_text (self.old.written + 1) entry.now;
+          held = self.old.held ++ entry_text (self.old.written + 1) (entry_seen seen.now);
         }) }
     {
         let Some(number) = self.written.checked_add(1) else {
             return Err(NoMemory);
         };
-        match write_entry(number, entry, &mut self.buffer) {
+        match write_seen(number, seen, &mut self.buffer) {
             Ok(()) => {
                 self.written = number;
                 Ok(())
@@ -169,13 +222,13 @@ impl LogWriter {
 }
 
 /// Puts the text of a log.
-pub fn put_log<O: Sink>(alloc: Global, log: &[Entry], out: &mut O) -> Result<(), LogFault>
-    ensures ok { OnOk result (Writes (O.taken out.old) (O.taken out.new) (log_text log.now)) }
-    ensures prefix { OnErr result (WritesPrefix (O.taken out.old) (O.taken out.new) (log_text log.now)) }
+pub fn put_log<O: Sink>(alloc: Global, log: &Log, out: &mut O) -> Result<(), LogFault>
+    ensures ok { OnOk result (Writes (O.taken out.old) (O.taken out.new) (log_text log.now.entries)) }
+    ensures prefix { OnErr result (WritesPrefix (O.taken out.old) (O.taken out.new) (log_text log.now.entries)) }
     ensures rose { IsErrOf result LogFault.Out → Rose (O.faults out.old) (O.faults out.new) }
     ensures calm { OnOk result (O.faults out.new ≡ O.faults out.old) }
     ensures never_falls { O.faults out.old ≤ O.faults out.new }
 {
     let mut writer = LogWriter::new(alloc);
-    writer.put_and_flush(log, out)
+    writer.put_behind_and_flush(log, 0, out)
 }

@@ -1,5 +1,6 @@
 -- The bus for which the fields of a core stand, and when they stand for what contracts see of it.
-use Rattle.std.specs.Prelude.{◌≡◌, ◌≢◌, ◌≤◌, ◌+◌, ℕ, List, [], map, length, true, false, IsTrue, Some, slice_get, slice_set, Contains, ◌<◌, ◌++◌, ◌∷◌}
+use Rattle.std.specs.Prelude.{◌≡◌, ◌≢◌, ◌≤◌, ◌+◌, ℕ, List, [], map, length, true, false, IsTrue, Some, slice_get, slice_set, Contains, ◌<◌, ◌++◌, ◌∷◌, min}
+use Rattle.std.below.core.specs.declared.int.usize.TheConstants.{MAX}
 use Rattle.std.specs.List.{All}
 use Rattle.tb_match.specs.declared.bind.Bind.{Bind}
 use Rattle.tb_algebra.specs.Binds.{takes_binds}
@@ -8,7 +9,7 @@ use Rattle.tb_algebra.specs.Walks.{sorts_of}
 use Rattle.tb_algebra.specs.WalkerViews.{View}
 use Rattle.tb_log.specs.declared.entry.Entry.TheVariants.{Did}
 use Rattle.tb_log.specs.declared.entry.Label.{Label}
-use Rattle.tb_log.specs.Limits.{has_room}
+use Rattle.tb_log.specs.Limits.{has_room, terms_size}
 use Rattle.tb_log.specs.Logs.{LogState}
 use Rattle.tb_tools.specs.Lanes.{HasLanes}
 use Rattle.tb_bus.specs.Buses.{Bus, Proc, start}
@@ -154,16 +155,17 @@ pub record IsMade {W P T : Type 0} (view : View P W T) (old : LiveBus W P T) (ca
   pub bus : bus_of view new ≡ apply (bus_of view old) (move_in view old candidate)
   pub origin : new.origin ≡ old.origin
 
--- There is room and memory for a step in a log,
+-- There is room for a step in a log, and memory was taken for it,
 pub record CanLog (log : LogState) (label : Label) : Type 0 where
   pub room : has_room log.limit log.entries (Did label) ≡ true
   pub spare : 0 < log.spare
+  pub reserved : log.reserved ≡ min (terms_size label.terms) MAX
 
 -- and it was logged.
 pub record IsLogged (old : LogState) (label : Label) (new : LogState) : Type 0 where
   pub entries : new.entries ≡ old.entries ++ Did label ∷ []
   pub limit : new.limit ≡ old.limit
-  pub spare : new.spare + 1 ≡ old.spare
+  pub spare : old.spare ≤ new.spare + 1
 
 -- The fields stand for the bus to which the log leads, the log is a trace within the limit, each tick is an entry of it, and
 -- so is each creation, and each tool that comes.

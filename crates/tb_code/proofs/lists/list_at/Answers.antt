@@ -1,15 +1,27 @@
-use Rattle.std.proofs.Common.{◌≡◌, ◌+◌, suc, Bool, List, ◌∙◌, subst, ap, arith}
+use Rattle.std.proofs.Common.{◌≡◌, ◌+◌, ◌≤◌, ◌++◌, suc, Bool, List, length, Result, ◌∙◌, subst, sym, ap, arith}
+use Rattle.std.specs.Prelude.{IfOk}
 use Rattle.std.proofs.lemmas.Result.{IfOk-weaker}
+use Rattle.tb_terms.specs.declared.memory.NoMemory.{NoMemory}
 use Rattle.tb_algebra.specs.Atoms.{times_of}
 use Rattle.tb_algebra.specs.Processes.{fresh, Seq, Alt, Star, Par, If, When, Let}
-use Rattle.tb_code.specs.Entries.{HasList, entries_of, entry, is_timed, what_by}
+use Rattle.tb_code.specs.Entries.{HasList, all_led, entries_of, entry, is_timed, what_by}
 use Rattle.tb_code.specs.Positions.{HasParts, IsOne, IsTwo, part}
 use Rattle.tb_code.specs.declared.behind.Behind.TheVariants as behind
 use Rattle.tb_code.specs.declared.entry.Entry.{Entry}
 use Rattle.tb_code.specs.declared.entry.What.{What}
+use Rattle.tb_code.specs.declared.entry.Span.{Span}
+use Rattle.tb_code.specs.declared.lists.Side.{Side}
 use Rattle.tb_code.specs.declared.node.Op.TheVariants as op
 use Rattle.tb_code.proofs.EntryLemmas.{first_within, list_of_alt, list_of_atom, list_of_if, list_of_let, list_of_par, list_of_seq, list_of_star, list_of_when, parts_at, second_within}
 use Rattle.tb_code.proofs.lists.list_at.Goals as goal
+
+-- what is said of two sides is so of sides that are the same
+both_added : (old new : List Entry) (result : Result Span NoMemory) {x y s t : Side} → x ≡ s → y ≡ t →
+    ((one other : List Entry) → HasList old x.span one → HasList old y.span other → IfOk result (λ span. HasList new span (all_led x.next one ++ all_led y.next other))) →
+    (one other : List Entry) → HasList old s.span one → HasList old t.span other → IfOk result (λ span. HasList new span (all_led s.next one ++ all_led t.next other))
+both_added old new result {x} {y} {s} {t} first second given =
+    subst (λ (u : Side). (one other : List Entry) → HasList old s.span one → HasList old u.span other → IfOk result (λ span. HasList new span (all_led s.next one ++ all_led u.next other))) second
+    (subst (λ (u : Side). (one other : List Entry) → HasList old u.span one → HasList old y.span other → IfOk result (λ span. HasList new span (all_led u.next one ++ all_led y.next other))) first given)
 
 pub returns-in-At-clause-list : goal.returns-in-At-clause-list
 returns-in-At-clause-list c =
@@ -33,7 +45,8 @@ span_at-requires c =
     first_within atoms whole c.args.entries.now c.args.spans.now Seq at c.in-Seq.right c.requires.lists two
 
 pub add_first-requires : goal.add_first-requires
-add_first-requires c = (c.requires.lists.1 (c.args.at + 1) c.span_at.result c.span_at.ensures).0
+add_first-requires c =
+    subst (λ (s : Side). s.span.first + s.span.count ≤ length c.args.entries.now) (sym c.then-first.ensures) (c.requires.lists.1 (c.args.at + 1) c.span_at.result c.span_at.ensures).0
 
 pub returns-in-Seq-clause-list : goal.returns-in-Seq-clause-list
 returns-in-Seq-clause-list c =
@@ -43,8 +56,10 @@ returns-in-Seq-clause-list c =
     let two : IsTwo whole Seq at c.in-Seq.right = parts_at whole c.args.nodes.now at c.node_at.result.now (op.Seq c.in-Seq.right) c.requires.numbered c.requires.within c.node_at.ensures c.in-Seq.is in
     let first : at + 1 ≡ suc at = omega arith in
     let list = list_of_seq atoms whole at c.in-Seq.right (at + 1) first two in
+    let added : (one : List Entry) → HasList c.args.entries.now c.span_at.result one → IfOk c.add_first.result (λ span. HasList c.add_first.new.entries span (all_led (behind.Entered c.in-Seq.right) one)) =
+    subst (λ (s : Side). (one : List Entry) → HasList c.args.entries.now s.span one → IfOk c.add_first.result (λ span. HasList c.add_first.new.entries span (all_led s.next one))) c.then-first.ensures c.add_first.ensures.list in
     IfOk-weaker c.add_first.result _ _ (λ span h. subst (λ (l : List Entry). HasList c.add_first.new.entries span l) list h)
-    (c.add_first.ensures.list (entries_of atoms (at + 1) (part whole (at + 1))) (c.requires.lists.1 (at + 1) c.span_at.result c.span_at.ensures))
+    (added (entries_of atoms (at + 1) (part whole (at + 1))) (c.requires.lists.1 (at + 1) c.span_at.result c.span_at.ensures))
 
 pub span_at-requires-in-Alt : goal.span_at-requires-in-Alt
 span_at-requires-in-Alt c =
@@ -63,10 +78,12 @@ span_at-requires-in-Alt-2 c =
     second_within atoms whole c.args.entries.now c.args.spans.now Alt at c.in-Alt.right c.requires.lists two
 
 pub add_both-requires-clause-x_within : goal.add_both-requires-clause-x_within
-add_both-requires-clause-x_within c = (c.requires.lists.1 (c.args.at + 1) c.span_at-in-Alt.result c.span_at-in-Alt.ensures).0
+add_both-requires-clause-x_within c =
+    subst (λ (s : Side). s.span.first + s.span.count ≤ length c.args.entries.now) (sym c.then-first-in-Alt.ensures) (c.requires.lists.1 (c.args.at + 1) c.span_at-in-Alt.result c.span_at-in-Alt.ensures).0
 
 pub add_both-requires-clause-y_within : goal.add_both-requires-clause-y_within
-add_both-requires-clause-y_within c = (c.requires.lists.1 c.in-Alt.right c.span_at-in-Alt-2.result c.span_at-in-Alt-2.ensures).0
+add_both-requires-clause-y_within c =
+    subst (λ (s : Side). s.span.first + s.span.count ≤ length c.args.entries.now) (sym c.then-second.ensures) (c.requires.lists.1 c.in-Alt.right c.span_at-in-Alt-2.result c.span_at-in-Alt-2.ensures).0
 
 pub returns-in-Alt-clause-list : goal.returns-in-Alt-clause-list
 returns-in-Alt-clause-list c =
@@ -77,8 +94,11 @@ returns-in-Alt-clause-list c =
     let right = c.in-Alt.right in
     let first : at + 1 ≡ suc at = omega arith in
     let list = list_of_alt atoms whole at right (at + 1) first two in
+    let added : (one other : List Entry) → HasList c.args.entries.now c.span_at-in-Alt.result one → HasList c.args.entries.now c.span_at-in-Alt-2.result other →
+    IfOk c.add_both.result (λ span. HasList c.add_both.new.entries span (all_led behind.Ended one ++ all_led behind.Ended other)) =
+    both_added c.args.entries.now c.add_both.new.entries c.add_both.result c.then-first-in-Alt.ensures c.then-second.ensures c.add_both.ensures.list in
     IfOk-weaker c.add_both.result _ _ (λ span h. subst (λ (l : List Entry). HasList c.add_both.new.entries span l) list h)
-    (c.add_both.ensures.list (entries_of atoms (at + 1) (part whole (at + 1))) (entries_of atoms right (part whole right)) (c.requires.lists.1 (at + 1) c.span_at-in-Alt.result c.span_at-in-Alt.ensures) (c.requires.lists.1 right c.span_at-in-Alt-2.result c.span_at-in-Alt-2.ensures))
+    (added (entries_of atoms (at + 1) (part whole (at + 1))) (entries_of atoms right (part whole right)) (c.requires.lists.1 (at + 1) c.span_at-in-Alt.result c.span_at-in-Alt.ensures) (c.requires.lists.1 right c.span_at-in-Alt-2.result c.span_at-in-Alt-2.ensures))
 
 pub span_at-requires-in-Star : goal.span_at-requires-in-Star
 span_at-requires-in-Star c =
@@ -97,10 +117,12 @@ span_at-requires-in-Star-2 c =
     second_within atoms whole c.args.entries.now c.args.spans.now Star at c.in-Star.right c.requires.lists two
 
 pub add_both-requires-in-Star-clause-x_within : goal.add_both-requires-in-Star-clause-x_within
-add_both-requires-in-Star-clause-x_within c = (c.requires.lists.1 (c.args.at + 1) c.span_at-in-Star.result c.span_at-in-Star.ensures).0
+add_both-requires-in-Star-clause-x_within c =
+    subst (λ (s : Side). s.span.first + s.span.count ≤ length c.args.entries.now) (sym c.then-first-in-Star.ensures) (c.requires.lists.1 (c.args.at + 1) c.span_at-in-Star.result c.span_at-in-Star.ensures).0
 
 pub add_both-requires-in-Star-clause-y_within : goal.add_both-requires-in-Star-clause-y_within
-add_both-requires-in-Star-clause-y_within c = (c.requires.lists.1 c.in-Star.right c.span_at-in-Star-2.result c.span_at-in-Star-2.ensures).0
+add_both-requires-in-Star-clause-y_within c =
+    subst (λ (s : Side). s.span.first + s.span.count ≤ length c.args.entries.now) (sym c.then-second-in-Star.ensures) (c.requires.lists.1 c.in-Star.right c.span_at-in-Star-2.result c.span_at-in-Star-2.ensures).0
 
 pub returns-in-Star-clause-list : goal.returns-in-Star-clause-list
 returns-in-Star-clause-list c =
@@ -111,8 +133,11 @@ returns-in-Star-clause-list c =
     let right = c.in-Star.right in
     let first : at + 1 ≡ suc at = omega arith in
     let list = list_of_star atoms whole at right (at + 1) first two in
+    let added : (one other : List Entry) → HasList c.args.entries.now c.span_at-in-Star.result one → HasList c.args.entries.now c.span_at-in-Star-2.result other →
+    IfOk c.add_both-in-Star.result (λ span. HasList c.add_both-in-Star.new.entries span (all_led (behind.Entered at) one ++ all_led behind.Ended other)) =
+    both_added c.args.entries.now c.add_both-in-Star.new.entries c.add_both-in-Star.result c.then-first-in-Star.ensures c.then-second-in-Star.ensures c.add_both-in-Star.ensures.list in
     IfOk-weaker c.add_both-in-Star.result _ _ (λ span h. subst (λ (l : List Entry). HasList c.add_both-in-Star.new.entries span l) list h)
-    (c.add_both-in-Star.ensures.list (entries_of atoms (at + 1) (part whole (at + 1))) (entries_of atoms right (part whole right)) (c.requires.lists.1 (at + 1) c.span_at-in-Star.result c.span_at-in-Star.ensures) (c.requires.lists.1 right c.span_at-in-Star-2.result c.span_at-in-Star-2.ensures))
+    (added (entries_of atoms (at + 1) (part whole (at + 1))) (entries_of atoms right (part whole right)) (c.requires.lists.1 (at + 1) c.span_at-in-Star.result c.span_at-in-Star.ensures) (c.requires.lists.1 right c.span_at-in-Star-2.result c.span_at-in-Star-2.ensures))
 
 pub span_at-requires-in-Par : goal.span_at-requires-in-Par
 span_at-requires-in-Par c =
@@ -131,10 +156,12 @@ span_at-requires-in-Par-2 c =
     second_within atoms whole c.args.entries.now c.args.spans.now Par at c.in-Par.right c.requires.lists two
 
 pub add_both-requires-in-Par-clause-x_within : goal.add_both-requires-in-Par-clause-x_within
-add_both-requires-in-Par-clause-x_within c = (c.requires.lists.1 (c.args.at + 1) c.span_at-in-Par.result c.span_at-in-Par.ensures).0
+add_both-requires-in-Par-clause-x_within c =
+    subst (λ (s : Side). s.span.first + s.span.count ≤ length c.args.entries.now) (sym c.then-first-in-Par.ensures) (c.requires.lists.1 (c.args.at + 1) c.span_at-in-Par.result c.span_at-in-Par.ensures).0
 
 pub add_both-requires-in-Par-clause-y_within : goal.add_both-requires-in-Par-clause-y_within
-add_both-requires-in-Par-clause-y_within c = (c.requires.lists.1 c.in-Par.right c.span_at-in-Par-2.result c.span_at-in-Par-2.ensures).0
+add_both-requires-in-Par-clause-y_within c =
+    subst (λ (s : Side). s.span.first + s.span.count ≤ length c.args.entries.now) (sym c.then-second-in-Par.ensures) (c.requires.lists.1 c.in-Par.right c.span_at-in-Par-2.result c.span_at-in-Par-2.ensures).0
 
 pub returns-in-Par-clause-list : goal.returns-in-Par-clause-list
 returns-in-Par-clause-list c =
@@ -145,8 +172,11 @@ returns-in-Par-clause-list c =
     let right = c.in-Par.right in
     let first : at + 1 ≡ suc at = omega arith in
     let list = list_of_par atoms whole at right (at + 1) first two in
+    let added : (one other : List Entry) → HasList c.args.entries.now c.span_at-in-Par.result one → HasList c.args.entries.now c.span_at-in-Par-2.result other →
+    IfOk c.add_both-in-Par.result (λ span. HasList c.add_both-in-Par.new.entries span (all_led behind.Parted one ++ all_led behind.Parted other)) =
+    both_added c.args.entries.now c.add_both-in-Par.new.entries c.add_both-in-Par.result c.then-first-in-Par.ensures c.then-second-in-Par.ensures c.add_both-in-Par.ensures.list in
     IfOk-weaker c.add_both-in-Par.result _ _ (λ span h. subst (λ (l : List Entry). HasList c.add_both-in-Par.new.entries span l) list h)
-    (c.add_both-in-Par.ensures.list (entries_of atoms (at + 1) (part whole (at + 1))) (entries_of atoms right (part whole right)) (c.requires.lists.1 (at + 1) c.span_at-in-Par.result c.span_at-in-Par.ensures) (c.requires.lists.1 right c.span_at-in-Par-2.result c.span_at-in-Par-2.ensures))
+    (added (entries_of atoms (at + 1) (part whole (at + 1))) (entries_of atoms right (part whole right)) (c.requires.lists.1 (at + 1) c.span_at-in-Par.result c.span_at-in-Par.ensures) (c.requires.lists.1 right c.span_at-in-Par-2.result c.span_at-in-Par-2.ensures))
 
 pub returns-in-If-clause-list : goal.returns-in-If-clause-list
 returns-in-If-clause-list c =

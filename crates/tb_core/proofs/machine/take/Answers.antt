@@ -7,8 +7,8 @@ pub returns-then-not-room_for_size-clause-full : goal.returns-then-not-room_for_
 returns-then-not-room_for_size-clause-full g c is out found =
     sym (c.room_for_size.ensures (Gave c.args.lane out) (c.requires.sized out found)) ∙ c.if-not-room_for_size.true
 
-pub push-requires-clause-room : goal.push-requires-clause-room
-push-requires-clause-room g c =
+pub push_gave-requires-clause-room : goal.push_gave-requires-clause-room
+push_gave-requires-clause-room g c =
     let logged = c.hand_out-given.result.logged in
     let entry = Gave c.args.lane logged in
     room-kept c.args.log.now c.reserve.new.self entry entry c.in_ok-reserve.ensures.limit c.in_ok-reserve.ensures.entries refl

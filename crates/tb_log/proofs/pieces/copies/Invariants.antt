@@ -1,5 +1,5 @@
-use Rattle.std.proofs.Common.{◌≡◌, take}
+use Rattle.std.proofs.Common.{◌≡◌, drop, take}
 use Rattle.tb_log.proofs.pieces.copies.Given as goal
 
-abbrev pub invariant-loop-entry : goal.invariant-loop-entry
-invariant-loop-entry l = l.copies.items ≡ take l.entry-index l.entries
+abbrev pub invariant-loop-position : goal.invariant-loop-position
+invariant-loop-position l = l.copies.items ≡ take l.position (drop l.before l.log.entries)

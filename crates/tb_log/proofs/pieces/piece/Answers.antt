@@ -1,14 +1,14 @@
-use Rattle.std.proofs.Common.{◌≡◌, ◌∙◌, ap, ℕ, take, drop}
-use Rattle.std.proofs.lemmas.List.{take_min, drop_min}
+use Rattle.std.proofs.Common.{◌≡◌, ◌∙◌, ◌-◌, ℕ, ap, length, min, take, drop}
 use Rattle.std.proofs.lemmas.Result.{IfOk-weaker}
+use Rattle.tb_log.proofs.ReadLemmas.{read_piece}
 use Rattle.tb_log.proofs.pieces.piece.Goals as goal
 
 pub returns : goal.returns
 returns c =
-    let entries = c.args.entries.now in
-    let rest = c.split_at.result.1.now in
-    let from = c.args.from in
-    let most = c.args.most in
-    let behind : rest ≡ drop from entries = c.split_at.ensures.back ∙ (ap (λ (n : ℕ). drop n entries) c.min.ensures ∙ drop_min from entries) in
-    let some : c.split_at-2.result.0.now ≡ take most (drop from entries) = c.split_at-2.ensures.front ∙ (ap (λ (n : ℕ). take n rest) c.min-2.ensures ∙ (take_min most rest ∙ ap (take most) behind)) in
-    IfOk-weaker c.copies.result (λ copies. copies ≡ c.split_at-2.result.0.now) (λ piece. piece ≡ take most (drop from entries)) (λ copies e. e ∙ some) c.copies.ensures
+    let entries = c.args.log.now.entries in
+    let before = c.min-before.result in
+    let count = c.min-count.result in
+    let behind : before ≡ min c.args.from (length entries) = c.min-before.ensures ∙ ap (λ (n : ℕ). min c.args.from n) c.len.ensures in
+    let so_many : count ≡ min c.args.most (length entries - before) = c.min-count.ensures ∙ ap (λ (n : ℕ). min c.args.most (n - before)) c.len-2.ensures in
+    let same = read_piece entries c.args.from c.args.most before count behind so_many in
+    IfOk-weaker c.copies.result (λ copies. copies ≡ take count (drop before entries)) (λ piece. piece ≡ take c.args.most (drop c.args.from entries)) (λ copies e. e ∙ same) c.copies.ensures

@@ -3,5 +3,5 @@ use Rattle.std.specs.List.{list_all}
 use Rattle.tb_log.specs.Proper.{is_proper_entry}
 use Rattle.tb_log.proofs.proper.show_proper_log.Given as goal
 
-abbrev pub invariant-loop-entry : goal.invariant-loop-entry
-invariant-loop-entry l = IsTrue (list_all is_proper_entry (take l.entry-index l.log))
+abbrev pub invariant-loop-at : goal.invariant-loop-at
+invariant-loop-at l = IsTrue (list_all is_proper_entry (take l.at l.log.entries))

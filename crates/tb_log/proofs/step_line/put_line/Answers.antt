@@ -9,5 +9,5 @@ returns c =
     let label = c.args.label.now in (
       omega (arith, c.put_number.ensures.room, c.put_byte-end-2.ensures.room, c.put_head-end.ensures.room, c.in_ok-end.ensures.1, c.put_byte-end.ensures.room),
       rw (c.put_number.ensures.written, c.put_byte-end-2.ensures.written, c.put_head-end.ensures.written, c.in_ok-end.ensures.2, c.put_byte-end.ensures.written, c.shown_terms.ensures, none)
-          (line_in_parts c.args.number label.kind label.from label.to label.terms),
+          (line_in_parts c.args.number label.kind label.from label.to label.terms.now),
     )

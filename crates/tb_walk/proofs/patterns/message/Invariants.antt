@@ -5,4 +5,4 @@ use Rattle.tb_walk.proofs.patterns.message.Given as goal
 -- the patterns so far, and then those of the expressions that are left
 abbrev pub invariant-loop-expr : goal.invariant-loop-expr
 invariant-loop-expr l =
-    option_map (λ rest. l.patterns.items ++ rest) (patterns_of l.store (drop l.expr-index l.exprs)) ≡ patterns_of l.store l.exprs
+    option_map (λ rest. l.patterns ++ rest) (patterns_of l.store (drop l.expr-index l.exprs)) ≡ patterns_of l.store l.exprs

@@ -5,5 +5,5 @@ use Rattle.tb_walk.proofs.values.values.Given as goal
 -- the values so far, and then those of the expressions that are left
 abbrev pub invariant-loop-expr : goal.invariant-loop-expr
 invariant-loop-expr l =
-    option_map (λ rest. l.terms.items ++ rest) (all_of (map (value_of l.store) (drop l.expr-index l.exprs)))
+    option_map (λ rest. l.terms ++ rest) (all_of (map (value_of l.store) (drop l.expr-index l.exprs)))
     ≡ all_of (map (value_of l.store) l.exprs)

@@ -8,8 +8,8 @@ use Rattle.tb_algebra.specs.Helpers.OfferViews.{or_own}
 use Rattle.tb_algebra.proofs.RewriterLemmas.{by_found, is_found}
 use Rattle.tb_algebra.proofs.rewriter.RewriterWalker.patterns.Goals as goal
 
-pub returns-in_ok-matched_patterns-in-Some : goal.returns-in_ok-matched_patterns-in-Some
-returns-in_ok-matched_patterns-in-Some c =
+pub returns-in-Some : goal.returns-in-Some
+returns-in-Some c =
     let atoms = c.args.plan.now.body.atoms in
     let found = c.in-Some.found.now in
     let given : Option (List Pattern) = c.in_ok-matched_patterns-in-Some.field-0 in
@@ -20,6 +20,6 @@ returns-in_ok-matched_patterns-in-Some c =
     ∙ ap (λ (a : Option Atom). patterns_of (or_own found.own c.args.self.now.store) (matched_exprs (act_in a))) c.atom.ensures
     ∙ sym (by_found (λ (k : Kept). patterns_of k.store (matched_exprs (act_of atoms k.atom))) c.args.plan.now c.args.self.now c.args.k found c.requires.on c.requires.fresh is)
 
-pub returns-in-None : goal.returns-in-None
-returns-in-None c =
+pub returns : goal.returns
+returns c =
     absurd (is_found c.args.self.now c.args.k c.requires.fresh c.requires.within (sym c.get.ensures.value ∙ ap option_copied c.in-None.is))

@@ -44,7 +44,7 @@ returns-then-go_on-clause-advanced g c offered leaves =
     let after = c.go_on.new.living in
     let plan = c.index-as_slice-living.result in
     let read = read-at g.W.Walker.view bus c.args.at before plan c.as_slice.result.now c.requires.sound c.requires.within (read-through c.args.self.now.living.items c.args.at _ _ c.get_mut-living.ensures.value c.index_mut.ensures.value) c.as_slice.ensures c.index-as_slice-living.is in
-    let went : Went g.W.Walker.view plan before offered c.args.binds after = record {
+    let went : Went g.W.Walker.view plan before offered c.args.binds.now after = record {
       is_on = c.go_on.ensures.on;
       goes = c.go_on.ensures.advanced offered (leaves-there g.W.Walker.view bus c.args.at before plan c.args.taken offered read leaves);
       number = c.go_on.ensures.number;
@@ -53,7 +53,7 @@ returns-then-go_on-clause-advanced g c offered leaves =
       stale = c.go_on.ensures.stale;
       marks = c.go_on.ensures.marks;
     } in
-    advanced-removed g.W.Walker.view bus c.args.at before plan offered c.args.binds after c.go_on.result c.remove.new.self c.clear.new.self c.requires.sound read went c.go_on.ensures.ended c.if-go_on.true c.remove.ensures.items c.clear.ensures
+    advanced-removed g.W.Walker.view bus c.args.at before plan offered c.args.binds.now after c.go_on.result c.remove.new.self c.clear.new.self c.requires.sound read went c.go_on.ensures.ended c.if-go_on.true c.remove.ensures.items c.clear.ensures
 
 pub returns-then-go_on-clause-before : goal.returns-then-go_on-clause-before
 returns-then-go_on-clause-before g c other l = gone-before c.args.self.now.living.items c.remove.new.self.items c.args.at c.go_on.new.living other c.remove.ensures.items l
@@ -68,7 +68,7 @@ returns-else-go_on-clause-advanced g c offered leaves =
     let can = c.requires.taken in
     let goes = c.go_on.ensures.advanced offered (leaves-there g.W.Walker.view bus c.args.at before plan c.args.taken offered read leaves) in
     let its = c.go_on.ensures.advanced can.0 (leaves-there g.W.Walker.view bus c.args.at before plan c.args.taken can.0 read can.1) in
-    let went : Went g.W.Walker.view plan before offered c.args.binds after = record {
+    let went : Went g.W.Walker.view plan before offered c.args.binds.now after = record {
       is_on = c.go_on.ensures.on;
       goes = goes;
       number = c.go_on.ensures.number;
@@ -77,8 +77,8 @@ returns-else-go_on-clause-advanced g c offered leaves =
       stale = c.go_on.ensures.stale;
       marks = c.go_on.ensures.marks;
     } in
-    let sorts = sorts-once offered can.0 c.args.binds (g.W.Walker.view.walking plan before.walker).ticks (g.W.Walker.view.walking plan after.walker) (proc_at (procs_in g.W.Walker.view bus) c.args.at).store goes its can.2 in
-    advanced-set g.W.Walker.view bus c.args.at before plan offered c.args.binds after c.go_on.result (with_item bus.living c.args.at after) c.requires.sound read went sorts
+    let sorts = sorts-once offered can.0 c.args.binds.now (g.W.Walker.view.walking plan before.walker).ticks (g.W.Walker.view.walking plan after.walker) (proc_at (procs_in g.W.Walker.view bus) c.args.at).store goes its can.2 in
+    advanced-set g.W.Walker.view bus c.args.at before plan offered c.args.binds.now after c.go_on.result (with_item bus.living c.args.at after) c.requires.sound read went sorts
     c.go_on.ensures.ended c.if-go_on.false c.requires.named refl
 
 pub returns-else-go_on-clause-before : goal.returns-else-go_on-clause-before

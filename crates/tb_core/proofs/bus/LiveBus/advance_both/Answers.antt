@@ -17,7 +17,7 @@ pub advance_at-requires-then-at-other-clause-taken : goal.advance_at-requires-th
 advance_at-requires-then-at-other-clause-taken g c =
     let can = c.requires.received in
     let plans = (c.advance_at.ensures.advanced can.0 can.1).plans in
-    advance-kept g.W.Walker.view c.args.self.now c.advance_at.new.self c.args.at c.args.sent [] c.new.result (c.advance_at.ensures.before c.args.at c.if-at-other.true) plans c.new.ensures c.requires.sent
+    advance-kept g.W.Walker.view c.args.self.now c.advance_at.new.self c.args.at c.args.sent [] c.new-none.result (c.advance_at.ensures.before c.args.at c.if-at-other.true) plans c.new-none.ensures c.requires.sent
 
 pub advance_at-requires-else-at-other-2-clause-sound : goal.advance_at-requires-else-at-other-2-clause-sound
 advance_at-requires-else-at-other-2-clause-sound g c =
@@ -36,7 +36,7 @@ advance_at-requires-else-at-other-2-clause-taken g c =
     let can = c.requires.sent in
     let plans = (c.advance_at-else-at-other.ensures.advanced can.0 can.1).plans in
     let order = behind-from (rows_of old.living.items) c.args.at c.args.other c.requires.apart c.if-at-other.false in
-    advance-kept g.W.Walker.view old c.advance_at-else-at-other.new.self c.args.other c.args.received c.args.binds c.args.binds (c.advance_at-else-at-other.ensures.before c.args.other order) plans refl c.requires.received
+    advance-kept g.W.Walker.view old c.advance_at-else-at-other.new.self c.args.other c.args.received c.args.binds.now c.args.binds.now (c.advance_at-else-at-other.ensures.before c.args.other order) plans refl c.requires.received
 
 pub returns-then-at-other : goal.returns-then-at-other
 returns-then-at-other g c offered its leaves leaves_its =
@@ -46,8 +46,8 @@ returns-then-at-other g c offered its leaves leaves_its =
     let kept = c.advance_at.ensures.before c.args.at c.if-at-other.true in
     let first = c.advance_at.ensures.advanced its leaves_its in
     let second = c.advance_at-then-at-other.ensures.advanced offered (leaves-kept g.W.Walker.view old middle c.args.at c.args.sent offered kept first.plans leaves) in
-    both-advanced g.W.Walker.view old middle new c.args.at offered c.args.other its c.args.binds c.requires.apart kept first
-    (subst (λ binds. IsAdvanced g.W.Walker.view middle c.args.at offered binds new) c.new.ensures second)
+    both-advanced g.W.Walker.view old middle new c.args.at offered c.args.other its c.args.binds.now c.requires.apart kept first
+    (subst (λ binds. IsAdvanced g.W.Walker.view middle c.args.at offered binds new) c.new-none.ensures second)
 
 pub returns-else-at-other : goal.returns-else-at-other
 returns-else-at-other g c offered its leaves leaves_its =
@@ -59,7 +59,7 @@ returns-else-at-other g c offered its leaves leaves_its =
     let second = c.advance_at-else-at-other-2.ensures.advanced its (leaves-kept g.W.Walker.view old middle c.args.other c.args.received its kept first.plans leaves_its) in
     record {
       sound = second.sound;
-      bus = one-after g.W.Walker.view old middle new c.args.at offered [] c.args.other its c.args.binds kept
-          (subst (λ binds. IsAdvanced g.W.Walker.view old c.args.at offered binds middle) c.new-else-at-other.ensures first) second;
+      bus = one-after g.W.Walker.view old middle new c.args.at offered [] c.args.other its c.args.binds.now kept
+          (subst (λ binds. IsAdvanced g.W.Walker.view old c.args.at offered binds middle) c.new-none.ensures first) second;
       origin = second.origin ∙ first.origin;
     }

@@ -4,8 +4,9 @@ use Rattle.tb_search.specs.Views.{offer_of}
 use Rattle.tb_bus.specs.declared.action.OwnAction.TheVariants as own
 use Rattle.tb_bus.specs.Steps.{label_of}
 use Rattle.tb_search.specs.declared.candidate.Candidate.TheVariants.{Own}
+use Rattle.tb_search.specs.declared.candidate.Finding.TheVariants.{Plain}
 use Rattle.tb_core.specs.Helpers.LiveBuses.{CanLog, IsLogged, move_in, procs_in}
-use Rattle.tb_core.specs.Helpers.Makings.{effect_by}
+use Rattle.tb_core.specs.Helpers.Makings.{effect_in}
 use Rattle.tb_living.specs.declared.done.Done.{Done}
 use Rattle.tb_core.proofs.MakeLemmas.{acted-tau, acted-within, acted-named, acted-leaves, acted-advance, acted-made, acted-origin, acted-label}
 use Rattle.tb_core.proofs.bus.LiveBus.make_tau.Given.{Over}
@@ -19,7 +20,7 @@ pub finish-label-requires-clause-within : goal.finish-label-requires-clause-with
 finish-label-requires-clause-within g c =
     let old = c.args.self.now in
     let begun = c.leave.new.self in
-    let effect = effect_by begun.marks.next_number own.Tau in
+    let effect = effect_in begun c.args.at own.Tau Plain in
     let acted = acted-tau g.W.Walker.view old begun c.args.at c.args.index c.in_ok-taken.taken c.requires.sound c.requires.fresh c.requires.found c.in_ok-taken.ensures c.requires.tau c.leave.ensures.same c.leave.ensures.kept c.in_ok-from.ensures.named in
     acted-within g.W.Walker.view old begun begun c.args.at c.args.index effect acted
 
@@ -27,7 +28,7 @@ pub finish-label-requires-clause-named : goal.finish-label-requires-clause-named
 finish-label-requires-clause-named g c =
     let old = c.args.self.now in
     let begun = c.leave.new.self in
-    let effect = effect_by begun.marks.next_number own.Tau in
+    let effect = effect_in begun c.args.at own.Tau Plain in
     let acted = acted-tau g.W.Walker.view old begun c.args.at c.args.index c.in_ok-taken.taken c.requires.sound c.requires.fresh c.requires.found c.in_ok-taken.ensures c.requires.tau c.leave.ensures.same c.leave.ensures.kept c.in_ok-from.ensures.named in
     acted-named g.W.Walker.view old begun begun c.args.at c.args.index effect acted
 
@@ -35,7 +36,7 @@ pub finish-label-requires-clause-taken : goal.finish-label-requires-clause-taken
 finish-label-requires-clause-taken g c =
     let old = c.args.self.now in
     let begun = c.leave.new.self in
-    let effect = effect_by begun.marks.next_number own.Tau in
+    let effect = effect_in begun c.args.at own.Tau Plain in
     let acted = acted-tau g.W.Walker.view old begun c.args.at c.args.index c.in_ok-taken.taken c.requires.sound c.requires.fresh c.requires.found c.in_ok-taken.ensures c.requires.tau c.leave.ensures.same c.leave.ensures.kept c.in_ok-from.ensures.named in
     acted-advance g.W.Walker.view old begun begun c.args.at c.args.index effect acted c.in_ok-taken.taken c.kind_alone.result.binds c.in_ok-taken.ensures (ap (λ (done : Done). done.binds) c.kind_alone.ensures)
 
@@ -43,7 +44,7 @@ pub returns-clause-made : goal.returns-clause-made
 returns-clause-made g c =
     let old = c.args.self.now in
     let begun = c.leave.new.self in
-    let effect = effect_by begun.marks.next_number own.Tau in
+    let effect = effect_in begun c.args.at own.Tau Plain in
     let acted = acted-tau g.W.Walker.view old begun c.args.at c.args.index c.in_ok-taken.taken c.requires.sound c.requires.fresh c.requires.found c.in_ok-taken.ensures c.requires.tau c.leave.ensures.same c.leave.ensures.kept c.in_ok-from.ensures.named in
     let offer = offer_of (procs_in g.W.Walker.view old) (rows_of old.living.items) c.args.at c.args.index in
     let gone = c.finish-label.ensures.gone offer (acted-leaves g.W.Walker.view old begun begun c.args.at c.args.index effect acted c.in_ok-taken.taken c.in_ok-taken.ensures) in
@@ -53,11 +54,11 @@ returns-clause-made g c =
       origin = acted-origin g.W.Walker.view old begun begun c.args.at c.args.index effect acted c.finish-label.new.self gone.origin;
     }
 
-label-is : (g : Over) (c : After-finish-label g) → c.finish-label.result ≡ label_of (move_in g.W.Walker.view c.args.self.now (Own c.args.at c.args.index))
+label-is : (g : Over) (c : After-finish-label g) → c.finish-label.result ≡ label_of (move_in g.W.Walker.view c.args.self.now (Own c.args.at c.args.index Plain))
 label-is g c =
     let old = c.args.self.now in
     let begun = c.leave.new.self in
-    let effect = effect_by begun.marks.next_number own.Tau in
+    let effect = effect_in begun c.args.at own.Tau Plain in
     let acted = acted-tau g.W.Walker.view old begun c.args.at c.args.index c.in_ok-taken.taken c.requires.sound c.requires.fresh c.requires.found c.in_ok-taken.ensures c.requires.tau c.leave.ensures.same c.leave.ensures.kept c.in_ok-from.ensures.named in
     let is = c.kind_alone.ensures in
     c.finish-label.ensures.label ∙ acted-label g.W.Walker.view old begun begun c.args.at c.args.index effect acted c.in_ok-from.from c.kind_alone.result

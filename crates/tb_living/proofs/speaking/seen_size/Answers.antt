@@ -1,6 +1,6 @@
 use Rattle.tb_bus.specs.declared.action.ToolAction.TheVariants as does
 use Rattle.tb_living.proofs.SpokenLemmas.{spoken-lane, spoken-can}
-use Rattle.tb_living.proofs.speaking.exchange_size.Goals as goal
+use Rattle.tb_living.proofs.speaking.seen_size.Goals as goal
 
 pub answer_size-requires : goal.answer_size-requires
 answer_size-requires c = spoken-lane c.requires.0 c.args.bench.now c.args.does.now c.args.exchange.now c.requires.1

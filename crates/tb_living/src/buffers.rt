@@ -1,0 +1,53 @@
+ghost use Rattle.std.specs.Prelude.{◌≡◌, [], IfOk};
+
+use std::alloc::Global;
+use std::mem::replace;
+use tb_bus::Action;
+use tb_match::Binds;
+use tb_terms::{Items, NoMemory, Patterns, Terms};
+
+/// How many lists of a kind are kept: for as many messages one process seldom waits.
+const MOST_KEPT: usize = 8;
+
+/// Lists that are done with, whose memory serves again: so a handshake needs none. What they hold says nothing.
+#[derive(Drop)]
+pub struct Buffers {
+    pub(crate) terms: Vec<Terms>,
+    pub(crate) patterns: Vec<Patterns>,
+    pub binds: Binds,
+}
+
+impl Buffers {
+    /// Nothing is kept yet.
+    pub fn new(alloc: Global) -> Result<Buffers, NoMemory>
+        ensures terms { IfOk result (λ buffers. buffers.terms.items ≡ []) }
+        ensures patterns { IfOk result (λ buffers. buffers.patterns.items ≡ []) }
+        ensures binds { IfOk result (λ buffers. buffers.binds ≡ []) }
+    {
+        let terms = Vec::with_capacity(alloc, MOST_KEPT)?;
+        let patterns = Vec::with_capacity(alloc, MOST_KEPT)?;
+        Ok(Buffers {
+            terms,
+            patterns,
+            binds: Items::new(alloc),
+        })
+    }
+
+    /// Keeps what an action sends or receives, where it is to be dropped.
+    pub(crate) fn keep(&mut self, alloc: Global, action: &mut Action) {
+        match action {
+            Action::Send(terms) => keep_list(&mut self.terms, replace(terms, Items::new(alloc))),
+            Action::Receive(patterns) => {
+                keep_list(&mut self.patterns, replace(patterns, Items::new(alloc)));
+            }
+            Action::Own(_) => {}
+        }
+    }
+}
+
+/// Keeps a list where there is room for it. An empty one has no memory that is worth it: its items were taken.
+fn keep_list<T: Drop>(kept: &mut Vec<Items<T>>, list: Items<T>) {
+    if !list.is_empty() && kept.len() < kept.capacity() {
+        kept.push_reserved(list);
+    }
+}

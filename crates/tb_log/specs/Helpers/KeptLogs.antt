@@ -1,0 +1,51 @@
+-- The entries for which what a log keeps stands, and when it stands for some.
+use Rattle.std.specs.Prelude.{◌≡◌, ◌≤◌, ◌<◌, ◌+◌, ℕ, List, length, map, take, drop, slice_get, Option, Some, None, ⊤}
+use Rattle.std.specs.List.{All}
+use Rattle.tb_terms.specs.declared.term.Term.{Term}
+use Rattle.tb_log.specs.declared.entry.Label.{Label}
+use Rattle.tb_log.specs.declared.entry.Entry.{Entry}
+use Rattle.tb_log.specs.declared.entry.Entry.TheVariants.{Did, Quiet, Fed, Gave}
+use Rattle.tb_log.specs.declared.kept.KeptStep.{KeptStep}
+use Rattle.tb_log.specs.declared.kept.Kept.{Kept}
+use Rattle.tb_log.specs.declared.kept.Kept.TheVariants as kept
+use Rattle.tb_log.specs.declared.kept.Other.{Other}
+use Rattle.tb_log.specs.declared.kept.Other.TheVariants as other
+use Rattle.tb_log.specs.Limits.{log_size, most_size}
+
+-- a step has its share of the terms of all steps
+abbrev pub label_kept : List Term → KeptStep → Label
+label_kept terms step = record { kind = step.kind; from = step.from; to = step.to; terms = take step.count (drop step.first terms) }
+
+abbrev pub other_entry : Other → Entry
+other_entry (other.Fed input reply) = Fed input reply
+other_entry (other.Gave lane out) = Gave lane out
+
+-- that one of the others; where there is none, what stands there says nothing
+abbrev pub other_there : Option Other → Entry
+other_there None = Quiet
+other_there (Some it) = other_entry it
+
+abbrev pub entry_kept : List Term → List Other → Kept → Entry
+entry_kept terms others (kept.Did step) = Did (label_kept terms step)
+entry_kept terms others kept.Quiet = Quiet
+entry_kept terms others (kept.Other at) = other_there (slice_get others at)
+
+abbrev pub entries_kept : List Term → List Other → List Kept → List Entry
+entries_kept terms others entries = map (entry_kept terms others) entries
+
+-- what an entry names stands among so many terms and so many others
+abbrev pub NamesWithin : ℕ → ℕ → Kept → Type 0
+NamesWithin terms others (kept.Did step) = step.first + step.count ≤ terms
+NamesWithin terms others kept.Quiet = ⊤
+NamesWithin terms others (kept.Other at) = at < others
+
+-- Each entry names what is there, they are so large, and within the limits. A term has a size of 1 at least, so there are
+-- no more terms than that, and no more others than entries.
+pub record StandsFor (limit size : ℕ) (terms : List Term) (others : List Other) (entries : List Kept) : Type 0 where
+  pub named : All (NamesWithin (length terms) (length others)) entries
+  pub sized : size ≡ log_size (entries_kept terms others entries)
+  pub small : size ≤ most_size
+  pub within : length entries ≤ limit
+  pub limited : limit ≤ 4294967295
+  pub few_terms : length terms ≤ size
+  pub few_others : length others ≤ length entries

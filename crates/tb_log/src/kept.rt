@@ -1,0 +1,62 @@
+//! Entries as a log keeps them: small ones in a row, and what they say in lists beside them.
+ghost use Rattle.std.specs.Prelude.{◌≡◌, ◌+◌, ◌≤◌, length};
+ghost use Rattle.tb_log.specs.Seens.{entry_seen, label_seen};
+ghost use Rattle.tb_log.specs.Helpers.KeptLogs.{label_kept, other_entry};
+
+use crate::entry::{Input, LabelKind, Out, Place, Reply};
+use crate::seen::{Seen, SeenLabel};
+use tb_terms::Term;
+
+/// A step. Its terms stand among those of all steps: so many, from this index on.
+#[derive(Clone, Copy)]
+pub struct KeptStep {
+    pub kind: LabelKind,
+    pub from: Place,
+    pub to: Place,
+    pub first: u32,
+    pub count: u32,
+}
+
+impl KeptStep {
+    /// The step with its terms, lent.
+    pub fn lend<'a>(&self, terms: &'a [Term]) -> SeenLabel<'a>
+        requires { self.now.first + self.now.count ≤ length terms.now }
+        ensures { label_seen result ≡ label_kept terms.now self.now }
+    {
+        let first = self.first as usize;
+        SeenLabel {
+            kind: self.kind,
+            from: self.from,
+            to: self.to,
+            terms: &terms[first..first + self.count as usize],
+        }
+    }
+}
+
+/// An entry.
+#[derive(Clone, Copy)]
+pub enum Kept {
+    Did(KeptStep),
+    Quiet,
+    /// The one of the others that has this index.
+    Other(u32),
+}
+
+/// An entry that is no step and carries something.
+#[derive(Drop)]
+pub enum Other {
+    Fed(Input, Reply),
+    Gave(u8, Out),
+}
+
+impl Other {
+    /// The entry, lent.
+    pub fn lend(&self) -> Seen<'_>
+        ensures { entry_seen result ≡ other_entry self.now }
+    {
+        match self {
+            Other::Fed(input, reply) => Seen::Fed(input, *reply),
+            Other::Gave(lane, out) => Seen::Gave(*lane, out),
+        }
+    }
+}

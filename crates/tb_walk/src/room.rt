@@ -1,0 +1,30 @@
+ghost use Rattle.std.specs.Prelude.{◌≡◌, [], IfOk};
+
+use std::alloc::Global;
+use tb_terms::{Items, NoMemory};
+
+/// Drops all items, and keeps the memory.
+pub(crate) fn empty<T: Drop>(items: &mut Items<T>)
+    ensures { items.new ≡ [] }
+{
+    while let Some(one) = items.pop() {
+        drop(one);
+    }
+}
+
+/// An empty list in the memory of a room, whatever that held; where there is none, with memory for so many items.
+pub(crate) fn emptied<T: Drop>(
+    alloc: Global,
+    room: Option<Items<T>>,
+    many: usize,
+) -> Result<Items<T>, NoMemory>
+    ensures { IfOk result (λ items. items ≡ []) }
+{
+    match room {
+        Some(mut items) => {
+            empty(&mut items);
+            Ok(items)
+        }
+        None => Ok(Items::from_vec(Vec::with_capacity(alloc, many)?)),
+    }
+}
