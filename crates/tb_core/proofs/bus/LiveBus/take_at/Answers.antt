@@ -12,7 +12,7 @@ use Rattle.tb_core.proofs.bus.LiveBus.take_at.Given.{Over}
 use Rattle.tb_core.proofs.bus.LiveBus.take_at.Goals.{After-index-2}
 use Rattle.tb_core.proofs.bus.LiveBus.take_at.Goals as goal
 
-offer-there : (g : Over) (c : After-index g) → OfferAt g.W.Walker.view c.args.self.now c.args.at c.args.index c.get-living.result.now c.index-as_slice-living.result c.index-2.result.now
+offer-there : (g : Over) (c : After-index-2 g) → OfferAt g.W.Walker.view c.args.self.now c.args.at c.args.index c.get-living.result.now c.index-as_slice-living.result c.index-2.result.now
 offer-there g c =
     let bus = c.args.self.now in
     let living = c.get-living.result.now in
