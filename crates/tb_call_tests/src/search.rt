@@ -70,9 +70,15 @@ fn action(alloc: Global, wish: Wish) -> Result<Action, NoMemory>
             }
             Ok(Action::Own(OwnAction::Create(body, terms, slot)))
         }
-        Wish::Executes(kind, slot) => Ok(Action::Own(OwnAction::Speak(ToolAction::Execute(kind, slot)))),
-        Wish::Connects(kind, slot) => Ok(Action::Own(OwnAction::Speak(ToolAction::Connect(kind, slot)))),
-        Wish::LetsGo(kind, slot) => Ok(Action::Own(OwnAction::Speak(ToolAction::DisconnectAny(kind, slot)))),
+        Wish::Executes(kind, slot) => Ok(Action::Own(OwnAction::Speak(ToolAction::Execute(
+            kind, slot,
+        )))),
+        Wish::Connects(kind, slot) => Ok(Action::Own(OwnAction::Speak(ToolAction::Connect(
+            kind, slot,
+        )))),
+        Wish::LetsGo(kind, slot) => Ok(Action::Own(OwnAction::Speak(ToolAction::DisconnectAny(
+            kind, slot,
+        )))),
     }
 }
 

@@ -274,8 +274,8 @@ exchange-only (Some exchange) found e = (exchange, sym (same_Some (finding.Speak
 
 -- so by the action of the process at an index
 module _ {W P T : Type 0} (bus : LiveBus W P T) (at : ℕ) (action : OwnAction) (found : Finding) (h : finding_in bus at action ≡ Some found) where
-  abbrev row : Row
-  row = row_at (rows_of bus.living.items) at
+  abbrev its_row : Row
+  its_row = row_at (rows_of bus.living.items) at
 
   pub notified : (terms : List Term) (indices : List ℕ) → action ≡ own.Notify terms → found ≡ finding.Notify indices → (all_take terms (rows_of bus.living.items) ≡ true) × (indices ≡ wanting terms 0 (rows_of bus.living.items))
   notified terms indices e f =
@@ -284,21 +284,21 @@ module _ {W P T : Type 0} (bus : LiveBus W P T) (at : ℕ) (action : OwnAction) 
   pub notified-only : (terms : List Term) → action ≡ own.Notify terms → (indices : List ℕ) × (found ≡ finding.Notify indices)
   notified-only terms e = notify-only (wanting_if_room terms (rows_of bus.living.items)) found (ap (finding_in bus at) (sym e) ∙ h)
 
-  pub noted : (patterns : List Pattern) (note : Found) → action ≡ own.TakeNote patterns → found ≡ finding.TakeNote note → oldest_match patterns row.inbox ≡ Some note
-  noted patterns note e f = note-is (oldest_match patterns row.inbox) (finding.TakeNote note) (ap (finding_in bus at) (sym e) ∙ h ∙ ap (λ (x : Finding). Some x) f)
+  pub noted : (patterns : List Pattern) (note : Found) → action ≡ own.TakeNote patterns → found ≡ finding.TakeNote note → oldest_match patterns its_row.inbox ≡ Some note
+  noted patterns note e f = note-is (oldest_match patterns its_row.inbox) (finding.TakeNote note) (ap (finding_in bus at) (sym e) ∙ h ∙ ap (λ (x : Finding). Some x) f)
 
   pub noted-only : (patterns : List Pattern) → action ≡ own.TakeNote patterns → (note : Found) × (found ≡ finding.TakeNote note)
-  noted-only patterns e = note-only (oldest_match patterns row.inbox) found (ap (finding_in bus at) (sym e) ∙ h)
+  noted-only patterns e = note-only (oldest_match patterns its_row.inbox) found (ap (finding_in bus at) (sym e) ∙ h)
 
   pub spoken : (does : ToolAction) (exchange : Exchange) → action ≡ own.Speak does → found ≡ finding.Speak exchange → HasLanes bus.bench → CanSpeak bus.origin.program.tools bus.bench does exchange
   spoken does exchange e f lanes = record {
-    body = slice_get bus.origin.program.bodies row.body;
-    found = exchange-is (exchange_for (setting_in (scene_in bus) row) does) (finding.Speak exchange) (ap (finding_in bus at) (sym e) ∙ h ∙ ap (λ (x : Finding). Some x) f);
+    body = slice_get bus.origin.program.bodies its_row.body;
+    found = exchange-is (exchange_for (setting_in (scene_in bus) its_row) does) (finding.Speak exchange) (ap (finding_in bus at) (sym e) ∙ h ∙ ap (λ (x : Finding). Some x) f);
     lanes = lanes;
   }
 
   pub spoken-only : (does : ToolAction) → action ≡ own.Speak does → (exchange : Exchange) × (found ≡ finding.Speak exchange)
-  spoken-only does e = exchange-only (exchange_for (setting_in (scene_in bus) row) does) found (ap (finding_in bus at) (sym e) ∙ h)
+  spoken-only does e = exchange-only (exchange_for (setting_in (scene_in bus) its_row) does) found (ap (finding_in bus at) (sym e) ∙ h)
 
 -- a note that was found in a queue: it stands there, and the store takes what it binds
 
@@ -377,29 +377,29 @@ own-plain store (own.Shutdown reason) fits = tt
 
 -- once it was begun, the same is found of it, and it comes to the same
 module _ {W P T : Type 0} (view : View P W T) (old begun : LiveBus W P T) (at : ℕ) (same : StandsAs view old begun) (kept : IsKept old.living.items begun.living.items at) where
-  abbrev before : Row
-  before = row_at (rows_of old.living.items) at
+  abbrev old_row : Row
+  old_row = row_at (rows_of old.living.items) at
 
-  abbrev after : Row
-  after = row_at (rows_of begun.living.items) at
+  abbrev new_row : Row
+  new_row = row_at (rows_of begun.living.items) at
 
-  inbox-since : after.inbox ≡ before.inbox
+  inbox-since : new_row.inbox ≡ old_row.inbox
   inbox-since = row-held begun.living.items at ∙ held-same view old begun at same ∙ sym (row-held old.living.items at)
 
-  body-since : after.body ≡ before.body
+  body-since : new_row.body ≡ old_row.body
   body-since = kept-body old.living.items begun.living.items at kept
 
-  setting-since : setting_in (scene_in begun) after ≡ setting_in (scene_in old) before
+  setting-since : setting_in (scene_in begun) new_row ≡ setting_in (scene_in old) old_row
   setting-since =
-      ap (λ (o : Origin). setting_by o.program.bodies o.program.tools begun.bench after.body) same.origin
-      ∙ ap (λ (b : Bus). setting_by old.origin.program.bodies old.origin.program.tools b.bench after.body) same.bus
+      ap (λ (o : Origin). setting_by o.program.bodies o.program.tools begun.bench new_row.body) same.origin
+      ∙ ap (λ (b : Bus). setting_by old.origin.program.bodies old.origin.program.tools b.bench new_row.body) same.bus
       ∙ ap (setting_by old.origin.program.bodies old.origin.program.tools old.bench) body-since
 
   effect-since : (own : OwnAction) (found : Finding) → effect_in begun at own found ≡ effect_in old at own found
   effect-since own found =
-      ap (λ (m : Marks). effect_by m.next_number after.inbox (setting_in (scene_in begun) after) own found) same.marks
-      ∙ ap (λ held. effect_by old.marks.next_number held (setting_in (scene_in begun) after) own found) inbox-since
-      ∙ ap (λ setting. effect_by old.marks.next_number before.inbox setting own found) setting-since
+      ap (λ (m : Marks). effect_by m.next_number new_row.inbox (setting_in (scene_in begun) new_row) own found) same.marks
+      ∙ ap (λ held. effect_by old.marks.next_number held (setting_in (scene_in begun) new_row) own found) inbox-since
+      ∙ ap (λ setting. effect_by old.marks.next_number old_row.inbox setting own found) setting-since
 
   rows-since : length (rows_of begun.living.items) ≡ length (rows_of old.living.items)
   rows-since =
@@ -408,12 +408,12 @@ module _ {W P T : Type 0} (view : View P W T) (old begun : LiveBus W P T) (at : 
       ∙ length-map old.living.items (λ (l : Living W). l.inbox.held) ∙ sym (length-map old.living.items row_of)
 
   may-since : (process : ℕ) (actuals : List Term) (slot : ℕ) →
-      may_create begun.origin.program.bodies (length (rows_of begun.living.items)) begun.marks.next_number after.body process actuals slot
-      ≡ may_create old.origin.program.bodies (length (rows_of old.living.items)) old.marks.next_number before.body process actuals slot
+      may_create begun.origin.program.bodies (length (rows_of begun.living.items)) begun.marks.next_number new_row.body process actuals slot
+      ≡ may_create old.origin.program.bodies (length (rows_of old.living.items)) old.marks.next_number old_row.body process actuals slot
   may-since process actuals slot =
-      ap (λ (o : Origin). may_create o.program.bodies (length (rows_of begun.living.items)) begun.marks.next_number after.body process actuals slot) same.origin
-      ∙ ap (λ n. may_create old.origin.program.bodies n begun.marks.next_number after.body process actuals slot) rows-since
-      ∙ ap (λ (m : Marks). may_create old.origin.program.bodies (length (rows_of old.living.items)) m.next_number after.body process actuals slot) same.marks
+      ap (λ (o : Origin). may_create o.program.bodies (length (rows_of begun.living.items)) begun.marks.next_number new_row.body process actuals slot) same.origin
+      ∙ ap (λ n. may_create old.origin.program.bodies n begun.marks.next_number new_row.body process actuals slot) rows-since
+      ∙ ap (λ (m : Marks). may_create old.origin.program.bodies (length (rows_of old.living.items)) m.next_number new_row.body process actuals slot) same.marks
       ∙ ap (λ b. may_create old.origin.program.bodies (length (rows_of old.living.items)) old.marks.next_number b process actuals slot) body-since
 
   finding-since : (own : OwnAction) → finding_in begun at own ≡ finding_in old at own
@@ -485,9 +485,6 @@ acted-tau view old begun at index taken sound fresh found leaves e same kept nam
     (nothing-changed view begun at kept.after (effect_in begun at own.Tau finding.Plain) same.sound kept.there refl)
 
 -- the terms that are seen
-
-pub own-found : {W P T : Type 0} (bus : LiveBus W P T) (at index : ℕ) (own : OwnAction) (found : Finding) → IsCandidateIn (scene_in bus) (candidate.Own at index found) → (ready_at (rows_of bus.living.items) at index).action ≡ action.Own own → finding_in bus at own ≡ Some found
-own-found bus at index own found h e = ap (finding_in bus at) (ap own_in (sym e ∙ h.1.1)) ∙ h.1.2
 
 pub shown-own : {W P T : Type 0} (view : View P W T) (bus : LiveBus W P T) (at index : ℕ) (own : OwnAction) (found : Finding) → IsSound view bus → AreFresh bus.living.items → IsCandidateIn (scene_in bus) (candidate.Own at index found) →
     (ready_at (rows_of bus.living.items) at index).action ≡ action.Own own → (effect_in bus at own found).shown ≡ (label_of (move_in view bus (candidate.Own at index found))).terms

@@ -156,9 +156,7 @@ fn action_in<W: Walker>(
         Act::Subscribe(_) => Ok(patterns()?.map(OwnAction::Subscribe).map(Action::Own)),
         Act::Unsubscribe(_) => Ok(patterns()?.map(OwnAction::Unsubscribe).map(Action::Own)),
         &Act::Execute { tool, slot } => Ok(Some(speak(ToolAction::Execute(tool, slot)))),
-        &Act::RecConnect { tool, slot } => {
-            Ok(Some(speak(ToolAction::Connect(tool, slot))))
-        }
+        &Act::RecConnect { tool, slot } => Ok(Some(speak(ToolAction::Connect(tool, slot)))),
         &Act::RecDisconnectAny { tool, slot } => {
             Ok(Some(speak(ToolAction::DisconnectAny(tool, slot))))
         }

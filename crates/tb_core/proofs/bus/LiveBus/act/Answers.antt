@@ -3,12 +3,13 @@ use Rattle.tb_terms.specs.declared.term.Term.{Term}
 use Rattle.tb_notes.specs.Inboxes.{Held, subscribed, unsubscribed}
 use Rattle.tb_bus.specs.Effects.{changed, went_down}
 use Rattle.tb_core.specs.Helpers.LiveBuses.{bus_of}
-use Rattle.tb_core.specs.Helpers.Makings.{effect_in, finding_in}
+use Rattle.tb_core.specs.Helpers.Makings.{effect_in}
 use Rattle.tb_living.specs.declared.done.Done.{Done}
 use Rattle.tb_core.proofs.BenchLemmas.{down-changed}
 use Rattle.tb_living.proofs.ReadLemmas.{on-err, on-ok, some-at}
 use Rattle.tb_core.proofs.HoldLemmas.{held-changed, nothing-changed, stands-held}
 use Rattle.tb_living.proofs.HoldLemmas.{held-there}
+use Rattle.tb_core.proofs.MakeLemmas.{found-in_row, noted, noted-only, notified-only, spoken-only}
 use Rattle.tb_core.proofs.bus.LiveBus.act.Goals as goal
 
 pub returns-in-Tau-clause-changed : goal.returns-in-Tau-clause-changed
@@ -62,3 +63,25 @@ returns-clause-changed g c =
     let is : read ≡ c.in-Shutdown.reason = c.index-as_slice-0.is ∙ ap (λ (ts : List Term). get_or ts 0 read) shown in
     down-changed g.W.Walker.view bus c.go_down.new.self c.args.at c.in-Shutdown.reason (effect_in bus c.args.at c.args.own c.args.finding) went.sound went.origin went.plans went.living went.stale
     (went.ok ∙ ap (λ (reason : Term). went_down reason (bus_of g.W.Walker.view bus)) is) c.requires.within (ap (λ own. (effect_in bus c.args.at own c.args.finding).change) c.in-Shutdown.is)
+
+pub returns-in-Notify : goal.returns-in-Notify
+returns-in-Notify g c =
+    let it = notified-only c.args.self.now c.args.at c.args.own c.args.finding c.requires.found c.in-Notify.terms c.in-Notify.is in
+    absurd (c.in_default.not-Notify it.0 it.1)
+
+pub take_note-requires-clause-place : goal.take_note-requires-clause-place
+take_note-requires-clause-place g c =
+    let patterns = c.in-TakeNote.field-0 in
+    let found = c.in-TakeNote-finding.found in
+    found-in_row c.args.self.now.living.items c.args.at patterns found
+    (noted c.args.self.now c.args.at c.args.own c.args.finding c.requires.found patterns found c.in-TakeNote.is c.in-TakeNote-finding.is)
+
+pub returns-in-TakeNote : goal.returns-in-TakeNote
+returns-in-TakeNote g c =
+    let it = noted-only c.args.self.now c.args.at c.args.own c.args.finding c.requires.found c.in-TakeNote.field-0 c.in-TakeNote.is in
+    absurd (c.in_default-finding.not-TakeNote it.0 it.1)
+
+pub returns-in-Speak : goal.returns-in-Speak
+returns-in-Speak g c =
+    let it = spoken-only c.args.self.now c.args.at c.args.own c.args.finding c.requires.found c.in-Speak.does c.in-Speak.is in
+    absurd (c.in_default-finding-2.not-Speak it.0 it.1)
