@@ -13,7 +13,6 @@ use Rattle.tb_search.specs.Candidates.{Row, Scene, row_at, all_take, wanting, pl
 use Rattle.tb_search.specs.Findings.{note_found, exchange_found, effect_by}
 use Rattle.tb_search.specs.Views.{IsRowOf, AreRowsOf, proc_at, ready_at, own_in, IsCandidateIn, IsSearchedFor}
 use Rattle.tb_search.specs.declared.marks.Marks.{Marks}
-use Rattle.tb_bus.specs.declared.action.Action.{Action}
 use Rattle.tb_bus.specs.declared.action.Action.TheVariants as action
 use Rattle.tb_bus.specs.declared.action.OwnAction.{OwnAction}
 use Rattle.tb_bus.specs.declared.action.OwnAction.TheVariants as own
