@@ -42,7 +42,6 @@ use Rattle.tb_search.specs.declared.candidate.Candidate.TheVariants.{Handshake}
 use Rattle.tb_search.specs.declared.candidate.Candidate.TheVariants as candidate
 use Rattle.tb_search.specs.declared.candidate.Finding.{Finding}
 use Rattle.tb_search.specs.declared.candidate.Finding.TheVariants as finding
-use Rattle.tb_search.specs.declared.candidate.Partner.{Partner}
 use Rattle.tb_search.specs.declared.marks.Marks.{Marks}
 use Rattle.tb_search.specs.declared.living.Living.{Living}
 use Rattle.tb_bus.proofs.ExchangeLemmas.{exchange-takes}

@@ -14,7 +14,7 @@ use Rattle.tb_search.specs.Candidates.{ascend, rows_of}
 use Rattle.tb_search.specs.declared.living.Living.{Living}
 use Rattle.tb_living.specs.Indexes.{IsRightForAll, IsRightFor, KeepsOf, IsRested}
 use Rattle.tb_living.specs.Lives.{IsBelow, IsFreshFor, IsLive, IsLiveOn, proc_by, proc_in, IsFreshOr}
-use Rattle.tb_core.specs.Helpers.LiveBuses.{IsSound, StandsAs, bus_of, procs_in, AreSettled, IsKept, settings_in}
+use Rattle.tb_core.specs.Helpers.LiveBuses.{IsSound, StandsAs, bus_of, procs_in, AreSettled, settings_in}
 use Rattle.tb_core.specs.declared.bus.LiveBus.{LiveBus}
 use Rattle.tb_core.proofs.ReadLemmas.{LiveAt}
 use Rattle.tb_living.proofs.ReadLemmas.{all-there}
