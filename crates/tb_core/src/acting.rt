@@ -7,7 +7,7 @@ use std::alloc::Global;
 use tb_living::Done;
 use tb_log::{Label, LabelKind, Log, Place};
 use tb_match::Bind;
-use tb_terms::{Items, Name, NoMemory, Term};
+use tb_terms::{Items, Name, NoMemory, Term, Terms};
 
 pub const NOWHERE: Place = Place { proc: 0, atom: 0 };
 
@@ -71,10 +71,11 @@ pub fn end_label(alloc: Global, kind: LabelKind) -> Label
     }
 }
 
-/// Logs a step. This takes no memory.
-pub fn put_label(log: &mut Log, label: Label)
+/// Logs a step, and hands back what held its terms. This takes no memory.
+pub fn put_label(log: &mut Log, label: Label) -> Terms
     requires { CanLog log.old label }
-    ensures { IsLogged log.old label log.new }
+    ensures logged { IsLogged log.old label log.new }
+    ensures emptied { result ≡ [] }
 {
     let Label {
         kind,
@@ -83,6 +84,7 @@ pub fn put_label(log: &mut Log, label: Label)
         mut terms,
     } = label;
     log.push_step(kind, from, to, &mut terms);
+    terms
 }
 
 /// Why the bus goes down where no process is left.

@@ -890,8 +890,7 @@ impl<W: Walker> LiveBus<W> {
         let terms = self.take_sent(alloc, at, index);
         self.advance_both(alloc, at, sent, other, received, &mut binds);
         self.marks.last_starter = from.proc;
-        buffers.binds = binds;
-        put_label(
+        let emptied = put_label(
             log,
             Label {
                 kind: LabelKind::Msg,
@@ -900,6 +899,7 @@ impl<W: Walker> LiveBus<W> {
                 terms,
             },
         );
+        buffers.give_back(emptied, binds);
     }
 
     /// Both parties of a handshake go on: the one at the first index, and the other with its binds.

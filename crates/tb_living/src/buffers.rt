@@ -33,6 +33,12 @@ impl Buffers {
         })
     }
 
+    /// Keeps the lists of a message that was handed on: what held its terms, and its binds.
+    pub fn give_back(&mut self, terms: Terms, binds: Binds) {
+        keep_memory(&mut self.terms, terms);
+        self.binds = binds;
+    }
+
     /// Keeps what an action sends or receives, where it is to be dropped.
     pub(crate) fn keep(&mut self, alloc: Global, action: &mut Action) {
         match action {
@@ -45,9 +51,20 @@ impl Buffers {
     }
 }
 
-/// Keeps a list where there is room for it. An empty one has no memory that is worth it: its items were taken.
-fn keep_list<T: Drop>(kept: &mut Vec<Items<T>>, list: Items<T>) {
-    if !list.is_empty() && kept.len() < kept.capacity() {
+/// Keeps the memory of a list, without its items. An empty one has none that is worth it: its items were taken.
+fn keep_list<T: Drop>(kept: &mut Vec<Items<T>>, mut list: Items<T>) {
+    if list.is_empty() {
+        return;
+    }
+    while let Some(item) = list.pop() {
+        drop(item);
+    }
+    keep_memory(kept, list);
+}
+
+/// Keeps a list where there is room for it.
+fn keep_memory<T: Drop>(kept: &mut Vec<Items<T>>, list: Items<T>) {
+    if kept.len() < kept.capacity() {
         kept.push_reserved(list);
     }
 }

@@ -3,7 +3,7 @@ ghost use Rattle.std.specs.Prelude.{◌≡◌, ◌+◌, ◌≤◌, length};
 ghost use Rattle.tb_log.specs.Seens.{entry_seen, label_seen};
 ghost use Rattle.tb_log.specs.Helpers.KeptLogs.{label_kept, other_entry};
 
-use crate::entry::{Input, LabelKind, Out, Place, Reply};
+use crate::entry::{Input, Label, LabelKind, Out, Place, Reply};
 use crate::seen::{Seen, SeenLabel};
 use tb_terms::Term;
 
@@ -42,9 +42,10 @@ pub enum Kept {
     Other(u32),
 }
 
-/// An entry that is no step and carries something.
+/// An entry that keeps what it carries: one that is no step, or a step that was added whole.
 #[derive(Drop)]
 pub enum Other {
+    Did(Label),
     Fed(Input, Reply),
     Gave(u8, Out),
 }
@@ -55,6 +56,12 @@ impl Other {
         ensures { entry_seen result ≡ other_entry self.now }
     {
         match self {
+            Other::Did(label) => Seen::Did(SeenLabel {
+                kind: label.kind,
+                from: label.from,
+                to: label.to,
+                terms: label.terms.as_slice(),
+            }),
             Other::Fed(input, reply) => Seen::Fed(input, *reply),
             Other::Gave(lane, out) => Seen::Gave(*lane, out),
         }

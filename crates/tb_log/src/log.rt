@@ -1,4 +1,4 @@
-ghost use Rattle.std.specs.Prelude.{◌≡◌, ◌≤◌, ◌<◌, ◌+◌, ◌++◌, ◌∷◌, [], IsTrue, IsOk, OnOk, Some, min, map, sum, length, take, drop, reverse, slice_get, vec_len, vec_capacity};
+ghost use Rattle.std.specs.Prelude.{◌≡◌, ◌≤◌, ◌<◌, ◌+◌, ◌++◌, ◌∷◌, [], IsTrue, IsOk, OnOk, OnErr, Some, min, map, sum, length, take, drop, reverse, slice_get, vec_len, vec_capacity};
 ghost use Rattle.std.below.core.specs.declared.int.usize.TheConstants.{MAX};
 ghost use Rattle.tb_terms.specs.Sizes.{term_size};
 ghost use Rattle.tb_log.specs.Limits.{entry_size, input_size, tool_line_size, out_size, has_room, terms_size};
@@ -108,6 +108,7 @@ impl Log {
         ensures entries { self.new.entries ≡ self.old.entries }
         ensures limit { self.new.limit ≡ self.old.limit }
         ensures grows { self.old.spare ≤ self.new.spare }
+        ensures reserved { self.new.reserved ≡ self.old.reserved }
     {
         self.entries.reserve(n)?;
         self.others.reserve(n)?;
@@ -121,6 +122,7 @@ impl Log {
         ensures entries { self.new.entries ≡ self.old.entries }
         ensures limit { self.new.limit ≡ self.old.limit }
         ensures grows { self.old.spare ≤ self.new.spare }
+        ensures err { OnErr result (self.new.reserved ≡ self.old.reserved) }
     {
         self.reserve(1)?;
         self.terms.reserve(size)?;
@@ -144,6 +146,7 @@ impl Log {
         ensures entries { self.new.entries ≡ self.old.entries ++ Entry.Did (record { kind = kind; from = from; to = to; terms = terms.old }) ∷ [] }
         ensures limit { self.new.limit ≡ self.old.limit }
         ensures spare { self.old.spare ≤ self.new.spare + 1 }
+        ensures spent { self.new.reserved ≡ 0 }
         ensures emptied { terms.new ≡ [] }
     {
         let first = self.terms.len() as u32;
@@ -160,6 +163,24 @@ impl Log {
         }));
     }
 
+    /// Adds an entry at the end. This takes no memory: a step that is added so keeps a list of terms of its own.
+    pub fn push(&mut self, entry: Entry)
+        requires room { IsTrue (has_room self.old.limit self.old.entries entry) }
+        requires spare { 0 < self.old.spare }
+        ensures entries { self.new.entries ≡ self.old.entries ++ entry ∷ [] }
+        ensures limit { self.new.limit ≡ self.old.limit }
+        ensures spare { self.old.spare ≤ self.new.spare + 1 }
+        ensures reserved { self.new.reserved ≡ self.old.reserved }
+    {
+        let size = size_of(&entry);
+        match entry {
+            Entry::Did(label) => self.push_other(Other::Did(label), size),
+            Entry::Quiet => self.push_quiet(),
+            Entry::Fed(input, reply) => self.push_other(Other::Fed(input, reply), size),
+            Entry::Gave(lane, out) => self.push_other(Other::Gave(lane, out), size),
+        }
+    }
+
     /// Adds at the end that nothing was possible. This takes no memory.
     pub fn push_quiet(&mut self)
         requires room { IsTrue (has_room self.old.limit self.old.entries Entry.Quiet) }
@@ -167,6 +188,7 @@ impl Log {
         ensures entries { self.new.entries ≡ self.old.entries ++ Entry.Quiet ∷ [] }
         ensures limit { self.new.limit ≡ self.old.limit }
         ensures spare { self.old.spare ≤ self.new.spare + 1 }
+        ensures reserved { self.new.reserved ≡ self.old.reserved }
     {
         self.entries.push_reserved(Kept::Quiet);
     }
@@ -179,6 +201,7 @@ impl Log {
         ensures entries { self.new.entries ≡ self.old.entries ++ Entry.Fed input reply ∷ [] }
         ensures limit { self.new.limit ≡ self.old.limit }
         ensures spare { self.old.spare ≤ self.new.spare + 1 }
+        ensures reserved { self.new.reserved ≡ self.old.reserved }
     {
         self.push_other(Other::Fed(input, reply), size);
     }
@@ -191,6 +214,7 @@ impl Log {
         ensures entries { self.new.entries ≡ self.old.entries ++ Entry.Gave lane out ∷ [] }
         ensures limit { self.new.limit ≡ self.old.limit }
         ensures spare { self.old.spare ≤ self.new.spare + 1 }
+        ensures reserved { self.new.reserved ≡ self.old.reserved }
     {
         self.push_other(Other::Gave(lane, out), size);
     }
@@ -202,6 +226,7 @@ impl Log {
         ensures entries { self.new.entries ≡ self.old.entries ++ other_entry other ∷ [] }
         ensures limit { self.new.limit ≡ self.old.limit }
         ensures spare { self.old.spare ≤ self.new.spare + 1 }
+        ensures reserved { self.new.reserved ≡ self.old.reserved }
     {
         let index = self.others.len() as u32;
         self.size += size;

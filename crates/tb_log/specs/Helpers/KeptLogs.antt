@@ -17,6 +17,7 @@ abbrev pub label_kept : List Term → KeptStep → Label
 label_kept terms step = record { kind = step.kind; from = step.from; to = step.to; terms = take step.count (drop step.first terms) }
 
 abbrev pub other_entry : Other → Entry
+other_entry (other.Did label) = Did label
 other_entry (other.Fed input reply) = Fed input reply
 other_entry (other.Gave lane out) = Gave lane out
 

@@ -105,4 +105,4 @@ pub put_label-requires : goal.put_label-requires
 put_label-requires g c = subst (CanLog c.args.log.now) (sym (label-is g (goal.at.put_label-requires g c).After-finish-label)) c.requires.can
 
 pub returns-clause-logged : goal.returns-clause-logged
-returns-clause-logged g c = subst (λ label. IsLogged c.args.log.now label c.put_label.new.log) (label-is g (goal.at.returns-clause-logged g c).After-finish-label) c.put_label.ensures
+returns-clause-logged g c = subst (λ label. IsLogged c.args.log.now label c.put_label.new.log) (label-is g (goal.at.returns-clause-logged g c).After-finish-label) c.put_label.ensures.logged
