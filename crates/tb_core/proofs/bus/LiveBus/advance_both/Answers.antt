@@ -49,8 +49,8 @@ returns-then-at-other g c offered its leaves leaves_its =
     both-advanced g.W.Walker.view old middle new c.args.at offered c.args.other its c.args.binds.now c.requires.apart kept first
     (subst (λ binds. IsAdvanced g.W.Walker.view middle c.args.at offered binds new) c.new-none.ensures second)
 
-pub returns-else-at-other : goal.returns-else-at-other
-returns-else-at-other g c offered its leaves leaves_its =
+pub returns : goal.returns
+returns g c offered its leaves leaves_its =
     let old = c.args.self.now in
     let middle = c.advance_at-else-at-other.new.self in
     let new = c.advance_at-else-at-other-2.new.self in
