@@ -69,11 +69,12 @@ impl<W: Walker> Core<W> {
             limit,
         };
         let bus = LiveBus::open(alloc, origin)?;
+        let log = Log::new(alloc, limit);
         let buffers = Buffers::new(alloc)?;
         Ok(Core {
             alloc,
             bus,
-            log: Log::new(alloc, limit),
+            log,
             stopped: false,
             buffers,
         })
