@@ -159,9 +159,7 @@ fn comes_true(alloc: Global, program: &Program, bench: &Bench, wish: Wish) -> Re
     };
     let all = [Boxed::new(alloc, living)?];
     let mut room = Items::new(alloc);
-    is_first(first_candidate(
-        alloc, program, bench, &all, marks, &index, &mut room,
-    ))
+    is_first(first_candidate(alloc, program, bench, &all, marks, &index, &mut room))
 }
 
 /// Whether the first process goes on with its first offer.

@@ -357,9 +357,7 @@ fn fill<W: Walker>(
     let mut timed = false;
     for at in 0..walker.offer_count() {
         let offer = walker.offer(at);
-        timed = push_ready(
-            alloc, plan, body, walker, at, offer, timed, buffers, ready,
-        )?;
+        timed = push_ready(alloc, plan, body, walker, at, offer, timed, buffers, ready)?;
     }
     Ok(timed)
 }

@@ -57,7 +57,12 @@ fn first_received(
 }
 
 /// The place of the next process, from one place on, that receives what has this mark.
-fn next_receiver<W>(all: &[Boxed<Living<W>>], index: &Index, from: usize, mark: Mark) -> Option<usize>
+fn next_receiver<W>(
+    all: &[Boxed<Living<W>>],
+    index: &Index,
+    from: usize,
+    mark: Mark,
+) -> Option<usize>
     requires ascend { IsTrue (ascend 0 (rows_of all.now)) }
     requires index { AreIndexed index.now (rows_of all.now) }
     requires within { from < length all.now }

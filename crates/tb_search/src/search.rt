@@ -168,7 +168,13 @@ fn first_between<W>(
     let mut at = start;
     while at < end {
         match next_starter(searched, at, end) {
-            Some(place) => match first_of(alloc, searched, place, searched.all[place].get(), room)? {
+            Some(place) => match first_of(
+                alloc,
+                searched,
+                place,
+                searched.all[place].get(),
+                room,
+            )? {
                 Some(found) => return Ok(Some(found)),
                 None => at = place + 1,
             },
