@@ -12,7 +12,7 @@ use tb_index::Index;
 use tb_log::ToolLine;
 use tb_notes::Inbox;
 use tb_script::load;
-use tb_search::{Boxed, Candidate, Living, Marks, Ready, first_candidate};
+use tb_search::{Apart, Candidate, Living, Marks, Ready, first_candidate};
 use tb_terms::{Items, Name, NoMemory, Term, Text};
 use tb_tools::Bench;
 
@@ -157,7 +157,7 @@ fn comes_true(alloc: Global, program: &Program, bench: &Bench, wish: Wish) -> Re
         no_ticks: false,
         down: false,
     };
-    let all = [Boxed::new(alloc, living)?];
+    let all = [Apart::new(alloc, living)?];
     let mut room = Items::new(alloc);
     is_first(first_candidate(alloc, program, bench, &all, marks, &index, &mut room))
 }

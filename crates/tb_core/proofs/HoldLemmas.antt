@@ -16,7 +16,7 @@ use Rattle.tb_search.proofs.TurnLemmas.{ascend-first}
 use Rattle.tb_living.specs.Lives.{IsBelow, IsLive, proc_by, proc_in, procs_of, IsFreshOr}
 use Rattle.tb_living.specs.Indexes.{IsRightFor}
 use Rattle.tb_living.specs.Holdings.{helds_of, held_at, bare, bares_of, IsHeldAt, HoldTheSame, with_given}
-use Rattle.tb_search.specs.Findings.{noting}
+use Rattle.tb_search.specs.FoundEffects.{noting}
 use Rattle.tb_core.specs.Helpers.LiveBuses.{IsChanged, IsKept, IsSound, StandsAs, bus_of, procs_in, settings_in}
 use Rattle.tb_core.specs.declared.bus.LiveBus.{LiveBus}
 use Rattle.tb_living.proofs.ReadLemmas.{above-there, map-there, proc-number}

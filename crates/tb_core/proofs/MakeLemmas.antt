@@ -30,7 +30,7 @@ use Rattle.tb_bus.specs.Slots.{fits_formals, fits_slot}
 use Rattle.tb_bus.specs.Steps.{advance, apply, label_of, nowhere, place_of}
 use Rattle.tb_bus.specs.Steps as move
 use Rattle.tb_search.specs.Candidates.{Row, Scene, no_row, row_at, row_of, rows_of, all_take, wanting, wanting_if_room, plain_if, finding_of, setting_in}
-use Rattle.tb_search.specs.Findings.{note_found, exchange_found, effect_by}
+use Rattle.tb_search.specs.FoundEffects.{note_found, exchange_found, effect_by}
 use Rattle.tb_search.specs.Views.{no_proc, proc_at, ready_at, offer_of, own_in, own_move, move_by, IsCandidateIn}
 use Rattle.tb_bus.specs.declared.action.Action.TheVariants as action
 use Rattle.tb_bus.specs.declared.action.OwnAction.{OwnAction}

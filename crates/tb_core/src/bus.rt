@@ -21,7 +21,7 @@ use tb_log::{Input, Label, LabelKind, Log, Place, Reply, ToolLine, Why, total_si
 use tb_match::Binds;
 use tb_notes::Found;
 use tb_search::{
-    Boxed, Candidate, Finding, Living, Marks, Partner, Ready, Received, all_rest, first_candidate,
+    Apart, Candidate, Finding, Living, Marks, Partner, Ready, Received, all_rest, first_candidate,
     place_of,
 };
 use tb_terms::{Items, NoMemory, Term, Terms, size};
@@ -34,7 +34,7 @@ pub struct LiveBus<W: Walker> {
     /// The plan of each body.
     pub plans: Items<W::Plan>,
     /// The processes that are alive, by their numbers.
-    pub living: Vec<Boxed<Living<W>>>,
+    pub living: Vec<Apart<Living<W>>>,
     /// The numbers of those that have to be looked at anew; some of these may be gone.
     pub stale: Vec<u32>,
     /// A tick has passed since all were looked at: each may have to be looked at anew.
@@ -77,7 +77,7 @@ impl<W: Walker> LiveBus<W> {
     ghost use Rattle.tb_bus.specs.Steps.{moves, apply, label_of, nowhere, finish_reason, halt_reason, first};
     ghost use Rattle.tb_bus.specs.Traces.{aged_proc, fed, took, taken_out};
     ghost use Rattle.tb_search.specs.Candidates.{all_take, finding_of, row_at, rows_of, wanting};
-    ghost use Rattle.tb_search.specs.Findings.{noting};
+    ghost use Rattle.tb_search.specs.FoundEffects.{noting};
     ghost use Rattle.tb_search.specs.Views.{ready_at, offer_of, own_in, sent_in, IsCandidateIn};
     ghost use Rattle.tb_index.specs.Indexes.{is_awake, is_receiver};
     ghost use Rattle.tb_search.specs.Indexed.{IsNextPlace};

@@ -108,7 +108,7 @@ impl<W: Walker> Core<W> {
         self.stopped = true;
     }
 
-    /// Takes memory for so many entries more.
+    /// Takes memory for so many entries more, but for the terms of steps.
     pub fn reserve(&mut self, n: usize) -> Result<(), NoMemory>
         ensures stays { Stays self.old self.new }
         ensures spare { OnOk result (n ≤ self.new.spare) }
@@ -116,7 +116,7 @@ impl<W: Walker> Core<W> {
         self.log.reserve(n)
     }
 
-    /// For how many entries more there is memory.
+    /// For how many entries more there is memory, but for the terms of steps.
     pub fn spare(&self) -> usize
         ensures { result ≡ self.now.spare }
     {

@@ -7,12 +7,12 @@ ghost use Rattle.tb_search.specs.Candidates.{all_take, rows_of, wanting};
 ghost use Rattle.tb_living.specs.Holdings.{helds_of, held_at, spare_at, bares_of, IsHeldAt, HoldTheSame, CanTake, put_each, with_given};
 
 use std::alloc::Global;
-use tb_search::{Boxed, Living};
+use tb_search::{Apart, Living};
 use tb_terms::{NoMemory, Patterns, Terms, copy_terms};
 
 /// From now on the process at an index wants what matches.
 pub fn subscribe_at<W>(
-    all: &mut Vec<Boxed<Living<W>>>,
+    all: &mut Vec<Apart<Living<W>>>,
     at: usize,
     patterns: Patterns,
 ) -> Result<(), NoMemory>
@@ -25,7 +25,7 @@ pub fn subscribe_at<W>(
 }
 
 /// The process at an index no longer wants what matches just these.
-pub fn unsubscribe_at<W>(all: &mut Vec<Boxed<Living<W>>>, at: usize, patterns: &Patterns)
+pub fn unsubscribe_at<W>(all: &mut Vec<Apart<Living<W>>>, at: usize, patterns: &Patterns)
     requires { at < length all.old.items }
     ensures { IsHeldAt all.old.items at (unsubscribed patterns.now (held_at all.old.items at)) all.new.items }
 {
@@ -33,7 +33,7 @@ pub fn unsubscribe_at<W>(all: &mut Vec<Boxed<Living<W>>>, at: usize, patterns: &
 }
 
 /// A note leaves the queue of the process at an index.
-pub fn take_note_at<W>(all: &mut Vec<Boxed<Living<W>>>, at: usize, place: usize) -> Terms
+pub fn take_note_at<W>(all: &mut Vec<Apart<Living<W>>>, at: usize, place: usize) -> Terms
     requires within { at < length all.old.items }
     requires place { place < length (held_at all.old.items at).notes }
     ensures note { slice_get (held_at all.old.items at).notes place ≡ Some result }
@@ -45,7 +45,7 @@ pub fn take_note_at<W>(all: &mut Vec<Boxed<Living<W>>>, at: usize, place: usize)
 /// Each process that wants a note gets a copy of it; these are the indices of those. Where memory ran out none has.
 pub fn hand_out<W>(
     alloc: Global,
-    all: &mut Vec<Boxed<Living<W>>>,
+    all: &mut Vec<Apart<Living<W>>>,
     indices: &[usize],
     note: &Terms,
 ) -> Result<(), NoMemory>
@@ -74,7 +74,7 @@ fn copies_of(alloc: Global, note: &Terms, many: usize) -> Result<Vec<Terms>, NoM
 }
 
 /// Takes memory for one more note of each of these processes.
-fn reserve_all<W>(all: &mut Vec<Boxed<Living<W>>>, indices: &[usize]) -> Result<(), NoMemory>
+fn reserve_all<W>(all: &mut Vec<Apart<Living<W>>>, indices: &[usize]) -> Result<(), NoMemory>
     requires { All (λ at. at < length all.old.items) indices.now }
     ensures same { HoldTheSame all.old.items all.new.items }
     ensures ok { OnOk result (All (λ at. 0 < spare_at all.new.items at) indices.now) }
@@ -85,7 +85,7 @@ fn reserve_all<W>(all: &mut Vec<Boxed<Living<W>>>, indices: &[usize]) -> Result<
     Ok(())
 }
 
-fn reserve_at<W>(all: &mut Vec<Boxed<Living<W>>>, at: usize) -> Result<(), NoMemory>
+fn reserve_at<W>(all: &mut Vec<Apart<Living<W>>>, at: usize) -> Result<(), NoMemory>
     requires { at < length all.old.items }
     ensures same { HoldTheSame all.old.items all.new.items }
     ensures ok { OnOk result (0 < spare_at all.new.items at) }
@@ -95,7 +95,7 @@ fn reserve_at<W>(all: &mut Vec<Boxed<Living<W>>>, at: usize) -> Result<(), NoMem
 }
 
 /// Each of these processes gets one of the copies of a note. This takes no memory.
-fn put_all<W>(all: &mut Vec<Boxed<Living<W>>>, indices: &[usize], mut copies: Vec<Terms>)
+fn put_all<W>(all: &mut Vec<Apart<Living<W>>>, indices: &[usize], mut copies: Vec<Terms>)
     requires many { length copies.items ≡ length indices.now }
     requires apart { (i j : ℕ) → i < j → j < length indices.now → slice_index indices.now i < slice_index indices.now j }
     requires can { All (CanTake all.old.items) indices.now }
@@ -107,7 +107,7 @@ fn put_all<W>(all: &mut Vec<Boxed<Living<W>>>, indices: &[usize], mut copies: Ve
     }
 }
 
-fn put_at<W>(all: &mut Vec<Boxed<Living<W>>>, at: usize, note: Terms)
+fn put_at<W>(all: &mut Vec<Apart<Living<W>>>, at: usize, note: Terms)
     requires { CanTake all.old.items at }
     ensures held { IsHeldAt all.old.items at (with_note note (held_at all.old.items at)) all.new.items }
     ensures others { (other : ℕ) → other ≢ at → spare_at all.new.items other ≡ spare_at all.old.items other }

@@ -18,7 +18,7 @@ use tb_body::{Act, Atom, Body};
 use tb_bus::{Action, OwnAction, ToolAction};
 use tb_func::printf_text;
 use tb_match::{Bind, Binds};
-use tb_search::{Boxed, Living, Ready};
+use tb_search::{Apart, Living, Ready};
 use tb_terms::{Items, NoMemory, Patterns, Sorts, Term, Terms, has_sort};
 
 /// Whether there is such a slot, and the value has its sort.
@@ -363,7 +363,7 @@ fn fill<W: Walker>(
 }
 
 /// Where those end whose numbers are smaller. Seldom has anybody left who stood before the one with the number.
-pub fn point_of<W>(all: &[Boxed<Living<W>>], number: u32) -> usize
+pub fn point_of<W>(all: &[Apart<Living<W>>], number: u32) -> usize
     requires { IsTrue (ascend 0 (rows_of all.now)) }
     ensures { IsWhere number all.now result }
 {

@@ -13,7 +13,7 @@ use tb_algebra::Walker;
 use tb_body::{Body, Program};
 use tb_func::Store;
 use tb_notes::Inbox;
-use tb_search::{Boxed, Living};
+use tb_search::{Apart, Living};
 use tb_terms::{Items, NoMemory, Terms, copy_terms};
 
 /// The plans of the bodies, in their order.
@@ -49,7 +49,7 @@ fn open_one<W: Walker>(
     number: u32,
     process: u32,
     actuals: Terms,
-) -> Result<Boxed<Living<W>>, NoMemory>
+) -> Result<Apart<Living<W>>, NoMemory>
     requires body { W.view.body_of plan.now ≡ body.now }
     requires fits { IsTrue (fits_formals (Some body.now) actuals) }
     ensures { IfOk result (Begins W.view plan.now number process (opening_store body.now actuals)) }
@@ -66,7 +66,7 @@ fn open_one<W: Walker>(
         marks: no_marks(alloc),
         timed: false,
     };
-    Ok(Boxed::new(alloc, living)?)
+    Ok(Apart::new(alloc, living)?)
 }
 
 /// The same, where the body and its plan are looked up.
@@ -77,7 +77,7 @@ pub fn open_at<W: Walker>(
     number: u32,
     process: u32,
     actuals: Terms,
-) -> Result<Boxed<Living<W>>, NoMemory>
+) -> Result<Apart<Living<W>>, NoMemory>
     requires plans { map W.view.body_of plans.now ≡ bodies.now }
     requires fits { IsTrue (fits_formals (slice_get bodies.now process) actuals) }
     ensures number { IfOk result (λ living. living.number ≡ number) }
@@ -96,7 +96,7 @@ fn open_root<W: Walker>(
     program: &Program,
     plans: &Items<W::Plan>,
     at: usize,
-) -> Result<Boxed<Living<W>>, NoMemory>
+) -> Result<Apart<Living<W>>, NoMemory>
     requires plans { map W.view.body_of plans.now ≡ program.now.bodies }
     requires within { at < length program.now.roots }
     ensures number { IfOk result (λ living. living.number ≡ at + 1) }
@@ -116,7 +116,7 @@ pub fn open_all<W: Walker>(
     alloc: Global,
     program: &Program,
     plans: &Items<W::Plan>,
-) -> Result<Vec<Boxed<Living<W>>>, NoMemory>
+) -> Result<Vec<Apart<Living<W>>>, NoMemory>
     requires { map W.view.body_of plans.now ≡ program.now.bodies }
     ensures in_order { IfOk result (λ all. ascend 0 (rows_of all.items) ≡ true) }
     ensures below { IfOk result (λ all. All (IsBelow (length program.now.roots + 1)) all.items) }
@@ -132,7 +132,7 @@ pub fn open_all<W: Walker>(
 }
 
 /// The numbers of these processes, in their order.
-pub fn numbers_of<W>(alloc: Global, all: &[Boxed<Living<W>>]) -> Result<Vec<u32>, NoMemory>
+pub fn numbers_of<W>(alloc: Global, all: &[Apart<Living<W>>]) -> Result<Vec<u32>, NoMemory>
     ensures { IfOk result (λ numbers. numbers.items ≡ map (λ living. living.number) all.now) }
 {
     let mut numbers = Vec::new(alloc);

@@ -2,7 +2,7 @@ ghost use Rattle.std.specs.List.{All};
 ghost use Rattle.tb_living.specs.Ticking.{AreTicked, CanTick, HasTicked, IsBefore};
 
 use tb_algebra::Walker;
-use tb_search::{Boxed, Living};
+use tb_search::{Apart, Living};
 use tb_terms::Items;
 
 /// A tick passes for a process: it ages. Where it is timed, it has to be looked at anew.
@@ -15,7 +15,7 @@ fn tick_one<W: Walker>(plan: &W::Plan, living: &mut Living<W>)
 }
 
 /// A tick passes for each of the living, by the plan of its body. This takes no memory.
-pub fn tick_all<W: Walker>(plans: &Items<W::Plan>, all: &mut Vec<Boxed<Living<W>>>)
+pub fn tick_all<W: Walker>(plans: &Items<W::Plan>, all: &mut Vec<Apart<Living<W>>>)
     requires { All (CanTick W.view plans.now) all.old.items }
     ensures { AreTicked W.view plans.now all.old.items all.new.items }
 {

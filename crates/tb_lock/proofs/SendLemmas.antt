@@ -11,7 +11,7 @@ use Rattle.tb_bells.specs.contracts.gate.Gate as gate
 use Rattle.tb_lock.specs.contracts.notices.Notices as notices
 use Rattle.tb_lock.specs.contracts.shared.Shared as shared
 use Rattle.tb_lock.specs.contracts.shared.Shared.TheInside as shared_inside
-use Rattle.sqlite_items.proofs.boxed.Boxed.TheSendSync.{the_send as boxed_send}
+use Rattle.sqlite_items.proofs.boxed.Apart.TheSendSync.{the_send as boxed_send}
 use Rattle.sqlite_items.proofs.items.Items.TheSendSync.{the_send as items_send}
 use Rattle.tb_terms.proofs.name.Name.TheSendSync.{the_send as name_send}
 use Rattle.tb_terms.proofs.text.Text.TheSendSync.{the_send as text_send}

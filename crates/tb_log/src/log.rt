@@ -130,7 +130,7 @@ impl Log {
         Ok(())
     }
 
-    /// For how many entries more there is memory.
+    /// For how many entries more there is memory, but for the terms of steps.
     pub fn spare(&self) -> usize
         ensures { result ≡ self.now.spare }
     {

@@ -10,7 +10,7 @@ use Rattle.tb_bus.specs.Buses.{Bus, Proc}
 use Rattle.tb_bus.specs.Exchanges.{Setting, setting_by, exchange_for}
 use Rattle.tb_bus.specs.Effects.{takes_note, may_create, taking, own_effect, setting_of, speaking, effect_of}
 use Rattle.tb_search.specs.Candidates.{Row, Scene, row_at, all_take, wanting, plain_if, finding_of, setting_in}
-use Rattle.tb_search.specs.Findings.{note_found, exchange_found, effect_by}
+use Rattle.tb_search.specs.FoundEffects.{note_found, exchange_found, effect_by}
 use Rattle.tb_search.specs.Views.{IsRowOf, AreRowsOf, proc_at, ready_at, own_in, IsCandidateIn, IsSearchedFor}
 use Rattle.tb_search.specs.declared.marks.Marks.{Marks}
 use Rattle.tb_bus.specs.declared.action.Action.TheVariants as action

@@ -1,4 +1,4 @@
 pub mod Candidates
 pub mod Views
-pub mod Findings
+pub mod FoundEffects
 pub mod Indexed

@@ -2,7 +2,7 @@
 //! through, and what it finds.
 #![tactic(auto)]
 
-mod boxed;
+mod apart;
 mod candidate;
 mod creation;
 mod exchanging;
@@ -15,7 +15,7 @@ mod search;
 mod slots;
 mod wanting;
 
-pub use boxed::Boxed;
+pub use apart::Apart;
 pub use candidate::{Candidate, Finding, Partner, Received};
 pub use living::{Living, Ready};
 pub use marks::Marks;

@@ -3,12 +3,12 @@ ghost use Rattle.tb_index.specs.Pairs.{IsNext};
 ghost use Rattle.tb_search.specs.Candidates.{ascend, row_at, rows_of};
 ghost use Rattle.tb_search.specs.Indexed.{IsNextPlace};
 
-use crate::boxed::Boxed;
+use crate::apart::Apart;
 use crate::living::Living;
 
 /// Where those begin that have this number or a larger one. Seldom has anybody left who stood between it and the
 /// place that is asked from.
-fn first_from<W>(all: &[Boxed<Living<W>>], from: usize, number: u32) -> usize
+fn first_from<W>(all: &[Apart<Living<W>>], from: usize, number: u32) -> usize
     requires ascend { IsTrue (ascend 0 (rows_of all.now)) }
     requires within { from < length all.now }
     ensures most { result ≤ length all.now }
@@ -24,7 +24,7 @@ fn first_from<W>(all: &[Boxed<Living<W>>], from: usize, number: u32) -> usize
 
 /// The place of the process with the number that an index found from one place on. Where none that is alive
 /// has it, that of the next behind it.
-pub fn place_of<W>(all: &[Boxed<Living<W>>], from: usize, found: Option<u32>) -> Option<usize>
+pub fn place_of<W>(all: &[Apart<Living<W>>], from: usize, found: Option<u32>) -> Option<usize>
     requires ascend { IsTrue (ascend 0 (rows_of all.now)) }
     requires within { from < length all.now }
     ensures { (holds : ℕ → Bool) → IsNext holds (row_at (rows_of all.now) from).number found → IsNextPlace holds (rows_of all.now) from result }

@@ -5,7 +5,7 @@ ghost use Rattle.tb_search.specs.Candidates.{reception, receptions, partner_in, 
 ghost use Rattle.tb_bus.specs.Steps.{first};
 ghost use Rattle.tb_search.specs.Indexed.{AreIndexed, IsNextOf};
 
-use crate::boxed::Boxed;
+use crate::apart::Apart;
 use crate::candidate::{Partner, Received};
 use crate::living::{Living, Ready};
 use crate::places::place_of;
@@ -58,7 +58,7 @@ fn first_received(
 
 /// The place of the next process, from one place on, that receives what has this mark.
 fn next_receiver<W>(
-    all: &[Boxed<Living<W>>],
+    all: &[Apart<Living<W>>],
     index: &Index,
     from: usize,
     mark: Mark,
@@ -75,7 +75,7 @@ fn next_receiver<W>(
 /// The first process, another than the one with this number, that receives the terms.
 pub(crate) fn first_partner<W>(
     alloc: Global,
-    all: &[Boxed<Living<W>>],
+    all: &[Apart<Living<W>>],
     index: &Index,
     number: u32,
     terms: &Terms,

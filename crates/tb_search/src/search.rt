@@ -6,7 +6,7 @@ ghost use Rattle.tb_search.specs.Indexed.{IsIndexFor, IsNextOf};
 ghost use Rattle.tb_bus.specs.Exchanges.{setting_by};
 ghost use Rattle.tb_search.specs.Candidates.{finding_of, plain_if, candidates_by, candidates_of, candidates_from, candidates_in_turn, all_candidates, candidates_or_halt, up_to, ascend, row_of, rows_of, scene_of};
 
-use crate::boxed::Boxed;
+use crate::apart::Apart;
 use crate::candidate::{Candidate, Finding};
 use crate::creation::may_create;
 use crate::exchanging::{Speaker, exchange_for};
@@ -28,7 +28,7 @@ use tb_tools::Bench;
 pub(crate) struct Searched<'a, W> {
     pub program: &'a Program,
     pub bench: &'a Bench,
-    pub all: &'a [Boxed<Living<W>>],
+    pub all: &'a [Apart<Living<W>>],
     pub marks: Marks,
     pub index: &'a Index,
 }
@@ -206,7 +206,7 @@ fn first_if_any<W>(
 }
 
 /// How many processes have a number up to that of the last starter. Seldom has anybody left who stood before it.
-fn turn_start<W>(all: &[Boxed<Living<W>>], last: u32) -> usize
+fn turn_start<W>(all: &[Apart<Living<W>>], last: u32) -> usize
     requires { IsTrue (ascend 0 (rows_of all.now)) }
     ensures within { result ≤ length all.now }
     ensures count { result ≡ up_to last (rows_of all.now) }
@@ -254,7 +254,7 @@ pub fn first_candidate<W>(
     alloc: Global,
     program: &Program,
     bench: &Bench,
-    all: &[Boxed<Living<W>>],
+    all: &[Apart<Living<W>>],
     marks: Marks,
     index: &Index,
     room: &mut Binds,

@@ -1,7 +1,7 @@
 ghost use Rattle.std.specs.Prelude.{◌≡◌, IfOk};
 ghost use Rattle.tb_search.specs.Candidates.{wanting_if_room, rows_of};
 
-use crate::boxed::Boxed;
+use crate::apart::Apart;
 use crate::living::Living;
 use std::alloc::Global;
 use tb_terms::{Items, NoMemory, Terms};
@@ -9,7 +9,7 @@ use tb_terms::{Items, NoMemory, Terms};
 /// The indices of those that want the note, where each of them has room for it.
 pub(crate) fn wanting<W>(
     alloc: Global,
-    all: &[Boxed<Living<W>>],
+    all: &[Apart<Living<W>>],
     terms: &Terms,
 ) -> Result<Option<Items<usize>>, NoMemory>
     ensures { IfOk result (λ found. found ≡ wanting_if_room terms.now (rows_of all.now)) }

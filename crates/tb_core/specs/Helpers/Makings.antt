@@ -5,7 +5,7 @@ use Rattle.tb_bus.specs.Effects.{Effect}
 use Rattle.tb_bus.specs.declared.action.OwnAction.{OwnAction}
 use Rattle.tb_bus.specs.declared.action.OwnAction.TheVariants.{Tau, Set, Print, Notify, TakeNote, NoNote, Subscribe, Unsubscribe, Create, Speak, Shutdown}
 use Rattle.tb_search.specs.Candidates.{finding_of, row_at, rows_of, setting_in}
-use Rattle.tb_search.specs.Findings.{effect_by}
+use Rattle.tb_search.specs.FoundEffects.{effect_by}
 use Rattle.tb_search.specs.declared.candidate.Finding.{Finding}
 use Rattle.tb_core.specs.declared.bus.LiveBus.{LiveBus}
 use Rattle.tb_core.specs.Helpers.LiveBuses.{scene_in}

@@ -4,7 +4,7 @@ use Rattle.tb_log.specs.Limits.{terms_size}
 use Rattle.tb_bus.specs.Effects.{note_at}
 use Rattle.tb_bus.specs.declared.action.OwnAction.{OwnAction}
 use Rattle.tb_search.specs.Candidates.{Row, no_row, row_at, row_of, rows_of}
-use Rattle.tb_search.specs.Findings.{note_found}
+use Rattle.tb_search.specs.FoundEffects.{note_found}
 use Rattle.tb_search.specs.declared.candidate.Finding.{Finding}
 use Rattle.tb_living.proofs.ReadLemmas.{map-there, read-there, read-through}
 use Rattle.tb_core.specs.Helpers.Makings.{effect_in}

@@ -1,7 +1,7 @@
 use Rattle.std.proofs.Common.{◌≡◌, ◌<◌, ◌∙◌, List, ap, length, subst, sym}
 use Rattle.std.specs.List.{All}
 use Rattle.tb_search.specs.Candidates.{all_take, rows_of, wanting}
-use Rattle.tb_search.specs.Findings.{noting}
+use Rattle.tb_search.specs.FoundEffects.{noting}
 use Rattle.tb_search.specs.declared.living.Living.{Living}
 use Rattle.tb_living.specs.Holdings.{HoldTheSame}
 use Rattle.tb_living.specs.Indexes.{IsAwakeAt}

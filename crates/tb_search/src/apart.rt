@@ -3,13 +3,13 @@ ghost use Rattle.std.specs.Prelude.{◌≡◌, IfOk};
 use std::alloc::{AllocError, Global};
 use std::marker::Model;
 
-/// A value in a piece of memory of its own, which contracts see as the value: a list of many moves by their addresses.
+/// A value in a piece of memory of its own, which contracts see as the value: so a list of many is moved by addresses.
 #[derive(Drop)]
-pub struct Boxed<T> {
+pub struct Apart<T> {
     inner: Box<T>,
 }
 
-impl<T> Model for Boxed<T> {
+impl<T> Model for Apart<T> {
     ghost Value = { T };
 
     ghost coded = { T.code };
@@ -17,10 +17,10 @@ impl<T> Model for Boxed<T> {
     ghost view = { λ b. b.inner.value };
 }
 
-impl<T> Boxed<T> {
+impl<T> Apart<T> {
     ghost use Rattle.std.specs.Prelude.{◌≡◌};
     ghost use Rattle.std.specs.Borrow.{Lends, sem};
-    ghost use Rattle.tb_search.specs.contracts.boxed.Boxed.{the_row};
+    ghost use Rattle.tb_search.specs.contracts.apart.Apart.{the_row};
 
     pub fn get(&self) -> &T
         ensures { result.now ≡ self.now }
@@ -36,11 +36,11 @@ impl<T> Boxed<T> {
     }
 }
 
-impl<T: Drop> Boxed<T> {
-    pub fn new(alloc: Global, value: T) -> Result<Boxed<T>, AllocError>
-        ensures { IfOk result (λ boxed. boxed ≡ value) }
+impl<T: Drop> Apart<T> {
+    pub fn new(alloc: Global, value: T) -> Result<Apart<T>, AllocError>
+        ensures { IfOk result (λ apart. apart ≡ value) }
     {
-        Ok(Boxed {
+        Ok(Apart {
             inner: Box::new(alloc, value)?,
         })
     }

@@ -12,7 +12,7 @@ use Rattle.tb_bus.specs.declared.exchange.Exchange.{Exchange}
 use Rattle.tb_search.specs.declared.candidate.Finding.{Finding}
 use Rattle.tb_search.specs.declared.candidate.Finding.TheVariants as finding
 
--- the note that a finding takes, and the exchange that it is
+-- the note that a finding takes, and the exchange that it is; where it is another, one that says nothing
 abbrev pub note_found : Finding → Found
 note_found finding.Plain = record { place = 0; binds = [] }
 note_found (finding.Notify indices) = record { place = 0; binds = [] }
