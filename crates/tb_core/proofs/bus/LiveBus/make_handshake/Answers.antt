@@ -101,8 +101,8 @@ label-is g c =
     (place-is g.W.Walker.view old partner.living partner.received.action c.place_at-to.result its c.place_at-to.ensures.proc c.place_at-to.ensures.atom)
     c.take_sent-terms.ensures.sent
 
-pub put_label-requires : goal.put_label-requires
-put_label-requires g c = subst (CanLog c.args.log.now) (sym (label-is g (goal.at.put_label-requires g c).After-advance_both)) c.requires.can
+pub put_label-emptied-requires : goal.put_label-emptied-requires
+put_label-emptied-requires g c = subst (CanLog c.args.log.now) (sym (label-is g (goal.at.put_label-emptied-requires g c).After-advance_both)) c.requires.can
 
 pub returns-clause-logged : goal.returns-clause-logged
-returns-clause-logged g c = subst (λ label. IsLogged c.args.log.now label c.put_label.new.log) (label-is g (goal.at.returns-clause-logged g c).After-advance_both) c.put_label.ensures.logged
+returns-clause-logged g c = subst (λ label. IsLogged c.args.log.now label c.put_label-emptied.new.log) (label-is g (goal.at.returns-clause-logged g c).After-advance_both) c.put_label-emptied.ensures.logged
