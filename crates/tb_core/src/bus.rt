@@ -13,9 +13,9 @@ use tb_algebra::Walker;
 use tb_bus::{Action, Exchange, Origin, OwnAction, ToolAction};
 use tb_index::{Index, Marks as KeptMarks};
 use tb_living::{
-    Buffers, Done, TOOL_MARK, go_on, hand_out, index_of, is_declared, look, no_marks, numbers_of, open_all,
-    open_at, plan_all, point_of, seen_size, speak, subscribe_at, take_note_at, tick_all, turn,
-    unsubscribe_at, update,
+    Buffers, Done, TOOL_MARK, go_on, hand_out, index_of, is_declared, look, no_marks, numbers_of,
+    open_all, open_at, plan_all, point_of, seen_size, speak, subscribe_at, take_note_at, tick_all,
+    turn, unsubscribe_at, update,
 };
 use tb_log::{Input, Label, LabelKind, Log, Place, Reply, ToolLine, Why, total_size};
 use tb_match::Binds;
