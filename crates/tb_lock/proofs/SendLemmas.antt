@@ -11,7 +11,7 @@ use Rattle.tb_bells.specs.contracts.gate.Gate as gate
 use Rattle.tb_lock.specs.contracts.notices.Notices as notices
 use Rattle.tb_lock.specs.contracts.shared.Shared as shared
 use Rattle.tb_lock.specs.contracts.shared.Shared.TheInside as shared_inside
-use Rattle.sqlite_items.proofs.boxed.Apart.TheSendSync.{the_send as boxed_send}
+use Rattle.tb_search.proofs.apart.Apart.TheSendSync.{the_send as apart_send}
 use Rattle.sqlite_items.proofs.items.Items.TheSendSync.{the_send as items_send}
 use Rattle.tb_terms.proofs.name.Name.TheSendSync.{the_send as name_send}
 use Rattle.tb_terms.proofs.text.Text.TheSendSync.{the_send as text_send}
@@ -19,6 +19,7 @@ use Rattle.tb_log.specs.contracts.log.Log as log
 use Rattle.tb_log.specs.contracts.entry.ToolLine as tool_line
 use Rattle.tb_log.specs.contracts.entry.Input as input
 use Rattle.tb_log.specs.contracts.entry.Out as out
+use Rattle.tb_log.specs.contracts.entry.Label as label
 use Rattle.tb_log.specs.contracts.kept.KeptStep as kept_step
 use Rattle.tb_log.specs.contracts.kept.Kept as kept
 use Rattle.tb_log.specs.contracts.kept.Other as other
@@ -72,8 +73,11 @@ out_row = search (sendable, text_send, term_row) depth 40
 out_send : IsSend out.the_row
 out_send = variants_send out.enum ((text_send, tt), ((term_send, tt), (tt, tt)))
 
+label_send : IsSend label.the_row
+label_send = declared_send label.the_type (search sendable depth 60, (search sendable depth 40, (search sendable depth 40, (terms_send, tt))))
+
 other_send : IsSend other.the_row
-other_send = variants_send other.enum ((input_send, (search sendable depth 40, tt)), ((byte_send, (out_send, tt)), tt))
+other_send = variants_send other.enum ((label_send, tt), ((input_send, (search sendable depth 40, tt)), ((byte_send, (out_send, tt)), tt)))
 
 log_send : IsSend log.the_row
 log_send = search (sendable, crosses, kept_send, term_send, other_send) depth 40
@@ -145,7 +149,7 @@ notices_sync = search (sendable, crosses) depth 40
 module _ (W Plan Taken : RattleType) (g : Ghosts W.Denot Plan.Denot Taken.Denot) (w : IsSend W) (p : IsSend Plan) where
   live_bus_send : IsSend (live_bus.the_row W Plan Taken)
   live_bus_send = declared_send (live_bus.the_type W Plan Taken)
-      (origin_send, (search (sendable, items_send) depth 20, (search (sendable, crosses, boxed_send, living_send) depth 20, (search (sendable, crosses) depth 20, (search sendable depth 20, (search sendable depth 20, (marks_send, (bench_send, (index_send, (search (sendable, crosses) depth 40, (search (sendable, crosses) depth 20, (search sendable depth 20, tt))))))))))))
+      (origin_send, (search (sendable, items_send) depth 20, (search (sendable, crosses, apart_send, living_send) depth 20, (search (sendable, crosses) depth 20, (search sendable depth 20, (search sendable depth 20, (marks_send, (bench_send, (index_send, (search (sendable, crosses) depth 40, (search (sendable, crosses) depth 20, (search sendable depth 20, tt))))))))))))
 
   pub core_send : IsSend (core.the_row W Plan Taken g)
   core_send = view_send _ _ _ _ _ (declared_send (core_inside.the_type W Plan Taken g) (global_send, (live_bus_send, (log_send, (search sendable depth 20, (buffers_send, tt))))))
