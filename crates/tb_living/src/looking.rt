@@ -362,12 +362,16 @@ fn fill<W: Walker>(
     Ok(timed)
 }
 
-/// Where those end whose numbers are smaller. Seldom has anybody left who stood before the one with the number.
+/// Where those end whose numbers are smaller. Seldom has anybody left who stood between the first and the one with
+/// the number.
 pub fn point_of<W>(all: &[Apart<Living<W>>], number: u32) -> usize
     requires { IsTrue (ascend 0 (rows_of all.now)) }
     ensures { IsWhere number all.now result }
 {
-    let guess = (number as usize).saturating_sub(1);
+    if all.is_empty() {
+        return 0;
+    }
+    let guess = number.saturating_sub(all[0].get().number) as usize;
     if guess < all.len() && all[guess].get().number == number {
         return guess;
     }

@@ -205,13 +205,17 @@ fn first_if_any<W>(
     }
 }
 
-/// How many processes have a number up to that of the last starter. Seldom has anybody left who stood before it.
+/// How many processes have a number up to that of the last starter. Seldom has anybody left who stood between the
+/// first and it.
 fn turn_start<W>(all: &[Apart<Living<W>>], last: u32) -> usize
     requires { IsTrue (ascend 0 (rows_of all.now)) }
     ensures within { result ≤ length all.now }
     ensures count { result ≡ up_to last (rows_of all.now) }
 {
-    let place = (last as usize).saturating_sub(1);
+    if all.is_empty() {
+        return 0;
+    }
+    let place = last.saturating_sub(all[0].get().number) as usize;
     if place < all.len() && all[place].get().number == last {
         return place + 1;
     }
