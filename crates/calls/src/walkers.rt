@@ -18,7 +18,8 @@ const MOST_MOVES: u64 = 16;
 fn bound<W: Walker>(alloc: Global, plan: &W::Plan, walker: &W, k: usize) -> Result<Binds, NoMemory>
     requires on { W.view.is_on plan.now walker.now }
     requires fresh { IsTrue (is_some (W.view.seen walker.now)) }
-    ensures { IfOk result (λ binds. ForSome (slice_get (offers_of (W.view.walking plan.now walker.now)) k)
+    ensures { IfOk result
+        (λ binds. ForSome (slice_get (offers_of (W.view.walking plan.now walker.now)) k)
         (λ offered. IsTrue (takes_binds offered.store binds))) }
 {
     if k >= walker.offer_count() {
@@ -42,7 +43,8 @@ fn take<W: Walker>(
 ) -> Result<bool, NoMemory>
     requires on { W.view.is_on plan.now walker.old }
     ensures on { W.view.is_on plan.now walker.new }
-    ensures ticks { IfOk result (λ _. (W.view.walking plan.now walker.new).ticks ≡ (W.view.walking plan.now walker.old).ticks) }
+    ensures ticks { IfOk result (λ _. (W.view.walking plan.now walker.new).ticks
+        ≡ (W.view.walking plan.now walker.old).ticks) }
 {
     walker.look(alloc, plan, now)?;
     if k >= walker.offer_count() {
@@ -65,7 +67,8 @@ fn take_later<W: Walker>(
     requires on { W.view.is_on plan.now walker.old }
     requires ticks { (W.view.walking plan.now walker.old).ticks < MOST_MOVES }
     ensures on { W.view.is_on plan.now walker.new }
-    ensures ticks { IfOk result (λ _. (W.view.walking plan.now walker.new).ticks ≤ (W.view.walking plan.now walker.old).ticks + 1) }
+    ensures ticks { IfOk result (λ _. (W.view.walking plan.now walker.new).ticks
+        ≤ (W.view.walking plan.now walker.old).ticks + 1) }
 {
     walker.look(alloc, plan, now)?;
     if k >= walker.offer_count() {
@@ -94,7 +97,8 @@ fn go<W: Walker>(
     requires ticks { (W.view.walking plan.now walker.old).ticks ≤ ticks }
     requires few { ticks < MOST_MOVES }
     ensures on { W.view.is_on plan.now walker.new }
-    ensures ticks { IfOk result (λ some. IfSome some (λ after. ((W.view.walking plan.now walker.new).ticks ≤ after) × (after ≤ ticks + 1))) }
+    ensures ticks { IfOk result (λ some. IfSome some
+        (λ after. ((W.view.walking plan.now walker.new).ticks ≤ after) × (after ≤ ticks + 1))) }
 {
     match one {
         b't' => {

@@ -87,7 +87,8 @@ fn fire_node(
     requires there { node < length plan.now.nodes }
     requires entered { since.entered ≤ since.ticks }
     ensures selected { IfOk result (λ fired. selected_of plan.now.nodes since.ticks base.now fired
-        ≡ selected (entered_term plan.now.nodes since.ticks (record { node = node; entered = since.entered })) (or_own own.now base.now) k) }
+        ≡ selected (entered_term plan.now.nodes since.ticks
+        (record { node = node; entered = since.entered })) (or_own own.now base.now) k) }
     ensures on { IfOk result (λ fired. IsTrue (is_fired_on plan.now.nodes since.ticks fired)) }
 {
     match plan.node(node) {
@@ -145,9 +146,11 @@ fn chosen(
 /// An atom has one offer, and then the term has ended.
 #[tactic(auto, unfolding(crate::specs::Helpers::Selections::selected))]
 fn fire_atom(alloc: Global, own: &Option<Store>, k: usize) -> Result<Fired, NoMemory>
-    ensures selected { IfOk result (λ fired. (nodes : List PlanNode) → (ticks : ℕ) → (base : List Slot) → (atom : ℕ) → (age : ℕ) →
-        selected_of nodes ticks base fired ≡ selected (At atom age) (or_own own.now base) k) }
-    ensures on { IfOk result (λ fired. (nodes : List PlanNode) → (ticks : ℕ) → IsTrue (is_fired_on nodes ticks fired)) }
+    ensures selected { IfOk result (λ fired. (nodes : List PlanNode) → (ticks : ℕ)
+        → (base : List Slot) → (atom : ℕ) → (age : ℕ)
+        → selected_of nodes ticks base fired ≡ selected (At atom age) (or_own own.now base) k) }
+    ensures on { IfOk result
+        (λ fired. (nodes : List PlanNode) → (ticks : ℕ) → IsTrue (is_fired_on nodes ticks fired)) }
 {
     if k > 0 {
         return Ok(Fired::Past(k - 1));
@@ -158,9 +161,10 @@ fn fire_atom(alloc: Global, own: &Option<Store>, k: usize) -> Result<Fired, NoMe
 
 /// What is left, and then the node of the plan.
 fn followed(alloc: Global, fired: Fired, node: usize, ticks: u64) -> Result<Fired, NoMemory>
-    ensures selected { IfOk result (λ whole. (nodes : List PlanNode) → (base : List Slot) →
-        selected_of nodes ticks base whole
-        ≡ selected_with (λ left. Some (followed left (process_at nodes node))) (selected_of nodes ticks base fired)) }
+    ensures selected { IfOk result (λ whole. (nodes : List PlanNode) → (base : List Slot)
+        → selected_of nodes ticks base whole
+        ≡ selected_with (λ left. Some (followed left (process_at nodes node)))
+        (selected_of nodes ticks base fired)) }
     ensures on { IfOk result (λ whole. (nodes : List PlanNode) → node < length nodes →
         IsTrue (is_fired_on nodes ticks fired) → IsTrue (is_fired_on nodes ticks whole)) }
 {
@@ -178,9 +182,10 @@ fn taken_then(
     node: usize,
     ticks: u64,
 ) -> Result<Fired, NoMemory>
-    ensures selected { IfOk result (λ whole. (nodes : List PlanNode) → (base : List Slot) →
-        selected_of nodes ticks base whole
-        ≡ On (Some (followed (option_map (term_of nodes ticks) left) (process_at nodes node))) (or_own own base)) }
+    ensures selected { IfOk result (λ whole. (nodes : List PlanNode) → (base : List Slot)
+        → selected_of nodes ticks base whole
+        ≡ On (Some (followed (option_map (term_of nodes ticks) left) (process_at nodes node)))
+        (or_own own base)) }
     ensures on { IfOk result (λ whole. (nodes : List PlanNode) → node < length nodes →
         IsTrue (is_left_on nodes ticks left) → IsTrue (is_fired_on nodes ticks whole)) }
 {
@@ -194,8 +199,8 @@ fn left_then(
     node: usize,
     ticks: u64,
 ) -> Result<Running, NoMemory>
-    ensures term { IfOk result (λ whole. (nodes : List PlanNode) →
-        term_of nodes ticks whole ≡ followed (option_map (term_of nodes ticks) left) (process_at nodes node)) }
+    ensures term { IfOk result (λ whole. (nodes : List PlanNode) → term_of nodes ticks whole
+        ≡ followed (option_map (term_of nodes ticks) left) (process_at nodes node)) }
     ensures on { IfOk result (λ whole. (nodes : List PlanNode) → node < length nodes →
         IsTrue (is_left_on nodes ticks left) → IsTrue (is_on nodes ticks whole)) }
 {
@@ -210,10 +215,12 @@ fn left_then(
 
 /// What is left, beside the other side.
 fn left_beside(alloc: Global, left: Option<Running>, right: &Running) -> Result<Running, NoMemory>
-    ensures term { IfOk result (λ whole. (nodes : List PlanNode) → (ticks : ℕ) →
-        term_of nodes ticks whole ≡ left_of (option_map (term_of nodes ticks) left) (term_of nodes ticks right.now)) }
-    ensures on { IfOk result (λ whole. (nodes : List PlanNode) → (ticks : ℕ) → IsTrue (is_on nodes ticks right.now) →
-        IsTrue (is_left_on nodes ticks left) → IsTrue (is_on nodes ticks whole)) }
+    ensures term { IfOk result (λ whole. (nodes : List PlanNode) → (ticks : ℕ)
+        → term_of nodes ticks whole
+        ≡ left_of (option_map (term_of nodes ticks) left) (term_of nodes ticks right.now)) }
+    ensures on { IfOk result
+        (λ whole. (nodes : List PlanNode) → (ticks : ℕ) → IsTrue (is_on nodes ticks right.now)
+        → IsTrue (is_left_on nodes ticks left) → IsTrue (is_on nodes ticks whole)) }
 {
     let y = right.copy(alloc)?;
     match left {
@@ -229,11 +236,14 @@ fn taken_beside(
     own: Option<Store>,
     right: &Running,
 ) -> Result<Fired, NoMemory>
-    ensures selected { IfOk result (λ whole. (nodes : List PlanNode) → (ticks : ℕ) → (base : List Slot) →
-        selected_of nodes ticks base whole
-        ≡ On (Some (left_of (option_map (term_of nodes ticks) left) (term_of nodes ticks right.now))) (or_own own base)) }
-    ensures on { IfOk result (λ whole. (nodes : List PlanNode) → (ticks : ℕ) → IsTrue (is_on nodes ticks right.now) →
-        IsTrue (is_left_on nodes ticks left) → IsTrue (is_fired_on nodes ticks whole)) }
+    ensures selected { IfOk result
+        (λ whole. (nodes : List PlanNode) → (ticks : ℕ) → (base : List Slot)
+        → selected_of nodes ticks base whole
+        ≡ On (Some (left_of (option_map (term_of nodes ticks) left)
+        (term_of nodes ticks right.now))) (or_own own base)) }
+    ensures on { IfOk result
+        (λ whole. (nodes : List PlanNode) → (ticks : ℕ) → IsTrue (is_on nodes ticks right.now)
+        → IsTrue (is_left_on nodes ticks left) → IsTrue (is_fired_on nodes ticks whole)) }
 {
     let whole = left_beside(alloc, left, right)?;
     Ok(Fired::Taken(Some(whole), own))
@@ -241,11 +251,14 @@ fn taken_beside(
 
 /// The other side, beside what is left.
 fn on_the_right(alloc: Global, left: &Running, fired: Fired) -> Result<Fired, NoMemory>
-    ensures selected { IfOk result (λ whole. (nodes : List PlanNode) → (ticks : ℕ) → (base : List Slot) →
-        selected_of nodes ticks base whole
-        ≡ selected_with (λ right. Some (right_of (term_of nodes ticks left.now) right)) (selected_of nodes ticks base fired)) }
-    ensures on { IfOk result (λ whole. (nodes : List PlanNode) → (ticks : ℕ) → IsTrue (is_on nodes ticks left.now) →
-        IsTrue (is_fired_on nodes ticks fired) → IsTrue (is_fired_on nodes ticks whole)) }
+    ensures selected { IfOk result
+        (λ whole. (nodes : List PlanNode) → (ticks : ℕ) → (base : List Slot)
+        → selected_of nodes ticks base whole
+        ≡ selected_with (λ right. Some (right_of (term_of nodes ticks left.now) right))
+        (selected_of nodes ticks base fired)) }
+    ensures on { IfOk result
+        (λ whole. (nodes : List PlanNode) → (ticks : ℕ) → IsTrue (is_on nodes ticks left.now)
+        → IsTrue (is_fired_on nodes ticks fired) → IsTrue (is_fired_on nodes ticks whole)) }
 {
     match fired {
         Fired::Past(rest) => Ok(Fired::Past(rest)),
@@ -257,10 +270,12 @@ fn on_the_right(alloc: Global, left: &Running, fired: Fired) -> Result<Fired, No
 }
 
 fn right_beside(alloc: Global, left: &Running, right: Option<Running>) -> Result<Running, NoMemory>
-    ensures term { IfOk result (λ whole. (nodes : List PlanNode) → (ticks : ℕ) →
-        term_of nodes ticks whole ≡ right_of (term_of nodes ticks left.now) (option_map (term_of nodes ticks) right)) }
-    ensures on { IfOk result (λ whole. (nodes : List PlanNode) → (ticks : ℕ) → IsTrue (is_on nodes ticks left.now) →
-        IsTrue (is_left_on nodes ticks right) → IsTrue (is_on nodes ticks whole)) }
+    ensures term { IfOk result (λ whole. (nodes : List PlanNode) → (ticks : ℕ)
+        → term_of nodes ticks whole
+        ≡ right_of (term_of nodes ticks left.now) (option_map (term_of nodes ticks) right)) }
+    ensures on { IfOk result
+        (λ whole. (nodes : List PlanNode) → (ticks : ℕ) → IsTrue (is_on nodes ticks left.now)
+        → IsTrue (is_left_on nodes ticks right) → IsTrue (is_on nodes ticks whole)) }
 {
     let x = left.copy(alloc)?;
     match right {

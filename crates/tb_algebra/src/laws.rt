@@ -29,65 +29,85 @@ pub fn accepted_binds_are_taken()
 /// An offer stands in a store with the sorts of the process's store, and so does what is left where
 /// the offer is taken. Where the values had their slots' sorts, they still do.
 pub fn offers_keep_sorts()
-    ensures sorts { (term : Process) (store : List Slot) (offered : Offered) → Contains (offers term store) offered
-        → sorts_of offered.store ≡ sorts_of store }
-    ensures values { (term : Process) (store : List Slot) (offered : Offered) → Contains (offers term store) offered
+    ensures sorts { (term : Process) (store : List Slot) (offered : Offered)
+        → Contains (offers term store) offered → sorts_of offered.store ≡ sorts_of store }
+    ensures values { (term : Process) (store : List Slot) (offered : Offered)
+        → Contains (offers term store) offered
         → IsTrue (are_well_sorted store) → IsTrue (are_well_sorted offered.store) }
     ensures fired_sorts { (binds : List Bind) (ticks : ℕ) (offered : Offered)
         → sorts_of (fired binds ticks offered).store ≡ sorts_of offered.store }
-    ensures fired_values { (binds : List Bind) (ticks : ℕ) (offered : Offered) → IsTrue (takes_binds offered.store binds)
-        → IsTrue (are_well_sorted offered.store) → IsTrue (are_well_sorted (fired binds ticks offered).store) }
+    ensures fired_values { (binds : List Bind) (ticks : ℕ) (offered : Offered)
+        → IsTrue (takes_binds offered.store binds) → IsTrue (are_well_sorted offered.store)
+        → IsTrue (are_well_sorted (fired binds ticks offered).store) }
 {}
 
 /// In a term that a body reaches, and so in its offers, no age is greater than the number of ticks.
 pub fn ages_are_within_the_ticks()
-    ensures term { (tree : Tree) (ticks : ℕ) (term : Process) → Reaches tree ticks term → IsAgedUpTo ticks term }
-    ensures offers { (tree : Tree) (ticks : ℕ) (term : Process) (store : List Slot) (offered : Offered) → Reaches tree ticks term
+    ensures term { (tree : Tree) (ticks : ℕ) (term : Process)
+        → Reaches tree ticks term → IsAgedUpTo ticks term }
+    ensures offers { (tree : Tree) (ticks : ℕ) (term : Process) (store : List Slot)
+        (offered : Offered) → Reaches tree ticks term
         → Contains (offers term store) offered → offered.age ≤ ticks }
 {}
 
 /// In a term that a body reaches, what stands on the right of a sequence or within a star has not waited yet.
 pub fn ages_behind_are_new()
-    ensures { (tree : Tree) (ticks : ℕ) (term : Process) → Reaches tree ticks term → IsNewBehind term }
+    ensures { (tree : Tree) (ticks : ℕ) (term : Process)
+        → Reaches tree ticks term → IsNewBehind term }
 {}
 
 /// In every store, the offers of a term that a body reaches ascend by the numbers of their atoms. So no
 /// two are of one atom, and each is of an atom of the body.
 pub fn offers_ascend()
-    ensures ascend { (body : Body) (ticks : ℕ) (term : Process) (store : List Slot) → Reaches body.tree ticks term
+    ensures ascend { (body : Body) (ticks : ℕ) (term : Process) (store : List Slot)
+        → Reaches body.tree ticks term
         → IsStrictlyIncreasing (map (λ (offered : Offered). offered.atom) (offers term store)) }
-    ensures once { (body : Body) (ticks : ℕ) (term : Process) (store : List Slot) (one other : Offered) → Reaches body.tree ticks term
-        → Contains (offers term store) one → Contains (offers term store) other → one.atom ≡ other.atom → one ≡ other }
-    ensures there { (body : Body) (ticks : ℕ) (term : Process) (store : List Slot) (offered : Offered) → Reaches body.tree ticks term
-        → Contains (offers term store) offered → (1 ≤ offered.atom) × (offered.atom ≤ length body.atoms) }
+    ensures once { (body : Body) (ticks : ℕ) (term : Process) (store : List Slot)
+        (one other : Offered) → Reaches body.tree ticks term → Contains (offers term store) one
+        → Contains (offers term store) other → one.atom ≡ other.atom → one ≡ other }
+    ensures there { (body : Body) (ticks : ℕ) (term : Process) (store : List Slot)
+        (offered : Offered) → Reaches body.tree ticks term → Contains (offers term store) offered
+        → (1 ≤ offered.atom) × (offered.atom ≤ length body.atoms) }
 {}
 
 /// A process that enters its body is where the body may have led it, and stays so where an offer is taken and where
 /// a tick passes.
 pub fn walks_stay_reached()
     ensures entering { (body : Body) (store : List Slot) → IsReached body (entering body store) }
-    ensures fired { (body : Body) (walking : Walking) (k : ℕ) (offered : Offered) (binds : List Bind) → IsReached body walking
-        → slice_get (offers_of walking) k ≡ Some offered → IsReached body (fired binds walking.ticks offered) }
-    ensures ticked { (body : Body) (walking : Walking) → IsReached body walking → IsReached body (ticked walking) }
+    ensures fired { (body : Body) (walking : Walking) (k : ℕ) (offered : Offered)
+        (binds : List Bind) → IsReached body walking
+        → slice_get (offers_of walking) k ≡ Some offered
+        → IsReached body (fired binds walking.ticks offered) }
+    ensures ticked { (body : Body) (walking : Walking) → IsReached body walking
+        → IsReached body (ticked walking) }
 {}
 
 /// A tick takes no offer away and brings none: those of a term a tick later are the same, one by one, of the same atom
 /// in the same store, and a tick older. What an offer leaves then has aged, but for what is entered only as it is taken.
 pub fn offers_age()
-    ensures term { (term : Process) (store : List Slot) → AreAged (offers term store) (offers (aged term) store) }
-    ensures walking { (walking : Walking) → AreAged (offers_of walking) (offers_of (ticked walking)) }
-    ensures count { (walking : Walking) → length (offers_of (ticked walking)) ≡ length (offers_of walking) }
-    ensures at { (walking : Walking) (k : ℕ) (offered : Offered) → slice_get (offers_of walking) k ≡ Some offered
-        → (later : Offered) × (slice_get (offers_of (ticked walking)) k ≡ Some later) × IsAged offered later }
+    ensures term { (term : Process) (store : List Slot)
+        → AreAged (offers term store) (offers (aged term) store) }
+    ensures walking { (walking : Walking)
+        → AreAged (offers_of walking) (offers_of (ticked walking)) }
+    ensures count { (walking : Walking)
+        → length (offers_of (ticked walking)) ≡ length (offers_of walking) }
+    ensures at { (walking : Walking) (k : ℕ) (offered : Offered)
+        → slice_get (offers_of walking) k ≡ Some offered
+        → (later : Offered) × (slice_get (offers_of (ticked walking)) k ≡ Some later)
+        × IsAged offered later }
 {}
 
 /// A tick later an offered atom sends and matches what it did. Where it has no times, it is as ready as it was, whatever
 /// the ticks of the bus.
 pub fn ageing_keeps_terms()
-    ensures sent { (atoms : List Atom) (offered later : Offered) → IsAged offered later → sent_by atoms later ≡ sent_by atoms offered }
-    ensures patterns { (atoms : List Atom) (offered later : Offered) → IsAged offered later → patterns_by atoms later ≡ patterns_by atoms offered }
-    ensures accepted { (atoms : List Atom) (terms : List Term) (offered later : Offered) → IsAged offered later
-        → accepted_by atoms terms later ≡ accepted_by atoms terms offered }
-    ensures ready { (atoms : List Atom) (now next : ℕ) (offered later : Offered) → IsAged offered later → times_of atoms offered.atom ≡ []
-        → is_ready later.store later.age next (times_of atoms later.atom) ≡ is_ready offered.store offered.age now (times_of atoms offered.atom) }
+    ensures sent { (atoms : List Atom) (offered later : Offered) → IsAged offered later
+        → sent_by atoms later ≡ sent_by atoms offered }
+    ensures patterns { (atoms : List Atom) (offered later : Offered) → IsAged offered later
+        → patterns_by atoms later ≡ patterns_by atoms offered }
+    ensures accepted { (atoms : List Atom) (terms : List Term) (offered later : Offered)
+        → IsAged offered later → accepted_by atoms terms later ≡ accepted_by atoms terms offered }
+    ensures ready { (atoms : List Atom) (now next : ℕ) (offered later : Offered)
+        → IsAged offered later → times_of atoms offered.atom ≡ []
+        → is_ready later.store later.age next (times_of atoms later.atom)
+        ≡ is_ready offered.store offered.age now (times_of atoms offered.atom) }
 {}

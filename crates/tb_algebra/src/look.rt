@@ -69,7 +69,8 @@ fn look_node(
     requires { node < length plan.now.nodes }
     ensures { OnOk result (map (shown base.now) found.new
         ≡ map (shown base.now) found.old
-        ++ offer_views plan.now.body.atoms clock.now (entered_term plan.now.nodes clock.ticks (record { node = node; entered = clock.entered })) (or_own own.now base.now)) }
+        ++ offer_views plan.now.body.atoms clock.now (entered_term plan.now.nodes clock.ticks
+        (record { node = node; entered = clock.entered })) (or_own own.now base.now)) }
 {
     match plan.node(node) {
         Node::At(atom) => look_atom(alloc, plan, *atom, clock, base, own, found),
@@ -119,7 +120,8 @@ fn look_atom(
         ≡ map (shown base.now) found.old ++ record {
           atom = atom;
           age = clock.ticks - clock.entered;
-          ready = is_ready (or_own own.now base.now) (clock.ticks - clock.entered) clock.now (times_of plan.now.body.atoms atom);
+          ready = is_ready (or_own own.now base.now) (clock.ticks - clock.entered) clock.now
+              (times_of plan.now.body.atoms atom);
           store = or_own own.now base.now;
         } ∷ []) }
 {
@@ -143,7 +145,8 @@ fn is_atom_ready(
     age: u64,
     now: u64,
 ) -> Result<bool, NoMemory>
-    ensures { IfOk result (λ ready. ready ≡ is_ready store.now age now (times_of plan.now.body.atoms atom)) }
+    ensures { IfOk result
+        (λ ready. ready ≡ is_ready store.now age now (times_of plan.now.body.atoms atom)) }
 {
     match plan.atom(atom) {
         Some(atom) => Ok(is_ready(alloc, store, age, now, &atom.times)?),

@@ -36,7 +36,8 @@ fn holds(alloc: Global, store: &Store, age: u64, now: u64, time: &Time) -> Resul
 }
 
 fn number(alloc: Global, store: &Store, expr: &Expr) -> Result<Option<i64>, NoMemory>
-    ensures { IfOk result (λ number. number ≡ option_and_then int_of (value_of store.now expr.now)) }
+    ensures { IfOk result
+        (λ number. number ≡ option_and_then int_of (value_of store.now expr.now)) }
 {
     match eval(alloc, expr, store)? {
         Some(value) => Ok(int_of(&value)),

@@ -53,9 +53,11 @@ impl Rewriter {
     /// What comes of the offer at this position.
     fn taken(&self, alloc: Global, plan: &Plan, k: usize) -> Result<Fired, NoMemory>
         requires { IsOnPlan plan.now self.now }
-        ensures selected { IfOk result (λ fired. selected_of plan.now.nodes self.now.ticks self.now.store fired
+        ensures selected { IfOk result
+            (λ fired. selected_of plan.now.nodes self.now.ticks self.now.store fired
             ≡ selected_at k (offers_of (walking_of plan.now self.now))) }
-        ensures on { IfOk result (λ fired. IsTrue (is_fired_on plan.now.nodes self.now.ticks fired)) }
+        ensures on { IfOk result
+            (λ fired. IsTrue (is_fired_on plan.now.nodes self.now.ticks fired)) }
     {
         match &self.term {
             Some(term) => {

@@ -71,7 +71,8 @@ fn start_value(
     setting: &Setting,
 ) -> Result<Option<Term>, NoMemory>
     requires { sort_at store.now setting.now.slot ≡ Some sort.now }
-    ensures { IfOk result (λ value. value ≡ start_value store.now setting.now.slot setting.now.start) }
+    ensures { IfOk result
+        (λ value. value ≡ start_value store.now setting.now.slot setting.now.start) }
 {
     match &setting.start {
         Some(expr) => Ok(eval(alloc, expr, store)?),
@@ -80,7 +81,8 @@ fn start_value(
 }
 
 fn well_sorted(slot: u32, sort: &Sort, value: Option<Term>) -> Option<Bind>
-    ensures { result ≡ option_map (λ term. record { slot = slot; value = term }) (well_sorted (Some sort.now) value) }
+    ensures { result ≡ option_map (λ term. record { slot = slot; value = term })
+        (well_sorted (Some sort.now) value) }
 {
     let value = value?;
     if has_sort(&value, sort) {

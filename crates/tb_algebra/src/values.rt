@@ -20,7 +20,8 @@ pub fn sent_values(
     store: &Store,
     atom: Option<&Atom>,
 ) -> Result<Option<Terms>, NoMemory>
-    ensures { IfOk result (λ terms. terms ≡ values_together store.now (sent_exprs (act_in (option_copied atom.entry)))) }
+    ensures { IfOk result (λ terms. terms
+        ≡ values_together store.now (sent_exprs (act_in (option_copied atom.entry)))) }
 {
     let Some(atom) = atom else {
         return Ok(Some(Items::new(alloc)));
@@ -32,7 +33,8 @@ pub fn sent_values(
 }
 
 fn values_of(alloc: Global, store: &Store, act: &Act) -> Result<Option<Terms>, NoMemory>
-    ensures { IfOk result (λ terms. terms ≡ all_of (map (value_of store.now) (sent_exprs act.now))) }
+    ensures { IfOk result
+        (λ terms. terms ≡ all_of (map (value_of store.now) (sent_exprs act.now))) }
 {
     match act {
         Act::RecDisconnect(one) | Act::Shutdown(one) | Act::RecValue(one, _) => {
@@ -59,7 +61,8 @@ fn values_after(
     first: &Expr,
     others: &[Expr],
 ) -> Result<Option<Terms>, NoMemory>
-    ensures { IfOk result (λ terms. terms ≡ all_of (map (value_of store.now) (first.now ∷ others.now))) }
+    ensures { IfOk result
+        (λ terms. terms ≡ all_of (map (value_of store.now) (first.now ∷ others.now))) }
 {
     let mut terms = Items::new(alloc);
     match eval(alloc, first, store)? {
@@ -113,7 +116,8 @@ pub fn matched_patterns(
     store: &Store,
     atom: Option<&Atom>,
 ) -> Result<Option<Patterns>, NoMemory>
-    ensures { IfOk result (λ patterns. patterns ≡ patterns_of store.now (matched_exprs (act_in (option_copied atom.entry)))) }
+    ensures { IfOk result (λ patterns. patterns
+        ≡ patterns_of store.now (matched_exprs (act_in (option_copied atom.entry)))) }
 {
     match atom {
         Some(atom) => patterns_of_act(alloc, store, &atom.act),
@@ -157,7 +161,8 @@ pub fn accepted_binds(
     atom: Option<&Atom>,
     ts: &Terms,
 ) -> Result<Option<Binds>, NoMemory>
-    ensures { IfOk result (λ binds. binds ≡ accepted store.now (matched_exprs (act_in (option_copied atom.entry))) ts.now) }
+    ensures { IfOk result (λ binds. binds
+        ≡ accepted store.now (matched_exprs (act_in (option_copied atom.entry))) ts.now) }
 {
     match matched_patterns(alloc, store, atom)? {
         Some(patterns) => match_list(alloc, &patterns, ts),

@@ -31,7 +31,8 @@ pub trait Walker: Sized + Drop {
     fn start(alloc: Global, plan: &Self::Plan, store: Store) -> Result<Self, NoMemory>
         requires { sorts_of store ≡ (view.body_of plan.now).sorts }
         ensures on { IfOk result (λ walker. view.is_on plan.now walker) }
-        ensures term { IfOk result (λ walker. view.walking plan.now walker ≡ entering (view.body_of plan.now) store) }
+        ensures term { IfOk result
+            (λ walker. view.walking plan.now walker ≡ entering (view.body_of plan.now) store) }
         ensures seen { IfOk result (λ walker. view.seen walker ≡ None) };
 
     /// Looks what the process may do next, on a bus that has seen so many ticks.
@@ -39,7 +40,8 @@ pub trait Walker: Sized + Drop {
         requires { view.is_on plan.now self.old }
         ensures on { view.is_on plan.now self.new }
         ensures stays { view.walking plan.now self.new ≡ view.walking plan.now self.old }
-        ensures seen { OnOk result (view.seen self.new ≡ Some (seen_offers (view.body_of plan.now).atoms now (view.walking plan.now self.old))) }
+        ensures seen { OnOk result (view.seen self.new ≡ Some
+            (seen_offers (view.body_of plan.now).atoms now (view.walking plan.now self.old))) }
         ensures err { OnErr result (self.new ≡ self.old) };
 
     /// Whether what was looked at still holds.
@@ -50,7 +52,8 @@ pub trait Walker: Sized + Drop {
     fn offer_count(&self) -> usize
         requires { IsTrue (is_some (view.seen self.now)) }
         ensures seen { ForSome (view.seen self.now) (λ offers. result ≡ length offers) }
-        ensures all { (plan : Self.Plan) → view.is_on plan self.now → result ≡ length (offers_of (view.walking plan self.now)) };
+        ensures all { (plan : Self.Plan) → view.is_on plan self.now
+            → result ≡ length (offers_of (view.walking plan self.now)) };
 
     /// The offer at this position, from 0 in text order.
     fn offer(&self, k: usize) -> Offer
@@ -72,7 +75,8 @@ pub trait Walker: Sized + Drop {
         requires fresh { IsTrue (is_some (view.seen self.now)) }
         requires within { ForSome (view.seen self.now) (λ offers. k < length offers) }
         ensures { IfOk result (λ terms. terms
-            ≡ option_and_then (sent_by (view.body_of plan.now).atoms) (slice_get (offers_of (view.walking plan.now self.now)) k)) };
+            ≡ option_and_then (sent_by (view.body_of plan.now).atoms)
+            (slice_get (offers_of (view.walking plan.now self.now)) k)) };
 
     /// The patterns of an atom that receives, or that looks at notes. They may stand in the memory of `room`.
     fn patterns(
@@ -86,7 +90,8 @@ pub trait Walker: Sized + Drop {
         requires fresh { IsTrue (is_some (view.seen self.now)) }
         requires within { ForSome (view.seen self.now) (λ offers. k < length offers) }
         ensures { IfOk result (λ patterns. patterns
-            ≡ option_and_then (patterns_by (view.body_of plan.now).atoms) (slice_get (offers_of (view.walking plan.now self.now)) k)) };
+            ≡ option_and_then (patterns_by (view.body_of plan.now).atoms)
+            (slice_get (offers_of (view.walking plan.now self.now)) k)) };
 
     /// What the atom binds where it is given these terms.
     fn accepts(
@@ -100,22 +105,26 @@ pub trait Walker: Sized + Drop {
         requires fresh { IsTrue (is_some (view.seen self.now)) }
         requires within { ForSome (view.seen self.now) (λ offers. k < length offers) }
         ensures { IfOk result (λ binds. binds
-            ≡ option_and_then (accepted_by (view.body_of plan.now).atoms ts.now) (slice_get (offers_of (view.walking plan.now self.now)) k)) };
+            ≡ option_and_then (accepted_by (view.body_of plan.now).atoms ts.now)
+            (slice_get (offers_of (view.walking plan.now self.now)) k)) };
 
     /// Takes the offer at this position, and changes nothing yet. Nothing has to be seen of it.
     fn take(&self, alloc: Global, plan: &Self::Plan, k: usize) -> Result<Self::Taken, NoMemory>
         requires on { view.is_on plan.now self.now }
         requires within { k < length (offers_of (view.walking plan.now self.now)) }
-        ensures taken { IfOk result (λ taken. ForSome (slice_get (offers_of (view.walking plan.now self.now)) k)
+        ensures taken { IfOk result
+            (λ taken. ForSome (slice_get (offers_of (view.walking plan.now self.now)) k)
             (λ offered. view.leaves plan.now self.now taken offered)) };
 
     /// Goes on with what was taken, and sets the binds, whose memory is left. This takes no memory.
     fn advance(&mut self, plan: &Self::Plan, taken: Self::Taken, binds: &mut Binds)
         requires on { view.is_on plan.now self.old }
-        requires taken { (offered : Offered) × (view.leaves plan.now self.old taken offered × IsTrue (takes_binds offered.store binds.old)) }
+        requires taken { (offered : Offered) × (view.leaves plan.now self.old taken offered
+            × IsTrue (takes_binds offered.store binds.old)) }
         ensures on { view.is_on plan.now self.new }
         ensures advanced { (offered : Offered) → view.leaves plan.now self.old taken offered
-            → view.walking plan.now self.new ≡ fired binds.old (view.walking plan.now self.old).ticks offered }
+            → view.walking plan.now self.new
+            ≡ fired binds.old (view.walking plan.now self.old).ticks offered }
         ensures seen { view.seen self.new ≡ None };
 
     /// Takes the offer at this position: the process goes on with what is left, and the binds are set.
@@ -129,10 +138,13 @@ pub trait Walker: Sized + Drop {
     ) -> Result<(), NoMemory>
         requires on { view.is_on plan.now self.old }
         requires within { k < length (offers_of (view.walking plan.now self.old)) }
-        requires well_sorted { ForSome (slice_get (offers_of (view.walking plan.now self.old)) k) (λ offered. IsTrue (takes_binds offered.store binds)) }
+        requires well_sorted { ForSome (slice_get (offers_of (view.walking plan.now self.old)) k)
+            (λ offered. IsTrue (takes_binds offered.store binds)) }
         ensures on { view.is_on plan.now self.new }
-        ensures goes { OnOk result (ForSome (slice_get (offers_of (view.walking plan.now self.old)) k)
-            (λ offered. view.walking plan.now self.new ≡ fired binds (view.walking plan.now self.old).ticks offered)) }
+        ensures goes { OnOk result
+            (ForSome (slice_get (offers_of (view.walking plan.now self.old)) k)
+            (λ offered. view.walking plan.now self.new
+            ≡ fired binds (view.walking plan.now self.old).ticks offered)) }
         ensures seen { OnOk result (view.seen self.new ≡ None) }
         ensures err { OnErr result (self.new ≡ self.old) }
     {
@@ -152,7 +164,8 @@ pub trait Walker: Sized + Drop {
 
     /// Whether the process has ended.
     fn is_done(&self) -> bool
-        ensures { (plan : Self.Plan) → view.is_on plan self.now → result ≡ is_end (view.walking plan self.now).term };
+        ensures { (plan : Self.Plan) → view.is_on plan self.now
+            → result ≡ is_end (view.walking plan self.now).term };
 
     /// The same process in memory of its own.
     fn copy(&self, alloc: Global) -> Result<Self, NoMemory>

@@ -39,8 +39,10 @@ impl Body {
         sorts: Sorts,
         formals: u32,
     ) -> Result<Option<Body>, NoMemory>
-        ensures is { IfOk result (λ body. IfSome body (λ b. (b.tree ≡ tree) × (b.atoms ≡ atoms) × (b.sorts ≡ sorts) × (b.formals ≡ formals))) }
-        ensures some { IfOk result (λ body. is_some body ≡ is_body_in_range tree atoms sorts formals) }
+        ensures is { IfOk result (λ body. IfSome body (λ b. (b.tree ≡ tree) × (b.atoms ≡ atoms)
+            × (b.sorts ≡ sorts) × (b.formals ≡ formals))) }
+        ensures some { IfOk result
+            (λ body. is_some body ≡ is_body_in_range tree atoms sorts formals) }
     {
         if is_in_range(alloc, &tree, &atoms, sorts.len(), formals)? {
             Ok(Some(Body {

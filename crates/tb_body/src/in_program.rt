@@ -32,7 +32,8 @@ fn are_bodies_in_program(bodies: &[Body], tools: &[Tool]) -> bool
 }
 
 fn are_acts_in_program(bodies: &[Body], tools: &[Tool], atoms: &[Atom]) -> bool
-    ensures { result ≡ list_all (λ atom. is_act_in_program bodies.now tools.now atom.act) atoms.now }
+    ensures { result
+        ≡ list_all (λ atom. is_act_in_program bodies.now tools.now atom.act) atoms.now }
 {
     for atom in atoms {
         if !is_act_in_program(bodies, tools, &atom.act) {

@@ -38,7 +38,8 @@ pub struct Program {
 impl Program {
     /// The program, where its parts are in range of each other.
     pub fn new(bodies: Bodies, roots: Roots, tools: Tools) -> Option<Program>
-        ensures is { IfSome result (λ program. (program.bodies ≡ bodies) × (program.roots ≡ roots) × (program.tools ≡ tools)) }
+        ensures is { IfSome result (λ program. (program.bodies ≡ bodies)
+            × (program.roots ≡ roots) × (program.tools ≡ tools)) }
         ensures some { is_some result ≡ is_program_in_range bodies roots tools }
     {
         if is_program_in_range(bodies.as_slice(), roots.as_slice(), tools.as_slice()) {

@@ -19,58 +19,72 @@ ghost use Rattle.tb_bus.specs.Reached.{Reaches};
 
 /// Each prefix of a trace is a trace; and where one trace leads, another may follow.
 pub fn prefixes_are_traces()
-    ensures prefix { (bus : Bus) (log more : List Entry) → IsTrace bus (log ++ more) → IsTrace bus log }
-    ensures rest { (bus : Bus) (log more : List Entry) → IsTrace bus (log ++ more) → IsTrace (replay bus log) more }
-    ensures joined { (bus : Bus) (log more : List Entry) → IsTrace bus log → IsTrace (replay bus log) more → IsTrace bus (log ++ more) }
+    ensures prefix { (bus : Bus) (log more : List Entry)
+        → IsTrace bus (log ++ more) → IsTrace bus log }
+    ensures rest { (bus : Bus) (log more : List Entry) → IsTrace bus (log ++ more)
+        → IsTrace (replay bus log) more }
+    ensures joined { (bus : Bus) (log more : List Entry) → IsTrace bus log
+        → IsTrace (replay bus log) more → IsTrace bus (log ++ more) }
 {}
 
 /// In a bus that a program reaches the processes stand by their numbers: these ascend strictly, from above 0, and are
 /// below the next one.
 pub fn processes_stand_by_their_numbers()
-    ensures ascend { (origin : Origin) (bus : Bus) → Reaches origin bus → AllPairs (λ (one other : Proc). one.number < other.number) bus.procs }
-    ensures above { (origin : Origin) (bus : Bus) → Reaches origin bus → All (λ (proc : Proc). 0 < proc.number) bus.procs }
-    ensures below { (origin : Origin) (bus : Bus) → Reaches origin bus → All (λ (proc : Proc). proc.number < bus.next_number) bus.procs }
+    ensures ascend { (origin : Origin) (bus : Bus) → Reaches origin bus
+        → AllPairs (λ (one other : Proc). one.number < other.number) bus.procs }
+    ensures above { (origin : Origin) (bus : Bus) → Reaches origin bus
+        → All (λ (proc : Proc). 0 < proc.number) bus.procs }
+    ensures below { (origin : Origin) (bus : Bus) → Reaches origin bus
+        → All (λ (proc : Proc). proc.number < bus.next_number) bus.procs }
 {}
 
 /// In a bus that a program reaches the labels of the steps differ, each from each.
 pub fn labels_differ()
-    ensures { (origin : Origin) (bus : Bus) → Reaches origin bus → AllPairs (λ (one other : Step). one.label ≢ other.label) (steps bus) }
+    ensures { (origin : Origin) (bus : Bus) → Reaches origin bus
+        → AllPairs (λ (one other : Step). one.label ≢ other.label) (steps bus) }
 {}
 
 /// In a bus that a program reaches, steps that are seen alike are the same step.
 pub fn one_step_a_label()
-    ensures { (origin : Origin) (bus : Bus) (one other : Step) → Reaches origin bus →
-        Contains (steps bus) one → Contains (steps bus) other → one.label ≡ other.label → one ≡ other }
+    ensures { (origin : Origin) (bus : Bus) (one other : Step) → Reaches origin bus
+        → Contains (steps bus) one → Contains (steps bus) other
+        → one.label ≡ other.label → one ≡ other }
 {}
 
 /// From a bus that a program reaches, an entry leads to one bus.
 pub fn one_bus_after_an_entry()
-    ensures { (origin : Origin) (bus next : Bus) (entry : Entry) → Reaches origin bus → IsLegal bus entry next → next ≡ after bus entry }
+    ensures { (origin : Origin) (bus next : Bus) (entry : Entry) → Reaches origin bus
+        → IsLegal bus entry next → next ≡ after bus entry }
 {}
 
 /// A bus that a program reaches has 16 lanes, where no more commands are started at its opening.
 pub fn there_are_16_lanes()
-    ensures { (origin : Origin) (bus : Bus) → length origin.connects ≤ lane_count → Reaches origin bus → HasLanes bus.bench }
+    ensures { (origin : Origin) (bus : Bus) → length origin.connects ≤ lane_count
+        → Reaches origin bus → HasLanes bus.bench }
 {}
 
 /// An input that is dropped leaves the bus as it was.
 pub fn dropped_inputs_change_nothing()
-    ensures { (bus : Bus) (input : Input) (why : Why) → (fed bus input).reply ≡ Dropped why → (fed bus input).bus ≡ bus }
+    ensures { (bus : Bus) (input : Input) (why : Why)
+        → (fed bus input).reply ≡ Dropped why → (fed bus input).bus ≡ bus }
 {}
 
 /// Only the end of all processes, that none can do anything any more, and a process that shuts it down take a bus down.
 pub fn three_steps_take_a_bus_down()
-    ensures { (bus next : Bus) (entry : Entry) → IsLegal bus entry next → bus.down ≡ false → next.down ≡ true →
-        (label : Label) × (entry ≡ Did label) × TakesDown label.kind }
+    ensures { (bus next : Bus) (entry : Entry) → IsLegal bus entry next → bus.down ≡ false
+        → next.down ≡ true → (label : Label) × (entry ≡ Did label) × TakesDown label.kind }
 {}
 
 /// A bus that is down makes no step, and along each trace it stays down. What is to be handed out on a lane of it is what
 /// the trace hands out there, and what is left then: so a lane with nothing to hand out keeps nothing.
 pub fn a_bus_that_is_down_stays_down()
     ensures steps { (bus : Bus) → bus.down ≡ true → steps bus ≡ [] }
-    ensures stays { (bus : Bus) (log : List Entry) → IsTrace bus log → bus.down ≡ true → (replay bus log).down ≡ true }
-    ensures outs { (bus : Bus) (log : List Entry) (lane : ℕ) → IsLane lane → IsTrace bus log → bus.down ≡ true →
-        outs_at lane bus.bench ≡ handed log lane ++ outs_at lane (replay bus log).bench }
-    ensures empty { (bus : Bus) (log : List Entry) (lane : ℕ) → IsLane lane → IsTrace bus log → bus.down ≡ true →
-        next_out lane bus.bench ≡ None → next_out lane (replay bus log).bench ≡ None }
+    ensures stays { (bus : Bus) (log : List Entry) → IsTrace bus log → bus.down ≡ true
+        → (replay bus log).down ≡ true }
+    ensures outs { (bus : Bus) (log : List Entry) (lane : ℕ) → IsLane lane
+        → IsTrace bus log → bus.down ≡ true
+        → outs_at lane bus.bench ≡ handed log lane ++ outs_at lane (replay bus log).bench }
+    ensures empty { (bus : Bus) (log : List Entry) (lane : ℕ) → IsLane lane
+        → IsTrace bus log → bus.down ≡ true
+        → next_out lane bus.bench ≡ None → next_out lane (replay bus log).bench ≡ None }
 {}

@@ -16,8 +16,10 @@ ghost use Rattle.tb_bus.specs.Commands.{AreNamed, IsNamed, most_entry_size};
 
 /// Each entry that may follow on a bus that a program reaches is in shape, and so is each entry of a trace.
 pub fn entries_are_in_shape()
-    ensures legal { (origin : Origin) (bus next : Bus) (entry : Entry) → Reaches origin bus → IsLegal bus entry next → InShape entry }
-    ensures trace { (origin : Origin) (log : List Entry) → IsTrace (start origin) log → All InShape log }
+    ensures legal { (origin : Origin) (bus next : Bus) (entry : Entry) → Reaches origin bus
+        → IsLegal bus entry next → InShape entry }
+    ensures trace { (origin : Origin) (log : List Entry)
+        → IsTrace (start origin) log → All InShape log }
 {}
 
 /// What waits on a bus that a program reaches is in shape: the values of stores, the notes in queues, and what stands

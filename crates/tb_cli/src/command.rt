@@ -128,7 +128,8 @@ pub(crate) fn row_named(word: &str) -> Option<&'static Row>
 /// The command of this row, of the words behind the first.
 pub(crate) fn make_command(alloc: Global, verb: Verb, words: &[String]) -> Result<Command, NoMemory>
     requires { RowFits (row_by verb) (parts_of (map string_bytes words.now)) }
-    ensures is { IfOk result (λ command. command ≡ make verb (parts_of (map string_bytes words.now))) }
+    ensures is { IfOk result
+        (λ command. command ≡ make verb (parts_of (map string_bytes words.now))) }
     ensures within { IfOk result IsWithin }
 {
     match verb {
@@ -141,7 +142,8 @@ pub(crate) fn make_command(alloc: Global, verb: Verb, words: &[String]) -> Resul
 
 fn make_check(alloc: Global, words: &[String]) -> Result<Command, NoMemory>
     requires { RowFits check (parts_of (map string_bytes words.now)) }
-    ensures is { IfOk result (λ command. command ≡ make Verb.Check (parts_of (map string_bytes words.now))) }
+    ensures is { IfOk result
+        (λ command. command ≡ make Verb.Check (parts_of (map string_bytes words.now))) }
     ensures within { IfOk result IsWithin }
 {
     let script = operand_text(alloc, words, 0)?;
@@ -150,7 +152,8 @@ fn make_check(alloc: Global, words: &[String]) -> Result<Command, NoMemory>
 
 fn make_sim(alloc: Global, words: &[String]) -> Result<Command, NoMemory>
     requires { RowFits sim (parts_of (map string_bytes words.now)) }
-    ensures is { IfOk result (λ command. command ≡ make Verb.Sim (parts_of (map string_bytes words.now))) }
+    ensures is { IfOk result
+        (λ command. command ≡ make Verb.Sim (parts_of (map string_bytes words.now))) }
     ensures within { IfOk result IsWithin }
 {
     let script = operand_text(alloc, words, 0)?;
@@ -169,7 +172,8 @@ fn make_sim(alloc: Global, words: &[String]) -> Result<Command, NoMemory>
 
 fn make_run(alloc: Global, words: &[String]) -> Result<Command, NoMemory>
     requires { RowFits run (parts_of (map string_bytes words.now)) }
-    ensures is { IfOk result (λ command. command ≡ make Verb.Run (parts_of (map string_bytes words.now))) }
+    ensures is { IfOk result
+        (λ command. command ≡ make Verb.Run (parts_of (map string_bytes words.now))) }
     ensures within { IfOk result IsWithin }
 {
     let script = operand_text(alloc, words, 0)?;

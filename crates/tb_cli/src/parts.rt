@@ -22,7 +22,8 @@ pub(crate) fn part_len(word: &str) -> usize
 
 /// The value that the part which begins with this word gives under this name.
 fn value_under<'w>(word: &'w str, next: Option<&'w String>, name: Option<&str>) -> Option<&'w str>
-    ensures { option_to_list (option_copied result) ≡ given_by (option_copied name.entry) (part_of word.now (option_map string_bytes (option_copied next.entry))) }
+    ensures { option_to_list (option_copied result) ≡ given_by (option_copied name.entry)
+        (part_of word.now (option_map string_bytes (option_copied next.entry))) }
 {
     match name {
         None if is_option(word) => None,
@@ -32,7 +33,8 @@ fn value_under<'w>(word: &'w str, next: Option<&'w String>, name: Option<&str>) 
 }
 
 fn option_under<'w>(word: &str, next: Option<&'w String>, name: &str) -> Option<&'w str>
-    ensures { option_to_list (option_copied result) ≡ given_by (Some name.now) (part_of word.now (option_map string_bytes (option_copied next.entry))) }
+    ensures { option_to_list (option_copied result) ≡ given_by (Some name.now)
+        (part_of word.now (option_map string_bytes (option_copied next.entry))) }
 {
     match next {
         Some(value) if is_option(word) && word == name => Some(value.as_str()),
@@ -42,7 +44,8 @@ fn option_under<'w>(word: &str, next: Option<&'w String>, name: &str) -> Option<
 
 /// How many values the words give under this name.
 pub(crate) fn count_values(words: &[String], name: Option<&str>) -> usize
-    ensures { result ≡ length (given (option_copied name.entry) (parts_of (map string_bytes words.now))) }
+    ensures { result
+        ≡ length (given (option_copied name.entry) (parts_of (map string_bytes words.now))) }
 {
     let mut count = 0;
     let mut index = 0;
@@ -67,7 +70,8 @@ pub(crate) fn find_value<'w>(
     name: Option<&str>,
     place: usize,
 ) -> Option<&'w str>
-    ensures { option_copied result ≡ slice_get (given (option_copied name.entry) (parts_of (map string_bytes words.now))) place }
+    ensures { option_copied result ≡ slice_get
+        (given (option_copied name.entry) (parts_of (map string_bytes words.now))) place }
 {
     let mut index = 0;
     let mut left = place;
@@ -94,7 +98,8 @@ fn is_found(value: Option<&str>, left: usize) -> bool
 
 /// The same, or an empty one where there is none at this place.
 pub(crate) fn find_or_empty<'w>(words: &'w [String], name: Option<&str>, place: usize) -> &'w str
-    ensures { result.now ≡ get_or (given (option_copied name.entry) (parts_of (map string_bytes words.now))) place [] }
+    ensures { result.now ≡ get_or
+        (given (option_copied name.entry) (parts_of (map string_bytes words.now))) place [] }
 {
     or_empty(find_value(words, name, place))
 }

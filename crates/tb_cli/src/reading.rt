@@ -24,13 +24,15 @@ const MOST_CONNECTS: usize = 16;
 /// What the words of the command line ask for.
 pub fn read_words(alloc: Global, words: &Vec<String>) -> Result<Command, WordFault>
     ensures ok { IfOk result (λ command. asked (map string_bytes words.now.items) ≡ Ok command) }
-    ensures fault { IfErr result (λ fault. fault ≢ WordFault.NoMemory → asked (map string_bytes words.now.items) ≡ Err fault) }
+    ensures fault { IfErr result (λ fault. fault ≢ WordFault.NoMemory
+        → asked (map string_bytes words.now.items) ≡ Err fault) }
 
     // The command's numbers are in their ranges.
     ensures within { IfOk result IsWithin }
 
     // A fault of the words is told whether or not there is memory.
-    ensures memory { result ≡ Err WordFault.NoMemory → IsOk (asked (map string_bytes words.now.items)) }
+    ensures memory { result ≡ Err WordFault.NoMemory
+        → IsOk (asked (map string_bytes words.now.items)) }
 
     // Every command and each of its options is built.
     ensures built { (place : ℕ) → result ≢ Err (WordFault.NotBuilt place) }
@@ -48,10 +50,16 @@ pub fn read_words(alloc: Global, words: &Vec<String>) -> Result<Command, WordFau
 /// What the words behind the first ask for, of the command with this row.
 fn read_row(alloc: Global, row: &Row, words: &[String]) -> Result<Command, WordFault>
     requires { row_of row.now ≡ row_by row.now.verb }
-    ensures ok { IfOk result (λ command. made (row_of row.now) (parts_of (map string_bytes words.now)) (row_answer (row_of row.now) (parts_of (map string_bytes words.now))) ≡ Ok command) }
+    ensures ok { IfOk result
+        (λ command. made (row_of row.now) (parts_of (map string_bytes words.now))
+        (row_answer (row_of row.now) (parts_of (map string_bytes words.now))) ≡ Ok command) }
     ensures within { IfOk result IsWithin }
-    ensures fault { IfErr result (λ fault. fault ≢ WordFault.NoMemory → made (row_of row.now) (parts_of (map string_bytes words.now)) (row_answer (row_of row.now) (parts_of (map string_bytes words.now))) ≡ Err fault) }
-    ensures memory { result ≡ Err WordFault.NoMemory → IsOk (made (row_of row.now) (parts_of (map string_bytes words.now)) (row_answer (row_of row.now) (parts_of (map string_bytes words.now)))) }
+    ensures fault { IfErr result (λ fault. fault ≢ WordFault.NoMemory
+        → made (row_of row.now) (parts_of (map string_bytes words.now))
+        (row_answer (row_of row.now) (parts_of (map string_bytes words.now))) ≡ Err fault) }
+    ensures memory { result ≡ Err WordFault.NoMemory
+        → IsOk (made (row_of row.now) (parts_of (map string_bytes words.now))
+        (row_answer (row_of row.now) (parts_of (map string_bytes words.now)))) }
 {
     check_row(row, words)?;
     match make_command(alloc, row.verb, words) {
@@ -82,7 +90,8 @@ fn check_whole(row: &Row, words: &[String]) -> Result<(), WordFault>
 
 /// Whether one of the parts into which the words behind the first fall has a fault.
 fn check_parts(row: &Row, words: &[String]) -> Result<(), WordFault>
-    ensures is { result ≡ parts_answer (row_of row.now) [] 2 (parts_of (map string_bytes words.now)) }
+    ensures is { result
+        ≡ parts_answer (row_of row.now) [] 2 (parts_of (map string_bytes words.now)) }
     ensures told { result ≢ Err WordFault.NoMemory }
 {
     let mut index = 0;
@@ -102,7 +111,10 @@ fn check_part(
     next: Option<&String>,
 ) -> Result<(), WordFault>
     requires { length before.now < 2 ^ 62 }
-    ensures is { result ≡ part_answer (row_of row.now) (given (name_of (part_of word.now (option_map string_bytes (option_copied next.entry)))) (parts_of (map string_bytes before.now))) (length before.now + 2) (part_of word.now (option_map string_bytes (option_copied next.entry))) }
+    ensures is { result ≡ part_answer (row_of row.now)
+        (given (name_of (part_of word.now (option_map string_bytes (option_copied next.entry))))
+        (parts_of (map string_bytes before.now))) (length before.now + 2)
+        (part_of word.now (option_map string_bytes (option_copied next.entry))) }
     ensures told { result ≢ Err WordFault.NoMemory }
 {
     if is_option(word) {
@@ -114,7 +126,9 @@ fn check_part(
 
 fn check_operand(row: &Row, before: &[String], word: &str) -> Result<(), WordFault>
     requires { length before.now < 2 ^ 62 }
-    ensures is { result ≡ part_answer (row_of row.now) (operands_of (parts_of (map string_bytes before.now))) (length before.now + 2) (AWord word.now) }
+    ensures is { result
+        ≡ part_answer (row_of row.now) (operands_of (parts_of (map string_bytes before.now)))
+        (length before.now + 2) (AWord word.now) }
     ensures told { result ≢ Err WordFault.NoMemory }
 {
     let position = before.len() + 2;
@@ -141,7 +155,9 @@ fn check_option(
     value: Option<&String>,
 ) -> Result<(), WordFault>
     requires { length before.now < 2 ^ 62 }
-    ensures is { result ≡ part_answer (row_of row.now) (given (Some name.now) (parts_of (map string_bytes before.now))) (length before.now + 2) (AnOption name.now (option_map string_bytes (option_copied value.entry))) }
+    ensures is { result ≡ part_answer (row_of row.now)
+        (given (Some name.now) (parts_of (map string_bytes before.now))) (length before.now + 2)
+        (AnOption name.now (option_map string_bytes (option_copied value.entry))) }
     ensures told { result ≢ Err WordFault.NoMemory }
 {
     let position = before.len() + 2;
@@ -155,7 +171,8 @@ fn check_option(
 
 /// What the value is of the option of this name at this position, which was given so many times before.
 fn option_kind(row: &Row, times: usize, position: usize, name: &str) -> Result<Kind, WordFault>
-    ensures is { result ≡ setting_kind (option_named (row_of row.now).options name.now) times position }
+    ensures is { result
+        ≡ setting_kind (option_named (row_of row.now).options name.now) times position }
     ensures told { result ≢ Err WordFault.NoMemory }
 {
     let Some(option) = option_named(row.options, name) else {
@@ -210,7 +227,8 @@ fn check_value(kind: Kind, first: &str, position: usize, word: &str) -> Result<(
 
 /// Whether the second number is 1 at least, and both multiplied are at most this.
 fn is_factor(first: &str, word: &str, most: u32) -> bool
-    ensures { result ≡ nat_le 1 (digits_value word.now) && nat_le (digits_value first.now * digits_value word.now) most }
+    ensures { result ≡ nat_le 1 (digits_value word.now)
+        && nat_le (digits_value first.now * digits_value word.now) most }
 {
     let number = digits_value(word.as_bytes());
     let product = digits_value(first.as_bytes()).saturating_mul(number);

@@ -45,7 +45,8 @@ pub(crate) struct Row {
 
 /// The row with this first word among these.
 pub(crate) fn find_row<'a>(rows: &'a [Row], word: &str) -> Option<&'a Row>
-    ensures { option_map row_of (option_copied result) ≡ find (λ (row : RowWords). bytes_eq row.word word.now) (map row_of rows.now) }
+    ensures { option_map row_of (option_copied result)
+        ≡ find (λ (row : RowWords). bytes_eq row.word word.now) (map row_of rows.now) }
 {
     for row in rows {
         if row.word == word {
@@ -57,7 +58,8 @@ pub(crate) fn find_row<'a>(rows: &'a [Row], word: &str) -> Option<&'a Row>
 
 /// The option with this name among these.
 pub(crate) fn option_named<'a>(options: &'a [Setting], name: &str) -> Option<&'a Setting>
-    ensures { option_map setting_of (option_copied result) ≡ option_named (map setting_of options.now) name.now }
+    ensures { option_map setting_of (option_copied result)
+        ≡ option_named (map setting_of options.now) name.now }
 {
     for option in options {
         if option.name == name {

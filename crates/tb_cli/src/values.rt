@@ -45,7 +45,8 @@ pub(crate) fn option_file(
 ) -> Result<Option<Text>, NoMemory>
     requires kind { option.now.kind ≡ Kind.File }
     requires fits { OptionFits (setting_of option.now) (parts_of (map string_bytes words.now)) }
-    ensures { IfOk result (λ file. file ≡ file_of (setting_of option.now) (parts_of (map string_bytes words.now))) }
+    ensures { IfOk result
+        (λ file. file ≡ file_of (setting_of option.now) (parts_of (map string_bytes words.now))) }
 {
     match find_value(words, Some(option.name), 0) {
         Some(word) => Ok(Some(make_text(alloc, word)?)),
@@ -61,7 +62,8 @@ pub(crate) fn option_commands(
 ) -> Result<Texts, NoMemory>
     requires kind { option.now.kind ≡ Kind.Command }
     requires fits { OptionFits (setting_of option.now) (parts_of (map string_bytes words.now)) }
-    ensures is { IfOk result (λ commands. commands ≡ commands_of (setting_of option.now) (parts_of (map string_bytes words.now))) }
+    ensures is { IfOk result (λ commands. commands
+        ≡ commands_of (setting_of option.now) (parts_of (map string_bytes words.now))) }
     ensures few { IfOk result (λ commands. length commands ≤ most_connects) }
 {
     let mut commands = Items::new(alloc);
@@ -78,7 +80,8 @@ pub(crate) fn option_number(option: &Setting, words: &[String]) -> u32
     requires kind { IsNumber option.now.kind }
     requires usual { IsIn option.now.kind option.now.usual }
     requires fits { OptionFits (setting_of option.now) (parts_of (map string_bytes words.now)) }
-    ensures is { result ≡ number_of (setting_of option.now) (parts_of (map string_bytes words.now)) }
+    ensures is { result
+        ≡ number_of (setting_of option.now) (parts_of (map string_bytes words.now)) }
     ensures within { IsIn option.now.kind result }
 {
     match find_value(words, Some(option.name), 0) {

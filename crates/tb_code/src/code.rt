@@ -26,7 +26,8 @@ pub struct Code {
     pub entries: Items<Entry>,
     /// Which of them the list of each position has.
     pub spans: Items<Span>,
-    ghost numbered: { nodes ≡ positions (fresh body.tree) } by { Prim.hlevel (codes, coded_list, node_row.the_row.coded) },
+    ghost numbered: { nodes ≡ positions
+        (fresh body.tree) } by { Prim.hlevel (codes, coded_list, node_row.the_row.coded) },
     ghost listed: { AreLists body.atoms (fresh body.tree) entries spans } by { Prim.hlevel props },
 }
 
@@ -72,7 +73,8 @@ impl Code {
     /// nothing.
     pub fn list(&self, at: usize) -> &[Entry]
         requires { at < size (fresh self.now.body.tree) }
-        ensures { 0 < length result.now → entries_of self.now.body.atoms at (part (fresh self.now.body.tree) at) ≡ result.now }
+        ensures { 0 < length result.now
+            → entries_of self.now.body.atoms at (part (fresh self.now.body.tree) at) ≡ result.now }
     {
         let span = span_at(self.spans.as_slice(), at);
         in_span(self.entries.as_slice(), span)
@@ -101,7 +103,8 @@ fn add_tree(
     tree: &Tree,
     frame: Option<usize>,
 ) -> Result<(), NoMemory>
-    ensures { OnOk result (nodes.new ≡ nodes.old ++ table (fresh tree.now) (length nodes.old) frame) }
+    ensures { OnOk result
+        (nodes.new ≡ nodes.old ++ table (fresh tree.now) (length nodes.old) frame) }
 {
     match tree {
         Tree::At(atom) => push_node(nodes, Op::At(*atom), frame),
@@ -136,7 +139,8 @@ fn add_two(
     y: &Tree,
     frame: Option<usize>,
 ) -> Result<(), NoMemory>
-    ensures { OnOk result (nodes.new ≡ nodes.old ++ table (joined two (fresh x.now) (fresh y.now)) (length nodes.old) frame) }
+    ensures { OnOk result (nodes.new
+        ≡ nodes.old ++ table (joined two (fresh x.now) (fresh y.now)) (length nodes.old) frame) }
 {
     let here = open_node(nodes, frame)?;
     add_tree(alloc, nodes, x, two.frame_of_first(here, frame))?;

@@ -82,7 +82,8 @@ fn list_at(
     requires numbered { nodes.now ≡ positions (fresh body.now.tree) }
     requires within { at < length nodes.now }
     requires lists { AreLists body.now.atoms (fresh body.now.tree) entries.old spans.now }
-    ensures list { IfOk result (λ span. HasList entries.new span (entries_of body.now.atoms at (part (fresh body.now.tree) at))) }
+    ensures list { IfOk result (λ span. HasList entries.new span
+        (entries_of body.now.atoms at (part (fresh body.now.tree) at))) }
     ensures grows { OnOk result (Grows entries.old entries.new) }
 {
     let room = nodes.len().saturating_mul(MOST_ENTRIES);
@@ -203,7 +204,8 @@ fn add_first(
     x: Side,
 ) -> Result<Span, NoMemory>
     requires { x.span.first + x.span.count ≤ length entries.old }
-    ensures list { (one : List Entry) → HasList entries.old x.span one → IfOk result (λ span. HasList entries.new span (all_led x.next one)) }
+    ensures list { (one : List Entry) → HasList entries.old x.span one
+        → IfOk result (λ span. HasList entries.new span (all_led x.next one)) }
     ensures grows { OnOk result (Grows entries.old entries.new) }
 {
     let first = entries.len();
@@ -225,8 +227,10 @@ fn add_both(
 ) -> Result<Span, NoMemory>
     requires x_within { x.span.first + x.span.count ≤ length entries.old }
     requires y_within { y.span.first + y.span.count ≤ length entries.old }
-    ensures list { (one other : List Entry) → HasList entries.old x.span one → HasList entries.old y.span other
-        → IfOk result (λ span. HasList entries.new span (all_led x.next one ++ all_led y.next other)) }
+    ensures list { (one other : List Entry) → HasList entries.old x.span one
+        → HasList entries.old y.span other
+        → IfOk result (λ span. HasList entries.new span
+        (all_led x.next one ++ all_led y.next other)) }
     ensures grows { OnOk result (Grows entries.old entries.new) }
 {
     let first = entries.len();
@@ -256,7 +260,8 @@ fn joint_count(x: Span, y: Span) -> Option<usize>
 
 fn add_side(alloc: Global, entries: &mut Items<Entry>, x: Side) -> Result<(), NoMemory>
     requires { x.span.first + x.span.count ≤ length entries.old }
-    ensures { OnOk result (entries.new ≡ entries.old ++ map (led x.next) (in_span entries.old x.span)) }
+    ensures { OnOk result
+        (entries.new ≡ entries.old ++ map (led x.next) (in_span entries.old x.span)) }
 {
     let list = Items::from_slice(alloc, in_span(entries.as_slice(), x.span))?;
     add_led(entries, list.as_slice(), x.next)

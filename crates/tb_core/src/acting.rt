@@ -24,7 +24,8 @@ pub fn kind_alone(alloc: Global, kind: LabelKind) -> Done
 
 /// A text was printed.
 pub fn printed(alloc: Global, text: Term) -> Result<Done, NoMemory>
-    ensures { IfOk result (λ done. done ≡ record { kind = LabelKind.Printf; shown = text ∷ []; binds = [] }) }
+    ensures { IfOk result
+        (λ done. done ≡ record { kind = LabelKind.Printf; shown = text ∷ []; binds = [] }) }
 {
     let mut done = kind_alone(alloc, LabelKind::Printf);
     done.shown.push(text)?;
@@ -52,7 +53,8 @@ fn number_term(number: u32) -> Term
 
 /// The bus goes down for this reason.
 pub fn shut_down(alloc: Global, reason: Term) -> Result<Done, NoMemory>
-    ensures { IfOk result (λ done. done ≡ record { kind = LabelKind.Shutdown; shown = reason ∷ []; binds = [] }) }
+    ensures { IfOk result
+        (λ done. done ≡ record { kind = LabelKind.Shutdown; shown = reason ∷ []; binds = [] }) }
 {
     let mut done = kind_alone(alloc, LabelKind::Shutdown);
     done.shown.push(reason)?;

@@ -133,7 +133,8 @@ impl<W: Walker> LiveBus<W> {
         requires sound { IsSound W.view self.old }
         requires within { at < length self.old.living.items }
         ensures same { StandsAs W.view self.old self.new }
-        ensures set { IsSetAt self.old.living.items at (λ living. OnOk result (living.fresh ≡ true)) self.new.living.items }
+        ensures set { IsSetAt self.old.living.items at
+            (λ living. OnOk result (living.fresh ≡ true)) self.new.living.items }
         ensures stale { self.new.stale ≡ self.old.stale }
     {
         let living = self.living[at].get_mut();
@@ -164,7 +165,8 @@ impl<W: Walker> LiveBus<W> {
         requires { IsSound W.view self.old }
         ensures same { StandsAs W.view self.old self.new }
         ensures stale { self.new.stale ≡ self.old.stale }
-        ensures fresh { (others : List ℕ) → All (IsFreshOr (number ∷ others)) self.old.living.items → OnOk result (All (IsFreshOr others) self.new.living.items) }
+        ensures fresh { (others : List ℕ) → All (IsFreshOr (number ∷ others)) self.old.living.items
+            → OnOk result (All (IsFreshOr others) self.new.living.items) }
     {
         let at = point_of(self.living.as_slice(), number);
         if at < self.living.len() {
@@ -246,7 +248,8 @@ impl<W: Walker> LiveBus<W> {
     fn next_speaker(&self, from: usize) -> Option<usize>
         requires sound { IsSound W.view self.now }
         requires within { from < length self.now.living.items }
-        ensures { IsNextPlace (is_receiver self.now.index tool_mark) (rows_of self.now.living.items) from result }
+        ensures { IsNextPlace (is_receiver self.now.index tool_mark)
+            (rows_of self.now.living.items) from result }
     {
         let found = self
             .index
@@ -325,7 +328,8 @@ impl<W: Walker> LiveBus<W> {
         requires sound { IsSound W.view self.now }
         requires fresh { AreFresh self.now.living.items }
         requires settled { self.now.stirred ≡ false }
-        ensures found { IfOk result (λ found. option_map (move_in W.view self.now) found ≡ first (moves (bus_of W.view self.now))) }
+        ensures found { IfOk result (λ found. option_map (move_in W.view self.now) found
+            ≡ first (moves (bus_of W.view self.now))) }
         ensures stands { IfOk result (λ found. IfSome found (IsCandidateIn (scene_in self.now))) }
     {
         let program = &self.origin.program;
@@ -346,7 +350,8 @@ impl<W: Walker> LiveBus<W> {
         requires fresh { AreFresh self.now.living.items }
         requires within { at < length self.now.living.items }
         requires index_within { index < length (row_at (rows_of self.now.living.items) at).ready }
-        ensures { IfOk result (λ taken. Leaves W.view self.now at taken (offer_of (procs_in W.view self.now) (rows_of self.now.living.items) at index)) }
+        ensures { IfOk result (λ taken. Leaves W.view self.now at taken
+            (offer_of (procs_in W.view self.now) (rows_of self.now.living.items) at index)) }
     {
         let living = self.living[at].get();
         let plan = &self.plans.as_slice()[living.body as usize];
@@ -358,12 +363,14 @@ impl<W: Walker> LiveBus<W> {
         requires sound { IsSound W.view self.old }
         requires within { at < length self.old.living.items }
         requires index_within { index < length (row_at (rows_of self.old.living.items) at).ready }
-        requires named { Contains self.old.stale.items (row_at (rows_of self.old.living.items) at).number }
+        requires named { Contains self.old.stale.items
+            (row_at (rows_of self.old.living.items) at).number }
         ensures ready { result ≡ ready_at (rows_of self.old.living.items) at index }
         ensures same { StandsAs W.view self.old self.new }
         ensures stale { self.new.stale ≡ self.old.stale }
         ensures kept { IsKept self.old.living.items self.new.living.items at }
-        ensures others { (other : ℕ) → other ≢ at → slice_get self.new.living.items other ≡ slice_get self.old.living.items other }
+        ensures others { (other : ℕ) → other ≢ at
+            → slice_get self.new.living.items other ≡ slice_get self.old.living.items other }
         ensures long { length self.new.living.items ≡ length self.old.living.items }
         ensures idle { IsStaleAt self.new.living.items at }
     {
@@ -376,7 +383,8 @@ impl<W: Walker> LiveBus<W> {
     fn outdate(&mut self, at: usize)
         requires sound { IsSound W.view self.old }
         requires within { at < length self.old.living.items }
-        requires named { Contains self.old.stale.items (row_at (rows_of self.old.living.items) at).number }
+        requires named { Contains self.old.stale.items
+            (row_at (rows_of self.old.living.items) at).number }
         ensures same { StandsAs W.view self.old self.new }
         ensures stale { self.new.stale ≡ self.old.stale }
         ensures kept { IsKept self.old.living.items self.new.living.items at }
@@ -389,12 +397,14 @@ impl<W: Walker> LiveBus<W> {
         requires sound { IsSound W.view self.old }
         requires within { at < length self.old.living.items }
         requires index_within { index < length (row_at (rows_of self.old.living.items) at).ready }
-        requires named { Contains self.old.stale.items (row_at (rows_of self.old.living.items) at).number }
+        requires named { Contains self.old.stale.items
+            (row_at (rows_of self.old.living.items) at).number }
         ensures sent { result ≡ sent_in (ready_at (rows_of self.old.living.items) at index).action }
         ensures same { StandsAs W.view self.old self.new }
         ensures stale { self.new.stale ≡ self.old.stale }
         ensures kept { IsKept self.old.living.items self.new.living.items at }
-        ensures others { (other : ℕ) → other ≢ at → slice_get self.new.living.items other ≡ slice_get self.old.living.items other }
+        ensures others { (other : ℕ) → other ≢ at
+            → slice_get self.new.living.items other ≡ slice_get self.old.living.items other }
         ensures long { length self.new.living.items ≡ length self.old.living.items }
     {
         let living = self.living[at].get_mut();
@@ -406,10 +416,13 @@ impl<W: Walker> LiveBus<W> {
     fn advance_at(&mut self, at: usize, taken: W::Taken, binds: &mut Binds)
         requires sound { IsSound W.view self.old }
         requires within { at < length self.old.living.items }
-        requires named { Contains self.old.stale.items (row_at (rows_of self.old.living.items) at).number }
+        requires named { Contains self.old.stale.items
+            (row_at (rows_of self.old.living.items) at).number }
         requires taken { CanAdvance W.view self.old at taken binds.old }
-        ensures advanced { (offered : Offered) → Leaves W.view self.old at taken offered → IsAdvanced W.view self.old at offered binds.old self.new }
-        ensures before { (other : ℕ) → other < at → slice_get self.new.living.items other ≡ slice_get self.old.living.items other }
+        ensures advanced { (offered : Offered) → Leaves W.view self.old at taken offered
+            → IsAdvanced W.view self.old at offered binds.old self.new }
+        ensures before { (other : ℕ) → other < at
+            → slice_get self.new.living.items other ≡ slice_get self.old.living.items other }
         ensures long { length self.old.living.items ≤ length self.new.living.items + 1 }
         ensures stale { self.new.stale ≡ self.old.stale }
     {
@@ -426,7 +439,8 @@ impl<W: Walker> LiveBus<W> {
         requires sound { IsSound W.view self.now }
         requires fresh { AreFresh self.now.living.items }
         requires found { IsCandidateIn (scene_in self.now) candidate.now }
-        ensures { result ≡ min (terms_size (label_of (move_in W.view self.now candidate.now)).terms) MAX }
+        ensures { result
+            ≡ min (terms_size (label_of (move_in W.view self.now candidate.now)).terms) MAX }
     {
         match candidate {
             Candidate::Own(at, index, finding) => {
@@ -486,8 +500,10 @@ impl<W: Walker> LiveBus<W> {
         requires can { CanLog log.old (label_of (move_in W.view self.old candidate)) }
         ensures sound { IsSound W.view self.new }
         ensures origin { self.new.origin ≡ self.old.origin }
-        ensures logged { OnOk result (IsLogged log.old (label_of (move_in W.view self.old candidate)) log.new) }
-        ensures bus { OnOk result (bus_of W.view self.new ≡ apply (bus_of W.view self.old) (move_in W.view self.old candidate)) }
+        ensures logged { OnOk result
+            (IsLogged log.old (label_of (move_in W.view self.old candidate)) log.new) }
+        ensures bus { OnOk result (bus_of W.view self.new
+            ≡ apply (bus_of W.view self.old) (move_in W.view self.old candidate)) }
         ensures err { OnErr result (bus_of W.view self.new ≡ bus_of W.view self.old) }
         ensures kept { OnErr result (log.new ≡ log.old) }
     {
@@ -518,11 +534,14 @@ impl<W: Walker> LiveBus<W> {
         requires sound { IsSound W.view self.old }
         requires fresh { AreFresh self.old.living.items }
         requires found { IsCandidateIn (scene_in self.old) (Candidate.Handshake at index partner) }
-        requires can { CanLog log.old (label_of (move_in W.view self.old (Candidate.Handshake at index partner))) }
+        requires can { CanLog log.old
+            (label_of (move_in W.view self.old (Candidate.Handshake at index partner))) }
         ensures sound { IsSound W.view self.new }
         ensures origin { self.new.origin ≡ self.old.origin }
-        ensures logged { OnOk result (IsLogged log.old (label_of (move_in W.view self.old (Candidate.Handshake at index partner))) log.new) }
-        ensures bus { OnOk result (bus_of W.view self.new ≡ apply (bus_of W.view self.old) (move_in W.view self.old (Candidate.Handshake at index partner))) }
+        ensures logged { OnOk result (IsLogged log.old
+            (label_of (move_in W.view self.old (Candidate.Handshake at index partner))) log.new) }
+        ensures bus { OnOk result (bus_of W.view self.new ≡ apply (bus_of W.view self.old)
+            (move_in W.view self.old (Candidate.Handshake at index partner))) }
         ensures err { OnErr result (bus_of W.view self.new ≡ bus_of W.view self.old) }
         ensures kept { OnErr result (log.new ≡ log.old) }
     {
@@ -550,7 +569,8 @@ impl<W: Walker> LiveBus<W> {
     fn is_tau(&self, at: usize, index: usize) -> bool
         requires within { at < length self.now.living.items }
         requires index_within { index < length (row_at (rows_of self.now.living.items) at).ready }
-        ensures { result ≡ true → (ready_at (rows_of self.now.living.items) at index).action ≡ Action.Own OwnAction.Tau }
+        ensures { result ≡ true → (ready_at (rows_of self.now.living.items) at index).action
+            ≡ Action.Own OwnAction.Tau }
     {
         match &self.living[at].get().ready[index].action {
             Action::Own(OwnAction::Tau) => true,
@@ -564,10 +584,13 @@ impl<W: Walker> LiveBus<W> {
         requires within { at < length self.old.living.items }
         requires index_within { index < length (row_at (rows_of self.old.living.items) at).ready }
         ensures same { StandsAs W.view self.old self.new }
-        ensures number { IfOk result (λ from. from.proc ≡ (row_at (rows_of self.old.living.items) at).number) }
-        ensures atom { IfOk result (λ from. from.atom ≡ (ready_at (rows_of self.old.living.items) at index).atom) }
+        ensures number { IfOk result
+            (λ from. from.proc ≡ (row_at (rows_of self.old.living.items) at).number) }
+        ensures atom { IfOk result
+            (λ from. from.atom ≡ (ready_at (rows_of self.old.living.items) at index).atom) }
         ensures kept { IsKept self.old.living.items self.new.living.items at }
-        ensures named { OnOk result (Contains self.new.stale.items (row_at (rows_of self.old.living.items) at).number) }
+        ensures named { OnOk result
+            (Contains self.new.stale.items (row_at (rows_of self.old.living.items) at).number) }
     {
         let from = self.place_at(at, index);
         self.stale.push(from.proc)?;
@@ -581,11 +604,15 @@ impl<W: Walker> LiveBus<W> {
         requires within { at < length self.old.living.items }
         requires index_within { index < length (row_at (rows_of self.old.living.items) at).ready }
         ensures same { StandsAs W.view self.old self.new }
-        ensures number { IfOk result (λ begun. begun.from.proc ≡ (row_at (rows_of self.old.living.items) at).number) }
-        ensures atom { IfOk result (λ begun. begun.from.atom ≡ (ready_at (rows_of self.old.living.items) at index).atom) }
-        ensures own { IfOk result (λ begun. begun.own ≡ own_in (ready_at (rows_of self.old.living.items) at index).action) }
+        ensures number { IfOk result
+            (λ begun. begun.from.proc ≡ (row_at (rows_of self.old.living.items) at).number) }
+        ensures atom { IfOk result
+            (λ begun. begun.from.atom ≡ (ready_at (rows_of self.old.living.items) at index).atom) }
+        ensures own { IfOk result (λ begun. begun.own
+            ≡ own_in (ready_at (rows_of self.old.living.items) at index).action) }
         ensures kept { IsKept self.old.living.items self.new.living.items at }
-        ensures named { OnOk result (Contains self.new.stale.items (row_at (rows_of self.old.living.items) at).number) }
+        ensures named { OnOk result
+            (Contains self.new.stale.items (row_at (rows_of self.old.living.items) at).number) }
         ensures idle { OnOk result (IsStaleAt self.new.living.items at) }
     {
         let from = self.place_at(at, index);
@@ -606,10 +633,14 @@ impl<W: Walker> LiveBus<W> {
         requires sound { IsSound W.view self.old }
         requires fresh { AreFresh self.old.living.items }
         requires found { IsCandidateIn (scene_in self.old) (Candidate.Own at index Finding.Plain) }
-        requires tau { (ready_at (rows_of self.old.living.items) at index).action ≡ Action.Own OwnAction.Tau }
-        requires can { CanLog log.old (label_of (move_in W.view self.old (Candidate.Own at index Finding.Plain))) }
-        ensures made { OnOk result (IsMade W.view self.old (Candidate.Own at index Finding.Plain) self.new) }
-        ensures logged { OnOk result (IsLogged log.old (label_of (move_in W.view self.old (Candidate.Own at index Finding.Plain))) log.new) }
+        requires tau { (ready_at (rows_of self.old.living.items) at index).action
+            ≡ Action.Own OwnAction.Tau }
+        requires can { CanLog log.old
+            (label_of (move_in W.view self.old (Candidate.Own at index Finding.Plain))) }
+        ensures made { OnOk result
+            (IsMade W.view self.old (Candidate.Own at index Finding.Plain) self.new) }
+        ensures logged { OnOk result (IsLogged log.old
+            (label_of (move_in W.view self.old (Candidate.Own at index Finding.Plain))) log.new) }
         ensures err { OnErr result (StandsAs W.view self.old self.new) }
         ensures kept { OnErr result (log.new ≡ log.old) }
     {
@@ -635,9 +666,12 @@ impl<W: Walker> LiveBus<W> {
         requires next { self.old.marks.next_number < 4294967295 }
         requires tools { self.old.bench.next_tool ≤ most_tools }
         requires found { IsCandidateIn (scene_in self.old) (Candidate.Own at index finding) }
-        requires can { CanLog log.old (label_of (move_in W.view self.old (Candidate.Own at index finding))) }
-        ensures made { OnOk result (IsMade W.view self.old (Candidate.Own at index finding) self.new) }
-        ensures logged { OnOk result (IsLogged log.old (label_of (move_in W.view self.old (Candidate.Own at index finding))) log.new) }
+        requires can { CanLog log.old
+            (label_of (move_in W.view self.old (Candidate.Own at index finding))) }
+        ensures made { OnOk result
+            (IsMade W.view self.old (Candidate.Own at index finding) self.new) }
+        ensures logged { OnOk result (IsLogged log.old
+            (label_of (move_in W.view self.old (Candidate.Own at index finding))) log.new) }
         ensures err { OnErr result (StandsAs W.view self.old self.new) }
         ensures kept { OnErr result (log.new ≡ log.old) }
     {
@@ -654,9 +688,11 @@ impl<W: Walker> LiveBus<W> {
         requires sound { IsSound W.view self.old }
         requires within { at < length self.old.living.items }
         ensures same { StandsAs W.view self.old self.new }
-        ensures alone { self.new ≡ record self.old { index = self.new.index; roused = self.new.roused } }
+        ensures alone { self.new
+            ≡ record self.old { index = self.new.index; roused = self.new.roused } }
         ensures kept { AreStillAwake self.old.index self.new.index }
-        ensures awake { OnOk result (is_awake self.new.index (row_at (rows_of self.old.living.items) at).number ≡ true) }
+        ensures awake { OnOk result
+            (is_awake self.new.index (row_at (rows_of self.old.living.items) at).number ≡ true) }
     {
         let number = self.living[at].get().number;
         self.roused.push(number)?;
@@ -669,8 +705,10 @@ impl<W: Walker> LiveBus<W> {
         requires sound { IsSound W.view self.old }
         requires within { All (λ at. at < length self.old.living.items) indices.now }
         ensures same { StandsAs W.view self.old self.new }
-        ensures alone { self.new ≡ record self.old { index = self.new.index; roused = self.new.roused } }
-        ensures awake { OnOk result (All (IsAwakeAt self.new.index self.old.living.items) indices.now) }
+        ensures alone { self.new
+            ≡ record self.old { index = self.new.index; roused = self.new.roused } }
+        ensures awake { OnOk result
+            (All (IsAwakeAt self.new.index self.old.living.items) indices.now) }
     {
         for at in indices {
             self.rouse_at(*at)?;
@@ -688,7 +726,8 @@ impl<W: Walker> LiveBus<W> {
         requires sound { IsSound W.view self.old }
         requires wanting { indices.now ≡ wanting terms 0 (rows_of self.old.living.items) }
         requires room { IsTrue (all_take terms (rows_of self.old.living.items)) }
-        ensures changed { OnOk result ((at : ℕ) → at < length self.old.living.items → IsChanged W.view self.old at (noting terms) self.new) }
+        ensures changed { OnOk result ((at : ℕ) → at < length self.old.living.items
+            → IsChanged W.view self.old at (noting terms) self.new) }
         ensures done { IfOk result (IsDone (noting terms)) }
         ensures err { OnErr result (StandsAs W.view self.old self.new) }
     {
@@ -706,9 +745,12 @@ impl<W: Walker> LiveBus<W> {
         requires sound { IsSound W.view self.old }
         requires within { at < length self.old.living.items }
         requires idle { IsStaleAt self.old.living.items at }
-        requires place { found.place < length (row_at (rows_of self.old.living.items) at).inbox.notes }
-        ensures changed { IsChanged W.view self.old at (taking (row_at (rows_of self.old.living.items) at).inbox found) self.new }
-        ensures done { IsDone (taking (row_at (rows_of self.old.living.items) at).inbox found) result }
+        requires place { found.place
+            < length (row_at (rows_of self.old.living.items) at).inbox.notes }
+        ensures changed { IsChanged W.view self.old at
+            (taking (row_at (rows_of self.old.living.items) at).inbox found) self.new }
+        ensures done { IsDone
+            (taking (row_at (rows_of self.old.living.items) at).inbox found) result }
     {
         let Found { place, binds } = found;
         Done {
@@ -728,8 +770,11 @@ impl<W: Walker> LiveBus<W> {
         requires sound { IsSound W.view self.old }
         requires tools { self.old.bench.next_tool ≤ most_tools }
         requires can { CanSpeak self.old.origin.program.tools self.old.bench does exchange }
-        ensures changed { OnOk result ((at : ℕ) → at < length self.old.living.items → IsChanged W.view self.old at (speaking (around self.old.origin.program.tools self.old.bench) does exchange) self.new) }
-        ensures done { IfOk result (IsDone (speaking (around self.old.origin.program.tools self.old.bench) does exchange)) }
+        ensures changed { OnOk result ((at : ℕ) → at < length self.old.living.items
+            → IsChanged W.view self.old at (speaking
+            (around self.old.origin.program.tools self.old.bench) does exchange) self.new) }
+        ensures done { IfOk result (IsDone
+            (speaking (around self.old.origin.program.tools self.old.bench) does exchange)) }
         ensures err { OnErr result (StandsAs W.view self.old self.new) }
     {
         let program = &self.origin.program;
@@ -761,7 +806,8 @@ impl<W: Walker> LiveBus<W> {
         requires tools { self.old.bench.next_tool ≤ most_tools }
         requires plain { IsPlainIn own }
         requires found { finding_in self.old at own ≡ Some finding }
-        ensures changed { OnOk result (IsChanged W.view self.old at (effect_in self.old at own finding) self.new) }
+        ensures changed { OnOk result
+            (IsChanged W.view self.old at (effect_in self.old at own finding) self.new) }
         ensures done { IfOk result (IsDone (effect_in self.old at own finding)) }
         ensures err { OnErr result (StandsAs W.view self.old self.new) }
     {
@@ -815,9 +861,13 @@ impl<W: Walker> LiveBus<W> {
     ) -> Result<Done, NoMemory>
         requires sound { IsSound W.view self.old }
         requires next { self.old.marks.next_number < 4294967295 }
-        requires fits { IsTrue (fits_formals (slice_get self.old.origin.program.bodies process) actuals) }
-        ensures changed { OnOk result ((at : ℕ) → at < length self.old.living.items → IsChanged W.view self.old at (creation self.old.marks.next_number process actuals slot) self.new) }
-        ensures done { IfOk result (IsDone (creation self.old.marks.next_number process actuals slot)) }
+        requires fits { IsTrue
+            (fits_formals (slice_get self.old.origin.program.bodies process) actuals) }
+        ensures changed { OnOk result ((at : ℕ) → at < length self.old.living.items
+            → IsChanged W.view self.old at
+            (creation self.old.marks.next_number process actuals slot) self.new) }
+        ensures done { IfOk result
+            (IsDone (creation self.old.marks.next_number process actuals slot)) }
         ensures err { OnErr result (StandsAs W.view self.old self.new) }
     {
         let number = self.marks.next_number;
@@ -837,10 +887,13 @@ impl<W: Walker> LiveBus<W> {
     fn finish(&mut self, at: usize, taken: W::Taken, from: Place, done: Done) -> Label
         requires sound { IsSound W.view self.old }
         requires within { at < length self.old.living.items }
-        requires named { Contains self.old.stale.items (row_at (rows_of self.old.living.items) at).number }
+        requires named { Contains self.old.stale.items
+            (row_at (rows_of self.old.living.items) at).number }
         requires taken { CanAdvance W.view self.old at taken done.binds }
-        ensures gone { (offered : Offered) → Leaves W.view self.old at taken offered → HasGone W.view self.old at offered done.binds from.proc self.new }
-        ensures label { result ≡ record { kind = done.kind; from = from; to = nowhere; terms = done.shown } }
+        ensures gone { (offered : Offered) → Leaves W.view self.old at taken offered
+            → HasGone W.view self.old at offered done.binds from.proc self.new }
+        ensures label { result
+            ≡ record { kind = done.kind; from = from; to = nowhere; terms = done.shown } }
     {
         let Done {
             kind,
@@ -872,12 +925,17 @@ impl<W: Walker> LiveBus<W> {
         requires sound { IsSound W.view self.old }
         requires fresh { AreFresh self.old.living.items }
         requires found { IsCandidateIn (scene_in self.old) (Candidate.Handshake at index partner) }
-        requires sent { Leaves W.view self.old at sent (offer_of (procs_in W.view self.old) (rows_of self.old.living.items) at index) }
-        requires received { Leaves W.view self.old partner.living received (offer_of (procs_in W.view self.old) (rows_of self.old.living.items) partner.living partner.received.action) }
+        requires sent { Leaves W.view self.old at sent
+            (offer_of (procs_in W.view self.old) (rows_of self.old.living.items) at index) }
+        requires received { Leaves W.view self.old partner.living received
+            (offer_of (procs_in W.view self.old)
+            (rows_of self.old.living.items) partner.living partner.received.action) }
         requires room { vec_len self.old.stale + 1 < vec_capacity self.old.stale }
-        requires can { CanLog log.old (label_of (move_in W.view self.old (Candidate.Handshake at index partner))) }
+        requires can { CanLog log.old
+            (label_of (move_in W.view self.old (Candidate.Handshake at index partner))) }
         ensures made { IsMade W.view self.old (Candidate.Handshake at index partner) self.new }
-        ensures logged { IsLogged log.old (label_of (move_in W.view self.old (Candidate.Handshake at index partner))) log.new }
+        ensures logged { IsLogged log.old
+            (label_of (move_in W.view self.old (Candidate.Handshake at index partner))) log.new }
     {
         let Partner {
             living: other,
@@ -915,13 +973,17 @@ impl<W: Walker> LiveBus<W> {
         requires sound { IsSound W.view self.old }
         requires within { at < length self.old.living.items }
         requires other_within { other < length self.old.living.items }
-        requires apart { (row_at (rows_of self.old.living.items) at).number ≢ (row_at (rows_of self.old.living.items) other).number }
-        requires named { Contains self.old.stale.items (row_at (rows_of self.old.living.items) at).number }
-        requires other_named { Contains self.old.stale.items (row_at (rows_of self.old.living.items) other).number }
+        requires apart { (row_at (rows_of self.old.living.items) at).number
+            ≢ (row_at (rows_of self.old.living.items) other).number }
+        requires named { Contains self.old.stale.items
+            (row_at (rows_of self.old.living.items) at).number }
+        requires other_named { Contains self.old.stale.items
+            (row_at (rows_of self.old.living.items) other).number }
         requires sent { CanAdvance W.view self.old at sent [] }
         requires received { CanAdvance W.view self.old other received binds.old }
-        ensures { (offered its : Offered) → Leaves W.view self.old at sent offered → Leaves W.view self.old other received its →
-            AreAdvanced W.view self.old at offered other its binds.old self.new }
+        ensures { (offered its : Offered) → Leaves W.view self.old at sent offered
+            → Leaves W.view self.old other received its
+            → AreAdvanced W.view self.old at offered other its binds.old self.new }
     {
         let mut none = Items::new(alloc);
         // The one behind goes first, so that the other keeps its index.
@@ -942,7 +1004,8 @@ impl<W: Walker> LiveBus<W> {
         ensures plans { self.new.plans ≡ self.old.plans }
         ensures living { self.new.living ≡ self.old.living }
         ensures stale { self.new.stale ≡ self.old.stale }
-        ensures ok { OnOk result (bus_of W.view self.new ≡ went_down reason.now (bus_of W.view self.old)) }
+        ensures ok { OnOk result
+            (bus_of W.view self.new ≡ went_down reason.now (bus_of W.view self.old)) }
         ensures err { OnErr result (StandsAs W.view self.old self.new) }
     {
         self.bench.down(reason)?;
@@ -958,7 +1021,8 @@ impl<W: Walker> LiveBus<W> {
         requires sound { IsSound W.view self.old }
         requires can { CanLog log.old (label_of (move_in W.view self.old Candidate.Finish)) }
         ensures made { OnOk result (IsMade W.view self.old Candidate.Finish self.new) }
-        ensures logged { OnOk result (IsLogged log.old (label_of (move_in W.view self.old Candidate.Finish)) log.new) }
+        ensures logged { OnOk result
+            (IsLogged log.old (label_of (move_in W.view self.old Candidate.Finish)) log.new) }
         ensures err { OnErr result (StandsAs W.view self.old self.new) }
         ensures kept { OnErr result (log.new ≡ log.old) }
     {
@@ -973,7 +1037,8 @@ impl<W: Walker> LiveBus<W> {
         requires sound { IsSound W.view self.old }
         requires can { CanLog log.old (label_of (move_in W.view self.old Candidate.Halt)) }
         ensures made { OnOk result (IsMade W.view self.old Candidate.Halt self.new) }
-        ensures logged { OnOk result (IsLogged log.old (label_of (move_in W.view self.old Candidate.Halt)) log.new) }
+        ensures logged { OnOk result
+            (IsLogged log.old (label_of (move_in W.view self.old Candidate.Halt)) log.new) }
         ensures err { OnErr result (StandsAs W.view self.old self.new) }
         ensures kept { OnErr result (log.new ≡ log.old) }
     {
@@ -988,7 +1053,8 @@ impl<W: Walker> LiveBus<W> {
         requires few { self.old.ticks < most_ticks }
         ensures sound { IsSound W.view self.new }
         ensures origin { self.new.origin ≡ self.old.origin }
-        ensures bus { bus_of W.view self.new ≡ record (bus_of W.view self.old) { procs = map aged_proc (procs_in W.view self.old); now = self.old.ticks + 1 } }
+        ensures bus { bus_of W.view self.new ≡ record (bus_of W.view self.old)
+            { procs = map aged_proc (procs_in W.view self.old); now = self.old.ticks + 1 } }
     {
         tick_all(&self.plans, &mut self.living);
         self.ticks += 1;
@@ -1001,10 +1067,12 @@ impl<W: Walker> LiveBus<W> {
         requires few { self.old.ticks < most_ticks }
         requires tools { self.old.bench.next_tool ≤ most_tools }
         requires shape { IsInputInShape input.now }
-        ensures reply { IfOk result (λ reply. reply ≡ (fed (bus_of W.view self.old) input.now).reply) }
+        ensures reply { IfOk result
+            (λ reply. reply ≡ (fed (bus_of W.view self.old) input.now).reply) }
         ensures sound { IsSound W.view self.new }
         ensures origin { self.new.origin ≡ self.old.origin }
-        ensures bus { OnOk result (bus_of W.view self.new ≡ (fed (bus_of W.view self.old) input.now).bus) }
+        ensures bus { OnOk result
+            (bus_of W.view self.new ≡ (fed (bus_of W.view self.old) input.now).bus) }
         ensures calm { takes_memory input.now ≡ false → OnErr result ⊥ }
         ensures err { OnErr result (bus_of W.view self.new ≡ bus_of W.view self.old) }
     {
@@ -1031,10 +1099,12 @@ impl<W: Walker> LiveBus<W> {
         requires sound { IsSound W.view self.old }
         requires tools { self.old.bench.next_tool ≤ most_tools }
         requires lane { IsLane lane }
-        ensures reply { IfOk result (λ reply. reply ≡ (took (bus_of W.view self.old) (Input.Line lane line.now)).reply) }
+        ensures reply { IfOk result
+            (λ reply. reply ≡ (took (bus_of W.view self.old) (Input.Line lane line.now)).reply) }
         ensures sound { IsSound W.view self.new }
         ensures origin { self.new.origin ≡ self.old.origin }
-        ensures bus { OnOk result (bus_of W.view self.new ≡ (took (bus_of W.view self.old) (Input.Line lane line.now)).bus) }
+        ensures bus { OnOk result (bus_of W.view self.new
+            ≡ (took (bus_of W.view self.old) (Input.Line lane line.now)).bus) }
         ensures err { OnErr result (bus_of W.view self.new ≡ bus_of W.view self.old) }
     {
         let declared = is_declared(self.origin.program.tools.as_slice(), line);
@@ -1052,7 +1122,8 @@ impl<W: Walker> LiveBus<W> {
         ensures reply { result ≡ (took (bus_of W.view self.old) (Input.Gone lane)).reply }
         ensures sound { IsSound W.view self.new }
         ensures origin { self.new.origin ≡ self.old.origin }
-        ensures bus { bus_of W.view self.new ≡ (took (bus_of W.view self.old) (Input.Gone lane)).bus }
+        ensures bus { bus_of W.view self.new
+            ≡ (took (bus_of W.view self.old) (Input.Gone lane)).bus }
     {
         let reply = self.bench.gone(lane);
         self.stirred = true;
@@ -1067,7 +1138,8 @@ impl<W: Walker> LiveBus<W> {
         ensures reply { result ≡ (took (bus_of W.view self.old) (Input.Cut lane)).reply }
         ensures sound { IsSound W.view self.new }
         ensures origin { self.new.origin ≡ self.old.origin }
-        ensures bus { bus_of W.view self.new ≡ (took (bus_of W.view self.old) (Input.Cut lane)).bus }
+        ensures bus { bus_of W.view self.new
+            ≡ (took (bus_of W.view self.old) (Input.Cut lane)).bus }
     {
         let reply = self.bench.cut(lane);
         self.stirred = true;

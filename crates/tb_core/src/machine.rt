@@ -140,11 +140,13 @@ impl<W: Walker> Core<W> {
     pub fn hand_in(&mut self, input: Input) -> Result<Reply, CoreFault>
         requires { IsInputInShape input }
         ensures reply { IfOk result (λ reply. reply ≡ (fed (bus_now self.old) input).reply) }
-        ensures logs { IfOk result (λ _. Logs self.old self.new (entries_of self.old (HandIn input))) }
+        ensures logs { IfOk result
+            (λ _. Logs self.old self.new (entries_of self.old (HandIn input))) }
         ensures stopped { IsErrOf result CoreFault.Stopped ↔ IsTrue self.old.stopped }
         ensures full { IsErrOf result CoreFault.Full → is_full self.old (HandIn input) ≡ true }
         ensures room { IfOk result (λ _. is_full self.old (HandIn input) ≡ false) }
-        ensures calm { takes_memory input ≡ false → 0 < self.old.spare → IsErrOf result CoreFault.NoMemory → ⊥ }
+        ensures calm { takes_memory input ≡ false → 0 < self.old.spare
+            → IsErrOf result CoreFault.NoMemory → ⊥ }
         ensures err { OnErr result (Stays self.old self.new) }
     {
         if self.stopped {
@@ -194,7 +196,8 @@ impl<W: Walker> Core<W> {
     pub fn take_out(&mut self, lane: u8) -> Result<TakeOut, CoreFault>
         requires { IsLane lane }
         ensures found { IfOk result (IsTakenOut self.old lane) }
-        ensures logs { IfOk result (λ _. Logs self.old self.new (entries_of self.old (HandOut lane))) }
+        ensures logs { IfOk result
+            (λ _. Logs self.old self.new (entries_of self.old (HandOut lane))) }
         ensures stopped { IsErrOf result CoreFault.Stopped ↔ IsTrue self.old.stopped }
         ensures full { IsErrOf result CoreFault.Full → is_full self.old (HandOut lane) ≡ true }
         ensures room { IfOk result (λ _. is_full self.old (HandOut lane) ≡ false) }
@@ -269,14 +272,19 @@ fn hand<W: Walker>(
     ensures origin { bus.new.origin ≡ bus.old.origin }
     ensures limit { log.new.limit ≡ log.old.limit }
     ensures reply { IfOk result (λ reply. reply ≡ (fed (bus_of W.view bus.old) input).reply) }
-    ensures log { IfOk result (λ reply. log.new.entries ≡ log.old.entries ++ Entry.Fed input reply ∷ []) }
+    ensures log { IfOk result
+        (λ reply. log.new.entries ≡ log.old.entries ++ Entry.Fed input reply ∷ []) }
     ensures spare { OnOk result (log.old.spare ≤ log.new.spare + 1) }
     ensures bus { OnOk result (bus_of W.view bus.new ≡ (fed (bus_of W.view bus.old) input).bus) }
     ensures running { IsErrOf result CoreFault.Stopped → ⊥ }
-    ensures full { IsErrOf result CoreFault.Full → has_room log.old.limit log.old.entries (Entry.Fed input (fed (bus_of W.view bus.old) input).reply) ≡ false }
-    ensures room { OnOk result (has_room log.old.limit log.old.entries (Entry.Fed input (fed (bus_of W.view bus.old) input).reply) ≡ true) }
-    ensures calm { takes_memory input ≡ false → 0 < log.old.spare → IsErrOf result CoreFault.NoMemory → ⊥ }
-    ensures err { OnErr result ((bus_of W.view bus.new ≡ bus_of W.view bus.old) × (log.new.entries ≡ log.old.entries) × (log.old.spare ≤ log.new.spare)) }
+    ensures full { IsErrOf result CoreFault.Full → has_room log.old.limit log.old.entries
+        (Entry.Fed input (fed (bus_of W.view bus.old) input).reply) ≡ false }
+    ensures room { OnOk result (has_room log.old.limit log.old.entries
+        (Entry.Fed input (fed (bus_of W.view bus.old) input).reply) ≡ true) }
+    ensures calm { takes_memory input ≡ false → 0 < log.old.spare
+        → IsErrOf result CoreFault.NoMemory → ⊥ }
+    ensures err { OnErr result ((bus_of W.view bus.new ≡ bus_of W.view bus.old)
+        × (log.new.entries ≡ log.old.entries) × (log.old.spare ≤ log.new.spare)) }
 {
     let size = input_size(&input);
     if !log.room_for_size(size) {
@@ -298,19 +306,25 @@ fn take<W: Walker>(
     requires sound { IsSound W.view bus.old }
     requires lane { IsLane lane }
     requires some { IsSome (next_out lane bus.old.bench) }
-    requires sized { (out : Out) → next_out lane bus.old.bench ≡ Some out → size ≡ min (out_size out) MAX }
+    requires sized { (out : Out) → next_out lane bus.old.bench ≡ Some out
+        → size ≡ min (out_size out) MAX }
     ensures sound { IsSound W.view bus.new }
     ensures origin { bus.new.origin ≡ bus.old.origin }
     ensures limit { log.new.limit ≡ log.old.limit }
     ensures out { IfOk result (λ out. next_out lane bus.old.bench ≡ Some out) }
-    ensures log { IfOk result (λ out. log.new.entries ≡ log.old.entries ++ Entry.Gave lane out ∷ []) }
+    ensures log { IfOk result
+        (λ out. log.new.entries ≡ log.old.entries ++ Entry.Gave lane out ∷ []) }
     ensures spare { OnOk result (log.old.spare ≤ log.new.spare + 1) }
     ensures bus { OnOk result (bus_of W.view bus.new ≡ taken_out lane (bus_of W.view bus.old)) }
     ensures running { IsErrOf result CoreFault.Stopped → ⊥ }
-    ensures full { IsErrOf result CoreFault.Full → (out : Out) → next_out lane bus.old.bench ≡ Some out → has_room log.old.limit log.old.entries (Entry.Gave lane out) ≡ false }
-    ensures room { IfOk result (λ out. has_room log.old.limit log.old.entries (Entry.Gave lane out) ≡ true) }
+    ensures full { IsErrOf result CoreFault.Full → (out : Out)
+        → next_out lane bus.old.bench ≡ Some out
+        → has_room log.old.limit log.old.entries (Entry.Gave lane out) ≡ false }
+    ensures room { IfOk result
+        (λ out. has_room log.old.limit log.old.entries (Entry.Gave lane out) ≡ true) }
     ensures calm { 0 < log.old.spare → IsErrOf result CoreFault.NoMemory → ⊥ }
-    ensures err { OnErr result ((bus_of W.view bus.new ≡ bus_of W.view bus.old) × (log.new.entries ≡ log.old.entries) × (log.old.spare ≤ log.new.spare)) }
+    ensures err { OnErr result ((bus_of W.view bus.new ≡ bus_of W.view bus.old)
+        × (log.new.entries ≡ log.old.entries) × (log.old.spare ≤ log.new.spare)) }
 {
     if !log.room_for_size(size) {
         return Err(CoreFault::Full);
@@ -349,13 +363,18 @@ fn make<W: Walker>(
     ensures sound { IsSound W.view bus.new }
     ensures origin { bus.new.origin ≡ bus.old.origin }
     ensures limit { log.new.limit ≡ log.old.limit }
-    ensures log { OnOk result (log.new.entries ≡ log.old.entries ++ Entry.Did (label_of (move_in W.view bus.old candidate)) ∷ []) }
+    ensures log { OnOk result (log.new.entries
+        ≡ log.old.entries ++ Entry.Did (label_of (move_in W.view bus.old candidate)) ∷ []) }
     ensures spare { OnOk result (log.old.spare ≤ log.new.spare + 1) }
-    ensures bus { OnOk result (bus_of W.view bus.new ≡ apply (bus_of W.view bus.old) (move_in W.view bus.old candidate)) }
+    ensures bus { OnOk result
+        (bus_of W.view bus.new ≡ apply (bus_of W.view bus.old) (move_in W.view bus.old candidate)) }
     ensures running { IsErrOf result CoreFault.Stopped → ⊥ }
-    ensures full { IsErrOf result CoreFault.Full → has_room log.old.limit log.old.entries (Entry.Did (label_of (move_in W.view bus.old candidate))) ≡ false }
-    ensures room { OnOk result (has_room log.old.limit log.old.entries (Entry.Did (label_of (move_in W.view bus.old candidate))) ≡ true) }
-    ensures err { OnErr result ((bus_of W.view bus.new ≡ bus_of W.view bus.old) × (log.new.entries ≡ log.old.entries) × (log.old.spare ≤ log.new.spare)) }
+    ensures full { IsErrOf result CoreFault.Full → has_room log.old.limit log.old.entries
+        (Entry.Did (label_of (move_in W.view bus.old candidate))) ≡ false }
+    ensures room { OnOk result (has_room log.old.limit log.old.entries
+        (Entry.Did (label_of (move_in W.view bus.old candidate))) ≡ true) }
+    ensures err { OnErr result ((bus_of W.view bus.new ≡ bus_of W.view bus.old)
+        × (log.new.entries ≡ log.old.entries) × (log.old.spare ≤ log.new.spare)) }
 {
     let size = bus.shown_size(&candidate);
     if !log.room_for_size(size) {
@@ -368,13 +387,18 @@ fn make<W: Walker>(
 
 /// Logs that nothing is possible, unless the log says so last.
 fn say_quiet(log: &mut Log) -> Result<(), CoreFault>
-    ensures ok { OnOk result (log.new.entries ≡ log.old.entries ++ (if ends_quiet log.old.entries then [] else Entry.Quiet ∷ [])) }
+    ensures ok { OnOk result (log.new.entries
+        ≡ log.old.entries ++ (if ends_quiet log.old.entries then [] else Entry.Quiet ∷ [])) }
     ensures limit { log.new.limit ≡ log.old.limit }
     ensures running { IsErrOf result CoreFault.Stopped → ⊥ }
-    ensures full { IsErrOf result CoreFault.Full → (ends_quiet log.old.entries ≡ false) × (has_room log.old.limit log.old.entries Entry.Quiet ≡ false) }
-    ensures room { OnOk result (ends_quiet log.old.entries ≡ false → has_room log.old.limit log.old.entries Entry.Quiet ≡ true) }
-    ensures spare { OnOk result (log.old.spare ≤ log.new.spare + length (if ends_quiet log.old.entries then [] else Entry.Quiet ∷ [])) }
-    ensures err { OnErr result ((log.new.entries ≡ log.old.entries) × (log.old.spare ≤ log.new.spare)) }
+    ensures full { IsErrOf result CoreFault.Full → (ends_quiet log.old.entries ≡ false)
+        × (has_room log.old.limit log.old.entries Entry.Quiet ≡ false) }
+    ensures room { OnOk result (ends_quiet log.old.entries ≡ false
+        → has_room log.old.limit log.old.entries Entry.Quiet ≡ true) }
+    ensures spare { OnOk result (log.old.spare
+        ≤ log.new.spare + length (if ends_quiet log.old.entries then [] else Entry.Quiet ∷ [])) }
+    ensures err { OnErr result
+        ((log.new.entries ≡ log.old.entries) × (log.old.spare ≤ log.new.spare)) }
 {
     if says_quiet(log) {
         return Ok(());

@@ -87,7 +87,8 @@ fn all_beside<R: Threads + Wait + Sync, J: Job + Send, K: Job, L: Job + Send>(
         { lent.work(rt) },
         &mut || -> ()
             requires { IsSync R.row × K.ready own.now × All J.ready jobs.now }
-            ensures { K.done own.entry.now own.exit.now × AllDone J.done jobs.entry.now jobs.exit.now }
+            ensures { K.done own.entry.now own.exit.now
+                × AllDone J.done jobs.entry.now jobs.exit.now }
         { jobs_beside(rt, jobs, own) },
     );
 }

@@ -77,7 +77,8 @@ pub trait Files {
         ensures held { IfOk result (IsOf (held self.old name.now)) }
         ensures held_stays { held self.new ≡ held self.old }
         ensures asked { asked self.new ≡ asked_after result (asked self.old) name.now }
-        ensures memory_stays { IsErrOf result FilesFault.NoMemory → faults self.new ≡ faults self.old }
+        ensures memory_stays { IsErrOf result FilesFault.NoMemory
+            → faults self.new ≡ faults self.old }
         ensures rose { IsErrOf result FilesFault.Failed → Rose (faults self.old) (faults self.new) }
         ensures never_falls { faults self.old ≤ faults self.new }
         ensures fits { faults self.old < 2 ^ 64 → faults self.new < 2 ^ 64 };

@@ -76,7 +76,8 @@ impl Sink for MemSink {
     ghost taken = { λ sink. Some sink.taken };
 
     fn put(&mut self, piece: &[u8]) -> Result<(), Failed>
-        ensures prefix { OnErr result (WritesPrefix (Some self.old.taken) (Some self.new.taken) piece.now) }
+        ensures prefix { OnErr result
+            (WritesPrefix (Some self.old.taken) (Some self.new.taken) piece.now) }
         ensures never_falls { self.old.faults ≤ self.new.faults }
         ensures answer { is_ok result ≡ is_put self.old piece.now }
         ensures after { self.new ≡ mem_sink_after self.old piece.now }

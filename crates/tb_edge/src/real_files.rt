@@ -66,7 +66,8 @@ impl<R: HostFiles> Files for RealFiles<R> {
         ensures after { self.new ≡ real_files_after result self.old name.now }
 
         // There is a file of the runtime in which just this was left, where it tells what is left in it.
-        ensures opened { IfOk result (λ loaded. (file : R.File) × IsOf (R.File.remaining file) loaded) }
+        ensures opened { IfOk result
+            (λ loaded. (file : R.File) × IsOf (R.File.remaining file) loaded) }
     {
         let loaded = match load_named(&self.rt, alloc, name, most) {
             Err(FilesFault::NoMemory) => return Err(FilesFault::NoMemory),

@@ -73,7 +73,8 @@ impl<W: Write> Sink for RealSink<W> {
 
 /// Writes the piece, and says whether all of it was written.
 fn write_whole<W: Write>(writer: &mut W, piece: &[u8]) -> bool
-    ensures whole { OnTrue result (Appends (W.contents writer.old) (W.contents writer.new) piece.now) }
+    ensures whole { OnTrue result
+        (Appends (W.contents writer.old) (W.contents writer.new) piece.now) }
     ensures empty { piece.now ≡ [] → IsTrue result }
 {
     let mut rest = piece;

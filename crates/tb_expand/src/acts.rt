@@ -77,7 +77,8 @@ fn act_of_one(
     e: &Ast,
 ) -> Result<Act, NoMemory>
     requires { arguments.now ≡ e.now ∷ [] }
-    ensures { IfOk result (λ act. act ≡ act_of_one names.now.script.now (of_blocks blocks.now) word.now e.now) }
+    ensures { IfOk result
+        (λ act. act ≡ act_of_one names.now.script.now (of_blocks blocks.now) word.now e.now) }
 {
     if is(word, "shutdown") {
         return Ok(Act::Shutdown(expr_of(alloc, blocks, e)?));
@@ -93,7 +94,8 @@ fn act_of_one(
 
 /// A tool that has connected: any of the variable's sort.
 fn connected(alloc: Global, names: &Names, blocks: &Blocks, e: &Ast) -> Result<Act, NoMemory>
-    ensures { IfOk result (λ act. act ≡ connected names.now.script.now (of_blocks blocks.now) e.now) }
+    ensures { IfOk result
+        (λ act. act ≡ connected names.now.script.now (of_blocks blocks.now) e.now) }
 {
     let sort = sort_of(alloc, blocks, name_of(e))?;
     let tool = tool_of_sort(names, &sort)?;
@@ -103,7 +105,8 @@ fn connected(alloc: Global, names: &Names, blocks: &Blocks, e: &Ast) -> Result<A
 
 /// A tool that leaves: any of a variable's sort, or the one that is named.
 fn disconnected(alloc: Global, names: &Names, blocks: &Blocks, e: &Ast) -> Result<Act, NoMemory>
-    ensures { IfOk result (λ act. act ≡ disconnected names.now.script.now (of_blocks blocks.now) e.now (out-AstKind e.now.kind)) }
+    ensures { IfOk result (λ act. act
+        ≡ disconnected names.now.script.now (of_blocks blocks.now) e.now (out-AstKind e.now.kind)) }
 {
     match &e.kind {
         AstKind::Result(name) => any_disconnected(alloc, names, blocks, name.as_bytes()),
@@ -117,7 +120,8 @@ fn any_disconnected(
     blocks: &Blocks,
     name: &[u8],
 ) -> Result<Act, NoMemory>
-    ensures { IfOk result (λ act. act ≡ RecDisconnectAny (tool_of_sort names.now.script.now (sort_of (of_blocks blocks.now) name.now)) (slot_of (of_blocks blocks.now) name.now)) }
+    ensures { IfOk result (λ act. act ≡ RecDisconnectAny (tool_of_sort names.now.script.now
+        (sort_of (of_blocks blocks.now) name.now)) (slot_of (of_blocks blocks.now) name.now)) }
 {
     let sort = sort_of(alloc, blocks, name)?;
     let tool = tool_of_sort(names, &sort)?;
@@ -135,7 +139,8 @@ fn act_of_more(
     others: &[Ast],
 ) -> Result<Act, NoMemory>
     requires { arguments.now ≡ e.now ∷ others.now }
-    ensures { IfOk result (λ act. act ≡ act_of_more (of_blocks blocks.now) word.now e.now others.now) }
+    ensures { IfOk result
+        (λ act. act ≡ act_of_more (of_blocks blocks.now) word.now e.now others.now) }
 {
     if is(word, "rec-event") {
         let tool = expr_of(alloc, blocks, e)?;
@@ -161,7 +166,8 @@ fn act_of_two(
 ) -> Result<Act, NoMemory>
     requires whole { arguments.now ≡ x.now ∷ others.now }
     requires second { others.now ≡ y.now ∷ [] }
-    ensures { IfOk result (λ act. act ≡ act_of_two names.now.script.now (of_blocks blocks.now) word.now x.now y.now) }
+    ensures { IfOk result
+        (λ act. act ≡ act_of_two names.now.script.now (of_blocks blocks.now) word.now x.now y.now) }
 {
     if is(word, "execute") {
         return executed(names, blocks, x, y);
@@ -186,7 +192,8 @@ fn act_of_two(
 }
 
 fn executed(names: &Names, blocks: &Blocks, x: &Ast, y: &Ast) -> Result<Act, NoMemory>
-    ensures { IfOk result (λ act. act ≡ Execute (tool_of names.now.script.now (name_of x.now)) (slot_of (of_blocks blocks.now) (name_of y.now))) }
+    ensures { IfOk result (λ act. act ≡ Execute (tool_of names.now.script.now (name_of x.now))
+        (slot_of (of_blocks blocks.now) (name_of y.now))) }
 {
     let tool = tool_of(names, name_of(x))?;
     let slot = slot_of(blocks, name_of(y));
@@ -201,7 +208,8 @@ fn act_of_word(
     word: &[u8],
     arguments: &[Ast],
 ) -> Result<Act, NoMemory>
-    ensures { IfOk result (λ act. act ≡ act_of_word names.now.script.now (of_blocks blocks.now) word.now arguments.now) }
+    ensures { IfOk result (λ act. act
+        ≡ act_of_word names.now.script.now (of_blocks blocks.now) word.now arguments.now) }
 {
     let Some((x, others)) = arguments.split_first() else {
         return Ok(act_without(word));
@@ -222,7 +230,8 @@ pub(crate) fn act_of(
     blocks: &Blocks,
     def: &ActDef,
 ) -> Result<Act, NoMemory>
-    ensures { IfOk result (λ act. act ≡ act_of names.now.script.now (of_blocks blocks.now) def.now) }
+    ensures { IfOk result
+        (λ act. act ≡ act_of names.now.script.now (of_blocks blocks.now) def.now) }
 {
     match def {
         ActDef::Set(name, value) => set(alloc, blocks, name.as_bytes(), value),
@@ -238,7 +247,8 @@ pub(crate) fn act_of(
 }
 
 fn set(alloc: Global, blocks: &Blocks, name: &[u8], value: &Ast) -> Result<Act, NoMemory>
-    ensures { IfOk result (λ act. act ≡ Set (slot_of (of_blocks blocks.now) name.now) (expr_of (of_blocks blocks.now) value.now)) }
+    ensures { IfOk result (λ act. act ≡ Set (slot_of (of_blocks blocks.now) name.now)
+        (expr_of (of_blocks blocks.now) value.now)) }
 {
     let slot = slot_of(blocks, name);
     let value = expr_of(alloc, blocks, value)?;
@@ -252,7 +262,9 @@ fn created(
     call: &Call,
     variable: &Ast,
 ) -> Result<Act, NoMemory>
-    ensures { IfOk result (λ act. act ≡ Create (process_of names.now.script.now call.now.name) (exprs_of (of_blocks blocks.now) call.now.actuals) (slot_of (of_blocks blocks.now) (name_of variable.now))) }
+    ensures { IfOk result (λ act. act ≡ Create (process_of names.now.script.now call.now.name)
+        (exprs_of (of_blocks blocks.now) call.now.actuals)
+        (slot_of (of_blocks blocks.now) (name_of variable.now))) }
 {
     let process = process_of(names, &call.name)?;
     let slot = slot_of(blocks, name_of(variable));

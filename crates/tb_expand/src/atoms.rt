@@ -18,7 +18,8 @@ pub(crate) fn atom_of(
     blocks: &Blocks,
     def: &AtomDef,
 ) -> Result<Atom, NoMemory>
-    ensures { IfOk result (λ atom. atom ≡ atom_of names.now.script.now (of_blocks blocks.now) def.now) }
+    ensures { IfOk result
+        (λ atom. atom ≡ atom_of names.now.script.now (of_blocks blocks.now) def.now) }
 {
     let times = times_of(alloc, blocks, def.times.as_slice())?;
     let act = act_of(alloc, names, blocks, &def.act)?;

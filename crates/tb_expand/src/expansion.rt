@@ -59,8 +59,10 @@ impl<'n, 's> Expansions<'n, 's> {
     /// The body of the process at this position among the definitions.
     pub fn body(&self, alloc: Global, position: usize) -> Result<Body, ExpandFault>
         requires { position < length self.now.script.now.procs }
-        ensures body { (d : ProcDef) → slice_get self.now.script.now.procs position ≡ Some d → IfOk result (IsBodyOf self.now.script.now d) }
-        ensures fault { (d : ProcDef) → slice_get self.now.script.now.procs position ≡ Some d → IfErr result (IsBodyFault self.now.script.now d) }
+        ensures body { (d : ProcDef) → slice_get self.now.script.now.procs position ≡ Some d
+            → IfOk result (IsBodyOf self.now.script.now d) }
+        ensures fault { (d : ProcDef) → slice_get self.now.script.now.procs position ≡ Some d
+            → IfErr result (IsBodyFault self.now.script.now d) }
     {
         let def = &self.script.procs.as_slice()[position];
         if self.is_too_large(position, def) {
@@ -73,8 +75,10 @@ impl<'n, 's> Expansions<'n, 's> {
     /// is built.
     pub fn check_body(&self, alloc: Global, position: usize) -> Result<(), ExpandFault>
         requires { position < length self.now.script.now.procs }
-        ensures body { (d : ProcDef) → slice_get self.now.script.now.procs position ≡ Some d → OnOk result ((body : Body) × IsBodyOf self.now.script.now d body) }
-        ensures fault { (d : ProcDef) → slice_get self.now.script.now.procs position ≡ Some d → IfErr result (IsBodyFault self.now.script.now d) }
+        ensures body { (d : ProcDef) → slice_get self.now.script.now.procs position ≡ Some d
+            → OnOk result ((body : Body) × IsBodyOf self.now.script.now d body) }
+        ensures fault { (d : ProcDef) → slice_get self.now.script.now.procs position ≡ Some d
+            → IfErr result (IsBodyFault self.now.script.now d) }
     {
         let def = &self.script.procs.as_slice()[position];
         if self.is_too_large(position, def) {
@@ -106,7 +110,8 @@ fn is_over(size: Size) -> bool
 fn built(alloc: Global, names: &Names, def: &ProcDef) -> Result<Body, NoMemory>
     requires proper { Proper names.now.script.now }
     requires there { Contains names.now.script.now.procs def.now }
-    requires whole { is_whole names.now.script.now (length names.now.script.now.procs) def.now.body ≡ true }
+    requires whole { is_whole names.now.script.now
+        (length names.now.script.now.procs) def.now.body ≡ true }
     requires small { is_too_large (expansion_of names.now.script.now def.now) ≡ false }
     ensures { IfOk result (IsExpansion names.now.script.now def.now) }
 {
@@ -122,8 +127,10 @@ fn built(alloc: Global, names: &Names, def: &ProcDef) -> Result<Body, NoMemory>
 pub fn expand(alloc: Global, s: &Script, root: usize) -> Result<Body, ExpandFault>
     requires proper { Proper s.now }
     requires in_range { root < length s.now.procs }
-    ensures body { (d : ProcDef) → slice_get s.now.procs root ≡ Some d → IfOk result (IsBodyOf s.now d) }
-    ensures fault { (d : ProcDef) → slice_get s.now.procs root ≡ Some d → IfErr result (HasFault s.now d) }
+    ensures body { (d : ProcDef) → slice_get s.now.procs root ≡ Some d
+        → IfOk result (IsBodyOf s.now d) }
+    ensures fault { (d : ProcDef) → slice_get s.now.procs root ≡ Some d
+        → IfErr result (HasFault s.now d) }
 {
     let names = Names::of(alloc, s)?;
     let expansions = Expansions::of(alloc, &names)?;

@@ -31,7 +31,8 @@ pub(crate) fn graph_of(alloc: Global, names: &Names) -> Result<Graph, NoMemory>
 #[cycle(calls)]
 #[tactic(auto, using(crate::proofs::CalledPositions::called_at))]
 fn push_called(names: &Names, proc: &Proc, into: &mut Positions) -> Result<(), NoMemory>
-    ensures { OnOk result (into.new ≡ into.old ++ positions_of names.now.script.now (called proc.now)) }
+    ensures { OnOk result
+        (into.new ≡ into.old ++ positions_of names.now.script.now (called proc.now)) }
 {
     match proc {
         Proc::Atom(_) => Ok(()),
@@ -69,8 +70,8 @@ fn push_called(names: &Names, proc: &Proc, into: &mut Positions) -> Result<(), N
 
 #[cycle(calls)]
 fn push_both(names: &Names, x: &Proc, y: &Proc, into: &mut Positions) -> Result<(), NoMemory>
-    ensures { OnOk result (into.new ≡ into.old
-        ++ (positions_of names.now.script.now (called x.now) ++ positions_of names.now.script.now (called y.now))) }
+    ensures { OnOk result (into.new ≡ into.old ++ (positions_of names.now.script.now (called x.now)
+        ++ positions_of names.now.script.now (called y.now))) }
 {
     push_called(names, x, into)?;
     push_called(names, y, into)?;
@@ -79,7 +80,8 @@ fn push_both(names: &Names, x: &Proc, y: &Proc, into: &mut Positions) -> Result<
 
 #[cycle(calls)]
 fn push_else(names: &Names, y: &Option<Boxed<Proc>>, into: &mut Positions) -> Result<(), NoMemory>
-    ensures { OnOk result (into.new ≡ into.old ++ positions_of names.now.script.now (or_none (option_map called y.now))) }
+    ensures { OnOk result (into.new
+        ≡ into.old ++ positions_of names.now.script.now (or_none (option_map called y.now))) }
 {
     match y {
         None => Ok(()),
@@ -92,7 +94,8 @@ fn push_else(names: &Names, y: &Option<Boxed<Proc>>, into: &mut Positions) -> Re
 
 /// The position of the process that is called, if one has the name.
 fn push_position(names: &Names, call: &Call, into: &mut Positions) -> Result<(), NoMemory>
-    ensures { OnOk result (into.new ≡ into.old ++ positions_of names.now.script.now (call.now.name ∷ [])) }
+    ensures { OnOk result
+        (into.new ≡ into.old ++ positions_of names.now.script.now (call.now.name ∷ [])) }
 {
     if let Some(position) = names.process_position(call.name.as_bytes()) {
         into.push(position)?;

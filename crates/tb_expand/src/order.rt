@@ -39,7 +39,8 @@ fn walk_from(graph: &Graph, walk: &mut Walk, root: usize) -> Result<Option<usize
     requires graph { IsClosed graph.now }
     requires root { root < length graph.now }
     requires walk { IsAtRest graph.now walk.old }
-    ensures { IfOk result (λ found. MatchOption found (HasEnded graph.now walk.old walk.new root) (λ again. ClosesCycle graph.now walk.new again)) }
+    ensures { IfOk result (λ found. MatchOption found (HasEnded graph.now walk.old walk.new root)
+        (λ again. ClosesCycle graph.now walk.new again)) }
 {
     begin(walk, root)?;
     while let Some(position) = last(walk.way.as_slice()) {
@@ -53,7 +54,8 @@ fn walk_from(graph: &Graph, walk: &mut Walk, root: usize) -> Result<Option<usize
 /// Puts the position on the way, unless it was visited.
 fn begin(walk: &mut Walk, root: usize) -> Result<(), NoMemory>
     requires { root < length walk.old.visits }
-    ensures { (graph : Graph) → root < length graph → IsAtRest graph walk.old → OnOk result (HasBegun graph walk.old walk.new root) }
+    ensures { (graph : Graph) → root < length graph → IsAtRest graph walk.old
+        → OnOk result (HasBegun graph walk.old walk.new root) }
 {
     match visit_of(walk, root) {
         Visit::New => {
@@ -65,7 +67,8 @@ fn begin(walk: &mut Walk, root: usize) -> Result<(), NoMemory>
 }
 
 fn last(positions: &[usize]) -> Option<usize>
-    ensures { MatchOption result (positions.now ≡ []) (λ position. (prefix : List ℕ) × (positions.now ≡ prefix ++ position ∷ [])) }
+    ensures { MatchOption result (positions.now ≡ [])
+        (λ position. (prefix : List ℕ) × (positions.now ≡ prefix ++ position ∷ [])) }
 {
     match positions {
         [] => None,

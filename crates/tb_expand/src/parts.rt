@@ -31,7 +31,9 @@ pub(crate) fn part_of(
     built: &mut Built,
     p: &Proc,
 ) -> Result<Tree, NoMemory>
-    ensures { IfOk result (λ tree. Adds (expands_with names.now.script.now (expands names.now.script.now depth) p.now) blocks.old built.old tree blocks.new built.new) }
+    ensures { IfOk result
+        (λ tree. Adds (expands_with names.now.script.now (expands names.now.script.now depth) p.now)
+        blocks.old built.old tree blocks.new built.new) }
 {
     match p {
         Proc::Atom(def) => Ok(atom_part(alloc, names, blocks, built, def)?),
@@ -67,7 +69,8 @@ fn atom_part(
     built: &mut Built,
     def: &AtomDef,
 ) -> Result<Tree, NoMemory>
-    ensures { IfOk result (λ tree. Adds (atom_only names.now.script.now def.now) blocks.now built.old tree blocks.now built.new) }
+    ensures { IfOk result (λ tree. Adds
+        (atom_only names.now.script.now def.now) blocks.now built.old tree blocks.now built.new) }
 {
     let number = number(built.atoms.len())?;
     let number = following(number)?;
@@ -86,7 +89,10 @@ fn sides(
     x: &Proc,
     y: &Proc,
 ) -> Result<(Boxed<Tree>, Boxed<Tree>), NoMemory>
-    ensures { IfOk result (λ s. (join : Tree → Tree → Tree) → Adds (both join (expands_with names.now.script.now (expands names.now.script.now depth) x.now) (expands_with names.now.script.now (expands names.now.script.now depth) y.now)) blocks.old built.old (join s.0 s.1) blocks.new built.new) }
+    ensures { IfOk result (λ s. (join : Tree → Tree → Tree) → Adds
+        (both join (expands_with names.now.script.now (expands names.now.script.now depth) x.now)
+        (expands_with names.now.script.now (expands names.now.script.now depth) y.now))
+        blocks.old built.old (join s.0 s.1) blocks.new built.new) }
 {
     let x = part_of(alloc, names, depth, blocks, built, x)?;
     let x = Boxed::new(alloc, x)?;
@@ -106,7 +112,10 @@ fn if_part(
     x: &Proc,
     y: &Option<Boxed<Proc>>,
 ) -> Result<Tree, NoMemory>
-    ensures { IfOk result (λ tree. Adds (test_of test.now (expands_with names.now.script.now (expands names.now.script.now depth) x.now) (option_map (expands_with names.now.script.now (expands names.now.script.now depth)) y.now)) blocks.old built.old tree blocks.new built.new) }
+    ensures { IfOk result (λ tree. Adds (test_of test.now
+        (expands_with names.now.script.now (expands names.now.script.now depth) x.now)
+        (option_map (expands_with names.now.script.now (expands names.now.script.now depth)) y.now))
+        blocks.old built.old tree blocks.new built.new) }
 {
     let test = expr_of(alloc, blocks, test)?;
     match y {
@@ -131,7 +140,9 @@ fn let_part(
     vars: &[Var],
     x: &Proc,
 ) -> Result<Tree, NoMemory>
-    ensures { IfOk result (λ tree. Adds (block_of vars.now (expands_with names.now.script.now (expands names.now.script.now depth) x.now)) blocks.old built.old tree blocks.new built.new) }
+    ensures { IfOk result (λ tree. Adds (block_of vars.now
+        (expands_with names.now.script.now (expands names.now.script.now depth) x.now))
+        blocks.old built.old tree blocks.new built.new) }
 {
     let slot = number(built.sorts.len())?;
     let settings = initial(alloc, slot, vars)?;
@@ -151,7 +162,9 @@ fn call_part(
     built: &mut Built,
     call: &Call,
 ) -> Result<Tree, NoMemory>
-    ensures { IfOk result (λ tree. Adds (call_of names.now.script.now (expands names.now.script.now depth) call.now) blocks.now built.old tree blocks.now built.new) }
+    ensures { IfOk result
+        (λ tree. Adds (call_of names.now.script.now (expands names.now.script.now depth) call.now)
+        blocks.now built.old tree blocks.now built.new) }
 {
     let Some(def) = definition_of(names, call.name.as_bytes()) else {
         return Ok(Tree::At(0));
@@ -176,8 +189,10 @@ pub(crate) fn body_part(
     built: &mut Built,
     body: &Proc,
 ) -> Result<Tree, NoMemory>
-    ensures { IfOk result (λ tree. (tree ≡ (expands names.now.script.now depth body.now block (length built.old.atoms + 1) (length built.old.sorts)).tree)
-        × (built.new ≡ with_part built.old (expands names.now.script.now depth body.now block (length built.old.atoms + 1) (length built.old.sorts)))) }
+    ensures { IfOk result (λ tree. (tree ≡ (expands names.now.script.now depth body.now block
+        (length built.old.atoms + 1) (length built.old.sorts)).tree)
+        × (built.new ≡ with_part built.old (expands names.now.script.now depth body.now block
+        (length built.old.atoms + 1) (length built.old.sorts)))) }
 {
     if depth == 0 {
         return Ok(Tree::At(0));

@@ -29,7 +29,8 @@ pub(crate) fn declared(alloc: Global, slot: u32, vars: &[Var]) -> Result<Block, 
 
 /// A variable of this name with its slot and its sort.
 fn seen(alloc: Global, name: &Ident, sort: &Sort, slot: u32) -> Result<Seen, NoMemory>
-    ensures { IfOk result (λ seen. seen ≡ record { name = name.now; slot = slot; sort = sort.now }) }
+    ensures { IfOk result
+        (λ seen. seen ≡ record { name = name.now; slot = slot; sort = sort.now }) }
 {
     let name = name.copy(alloc)?;
     let sort = sort.copy(alloc)?;
@@ -83,7 +84,8 @@ pub(crate) fn set_formals(
     formals: &[Formal],
     actuals: &[Ast],
 ) -> Result<Settings, NoMemory>
-    ensures { IfOk result (λ settings. settings ≡ set_formals (of_blocks blocks.now) slot formals.now actuals.now) }
+    ensures { IfOk result
+        (λ settings. settings ≡ set_formals (of_blocks blocks.now) slot formals.now actuals.now) }
 {
     let mut settings = Items::new(alloc);
     let mut next = slot;
@@ -104,7 +106,8 @@ pub(crate) fn set_formals(
 }
 
 fn setting(alloc: Global, blocks: &Blocks, slot: u32, actual: &Ast) -> Result<Setting, NoMemory>
-    ensures { IfOk result (λ setting. setting ≡ record { slot = slot; start = Some (expr_of (of_blocks blocks.now) actual.now) }) }
+    ensures { IfOk result (λ setting. setting
+        ≡ record { slot = slot; start = Some (expr_of (of_blocks blocks.now) actual.now) }) }
 {
     let start = Some(expr_of(alloc, blocks, actual)?);
     Ok(Setting { slot, start })
@@ -118,7 +121,8 @@ pub(crate) fn formals_of_call(
     formals: &[Formal],
     actuals: &[Ast],
 ) -> Result<Block, NoMemory>
-    ensures { IfOk result (λ block. block ≡ formals_of_call (of_blocks blocks.now) slot formals.now actuals.now) }
+    ensures { IfOk result
+        (λ block. block ≡ formals_of_call (of_blocks blocks.now) slot formals.now actuals.now) }
 {
     let mut block = Items::new(alloc);
     let mut next = slot;

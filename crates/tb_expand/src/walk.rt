@@ -51,7 +51,8 @@ pub(crate) fn step(
     requires graph { IsClosed graph.now }
     requires walk { IsWalk graph.now walk.old }
     requires last { (prefix : List ℕ) × (walk.old.way ≡ prefix ++ position ∷ []) }
-    ensures { IfOk result (λ found. MatchOption found (Continues graph.now walk.old walk.new) (λ again. ClosesCycle graph.now walk.new again)) }
+    ensures { IfOk result (λ found. MatchOption found (Continues graph.now walk.old walk.new)
+        (λ again. ClosesCycle graph.now walk.new again)) }
 {
     let looked = looked_at(walk, position);
     let Some(next) = next_of(graph, position, looked) else {
@@ -82,7 +83,8 @@ pub(crate) fn visit_of(walk: &Walk, position: usize) -> Visit
 /// So many of the positions to which an open position leads were looked at, or none of another's.
 fn looked_at(walk: &Walk, position: usize) -> usize
     requires { position < length walk.now.visits }
-    ensures { (looked : ℕ) → slice_get walk.now.visits position ≡ Some (Open looked) → result ≡ looked }
+    ensures { (looked : ℕ)
+        → slice_get walk.now.visits position ≡ Some (Open looked) → result ≡ looked }
 {
     match visit_of(walk, position) {
         Visit::Open(looked) => looked,
@@ -114,7 +116,8 @@ pub(crate) fn open(walk: &mut Walk, position: usize) -> Result<(), NoMemory>
 /// Takes the last position from the way: all that it leads to is done.
 fn close(walk: &mut Walk, position: usize) -> Result<(), NoMemory>
     requires { position < length walk.old.visits }
-    ensures { (prefix : List ℕ) → walk.old.way ≡ prefix ++ position ∷ [] → OnOk result (walk.new ≡ closed walk.old position prefix) }
+    ensures { (prefix : List ℕ) → walk.old.way ≡ prefix ++ position ∷ []
+        → OnOk result (walk.new ≡ closed walk.old position prefix) }
 {
     walk.order.push(position)?;
     walk.visits.set(position, Visit::Done);

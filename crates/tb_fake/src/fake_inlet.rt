@@ -75,7 +75,8 @@ impl Inlet for FakeInlet {
 
     #[tactic(auto, using(crate::proofs::Giving::tells, crate::proofs::Giving::may_give, crate::proofs::Giving::gives_short))]
     fn next(&mut self, line: &mut Vec<u8>) -> Got
-        ensures told { Some (gave_by self.new) ≡ inlet_after (Some (gave_by self.old)) result line.new.items }
+        ensures told { Some (gave_by self.new)
+            ≡ inlet_after (Some (gave_by self.old)) result line.new.items }
         ensures over { MayGive (Some (gave_by self.old)) result }
         ensures short { result ≡ Got.Line → length line.new.items ≤ 65536 }
         ensures next { IsNext self.old result line.new.items }

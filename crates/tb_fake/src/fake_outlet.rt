@@ -89,7 +89,8 @@ impl FakeOutlet {
     fn put(&mut self, kind: Kind, bytes: &[u8]) -> Result<(), Failed>
         ensures never_falls { self.old.faults ≤ self.new.faults }
         ensures answer { is_ok result ≡ takes self.old (length bytes.now) }
-        ensures after { self.new ≡ outlet_after self.old (taken_by kind bytes.now) (length bytes.now) }
+        ensures after { self.new
+            ≡ outlet_after self.old (taken_by kind bytes.now) (length bytes.now) }
     {
         self.calls = self.calls.saturating_add(1);
         if fails_at(&self.fails, self.calls) || self.items == 0 || self.bytes < bytes.len() {
@@ -130,7 +131,8 @@ impl Outlet for FakeOutlet {
     fn begin(&mut self, command: &str) -> Result<(), Failed>
         ensures never_falls { self.old.faults ≤ self.new.faults }
         ensures answer { is_ok result ≡ takes self.old (length command.now) }
-        ensures after { self.new ≡ outlet_after self.old (Taken.Start command.now) (length command.now) }
+        ensures after { self.new
+            ≡ outlet_after self.old (Taken.Start command.now) (length command.now) }
     {
         self.put(Kind::Start, command.as_bytes())
     }

@@ -4,21 +4,25 @@ ghost use Rattle.tb_feed.specs.Feeds.{MayBeFed, Says, IsFeedOf, IsFirstBad};
 
 /// A line says one input at most, and one that may be fed.
 pub fn a_line_says_one_input()
-    ensures one { (line : List ℕ) (input other : Input) → Says line input → Says line other → input ≡ other }
+    ensures one { (line : List ℕ) (input other : Input) → Says line input
+        → Says line other → input ≡ other }
     ensures may_be_fed { (line : List ℕ) (input : Input) → Says line input → MayBeFed input }
 {}
 
 /// A text is one feed at most.
 pub fn a_text_has_one_feed()
-    ensures { (text : List ℕ) (inputs others : List Input) → IsFeedOf text inputs → IsFeedOf text others → inputs ≡ others }
+    ensures { (text : List ℕ) (inputs others : List Input) → IsFeedOf text inputs
+        → IsFeedOf text others → inputs ≡ others }
 {}
 
 /// A text that is a feed has no bad line.
 pub fn a_feed_has_no_fault()
-    ensures { (text : List ℕ) (inputs : List Input) (number : ℕ) → IsFeedOf text inputs → IsFirstBad text number → ⊥ }
+    ensures { (text : List ℕ) (inputs : List Input) (number : ℕ)
+        → IsFeedOf text inputs → IsFirstBad text number → ⊥ }
 {}
 
 /// A text has one first bad line at most.
 pub fn a_text_has_one_fault()
-    ensures { (text : List ℕ) (number other : ℕ) → IsFirstBad text number → IsFirstBad text other → number ≡ other }
+    ensures { (text : List ℕ) (number other : ℕ) → IsFirstBad text number
+        → IsFirstBad text other → number ≡ other }
 {}

@@ -72,8 +72,8 @@ fn from_ten(digit: u8) -> Option<u8>
 
 /// What stands before the first blank, and behind it.
 fn at_blank(bytes: &[u8]) -> Option<(&[u8], &[u8])>
-    ensures { MatchOption result (IsTrue (lacks_blank bytes.now))
-        (λ parts. IsTrue (lacks_blank parts.0.now) × (bytes.now ≡ parts.0.now ++ 32 ∷ parts.1.now)) }
+    ensures { MatchOption result (IsTrue (lacks_blank bytes.now)) (λ parts.
+        IsTrue (lacks_blank parts.0.now) × (bytes.now ≡ parts.0.now ++ 32 ∷ parts.1.now)) }
 {
     for (position, byte) in bytes.iter().enumerate() {
         if *byte == b' ' {

@@ -41,7 +41,8 @@ impl Parts {
 
     /// The parts with one more at their end.
     pub(crate) fn with(self, alloc: Global, part: Part) -> Result<Parts, NoMemory>
-        ensures { IfOk result (λ parts. as_patterns parts ≡ as_patterns self ++ as_pattern part ∷ []) }
+        ensures { IfOk result
+            (λ parts. as_patterns parts ≡ as_patterns self ++ as_pattern part ∷ []) }
     {
         match self {
             Parts::Values(values) => after_values(alloc, values, part),
@@ -51,7 +52,8 @@ impl Parts {
 }
 
 fn after_values(alloc: Global, values: MeasuredParts, part: Part) -> Result<Parts, NoMemory>
-    ensures { IfOk result (λ parts. as_patterns parts ≡ map pattern.Fixed values.terms.items ++ as_pattern part ∷ []) }
+    ensures { IfOk result (λ parts. as_patterns parts
+        ≡ map pattern.Fixed values.terms.items ++ as_pattern part ∷ []) }
 {
     let mut values = values;
     match part {

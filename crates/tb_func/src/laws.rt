@@ -23,7 +23,10 @@ pub fn plain_expressions_are_fixed()
 /// Where a function gives a value, the arguments are as many as its signature says, each of its
 /// shape, and the value is of the result's. For fewer or more arguments it gives none.
 pub fn values_fit_signatures()
-    ensures arguments { (f : Func) (ts : List Term) → IfSome (apply_of f ts) (λ v. AreFit (signature_of f) ts) }
-    ensures value { (f : Func) (ts : List Term) → IfSome (apply_of f ts) (λ v. IsTrue (fits (signature_of f).result v)) }
-    ensures other_count { (f : Func) (ts : List Term) → length ts ≢ (signature_of f).arity → apply_of f ts ≡ None }
+    ensures arguments { (f : Func) (ts : List Term)
+        → IfSome (apply_of f ts) (λ v. AreFit (signature_of f) ts) }
+    ensures value { (f : Func) (ts : List Term)
+        → IfSome (apply_of f ts) (λ v. IsTrue (fits (signature_of f).result v)) }
+    ensures other_count { (f : Func) (ts : List Term)
+        → length ts ≢ (signature_of f).arity → apply_of f ts ≡ None }
 {}

@@ -84,7 +84,8 @@ impl MeasuredParts {
     }
 
     pub(crate) fn push(&mut self, part: Measured) -> Result<(), NoMemory>
-        ensures pushed { OnOk result (self.new.terms.items ≡ self.old.terms.items ++ part.term ∷ []) }
+        ensures pushed { OnOk result
+            (self.new.terms.items ≡ self.old.terms.items ++ part.term ∷ []) }
         ensures unchanged { OnErr result (self.new.terms.items ≡ self.old.terms.items) }
     {
         self.terms.push(part.term)?;

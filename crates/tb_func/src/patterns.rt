@@ -72,7 +72,8 @@ fn build(alloc: Global, e: &Expr, s: &Store) -> Result<Option<Part>, NoMemory>
 
 #[cycle(build)]
 fn build_all(alloc: Global, exprs: &[Expr], s: &Store) -> Result<Option<Parts>, NoMemory>
-    ensures { IfOk result (λ v. option_map as_patterns v ≡ all_of (map (pattern_of s.now) exprs.now)) }
+    ensures { IfOk result
+        (λ v. option_map as_patterns v ≡ all_of (map (pattern_of s.now) exprs.now)) }
 {
     let mut parts = Parts::new(alloc);
     for expr in exprs {
@@ -85,7 +86,8 @@ fn build_all(alloc: Global, exprs: &[Expr], s: &Store) -> Result<Option<Parts>, 
 }
 
 fn value(value: Option<Measured>) -> Option<Part>
-    ensures { option_map as_pattern result ≡ option_map pattern.Fixed (option_map (λ m. m.term) value) }
+    ensures { option_map as_pattern result
+        ≡ option_map pattern.Fixed (option_map (λ m. m.term) value) }
 {
     match value {
         Some(value) => Some(Part::Value(value)),
@@ -102,7 +104,8 @@ fn hole(sort: Sort) -> Part
 }
 
 fn result_part(alloc: Global, slot: u32, s: &Store) -> Result<Option<Part>, NoMemory>
-    ensures { IfOk result (λ v. option_map as_pattern v ≡ option_map (pattern.Result slot) (sort_at s.now slot)) }
+    ensures { IfOk result
+        (λ v. option_map as_pattern v ≡ option_map (pattern.Result slot) (sort_at s.now slot)) }
 {
     match result_variable(alloc, slot, s)? {
         Some(pattern) => Ok(Some(Part::Open(OpenPattern { pattern }))),
@@ -156,7 +159,8 @@ fn call(alloc: Global, f: Func, parts: Option<Parts>) -> Result<Option<Part>, No
 
 #[tactic(auto, using(crate::proofs::OpenLemmas::fixed_terms_fixed, crate::proofs::OpenLemmas::fixed_terms_open))]
 fn list(parts: Option<Parts>) -> Option<Part>
-    ensures { option_map as_pattern result ≡ option_and_then list_pattern (option_map as_patterns parts) }
+    ensures { option_map as_pattern result
+        ≡ option_and_then list_pattern (option_map as_patterns parts) }
 {
     match parts {
         Some(Parts::Values(values)) => value(values.list().limited()),

@@ -34,7 +34,8 @@ impl Printer {
     /// Takes the next byte of the format, and says whether the format goes on.
     pub(crate) fn take(&mut self, byte: u8, args: &[Term]) -> Result<bool, NoMemory>
         ensures { IfOk result (λ goes. (rest : List ℕ)
-            → in_all self.old (byte ∷ rest) args.now ≡ (if goes then in_all self.new rest args.now else None)) }
+            → in_all self.old (byte ∷ rest) args.now
+            ≡ (if goes then in_all self.new rest args.now else None)) }
     {
         if self.is_after_percent {
             return self.directive(byte, args);
@@ -84,7 +85,8 @@ impl Printer {
 
 /// Puts the argument at the end as the letter asks, and says whether it could.
 fn push_shown(letter: u8, term: &Term, into: &mut Vec<u8>) -> Result<bool, NoMemory>
-    ensures { IfOk result (λ is_shown. option_map (λ text. into.old.items ++ text) (shown letter term.now)
+    ensures { IfOk result
+        (λ is_shown. option_map (λ text. into.old.items ++ text) (shown letter term.now)
         ≡ (if is_shown then Some into.new.items else None)) }
 {
     match (letter, term) {

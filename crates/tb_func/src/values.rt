@@ -28,7 +28,8 @@ pub fn eval(alloc: Global, e: &Expr, s: &Store) -> Result<Option<Term>, NoMemory
 /// What the function gives for the values of the expressions. Two values need no list of arguments.
 #[cycle(eval)]
 fn eval_call(alloc: Global, func: Func, exprs: &[Expr], s: &Store) -> Result<Option<Term>, NoMemory>
-    ensures { IfOk result (λ v. v ≡ option_and_then (apply_of func) (all_of (map (value_of s.now) exprs.now))) }
+    ensures { IfOk result
+        (λ v. v ≡ option_and_then (apply_of func) (all_of (map (value_of s.now) exprs.now))) }
 {
     match exprs {
         [first, second] => match eval(alloc, first, s)? {
@@ -80,7 +81,8 @@ fn eval_measured(alloc: Global, e: &Expr, s: &Store) -> Result<Option<Measured>,
 /// The values of the expressions, where each is worth anything.
 #[cycle(eval_measured)]
 fn eval_all(alloc: Global, exprs: &[Expr], s: &Store) -> Result<Option<MeasuredParts>, NoMemory>
-    ensures { IfOk result (λ v. option_map (λ p. p.terms.items) v ≡ all_of (map (value_of s.now) exprs.now)) }
+    ensures { IfOk result
+        (λ v. option_map (λ p. p.terms.items) v ≡ all_of (map (value_of s.now) exprs.now)) }
 {
     let mut values = MeasuredParts::new(alloc);
     for expr in exprs {
@@ -116,7 +118,8 @@ fn application(
     parts: Option<MeasuredParts>,
 ) -> Result<Option<Measured>, NoMemory>
     ensures { IfOk result (λ v. option_map (λ m. m.term) v
-        ≡ option_and_then (λ ts. limited (term.Appl name.now ts)) (option_map (λ p. p.terms.items) parts)) }
+        ≡ option_and_then (λ ts. limited (term.Appl name.now ts))
+        (option_map (λ p. p.terms.items) parts)) }
 {
     match parts {
         Some(parts) => Ok(parts.application(name.copy(alloc)?).limited()),

@@ -335,8 +335,8 @@ fn quiet_unreceived(active: &mut Vec<Mark>, receiving: &Pairs, mark: Mark)
 /// All but this mark are kept.
 #[inline(always)]
 fn drop_mark(active: &mut Vec<Mark>, mark: Mark)
-    ensures { (other : TheMark) → is_mark other mark ≡ false → has_mark active.old.items other ≡ true
-        → has_mark active.new.items other ≡ true }
+    ensures { (other : TheMark) → is_mark other mark ≡ false
+        → has_mark active.old.items other ≡ true → has_mark active.new.items other ≡ true }
 {
     for place in 0..active.len() {
         let there = active[place];
@@ -354,8 +354,8 @@ pub(crate) fn next_sender(
     marks: &[Mark],
     from: u32,
 ) -> Option<u32>
-    ensures { IsFirst
-        (λ proc. list_any (λ mark. is_sender sending.now counted.now mark proc) marks.now) from result }
+    ensures { IsFirst (λ proc. list_any
+        (λ mark. is_sender sending.now counted.now mark proc) marks.now) from result }
 {
     let mut found = None;
     for mark in marks {

@@ -201,7 +201,8 @@ impl Bits {
 
 /// A row of words that is at least as long, by words that are 0.
 fn fill(words: &mut Vec<u64>, long: usize) -> Result<(), NoMemory>
-    ensures same { (word : ℕ) → slice_index words.new.items word ≡ slice_index words.old.items word }
+    ensures same { (word : ℕ)
+        → slice_index words.new.items word ≡ slice_index words.old.items word }
     ensures ok { OnOk result (length words.new.items ≡ max (length words.old.items) long) }
     ensures more { length words.old.items ≤ length words.new.items }
     ensures bound { length words.new.items ≤ max (length words.old.items) long }

@@ -24,7 +24,8 @@ pub(crate) fn come(
     requires opened { AreOpened counts.old.opened new.now.receives.items }
     requires heard { AreHeard sending.old receiving.old active.old.items }
     ensures sends { OnOk result (AreAdded sending.old sending.new new.now.sends.items proc) }
-    ensures receives { OnOk result (AreAdded receiving.old receiving.new new.now.receives.items proc) }
+    ensures receives { OnOk result
+        (AreAdded receiving.old receiving.new new.now.receives.items proc) }
     ensures same_sends { OnErr result (SamePairs sending.old sending.new) }
     ensures same_receives { OnErr result (SamePairs receiving.old receiving.new) }
     ensures counted { AreCountedIf counts.new.opened sending.new counts.new.pairs }

@@ -49,7 +49,8 @@ pub(crate) fn count(
     ensures opened { counts.new.opened ≡ counts.old.opened }
     ensures kept { (mark : TheMark) (its : ℕ) → has counts.old.pairs mark its ≡ true
         → has counts.new.pairs mark its ≡ true }
-    ensures all { OnOk result (counts.old.opened ≡ true → (mark : TheMark) → has_mark marks.now mark ≡ true
+    ensures all { OnOk result
+        (counts.old.opened ≡ true → (mark : TheMark) → has_mark marks.now mark ≡ true
         → has_mark but.now mark ≡ false → has counts.new.pairs (wide mark) proc ≡ true) }
 {
     if !counts.opened {
@@ -162,7 +163,8 @@ fn count_many(counted: &mut Pairs, many: &BTreeSet<(usize, u64, u32)>) -> Result
 fn count_pair(counted: &mut Pairs, count: usize, proc: u32) -> Result<(), NoMemory>
     ensures kept { (mark : TheMark) (its : ℕ) → has counted.old mark its ≡ true
         → has counted.new mark its ≡ true }
-    ensures here { OnOk result (has counted.new (record { count = count; head = open_head }) proc ≡ true) }
+    ensures here { OnOk result
+        (has counted.new (record { count = count; head = open_head }) proc ≡ true) }
 {
     let mark = Mark {
         count,

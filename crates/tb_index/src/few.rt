@@ -19,7 +19,8 @@ pub(crate) fn slot_of(mark: Mark) -> usize
 
 /// All slots, where there are none yet.
 pub(crate) fn make_slots(few: &mut Vec<Slot>) -> Result<(), NoMemory>
-    ensures same { (mark : TheMark) (proc : ℕ) → in_few few.new.items mark proc ≡ in_few few.old.items mark proc }
+    ensures same { (mark : TheMark) (proc : ℕ)
+        → in_few few.new.items mark proc ≡ in_few few.old.items mark proc }
     ensures ok { OnOk result (slots ≤ length few.new.items) }
 {
     if few.len() >= SLOTS {
@@ -30,7 +31,8 @@ pub(crate) fn make_slots(few: &mut Vec<Slot>) -> Result<(), NoMemory>
 
 #[inline(never)]
 fn fill(few: &mut Vec<Slot>) -> Result<(), NoMemory>
-    ensures same { (mark : TheMark) (proc : ℕ) → in_few few.new.items mark proc ≡ in_few few.old.items mark proc }
+    ensures same { (mark : TheMark) (proc : ℕ)
+        → in_few few.new.items mark proc ≡ in_few few.old.items mark proc }
     ensures ok { OnOk result (slots ≤ length few.new.items) }
 {
     let alloc = *few.allocator();
@@ -60,7 +62,8 @@ pub(crate) fn is_full(few: &[Slot], mark: Mark) -> bool
 pub(crate) fn add_few(few: &mut Vec<Slot>, mark: Mark, proc: u32) -> Result<(), NoMemory>
     requires { slots ≤ length few.old.items }
     ensures added { OnOk result ((other : TheMark) (its : ℕ)
-        → in_few few.new.items other its ≡ in_few few.old.items other its || is_pair mark proc other its) }
+        → in_few few.new.items other its
+        ≡ in_few few.old.items other its || is_pair mark proc other its) }
     ensures err { OnErr result (few.new.items ≡ few.old.items) }
 {
     let slot = slot_of(mark);

@@ -76,10 +76,12 @@ impl Index {
 
     /// What a process sends and receives from now on; `old` is what is kept of it.
     pub fn set(&mut self, proc: u32, old: &Marks, new: &Marks) -> Result<(), NoMemory>
-        requires sends { (mark : TheMark) → sends self.old mark proc ≡ has_mark old.now.sends.items mark }
+        requires sends { (mark : TheMark)
+            → sends self.old mark proc ≡ has_mark old.now.sends.items mark }
         requires receives { (mark : TheMark)
             → receives self.old mark proc ≡ has_mark old.now.receives.items mark }
-        ensures ok { OnOk result (IsSet self.old self.new proc new.now.sends.items new.now.receives.items) }
+        ensures ok { OnOk result
+            (IsSet self.old self.new proc new.now.sends.items new.now.receives.items) }
         ensures err { OnErr result (SameIndex self.old self.new) }
     {
         if are_unchanged(old, new) {
@@ -120,7 +122,8 @@ impl Index {
 
     /// A process has left: nothing is kept of it. `old` is what was kept.
     pub fn clear(&mut self, proc: u32, old: &Marks)
-        requires sends { (mark : TheMark) → sends self.old mark proc ≡ has_mark old.now.sends.items mark }
+        requires sends { (mark : TheMark)
+            → sends self.old mark proc ≡ has_mark old.now.sends.items mark }
         requires receives { (mark : TheMark)
             → receives self.old mark proc ≡ has_mark old.now.receives.items mark }
         ensures { IsCleared self.old self.new proc }

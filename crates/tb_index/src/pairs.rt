@@ -125,7 +125,8 @@ impl Pairs {
 
     #[inline(always)]
     fn add_one_but(&mut self, mark: Mark, but: &[Mark], proc: u32) -> Result<(), NoMemory>
-        requires { (other : TheMark) → has_mark but.now other ≡ true → has self.old other proc ≡ true }
+        requires { (other : TheMark) → has_mark but.now other ≡ true
+            → has self.old other proc ≡ true }
         ensures added { OnOk result ((other : TheMark) (its : ℕ)
             → has self.new other its ≡ has self.old other its || is_pair mark proc other its) }
         ensures err { OnErr result (SamePairs self.old self.new) }
@@ -162,8 +163,8 @@ impl Pairs {
 
     #[inline(always)]
     fn remove_one_but(&mut self, mark: Mark, but: &[Mark], proc: u32)
-        ensures { (other : TheMark) (its : ℕ) → has self.new other its
-            ≡ has self.old other its && not (is_pair mark proc other its && not (has_mark but.now other)) }
+        ensures { (other : TheMark) (its : ℕ) → has self.new other its ≡ has self.old other its
+            && not (is_pair mark proc other its && not (has_mark but.now other)) }
     {
         if !has_mark(but, mark) {
             self.remove(mark, proc);
@@ -175,7 +176,8 @@ impl Pairs {
 fn add_many(many: &mut BTreeSet<(usize, u64, u32)>, mark: Mark, proc: u32) -> Result<(), NoMemory>
     ensures added { OnOk result ((other : TheMark) (its : ℕ)
         → in_many many.new other its ≡ in_many many.old other its || is_pair mark proc other its) }
-    ensures err { OnErr result ((other : TheMark) (its : ℕ) → in_many many.new other its ≡ in_many many.old other its) }
+    ensures err { OnErr result
+        ((other : TheMark) (its : ℕ) → in_many many.new other its ≡ in_many many.old other its) }
 {
     many.insert((mark.count, mark.head, proc))?;
     Ok(())
@@ -184,7 +186,8 @@ fn add_many(many: &mut BTreeSet<(usize, u64, u32)>, mark: Mark, proc: u32) -> Re
 #[inline(never)]
 fn remove_many(many: &mut BTreeSet<(usize, u64, u32)>, mark: Mark, proc: u32)
     ensures { (other : TheMark) (its : ℕ)
-        → in_many many.new other its ≡ in_many many.old other its && not (is_pair mark proc other its) }
+        → in_many many.new other its
+        ≡ in_many many.old other its && not (is_pair mark proc other its) }
 {
     many.remove(&(mark.count, mark.head, proc));
 }
@@ -216,7 +219,8 @@ pub(crate) fn add_both(
     requires sends { AreOf sending.old old.now.sends.items proc }
     requires receives { AreOf receiving.old old.now.receives.items proc }
     ensures sends { OnOk result (AreAdded sending.old sending.new new.now.sends.items proc) }
-    ensures receives { OnOk result (AreAdded receiving.old receiving.new new.now.receives.items proc) }
+    ensures receives { OnOk result
+        (AreAdded receiving.old receiving.new new.now.receives.items proc) }
     ensures same_sends { OnErr result (SamePairs sending.old sending.new) }
     ensures same_receives { OnErr result (SamePairs receiving.old receiving.new) }
 {

@@ -70,7 +70,8 @@ impl Slot {
 
     pub(crate) fn remove(&mut self, mark: Mark, proc: u32)
         ensures { (other : TheMark) (its : ℕ)
-            → is_in self.new other its ≡ is_in self.old other its && not (is_pair mark proc other its) }
+            → is_in self.new other its
+            ≡ is_in self.old other its && not (is_pair mark proc other its) }
     {
         remove_pair(&mut self.pairs, mark, proc);
     }
@@ -103,8 +104,8 @@ fn has_pair(pairs: &[Pair], mark: Mark, proc: u32) -> bool
 /// Where the process with the mark stands.
 fn place_of(pairs: &[Pair], mark: Mark, proc: u32) -> Option<usize>
     ensures within { IfSome result (λ place. place < length pairs.now) }
-    ensures here { IfSome result (λ place.
-        is_of mark proc (slice_index_or pairs.now place (record { mark = mark; proc = proc })) ≡ true) }
+    ensures here { IfSome result (λ place. is_of mark proc
+        (slice_index_or pairs.now place (record { mark = mark; proc = proc })) ≡ true) }
     ensures none { IfNone result (is_in pairs.now mark proc ≡ false) }
 {
     for place in 0..pairs.len() {

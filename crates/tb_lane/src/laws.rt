@@ -7,7 +7,8 @@ ghost use Rattle.tb_lane.specs.ToolLines.{IsToolLine};
 
 /// Bytes are one tool line at most.
 pub fn tool_lines_are_unique()
-    ensures { (bytes : List ℕ) (line other : ToolLine) → IsToolLine bytes line → IsToolLine bytes other → line ≡ other }
+    ensures { (bytes : List ℕ) (line other : ToolLine) → IsToolLine bytes line
+        → IsToolLine bytes other → line ≡ other }
 {}
 
 /// And one they are.

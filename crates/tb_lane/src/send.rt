@@ -53,7 +53,8 @@ pub fn send_out<O: Outlet>(outlet: &mut O, out: &Out, buffer: &mut Vec<u8>) -> R
     requires shape { IsOutInShape out.now }
     requires empty { buffer.old.items ≡ [] }
     requires room { most_line_text ≤ vec_capacity buffer.old }
-    ensures ok { OnOk result (O.told outlet.new ≡ and_taken (O.told outlet.old) (taken_of out.now ∷ [])) }
+    ensures ok { OnOk result
+        (O.told outlet.new ≡ and_taken (O.told outlet.old) (taken_of out.now ∷ [])) }
     ensures err { OnErr result (O.told outlet.new ≡ O.told outlet.old) }
     ensures rose { OnErr result (Rose (O.faults outlet.old) (O.faults outlet.new)) }
     ensures never_falls { O.faults outlet.old ≤ O.faults outlet.new }

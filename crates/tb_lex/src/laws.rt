@@ -22,13 +22,15 @@ pub fn faults_are_unique()
 
 /// Each text has tokens within the limit, or a fault other than running out of memory.
 pub fn each_text_has_one()
-    ensures { (bytes : List ℕ) → ((tokens : List Token) × Lexes bytes tokens × (length tokens ≤ most_tokens))
+    ensures { (bytes : List ℕ)
+        → ((tokens : List Token) × Lexes bytes tokens × (length tokens ≤ most_tokens))
         ⊎ ((f : LexFault) × HasFault bytes f × (f ≢ NoMemory)) }
 {}
 
 /// The tokens of a text stand in it in order, each spelled by its bytes between the token's positions.
 pub fn tokens_are_slices()
-    ensures { (bytes : List ℕ) (tokens : List Token) → Lexes bytes tokens → AreSlices bytes 0 tokens }
+    ensures { (bytes : List ℕ) (tokens : List Token)
+        → Lexes bytes tokens → AreSlices bytes 0 tokens }
 {}
 
 /// However tokens are spelled, their texts with a blank behind each have these tokens.

@@ -40,7 +40,8 @@ fn number_from<'a>(
     digits: &[u8],
     rest: &'a [u8],
 ) -> Result<(TokenKind<'a>, &'a [u8]), LexFault>
-    ensures number { Gives (λ x. (x.0, x.1.now)) result (number_from from negative digits.now rest.now) }
+    ensures number { Gives (λ x. (x.0, x.1.now)) result
+        (number_from from negative digits.now rest.now) }
     ensures some { IfOk result (λ x. (x.1.now ≡ rest.now) × (0 < length digits.now)) }
 {
     if digits.is_empty() {

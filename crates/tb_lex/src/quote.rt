@@ -31,7 +31,8 @@ pub(crate) fn string_at(
 /// What the string puts whose quote stands directly before these bytes, and the bytes behind it.
 fn string_rest(alloc: Global, total: usize, bytes: &[u8]) -> Result<(Vec<u8>, &[u8]), LexFault>
     requires { length bytes.now < total }
-    ensures string { Gives (λ x. (x.0.items, x.1.now)) result (string_rest (total - (length bytes.now + 1)) total within.Between bytes.now) }
+    ensures string { Gives (λ x. (x.0.items, x.1.now)) result
+        (string_rest (total - (length bytes.now + 1)) total within.Between bytes.now) }
     ensures shorter { IfOk result (λ x. length x.1.now ≤ length bytes.now) }
 {
     let quote = total - (bytes.len() + 1);

@@ -18,7 +18,8 @@ pub fn subscribe_at<W>(
 ) -> Result<(), NoMemory>
     requires within { at < length all.old.items }
     requires plain { IsTrue (are_plain patterns) }
-    ensures ok { OnOk result (IsHeldAt all.old.items at (subscribed patterns (held_at all.old.items at)) all.new.items) }
+    ensures ok { OnOk result
+        (IsHeldAt all.old.items at (subscribed patterns (held_at all.old.items at)) all.new.items) }
     ensures err { OnErr result (HoldTheSame all.old.items all.new.items) }
 {
     all[at].get_mut().inbox.subscribe(patterns)
@@ -27,7 +28,8 @@ pub fn subscribe_at<W>(
 /// The process at an index no longer wants what matches just these.
 pub fn unsubscribe_at<W>(all: &mut Vec<Apart<Living<W>>>, at: usize, patterns: &Patterns)
     requires { at < length all.old.items }
-    ensures { IsHeldAt all.old.items at (unsubscribed patterns.now (held_at all.old.items at)) all.new.items }
+    ensures { IsHeldAt all.old.items at
+        (unsubscribed patterns.now (held_at all.old.items at)) all.new.items }
 {
     all[at].get_mut().inbox.unsubscribe(patterns);
 }
@@ -37,7 +39,8 @@ pub fn take_note_at<W>(all: &mut Vec<Apart<Living<W>>>, at: usize, place: usize)
     requires within { at < length all.old.items }
     requires place { place < length (held_at all.old.items at).notes }
     ensures note { slice_get (held_at all.old.items at).notes place ≡ Some result }
-    ensures held { IsHeldAt all.old.items at (without_note place (held_at all.old.items at)) all.new.items }
+    ensures held { IsHeldAt all.old.items at
+        (without_note place (held_at all.old.items at)) all.new.items }
 {
     all[at].get_mut().inbox.take(place)
 }
@@ -52,7 +55,8 @@ pub fn hand_out<W>(
     requires wanting { indices.now ≡ wanting note.now 0 (rows_of all.old.items) }
     requires room { all_take note.now (rows_of all.old.items) ≡ true }
     ensures bares { bares_of all.new.items ≡ bares_of all.old.items }
-    ensures ok { OnOk result (helds_of all.new.items ≡ map (with_given note.now) (helds_of all.old.items)) }
+    ensures ok { OnOk result
+        (helds_of all.new.items ≡ map (with_given note.now) (helds_of all.old.items)) }
     ensures err { OnErr result (helds_of all.new.items ≡ helds_of all.old.items) }
 {
     let copies = copies_of(alloc, note, indices.len())?;
@@ -89,7 +93,8 @@ fn reserve_at<W>(all: &mut Vec<Apart<Living<W>>>, at: usize) -> Result<(), NoMem
     requires { at < length all.old.items }
     ensures same { HoldTheSame all.old.items all.new.items }
     ensures ok { OnOk result (0 < spare_at all.new.items at) }
-    ensures others { (other : ℕ) → other ≢ at → spare_at all.new.items other ≡ spare_at all.old.items other }
+    ensures others { (other : ℕ) → other ≢ at
+        → spare_at all.new.items other ≡ spare_at all.old.items other }
 {
     all[at].get_mut().inbox.reserve()
 }
@@ -97,10 +102,12 @@ fn reserve_at<W>(all: &mut Vec<Apart<Living<W>>>, at: usize) -> Result<(), NoMem
 /// Each of these processes gets one of the copies of a note. This takes no memory.
 fn put_all<W>(all: &mut Vec<Apart<Living<W>>>, indices: &[usize], mut copies: Vec<Terms>)
     requires many { length copies.items ≡ length indices.now }
-    requires apart { (i j : ℕ) → i < j → j < length indices.now → slice_index indices.now i < slice_index indices.now j }
+    requires apart { (i j : ℕ) → i < j → j < length indices.now
+        → slice_index indices.now i < slice_index indices.now j }
     requires can { All (CanTake all.old.items) indices.now }
     ensures bares { bares_of all.new.items ≡ bares_of all.old.items }
-    ensures helds { (note : List Term) → All (λ copy. copy ≡ note) copies.items → helds_of all.new.items ≡ put_each note indices.now (helds_of all.old.items) }
+    ensures helds { (note : List Term) → All (λ copy. copy ≡ note) copies.items
+        → helds_of all.new.items ≡ put_each note indices.now (helds_of all.old.items) }
 {
     while let Some(note) = copies.pop() {
         put_at(all, indices[copies.len()], note);
@@ -109,8 +116,10 @@ fn put_all<W>(all: &mut Vec<Apart<Living<W>>>, indices: &[usize], mut copies: Ve
 
 fn put_at<W>(all: &mut Vec<Apart<Living<W>>>, at: usize, note: Terms)
     requires { CanTake all.old.items at }
-    ensures held { IsHeldAt all.old.items at (with_note note (held_at all.old.items at)) all.new.items }
-    ensures others { (other : ℕ) → other ≢ at → spare_at all.new.items other ≡ spare_at all.old.items other }
+    ensures held { IsHeldAt all.old.items at
+        (with_note note (held_at all.old.items at)) all.new.items }
+    ensures others { (other : ℕ) → other ≢ at
+        → spare_at all.new.items other ≡ spare_at all.old.items other }
 {
     all[at].get_mut().inbox.put(note);
 }

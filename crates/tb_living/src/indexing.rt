@@ -46,7 +46,8 @@ pub fn index_of(alloc: Global, numbers: &[u32]) -> Result<Index, NoMemory>
 /// Adds the mark of tools, where a process speaks with one.
 fn push_tool_mark(marks: &mut Marks, own: &OwnAction) -> Result<(), NoMemory>
     ensures sends { marks.new.sends ≡ marks.old.sends }
-    ensures receives { OnOk result (marks.new.receives.items ≡ marks.old.receives.items ++ tool_marks (spoken_in own.now)) }
+    ensures receives { OnOk result
+        (marks.new.receives.items ≡ marks.old.receives.items ++ tool_marks (spoken_in own.now)) }
 {
     match own {
         OwnAction::Speak(_) => marks.receives.push(TOOL_MARK)?,
@@ -66,8 +67,10 @@ fn push_tool_mark(marks: &mut Marks, own: &OwnAction) -> Result<(), NoMemory>
 
 /// Adds the mark of what an action sends or receives, or that of tools.
 fn push_mark(marks: &mut Marks, action: &Action) -> Result<(), NoMemory>
-    ensures sends { OnOk result (marks.new.sends.items ≡ marks.old.sends.items ++ sent_by action.now) }
-    ensures receives { OnOk result (marks.new.receives.items ≡ marks.old.receives.items ++ found_by action.now) }
+    ensures sends { OnOk result
+        (marks.new.sends.items ≡ marks.old.sends.items ++ sent_by action.now) }
+    ensures receives { OnOk result
+        (marks.new.receives.items ≡ marks.old.receives.items ++ found_by action.now) }
 {
     match action {
         Action::Send(terms) => marks.sends.push(sent_mark(terms))?,
@@ -114,9 +117,11 @@ pub fn update<W>(
     requires right { IsRightFor index.old living.old }
     requires stale { living.old.fresh ≡ false }
     ensures right { IsRightFor index.new living.new }
-    ensures rested { (stirred : Bool) → IsRested (setting_by program.now.bodies program.now.tools bench.now) stirred index.new living.new }
+    ensures rested { (stirred : Bool) → IsRested
+        (setting_by program.now.bodies program.now.tools bench.now) stirred index.new living.new }
     ensures others { (other : ℕ) → other ≢ living.old.number → KeepsOf index.old index.new other }
-    ensures same { living.new ≡ record living.old { marks = living.new.marks; fresh = living.new.fresh } }
+    ensures same { living.new
+        ≡ record living.old { marks = living.new.marks; fresh = living.new.fresh } }
     ensures fresh { OnOk result (living.new.fresh ≡ true) }
 {
     let rest = all_rest(alloc, program, bench, living)?;

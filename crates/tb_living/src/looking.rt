@@ -38,7 +38,8 @@ fn set_action(
     slot: u32,
     values: Option<Terms>,
 ) -> Result<Option<Action>, NoMemory>
-    ensures { (store : List Slot) → sorts_of store ≡ sorts.now → IfOk result (λ action. action ≡ option_and_then (set_action store slot) values) }
+    ensures { (store : List Slot) → sorts_of store ≡ sorts.now
+        → IfOk result (λ action. action ≡ option_and_then (set_action store slot) values) }
 {
     let Some(values) = values else {
         return Ok(None);
@@ -58,7 +59,8 @@ fn set_action(
 
 /// The text that the values have by their format is printed, where they have one.
 fn print_action(alloc: Global, values: Option<Terms>) -> Result<Option<Action>, NoMemory>
-    ensures { IfOk result (λ action. action ≡ option_map print_action (option_and_then printf_of values)) }
+    ensures { IfOk result
+        (λ action. action ≡ option_map print_action (option_and_then printf_of values)) }
 {
     let Some(values) = values else {
         return Ok(None);
@@ -112,7 +114,8 @@ fn shutdown_action(reasons: Option<Terms>) -> Option<Action>
 
 /// Puts an action at the end of what is ready.
 fn push(offer: usize, atom: u32, action: Action, ready: &mut Vec<Ready>) -> Result<(), NoMemory>
-    ensures { OnOk result (ready.new.items ≡ ready.old.items ++ record { offer = offer; atom = atom; action = action } ∷ []) }
+    ensures { OnOk result (ready.new.items
+        ≡ ready.old.items ++ record { offer = offer; atom = atom; action = action } ∷ []) }
 {
     ready.push(Ready {
         offer,
@@ -136,9 +139,10 @@ fn action_in<W: Walker>(
     requires fresh { IsTrue (is_some (W.view.seen walker.now)) }
     requires within { ForSome (W.view.seen walker.now) (λ offers. k < length offers) }
     requires body { W.view.body_of plan.now ≡ body.now }
-    ensures { (offered : Offered) → slice_get (offers_of (W.view.walking plan.now walker.now)) k ≡ Some offered →
-        act_of body.now.atoms offered.atom ≡ act.now → sorts_of offered.store ≡ body.now.sorts →
-        IfOk result (λ action. action ≡ action_in offered.store act.now) }
+    ensures { (offered : Offered)
+        → slice_get (offers_of (W.view.walking plan.now walker.now)) k ≡ Some offered
+        → act_of body.now.atoms offered.atom ≡ act.now → sorts_of offered.store ≡ body.now.sorts
+        → IfOk result (λ action. action ≡ action_in offered.store act.now) }
 {
     let sent = || walker.sent(alloc, plan, k, None);
     let patterns = || walker.patterns(alloc, plan, k, None);
@@ -185,8 +189,11 @@ fn push_send<W: Walker>(
     requires on { W.view.is_on plan.now walker.now }
     requires fresh { IsTrue (is_some (W.view.seen walker.now)) }
     requires within { ForSome (W.view.seen walker.now) (λ offers. k < length offers) }
-    ensures { (offered : Offered) → slice_get (offers_of (W.view.walking plan.now walker.now)) k ≡ Some offered → offered.atom ≡ atom →
-        OnOk result (ready.new.items ≡ ready.old.items ++ ready_one k offered (option_map Action.Send (sent_by (W.view.body_of plan.now).atoms offered))) }
+    ensures { (offered : Offered)
+        → slice_get (offers_of (W.view.walking plan.now walker.now)) k ≡ Some offered
+        → offered.atom ≡ atom
+        → OnOk result (ready.new.items ≡ ready.old.items ++ ready_one k offered
+        (option_map Action.Send (sent_by (W.view.body_of plan.now).atoms offered))) }
 {
     match walker.sent(alloc, plan, k, buffers.terms.pop())? {
         Some(terms) => {
@@ -210,8 +217,11 @@ fn push_receive<W: Walker>(
     requires on { W.view.is_on plan.now walker.now }
     requires fresh { IsTrue (is_some (W.view.seen walker.now)) }
     requires within { ForSome (W.view.seen walker.now) (λ offers. k < length offers) }
-    ensures { (offered : Offered) → slice_get (offers_of (W.view.walking plan.now walker.now)) k ≡ Some offered → offered.atom ≡ atom →
-        OnOk result (ready.new.items ≡ ready.old.items ++ ready_one k offered (option_map Action.Receive (patterns_by (W.view.body_of plan.now).atoms offered))) }
+    ensures { (offered : Offered)
+        → slice_get (offers_of (W.view.walking plan.now walker.now)) k ≡ Some offered
+        → offered.atom ≡ atom
+        → OnOk result (ready.new.items ≡ ready.old.items ++ ready_one k offered
+        (option_map Action.Receive (patterns_by (W.view.body_of plan.now).atoms offered))) }
 {
     match walker.patterns(alloc, plan, k, buffers.patterns.pop())? {
         Some(patterns) => {
@@ -238,9 +248,12 @@ fn push_any<W: Walker>(
     requires fresh { IsTrue (is_some (W.view.seen walker.now)) }
     requires within { ForSome (W.view.seen walker.now) (λ offers. k < length offers) }
     requires body { W.view.body_of plan.now ≡ body.now }
-    ensures { (offered : Offered) → slice_get (offers_of (W.view.walking plan.now walker.now)) k ≡ Some offered → offered.atom ≡ number →
-        act_of body.now.atoms offered.atom ≡ atom.now.act → sorts_of offered.store ≡ body.now.sorts →
-        OnOk result (ready.new.items ≡ ready.old.items ++ ready_one k offered (action_in offered.store atom.now.act)) }
+    ensures { (offered : Offered)
+        → slice_get (offers_of (W.view.walking plan.now walker.now)) k ≡ Some offered
+        → offered.atom ≡ number → act_of body.now.atoms offered.atom ≡ atom.now.act
+        → sorts_of offered.store ≡ body.now.sorts
+        → OnOk result (ready.new.items
+        ≡ ready.old.items ++ ready_one k offered (action_in offered.store atom.now.act)) }
 {
     match action_in(alloc, plan, body, walker, k, &atom.act)? {
         Some(action) => {
@@ -267,9 +280,12 @@ fn push_action<W: Walker>(
     requires fresh { IsTrue (is_some (W.view.seen walker.now)) }
     requires within { ForSome (W.view.seen walker.now) (λ offers. k < length offers) }
     requires body { W.view.body_of plan.now ≡ body.now }
-    ensures { (offered : Offered) → slice_get (offers_of (W.view.walking plan.now walker.now)) k ≡ Some offered → offered.atom ≡ number →
-        act_of body.now.atoms offered.atom ≡ atom.now.act → sorts_of offered.store ≡ body.now.sorts →
-        OnOk result (ready.new.items ≡ ready.old.items ++ ready_one k offered (action_in offered.store atom.now.act)) }
+    ensures { (offered : Offered)
+        → slice_get (offers_of (W.view.walking plan.now walker.now)) k ≡ Some offered
+        → offered.atom ≡ number → act_of body.now.atoms offered.atom ≡ atom.now.act
+        → sorts_of offered.store ≡ body.now.sorts
+        → OnOk result (ready.new.items
+        ≡ ready.old.items ++ ready_one k offered (action_in offered.store atom.now.act)) }
 {
     match &atom.act {
         Act::Delta => Ok(()),
@@ -307,10 +323,13 @@ fn push_ready<W: Walker>(
     requires fresh { IsTrue (is_some (W.view.seen walker.now)) }
     requires within { ForSome (W.view.seen walker.now) (λ offers. k < length offers) }
     requires body { W.view.body_of plan.now ≡ body.now }
-    ensures ready { (now : ℕ) (offered : Offered) → slice_get (offers_of (W.view.walking plan.now walker.now)) k ≡ Some offered →
-        offer ≡ seen body.now.atoms now offered → sorts_of offered.store ≡ body.now.sorts →
-        OnOk result (ready.new.items ≡ ready.old.items ++ ready_one k offered (action_of body.now.atoms now offered)) }
-    ensures timed { IfOk result (λ timed. timed ≡ false → (before ≡ false) × (times_of body.now.atoms offer.atom ≡ [])) }
+    ensures ready { (now : ℕ) (offered : Offered)
+        → slice_get (offers_of (W.view.walking plan.now walker.now)) k ≡ Some offered
+        → offer ≡ seen body.now.atoms now offered → sorts_of offered.store ≡ body.now.sorts
+        → OnOk result (ready.new.items
+        ≡ ready.old.items ++ ready_one k offered (action_of body.now.atoms now offered)) }
+    ensures timed { IfOk result
+        (λ timed. timed ≡ false → (before ≡ false) × (times_of body.now.atoms offer.atom ≡ [])) }
 {
     let place = (offer.atom as usize).saturating_sub(1);
     let Some(atom) = body.atoms.get(place) else {
@@ -348,10 +367,14 @@ fn fill<W: Walker>(
     requires fresh { IsTrue (is_some (W.view.seen walker.now)) }
     requires body { W.view.body_of plan.now ≡ body.now }
     requires sorts { sorts_of (W.view.walking plan.now walker.now).store ≡ body.now.sorts }
-    ensures ready { (now : ℕ) → W.view.seen walker.now ≡ Some (seen_offers body.now.atoms now (W.view.walking plan.now walker.now)) →
-        OnOk result (ready.new.items ≡ readies body.now.atoms now 0 (offers_of (W.view.walking plan.now walker.now))) }
-    ensures timed { (now : ℕ) → W.view.seen walker.now ≡ Some (seen_offers body.now.atoms now (W.view.walking plan.now walker.now)) →
-        IfOk result (λ timed. timed ≡ false → All (IsTimeless body.now.atoms) (offers_of (W.view.walking plan.now walker.now))) }
+    ensures ready { (now : ℕ) → W.view.seen walker.now
+        ≡ Some (seen_offers body.now.atoms now (W.view.walking plan.now walker.now))
+        → OnOk result (ready.new.items
+        ≡ readies body.now.atoms now 0 (offers_of (W.view.walking plan.now walker.now))) }
+    ensures timed { (now : ℕ) → W.view.seen walker.now
+        ≡ Some (seen_offers body.now.atoms now (W.view.walking plan.now walker.now))
+        → IfOk result (λ timed. timed ≡ false
+        → All (IsTimeless body.now.atoms) (offers_of (W.view.walking plan.now walker.now))) }
 {
     retire(alloc, ready, buffers);
     let mut timed = false;
@@ -390,8 +413,10 @@ pub fn look<W: Walker>(
     requires body { W.view.body_of plan.now ≡ body.now }
     requires live { IsLiveOn W.view plan.now now living.old }
     ensures live { IsLiveOn W.view plan.now now living.new }
-    ensures same { proc_by W.view (Some plan.now) living.new ≡ proc_by W.view (Some plan.now) living.old }
-    ensures looked { OnOk result (IsFreshFor (W.view.body_of plan.now) now (W.view.walking plan.now living.new.walker) living.new.timed living.new.ready.items) }
+    ensures same { proc_by W.view (Some plan.now) living.new
+        ≡ proc_by W.view (Some plan.now) living.old }
+    ensures looked { OnOk result (IsFreshFor (W.view.body_of plan.now) now
+        (W.view.walking plan.now living.new.walker) living.new.timed living.new.ready.items) }
     ensures stale { living.new.fresh ≡ false }
     ensures marks { living.new.marks ≡ living.old.marks }
 {
@@ -416,10 +441,12 @@ pub fn go_on<W: Walker>(
     binds: &mut Binds,
 ) -> bool
     requires on { W.view.is_on plan.now living.old.walker }
-    requires taken { (offered : Offered) × W.view.leaves plan.now living.old.walker taken offered × IsTrue (takes_binds offered.store binds.old) }
+    requires taken { (offered : Offered) × W.view.leaves plan.now living.old.walker taken offered
+        × IsTrue (takes_binds offered.store binds.old) }
     ensures on { W.view.is_on plan.now living.new.walker }
-    ensures advanced { (offered : Offered) → W.view.leaves plan.now living.old.walker taken offered →
-        W.view.walking plan.now living.new.walker ≡ fired binds.old (W.view.walking plan.now living.old.walker).ticks offered }
+    ensures advanced { (offered : Offered) → W.view.leaves plan.now living.old.walker taken offered
+        → W.view.walking plan.now living.new.walker
+        ≡ fired binds.old (W.view.walking plan.now living.old.walker).ticks offered }
     ensures ended { result ≡ is_end (W.view.walking plan.now living.new.walker).term }
     ensures number { living.new.number ≡ living.old.number }
     ensures body { living.new.body ≡ living.old.body }

@@ -82,7 +82,8 @@ pub fn open_at<W: Walker>(
     requires fits { IsTrue (fits_formals (slice_get bodies.now process) actuals) }
     ensures number { IfOk result (λ living. living.number ≡ number) }
     ensures live { IfOk result (λ living. (now : ℕ) → IsLive W.view plans.now now living) }
-    ensures procs { IfOk result (λ living. procs_of W.view plans.now (living ∷ []) ≡ opened_one number process actuals (slice_get bodies.now process)) }
+    ensures procs { IfOk result (λ living. procs_of W.view plans.now (living ∷ [])
+        ≡ opened_one number process actuals (slice_get bodies.now process)) }
     ensures unmarked { IfOk result IsUnmarked }
 {
     let place = process as usize;
@@ -102,7 +103,8 @@ fn open_root<W: Walker>(
     ensures number { IfOk result (λ living. living.number ≡ at + 1) }
     ensures live { IfOk result (λ living. (now : ℕ) → IsLive W.view plans.now now living) }
     ensures procs { ForSome (slice_get program.now.roots at) (λ root. IfOk result (λ living.
-        procs_of W.view plans.now (living ∷ []) ≡ opened_one (at + 1) root.process root.actuals (slice_get program.now.bodies root.process))) }
+        procs_of W.view plans.now (living ∷ []) ≡ opened_one (at + 1) root.process root.actuals
+        (slice_get program.now.bodies root.process))) }
     ensures unmarked { IfOk result IsUnmarked }
 {
     let root = &program.roots.as_slice()[at];
@@ -121,7 +123,8 @@ pub fn open_all<W: Walker>(
     ensures in_order { IfOk result (λ all. ascend 0 (rows_of all.items) ≡ true) }
     ensures below { IfOk result (λ all. All (IsBelow (length program.now.roots + 1)) all.items) }
     ensures live { IfOk result (λ all. All (IsLive W.view plans.now 0) all.items) }
-    ensures procs { IfOk result (λ all. procs_of W.view plans.now all.items ≡ opened program.now.bodies 1 program.now.roots) }
+    ensures procs { IfOk result (λ all. procs_of W.view plans.now all.items
+        ≡ opened program.now.bodies 1 program.now.roots) }
     ensures unmarked { IfOk result (λ all. All IsUnmarked all.items) }
 {
     let mut all = Vec::new(alloc);

@@ -84,7 +84,8 @@ fn seen(kind: LabelKind, shown: Terms, binds: Binds) -> Done
 
 /// The tool that was bound is seen.
 fn bound(alloc: Global, kind: LabelKind, binds: Binds) -> Result<Done, NoMemory>
-    ensures { IfOk result (λ done. done ≡ record { kind = kind; shown = values_in binds; binds = binds }) }
+    ensures { IfOk result
+        (λ done. done ≡ record { kind = kind; shown = values_in binds; binds = binds }) }
 {
     let mut shown = Items::new(alloc);
     for bind in binds.as_slice() {
@@ -99,7 +100,8 @@ fn execute(kinds: &[Tool], bench: &mut Bench, tool: u32, lane: u8) -> Result<(),
     requires can { IsTrue (can_execute lane bench.old) }
     requires command { IsSome (kind_command (around kinds.now bench.old) tool) }
     requires tools { bench.old.next_tool ≤ most_tools }
-    ensures ok { OnOk result (bench.new ≡ executed (kind_name (around kinds.now bench.old) tool) (unwrap_or (kind_command (around kinds.now bench.old) tool) []) lane bench.old) }
+    ensures ok { OnOk result (bench.new ≡ executed (kind_name (around kinds.now bench.old) tool)
+        (unwrap_or (kind_command (around kinds.now bench.old) tool) []) lane bench.old) }
     ensures err { OnErr result (bench.new ≡ bench.old) }
 {
     let kind = &kinds[tool as usize];
@@ -122,7 +124,8 @@ fn eval(
 ) -> Result<Done, NoMemory>
     requires lane { IsLane lane }
     requires can { IsTrue (can_eval lane bench.old) }
-    ensures done { IfOk result (λ done. done ≡ record { kind = label_kind.SndEval; shown = terms; binds = binds }) }
+    ensures done { IfOk result
+        (λ done. done ≡ record { kind = label_kind.SndEval; shown = terms; binds = binds }) }
     ensures ok { OnOk result (bench.new ≡ with_told asked (behind terms) lane bench.old) }
     ensures err { OnErr result (bench.new ≡ bench.old) }
 {
@@ -142,7 +145,8 @@ fn do_action(
 ) -> Result<Done, NoMemory>
     requires lane { IsLane lane }
     requires can { IsTrue (can_do lane bench.old) }
-    ensures done { IfOk result (λ done. done ≡ record { kind = label_kind.SndDo; shown = terms; binds = binds }) }
+    ensures done { IfOk result
+        (λ done. done ≡ record { kind = label_kind.SndDo; shown = terms; binds = binds }) }
     ensures ok { OnOk result (bench.new ≡ with_told told (behind terms) lane bench.old) }
     ensures err { OnErr result (bench.new ≡ bench.old) }
 {
@@ -162,7 +166,8 @@ fn terminate(
 ) -> Result<Done, NoMemory>
     requires lane { IsLane lane }
     requires can { IsTrue (can_terminate lane bench.old) }
-    ensures done { IfOk result (λ done. done ≡ record { kind = label_kind.SndTerminate; shown = terms; binds = binds }) }
+    ensures done { IfOk result
+        (λ done. done ≡ record { kind = label_kind.SndTerminate; shown = terms; binds = binds }) }
     ensures ok { OnOk result (bench.new ≡ with_told terminated (behind terms) lane bench.old) }
     ensures err { OnErr result (bench.new ≡ bench.old) }
 {
@@ -220,7 +225,8 @@ fn with_event(
 /// How large the terms are that are seen of an exchange, or the greatest usize where that is greater.
 pub fn seen_size(bench: &Bench, does: &ToolAction, exchange: &Exchange) -> usize
     requires { (kinds : List ToolKind) × CanSpeak kinds bench.now does.now exchange.now }
-    ensures { result ≡ min (terms_size (terms_seen (around [] bench.now) does.now exchange.now)) MAX }
+    ensures { result
+        ≡ min (terms_size (terms_seen (around [] bench.now) does.now exchange.now)) MAX }
 {
     match does {
         ToolAction::Execute(_, _) | ToolAction::Connect(_, _) | ToolAction::DisconnectAny(_, _) => {

@@ -9,21 +9,30 @@ ghost use Rattle.tb_lock.specs.Calls.{Meets, StopsBus, Joins, noted};
 /// Of the entries that need a seat's rights, or some of them, the seat sees after a call just those that it saw
 /// before, and then the call's own. A call has the right for what it adds.
 pub fn calls_add_their_own()
-    ensures seen { (old : SeatView) (core : CoreState) (entries : List Entry) (some : Rights) → Meets old core → AreAmong some old.rights →
-        own some (noted old core entries).seen ≡ own some old.seen ++ own some entries }
-    ensures added { (rights : Rights) (core : CoreState) (call : Call) → has rights (right_to call) ≡ true → own rights (entries_of core call) ≡ entries_of core call }
+    ensures seen { (old : SeatView) (core : CoreState) (entries : List Entry) (some : Rights)
+        → Meets old core → AreAmong some old.rights
+        → own some (noted old core entries).seen ≡ own some old.seen ++ own some entries }
+    ensures added { (rights : Rights) (core : CoreState) (call : Call)
+        → has rights (right_to call) ≡ true
+        → own rights (entries_of core call) ≡ entries_of core call }
 {}
 
 /// Of the entries that need a seat's rights, or some of them, the seat sees in its turn just those that it saw before, and
 /// so after a call that only looks (`Observes` has such a core), and after it has stopped the bus.
 pub fn looks_add_nothing()
-    ensures meets { (old : SeatView) (core : CoreState) (some : Rights) → Meets old core → AreAmong some old.rights → own some core.log ≡ own some old.seen }
-    ensures looks { (old new : SeatView) (core : CoreState) (some : Rights) → Meets old core → new ≡ record old { seen = core.log } → AreAmong some old.rights → own some new.seen ≡ own some old.seen }
-    ensures stops { (old new : SeatView) (some : Rights) → StopsBus old new → AreAmong some old.rights → own some new.seen ≡ own some old.seen }
+    ensures meets { (old : SeatView) (core : CoreState) (some : Rights) → Meets old core
+        → AreAmong some old.rights → own some core.log ≡ own some old.seen }
+    ensures looks { (old new : SeatView) (core : CoreState) (some : Rights) → Meets old core
+        → new ≡ record old { seen = core.log } → AreAmong some old.rights
+        → own some new.seen ≡ own some old.seen }
+    ensures stops { (old new : SeatView) (some : Rights) → StopsBus old new
+        → AreAmong some old.rights → own some new.seen ≡ own some old.seen }
 {}
 
 /// Of each right of either seat, that seat had seen all entries before the join.
 pub fn joins_keep_their_own()
-    ensures first { (old other new : SeatView) (some : Rights) → Joins old other new → AreAmong some old.rights → own some new.seen ≡ own some old.seen }
-    ensures second { (old other new : SeatView) (some : Rights) → Joins old other new → AreAmong some other.rights → own some new.seen ≡ own some other.seen }
+    ensures first { (old other new : SeatView) (some : Rights) → Joins old other new
+        → AreAmong some old.rights → own some new.seen ≡ own some old.seen }
+    ensures second { (old other new : SeatView) (some : Rights) → Joins old other new
+        → AreAmong some other.rights → own some new.seen ≡ own some other.seen }
 {}

@@ -22,8 +22,10 @@ pub(crate) fn part<W: Walker, H: HandsOn>(
     requires rights { AreAmong rights holder.old.me.0.rights }
     requires room { 1 < holder.old.me.0.room }
     requires idle { (holder.old.me.1 ≡ []) × (holder.old.me.0.stage ≡ Idle) }
-    ensures holder { (holder.new.table_id ≡ holder.old.table_id) × (result.table_id ≡ holder.old.table_id) }
-    ensures parted { (holder.new.me ≡ (kept_of rights holder.old.me.0, [])) × (result.me ≡ (handed_on rights holder.old.me.0, [])) }
+    ensures holder { (holder.new.table_id ≡ holder.old.table_id)
+        × (result.table_id ≡ holder.old.table_id) }
+    ensures parted { (holder.new.me ≡ (kept_of rights holder.old.me.0, []))
+        × (result.me ≡ (handed_on rights holder.old.me.0, [])) }
 {
     board.split_seat::<Part<H>>(holder)
 }
@@ -31,8 +33,10 @@ pub(crate) fn part<W: Walker, H: HandsOn>(
 /// Makes two seats one, and looks at once what each had seen.
 pub(crate) fn unite<W: Walker>(board: &Board<W>, holder: &mut Holder<W>, other: Holder<W>)
     requires board { IsBoard board.now.table_id }
-    requires holders { (holder.old.table_id ≡ board.now.table_id) × (other.table_id ≡ board.now.table_id) }
-    requires idle { (holder.old.me.1 ≡ []) × (holder.old.me.0.stage ≡ Idle) × (other.me.1 ≡ []) × (other.me.0.stage ≡ Idle) }
+    requires holders { (holder.old.table_id ≡ board.now.table_id)
+        × (other.table_id ≡ board.now.table_id) }
+    requires idle { (holder.old.me.1 ≡ []) × (holder.old.me.0.stage ≡ Idle)
+        × (other.me.1 ≡ []) × (other.me.0.stage ≡ Idle) }
     requires room { (0 < holder.old.me.0.room) × (0 < other.me.0.room) }
     ensures holder { (holder.new.table_id ≡ holder.old.table_id) × (holder.new.me.1 ≡ []) }
     ensures joins { Joins holder.old.me.0 other.me.0 holder.new.me.0 }

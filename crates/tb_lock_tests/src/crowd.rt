@@ -23,7 +23,8 @@ pub(crate) fn split_off(
     requires room { count < seat.old.room }
     ensures same { (seat.new.bus ≡ seat.old.bus) × (seat.new.rights ≡ all_rights) }
     ensures room { IfOk result (λ seats. seat.new.room + vec_len seats ≡ seat.old.room) }
-    ensures seats { IfOk result (λ seats. All (λ other. (other.bus ≡ bus.now) × (other.rights ≡ no_rights) × (other.room ≡ 1)) seats.items) }
+    ensures seats { IfOk result (λ seats. All (λ other. (other.bus ≡ bus.now)
+        × (other.rights ≡ no_rights) × (other.room ≡ 1)) seats.items) }
 {
     let mut seats = Vec::new(alloc);
     for _ in 0..count {
@@ -36,7 +37,8 @@ pub(crate) fn split_off(
 pub(crate) fn join_all(bus: &Bus, mut seat: Seat, mut others: Vec<Seat>) -> Seat
     requires own { seat.bus ≡ bus.now }
     requires whole { seat.rights ≡ all_rights }
-    requires others { All (λ other. (other.bus ≡ bus.now) × (other.rights ≡ no_rights) × (other.room ≡ 1)) others.items }
+    requires others { All (λ other. (other.bus ≡ bus.now) × (other.rights ≡ no_rights)
+        × (other.room ≡ 1)) others.items }
     ensures same { (result.bus ≡ bus.now) × (result.rights ≡ all_rights) }
     ensures room { result.room ≡ seat.room + vec_len others }
 {
@@ -50,7 +52,8 @@ pub(crate) fn join_all(bus: &Bus, mut seat: Seat, mut others: Vec<Seat>) -> Seat
 fn work<R: Wait>(rt: &R, bus: &Bus, mut seat: Seat) -> (Seat, u64)
     requires own { seat.bus ≡ bus.now }
     requires whole { seat.rights ≡ all_rights }
-    ensures { (result.0.bus ≡ seat.bus) × (result.0.rights ≡ seat.rights) × (result.0.room ≡ seat.room) }
+    ensures { (result.0.bus ≡ seat.bus)
+        × (result.0.rights ≡ seat.rights) × (result.0.room ≡ seat.room) }
 {
     let mut made = 0;
     for _ in 0..1_000_000_u64 {
@@ -68,9 +71,11 @@ fn work<R: Wait>(rt: &R, bus: &Bus, mut seat: Seat) -> (Seat, u64)
 
 /// Each of these seats is used in a thread of its own: every fourth stops the bus, and the others look at a lane.
 fn attend_all<R: Threads + Wait + Sync>(rt: &R, bus: &Bus, mut seats: Vec<Seat>) -> Vec<Seat>
-    requires { All (λ seat. (seat.bus ≡ bus.now) × (seat.rights ≡ no_rights) × (seat.room ≡ 1)) seats.items }
+    requires { All
+        (λ seat. (seat.bus ≡ bus.now) × (seat.rights ≡ no_rights) × (seat.room ≡ 1)) seats.items }
     ensures len { vec_len result ≡ vec_len seats }
-    ensures seats { All (λ seat. (seat.bus ≡ bus.now) × (seat.rights ≡ no_rights) × (seat.room ≡ 1)) result.items }
+    ensures seats { All
+        (λ seat. (seat.bus ≡ bus.now) × (seat.rights ≡ no_rights) × (seat.room ≡ 1)) result.items }
 {
     thread::for_each_mut(
         rt,
@@ -78,7 +83,9 @@ fn attend_all<R: Threads + Wait + Sync>(rt: &R, bus: &Bus, mut seats: Vec<Seat>)
         64,
         &|number, seat|
             requires { seat.now.bus ≡ bus.now }
-            ensures { (seat.exit.now.bus ≡ seat.entry.now.bus) × (seat.exit.now.rights ≡ seat.entry.now.rights) × (seat.exit.now.room ≡ seat.entry.now.room) }
+            ensures { (seat.exit.now.bus ≡ seat.entry.now.bus)
+                × (seat.exit.now.rights ≡ seat.entry.now.rights)
+                × (seat.exit.now.room ≡ seat.entry.now.room) }
         {
             if number % 4 == 3 {
                 bus.stop(rt, seat);
@@ -99,20 +106,26 @@ pub(crate) fn work_beside<R: Threads + Wait + Sync>(
 ) -> ((Seat, u64), Vec<Seat>)
     requires own { seat.bus ≡ bus.now }
     requires whole { seat.rights ≡ all_rights }
-    requires others { All (λ other. (other.bus ≡ bus.now) × (other.rights ≡ no_rights) × (other.room ≡ 1)) others.items }
-    ensures same { (result.0.0.bus ≡ bus.now) × (result.0.0.rights ≡ all_rights) × (result.0.0.room ≡ seat.room) }
+    requires others { All (λ other. (other.bus ≡ bus.now) × (other.rights ≡ no_rights)
+        × (other.room ≡ 1)) others.items }
+    ensures same { (result.0.0.bus ≡ bus.now) × (result.0.0.rights ≡ all_rights)
+        × (result.0.0.room ≡ seat.room) }
     ensures len { vec_len result.1 ≡ vec_len others }
-    ensures others { All (λ other. (other.bus ≡ bus.now) × (other.rights ≡ no_rights) × (other.room ≡ 1)) result.1.items }
+    ensures others { All (λ other. (other.bus ≡ bus.now) × (other.rights ≡ no_rights)
+        × (other.room ≡ 1)) result.1.items }
 {
     join(
         rt,
         move || -> (Seat, u64)
             requires { (seat.bus ≡ bus.now) × (seat.rights ≡ all_rights) }
-            ensures { (result.0.bus ≡ bus.entry.now) × (result.0.rights ≡ all_rights) × (result.0.room ≡ seat.room) }
+            ensures { (result.0.bus ≡ bus.entry.now)
+                × (result.0.rights ≡ all_rights) × (result.0.room ≡ seat.room) }
         { work(rt, bus, seat) },
         move || -> Vec<Seat>
-            requires { IsSync R.row × All (λ other. (other.bus ≡ bus.now) × (other.rights ≡ no_rights) × (other.room ≡ 1)) others.items }
-            ensures { (vec_len result ≡ vec_len others) × All (λ other. (other.bus ≡ bus.entry.now) × (other.rights ≡ no_rights) × (other.room ≡ 1)) result.items }
+            requires { IsSync R.row × All (λ other. (other.bus ≡ bus.now)
+                × (other.rights ≡ no_rights) × (other.room ≡ 1)) others.items }
+            ensures { (vec_len result ≡ vec_len others) × All (λ other. (other.bus ≡ bus.entry.now)
+                × (other.rights ≡ no_rights) × (other.room ≡ 1)) result.items }
         { attend_all(rt, bus, others) },
     )
 }

@@ -77,7 +77,8 @@ fn has_logged<W: Walker>(alloc: Global, core: Core<W>, wanted: &str) -> Result<b
 fn ask<W: Walker, R: Wait>(rt: &R, bus: &Shared<W>, seat: &mut Seat) -> Result<(), CoreFault>
     requires own { seat.old.bus ≡ bus.now }
     requires whole { seat.old.rights ≡ all_rights }
-    ensures same { (seat.new.bus ≡ seat.old.bus) × (seat.new.rights ≡ seat.old.rights) × (seat.new.room ≡ seat.old.room) }
+    ensures same { (seat.new.bus ≡ seat.old.bus) × (seat.new.rights ≡ seat.old.rights)
+        × (seat.new.room ≡ seat.old.room) }
 {
     bus.step(rt, seat)?;
     bus.step(rt, seat)?;
@@ -101,7 +102,8 @@ fn put_piece<W: Walker, R: Wait>(
     text: &mut Vec<u8>,
 ) -> Result<usize, NoMemory>
     requires own { seat.old.bus ≡ bus.now }
-    ensures same { (seat.new.bus ≡ seat.old.bus) × (seat.new.rights ≡ seat.old.rights) × (seat.new.room ≡ seat.old.room) }
+    ensures same { (seat.new.bus ≡ seat.old.bus) × (seat.new.rights ≡ seat.old.rights)
+        × (seat.new.room ≡ seat.old.room) }
 {
     let piece = bus.read_log(rt, alloc, seat, from, most)?;
     put_lines(text, from, piece.as_slice())?;
@@ -117,7 +119,8 @@ fn put_pieces<W: Walker, R: Wait>(
     text: &mut Vec<u8>,
 ) -> Result<(usize, usize, usize, usize), NoMemory>
     requires own { seat.old.bus ≡ bus.now }
-    ensures same { (seat.new.bus ≡ seat.old.bus) × (seat.new.rights ≡ seat.old.rights) × (seat.new.room ≡ seat.old.room) }
+    ensures same { (seat.new.bus ≡ seat.old.bus) × (seat.new.rights ≡ seat.old.rights)
+        × (seat.new.room ≡ seat.old.room) }
 {
     let first = put_piece(rt, alloc, bus, seat, 0, 3, text)?;
     let next = put_piece(rt, alloc, bus, seat, 3, 4, text)?;
@@ -154,7 +157,8 @@ fn row<W: Walker, R: Wait>(
 ) -> Result<Stepped, CoreFault>
     requires own { seat.old.bus ≡ bus.now }
     requires whole { seat.old.rights ≡ all_rights }
-    ensures same { (seat.new.bus ≡ seat.old.bus) × (seat.new.rights ≡ seat.old.rights) × (seat.new.room ≡ seat.old.room) }
+    ensures same { (seat.new.bus ≡ seat.old.bus) × (seat.new.rights ≡ seat.old.rights)
+        × (seat.new.room ≡ seat.old.room) }
 {
     bus.steps(rt, seat, more)
 }

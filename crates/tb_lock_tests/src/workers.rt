@@ -18,7 +18,8 @@ pub(crate) const ROUNDS: u64 = 100;
 fn make_steps<W: Walker, R: Wait>(rt: &R, bus: &Shared<W>, mut seat: Seat) -> (Seat, bool)
     requires own { seat.bus ≡ bus.now }
     requires right { seat.rights.steps ≡ true }
-    ensures same { (result.0.bus ≡ seat.bus) × (result.0.rights ≡ seat.rights) × (result.0.room ≡ seat.room) }
+    ensures same { (result.0.bus ≡ seat.bus)
+        × (result.0.rights ≡ seat.rights) × (result.0.room ≡ seat.room) }
     ensures mine { IsTrue result.1 → length result.0.mine ≡ length seat.mine + ROUNDS }
 {
     for _ in 0..ROUNDS {
@@ -34,7 +35,8 @@ fn make_steps<W: Walker, R: Wait>(rt: &R, bus: &Shared<W>, mut seat: Seat) -> (S
 fn hand_in_ticks<W: Walker, R: Wait>(rt: &R, bus: &Shared<W>, mut seat: Seat) -> (Seat, bool)
     requires own { seat.bus ≡ bus.now }
     requires right { seat.rights.ticks ≡ true }
-    ensures same { (result.0.bus ≡ seat.bus) × (result.0.rights ≡ seat.rights) × (result.0.room ≡ seat.room) }
+    ensures same { (result.0.bus ≡ seat.bus)
+        × (result.0.rights ≡ seat.rights) × (result.0.room ≡ seat.room) }
     ensures mine { IsTrue result.1 → length result.0.mine ≡ length seat.mine + ROUNDS }
 {
     for _ in 0..ROUNDS {
@@ -60,19 +62,26 @@ where
     requires own { (steps.bus ≡ bus.now) × (ticks.bus ≡ bus.now) }
     requires right { (steps.rights.steps ≡ true) × (ticks.rights.ticks ≡ true) }
     requires new { (steps.mine ≡ []) × (ticks.mine ≡ []) }
-    ensures same { (result.0.0.bus ≡ bus.now) × (result.0.0.rights ≡ steps.rights) × (result.0.0.room ≡ steps.room) }
-    ensures other { (result.1.0.bus ≡ bus.now) × (result.1.0.rights ≡ ticks.rights) × (result.1.0.room ≡ ticks.room) }
-    ensures mine { (IsTrue result.0.1 → length result.0.0.mine ≡ ROUNDS) × (IsTrue result.1.1 → length result.1.0.mine ≡ ROUNDS) }
+    ensures same { (result.0.0.bus ≡ bus.now) × (result.0.0.rights ≡ steps.rights)
+        × (result.0.0.room ≡ steps.room) }
+    ensures other { (result.1.0.bus ≡ bus.now) × (result.1.0.rights ≡ ticks.rights)
+        × (result.1.0.room ≡ ticks.room) }
+    ensures mine { (IsTrue result.0.1 → length result.0.0.mine ≡ ROUNDS)
+        × (IsTrue result.1.1 → length result.1.0.mine ≡ ROUNDS) }
 {
     join(
         rt,
         move || -> (Seat, bool)
             requires { (steps.bus ≡ bus.now) × (steps.rights.steps ≡ true) }
-            ensures { (result.0.bus ≡ bus.entry.now) × (result.0.rights ≡ steps.rights) × (result.0.room ≡ steps.room) × (IsTrue result.1 → length result.0.mine ≡ length steps.mine + ROUNDS) }
+            ensures { (result.0.bus ≡ bus.entry.now)
+                × (result.0.rights ≡ steps.rights) × (result.0.room ≡ steps.room)
+                × (IsTrue result.1 → length result.0.mine ≡ length steps.mine + ROUNDS) }
         { make_steps(rt, bus, steps) },
         move || -> (Seat, bool)
             requires { (ticks.bus ≡ bus.now) × (ticks.rights.ticks ≡ true) }
-            ensures { (result.0.bus ≡ bus.entry.now) × (result.0.rights ≡ ticks.rights) × (result.0.room ≡ ticks.room) × (IsTrue result.1 → length result.0.mine ≡ length ticks.mine + ROUNDS) }
+            ensures { (result.0.bus ≡ bus.entry.now)
+                × (result.0.rights ≡ ticks.rights) × (result.0.room ≡ ticks.room)
+                × (IsTrue result.1 → length result.0.mine ≡ length ticks.mine + ROUNDS) }
         { hand_in_ticks(rt, bus, ticks) },
     )
 }

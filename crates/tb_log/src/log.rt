@@ -41,11 +41,13 @@ impl Model for Log {
     ghost view = { λ log. record {
       limit = log.limit;
       entries = entries_kept log.terms.items log.others.items log.entries.items;
-      spare = min (vec_capacity log.entries - vec_len log.entries) (vec_capacity log.others - vec_len log.others);
+      spare = min (vec_capacity log.entries - vec_len log.entries)
+          (vec_capacity log.others - vec_len log.others);
       reserved = log.reserved;
     } };
 
-    ghost invariant = { λ log. StandsFor log.limit log.size log.terms.items log.others.items log.entries.items
+    ghost invariant = { λ log.
+        StandsFor log.limit log.size log.terms.items log.others.items log.entries.items
         × (vec_len log.terms + log.reserved ≤ vec_capacity log.terms) };
 }
 
@@ -96,7 +98,8 @@ impl Log {
 
     /// Whether neither limit is passed with an entry of this size.
     pub fn room_for_size(&self, size: usize) -> bool
-        ensures { (entry : Entry) → size ≡ min (entry_size entry) MAX → result ≡ has_room self.now.limit self.now.entries entry }
+        ensures { (entry : Entry) → size ≡ min (entry_size entry) MAX
+            → result ≡ has_room self.now.limit self.now.entries entry }
     {
         self.entries.len() < self.limit as usize && self.size.saturating_add(size) <= MOST_SIZE
     }
@@ -140,10 +143,12 @@ impl Log {
 
     /// Adds a step, for which memory was taken, at the end. Its terms are moved out of where they stand. This takes no memory.
     pub fn push_step(&mut self, kind: LabelKind, from: Place, to: Place, terms: &mut Terms)
-        requires room { IsTrue (has_room self.old.limit self.old.entries (Entry.Did (record { kind = kind; from = from; to = to; terms = terms.old }))) }
+        requires room { IsTrue (has_room self.old.limit self.old.entries
+            (Entry.Did (record { kind = kind; from = from; to = to; terms = terms.old }))) }
         requires reserved { self.old.reserved ≡ min (terms_size terms.old) MAX }
         requires spare { 0 < self.old.spare }
-        ensures entries { self.new.entries ≡ self.old.entries ++ Entry.Did (record { kind = kind; from = from; to = to; terms = terms.old }) ∷ [] }
+        ensures entries { self.new.entries ≡ self.old.entries
+            ++ Entry.Did (record { kind = kind; from = from; to = to; terms = terms.old }) ∷ [] }
         ensures limit { self.new.limit ≡ self.old.limit }
         ensures spare { self.old.spare ≤ self.new.spare + 1 }
         ensures spent { self.new.reserved ≡ 0 }

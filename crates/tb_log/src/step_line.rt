@@ -25,7 +25,8 @@ const TERM_BYTES: usize = 20;
 /// Writes the line of a step at the end of the array, where it is a short one, and tells where it begins.
 pub(crate) fn put_line(number: u64, label: &SeenLabel, line: &mut [u8; LINE_BYTES]) -> Option<usize>
     ensures { IfSome result (λ start. (start ≤ LINE_BYTES) × (drop start line.new ≡ decimal number
-        ++ 32 ∷ label_words label.now.kind label.now.from label.now.to label.now.terms.now ++ 10 ∷ [])) }
+        ++ 32 ∷ label_words label.now.kind label.now.from label.now.to label.now.terms.now
+        ++ 10 ∷ [])) }
 {
     let end = put_byte(b'\n', line, LINE_BYTES);
     let end = put_terms(shown_terms(label), line, end)?;
@@ -124,8 +125,8 @@ fn put_terms(terms: &[Term], line: &mut [u8; LINE_BYTES], end: usize) -> Option<
 /// Each term behind a comma.
 fn put_others(terms: &[Term], line: &mut [u8; LINE_BYTES], end: usize) -> Option<usize>
     requires { (HEAD_BYTES ≤ end) × (end ≤ LINE_BYTES) }
-    ensures { IfSome result (λ start. (HEAD_BYTES ≤ start) × (start ≤ end)
-        × (drop start line.new ≡ flat_map (λ term. 44 ∷ term_text term) terms.now ++ drop end line.old)) }
+    ensures { IfSome result (λ start. (HEAD_BYTES ≤ start) × (start ≤ end) × (drop start line.new
+        ≡ flat_map (λ term. 44 ∷ term_text term) terms.now ++ drop end line.old)) }
 {
     let mut start = end;
     let mut left = terms.len();

@@ -22,7 +22,8 @@ pub fn write_entry(number: u64, entry: &Entry, into: &mut Vec<u8>) -> Result<(),
 
 /// The same of an entry that is lent.
 pub fn write_seen(number: u64, seen: &Seen, into: &mut Vec<u8>) -> Result<(), NoMemory>
-    ensures ok { OnOk result (into.new.items ≡ into.old.items ++ entry_text number (entry_seen seen.now)) }
+    ensures ok { OnOk result
+        (into.new.items ≡ into.old.items ++ entry_text number (entry_seen seen.now)) }
     ensures err { OnErr result (into.new.items ≡ into.old.items) }
 {
     if let Seen::Did(label) = *seen {
@@ -37,7 +38,8 @@ pub fn write_seen(number: u64, seen: &Seen, into: &mut Vec<u8>) -> Result<(), No
 /// The same of any entry, piece by piece.
 #[inline(never)]
 fn write_any(number: u64, seen: &Seen, into: &mut Vec<u8>) -> Result<(), NoMemory>
-    ensures ok { OnOk result (into.new.items ≡ into.old.items ++ entry_text number (entry_seen seen.now)) }
+    ensures ok { OnOk result
+        (into.new.items ≡ into.old.items ++ entry_text number (entry_seen seen.now)) }
     ensures err { OnErr result (into.new.items ≡ into.old.items) }
 {
     let kept = into.len();
@@ -51,7 +53,8 @@ fn write_any(number: u64, seen: &Seen, into: &mut Vec<u8>) -> Result<(), NoMemor
 }
 
 fn push_entry(number: u64, seen: &Seen, into: &mut Vec<u8>) -> Result<(), NoMemory>
-    ensures ok { OnOk result (into.new.items ≡ into.old.items ++ entry_text number (entry_seen seen.now)) }
+    ensures ok { OnOk result
+        (into.new.items ≡ into.old.items ++ entry_text number (entry_seen seen.now)) }
     ensures err { OnErr result (KeepsPrefix into.old.items into.new.items) }
 {
     push_number(number, into)?;
@@ -62,7 +65,8 @@ fn push_entry(number: u64, seen: &Seen, into: &mut Vec<u8>) -> Result<(), NoMemo
 }
 
 fn push_words(seen: &Seen, into: &mut Vec<u8>) -> Result<(), NoMemory>
-    ensures ok { OnOk result (into.new.items ≡ into.old.items ++ entry_words (entry_seen seen.now)) }
+    ensures ok { OnOk result
+        (into.new.items ≡ into.old.items ++ entry_words (entry_seen seen.now)) }
     ensures err { OnErr result (KeepsPrefix into.old.items into.new.items) }
 {
     match *seen {
@@ -75,7 +79,8 @@ fn push_words(seen: &Seen, into: &mut Vec<u8>) -> Result<(), NoMemory>
 
 #[tactic(auto, using(crate::proofs::StepLemmas::words_in_parts))]
 fn push_label(label: &SeenLabel, into: &mut Vec<u8>) -> Result<(), NoMemory>
-    ensures ok { OnOk result (into.new.items ≡ into.old.items ++ label_words label.now.kind label.now.from label.now.to label.now.terms.now) }
+    ensures ok { OnOk result (into.new.items ≡ into.old.items
+        ++ label_words label.now.kind label.now.from label.now.to label.now.terms.now) }
     ensures err { OnErr result (KeepsPrefix into.old.items into.new.items) }
 {
     push_head(label, into)?;
@@ -84,8 +89,8 @@ fn push_label(label: &SeenLabel, into: &mut Vec<u8>) -> Result<(), NoMemory>
 
 /// The word and the places of a step.
 fn push_head(label: &SeenLabel, into: &mut Vec<u8>) -> Result<(), NoMemory>
-    ensures ok { OnOk result (into.new.items
-        ≡ into.old.items ++ (kind_word label.now.kind ++ shown_places label.now.kind label.now.from label.now.to)) }
+    ensures ok { OnOk result (into.new.items ≡ into.old.items
+        ++ (kind_word label.now.kind ++ shown_places label.now.kind label.now.from label.now.to)) }
     ensures err { OnErr result (into.new.items ≡ into.old.items) }
 {
     let mut line = [0; LINE_BYTES];
@@ -94,7 +99,8 @@ fn push_head(label: &SeenLabel, into: &mut Vec<u8>) -> Result<(), NoMemory>
 }
 
 fn push_shown_terms(label: &SeenLabel, into: &mut Vec<u8>) -> Result<(), NoMemory>
-    ensures ok { OnOk result (into.new.items ≡ into.old.items ++ term_words (shown_terms label.now.kind label.now.terms.now)) }
+    ensures ok { OnOk result (into.new.items
+        ≡ into.old.items ++ term_words (shown_terms label.now.kind label.now.terms.now)) }
     ensures err { OnErr result (KeepsPrefix into.old.items into.new.items) }
 {
     match label.kind {
@@ -149,7 +155,8 @@ fn push_terms(terms: &[Term], into: &mut Vec<u8>) -> Result<(), NoMemory>
 
 /// Each term behind a comma.
 fn push_others(terms: &[Term], into: &mut Vec<u8>) -> Result<(), NoMemory>
-    ensures ok { OnOk result (into.new.items ≡ into.old.items ++ flat_map (λ term. 44 ∷ term_text term) terms.now) }
+    ensures ok { OnOk result
+        (into.new.items ≡ into.old.items ++ flat_map (λ term. 44 ∷ term_text term) terms.now) }
     ensures err { OnErr result (KeepsPrefix into.old.items into.new.items) }
 {
     for term in terms {
@@ -173,7 +180,8 @@ fn push_fed(reply: Reply, input: &Input, into: &mut Vec<u8>) -> Result<(), NoMem
 }
 
 fn push_drop(why: Why, into: &mut Vec<u8>) -> Result<(), NoMemory>
-    ensures ok { OnOk result (into.new.items ≡ into.old.items ++ (codes "drop " ++ why_word why ++ 32 ∷ [])) }
+    ensures ok { OnOk result
+        (into.new.items ≡ into.old.items ++ (codes "drop " ++ why_word why ++ 32 ∷ [])) }
     ensures err { OnErr result (KeepsPrefix into.old.items into.new.items) }
 {
     push_text(b"drop ", into)?;
@@ -247,7 +255,8 @@ fn push_tool_line(line: &ToolLine, into: &mut Vec<u8>) -> Result<(), NoMemory>
 }
 
 fn push_event(terms: &Terms, into: &mut Vec<u8>) -> Result<(), NoMemory>
-    ensures ok { OnOk result (into.new.items ≡ into.old.items ++ (codes "snd-event" ++ arguments_text terms.now)) }
+    ensures ok { OnOk result
+        (into.new.items ≡ into.old.items ++ (codes "snd-event" ++ arguments_text terms.now)) }
     ensures err { OnErr result (KeepsPrefix into.old.items into.new.items) }
 {
     push_text(b"snd-event", into)?;
@@ -270,7 +279,8 @@ fn push_arguments(terms: &Terms, into: &mut Vec<u8>) -> Result<(), NoMemory>
 
 /// A word with this in parentheses behind it.
 fn push_of(word: &[u8], inner: &[u8], into: &mut Vec<u8>) -> Result<(), NoMemory>
-    ensures ok { OnOk result (into.new.items ≡ into.old.items ++ (word.now ++ 40 ∷ inner.now ++ 41 ∷ [])) }
+    ensures ok { OnOk result
+        (into.new.items ≡ into.old.items ++ (word.now ++ 40 ∷ inner.now ++ 41 ∷ [])) }
     ensures err { OnErr result (KeepsPrefix into.old.items into.new.items) }
 {
     push_text(word, into)?;
@@ -281,7 +291,8 @@ fn push_of(word: &[u8], inner: &[u8], into: &mut Vec<u8>) -> Result<(), NoMemory
 }
 
 fn push_gave(lane: u8, out: &Out, into: &mut Vec<u8>) -> Result<(), NoMemory>
-    ensures ok { OnOk result (into.new.items ≡ into.old.items ++ (codes "out " ++ decimal lane ++ 32 ∷ out_words out.now)) }
+    ensures ok { OnOk result (into.new.items
+        ≡ into.old.items ++ (codes "out " ++ decimal lane ++ 32 ∷ out_words out.now)) }
     ensures err { OnErr result (KeepsPrefix into.old.items into.new.items) }
 {
     push_lane(b"out ", lane, into)?;

@@ -21,7 +21,8 @@ pub struct Numbered {
 
 /// The entry whose line this is, newline and all, with its number. None where it is the line of no entry in shape.
 pub fn read_entry(alloc: Global, line: &[u8]) -> Result<Option<Numbered>, NoMemory>
-    ensures found { IfOk result (λ found. IfSome found (λ numbered. IsLine numbered.number numbered.entry line.now)) }
+    ensures found { IfOk result
+        (λ found. IfSome found (λ numbered. IsLine numbered.number numbered.entry line.now)) }
 
     // Nothing else keeps an entry from being read.
     ensures only { (number : ℕ) (entry : Entry) → IsLine number entry line.now

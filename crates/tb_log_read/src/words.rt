@@ -181,7 +181,8 @@ fn read_out(alloc: Global, bytes: &[u8]) -> Result<Option<Out>, NoMemory>
 }
 
 fn read_start(alloc: Global, bytes: &[u8]) -> Result<Option<Out>, NoMemory>
-    ensures { IfOk result (λ found. found ≡ start_of (unescaped_from false (without_last (behind 34 bytes.now)))) }
+    ensures { IfOk result
+        (λ found. found ≡ start_of (unescaped_from false (without_last (behind 34 bytes.now)))) }
 {
     let (_word, quoted) = cut(b'"', bytes);
     let command = unescape(alloc, without_last(quoted))?;

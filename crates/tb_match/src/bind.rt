@@ -47,7 +47,8 @@ pub(crate) fn with_bind(
     slot: u32,
     value: &Term,
 ) -> Result<bool, NoMemory>
-    ensures { IfOk result (λ agrees. binds_if agrees binds.new ≡ with_bind binds.old (record { slot = slot; value = value.now })) }
+    ensures { IfOk result (λ agrees. binds_if agrees binds.new
+        ≡ with_bind binds.old (record { slot = slot; value = value.now })) }
 {
     match value_of(binds.as_slice(), slot) {
         Some(other) => Ok(is_same(other, value)),
@@ -59,7 +60,8 @@ pub(crate) fn with_bind(
 }
 
 fn push_bind(alloc: Global, binds: &mut Binds, slot: u32, value: &Term) -> Result<(), NoMemory>
-    ensures { OnOk result (binds.new ≡ binds.old ++ record { slot = slot; value = value.now } ∷ []) }
+    ensures { OnOk result
+        (binds.new ≡ binds.old ++ record { slot = slot; value = value.now } ∷ []) }
 {
     let value = value.copy(alloc)?;
     binds.push(Bind { slot, value })?;

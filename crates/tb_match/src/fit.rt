@@ -36,7 +36,8 @@ fn fits(pattern: &Pattern, term: &Term) -> bool
 #[cycle(fitting)]
 fn fits_appl(name: &Name, parts: &[Pattern], term: &Term) -> bool
     requires { IsTrue (are_plain parts.now) }
-    ensures { binds_if result [] ≡ match_appl name.now (map match_term parts.now) (out-Term term.now) }
+    ensures { binds_if result []
+        ≡ match_appl name.now (map match_term parts.now) (out-Term term.now) }
 {
     match term {
         Term::Appl(other, terms) => {

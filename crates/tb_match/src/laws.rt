@@ -17,7 +17,8 @@ pub fn matches_bind_once()
 /// A match gives the fewest binds under which the term agrees with the pattern, and where there is
 /// no match, there are no such binds.
 pub fn matches_are_least()
-    ensures agrees { (p : Pattern) (t : Term) → IfSome (match_term p t) (λ binds. IsTrue (agrees binds p t)) }
+    ensures agrees { (p : Pattern) (t : Term)
+        → IfSome (match_term p t) (λ binds. IsTrue (agrees binds p t)) }
     ensures least { (p : Pattern) (t : Term) (others : List Bind) → IsTrue (agrees others p t)
         → MatchOption (match_term p t) ⊥ (λ binds. AreAmong binds others) }
 {}
@@ -26,6 +27,7 @@ pub fn matches_are_least()
 pub fn list_matches_are_least()
     ensures agrees { (ps : List Pattern) (ts : List Term)
         → IfSome (match_list ps ts) (λ binds. IsTrue (list_agrees binds ps ts)) }
-    ensures least { (ps : List Pattern) (ts : List Term) (others : List Bind) → IsTrue (list_agrees others ps ts)
+    ensures least { (ps : List Pattern) (ts : List Term) (others : List Bind)
+        → IsTrue (list_agrees others ps ts)
         → MatchOption (match_list ps ts) ⊥ (λ binds. AreAmong binds others) }
 {}

@@ -46,7 +46,8 @@ fn match_each(
     terms: &[Term],
     binds: &mut Binds,
 ) -> Result<bool, NoMemory>
-    ensures { IfOk result (λ matches. binds_if matches binds.new ≡ with_prefix binds.old (match_all (map match_term patterns.now) terms.now)) }
+    ensures { IfOk result (λ matches. binds_if matches binds.new
+        ≡ with_prefix binds.old (match_all (map match_term patterns.now) terms.now)) }
 {
     if patterns.len() != terms.len() {
         return Ok(false);
@@ -66,7 +67,8 @@ fn match_one(
     term: &Term,
     binds: &mut Binds,
 ) -> Result<bool, NoMemory>
-    ensures { IfOk result (λ matches. binds_if matches binds.new ≡ with_prefix binds.old (match_term pattern.now term.now)) }
+    ensures { IfOk result (λ matches. binds_if matches binds.new
+        ≡ with_prefix binds.old (match_term pattern.now term.now)) }
 {
     match pattern {
         Pattern::Fixed(fixed) => Ok(is_same(fixed, term)),
@@ -82,7 +84,8 @@ fn match_behind(
     term: &Term,
     binds: &mut Binds,
 ) -> Result<bool, NoMemory>
-    ensures { IfOk result (λ matches. binds_if matches binds.new ≡ with_prefix binds.old (match_term pattern.now term.now)) }
+    ensures { IfOk result (λ matches. binds_if matches binds.new
+        ≡ with_prefix binds.old (match_term pattern.now term.now)) }
 {
     match pattern {
         Pattern::Fixed(fixed) => Ok(is_same(fixed, term)),
@@ -117,7 +120,8 @@ fn match_appl(
     term: &Term,
     binds: &mut Binds,
 ) -> Result<bool, NoMemory>
-    ensures { IfOk result (λ matches. binds_if matches binds.new ≡ with_prefix binds.old (match_appl name.now (map match_term parts.now) (out-Term term.now))) }
+    ensures { IfOk result (λ matches. binds_if matches binds.new ≡ with_prefix binds.old
+        (match_appl name.now (map match_term parts.now) (out-Term term.now))) }
 {
     match term {
         Term::Appl(other, terms) => {
@@ -137,7 +141,8 @@ fn match_members(
     term: &Term,
     binds: &mut Binds,
 ) -> Result<bool, NoMemory>
-    ensures { IfOk result (λ matches. binds_if matches binds.new ≡ with_prefix binds.old (match_members (map match_term parts.now) (out-Term term.now))) }
+    ensures { IfOk result (λ matches. binds_if matches binds.new
+        ≡ with_prefix binds.old (match_members (map match_term parts.now) (out-Term term.now))) }
 {
     match term {
         Term::List(terms) => match_parts(alloc, parts, terms.as_slice(), binds),
@@ -152,7 +157,8 @@ fn match_parts(
     terms: &[Term],
     binds: &mut Binds,
 ) -> Result<bool, NoMemory>
-    ensures { IfOk result (λ matches. binds_if matches binds.new ≡ with_prefix binds.old (match_all (map match_term patterns.now) terms.now)) }
+    ensures { IfOk result (λ matches. binds_if matches binds.new
+        ≡ with_prefix binds.old (match_all (map match_term patterns.now) terms.now)) }
 {
     if patterns.len() != terms.len() {
         return Ok(false);

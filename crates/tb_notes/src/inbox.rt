@@ -38,7 +38,8 @@ impl Model for Inbox {
       spare = deque_capacity inbox.queue - deque_len inbox.queue;
     } };
 
-    ghost invariant = { λ inbox. IsInOrder (record { subscriptions = inbox.subscriptions; notes = inbox.queue.items }) };
+    ghost invariant = { λ inbox.
+        IsInOrder (record { subscriptions = inbox.subscriptions; notes = inbox.queue.items }) };
 }
 
 impl Inbox {
@@ -122,7 +123,8 @@ impl Inbox {
     /// The oldest note that matches.
     pub fn find(&self, ps: &Patterns) -> Result<Option<Found>, NoMemory>
         ensures found { IfOk result (λ found. found ≡ oldest_match ps.now self.now.held) }
-        ensures within { IfOk result (λ found. ForSome found (λ at. at.place < length self.now.held.notes)) }
+        ensures within { IfOk result
+            (λ found. ForSome found (λ at. at.place < length self.now.held.notes)) }
     {
         first_match(*self.queue.allocator(), ps, &self.queue)
     }

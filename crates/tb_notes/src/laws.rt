@@ -17,7 +17,8 @@ pub fn oldest_match_is_first()
 pub fn subscribing_adds()
     ensures wants { (ps : List Pattern) (held : Held) (note : List Term)
         → wants (subscribed ps held) note ≡ (wants held note || fits note ps) }
-    ensures once { (ps : List Pattern) (held : Held) → subscribed ps (subscribed ps held) ≡ subscribed ps held }
+    ensures once { (ps : List Pattern) (held : Held)
+        → subscribed ps (subscribed ps held) ≡ subscribed ps held }
 {}
 
 /// Who unsubscribes has no equal subscription left. After a subscription that was new, all is as

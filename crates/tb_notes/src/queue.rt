@@ -21,7 +21,8 @@ pub(crate) fn first_match(
     queue: &VecDeque<Terms>,
 ) -> Result<Option<Found>, NoMemory>
     ensures found { IfOk result (λ found. found ≡ first_match 0 patterns.now queue.now.items) }
-    ensures within { IfOk result (λ found. ForSome found (λ at. at.place < length queue.now.items)) }
+    ensures within { IfOk result
+        (λ found. ForSome found (λ at. at.place < length queue.now.items)) }
 {
     for place in 0..queue.len() {
         if let Some(binds) = match_list(alloc, patterns, &queue[place])? {

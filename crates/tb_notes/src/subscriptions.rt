@@ -8,9 +8,10 @@ use tb_terms::{Patterns, Terms};
 
 /// Where a subscription stands that is equal to these patterns.
 pub(crate) fn position_of(subscriptions: &[Patterns], patterns: &Patterns) -> Option<usize>
-    ensures { MatchOption result
-        ((is_among patterns.now subscriptions.now ≡ false) × (without patterns.now subscriptions.now ≡ subscriptions.now))
-        (λ index. IsTrue (is_among patterns.now subscriptions.now) × (index < length subscriptions.now)
+    ensures { MatchOption result ((is_among patterns.now subscriptions.now ≡ false)
+        × (without patterns.now subscriptions.now ≡ subscriptions.now))
+        (λ index. IsTrue (is_among patterns.now subscriptions.now)
+        × (index < length subscriptions.now)
         × (without patterns.now subscriptions.now ≡ remove subscriptions.now index)) }
 {
     for (index, subscription) in subscriptions.iter().enumerate() {

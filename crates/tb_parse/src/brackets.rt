@@ -10,7 +10,8 @@ const MOST_OPEN: usize = 128;
 
 /// The position of the first token behind which too many brackets are open.
 pub(crate) fn too_deep(tokens: &[Token]) -> Option<usize>
-    ensures { MatchOption result (NoneTooDeep (kinds_of tokens.now)) (IsTooDeep (kinds_of tokens.now)) }
+    ensures { MatchOption result (NoneTooDeep (kinds_of tokens.now))
+        (IsTooDeep (kinds_of tokens.now)) }
 {
     let mut count = 0;
     for (position, token) in tokens.iter().enumerate() {

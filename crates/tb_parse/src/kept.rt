@@ -28,7 +28,8 @@ pub(crate) enum Made {
 /// The definition with these parts, at this position.
 #[tactic(auto, using(crate::proofs::KeptRows::made_low, crate::proofs::KeptRows::made_high))]
 pub(crate) fn definition(name: Ident, formals: Formals, body: Built, token: usize) -> Made
-    ensures { (p : Proc) → body ≡ built p → result ≡ made_of (record { name = name; formals = formals; body = p; token = token }) }
+    ensures { (p : Proc) → body ≡ built p
+        → result ≡ made_of (record { name = name; formals = formals; body = p; token = token }) }
 {
     match body {
         Built::Tree(body, _) => Made::Low(ProcDef {

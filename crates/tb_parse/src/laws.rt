@@ -18,8 +18,8 @@ pub fn spelling_is_unique()
 pub fn faults_are_unique()
     ensures one { (kinds : List TokenKind) (f g : ParseFault) → HasFault kinds f → HasFault kinds g
         → f ≢ NoMemory → g ≢ NoMemory → f ≡ g }
-    ensures none { (kinds : List TokenKind) (script : Script) (f : ParseFault) → IsScriptOf kinds script
-        → HasFault kinds f → f ≡ NoMemory }
+    ensures none { (kinds : List TokenKind) (script : Script) (f : ParseFault)
+        → IsScriptOf kinds script → HasFault kinds f → f ≡ NoMemory }
 {}
 
 /// Each row of tokens is a script within the limits, or has a fault other than running out of memory.

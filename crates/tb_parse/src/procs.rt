@@ -108,7 +108,8 @@ fn prim(alloc: Global, reader: &mut Reader<'_, '_>, room: usize) -> Result<Built
 #[tactic(auto, unfolding(crate::specs::Helpers::Parsing::prim_of))]
 #[cycle(procs)]
 fn prim_of(alloc: Global, reader: &mut Reader<'_, '_>, room: usize) -> Result<Built, ParseFault>
-    ensures { Meets (runs (as_built (prim_of (merge (prim room) room) room)) reader.old) result reader.new }
+    ensures { Meets
+        (runs (as_built (prim_of (merge (prim room) room) room)) reader.old) result reader.new }
 {
     let token = reader.position();
     match reader.take() {
@@ -160,7 +161,8 @@ fn timed(
 }
 
 fn atom(alloc: Global, act: ActDef, times: TimeDefs, token: usize) -> Result<Built, NoMemory>
-    ensures { IfOk result (λ made. made ≡ Built.Tree (tree.Atom (record { act = act; times = times; token = token })) 1) }
+    ensures { IfOk result (λ made. made
+        ≡ Built.Tree (tree.Atom (record { act = act; times = times; token = token })) 1) }
 {
     leaf(alloc, Proc::Atom(AtomDef { act, times, token }))
 }
@@ -188,7 +190,9 @@ fn lower_proc(
     name: &LowerWord,
     token: usize,
 ) -> Result<Built, ParseFault>
-    ensures { Meets (runs (as_built (lower_proc (merge (prim room) room) room name.now token)) reader.old) result reader.new }
+    ensures { Meets
+        (runs (as_built (lower_proc (merge (prim room) room) room name.now token)) reader.old)
+        result reader.new }
 {
     let word = name.as_bytes();
     if word == b"let".as_slice() {
@@ -212,7 +216,8 @@ fn lower_proc(
 #[tactic(auto, unfolding(crate::specs::Helpers::Parsing::block))]
 #[cycle(procs)]
 fn block(alloc: Global, reader: &mut Reader<'_, '_>, room: usize) -> Result<Built, ParseFault>
-    ensures { Meets (runs (as_built (block (merge (prim room) room) room)) reader.old) result reader.new }
+    ensures { Meets
+        (runs (as_built (block (merge (prim room) room) room)) reader.old) result reader.new }
 {
     let vars = vars(alloc, reader, room)?;
     reader.skip_word(b"in")?;
@@ -225,7 +230,8 @@ fn block(alloc: Global, reader: &mut Reader<'_, '_>, room: usize) -> Result<Buil
 #[tactic(auto, unfolding(crate::specs::Helpers::Parsing::conditional))]
 #[cycle(procs)]
 fn test(alloc: Global, reader: &mut Reader<'_, '_>, room: usize) -> Result<Built, ParseFault>
-    ensures { Meets (runs (as_built (conditional (merge (prim room) room) room)) reader.old) result reader.new }
+    ensures { Meets
+        (runs (as_built (conditional (merge (prim room) room) room)) reader.old) result reader.new }
 {
     let value = expr(alloc, reader, room)?;
     reader.skip_word(b"then")?;
@@ -243,7 +249,8 @@ fn sides(
     test: Ast,
     x: Built,
 ) -> Result<Built, ParseFault>
-    ensures { (p : Proc) → x ≡ built p → Meets (runs (as_built (sides (merge (prim room) room) test p)) reader.old) result reader.new }
+    ensures { (p : Proc) → x ≡ built p → Meets
+        (runs (as_built (sides (merge (prim room) room) test p)) reader.old) result reader.new }
 {
     if !reader.eat_word(b"else") {
         reader.skip_word(b"fi")?;

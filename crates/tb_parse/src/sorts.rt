@@ -33,7 +33,8 @@ pub(crate) fn sort(
 /// Takes the parenthesis behind `list`, if it is this name and one comes next.
 fn eat_list(name: &Name, reader: &mut Reader<'_, '_>) -> bool
     ensures found { result ≡ is_list name.now reader.old.kinds }
-    ensures behind { reader.new ≡ (if is_list name.now reader.old.kinds then next reader.old else reader.old) }
+    ensures behind { reader.new
+        ≡ (if is_list name.now reader.old.kinds then next reader.old else reader.old) }
 {
     name.as_bytes() == b"list".as_slice() && reader.eat_sign(Symbol::LeftParen)
 }

@@ -74,7 +74,8 @@ impl Builder {
     }
 
     fn add_part(&mut self) -> Result<(), NoMemory>
-        ensures { OnOk result (self.new ≡ record { done = None; frames = with_part self.old.done self.old.frames }) }
+        ensures { OnOk result
+            (self.new ≡ record { done = None; frames = with_part self.old.done self.old.frames }) }
     {
         let done = self.done.take();
         let Some(mut frame) = self.frames.pop() else {

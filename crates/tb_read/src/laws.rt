@@ -34,12 +34,14 @@ pub fn each_text_has_one()
 /// What stands before the position of a syntax fault can go on to a term.
 pub fn syntax_begins()
     ensures { (bytes : List ℕ) (position : ℕ) → HasFault bytes (Syntax position)
-        → (position ≤ length bytes) × ((rest : List ℕ) × (t : Term) × Reads (take position bytes ++ rest) t) }
+        → (position ≤ length bytes)
+        × ((rest : List ℕ) × (t : Term) × Reads (take position bytes ++ rest) t) }
 {}
 
 /// Where a byte can't go on, no text that begins with the bytes up to it, and with it, is a term.
 pub fn syntax_stops()
-    ensures { (bytes : List ℕ) (position : ℕ) → HasFault bytes (Syntax position) → position < length bytes
+    ensures { (bytes : List ℕ) (position : ℕ)
+        → HasFault bytes (Syntax position) → position < length bytes
         → (rest : List ℕ) (t : Term) → Reads (take (position + 1) bytes ++ rest) t → ⊥ }
 {}
 

@@ -37,7 +37,8 @@ fn number_from<'a>(
     rest: &'a [u8],
 ) -> Result<(Token, &'a [u8]), TermFault>
     requires { length rest.now ≤ total }
-    ensures number { Gives (λ x. (x.0, x.1.now)) result (number_from total position negative digits.now rest.now) }
+    ensures number { Gives (λ x. (x.0, x.1.now)) result
+        (number_from total position negative digits.now rest.now) }
     ensures some { IfOk result (λ x. (x.1.now ≡ rest.now) × (0 < length digits.now)) }
 {
     if digits.is_empty() {

@@ -54,7 +54,8 @@ pub(crate) fn string_at(
 
 fn string_rest(alloc: Global, total: usize, bytes: &[u8]) -> Result<(Vec<u8>, &[u8]), TermFault>
     requires { length bytes.now ≤ total }
-    ensures string { Gives (λ x. (x.0.items, x.1.now)) result (string_rest total Within.Between bytes.now) }
+    ensures string { Gives (λ x. (x.0.items, x.1.now)) result
+        (string_rest total Within.Between bytes.now) }
     ensures shorter { IfOk result (λ x. length x.1.now < length bytes.now) }
 {
     let mut put = Vec::new(alloc);

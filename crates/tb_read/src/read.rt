@@ -37,7 +37,8 @@ pub fn read_term(alloc: Global, bytes: &[u8]) -> Result<Term, TermFault>
 /// The same within other limits, where `TooLarge` and `TooDeep` are told by these.
 pub fn read_within(alloc: Global, bytes: &[u8], limits: Limits) -> Result<Term, TermFault>
     requires { limits.size < usize.MAX }
-    ensures found { IfOk result (λ term. Reads bytes.now term × IsWithin limits.size limits.levels term) }
+    ensures found { IfOk result
+        (λ term. Reads bytes.now term × IsWithin limits.size limits.levels term) }
 
     // Nothing else keeps a term from being read.
     ensures only { (term : Term) → Reads bytes.now term → IsWithin limits.size limits.levels term
@@ -45,15 +46,16 @@ pub fn read_within(alloc: Global, bytes: &[u8], limits: Limits) -> Result<Term, 
     ensures fault { IfErr result (HasFaultWithin limits.size limits.levels bytes.now) }
 
     // Where the text has a fault, this is what comes.
-    ensures exact { (f : TermFault) → HasFaultWithin limits.size limits.levels bytes.now f → f ≢ TermFault.NoMemory
-        → (result ≡ Err f) ⊎ (result ≡ Err TermFault.NoMemory) }
+    ensures exact { (f : TermFault) → HasFaultWithin limits.size limits.levels bytes.now f
+        → f ≢ TermFault.NoMemory → (result ≡ Err f) ⊎ (result ≡ Err TermFault.NoMemory) }
 {
     read(alloc, bytes, limits)
 }
 
 fn read(alloc: Global, bytes: &[u8], limits: Limits) -> Result<Term, TermFault>
     requires { limits.size < usize.MAX }
-    ensures found { IfOk result (λ term. Reads bytes.now term × IsWithin limits.size limits.levels term) }
+    ensures found { IfOk result
+        (λ term. Reads bytes.now term × IsWithin limits.size limits.levels term) }
     ensures fault { IfErr result (HasFaultWithin limits.size limits.levels bytes.now) }
 {
     let tokens = scan(alloc, bytes)?;

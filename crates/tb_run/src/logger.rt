@@ -39,9 +39,12 @@ impl<'a, W: Walker, O: Sink> Job for LogJob<'a, W, O, LogWriter> {
     ghost use Rattle.std.specs.Prelude.{◌≡◌, []};
     ghost use Rattle.tb_run.specs.Logging.{LogDone};
 
-    ghost ready = { λ it. (it.seat.bus ≡ it.shared.now) × (it.writer ≡ record { written = 0; held = [] }) };
+    ghost ready = { λ it. (it.seat.bus ≡ it.shared.now)
+        × (it.writer ≡ record { written = 0; held = [] }) };
 
-    ghost done = { λ old new. (new.out.ghost_name ≡ old.out.ghost_name) × LogDone old.seat new.seat new.writer (O.taken old.out.now) (O.taken new.out.now) (O.faults old.out.now) (O.faults new.out.now) new.end };
+    ghost done = { λ old new. (new.out.ghost_name ≡ old.out.ghost_name)
+        × LogDone old.seat new.seat new.writer (O.taken old.out.now) (O.taken new.out.now)
+        (O.faults old.out.now) (O.faults new.out.now) new.end };
 
     fn work<R: Wait>(&mut self, rt: &R) {
         self.end = log_all(
@@ -70,7 +73,8 @@ fn log_all<W: Walker, R: Wait, O: Sink>(
 ) -> LogEnd
     requires own { seat.old.bus ≡ shared.now }
     requires none { writer.old ≡ record { written = 0; held = [] } }
-    ensures { LogDone seat.old seat.new writer.new (O.taken out.old) (O.taken out.new) (O.faults out.old) (O.faults out.new) result }
+    ensures { LogDone seat.old seat.new writer.new (O.taken out.old) (O.taken out.new)
+        (O.faults out.old) (O.faults out.new) result }
 {
     let mut heard = 0;
     for _ in rt.forever() {
@@ -99,7 +103,10 @@ fn log_some<W: Walker, R: Wait, O: Sink>(
 ) -> Option<LogEnd>
     requires own { seat.old.bus ≡ shared.now }
     requires held { writer.old.held ≡ [] }
-    ensures { MatchOption result (LogsOn seat.old seat.new writer.old writer.new (O.taken out.old) (O.taken out.new) (O.faults out.old) (O.faults out.new)) (EndsLogging seat.old seat.new writer.old writer.new (O.taken out.old) (O.taken out.new) (O.faults out.old) (O.faults out.new)) }
+    ensures { MatchOption result (LogsOn seat.old seat.new writer.old writer.new (O.taken out.old)
+        (O.taken out.new) (O.faults out.old) (O.faults out.new))
+        (EndsLogging seat.old seat.new writer.old writer.new (O.taken out.old) (O.taken out.new)
+        (O.faults out.old) (O.faults out.new)) }
 {
     calls_add_their_own();
     let over = left.load(Ordering::SeqCst) == 0;
@@ -136,7 +143,10 @@ fn put_some<W: Walker, R: Wait, O: Sink>(
 ) -> Option<LogEnd>
     requires own { seat.old.bus ≡ shared.now }
     requires held { writer.old.held ≡ [] }
-    ensures { MatchOption result (PutsSome seat.old seat.new piece.now writer.old writer.new (O.taken out.old) (O.taken out.new) (O.faults out.old) (O.faults out.new)) (PutsLast seat.old seat.new piece.now writer.old writer.new (O.taken out.old) (O.taken out.new) (O.faults out.old) (O.faults out.new)) }
+    ensures { MatchOption result (PutsSome seat.old seat.new piece.now writer.old writer.new
+        (O.taken out.old) (O.taken out.new) (O.faults out.old) (O.faults out.new))
+        (PutsLast seat.old seat.new piece.now writer.old writer.new (O.taken out.old)
+        (O.taken out.new) (O.faults out.old) (O.faults out.new)) }
 {
     if piece.is_empty() {
         if over {
@@ -176,9 +186,12 @@ fn end_of(fault: LogFault) -> LogEnd
 /// Puts the lines of the next entries.
 fn put_piece<O: Sink>(writer: &mut LogWriter, piece: &[Entry], out: &mut O) -> Result<(), LogFault>
     requires { writer.old.held ≡ [] }
-    ensures ok { OnOk result (Writes (O.taken out.old) (O.taken out.new) (log_text_from (writer.old.written + 1) piece.now)) }
-    ensures counted { OnOk result (writer.new ≡ record { written = writer.old.written + length piece.now; held = [] }) }
-    ensures prefix { OnErr result (WritesPrefix (O.taken out.old) (O.taken out.new) (log_text_from (writer.old.written + 1) piece.now)) }
+    ensures ok { OnOk result (Writes (O.taken out.old) (O.taken out.new)
+        (log_text_from (writer.old.written + 1) piece.now)) }
+    ensures counted { OnOk result
+        (writer.new ≡ record { written = writer.old.written + length piece.now; held = [] }) }
+    ensures prefix { OnErr result (WritesPrefix (O.taken out.old) (O.taken out.new)
+        (log_text_from (writer.old.written + 1) piece.now)) }
     ensures rose { IsErrOf result LogFault.Out → Rose (O.faults out.old) (O.faults out.new) }
     ensures calm { OnOk result (O.faults out.new ≡ O.faults out.old) }
 {

@@ -19,7 +19,8 @@ pub(crate) fn part_lanes(
     requires inlets { vec_len inlets.old + vec_len pairs ≤ vec_capacity inlets.old }
     requires outlets { vec_len outlets.old + vec_len pairs ≤ vec_capacity outlets.old }
     ensures inlets { inlets.new.items ≡ inlets.old.items ++ map (λ pair. pair.inlet) pairs.items }
-    ensures outlets { outlets.new.items ≡ outlets.old.items ++ map (λ pair. pair.outlet) pairs.items }
+    ensures outlets { outlets.new.items
+        ≡ outlets.old.items ++ map (λ pair. pair.outlet) pairs.items }
 {
     for pair in pairs {
         let LanePair { inlet, outlet } = pair;
@@ -32,8 +33,10 @@ pub(crate) fn part_lanes(
 pub(crate) fn pair_lanes(inlets: Vec<AnyInlet>, outlets: Vec<AnyOutlet>, lanes: &mut Vec<LanePair>)
     requires room { vec_len lanes.old + vec_len inlets ≤ vec_capacity lanes.old }
     requires same { vec_len outlets ≡ vec_len inlets }
-    ensures inlets { map (λ pair. pair.inlet) lanes.new.items ≡ map (λ pair. pair.inlet) lanes.old.items ++ inlets.items }
-    ensures outlets { map (λ pair. pair.outlet) lanes.new.items ≡ map (λ pair. pair.outlet) lanes.old.items ++ outlets.items }
+    ensures inlets { map (λ pair. pair.inlet) lanes.new.items
+        ≡ map (λ pair. pair.inlet) lanes.old.items ++ inlets.items }
+    ensures outlets { map (λ pair. pair.outlet) lanes.new.items
+        ≡ map (λ pair. pair.outlet) lanes.old.items ++ outlets.items }
 {
     let mut outlets = outlets.into_iter();
     for inlet in inlets {
@@ -53,12 +56,16 @@ pub(crate) fn end_all<'a, W: Walker, I: Inlet, O: Outlet>(
     ends: &mut Vec<WorkEnd>,
 )
     requires seats { vec_len seats.old + vec_len workers ≤ vec_capacity seats.old }
-    requires inlets { vec_len inlets.old + length (inlets_of (map (λ it. it.work) workers.items)) ≤ vec_capacity inlets.old }
-    requires outlets { vec_len outlets.old + length (outlets_of (map (λ it. it.work) workers.items)) ≤ vec_capacity outlets.old }
+    requires inlets { vec_len inlets.old + length (inlets_of (map (λ it. it.work) workers.items))
+        ≤ vec_capacity inlets.old }
+    requires outlets { vec_len outlets.old + length (outlets_of (map (λ it. it.work) workers.items))
+        ≤ vec_capacity outlets.old }
     requires ends { vec_len ends.old + vec_len workers ≤ vec_capacity ends.old }
     ensures seats { seats.new.items ≡ seats.old.items ++ map (λ it. it.seat) workers.entry.items }
-    ensures inlets { inlets.new.items ≡ inlets.old.items ++ inlets_of (map (λ it. it.work) workers.entry.items) }
-    ensures outlets { outlets.new.items ≡ outlets.old.items ++ outlets_of (map (λ it. it.work) workers.entry.items) }
+    ensures inlets { inlets.new.items
+        ≡ inlets.old.items ++ inlets_of (map (λ it. it.work) workers.entry.items) }
+    ensures outlets { outlets.new.items
+        ≡ outlets.old.items ++ outlets_of (map (λ it. it.work) workers.entry.items) }
     ensures ends { ends.new.items ≡ ends.old.items ++ map (λ it. it.end) workers.entry.items }
 {
     for worker in workers {
@@ -80,12 +87,20 @@ pub(crate) fn end_all<'a, W: Walker, I: Inlet, O: Outlet>(
 
 /// Takes the end of a lane out of a work; more works follow.
 fn move_out<I: Inlet, O: Outlet>(work: Work<I, O>, inlets: &mut Vec<I>, outlets: &mut Vec<O>)
-    requires inlets { vec_len inlets.old + length (inlets_of (work ∷ [])) ≤ vec_capacity inlets.old }
-    requires outlets { vec_len outlets.old + length (outlets_of (work ∷ [])) ≤ vec_capacity outlets.old }
-    ensures inlets { (rest : List (Work I O)) → inlets.new.items ++ inlets_of rest ≡ inlets.old.items ++ inlets_of (work ∷ rest) }
-    ensures outlets { (rest : List (Work I O)) → outlets.new.items ++ outlets_of rest ≡ outlets.old.items ++ outlets_of (work ∷ rest) }
-    ensures inlets_room { (rest : List (Work I O)) → vec_len inlets.old + length (inlets_of (work ∷ rest)) ≤ vec_capacity inlets.old → vec_len inlets.new + length (inlets_of rest) ≤ vec_capacity inlets.new }
-    ensures outlets_room { (rest : List (Work I O)) → vec_len outlets.old + length (outlets_of (work ∷ rest)) ≤ vec_capacity outlets.old → vec_len outlets.new + length (outlets_of rest) ≤ vec_capacity outlets.new }
+    requires inlets { vec_len inlets.old + length (inlets_of (work ∷ []))
+        ≤ vec_capacity inlets.old }
+    requires outlets { vec_len outlets.old + length (outlets_of (work ∷ []))
+        ≤ vec_capacity outlets.old }
+    ensures inlets { (rest : List (Work I O))
+        → inlets.new.items ++ inlets_of rest ≡ inlets.old.items ++ inlets_of (work ∷ rest) }
+    ensures outlets { (rest : List (Work I O))
+        → outlets.new.items ++ outlets_of rest ≡ outlets.old.items ++ outlets_of (work ∷ rest) }
+    ensures inlets_room { (rest : List (Work I O))
+        → vec_len inlets.old + length (inlets_of (work ∷ rest)) ≤ vec_capacity inlets.old
+        → vec_len inlets.new + length (inlets_of rest) ≤ vec_capacity inlets.new }
+    ensures outlets_room { (rest : List (Work I O))
+        → vec_len outlets.old + length (outlets_of (work ∷ rest)) ≤ vec_capacity outlets.old
+        → vec_len outlets.new + length (outlets_of rest) ≤ vec_capacity outlets.new }
 {
     match work {
         Work::Reads(_, inlet) => inlets.push_reserved(inlet),

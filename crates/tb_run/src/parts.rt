@@ -21,7 +21,8 @@ pub(crate) fn hand_out<W: Walker>(
     requires room { 33 ≤ vec_capacity seats.old }
     ensures seats { seats.new.items ≡ parted seat.old job_rights }
     ensures tick { result.0 ≡ handed_on to_tick (left_after seat.old job_rights) }
-    ensures log { result.1 ≡ handed_on no_rights (kept_of to_tick (left_after seat.old job_rights)) }
+    ensures log { result.1
+        ≡ handed_on no_rights (kept_of to_tick (left_after seat.old job_rights)) }
     ensures seat { seat.new ≡ kept_of no_rights (kept_of to_tick (left_after seat.old job_rights)) }
 {
     let parts = job_rights();

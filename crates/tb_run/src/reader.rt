@@ -54,7 +54,9 @@ fn read_one<W: Walker, R: Wait, I: Inlet>(
     requires own { seat.old.bus ≡ shared.now }
     requires lane { IsLane lane }
     requires right { has seat.old.rights (In lane) ≡ true }
-    ensures { MatchOption result (Reads lane seat.old seat.new (I.told inlet.old) (I.told inlet.new)) (ReadsLane lane seat.old seat.new (I.told inlet.old) (I.told inlet.new)) }
+    ensures { MatchOption result
+        (Reads lane seat.old seat.new (I.told inlet.old) (I.told inlet.new))
+        (ReadsLane lane seat.old seat.new (I.told inlet.old) (I.told inlet.new)) }
 {
     match inlet.next(line) {
         Got::Line => match read_tool_line(alloc, line.as_slice()) {

@@ -57,10 +57,12 @@ where
     ensures runs { Runs ticks
         (outside_of
         (views I.told O.told O.faults inlets.old.items outlets.old.items)
-        (C.told clock.old) (C.faults clock.old) (P.faults crew.old) (S.taken out.old) (S.faults out.old))
+        (C.told clock.old) (C.faults clock.old) (P.faults crew.old)
+        (S.taken out.old) (S.faults out.old))
         (outside_of
         (views I.told O.told O.faults inlets.new.items outlets.new.items)
-        (C.told clock.new) (C.faults clock.new) (P.faults crew.new) (S.taken out.new) (S.faults out.new))
+        (C.told clock.new) (C.faults clock.new) (P.faults crew.new)
+        (S.taken out.new) (S.faults out.new))
         core.origin result.1 result.0 }
     ensures inlets { vec_len inlets.new ≡ 16 }
     ensures outlets { vec_len outlets.new ≡ 16 }
@@ -107,10 +109,12 @@ where
     ensures runs { Runs ticks
         (outside_of
         (views I.told O.told O.faults inlets.old.items outlets.old.items)
-        (C.told clock.old) (C.faults clock.old) (P.faults crew.old) (S.taken out.old) (S.faults out.old))
+        (C.told clock.old) (C.faults clock.old) (P.faults crew.old)
+        (S.taken out.old) (S.faults out.old))
         (outside_of
         (views I.told O.told O.faults inlets.new.items outlets.new.items)
-        (C.told clock.new) (C.faults clock.new) (P.faults crew.new) (S.taken out.new) (S.faults out.new))
+        (C.told clock.new) (C.faults clock.new) (P.faults crew.new)
+        (S.taken out.new) (S.faults out.new))
         seat.origin result.1 result.0 }
     ensures inlets { vec_len inlets.new ≡ 16 }
     ensures outlets { vec_len outlets.new ≡ 16 }
@@ -131,7 +135,8 @@ where
 /// Writes what is left of a log, where nothing failed before.
 fn put_rest<S: Sink>(log: &Log, why: RunWhy, writer: LogWriter, out: &mut S) -> RunWhy
     requires held { GoesToRest log.now.entries writer why }
-    ensures { IsAfterRest log.now.entries writer why result (S.taken out.old) (S.taken out.new) (S.faults out.old) (S.faults out.new) }
+    ensures { IsAfterRest log.now.entries writer why result (S.taken out.old) (S.taken out.new)
+        (S.faults out.old) (S.faults out.new) }
 {
     match why {
         RunWhy::Ended | RunWhy::Clock | RunWhy::Events => match put_behind(log, writer, out) {
@@ -147,8 +152,10 @@ fn put_rest<S: Sink>(log: &Log, why: RunWhy, writer: LogWriter, out: &mut S) -> 
 fn put_behind<S: Sink>(log: &Log, writer: LogWriter, out: &mut S) -> Result<(), LogFault>
     requires held { writer.held ≡ [] }
     requires within { writer.written ≤ length log.now.entries }
-    ensures ok { OnOk result (Writes (S.taken out.old) (S.taken out.new) (log_text_from (writer.written + 1) (drop writer.written log.now.entries))) }
-    ensures prefix { OnErr result (WritesPrefix (S.taken out.old) (S.taken out.new) (log_text_from (writer.written + 1) (drop writer.written log.now.entries))) }
+    ensures ok { OnOk result (Writes (S.taken out.old) (S.taken out.new)
+        (log_text_from (writer.written + 1) (drop writer.written log.now.entries))) }
+    ensures prefix { OnErr result (WritesPrefix (S.taken out.old) (S.taken out.new)
+        (log_text_from (writer.written + 1) (drop writer.written log.now.entries))) }
     ensures rose { IsErrOf result LogFault.Out → Rose (S.faults out.old) (S.faults out.new) }
     ensures calm { OnOk result (S.faults out.new ≡ S.faults out.old) }
 {
@@ -202,13 +209,15 @@ where
         ⟦<Box<dyn Inlet + Send> as Inlet>⟧.told
         ⟦<Box<dyn Outlet + Send> as Outlet>⟧.told
         ⟦<Box<dyn Outlet + Send> as Outlet>⟧.faults pair.inlet pair.outlet) lanes.old.items)
-        (C.told clock.old) (C.faults clock.old) (P.faults crew.old) (S.taken out.old) (S.faults out.old))
+        (C.told clock.old) (C.faults clock.old) (P.faults crew.old)
+        (S.taken out.old) (S.faults out.old))
         (outside_of
         (map (λ pair. lane_view
         ⟦<Box<dyn Inlet + Send> as Inlet>⟧.told
         ⟦<Box<dyn Outlet + Send> as Outlet>⟧.told
         ⟦<Box<dyn Outlet + Send> as Outlet>⟧.faults pair.inlet pair.outlet) lanes.new.items)
-        (C.told clock.new) (C.faults clock.new) (P.faults crew.new) (S.taken out.new) (S.faults out.new))
+        (C.told clock.new) (C.faults clock.new) (P.faults crew.new)
+        (S.taken out.new) (S.faults out.new))
         core.origin result.1 result.0 }
     ensures lanes { vec_len lanes.new ≡ 16 }
 {

@@ -26,7 +26,9 @@ impl<'a, W: Walker, C: Clock> Job for TickJob<'a, W, C> {
 
     ghost ready = { λ it. (it.seat.bus ≡ it.shared.now) × (has it.seat.rights ToTick ≡ true) };
 
-    ghost done = { λ old new. (new.clock.ghost_name ≡ old.clock.ghost_name) × TicksBus (λ count. count ≡ old.ticks) old.ticks old.seat new.seat (C.told old.clock.now) (C.told new.clock.now) (C.faults old.clock.now) (C.faults new.clock.now) new.end };
+    ghost done = { λ old new. (new.clock.ghost_name ≡ old.clock.ghost_name)
+        × TicksBus (λ count. count ≡ old.ticks) old.ticks old.seat new.seat (C.told old.clock.now)
+        (C.told new.clock.now) (C.faults old.clock.now) (C.faults new.clock.now) new.end };
 
     fn work<R: Wait>(&mut self, rt: &R) {
         self.end = tick_worker(

@@ -23,7 +23,8 @@ pub fn tick_worker<W: Walker, R: Wait, C: Clock>(
 ) -> WorkEnd
     requires own { seat.old.bus ≡ shared.now }
     requires right { has seat.old.rights ToTick ≡ true }
-    ensures { TicksBus (λ count. count ≡ ticks) ticks seat.old seat.new (C.told clock.old) (C.told clock.new) (C.faults clock.old) (C.faults clock.new) result }
+    ensures { TicksBus (λ count. count ≡ ticks) ticks seat.old seat.new (C.told clock.old)
+        (C.told clock.new) (C.faults clock.old) (C.faults clock.new) result }
 {
     for _done in 0..ticks {
         match tick_one(rt, shared, bells, seat, clock) {
@@ -44,7 +45,9 @@ fn tick_one<W: Walker, R: Wait, C: Clock>(
 ) -> Option<WorkEnd>
     requires own { seat.old.bus ≡ shared.now }
     requires right { has seat.old.rights ToTick ≡ true }
-    ensures { MatchOption result (Ticks seat.old seat.new (C.told clock.old) (C.told clock.new) (C.faults clock.old) (C.faults clock.new) 1) (TicksBus (λ count. ⊥) 1 seat.old seat.new (C.told clock.old) (C.told clock.new) (C.faults clock.old) (C.faults clock.new)) }
+    ensures { MatchOption result (Ticks seat.old seat.new (C.told clock.old) (C.told clock.new)
+        (C.faults clock.old) (C.faults clock.new) 1) (TicksBus (λ count. ⊥) 1 seat.old seat.new
+        (C.told clock.old) (C.told clock.new) (C.faults clock.old) (C.faults clock.new)) }
 {
     match clock.wait() {
         Beat::Tick => hand(rt, shared, bells, seat, Input::Tick),

@@ -43,7 +43,8 @@ impl<'a, W: Walker, I: Inlet, O: Outlet> Job for Worker<'a, W, I, O> {
 
     ghost ready = { λ it. IsReady it.shared.now it.seat it.work };
 
-    ghost done = { λ old new. WorkDone I.told O.told O.faults old.seat new.seat new.end old.work new.work };
+    ghost done = { λ old new.
+        WorkDone I.told O.told O.faults old.seat new.seat new.end old.work new.work };
 
     fn work<R: Wait>(&mut self, rt: &R) {
         let Worker {

@@ -93,10 +93,12 @@ where
     ensures come { HasCome ticks
         (outside_of
         (views I.told O.told O.faults inlets.old.items outlets.old.items)
-        (C.told clock.old) (C.faults clock.old) (P.faults crew.old) (S.taken out.old) (S.faults out.old))
+        (C.told clock.old) (C.faults clock.old) (P.faults crew.old)
+        (S.taken out.old) (S.faults out.old))
         (outside_of
         (views I.told O.told O.faults inlets.new.items outlets.new.items)
-        (C.told clock.new) (C.faults clock.new) (P.faults crew.new) (S.taken out.new) (S.faults out.new))
+        (C.told clock.new) (C.faults clock.new) (P.faults crew.new)
+        (S.taken out.new) (S.faults out.new))
         seat.old seat.new result.1 result.0 }
     ensures inlets { vec_len inlets.new ≡ 16 }
     ensures outlets { vec_len outlets.new ≡ 16 }
@@ -139,7 +141,8 @@ where
 }
 
 fn why_of(failed: Option<RunWhy>, tick_end: WorkEnd, ends: &[WorkEnd], log_end: LogEnd) -> RunWhy
-    ensures { MatchOption failed (result ≡ reason_of tick_end ends.now log_end) (λ why. result ≡ why) }
+    ensures { MatchOption failed
+        (result ≡ reason_of tick_end ends.now log_end) (λ why. result ≡ why) }
 {
     match failed {
         Some(why) => why,
@@ -171,13 +174,17 @@ fn begin<'a, W: Walker, I: Inlet, O: Outlet>(
     requires buffers { vec_len buffers ≡ 33 }
     requires workers { (workers.items ≡ []) × (33 ≤ vec_capacity workers) }
     ensures seats { map (λ it. it.seat) result.workers.items ≡ parted seat.old job_rights }
-    ensures works { map (λ it. it.work) result.workers.items ≡ works_of inlets.old.items outlets.old.items }
+    ensures works { map (λ it. it.work) result.workers.items
+        ≡ works_of inlets.old.items outlets.old.items }
     ensures ready { All (λ it. IsReady it.shared.now it.seat it.work) result.workers.items }
     ensures tick { result.tick_seat ≡ handed_on to_tick (left_after seat.old job_rights) }
-    ensures log { result.log_seat ≡ handed_on no_rights (kept_of to_tick (left_after seat.old job_rights)) }
+    ensures log { result.log_seat
+        ≡ handed_on no_rights (kept_of to_tick (left_after seat.old job_rights)) }
     ensures seat { seat.new ≡ kept_of no_rights (kept_of to_tick (left_after seat.old job_rights)) }
-    ensures inlets { (inlets.new.items ≡ no_inlets.items) × (vec_capacity inlets.new ≡ vec_capacity no_inlets) }
-    ensures outlets { (outlets.new.items ≡ no_outlets.items) × (vec_capacity outlets.new ≡ vec_capacity no_outlets) }
+    ensures inlets { (inlets.new.items ≡ no_inlets.items)
+        × (vec_capacity inlets.new ≡ vec_capacity no_inlets) }
+    ensures outlets { (outlets.new.items ≡ no_outlets.items)
+        × (vec_capacity outlets.new ≡ vec_capacity no_outlets) }
 {
     let mut works = works;
     let mut seats = seats;
@@ -234,11 +241,17 @@ where
     requires tick { (team.tick_seat.bus ≡ shared.now) × (has team.tick_seat.rights ToTick ≡ true) }
     requires log { team.log_seat.bus ≡ shared.now }
     ensures worked { MatchOption result.failed
-        (AllDone (λ old new. WorkDone I.told O.told O.faults old.seat new.seat new.end old.work new.work) team.entry.workers.items result.workers.items
-        × TicksBus (λ count. count ≡ ticks) ticks team.entry.tick_seat result.tick_seat (C.told clock.old) (C.told clock.new) (C.faults clock.old) (C.faults clock.new) result.tick_end
-        × LogDone team.entry.log_seat result.log_seat result.writer (S.taken out.old) (S.taken out.new) (S.faults out.old) (S.faults out.new) result.log_end)
+        (AllDone
+        (λ old new. WorkDone I.told O.told O.faults old.seat new.seat new.end old.work new.work)
+        team.entry.workers.items result.workers.items
+        × TicksBus (λ count. count ≡ ticks) ticks team.entry.tick_seat result.tick_seat
+        (C.told clock.old) (C.told clock.new)
+        (C.faults clock.old) (C.faults clock.new) result.tick_end
+        × LogDone team.entry.log_seat result.log_seat result.writer
+        (S.taken out.old) (S.taken out.new) (S.faults out.old) (S.faults out.new) result.log_end)
         (λ why. FailsFor why (P.faults crew.old) (P.faults crew.new)
-        × (result.workers.items ≡ team.entry.workers.items) × (result.tick_seat ≡ team.entry.tick_seat) × (result.log_seat ≡ team.entry.log_seat)
+        × (result.workers.items ≡ team.entry.workers.items)
+        × (result.tick_seat ≡ team.entry.tick_seat) × (result.log_seat ≡ team.entry.log_seat)
         × (C.told clock.new ≡ C.told clock.old) × (S.taken out.new ≡ S.taken out.old)) }
 
     // A crew that does the jobs hasn't failed; and where there was none, neither has anything else.
@@ -308,15 +321,26 @@ where
     W::Plan: Send,
     W::Taken: Send,
     requires ready { All (λ it. IsReady it.shared.now it.seat it.work) workers.items }
-    requires tick { (ticker.old.seat.bus ≡ ticker.old.shared.now) × (has ticker.old.seat.rights ToTick ≡ true) }
-    requires log { (logger.old.seat.bus ≡ logger.old.shared.now) × (logger.old.writer ≡ record { written = 0; held = [] }) }
+    requires tick { (ticker.old.seat.bus ≡ ticker.old.shared.now)
+        × (has ticker.old.seat.rights ToTick ≡ true) }
+    requires log { (logger.old.seat.bus ≡ logger.old.shared.now)
+        × (logger.old.writer ≡ record { written = 0; held = [] }) }
     ensures clock { ticker.new.clock.ghost_name ≡ ticker.old.clock.ghost_name }
     ensures out { logger.new.out.ghost_name ≡ logger.old.out.ghost_name }
-    ensures ok { IfOk result (λ all. AllDone (λ old new. WorkDone I.told O.told O.faults old.seat new.seat new.end old.work new.work) workers.entry.items all.items
-        × TicksBus (λ count. count ≡ ticker.old.ticks) ticker.old.ticks ticker.old.seat ticker.new.seat (C.told ticker.old.clock.now) (C.told ticker.new.clock.now) (C.faults ticker.old.clock.now) (C.faults ticker.new.clock.now) ticker.new.end
-        × LogDone logger.old.seat logger.new.seat logger.new.writer (S.taken logger.old.out.now) (S.taken logger.new.out.now) (S.faults logger.old.out.now) (S.faults logger.new.out.now) logger.new.end) }
-    ensures err { IfErr result (λ fault. (jobs_of fault ≡ workers.entry.items) × (ticker.new ≡ ticker.old) × (logger.new ≡ logger.old)) }
-    ensures rose { IfErr result (λ fault. FailsOnly fault (Rose (P.faults crew.old) (P.faults crew.new))) }
+    ensures ok { IfOk result (λ all. AllDone
+        (λ old new. WorkDone I.told O.told O.faults old.seat new.seat new.end old.work new.work)
+        workers.entry.items all.items
+        × TicksBus (λ count. count ≡ ticker.old.ticks)
+        ticker.old.ticks ticker.old.seat ticker.new.seat
+        (C.told ticker.old.clock.now) (C.told ticker.new.clock.now)
+        (C.faults ticker.old.clock.now) (C.faults ticker.new.clock.now) ticker.new.end
+        × LogDone logger.old.seat logger.new.seat logger.new.writer
+        (S.taken logger.old.out.now) (S.taken logger.new.out.now)
+        (S.faults logger.old.out.now) (S.faults logger.new.out.now) logger.new.end) }
+    ensures err { IfErr result (λ fault. (jobs_of fault ≡ workers.entry.items)
+        × (ticker.new ≡ ticker.old) × (logger.new ≡ logger.old)) }
+    ensures rose { IfErr result
+        (λ fault. FailsOnly fault (Rose (P.faults crew.old) (P.faults crew.new))) }
     ensures calm { OnOk result (P.faults crew.new ≡ P.faults crew.old) }
 {
     crew.beside(rt, workers, ticker, logger)
@@ -351,7 +375,8 @@ fn end_log<'b, W: Walker, S: Sink, L: Drop>(job: LogJob<'b, W, S, L>) -> (Seat, 
 /// Takes the workers back, and why there was no crew, where there was none.
 fn taken_back<J: Drop>(answer: Result<Vec<J>, CrewFault<J>>) -> (Option<RunWhy>, Vec<J>)
     ensures ok { IfOk answer (λ jobs. (result.0 ≡ None) × (result.1.items ≡ jobs.items)) }
-    ensures err { IfErr answer (λ fault. (result.0 ≡ Some (why_by fault)) × (result.1.items ≡ jobs_of fault)) }
+    ensures err { IfErr answer
+        (λ fault. (result.0 ≡ Some (why_by fault)) × (result.1.items ≡ jobs_of fault)) }
 {
     match answer {
         Ok(jobs) => (None, jobs),
@@ -377,10 +402,13 @@ fn gather<'a, W: Walker, I: Inlet, O: Outlet>(
     requires tick { tick_seat.bus ≡ shared.now }
     requires log { log_seat.bus ≡ shared.now }
     requires ended { (ended.items ≡ []) × (vec_len workers + 2 ≤ vec_capacity ended) }
-    requires inlets { (inlets.old.items ≡ []) × (length (inlets_of (map (λ it. it.work) workers.items)) ≤ vec_capacity inlets.old) }
-    requires outlets { (outlets.old.items ≡ []) × (length (outlets_of (map (λ it. it.work) workers.items)) ≤ vec_capacity outlets.old) }
+    requires inlets { (inlets.old.items ≡ [])
+        × (length (inlets_of (map (λ it. it.work) workers.items)) ≤ vec_capacity inlets.old) }
+    requires outlets { (outlets.old.items ≡ [])
+        × (length (outlets_of (map (λ it. it.work) workers.items)) ≤ vec_capacity outlets.old) }
     requires ends { (ends.old.items ≡ []) × (vec_len workers ≤ vec_capacity ends.old) }
-    ensures joins { JoinsAll seat.old (log_seat ∷ tick_seat ∷ map (λ it. it.seat) workers.entry.items) seat.new }
+    ensures joins { JoinsAll seat.old
+        (log_seat ∷ tick_seat ∷ map (λ it. it.seat) workers.entry.items) seat.new }
     ensures inlets { inlets.new.items ≡ inlets_of (map (λ it. it.work) workers.entry.items) }
     ensures outlets { outlets.new.items ≡ outlets_of (map (λ it. it.work) workers.entry.items) }
     ensures ends { ends.new.items ≡ map (λ it. it.end) workers.entry.items }

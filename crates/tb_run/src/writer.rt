@@ -31,7 +31,8 @@ pub fn write_lane<W: Walker, R: Wait, O: Outlet>(
     requires lane { IsLane lane }
     requires right { has seat.old.rights (Outs lane) ≡ true }
     requires room { most_line_text ≤ vec_capacity buffer.old }
-    ensures work { WritesLane lane seat.old seat.new (O.told outlet.old) (O.told outlet.new) (O.faults outlet.old) (O.faults outlet.new) result }
+    ensures work { WritesLane lane seat.old seat.new (O.told outlet.old) (O.told outlet.new)
+        (O.faults outlet.old) (O.faults outlet.new) result }
     ensures room { most_line_text ≤ vec_capacity buffer.new }
 {
     let end = write_all(rt, shared, bells, seat, outlet, buffer, lane);
@@ -52,7 +53,8 @@ fn write_all<W: Walker, R: Wait, O: Outlet>(
     requires lane { IsLane lane }
     requires right { has seat.old.rights (Outs lane) ≡ true }
     requires room { most_line_text ≤ vec_capacity buffer.old }
-    ensures work { WritesLane lane seat.old seat.new (O.told outlet.old) (O.told outlet.new) (O.faults outlet.old) (O.faults outlet.new) result }
+    ensures work { WritesLane lane seat.old seat.new (O.told outlet.old) (O.told outlet.new)
+        (O.faults outlet.old) (O.faults outlet.new) result }
     ensures room { most_line_text ≤ vec_capacity buffer.new }
 {
     let mut heard = 0;
@@ -96,7 +98,10 @@ fn write_one<W: Walker, R: Wait, O: Outlet>(
     requires lane { IsLane lane }
     requires right { has seat.old.rights (Outs lane) ≡ true }
     requires room { most_line_text ≤ vec_capacity buffer.old }
-    ensures work { MatchOption result (Writes lane seat.old seat.new (O.told outlet.old) (O.told outlet.new) (O.faults outlet.old) (O.faults outlet.new)) (WritesLane lane seat.old seat.new (O.told outlet.old) (O.told outlet.new) (O.faults outlet.old) (O.faults outlet.new)) }
+    ensures work { MatchOption result (Writes lane seat.old seat.new (O.told outlet.old)
+        (O.told outlet.new) (O.faults outlet.old) (O.faults outlet.new))
+        (WritesLane lane seat.old seat.new (O.told outlet.old) (O.told outlet.new)
+        (O.faults outlet.old) (O.faults outlet.new)) }
     ensures room { most_line_text ≤ vec_capacity buffer.new }
 {
     calls_add_their_own();
@@ -128,7 +133,8 @@ fn put<W: Walker, R: Wait, O: Outlet>(
     requires right { has seat.old.rights (Outs lane) ≡ true }
     requires form { IsOutInShape out.now }
     requires room { most_line_text ≤ vec_capacity buffer.old }
-    ensures work { Puts lane out.now seat.old seat.new (O.told outlet.old) (O.told outlet.new) (O.faults outlet.old) (O.faults outlet.new) result }
+    ensures work { Puts lane out.now seat.old seat.new (O.told outlet.old) (O.told outlet.new)
+        (O.faults outlet.old) (O.faults outlet.new) result }
     ensures room { most_line_text ≤ vec_capacity buffer.new }
 {
     buffer.clear();

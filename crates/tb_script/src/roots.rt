@@ -14,7 +14,8 @@ use tb_types::{Names, closed_value};
 /// The roots of the script whose names these are, each with the values of its actuals.
 pub(crate) fn roots_of(alloc: Global, names: &Names) -> Result<Roots, NoMemory>
     requires { HaveValues names.now.script.now.roots }
-    ensures { IfOk result (λ roots. AllZip (IsRootOf names.now.script.now) names.now.script.now.roots roots) }
+    ensures { IfOk result
+        (λ roots. AllZip (IsRootOf names.now.script.now) names.now.script.now.roots roots) }
 {
     Ok(all_roots(alloc, names, names.script.roots.as_slice())?)
 }
@@ -60,7 +61,8 @@ fn process_position(names: &Names, name: &[u8]) -> usize
 
 fn values_of(alloc: Global, actuals: &[Ast]) -> Result<Terms, NoMemory>
     requires { All (λ e. IsSome (closed_value e)) actuals.now }
-    ensures { IfOk result (λ values. map (λ value. Some value) values ≡ map closed_value actuals.now) }
+    ensures { IfOk result
+        (λ values. map (λ value. Some value) values ≡ map closed_value actuals.now) }
 {
     let mut values = Items::new(alloc);
     for actual in actuals {

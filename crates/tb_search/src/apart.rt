@@ -29,7 +29,8 @@ impl<T> Apart<T> {
     }
 
     pub fn get_mut(&mut self) -> &mut T
-        ensures* writes_back { sem 𝓛 (Lends (the_row T.row) T.row self.entry result (λ value. value)) }
+        ensures* writes_back { sem 𝓛
+            (Lends (the_row T.row) T.row self.entry result (λ value. value)) }
         ensures value { result.now ≡ self.old }
     {
         self.inner.as_mut()

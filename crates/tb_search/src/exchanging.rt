@@ -32,7 +32,8 @@ pub(crate) fn exchange_for(
     speaker: &Speaker,
     action: &ToolAction,
 ) -> Result<Option<Exchange>, NoMemory>
-    ensures { IfOk result (λ found. found ≡ exchange_for (setting_by speaker.now.program.now.bodies speaker.now.program.now.tools speaker.now.bench.now speaker.now.body) action.now) }
+    ensures { IfOk result (λ found. found ≡ exchange_for (setting_by speaker.now.program.now.bodies
+        speaker.now.program.now.tools speaker.now.bench.now speaker.now.body) action.now) }
 {
     let bench = speaker.bench;
     match action {
@@ -137,7 +138,8 @@ fn value_of(
     terms: &Terms,
     patterns: &Patterns,
 ) -> Result<Option<Exchange>, NoMemory>
-    ensures { IfOk result (λ found. found ≡ option_and_then (value_on patterns.now bench.now) (lane_of is_taken_at bench.now terms.now)) }
+    ensures { IfOk result (λ found. found ≡ option_and_then (value_on patterns.now bench.now)
+        (lane_of is_taken_at bench.now terms.now)) }
 {
     match taken_lane(bench, terms) {
         Some(lane) => value_on(alloc, bench, lane, patterns),
@@ -172,7 +174,8 @@ fn value_on(
 
 /// The oldest event of a tool that is live or leaving, of those that wait and match.
 fn event_of(bench: &Bench, terms: &Terms, patterns: &Patterns) -> Result<Option<Exchange>, NoMemory>
-    ensures { IfOk result (λ found. found ≡ option_and_then (event_on patterns.now bench.now) (lane_of is_taken_at bench.now terms.now)) }
+    ensures { IfOk result (λ found. found ≡ option_and_then (event_on patterns.now bench.now)
+        (lane_of is_taken_at bench.now terms.now)) }
 {
     match taken_lane(bench, terms) {
         Some(lane) => event_on(bench, lane, patterns),
@@ -196,7 +199,8 @@ fn event_on(bench: &Bench, lane: u8, patterns: &Patterns) -> Result<Option<Excha
 
 /// The oldest event that was received of a live tool with just the terms behind its own.
 fn received_of(alloc: Global, bench: &Bench, terms: &Terms) -> Result<Option<Exchange>, NoMemory>
-    ensures { IfOk result (λ found. found ≡ option_and_then (received_on (behind terms.now) bench.now) (lane_of is_live_at bench.now terms.now)) }
+    ensures { IfOk result (λ found. found ≡ option_and_then
+        (received_on (behind terms.now) bench.now) (lane_of is_live_at bench.now terms.now)) }
 {
     match live_lane(bench, terms) {
         Some(lane) => {
@@ -248,7 +252,9 @@ fn execute(
     tool: u32,
     slot: u32,
 ) -> Result<Option<Exchange>, NoMemory>
-    ensures { IfOk result (λ found. found ≡ exchange_for (setting_by speaker.now.program.now.bodies speaker.now.program.now.tools speaker.now.bench.now speaker.now.body) (ToolAction.Execute tool slot)) }
+    ensures { IfOk result (λ found. found
+        ≡ exchange_for (setting_by speaker.now.program.now.bodies speaker.now.program.now.tools
+        speaker.now.bench.now speaker.now.body) (ToolAction.Execute tool slot)) }
 {
     match at(speaker.program.tools.as_slice(), tool as usize) {
         Some(kind) => match kind.command {
@@ -266,7 +272,8 @@ fn starting(
     name: &Name,
     slot: u32,
 ) -> Result<Option<Exchange>, NoMemory>
-    ensures { IfOk result (λ found. found ≡ starting (setting_by speaker.now.program.now.bodies speaker.now.program.now.tools speaker.now.bench.now speaker.now.body) slot name.now) }
+    ensures { IfOk result (λ found. found ≡ starting (setting_by speaker.now.program.now.bodies
+        speaker.now.program.now.tools speaker.now.bench.now speaker.now.body) slot name.now) }
 {
     match speaker.bench.free_lane() {
         Some(lane) => {
@@ -298,7 +305,8 @@ fn first_of_kind(
     tool: u32,
     slot: u32,
 ) -> Result<Option<Exchange>, NoMemory>
-    ensures { IfOk result (λ found. found ≡ first_of_kind (setting_by speaker.now.program.now.bodies speaker.now.program.now.tools speaker.now.bench.now speaker.now.body) stage tool slot) }
+    ensures { IfOk result (λ found. found ≡ first_of_kind (setting_by speaker.now.program.now.bodies
+        speaker.now.program.now.tools speaker.now.bench.now speaker.now.body) stage tool slot) }
 {
     match at(speaker.program.tools.as_slice(), tool as usize) {
         Some(kind) => match speaker.bench.first_at(&kind.name, stage) {
@@ -318,7 +326,8 @@ fn taking_tool(
 ) -> Result<Option<Exchange>, NoMemory>
     requires lane { IsLane lane }
     requires tool { IsSome (tool_at lane speaker.now.bench.now) }
-    ensures { IfOk result (λ found. found ≡ taking_tool (setting_by speaker.now.program.now.bodies speaker.now.program.now.tools speaker.now.bench.now speaker.now.body) slot lane) }
+    ensures { IfOk result (λ found. found ≡ taking_tool (setting_by speaker.now.program.now.bodies
+        speaker.now.program.now.tools speaker.now.bench.now speaker.now.body) slot lane) }
 {
     let tool = speaker.bench.tool(lane);
     if takes(speaker, slot, tool) {
@@ -330,7 +339,8 @@ fn taking_tool(
 
 /// Whether a slot takes a tool, whose term is within the limits.
 fn takes(speaker: &Speaker, slot: u32, tool: &Term) -> bool
-    ensures { result ≡ is_within_limits tool.now && fits_slot (slice_get speaker.now.program.now.bodies speaker.now.body) slot tool.now }
+    ensures { result ≡ is_within_limits tool.now
+        && fits_slot (slice_get speaker.now.program.now.bodies speaker.now.body) slot tool.now }
 {
     is_within_limits(tool) && fits_slot(speaker.program.bodies.as_slice(), speaker.body, slot, tool)
 }

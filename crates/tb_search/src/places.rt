@@ -12,8 +12,10 @@ fn first_from<W>(all: &[Apart<Living<W>>], from: usize, number: u32) -> usize
     requires ascend { IsTrue (ascend 0 (rows_of all.now)) }
     requires within { from < length all.now }
     ensures most { result ≤ length all.now }
-    ensures below { (place : ℕ) → place < result → (row_at (rows_of all.now) place).number < number }
-    ensures above { (place : ℕ) → result ≤ place → place < length (rows_of all.now) → number ≤ (row_at (rows_of all.now) place).number }
+    ensures below { (place : ℕ) → place < result
+        → (row_at (rows_of all.now) place).number < number }
+    ensures above { (place : ℕ) → result ≤ place → place < length (rows_of all.now)
+        → number ≤ (row_at (rows_of all.now) place).number }
 {
     let guess = from.saturating_add(number.saturating_sub(all[from].get().number) as usize);
     if guess < all.len() && all[guess].get().number == number {
@@ -27,7 +29,8 @@ fn first_from<W>(all: &[Apart<Living<W>>], from: usize, number: u32) -> usize
 pub fn place_of<W>(all: &[Apart<Living<W>>], from: usize, found: Option<u32>) -> Option<usize>
     requires ascend { IsTrue (ascend 0 (rows_of all.now)) }
     requires within { from < length all.now }
-    ensures { (holds : ℕ → Bool) → IsNext holds (row_at (rows_of all.now) from).number found → IsNextPlace holds (rows_of all.now) from result }
+    ensures { (holds : ℕ → Bool) → IsNext holds (row_at (rows_of all.now) from).number found
+        → IsNextPlace holds (rows_of all.now) from result }
 {
     let last = all[all.len() - 1].get().number;
     match found {

@@ -66,7 +66,8 @@ fn next_receiver<W>(
     requires ascend { IsTrue (ascend 0 (rows_of all.now)) }
     requires index { AreIndexed index.now (rows_of all.now) }
     requires within { from < length all.now }
-    ensures { (number : ℕ) (terms : List Sent) → mark ≡ sent_mark terms → IsNextOf (partner_in number terms) (rows_of all.now) from result }
+    ensures { (number : ℕ) (terms : List Sent) → mark ≡ sent_mark terms
+        → IsNextOf (partner_in number terms) (rows_of all.now) from result }
 {
     let found = index.next_receiver(mark, all[from].get().number);
     place_of(all, from, found)
@@ -108,7 +109,8 @@ fn partner<W>(
     terms: &Terms,
     room: &mut Binds,
 ) -> Result<Option<Partner>, NoMemory>
-    ensures { IfOk result (λ found. found ≡ first (partner_in number terms.now index (row_of living.now))) }
+    ensures { IfOk result
+        (λ found. found ≡ first (partner_in number terms.now index (row_of living.now))) }
 {
     if living.number == number {
         return Ok(None);

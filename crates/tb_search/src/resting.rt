@@ -31,7 +31,8 @@ fn is_silent(
     body: u32,
     does: &ToolAction,
 ) -> Result<bool, NoMemory>
-    ensures { IfOk result (λ silent. silent ≡ not (is_some (exchange_for (setting_by program.now.bodies program.now.tools bench.now body) does.now))) }
+    ensures { IfOk result (λ silent. silent ≡ not (is_some
+        (exchange_for (setting_by program.now.bodies program.now.tools bench.now body) does.now))) }
 {
     let speaker = Speaker {
         program,
@@ -50,7 +51,9 @@ fn own_rests<W>(
     living: &Living<W>,
     own: &OwnAction,
 ) -> Result<bool, NoMemory>
-    ensures { IfOk result (λ rest. rest ≡ own_rests (setting_by program.now.bodies program.now.tools bench.now living.now.body) living.now.inbox.held own.now) }
+    ensures { IfOk result (λ rest. rest
+        ≡ own_rests (setting_by program.now.bodies program.now.tools bench.now living.now.body)
+        living.now.inbox.held own.now) }
 {
     match own {
         OwnAction::TakeNote(patterns) => Ok(!has_note(&living.inbox, patterns)?),
@@ -75,7 +78,9 @@ fn rests<W>(
     living: &Living<W>,
     action: &Action,
 ) -> Result<bool, NoMemory>
-    ensures { IfOk result (λ rest. rest ≡ rests (setting_by program.now.bodies program.now.tools bench.now living.now.body) living.now.inbox.held action.now) }
+    ensures { IfOk result (λ rest. rest
+        ≡ rests (setting_by program.now.bodies program.now.tools bench.now living.now.body)
+        living.now.inbox.held action.now) }
 {
     match action {
         Action::Own(own) => own_rests(alloc, program, bench, living, own),
@@ -91,7 +96,9 @@ pub fn all_rest<W>(
     bench: &Bench,
     living: &Living<W>,
 ) -> Result<bool, NoMemory>
-    ensures { IfOk result (λ rest. rest ≡ all_rest (setting_by program.now.bodies program.now.tools bench.now living.now.body) living.now.inbox.held living.now.ready.items) }
+    ensures { IfOk result (λ rest. rest
+        ≡ all_rest (setting_by program.now.bodies program.now.tools bench.now living.now.body)
+        living.now.inbox.held living.now.ready.items) }
 {
     for ready in living.ready.as_slice() {
         if !rests(alloc, program, bench, living, &ready.action)? {

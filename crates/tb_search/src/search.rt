@@ -48,7 +48,10 @@ fn finding_of<W>(
     living: &Living<W>,
     own: &OwnAction,
 ) -> Result<Option<Finding>, NoMemory>
-    ensures { IfOk result (λ found. found ≡ finding_of (scene_of searched.now.program.now.bodies searched.now.program.now.tools searched.now.bench.now (rows_of searched.now.all.now) searched.now.marks) (row_of living.now) own.now) }
+    ensures { IfOk result (λ found. found
+        ≡ finding_of (scene_of searched.now.program.now.bodies searched.now.program.now.tools
+        searched.now.bench.now (rows_of searched.now.all.now) searched.now.marks)
+        (row_of living.now) own.now) }
 {
     match own {
         OwnAction::Tau
@@ -91,8 +94,13 @@ fn first_by<W>(
     room: &mut Binds,
 ) -> Result<Option<Candidate>, NoMemory>
     requires ascend { IsTrue (ascend 0 (rows_of searched.now.all.now)) }
-    requires index { IsIndexFor (setting_by searched.now.program.now.bodies searched.now.program.now.tools searched.now.bench.now) searched.now.index.now (rows_of searched.now.all.now) }
-    ensures { IfOk result (λ found. found ≡ first (candidates_by (scene_of searched.now.program.now.bodies searched.now.program.now.tools searched.now.bench.now (rows_of searched.now.all.now) searched.now.marks) at (row_of living.now) index action.now)) }
+    requires index { IsIndexFor (setting_by searched.now.program.now.bodies
+        searched.now.program.now.tools searched.now.bench.now)
+        searched.now.index.now (rows_of searched.now.all.now) }
+    ensures { IfOk result (λ found. found ≡ first
+        (candidates_by (scene_of searched.now.program.now.bodies searched.now.program.now.tools
+        searched.now.bench.now (rows_of searched.now.all.now) searched.now.marks)
+        at (row_of living.now) index action.now)) }
 {
     match action {
         Action::Own(OwnAction::Tau) => Ok(Some(Candidate::Own(at, index, Finding::Plain))),
@@ -126,8 +134,13 @@ fn first_of<W>(
     room: &mut Binds,
 ) -> Result<Option<Candidate>, NoMemory>
     requires ascend { IsTrue (ascend 0 (rows_of searched.now.all.now)) }
-    requires index { IsIndexFor (setting_by searched.now.program.now.bodies searched.now.program.now.tools searched.now.bench.now) searched.now.index.now (rows_of searched.now.all.now) }
-    ensures { IfOk result (λ found. found ≡ first (candidates_of (scene_of searched.now.program.now.bodies searched.now.program.now.tools searched.now.bench.now (rows_of searched.now.all.now) searched.now.marks) at (row_of living.now))) }
+    requires index { IsIndexFor (setting_by searched.now.program.now.bodies
+        searched.now.program.now.tools searched.now.bench.now)
+        searched.now.index.now (rows_of searched.now.all.now) }
+    ensures { IfOk result (λ found. found
+        ≡ first (candidates_of (scene_of searched.now.program.now.bodies
+        searched.now.program.now.tools searched.now.bench.now
+        (rows_of searched.now.all.now) searched.now.marks) at (row_of living.now))) }
 {
     for (index, ready) in living.ready.as_slice().iter().enumerate() {
         match first_by(alloc, searched, at, living, index, &ready.action, room)? {
@@ -141,10 +154,15 @@ fn first_of<W>(
 /// The place of the next process, from one place on and before another, that may begin anything.
 fn next_starter<W>(searched: &Searched<W>, from: usize, end: usize) -> Option<usize>
     requires ascend { IsTrue (ascend 0 (rows_of searched.now.all.now)) }
-    requires index { IsIndexFor (setting_by searched.now.program.now.bodies searched.now.program.now.tools searched.now.bench.now) searched.now.index.now (rows_of searched.now.all.now) }
+    requires index { IsIndexFor (setting_by searched.now.program.now.bodies
+        searched.now.program.now.tools searched.now.bench.now)
+        searched.now.index.now (rows_of searched.now.all.now) }
     requires some { from < end }
     requires within { end ≤ length searched.now.all.now }
-    ensures { IsNextOf (candidates_of (scene_of searched.now.program.now.bodies searched.now.program.now.tools searched.now.bench.now (rows_of searched.now.all.now) searched.now.marks)) (take end (rows_of searched.now.all.now)) from result }
+    ensures { IsNextOf
+        (candidates_of (scene_of searched.now.program.now.bodies searched.now.program.now.tools
+        searched.now.bench.now (rows_of searched.now.all.now) searched.now.marks))
+        (take end (rows_of searched.now.all.now)) from result }
 {
     let asked = &searched.all[..end];
     let found = searched.index.next_starter(asked[from].get().number);
@@ -161,9 +179,14 @@ fn first_between<W>(
     room: &mut Binds,
 ) -> Result<Option<Candidate>, NoMemory>
     requires ascend { IsTrue (ascend 0 (rows_of searched.now.all.now)) }
-    requires index { IsIndexFor (setting_by searched.now.program.now.bodies searched.now.program.now.tools searched.now.bench.now) searched.now.index.now (rows_of searched.now.all.now) }
+    requires index { IsIndexFor (setting_by searched.now.program.now.bodies
+        searched.now.program.now.tools searched.now.bench.now)
+        searched.now.index.now (rows_of searched.now.all.now) }
     requires within { end ≤ length searched.now.all.now }
-    ensures { IfOk result (λ found. found ≡ first (candidates_from (scene_of searched.now.program.now.bodies searched.now.program.now.tools searched.now.bench.now (rows_of searched.now.all.now) searched.now.marks) start (drop start (take end (rows_of searched.now.all.now))))) }
+    ensures { IfOk result (λ found. found ≡ first
+        (candidates_from (scene_of searched.now.program.now.bodies searched.now.program.now.tools
+        searched.now.bench.now (rows_of searched.now.all.now) searched.now.marks)
+        start (drop start (take end (rows_of searched.now.all.now))))) }
 {
     let mut at = start;
     while at < end {
@@ -194,9 +217,14 @@ fn first_if_any<W>(
     room: &mut Binds,
 ) -> Result<Option<Candidate>, NoMemory>
     requires ascend { IsTrue (ascend 0 (rows_of searched.now.all.now)) }
-    requires index { IsIndexFor (setting_by searched.now.program.now.bodies searched.now.program.now.tools searched.now.bench.now) searched.now.index.now (rows_of searched.now.all.now) }
+    requires index { IsIndexFor (setting_by searched.now.program.now.bodies
+        searched.now.program.now.tools searched.now.bench.now)
+        searched.now.index.now (rows_of searched.now.all.now) }
     requires within { end ≤ length searched.now.all.now }
-    ensures { IfOk result (λ found. found ≡ first (candidates_from (scene_of searched.now.program.now.bodies searched.now.program.now.tools searched.now.bench.now (rows_of searched.now.all.now) searched.now.marks) start (drop start (take end (rows_of searched.now.all.now))))) }
+    ensures { IfOk result (λ found. found ≡ first
+        (candidates_from (scene_of searched.now.program.now.bodies searched.now.program.now.tools
+        searched.now.bench.now (rows_of searched.now.all.now) searched.now.marks)
+        start (drop start (take end (rows_of searched.now.all.now))))) }
 {
     if start < end {
         first_between(alloc, searched, start, end, room)
@@ -230,8 +258,13 @@ pub(crate) fn first_in_turn<W>(
     room: &mut Binds,
 ) -> Result<Option<Candidate>, NoMemory>
     requires ascend { IsTrue (ascend 0 (rows_of searched.now.all.now)) }
-    requires index { IsIndexFor (setting_by searched.now.program.now.bodies searched.now.program.now.tools searched.now.bench.now) searched.now.index.now (rows_of searched.now.all.now) }
-    ensures { IfOk result (λ found. found ≡ first (candidates_in_turn (scene_of searched.now.program.now.bodies searched.now.program.now.tools searched.now.bench.now (rows_of searched.now.all.now) searched.now.marks) searched.now.marks.last_starter)) }
+    requires index { IsIndexFor (setting_by searched.now.program.now.bodies
+        searched.now.program.now.tools searched.now.bench.now)
+        searched.now.index.now (rows_of searched.now.all.now) }
+    ensures { IfOk result (λ found. found
+        ≡ first (candidates_in_turn (scene_of searched.now.program.now.bodies
+        searched.now.program.now.tools searched.now.bench.now
+        (rows_of searched.now.all.now) searched.now.marks) searched.now.marks.last_starter)) }
 {
     let start = turn_start(searched.all, searched.marks.last_starter);
     match first_if_any(alloc, searched, start, searched.all.len(), room)? {
@@ -264,10 +297,15 @@ pub fn first_candidate<W>(
     room: &mut Binds,
 ) -> Result<Option<Candidate>, NoMemory>
     requires ascend { IsTrue (ascend 0 (rows_of all.now)) }
-    requires index { IsIndexFor (setting_by program.now.bodies program.now.tools bench.now) index.now (rows_of all.now) }
-    ensures found { IfOk result (λ found. found ≡ first (all_candidates (scene_of program.now.bodies program.now.tools bench.now (rows_of all.now) marks) marks)) }
-    ensures on_bus { IfOk result (λ found. (bus : Bus) → IsSearchedFor bus (scene_of program.now.bodies program.now.tools bench.now (rows_of all.now) marks) marks → option_map (move_of bus (rows_of all.now)) found ≡ first (moves bus)) }
-    ensures stands { IfOk result (λ found. IfSome found (IsCandidateIn (scene_of program.now.bodies program.now.tools bench.now (rows_of all.now) marks))) }
+    requires index { IsIndexFor
+        (setting_by program.now.bodies program.now.tools bench.now) index.now (rows_of all.now) }
+    ensures found { IfOk result (λ found. found ≡ first (all_candidates
+        (scene_of program.now.bodies program.now.tools bench.now (rows_of all.now) marks) marks)) }
+    ensures on_bus { IfOk result (λ found. (bus : Bus) → IsSearchedFor bus
+        (scene_of program.now.bodies program.now.tools bench.now (rows_of all.now) marks) marks
+        → option_map (move_of bus (rows_of all.now)) found ≡ first (moves bus)) }
+    ensures stands { IfOk result (λ found. IfSome found (IsCandidateIn
+        (scene_of program.now.bodies program.now.tools bench.now (rows_of all.now) marks))) }
 {
     if marks.down {
         return Ok(None);

@@ -13,25 +13,34 @@ use crate::ends::SimEnd;
 /// What a simulation logs is a trace, at each of its turns and at its end, where the bus has 16 lanes and the inputs of its
 /// feed are in shape.
 pub fn simulations_log_traces()
-    ensures on_the_way { (limits : Limits) (bus : Bus) (feed : List Input) (log : List Entry) → HasLanes bus.bench → All IsInputInShape feed → IsSimPrefix limits (sim_start bus feed) log → IsTrace bus log }
-    ensures at_the_end { (limits : Limits) (bus : Bus) (feed : List Input) (log : List Entry) (end : SimEnd) → HasLanes bus.bench → All IsInputInShape feed → IsSim limits (sim_start bus feed) log end → IsTrace bus log }
+    ensures on_the_way { (limits : Limits) (bus : Bus) (feed : List Input) (log : List Entry)
+        → HasLanes bus.bench → All IsInputInShape feed
+        → IsSimPrefix limits (sim_start bus feed) log → IsTrace bus log }
+    ensures at_the_end { (limits : Limits) (bus : Bus) (feed : List Input) (log : List Entry)
+        (end : SimEnd) → HasLanes bus.bench → All IsInputInShape feed
+        → IsSim limits (sim_start bus feed) log end → IsTrace bus log }
 {}
 
 /// A bus and a feed have one simulation at most.
 pub fn one_simulation()
-    ensures { (limits : Limits) (bus : Bus) (feed : List Input) (log other : List Entry) (end last : SimEnd) →
-        IsSim limits (sim_start bus feed) log end → IsSim limits (sim_start bus feed) other last → (log ≡ other) × (end ≡ last) }
+    ensures { (limits : Limits) (bus : Bus) (feed : List Input) (log other : List Entry)
+        (end last : SimEnd) → IsSim limits (sim_start bus feed) log end
+        → IsSim limits (sim_start bus feed) other last → (log ≡ other) × (end ≡ last) }
 {}
 
 /// Each bus has a simulation, whatever the feed and the limits.
 pub fn each_bus_has_a_simulation()
-    ensures { (limits : Limits) (bus : Bus) (feed : List Input) → (log : List Entry) × ((end : SimEnd) × IsSim limits (sim_start bus feed) log end) }
+    ensures { (limits : Limits) (bus : Bus) (feed : List Input)
+        → (log : List Entry) × ((end : SimEnd) × IsSim limits (sim_start bus feed) log end) }
 {}
 
 /// What a simulation logs on its way is a prefix of its log, and nothing else is.
 pub fn prefixes_have_an_end()
-    ensures ends { (limits : Limits) (bus : Bus) (feed : List Input) (log : List Entry) → IsSimPrefix limits (sim_start bus feed) log →
-        (more : List Entry) × ((end : SimEnd) × IsSim limits (sim_start bus feed) (log ++ more) end) }
-    ensures prefix { (limits : Limits) (bus : Bus) (feed : List Input) (log more : List Entry) (end : SimEnd) → IsSim limits (sim_start bus feed) (log ++ more) end →
-        IsSimPrefix limits (sim_start bus feed) log }
+    ensures ends { (limits : Limits) (bus : Bus) (feed : List Input) (log : List Entry)
+        → IsSimPrefix limits (sim_start bus feed) log
+        → (more : List Entry)
+        × ((end : SimEnd) × IsSim limits (sim_start bus feed) (log ++ more) end) }
+    ensures prefix { (limits : Limits) (bus : Bus) (feed : List Input) (log more : List Entry)
+        (end : SimEnd) → IsSim limits (sim_start bus feed) (log ++ more) end
+        → IsSimPrefix limits (sim_start bus feed) log }
 {}

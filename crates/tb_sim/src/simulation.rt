@@ -16,7 +16,8 @@ use tb_terms::NoMemory;
 
 /// Whether no more steps may be made, though one is possible.
 fn is_at_limit<W: Walker>(core: &mut Core<W>, made: u64, steps: u64) -> Result<bool, NoMemory>
-    ensures value { IfOk result (λ limit. limit ≡ (made == steps && has_any (steps_of (bus_now core.old)))) }
+    ensures value { IfOk result
+        (λ limit. limit ≡ (made == steps && has_any (steps_of (bus_now core.old)))) }
     ensures unchanged { core.new ≡ core.old }
 {
     if made != steps {
@@ -134,8 +135,10 @@ pub fn simulate<W: Walker>(core: &mut Core<W>, feed: &Feed, steps: u64) -> Resul
     requires running { core.old.stopped ≡ false }
     ensures origin { core.new.origin ≡ core.old.origin }
     ensures still_running { core.new.stopped ≡ false }
-    ensures ok { IfOk result (IsSim (limits_of steps core.old.origin) (sim_start (start core.old.origin) feed.now) core.new.log) }
-    ensures err { OnErr result (IsSimPrefix (limits_of steps core.old.origin) (sim_start (start core.old.origin) feed.now) core.new.log) }
+    ensures ok { IfOk result (IsSim (limits_of steps core.old.origin)
+        (sim_start (start core.old.origin) feed.now) core.new.log) }
+    ensures err { OnErr result (IsSimPrefix (limits_of steps core.old.origin)
+        (sim_start (start core.old.origin) feed.now) core.new.log) }
 {
     let mut so_far = Progress {
         steps: 0,

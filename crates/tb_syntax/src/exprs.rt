@@ -70,7 +70,8 @@ pub(crate) fn push_appl<'a>(
     parts: &'a [Ast],
     into: &mut Items<TokenKind<'a>>,
 ) -> Result<(), NoMemory>
-    ensures { OnOk result (into.new ≡ into.old ++ Lower name.now ∷ optional (map expr_tokens parts.now)) }
+    ensures { OnOk result
+        (into.new ≡ into.old ++ Lower name.now ∷ optional (map expr_tokens parts.now)) }
 {
     push_name(name, into)?;
     push_arguments(alloc, parts, into)?;

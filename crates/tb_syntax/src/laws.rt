@@ -12,13 +12,15 @@ ghost use Rattle.tb_syntax.specs.Spelling.{SpellsProc, Spells};
 /// What binds looser than where it stands, as a choice within a sequence, stands in parentheses: the one that
 /// opens at its first token closes at its last, and not before.
 pub fn looser_stands_in_parens()
-    ensures { (at : Level) (position : ℕ) (p : Proc) (kinds : List TokenKind) → SpellsProc at position p kinds
+    ensures { (at : Level) (position : ℕ) (p : Proc) (kinds : List TokenKind)
+        → SpellsProc at position p kinds
         → is_looser (own_level p) at ≡ true → StandsInParens position p kinds }
 {}
 
 /// The parentheses of a process, wherever it stands, close as they open; so do those of a script.
 pub fn parens_are_balanced()
-    ensures proc { (at : Level) (position : ℕ) (p : Proc) (kinds : List TokenKind) → SpellsProc at position p kinds
-        → IsBalanced kinds }
-    ensures script { (script : Script) (kinds : List TokenKind) → Spells script kinds → IsBalanced kinds }
+    ensures proc { (at : Level) (position : ℕ) (p : Proc) (kinds : List TokenKind)
+        → SpellsProc at position p kinds → IsBalanced kinds }
+    ensures script { (script : Script) (kinds : List TokenKind)
+        → Spells script kinds → IsBalanced kinds }
 {}

@@ -106,8 +106,8 @@ fn push_placed<'a>(
     at: Level,
     into: &mut Items<TokenKind<'a>>,
 ) -> Result<(), NoMemory>
-    ensures { OnOk result (into.new ≡ into.old
-        ++ placed between.level at (proc_tokens x.now between.left ++ Sign between.symbol ∷ proc_tokens y.now between.right)) }
+    ensures { OnOk result (into.new ≡ into.old ++ placed between.level at
+        (proc_tokens x.now between.left ++ Sign between.symbol ∷ proc_tokens y.now between.right)) }
 {
     if !is_looser(between.level, at) {
         push_infix(alloc, x, between, y, into)?;
@@ -127,8 +127,8 @@ fn push_infix<'a>(
     y: &'a Proc,
     into: &mut Items<TokenKind<'a>>,
 ) -> Result<(), NoMemory>
-    ensures { OnOk result (into.new ≡ into.old
-        ++ (proc_tokens x.now between.left ++ Sign between.symbol ∷ proc_tokens y.now between.right)) }
+    ensures { OnOk result (into.new ≡ into.old ++ (proc_tokens x.now between.left
+        ++ Sign between.symbol ∷ proc_tokens y.now between.right)) }
 {
     push_proc(alloc, x, between.left, into)?;
     push_symbol(between.symbol, into)?;
@@ -162,7 +162,8 @@ fn push_then<'a>(
     x: &'a Proc,
     into: &mut Items<TokenKind<'a>>,
 ) -> Result<(), NoMemory>
-    ensures { OnOk result (into.new ≡ into.old ++ then_tokens (expr_tokens test.now) (proc_tokens x.now Whole)) }
+    ensures { OnOk result
+        (into.new ≡ into.old ++ then_tokens (expr_tokens test.now) (proc_tokens x.now Whole)) }
 {
     push_word(b"if", into)?;
     push_expr(alloc, test, into)?;

@@ -36,7 +36,8 @@ impl Ident {
 
     /// The name with these bytes, where they are one.
     pub fn from_bytes(alloc: Global, bytes: &[u8]) -> Result<Option<Ident>, NoMemory>
-        ensures { IfOk result (λ ident. ident ≡ (if is_ident bytes.now then Some bytes.now else None)) }
+        ensures { IfOk result
+            (λ ident. ident ≡ (if is_ident bytes.now then Some bytes.now else None)) }
     {
         if !is_ident_bytes(bytes) {
             return Ok(None);

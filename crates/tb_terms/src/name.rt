@@ -39,7 +39,8 @@ impl Name {
 
     /// The name with these bytes, where they are one.
     pub fn from_bytes(alloc: Global, bytes: &[u8]) -> Result<Option<Name>, NoMemory>
-        ensures { IfOk result (λ name. name ≡ (if is_name bytes.now then Some bytes.now else None)) }
+        ensures { IfOk result
+            (λ name. name ≡ (if is_name bytes.now then Some bytes.now else None)) }
     {
         if !is_name_bytes(bytes) {
             return Ok(None);

@@ -11,7 +11,8 @@ use itoa::Buffer;
 pub fn write_term(term: &Term, into: &mut Vec<u8>) -> Result<(), NoMemory>
     ensures ok { OnOk result (into.new.items ≡ into.old.items ++ term_text term.now) }
     ensures err { OnErr result (into.new.items ≡ into.old.items) }
-    ensures full { OnErr result (vec_capacity into.old < vec_len into.old + length (term_text term.now)) }
+    ensures full { OnErr result
+        (vec_capacity into.old < vec_len into.old + length (term_text term.now)) }
     ensures capacity { vec_capacity into.old ≤ vec_capacity into.new }
 {
     let kept = into.len();
@@ -28,7 +29,8 @@ pub fn write_term(term: &Term, into: &mut Vec<u8>) -> Result<(), NoMemory>
 pub fn write_terms(terms: &Terms, into: &mut Vec<u8>) -> Result<(), NoMemory>
     ensures ok { OnOk result (into.new.items ≡ into.old.items ++ terms_text terms.now) }
     ensures err { OnErr result (into.new.items ≡ into.old.items) }
-    ensures full { OnErr result (vec_capacity into.old < vec_len into.old + length (terms_text terms.now)) }
+    ensures full { OnErr result
+        (vec_capacity into.old < vec_len into.old + length (terms_text terms.now)) }
     ensures capacity { vec_capacity into.old ≤ vec_capacity into.new }
 {
     let kept = into.len();
@@ -45,7 +47,8 @@ pub fn write_terms(terms: &Terms, into: &mut Vec<u8>) -> Result<(), NoMemory>
 fn push_term(term: &Term, into: &mut Vec<u8>) -> Result<(), NoMemory>
     ensures ok { OnOk result (into.new.items ≡ into.old.items ++ term_text term.now) }
     ensures err { OnErr result (KeepsPrefix into.old.items into.new.items) }
-    ensures full { OnErr result (vec_capacity into.old < vec_len into.old + length (term_text term.now)) }
+    ensures full { OnErr result
+        (vec_capacity into.old < vec_len into.old + length (term_text term.now)) }
     ensures len { OnOk result (vec_len into.new ≡ vec_len into.old + length (term_text term.now)) }
     ensures capacity { vec_capacity into.old ≤ vec_capacity into.new }
 {
@@ -59,10 +62,13 @@ fn push_term(term: &Term, into: &mut Vec<u8>) -> Result<(), NoMemory>
 
 #[cycle(push)]
 fn push_appl(name: &[u8], parts: &[Term], into: &mut Vec<u8>) -> Result<(), NoMemory>
-    ensures ok { OnOk result (into.new.items ≡ into.old.items ++ appl_text name.now (map term_text parts.now)) }
+    ensures ok { OnOk result
+        (into.new.items ≡ into.old.items ++ appl_text name.now (map term_text parts.now)) }
     ensures err { OnErr result (KeepsPrefix into.old.items into.new.items) }
-    ensures full { OnErr result (vec_capacity into.old < vec_len into.old + length (appl_text name.now (map term_text parts.now))) }
-    ensures len { OnOk result (vec_len into.new ≡ vec_len into.old + length (appl_text name.now (map term_text parts.now))) }
+    ensures full { OnErr result (vec_capacity into.old
+        < vec_len into.old + length (appl_text name.now (map term_text parts.now))) }
+    ensures len { OnOk result (vec_len into.new
+        ≡ vec_len into.old + length (appl_text name.now (map term_text parts.now))) }
     ensures capacity { vec_capacity into.old ≤ vec_capacity into.new }
 {
     into.extend_from_slice(name)?;
@@ -77,10 +83,13 @@ fn push_appl(name: &[u8], parts: &[Term], into: &mut Vec<u8>) -> Result<(), NoMe
 
 #[cycle(push)]
 fn push_list(parts: &[Term], into: &mut Vec<u8>) -> Result<(), NoMemory>
-    ensures ok { OnOk result (into.new.items ≡ into.old.items ++ list_text (map term_text parts.now)) }
+    ensures ok { OnOk result
+        (into.new.items ≡ into.old.items ++ list_text (map term_text parts.now)) }
     ensures err { OnErr result (KeepsPrefix into.old.items into.new.items) }
-    ensures full { OnErr result (vec_capacity into.old < vec_len into.old + length (list_text (map term_text parts.now))) }
-    ensures len { OnOk result (vec_len into.new ≡ vec_len into.old + length (list_text (map term_text parts.now))) }
+    ensures full { OnErr result
+        (vec_capacity into.old < vec_len into.old + length (list_text (map term_text parts.now))) }
+    ensures len { OnOk result
+        (vec_len into.new ≡ vec_len into.old + length (list_text (map term_text parts.now))) }
     ensures capacity { vec_capacity into.old ≤ vec_capacity into.new }
 {
     into.push(b'[')?;
@@ -93,8 +102,10 @@ fn push_list(parts: &[Term], into: &mut Vec<u8>) -> Result<(), NoMemory>
 fn push_joined(terms: &[Term], into: &mut Vec<u8>) -> Result<(), NoMemory>
     ensures ok { OnOk result (into.new.items ≡ into.old.items ++ joined (map term_text terms.now)) }
     ensures err { OnErr result (KeepsPrefix into.old.items into.new.items) }
-    ensures full { OnErr result (vec_capacity into.old < vec_len into.old + length (joined (map term_text terms.now))) }
-    ensures len { OnOk result (vec_len into.new ≡ vec_len into.old + length (joined (map term_text terms.now))) }
+    ensures full { OnErr result
+        (vec_capacity into.old < vec_len into.old + length (joined (map term_text terms.now))) }
+    ensures len { OnOk result
+        (vec_len into.new ≡ vec_len into.old + length (joined (map term_text terms.now))) }
     ensures capacity { vec_capacity into.old ≤ vec_capacity into.new }
 {
     for (position, term) in terms.iter().enumerate() {
@@ -108,8 +119,10 @@ fn push_joined(terms: &[Term], into: &mut Vec<u8>) -> Result<(), NoMemory>
 fn push_comma(position: usize, into: &mut Vec<u8>) -> Result<(), NoMemory>
     ensures ok { OnOk result (into.new.items ≡ into.old.items ++ comma_before position) }
     ensures err { OnErr result (into.new.items ≡ into.old.items) }
-    ensures full { OnErr result (vec_capacity into.old < vec_len into.old + length (comma_before position)) }
-    ensures len { OnOk result (vec_len into.new ≡ vec_len into.old + length (comma_before position)) }
+    ensures full { OnErr result
+        (vec_capacity into.old < vec_len into.old + length (comma_before position)) }
+    ensures len { OnOk result
+        (vec_len into.new ≡ vec_len into.old + length (comma_before position)) }
     ensures capacity { vec_capacity into.old ≤ vec_capacity into.new }
 {
     if position > 0 {
@@ -123,8 +136,10 @@ fn push_comma(position: usize, into: &mut Vec<u8>) -> Result<(), NoMemory>
 fn push_number(number: i64, into: &mut Vec<u8>) -> Result<(), NoMemory>
     ensures ok { OnOk result (into.new.items ≡ into.old.items ++ signed_decimal number) }
     ensures err { OnErr result (into.new.items ≡ into.old.items) }
-    ensures full { OnErr result (vec_capacity into.old < vec_len into.old + length (signed_decimal number)) }
-    ensures len { OnOk result (vec_len into.new ≡ vec_len into.old + length (signed_decimal number)) }
+    ensures full { OnErr result
+        (vec_capacity into.old < vec_len into.old + length (signed_decimal number)) }
+    ensures len { OnOk result
+        (vec_len into.new ≡ vec_len into.old + length (signed_decimal number)) }
     ensures capacity { vec_capacity into.old ≤ vec_capacity into.new }
 {
     if 0 <= number && number < 10 {
@@ -140,7 +155,8 @@ fn push_number(number: i64, into: &mut Vec<u8>) -> Result<(), NoMemory>
 pub fn push_quoted(text: &[u8], into: &mut Vec<u8>) -> Result<(), NoMemory>
     ensures ok { OnOk result (into.new.items ≡ into.old.items ++ quoted text.now) }
     ensures err { OnErr result (KeepsPrefix into.old.items into.new.items) }
-    ensures full { OnErr result (vec_capacity into.old < vec_len into.old + length (quoted text.now)) }
+    ensures full { OnErr result
+        (vec_capacity into.old < vec_len into.old + length (quoted text.now)) }
     ensures len { OnOk result (vec_len into.new ≡ vec_len into.old + length (quoted text.now)) }
     ensures capacity { vec_capacity into.old ≤ vec_capacity into.new }
 {
@@ -153,8 +169,10 @@ pub fn push_quoted(text: &[u8], into: &mut Vec<u8>) -> Result<(), NoMemory>
 fn push_escaped(text: &[u8], into: &mut Vec<u8>) -> Result<(), NoMemory>
     ensures ok { OnOk result (into.new.items ≡ into.old.items ++ flat_map escaped text.now) }
     ensures err { OnErr result (KeepsPrefix into.old.items into.new.items) }
-    ensures full { OnErr result (vec_capacity into.old < vec_len into.old + length (flat_map escaped text.now)) }
-    ensures len { OnOk result (vec_len into.new ≡ vec_len into.old + length (flat_map escaped text.now)) }
+    ensures full { OnErr result
+        (vec_capacity into.old < vec_len into.old + length (flat_map escaped text.now)) }
+    ensures len { OnOk result
+        (vec_len into.new ≡ vec_len into.old + length (flat_map escaped text.now)) }
     ensures capacity { vec_capacity into.old ≤ vec_capacity into.new }
 {
     for byte in text {

@@ -44,7 +44,8 @@ impl Model for Bench {
     ghost view = { λ bench. record { lanes = bench.lanes.items; next_tool = bench.next_tool } };
 
     ghost invariant = { λ bench. (length bench.lanes.items ≡ lane_count)
-        × (bench.idle ≡ true → first_out (record { lanes = bench.lanes.items; next_tool = bench.next_tool }) ≡ None) };
+        × (bench.idle ≡ true
+        → first_out (record { lanes = bench.lanes.items; next_tool = bench.next_tool }) ≡ None) };
 }
 
 impl Bench {
@@ -240,7 +241,8 @@ impl Bench {
     pub fn find_event(&self, lane: u8, ps: &Patterns) -> Result<Option<FoundEvent>, NoMemory>
         requires { IsLane lane }
         ensures found { IfOk result (λ found. found ≡ oldest_event ps.now lane self.now) }
-        ensures within { IfOk result (λ found. ForSome found (λ at. at.place < length (events_at lane self.now))) }
+        ensures within { IfOk result
+            (λ found. ForSome found (λ at. at.place < length (events_at lane self.now))) }
     {
         match self.row(lane).tool() {
             Some(tool) => Ok(tool.events().first_match(ps)?),
@@ -532,7 +534,8 @@ fn index_of(lane: u8) -> usize
 
 /// Lanes that are started with these commands.
 fn started_lanes(alloc: Global, commands: &Texts) -> Result<Vec<LaneRow>, NoMemory>
-    ensures { IfOk result (λ lanes. lanes.items ≡ map (λ command. started command unused) commands.now) }
+    ensures { IfOk result
+        (λ lanes. lanes.items ≡ map (λ command. started command unused) commands.now) }
 {
     let mut lanes = Vec::with_capacity(alloc, LANES)?;
     for command in commands.as_slice() {

@@ -87,7 +87,8 @@ impl Events {
     pub(crate) fn pass_on(&mut self, place: usize, others: &mut Events) -> Result<(), NoMemory>
         requires { place < length self.old }
         ensures left { OnOk result (self.new ≡ remove self.old place) }
-        ensures came { OnOk result (others.new ≡ others.old ++ slice_index_or self.old place [] ∷ []) }
+        ensures came { OnOk result
+            (others.new ≡ others.old ++ slice_index_or self.old place [] ∷ []) }
         ensures stayed { OnErr result (self.new ≡ self.old) }
         ensures none_came { OnErr result (others.new ≡ others.old) }
     {

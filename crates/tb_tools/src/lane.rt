@@ -40,7 +40,8 @@ impl Model for LaneRow {
 
     ghost coded = { Prim.hlevel (codes, term_data.the_row.coded) };
 
-    ghost view = { λ lane. record { up = lane.up; ended = lane.ended; tool = lane.tool; outs = lane.outs.items } };
+    ghost view = { λ lane.
+        record { up = lane.up; ended = lane.ended; tool = lane.tool; outs = lane.outs.items } };
 
     ghost invariant = { λ lane. KeepsRoom lane.ended lane.outs };
 }
@@ -304,7 +305,8 @@ impl LaneRow {
 
     /// Where it is open, puts one of the lines, and its end. Takes no memory.
     pub fn dismiss(&mut self, lines: &mut Vec<KeptOut>)
-        ensures { (line : Out) (left : ℕ) → lines.old.items ≡ replicate ((if is_open self.old then 1 else 0) + left) line
+        ensures { (line : Out) (left : ℕ)
+            → lines.old.items ≡ replicate ((if is_open self.old then 1 else 0) + left) line
             → (self.new ≡ dismissed line self.old) × (lines.new.items ≡ replicate left line) }
     {
         if self.is_open() {

@@ -18,7 +18,8 @@ ghost use Rattle.tb_tools.specs.Numbers.{OthersStay, IsNumbered, KeepsNumbers};
 
 /// What comes from a lane changes that lane alone.
 pub fn inputs_leave_other_lanes()
-    ensures line { (declared : Bool) (line : ToolLine) → OthersStay (λ lane bench. (put_line declared line lane bench).bench) }
+    ensures line { (declared : Bool) (line : ToolLine)
+        → OthersStay (λ lane bench. (put_line declared line lane bench).bench) }
     ensures gone { OthersStay (λ lane bench. (gone lane bench).bench) }
     ensures cut { OthersStay (λ lane bench. (cut lane bench).bench) }
 {}
@@ -41,14 +42,16 @@ pub fn acts_leave_other_lanes()
 /// and inputs keep it.
 pub fn inputs_keep_numbers()
     ensures opening { (commands : List (List ℕ)) → IsNumbered (opening commands) }
-    ensures line { (declared : Bool) (line : ToolLine) (lane : ℕ) → KeepsNumbers (λ bench. (put_line declared line lane bench).bench) }
+    ensures line { (declared : Bool) (line : ToolLine) (lane : ℕ)
+        → KeepsNumbers (λ bench. (put_line declared line lane bench).bench) }
     ensures gone { (lane : ℕ) → KeepsNumbers (λ bench. (gone lane bench).bench) }
     ensures cut { (lane : ℕ) → KeepsNumbers (λ bench. (cut lane bench).bench) }
 {}
 
 /// What is done to lanes keeps it too.
 pub fn acts_keep_numbers()
-    ensures execute { (name command : List ℕ) (lane : ℕ) → KeepsNumbers (executed name command lane) }
+    ensures execute { (name command : List ℕ) (lane : ℕ)
+        → KeepsNumbers (executed name command lane) }
     ensures connect { (lane : ℕ) → KeepsNumbers (connected lane) }
     ensures leave { (lane : ℕ) → KeepsNumbers (left lane) }
     ensures eval { (term : Term) (lane : ℕ) → KeepsNumbers (asked term lane) }
@@ -63,30 +66,37 @@ pub fn acts_keep_numbers()
 
 /// Where tools are numbered so, a term names one tool at most.
 pub fn a_term_names_one_tool()
-    ensures { (bench : BenchState) (lane other : ℕ) (tool another : Tool) → IsNumbered bench → IsLane lane → IsLane other
-        → tool_at lane bench ≡ Some tool → tool_at other bench ≡ Some another → term_of tool ≡ term_of another → lane ≡ other }
+    ensures { (bench : BenchState) (lane other : ℕ) (tool another : Tool) → IsNumbered bench
+        → IsLane lane → IsLane other → tool_at lane bench ≡ Some tool
+        → tool_at other bench ≡ Some another → term_of tool ≡ term_of another → lane ≡ other }
 {}
 
 /// The lowest lane that passes a test is found, and where none is found, none passes.
 pub fn first_lane_is_lowest()
-    ensures { (test : Lane → Bool) (bench : BenchState) → MatchOption (first_lane test bench) (NoLane test bench) (IsFirstLane test bench) }
+    ensures { (test : Lane → Bool) (bench : BenchState)
+        → MatchOption (first_lane test bench) (NoLane test bench) (IsFirstLane test bench) }
 {}
 
 /// The tool that is found by name and stage has the smallest number, and where none is found, no
 /// lane has such a tool.
 pub fn first_tool_has_the_smallest_number()
-    ensures { (name : List ℕ) (stage : Stage) (bench : BenchState) → MatchOption (first_at name stage bench) (NoToolAt name stage bench) (HasSmallest name stage bench) }
+    ensures { (name : List ℕ) (stage : Stage) (bench : BenchState)
+        → MatchOption (first_at name stage bench) (NoToolAt name stage bench)
+        (HasSmallest name stage bench) }
 {}
 
 /// The event that is found is the first of all that match, and where none is found, none matches.
 pub fn oldest_event_is_first()
     ensures { (patterns : List Pattern) (lane : ℕ) (bench : BenchState)
-        → MatchOption (oldest_event patterns lane bench) (NoneMatches patterns (events_at lane bench)) (IsOldest patterns (events_at lane bench)) }
+        → MatchOption (oldest_event patterns lane bench)
+        (NoneMatches patterns (events_at lane bench)) (IsOldest patterns (events_at lane bench)) }
 {}
 
 /// What is handed out next stands first, and the others keep their order.
 pub fn what_is_next_stands_first()
-    ensures { (lane : ℕ) (bench : BenchState) (out : Out) → IsLane lane → next_out lane bench ≡ Some out → outs_at lane bench ≡ out ∷ outs_at lane (handed_out lane bench) }
+    ensures { (lane : ℕ) (bench : BenchState) (out : Out) → IsLane lane
+        → next_out lane bench ≡ Some out
+        → outs_at lane bench ≡ out ∷ outs_at lane (handed_out lane bench) }
 {}
 
 /// The state of a lane is `Free` exactly where it may be started.

@@ -105,7 +105,8 @@ impl LaneTool {
 
     /// Whether it is live or leaving.
     pub fn is_taken(&self) -> bool
-        ensures { result ≡ (is_same_stage self.now.stage stage.Live || is_same_stage self.now.stage stage.Leaving) }
+        ensures { result ≡ (is_same_stage self.now.stage stage.Live
+            || is_same_stage self.now.stage stage.Leaving) }
     {
         matches!(self.stage, Stage::Live | Stage::Leaving)
     }
@@ -201,7 +202,8 @@ impl LaneTool {
 
     /// The event waits.
     pub fn push_event(&mut self, event: Terms) -> Result<(), NoMemory>
-        ensures ok { OnOk result (self.new ≡ record self.old { events = self.old.events ++ event ∷ [] }) }
+        ensures ok { OnOk result
+            (self.new ≡ record self.old { events = self.old.events ++ event ∷ [] }) }
         ensures err { OnErr result (self.new ≡ self.old) }
     {
         self.events.push(event)
@@ -220,7 +222,8 @@ impl LaneTool {
     pub fn acknowledge(&mut self, alloc: Global, place: usize) -> Result<KeptOut, NoMemory>
         requires { place < length self.old.received }
         ensures line { IfOk result (λ line. line ≡ acknowledgement place self.old) }
-        ensures ok { OnOk result (self.new ≡ record self.old { received = remove self.old.received place }) }
+        ensures ok { OnOk result
+            (self.new ≡ record self.old { received = remove self.old.received place }) }
         ensures err { OnErr result (self.new ≡ self.old) }
     {
         let word = Name::new(alloc, b"rec-ack-event")?;

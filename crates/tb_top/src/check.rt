@@ -18,8 +18,10 @@ pub fn check<F: Files, O: Sink>(
     files: &mut F,
     out: &mut O,
 ) -> Result<(), Fault>
-    ensures outcome { CheckOutcome (F.held files.old script.now) (O.taken out.old) (O.taken out.new) result }
-    ensures asks { AsksBeside (F.held files.old script.now) script.now [] (F.asked files.old) (F.asked files.new) result }
+    ensures outcome { CheckOutcome (F.held files.old script.now)
+        (O.taken out.old) (O.taken out.new) result }
+    ensures asks { AsksBeside (F.held files.old script.now) script.now []
+        (F.asked files.old) (F.asked files.new) result }
     ensures file_rose { result ≡ Err Fault.File → Rose (F.faults files.old) (F.faults files.new) }
     ensures inside { IfErr result IsInside }
     ensures out_rose { result ≡ Err Fault.Out → Rose (O.faults out.old) (O.faults out.new) }
@@ -32,7 +34,8 @@ pub fn check<F: Files, O: Sink>(
 
 /// Says that a script is accepted.
 fn put_ok<O: Sink>(out: &mut O) -> Result<(), Fault>
-    ensures outcome { (told : Option (List ℕ)) → IsAccepted told → CheckOutcome told (O.taken out.old) (O.taken out.new) result }
+    ensures outcome { (told : Option (List ℕ)) → IsAccepted told
+        → CheckOutcome told (O.taken out.old) (O.taken out.new) result }
     ensures behind { IfErr result IsBehindScript }
     ensures inside { IfErr result IsInside }
     ensures not_file { result ≢ Err Fault.File }

@@ -21,41 +21,60 @@ use crate::status::{Bound, Edge, Status};
 
 /// What must end well ends well, unless something of the outside fails or memory runs out: `check` of a script that is accepted.
 pub fn an_accepted_script_is_told()
-    ensures { (script bytes : List ℕ) (program : Program) (old new : Seen) (told more : Option (List ℕ)) (status : Status) →
-        old.held script ≡ Some bytes → length bytes ≤ most_bytes → IsFound bytes (Program' program) →
-        (Rose old.file_faults new.file_faults → ⊥) → (Rose old.outside.out_faults new.outside.out_faults → ⊥) → (status ≡ Status.Outside Edge.Err → ⊥) →
-        Reported {A = Unit {0}} (Comes (Ok (Check script)) old new) told more status → (status ≡ Status.Ended) ⊎ (status ≡ Status.NoMemory) }
+    ensures { (script bytes : List ℕ) (program : Program) (old new : Seen)
+        (told more : Option (List ℕ)) (status : Status) → old.held script ≡ Some bytes
+        → length bytes ≤ most_bytes → IsFound bytes (Program' program)
+        → (Rose old.file_faults new.file_faults → ⊥)
+        → (Rose old.outside.out_faults new.outside.out_faults → ⊥)
+        → (status ≡ Status.Outside Edge.Err → ⊥)
+        → Reported {A = Unit {0}} (Comes (Ok (Check script)) old new) told more status
+        → (status ≡ Status.Ended) ⊎ (status ≡ Status.NoMemory) }
 {}
 
 /// The same of `sim`, where the simulation ends with the bus down.
 pub fn a_simulation_that_ends_is_put()
-    ensures { (request : Request) (old new : Seen) (told more : Option (List ℕ)) (status : Status) → MustEnd old.held request →
-        (Rose old.file_faults new.file_faults → ⊥) → (Rose old.outside.out_faults new.outside.out_faults → ⊥) → (status ≡ Status.Outside Edge.Err → ⊥) →
-        Reported {A = Unit {0}} (Comes (Ok (Sim request.script request.feed request.connects request.steps request.events)) old new) told more status →
-        (status ≡ Status.Ended) ⊎ (status ≡ Status.NoMemory) }
+    ensures { (request : Request) (old new : Seen) (told more : Option (List ℕ)) (status : Status)
+        → MustEnd old.held request → (Rose old.file_faults new.file_faults → ⊥)
+        → (Rose old.outside.out_faults new.outside.out_faults → ⊥)
+        → (status ≡ Status.Outside Edge.Err → ⊥)
+        → Reported {A = Unit {0}} (Comes (Ok (Sim request.script request.feed request.connects
+        request.steps request.events)) old new) told more status
+        → (status ≡ Status.Ended) ⊎ (status ≡ Status.NoMemory) }
 {}
 
 /// The same of `ring`, for the numbers that the words may give: its script is accepted, and its simulation ends by its own.
 pub fn a_ring_is_put()
-    ensures { (n k : ℕ) (old new : Seen) (told more : Option (List ℕ)) (status : Status) → 2 ≤ n → n ≤ 10000 → 1 ≤ k → n * k ≤ 1000000 →
-        (Rose old.outside.out_faults new.outside.out_faults → ⊥) → (status ≡ Status.Outside Edge.Err → ⊥) →
-        Reported {A = Unit {0}} (Comes (Ok (Ring n k)) old new) told more status → (status ≡ Status.Ended) ⊎ (status ≡ Status.NoMemory) }
+    ensures { (n k : ℕ) (old new : Seen) (told more : Option (List ℕ)) (status : Status) → 2 ≤ n
+        → n ≤ 10000 → 1 ≤ k → n * k ≤ 1000000
+        → (Rose old.outside.out_faults new.outside.out_faults → ⊥)
+        → (status ≡ Status.Outside Edge.Err → ⊥)
+        → Reported {A = Unit {0}} (Comes (Ok (Ring n k)) old new) told more status
+        → (status ≡ Status.Ended) ⊎ (status ≡ Status.NoMemory) }
 {}
 
 /// What `ring` puts of a ring: one step more than there are messages, the last of which is the shutdown.
 pub fn a_ring_has_one_summary()
-    ensures { (n k : ℕ) (log : List Entry) (last : SimEnd) → 2 ≤ n → n ≤ 10000 → 1 ≤ k → n * k ≤ 1000000 → IsRingOf n k log last →
-        (last ≡ Down) × (summary n log ≡ codes "processes " ++ decimal n ++ codes " steps " ++ decimal (n * k + 1) ++ codes " end " ++ codes "shutdown" ++ 10 ∷ []) }
+    ensures { (n k : ℕ) (log : List Entry) (last : SimEnd) → 2 ≤ n → n ≤ 10000 → 1 ≤ k
+        → n * k ≤ 1000000 → IsRingOf n k log last
+        → (last ≡ Down) × (summary n log ≡ codes "processes " ++ decimal n ++ codes " steps "
+        ++ decimal (n * k + 1) ++ codes " end " ++ codes "shutdown" ++ 10 ∷ []) }
 {}
 
 /// The same of `run` of a script that is accepted, where neither the clock nor the crew fails, unless the log is full: then
 /// the run ended for that.
 pub fn a_run_of_an_accepted_script_ends()
-    ensures { (request : RunRequest) (bytes : List ℕ) (program : Program) (old new : Seen) (told more : Option (List ℕ)) (status : Status) →
-        old.held request.script ≡ Some bytes → length bytes ≤ most_bytes → IsFound bytes (Program' program) →
-        (Rose old.file_faults new.file_faults → ⊥) → (Rose old.outside.out_faults new.outside.out_faults → ⊥) →
-        (Rose old.outside.clock_faults new.outside.clock_faults → ⊥) → (Rose old.outside.crew_faults new.outside.crew_faults → ⊥) →
-        (status ≡ Status.Outside Edge.Err → ⊥) →
-        Reported {A = Unit {0}} (Comes (Ok (Run request.script request.connects request.ticks request.events)) old new) told more status →
-        (status ≡ Status.Ended) ⊎ ((status ≡ Status.NoMemory) ⊎ ((status ≡ Status.Limit Bound.Events) × IsRun old.held request old.outside new.outside why.Events)) }
+    ensures { (request : RunRequest) (bytes : List ℕ) (program : Program) (old new : Seen)
+        (told more : Option (List ℕ)) (status : Status)
+        → old.held request.script ≡ Some bytes → length bytes ≤ most_bytes
+        → IsFound bytes (Program' program)
+        → (Rose old.file_faults new.file_faults → ⊥)
+        → (Rose old.outside.out_faults new.outside.out_faults → ⊥)
+        → (Rose old.outside.clock_faults new.outside.clock_faults → ⊥)
+        → (Rose old.outside.crew_faults new.outside.crew_faults → ⊥)
+        → (status ≡ Status.Outside Edge.Err → ⊥)
+        → Reported {A = Unit {0}} (Comes (Ok (Run request.script request.connects request.ticks
+        request.events)) old new) told more status
+        → (status ≡ Status.Ended) ⊎ ((status ≡ Status.NoMemory)
+        ⊎ ((status ≡ Status.Limit Bound.Events)
+        × IsRun old.held request old.outside new.outside why.Events)) }
 {}

@@ -20,7 +20,8 @@ pub fn report<E: Sink>(answer: Result<(), Fault>, err: &mut E) -> Status
 }
 
 fn report_fault<E: Sink>(fault: Fault, err: &mut E) -> Status
-    ensures reports { Reports {A = Unit {0}} (Err fault) (E.taken err.old) (E.taken err.new) result }
+    ensures reports { Reports {A = Unit {0}} (Err fault)
+        (E.taken err.old) (E.taken err.new) result }
     ensures rose { result ≡ Status.Outside Edge.Err → Rose (E.faults err.old) (E.faults err.new) }
 {
     match put_line(b"toolbus: ", &fault.line(), err) {

@@ -75,7 +75,8 @@ fn ring_core<O: Sink>(
     requires fresh { core.old.log ≡ [] }
     requires running { core.old.stopped ≡ false }
     requires origin { core.old.origin ≡ ring_origin core.old.origin.program }
-    ensures outcome { IsRingSimulated core.old.origin.program n (O.taken out.old) (O.taken out.new) result }
+    ensures outcome { IsRingSimulated core.old.origin.program n
+        (O.taken out.old) (O.taken out.new) result }
     ensures behind { IfErr result IsBehindFeed }
     ensures inside { IfErr result IsInside }
     ensures out_rose { result ≡ Err Fault.Out → Rose (O.faults out.old) (O.faults out.new) }
@@ -94,7 +95,8 @@ fn put_summary<O: Sink>(
     end: SimEnd,
     out: &mut O,
 ) -> Result<(), Fault>
-    ensures outcome { PutsWhole (summary n log.now.entries) end (O.taken out.old) (O.taken out.new) result }
+    ensures outcome { PutsWhole (summary n log.now.entries) end
+        (O.taken out.old) (O.taken out.new) result }
     ensures behind { IfErr result IsBehindFeed }
     ensures inside { IfErr result IsInside }
     ensures out_rose { result ≡ Err Fault.Out → Rose (O.faults out.old) (O.faults out.new) }

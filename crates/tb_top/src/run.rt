@@ -46,14 +46,17 @@ pub fn run_script<R: Threads + Wait + Sync, F: Files, O: Sink, C: Clock + Send, 
         ⟦<Box<dyn Inlet + Send> as Inlet>⟧.told
         ⟦<Box<dyn Outlet + Send> as Outlet>⟧.told
         ⟦<Box<dyn Outlet + Send> as Outlet>⟧.faults pair.inlet pair.outlet) lanes.old.items)
-        (C.told clock.old) (C.faults clock.old) (P.faults crew.old) (O.taken out.old) (O.faults out.old))
+        (C.told clock.old) (C.faults clock.old) (P.faults crew.old)
+        (O.taken out.old) (O.faults out.old))
         (outside_of
         (map (λ pair. lane_view
         ⟦<Box<dyn Inlet + Send> as Inlet>⟧.told
         ⟦<Box<dyn Outlet + Send> as Outlet>⟧.told
         ⟦<Box<dyn Outlet + Send> as Outlet>⟧.faults pair.inlet pair.outlet) lanes.new.items)
-        (C.told clock.new) (C.faults clock.new) (P.faults crew.new) (O.taken out.new) (O.faults out.new)) result }
-    ensures asks { AsksBeside (F.held files.old script.now) script.now [] (F.asked files.old) (F.asked files.new) result }
+        (C.told clock.new) (C.faults clock.new) (P.faults crew.new)
+        (O.taken out.new) (O.faults out.new)) result }
+    ensures asks { AsksBeside (F.held files.old script.now) script.now []
+        (F.asked files.old) (F.asked files.new) result }
     ensures file_rose { result ≡ Err Fault.File → Rose (F.faults files.old) (F.faults files.new) }
     ensures out_rose { result ≡ Err Fault.Out → Rose (O.faults out.old) (O.faults out.new) }
     ensures clock_rose { result ≡ Err Fault.Clock → Rose (C.faults clock.old) (C.faults clock.new) }
@@ -90,13 +93,15 @@ fn run_program<R: Threads + Wait + Sync, O: Sink, C: Clock + Send, P: Crew>(
         ⟦<Box<dyn Inlet + Send> as Inlet>⟧.told
         ⟦<Box<dyn Outlet + Send> as Outlet>⟧.told
         ⟦<Box<dyn Outlet + Send> as Outlet>⟧.faults pair.inlet pair.outlet) lanes.old.items)
-        (C.told clock.old) (C.faults clock.old) (P.faults crew.old) (O.taken out.old) (O.faults out.old))
+        (C.told clock.old) (C.faults clock.old) (P.faults crew.old)
+        (O.taken out.old) (O.faults out.old))
         (outside_of
         (map (λ pair. lane_view
         ⟦<Box<dyn Inlet + Send> as Inlet>⟧.told
         ⟦<Box<dyn Outlet + Send> as Outlet>⟧.told
         ⟦<Box<dyn Outlet + Send> as Outlet>⟧.faults pair.inlet pair.outlet) lanes.new.items)
-        (C.told clock.new) (C.faults clock.new) (P.faults crew.new) (O.taken out.new) (O.faults out.new)) result }
+        (C.told clock.new) (C.faults clock.new) (P.faults crew.new)
+        (O.taken out.new) (O.faults out.new)) result }
     ensures behind { IfErr result IsLiveFault }
     ensures out_rose { result ≡ Err Fault.Out → Rose (O.faults out.old) (O.faults out.new) }
     ensures clock_rose { result ≡ Err Fault.Clock → Rose (C.faults clock.old) (C.faults clock.new) }
@@ -129,13 +134,15 @@ fn run_core<R: Threads + Wait + Sync, O: Sink, C: Clock + Send, P: Crew>(
         ⟦<Box<dyn Inlet + Send> as Inlet>⟧.told
         ⟦<Box<dyn Outlet + Send> as Outlet>⟧.told
         ⟦<Box<dyn Outlet + Send> as Outlet>⟧.faults pair.inlet pair.outlet) lanes.old.items)
-        (C.told clock.old) (C.faults clock.old) (P.faults crew.old) (O.taken out.old) (O.faults out.old))
+        (C.told clock.old) (C.faults clock.old) (P.faults crew.old)
+        (O.taken out.old) (O.faults out.old))
         (outside_of
         (map (λ pair. lane_view
         ⟦<Box<dyn Inlet + Send> as Inlet>⟧.told
         ⟦<Box<dyn Outlet + Send> as Outlet>⟧.told
         ⟦<Box<dyn Outlet + Send> as Outlet>⟧.faults pair.inlet pair.outlet) lanes.new.items)
-        (C.told clock.new) (C.faults clock.new) (P.faults crew.new) (O.taken out.new) (O.faults out.new)) result }
+        (C.told clock.new) (C.faults clock.new) (P.faults crew.new)
+        (O.taken out.new) (O.faults out.new)) result }
     ensures behind { IfErr result IsLiveFault }
     ensures out_rose { result ≡ Err Fault.Out → Rose (O.faults out.old) (O.faults out.new) }
     ensures clock_rose { result ≡ Err Fault.Clock → Rose (C.faults clock.old) (C.faults clock.new) }

@@ -40,7 +40,8 @@ pub fn sim<F: Files, O: Sink>(
     ensures outcome { SimOutcome (F.held files.old)
         (record { script = script.now; feed = feed.now; connects = connects.now; steps = steps; events = events })
         (O.taken out.old) (O.taken out.new) result }
-    ensures asks { AsksBeside (F.held files.old script.now) script.now (option_to_list feed.now) (F.asked files.old) (F.asked files.new) result }
+    ensures asks { AsksBeside (F.held files.old script.now) script.now (option_to_list feed.now)
+        (F.asked files.old) (F.asked files.new) result }
     ensures file_rose { result ≡ Err Fault.File → Rose (F.faults files.old) (F.faults files.new) }
     ensures inside { IfErr result IsInside }
     ensures out_rose { result ≡ Err Fault.Out → Rose (O.faults out.old) (O.faults out.new) }
@@ -64,7 +65,8 @@ fn sim_program<F: Files, O: Sink>(
 ) -> Result<(), Fault>
     requires connects { length connects.now ≤ lane_count }
     requires events { events ≤ 4000000 }
-    ensures outcome { (script : List ℕ) → HasProgram (F.held files.old script) program → SimOutcome (F.held files.old)
+    ensures outcome { (script : List ℕ) → HasProgram (F.held files.old script) program
+        → SimOutcome (F.held files.old)
         (record { script = script; feed = feed.now; connects = connects.now; steps = steps; events = events })
         (O.taken out.old) (O.taken out.new) result }
     ensures behind { IfErr result IsBehindScript }
@@ -91,7 +93,8 @@ fn sim_fed<O: Sink>(
 ) -> Result<(), Fault>
     requires connects { length connects.now ≤ lane_count }
     requires events { events ≤ 4000000 }
-    ensures outcome { IsSimulated steps (origin_of program connects.now events) feed.now (O.taken out.old) (O.taken out.new) result }
+    ensures outcome { IsSimulated steps (origin_of program connects.now events) feed.now
+        (O.taken out.old) (O.taken out.new) result }
     ensures behind { IfErr result IsBehindFeed }
     ensures inside { IfErr result IsInside }
     ensures out_rose { result ≡ Err Fault.Out → Rose (O.faults out.old) (O.faults out.new) }
@@ -117,7 +120,8 @@ fn sim_core<O: Sink>(
 ) -> Result<(), Fault>
     requires fresh { core.old.log ≡ [] }
     requires running { core.old.stopped ≡ false }
-    ensures outcome { IsSimulated steps core.old.origin feed.now (O.taken out.old) (O.taken out.new) result }
+    ensures outcome { IsSimulated steps core.old.origin feed.now
+        (O.taken out.old) (O.taken out.new) result }
     ensures behind { IfErr result IsBehindFeed }
     ensures inside { IfErr result IsInside }
     ensures out_rose { result ≡ Err Fault.Out → Rose (O.faults out.old) (O.faults out.new) }
@@ -130,7 +134,8 @@ fn sim_core<O: Sink>(
 
 /// Puts the log of a simulation that ended so.
 fn put_simulation<O: Sink>(alloc: Global, log: &Log, end: SimEnd, out: &mut O) -> Result<(), Fault>
-    ensures outcome { PutsText (log_text log.now.entries) end (O.taken out.old) (O.taken out.new) result }
+    ensures outcome { PutsText (log_text log.now.entries) end
+        (O.taken out.old) (O.taken out.new) result }
     ensures behind { IfErr result IsBehindFeed }
     ensures inside { IfErr result IsInside }
     ensures out_rose { result ≡ Err Fault.Out → Rose (O.faults out.old) (O.faults out.new) }

@@ -51,7 +51,8 @@ pub fn toolbus<R: Threads + Wait + Sync, F: Files, O: Sink, E: Sink, C: Clock + 
               ⟦<Box<dyn Inlet + Send> as Inlet>⟧.told
               ⟦<Box<dyn Outlet + Send> as Outlet>⟧.told
               ⟦<Box<dyn Outlet + Send> as Outlet>⟧.faults pair.inlet pair.outlet) lanes.old.items)
-              (C.told clock.old) (C.faults clock.old) (P.faults crew.old) (O.taken out.old) (O.faults out.old);
+              (C.told clock.old) (C.faults clock.old) (P.faults crew.old)
+              (O.taken out.old) (O.faults out.old);
         })
         (record {
           held = F.held files.new;
@@ -62,20 +63,27 @@ pub fn toolbus<R: Threads + Wait + Sync, F: Files, O: Sink, E: Sink, C: Clock + 
               ⟦<Box<dyn Inlet + Send> as Inlet>⟧.told
               ⟦<Box<dyn Outlet + Send> as Outlet>⟧.told
               ⟦<Box<dyn Outlet + Send> as Outlet>⟧.faults pair.inlet pair.outlet) lanes.new.items)
-              (C.told clock.new) (C.faults clock.new) (P.faults crew.new) (O.taken out.new) (O.faults out.new);
+              (C.told clock.new) (C.faults clock.new) (P.faults crew.new)
+              (O.taken out.new) (O.faults out.new);
         }))
         (E.taken err.old) (E.taken err.new) result }
 
     // Whatever the status, only files that the words name are asked for, in their order.
-    ensures asks { AsksSome (files_of (asked (map string_bytes words.now.items))) (F.asked files.old) (F.asked files.new) }
+    ensures asks { AsksSome (files_of (asked (map string_bytes words.now.items)))
+        (F.asked files.old) (F.asked files.new) }
 
     // A thing of the outside is named only where it failed in this call.
-    ensures file_rose { result ≡ Status.Outside Edge.File → Rose (F.faults files.old) (F.faults files.new) }
-    ensures out_rose { result ≡ Status.Outside Edge.Out → Rose (O.faults out.old) (O.faults out.new) }
-    ensures clock_rose { result ≡ Status.Outside Edge.Clock → Rose (C.faults clock.old) (C.faults clock.new) }
-    ensures crew_rose { result ≡ Status.Outside Edge.Crew → Rose (P.faults crew.old) (P.faults crew.new) }
+    ensures file_rose { result ≡ Status.Outside Edge.File
+        → Rose (F.faults files.old) (F.faults files.new) }
+    ensures out_rose { result ≡ Status.Outside Edge.Out
+        → Rose (O.faults out.old) (O.faults out.new) }
+    ensures clock_rose { result ≡ Status.Outside Edge.Clock
+        → Rose (C.faults clock.old) (C.faults clock.new) }
+    ensures crew_rose { result ≡ Status.Outside Edge.Crew
+        → Rose (P.faults crew.old) (P.faults crew.new) }
     ensures lanes { vec_len lanes.new ≡ 16 }
-    ensures err_rose { result ≡ Status.Outside Edge.Err → Rose (E.faults err.old) (E.faults err.new) }
+    ensures err_rose { result ≡ Status.Outside Edge.Err
+        → Rose (E.faults err.old) (E.faults err.new) }
 {
     let answer = answer(rt, alloc, words, files, out, lanes, clock, crew);
     report(answer, err)
@@ -103,7 +111,8 @@ fn answer<R: Threads + Wait + Sync, F: Files, O: Sink, C: Clock + Send, P: Crew>
               ⟦<Box<dyn Inlet + Send> as Inlet>⟧.told
               ⟦<Box<dyn Outlet + Send> as Outlet>⟧.told
               ⟦<Box<dyn Outlet + Send> as Outlet>⟧.faults pair.inlet pair.outlet) lanes.old.items)
-              (C.told clock.old) (C.faults clock.old) (P.faults crew.old) (O.taken out.old) (O.faults out.old);
+              (C.told clock.old) (C.faults clock.old) (P.faults crew.old)
+              (O.taken out.old) (O.faults out.old);
         })
         (record {
           held = F.held files.new;
@@ -114,9 +123,11 @@ fn answer<R: Threads + Wait + Sync, F: Files, O: Sink, C: Clock + Send, P: Crew>
               ⟦<Box<dyn Inlet + Send> as Inlet>⟧.told
               ⟦<Box<dyn Outlet + Send> as Outlet>⟧.told
               ⟦<Box<dyn Outlet + Send> as Outlet>⟧.faults pair.inlet pair.outlet) lanes.new.items)
-              (C.told clock.new) (C.faults clock.new) (P.faults crew.new) (O.taken out.new) (O.faults out.new);
+              (C.told clock.new) (C.faults clock.new) (P.faults crew.new)
+              (O.taken out.new) (O.faults out.new);
         }) result }
-    ensures asks { Asks (F.held files.old) (files_of (asked (map string_bytes words.now.items))) (F.asked files.old) (F.asked files.new) result }
+    ensures asks { Asks (F.held files.old) (files_of (asked (map string_bytes words.now.items)))
+        (F.asked files.old) (F.asked files.new) result }
     ensures file_rose { result ≡ Err Fault.File → Rose (F.faults files.old) (F.faults files.new) }
     ensures out_rose { result ≡ Err Fault.Out → Rose (O.faults out.old) (O.faults out.new) }
     ensures clock_rose { result ≡ Err Fault.Clock → Rose (C.faults clock.old) (C.faults clock.new) }
@@ -152,7 +163,8 @@ fn do_command<R: Threads + Wait + Sync, F: Files, O: Sink, C: Clock + Send, P: C
               ⟦<Box<dyn Inlet + Send> as Inlet>⟧.told
               ⟦<Box<dyn Outlet + Send> as Outlet>⟧.told
               ⟦<Box<dyn Outlet + Send> as Outlet>⟧.faults pair.inlet pair.outlet) lanes.old.items)
-              (C.told clock.old) (C.faults clock.old) (P.faults crew.old) (O.taken out.old) (O.faults out.old);
+              (C.told clock.old) (C.faults clock.old) (P.faults crew.old)
+              (O.taken out.old) (O.faults out.old);
         })
         (record {
           held = F.held files.new;
@@ -163,9 +175,11 @@ fn do_command<R: Threads + Wait + Sync, F: Files, O: Sink, C: Clock + Send, P: C
               ⟦<Box<dyn Inlet + Send> as Inlet>⟧.told
               ⟦<Box<dyn Outlet + Send> as Outlet>⟧.told
               ⟦<Box<dyn Outlet + Send> as Outlet>⟧.faults pair.inlet pair.outlet) lanes.new.items)
-              (C.told clock.new) (C.faults clock.new) (P.faults crew.new) (O.taken out.new) (O.faults out.new);
+              (C.told clock.new) (C.faults clock.new) (P.faults crew.new)
+              (O.taken out.new) (O.faults out.new);
         }) result }
-    ensures asks { Asks (F.held files.old) (files_of (Ok command.now)) (F.asked files.old) (F.asked files.new) result }
+    ensures asks { Asks (F.held files.old) (files_of (Ok command.now))
+        (F.asked files.old) (F.asked files.new) result }
     ensures file_rose { result ≡ Err Fault.File → Rose (F.faults files.old) (F.faults files.new) }
     ensures out_rose { result ≡ Err Fault.Out → Rose (O.faults out.old) (O.faults out.new) }
     ensures clock_rose { result ≡ Err Fault.Clock → Rose (C.faults clock.old) (C.faults clock.new) }

@@ -169,7 +169,8 @@ pub(crate) fn push_atom(
     atom: &AtomDef,
     into: &mut Items<Violation>,
 ) -> Result<(), NoMemory>
-    ensures { OnOk result (into.new ≡ into.old ++ atom_faults names.now.script.now (visible scope.now) atom.now) }
+    ensures { OnOk result
+        (into.new ≡ into.old ++ atom_faults names.now.script.now (visible scope.now) atom.now) }
 {
     push_act(alloc, names, scope, &atom.act, atom.token, into)?;
     push_times(alloc, names, scope, atom.times.as_slice(), into)?;
@@ -184,7 +185,8 @@ fn push_act(
     token: usize,
     into: &mut Items<Violation>,
 ) -> Result<(), NoMemory>
-    ensures { OnOk result (into.new ≡ into.old ++ act_faults names.now.script.now (visible scope.now) act.now token) }
+    ensures { OnOk result
+        (into.new ≡ into.old ++ act_faults names.now.script.now (visible scope.now) act.now token) }
 {
     match act {
         ActDef::Set(name, value) => {
@@ -214,8 +216,8 @@ fn push_set(
     token: usize,
     into: &mut Items<Violation>,
 ) -> Result<(), NoMemory>
-    ensures { OnOk result (into.new ≡ into.old
-        ++ set_faults names.now.script.now (visible scope.now) (sort_in (visible scope.now) name.now) value.now token) }
+    ensures { OnOk result (into.new ≡ into.old ++ set_faults names.now.script.now
+        (visible scope.now) (sort_in (visible scope.now) name.now) value.now token) }
 {
     let position = Position::Sent;
     match sort_of(scope, name) {
@@ -308,8 +310,8 @@ fn push_first(
     first: &Ast,
     into: &mut Items<Violation>,
 ) -> Result<(), NoMemory>
-    ensures { OnOk result (into.new ≡ into.old
-        ++ site_faults names.now.script.now (visible scope.now) (first_position word) (first_expected_sort word) first.now) }
+    ensures { OnOk result (into.new ≡ into.old ++ site_faults names.now.script.now
+        (visible scope.now) (first_position word) (first_expected_sort word) first.now) }
 {
     let text = Sort::Str;
     let site = Site {
@@ -344,7 +346,8 @@ fn push_others(
     into: &mut Items<Violation>,
 ) -> Result<(), NoMemory>
     ensures { OnOk result (into.new ≡ into.old
-        ++ flat_map (site_faults names.now.script.now (visible scope.now) site.now.position (expected_sort_of site.now.expected_sort)) others.now) }
+        ++ flat_map (site_faults names.now.script.now (visible scope.now) site.now.position
+        (expected_sort_of site.now.expected_sort)) others.now) }
 {
     for other in others {
         push_site(alloc, names, scope, site, other, into)?;
@@ -377,8 +380,8 @@ pub(crate) fn push_tested(
     expr: &Ast,
     into: &mut Items<Violation>,
 ) -> Result<(), NoMemory>
-    ensures { OnOk result (into.new ≡ into.old
-        ++ site_faults names.now.script.now (visible scope.now) Position.Sent (tested sort.now) expr.now) }
+    ensures { OnOk result (into.new ≡ into.old ++ site_faults names.now.script.now
+        (visible scope.now) Position.Sent (tested sort.now) expr.now) }
 {
     let site = Site {
         position: Position::Sent,

@@ -36,7 +36,8 @@ fn push_processes(
     processes: &[ProcDef],
     into: &mut Items<Violation>,
 ) -> Result<(), NoMemory>
-    ensures { OnOk result (into.new ≡ into.old ++ flat_map (process_faults names.now.script.now) processes.now) }
+    ensures { OnOk result
+        (into.new ≡ into.old ++ flat_map (process_faults names.now.script.now) processes.now) }
 {
     for process in processes {
         push_process(alloc, names, process, into)?;
@@ -64,7 +65,8 @@ fn push_roots(
     roots: &[Call],
     into: &mut Items<Violation>,
 ) -> Result<(), NoMemory>
-    ensures { OnOk result (into.new ≡ into.old ++ flat_map (root_faults names.now.script.now) roots.now) }
+    ensures { OnOk result
+        (into.new ≡ into.old ++ flat_map (root_faults names.now.script.now) roots.now) }
 {
     for root in roots {
         push_root(alloc, names, root, into)?;
@@ -96,7 +98,8 @@ fn push_proc(
     proc: &Proc,
     into: &mut Items<Violation>,
 ) -> Result<(), NoMemory>
-    ensures { OnOk result (into.new ≡ into.old ++ proc_faults names.now.script.now proc.now (visible scope.now)) }
+    ensures { OnOk result
+        (into.new ≡ into.old ++ proc_faults names.now.script.now proc.now (visible scope.now)) }
 {
     match proc {
         Proc::Atom(atom) => {
@@ -146,7 +149,8 @@ fn push_both(
     into: &mut Items<Violation>,
 ) -> Result<(), NoMemory>
     ensures { OnOk result (into.new ≡ into.old
-        ++ (proc_faults names.now.script.now x.now (visible scope.now) ++ proc_faults names.now.script.now y.now (visible scope.now))) }
+        ++ (proc_faults names.now.script.now x.now (visible scope.now)
+        ++ proc_faults names.now.script.now y.now (visible scope.now))) }
 {
     push_proc(alloc, names, scope, x, into)?;
     push_proc(alloc, names, scope, y, into)?;

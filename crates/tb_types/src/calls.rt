@@ -69,8 +69,8 @@ fn push_known_call(
     call: &Call,
     into: &mut Items<Violation>,
 ) -> Result<(), NoMemory>
-    ensures { OnOk result (into.new ≡ into.old
-        ++ found_call_faults names.now.script.now (visible scope.now) manner (Some definition.now) call.now) }
+    ensures { OnOk result (into.new ≡ into.old ++ found_call_faults names.now.script.now
+        (visible scope.now) manner (Some definition.now) call.now) }
 {
     let is_wrong = call.actuals.len() != definition.formals.len();
     note_if(is_wrong, Rule::Arity, call.token, into)?;
@@ -90,8 +90,8 @@ fn push_actuals(
     actuals: &[Ast],
     into: &mut Items<Violation>,
 ) -> Result<(), NoMemory>
-    ensures { OnOk result (into.new ≡ into.old
-        ++ actuals_faults names.now.script.now (visible scope.now) manner formals.now 0 actuals.now) }
+    ensures { OnOk result (into.new ≡ into.old ++ actuals_faults names.now.script.now
+        (visible scope.now) manner formals.now 0 actuals.now) }
 {
     for (position, actual) in actuals.iter().enumerate() {
         let site = actual_site(manner, at(formals, position));
@@ -102,7 +102,8 @@ fn push_actuals(
 
 fn actual_site(manner: Manner, formal: Option<&Formal>) -> Site<'_>
     ensures position { result.position ≡ actual_position manner (option_copied formal.entry) }
-    ensures expected_sort { expected_sort_of result.expected_sort ≡ actual_expected_sort manner (option_copied formal.entry) }
+    ensures expected_sort { expected_sort_of result.expected_sort
+        ≡ actual_expected_sort manner (option_copied formal.entry) }
 {
     match formal {
         None => Site {

@@ -54,7 +54,8 @@ pub(crate) fn push_formals(
     formals: &[Formal],
     into: &mut Items<Violation>,
 ) -> Result<(), NoMemory>
-    ensures { OnOk result (into.new ≡ into.old ++ formals_faults names.now.script.now.tools formals.now) }
+    ensures { OnOk result
+        (into.new ≡ into.old ++ formals_faults names.now.script.now.tools formals.now) }
 {
     if formals.is_empty() {
         return Ok(());
@@ -83,7 +84,8 @@ fn push_formal_sorts(
     formals: &[Formal],
     into: &mut Items<Violation>,
 ) -> Result<(), NoMemory>
-    ensures { OnOk result (into.new ≡ into.old ++ flat_map (formal_faults names.now.script.now.tools) formals.now) }
+    ensures { OnOk result
+        (into.new ≡ into.old ++ flat_map (formal_faults names.now.script.now.tools) formals.now) }
 {
     for formal in formals {
         push_sort(names, &formal.sort, formal.sort_token, into)?;
@@ -120,7 +122,8 @@ fn push_var_repeats(
 }
 
 fn push_var_sorts(names: &Names, vars: &[Var], into: &mut Items<Violation>) -> Result<(), NoMemory>
-    ensures { OnOk result (into.new ≡ into.old ++ flat_map (var_faults names.now.script.now.tools) vars.now) }
+    ensures { OnOk result
+        (into.new ≡ into.old ++ flat_map (var_faults names.now.script.now.tools) vars.now) }
 {
     for var in vars {
         push_sort(names, &var.sort, var.sort_token, into)?;
@@ -134,7 +137,8 @@ fn push_sort(
     token: usize,
     into: &mut Items<Violation>,
 ) -> Result<(), NoMemory>
-    ensures { OnOk result (into.new ≡ into.old ++ sort_faults names.now.script.now.tools sort.now token) }
+    ensures { OnOk result
+        (into.new ≡ into.old ++ sort_faults names.now.script.now.tools sort.now token) }
 {
     note_if(is_unknown_sort(names, sort), Rule::NoTool, token, into)?;
     Ok(())

@@ -59,8 +59,8 @@ pub(crate) fn push_site(
     expr: &Ast,
     into: &mut Items<Violation>,
 ) -> Result<(), NoMemory>
-    ensures { OnOk result (into.new ≡ into.old
-        ++ site_faults names.now.script.now (visible scope.now) site.now.position (expected_sort_of site.now.expected_sort) expr.now) }
+    ensures { OnOk result (into.new ≡ into.old ++ site_faults names.now.script.now
+        (visible scope.now) site.now.position (expected_sort_of site.now.expected_sort) expr.now) }
 {
     let token = expr.token;
     let expected_sort = &site.expected_sort;
@@ -126,7 +126,8 @@ fn is_other_application(kind: &AstKind) -> bool
 }
 
 fn lacks_tool(names: &Names, expected_sort: &ExpectedSort, expr: &Ast) -> bool
-    ensures { result ≡ lacks_tool names.now.script.now (expected_sort_of expected_sort.now) expr.now }
+    ensures { result
+        ≡ lacks_tool names.now.script.now (expected_sort_of expected_sort.now) expr.now }
 {
     match expected_sort {
         ExpectedSort::Command => !is_command(names, &expr.kind),
@@ -136,7 +137,8 @@ fn lacks_tool(names: &Names, expected_sort: &ExpectedSort, expr: &Ast) -> bool
 
 /// Whether it is the plain name of a tool with a command.
 fn is_command(names: &Names, kind: &AstKind) -> bool
-    ensures { result ≡ has_command (option_and_then (tool_named names.now.script.now.tools) (name_alone (out-AstKind kind.now))) }
+    ensures { result ≡ has_command (option_and_then (tool_named names.now.script.now.tools)
+        (name_alone (out-AstKind kind.now))) }
 {
     match name_alone(kind) {
         None => false,
@@ -185,7 +187,8 @@ fn clashes(
     expected_sort: &ExpectedSort,
     expr: &Ast,
 ) -> Result<bool, NoMemory>
-    ensures { IfOk result (λ found. found ≡ clashes names.now.script.now (visible scope.now) (expected_sort_of expected_sort.now) expr.now) }
+    ensures { IfOk result (λ found. found ≡ clashes names.now.script.now (visible scope.now)
+        (expected_sort_of expected_sort.now) expr.now) }
 {
     match expected_sort {
         ExpectedSort::Plain | ExpectedSort::Command => Ok(false),
@@ -207,7 +210,8 @@ fn clashes(
 }
 
 fn exact_clashes(scope: &Scope, sort: &Sort, expr: &Ast) -> bool
-    ensures { result ≡ is_refused_by (is_same_sort sort.now) (taken_sort (visible scope.now) expr.now) }
+    ensures { result
+        ≡ is_refused_by (is_same_sort sort.now) (taken_sort (visible scope.now) expr.now) }
 {
     match taken_sort(scope, expr) {
         None => false,
@@ -225,7 +229,8 @@ fn made_clashes(scope: &Scope, expr: &Ast) -> bool
 }
 
 fn started_clashes(scope: &Scope, name: Option<&Name>, expr: &Ast) -> bool
-    ensures { result ≡ is_refused_by (is_started_sort (option_copied name.entry)) (taken_sort (visible scope.now) expr.now) }
+    ensures { result ≡ is_refused_by (is_started_sort (option_copied name.entry))
+        (taken_sort (visible scope.now) expr.now) }
 {
     match taken_sort(scope, expr) {
         None => false,

@@ -78,7 +78,8 @@ fn variable_fits(scope: &Scope, name: &Ident, sort: &Sort) -> bool
 
 #[cycle(fits)]
 fn list_fits(scope: &Scope, parts: &[Ast], sort: &Sort) -> bool
-    ensures { result ≡ is_list_of (all_fit (map (judged (visible scope.now)) parts.now)) (out-Sort sort.now) }
+    ensures { result
+        ≡ is_list_of (all_fit (map (judged (visible scope.now)) parts.now)) (out-Sort sort.now) }
 {
     match sort {
         Sort::List(members) => all_fit(scope, parts, members.get()),
@@ -122,7 +123,8 @@ fn push_kind(
     token: usize,
     into: &mut Items<Violation>,
 ) -> Result<(), NoMemory>
-    ensures { OnOk result (into.new ≡ into.old ++ (judged_kind (visible scope.now) kind.now).faults token) }
+    ensures { OnOk result
+        (into.new ≡ into.old ++ (judged_kind (visible scope.now) kind.now).faults token) }
 {
     match kind {
         AstKind::Int(_) => Ok(()),
@@ -166,7 +168,8 @@ fn push_application(
     token: usize,
     into: &mut Items<Violation>,
 ) -> Result<(), NoMemory>
-    ensures { OnOk result (into.new ≡ into.old ++ application_faults name.now (map (judged (visible scope.now)) parts.now) token) }
+    ensures { OnOk result (into.new ≡ into.old
+        ++ application_faults name.now (map (judged (visible scope.now)) parts.now) token) }
 {
     let func = applied(name, parts.len());
     note_if(has_wrong_count(func, parts.len()), Rule::Arity, token, into)?;
@@ -182,7 +185,8 @@ fn push_parts(
     parts: &[Ast],
     into: &mut Items<Violation>,
 ) -> Result<(), NoMemory>
-    ensures { OnOk result (into.new ≡ into.old ++ parts_faults (map (judged (visible scope.now)) parts.now)) }
+    ensures { OnOk result
+        (into.new ≡ into.old ++ parts_faults (map (judged (visible scope.now)) parts.now)) }
 {
     for part in parts {
         push_expr(alloc, scope, part, into)?;
@@ -207,7 +211,8 @@ fn push_applied(
     parts: &[Ast],
     into: &mut Items<Violation>,
 ) -> Result<(), NoMemory>
-    ensures { OnOk result (into.new ≡ into.old ++ applied_faults func (map (judged (visible scope.now)) parts.now)) }
+    ensures { OnOk result
+        (into.new ≡ into.old ++ applied_faults func (map (judged (visible scope.now)) parts.now)) }
 {
     match func {
         None => Ok(()),
@@ -225,7 +230,8 @@ fn push_arguments(
     parts: &[Ast],
     into: &mut Items<Violation>,
 ) -> Result<(), NoMemory>
-    ensures { OnOk result (into.new ≡ into.old ++ arguments_faults signature (map (judged (visible scope.now)) parts.now)) }
+    ensures { OnOk result (into.new
+        ≡ into.old ++ arguments_faults signature (map (judged (visible scope.now)) parts.now)) }
 {
     match parts {
         [] => Ok(()),
@@ -248,7 +254,8 @@ fn push_argument(
     part: &Ast,
     into: &mut Items<Violation>,
 ) -> Result<(), NoMemory>
-    ensures { OnOk result (into.new ≡ into.old ++ argument_faults shape (judged (visible scope.now) part.now)) }
+    ensures { OnOk result
+        (into.new ≡ into.old ++ argument_faults shape (judged (visible scope.now) part.now)) }
 {
     let sort = sort_of_shape(alloc, shape)?;
     note_if(!fits(scope, part, &sort), Rule::TypeClash, part.token, into)?;

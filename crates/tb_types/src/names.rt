@@ -21,8 +21,10 @@ pub struct Names<'a> {
     pub script: &'a Script,
     processes: IndexMap<&'a [u8], usize>,
     tools: IndexMap<&'a [u8], usize>,
-    pub ghost knows_processes: { (name : List ℕ) → position_in processes name ≡ position_of (map process_name script.now.procs) name } by { Prim.hlevel props },
-    pub ghost knows_tools: { (name : List ℕ) → position_in tools name ≡ position_of (map tool_name script.now.tools) name } by { Prim.hlevel props },
+    pub ghost knows_processes: { (name : List ℕ) → position_in processes name
+        ≡ position_of (map process_name script.now.procs) name } by { Prim.hlevel props },
+    pub ghost knows_tools: { (name : List ℕ) → position_in tools name
+        ≡ position_of (map tool_name script.now.tools) name } by { Prim.hlevel props },
 }
 
 impl<'a> Names<'a> {
@@ -62,7 +64,8 @@ pub(crate) fn names_of<'a>(
     into: &mut Items<Violation>,
 ) -> Result<Names<'a>, NoMemory>
     ensures names { IfOk result (λ names. names.script.now ≡ script.now) }
-    ensures noted { OnOk result (into.new ≡ into.old ++ process_repeats none_seen script.now.procs) }
+    ensures noted { OnOk result
+        (into.new ≡ into.old ++ process_repeats none_seen script.now.procs) }
 {
     let processes = process_positions(alloc, script.procs.as_slice(), into)?;
     let tools = tool_positions(alloc, script.tools.as_slice())?;
@@ -79,7 +82,8 @@ fn process_positions<'a>(
     processes: &'a [ProcDef],
     into: &mut Items<Violation>,
 ) -> Result<IndexMap<&'a [u8], usize>, NoMemory>
-    ensures kept { IfOk result (λ positions. (name : List ℕ) → position_in positions name ≡ position_of (map process_name processes.now) name) }
+    ensures kept { IfOk result (λ positions. (name : List ℕ)
+        → position_in positions name ≡ position_of (map process_name processes.now) name) }
     ensures noted { OnOk result (into.new ≡ into.old ++ process_repeats none_seen processes.now) }
 {
     let mut positions = IndexMap::with_capacity(alloc, processes.len())?;
@@ -94,7 +98,8 @@ fn tool_positions<'a>(
     alloc: Global,
     tools: &'a [ToolDef],
 ) -> Result<IndexMap<&'a [u8], usize>, NoMemory>
-    ensures { IfOk result (λ positions. (name : List ℕ) → position_in positions name ≡ position_of (map tool_name tools.now) name) }
+    ensures { IfOk result (λ positions. (name : List ℕ)
+        → position_in positions name ≡ position_of (map tool_name tools.now) name) }
 {
     let mut positions = IndexMap::new(alloc);
     for (position, tool) in tools.iter().enumerate() {
@@ -110,7 +115,8 @@ fn keep_position<'a>(
     position: usize,
 ) -> Result<bool, NoMemory>
     ensures stood { IfOk result (λ stood. stood ≡ is_some (position_in positions.old name.now)) }
-    ensures kept { OnOk result ((other : List ℕ) → position_in positions.new other ≡ kept (position_in positions.old other) (bytes_eq name.now other) position) }
+    ensures kept { OnOk result ((other : List ℕ) → position_in positions.new other
+        ≡ kept (position_in positions.old other) (bytes_eq name.now other) position) }
 {
     match positions.insert(name, position)? {
         None => Ok(false),

@@ -31,8 +31,10 @@ pub(crate) fn push_repeat<'a>(
     token: usize,
     into: &mut Items<Violation>,
 ) -> Result<(), NoMemory>
-    ensures noted { OnOk result (into.new ≡ into.old ++ noted_if (was_seen seen.old.names name.now) Rule.Twice token) }
-    ensures seen { OnOk result (was_seen seen.new.names ≡ or_seen name.now (was_seen seen.old.names)) }
+    ensures noted { OnOk result
+        (into.new ≡ into.old ++ noted_if (was_seen seen.old.names name.now) Rule.Twice token) }
+    ensures seen { OnOk result
+        (was_seen seen.new.names ≡ or_seen name.now (was_seen seen.old.names)) }
 {
     let before = seen.names.insert(name, ())?;
     note_if(before.is_some(), Rule::Twice, token, into)?;

@@ -35,7 +35,8 @@ pub(crate) fn fits_some_tool(names: &Names, scope: &Scope, expr: &Ast) -> bool
 }
 
 fn fitted_by_kind<'a>(scope: &Scope<'a>, kind: &'a AstKind) -> Fitted<'a>
-    ensures { (name : List ℕ) → (judged_kind (visible scope.now) kind.now).fits (sorts.Tool name) ≡ fitted_by result name }
+    ensures { (name : List ℕ) → (judged_kind (visible scope.now) kind.now).fits (sorts.Tool name)
+        ≡ fitted_by result name }
 {
     match kind {
         AstKind::Appl(name, parts) => fitted_by_application(scope, name, parts.as_slice()),
@@ -49,7 +50,9 @@ fn fitted_by_kind<'a>(scope: &Scope<'a>, kind: &'a AstKind) -> Fitted<'a>
 }
 
 fn fitted_by_variable<'a>(scope: &Scope<'a>, name: &Ident) -> Fitted<'a>
-    ensures { (tool : List ℕ) → variable_fits (sort_in (visible scope.now) name.now) (sorts.Tool tool) ≡ fitted_by result tool }
+    ensures { (tool : List ℕ)
+        → variable_fits (sort_in (visible scope.now) name.now) (sorts.Tool tool)
+        ≡ fitted_by result tool }
 {
     match sort_of(scope, name) {
         None => Fitted::Nothing,
@@ -71,7 +74,9 @@ fn fitted_by_sort(own: &Sort) -> Fitted<'_>
 }
 
 fn fitted_by_application<'a>(scope: &Scope, name: &'a Name, parts: &[Ast]) -> Fitted<'a>
-    ensures { (tool : List ℕ) → appl_fits name.now (map (judged (visible scope.now)) parts.now) (sorts.Tool tool) ≡ fitted_by result tool }
+    ensures { (tool : List ℕ)
+        → appl_fits name.now (map (judged (visible scope.now)) parts.now) (sorts.Tool tool)
+        ≡ fitted_by result tool }
 {
     if gives_any(applied(name, parts.len())) {
         return Fitted::Every;

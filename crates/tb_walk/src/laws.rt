@@ -5,5 +5,6 @@ ghost use Rattle.tb_walk.specs.declared.walk.Walk.{Walk};
 
 /// The row of a walk is empty exactly where its process has ended.
 pub fn rows_end_with_their_terms()
-    ensures { (code : Code) (walk : Walk) → IsOnCode code walk → (walk.row ≡ []) ↔ ((walking_of code walk).term ≡ None) }
+    ensures { (code : Code) (walk : Walk) → IsOnCode code walk
+        → (walk.row ≡ []) ↔ ((walking_of code walk).term ≡ None) }
 {}

@@ -37,7 +37,8 @@ pub(crate) fn look_row(
 ) -> Result<(), NoMemory>
     requires { AreThere (fresh code.now.body.tree) ticks row.now }
     ensures { OnOk result (map (sighted base.now) found.new
-        ≡ map (sighted base.now) found.old ++ row_sightings (fresh code.now.body.tree) code.now.body.atoms now ticks base.now 0 row.now) }
+        ≡ map (sighted base.now) found.old ++ row_sightings
+        (fresh code.now.body.tree) code.now.body.atoms now ticks base.now 0 row.now) }
 {
     for at in 0..row.len() {
         let Branch { position, entered } = row[at];
@@ -63,7 +64,8 @@ fn look_branch(
 ) -> Result<(), NoMemory>
     requires { at < size (fresh code.now.body.tree) }
     ensures { OnOk result (map (sighted base.now) found.new
-        ≡ map (sighted base.now) found.old ++ sightings (looking code.now.body.atoms clock.now) Ended at (part (fresh code.now.body.tree) at) base.now) }
+        ≡ map (sighted base.now) found.old ++ sightings (looking code.now.body.atoms clock.now)
+        Ended at (part (fresh code.now.body.tree) at) base.now) }
 {
     let list = code.list(at);
     if list.is_empty() {
@@ -83,7 +85,8 @@ fn look_list(
 ) -> Result<(), NoMemory>
     requires { All (λ entry. entry.position < size (fresh code.now.body.tree)) list.now }
     ensures { OnOk result (map (sighted base.now) found.new
-        ≡ map (sighted base.now) found.old ++ flat_map (entry_sightings (fresh code.now.body.tree) (looking code.now.body.atoms clock.now) base.now) list.now) }
+        ≡ map (sighted base.now) found.old ++ flat_map (entry_sightings (fresh code.now.body.tree)
+        (looking code.now.body.atoms clock.now) base.now) list.now) }
 {
     for entry in list {
         look_entry(alloc, code, entry, clock, base, found)?;
@@ -101,7 +104,8 @@ fn look_entry(
 ) -> Result<(), NoMemory>
     requires { entry.now.position < size (fresh code.now.body.tree) }
     ensures { OnOk result (map (sighted base.now) found.new
-        ≡ map (sighted base.now) found.old ++ entry_sightings (fresh code.now.body.tree) (looking code.now.body.atoms clock.now) base.now entry.now) }
+        ≡ map (sighted base.now) found.old ++ entry_sightings (fresh code.now.body.tree)
+        (looking code.now.body.atoms clock.now) base.now entry.now) }
 {
     match entry.what {
         What::Atom(atom) => look_ready(
@@ -148,7 +152,8 @@ fn look_ready(
     found: &mut Items<Sight>,
 ) -> Result<(), NoMemory>
     ensures { OnOk result (map (sighted _base.now) found.new
-        ≡ map (sighted _base.now) found.old ++ ready_sighting (looking _code.now.body.atoms clock.now) behind position atom _base.now ∷ []) }
+        ≡ map (sighted _base.now) found.old ++ ready_sighting
+        (looking _code.now.body.atoms clock.now) behind position atom _base.now ∷ []) }
 {
     found.push(Sight {
         branch: clock.branch,
@@ -176,7 +181,8 @@ fn look_timed(
     found: &mut Items<Sight>,
 ) -> Result<(), NoMemory>
     ensures { OnOk result (map (sighted base.now) found.new
-        ≡ map (sighted base.now) found.old ++ sighting_at (looking code.now.body.atoms clock.now) behind position atom base.now ∷ []) }
+        ≡ map (sighted base.now) found.old
+        ++ sighting_at (looking code.now.body.atoms clock.now) behind position atom base.now ∷ []) }
 {
     look_atom(
         alloc, code, position, behind, atom, clock, base, &None, found,
@@ -197,7 +203,8 @@ fn look_gate(
 ) -> Result<(), NoMemory>
     requires { at < size (fresh code.now.body.tree) }
     ensures { OnOk result (map (sighted base.now) found.new
-        ≡ map (sighted base.now) found.old ++ sightings (looking code.now.body.atoms clock.now) behind at (part (fresh code.now.body.tree) at) base.now) }
+        ≡ map (sighted base.now) found.old ++ sightings (looking code.now.body.atoms clock.now)
+        behind at (part (fresh code.now.body.tree) at) base.now) }
 {
     look_at(alloc, code, at, behind, clock, base, &None, found)
 }
@@ -218,7 +225,8 @@ fn look_at(
     requires { at < size (fresh code.now.body.tree) }
     ensures { OnOk result (map (sighted base.now) found.new
         ≡ map (sighted base.now) found.old
-        ++ sightings (looking code.now.body.atoms clock.now) so_far at (part (fresh code.now.body.tree) at) (or_own own.now base.now)) }
+        ++ sightings (looking code.now.body.atoms clock.now) so_far at
+        (part (fresh code.now.body.tree) at) (or_own own.now base.now)) }
 {
     let first = code.first(at);
     match &code.node(at).op {
@@ -268,7 +276,8 @@ fn look_side(
     requires { IsTwo (fresh code.now.body.tree) (If test.now) at right }
     ensures { OnOk result (map (sighted base.now) found.new
         ≡ map (sighted base.now) found.old
-        ++ sightings (looking code.now.body.atoms clock.now) so_far at (part (fresh code.now.body.tree) at) (or_own own.now base.now)) }
+        ++ sightings (looking code.now.body.atoms clock.now) so_far at
+        (part (fresh code.now.body.tree) at) (or_own own.now base.now)) }
 {
     match says(alloc, store_of(base, own), test)? {
         Some(true) => look_at(alloc, code, code.first(at), so_far, clock, base, own, found),
@@ -294,7 +303,8 @@ fn look_if_true(
     requires { IsOne (fresh code.now.body.tree) (When test.now) at }
     ensures { OnOk result (map (sighted base.now) found.new
         ≡ map (sighted base.now) found.old
-        ++ sightings (looking code.now.body.atoms clock.now) so_far at (part (fresh code.now.body.tree) at) (or_own own.now base.now)) }
+        ++ sightings (looking code.now.body.atoms clock.now) so_far at
+        (part (fresh code.now.body.tree) at) (or_own own.now base.now)) }
 {
     match says(alloc, store_of(base, own), test)? {
         Some(true) => look_at(alloc, code, code.first(at), so_far, clock, base, own, found),
@@ -320,7 +330,8 @@ fn look_with(
     requires { IsOne (fresh code.now.body.tree) (Let settings.now) at }
     ensures { OnOk result (map (sighted base.now) found.new
         ≡ map (sighted base.now) found.old
-        ++ sightings (looking code.now.body.atoms clock.now) so_far at (part (fresh code.now.body.tree) at) (or_own own.now base.now)) }
+        ++ sightings (looking code.now.body.atoms clock.now) so_far at
+        (part (fresh code.now.body.tree) at) (or_own own.now base.now)) }
 {
     match with_settings(alloc, store_of(base, own), settings)? {
         Some(store) => {
@@ -359,7 +370,8 @@ fn look_atom(
           seen = record {
             atom = atom;
             age = clock.now.ticks - clock.now.entered;
-            ready = is_ready (or_own own.now base.now) (clock.now.ticks - clock.now.entered) clock.now.bus (times_of code.now.body.atoms atom);
+            ready = is_ready (or_own own.now base.now) (clock.now.ticks - clock.now.entered)
+                clock.now.bus (times_of code.now.body.atoms atom);
             store = or_own own.now base.now;
           };
         } ∷ []) }
@@ -387,7 +399,8 @@ fn is_atom_ready(
     age: u64,
     now: u64,
 ) -> Result<bool, NoMemory>
-    ensures { IfOk result (λ ready. ready ≡ is_ready store.now age now (times_of code.now.body.atoms atom)) }
+    ensures { IfOk result
+        (λ ready. ready ≡ is_ready store.now age now (times_of code.now.body.atoms atom)) }
 {
     match code.atom(atom) {
         Some(atom) => {

@@ -46,7 +46,9 @@ fn leaf(expr: &Expr, store: &Store) -> Option<i64>
 }
 
 fn call(func: Func, first: &Expr, second: &Expr, store: &Store) -> Option<i64>
-    ensures { IfSome result (λ number. option_and_then (apply_of func) (all_of (map (value_of store.now) (first.now ∷ second.now ∷ []))) ≡ Some (term.Int number)) }
+    ensures { IfSome result (λ number. option_and_then (apply_of func)
+        (all_of (map (value_of store.now) (first.now ∷ second.now ∷ [])))
+        ≡ Some (term.Int number)) }
 {
     let x = leaf(first, store)?;
     let y = leaf(second, store)?;
@@ -65,7 +67,8 @@ fn numbered(func: Func, x: i64, y: i64) -> Option<i64>
 
 /// What a test says that compares numbers, where they are found without a term. None says nothing.
 pub(crate) fn comparison(test: &Expr, store: &Store) -> Option<bool>
-    ensures { IfSome result (λ says. option_and_then bool_of (value_of store.now test.now) ≡ Some says) }
+    ensures { IfSome result
+        (λ says. option_and_then bool_of (value_of store.now test.now) ≡ Some says) }
 {
     match test {
         Expr::Call(func, parts) => match parts.as_slice() {
@@ -77,7 +80,8 @@ pub(crate) fn comparison(test: &Expr, store: &Store) -> Option<bool>
 }
 
 fn compared(func: Func, first: &Expr, second: &Expr, store: &Store) -> Option<bool>
-    ensures { IfSome result (λ says. option_and_then bool_of (option_and_then (apply_of func) (all_of (map (value_of store.now) (first.now ∷ second.now ∷ [])))) ≡ Some says) }
+    ensures { IfSome result (λ says. option_and_then bool_of (option_and_then (apply_of func)
+        (all_of (map (value_of store.now) (first.now ∷ second.now ∷ [])))) ≡ Some says) }
 {
     let x = number(first, store)?;
     let y = number(second, store)?;

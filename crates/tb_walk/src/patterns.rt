@@ -22,7 +22,8 @@ pub(crate) fn patterns_by(
     atom: Option<&Atom>,
     room: Option<Patterns>,
 ) -> Result<Option<Patterns>, NoMemory>
-    ensures { IfOk result (λ patterns. patterns ≡ patterns_of store.now (matched_exprs (act_in (option_copied atom.entry)))) }
+    ensures { IfOk result (λ patterns. patterns
+        ≡ patterns_of store.now (matched_exprs (act_in (option_copied atom.entry)))) }
 {
     match atom {
         Some(one) => match &one.act {
@@ -59,7 +60,9 @@ fn push_pattern(
     expr: &Expr,
     patterns: &mut Patterns,
 ) -> Result<bool, NoMemory>
-    ensures { IfOk result (λ is_there. option_map (λ one. patterns.old ++ one ∷ []) (pattern_of store.now expr.now) ≡ (if is_there then Some patterns.new else None)) }
+    ensures { IfOk result
+        (λ is_there. option_map (λ one. patterns.old ++ one ∷ []) (pattern_of store.now expr.now)
+        ≡ (if is_there then Some patterns.new else None)) }
 {
     match expr {
         Expr::Int(number) => {
@@ -91,7 +94,9 @@ fn push_result(
     slot: u32,
     patterns: &mut Patterns,
 ) -> Result<bool, NoMemory>
-    ensures { IfOk result (λ is_there. option_map (λ one. patterns.old ++ one ∷ []) (option_map (pattern.Result slot) (sort_at store.now slot)) ≡ (if is_there then Some patterns.new else None)) }
+    ensures { IfOk result (λ is_there. option_map (λ one. patterns.old ++ one ∷ [])
+        (option_map (pattern.Result slot) (sort_at store.now slot))
+        ≡ (if is_there then Some patterns.new else None)) }
 {
     match store.get_sort(slot) {
         Some(sort) => {
@@ -141,7 +146,9 @@ fn push_other(
     expr: &Expr,
     patterns: &mut Patterns,
 ) -> Result<bool, NoMemory>
-    ensures { IfOk result (λ is_there. option_map (λ one. patterns.old ++ one ∷ []) (pattern_of store.now expr.now) ≡ (if is_there then Some patterns.new else None)) }
+    ensures { IfOk result
+        (λ is_there. option_map (λ one. patterns.old ++ one ∷ []) (pattern_of store.now expr.now)
+        ≡ (if is_there then Some patterns.new else None)) }
 {
     match pattern(alloc, expr, store)? {
         Some(one) => {

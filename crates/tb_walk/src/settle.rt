@@ -24,7 +24,8 @@ pub enum Step {
 /// What becomes of a row where the branch at the index has ended.
 pub(crate) fn left_by(code: &Code, row: &[Branch], ticks: u64, at: usize) -> Step
     requires within { at < length row.now }
-    requires there { (branch : Branch) → slice_get row.now at ≡ Some branch → branch.position < size (fresh code.now.body.tree) }
+    requires there { (branch : Branch) → slice_get row.now at ≡ Some branch
+        → branch.position < size (fresh code.now.body.tree) }
     ensures { IsSettled (fresh code.now.body.tree) ticks row.now at [] result }
 {
     match behind(code, row, ticks, at) {
@@ -36,7 +37,8 @@ pub(crate) fn left_by(code: &Code, row: &[Branch], ticks: u64, at: usize) -> Ste
 /// What is entered where the branch at the index has ended.
 fn behind(code: &Code, row: &[Branch], ticks: u64, at: usize) -> Option<Branch>
     requires within { at < length row.now }
-    requires there { (branch : Branch) → slice_get row.now at ≡ Some branch → branch.position < size (fresh code.now.body.tree) }
+    requires there { (branch : Branch) → slice_get row.now at ≡ Some branch
+        → branch.position < size (fresh code.now.body.tree) }
     ensures { IsBehind (fresh code.now.body.tree) ticks row.now at (option_to_list result) }
 {
     let branch = row[at];
@@ -71,7 +73,8 @@ fn entered(
     ticks: u64,
 ) -> Option<Branch>
     requires { frame < size (fresh code.now.body.tree) }
-    ensures { option_to_list result ≡ entered_behind (fresh code.now.body.tree) ticks (Some frame) before.now after.now }
+    ensures { option_to_list result
+        ≡ entered_behind (fresh code.now.body.tree) ticks (Some frame) before.now after.now }
 {
     let first = first_part(code, frame);
     if any_inside(before, frame, first.bound) || any_inside(after, frame, first.bound) {

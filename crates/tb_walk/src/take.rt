@@ -20,8 +20,9 @@ pub(crate) fn step_by(
     sight: &Sight,
 ) -> Result<Step, NoMemory>
     requires { IsInRow (fresh code.now.body.tree) row.now sight.now }
-    ensures { (branch : Branch) → slice_get row.now sight.now.branch ≡ Some branch →
-        IfOk result (IsSettled (fresh code.now.body.tree) ticks row.now sight.now.branch (branch_by (fresh code.now.body.tree) ticks branch sight.now.position)) }
+    ensures { (branch : Branch) → slice_get row.now sight.now.branch ≡ Some branch
+        → IfOk result (IsSettled (fresh code.now.body.tree) ticks row.now sight.now.branch
+        (branch_by (fresh code.now.body.tree) ticks branch sight.now.position)) }
 {
     match sight.behind {
         Behind::Ended => Ok(left_by(code, row, ticks, sight.branch)),
@@ -54,9 +55,11 @@ fn parted(
     atom: usize,
 ) -> Result<Step, NoMemory>
     requires within { at < length row.now }
-    requires there { (branch : Branch) → slice_get row.now at ≡ Some branch → branch.position < size (fresh code.now.body.tree) }
-    ensures { (branch : Branch) → slice_get row.now at ≡ Some branch →
-        IfOk result (IsSettled (fresh code.now.body.tree) ticks row.now at (branch_by (fresh code.now.body.tree) ticks branch atom)) }
+    requires there { (branch : Branch) → slice_get row.now at ≡ Some branch
+        → branch.position < size (fresh code.now.body.tree) }
+    ensures { (branch : Branch) → slice_get row.now at ≡ Some branch
+        → IfOk result (IsSettled (fresh code.now.body.tree) ticks row.now at
+        (branch_by (fresh code.now.body.tree) ticks branch atom)) }
 {
     let Branch { position, entered } = row[at];
     let since = Since { entered, ticks };
@@ -80,7 +83,8 @@ struct Since {
 #[cycle(part_at)]
 fn part_at(code: &Code, at: usize, atom: usize, since: Since, row: &mut Row) -> Result<(), NoMemory>
     requires { at < size (fresh code.now.body.tree) }
-    ensures { OnOk result (row.new ≡ row.old ++ row_by since.ticks since.entered at (part (fresh code.now.body.tree) at) atom) }
+    ensures { OnOk result (row.new ≡ row.old
+        ++ row_by since.ticks since.entered at (part (fresh code.now.body.tree) at) atom) }
 {
     let first = code.first(at);
     match &code.node(at).op {
@@ -112,8 +116,8 @@ fn part_first(
     row: &mut Row,
 ) -> Result<(), NoMemory>
     requires { first < size (fresh code.now.body.tree) }
-    ensures { OnOk result (row.new ≡ row.old
-        ++ or_entered (row_by since.ticks since.entered first (part (fresh code.now.body.tree) first) atom) (branch next since.ticks ∷ [])) }
+    ensures { OnOk result (row.new ≡ row.old ++ or_entered (row_by since.ticks since.entered first
+        (part (fresh code.now.body.tree) first) atom) (branch next since.ticks ∷ [])) }
 {
     let before = row.len();
     part_at(code, first, atom, since, row)?;
@@ -137,7 +141,8 @@ fn part_merge(
     row: &mut Row,
 ) -> Result<(), NoMemory>
     requires { IsTwo (fresh code.now.body.tree) Par at right }
-    ensures { OnOk result (row.new ≡ row.old ++ row_by since.ticks since.entered at (part (fresh code.now.body.tree) at) atom) }
+    ensures { OnOk result (row.new ≡ row.old
+        ++ row_by since.ticks since.entered at (part (fresh code.now.body.tree) at) atom) }
 {
     let first = code.first(at);
     if atom < right {

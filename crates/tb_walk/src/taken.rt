@@ -35,7 +35,8 @@ pub struct Outcome {
 pub(crate) fn settle(code: &Code, walk: &mut Walk, taken: Taken)
     requires on { IsOnCode code.now walk.old }
     requires taken { (offered : Offered) × IsLeft code.now walk.old taken offered }
-    ensures gone { (offered : Offered) → IsLeft code.now walk.old taken offered → IsGone code.now walk.old walk.new offered }
+    ensures gone { (offered : Offered) → IsLeft code.now walk.old taken offered
+        → IsGone code.now walk.old walk.new offered }
     ensures ticks { walk.new.ticks ≡ walk.old.ticks }
 {
     match taken {
@@ -58,7 +59,8 @@ pub(crate) fn settle(code: &Code, walk: &mut Walk, taken: Taken)
 /// The branch at the index has ended.
 fn end_at(code: &Code, row: &mut Row, ticks: u64, at: usize)
     requires within { at < length row.old }
-    requires there { (branch : Branch) → slice_get row.old at ≡ Some branch → branch.position < size (fresh code.now.body.tree) }
+    requires there { (branch : Branch) → slice_get row.old at ≡ Some branch
+        → branch.position < size (fresh code.now.body.tree) }
     ensures { SettlesTo (fresh code.now.body.tree) ticks row.old at [] row.new }
 {
     let step = left_by(code, row.as_slice(), ticks, at);
@@ -83,7 +85,8 @@ fn enter_at(row: &mut Row, at: usize, position: usize, ticks: u64)
 fn set_found(store: &mut Store, found: &mut Items<Sight>, k: usize) -> usize
     requires { k < length found.old }
     ensures branch { (one : Sight) → slice_get found.old k ≡ Some one → result ≡ one.branch }
-    ensures store { (one : Sight) → slice_get found.old k ≡ Some one → store.new ≡ or_own one.own store.old }
+    ensures store { (one : Sight) → slice_get found.old k ≡ Some one
+        → store.new ≡ or_own one.own store.old }
 {
     let one = &found.as_slice()[k];
     let branch = one.branch;
@@ -96,7 +99,8 @@ fn set_found(store: &mut Store, found: &mut Items<Sight>, k: usize) -> usize
 #[inline(never)]
 fn take_own(store: &mut Store, found: &mut Items<Sight>, k: usize)
     requires { k < length found.old }
-    ensures { (one : Sight) → slice_get found.old k ≡ Some one → store.new ≡ or_own one.own store.old }
+    ensures { (one : Sight) → slice_get found.old k ≡ Some one
+        → store.new ≡ or_own one.own store.old }
 {
     let one = found.remove(k);
     set_own(store, one.own);

@@ -27,7 +27,8 @@ pub(crate) fn take_seen(
     requires on { IsOnCode code.now walk.now }
     requires seen { walk.now.fresh ≡ true }
     requires within { k < length (offers_of (walking_of code.now walk.now)) }
-    ensures { IfOk result (λ taken. ForSome (slice_get (offers_of (walking_of code.now walk.now)) k) (IsLeft code.now walk.now taken)) }
+    ensures { IfOk result (λ taken. ForSome (slice_get (offers_of (walking_of code.now walk.now)) k)
+        (IsLeft code.now walk.now taken)) }
 {
     let row = walk.row.as_slice();
     let sight = sight_at(walk.found.as_slice(), k);
@@ -48,7 +49,8 @@ pub(crate) fn take_unseen(
 ) -> Result<Taken, NoMemory>
     requires on { IsOnCode code.now walk.now }
     requires within { k < length (offers_of (walking_of code.now walk.now)) }
-    ensures { IfOk result (λ taken. ForSome (slice_get (offers_of (walking_of code.now walk.now)) k) (IsLeft code.now walk.now taken)) }
+    ensures { IfOk result (λ taken. ForSome (slice_get (offers_of (walking_of code.now walk.now)) k)
+        (IsLeft code.now walk.now taken)) }
 {
     let row = walk.row.as_slice();
     let mut found = Items::new(alloc);

@@ -32,7 +32,8 @@ pub(crate) fn sent_terms(
     atom: Option<&Atom>,
     room: Option<Terms>,
 ) -> Result<Option<Terms>, NoMemory>
-    ensures { IfOk result (λ terms. terms ≡ values_together store.now (sent_exprs (act_in (option_copied atom.entry)))) }
+    ensures { IfOk result (λ terms. terms
+        ≡ values_together store.now (sent_exprs (act_in (option_copied atom.entry)))) }
 {
     match atom {
         Some(one) => match &one.act {
@@ -83,7 +84,9 @@ fn push_value(
     expr: &Expr,
     terms: &mut Terms,
 ) -> Result<bool, NoMemory>
-    ensures { IfOk result (λ is_there. option_map (λ value. terms.old ++ value ∷ []) (value_of store.now expr.now) ≡ (if is_there then Some terms.new else None)) }
+    ensures { IfOk result
+        (λ is_there. option_map (λ value. terms.old ++ value ∷ []) (value_of store.now expr.now)
+        ≡ (if is_there then Some terms.new else None)) }
 {
     match number(expr, store) {
         Some(number) => {
@@ -101,7 +104,9 @@ fn push_other(
     expr: &Expr,
     terms: &mut Terms,
 ) -> Result<bool, NoMemory>
-    ensures { IfOk result (λ is_there. option_map (λ value. terms.old ++ value ∷ []) (value_of store.now expr.now) ≡ (if is_there then Some terms.new else None)) }
+    ensures { IfOk result
+        (λ is_there. option_map (λ value. terms.old ++ value ∷ []) (value_of store.now expr.now)
+        ≡ (if is_there then Some terms.new else None)) }
 {
     match eval(alloc, expr, store)? {
         Some(value) => {

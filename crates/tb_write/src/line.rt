@@ -14,8 +14,8 @@ use tb_terms::Ident;
 pub fn put_line<E: Sink>(prefix: &[u8], line: &Line, err: &mut E) -> Result<(), Failed>
     ensures ok { OnOk result
         (Writes (E.taken err.old) (E.taken err.new) (prefix.now ++ line_text line.now ++ 10 ∷ [])) }
-    ensures prefix { OnErr result
-        (WritesPrefix (E.taken err.old) (E.taken err.new) (prefix.now ++ line_text line.now ++ 10 ∷ [])) }
+    ensures prefix { OnErr result (WritesPrefix (E.taken err.old) (E.taken err.new)
+        (prefix.now ++ line_text line.now ++ 10 ∷ [])) }
     ensures rose { OnErr result (Rose (E.faults err.old) (E.faults err.new)) }
     ensures calm { OnOk result (E.faults err.new ≡ E.faults err.old) }
     ensures never_falls { E.faults err.old ≤ E.faults err.new }
@@ -74,7 +74,8 @@ fn put_rest<E: Sink>(rest: &Rest, err: &mut E) -> Result<(), Failed>
 
 fn put_number<E: Sink>(number: usize, err: &mut E) -> Result<(), Failed>
     ensures ok { OnOk result (Writes (E.taken err.old) (E.taken err.new) (decimal number)) }
-    ensures prefix { OnErr result (WritesPrefix (E.taken err.old) (E.taken err.new) (decimal number)) }
+    ensures prefix { OnErr result
+        (WritesPrefix (E.taken err.old) (E.taken err.new) (decimal number)) }
     ensures rose { OnErr result (Rose (E.faults err.old) (E.faults err.new)) }
     ensures calm { OnOk result (E.faults err.new ≡ E.faults err.old) }
     ensures never_falls { E.faults err.old ≤ E.faults err.new }
@@ -106,8 +107,8 @@ fn put_names<E: Sink>(names: &[Ident], err: &mut E) -> Result<(), Failed>
 fn put_more_names<E: Sink>(names: &[Ident], err: &mut E) -> Result<(), Failed>
     ensures ok { OnOk result
         (Writes (E.taken err.old) (E.taken err.new) (flat_map (λ name. 44 ∷ name) names.now)) }
-    ensures prefix { OnErr result
-        (WritesPrefix (E.taken err.old) (E.taken err.new) (flat_map (λ name. 44 ∷ name) names.now)) }
+    ensures prefix { OnErr result (WritesPrefix (E.taken err.old) (E.taken err.new)
+        (flat_map (λ name. 44 ∷ name) names.now)) }
     ensures rose { OnErr result (Rose (E.faults err.old) (E.faults err.new)) }
     ensures calm { OnOk result (E.faults err.new ≡ E.faults err.old) }
     ensures never_falls { E.faults err.old ≤ E.faults err.new }

@@ -83,7 +83,8 @@ impl LogWriter {
     pub fn flush<O: Sink>(&mut self, out: &mut O) -> Result<(), LogFault>
         ensures ok { OnOk result (Writes (O.taken out.old) (O.taken out.new) self.old.held) }
         ensures emptied { OnOk result (self.new ≡ record self.old { held = [] }) }
-        ensures prefix { OnErr result (WritesPrefix (O.taken out.old) (O.taken out.new) self.old.held) }
+        ensures prefix { OnErr result
+            (WritesPrefix (O.taken out.old) (O.taken out.new) self.old.held) }
         ensures rose { OnErr result (Rose (O.faults out.old) (O.faults out.new)) }
         ensures calm { OnOk result (O.faults out.new ≡ O.faults out.old) }
         ensures out_alone { IsOkUnless result LogFault.Out }
@@ -124,9 +125,10 @@ impl LogWriter {
         out: &mut O,
     ) -> Result<(), LogFault>
         requires { from ≤ length log.now.entries }
-        ensures ok { OnOk result (Owes (O.taken out.old) (O.taken out.new)
-            (self.old.held ++ log_text_from (self.old.written + 1) (drop from log.now.entries)) self.new.held) }
-        ensures counted { OnOk result (self.new.written + from ≡ self.old.written + length log.now.entries) }
+        ensures ok { OnOk result (Owes (O.taken out.old) (O.taken out.new) (self.old.held
+            ++ log_text_from (self.old.written + 1) (drop from log.now.entries)) self.new.held) }
+        ensures counted { OnOk result
+            (self.new.written + from ≡ self.old.written + length log.now.entries) }
         ensures small { length self.old.held < PIECE_BYTES
             → OnOk result (length self.new.held < PIECE_BYTES) }
         ensures prefix { OnErr result (WritesPrefix (O.taken out.old) (O.taken out.new)
@@ -154,7 +156,8 @@ impl LogWriter {
         requires { from ≤ length log.now.entries }
         ensures ok { OnOk result (Writes (O.taken out.old) (O.taken out.new)
             (self.old.held ++ log_text_from (self.old.written + 1) (drop from log.now.entries))) }
-        ensures counted { OnOk result (self.new.written + from ≡ self.old.written + length log.now.entries) }
+        ensures counted { OnOk result
+            (self.new.written + from ≡ self.old.written + length log.now.entries) }
         ensures emptied { OnOk result (self.new.held ≡ []) }
         ensures prefix { OnErr result (WritesPrefix (O.taken out.old) (O.taken out.new)
             (self.old.held ++ log_text_from (self.old.written + 1) (drop from log.now.entries))) }
@@ -169,8 +172,8 @@ impl LogWriter {
     }
 
     fn put_entry<O: Sink>(&mut self, seen: &Seen, out: &mut O) -> Result<(), LogFault>
-        ensures ok { OnOk result (Owes (O.taken out.old) (O.taken out.new)
-            (self.old.held ++ entry_text (self.old.written + 1) (entry_seen seen.now)) self.new.held) }
+        ensures ok { OnOk result (Owes (O.taken out.old) (O.taken out.new) (self.old.held
+            ++ entry_text (self.old.written + 1) (entry_seen seen.now)) self.new.held) }
         ensures counted { OnOk result (self.new.written ≡ self.old.written + 1) }
         ensures small { OnOk result (length self.new.held < PIECE_BYTES) }
         ensures prefix { OnErr result (WritesPrefix (O.taken out.old) (O.taken out.new)
@@ -206,10 +209,12 @@ impl LogWriter {
 
     /// Hands the buffer over where it is full.
     fn flush_full<O: Sink>(&mut self, out: &mut O) -> Result<(), LogFault>
-        ensures ok { OnOk result (Owes (O.taken out.old) (O.taken out.new) self.old.held self.new.held) }
+        ensures ok { OnOk result
+            (Owes (O.taken out.old) (O.taken out.new) self.old.held self.new.held) }
         ensures counted { OnOk result (self.new.written ≡ self.old.written) }
         ensures small { OnOk result (length self.new.held < PIECE_BYTES) }
-        ensures prefix { OnErr result (WritesPrefix (O.taken out.old) (O.taken out.new) self.old.held) }
+        ensures prefix { OnErr result
+            (WritesPrefix (O.taken out.old) (O.taken out.new) self.old.held) }
         ensures rose { OnErr result (Rose (O.faults out.old) (O.faults out.new)) }
         ensures calm { OnOk result (O.faults out.new ≡ O.faults out.old) }
         ensures never_falls { O.faults out.old ≤ O.faults out.new }
@@ -223,8 +228,10 @@ impl LogWriter {
 
 /// Puts the text of a log.
 pub fn put_log<O: Sink>(alloc: Global, log: &Log, out: &mut O) -> Result<(), LogFault>
-    ensures ok { OnOk result (Writes (O.taken out.old) (O.taken out.new) (log_text log.now.entries)) }
-    ensures prefix { OnErr result (WritesPrefix (O.taken out.old) (O.taken out.new) (log_text log.now.entries)) }
+    ensures ok { OnOk result
+        (Writes (O.taken out.old) (O.taken out.new) (log_text log.now.entries)) }
+    ensures prefix { OnErr result
+        (WritesPrefix (O.taken out.old) (O.taken out.new) (log_text log.now.entries)) }
     ensures rose { IsErrOf result LogFault.Out → Rose (O.faults out.old) (O.faults out.new) }
     ensures calm { OnOk result (O.faults out.new ≡ O.faults out.old) }
     ensures never_falls { O.faults out.old ≤ O.faults out.new }
