@@ -1,4 +1,5 @@
 pub mod Candidates
 pub mod Views
+pub mod Searches
 pub mod FoundEffects
 pub mod Indexed

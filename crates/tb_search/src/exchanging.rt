@@ -7,7 +7,8 @@ ghost use Rattle.tb_log.specs.Shapes.{IsLane};
 ghost use Rattle.tb_tools.specs.Lanes.{tool_at, tool_term};
 ghost use Rattle.tb_tools.specs.Acts.{can_leave, can_eval, is_taken_at, is_live_at};
 ghost use Rattle.tb_bus.specs.Slots.{fits_slot};
-ghost use Rattle.tb_bus.specs.Exchanges.{setting_by, plain_on, bound_on, starting, taking_tool, first_of_kind, lane_of, value_on, event_on, received_on, behind, exchange_for};
+ghost use Rattle.tb_search.specs.Searches.{setting_spoken};
+ghost use Rattle.tb_bus.specs.Exchanges.{plain_on, bound_on, starting, taking_tool, first_of_kind, lane_of, value_on, event_on, received_on, behind, exchange_for};
 
 use crate::slots::fits_slot;
 use sqlite_items::at;
@@ -32,8 +33,7 @@ pub(crate) fn exchange_for(
     speaker: &Speaker,
     action: &ToolAction,
 ) -> Result<Option<Exchange>, NoMemory>
-    ensures { IfOk result (λ found. found ≡ exchange_for (setting_by speaker.now.program.now.bodies
-        speaker.now.program.now.tools speaker.now.bench.now speaker.now.body) action.now) }
+    ensures { IfOk result (λ found. found ≡ exchange_for (setting_spoken speaker.now) action.now) }
 {
     let bench = speaker.bench;
     match action {
@@ -253,8 +253,7 @@ fn execute(
     slot: u32,
 ) -> Result<Option<Exchange>, NoMemory>
     ensures { IfOk result (λ found. found
-        ≡ exchange_for (setting_by speaker.now.program.now.bodies speaker.now.program.now.tools
-        speaker.now.bench.now speaker.now.body) (ToolAction.Execute tool slot)) }
+        ≡ exchange_for (setting_spoken speaker.now) (ToolAction.Execute tool slot)) }
 {
     match at(speaker.program.tools.as_slice(), tool as usize) {
         Some(kind) => match kind.command {
@@ -272,8 +271,7 @@ fn starting(
     name: &Name,
     slot: u32,
 ) -> Result<Option<Exchange>, NoMemory>
-    ensures { IfOk result (λ found. found ≡ starting (setting_by speaker.now.program.now.bodies
-        speaker.now.program.now.tools speaker.now.bench.now speaker.now.body) slot name.now) }
+    ensures { IfOk result (λ found. found ≡ starting (setting_spoken speaker.now) slot name.now) }
 {
     match speaker.bench.free_lane() {
         Some(lane) => {
@@ -305,8 +303,7 @@ fn first_of_kind(
     tool: u32,
     slot: u32,
 ) -> Result<Option<Exchange>, NoMemory>
-    ensures { IfOk result (λ found. found ≡ first_of_kind (setting_by speaker.now.program.now.bodies
-        speaker.now.program.now.tools speaker.now.bench.now speaker.now.body) stage tool slot) }
+    ensures { IfOk result (λ found. found ≡ first_of_kind (setting_spoken speaker.now) stage tool slot) }
 {
     match at(speaker.program.tools.as_slice(), tool as usize) {
         Some(kind) => match speaker.bench.first_at(&kind.name, stage) {
@@ -326,8 +323,7 @@ fn taking_tool(
 ) -> Result<Option<Exchange>, NoMemory>
     requires lane { IsLane lane }
     requires tool { IsSome (tool_at lane speaker.now.bench.now) }
-    ensures { IfOk result (λ found. found ≡ taking_tool (setting_by speaker.now.program.now.bodies
-        speaker.now.program.now.tools speaker.now.bench.now speaker.now.body) slot lane) }
+    ensures { IfOk result (λ found. found ≡ taking_tool (setting_spoken speaker.now) slot lane) }
 {
     let tool = speaker.bench.tool(lane);
     if takes(speaker, slot, tool) {

@@ -4,6 +4,7 @@ ghost use Rattle.tb_bus.specs.Steps.{moves, first};
 ghost use Rattle.tb_search.specs.Views.{IsSearchedFor, IsCandidateIn, move_of};
 ghost use Rattle.tb_search.specs.Indexed.{IsIndexFor, IsNextOf};
 ghost use Rattle.tb_bus.specs.Exchanges.{setting_by};
+ghost use Rattle.tb_search.specs.Searches.{scene_searched, setting_searched};
 ghost use Rattle.tb_search.specs.Candidates.{finding_of, plain_if, candidates_by, candidates_of, candidates_from, candidates_in_turn, all_candidates, candidates_or_halt, up_to, ascend, row_of, rows_of, scene_of};
 
 use crate::apart::Apart;
@@ -49,9 +50,7 @@ fn finding_of<W>(
     own: &OwnAction,
 ) -> Result<Option<Finding>, NoMemory>
     ensures { IfOk result (λ found. found
-        ≡ finding_of (scene_of searched.now.program.now.bodies searched.now.program.now.tools
-        searched.now.bench.now (rows_of searched.now.all.now) searched.now.marks)
-        (row_of living.now) own.now) }
+        ≡ finding_of (scene_searched searched.now) (row_of living.now) own.now) }
 {
     match own {
         OwnAction::Tau
@@ -94,13 +93,10 @@ fn first_by<W>(
     room: &mut Binds,
 ) -> Result<Option<Candidate>, NoMemory>
     requires ascend { IsTrue (ascend 0 (rows_of searched.now.all.now)) }
-    requires index { IsIndexFor (setting_by searched.now.program.now.bodies
-        searched.now.program.now.tools searched.now.bench.now)
+    requires index { IsIndexFor (setting_searched searched.now)
         searched.now.index.now (rows_of searched.now.all.now) }
     ensures { IfOk result (λ found. found ≡ first
-        (candidates_by (scene_of searched.now.program.now.bodies searched.now.program.now.tools
-        searched.now.bench.now (rows_of searched.now.all.now) searched.now.marks)
-        at (row_of living.now) index action.now)) }
+        (candidates_by (scene_searched searched.now) at (row_of living.now) index action.now)) }
 {
     match action {
         Action::Own(OwnAction::Tau) => Ok(Some(Candidate::Own(at, index, Finding::Plain))),
@@ -134,13 +130,10 @@ fn first_of<W>(
     room: &mut Binds,
 ) -> Result<Option<Candidate>, NoMemory>
     requires ascend { IsTrue (ascend 0 (rows_of searched.now.all.now)) }
-    requires index { IsIndexFor (setting_by searched.now.program.now.bodies
-        searched.now.program.now.tools searched.now.bench.now)
+    requires index { IsIndexFor (setting_searched searched.now)
         searched.now.index.now (rows_of searched.now.all.now) }
     ensures { IfOk result (λ found. found
-        ≡ first (candidates_of (scene_of searched.now.program.now.bodies
-        searched.now.program.now.tools searched.now.bench.now
-        (rows_of searched.now.all.now) searched.now.marks) at (row_of living.now))) }
+        ≡ first (candidates_of (scene_searched searched.now) at (row_of living.now))) }
 {
     for (index, ready) in living.ready.as_slice().iter().enumerate() {
         match first_by(alloc, searched, at, living, index, &ready.action, room)? {
@@ -154,14 +147,12 @@ fn first_of<W>(
 /// The place of the next process, from one place on and before another, that may begin anything.
 fn next_starter<W>(searched: &Searched<W>, from: usize, end: usize) -> Option<usize>
     requires ascend { IsTrue (ascend 0 (rows_of searched.now.all.now)) }
-    requires index { IsIndexFor (setting_by searched.now.program.now.bodies
-        searched.now.program.now.tools searched.now.bench.now)
+    requires index { IsIndexFor (setting_searched searched.now)
         searched.now.index.now (rows_of searched.now.all.now) }
     requires some { from < end }
     requires within { end ≤ length searched.now.all.now }
     ensures { IsNextOf
-        (candidates_of (scene_of searched.now.program.now.bodies searched.now.program.now.tools
-        searched.now.bench.now (rows_of searched.now.all.now) searched.now.marks))
+        (candidates_of (scene_searched searched.now))
         (take end (rows_of searched.now.all.now)) from result }
 {
     let asked = &searched.all[..end];
@@ -179,13 +170,11 @@ fn first_between<W>(
     room: &mut Binds,
 ) -> Result<Option<Candidate>, NoMemory>
     requires ascend { IsTrue (ascend 0 (rows_of searched.now.all.now)) }
-    requires index { IsIndexFor (setting_by searched.now.program.now.bodies
-        searched.now.program.now.tools searched.now.bench.now)
+    requires index { IsIndexFor (setting_searched searched.now)
         searched.now.index.now (rows_of searched.now.all.now) }
     requires within { end ≤ length searched.now.all.now }
     ensures { IfOk result (λ found. found ≡ first
-        (candidates_from (scene_of searched.now.program.now.bodies searched.now.program.now.tools
-        searched.now.bench.now (rows_of searched.now.all.now) searched.now.marks)
+        (candidates_from (scene_searched searched.now)
         start (drop start (take end (rows_of searched.now.all.now))))) }
 {
     let mut at = start;
@@ -217,13 +206,11 @@ fn first_if_any<W>(
     room: &mut Binds,
 ) -> Result<Option<Candidate>, NoMemory>
     requires ascend { IsTrue (ascend 0 (rows_of searched.now.all.now)) }
-    requires index { IsIndexFor (setting_by searched.now.program.now.bodies
-        searched.now.program.now.tools searched.now.bench.now)
+    requires index { IsIndexFor (setting_searched searched.now)
         searched.now.index.now (rows_of searched.now.all.now) }
     requires within { end ≤ length searched.now.all.now }
     ensures { IfOk result (λ found. found ≡ first
-        (candidates_from (scene_of searched.now.program.now.bodies searched.now.program.now.tools
-        searched.now.bench.now (rows_of searched.now.all.now) searched.now.marks)
+        (candidates_from (scene_searched searched.now)
         start (drop start (take end (rows_of searched.now.all.now))))) }
 {
     if start < end {
@@ -258,13 +245,10 @@ pub(crate) fn first_in_turn<W>(
     room: &mut Binds,
 ) -> Result<Option<Candidate>, NoMemory>
     requires ascend { IsTrue (ascend 0 (rows_of searched.now.all.now)) }
-    requires index { IsIndexFor (setting_by searched.now.program.now.bodies
-        searched.now.program.now.tools searched.now.bench.now)
+    requires index { IsIndexFor (setting_searched searched.now)
         searched.now.index.now (rows_of searched.now.all.now) }
     ensures { IfOk result (λ found. found
-        ≡ first (candidates_in_turn (scene_of searched.now.program.now.bodies
-        searched.now.program.now.tools searched.now.bench.now
-        (rows_of searched.now.all.now) searched.now.marks) searched.now.marks.last_starter)) }
+        ≡ first (candidates_in_turn (scene_searched searched.now) searched.now.marks.last_starter)) }
 {
     let start = turn_start(searched.all, searched.marks.last_starter);
     match first_if_any(alloc, searched, start, searched.all.len(), room)? {
