@@ -34,7 +34,11 @@ pub fn printed(alloc: Global, text: Term) -> Result<Done, NoMemory>
 
 /// A process with this number began, and the slot takes the number.
 pub fn created(alloc: Global, number: u32, slot: u32) -> Result<Done, NoMemory>
-    ensures { IfOk result (λ done. done ≡ record { kind = LabelKind.Create; shown = number_term number ∷ []; binds = record { slot = slot; value = number_term number } ∷ [] }) }
+    ensures { IfOk result (λ done. done ≡ record {
+      kind = LabelKind.Create;
+      shown = number_term number ∷ [];
+      binds = record { slot = slot; value = number_term number } ∷ [];
+    }) }
 {
     let mut done = kind_alone(alloc, LabelKind::Create);
     done.shown.push(number_term(number))?;

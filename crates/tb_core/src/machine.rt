@@ -45,7 +45,12 @@ impl<W: Walker> Model for Core<W> {
 
     ghost coded = { core_code };
 
-    ghost view = { λ core. record { origin = core.bus.origin; log = core.log.entries; stopped = core.stopped; spare = core.log.spare } };
+    ghost view = { λ core. record {
+      origin = core.bus.origin;
+      log = core.log.entries;
+      stopped = core.stopped;
+      spare = core.log.spare;
+    } };
 
     ghost invariant = { λ core. Represents W.view core.bus core.log };
 }

@@ -303,7 +303,8 @@ fn first_of_kind(
     tool: u32,
     slot: u32,
 ) -> Result<Option<Exchange>, NoMemory>
-    ensures { IfOk result (λ found. found ≡ first_of_kind (setting_spoken speaker.now) stage tool slot) }
+    ensures { IfOk result (λ found. found
+        ≡ first_of_kind (setting_spoken speaker.now) stage tool slot) }
 {
     match at(speaker.program.tools.as_slice(), tool as usize) {
         Some(kind) => match speaker.bench.first_at(&kind.name, stage) {

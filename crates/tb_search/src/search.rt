@@ -248,7 +248,8 @@ pub(crate) fn first_in_turn<W>(
     requires index { IsIndexFor (setting_searched searched.now)
         searched.now.index.now (rows_of searched.now.all.now) }
     ensures { IfOk result (λ found. found
-        ≡ first (candidates_in_turn (scene_searched searched.now) searched.now.marks.last_starter)) }
+        ≡ first (candidates_in_turn (scene_searched searched.now)
+        searched.now.marks.last_starter)) }
 {
     let start = turn_start(searched.all, searched.marks.last_starter);
     match first_if_any(alloc, searched, start, searched.all.len(), room)? {

@@ -40,7 +40,14 @@ impl Model for LaneTool {
 
     ghost coded = { Prim.hlevel (codes, term_data.the_row.coded) };
 
-    ghost view = { λ tool. record { number = tool.number; name = tool.name; stage = tool.stage; eval = tool.eval; events = tool.events; received = tool.received } };
+    ghost view = { λ tool. record {
+      number = tool.number;
+      name = tool.name;
+      stage = tool.stage;
+      eval = tool.eval;
+      events = tool.events;
+      received = tool.received;
+    } };
 
     ghost invariant = { λ tool. tool.term ≡ tool_term tool.name tool.number };
 }
@@ -212,7 +219,10 @@ impl LaneTool {
     /// The event at this position is received.
     pub fn receive(&mut self, place: usize) -> Result<(), NoMemory>
         requires { place < length self.old.events }
-        ensures ok { OnOk result (self.new ≡ record self.old { events = remove self.old.events place; received = self.old.received ++ event_at place self.old.events ∷ [] }) }
+        ensures ok { OnOk result (self.new ≡ record self.old {
+          events = remove self.old.events place;
+          received = self.old.received ++ event_at place self.old.events ∷ [];
+        }) }
         ensures err { OnErr result (self.new ≡ self.old) }
     {
         self.events.pass_on(place, &mut self.received)
