@@ -78,6 +78,7 @@ pub fn end_label(alloc: Global, kind: LabelKind) -> Label
 }
 
 /// Logs a step, and hands back what held its terms. This takes no memory.
+#[inline(always)]
 pub fn put_label(log: &mut Log, label: Label) -> Terms
     requires { CanLog log.old label }
     ensures logged { IsLogged log.old label log.new }

@@ -124,6 +124,7 @@ impl<W: Walker> LiveBus<W> {
     }
 
     /// Looks at a process anew, where it has to be.
+    #[inline(always)]
     fn freshen_at(
         &mut self,
         alloc: Global,
@@ -156,6 +157,7 @@ impl<W: Walker> LiveBus<W> {
     }
 
     /// Looks at the process with this number anew, where it is there and has to be.
+    #[inline(always)]
     fn freshen_number(
         &mut self,
         alloc: Global,
@@ -176,6 +178,7 @@ impl<W: Walker> LiveBus<W> {
     }
 
     /// Looks at those that have to be looked at, where no tick has passed: their numbers are noted.
+    #[inline(always)]
     fn freshen_noted(&mut self, alloc: Global, buffers: &mut Buffers) -> Result<(), NoMemory>
         requires sound { IsSound W.view self.old }
         requires young { self.old.aged ≡ false }
@@ -190,6 +193,7 @@ impl<W: Walker> LiveBus<W> {
     }
 
     /// Looks at those that have to be looked at, of all.
+    #[inline(never)]
     fn freshen_all(&mut self, alloc: Global, buffers: &mut Buffers) -> Result<(), NoMemory>
         requires { IsSound W.view self.old }
         ensures same { StandsAs W.view self.old self.new }
@@ -219,6 +223,7 @@ impl<W: Walker> LiveBus<W> {
     }
 
     /// The one with this number sleeps or wakes; where it is gone, the next behind it is judged.
+    #[inline(never)]
     fn settle_number(&mut self, alloc: Global, number: u32) -> Result<(), NoMemory>
         requires { IsSound W.view self.old }
         ensures same { StandsAs W.view self.old self.new }
@@ -258,6 +263,7 @@ impl<W: Walker> LiveBus<W> {
     }
 
     /// So do those that may speak with tools.
+    #[inline(never)]
     fn settle_speakers(&mut self, alloc: Global) -> Result<(), NoMemory>
         requires { IsSound W.view self.old }
         ensures same { StandsAs W.view self.old self.new }
@@ -277,6 +283,7 @@ impl<W: Walker> LiveBus<W> {
     }
 
     /// Whoever sleeps has nothing to begin alone from then on, with the notes and the tools that there are.
+    #[inline(always)]
     fn settle(&mut self, alloc: Global) -> Result<(), NoMemory>
         requires { IsSound W.view self.old }
         ensures same { StandsAs W.view self.old self.new }
@@ -292,6 +299,7 @@ impl<W: Walker> LiveBus<W> {
     }
 
     /// Looks at all processes that have to be looked at.
+    #[inline(always)]
     fn look_anew(&mut self, alloc: Global, buffers: &mut Buffers) -> Result<(), NoMemory>
         requires { IsSound W.view self.old }
         ensures same { StandsAs W.view self.old self.new }
@@ -308,6 +316,7 @@ impl<W: Walker> LiveBus<W> {
     }
 
     /// What each process is ready to do is known from then on, and whoever sleeps rests.
+    #[inline(always)]
     pub fn freshen(&mut self, alloc: Global, buffers: &mut Buffers) -> Result<(), NoMemory>
         requires { IsSound W.view self.old }
         ensures same { StandsAs W.view self.old self.new }
@@ -413,6 +422,7 @@ impl<W: Walker> LiveBus<W> {
     }
 
     /// A process goes on with what was taken of it, and is gone where nothing is left.
+    #[inline(always)]
     fn advance_at(&mut self, at: usize, taken: W::Taken, binds: &mut Binds)
         requires sound { IsSound W.view self.old }
         requires within { at < length self.old.living.items }
@@ -622,7 +632,7 @@ impl<W: Walker> LiveBus<W> {
     }
 
     /// A process goes on by itself; the log tells no terms of it.
-    #[inline(never)]
+    #[inline(always)]
     fn make_tau(
         &mut self,
         alloc: Global,
@@ -884,6 +894,7 @@ impl<W: Walker> LiveBus<W> {
     }
 
     /// A process whose change was made goes on with what was taken of it and its binds, and is the last starter.
+    #[inline(always)]
     fn finish(&mut self, at: usize, taken: W::Taken, from: Place, done: Done) -> Label
         requires sound { IsSound W.view self.old }
         requires within { at < length self.old.living.items }

@@ -1,7 +1,6 @@
 ghost use Rattle.std.specs.Prelude.{◌≡◌, [], IfOk};
 
 use std::alloc::Global;
-use std::mem::replace;
 use tb_bus::Action;
 use tb_match::Binds;
 use tb_terms::{Items, NoMemory, Patterns, Terms};
@@ -39,13 +38,11 @@ impl Buffers {
         self.binds = binds;
     }
 
-    /// Keeps what an action sends or receives, where it is to be dropped.
-    pub(crate) fn keep(&mut self, alloc: Global, action: &mut Action) {
+    /// Drops an action, and keeps the list of what it sends or receives.
+    pub(crate) fn keep(&mut self, action: Action) {
         match action {
-            Action::Send(terms) => keep_list(&mut self.terms, replace(terms, Items::new(alloc))),
-            Action::Receive(patterns) => {
-                keep_list(&mut self.patterns, replace(patterns, Items::new(alloc)));
-            }
+            Action::Send(terms) => keep_list(&mut self.terms, terms),
+            Action::Receive(patterns) => keep_list(&mut self.patterns, patterns),
             Action::Own(_) => {}
         }
     }

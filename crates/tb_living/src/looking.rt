@@ -345,13 +345,12 @@ fn push_ready<W: Walker>(
 }
 
 /// Drops what a process was ready to do, and keeps what memory serves again.
-fn retire(alloc: Global, ready: &mut Vec<Ready>, buffers: &mut Buffers)
+fn retire(ready: &mut Vec<Ready>, buffers: &mut Buffers)
     ensures { ready.new.items ≡ [] }
 {
-    for one in ready.iter_mut() {
-        buffers.keep(alloc, &mut one.action);
+    while let Some(one) = ready.pop() {
+        buffers.keep(one.action);
     }
-    ready.clear();
 }
 
 /// Fills what the process that was looked at is ready to do; whether an atom with times is among its offers.
@@ -376,7 +375,7 @@ fn fill<W: Walker>(
         → IfOk result (λ timed. timed ≡ false
         → All (IsTimeless body.now.atoms) (offers_of (W.view.walking plan.now walker.now))) }
 {
-    retire(alloc, ready, buffers);
+    retire(ready, buffers);
     let mut timed = false;
     for at in 0..walker.offer_count() {
         let offer = walker.offer(at);
