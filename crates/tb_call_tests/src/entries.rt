@@ -6,8 +6,7 @@ use std::test::Fail;
 use tb_feed::Feed;
 use tb_log::{
     Entry, Input, Label, LabelKind, Log, Out, Place, Reply, ToolLine, Why, is_in_shape,
-    is_out_in_shape, is_tool_line_in_shape, show_proper_entry, show_proper_log, total_size,
-    write_entry, write_seen,
+    is_out_in_shape, is_tool_line_in_shape, show_proper_entry, show_proper_log, write_entry,
 };
 use tb_log_read::read_entry;
 use tb_terms::{Items, NoMemory, Term, Terms};
@@ -161,27 +160,11 @@ fn entry_text(alloc: Global, entry: &Entry) -> Result<Vec<u8>, NoMemory> {
     Ok(text)
 }
 
-/// The line of a step that a log keeps, whose terms were moved into it.
-fn kept_text(alloc: Global, kind: LabelKind, shown: &[i64]) -> Result<Vec<u8>, NoMemory> {
-    let mut log = Log::new(alloc, 1);
-    let mut label = labelled(alloc, kind, shown)?;
-    let size = total_size(label.terms.as_slice());
-    let mut text = Vec::new(alloc);
-    if log.room_for_size(size) {
-        log.reserve_step(size)?;
-        log.push_step(kind, label.from, label.to, &mut label.terms);
-        write_seen(12, &log.at(0), &mut text)?;
-    }
-    Ok(text)
-}
-
 #[test]
 fn each_step_has_its_line(rt: HostRuntime) -> Result<(), Fail> {
     for (kind, shown, line) in &LINES {
         let text = step_text(rt.alloc(), *kind, shown)?;
         assert_eq!(rt; text.as_slice(), *line);
-        let kept = kept_text(rt.alloc(), *kind, shown)?;
-        assert_eq!(rt; kept.as_slice(), *line);
     }
     Ok(())
 }
