@@ -1,5 +1,5 @@
 pub mod Candidates
 pub mod Views
-pub mod Searches
+pub mod Helpers
 pub mod FoundEffects
 pub mod Indexed

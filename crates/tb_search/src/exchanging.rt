@@ -7,7 +7,7 @@ ghost use Rattle.tb_log.specs.Shapes.{IsLane};
 ghost use Rattle.tb_tools.specs.Lanes.{tool_at, tool_term};
 ghost use Rattle.tb_tools.specs.Acts.{can_leave, can_eval, is_taken_at, is_live_at};
 ghost use Rattle.tb_bus.specs.Slots.{fits_slot};
-ghost use Rattle.tb_search.specs.Searches.{setting_spoken};
+ghost use Rattle.tb_search.specs.Helpers.Searches.{setting_spoken};
 ghost use Rattle.tb_bus.specs.Exchanges.{plain_on, bound_on, starting, taking_tool, first_of_kind, lane_of, value_on, event_on, received_on, behind, exchange_for};
 
 use crate::slots::fits_slot;

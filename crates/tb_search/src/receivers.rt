@@ -15,8 +15,8 @@ use tb_index::{Index, Mark, sent_mark};
 use tb_match::{Binds, match_list_in};
 use tb_terms::{NoMemory, Terms};
 
-/// Whether an action receives the terms, and what they bind then, in the memory of the room. So it goes for all
-/// that is received.
+/// Whether an action receives the terms, and what they bind then. Here and below that stands in the memory of the
+/// room, whatever the room held.
 fn receive(
     alloc: Global,
     index: usize,

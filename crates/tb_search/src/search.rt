@@ -4,7 +4,7 @@ ghost use Rattle.tb_bus.specs.Steps.{moves, first};
 ghost use Rattle.tb_search.specs.Views.{IsSearchedFor, IsCandidateIn, move_of};
 ghost use Rattle.tb_search.specs.Indexed.{IsIndexFor, IsNextOf};
 ghost use Rattle.tb_bus.specs.Exchanges.{setting_by};
-ghost use Rattle.tb_search.specs.Searches.{scene_searched, setting_searched};
+ghost use Rattle.tb_search.specs.Helpers.Searches.{scene_searched, setting_searched};
 ghost use Rattle.tb_search.specs.Candidates.{finding_of, plain_if, candidates_by, candidates_of, candidates_from, candidates_in_turn, all_candidates, candidates_or_halt, up_to, ascend, row_of, rows_of, scene_of};
 
 use crate::apart::Apart;
