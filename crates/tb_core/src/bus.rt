@@ -124,7 +124,7 @@ impl<W: Walker> LiveBus<W> {
     }
 
     /// Looks at a process anew, where it has to be.
-    #[inline(always)]
+    #[inline(never)]
     fn freshen_at(
         &mut self,
         alloc: Global,
@@ -157,7 +157,6 @@ impl<W: Walker> LiveBus<W> {
     }
 
     /// Looks at the process with this number anew, where it is there and has to be.
-    #[inline(always)]
     fn freshen_number(
         &mut self,
         alloc: Global,
@@ -178,7 +177,6 @@ impl<W: Walker> LiveBus<W> {
     }
 
     /// Looks at those that have to be looked at, where no tick has passed: their numbers are noted.
-    #[inline(always)]
     fn freshen_noted(&mut self, alloc: Global, buffers: &mut Buffers) -> Result<(), NoMemory>
         requires sound { IsSound W.view self.old }
         requires young { self.old.aged ≡ false }
@@ -283,7 +281,6 @@ impl<W: Walker> LiveBus<W> {
     }
 
     /// Whoever sleeps has nothing to begin alone from then on, with the notes and the tools that there are.
-    #[inline(always)]
     fn settle(&mut self, alloc: Global) -> Result<(), NoMemory>
         requires { IsSound W.view self.old }
         ensures same { StandsAs W.view self.old self.new }
@@ -299,7 +296,6 @@ impl<W: Walker> LiveBus<W> {
     }
 
     /// Looks at all processes that have to be looked at.
-    #[inline(always)]
     fn look_anew(&mut self, alloc: Global, buffers: &mut Buffers) -> Result<(), NoMemory>
         requires { IsSound W.view self.old }
         ensures same { StandsAs W.view self.old self.new }
@@ -422,7 +418,6 @@ impl<W: Walker> LiveBus<W> {
     }
 
     /// A process goes on with what was taken of it, and is gone where nothing is left.
-    #[inline(always)]
     fn advance_at(&mut self, at: usize, taken: W::Taken, binds: &mut Binds)
         requires sound { IsSound W.view self.old }
         requires within { at < length self.old.living.items }
@@ -589,6 +584,7 @@ impl<W: Walker> LiveBus<W> {
     }
 
     /// Where one of the actions of a process stands. The process has to be looked at anew from then on.
+    #[inline(always)]
     fn leave(&mut self, at: usize, index: usize) -> Result<Place, NoMemory>
         requires sound { IsSound W.view self.old }
         requires within { at < length self.old.living.items }

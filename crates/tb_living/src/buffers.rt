@@ -33,7 +33,9 @@ impl Buffers {
     }
 
     /// Keeps the lists of a message that was handed on: what held its terms, and its binds.
-    pub fn give_back(&mut self, terms: Terms, binds: Binds) {
+    pub fn give_back(&mut self, terms: Terms, binds: Binds)
+        ensures { self.new.binds ≡ binds }
+    {
         keep_memory(&mut self.terms, terms);
         self.binds = binds;
     }
