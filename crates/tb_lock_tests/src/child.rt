@@ -12,7 +12,8 @@ const TICKS: u64 = 300;
 /// How many bytes of the log are kept.
 const ROOM: usize = 65_536;
 
-/// Scripts, and what the log says in this order.
+/// Scripts, and what the log says in this order, whatever thread is next: of a program that isn't there `cut` and `gone` come in
+/// either order.
 static RUNS: [(&str, &str); 2] = [
     (
         "tool t is { command = \"sed -u -n s/rec-eval(q)/snd-value(ok)/p\" } process P is let T : t, V : term in execute(t, T?) . snd-eval(T, q) . rec-value(T, V?) . snd-terminate(T, 0) endlet toolbus(P)",
@@ -20,7 +21,7 @@ static RUNS: [(&str, &str); 2] = [
     ),
     (
         "tool t is { command = \"./there-is-no-such-program\" } process P is let T : t in execute(t, T?) . rec-disconnect(T?) endlet toolbus(P)",
-        "execute 1.1 t(1)\ncut 1\nrec-disconnect 1.2 t(1)\nfinish",
+        "execute 1.1 t(1)\nrec-disconnect 1.2 t(1)\nfinish",
     ),
 ];
 
