@@ -7,7 +7,8 @@ use std::test::Fail;
 use tb_algebra::{Rewriter, Walker};
 use tb_core::{Core, CoreFault, Stepped, TakeOut};
 use tb_feed::{Feed as Inputs, read_feed};
-use tb_log::{Input, Out, Reply, why_word};
+use tb_log::{Entries, Entry, Input, Out, Reply, why_word};
+use tb_log_read::read_log;
 use tb_sim::{SimEnd, simulate};
 use tb_tools::LaneState;
 use tb_walk::Walk;
@@ -221,6 +222,42 @@ static CALLS: [Calls; 8] = [
     ),
 ];
 
+/// A script, whose first lane is started with `ui`; how many entries its log may have; the log of another core; how many entries
+/// of that log a core follows; and what it answers at the next one, or `yes` if it follows all.
+type Followed = (&'static str, u32, &'static str, usize, &'static str);
+
+static FOLLOWED: [Followed; 20] = [
+    // The steps of a log come in any order that the script allows, not only in that of a simulation.
+    ("process P is tau toolbus(P, P)", 9, "1 tau 2.1\n2 tau 1.1\n3 finish\n", 3, "yes"),
+    ("process P is tau + tau toolbus(P)", 9, "1 tau 1.2\n2 finish\n", 2, "yes"),
+    ("process P is tau . tau toolbus(P)", 9, "1 tau 1.1\n2 tau 1.1\n", 1, "no"),
+    ("process P is tau toolbus(P)", 9, "1 finish\n", 0, "no"),
+    ("process P is tau toolbus(P)", 9, "1 tau 2.1\n", 0, "no"),
+    // A message shows its two places and its terms.
+    (MESSAGE, 9, "1 msg 1.1 2.1 a,1\n2 finish\n", 2, "yes"),
+    (MESSAGE, 9, "1 msg 1.1 2.1 a,2\n", 0, "no"),
+    (MESSAGE, 9, "1 msg 2.1 1.1 a,1\n", 0, "no"),
+    (MESSAGE, 9, "1 tau 1.1\n", 0, "no"),
+    // Quiet is legal if no step is possible, also after quiet.
+    ("process P is tau toolbus(P)", 9, "1 quiet\n", 0, "no"),
+    ("process P is delta toolbus(P)", 9, "1 quiet\n2 quiet\n3 noticks\n4 halt\n5 quiet\n", 4, "no"),
+    ("process P is tau delay(1) toolbus(P)", 9, "1 quiet\n2 tick\n3 quiet\n", 2, "no"),
+    ("process P is delta toolbus(P)", 9, "1 halt\n", 0, "no"),
+    // An input shows what becomes of it.
+    ("process P is delta toolbus(P)", 9, "1 tick\n2 drop down tick\n", 1, "no"),
+    ("process P is delta toolbus(P)", 9, "1 drop not-live gone 2\n2 gone 1\n3 gone 1\n", 2, "no"),
+    ("process P is delta toolbus(P)", 9, "1 drop bad line 1 ?\n2 line 1 snd-value(1)\n", 1, "no"),
+    // A lane gives its items in order.
+    ("process P is delta toolbus(P)", 9, "1 out 1 start \"ui\"\n2 out 1 end\n", 1, "no"),
+    ("process P is delta toolbus(P)", 9, "1 out 2 start \"ui\"\n", 0, "no"),
+    // A log that is full refuses what may come next, and that alone.
+    ("process P is delta toolbus(P)", 1, "1 quiet\n2 tick\n", 1, "full"),
+    ("process P is delta toolbus(P)", 1, "1 quiet\n2 finish\n", 1, "no"),
+];
+
+const MESSAGE: &str = "process A is snd-msg(a, 1) process B is let X : int in rec-msg(a, X?) endlet \
+     toolbus(A, B)";
+
 fn fault_word(fault: CoreFault) -> &'static [u8] {
     match fault {
         CoreFault::Full => b"full",
@@ -259,6 +296,13 @@ fn reply_word(answer: Result<Reply, CoreFault>) -> &'static [u8] {
 
 fn yes_or_no(holds: bool) -> &'static [u8] {
     if holds { b"yes" } else { b"no" }
+}
+
+fn follow_word(answer: Result<bool, CoreFault>) -> &'static [u8] {
+    match answer {
+        Ok(is_legal) => yes_or_no(is_legal),
+        Err(fault) => fault_word(fault),
+    }
 }
 
 /// What is handed in by a line of a feed.
@@ -364,5 +408,54 @@ fn no_step_is_made_where_none_may_be(rt: HostRuntime) -> Result<(), Fail> {
     assert!(rt; matches!(end, Ok(SimEnd::Steps)));
     let log = b"1 quiet\n2 noticks\n".as_slice();
     assert_eq!(rt; log_text(rt.alloc(), &core)?.as_slice(), log);
+    Ok(())
+}
+
+/// Returns how many entries of a log a core follows, and its answer at the next one.
+fn followed<W: Walker>(core: &mut Core<W>, log: &[Entry]) -> (usize, &'static [u8]) {
+    for (at, entry) in log.iter().enumerate() {
+        let word = follow_word(core.follow(entry));
+        if word != b"yes".as_slice() {
+            return (at, word);
+        }
+    }
+    (log.len(), b"yes")
+}
+
+/// Returns whether a core follows a log as far as the row says, and has logged just these entries.
+fn is_followed<W: Walker>(alloc: Global, row: &Followed) -> Result<bool, Fail> {
+    let (script, entries, text, count, answer) = *row;
+    let mut core: Core<W> = started(alloc, script, &["ui"], entries)?;
+    let log = read_log(alloc, text.as_bytes())?;
+    let found = followed(&mut core, log.as_slice());
+    let logged = log_text(alloc, &core)?;
+    let is_front = text.as_bytes().get(..logged.len()) == Some(logged.as_slice());
+    Ok(found == (count, answer.as_bytes()) && core.log().len() == count && is_front)
+}
+
+#[test]
+fn logs_are_followed_up_to_what_may_not_come(rt: HostRuntime) -> Result<(), Fail> {
+    for (number, row) in FOLLOWED.iter().enumerate() {
+        assert!(rt; is_followed::<Rewriter>(rt.alloc(), row)?, "{number}");
+        assert!(rt; is_followed::<Walk>(rt.alloc(), row)?, "{number}");
+    }
+    Ok(())
+}
+
+#[test]
+fn logs_that_calls_make_are_followed(rt: HostRuntime) -> Result<(), Fail> {
+    for (number, (script, entries, _rows, text)) in CALLS.iter().enumerate() {
+        let log = read_log(rt.alloc(), text.as_bytes())?;
+        let row = (*script, *entries, *text, log.len(), "yes");
+        assert!(rt; is_followed::<Walk>(rt.alloc(), &row)?, "{number}");
+    }
+    Ok(())
+}
+
+#[test]
+fn a_core_that_was_stopped_follows_nothing(rt: HostRuntime) -> Result<(), Fail> {
+    let mut core: Core<Walk> = started(rt.alloc(), MESSAGE, &[], 9)?;
+    core.stop();
+    assert!(rt; follow_word(core.follow(&Entry::Quiet)) == b"stopped".as_slice());
     Ok(())
 }

@@ -13,7 +13,7 @@ use Rattle.tb_bus.specs.declared.origin.Origin.{Origin}
 use Rattle.tb_bus.specs.contracts.origin.Origin as origin
 use Rattle.tb_bus.specs.Buses.{Bus, start}
 use Rattle.tb_bus.specs.Steps.{Step, steps}
-use Rattle.tb_bus.specs.Traces.{IsTrace, fed, replay}
+use Rattle.tb_bus.specs.Traces.{IsLegal, IsTrace, after, fed, replay}
 use Rattle.tb_core.specs.declared.answers.Stepped.{Stepped}
 use Rattle.tb_core.specs.declared.answers.Stepped.TheVariants as stepped
 use Rattle.tb_core.specs.declared.answers.TakeOut.{TakeOut}
@@ -134,3 +134,13 @@ IsTakenOut core lane taken.Closed = (next_out lane (bus_now core).bench ≡ None
 abbrev pub has_any : List Step → Bool
 has_any [] = false
 has_any (step ∷ rest) = true
+
+-- The outcome of following an entry. If the entry may come next, it is logged, and the bus is the one that follows. Else nothing changes.
+abbrev pub Follows : CoreState → Entry → Bool → CoreState → Type 0
+Follows old entry true new = Logs old new (entry ∷ [])
+Follows old entry false new = (new ≡ old) × ((next : Bus) → IsLegal (bus_now old) entry next → ⊥)
+
+-- The entry may come next, but the log has no room for it.
+pub record IsCrowded (core : CoreState) (entry : Entry) : Type 0 where
+  pub legal : IsLegal (bus_now core) entry (after (bus_now core) entry)
+  pub full : lacks_room core (Some entry) ≡ true

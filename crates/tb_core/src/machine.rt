@@ -9,19 +9,21 @@ ghost use Rattle.tb_bus.specs.Buses.{origin_of, start};
 ghost use Rattle.tb_bus.specs.Traces.{IsTrace, fed, taken_out};
 ghost use Rattle.tb_bus.specs.Steps.{steps, apply, label_of};
 ghost use Rattle.tb_search.specs.Views.{IsCandidateIn};
-ghost use Rattle.tb_core.specs.Cores.{most_entries, HandIn, MakeStep, HandOut, IsTakenOut, started, bus_now, Logs, entries_of, is_full, IsStep, Stays, has_any, ends_quiet, takes_memory};
+ghost use Rattle.tb_log.specs.declared.entry.Entry.TheVariants.{Did as Made};
+ghost use Rattle.tb_core.specs.Cores.{Follows, IsCrowded, lacks_room, most_entries, HandIn, MakeStep, HandOut, IsTakenOut, started, bus_now, Logs, entries_of, is_full, IsStep, Stays, has_any, ends_quiet, takes_memory};
 ghost use Rattle.tb_core.specs.Helpers.LiveBuses.{bus_of, move_in, scene_in, IsSound, StandsAs};
 ghost use Rattle.tb_living.specs.Lives.{AreFresh};
 
 use crate::answers::{CoreFault, Stepped, TakeOut};
 use crate::bus::LiveBus;
+use crate::showing::same_reply;
 use std::alloc::Global;
 use std::marker::Model;
 use tb_algebra::Walker;
 use tb_body::Program;
 use tb_bus::Origin;
 use tb_living::Buffers;
-use tb_log::{Entry, Input, Log, Out, Reply, Seen, input_size, out_size};
+use tb_log::{Entry, Input, Label, Log, Out, Reply, Seen, input_size, is_in_shape, is_lane, out_size};
 use tb_search::Candidate;
 use tb_terms::{Items, NoMemory, Text, Texts};
 use tb_tools::{Handout, LaneState};
@@ -194,6 +196,128 @@ impl<W: Walker> Core<W> {
                 Ok(Stepped::Quiet)
             }
         }
+    }
+
+    /// Follows an entry of another log. If the entry can come next, the call logs it, makes its step and returns `true`. If it
+    /// can't, the call returns `false`, and nothing changes. A label names its processes, so the call asks only those. The end of
+    /// the bus and `quiet` speak of all processes, so the call searches all moves for these. Unlike `step`, the call logs a `quiet`
+    /// after a `quiet`. After an error nothing has changed.
+    pub fn follow(&mut self, entry: &Entry) -> Result<bool, CoreFault>
+        ensures follows { IfOk result (λ legal. Follows self.old entry.now legal self.new) }
+        ensures room { IfOk result
+            (λ legal. legal ≡ true → lacks_room self.old (Some entry.now) ≡ false) }
+        ensures stopped { IsErrOf result CoreFault.Stopped ↔ IsTrue self.old.stopped }
+        ensures full { IsErrOf result CoreFault.Full → IsCrowded self.old entry.now }
+        ensures err { OnErr result (Stays self.old self.new) }
+    {
+        if self.stopped {
+            return Err(CoreFault::Stopped);
+        }
+        match entry {
+            Entry::Did(label) => self.follow_step(label),
+            Entry::Quiet => self.follow_quiet(),
+            Entry::Fed(input, reply) => {
+                if !is_in_shape(entry) {
+                    return Ok(false);
+                }
+                self.follow_input(input, *reply)
+            }
+            Entry::Gave(lane, out) => self.follow_out(*lane, out),
+        }
+    }
+
+    /// Follows the step that a label shows.
+    fn follow_step(&mut self, label: &Label) -> Result<bool, CoreFault>
+        requires { self.old.stopped ≡ false }
+        ensures follows { IfOk result (λ legal. Follows self.old (Made label.now) legal self.new) }
+        ensures room { IfOk result
+            (λ legal. legal ≡ true → lacks_room self.old (Some (Made label.now)) ≡ false) }
+        ensures running { IsErrOf result CoreFault.Stopped → ⊥ }
+        ensures full { IsErrOf result CoreFault.Full → IsCrowded self.old (Made label.now) }
+        ensures err { OnErr result (Stays self.old self.new) }
+    {
+        self.bus.freshen(self.alloc, &mut self.buffers)?;
+        match self
+            .bus
+            .seen_as(self.alloc, label, &mut self.buffers.binds)?
+        {
+            Some(candidate) => {
+                make(
+                    self.alloc,
+                    &mut self.bus,
+                    &mut self.log,
+                    candidate,
+                    &mut self.buffers,
+                )?;
+                Ok(true)
+            }
+            None => Ok(false),
+        }
+    }
+
+    /// Follows a `quiet`.
+    fn follow_quiet(&mut self) -> Result<bool, CoreFault>
+        requires { self.old.stopped ≡ false }
+        ensures follows { IfOk result (λ legal. Follows self.old Entry.Quiet legal self.new) }
+        ensures room { IfOk result
+            (λ legal. legal ≡ true → lacks_room self.old (Some Entry.Quiet) ≡ false) }
+        ensures running { IsErrOf result CoreFault.Stopped → ⊥ }
+        ensures full { IsErrOf result CoreFault.Full → IsCrowded self.old Entry.Quiet }
+        ensures err { OnErr result (Stays self.old self.new) }
+    {
+        if says_quiet(&self.log) {
+            put_quiet(&mut self.log)?;
+            return Ok(true);
+        }
+        if self.is_down() {
+            return Ok(false);
+        }
+        if self.has_step()? {
+            return Ok(false);
+        }
+        put_quiet(&mut self.log)?;
+        Ok(true)
+    }
+
+    /// Follows an input. The reply is compared before the input is delivered.
+    fn follow_input(&mut self, input: &Input, reply: Reply) -> Result<bool, CoreFault>
+        requires running { self.old.stopped ≡ false }
+        requires shape { IsInputInShape input.now }
+        ensures follows { IfOk result
+            (λ legal. Follows self.old (Entry.Fed input.now reply) legal self.new) }
+        ensures room { IfOk result
+            (λ legal. legal ≡ true → lacks_room self.old (Some (Entry.Fed input.now reply)) ≡ false) }
+        ensures running { IsErrOf result CoreFault.Stopped → ⊥ }
+        ensures full { IsErrOf result CoreFault.Full
+            → IsCrowded self.old (Entry.Fed input.now reply) }
+        ensures err { OnErr result (Stays self.old self.new) }
+    {
+        if !same_reply(self.bus.reply_to(input), reply) {
+            return Ok(false);
+        }
+        self.hand_in(input.copy(self.alloc)?)?;
+        Ok(true)
+    }
+
+    /// Follows an item that a lane was sent.
+    fn follow_out(&mut self, lane: u8, out: &Out) -> Result<bool, CoreFault>
+        requires { self.old.stopped ≡ false }
+        ensures follows { IfOk result
+            (λ legal. Follows self.old (Entry.Gave lane out.now) legal self.new) }
+        ensures room { IfOk result
+            (λ legal. legal ≡ true → lacks_room self.old (Some (Entry.Gave lane out.now)) ≡ false) }
+        ensures running { IsErrOf result CoreFault.Stopped → ⊥ }
+        ensures full { IsErrOf result CoreFault.Full → IsCrowded self.old (Entry.Gave lane out.now) }
+        ensures err { OnErr result (Stays self.old self.new) }
+    {
+        if !is_lane(lane) {
+            return Ok(false);
+        }
+        if !self.bus.hands_out(lane, out) {
+            return Ok(false);
+        }
+        self.take_out(lane)?;
+        Ok(true)
     }
 
     /// Takes what is to be handed out next on a lane, and logs it. Where nothing is, it logs nothing. With spare memory for
@@ -408,6 +532,26 @@ fn say_quiet(log: &mut Log) -> Result<(), CoreFault>
     if says_quiet(log) {
         return Ok(());
     }
+    if !log.room_for(&Entry::Quiet) {
+        return Err(CoreFault::Full);
+    }
+    log.reserve(1)?;
+    log.push_quiet();
+    Ok(())
+}
+
+/// Logs `quiet`, whatever the last entry is.
+fn put_quiet(log: &mut Log) -> Result<(), CoreFault>
+    ensures ok { OnOk result (log.new.entries ≡ log.old.entries ++ Entry.Quiet ∷ []) }
+    ensures limit { log.new.limit ≡ log.old.limit }
+    ensures running { IsErrOf result CoreFault.Stopped → ⊥ }
+    ensures full { IsErrOf result CoreFault.Full
+        → has_room log.old.limit log.old.entries Entry.Quiet ≡ false }
+    ensures room { OnOk result (has_room log.old.limit log.old.entries Entry.Quiet ≡ true) }
+    ensures spare { OnOk result (log.old.spare ≤ log.new.spare + 1) }
+    ensures err { OnErr result
+        ((log.new.entries ≡ log.old.entries) × (log.old.spare ≤ log.new.spare)) }
+{
     if !log.room_for(&Entry::Quiet) {
         return Err(CoreFault::Full);
     }

@@ -16,5 +16,7 @@ pub use log::{Log, input_size, out_size, total_size};
 pub use pieces::piece;
 pub use proper::{show_proper_entry, show_proper_log};
 pub use seen::{Seen, SeenLabel};
-pub use shape::{LANES, MOST_TOOL_NAME, is_in_shape, is_out_in_shape, is_tool_line_in_shape};
+pub use shape::{
+    LANES, MOST_TOOL_NAME, is_in_shape, is_lane, is_out_in_shape, is_tool_line_in_shape,
+};
 pub use text::{kind_word, why_word, write_entry, write_seen};

@@ -88,7 +88,8 @@ fn is_input_in_shape(input: &Input) -> bool
     }
 }
 
-fn is_lane(lane: u8) -> bool
+/// Returns whether a number is that of a lane: 1 to 16.
+pub fn is_lane(lane: u8) -> bool
     ensures { IsTrue result ↔ IsLane lane }
 {
     1 <= lane && usize::from(lane) <= LANES

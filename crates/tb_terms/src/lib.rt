@@ -26,7 +26,7 @@ pub use pattern::{Pattern, Patterns, copy_patterns, same_pattern_lists};
 pub use proper::show_proper;
 pub use sort::{Sort, Sorts};
 pub use sqlite_items::{Boxed, Items};
-pub use term::{Term, Terms, copy_terms, same, same_terms};
+pub use term::{Term, Terms, copy_terms, same, same_all, same_terms};
 pub use text::{Text, Texts};
 pub use well_sorted::{has_sort, initial};
 pub use write::{push_quoted, write_term, write_terms};

@@ -120,8 +120,9 @@ fn is_list(parts: &[Term], term: &Term) -> bool
     }
 }
 
+/// Returns whether two slices of terms are equal, term by term. Takes no memory.
 #[cycle(same)]
-fn same_all(a: &[Term], b: &[Term]) -> bool
+pub fn same_all(a: &[Term], b: &[Term]) -> bool
     ensures { IsTrue result ↔ (a.now ≡ b.now) }
 {
     if a.len() != b.len() {

@@ -262,6 +262,30 @@ impl Bench {
         }
     }
 
+    /// Returns what `line` would reply to a line of the program on a lane. Nothing changes.
+    pub fn reply_to(&self, lane: u8, l: &ToolLine, declared: bool) -> Reply
+        requires { IsLane lane }
+        ensures { result ≡ (put_line declared l.now lane self.now).reply }
+    {
+        match self.row(lane).drops(l, declared) {
+            Some(why) => Reply::Dropped(why),
+            None => Reply::Took,
+        }
+    }
+
+    /// Returns what `gone` and `cut` would reply for a lane. Nothing changes.
+    pub fn reply_to_end(&self, lane: u8) -> Reply
+        requires { IsLane lane }
+        ensures gone { result ≡ (gone lane self.now).reply }
+        ensures cut { result ≡ (cut lane self.now).reply }
+    {
+        if self.row(lane).is_up() {
+            Reply::Took
+        } else {
+            Reply::Dropped(Why::NotLive)
+        }
+    }
+
     /// The program on a lane has put a line. `declared` says whether there is a tool of the name by
     /// which the line connects.
     pub fn line(&mut self, lane: u8, l: ToolLine, declared: bool) -> Result<Reply, NoMemory>

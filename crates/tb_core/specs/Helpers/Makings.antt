@@ -1,5 +1,7 @@
 -- What is made of what a process does by itself: what was found of it, and its effect.
-use Rattle.std.specs.Prelude.{ℕ, IsTrue, Option, ⊤}
+use Rattle.std.specs.Prelude.{ℕ, Bool, true, false, IsTrue, Option, ⊤}
+use Rattle.tb_log.specs.declared.entry.LabelKind.{LabelKind}
+use Rattle.tb_log.specs.declared.entry.LabelKind.TheVariants as kind
 use Rattle.tb_match.specs.Matches.{are_plain}
 use Rattle.tb_bus.specs.Effects.{Effect}
 use Rattle.tb_bus.specs.declared.action.OwnAction.{OwnAction}
@@ -32,3 +34,9 @@ IsPlainIn (Unsubscribe patterns) = ⊤
 IsPlainIn (Create process actuals slot) = ⊤
 IsPlainIn (Speak does) = ⊤
 IsPlainIn (Shutdown reason) = ⊤
+
+-- a step of this kind ends the bus without any process
+abbrev pub is_end : LabelKind → Bool
+is_end kind.Finish = true
+is_end kind.Halt = true
+is_end kind = false
