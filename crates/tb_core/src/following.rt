@@ -2,7 +2,7 @@
 
 use crate::acting::NOWHERE;
 use crate::bus::LiveBus;
-use crate::showing::{
+use crate::comparing::{
     is_alone, is_end, own_kind, same_kind, same_out, same_place, shows_exchange,
 };
 use std::alloc::Global;

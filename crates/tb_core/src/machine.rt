@@ -16,7 +16,7 @@ ghost use Rattle.tb_living.specs.Lives.{AreFresh};
 
 use crate::answers::{CoreFault, Stepped, TakeOut};
 use crate::bus::LiveBus;
-use crate::showing::same_reply;
+use crate::comparing::same_reply;
 use std::alloc::Global;
 use std::marker::Model;
 use tb_algebra::Walker;
