@@ -228,9 +228,27 @@ type Followed = (&'static str, u32, &'static str, usize, &'static str);
 
 static FOLLOWED: [Followed; 20] = [
     // The steps of a log come in any order that the script allows, not only in that of a simulation.
-    ("process P is tau toolbus(P, P)", 9, "1 tau 2.1\n2 tau 1.1\n3 finish\n", 3, "yes"),
-    ("process P is tau + tau toolbus(P)", 9, "1 tau 1.2\n2 finish\n", 2, "yes"),
-    ("process P is tau . tau toolbus(P)", 9, "1 tau 1.1\n2 tau 1.1\n", 1, "no"),
+    (
+        "process P is tau toolbus(P, P)",
+        9,
+        "1 tau 2.1\n2 tau 1.1\n3 finish\n",
+        3,
+        "yes",
+    ),
+    (
+        "process P is tau + tau toolbus(P)",
+        9,
+        "1 tau 1.2\n2 finish\n",
+        2,
+        "yes",
+    ),
+    (
+        "process P is tau . tau toolbus(P)",
+        9,
+        "1 tau 1.1\n2 tau 1.1\n",
+        1,
+        "no",
+    ),
     ("process P is tau toolbus(P)", 9, "1 finish\n", 0, "no"),
     ("process P is tau toolbus(P)", 9, "1 tau 2.1\n", 0, "no"),
     // A message shows its two places and its terms.
@@ -240,22 +258,77 @@ static FOLLOWED: [Followed; 20] = [
     (MESSAGE, 9, "1 tau 1.1\n", 0, "no"),
     // Quiet is legal if no step is possible, also after quiet.
     ("process P is tau toolbus(P)", 9, "1 quiet\n", 0, "no"),
-    ("process P is delta toolbus(P)", 9, "1 quiet\n2 quiet\n3 noticks\n4 halt\n5 quiet\n", 4, "no"),
-    ("process P is tau delay(1) toolbus(P)", 9, "1 quiet\n2 tick\n3 quiet\n", 2, "no"),
+    (
+        "process P is delta toolbus(P)",
+        9,
+        "1 quiet\n2 quiet\n3 noticks\n4 halt\n5 quiet\n",
+        4,
+        "no",
+    ),
+    (
+        "process P is tau delay(1) toolbus(P)",
+        9,
+        "1 quiet\n2 tick\n3 quiet\n",
+        2,
+        "no",
+    ),
     ("process P is delta toolbus(P)", 9, "1 halt\n", 0, "no"),
     // An input shows what becomes of it.
-    ("process P is delta toolbus(P)", 9, "1 tick\n2 drop down tick\n", 1, "no"),
-    ("process P is delta toolbus(P)", 9, "1 drop not-live gone 2\n2 gone 1\n3 gone 1\n", 2, "no"),
-    ("process P is delta toolbus(P)", 9, "1 drop bad line 1 ?\n2 line 1 snd-value(1)\n", 1, "no"),
+    (
+        "process P is delta toolbus(P)",
+        9,
+        "1 tick\n2 drop down tick\n",
+        1,
+        "no",
+    ),
+    (
+        "process P is delta toolbus(P)",
+        9,
+        "1 drop not-live gone 2\n2 gone 1\n3 gone 1\n",
+        2,
+        "no",
+    ),
+    (
+        "process P is delta toolbus(P)",
+        9,
+        "1 drop bad line 1 ?\n2 line 1 snd-value(1)\n",
+        1,
+        "no",
+    ),
     // A lane gives its items in order.
-    ("process P is delta toolbus(P)", 9, "1 out 1 start \"ui\"\n2 out 1 end\n", 1, "no"),
-    ("process P is delta toolbus(P)", 9, "1 out 2 start \"ui\"\n", 0, "no"),
+    (
+        "process P is delta toolbus(P)",
+        9,
+        "1 out 1 start \"ui\"\n2 out 1 end\n",
+        1,
+        "no",
+    ),
+    (
+        "process P is delta toolbus(P)",
+        9,
+        "1 out 2 start \"ui\"\n",
+        0,
+        "no",
+    ),
     // A log that is full refuses what may come next, and that alone.
-    ("process P is delta toolbus(P)", 1, "1 quiet\n2 tick\n", 1, "full"),
-    ("process P is delta toolbus(P)", 1, "1 quiet\n2 finish\n", 1, "no"),
+    (
+        "process P is delta toolbus(P)",
+        1,
+        "1 quiet\n2 tick\n",
+        1,
+        "full",
+    ),
+    (
+        "process P is delta toolbus(P)",
+        1,
+        "1 quiet\n2 finish\n",
+        1,
+        "no",
+    ),
 ];
 
-const MESSAGE: &str = "process A is snd-msg(a, 1) process B is let X : int in rec-msg(a, X?) endlet \
+const MESSAGE: &str =
+    "process A is snd-msg(a, 1) process B is let X : int in rec-msg(a, X?) endlet \
      toolbus(A, B)";
 
 fn fault_word(fault: CoreFault) -> &'static [u8] {

@@ -23,7 +23,9 @@ use tb_algebra::Walker;
 use tb_body::Program;
 use tb_bus::Origin;
 use tb_living::Buffers;
-use tb_log::{Entry, Input, Label, Log, Out, Reply, Seen, input_size, is_in_shape, is_lane, out_size};
+use tb_log::{
+    Entry, Input, Label, Log, Out, Reply, Seen, input_size, is_in_shape, is_lane, out_size,
+};
 use tb_search::Candidate;
 use tb_terms::{Items, NoMemory, Text, Texts};
 use tb_tools::{Handout, LaneState};
