@@ -32,7 +32,7 @@ bench:
 faults:
 	tests/faults
 
-# Runs the built program with tools that misbehave. Two minutes.
+# Runs the built program with tools that misbehave and with signals. Two minutes.
 hostile:
 	tests/hostile
 
