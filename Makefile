@@ -19,7 +19,7 @@ build:
 test:
 	.ci/run
 
-# Compares what docs/RULES.md shows with what the built program does. Some seconds. This and all targets below aren't part of the gate.
+# Compares what README.md and docs/RULES.md show with what the built program does. Some seconds. This and all targets below aren't part of the gate.
 pages:
 	tests/pages
 
