@@ -1,4 +1,4 @@
-"""What the tests from outside share: the built program, runs of it, and whose children are left when it has ended."""
+"""What the tests with real programs share: the built program, its runs, and the children that are left after a run."""
 import ctypes
 import os
 import subprocess
