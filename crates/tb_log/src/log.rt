@@ -121,6 +121,7 @@ impl Log {
     /// Takes memory for a step more, of this size. A term has a size of 1 at least, so that a step has no more terms.
     pub fn reserve_step(&mut self, size: usize) -> Result<(), NoMemory>
         ensures spare { OnOk result (0 < self.new.spare) }
+        ensures enough { 0 < self.old.spare → size ≤ self.old.reserved → IsOk result }
         ensures reserved { OnOk result (self.new.reserved ≡ size) }
         ensures entries { self.new.entries ≡ self.old.entries }
         ensures limit { self.new.limit ≡ self.old.limit }
