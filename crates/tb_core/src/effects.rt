@@ -1,0 +1,246 @@
+//! Makes the change of a move beside the process that goes on: notes, tools, creation, and the end of the bus.
+
+ghost use Rattle.std.specs.Prelude.{◌≡◌, ℕ, ◌<◌, ◌≤◌, length, IfOk, IsTrue, OnOk, OnErr, Some, slice_get, true};
+ghost use Rattle.std.specs.List.{All};
+ghost use Rattle.tb_bus.specs.Effects.{creation, speaking, taking, went_down};
+ghost use Rattle.tb_bus.specs.Slots.{fits_formals};
+ghost use Rattle.tb_tools.specs.Lanes.{most_tools};
+ghost use Rattle.tb_search.specs.Candidates.{all_take, row_at, rows_of, wanting};
+ghost use Rattle.tb_search.specs.FoundEffects.{noting};
+ghost use Rattle.tb_index.specs.Indexes.{is_awake};
+ghost use Rattle.tb_living.specs.Indexes.{AreStillAwake, IsAwakeAt};
+ghost use Rattle.tb_core.specs.Helpers.Makings.{effect_in, finding_in, IsPlainIn};
+ghost use Rattle.tb_core.specs.Helpers.LiveBuses.{bus_of, IsSound, IsStaleAt, StandsAs, IsChanged};
+ghost use Rattle.tb_living.specs.Spoken.{CanSpeak, IsDone, around};
+
+use crate::acting::{created, kind_alone, printed, shut_down};
+use crate::bus::LiveBus;
+use std::alloc::Global;
+use tb_algebra::Walker;
+use tb_bus::{Exchange, OwnAction, ToolAction};
+use tb_living::{Done, hand_out, open_at, speak, subscribe_at, take_note_at, unsubscribe_at};
+use tb_log::LabelKind;
+use tb_notes::Found;
+use tb_search::Finding;
+use tb_terms::{Items, NoMemory, Term, Terms};
+
+impl<W: Walker> LiveBus<W> {
+    /// Makes the change of what a process does by itself, as was found; no other finding comes with such an
+    /// action. The process has to be looked at anew already. Where memory ran out nothing has changed.
+    pub fn act(
+        &mut self,
+        alloc: Global,
+        at: usize,
+        own: OwnAction,
+        finding: Finding,
+    ) -> Result<Done, NoMemory>
+        requires sound { IsSound W.view self.old }
+        requires within { at < length self.old.living.items }
+        requires idle { IsStaleAt self.old.living.items at }
+        requires next { self.old.marks.next_number < 4294967295 }
+        requires tools { self.old.bench.next_tool ≤ most_tools }
+        requires plain { IsPlainIn own }
+        requires found { finding_in self.old at own ≡ Some finding }
+        ensures changed { OnOk result
+            (IsChanged W.view self.old at (effect_in self.old at own finding) self.new) }
+        ensures done { IfOk result (IsDone (effect_in self.old at own finding)) }
+        ensures err { OnErr result (StandsAs W.view self.old self.new) }
+    {
+        match own {
+            OwnAction::Tau => Ok(kind_alone(alloc, LabelKind::Tau)),
+            OwnAction::Set(shown, binds) => Ok(Done {
+                kind: LabelKind::Set,
+                shown,
+                binds,
+            }),
+            OwnAction::Print(text) => printed(alloc, text),
+            OwnAction::Notify(terms) => match finding {
+                Finding::Notify(indices) => self.send_note(alloc, &indices, terms),
+                _ => Ok(kind_alone(alloc, LabelKind::SndNote)),
+            },
+            OwnAction::TakeNote(_) => match finding {
+                Finding::TakeNote(found) => Ok(self.take_note(at, found)),
+                _ => Ok(kind_alone(alloc, LabelKind::RecNote)),
+            },
+            OwnAction::NoNote(_) => Ok(kind_alone(alloc, LabelKind::NoNote)),
+            OwnAction::Subscribe(patterns) => {
+                subscribe_at(&mut self.living, at, patterns)?;
+                Ok(kind_alone(alloc, LabelKind::Subscribe))
+            }
+            OwnAction::Unsubscribe(patterns) => {
+                unsubscribe_at(&mut self.living, at, &patterns);
+                Ok(kind_alone(alloc, LabelKind::Unsubscribe))
+            }
+            OwnAction::Create(process, actuals, slot) => {
+                self.create(alloc, process, actuals, slot)
+            }
+            OwnAction::Speak(does) => match finding {
+                Finding::Speak(exchange) => self.speak_with_tool(alloc, does, exchange),
+                _ => Ok(kind_alone(alloc, LabelKind::SndDo)),
+            },
+            OwnAction::Shutdown(reason) => {
+                let done = shut_down(alloc, reason)?;
+                self.go_down(&done.shown.as_slice()[0])?;
+                Ok(done)
+            }
+        }
+    }
+
+    /// The process at an index is asked at the next step, and may sleep again after that.
+    fn rouse_at(&mut self, at: usize) -> Result<(), NoMemory>
+        requires sound { IsSound W.view self.old }
+        requires within { at < length self.old.living.items }
+        ensures same { StandsAs W.view self.old self.new }
+        ensures alone { self.new
+            ≡ record self.old { index = self.new.index; roused = self.new.roused } }
+        ensures kept { AreStillAwake self.old.index self.new.index }
+        ensures awake { OnOk result
+            (is_awake self.new.index (row_at (rows_of self.old.living.items) at).number ≡ true) }
+    {
+        let number = self.living[at].get().number;
+        self.roused.push(number)?;
+        self.index.wake(number);
+        Ok(())
+    }
+
+    /// So are those at these indices.
+    fn rouse(&mut self, indices: &[usize]) -> Result<(), NoMemory>
+        requires sound { IsSound W.view self.old }
+        requires within { All (λ at. at < length self.old.living.items) indices.now }
+        ensures same { StandsAs W.view self.old self.new }
+        ensures alone { self.new
+            ≡ record self.old { index = self.new.index; roused = self.new.roused } }
+        ensures awake { OnOk result
+            (All (IsAwakeAt self.new.index self.old.living.items) indices.now) }
+    {
+        for at in indices {
+            self.rouse_at(*at)?;
+        }
+        Ok(())
+    }
+
+    /// These get a note, which they want.
+    fn send_note(
+        &mut self,
+        alloc: Global,
+        indices: &Items<usize>,
+        terms: Terms,
+    ) -> Result<Done, NoMemory>
+        requires sound { IsSound W.view self.old }
+        requires wanting { indices.now ≡ wanting terms 0 (rows_of self.old.living.items) }
+        requires room { IsTrue (all_take terms (rows_of self.old.living.items)) }
+        ensures changed { OnOk result ((at : ℕ) → at < length self.old.living.items
+            → IsChanged W.view self.old at (noting terms) self.new) }
+        ensures done { IfOk result (IsDone (noting terms)) }
+        ensures err { OnErr result (StandsAs W.view self.old self.new) }
+    {
+        self.rouse(indices.as_slice())?;
+        hand_out(alloc, &mut self.living, indices.as_slice(), &terms)?;
+        Ok(Done {
+            kind: LabelKind::SndNote,
+            shown: terms,
+            binds: Items::new(alloc),
+        })
+    }
+
+    /// A process takes a note that was found in its queue. It has to be looked at anew already.
+    fn take_note(&mut self, at: usize, found: Found) -> Done
+        requires sound { IsSound W.view self.old }
+        requires within { at < length self.old.living.items }
+        requires idle { IsStaleAt self.old.living.items at }
+        requires place { found.place
+            < length (row_at (rows_of self.old.living.items) at).inbox.notes }
+        ensures changed { IsChanged W.view self.old at
+            (taking (row_at (rows_of self.old.living.items) at).inbox found) self.new }
+        ensures done { IsDone
+            (taking (row_at (rows_of self.old.living.items) at).inbox found) result }
+    {
+        let Found { place, binds } = found;
+        Done {
+            kind: LabelKind::RecNote,
+            shown: take_note_at(&mut self.living, at, place),
+            binds,
+        }
+    }
+
+    /// A process speaks with a tool, as was found.
+    fn speak_with_tool(
+        &mut self,
+        alloc: Global,
+        does: ToolAction,
+        exchange: Exchange,
+    ) -> Result<Done, NoMemory>
+        requires sound { IsSound W.view self.old }
+        requires tools { self.old.bench.next_tool ≤ most_tools }
+        requires can { CanSpeak self.old.origin.program.tools self.old.bench does exchange }
+        ensures changed { OnOk result ((at : ℕ) → at < length self.old.living.items
+            → IsChanged W.view self.old at (speaking
+            (around self.old.origin.program.tools self.old.bench) does exchange) self.new) }
+        ensures done { IfOk result (IsDone
+            (speaking (around self.old.origin.program.tools self.old.bench) does exchange)) }
+        ensures err { OnErr result (StandsAs W.view self.old self.new) }
+    {
+        let program = &self.origin.program;
+        let done = speak(
+            alloc,
+            program.tools.as_slice(),
+            &mut self.bench,
+            does,
+            exchange,
+        )?;
+        self.stirred = true;
+        self.bench.show_lanes();
+        Ok(done)
+    }
+
+    /// A process of this body begins with these actuals, behind all others, and its number goes to the slot.
+    fn create(
+        &mut self,
+        alloc: Global,
+        process: u32,
+        actuals: Terms,
+        slot: u32,
+    ) -> Result<Done, NoMemory>
+        requires sound { IsSound W.view self.old }
+        requires next { self.old.marks.next_number < 4294967295 }
+        requires fits { IsTrue
+            (fits_formals (slice_get self.old.origin.program.bodies process) actuals) }
+        ensures changed { OnOk result ((at : ℕ) → at < length self.old.living.items
+            → IsChanged W.view self.old at
+            (creation self.old.marks.next_number process actuals slot) self.new) }
+        ensures done { IfOk result
+            (IsDone (creation self.old.marks.next_number process actuals slot)) }
+        ensures err { OnErr result (StandsAs W.view self.old self.new) }
+    {
+        let number = self.marks.next_number;
+        let done = created(alloc, number, slot)?;
+        let program = &self.origin.program;
+        let bodies = program.bodies.as_slice();
+        let living = open_at::<W>(alloc, bodies, &self.plans, number, process, actuals)?;
+        self.stale.reserve(1)?;
+        self.index.make_room(number)?;
+        self.living.push(living)?;
+        self.stale.push_reserved(number);
+        self.marks.next_number = number + 1;
+        Ok(done)
+    }
+
+    /// The bus goes down, and each tool that is there is told why.
+    pub fn go_down(&mut self, reason: &Term) -> Result<(), NoMemory>
+        requires { IsSound W.view self.old }
+        ensures sound { IsSound W.view self.new }
+        ensures origin { self.new.origin ≡ self.old.origin }
+        ensures plans { self.new.plans ≡ self.old.plans }
+        ensures living { self.new.living ≡ self.old.living }
+        ensures stale { self.new.stale ≡ self.old.stale }
+        ensures ok { OnOk result
+            (bus_of W.view self.new ≡ went_down reason.now (bus_of W.view self.old)) }
+        ensures err { OnErr result (StandsAs W.view self.old self.new) }
+    {
+        self.bench.down(reason)?;
+        self.stirred = true;
+        self.bench.show_lanes();
+        self.marks.down = true;
+        Ok(())
+    }
+}

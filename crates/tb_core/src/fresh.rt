@@ -1,0 +1,219 @@
+//! Looks at processes anew, so that the bus knows what each is ready to do. Puts those to sleep that rest.
+
+ghost use Rattle.std.specs.Prelude.{◌≡◌, ℕ, ◌<◌, ◌∷◌, List, length, OnOk, true, false};
+ghost use Rattle.std.specs.List.{All};
+ghost use Rattle.tb_search.specs.Candidates.{rows_of};
+ghost use Rattle.tb_index.specs.Indexes.{is_receiver};
+ghost use Rattle.tb_search.specs.Indexed.{IsNextPlace};
+ghost use Rattle.tb_living.specs.Indexes.{tool_mark};
+ghost use Rattle.tb_core.specs.Helpers.LiveBuses.{AreSettled, IsSettledAt, IsSound, IsSetAt, StandsAs};
+ghost use Rattle.tb_living.specs.Lives.{AreFresh, IsFreshOr};
+
+use crate::bus::LiveBus;
+use std::alloc::Global;
+use tb_algebra::Walker;
+use tb_living::{Buffers, TOOL_MARK, look, point_of, turn, update};
+use tb_search::{all_rest, place_of};
+use tb_terms::NoMemory;
+
+impl<W: Walker> LiveBus<W> {
+    /// Looks at a process anew, where it has to be.
+    #[inline(never)]
+    fn freshen_at(
+        &mut self,
+        alloc: Global,
+        at: usize,
+        buffers: &mut Buffers,
+    ) -> Result<(), NoMemory>
+        requires sound { IsSound W.view self.old }
+        requires within { at < length self.old.living.items }
+        ensures same { StandsAs W.view self.old self.new }
+        ensures set { IsSetAt self.old.living.items at
+            (λ living. OnOk result (living.fresh ≡ true)) self.new.living.items }
+        ensures stale { self.new.stale ≡ self.old.stale }
+    {
+        let living = self.living[at].get_mut();
+        if living.fresh {
+            return Ok(());
+        }
+        let program = &self.origin.program;
+        let plan = &self.plans.as_slice()[living.body as usize];
+        let body = &program.bodies.as_slice()[living.body as usize];
+        look(alloc, plan, body, living, self.ticks, buffers)?;
+        update(
+            alloc,
+            program,
+            &self.bench,
+            &mut self.index,
+            &mut self.looked,
+            living,
+        )
+    }
+
+    /// Looks at the process with this number anew, where it is there and has to be.
+    fn freshen_number(
+        &mut self,
+        alloc: Global,
+        number: u32,
+        buffers: &mut Buffers,
+    ) -> Result<(), NoMemory>
+        requires { IsSound W.view self.old }
+        ensures same { StandsAs W.view self.old self.new }
+        ensures stale { self.new.stale ≡ self.old.stale }
+        ensures fresh { (others : List ℕ) → All (IsFreshOr (number ∷ others)) self.old.living.items
+            → OnOk result (All (IsFreshOr others) self.new.living.items) }
+    {
+        let at = point_of(self.living.as_slice(), number);
+        if at < self.living.len() {
+            self.freshen_at(alloc, at, buffers)?;
+        }
+        Ok(())
+    }
+
+    /// Looks at those that have to be looked at, where no tick has passed: their numbers are noted.
+    fn freshen_noted(&mut self, alloc: Global, buffers: &mut Buffers) -> Result<(), NoMemory>
+        requires sound { IsSound W.view self.old }
+        requires young { self.old.aged ≡ false }
+        ensures same { StandsAs W.view self.old self.new }
+        ensures fresh { OnOk result (AreFresh self.new.living.items) }
+    {
+        for index in 0..self.stale.len() {
+            let number = self.stale[index];
+            self.freshen_number(alloc, number, buffers)?;
+        }
+        Ok(())
+    }
+
+    /// Looks at those that have to be looked at, of all.
+    #[inline(never)]
+    fn freshen_all(&mut self, alloc: Global, buffers: &mut Buffers) -> Result<(), NoMemory>
+        requires { IsSound W.view self.old }
+        ensures same { StandsAs W.view self.old self.new }
+        ensures fresh { OnOk result (AreFresh self.new.living.items) }
+    {
+        for at in 0..self.living.len() {
+            self.freshen_at(alloc, at, buffers)?;
+        }
+        Ok(())
+    }
+
+    /// The process at an index sleeps where all that it is ready for rests, as its notes and the tools are now.
+    fn settle_at(&mut self, alloc: Global, at: usize) -> Result<(), NoMemory>
+        requires sound { IsSound W.view self.old }
+        requires within { at < length self.old.living.items }
+        ensures same { StandsAs W.view self.old self.new }
+        ensures alone { self.new ≡ record self.old { index = self.new.index } }
+        ensures settled { OnOk result (IsSettledAt self.old self.new at) }
+    {
+        let living = self.living[at].get();
+        if !living.fresh {
+            return Ok(());
+        }
+        let rest = all_rest(alloc, &self.origin.program, &self.bench, living)?;
+        turn(&mut self.index, living.number, rest);
+        Ok(())
+    }
+
+    /// The one with this number sleeps or wakes; where it is gone, the next behind it is judged.
+    #[inline(never)]
+    fn settle_number(&mut self, alloc: Global, number: u32) -> Result<(), NoMemory>
+        requires { IsSound W.view self.old }
+        ensures same { StandsAs W.view self.old self.new }
+        ensures alone { self.new ≡ record self.old { index = self.new.index } }
+    {
+        let at = point_of(self.living.as_slice(), number);
+        if at < self.living.len() {
+            self.settle_at(alloc, at)?;
+        }
+        Ok(())
+    }
+
+    /// So do those that were woken by notes.
+    fn settle_roused(&mut self, alloc: Global) -> Result<(), NoMemory>
+        requires { IsSound W.view self.old }
+        ensures same { StandsAs W.view self.old self.new }
+    {
+        for index in 0..self.roused.len() {
+            let number = self.roused[index];
+            self.settle_number(alloc, number)?;
+        }
+        self.roused.clear();
+        Ok(())
+    }
+
+    /// The next process, from one index on, that may speak with tools.
+    fn next_speaker(&self, from: usize) -> Option<usize>
+        requires sound { IsSound W.view self.now }
+        requires within { from < length self.now.living.items }
+        ensures { IsNextPlace (is_receiver self.now.index tool_mark)
+            (rows_of self.now.living.items) from result }
+    {
+        let found = self
+            .index
+            .next_receiver(TOOL_MARK, self.living[from].get().number);
+        place_of(self.living.as_slice(), from, found)
+    }
+
+    /// So do those that may speak with tools.
+    #[inline(never)]
+    fn settle_speakers(&mut self, alloc: Global) -> Result<(), NoMemory>
+        requires { IsSound W.view self.old }
+        ensures same { StandsAs W.view self.old self.new }
+        ensures settled { OnOk result (AreSettled self.new) }
+    {
+        let mut at = 0;
+        while at < self.living.len() {
+            match self.next_speaker(at) {
+                Some(place) => {
+                    self.settle_at(alloc, place)?;
+                    at = place + 1;
+                }
+                None => return Ok(()),
+            }
+        }
+        Ok(())
+    }
+
+    /// Whoever sleeps has nothing to begin alone from then on, with the notes and the tools that there are.
+    fn settle(&mut self, alloc: Global) -> Result<(), NoMemory>
+        requires { IsSound W.view self.old }
+        ensures same { StandsAs W.view self.old self.new }
+        ensures settled { OnOk result (self.new.stirred ≡ false) }
+    {
+        self.settle_roused(alloc)?;
+        if !self.stirred {
+            return Ok(());
+        }
+        self.settle_speakers(alloc)?;
+        self.stirred = false;
+        Ok(())
+    }
+
+    /// Looks at all processes that have to be looked at.
+    fn look_anew(&mut self, alloc: Global, buffers: &mut Buffers) -> Result<(), NoMemory>
+        requires { IsSound W.view self.old }
+        ensures same { StandsAs W.view self.old self.new }
+        ensures fresh { OnOk result (AreFresh self.new.living.items) }
+    {
+        if self.aged {
+            self.freshen_all(alloc, buffers)?;
+        } else {
+            self.freshen_noted(alloc, buffers)?;
+        }
+        self.stale.clear();
+        self.aged = false;
+        Ok(())
+    }
+
+    /// What each process is ready to do is known from then on, and whoever sleeps rests.
+    #[inline(always)]
+    pub fn freshen(&mut self, alloc: Global, buffers: &mut Buffers) -> Result<(), NoMemory>
+        requires { IsSound W.view self.old }
+        ensures same { StandsAs W.view self.old self.new }
+        ensures fresh { OnOk result (AreFresh self.new.living.items) }
+        ensures settled { OnOk result (self.new.stirred ≡ false) }
+    {
+        self.settle(alloc)?;
+        self.look_anew(alloc, buffers)
+    }
+}
