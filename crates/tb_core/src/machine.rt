@@ -88,6 +88,8 @@ impl<W: Walker> Core<W> {
     /// What was logged so far, which is a trace of the program.
     pub fn log(&self) -> &Log
         ensures value { result.now.entries ≡ self.now.log }
+        ensures limit { result.now.limit ≡ self.now.origin.limit }
+        ensures spare { result.now.spare ≡ self.now.spare }
         ensures trace { IsTrace (start self.now.origin) self.now.log }
         ensures within { length self.now.log ≤ self.now.origin.limit }
     {

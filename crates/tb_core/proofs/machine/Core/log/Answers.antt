@@ -1,6 +1,9 @@
-use Rattle.std.proofs.Common.{◌≤◌, ℕ, length, subst}
+use Rattle.std.proofs.Common.{◌≡◌, ◌≤◌, ℕ, length, subst}
 use Rattle.tb_core.specs.Cores.{CoreState}
 use Rattle.tb_core.proofs.machine.Core.log.Goals as goal
+
+pub returns-clause-limit : goal.returns-clause-limit
+returns-clause-limit g c = subst (λ (s : CoreState). c.self.inside.log.limit ≡ s.origin.limit) c.self.view_is c.self.invariant.limit
 
 pub returns-clause-within : goal.returns-clause-within
 returns-clause-within g c =
