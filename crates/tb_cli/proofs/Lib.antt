@@ -3,3 +3,4 @@ pub mod Fitting
 pub mod Rows
 pub mod Built
 pub mod Examples
+pub mod Ranges
