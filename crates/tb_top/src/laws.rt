@@ -2,6 +2,7 @@ ghost use Rattle.std.specs.Prelude.{◌≡◌, ◌≢◌, ◌≤◌, ◌+◌, �
 ghost use Rattle.std.specs.Fmt.{decimal};
 ghost use Rattle.tb_body.specs.declared.program.Program.{Program};
 ghost use Rattle.tb_cli.specs.declared.command.Command.TheVariants.{Check, Ring, Run, Sim};
+ghost use Rattle.tb_cli.specs.Words.{asked};
 ghost use Rattle.tb_edge.specs.Faults.{Rose};
 ghost use Rattle.tb_log.specs.declared.entry.Entry.{Entry};
 ghost use Rattle.tb_run.specs.declared.ends.RunWhy.TheVariants as why;
@@ -42,9 +43,17 @@ pub fn a_simulation_that_ends_is_put()
         → (status ≡ Status.Ended) ⊎ (status ≡ Status.NoMemory) }
 {}
 
-/// The same of `ring`, for the numbers that the words may give: its script is accepted, and its simulation ends by its own.
+/// The same of `ring`, whatever the words ask for: its script is accepted, and its simulation ends by its own.
 pub fn a_ring_is_put()
-    ensures { (n k : ℕ) (old new : Seen) (told more : Option (List ℕ)) (status : Status) → 2 ≤ n
+    ensures words { (words : List (List ℕ)) (n k : ℕ) (old new : Seen)
+        (told more : Option (List ℕ)) (status : Status) → asked words ≡ Ok (Ring n k)
+        → (Rose old.outside.out_faults new.outside.out_faults → ⊥)
+        → (status ≡ Status.Outside Edge.Err → ⊥)
+        → Reported {A = Unit {0}} (Comes (asked words) old new) told more status
+        → (status ≡ Status.Ended) ⊎ (status ≡ Status.NoMemory) }
+
+    // The words ask for no other numbers than these.
+    ensures numbers { (n k : ℕ) (old new : Seen) (told more : Option (List ℕ)) (status : Status) → 2 ≤ n
         → n ≤ 10000 → 1 ≤ k → n * k ≤ 1000000
         → (Rose old.outside.out_faults new.outside.out_faults → ⊥)
         → (status ≡ Status.Outside Edge.Err → ⊥)
@@ -54,7 +63,11 @@ pub fn a_ring_is_put()
 
 /// What `ring` puts of a ring: one step more than there are messages, the last of which is the shutdown.
 pub fn a_ring_has_one_summary()
-    ensures { (n k : ℕ) (log : List Entry) (last : SimEnd) → 2 ≤ n → n ≤ 10000 → 1 ≤ k
+    ensures words { (words : List (List ℕ)) (n k : ℕ) (log : List Entry) (last : SimEnd)
+        → asked words ≡ Ok (Ring n k) → IsRingOf n k log last
+        → (last ≡ Down) × (summary n log ≡ codes "processes " ++ decimal n ++ codes " steps "
+        ++ decimal (n * k + 1) ++ codes " end " ++ codes "shutdown" ++ 10 ∷ []) }
+    ensures numbers { (n k : ℕ) (log : List Entry) (last : SimEnd) → 2 ≤ n → n ≤ 10000 → 1 ≤ k
         → n * k ≤ 1000000 → IsRingOf n k log last
         → (last ≡ Down) × (summary n log ≡ codes "processes " ++ decimal n ++ codes " steps "
         ++ decimal (n * k + 1) ++ codes " end " ++ codes "shutdown" ++ 10 ∷ []) }
