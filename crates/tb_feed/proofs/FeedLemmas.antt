@@ -1,9 +1,12 @@
 -- What lines say, one after another, and where the first bad one is.
-use Rattle.std.proofs.Common.{◌≡◌, ◌==◌, ℕ, suc, ◌+◌, ◌<◌, Bool, false, List, [], ◌∷◌, ◌++◌, length, map, take, drop, get_or, refl, ap, sym, ◌∙◌, subst, true, Bor}
+use Rattle.std.proofs.Common.{◌≡◌, ◌⊎◌, ◌==◌, ℕ, suc, ◌+◌, ◌<◌, Bool, false, List, [], ◌∷◌, ◌++◌, length, map, take, drop, get_or, refl, ap, sym, ◌∙◌, subst, true, Bor, Result, Ok, Err, inl, inr}
+use Rattle.std.specs.Prelude.{IfOk, IfErr}
 use Rattle.std.specs.List.{AllZip}
 use Rattle.std.proofs.lemmas.List.{drop_more, length-map, take-append-drop, map_push}
 use Rattle.tb_log.specs.declared.entry.Input.{Input}
-use Rattle.tb_feed.specs.Feeds.{Says, SayAll, lines_of, is_full, IsFeedOf, IsFirstBad}
+use Rattle.tb_feed.specs.declared.fault.FeedFault.{FeedFault}
+use Rattle.tb_feed.specs.declared.fault.FeedFault.TheVariants as fault
+use Rattle.tb_feed.specs.Feeds.{Says, SayAll, lines_of, is_full, IsFeedOf, IsFirstBad, IsFaultOf}
 use Rattle.tb_feed.proofs.LineLemmas.{says-one}
 
 -- so lines say one list of inputs at most
@@ -132,3 +135,17 @@ next-bad text lines line count inputs so_far at counted fine full bad =
       full = full;
       bad = bad;
     }
+
+-- what is answered of a text
+
+pub only-feed : (text : List ℕ) (result : Result (List Input) FeedFault) → IfOk result (IsFeedOf text) → IfErr result (IsFaultOf text) → (inputs : List Input) → IsFeedOf text inputs → (result ≡ Ok inputs) ⊎ (result ≡ Err fault.NoMemory)
+only-feed text (Ok others) is told inputs h = inl (ap Ok (one-feed text others inputs is h))
+only-feed text (Err (fault.Line number)) is told inputs h = absurd (feed-fine text inputs number h told)
+only-feed text (Err (fault.TooLong len)) is told inputs h = absurd told
+only-feed text (Err fault.NoMemory) is told inputs h = inr refl
+
+pub exact-line : (text : List ℕ) (result : Result (List Input) FeedFault) → IfOk result (IsFeedOf text) → IfErr result (IsFaultOf text) → (number : ℕ) → IsFirstBad text number → (result ≡ Err (fault.Line number)) ⊎ (result ≡ Err fault.NoMemory)
+exact-line text (Ok inputs) is told number bad = absurd (feed-fine text inputs number is bad)
+exact-line text (Err (fault.Line other)) is told number bad = inl (ap (λ (n : ℕ). Err (fault.Line n)) (one-bad text other number told bad))
+exact-line text (Err (fault.TooLong len)) is told number bad = absurd told
+exact-line text (Err fault.NoMemory) is told number bad = inr refl

@@ -1,7 +1,8 @@
 //! How a text is read line by line.
 
-ghost use Rattle.std.specs.Prelude.{IfOk, IfErr};
-ghost use Rattle.tb_feed.specs.Feeds.{IsFeedOf, IsFaultOf};
+ghost use Rattle.std.specs.Prelude.{◌≡◌, ◌⊎◌, ℕ, List, Ok, Err, IfOk, IfErr};
+ghost use Rattle.tb_log.specs.declared.entry.Input.{Input};
+ghost use Rattle.tb_feed.specs.Feeds.{IsFeedOf, IsFirstBad, IsFaultOf};
 
 use crate::fault::FeedFault;
 use crate::feed::Feed;
@@ -12,6 +13,21 @@ use std::alloc::Global;
 /// `Line` where some line is neither empty nor an input, with the number of the first such, from 1; it is never
 /// `TooLong`.
 pub fn read_feed(alloc: Global, bytes: &[u8]) -> Result<Feed, FeedFault>
+    ensures ok { IfOk result (IsFeedOf bytes.now) }
+
+    // Nothing else keeps a feed from being read.
+    ensures only { (inputs : List Input) → IsFeedOf bytes.now inputs
+        → (result ≡ Ok inputs) ⊎ (result ≡ Err FeedFault.NoMemory) }
+    ensures fault { IfErr result (IsFaultOf bytes.now) }
+
+    // Where a line is bad, this is what comes.
+    ensures exact { (number : ℕ) → IsFirstBad bytes.now number
+        → (result ≡ Err (FeedFault.Line number)) ⊎ (result ≡ Err FeedFault.NoMemory) }
+{
+    read(alloc, bytes)
+}
+
+fn read(alloc: Global, bytes: &[u8]) -> Result<Feed, FeedFault>
     ensures ok { IfOk result (IsFeedOf bytes.now) }
     ensures fault { IfErr result (IsFaultOf bytes.now) }
 {

@@ -8,7 +8,7 @@ use Rattle.tb_feed.specs.Helpers.OneLine.{IsSaid}
 use Rattle.tb_feed.proofs.FeedLemmas.{full-by, next-bad, read_lines, read-more}
 use Rattle.tb_feed.proofs.LineLemmas.{says-may}
 use Rattle.tb_feed.proofs.Roads.{next-part, last-part}
-use Rattle.tb_feed.proofs.reading.read_feed.Goals as goal
+use Rattle.tb_feed.proofs.reading.read.Goals as goal
 
 pub loop-line-preserved : goal.loop-line-preserved
 loop-line-preserved c =

@@ -2,7 +2,7 @@ use Rattle.std.proofs.Common.{◌≡◌, length}
 use Rattle.std.specs.List.{All}
 use Rattle.tb_feed.specs.Feeds.{MayBeFed, SayAll}
 use Rattle.tb_feed.proofs.FeedLemmas.{read_lines}
-use Rattle.tb_feed.proofs.reading.read_feed.Given as goal
+use Rattle.tb_feed.proofs.reading.read.Given as goal
 
 -- the lines so far say the inputs so far
 abbrev pub invariant-loop-line : goal.invariant-loop-line
