@@ -12,4 +12,4 @@ mod starting;
 
 pub use inlet::ChildInlet;
 pub use outlet::ChildOutlet;
-pub use pipes::{ChildPair, child_pair};
+pub use pipes::{ChildPair, child_lanes, child_pair};

@@ -1,3 +1,5 @@
+ghost use Rattle.std.specs.Prelude.{◌≡◌, IfOk, vec_len};
+
 use crate::arrivals::Arrivals;
 use crate::inlet::ChildInlet;
 use crate::outlet::ChildOutlet;
@@ -24,4 +26,19 @@ pub fn child_pair<R: Processes<Started = SystemProcess> + Wait + Clock + Copy + 
         inlet: ChildInlet::new(alloc, rt, arrivals)?,
         outlet: ChildOutlet::new(alloc, rt, others),
     })
+}
+
+/// Makes this many lanes, without a program on any.
+pub fn child_lanes<R: Processes<Started = SystemProcess> + Wait + Clock + Copy + Drop>(
+    alloc: Global,
+    rt: R,
+    n: usize,
+) -> Result<Vec<ChildPair<R>>, AllocError>
+    ensures { IfOk result (λ lanes. vec_len lanes ≡ n) }
+{
+    let mut lanes = Vec::with_capacity(alloc, n)?;
+    for _made in 0..n {
+        lanes.push(child_pair(alloc, rt)?)?;
+    }
+    Ok(lanes)
 }

@@ -2,12 +2,13 @@
 //! command line.
 #![tactic(auto)]
 
-ghost use Rattle.std.specs.Prelude.{vec_len};
+ghost use Rattle.std.specs.Prelude.{◌≡◌, IfOk, vec_len};
 
+use std::alloc::AllocError;
 use std::io::ErrorKind;
 use std::process::ExitCode;
 use std::{env, io};
-use tb_child::{ChildPair, child_pair};
+use tb_child::{ChildPair, child_lanes};
 use tb_edge::{LanePair, RealClock, RealFiles, RealSink, ThreadCrew};
 use tb_top::{Status, toolbus};
 
@@ -18,21 +19,9 @@ fn main(rt: HostRuntime) -> ExitCode {
     let Ok(words) = words(&rt) else {
         return ExitCode::from(Status::NoMemory.number());
     };
-    let Ok(mut lanes) = Vec::with_capacity(rt.alloc(), LANES) else {
+    let Ok(mut lanes) = lanes(rt) else {
         return ExitCode::from(Status::NoMemory.number());
     };
-    for _made in 0..LANES {
-        let Ok(ChildPair { inlet, outlet }) = child_pair(rt.alloc(), rt) else {
-            return ExitCode::from(Status::NoMemory.number());
-        };
-        let (Ok(inlet), Ok(outlet)) = (Box::new(rt.alloc(), inlet), Box::new(rt.alloc(), outlet))
-        else {
-            return ExitCode::from(Status::NoMemory.number());
-        };
-        if lanes.push(LanePair { inlet, outlet }).is_err() {
-            return ExitCode::from(Status::NoMemory.number());
-        }
-    }
     let mut files = RealFiles::new(&rt);
     let mut out = RealSink::new(rt.stdout());
     let mut err = RealSink::new(rt.stderr());
@@ -50,6 +39,21 @@ fn main(rt: HostRuntime) -> ExitCode {
         &mut crew,
     );
     ExitCode::from(status.number())
+}
+
+/// Makes the lanes, without a program on any.
+fn lanes(rt: HostRuntime) -> Result<Vec<LanePair>, AllocError>
+    ensures { IfOk result (λ lanes. vec_len lanes ≡ 16) }
+{
+    let mut lanes = Vec::with_capacity(rt.alloc(), LANES)?;
+    for pair in child_lanes(rt.alloc(), rt, LANES)? {
+        let ChildPair { inlet, outlet } = pair;
+        lanes.push(LanePair {
+            inlet: Box::new(rt.alloc(), inlet)?,
+            outlet: Box::new(rt.alloc(), outlet)?,
+        })?;
+    }
+    Ok(lanes)
 }
 
 /// The words of the command line, without the program's name. Where one isn't UTF-8, a word that

@@ -1,5 +1,5 @@
-use Rattle.std.proofs.Common.{◌≡◌, vec_len}
-use Rattle.toolbus.proofs.main.Given as goal
+use Rattle.std.proofs.Common.{◌≡◌, length, vec_len}
+use Rattle.toolbus.proofs.lanes.Given as goal
 
-abbrev pub invariant-loop-made : goal.invariant-loop-made
-invariant-loop-made g l = vec_len l.lanes ≡ l._made
+abbrev pub invariant-loop-pair : goal.invariant-loop-pair
+invariant-loop-pair g l = vec_len l.lanes ≡ length l.yielded
