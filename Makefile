@@ -1,38 +1,42 @@
-# What one types. hello, build and test need the command rt of the Rattle kit. The others need the built program and Python 3,
-# bench and faults also a C compiler, and those from faults on Linux.
-.PHONY: hello build test bench faults hostile soak
+# The commands for developers. hello, build, and test need rt of the Rattle kit. The others need the built program and Python 3.
+# bench and faults also need a C compiler. faults, hostile, and soak need Linux.
+.PHONY: hello build test pages bench faults hostile soak
 
 SCRIPT := $(CURDIR)/examples/hello.tb
 PROGRAM := $(CURDIR)/crates/toolbus/out/toolbus
 
-# Runs the program as it stands, unproved, on the smallest script that says something, and prints its log.
+# Simulates examples/hello.tb with the unproved program, and prints the log.
 hello:
-	@echo "This proves nothing: it runs the program as it stands. make build proves it, make test proves all."
+	@echo "This proves nothing: it runs the unproved program. make build proves the program, make test proves all crates."
 	@cd crates/toolbus && rt try -- sim "$(SCRIPT)"
 
-# Proves the program with all that it stands on, and builds it.
+# Proves the program with all crates that it depends on, and builds it.
 build:
 	cd crates/toolbus && rt run -- sim "$(SCRIPT)"
 	@echo "The program is $(PROGRAM)"
 
-# The merge gate.
+# The CI gate.
 test:
 	.ci/run
 
-# How long the built program takes, on scripts and with live tools. No part of the gate.
+# Compares what README.md and docs/RULES.md show with what the built program does. Some seconds. This and all targets below aren't part of the gate.
+pages:
+	tests/pages
+
+# Measures the time of the built program, on scripts and with live tools.
 bench:
 	bench/run
 	bench/live
 
-# Each request for memory refused in turn; the table of docs/FAULTS.md. Some minutes. No part of the gate, as the next two aren't.
+# Rejects each memory request of the built program in turn, for the table of docs/FAULTS.md. Some minutes.
 faults:
 	tests/faults
 
-# Tools that misbehave. Two minutes.
+# Runs the built program with tools that misbehave and with signals. Two minutes.
 hostile:
 	tests/hostile
 
-# Sixteen random tools under load, for so many minutes.
+# Runs the built program with sixteen random tools under load, for MINUTES.
 MINUTES := 10
 soak:
 	tests/soak --minutes $(MINUTES)

@@ -1,4 +1,4 @@
-"""What the tests from outside share: the built program, runs of it, and whose children are left when it has ended."""
+"""What the tests with real programs share: the built program, its runs, and the children that are left after a run."""
 import ctypes
 import os
 import subprocess
@@ -74,9 +74,10 @@ def left_behind():
     return left
 
 
-def start(words, folder, err, env=None):
+def start(words, folder, err, env=None, own_group=False):
     """Starts the program. Its standard error is a file: what a tool leaves behind has it too, and would hold up a reader."""
-    return subprocess.Popen(words, cwd=folder, stdin=subprocess.DEVNULL, stdout=subprocess.PIPE, stderr=err, env=env)
+    return subprocess.Popen(words, cwd=folder, stdin=subprocess.DEVNULL, stdout=subprocess.PIPE, stderr=err, env=env,
+                            start_new_session=own_group)
 
 
 def text_of(file):

@@ -1,5 +1,5 @@
-"""A tool of tests/soak: it does as it likes, by a seed and a rate that stand in the file `settings`, and writes down in a
-file of its own what it says and hears. What it says last may be within a line.
+"""A tool of tests/soak. It acts at random, by a seed and a rate in the file `settings`, and records in a file of its own the lines that
+it writes and reads. Its last output can end within a line.
 """
 import os
 import random

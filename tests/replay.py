@@ -1,7 +1,7 @@
 """The rules of a bus (docs/RULES.md), as far as one script of one process and one tool needs them: which entries may come.
 
-The script is SCRIPT: its process starts a tool, tells it a, hears that it has shut its input, tells it b, and lets it go;
-wherever the tool is lost before that, it lets it go at once.
+The script is SCRIPT. Its process starts a tool, sends it a, receives that the tool has closed its input, sends it b, and releases it.
+If the tool is lost before that, the process releases it at once.
 """
 
 SCRIPT = """tool t is { command = "sh tool.sh" }

@@ -1,4 +1,4 @@
-"""What the tools of tests/hostile and tests/soak share: they say and hear whole lines. It is copied beside a tool."""
+"""What the tools of tests/hostile and tests/soak share: they write and read whole lines. It is copied next to a tool."""
 import os
 import signal
 import sys

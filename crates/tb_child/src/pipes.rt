@@ -28,7 +28,7 @@ pub fn child_pair<R: Processes<Started = SystemProcess> + Wait + Clock + Copy + 
     })
 }
 
-/// So many lanes on which no program stands yet.
+/// Makes this many lanes, without a program on any.
 pub fn child_lanes<R: Processes<Started = SystemProcess> + Wait + Clock + Copy + Drop>(
     alloc: Global,
     rt: R,

@@ -30,7 +30,7 @@ made-within verb.Run parts fits = (
   (number-in run parts ticks fits refl (omega arith) (omega arith, omega arith)).1,
   number-in run parts events fits refl (omega arith) (omega arith, omega arith),
 )
-made-within verb.Ring parts fits = let h = ring-numbers parts fits in (h.processes, h.rounds)
+made-within verb.Ring parts fits = let h = ring-numbers parts fits in (h.processes, h.rounds.0, h.rounds.1)
 
 row-within : (row : Row) (parts : List Part) (answer : Answer) (command : Command) → row ≡ row_by row.verb → row_answer row parts ≡ answer → made row parts answer ≡ Ok command → IsWithin command
 row-within row parts (Ok tt) command own fine e =

@@ -1,4 +1,4 @@
-//! A process of the bus goes on: what it does is taken of it, and what is left of it stays.
+//! Takes what a process does, and lets the process go on.
 
 ghost use Rattle.std.specs.Prelude.{◌≡◌, ℕ, ◌<◌, ◌≤◌, ◌+◌, ◌≢◌, [], length, Contains, IfOk, OnOk, slice_get};
 ghost use Rattle.tb_search.specs.Views.{own_in, sent_in, ready_at, offer_of};

@@ -1,4 +1,4 @@
-//! The change that a move makes beside the process that goes on: notes, tools, creation, and the end of the bus.
+//! Makes the change of a move beside the process that goes on: notes, tools, creation, and the end of the bus.
 
 ghost use Rattle.std.specs.Prelude.{◌≡◌, ℕ, ◌<◌, ◌≤◌, length, IfOk, IsTrue, OnOk, OnErr, Some, slice_get, true};
 ghost use Rattle.std.specs.List.{All};

@@ -1,4 +1,4 @@
-//! What each process is ready to do is known, and whoever sleeps rests: processes are looked at anew.
+//! Looks at processes anew, so that the bus knows what each is ready to do. Puts those to sleep that rest.
 
 ghost use Rattle.std.specs.Prelude.{◌≡◌, ℕ, ◌<◌, ◌∷◌, List, length, OnOk, true, false};
 ghost use Rattle.std.specs.List.{All};

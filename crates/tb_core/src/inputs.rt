@@ -1,4 +1,4 @@
-//! What comes from outside, and what is handed out.
+//! Receives inputs, and takes what is to be handed out.
 
 ghost use Rattle.std.specs.Prelude.{◌≡◌, ◌<◌, ◌≤◌, ◌+◌, IfOk, IsSome, OnOk, OnErr, Some, false, map};
 ghost use Rattle.tb_algebra.specs.Walks.{most_ticks};

@@ -1,4 +1,4 @@
-//! The moves of a bus: the first of all is found, and one that was found is made and logged.
+//! Finds the first of all moves, makes a move, and logs it.
 
 ghost use Rattle.std.specs.Prelude.{◌≡◌, ◌<◌, ◌≤◌, ◌+◌, length, vec_len, vec_capacity, Contains, IfOk, IfSome, OnOk, OnErr, true, false, option_map};
 ghost use Rattle.tb_algebra.specs.Offers.{Offered};

@@ -1,4 +1,4 @@
-//! What is seen of a move that was found, before it is made.
+//! Measures what the log shows of a move, before the bus makes the move.
 
 ghost use Rattle.std.specs.Prelude.{◌≡◌, min, ◌<◌, length, Some};
 ghost use Rattle.std.below.core.specs.declared.int.usize.TheConstants.{MAX};

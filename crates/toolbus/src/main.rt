@@ -41,7 +41,7 @@ fn main(rt: HostRuntime) -> ExitCode {
     ExitCode::from(status.number())
 }
 
-/// The lanes, on which no program stands yet.
+/// Makes the lanes, without a program on any.
 fn lanes(rt: HostRuntime) -> Result<Vec<LanePair>, AllocError>
     ensures { IfOk result (λ lanes. vec_len lanes ≡ 16) }
 {
