@@ -417,8 +417,8 @@ class Tool:
         nothing = os.open(os.devnull, os.O_RDONLY)
         os.dup2(nothing, 0)
         os.close(nothing)
-        sys.stdout.flush()
         os.dup2(2, 1)
+        sys.stdout.flush()
         sys.stdout = sys.stderr
 
     # Lines to the bus. Any thread can call these.

@@ -13,6 +13,7 @@ HERE = os.path.dirname(os.path.abspath(__file__))
 class Case:
     """A text, what it reads as, and the text that is written for it, if it is accepted."""
 
+    table: str
     line: int
     text: bytes
     answer: str
@@ -33,5 +34,5 @@ def cases(name: str) -> List[Case]:
             fields = line.rstrip("\n").split("\t")
             if len(fields) > 1 and not line.startswith("#"):
                 written = spelled(fields[2]) if len(fields) > 2 else None
-                found.append(Case(number, spelled(fields[0]), fields[1], written))
+                found.append(Case(name, number, spelled(fields[0]), fields[1], written))
     return found
