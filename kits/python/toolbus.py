@@ -12,13 +12,13 @@
 
 A term is a Python value:
 
-    a whole number        int
+    a number              int
     a string              str
     true, false           True, False
     a list                list
     any other name        Appl("plus", 1, 2), or Appl("none") without arguments
 
-Python says that 1 == True, so compare terms by `same` if a number may meet a truth value.
+In Python 1 == True, so compare terms by `same` if one can be a number and the other true or false.
 """
 from __future__ import annotations
 
@@ -35,7 +35,7 @@ from typing import Any, Callable, Dict, List, Optional, Sequence, Tuple, TypeVar
 __all__ = ["Appl", "BusGone", "LATER", "Line", "NoHandler", "Term", "TermError", "Tool", "read_line", "read_term", "same", "write_term"]
 
 MOST_SIZE = 65_536
-MOST_LEVELS = 64
+MOST_DEPTH = 64
 MOST_LINE_BYTES = 65_536
 LEAST_NUMBER, MOST_NUMBER = -(2**63), 2**63 - 1
 
@@ -62,9 +62,9 @@ Term = Union[int, str, bool, List[Any], Appl]
 
 
 class TermError(ValueError):
-    """A text that isn't a term, or a value that has no text.
+    """An error in the text of a term or of a line, or a value that has no text.
 
-    `kind` is "syntax", "real", "integer", "large", "deep" or "value". `at` is the byte, counted from 0, for the first three.
+    `kind` is "syntax", "real", "integer", "large", "deep" or "value". For the first three, `at` is the byte, counted from 0.
     """
 
     def __init__(self, kind: str, message: str, at: Optional[int] = None) -> None:
@@ -74,21 +74,21 @@ class TermError(ValueError):
 
 
 class BusGone(Exception):
-    """The bus no longer reads what the tool writes."""
+    """The bus has closed the tool's output."""
 
 
 class NoHandler(LookupError):
-    """The bus asked for a value, and the tool has no handler for the term."""
+    """The bus sent rec-eval, and the tool has no handler for its term."""
 
 
 # Reading
 
-_BLANKS = re.compile(rb"[\t\n\r ]*")
+_SPACE = re.compile(rb"[\t\n\r ]*")
 _NUMBER = re.compile(rb"(-?)0*([0-9]+)")
 _POINT = re.compile(rb"\.[0-9]")
 _NAME = re.compile(rb"[a-z][A-Za-z0-9_-]*")
 _PIECES = re.compile(
-    rb'(?:[\t\x20!#-\x5b\x5d-\x7f]|\\["\\nrt]|[\xc2-\xdf][\x80-\xbf]'
+    rb'(?:[\t\x20!#-\x5b\x5d-\x7f]+|\\["\\nrt]|[\xc2-\xdf][\x80-\xbf]'
     rb"|\xe0[\xa0-\xbf][\x80-\xbf]|\xed[\x80-\x9f][\x80-\xbf]|[\xe1-\xec\xee\xef][\x80-\xbf]{2}"
     rb"|\xf0[\x90-\xbf][\x80-\xbf]{2}|\xf4[\x80-\x8f][\x80-\xbf]{2}|[\xf1-\xf3][\x80-\xbf]{3})*"
 )
@@ -102,49 +102,44 @@ _MOST_DIGITS = 19
 
 
 class _Open:
-    """A name with arguments or a list, of which the parts so far are read."""
+    """A list, or a name with arguments, that isn't closed yet."""
 
-    def __init__(self, name: Optional[str], has_parts: bool) -> None:
+    def __init__(self, name: Optional[str]) -> None:
         self.name = name
-        self.has_parts = has_parts
         self.end = b"]" if name is None else b")"
         self.parts: List[Term] = []
 
     def closed(self) -> Term:
-        if self.name is None:
-            return self.parts
-        if self.parts or self.name not in ("true", "false"):
-            return Appl(self.name, *self.parts)
-        return self.name == "true"
+        return self.parts if self.name is None else Appl(self.name, *self.parts)
 
 
 class _Reader:
-    """Reads one term from left to right, without recursion: a text may nest deeper than Python's stack."""
+    """Reads one term from left to right. It doesn't recurse, because a text can nest deeper than Python's stack."""
 
     def __init__(self, text: bytes) -> None:
         self.text = text
         self.at = 0
         self.size = 0
-        self.levels = 0
+        self.depth = 0
 
-    def fault(self, at: int) -> TermError:
+    def syntax_error(self, at: int) -> TermError:
         found = f"found {self.text[at:at + 1]!r}" if at < len(self.text) else "found the end of the text"
         return TermError("syntax", f"syntax error at byte {at}: {found}", at)
 
     def next_byte(self) -> bytes:
-        """Skips blanks, and returns the byte after them: none at the end."""
-        self.at = _BLANKS.match(self.text, self.at).end()  # type: ignore[union-attr]
+        """Skips whitespace, and returns the next byte, or no byte at the end."""
+        self.at = _SPACE.match(self.text, self.at).end()  # type: ignore[union-attr]
         return self.text[self.at : self.at + 1]
 
     def number(self) -> int:
         match = _NUMBER.match(self.text, self.at)
         if match is None:
-            raise self.fault(self.at + 1)
+            raise self.syntax_error(self.at + 1)
         if _POINT.match(self.text, match.end()):
-            raise TermError("real", f"real number at byte {self.at}: only whole numbers are terms", self.at)
+            raise TermError("real", f"real number at byte {self.at}: a number must be whole", self.at)
         number = int(match[1] + match[2]) if len(match[2]) <= _MOST_DIGITS else MOST_NUMBER + 1
         if not LEAST_NUMBER <= number <= MOST_NUMBER:
-            raise TermError("integer", f"number out of range at byte {self.at}: {LEAST_NUMBER} to {MOST_NUMBER} are terms", self.at)
+            raise TermError("integer", f"number out of range at byte {self.at}: the range is {LEAST_NUMBER} to {MOST_NUMBER}", self.at)
         self.at = match.end()
         return number
 
@@ -152,58 +147,71 @@ class _Reader:
         start = self.at + 1
         end = _PIECES.match(self.text, start).end()  # type: ignore[union-attr]
         if self.text[end : end + 1] != b'"':
-            raise self.fault(_PIECE_BEGUN.match(self.text, end).end())  # type: ignore[union-attr]
+            raise self.syntax_error(_PIECE_BEGUN.match(self.text, end).end())  # type: ignore[union-attr]
         self.at = end + 1
         string = _ESCAPE.sub(lambda escape: _ESCAPED[escape[1]], self.text[start:end].decode("utf-8"))
         self.size += len(string.encode("utf-8"))
         return string
 
-    def opened(self) -> _Open:
-        """Reads the beginning of a name with arguments, or of a list that isn't empty."""
-        name = None
+    def name(self) -> Union[Term, _Open]:
+        """Reads a name, and the bracket that begins its arguments."""
         match = _NAME.match(self.text, self.at)
-        if match is not None:
-            name = match[0].decode("ascii")
-            self.size += len(name)
-            self.at = match.end()
-            if self.next_byte() != b"(":
-                return _Open(name, False)
+        if match is None:
+            raise self.syntax_error(self.at)
+        self.at = match.end()
+        self.size += len(match[0])
+        name = match[0].decode("ascii")
+        if self.next_byte() == b"(":
+            self.at += 1
+            return _Open(name)
+        return name == "true" if name in ("true", "false") else Appl(name)
+
+    def list(self) -> Union[Term, _Open]:
+        """Reads an empty list, or the bracket that begins another list."""
         self.at += 1
-        return _Open(name, name is not None or self.next_byte() != b"]")
+        if self.next_byte() != b"]":
+            return _Open(None)
+        self.at += 1
+        return []
+
+    def head(self) -> Union[Term, _Open]:
+        """Reads a term without parts, or the beginning of a term with parts."""
+        byte = self.next_byte()
+        self.size += 1
+        if byte.isdigit() or byte == b"-":
+            return self.number()
+        if byte == b'"':
+            return self.string()
+        return self.list() if byte == b"[" else self.name()
+
+    def close(self, term: Term, above: List[_Open]) -> Term:
+        """Adds a term to the innermost open one, and closes all that end behind it. Returns the last term that is closed."""
+        while above:
+            above[-1].parts.append(term)
+            byte = self.next_byte()
+            if byte not in (b",", above[-1].end):
+                raise self.syntax_error(self.at)
+            self.at += 1
+            if byte == b",":
+                break
+            term = above.pop().closed()
+        return term
 
     def term(self) -> Term:
         """Reads the whole text."""
         above: List[_Open] = []
         while True:
-            byte = self.next_byte()
-            self.size += 1
-            self.levels = max(self.levels, len(above) + 1)
-            if byte.isdigit() or byte == b"-":
-                done: Term = self.number()
-            elif byte == b'"':
-                done = self.string()
-            elif byte == b"[" or _NAME.match(byte):
-                part = self.opened()
-                if part.has_parts:
-                    above.append(part)
-                    continue
-                self.at += part.name is None
-                done = part.closed()
-            else:
-                raise self.fault(self.at)
-            while above and self.next_byte() == above[-1].end:
-                self.at += 1
-                above[-1].parts.append(done)
-                done = above.pop().closed()
+            self.depth = max(self.depth, len(above) + 1)
+            head = self.head()
+            if isinstance(head, _Open):
+                above.append(head)
+                continue
+            term = self.close(head, above)
             if not above:
                 break
-            if self.next_byte() != b",":
-                raise self.fault(self.at)
-            self.at += 1
-            above[-1].parts.append(done)
         if self.next_byte():
-            raise self.fault(self.at)
-        return done
+            raise self.syntax_error(self.at)
+        return term
 
 
 def _bytes_of(text: Union[bytes, str]) -> bytes:
@@ -211,13 +219,13 @@ def _bytes_of(text: Union[bytes, str]) -> bytes:
 
 
 def read_term(text: Union[bytes, str]) -> Term:
-    """Returns the term that the text reads as. Raises TermError if the text isn't a term, or is past a limit."""
+    """Returns the term that the text reads as. Raises TermError if the text isn't a term or exceeds a limit."""
     reader = _Reader(_bytes_of(text))
     term = reader.term()
     if reader.size > MOST_SIZE:
-        raise TermError("large", f"the term is too large: its size is {reader.size}, the limit {MOST_SIZE}")
-    if reader.levels > MOST_LEVELS:
-        raise TermError("deep", f"the term is too deep: it has {reader.levels} levels, the limit is {MOST_LEVELS}")
+        raise TermError("large", f"the term is too large: its size is {reader.size}, the limit is {MOST_SIZE}")
+    if reader.depth > MOST_DEPTH:
+        raise TermError("deep", f"the term is too deep: its depth is {reader.depth}, the limit is {MOST_DEPTH}")
     return term
 
 
@@ -237,56 +245,56 @@ class _Writer:
     def string(self, string: str) -> str:
         wrong = _NO_STRING.search(string)
         if wrong is not None:
-            raise TermError("value", f"no string of a term has the character {wrong[0]!r}, at index {wrong.start()}")
+            raise TermError("value", f"a string can't have the character {wrong[0]!r}, at index {wrong.start()}")
         self.size += len(string.encode("utf-8"))
         return f'"{string.translate(_ESCAPES)}"'
 
-    def parts(self, parts: Sequence[Term], levels: int) -> str:
-        return ",".join([self.term(part, levels) for part in parts])
+    def parts(self, parts: Sequence[Term], depth: int) -> str:
+        return ",".join([self.term(part, depth) for part in parts])
 
     def name(self, name: str) -> str:
         if not isinstance(name, str) or _WHOLE_NAME.match(name) is None:
-            raise TermError("value", f"{name!r} is no name: a lower-case letter, then letters, digits, - and _")
+            raise TermError("value", f"{name!r} isn't a name: a name is a lower-case letter, then letters, digits, - and _")
         self.size += len(name)
         return name
 
-    def term(self, term: Term, levels: int) -> str:
-        """Returns the text of a term that has at most so many levels."""
-        if levels == 0:
-            raise TermError("deep", f"the term is too deep: the limit is {MOST_LEVELS} levels")
+    def term(self, term: Term, depth: int) -> str:
+        """Returns the text of a term of at most this depth."""
+        if depth == 0:
+            raise TermError("deep", f"the term is too deep: the limit is {MOST_DEPTH}")
         self.size += 1
         if isinstance(term, bool):
             return self.name("true" if term else "false")
         if isinstance(term, int):
             if not LEAST_NUMBER <= term <= MOST_NUMBER:
-                raise TermError("value", f"{term} is out of range: {LEAST_NUMBER} to {MOST_NUMBER} are terms")
+                raise TermError("value", f"{term} is out of range: the range is {LEAST_NUMBER} to {MOST_NUMBER}")
             return str(int(term))
         if isinstance(term, str):
             return self.string(term)
         if isinstance(term, (list, tuple)):
-            return f"[{self.parts(term, levels - 1)}]"
+            return f"[{self.parts(term, depth - 1)}]"
         if isinstance(term, Appl):
             name = self.name(term.name)
-            return f"{name}({self.parts(term.args, levels - 1)})" if term.args else name
-        raise TermError("value", f"{term!r} is no term: a {type(term).__name__} has no text")
+            return f"{name}({self.parts(term.args, depth - 1)})" if term.args else name
+        raise TermError("value", f"{term!r} isn't a term: use int, str, bool, list or Appl")
 
 
 def _texts(parts: Sequence[Term]) -> str:
-    """Returns the texts of terms that are together within the limits, with commas between."""
+    """Returns the texts of terms that are within the limits together, separated by commas."""
     writer = _Writer()
-    text = writer.parts(parts, MOST_LEVELS)
+    text = writer.parts(parts, MOST_DEPTH)
     if writer.size > MOST_SIZE:
-        raise TermError("large", f"the term is too large: its size is {writer.size}, the limit {MOST_SIZE}")
+        raise TermError("large", f"the term is too large: its size is {writer.size}, the limit is {MOST_SIZE}")
     return text
 
 
 def write_term(term: Term) -> str:
-    """Returns the one text of a term. Raises TermError if the value is no term, or is past a limit."""
+    """Returns the text of a term. Raises TermError if the value isn't a term or exceeds a limit."""
     return _texts([term])
 
 
 def same(one: Term, other: Term) -> bool:
-    """Returns whether two terms are equal. Python's == takes 1 for True."""
+    """Returns whether two terms are equal. Unlike ==, it distinguishes 1 from True."""
     return write_term(one) == write_term(other)
 
 
@@ -309,7 +317,7 @@ class Line:
 
 def _check_shape(word: str, terms: Tuple[Term, ...], words: Dict[str, Optional[int]]) -> None:
     if word not in words:
-        raise TermError("value", f"the line begins with {word}: it must begin with one of {', '.join(words)}")
+        raise TermError("value", f"the line begins with {word}: it must begin with {', '.join(words)}")
     wanted = words[word]
     if wanted is None and not terms:
         raise TermError("value", f"{word} takes one term or more")
@@ -320,9 +328,9 @@ def _check_shape(word: str, terms: Tuple[Term, ...], words: Dict[str, Optional[i
 
 
 def read_line(text: Union[bytes, str], from_tool: bool = False) -> Line:
-    """Returns the line that a text is, without the newline at its end: one to a tool, or one from a tool.
+    """Returns the line to a tool, or from a tool, that a text without a newline is.
 
-    Raises TermError if it is no such line. The limits are on the terms in the line, and don't count its word.
+    Raises TermError if the text isn't such a line. The limits apply to the terms in the line, without its word.
     """
     raw = _bytes_of(text)
     if from_tool and len(raw) > MOST_LINE_BYTES:
@@ -330,11 +338,11 @@ def read_line(text: Union[bytes, str], from_tool: bool = False) -> Line:
     reader = _Reader(raw)
     term = reader.term()
     if not isinstance(term, Appl):
-        raise TermError("value", "the line is a term without a word: it must be a name such as snd-value with a term in brackets")
+        raise TermError("value", "the line doesn't begin with a word such as snd-value")
     line = Line(term.name, term.args)
     _check_shape(line.word, line.terms, _FROM_TOOL if from_tool else _TO_TOOL)
-    if reader.levels - 1 > MOST_LEVELS:
-        raise TermError("deep", f"a term in the line is too deep: it has {reader.levels - 1} levels, the limit is {MOST_LEVELS}")
+    if reader.depth - 1 > MOST_DEPTH:
+        raise TermError("deep", f"a term in the line is too deep: its depth is {reader.depth - 1}, the limit is {MOST_DEPTH}")
     if reader.size - 1 - len(line.word) > MOST_SIZE:
         raise TermError("large", f"the terms in the line are too large together: the limit of their size is {MOST_SIZE}")
     return line
@@ -343,13 +351,13 @@ def read_line(text: Union[bytes, str], from_tool: bool = False) -> Line:
 # The event loop
 
 LATER = object()
-"""A handler of `eval` returns this if the tool calls `value` later."""
+"""A handler of `eval` returns this if the tool calls `Tool.value` later."""
 
 Handler = TypeVar("Handler", bound=Callable[..., Any])
 
 
 class Handlers:
-    """The handlers for the lines with one word, and the decorator that adds one."""
+    """The handlers for one word, such as rec-eval, and the decorator that adds a handler."""
 
     def __init__(self) -> None:
         self._named: Dict[str, Callable[..., Any]] = {}
@@ -373,7 +381,7 @@ class Handlers:
         return named
 
     def handle(self, terms: Tuple[Term, ...], otherwise: Callable[[], Any]) -> Any:
-        """Calls the handler for these terms: one for the first term's name, or one for all terms, or else `otherwise`."""
+        """Calls the handler for the name of the first term, else the one for all terms, else `otherwise`."""
         first = terms[0]
         if isinstance(first, Appl) and first.name in self._named:
             return self._named[first.name](*first.args, *terms[1:])
@@ -383,18 +391,18 @@ class Handlers:
 class Tool:
     """A tool on the bus: handlers for the lines that come in, and calls for the lines that go out.
 
-    There are four decorators:
+    Four decorators add handlers:
 
-        eval         of rec-eval; what the handler returns goes to the bus as snd-value, but for LATER
-        do           of rec-do
-        ack_event    of rec-ack-event; a tool needs none
-        terminate    of rec-terminate, called before the loop ends; a tool needs none
+        eval         for rec-eval; the kit sends the result as snd-value, unless it is LATER
+        do           for rec-do
+        ack_event    for rec-ack-event; optional
+        terminate    for rec-terminate; optional, called before the loop ends
 
-    Each takes a handler for all terms, as `@tool.eval`, or for one name, as `@tool.eval("plus")`. The first kind of handler is
-    called with the terms of the line, the second with the arguments of its first term, and then with its other terms.
+    `@tool.eval` adds a handler for all terms, and `@tool.eval("plus")` one for terms with this name, which takes precedence. The
+    first is called with the terms of the line. The second is called with the arguments of the first term, then the other terms.
 
-    The tool takes the standard input and output for itself. From then on `print` writes to the standard error, `input`
-    finds the end, and programs that the tool starts get neither of the bus's two pipes.
+    The tool takes over the standard input and output. From then on, `print` writes to the standard error, `input` reads
+    nothing, and programs that the tool starts inherit neither pipe of the bus.
     """
 
     def __init__(self, input_fd: int = 0, output_fd: int = 1) -> None:
@@ -421,10 +429,10 @@ class Tool:
         sys.stdout.flush()
         sys.stdout = sys.stderr
 
-    # Lines to the bus. Any thread can call these.
+    # Lines to the bus. Every thread can call these methods.
 
     def value(self, term: Term) -> None:
-        """Sends snd-value. Only a handler of `eval` that returned LATER needs this."""
+        """Sends snd-value, after a handler of `eval` returned LATER."""
         self._send("snd-value", term)
 
     def event(self, *terms: Term) -> None:
@@ -432,7 +440,7 @@ class Tool:
         self._send("snd-event", *terms)
 
     def connect(self, name: str) -> None:
-        """Sends snd-connect: a tool that `--connect` started says its name first."""
+        """Sends snd-connect. If `--connect` started the tool, this line must come first."""
         self._send("snd-connect", Appl(name))
 
     def disconnect(self) -> None:
@@ -441,7 +449,7 @@ class Tool:
         self._ended = True
 
     def log(self, *values: object) -> None:
-        """Writes a line for people to the standard error, in the manner of print."""
+        """Writes a line to the standard error, in the manner of print."""
         print(f"{os.path.basename(sys.argv[0])}:", *values, file=sys.stderr, flush=True)
 
     def _send(self, word: str, *terms: Term) -> None:
@@ -455,14 +463,14 @@ class Tool:
                 while left:
                     left = left[os.write(self._output, left) :]
             except BrokenPipeError:
-                raise BusGone("the bus no longer reads what the tool writes") from None
+                raise BusGone("the bus has closed the tool's output") from None
 
     # Lines from the bus
 
     def run(self) -> Optional[Term]:
-        """Handles lines until rec-terminate, and returns its term; or until the input ends, and returns None.
+        """Handles lines until rec-terminate, and returns its term. If the input ends first, returns None.
 
-        An error in a handler ends the tool, as any error ends a program of Python. Ctrl-C ends it without a traceback.
+        Passes on errors in handlers. Ctrl-C ends the tool without a traceback.
         """
         try:
             while self.step():
@@ -474,13 +482,13 @@ class Tool:
         return self.reason
 
     def step(self, timeout: Optional[float] = None) -> bool:
-        """Handles one line, and waits for it at most so many seconds. Returns False once the tool must end."""
+        """Handles one line, and waits for it at most `timeout` seconds. Returns False if the tool must end."""
         text = None if self._ended else self._next_line(timeout)
         if text is not None:
             try:
                 line = read_line(text)
             except TermError as error:
-                self.log(f"not a line of a bus: {error}: {text!r}")
+                self.log(f"ignored a line that no bus sends: {error}: {text!r}")
             else:
                 self._handle(line)
         return not self._ended
@@ -511,7 +519,7 @@ class Tool:
         if line.word == "rec-eval":
             self._answer(line)
         elif line.word == "rec-do":
-            self.do.handle(line.terms, lambda: self.log(f"no handler of do for {line}"))
+            self.do.handle(line.terms, lambda: self.log(f"no handler for {line}: add one by @tool.do"))
         elif line.word == "rec-ack-event":
             self.ack_event.handle(line.terms, lambda: None)
         else:
@@ -521,10 +529,10 @@ class Tool:
 
     def _answer(self, line: Line) -> None:
         def unknown() -> None:
-            raise NoHandler(f"no handler of eval for {line}: the process that asked would wait for ever")
+            raise NoHandler(f"no handler for {line}: add one by @tool.eval")
 
         answer = self.eval.handle(line.terms, unknown)
         if answer is None:
-            raise TermError("value", f"the handler of eval for {line} returned None: it must return a term, or LATER")
+            raise TermError("value", f"the handler for {line} returned None: it must return a term, or LATER")
         if answer is not LATER:
             self.value(answer)

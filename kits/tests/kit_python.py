@@ -129,7 +129,7 @@ class Loop(unittest.TestCase):
     def test_other_lines_need_no_handler(self):
         self.tell("rec-do(1)\nrec-ack-event(a)\nrec-terminate(bye)\n")
         self.assertEqual(self.tool.run(), Appl("bye"))
-        self.assertEqual(self.logged, ["no handler of do for rec-do(1)"])
+        self.assertEqual(self.logged, ["no handler for rec-do(1): add one by @tool.do"])
 
     def test_what_is_no_line_is_told_and_left_out(self):
         self.tell("hello\nrec-do(\nrec-terminate(1)\n")
