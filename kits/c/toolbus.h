@@ -13,14 +13,14 @@
  *         return tb_run(&(tb_tool){.on_eval = answer});
  *     }
  *
- * The standard output belongs to the bus: the tool writes nothing else to it. Text for people goes out by tb_log.
- * If memory runs out, or a value that is no term is to be sent, the tool ends with a message on the standard error.
+ * The standard output belongs to the bus. The tool must not write to it. It writes text for people by tb_log.
+ * If memory runs out, or if the tool sends a value that isn't a term, the kit ends the tool with a message on the standard error.
  *
- * Formats. tb_make, tb_event and tb_match take the text of a term with these in it, as printf and scanf do:
+ * Formats: tb_make, tb_event and tb_match take the text of a term with conversions in it, in the manner of printf and scanf.
  *
- *     %d %ld %lld   a number: int, long, long long; tb_match takes a pointer, and a number that doesn't fit doesn't match
- *     %s            a string: const char *, without quotes and escapes; tb_match takes a const char **
- *     %t            any term: const tb_term *; tb_match takes a const tb_term **
+ *     %d %ld %lld   a number: int, long, long long. tb_match takes a pointer. A number that doesn't fit doesn't match.
+ *     %s            a string without quotes and escapes: const char *. tb_match takes a const char **.
+ *     %t            any term: const tb_term *. tb_match takes a const tb_term **.
  *     %%            a percent sign, in a string
  */
 #ifndef TOOLBUS_H
@@ -35,27 +35,27 @@
 #include <string.h>
 
 #define TB_MOST_SIZE 65536
-#define TB_MOST_LEVELS 64
+#define TB_MOST_DEPTH 64
 #define TB_MOST_LINE_BYTES 65536
 
 typedef enum { TB_INT, TB_STR, TB_APPL, TB_LIST } tb_kind;
 
-/* A term. true and false are names without parts. No string has a zero byte, so each text ends in one. */
+/* A term. true and false are names without parts. A text ends in a zero byte, which no string contains. */
 typedef struct tb_term tb_term;
 struct tb_term {
     tb_kind kind;
     int64_t number;  /* of TB_INT */
     char *text;      /* of TB_STR the string, of TB_APPL the name */
-    size_t count;    /* of TB_APPL and TB_LIST how many parts there are */
+    size_t count;    /* of TB_APPL and TB_LIST the number of parts */
     tb_term **parts; /* of TB_APPL and TB_LIST */
 };
 
-/* Why a text is no term within the limits. */
+/* Why a text isn't a term within the limits. */
 typedef enum { TB_NONE, TB_SYNTAX, TB_REAL, TB_INTEGER, TB_LARGE, TB_DEEP } tb_fault;
 
 typedef struct {
     tb_fault fault;
-    size_t at; /* of TB_SYNTAX, TB_REAL and TB_INTEGER the byte, counted from 0 */
+    size_t at; /* of TB_SYNTAX, TB_REAL and TB_INTEGER: the byte, counted from 0 */
 } tb_error;
 
 /* Memory */
@@ -79,7 +79,7 @@ static inline void *tb_resize(void *old, size_t bytes)
     return memory;
 }
 
-/* Bytes that grow. A zero byte stands behind them. Starts as {0}, and the bytes are given back by free. */
+/* A growing buffer, with a zero byte after its bytes. It starts as {0}. The owner frees the bytes. */
 typedef struct {
     char *bytes;
     size_t length, room;
@@ -118,12 +118,12 @@ static inline void tb_free(tb_term *term)
     free(term);
 }
 
-/* Reading. A text is scanned first, without recursion, for it may nest deep; a term within the limits is then built. */
+/* Reading: the kit first scans a text, without recursion, because a text can nest deeply. Then it builds a term within the limits. */
 
 typedef struct {
     const char *text;
     size_t length, at;
-    size_t size, levels; /* of the term that was scanned */
+    size_t size, depth; /* of the scanned term */
     tb_error error;
 } tb_reader;
 
@@ -134,13 +134,13 @@ static inline bool tb_fault_at(tb_reader *reader, tb_fault fault, size_t at)
     return false;
 }
 
-/* Returns the byte that is next, or -1 at the end. */
+/* Returns the next byte, or -1 at the end. */
 static inline int tb_peek(const tb_reader *reader)
 {
     return reader->at < reader->length ? (unsigned char)reader->text[reader->at] : -1;
 }
 
-/* Skips blanks, and returns the byte that is next, or -1 at the end. */
+/* Skips whitespace. Returns the next byte, or -1 at the end. */
 static inline int tb_next(tb_reader *reader)
 {
     int byte = tb_peek(reader);
@@ -190,7 +190,7 @@ static inline bool tb_scan_number(tb_reader *reader, int64_t *number)
     return true;
 }
 
-/* Scans one character of more than one byte, by the table of well-formed UTF-8. */
+/* Scans a character of more than one byte. These ranges are those of well-formed UTF-8. */
 static inline bool tb_scan_wide(tb_reader *reader)
 {
     const int first = tb_peek(reader);
@@ -212,7 +212,7 @@ static inline bool tb_scan_wide(tb_reader *reader)
     return true;
 }
 
-/* Returns the byte that an escape means by its letter, or -1. */
+/* Returns the byte that an escape with this letter represents, or -1. */
 static inline int tb_unescaped(int letter)
 {
     switch (letter) {
@@ -230,7 +230,7 @@ static inline int tb_unescaped(int letter)
     }
 }
 
-/* Scans a string, and adds what is in it to the buffer if one is given. */
+/* Scans a string. Adds its contents to the buffer, unless the buffer is NULL. */
 static inline bool tb_scan_string(tb_reader *reader, tb_buffer *into)
 {
     for (reader->at++; tb_peek(reader) != '"';) {
@@ -261,7 +261,7 @@ static inline bool tb_scan_string(tb_reader *reader, tb_buffer *into)
     return true;
 }
 
-/* Scans a number, a string, a name, or a list without parts; or the beginning of what ends in the byte *end. */
+/* Scans a term without parts, and sets *end to 0. If the term has parts, scans its beginning, and sets *end to its closing bracket. */
 static inline bool tb_scan_head(tb_reader *reader, char *end)
 {
     const int byte = tb_next(reader);
@@ -292,7 +292,7 @@ static inline bool tb_scan_head(tb_reader *reader, char *end)
     return true;
 }
 
-/* Scans a whole text. Its size and its levels are free of limits. */
+/* Scans a whole text of any size and depth. */
 static inline bool tb_scan(tb_reader *reader)
 {
     tb_buffer ends = {0};
@@ -300,7 +300,7 @@ static inline bool tb_scan(tb_reader *reader)
 
     while (!done) {
         char end;
-        reader->levels = reader->levels > ends.length ? reader->levels : ends.length + 1;
+        reader->depth = reader->depth > ends.length ? reader->depth : ends.length + 1;
         if (!tb_scan_head(reader, &end))
             break;
         if (end != '\0') {
@@ -331,7 +331,7 @@ static inline tb_term *tb_new(tb_kind kind)
 
 static inline tb_term *tb_build(tb_reader *reader);
 
-/* Builds the parts up to the byte that ends them, behind the byte that begins them. */
+/* Builds the parts between an opening bracket, which is the next byte, and a closing one. */
 static inline void tb_build_parts(tb_reader *reader, tb_term *term, int end)
 {
     size_t room = 0;
@@ -347,7 +347,7 @@ static inline void tb_build_parts(tb_reader *reader, tb_term *term, int end)
     reader->at++;
 }
 
-/* Builds a term of a text that was scanned: it is right, and not deep. */
+/* Builds a term from a scanned text, which is correct and not too deep. */
 static inline tb_term *tb_build(tb_reader *reader)
 {
     const int byte = tb_next(reader);
@@ -375,19 +375,19 @@ static inline tb_term *tb_build(tb_reader *reader)
     return term;
 }
 
-/* Scans a text, and then compares its size and its levels with the limits, without what stands around the terms of a line. */
-static inline bool tb_scan_within(tb_reader *reader, size_t outer_size, size_t outer_levels)
+/* Scans a text, and checks the limits. Of a line, the size and the depth of the outer name don't count. */
+static inline bool tb_scan_within(tb_reader *reader, size_t outer_size, size_t outer_depth)
 {
     if (!tb_scan(reader))
         return false;
     if (reader->size > TB_MOST_SIZE + outer_size)
         return tb_fault_at(reader, TB_LARGE, 0);
-    if (reader->levels > TB_MOST_LEVELS + outer_levels)
+    if (reader->depth > TB_MOST_DEPTH + outer_depth)
         return tb_fault_at(reader, TB_DEEP, 0);
     return true;
 }
 
-/* Returns the term that the bytes read as, which the caller frees; or NULL, and why if error isn't NULL. */
+/* Returns the term that the bytes read as. The caller frees it. If the bytes aren't a term, returns NULL and sets *error, if given. */
 static inline tb_term *tb_read(const char *bytes, size_t length, tb_error *error)
 {
     tb_reader reader = {.text = bytes, .length = length};
@@ -399,10 +399,10 @@ static inline tb_term *tb_read(const char *bytes, size_t length, tb_error *error
     return is_term ? tb_build(&reader) : NULL;
 }
 
-/* Returns the words for an error. */
-static inline const char *tb_fault_words(tb_fault fault)
+/* Returns the description of an error. */
+static inline const char *tb_describe(tb_fault fault)
 {
-    static const char *const words[] = {"no fault", "syntax error at byte", "real number at byte", "number out of range at byte",
+    static const char *const words[] = {"no error", "syntax error at byte", "real number at byte", "number out of range at byte",
                                         "the term is too large", "the term is too deep"};
     return words[fault];
 }
@@ -429,44 +429,44 @@ static inline void tb_add_quoted(tb_buffer *into, const char *string)
     tb_add_byte(into, '"');
 }
 
-static inline void tb_add_term(tb_buffer *into, const tb_term *term, int levels);
+static inline void tb_add_term(tb_buffer *into, const tb_term *term, int depth);
 
-static inline void tb_add_parts(tb_buffer *into, const tb_term *term, const char *around, int levels)
+static inline void tb_add_parts(tb_buffer *into, const tb_term *term, const char *around, int depth)
 {
     tb_add_byte(into, around[0]);
     for (size_t i = 0; i < term->count; i++) {
         if (i > 0)
             tb_add_byte(into, ',');
-        tb_add_term(into, term->parts[i], levels);
+        tb_add_term(into, term->parts[i], depth);
     }
     tb_add_byte(into, around[1]);
 }
 
-static inline void tb_add_term(tb_buffer *into, const tb_term *term, int levels)
+static inline void tb_add_term(tb_buffer *into, const tb_term *term, int depth)
 {
     if (term == NULL)
-        tb_fail("NULL is no term");
-    if (levels < 0)
+        tb_fail("not sent: NULL isn't a term");
+    if (depth < 0)
         tb_fail("the term is too deep");
     if (term->kind == TB_INT)
         tb_add_number(into, term->number);
     else if (term->kind == TB_STR)
         tb_add_quoted(into, term->text);
     else if (term->kind == TB_LIST)
-        tb_add_parts(into, term, "[]", levels - 1);
+        tb_add_parts(into, term, "[]", depth - 1);
     else
         tb_add_text(into, term->text);
     if (term->kind == TB_APPL && term->count > 0)
-        tb_add_parts(into, term, "()", levels - 1);
+        tb_add_parts(into, term, "()", depth - 1);
 }
 
 /* Adds the text of a term to the buffer. */
 static inline void tb_write(tb_buffer *into, const tb_term *term)
 {
-    tb_add_term(into, term, TB_MOST_LEVELS);
+    tb_add_term(into, term, TB_MOST_DEPTH);
 }
 
-/* Returns whether the bytes can be a string of a term: well-formed UTF-8 without control characters but \t, \n and \r. */
+/* Returns whether the bytes can be a string of a term: well-formed UTF-8, with no control characters except \t, \n and \r. */
 static inline bool tb_is_string(const char *string)
 {
     tb_buffer quoted = {0};
@@ -488,7 +488,7 @@ static inline bool tb_is_name(const char *text)
 
 /* Formats */
 
-/* Returns how many bytes a conversion has behind its percent sign, and its kind: one of i, l, q (long long), s, t and %. */
+/* Returns the length of a conversion without its percent sign, and sets its kind: i, l, q (long long), s, t or %. */
 static inline size_t tb_conversion(const char *format, char *kind)
 {
     static const struct {
@@ -538,7 +538,7 @@ static inline void tb_add_format(tb_buffer *into, const char *format, va_list va
     }
 }
 
-/* Returns the term of a format, which the caller frees. */
+/* Returns the term that a format makes. The caller frees it. */
 static inline tb_term *tb_make(const char *format, ...)
 {
     tb_buffer text = {0};
@@ -551,12 +551,12 @@ static inline tb_term *tb_make(const char *format, ...)
     va_end(values);
     tb_term *term = tb_read(text.bytes, text.length, &error);
     if (term == NULL)
-        tb_fail("tb_make: %s %zu: %s", tb_fault_words(error.fault), error.at, text.bytes);
+        tb_fail("tb_make: %s %zu: %s", tb_describe(error.fault), error.at, text.bytes);
     free(text.bytes);
     return term;
 }
 
-/* What is left of a format, and of the pointers to what it takes. */
+/* The rest of a format, and of the pointers to its variables. */
 typedef struct {
     const char *left;
     va_list pointers;
@@ -599,7 +599,7 @@ static inline bool tb_take(const tb_term *term, tb_pattern *pattern)
 
 static inline bool tb_match_term(const tb_term *term, tb_pattern *pattern);
 
-/* Matches all parts with what stands in the pattern between brackets, of which the first is next. */
+/* Matches all parts with the patterns between brackets. The opening bracket is the next byte. */
 static inline bool tb_match_parts(const tb_term *term, tb_pattern *pattern, char end)
 {
     pattern->left++;
@@ -623,7 +623,7 @@ static inline bool tb_match_name(const tb_term *term, tb_pattern *pattern)
     return *pattern->left == '(' ? tb_match_parts(term, pattern, ')') : term->count == 0;
 }
 
-/* Makes one percent sign of two that stand together. */
+/* Replaces each pair of percent signs by one. */
 static inline void tb_join_percents(char *string)
 {
     char *joined = string;
@@ -641,7 +641,7 @@ static inline bool tb_match_string(const tb_term *term, tb_pattern *pattern)
 
     tb_add(&string, NULL, 0);
     if (!tb_scan_string(&reader, &string))
-        tb_fail("tb_match: no string: %s", pattern->left);
+        tb_fail("tb_match: error in a string of the format: %s", pattern->left);
     pattern->left += reader.at;
     tb_join_percents(string.bytes);
     const bool matches = term->kind == TB_STR && strcmp(term->text, string.bytes) == 0;
@@ -666,13 +666,13 @@ static inline bool tb_match_term(const tb_term *term, tb_pattern *pattern)
     tb_reader reader = {.text = pattern->left, .length = strlen(pattern->left)};
     int64_t number = 0;
     if (!tb_scan_number(&reader, &number))
-        tb_fail("tb_match: no pattern: %s", pattern->left);
+        tb_fail("tb_match: error in the format: %s", pattern->left);
     pattern->left += reader.at;
     return term->kind == TB_INT && term->number == number;
 }
 
-/* Returns whether a term matches a format, written without blanks. What was taken from it lives as long as the term.
- * If it doesn't match, the variables have no certain values. */
+/* Returns whether a term matches a format, which has no whitespace between tokens. The terms and strings that it sets belong to
+ * the term. If the term doesn't match, the values of the variables are unspecified. */
 static inline bool tb_match(const tb_term *term, const char *format, ...)
 {
     tb_pattern pattern = {.left = format};
@@ -684,22 +684,22 @@ static inline bool tb_match(const tb_term *term, const char *format, ...)
 
 /* Lines to the bus */
 
-/* Writes a line, unless what is in it is no term or past a limit: then the tool ends. The text is freed. */
+/* Sends a line, and frees its text. If the line isn't valid, ends the tool. */
 static inline void tb_send(tb_buffer *line, size_t word_length)
 {
     tb_reader reader = {.text = line->bytes, .length = line->length};
     if (!tb_scan_within(&reader, 1 + word_length, 1))
-        tb_fail("not sent: %s %zu: %s", tb_fault_words(reader.error.fault), reader.error.at, line->bytes);
+        tb_fail("not sent: %s %zu: %s", tb_describe(reader.error.fault), reader.error.at, line->bytes);
     if (line->length > TB_MOST_LINE_BYTES)
         tb_fail("not sent: the line has %zu bytes, the limit is %d", line->length, TB_MOST_LINE_BYTES);
     tb_add_byte(line, '\n');
     if (fwrite(line->bytes, 1, line->length, stdout) != line->length || fflush(stdout) != 0)
-        tb_fail("the bus no longer reads what the tool writes");
+        tb_fail("the bus has closed the tool's output");
     free(line->bytes);
     *line = (tb_buffer){0};
 }
 
-/* Sends snd-value. A tool calls this itself only if its on_eval returned NULL. */
+/* Sends snd-value, after on_eval returned NULL. */
 static inline void tb_value(const tb_term *term)
 {
     tb_buffer line = {0};
@@ -709,7 +709,7 @@ static inline void tb_value(const tb_term *term)
     tb_send(&line, strlen("snd-value"));
 }
 
-/* Sends snd-event. The format is of one term, or of several with commas between. */
+/* Sends snd-event. The format has one term, or several separated by commas. */
 static inline void tb_event(const char *format, ...)
 {
     tb_buffer line = {0};
@@ -723,19 +723,19 @@ static inline void tb_event(const char *format, ...)
     tb_send(&line, strlen("snd-event"));
 }
 
-/* Sends snd-connect: a tool that --connect started says its name first. */
+/* Sends snd-connect. If --connect started the tool, this line must come first. */
 static inline void tb_connect(const char *name)
 {
     tb_buffer line = {0};
     if (!tb_is_name(name))
-        tb_fail("not sent: %s is no name", name);
+        tb_fail("not sent: %s isn't a name", name);
     tb_add_text(&line, "snd-connect(");
     tb_add_text(&line, name);
     tb_add_byte(&line, ')');
     tb_send(&line, strlen("snd-connect"));
 }
 
-/* Sends snd-disconnect. The bus closes the tool's input, and so its loop ends. */
+/* Sends snd-disconnect. Then the bus closes the tool's input, and the loop ends. */
 static inline void tb_disconnect(void)
 {
     tb_buffer line = {0};
@@ -743,7 +743,7 @@ static inline void tb_disconnect(void)
     tb_send(&line, strlen("snd-disconnect"));
 }
 
-/* Writes a line for people to the standard error, in the manner of printf. */
+/* Writes a line to the standard error, in the manner of printf. */
 static inline void tb_log(const char *format, ...)
 {
     va_list values;
@@ -755,15 +755,15 @@ static inline void tb_log(const char *format, ...)
 
 /* The event loop */
 
-/* What a tool does for the lines that come in. The terms that a handler gets live until it returns. */
+/* The handlers of a tool. The terms that a handler receives live until it returns. */
 typedef struct {
-    tb_term *(*on_eval)(const tb_term *term);     /* returns the value, which the kit frees; or NULL, and calls tb_value later */
+    tb_term *(*on_eval)(const tb_term *term);     /* returns the value, which the kit frees; or NULL, if the tool calls tb_value later */
     void (*on_do)(const tb_term *term);
-    void (*on_ack_event)(const tb_term *terms);   /* gets a list of the event's terms; a tool needs none */
-    void (*on_terminate)(const tb_term *reason);  /* is called before the loop ends; a tool needs none */
+    void (*on_ack_event)(const tb_term *terms);   /* receives a list of the event's terms; optional */
+    void (*on_terminate)(const tb_term *reason);  /* is called before the loop ends; optional */
 } tb_tool;
 
-/* Reads a line of any length, without its newline. Returns false at the end of the input. */
+/* Reads a line of any length. Returns false at the end of the input. */
 static inline bool tb_read_line(FILE *from, tb_buffer *line)
 {
     int byte;
@@ -774,7 +774,7 @@ static inline bool tb_read_line(FILE *from, tb_buffer *line)
     return byte != EOF || line->length > 0;
 }
 
-/* Returns the name of a line of the bus, if the line is one. */
+/* Returns the word of a line of the bus. If the term isn't such a line, returns NULL. */
 static inline const char *tb_bus_word(const tb_term *line)
 {
     static const char *const words[] = {"rec-eval", "rec-do", "rec-terminate", "rec-ack-event"};
@@ -788,12 +788,11 @@ static inline const char *tb_bus_word(const tb_term *line)
     return NULL;
 }
 
-/* Returns the line of the bus that the bytes are, as a term with the line's word for its name; or NULL.
- * The limits are those of the terms in it. */
+/* Returns the line of the bus that the bytes are, as a term whose name is the line's word. If they aren't such a line, returns NULL. */
 static inline tb_term *tb_read_bus_line(const char *bytes, size_t length)
 {
     tb_reader reader = {.text = bytes, .length = length};
-    if (!tb_scan(&reader) || reader.levels > TB_MOST_LEVELS + 1)
+    if (!tb_scan(&reader) || reader.depth > TB_MOST_DEPTH + 1)
         return NULL;
     const size_t size = reader.size;
     reader.at = 0;
@@ -808,14 +807,14 @@ static inline tb_term *tb_read_bus_line(const char *bytes, size_t length)
 static inline void tb_answer(const tb_tool *tool, const tb_term *term)
 {
     if (tool->on_eval == NULL)
-        tb_fail("the tool has no on_eval: the process that asked would wait for ever");
+        tb_fail("no handler for a rec-eval: set on_eval");
     tb_term *value = tool->on_eval(term);
     if (value != NULL)
         tb_value(value);
     tb_free(value);
 }
 
-/* Handles a line. Returns false if it was rec-terminate. */
+/* Handles a line. Returns false if the line is rec-terminate. */
 static inline bool tb_handle(const tb_tool *tool, const tb_term *line)
 {
     const tb_term *first = line->parts[0];
@@ -826,7 +825,7 @@ static inline bool tb_handle(const tb_tool *tool, const tb_term *line)
     else if (strcmp(line->text, "rec-do") == 0 && tool->on_do != NULL)
         tool->on_do(first);
     else if (strcmp(line->text, "rec-do") == 0)
-        tb_log("toolbus.h: the tool has no on_do for a rec-do");
+        tb_log("toolbus.h: no handler for a rec-do: set on_do");
     else if (strcmp(line->text, "rec-ack-event") == 0 && tool->on_ack_event != NULL)
         tool->on_ack_event(&terms);
     else if (strcmp(line->text, "rec-terminate") == 0 && tool->on_terminate != NULL)
@@ -834,7 +833,7 @@ static inline bool tb_handle(const tb_tool *tool, const tb_term *line)
     return strcmp(line->text, "rec-terminate") != 0;
 }
 
-/* Handles lines until rec-terminate, or until the input ends. Returns the status with which main is to return. */
+/* Handles lines until rec-terminate, or until the input ends. Returns the exit status for main. */
 static inline int tb_run(const tb_tool *tool)
 {
     tb_buffer bytes = {0};
@@ -845,7 +844,7 @@ static inline int tb_run(const tb_tool *tool)
         if (line != NULL)
             goes_on = tb_handle(tool, line);
         else
-            tb_log("toolbus.h: not a line of a bus: %s", bytes.bytes);
+            tb_log("toolbus.h: ignored a line that no bus sends: %s", bytes.bytes);
         tb_free(line);
     }
     free(bytes.bytes);

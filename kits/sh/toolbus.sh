@@ -1,4 +1,4 @@
-# shellcheck shell=sh disable=SC2034,SC2295 # a tool uses the results; patterns stand in variables
+# shellcheck shell=sh disable=SC2034,SC2295 # the tool uses the results; variables hold patterns
 # A kit for tools of the ToolBus, in POSIX sh: lines, strings, and an event loop. A tool sources it:
 #
 #     #!/bin/sh
@@ -7,19 +7,18 @@
 #     on_eval() { tb_value unknown; }
 #     tb_run
 #
-# A term is its text. Handlers are functions that the tool defines, all of them optional:
+# A term is its text. The tool defines functions as handlers. All of them are optional.
 #
-#     eval_NAME ARG..        of rec-eval(NAME(ARG,..)); a - in NAME is a _ in the function's name
-#     on_eval TERM           of every other rec-eval; each answers by one tb_value
-#     do_NAME ARG.., on_do TERM
-#                            the same of rec-do, without an answer
-#     ack_event_NAME ARG.., on_ack_event TERM..
-#                            the same of rec-ack-event; the other terms of the event come behind the arguments of the first
-#     terminate_NAME ARG.., on_terminate TERM
-#                            the same of rec-terminate, before the loop ends
+#     eval_NAME ARG..           for rec-eval(NAME(ARG,..)). The function's name has _ for each - in NAME.
+#     on_eval TERM              for every other rec-eval. Each handler of rec-eval calls tb_value once.
+#     do_NAME ARG..             for rec-do(NAME(ARG,..))
+#     on_do TERM                for every other rec-do
+#     ack_event_NAME ARG..      for rec-ack-event(NAME(ARG,..),TERM,..). The other terms follow the arguments.
+#     on_ack_event TERM..       for every other rec-ack-event
+#     on_terminate TERM         for rec-terminate. The kit calls it before the loop ends.
 #
-# The kit moves the bus to the descriptors 3 and 4. What the tool itself prints goes to the standard error, and its standard
-# input is empty. A program that the tool leaves in the background is started with 4>&-, or it keeps the tool's lane up.
+# The kit moves the bus to the file descriptors 3 and 4. So a tool that prints writes to the standard error, and its standard input
+# is empty. If the tool leaves a program in the background, it must start this program with 4>&-. Else the program keeps the lane up.
 
 exec 3<&0 4>&1 </dev/null 1>&2
 
@@ -32,7 +31,7 @@ tb_no_string="[$(printf '\001\002\003\004\005\006\007\010\013\014\016\017\020\02
 tb_mark='[][(),"]'
 tb_quote_mark='["\\]'
 
-# Lines to the bus. None of these looks whether a text is a term.
+# Lines to the bus. The kit doesn't check that a text is a term.
 
 tb_say() { printf '%s\n' "$1" >&4; }
 
@@ -46,18 +45,18 @@ tb_event() {
   tb_say "snd-event($tb_terms)"
 }
 
-# Sends snd-connect: a tool that --connect started says its name first.
+# Sends snd-connect. If --connect started the tool, this line must come first.
 tb_connect() { tb_say "snd-connect($1)"; }
 
-# Sends snd-disconnect. The bus closes the tool's input, and so its loop ends.
+# Sends snd-disconnect. Then the bus closes the tool's input, and the loop ends.
 tb_disconnect() { tb_say snd-disconnect; }
 
-# Writes a line for people to the standard error.
+# Writes a line to the standard error.
 tb_log() { printf '%s: %s\n' "${0##*/}" "$*" >&2; }
 
 # Terms
 
-# Prints the text of a term that is the string $1. Fails if a term can't have it for its control characters.
+# Prints the text of the string $1. Fails if $1 has a control character that no string of a term can have.
 tb_quote() {
   # shellcheck disable=SC2254 # a pattern
   case $1 in *$tb_no_string*) return 1 ;; esac
@@ -80,7 +79,7 @@ tb_quote() {
   printf '"%s"' "$tb_quoted"
 }
 
-# Sets tb_string to the string whose text, as the bus writes it, is $1. Fails if $1 is the text of no string.
+# Sets tb_string to the string with the text $1, as the bus writes it. Fails if $1 isn't the text of a string.
 tb_unquote() {
   case $1 in \"*\") tb_left=${1#?} ;; *) return 1 ;; esac
   tb_left=${tb_left%?}
@@ -101,7 +100,7 @@ tb_unquote() {
   done
 }
 
-# Moves a string in quotes from the beginning of tb_left to the end of tb_part.
+# Moves a string in quotes from the start of tb_left to the end of tb_part.
 tb_move_string() {
   tb_part=$tb_part\"
   tb_left=${tb_left#?}
@@ -122,7 +121,7 @@ tb_move_string() {
   done
 }
 
-# Sets tb_parts to the terms in $1, which are parted by commas, a line each.
+# Sets tb_parts to the terms in $1, which commas separate. Each term is one line.
 tb_split_terms() {
   tb_left=$1
   tb_parts=
@@ -146,8 +145,8 @@ tb_split_terms() {
   tb_parts=$tb_parts$tb_part
 }
 
-# Sets tb_name to the name of the term $1, as the bus writes it, and tb_parts to its arguments, a line each. For a list the name
-# is empty, and the parts are its members. Fails if the term is a number or a string.
+# Sets tb_name to the name of the term $1, as the bus writes it, and tb_parts to its arguments. Each argument is one line. If the
+# term is a list, the name is empty, and the parts are the members. Fails if the term is a number or a string.
 tb_split() {
   tb_name=
   tb_parts=
@@ -162,7 +161,7 @@ tb_split() {
 
 # The event loop
 
-# Sets tb_function to the handler of the word $1 for the terms $2: one for the name of the first term, or one for all terms.
+# Sets tb_function to the handler of the word $1 for the terms $2. If the tool has none, sets it to the empty string.
 tb_find() {
   case $2 in
     [a-z]*)
@@ -174,13 +173,13 @@ tb_find() {
   if ! command -v "$tb_function" >/dev/null; then tb_function=; fi
 }
 
-# Calls the function $1 with each line of $2 as an argument, and then of $3.
+# Calls the function $1. Its arguments are the lines of $2, and then those of $3.
 tb_call() {
   tb_function=$1
   tb_ifs=$IFS
   IFS=$tb_newline
   case $- in *f*) tb_globs= ;; *) tb_globs=yes; set -f ;; esac
-  # shellcheck disable=SC2086 # the lines are to be split
+  # shellcheck disable=SC2086 # the shell splits the lines
   set -- $2 $3
   IFS=$tb_ifs
   [ -z "$tb_globs" ] || set +f
@@ -204,8 +203,8 @@ tb_dispatch() {
 
 tb_without_handler() {
   case $1 in
-    rec-eval*) tb_log "no handler of eval for $1: the process that asked would wait for ever"; exit 1 ;;
-    rec-do*) tb_log "no handler of do for $1" ;;
+    rec-eval*) tb_log "no handler for $1: define on_eval"; exit 1 ;;
+    rec-do*) tb_log "no handler for $1: define on_do" ;;
   esac
 }
 
@@ -215,8 +214,8 @@ tb_handle() {
     rec-eval\(?*\)) tb_find eval "${1#*\(}" ;;
     rec-do\(?*\)) tb_find 'do' "${1#*\(}" ;;
     rec-ack-event\(?*\)) tb_find ack_event "${1#*\(}" ;;
-    rec-terminate\(?*\)) tb_find terminate "${1#*\(}" ;;
-    *) tb_log "not a line of a bus: $1"; return 0 ;;
+    rec-terminate\(?*\)) tb_find terminate '' ;;
+    *) tb_log "ignored a line that no bus sends: $1"; return 0 ;;
   esac
   tb_terms=${1#*\(}
   if [ -n "$tb_function" ]; then tb_dispatch "${tb_terms%\)}"; else tb_without_handler "$1"; fi
