@@ -152,6 +152,11 @@ class Loop(unittest.TestCase):
         self.tool.step(0)
         self.tool.step(0)
         self.assertEqual(self.said(), "snd-event(1)\nsnd-event(2)\n")
+        self.tell("-do(3)")
+        self.tool.step(0)
+        self.tell("\n")
+        self.tool.step(0)
+        self.assertEqual(self.said(), "snd-event(3)\n")
 
     def test_a_time_out(self):
         start = time.monotonic()
