@@ -1,5 +1,5 @@
 #!/bin/sh
-# An advisor: below 20 degrees the heater is to be on.
+# An advisor: below 20 degrees the heater must be on.
 while read -r line; do
   case $line in
     'rec-eval(advise('*)
