@@ -1,5 +1,8 @@
 #!/usr/bin/env python3
-"""A bidder: bidder.py NAME [late] WHEN=BID.., each BID once: WHEN is an item that is offered, a price, `last-call` or `refused`."""
+"""A bidder: bidder.py NAME [late] WHEN=BID..
+
+WHEN is an item that is offered, a price, `last-call` or `refused`. It makes each BID once. With `late` it connects after two seconds.
+"""
 import sys
 import time
 
