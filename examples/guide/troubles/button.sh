@@ -1,0 +1,4 @@
+echo 'snd-event(pressed(5))'
+while read -r line; do
+  case $line in 'rec-terminate('*) exit 0 ;; esac
+done
