@@ -5,7 +5,7 @@ use Rattle.std.proofs.lemmas.List.{get_or-set_other, get_or-set_same, get_or_pas
 use Rattle.std.proofs.lemmas.Nat.Bits.{bit_at_above, bit_at-zero}
 use Rattle.std.proofs.Math.Nat.{div-div-eq-div-mul}
 use Rattle.std.specs.Int.{bit_at}
-use Rattle.tb_index.specs.Bits.{bit_in, IsNextBit, IsTwoRows}
+use Rattle.tb_index.specs.Helpers.Bits.{bit_in, IsNextBit, IsTwoRows}
 
 -- a word that is written is read there
 pub bit_in-written : (words : List ℕ) (n v : ℕ) → n / 64 < length words → bit_in (slice_set words (n / 64) v) n ≡ bit_at v (n % 64)

@@ -1,20 +1,21 @@
 -- What an index is after a change of its parts.
-use Rattle.std.proofs.Common.{◌≡◌, ◌≢◌, ℕ, ◌<◌, ◌≤◌, ◌/◌, Bool, true, false, ◌||◌, ◌==◌, List, [], length, Option, refl, ap, ◌∙◌, arith, ⊎_elim, Result, Ok, Err, OnOk, OnErr}
+use Rattle.std.proofs.Common.{◌≡◌, ◌≢◌, ℕ, ◌<◌, ◌≤◌, ◌/◌, Bool, true, false, ◌||◌, ◌==◌, List, [], length, Option, Some, None, refl, ap, ◌∙◌, arith, ⊎_elim, Result, Ok, Err, OnOk, OnErr}
 use Rattle.std.proofs.lemmas.Bool.{eqb-true}
 use Rattle.std.proofs.lemmas.Nat.Bits.{bit_at-zero}
 use Rattle.std.specs.List.{list_any}
 use Rattle.tb_index.specs.declared.pairs.Pairs.{Pairs}
 use Rattle.tb_index.specs.declared.mark.Mark.{Mark}
 use Rattle.tb_index.specs.Marks.{has_mark, wide, meets, open_head}
-use Rattle.tb_index.specs.Pairs.{has, is_sender, AreOf, AreAdded, AreRemoved, SamePairs, IsFirst, IsNext, earlier}
-use Rattle.tb_index.specs.Bits.{bit_in}
-use Rattle.tb_index.specs.Indexes.{IndexState, sends, receives, is_receiver, is_awake, starts, HasRoom, IsEmpty, SameIndex, IsSet, IsCleared, IsTurned, IsTied}
+use Rattle.tb_index.specs.Helpers.Pairs.{has, is_sender, AreOf, AreAdded, AreRemoved, SamePairs, IsFirst, earlier}
+use Rattle.tb_index.specs.Helpers.Bits.{bit_in}
+use Rattle.tb_index.specs.Helpers.Ties.{is_asked, IsTied}
+use Rattle.tb_index.specs.Indexes.{IndexState, sends, receives, is_receiver, is_awake, HasRoom, MayBegin, NobodyPassed, IsNext, IsEmpty, SameIndex, IsSet, IsCleared, IsTurned}
 use Rattle.tb_index.proofs.ActiveLemmas as active
 use Rattle.tb_index.proofs.ActiveLemmas.{same-number, apart-number}
 use Rattle.tb_index.proofs.PairLemmas as pairs
 
 abbrev pub state : Pairs → Pairs → Bool → Pairs → List ℕ → List Mark → IndexState
-state sending receiving opened counted awake active = record { sending = sending; receiving = receiving; opened = opened; counted = counted; awake = awake; active = active }
+state sending receiving opened counted awake active = record { sending = sending; receiving = receiving; awake = awake }
 
 pub on-err : {X E : Type 0} {P : Type 0} (result : Result X E) → P → OnErr result P
 on-err (Ok value) p = tt
@@ -64,10 +65,6 @@ module _ (s r : Pairs) (q : Bool) (c : Pairs) (a : List ℕ) (l : List Mark) whe
   pub room-made : {X E : Type 0} (p : ℕ) (result : Result X E) → OnOk result (p / 64 < length a) → OnOk result (HasRoom (state s r q c a l) p)
   unfolding HasRoom
   room-made p result room = room
-
-  -- what the bits are says nothing of the rest
-  pub tied-still : (bits : List ℕ) → IsTied (state s r q c a l) → IsTied (state s r q c bits l)
-  tied-still bits tied = record { opened = tied.opened; counted = tied.counted; heard = tied.heard }
 
   pub own-sends : (p : ℕ) (marks : List Mark) → ((m : Mark) → sends (state s r q c a l) m p ≡ has_mark marks m) → AreOf s marks p
   unfolding sends
@@ -129,37 +126,52 @@ module _ (s r : Pairs) (q : Bool) (c : Pairs) (a : List ℕ) (l : List Mark) whe
   next-receiver m from just open_ones h g = pairs.first-next _ from (earlier just open_ones) (pairs.first-both (has r m) (has r (wide m)) from just open_ones h g)
 
   -- where no open mark is told, nobody receives under one
-  pub next-closed : IsTied (state s r q c a l) → q ≡ false → (m : Mark) (from : ℕ) (just : Option ℕ) → IsFirst (has r m) from just → IsNext (is_receiver (state s r q c a l) m) from just
+  pub next-closed : IsTied s r q c l → q ≡ false → (m : Mark) (from : ℕ) (just : Option ℕ) → IsFirst (has r m) from just → IsNext (is_receiver (state s r q c a l) m) from just
   unfolding receives
   next-closed tied none m from just h = pairs.first-next _ from just (pairs.first-same (has r m) (λ p. has r m p || has r (wide m) p) from just
       (λ p. ap (λ b. has r m p || b) (⊎_elim
-      (λ (told : has r (wide m) p ≡ true). absurd (active.not-both q (tied.opened (wide m) p told refl) none))
+      (λ (told : has r (wide m) p ≡ true). absurd (active.not-both q (tied.told (wide m) p told refl) none))
       (λ (nobody : has r (wide m) p ≡ false). nobody)
       (active.bool-cases (has r (wide m) p))) ∙ pairs.or-false (has r m p)) h)
 
-  pub next-starter : (from : ℕ) (one other : Option ℕ) → IsFirst (λ n. bit_in a n == 1) from one →
-      IsFirst (λ p. list_any (λ (m : Mark). is_sender s c m p) l) from other → IsNext (starts (state s r q c a l)) from (earlier one other)
-  unfolding is_awake starts
-  next-starter from one other h g = pairs.first-next _ from (earlier one other) (pairs.first-both (λ n. bit_in a n == 1) (λ p. list_any (λ (m : Mark). is_sender s c m p) l) from one other h g)
+  next-asked : (from : ℕ) (one other : Option ℕ) → IsFirst (λ n. bit_in a n == 1) from one →
+      IsFirst (λ p. list_any (λ (m : Mark). is_sender s c m p) l) from other → IsNext (is_asked s c a l) from (earlier one other)
+  unfolding is_asked
+  next-asked from one other h g = pairs.first-next _ from (earlier one other) (pairs.first-both (λ n. bit_in a n == 1) (λ p. list_any (λ (m : Mark). is_sender s c m p) l) from one other h g)
 
-  pub awake-starts : (p : ℕ) → is_awake (state s r q c a l) p ≡ true → starts (state s r q c a l) p ≡ true
-  unfolding starts
-  awake-starts p e = ap (λ b. b || list_any (λ (m : Mark). is_sender s c m p) l) e
+  awake-asked : (p : ℕ) → is_awake (state s r q c a l) p ≡ true → is_asked s c a l p ≡ true
+  unfolding is_awake is_asked
+  awake-asked p e = ap (λ b. b || list_any (λ (m : Mark). is_sender s c m p) l) e
 
-  sender-heard : IsTied (state s r q c a l) → (m k : Mark) (p o : ℕ) → has s m p ≡ true → has r k o ≡ true → meets k m ≡ true → is_sender s c k p ≡ true
+  sender-heard : IsTied s r q c l → (m k : Mark) (p o : ℕ) → has s m p ≡ true → has r k o ≡ true → meets k m ≡ true → is_sender s c k p ≡ true
   sender-heard tied m k p o e f met = ⊎_elim
       (λ (is_open : (k.head == open_head) ≡ true).
       let head : k.head ≡ open_head = eqb-true k.head open_head is_open in
-      active.sender-open s c k p head ∙ ap (λ (mark : Mark). has c mark p) (active.open-meets k m head met) ∙ tied.counted (tied.opened k o f head) m p e)
+      active.sender-open s c k p head ∙ ap (λ (mark : Mark). has c mark p) (active.open-meets k m head met) ∙ tied.counts (tied.told k o f head) m p e)
       (λ (closed : (k.head == open_head) ≡ false).
       let apart : k.head ≡ open_head → ⊥ = λ head. active.not-both (k.head == open_head) (ap (λ n. n == open_head) head) closed in
       active.sender-closed s c k p apart ∙ ap (λ (mark : Mark). has s mark p) (active.closed-meets k m apart met) ∙ e)
       (active.bool-cases (k.head == open_head))
 
   -- who sends what somebody receives is asked
-  pub heard-starts : IsTied (state s r q c a l) → (m : Mark) (p o : ℕ) → sends (state s r q c a l) m p ≡ true → is_receiver (state s r q c a l) m o ≡ true → starts (state s r q c a l) p ≡ true
-  unfolding sends receives starts
-  heard-starts tied m p o e f = pairs.or-right (is_awake (state s r q c a l) p) (list_any (λ (k : Mark). is_sender s c k p) l) (⊎_elim
+  heard-asked : IsTied s r q c l → (m : Mark) (p o : ℕ) → sends (state s r q c a l) m p ≡ true → is_receiver (state s r q c a l) m o ≡ true → is_asked s c a l p ≡ true
+  unfolding sends receives is_asked
+  heard-asked tied m p o e f = pairs.or-right (bit_in a p == 1) (list_any (λ (k : Mark). is_sender s c k p) l) (⊎_elim
       (λ (just : has r m o ≡ true). pairs.any-marked (λ (k : Mark). is_sender s c k p) l m (tied.heard m m p o e just (active.meets-self m)) (sender-heard tied m m p o e just (active.meets-self m)))
       (λ (open_one : has r (wide m) o ≡ true). pairs.any-marked (λ (k : Mark). is_sender s c k p) l (wide m) (tied.heard (wide m) m p o e open_one (active.meets-wide m)) (sender-heard tied m (wide m) p o e open_one (active.meets-wide m)))
       (active.or-cases (has r m o) (has r (wide m) o) f))
+
+  begins-asked : IsTied s r q c l → (p : ℕ) → MayBegin (state s r q c a l) p → is_asked s c a l p ≡ true
+  begins-asked tied p may = ⊎_elim
+      (λ (awake : is_awake (state s r q c a l) p ≡ true). awake-asked p awake)
+      (λ (heard : (m : Mark) × (o : ℕ) × (sends (state s r q c a l) m p ≡ true) × (is_receiver (state s r q c a l) m o ≡ true)). heard-asked tied heard.0 p heard.1 heard.2 heard.3)
+      may
+
+  none-passed : IsTied s r q c l → (from : ℕ) (found : Option ℕ) → IsNext (is_asked s c a l) from found → NobodyPassed (MayBegin (state s r q c a l)) from found
+  none-passed tied from None next = λ p small low may. active.not-both (is_asked s c a l p) (begins-asked tied p may) (next p small low)
+  none-passed tied from (Some found) next = (next.0, λ p low less may. active.not-both (is_asked s c a l p) (begins-asked tied p may) (next.2 p low less))
+
+  -- nobody is passed over who may begin
+  pub next-starter : IsTied s r q c l → (from : ℕ) (one other : Option ℕ) → IsFirst (λ n. bit_in a n == 1) from one →
+      IsFirst (λ p. list_any (λ (m : Mark). is_sender s c m p) l) from other → NobodyPassed (MayBegin (state s r q c a l)) from (earlier one other)
+  next-starter tied from one other h g = none-passed tied from (earlier one other) (next-asked from one other h g)

@@ -4,3 +4,4 @@ mod BitLemmas
 mod ActiveLemmas
 mod IndexLemmas
 mod SlotLemmas
+mod GatherLemmas

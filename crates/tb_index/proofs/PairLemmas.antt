@@ -9,7 +9,8 @@ use Rattle.std.specs.BTreeSet.{BTreeSet, IsKeyRangeOf, contains}
 use Rattle.std.specs.declared.ops.Bound.TheVariants.{Included, Unbounded}
 use Rattle.std.proofs.lemmas.Bool.{eqb-true, leb-true}
 use Rattle.tb_index.specs.Marks.{is_mark, has_mark}
-use Rattle.tb_index.specs.Pairs.{in_many, triple_cmp, IsFirst, IsNext, earlier}
+use Rattle.tb_index.specs.Helpers.Pairs.{in_many, triple_cmp, IsFirst, earlier}
+use Rattle.tb_index.specs.Indexes.{IsNext}
 
 -- triples are the same where their parts are
 pub same-triple : (a b p c d q : ℕ) → is_eq (triple_cmp (a, b, p) (c, d, q)) ≡ ((c == a) && (d == b)) && (q == p)

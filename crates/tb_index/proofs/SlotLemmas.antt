@@ -10,7 +10,7 @@ use Rattle.tb_index.specs.declared.mark.Mark.{Mark}
 use Rattle.tb_index.specs.declared.slot.Pair.{Pair}
 use Rattle.tb_index.specs.declared.pairs.Pairs.{Pairs}
 use Rattle.tb_index.specs.Marks.{is_mark, wide, open_head}
-use Rattle.tb_index.specs.Pairs.{is_pair, is_of, is_in, in_few, in_many, slot_of, has, SamePairs, IsFirst, earlier}
+use Rattle.tb_index.specs.Helpers.Pairs.{is_pair, is_of, is_in, in_few, in_many, slot_of, has, SamePairs, IsFirst, earlier}
 use Rattle.tb_index.proofs.PairLemmas as pairs
 
 -- a pair that was found answers for its own process and mark alone

@@ -1,20 +1,20 @@
--- What an index holds: who sends and who receives under which marks, who is awake, and who may begin.
-use Rattle.std.specs.Prelude.{◌≡◌, ◌≢◌, ℕ, ◌<◌, ◌/◌, ◌==◌, ◌||◌, Bool, false, List, length}
-use Rattle.std.specs.List.{list_any}
+-- What an index holds: who sends and who receives under which marks, and who is awake; and what each call makes of it.
+use Rattle.std.specs.Prelude.{◌≡◌, ◌≢◌, ◌↔◌, ◌⊎◌, ℕ, ◌<◌, ◌≤◌, ◌/◌, ◌==◌, ◌||◌, Bool, true, false, List, length, Option, Some, None}
+use Rattle.std.specs.Ordering.{nat_cmp}
+use Rattle.std.specs.BTreeSet as set
+use Rattle.std.specs.BTreeSet.{BTreeSet}
 use Rattle.tb_index.specs.declared.mark.Mark.{Mark}
 use Rattle.tb_index.specs.declared.pairs.Pairs.{Pairs}
 use Rattle.tb_index.specs.Marks.{has_mark, wide}
-use Rattle.tb_index.specs.Pairs.{has, is_sender, AllOpened, AreCountedIf, AreHeard}
-use Rattle.tb_index.specs.Bits.{bit_in}
+use Rattle.tb_index.specs.Helpers.Pairs.{has}
+use Rattle.tb_index.specs.Helpers.Bits.{bit_in}
 
--- what is active are marks under which somebody receives what somebody sends; there may be more of them
+-- Of an index three facts are seen: who sends, who receives, and who is awake. Nobody has to believe how it keeps them,
+-- since of each call they are said anew.
 pub record IndexState : Type 0 where
   pub sending : Pairs
   pub receiving : Pairs
-  pub opened : Bool
-  pub counted : Pairs
   pub awake : List ℕ
-  pub active : List Mark
 
 -- whether the process sends under the mark
 unfoldable pub sends : IndexState → Mark → ℕ → Bool
@@ -31,13 +31,40 @@ is_receiver index mark proc = receives index mark proc || receives index (wide m
 unfoldable pub is_awake : IndexState → ℕ → Bool
 is_awake index proc = bit_in index.awake proc == 1
 
--- whether it is to be asked: it is awake, or sends what is received under an active mark
-unfoldable pub starts : IndexState → ℕ → Bool
-starts index proc = is_awake index proc || list_any (λ mark. is_sender index.sending index.counted mark proc) index.active
-
 -- there is memory to let the process be awake
 unfoldable pub HasRoom : IndexState → ℕ → Type 0
 HasRoom index proc = proc / 64 < length index.awake
+
+-- it sends anything
+abbrev pub IsSender : IndexState → ℕ → Type 0
+IsSender index proc = (mark : Mark) × (sends index mark proc ≡ true)
+
+-- it receives what is sent under the mark
+abbrev pub IsReceiver : IndexState → Mark → ℕ → Type 0
+IsReceiver index mark proc = is_receiver index mark proc ≡ true
+
+-- it sends what somebody receives
+abbrev pub IsHeard : IndexState → ℕ → Type 0
+IsHeard index proc = (mark : Mark) × (other : ℕ) × (sends index mark proc ≡ true) × (is_receiver index mark other ≡ true)
+
+-- it may begin a move, as far as an index knows
+abbrev pub MayBegin : IndexState → ℕ → Type 0
+MayBegin index proc = (is_awake index proc ≡ true) ⊎ IsHeard index proc
+
+-- just those for whom it holds; whoever goes through a set goes in the order of the numbers
+abbrev pub AreThose : (ℕ → Type 0) → BTreeSet ℕ → Type 0
+AreThose Holds found = (proc : ℕ) → (set.contains nat_cmp found proc ≡ true) ↔ Holds proc
+
+-- the first process at or behind a number for which it holds; their numbers are below 2 ^ 32
+abbrev pub IsNext : (ℕ → Bool) → ℕ → Option ℕ → Type 0
+IsNext holds from None = (proc : ℕ) → proc < 4294967296 → from ≤ proc → holds proc ≡ false
+IsNext holds from (Some found) =
+    (from ≤ found) × (holds found ≡ true) × ((proc : ℕ) → from ≤ proc → proc < found → holds proc ≡ false)
+
+-- from a number on nobody for whom it holds is passed over
+abbrev pub NobodyPassed : (ℕ → Type 0) → ℕ → Option ℕ → Type 0
+NobodyPassed Holds from None = (proc : ℕ) → proc < 4294967296 → from ≤ proc → Holds proc → ⊥
+NobodyPassed Holds from (Some found) = (from ≤ found) × ((proc : ℕ) → from ≤ proc → proc < found → Holds proc → ⊥)
 
 -- nothing is sent or received, and nobody is awake
 pub record IsEmpty (index : IndexState) : Type 0 where
@@ -78,9 +105,3 @@ pub record IsTurned (old new : IndexState) (proc : ℕ) (awake : Bool) : Type 0 
   pub own_awake : is_awake new proc ≡ awake
   pub other_awake : (other : ℕ) → other ≢ proc → is_awake new other ≡ is_awake old other
   pub same_room : (other : ℕ) → HasRoom old other → HasRoom new other
-
--- of every index
-pub record IsTied (index : IndexState) : Type 0 where
-  pub opened : AllOpened index.opened index.receiving
-  pub counted : AreCountedIf index.opened index.sending index.counted
-  pub heard : AreHeard index.sending index.receiving index.active

@@ -1,4 +1,3 @@
 pub mod Marks
-pub mod Pairs
-pub mod Bits
 pub mod Indexes
+pub mod Helpers

@@ -69,14 +69,6 @@ is_mark a b = (a.count == b.count) && (a.head == b.head)
 abbrev pub has_mark : List Mark → Mark → Bool
 has_mark marks mark = list_any (is_mark mark) marks
 
--- whether one of the marks is of as many
-abbrev pub has_count : List Mark → ℕ → Bool
-has_count marks count = list_any (λ (mark : Mark). count == mark.count) marks
-
--- whether one of the marks is open
-abbrev pub has_open : List Mark → Bool
-has_open marks = list_any (λ (mark : Mark). mark.head == open_head) marks
-
 -- the mark of as many, whatever the first begins with
 abbrev pub wide : Mark → Mark
 wide mark = record { count = mark.count; head = open_head }

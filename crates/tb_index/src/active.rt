@@ -2,7 +2,7 @@ ghost use Rattle.std.specs.Prelude.{◌≡◌, ℕ, true, false, [], ◌∷◌, 
 ghost use Rattle.std.specs.List.{list_any};
 ghost use Rattle.tb_index.specs.declared.mark.Mark.{Mark as TheMark};
 ghost use Rattle.tb_index.specs.Marks.{has_mark, is_mark, meets, open_head};
-ghost use Rattle.tb_index.specs.Pairs.{has, AreCountedIf, AreOpened, AllOpened, SentAreHeard, ReceivedAreHeard, SentAreKept, ReceivedAreKept, AreKept, IsFirst, is_sender};
+ghost use Rattle.tb_index.specs.Helpers.Pairs.{has, AreCountedIf, AreOpened, AllOpened, SentAreHeard, ReceivedAreHeard, SentAreKept, ReceivedAreKept, AreKept, IsFirst, is_sender};
 
 use crate::counts::Counts;
 use crate::mark::{Mark, Marks, OPEN_HEAD, has_mark, wide};

@@ -1,7 +1,7 @@
 ghost use Rattle.std.specs.Prelude.{◌≡◌, ◌≢◌, ℕ, ◌+◌, ◌*◌, ◌/◌, ◌<◌, ◌≤◌, ◌==◌, Some, None, IfSome, [], max, length, slice_index, OnOk};
 ghost use Rattle.std.specs.Int.{bit_at};
-ghost use Rattle.tb_index.specs.Bits.{bit_in, IsNextBit, IsTwoRows, most_words};
-ghost use Rattle.tb_index.specs.Pairs.{IsFirst};
+ghost use Rattle.tb_index.specs.Helpers.Bits.{bit_in, IsNextBit, IsTwoRows, most_words};
+ghost use Rattle.tb_index.specs.Helpers.Pairs.{IsFirst};
 
 use std::alloc::Global;
 use std::marker::Model;
@@ -19,7 +19,7 @@ impl Model for Bits {
 
     ghost Value = { List ℕ };
 
-    ghost use Rattle.tb_index.specs.Bits.{IsTwoRows};
+    ghost use Rattle.tb_index.specs.Helpers.Bits.{IsTwoRows};
 
     ghost view = { λ rows. rows.low.items };
 

@@ -1,5 +1,5 @@
 ghost use Rattle.std.specs.Prelude.{◌≡◌, OnOk, OnErr};
-ghost use Rattle.tb_index.specs.Pairs.{AreOf, AreAdded, AreCountedIf, AreOpened, AllOpened, AreHeard, SamePairs};
+ghost use Rattle.tb_index.specs.Helpers.Pairs.{AreOf, AreAdded, AreCountedIf, AreOpened, AllOpened, AreHeard, SamePairs};
 
 use crate::active::activate;
 use crate::counts::{Counts, count};

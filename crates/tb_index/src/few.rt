@@ -1,6 +1,6 @@
 ghost use Rattle.std.specs.Prelude.{◌≡◌, ◌&&◌, ◌||◌, ◌<◌, ◌≤◌, ℕ, not, length, OnOk, OnErr};
 ghost use Rattle.tb_index.specs.declared.mark.Mark.{Mark as TheMark};
-ghost use Rattle.tb_index.specs.Pairs.{is_pair, in_few, slot_of, slots, IsFirst};
+ghost use Rattle.tb_index.specs.Helpers.Pairs.{is_pair, in_few, slot_of, slots, IsFirst};
 
 use crate::mark::{Mark, mixed};
 use crate::slot::Slot;

@@ -1,21 +1,22 @@
-ghost use Rattle.std.specs.Prelude.{◌≡◌, ℕ, true, false, OnOk, OnErr};
+ghost use Rattle.std.specs.Prelude.{◌≡◌, true, false, IfOk, OnOk, OnErr};
 ghost use Rattle.tb_index.specs.declared.mark.Mark.{Mark as TheMark};
 ghost use Rattle.tb_index.specs.Marks.{has_mark};
-ghost use Rattle.tb_index.specs.Pairs.{IsNext};
-ghost use Rattle.tb_index.specs.Indexes.{sends, receives, is_receiver, is_awake, starts, HasRoom, IsEmpty, SameIndex, IsSet, IsCleared, IsTurned};
+ghost use Rattle.tb_index.specs.Indexes.{sends, receives, is_receiver, HasRoom, IsSender, IsReceiver, MayBegin, AreThose, IsNext, NobodyPassed, IsEmpty, SameIndex, IsSet, IsCleared, IsTurned};
 
 use crate::active::{next_sender, quiet_received, quiet_sent};
 use crate::bits::Bits;
 use crate::coming::come;
 use crate::counts::{Counts, open_up, uncount};
+use crate::gather::gather;
 use crate::mark::{Mark, Marks, are_same, wide};
 use crate::pairs::{Pairs, remove_both};
 use crate::slot::earlier;
 use std::alloc::Global;
+use std::collections::BTreeSet;
 use std::marker::Model;
 use tb_terms::NoMemory;
 
-/// Who sends and who receives under which marks, who is awake, and who may begin a move.
+/// Who sends and who receives under which marks, and who is awake.
 #[derive(Drop)]
 pub struct Index {
     sending: Pairs,
@@ -26,27 +27,19 @@ pub struct Index {
 }
 
 impl Model for Index {
-    ghost use Rattle.tb_index.specs.Indexes.{IndexState, IsTied};
+    ghost use Rattle.tb_index.specs.Indexes.{IndexState};
+    ghost use Rattle.tb_index.specs.Helpers.Ties.{IsTied};
 
     ghost Value = { IndexState };
 
     ghost view = { λ index. record {
       sending = index.sending;
       receiving = index.receiving;
-      opened = index.counts.opened;
-      counted = index.counts.pairs;
       awake = index.awake;
-      active = index.active.items;
     } };
 
-    ghost invariant = { λ index. IsTied (record {
-      sending = index.sending;
-      receiving = index.receiving;
-      opened = index.counts.opened;
-      counted = index.counts.pairs;
-      awake = index.awake;
-      active = index.active.items;
-    }) };
+    ghost invariant = { λ index. IsTied
+        index.sending index.receiving index.counts.opened index.counts.pairs index.active.items };
 }
 
 impl Index {
@@ -175,13 +168,10 @@ impl Index {
         earlier(just, wide)
     }
 
-    /// The first process at or behind one that is to be asked whether it begins a move: those that
-    /// are awake, and those that send what somebody receives.
+    /// The next process to ask, at or behind one, whether it begins a move. It may begin none, as far as the
+    /// index knows: of those who send, the index asks some too many.
     pub fn next_starter(&self, from: u32) -> Option<u32>
-        ensures next { IsNext (starts self.now) from result }
-        ensures awake { (proc : ℕ) → is_awake self.now proc ≡ true → starts self.now proc ≡ true }
-        ensures heard { (mark : TheMark) (proc other : ℕ) → sends self.now mark proc ≡ true
-            → is_receiver self.now mark other ≡ true → starts self.now proc ≡ true }
+        ensures { NobodyPassed (MayBegin self.now) from result }
     {
         let awake = self.awake.next_number(from);
         let sender = next_sender(
@@ -191,6 +181,24 @@ impl Index {
             from,
         );
         earlier(awake, sender)
+    }
+
+    /// All who send anything.
+    pub fn senders(&self, alloc: Global) -> Result<BTreeSet<u32>, NoMemory>
+        ensures { IfOk result (AreThose (IsSender self.now)) }
+    {
+        let mut found = BTreeSet::new(alloc);
+        gather(&mut found, &self.sending, None)?;
+        Ok(found)
+    }
+
+    /// All who receive what is sent under the mark.
+    pub fn receivers(&self, alloc: Global, mark: Mark) -> Result<BTreeSet<u32>, NoMemory>
+        ensures { IfOk result (AreThose (IsReceiver self.now mark)) }
+    {
+        let mut found = BTreeSet::new(alloc);
+        gather(&mut found, &self.receiving, Some(mark))?;
+        Ok(found)
     }
 }
 

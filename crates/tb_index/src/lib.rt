@@ -7,6 +7,7 @@ mod bits;
 mod coming;
 mod counts;
 mod few;
+mod gather;
 mod index;
 mod mark;
 mod pairs;

@@ -1,7 +1,7 @@
 ghost use Rattle.std.specs.Prelude.{◌≡◌, ◌&&◌, ◌||◌, ◌==◌, ℕ, true, false, not, OnOk, OnErr, Option, Some, None};
 ghost use Rattle.tb_index.specs.declared.mark.Mark.{Mark as TheMark};
 ghost use Rattle.tb_index.specs.Marks.{has_mark};
-ghost use Rattle.tb_index.specs.Pairs.{has, in_many, is_pair, AreOf, AreAdded, AreRemoved, SamePairs, IsFirst};
+ghost use Rattle.tb_index.specs.Helpers.Pairs.{has, in_many, is_pair, AreOf, AreAdded, AreRemoved, SamePairs, IsFirst};
 
 use crate::few::{add_few, has_few, is_full, make_slots, next_few, remove_few};
 use crate::mark::{Mark, Marks, has_mark};

@@ -1,6 +1,6 @@
 ghost use Rattle.std.specs.Prelude.{◌≡◌, ◌&&◌, ◌||◌, ◌<◌, ℕ, not, true, false, [], length, slice_index_or, OnOk, OnErr, IfSome, IfNone};
 ghost use Rattle.tb_index.specs.declared.mark.Mark.{Mark as TheMark};
-ghost use Rattle.tb_index.specs.Pairs.{is_pair, is_of, is_in, IsFirst, earlier};
+ghost use Rattle.tb_index.specs.Helpers.Pairs.{is_pair, is_of, is_in, IsFirst, earlier};
 
 use crate::mark::{Mark, is_same};
 use std::alloc::Global;

@@ -1,5 +1,5 @@
 -- Whom an index doesn't name leads to nothing: no partner receives what is sent, and no starter begins anything.
-use Rattle.std.proofs.Common.{◌≡◌, ℕ, ◌+◌, ◌<◌, ◌==◌, ◌||◌, List, [], ◌∷◌, ◌++◌, map, length, refl, ap, subst, ◌∙◌, arith, Option, Some, None, Bool, true, false, not, is_some, option_map, option_to_list, if◌then◌else◌, ⊎_elim}
+use Rattle.std.proofs.Common.{◌≡◌, ℕ, ◌+◌, ◌<◌, ◌==◌, ◌||◌, List, [], ◌∷◌, ◌++◌, map, length, refl, ap, subst, ◌∙◌, arith, Option, Some, None, Bool, true, false, not, is_some, option_map, option_to_list, if◌then◌else◌, inl, inr, ⊎_elim}
 use Rattle.std.proofs.lemmas.Bool.{both_ways, and_parts, or_cases, or_left, or_right, eqb-true, cases_Bool}
 use Rattle.std.proofs.lemmas.List.{length-append, get_or_append_left, get_or-append-add}
 use Rattle.std.proofs.lemmas.List.Elements.{All-head, All-tail, All-get_or}
@@ -9,7 +9,7 @@ use Rattle.tb_terms.specs.declared.pattern.Pattern.{Pattern}
 use Rattle.tb_match.specs.declared.bind.Bind.{Bind}
 use Rattle.tb_match.specs.Matches.{match_list}
 use Rattle.tb_index.specs.Marks.{sent_mark, received_mark, meets, wide, open_head}
-use Rattle.tb_index.specs.Indexes.{IndexState, sends, receives, is_receiver, is_awake, starts}
+use Rattle.tb_index.specs.Indexes.{IndexState, sends, receives, is_receiver, is_awake, MayBegin}
 use Rattle.tb_index.specs.declared.mark.Mark.{Mark}
 use Rattle.tb_index.proofs.MarkLemmas.{matched-meets}
 use Rattle.tb_search.specs.Candidates.{Row, Scene, no_row, row_at, received_if, reception, receptions, partner_in, partners, plain_if, finding_of, setting_in, candidates_by, candidates_among, candidates_of}
@@ -116,13 +116,11 @@ own-rest scene row at place (own.Create process actuals slot) c = cc
 own-rest scene row at place (own.Speak does) c = led-nowhere (candidate.Own at place) finding.Speak (exchange_for (setting_in scene row) does) c
 own-rest scene row at place (own.Shutdown reason) c = cc
 
-module _ (index : IndexState) (scene : Scene) (each : All (IsIndexed index) scene.rows)
-    (awake : (proc : ℕ) → is_awake index proc ≡ true → starts index proc ≡ true)
-    (heard : (mark : Mark) (sender receiver : ℕ) → sends index mark sender ≡ true → is_receiver index mark receiver ≡ true → starts index sender ≡ true) where
-  module _ (row : Row) (unnamed : starts index row.number ≡ false) where
+module _ (index : IndexState) (scene : Scene) (each : All (IsIndexed index) scene.rows) where
+  module _ (row : Row) (unnamed : MayBegin index row.number → ⊥) where
     unheard : (terms : List Term) → sends index (sent_mark terms) row.number ≡ true → (proc : ℕ) → is_receiver index (sent_mark terms) proc ≡ false
     unheard terms h proc = ⊎_elim
-        (λ (e : is_receiver index (sent_mark terms) proc ≡ true). absurd (both_ways (starts index row.number) unnamed (heard (sent_mark terms) row.number proc h e)))
+        (λ (e : is_receiver index (sent_mark terms) proc ≡ true). absurd (unnamed (inr (sent_mark terms, proc, h, e))))
         (λ (e : is_receiver index (sent_mark terms) proc ≡ false). e)
         (cases_Bool (is_receiver index (sent_mark terms) proc))
 
@@ -145,7 +143,7 @@ module _ (index : IndexState) (scene : Scene) (each : All (IsIndexed index) scen
     pub of-asleep : (at : ℕ) → IsIndexed index row → SleepsAtRest (setting_by scene.bodies scene.kinds scene.bench) index row → candidates_of scene at row ≡ []
     of-asleep at h sleeps =
         let asleep : is_awake index row.number ≡ false = ⊎_elim
-        (λ (e : is_awake index row.number ≡ true). absurd (both_ways (starts index row.number) unnamed (awake row.number e)))
+        (λ (e : is_awake index row.number ≡ true). absurd (unnamed (inl e)))
         (λ (e : is_awake index row.number ≡ false). e)
         (cases_Bool (is_awake index row.number)) in
         among-rest at 0 row.ready (sleeps asleep) h.sent

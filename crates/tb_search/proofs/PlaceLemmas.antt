@@ -1,13 +1,14 @@
 -- Places of rows that stand by their numbers, and searches that pass those who lead to nothing.
-use Rattle.std.proofs.Common.{◌≡◌, ℕ, ◌+◌, ◌-◌, ◌^◌, ◌<◌, ◌≤◌, zero, suc, List, [], ◌∷◌, ◌++◌, take, drop, length, refl, ap, sym, ◌∙◌, arith, Option, Some, None, Bool, true, false, nat_lt, get_or, ⊎_elim}
-use Rattle.std.proofs.lemmas.Bool.{ltb-true, ltb-false, lt-ltb, lt-leb, le-leb, and_from, cases_lt}
+use Rattle.std.proofs.Common.{◌≡◌, ℕ, ◌+◌, ◌-◌, ◌^◌, ◌<◌, ◌≤◌, zero, suc, List, [], ◌∷◌, ◌++◌, take, drop, length, refl, ap, sym, ◌∙◌, arith, Option, Some, None, Bool, true, false, not, ◌&&◌, nat_lt, nat_le, get_or, ⊎_elim}
+use Rattle.std.proofs.lemmas.Bool.{ltb-true, ltb-false, lt-ltb, lt-leb, le-leb, leb-true, and_from, and_parts, cases_lt}
+use Rattle.std.proofs.lemmas.Bool.Decides.{nat_tests}
 use Rattle.std.proofs.lemmas.Option.{get_or_from_slice_get, slice_get-get_or}
 use Rattle.std.proofs.lemmas.List.{length-map, get_or-map, drop_more, drop_all}
 use Rattle.std.specs.List.Sorted.{IsPartitionedBy, IsPartitionPoint}
-use Rattle.tb_index.specs.Pairs.{IsNext}
+use Rattle.tb_index.specs.Indexes.{IsNext, NobodyPassed}
 use Rattle.tb_search.specs.Candidates.{Row, no_row, row_at, ascend, row_of, rows_of, up_to}
 use Rattle.tb_bus.specs.Steps.{first}
-use Rattle.tb_search.specs.Indexed.{IsNextPlace, IsNextOf}
+use Rattle.tb_search.specs.Indexed.{IsNextPlace, IsNextOf, IsPlaceOf}
 use Rattle.tb_search.specs.declared.living.Living.{Living}
 use Rattle.tb_search.proofs.TurnLemmas.{ascend-first, ascend-above, ascend-upto, up_to-point}
 
@@ -54,6 +55,51 @@ upto-exact {W = W} all last place some h within is =
           let between = ascend-less 0 (rows_of all) place k (row_of d) h (omega (arith, low)) (omega (arith, many, long)) in
           lt-leb (get_or all k d).number last (omega (arith, lower, upper, there, between)),
     )
+
+-- the place of a number that isn't behind the last
+pub place-within : (rows : List Row) (last number place : ℕ) → 0 < length rows → (row_at rows (length rows - 1)).number ≡ last → number ≤ last → place ≤ length rows →
+    ((k : ℕ) → k < place → (row_at rows k).number < number) → ((k : ℕ) → place ≤ k → k < length rows → number ≤ (row_at rows k).number) → IsPlaceOf rows number (Some place)
+place-within rows last number place some is upto most below above =
+    let within : place < length rows = ⊎_elim (λ (l : place < length rows). l)
+    (λ (l : length rows ≤ place). let less = below (length rows - 1) (omega (arith, l, some)) in absurd (omega (arith, less, is, upto)))
+    (cases_lt place (length rows)) in
+    (within, above place (omega arith) within, below)
+
+-- there is none behind the last
+pub place-past : (rows : List Row) (last number : ℕ) → ascend 0 rows ≡ true → (row_at rows (length rows - 1)).number ≡ last → last < number → IsPlaceOf rows number None
+place-past rows last number a is past place within =
+    let upper = ascend-upto 0 rows place (length rows - 1) no_row a (omega (arith, within)) (omega (arith, within)) in omega (arith, upper, is, past)
+
+-- whether a number is outside of those that were passed over
+abbrev pub is_ahead : ℕ → Option ℕ → ℕ → Bool
+is_ahead from None number = not (nat_le from number && nat_lt number 4294967296)
+is_ahead from (Some found) number = not (nat_le from number && nat_lt number found)
+
+not-true : (b : Bool) → b ≡ true → not b ≡ false
+not-true true e = refl
+not-true false e = absurd (let t : false ≡ true = e in cc)
+
+was-true : (b : Bool) → not b ≡ false → b ≡ true
+was-true true e = refl
+was-true false e = absurd (let t : true ≡ false = e in cc)
+
+-- the number found is the next of those ahead
+pub ahead-next : (Holds : ℕ → Type 0) (from : ℕ) (found : Option ℕ) → NobodyPassed Holds from found → IsNext (is_ahead from found) from found
+ahead-next Holds from None passed = λ number small low. not-true (nat_le from number && nat_lt number 4294967296) (and_from (nat_le from number) (nat_lt number 4294967296) (le-leb from number low) (lt-ltb number 4294967296 small))
+ahead-next Holds from (Some found) passed = (
+  passed.0,
+  grind (arith, nat_tests),
+  λ number low less. not-true (nat_le from number && nat_lt number found) (and_from (nat_le from number) (nat_lt number found) (le-leb from number low) (lt-ltb number found less)),
+)
+
+-- and whoever isn't ahead is none of those for whom it holds
+pub ahead-none : (Holds : ℕ → Type 0) (from : ℕ) (found : Option ℕ) → NobodyPassed Holds from found → (number : ℕ) → is_ahead from found number ≡ false → Holds number → ⊥
+ahead-none Holds from None passed number behind =
+    let t = and_parts (nat_le from number) (nat_lt number 4294967296) (was-true (nat_le from number && nat_lt number 4294967296) behind) in
+    passed number (ltb-true number 4294967296 t.1) (leb-true from number t.0)
+ahead-none Holds from (Some found) passed number behind =
+    let t = and_parts (nat_le from number) (nat_lt number found) (was-true (nat_le from number && nat_lt number found) behind) in
+    passed.1 number (leb-true from number t.0) (ltb-true number found t.1)
 
 module _ (holds : ℕ → Bool) (rows : List Row) (from : ℕ) (a : ascend 0 rows ≡ true) (w : from < length rows) where
   module _ (last : ℕ) (is : (row_at rows (length rows - 1)).number ≡ last) where

@@ -76,6 +76,17 @@ pub record IsIndexFor (settings : ℕ → Setting) (index : IndexState) (rows : 
   pub each : All (IsIndexed index) rows
   pub asleep : All (SleepsAtRest settings index) rows
 
+-- the first place of all that doesn't have a number below one
+abbrev pub IsPlaceOf : List Row → ℕ → Option ℕ → Type 0
+IsPlaceOf rows number None = (place : ℕ) → place < length rows → (row_at rows place).number < number
+IsPlaceOf rows number (Some found) =
+    (found < length rows) × (number ≤ (row_at rows found).number) × ((place : ℕ) → place < found → (row_at rows place).number < number)
+
+-- and of a number that may have been found
+abbrev pub IsPlaceIf : List Row → Option ℕ → Option ℕ → Type 0
+IsPlaceIf rows None place = place ≡ None
+IsPlaceIf rows (Some number) place = IsPlaceOf rows number place
+
 -- the place of a row, from one place on; whoever stands before it has a number for which this doesn't hold
 abbrev pub IsNextPlace : (ℕ → Bool) → List Row → ℕ → Option ℕ → Type 0
 IsNextPlace holds rows from None = (place : ℕ) → from ≤ place → place < length rows → holds (row_at rows place).number ≡ false

@@ -1,6 +1,6 @@
 use Rattle.std.proofs.Common.{List, OnOk, subst, sym, arith}
 use Rattle.tb_index.specs.declared.mark.Mark.{Mark}
-use Rattle.tb_index.specs.Pairs.{ReceivedAreHeard}
+use Rattle.tb_index.specs.Helpers.Pairs.{ReceivedAreHeard}
 use Rattle.tb_index.proofs.ActiveLemmas as active
 use Rattle.tb_index.proofs.PairLemmas as pairs
 use Rattle.tb_index.proofs.active.activate_received.Goals as goal

@@ -1,6 +1,6 @@
 use Rattle.std.proofs.Common.{List, OnOk, subst, sym}
 use Rattle.tb_index.specs.declared.mark.Mark.{Mark}
-use Rattle.tb_index.specs.Pairs.{SentAreHeard}
+use Rattle.tb_index.specs.Helpers.Pairs.{SentAreHeard}
 use Rattle.tb_index.proofs.PairLemmas as pairs
 use Rattle.tb_index.proofs.active.activate_sent.Goals as goal
 

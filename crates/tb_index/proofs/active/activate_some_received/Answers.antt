@@ -1,7 +1,7 @@
 use Rattle.std.proofs.Common.{List, subst, arith}
 use Rattle.std.proofs.lemmas.List.{take_all}
 use Rattle.tb_index.specs.declared.mark.Mark.{Mark}
-use Rattle.tb_index.specs.Pairs.{ReceivedAreHeard}
+use Rattle.tb_index.specs.Helpers.Pairs.{ReceivedAreHeard}
 use Rattle.tb_index.proofs.ActiveLemmas as active
 use Rattle.tb_index.proofs.active.activate_some_received.Goals as goal
 

@@ -1,5 +1,5 @@
 use Rattle.std.proofs.Common.{take}
-use Rattle.tb_index.specs.Pairs.{AreKept, SentAreHeard}
+use Rattle.tb_index.specs.Helpers.Pairs.{AreKept, SentAreHeard}
 use Rattle.tb_index.proofs.active.activate_some_sent.Given as goal
 
 abbrev pub invariant-loop-mark : goal.invariant-loop-mark

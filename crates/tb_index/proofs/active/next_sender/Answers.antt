@@ -2,7 +2,7 @@ use Rattle.std.proofs.Common.{◌+◌, List, take, sym, subst, arith}
 use Rattle.std.proofs.lemmas.List.{take_all}
 use Rattle.std.specs.List.{list_any}
 use Rattle.tb_index.specs.declared.mark.Mark.{Mark}
-use Rattle.tb_index.specs.Pairs.{is_sender, IsFirst}
+use Rattle.tb_index.specs.Helpers.Pairs.{is_sender, IsFirst}
 use Rattle.tb_index.proofs.PairLemmas as pairs
 use Rattle.tb_index.proofs.active.next_sender.Goals as goal
 

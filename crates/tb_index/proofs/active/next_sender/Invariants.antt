@@ -1,7 +1,7 @@
 use Rattle.std.proofs.Common.{take}
 use Rattle.std.specs.List.{list_any}
 use Rattle.tb_index.specs.declared.mark.Mark.{Mark}
-use Rattle.tb_index.specs.Pairs.{is_sender, IsFirst}
+use Rattle.tb_index.specs.Helpers.Pairs.{is_sender, IsFirst}
 use Rattle.tb_index.proofs.active.next_sender.Given as goal
 
 abbrev pub invariant-loop-mark : goal.invariant-loop-mark

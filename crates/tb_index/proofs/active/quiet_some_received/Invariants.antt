@@ -1,4 +1,4 @@
-use Rattle.tb_index.specs.Pairs.{ReceivedAreKept}
+use Rattle.tb_index.specs.Helpers.Pairs.{ReceivedAreKept}
 use Rattle.tb_index.proofs.active.quiet_some_received.Given as goal
 
 abbrev pub invariant-loop-mark : goal.invariant-loop-mark

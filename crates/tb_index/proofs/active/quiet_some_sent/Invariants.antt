@@ -1,4 +1,4 @@
-use Rattle.tb_index.specs.Pairs.{SentAreKept}
+use Rattle.tb_index.specs.Helpers.Pairs.{SentAreKept}
 use Rattle.tb_index.proofs.active.quiet_some_sent.Given as goal
 
 abbrev pub invariant-loop-mark : goal.invariant-loop-mark

@@ -1,7 +1,7 @@
 use Rattle.std.proofs.Common.{◌≡◌, true, false, List, subst, sym, ◌∙◌}
 use Rattle.tb_index.specs.declared.mark.Mark.{Mark}
 use Rattle.tb_index.specs.Marks.{has_mark, wide}
-use Rattle.tb_index.specs.Pairs.{has}
+use Rattle.tb_index.specs.Helpers.Pairs.{has}
 use Rattle.tb_index.proofs.ActiveLemmas as active
 use Rattle.tb_index.proofs.IndexLemmas as indexes
 use Rattle.tb_index.proofs.coming.come.Goals as goal

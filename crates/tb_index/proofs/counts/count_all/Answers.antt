@@ -1,6 +1,6 @@
 use Rattle.std.proofs.Common.{◌≡◌, true, ⊎_elim, subst, sym}
 use Rattle.tb_index.specs.Marks.{wide}
-use Rattle.tb_index.specs.Pairs.{in_few, in_many}
+use Rattle.tb_index.specs.Helpers.Pairs.{in_few, in_many}
 use Rattle.tb_index.proofs.SlotLemmas as slots
 use Rattle.tb_index.proofs.counts.count_all.Goals as goal
 

@@ -1,7 +1,7 @@
 use Rattle.std.proofs.Common.{◌≡◌, true, List, sym, subst}
 use Rattle.tb_index.specs.declared.slot.Pair.{Pair}
 use Rattle.tb_index.specs.Marks.{wide}
-use Rattle.tb_index.specs.Pairs.{is_in}
+use Rattle.tb_index.specs.Helpers.Pairs.{is_in}
 use Rattle.tb_index.proofs.SlotLemmas as slots
 use Rattle.tb_index.proofs.counts.count_few.Goals as goal
 

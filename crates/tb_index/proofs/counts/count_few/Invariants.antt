@@ -3,7 +3,7 @@ use Rattle.std.specs.List.{list_any}
 use Rattle.tb_index.specs.declared.mark.Mark.{Mark}
 use Rattle.tb_index.specs.declared.slot.Pair.{Pair}
 use Rattle.tb_index.specs.Marks.{wide}
-use Rattle.tb_index.specs.Pairs.{has, is_in}
+use Rattle.tb_index.specs.Helpers.Pairs.{has, is_in}
 use Rattle.tb_index.proofs.counts.count_few.Given as goal
 
 abbrev pub invariant-loop-slot : goal.invariant-loop-slot

@@ -1,7 +1,7 @@
 use Rattle.std.proofs.Common.{◌≡◌, true, false, ap, sym, ◌∙◌, inl, inr, ⊎_elim}
 use Rattle.std.specs.BTreeMap.{is_at}
 use Rattle.tb_index.specs.Marks.{wide}
-use Rattle.tb_index.specs.Pairs.{has, is_among, triple_cmp}
+use Rattle.tb_index.specs.Helpers.Pairs.{has, is_among, triple_cmp}
 use Rattle.tb_index.proofs.ActiveLemmas as active
 use Rattle.tb_index.proofs.counts.count_many.Goals as goal
 

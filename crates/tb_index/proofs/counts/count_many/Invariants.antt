@@ -1,7 +1,7 @@
 use Rattle.std.proofs.Common.{◌≡◌, ℕ, true, ◌⊎◌}
 use Rattle.tb_index.specs.declared.mark.Mark.{Mark}
 use Rattle.tb_index.specs.Marks.{wide}
-use Rattle.tb_index.specs.Pairs.{has, in_many, is_among}
+use Rattle.tb_index.specs.Helpers.Pairs.{has, in_many, is_among}
 use Rattle.tb_index.proofs.counts.count_many.Given as goal
 
 -- who sends under a mark is counted, or its pair is still to come

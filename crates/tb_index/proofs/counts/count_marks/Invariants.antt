@@ -1,7 +1,7 @@
 use Rattle.std.proofs.Common.{◌≡◌, ℕ, true, false, take}
 use Rattle.tb_index.specs.declared.mark.Mark.{Mark}
 use Rattle.tb_index.specs.Marks.{has_mark, wide}
-use Rattle.tb_index.specs.Pairs.{has}
+use Rattle.tb_index.specs.Helpers.Pairs.{has}
 use Rattle.tb_index.proofs.counts.count_marks.Given as goal
 
 abbrev pub invariant-loop-mark : goal.invariant-loop-mark

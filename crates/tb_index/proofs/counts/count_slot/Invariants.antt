@@ -1,7 +1,7 @@
 use Rattle.std.proofs.Common.{◌≡◌, ℕ, true, take}
 use Rattle.tb_index.specs.declared.mark.Mark.{Mark}
 use Rattle.tb_index.specs.Marks.{wide}
-use Rattle.tb_index.specs.Pairs.{has, is_in}
+use Rattle.tb_index.specs.Helpers.Pairs.{has, is_in}
 use Rattle.tb_index.proofs.counts.count_slot.Given as goal
 
 abbrev pub invariant-loop-pair : goal.invariant-loop-pair

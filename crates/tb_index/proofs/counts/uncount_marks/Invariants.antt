@@ -1,4 +1,4 @@
-use Rattle.tb_index.specs.Pairs.{AreCountedStill}
+use Rattle.tb_index.specs.Helpers.Pairs.{AreCountedStill}
 use Rattle.tb_index.proofs.counts.uncount_marks.Given as goal
 
 abbrev pub invariant-loop-mark : goal.invariant-loop-mark

@@ -1,6 +1,6 @@
 use Rattle.std.proofs.Common.{◌≡◌, ◌∙◌, ◌&&◌, ℕ, not, sym, subst}
 use Rattle.tb_index.specs.declared.mark.Mark.{Mark}
-use Rattle.tb_index.specs.Pairs.{has, is_pair}
+use Rattle.tb_index.specs.Helpers.Pairs.{has, is_pair}
 use Rattle.tb_index.proofs.ActiveLemmas as active
 use Rattle.tb_index.proofs.counts.uncount_one.Goals as goal
 

@@ -1,6 +1,6 @@
 use Rattle.std.proofs.Common.{◌≡◌, ℕ, ◌+◌, length}
 use Rattle.tb_index.specs.declared.mark.Mark.{Mark}
-use Rattle.tb_index.specs.Pairs.{in_few}
+use Rattle.tb_index.specs.Helpers.Pairs.{in_few}
 use Rattle.tb_index.proofs.few.fill.Given as goal
 
 abbrev pub invariant-loop : goal.invariant-loop

@@ -1,5 +1,5 @@
 use Rattle.std.proofs.Common.{◌≡◌, drop}
-use Rattle.tb_index.specs.Pairs.{is_in}
+use Rattle.tb_index.specs.Helpers.Pairs.{is_in}
 use Rattle.tb_index.proofs.slot.has_pair.Given as goal
 
 abbrev pub invariant-loop-pair : goal.invariant-loop-pair

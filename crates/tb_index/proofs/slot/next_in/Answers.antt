@@ -1,6 +1,6 @@
 use Rattle.std.proofs.Common.{◌+◌, take, sym, subst}
 use Rattle.tb_index.specs.declared.slot.Pair.{Pair}
-use Rattle.tb_index.specs.Pairs.{is_in, is_of, IsFirst}
+use Rattle.tb_index.specs.Helpers.Pairs.{is_in, is_of, IsFirst}
 use Rattle.tb_index.proofs.PairLemmas as pairs
 use Rattle.tb_index.proofs.slot.next_in.Goals as goal
 

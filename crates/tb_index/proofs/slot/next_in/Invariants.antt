@@ -1,5 +1,5 @@
 use Rattle.std.proofs.Common.{take}
-use Rattle.tb_index.specs.Pairs.{is_in, IsFirst}
+use Rattle.tb_index.specs.Helpers.Pairs.{is_in, IsFirst}
 use Rattle.tb_index.proofs.slot.next_in.Given as goal
 
 abbrev pub invariant-loop-pair : goal.invariant-loop-pair

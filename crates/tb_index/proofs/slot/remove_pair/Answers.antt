@@ -1,6 +1,6 @@
 use Rattle.std.proofs.Common.{◌≡◌, ◌<◌, List, true, length, get_or, subst}
 use Rattle.tb_index.specs.declared.slot.Pair.{Pair}
-use Rattle.tb_index.specs.Pairs.{is_in, is_of, is_pair}
+use Rattle.tb_index.specs.Helpers.Pairs.{is_in, is_of, is_pair}
 use Rattle.tb_index.proofs.SlotLemmas as slots
 use Rattle.tb_index.proofs.slot.remove_pair.Goals as goal
 

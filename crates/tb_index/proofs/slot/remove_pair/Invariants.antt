@@ -1,6 +1,6 @@
 use Rattle.std.proofs.Common.{◌≡◌, ◌||◌, ℕ, vec_len}
 use Rattle.tb_index.specs.declared.mark.Mark.{Mark}
-use Rattle.tb_index.specs.Pairs.{is_in, is_pair}
+use Rattle.tb_index.specs.Helpers.Pairs.{is_in, is_pair}
 use Rattle.tb_index.proofs.slot.remove_pair.Given as goal
 
 abbrev pub invariant-loop-place : goal.invariant-loop-place

@@ -1,5 +1,5 @@
 use Rattle.std.proofs.Common.{◌≡◌, false, subst, sym}
-use Rattle.tb_index.specs.Pairs.{IsNext}
+use Rattle.tb_index.specs.Indexes.{IsNext}
 use Rattle.tb_index.specs.Indexes.{is_receiver}
 use Rattle.tb_search.specs.Candidates.{Row, partner_in, row_at, rows_of}
 use Rattle.tb_search.proofs.PlaceLemmas.{row-got, next-of}
@@ -18,4 +18,4 @@ returns g c = λ number terms same.
     next-of (is_receiver index mark) (partner_in number terms) rows from
     (λ place within deaf. partner-deaf index terms number place (row_at rows place) (indexed-at index rows place c.requires.index.each within)
     (subst (λ m. is_receiver index m (row_at rows place).number ≡ false) same deaf))
-    c.place_of.result (c.place_of.ensures (is_receiver index mark) next)
+    c.place_of.result (c.place_of.ensures.next (is_receiver index mark) next)

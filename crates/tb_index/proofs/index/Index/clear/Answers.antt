@@ -1,6 +1,6 @@
 use Rattle.std.proofs.Common.{◌≡◌, ap, sym, ◌∙◌, subst, ◌==◌, List, []}
 use Rattle.tb_index.specs.Indexes.{IsCleared, sends, receives}
-use Rattle.tb_index.specs.Pairs.{has, AreRemoved}
+use Rattle.tb_index.specs.Helpers.Pairs.{has, AreRemoved}
 use Rattle.tb_index.specs.Marks.{has_mark}
 use Rattle.tb_index.specs.declared.mark.Mark.{Mark}
 use Rattle.tb_index.proofs.ActiveLemmas as active
@@ -10,7 +10,7 @@ use Rattle.tb_index.proofs.index.Index.clear.Goals as goal
 
 pub quiet_sent-requires : goal.quiet_sent-requires
 quiet_sent-requires c = λ t. active.left-counted c.self.inside.sending c.remove_but.new.self c.args.proc c.as_slice.result.now [] c.remove_but.ensures
-    c.self.inside.counts.pairs c.uncount.new.counts.pairs (c.self.invariant.counted (sym c.uncount.ensures.opened ∙ t)) c.uncount.ensures.still
+    c.self.inside.counts.pairs c.uncount.new.counts.pairs (c.self.invariant.counts (sym c.uncount.ensures.opened ∙ t)) c.uncount.ensures.still
     (λ mark e. absurd (active.not-both (has c.remove_but.new.self mark c.args.proc) e
     (pairs.gone-own (has c.remove_but.new.self mark c.args.proc) (has c.self.inside.sending mark c.args.proc) (has_mark c.as_slice.result.now mark) (c.args.proc == c.args.proc)
     (c.remove_but.ensures mark c.args.proc) (active.same-number c.args.proc)
@@ -19,10 +19,10 @@ quiet_sent-requires c = λ t. active.left-counted c.self.inside.sending c.remove
 
 pub invariant_of-self : goal.invariant_of-self
 invariant_of-self c = record {
-  opened = λ mark its e is_open. c.uncount.ensures.opened ∙ c.self.invariant.opened mark its
+  told = λ mark its e is_open. c.uncount.ensures.opened ∙ c.self.invariant.told mark its
       (active.left c.self.inside.receiving c.remove_but-2.new.self c.args.proc c.as_slice-2.result.now [] c.remove_but-2.ensures mark its e) is_open;
-  counted = λ t. (active.left-counted c.self.inside.sending c.remove_but.new.self c.args.proc c.as_slice.result.now [] c.remove_but.ensures
-      c.self.inside.counts.pairs c.uncount.new.counts.pairs (c.self.invariant.counted (sym c.uncount.ensures.opened ∙ t)) c.uncount.ensures.still
+  counts = λ t. (active.left-counted c.self.inside.sending c.remove_but.new.self c.args.proc c.as_slice.result.now [] c.remove_but.ensures
+      c.self.inside.counts.pairs c.uncount.new.counts.pairs (c.self.invariant.counts (sym c.uncount.ensures.opened ∙ t)) c.uncount.ensures.still
       (λ mark e. absurd (active.not-both (has c.remove_but.new.self mark c.args.proc) e
       (pairs.gone-own (has c.remove_but.new.self mark c.args.proc) (has c.self.inside.sending mark c.args.proc) (has_mark c.as_slice.result.now mark) (c.args.proc == c.args.proc)
       (c.remove_but.ensures mark c.args.proc) (active.same-number c.args.proc)

@@ -1,6 +1,6 @@
 use Rattle.std.proofs.Common.{◌≡◌, refl, ap, sym, ◌∙◌, subst, ◌==◌, List}
 use Rattle.tb_index.specs.Indexes.{IsSet, SameIndex, sends, receives}
-use Rattle.tb_index.specs.Pairs.{has, AreCountedStill}
+use Rattle.tb_index.specs.Helpers.Pairs.{has, AreCountedStill}
 use Rattle.tb_index.specs.Marks.{has_mark}
 use Rattle.tb_index.specs.declared.mark.Mark.{Mark}
 use Rattle.tb_index.proofs.ActiveLemmas as active
@@ -31,13 +31,13 @@ quiet_sent-requires c = λ t. active.left-counted c.come.new.sending c.remove_bo
 
 pub invariant_of-self-2 : goal.invariant_of-self-2
 invariant_of-self-2 c = record {
-  opened = λ mark its e is_open. active.come-opened c.self.inside.counts.opened c.uncount.new.counts.opened c.self.inside.receiving c.come.new.receiving c.args.proc c.args.new.now.receives.items
-      c.self.invariant.opened
+  told = λ mark its e is_open. active.come-opened c.self.inside.counts.opened c.uncount.new.counts.opened c.self.inside.receiving c.come.new.receiving c.args.proc c.args.new.now.receives.items
+      c.self.invariant.told
       (λ t. c.uncount.ensures.opened ∙ c.come.ensures.opened ∙ c.open_up.ensures.kept t)
       (λ other there its_open. c.uncount.ensures.opened ∙ c.come.ensures.opened ∙ c.in_ok-open_up.ensures.marks other (ap (λ (marks : List Mark). has_mark marks other) c.as_slice.ensures.value ∙ there) its_open)
       c.in_ok-come.ensures.receives mark its
       (active.left c.come.new.receiving c.remove_both.new.receiving c.args.proc c.args.old.now.receives.items c.args.new.now.receives.items c.remove_both.ensures.receives mark its e) is_open;
-  counted = λ t. active.left-counted c.come.new.sending c.remove_both.new.sending c.args.proc c.args.old.now.sends.items c.args.new.now.sends.items c.remove_both.ensures.sends
+  counts = λ t. active.left-counted c.come.new.sending c.remove_both.new.sending c.args.proc c.args.old.now.sends.items c.args.new.now.sends.items c.remove_both.ensures.sends
       c.come.new.counts.pairs c.uncount.new.counts.pairs (c.in_ok-come.ensures.counted (sym c.uncount.ensures.opened ∙ t))
       (subst (λ marks. AreCountedStill c.come.new.counts.pairs c.uncount.new.counts.pairs marks c.args.proc) c.as_slice-3.ensures.value c.uncount.ensures.still)
       (λ mark e. sym (pairs.set-own (has c.remove_both.new.sending mark c.args.proc) (has c.come.new.sending mark c.args.proc) (has c.self.inside.sending mark c.args.proc)

@@ -1,5 +1,5 @@
 use Rattle.std.proofs.Common.{◌≡◌, ◌||◌, ◌∙◌, true, ap, sym, refl, subst}
-use Rattle.tb_index.specs.Pairs.{in_few, is_pair}
+use Rattle.tb_index.specs.Helpers.Pairs.{in_few, is_pair}
 use Rattle.tb_index.proofs.SlotLemmas as slots
 use Rattle.tb_index.proofs.pairs.Pairs.add.Goals as goal
 

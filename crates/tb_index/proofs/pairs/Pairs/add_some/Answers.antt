@@ -1,7 +1,7 @@
 use Rattle.std.proofs.Common.{◌==◌, take, ap, ◌∙◌}
 use Rattle.std.proofs.lemmas.Bool.{eqb-true}
 use Rattle.tb_index.specs.Marks.{has_mark, is_mark}
-use Rattle.tb_index.specs.Pairs.{has}
+use Rattle.tb_index.specs.Helpers.Pairs.{has}
 use Rattle.tb_index.proofs.PairLemmas as pairs
 use Rattle.tb_index.proofs.pairs.Pairs.add_some.Goals as goal
 

@@ -1,5 +1,5 @@
 use Rattle.std.proofs.Common.{sym, subst}
-use Rattle.tb_index.specs.Pairs.{has, in_few, IsFirst}
+use Rattle.tb_index.specs.Helpers.Pairs.{has, in_few, IsFirst}
 use Rattle.tb_index.proofs.SlotLemmas as slots
 use Rattle.tb_index.proofs.pairs.Pairs.next.Goals as goal
 

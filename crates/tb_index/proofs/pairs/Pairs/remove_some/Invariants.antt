@@ -1,7 +1,7 @@
 use Rattle.std.proofs.Common.{◌≡◌, ℕ, ◌&&◌, ◌==◌, take, not}
 use Rattle.tb_index.specs.declared.mark.Mark.{Mark}
 use Rattle.tb_index.specs.Marks.{has_mark}
-use Rattle.tb_index.specs.Pairs.{has}
+use Rattle.tb_index.specs.Helpers.Pairs.{has}
 use Rattle.tb_index.proofs.pairs.Pairs.remove_some.Given as goal
 
 abbrev pub invariant-loop-mark : goal.invariant-loop-mark

@@ -1,5 +1,5 @@
 -- Which processes have which marks: in slots, and in order those for which a slot had no room.
-use Rattle.std.specs.Prelude.{◌≡◌, ℕ, ◌&&◌, ◌||◌, ◌==◌, ◌%◌, not, List, [], slice_index_or, ◌≤◌, ◌<◌, Bool, true, false, Option, Some, None, nat_le, if◌then◌else◌}
+use Rattle.std.specs.Prelude.{◌≡◌, ℕ, ◌&&◌, ◌||◌, ◌==◌, ◌%◌, ◌⊎◌, not, List, [], slice_index_or, ◌≤◌, ◌<◌, Bool, true, false, Option, Some, None, nat_le, if◌then◌else◌}
 use Rattle.std.specs.Ordering.{nat_cmp, ordering_then}
 use Rattle.std.specs.declared.cmp.Ordering.{Ordering}
 use Rattle.std.specs.BTreeMap.{is_at}
@@ -10,6 +10,14 @@ use Rattle.tb_index.specs.declared.mark.Mark.{Mark}
 use Rattle.tb_index.specs.declared.slot.Pair.{Pair}
 use Rattle.tb_index.specs.declared.pairs.Pairs.{Pairs}
 use Rattle.tb_index.specs.Marks.{mixed, is_mark, has_mark, wide, meets, open_head}
+
+-- whether one of the marks is of as many
+abbrev pub has_count : List Mark → ℕ → Bool
+has_count marks count = list_any (λ (mark : Mark). count == mark.count) marks
+
+-- whether one of the marks is open
+abbrev pub has_open : List Mark → Bool
+has_open marks = list_any (λ (mark : Mark). mark.head == open_head) marks
 
 abbrev pub is_pair : Mark → ℕ → Mark → ℕ → Bool
 is_pair mark proc other its = is_mark other mark && (its == proc)
@@ -123,14 +131,24 @@ IsFirst holds from None = (number : ℕ) → from ≤ number → holds number �
 IsFirst holds from (Some found) =
     (from ≤ found) × (holds found ≡ true) × ((number : ℕ) → from ≤ number → number < found → holds number ≡ false)
 
--- the same of processes, whose numbers are below 2 ^ 32
-abbrev pub IsNext : (ℕ → Bool) → ℕ → Option ℕ → Type 0
-IsNext holds from None = (proc : ℕ) → proc < 4294967296 → from ≤ proc → holds proc ≡ false
-IsNext holds from (Some found) =
-    (from ≤ found) × (holds found ≡ true) × ((proc : ℕ) → from ≤ proc → proc < found → holds proc ≡ false)
-
 -- the smaller of two numbers, where there are any
 abbrev pub earlier : Option ℕ → Option ℕ → Option ℕ
 earlier None other = other
 earlier (Some a) None = Some a
 earlier (Some a) (Some b) = if nat_le a b then Some a else Some b
+
+-- whether one of these has the mark, and it belongs into this slot
+abbrev pub in_slot : List Pair → ℕ → Mark → ℕ → Bool
+in_slot pairs slot mark proc = (slot_of mark == slot) && is_in pairs mark proc
+
+-- whether what is received under a mark is sent under another; where none is given, each is wanted
+abbrev pub is_wanted : Option Mark → Mark → Bool
+is_wanted None mark = true
+is_wanted (Some sent) mark = meets mark sent
+
+-- all were added to a set that have a wanted mark, and no others
+pub record AreGathered (old new : BTreeSet ℕ) (sent : Option Mark) (having : Mark → ℕ → Bool) : Type 0 where
+  pub kept : (proc : ℕ) → set.contains nat_cmp old proc ≡ true → set.contains nat_cmp new proc ≡ true
+  pub all : (mark : Mark) (proc : ℕ) → having mark proc ≡ true → is_wanted sent mark ≡ true → set.contains nat_cmp new proc ≡ true
+  pub only : (proc : ℕ) → set.contains nat_cmp new proc ≡ true →
+      (set.contains nat_cmp old proc ≡ true) ⊎ ((mark : Mark) × (having mark proc ≡ true) × (is_wanted sent mark ≡ true))
