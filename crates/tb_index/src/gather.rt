@@ -8,7 +8,8 @@ use crate::slot::{Pair, Slot};
 use std::collections::BTreeSet;
 use tb_terms::NoMemory;
 
-/// Whether what is received under a mark is sent under another; where none is given, each is wanted.
+/// Returns whether a receiver under this mark may receive a message with the other. If there is no other mark, each
+/// mark is wanted.
 fn is_wanted(sent: Option<Mark>, mark: Mark) -> bool
     ensures { result ≡ is_wanted sent mark }
 {
@@ -20,7 +21,7 @@ fn is_wanted(sent: Option<Mark>, mark: Mark) -> bool
     }
 }
 
-/// Adds all processes that have a wanted mark.
+/// Adds each process that has a wanted mark. After `Err`, some of them may be in the set.
 pub(crate) fn gather(
     found: &mut BTreeSet<u32>,
     pairs: &Pairs,
@@ -33,11 +34,7 @@ pub(crate) fn gather(
     Ok(())
 }
 
-fn gather_few(
-    found: &mut BTreeSet<u32>,
-    few: &[Slot],
-    sent: Option<Mark>,
-) -> Result<(), NoMemory>
+fn gather_few(found: &mut BTreeSet<u32>, few: &[Slot], sent: Option<Mark>) -> Result<(), NoMemory>
     ensures { OnOk result (AreGathered found.old found.new sent (in_few few.now)) }
 {
     for slot in 0..few.len() {
@@ -46,7 +43,7 @@ fn gather_few(
     Ok(())
 }
 
-/// Adds those whose mark belongs into the slot.
+/// Adds each process of a slot with a wanted mark, if the mark belongs to that slot.
 fn gather_slot(
     found: &mut BTreeSet<u32>,
     pairs: &[Pair],

@@ -168,8 +168,8 @@ impl Index {
         earlier(just, wide)
     }
 
-    /// The next process to ask, at or behind one, whether it begins a move. It may begin none, as far as the
-    /// index knows: of those who send, the index asks some too many.
+    /// Returns the next process, from a number on, that the search must ask. It may name a process in vain: a sender
+    /// that nobody hears.
     pub fn next_starter(&self, from: u32) -> Option<u32>
         ensures { NobodyPassed (MayBegin self.now) from result }
     {
@@ -183,7 +183,7 @@ impl Index {
         earlier(awake, sender)
     }
 
-    /// All who send anything.
+    /// Collects the processes that send. The set is in the order of their numbers.
     pub fn senders(&self, alloc: Global) -> Result<BTreeSet<u32>, NoMemory>
         ensures { IfOk result (AreThose (IsSender self.now)) }
     {
@@ -192,7 +192,7 @@ impl Index {
         Ok(found)
     }
 
-    /// All who receive what is sent under the mark.
+    /// Collects the processes that receive a message with the mark. The set is in the order of their numbers.
     pub fn receivers(&self, alloc: Global, mark: Mark) -> Result<BTreeSet<u32>, NoMemory>
         ensures { IfOk result (AreThose (IsReceiver self.now mark)) }
     {
