@@ -9,8 +9,7 @@ use Rattle.std.specs.BTreeMap.{is_at}
 use Rattle.tb_index.specs.declared.pairs.Pairs.{Pairs}
 use Rattle.tb_index.specs.declared.mark.Mark.{Mark}
 use Rattle.tb_index.specs.Marks.{is_mark, has_mark, wide, meets, open_head}
-use Rattle.tb_index.specs.Helpers.Pairs.{has_count, has_open}
-use Rattle.tb_index.specs.Helpers.Pairs.{has, is_pair, is_sender, triple_cmp, AreOpened, AllOpened, AreOf, AreAdded, AreRemoved, AreCounted, AreCountedStill, AreHeard, SentAreHeard, ReceivedAreHeard, AreKept, SentAreKept, ReceivedAreKept, SamePairs}
+use Rattle.tb_index.specs.Helpers.Pairs.{has_count, has_open, has, is_pair, is_sender, triple_cmp, AreOpened, AllOpened, AreOf, AreAdded, AreRemoved, AreCounted, AreCountedStill, AreHeard, SentAreHeard, ReceivedAreHeard, AreKept, SentAreKept, ReceivedAreKept, SamePairs}
 use Rattle.tb_index.proofs.PairLemmas as pairs
 
 pub same-number : (p : ℕ) → (p == p) ≡ true

@@ -9,8 +9,8 @@ use Rattle.tb_index.specs.Marks.{has_mark, wide}
 use Rattle.tb_index.specs.Helpers.Pairs.{has}
 use Rattle.tb_index.specs.Helpers.Bits.{bit_in}
 
--- Of an index three facts are seen: who sends, who receives, and who is awake. Nobody has to believe how it keeps them,
--- since of each call they are said anew.
+-- A contract sees three facts of an index: who sends, who receives, and who is awake. The contracts of the calls determine
+-- them from a new index on, so a reader need not know how an index keeps them.
 pub record IndexState : Type 0 where
   pub sending : Pairs
   pub receiving : Pairs
@@ -51,7 +51,7 @@ IsHeard index proc = (mark : Mark) × (other : ℕ) × (sends index mark proc �
 abbrev pub MayBegin : IndexState → ℕ → Type 0
 MayBegin index proc = (is_awake index proc ≡ true) ⊎ IsHeard index proc
 
--- just those for whom it holds; whoever goes through a set goes in the order of the numbers
+-- The set has exactly the processes for which it holds. A set is in the order of its numbers.
 abbrev pub AreThose : (ℕ → Type 0) → BTreeSet ℕ → Type 0
 AreThose Holds found = (proc : ℕ) → (set.contains nat_cmp found proc ≡ true) ↔ Holds proc
 
@@ -61,7 +61,8 @@ IsNext holds from None = (proc : ℕ) → proc < 4294967296 → from ≤ proc �
 IsNext holds from (Some found) =
     (from ≤ found) × (holds found ≡ true) × ((proc : ℕ) → from ≤ proc → proc < found → holds proc ≡ false)
 
--- from a number on nobody for whom it holds is passed over
+-- No process for which it holds has a number from one on and below the one found. If none is found, none has a number
+-- from that one on.
 abbrev pub NobodyPassed : (ℕ → Type 0) → ℕ → Option ℕ → Type 0
 NobodyPassed Holds from None = (proc : ℕ) → proc < 4294967296 → from ≤ proc → Holds proc → ⊥
 NobodyPassed Holds from (Some found) = (from ≤ found) × ((proc : ℕ) → from ≤ proc → proc < found → Holds proc → ⊥)

@@ -1,8 +1,7 @@
 ghost use Rattle.std.specs.Prelude.{◌≡◌, ℕ, true, false, OnOk};
 ghost use Rattle.tb_index.specs.declared.mark.Mark.{Mark as TheMark};
 ghost use Rattle.tb_index.specs.Marks.{has_mark, open_head, wide};
-ghost use Rattle.tb_index.specs.Helpers.Pairs.{has_open};
-ghost use Rattle.tb_index.specs.Helpers.Pairs.{has, in_few, in_many, is_in, AreCounted, AreCountedIf, AreCountedStill, AreOpened};
+ghost use Rattle.tb_index.specs.Helpers.Pairs.{has, has_open, in_few, in_many, is_in, AreCounted, AreCountedIf, AreCountedStill, AreOpened};
 
 use crate::mark::{Mark, OPEN_HEAD, has_count, has_mark, has_open, wide};
 use crate::pairs::Pairs;

@@ -1,6 +1,5 @@
 use Rattle.std.proofs.Common.{◌≡◌, false, subst, sym}
-use Rattle.tb_index.specs.Indexes.{IsNext}
-use Rattle.tb_index.specs.Indexes.{is_receiver}
+use Rattle.tb_index.specs.Indexes.{IsNext, is_receiver}
 use Rattle.tb_search.specs.Candidates.{Row, partner_in, row_at, rows_of}
 use Rattle.tb_search.proofs.PlaceLemmas.{row-got, next-of}
 use Rattle.tb_search.proofs.IndexLemmas.{partner-deaf, indexed-at}

@@ -1,7 +1,6 @@
 use Rattle.std.proofs.Common.{sym, subst}
-use Rattle.tb_index.specs.Indexes.{is_receiver}
+use Rattle.tb_index.specs.Indexes.{is_receiver, IsNext}
 use Rattle.tb_index.specs.Helpers.Pairs.{IsFirst, has, earlier}
-use Rattle.tb_index.specs.Indexes.{IsNext}
 use Rattle.tb_index.specs.declared.mark.Mark.{Mark}
 use Rattle.tb_index.proofs.IndexLemmas as indexes
 use Rattle.tb_index.proofs.index.Index.next_receiver.Goals as goal
